@@ -1,0 +1,5 @@
+pub mod Contents
+pub mod Faults
+pub mod First
+pub mod Name
+pub mod StoredName

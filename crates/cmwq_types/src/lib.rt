@@ -1,0 +1,22 @@
+//! What a scenario of the workqueue emulator says, what may be asked of its machine, and what the
+//! machine answers.
+#![tactic(auto)]
+
+mod check;
+mod instr;
+mod limits;
+mod moves;
+mod name;
+mod reply;
+mod scenario;
+
+pub use check::Fault;
+pub use instr::{Instr, QueueId, WorkId};
+pub use limits::{
+    MAX_ACTORS, MAX_CPUS, MAX_FLUSHES, MAX_HISTORY, MAX_LINES, MAX_MAX_ACTIVE, MAX_NAME, MAX_OPS,
+    MAX_QUEUES, MAX_STEPS, MAX_TEXT, MAX_TICKS, MAX_TIMES, MAX_WORKERS, MAX_WORKS,
+};
+pub use moves::Move;
+pub use name::Name;
+pub use reply::{Cause, Event, Mode, Place, Refusal, Reply};
+pub use scenario::{Actor, Flags, Line, Op, QueueDecl, Scenario, WorkDecl};

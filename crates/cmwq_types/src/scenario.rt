@@ -1,0 +1,122 @@
+//! A scenario: CPUs, queues, works with their bodies, and actors.
+
+use crate::instr::{Instr, QueueId, WorkId};
+use crate::name::Name;
+use std::marker::Model;
+
+/// The flags of a queue, as in the kernel's `alloc_workqueue`.
+#[derive(Clone, Copy, Debug, PartialEq, Eq)]
+pub struct Flags {
+    /// `WQ_HIGHPRI`: its works go to the high pool of a CPU.
+    pub highpri: bool,
+    /// `WQ_UNBOUND`: its works go to an unbound pool.
+    pub unbound: bool,
+    /// `WQ_CPU_INTENSIVE`: its running works don't count towards the concurrency level.
+    pub cpu_intensive: bool,
+    /// `WQ_FREEZABLE`: it activates nothing while the machine is frozen.
+    pub freezable: bool,
+    /// An ordered queue: unbound, with `max` 1 for good.
+    pub ordered: bool,
+}
+
+/// A queue as it is declared.
+#[derive(Clone, Copy, Debug, PartialEq, Eq)]
+pub struct QueueDecl {
+    /// No other queue has this name.
+    pub name: Name,
+    /// Its `max_active`, 1 to 512; 1 where it is ordered.
+    pub max: u16,
+    pub flags: Flags,
+}
+
+/// One operation of a work's body.
+#[derive(Clone, Copy, Debug, PartialEq, Eq)]
+pub enum Op {
+    /// Keeps the CPU for this many ticks, 1 to 1,000,000.
+    Burn(u32),
+    /// Sleeps for this many ticks, 1 to 1,000,000.
+    Sleep(u32),
+    /// Queues the work on the CPU.
+    Queue(WorkId, u8),
+    /// Ends the body.
+    Finish,
+}
+
+/// A work as it is declared.
+#[derive(Debug, Drop)]
+pub struct WorkDecl {
+    /// No other work has this name.
+    pub name: Name,
+    /// Its one queue.
+    pub queue: QueueId,
+    /// 1 to 64 operations, the last of them and no other `Finish`.
+    pub body: Vec<Op>,
+}
+
+impl Model for WorkDecl {
+    ghost use Rattle.cmwq_types.specs.Contents.{WorkContents};
+
+    ghost Value = { WorkContents };
+
+    ghost view = { λ work. record { name = work.name; queue = work.queue; body = work.body.items } };
+}
+
+/// An instruction that an actor gives a number of times.
+#[derive(Clone, Copy, Debug, PartialEq, Eq)]
+pub struct Line {
+    pub instr: Instr,
+    /// How often, 1 to 65,535.
+    pub times: u32,
+}
+
+/// Who gives instructions.
+#[derive(Debug, Drop)]
+pub struct Actor {
+    /// No other actor has this name.
+    pub name: Name,
+    /// At most 4,096 lines.
+    pub lines: Vec<Line>,
+}
+
+impl Model for Actor {
+    ghost use Rattle.cmwq_types.specs.Contents.{ActorContents};
+
+    ghost Value = { ActorContents };
+
+    ghost view = { λ actor. record { name = actor.name; lines = actor.lines.items } };
+}
+
+/// A scenario. `check` says whether it is valid.
+#[derive(Debug, Drop)]
+pub struct Scenario {
+    /// 1 to 16.
+    pub cpus: u8,
+    /// The most workers of a pool, 1 to 64.
+    pub workers: u8,
+    /// How many instructions are accepted, questions aside; 1 to 4,294,967,295.
+    pub steps: u32,
+    /// How many flushes can be given, 0 to 1,024.
+    pub flushes: u16,
+    /// At most 32.
+    pub queues: Vec<QueueDecl>,
+    /// At most 256.
+    pub works: Vec<WorkDecl>,
+    /// At most 16.
+    pub actors: Vec<Actor>,
+}
+
+impl Model for Scenario {
+    ghost use Rattle.cmwq_types.specs.Contents.{ScenarioContents};
+
+    ghost Value = { ScenarioContents };
+
+    ghost view = { λ s. record {
+      cpus = s.cpus;
+      workers = s.workers;
+      steps = s.steps;
+      flushes = s.flushes;
+      queues = s.queues.items;
+      works = s.works.items;
+      actors = s.actors.items;
+    } };
+}
