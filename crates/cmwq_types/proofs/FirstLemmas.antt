@@ -2,7 +2,7 @@
 use Rattle.std.proofs.Common.{◌≡◌, ℕ, zero, suc, ◌+◌, ◌<◌, ◌≤◌, Bool, true, false, ◌||◌, ◌&&◌, Option, Some, None, cond, nat_lt, ◌==◌, arith, refl, sym, ap, ◌∙◌, ◌⊎◌, inl, inr, subst}
 use Rattle.std.proofs.lemmas.Bool.Decides.{nat_tests}
 use Rattle.std.proofs.lemmas.Bool.{cases_lt}
-use Rattle.cmwq_types.specs.First.{count_below, first_with, first_below, IsFirst, IsOrder, by_least, by_least_two, by_greatest}
+use Rattle.cmwq_types.specs.First.{count_below, first_with, first_below, IsFirst, IsOrder, MatchFirst, by_least, by_least_two, by_greatest}
 
 -- tests that agree below n count alike
 pub count_below-agree : (p q : ℕ → Bool) (n : ℕ) → ((k : ℕ) → k < n → p k ≡ q k) → count_below p n ≡ count_below q n
@@ -12,7 +12,68 @@ count_below-agree p q (suc n) same =
     let below : count_below p n ≡ count_below q n = count_below-agree p q n (λ k k_below. same k (omega arith)) in
     ap (λ (m : ℕ). m + cond (p n) 1 0) below ∙ ap (λ (b : Bool). count_below q n + cond b 1 0) here
 
--- there is a first exactly where something passes, and it is one that no other comes before
-pub MatchFirst : (before : ℕ → ℕ → Bool) (test : ℕ → Bool) (n : ℕ) → Option ℕ → Type 0
-MatchFirst before test n None = (k : ℕ) → k < n → test k ≡ false
-MatchFirst before test n (Some m) = IsFirst before test n m
+-- orders and tests that agree below n have the same first
+pub first_below-agree : (before : ℕ → ℕ → Bool) (p q : ℕ → Bool) (n : ℕ) → ((k : ℕ) → k < n → p k ≡ q k) → first_below before p n ≡ first_below before q n
+first_below-agree before p q zero same = refl
+first_below-agree before p q (suc n) same =
+    let here : p n ≡ q n = same n (omega arith) in
+    let below : first_below before p n ≡ first_below before q n = first_below-agree before p q n (λ k k_below. same k (omega arith)) in
+    ap (λ (found : Option ℕ). first_with before n (p n) found) below ∙ ap (λ (b : Bool). first_with before n b (first_below before q n)) here
+
+-- what holds below n, and at n, holds below n + 1
+below_suc : (P : ℕ → Type 0) (n : ℕ) → ((k : ℕ) → k < n → P k) → P n → (k : ℕ) → k < suc n → P k
+below_suc P n below here k h =
+    elim (cases_lt k n) [ inl lt ↦ below k lt | inr ge ↦ (let same : n ≡ k = omega arith in subst P same here) ]
+
+first_with-chosen : (before : ℕ → ℕ → Bool) (test : ℕ → Bool) (n m : ℕ) → IsOrder before → test n ≡ true → IsFirst before test n m → (b : Bool) → before n m ≡ b → IsFirst before test (suc n) (cond b n m)
+first_with-chosen before test n m order passes first true e = record {
+  in_range = omega arith;
+  passes = passes;
+  least = below_suc (λ k. test k ≡ true → before k n ≡ false) n (λ k lt p. order.onward k m n (first.least k lt p) (order.one_way n m e)) (λ p. order.apart n);
+}
+first_with-chosen before test n m order passes first false e = record {
+  in_range = omega (arith, first.in_range);
+  passes = first.passes;
+  least = below_suc (λ k. test k ≡ true → before k m ≡ false) n first.least (λ p. e);
+}
+
+first_with-is_first : (before : ℕ → ℕ → Bool) (test : ℕ → Bool) (n : ℕ) → IsOrder before → (b : Bool) → test n ≡ b → (found : Option ℕ) → MatchFirst before test n found → MatchFirst before test (suc n) (first_with before n b found)
+first_with-is_first before test n order false e None none = below_suc (λ k. test k ≡ false) n none e
+first_with-is_first before test n order false e (Some m) first = record {
+  in_range = omega (arith, first.in_range);
+  passes = first.passes;
+  least = below_suc (λ k. test k ≡ true → before k m ≡ false) n first.least (λ p. cc);
+}
+first_with-is_first before test n order true e None none = record {
+  in_range = omega arith;
+  passes = e;
+  least = below_suc (λ k. test k ≡ true → before k n ≡ false) n (λ k lt p. let fails : test k ≡ false = none k lt in cc) (λ p. order.apart n);
+}
+first_with-is_first before test n order true e (Some m) first = first_with-chosen before test n m order e first (before n m) refl
+
+-- The first passes the test, and nothing that passes comes before it. There is none only where nothing passes.
+pub first_below-is_first : (before : ℕ → ℕ → Bool) (test : ℕ → Bool) (n : ℕ) → IsOrder before → MatchFirst before test n (first_below before test n)
+first_below-is_first before test zero order = λ k h. absurd (omega arith)
+first_below-is_first before test (suc n) order =
+    first_with-is_first before test n order (test n) refl (first_below before test n) (first_below-is_first before test n order)
+
+pub by_least-order : (key : ℕ → ℕ) → IsOrder (by_least key)
+by_least-order key = record {
+  apart = λ a. grind (arith, nat_tests);
+  one_way = λ a b h. grind (arith, nat_tests);
+  onward = λ a b c h k. grind (arith, nat_tests);
+}
+
+pub by_greatest-order : (key : ℕ → ℕ) → IsOrder (by_greatest key)
+by_greatest-order key = record {
+  apart = λ a. grind (arith, nat_tests);
+  one_way = λ a b h. grind (arith, nat_tests);
+  onward = λ a b c h k. grind (arith, nat_tests);
+}
+
+pub by_least_two-order : (key next_key : ℕ → ℕ) → IsOrder (by_least_two key next_key)
+by_least_two-order key next_key = record {
+  apart = λ a. grind (arith, nat_tests);
+  one_way = λ a b h. grind (arith, nat_tests);
+  onward = λ a b c h k. grind (arith, nat_tests);
+}

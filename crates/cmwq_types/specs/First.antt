@@ -23,10 +23,16 @@ pub record IsFirst (before : ℕ → ℕ → Bool) (test : ℕ → Bool) (n m : 
   pub passes : test m ≡ true
   pub least : (k : ℕ) → k < n → test k ≡ true → before k m ≡ false
 
--- an order in which what doesn't come before b, which doesn't come before c, doesn't come before c
+-- nothing comes before itself, nothing before what comes before it, and of three the third no later by way of the second
 pub record IsOrder (before : ℕ → ℕ → Bool) : Type 0 where
   pub apart : (a : ℕ) → before a a ≡ false
+  pub one_way : (a b : ℕ) → before a b ≡ true → before b a ≡ false
   pub onward : (a b c : ℕ) → before a b ≡ false → before b c ≡ false → before a c ≡ false
+
+-- what a search for the first found: a first, or that nothing passes
+abbrev pub MatchFirst : (ℕ → ℕ → Bool) → (ℕ → Bool) → ℕ → Option ℕ → Type 0
+MatchFirst before test n None = (k : ℕ) → k < n → test k ≡ false
+MatchFirst before test n (Some m) = IsFirst before test n m
 
 -- by one number each: the smaller comes first
 abbrev pub by_least : (ℕ → ℕ) → ℕ → ℕ → Bool
