@@ -1,0 +1,54 @@
+-- Short words for writing scenarios down.
+use Rattle.std.specs.Prelude.{ℕ, Bool, true, false, List, [], ◌∷◌}
+use Rattle.cmwq_types.specs.Contents.{ScenarioContents, WorkContents, ActorContents}
+use Rattle.cmwq_types.specs.declared.instr.Instr.{Instr}
+use Rattle.cmwq_types.specs.declared.instr.Instr.TheVariants as instr
+use Rattle.cmwq_types.specs.declared.scenario.Flags.{Flags}
+use Rattle.cmwq_types.specs.declared.scenario.Line.{Line}
+use Rattle.cmwq_types.specs.declared.scenario.Op.{Op}
+use Rattle.cmwq_types.specs.declared.scenario.Op.TheVariants as op
+use Rattle.cmwq_types.specs.declared.scenario.QueueDecl.{QueueDecl}
+use Rattle.cmwq_table.specs.State.{plain_flags}
+
+abbrev pub queue : List ℕ → ℕ → Flags → QueueDecl
+queue name max flags = record { name = name; max = max; flags = flags }
+
+abbrev pub work : List ℕ → ℕ → List Op → WorkContents
+work name on body = record { name = name; queue = record { 0 = on }; body = body }
+
+abbrev pub highpri : Flags
+highpri = record plain_flags { highpri = true }
+
+abbrev pub unbound : Flags
+unbound = record plain_flags { unbound = true }
+
+abbrev pub cpu_intensive : Flags
+cpu_intensive = record plain_flags { cpu_intensive = true }
+
+abbrev pub ordered : Flags
+ordered = record plain_flags { ordered = true }
+
+-- the body `queue W 0`
+abbrev pub queues : ℕ → Op
+queues w = op.Queue (record { 0 = w }) 0
+
+-- `queue W C`
+abbrev pub enqueue : ℕ → ℕ → Line
+enqueue w cpu = record { instr = instr.Queue (record { 0 = w }) cpu; times = 1 }
+
+-- an instruction, this often
+abbrev pub times : Instr → ℕ → Line
+times instr n = record { instr = instr; times = n }
+
+-- one CPU, four workers a pool, 1000 steps, and the one actor `t`
+abbrev pub scenario : ℕ → List QueueDecl → List WorkContents → List Line → ScenarioContents
+scenario steps queues works lines =
+    record {
+      cpus = 1;
+      workers = 4;
+      steps = steps;
+      flushes = 2;
+      queues = queues;
+      works = works;
+      actors = record { name = 116 ∷ []; lines = lines } ∷ [];
+    }

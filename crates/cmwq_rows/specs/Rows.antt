@@ -1,0 +1,171 @@
+-- Worked examples: a scenario, its one actor's lines, and what the run prints.
+use Rattle.std.specs.Prelude.{◌≡◌, ℕ, List, [], ◌∷◌, ◌++◌, codes}
+use Rattle.std.specs.List.{flat_map}
+use Rattle.cmwq_types.specs.Contents.{ScenarioContents, ActorContents, expand}
+use Rattle.cmwq_types.specs.declared.instr.Instr.TheVariants as instr
+use Rattle.cmwq_types.specs.declared.scenario.Op.{Op}
+use Rattle.cmwq_types.specs.declared.scenario.Op.TheVariants as op
+use Rattle.cmwq_table.specs.State.{plain_flags}
+use Rattle.cmwq_table.specs.Events.{events}
+use Rattle.cmwq_rows.specs.Declare.{queue, work, highpri, unbound, cpu_intensive, ordered, queues, enqueue, times, scenario}
+
+-- a text of these lines
+abbrev pub text : List (List ℕ) → List ℕ
+text lines = flat_map (λ line. line ++ 10 ∷ []) lines
+
+-- what the scenario's actors print, one after another; here each scenario has one
+abbrev pub printed : ScenarioContents → List ℕ
+printed s = flat_map (λ actor. events s (expand actor)) s.actors
+
+-- the kernel document's bodies: w0, and w1 and w2
+abbrev pub twice_burning : List Op
+twice_burning = op.Burn 5 ∷ op.Sleep 10 ∷ op.Burn 5 ∷ op.Finish ∷ []
+
+abbrev pub once_burning : List Op
+once_burning = op.Burn 5 ∷ op.Sleep 10 ∷ op.Finish ∷ []
+
+-- Three works on one queue of the kernel document, of this `max_active`; then so many times `next`.
+abbrev pub document : ℕ → ℕ → ScenarioContents
+document max nexts =
+    scenario 1000
+    (queue (codes "q") max plain_flags ∷ [])
+    (work (codes "w0") 0 twice_burning ∷ work (codes "w1") 0 once_burning ∷ work (codes "w2") 0 once_burning ∷ [])
+    (enqueue 0 0 ∷ enqueue 1 0 ∷ enqueue 2 0 ∷ times instr.Next nexts ∷ [])
+
+-- with `max_active` 3 all three are active at once: they take turns as they sleep
+abbrev pub max_active_3 : List ℕ
+max_active_3 =
+    text (
+      codes "0 w0 starts" ∷ codes "0 w0 burns 5" ∷ codes "5 w0 sleeps 10" ∷ codes "5 w1 starts" ∷
+      codes "5 w1 burns 5" ∷ codes "10 w1 sleeps 10" ∷ codes "10 w2 starts" ∷
+      codes "10 w2 burns 5" ∷ codes "15 w2 sleeps 10" ∷ codes "15 w0 wakes" ∷
+      codes "15 w0 burns 5" ∷ codes "20 w0 finishes" ∷ codes "20 w1 wakes" ∷
+      codes "20 w1 finishes" ∷ codes "25 w2 wakes" ∷ codes "25 w2 finishes" ∷ [])
+
+-- with `max_active` 2 the third is active once the first has finished
+abbrev pub max_active_2 : List ℕ
+max_active_2 =
+    text (
+      codes "0 w0 starts" ∷ codes "0 w0 burns 5" ∷ codes "5 w0 sleeps 10" ∷ codes "5 w1 starts" ∷
+      codes "5 w1 burns 5" ∷ codes "10 w1 sleeps 10" ∷ codes "15 w0 wakes" ∷
+      codes "15 w0 burns 5" ∷ codes "20 w0 finishes" ∷ codes "20 w1 wakes" ∷
+      codes "20 w1 finishes" ∷ codes "20 w2 starts" ∷ codes "20 w2 burns 5" ∷
+      codes "25 w2 sleeps 10" ∷ codes "35 w2 wakes" ∷ codes "35 w2 finishes" ∷ [])
+
+-- with `max_active` 1 they run one after another
+abbrev pub max_active_1 : List ℕ
+max_active_1 =
+    text (
+      codes "0 w0 starts" ∷ codes "0 w0 burns 5" ∷ codes "5 w0 sleeps 10" ∷ codes "15 w0 wakes" ∷
+      codes "15 w0 burns 5" ∷ codes "20 w0 finishes" ∷ codes "20 w1 starts" ∷
+      codes "20 w1 burns 5" ∷ codes "25 w1 sleeps 10" ∷ codes "35 w1 wakes" ∷
+      codes "35 w1 finishes" ∷ codes "35 w2 starts" ∷ codes "35 w2 burns 5" ∷
+      codes "40 w2 sleeps 10" ∷ codes "50 w2 wakes" ∷ codes "50 w2 finishes" ∷ [])
+
+-- w1 and w2 on a CPU-intensive queue of their own
+abbrev pub cpu_intensive_beside_normal : ScenarioContents
+cpu_intensive_beside_normal =
+    scenario 1000
+    (queue (codes "q") 1 plain_flags ∷ queue (codes "c") 2 cpu_intensive ∷ [])
+    (work (codes "w0") 0 twice_burning ∷ work (codes "w1") 1 once_burning ∷ work (codes "w2") 1 once_burning ∷ [])
+    (enqueue 0 0 ∷ enqueue 1 0 ∷ enqueue 2 0 ∷ times instr.Next 41 ∷ [])
+
+-- w2 starts while w1 still burns, since a CPU-intensive work doesn't count
+abbrev pub cpu_intensive_lines : List ℕ
+cpu_intensive_lines =
+    text (
+      codes "0 w0 starts" ∷ codes "0 w0 burns 5" ∷ codes "5 w0 sleeps 10" ∷ codes "5 w1 starts" ∷
+      codes "5 w1 burns 5" ∷ codes "5 w2 starts" ∷ codes "10 w1 sleeps 10" ∷
+      codes "10 w2 burns 5" ∷ codes "15 w2 sleeps 10" ∷ codes "15 w0 wakes" ∷
+      codes "15 w0 burns 5" ∷ codes "20 w0 finishes" ∷ codes "20 w1 wakes" ∷
+      codes "20 w1 finishes" ∷ codes "25 w2 wakes" ∷ codes "25 w2 finishes" ∷ [])
+
+abbrev pub burning : ℕ → List Op
+burning ticks = op.Burn ticks ∷ op.Finish ∷ []
+
+-- a on a normal queue, and b a while later on one of high priority
+abbrev pub high_beside_normal : ScenarioContents
+high_beside_normal =
+    scenario 1000
+    (queue (codes "n") 1 plain_flags ∷ queue (codes "h") 1 highpri ∷ [])
+    (work (codes "a") 0 (burning 2) ∷ work (codes "b") 1 (burning 2) ∷ [])
+    (enqueue 0 0 ∷ times instr.Next 3 ∷ enqueue 1 0 ∷ times instr.Next 7 ∷ [])
+
+-- b has the CPU from its start on, and a goes on when b has finished
+abbrev pub high_lines : List ℕ
+high_lines =
+    text (
+      codes "0 a starts" ∷ codes "0 a burns 2" ∷ codes "1 b starts" ∷ codes "1 b burns 2" ∷
+      codes "3 b finishes" ∷ codes "4 a finishes" ∷ [])
+
+-- a and b on an unbound queue, c, d and e on an ordered one
+abbrev pub unbound_beside_ordered : ScenarioContents
+unbound_beside_ordered =
+    scenario 1000
+    (queue (codes "u") 2 unbound ∷ queue (codes "o") 1 ordered ∷ [])
+    (work (codes "a") 0 (burning 2) ∷ work (codes "b") 0 (burning 2)
+    ∷ work (codes "c") 1 (burning 1) ∷ work (codes "d") 1 (burning 1) ∷ work (codes "e") 1 (burning 1) ∷ [])
+    (enqueue 0 0 ∷ enqueue 1 0 ∷ enqueue 2 0 ∷ enqueue 3 0 ∷ enqueue 4 0 ∷ times instr.Next 18 ∷ [])
+
+-- a and b burn side by side; c, d and e run one at a time, in the order of their queueing
+abbrev pub unbound_lines : List ℕ
+unbound_lines =
+    text (
+      codes "0 a starts" ∷ codes "0 a burns 2" ∷ codes "0 b starts" ∷ codes "0 b burns 2" ∷
+      codes "0 c starts" ∷ codes "0 c burns 1" ∷ codes "1 c finishes" ∷ codes "1 d starts" ∷
+      codes "1 d burns 1" ∷ codes "2 a finishes" ∷ codes "2 b finishes" ∷ codes "2 d finishes" ∷
+      codes "2 e starts" ∷ codes "2 e burns 1" ∷ codes "3 e finishes" ∷ [])
+
+-- a work is queued twice before it starts
+abbrev pub queued_twice : ScenarioContents
+queued_twice =
+    scenario 1000 (queue (codes "q") 1 plain_flags ∷ []) (work (codes "a") 0 (burning 1) ∷ [])
+    (enqueue 0 0 ∷ enqueue 0 0 ∷ times instr.Next 4 ∷ [])
+
+-- it runs once
+abbrev pub queued_twice_lines : List ℕ
+queued_twice_lines =
+    text (
+      codes "0 already" ∷ codes "0 a starts" ∷ codes "0 a burns 1" ∷ codes "1 a finishes" ∷ [])
+
+-- a work queues itself and then sleeps
+abbrev pub queues_itself : ScenarioContents
+queues_itself =
+    scenario 1000 (queue (codes "q") 2 plain_flags ∷ [])
+    (work (codes "a") 0 (queues 0 ∷ op.Sleep 2 ∷ op.Finish ∷ []) ∷ [])
+    (enqueue 0 0 ∷ times instr.Next 8 ∷ [])
+
+-- its second instance isn't started beside the first: it defers, and starts on the same worker
+abbrev pub queues_itself_lines : List ℕ
+queues_itself_lines =
+    text (
+      codes "0 a starts" ∷ codes "0 a queues a" ∷ codes "0 a sleeps 2" ∷ codes "0 a defers" ∷
+      codes "2 a wakes" ∷ codes "2 a finishes and starts" ∷ [])
+
+-- a work that queues itself for ever, and eight steps
+abbrev pub steps_run_out : ScenarioContents
+steps_run_out =
+    scenario 8 (queue (codes "q") 1 plain_flags ∷ [])
+    (work (codes "a") 0 (queues 0 ∷ op.Finish ∷ []) ∷ [])
+    (enqueue 0 0 ∷ times instr.Next 8 ∷ [])
+
+abbrev pub steps_run_out_lines : List ℕ
+steps_run_out_lines =
+    text (
+      codes "0 a starts" ∷ codes "0 a queues a" ∷ codes "0 a finishes" ∷ codes "0 a starts" ∷
+      codes "0 a queues a" ∷ codes "0 a finishes" ∷ codes "0 a starts" ∷ codes "0 refused Spent" ∷
+      [])
+
+-- instructions that can't be carried out, among others that can
+abbrev pub refused : ScenarioContents
+refused =
+    scenario 1000 (queue (codes "q") 1 plain_flags ∷ []) (work (codes "a") 0 (burning 1) ∷ [])
+    (enqueue 0 1 ∷ enqueue 0 0 ∷ times instr.Tick 1 ∷ times (instr.Step 0) 1 ∷ times (instr.Step 0) 1
+    ∷ times instr.Tick 1 ∷ times (instr.Step 0) 1 ∷ times (instr.Step 0) 1 ∷ times (instr.Step 4) 1 ∷ [])
+
+abbrev pub refused_lines : List ℕ
+refused_lines =
+    text (
+      codes "0 refused NoSuchCpu" ∷ codes "0 refused Unsettled" ∷ codes "0 a starts" ∷
+      codes "0 a burns 1" ∷ codes "1 a finishes" ∷ codes "1 refused NothingToDo" ∷
+      codes "1 refused NoSuchPool" ∷ [])

@@ -1,0 +1,204 @@
+-- Limits, counts, and the first of the works and workers that one asks for. "First" is the least stamp.
+use Rattle.std.specs.Prelude.{◌≡◌, ℕ, ◌+◌, ◌*◌, Bool, true, false, not, ◌&&◌, ◌||◌, length, Option, Some, None, if◌then◌else◌, nat_lt, nat_le, ◌==◌, is_some, is_none}
+use Rattle.cmwq_types.specs.Contents.{ScenarioContents}
+use Rattle.cmwq_types.specs.First.{count_below, first_below, by_least, by_least_two, by_greatest}
+use Rattle.cmwq_types.specs.declared.reply.Place.{Place}
+use Rattle.cmwq_types.specs.declared.reply.Place.TheVariants.{Timer, Inactive, Listed, Deferred}
+use Rattle.cmwq_types.specs.declared.reply.Mode.{Mode}
+use Rattle.cmwq_types.specs.declared.reply.Mode.TheVariants.{Runnable, Asleep}
+use Rattle.cmwq_table.specs.declared.state.Pending.{Pending}
+use Rattle.cmwq_table.specs.declared.state.Running.{Running}
+use Rattle.cmwq_table.specs.State.{State, pending_at, running_at, idle_at, made_at, max_at, flags_at, queue_of, is_unbound, is_high, pool_count}
+
+-- What a place and a mode tell.
+
+abbrev pub is_inactive : Place → ℕ → Bool
+is_inactive (Inactive at) pool = at == pool
+is_inactive (Timer due cpu) pool = false
+is_inactive (Listed at) pool = false
+is_inactive (Deferred at) pool = false
+
+abbrev pub is_listed : Place → ℕ → Bool
+is_listed (Listed at) pool = at == pool
+is_listed (Timer due cpu) pool = false
+is_listed (Inactive at) pool = false
+is_listed (Deferred at) pool = false
+
+-- listed or deferred: it counts against max_active
+abbrev pub is_active : Place → ℕ → Bool
+is_active (Listed at) pool = at == pool
+is_active (Deferred at) pool = at == pool
+is_active (Timer due cpu) pool = false
+is_active (Inactive at) pool = false
+
+abbrev pub is_deferred : Place → Bool
+is_deferred (Deferred at) = true
+is_deferred (Timer due cpu) = false
+is_deferred (Inactive at) = false
+is_deferred (Listed at) = false
+
+-- a timer that has run out
+abbrev pub is_due : Place → ℕ → Bool
+is_due (Timer due cpu) now = nat_le due now
+is_due (Inactive at) now = false
+is_due (Listed at) now = false
+is_due (Deferred at) now = false
+
+abbrev pub due_of : Place → ℕ
+due_of (Timer due cpu) = due
+due_of (Inactive at) = 0
+due_of (Listed at) = 0
+due_of (Deferred at) = 0
+
+abbrev pub is_runnable : Mode → Bool
+is_runnable Runnable = true
+is_runnable (Asleep until) = false
+
+-- a sleep that is over
+abbrev pub is_slept : Mode → ℕ → Bool
+is_slept Runnable now = false
+is_slept (Asleep until) now = nat_le until now
+
+abbrev pub until_of : Mode → ℕ
+until_of Runnable = 0
+until_of (Asleep until) = until
+
+-- The same of a work that may not be pending, or not run.
+
+abbrev pub pends : (Place → Bool) → Option Pending → Bool
+pends test (Some p) = test p.place
+pends test None = false
+
+abbrev pub runs : (Running → Bool) → Option Running → Bool
+runs test (Some r) = test r
+runs test None = false
+
+abbrev pub pending_stamp : Option Pending → ℕ
+pending_stamp (Some p) = p.stamp
+pending_stamp None = 0
+
+abbrev pub pending_due : Option Pending → ℕ
+pending_due (Some p) = due_of p.place
+pending_due None = 0
+
+abbrev pub running_stamp : Option Running → ℕ
+running_stamp (Some r) = r.stamp
+running_stamp None = 0
+
+abbrev pub running_until : Option Running → ℕ
+running_until (Some r) = until_of r.mode
+running_until None = 0
+
+abbrev pub idle_stamp : Option ℕ → ℕ
+idle_stamp (Some stamp) = stamp
+idle_stamp None = 0
+
+-- Limits.
+
+-- how many works of the queue may be active in a pool; none of a freezable queue while the machine is frozen
+abbrev pub limit : ScenarioContents → State → ℕ → ℕ
+limit S s queue = if s.frozen && (flags_at S queue).freezable then 0 else max_at s queue
+
+-- the works of the queue that are listed or deferred in the pool, and those that run there
+abbrev pub active : ScenarioContents → State → ℕ → ℕ → ℕ
+active S s queue pool =
+    count_below (λ w. (queue_of S w == queue) && pends (λ place. is_active place pool) (pending_at s w)) (length S.works)
+    + count_below (λ w. (queue_of S w == queue) && runs (λ r. r.pool == pool) (running_at s w)) (length S.works)
+
+abbrev pub has_room : ScenarioContents → State → ℕ → ℕ → Bool
+has_room S s queue pool = nat_lt (active S s queue pool) (limit S s queue)
+
+-- Concurrency.
+
+-- a runnable work of the pool that counts towards its concurrency level
+abbrev pub is_counted : ScenarioContents → State → ℕ → ℕ → Bool
+is_counted S s pool w =
+    runs (λ r. (r.pool == pool) && is_runnable r.mode) (running_at s w) && not (flags_at S (queue_of S w)).cpu_intensive
+
+-- the concurrency level of a pool; an unbound pool has none
+abbrev pub counted : ScenarioContents → State → ℕ → ℕ
+counted S s pool = if is_unbound S pool then 0 else count_below (λ w. is_counted S s pool w) (length S.works)
+
+-- whether a pool may start a work
+abbrev pub may_start : ScenarioContents → State → ℕ → Bool
+may_start S s pool = is_unbound S pool || (counted S s pool == 0)
+
+-- The first.
+
+abbrev pub pending_before : State → ℕ → ℕ → Bool
+pending_before s = by_least (λ w. pending_stamp (pending_at s w))
+
+abbrev pub running_before : State → ℕ → ℕ → Bool
+running_before s = by_least (λ w. running_stamp (running_at s w))
+
+-- the queue's first inactive work in the pool
+abbrev pub first_inactive : ScenarioContents → State → ℕ → ℕ → Option ℕ
+first_inactive S s queue pool =
+    first_below (pending_before s) (λ w. (queue_of S w == queue) && pends (λ place. is_inactive place pool) (pending_at s w)) (length S.works)
+
+-- the pool's first listed work
+abbrev pub first_listed : ScenarioContents → State → ℕ → Option ℕ
+first_listed S s pool =
+    first_below (pending_before s) (λ w. pends (λ place. is_listed place pool) (pending_at s w)) (length S.works)
+
+-- the first of the timers that have run out, by (due, stamp)
+abbrev pub first_due : ScenarioContents → State → Option ℕ
+first_due S s =
+    first_below (by_least_two (λ w. pending_due (pending_at s w)) (λ w. pending_stamp (pending_at s w)))
+    (λ w. pends (λ place. is_due place s.now) (pending_at s w)) (length S.works)
+
+-- the pool's first sleeper whose sleep is over, by (until, stamp)
+abbrev pub first_slept : ScenarioContents → State → ℕ → Option ℕ
+first_slept S s pool =
+    first_below (by_least_two (λ w. running_until (running_at s w)) (λ w. running_stamp (running_at s w)))
+    (λ w. runs (λ r. (r.pool == pool) && is_slept r.mode s.now) (running_at s w)) (length S.works)
+
+-- the pool's first runnable work
+abbrev pub first_runnable : ScenarioContents → State → ℕ → Option ℕ
+first_runnable S s pool =
+    first_below (running_before s) (λ w. runs (λ r. (r.pool == pool) && is_runnable r.mode) (running_at s w)) (length S.works)
+
+-- the pool's first runnable work that has nothing left to burn
+abbrev pub first_ready : ScenarioContents → State → ℕ → Option ℕ
+first_ready S s pool =
+    first_below (running_before s) (λ w. runs (λ r. (r.pool == pool) && is_runnable r.mode && (r.left == 0)) (running_at s w)) (length S.works)
+
+-- the work, if it has nothing left to burn
+abbrev pub if_ready : State → Option ℕ → Option ℕ
+if_ready s (Some w) = if runs (λ r. r.left == 0) (running_at s w) then Some w else None
+if_ready s None = None
+
+-- Of the heads with nothing left to burn, the first. The head of a bound pool is its first runnable
+-- work, as on one CPU; in an unbound pool each runnable work is a head.
+abbrev pub ready_head : ScenarioContents → State → ℕ → Option ℕ
+ready_head S s pool = if is_unbound S pool then first_ready S s pool else if_ready s (first_runnable S s pool)
+
+-- the pool's idle worker of greatest stamp, the last one that became idle
+abbrev pub last_idle : ScenarioContents → State → ℕ → Option ℕ
+last_idle S s pool =
+    first_below (by_greatest (λ worker. idle_stamp (idle_at s pool worker))) (λ worker. is_some (idle_at s pool worker)) S.workers
+
+-- the number of a new worker, if one can be made
+abbrev pub new_worker : ScenarioContents → State → ℕ → Option ℕ
+new_worker S s pool = if nat_lt (made_at s pool) S.workers then Some (made_at s pool) else None
+
+-- one or else the other
+abbrev pub or_else : {A : Type 0} → Option A → Option A → Option A
+or_else (Some x) other = Some x
+or_else None other = other
+
+-- the worker of the pool that takes the next work: an idle one, else a new one
+abbrev pub free_worker : ScenarioContents → State → ℕ → Option ℕ
+free_worker S s pool = or_else (last_idle S s pool) (new_worker S s pool)
+
+-- Who burns in a tick: on a CPU the head of its high pool if it has one, else the head of its normal
+-- pool; and each runnable work of the unbound pools.
+abbrev pub is_some_work : Option ℕ → ℕ → Bool
+is_some_work (Some v) w = v == w
+is_some_work None w = false
+
+abbrev pub burns : ScenarioContents → State → ℕ → Option Running → Bool
+burns S s w None = false
+burns S s w (Some r) =
+    if is_unbound S r.pool then is_runnable r.mode
+    else is_some_work (first_runnable S s r.pool) w && (is_high r.pool || is_none (first_runnable S s (r.pool + 1)))

@@ -1,0 +1,111 @@
+-- The state of a machine, and what a scenario says of its parts.
+use Rattle.std.specs.Prelude.{◌≡◌, ℕ, ◌+◌, ◌*◌, ◌%◌, Bool, true, false, List, [], length, map, replicate, Option, Some, None, if◌then◌else◌, nat_le, ◌==◌, ◌||◌, slice_index_or, ◌∷◌}
+use Rattle.cmwq_types.specs.Contents.{ScenarioContents, WorkContents}
+use Rattle.cmwq_types.specs.declared.instr.QueueId.{QueueId}
+use Rattle.cmwq_types.specs.declared.instr.WorkId.{WorkId}
+use Rattle.cmwq_types.specs.declared.scenario.Flags.{Flags}
+use Rattle.cmwq_types.specs.declared.scenario.Op.{Op}
+use Rattle.cmwq_types.specs.declared.scenario.Op.TheVariants as op
+use Rattle.cmwq_types.specs.declared.scenario.QueueDecl.{QueueDecl}
+use Rattle.cmwq_table.specs.declared.state.Pending.{Pending}
+use Rattle.cmwq_table.specs.declared.state.Running.{Running}
+use Rattle.cmwq_table.specs.declared.state.FlushTarget.{FlushTarget}
+
+-- The state. A finite map is a list that has, at each number, Some of what the map has there, or None.
+pub record State : Type 0 where
+  -- the time in ticks
+  pub now : ℕ
+  -- the next stamp
+  pub next : ℕ
+  -- how many instructions were accepted, questions aside
+  pub spent : ℕ
+  pub frozen : Bool
+  -- of each queue, its max_active
+  pub max : List ℕ
+  -- the finite map of the pending works, by work
+  pub pending : List (Option Pending)
+  -- the finite map of the running works, by work
+  pub running : List (Option Running)
+  -- the finite map of the idle workers' stamps, by seat
+  pub idle : List (Option ℕ)
+  -- of each pool, how many workers were made
+  pub made : List ℕ
+  -- what the flushes given so far wait for, in order
+  pub flushes : List FlushTarget
+
+-- the number of a worker of a pool among all workers
+abbrev pub seat : ℕ → ℕ → ℕ
+seat pool worker = 64 * pool + worker
+
+abbrev pub pending_at : State → ℕ → Option Pending
+pending_at s work = slice_index_or s.pending work None
+
+abbrev pub running_at : State → ℕ → Option Running
+running_at s work = slice_index_or s.running work None
+
+abbrev pub idle_at : State → ℕ → ℕ → Option ℕ
+idle_at s pool worker = slice_index_or s.idle (seat pool worker) None
+
+abbrev pub made_at : State → ℕ → ℕ
+made_at s pool = slice_index_or s.made pool 0
+
+abbrev pub max_at : State → ℕ → ℕ
+max_at s queue = slice_index_or s.max queue 0
+
+-- What the scenario says of its works and queues. A number that none has is read as the plainest one.
+
+abbrev pub plain_flags : Flags
+plain_flags = record { highpri = false; unbound = false; cpu_intensive = false; freezable = false; ordered = false }
+
+abbrev pub queue_at : ScenarioContents → ℕ → QueueDecl
+queue_at S queue = slice_index_or S.queues queue (record { name = []; max = 0; flags = plain_flags })
+
+abbrev pub work_at : ScenarioContents → ℕ → WorkContents
+work_at S work = slice_index_or S.works work (record { name = []; queue = record { 0 = 0 }; body = [] })
+
+abbrev pub flags_at : ScenarioContents → ℕ → Flags
+flags_at S queue = (queue_at S queue).flags
+
+-- the number of a work's queue
+abbrev pub queue_of : ScenarioContents → ℕ → ℕ
+queue_of S work = (work_at S work).queue.0
+
+-- the operation at a place of a work's body
+abbrev pub op_at : ScenarioContents → ℕ → ℕ → Op
+op_at S work pc = slice_index_or (work_at S work).body pc op.Finish
+
+-- Pools. CPU c has the normal pool 2c and the high pool 2c + 1; behind those of all CPUs stand the
+-- normal and the high unbound pool.
+
+abbrev pub pool_count : ScenarioContents → ℕ
+pool_count S = 2 * S.cpus + 2
+
+abbrev pub is_unbound : ScenarioContents → ℕ → Bool
+is_unbound S pool = nat_le (2 * S.cpus) pool
+
+abbrev pub is_high : ℕ → Bool
+is_high pool = pool % 2 == 1
+
+-- 1 for a queue of high priority, else 0
+abbrev pub priority : ScenarioContents → ℕ → ℕ
+priority S queue = if (flags_at S queue).highpri then 1 else 0
+
+-- the pool to which a queue's works go from a CPU
+abbrev pub target : ScenarioContents → ℕ → ℕ → ℕ
+target S queue cpu =
+    (if (flags_at S queue).unbound || (flags_at S queue).ordered then 2 * S.cpus else 2 * cpu) + priority S queue
+
+-- the state in which a scenario begins
+abbrev pub start : ScenarioContents → State
+start S = record {
+  now = 0;
+  next = 0;
+  spent = 0;
+  frozen = false;
+  max = map (λ queue. queue.max) S.queues;
+  pending = replicate (length S.works) None;
+  running = replicate (length S.works) None;
+  idle = replicate (64 * pool_count S) None;
+  made = replicate (pool_count S) 0;
+  flushes = [];
+}

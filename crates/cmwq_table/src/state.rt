@@ -1,0 +1,42 @@
+//! The parts of a machine's state.
+
+use cmwq_types::{Mode, Place, QueueId, WorkId};
+
+/// What is known of a pending work.
+#[derive(Clone, Copy, Debug, PartialEq, Eq)]
+pub struct Pending {
+    /// The stamp of its queueing.
+    pub born: u64,
+    /// The stamp of its place.
+    pub stamp: u64,
+    pub place: Place,
+}
+
+/// What is known of a running work.
+#[derive(Clone, Copy, Debug, PartialEq, Eq)]
+pub struct Running {
+    /// The stamp of its queueing.
+    pub born: u64,
+    /// The pool in which it runs.
+    pub pool: u8,
+    /// The number of its worker in that pool.
+    pub worker: u8,
+    /// The place in its body of the operation that comes next.
+    pub pc: u8,
+    /// How many ticks it has still to burn.
+    pub left: u32,
+    pub mode: Mode,
+    /// The stamp of its start or its last wake.
+    pub stamp: u64,
+}
+
+/// What a flush waits for.
+#[derive(Clone, Copy, Debug, PartialEq, Eq)]
+pub enum FlushTarget {
+    /// The instance of the work that was queued at the stamp `born`.
+    Instance { work: WorkId, born: u64 },
+    /// What was queued on the queue before the stamp `bound`.
+    Queue { queue: QueueId, bound: u64 },
+    /// Nothing: it is done at once.
+    Nothing,
+}
