@@ -8,7 +8,7 @@ use Rattle.cmwq_types.specs.declared.scenario.Line.{Line}
 use Rattle.cmwq_types.specs.declared.scenario.Op.{Op}
 use Rattle.cmwq_types.specs.declared.scenario.Op.TheVariants as op
 use Rattle.cmwq_types.specs.declared.scenario.QueueDecl.{QueueDecl}
-use Rattle.cmwq_table.specs.State.{plain_flags}
+use Rattle.cmwq_types.specs.Scenario.{plain_flags}
 
 abbrev pub queue : List ℕ → ℕ → Flags → QueueDecl
 queue name max flags = record { name = name; max = max; flags = flags }

@@ -1,11 +1,11 @@
 -- Worked examples: a scenario, its one actor's lines, and what the run prints.
 use Rattle.std.specs.Prelude.{◌≡◌, ℕ, List, [], ◌∷◌, ◌++◌, codes}
 use Rattle.std.specs.List.{flat_map}
-use Rattle.cmwq_types.specs.Contents.{ScenarioContents, ActorContents, expand}
+use Rattle.cmwq_types.specs.Contents.{ScenarioContents, ActorContents}
+use Rattle.cmwq_types.specs.Scenario.{expand, plain_flags}
 use Rattle.cmwq_types.specs.declared.instr.Instr.TheVariants as instr
 use Rattle.cmwq_types.specs.declared.scenario.Op.{Op}
 use Rattle.cmwq_types.specs.declared.scenario.Op.TheVariants as op
-use Rattle.cmwq_table.specs.State.{plain_flags}
 use Rattle.cmwq_table.specs.Events.{events}
 use Rattle.cmwq_rows.specs.Declare.{queue, work, highpri, unbound, cpu_intensive, ordered, queues, enqueue, times, scenario}
 

@@ -1,6 +1,7 @@
 -- Limits, counts, and the first of the works and workers that one asks for. "First" is the least stamp.
 use Rattle.std.specs.Prelude.{◌≡◌, ℕ, ◌+◌, ◌*◌, Bool, true, false, not, ◌&&◌, ◌||◌, length, Option, Some, None, if◌then◌else◌, nat_lt, nat_le, ◌==◌, is_some, is_none}
 use Rattle.cmwq_types.specs.Contents.{ScenarioContents}
+use Rattle.cmwq_types.specs.Scenario.{flags_at, queue_of}
 use Rattle.cmwq_types.specs.First.{count_below, first_below, by_least, by_least_two, by_greatest}
 use Rattle.cmwq_types.specs.declared.reply.Place.{Place}
 use Rattle.cmwq_types.specs.declared.reply.Place.TheVariants.{Timer, Inactive, Listed, Deferred}
@@ -8,7 +9,7 @@ use Rattle.cmwq_types.specs.declared.reply.Mode.{Mode}
 use Rattle.cmwq_types.specs.declared.reply.Mode.TheVariants.{Runnable, Asleep}
 use Rattle.cmwq_table.specs.declared.state.Pending.{Pending}
 use Rattle.cmwq_table.specs.declared.state.Running.{Running}
-use Rattle.cmwq_table.specs.State.{State, pending_at, running_at, idle_at, made_at, max_at, flags_at, queue_of, is_unbound, is_high, pool_count}
+use Rattle.cmwq_table.specs.State.{State, pending_at, running_at, idle_at, made_at, max_at, is_unbound, is_high}
 
 -- What a place and a mode tell.
 

@@ -1,12 +1,7 @@
 -- The state of a machine, and what a scenario says of its parts.
 use Rattle.std.specs.Prelude.{◌≡◌, ℕ, ◌+◌, ◌*◌, ◌%◌, Bool, true, false, List, [], length, map, replicate, Option, Some, None, if◌then◌else◌, nat_le, ◌==◌, ◌||◌, slice_index_or, ◌∷◌}
-use Rattle.cmwq_types.specs.Contents.{ScenarioContents, WorkContents}
-use Rattle.cmwq_types.specs.declared.instr.QueueId.{QueueId}
-use Rattle.cmwq_types.specs.declared.instr.WorkId.{WorkId}
-use Rattle.cmwq_types.specs.declared.scenario.Flags.{Flags}
-use Rattle.cmwq_types.specs.declared.scenario.Op.{Op}
-use Rattle.cmwq_types.specs.declared.scenario.Op.TheVariants as op
-use Rattle.cmwq_types.specs.declared.scenario.QueueDecl.{QueueDecl}
+use Rattle.cmwq_types.specs.Contents.{ScenarioContents}
+use Rattle.cmwq_types.specs.Scenario.{flags_at}
 use Rattle.cmwq_table.specs.declared.state.Pending.{Pending}
 use Rattle.cmwq_table.specs.declared.state.Running.{Running}
 use Rattle.cmwq_table.specs.declared.state.FlushTarget.{FlushTarget}
@@ -51,28 +46,6 @@ made_at s pool = slice_index_or s.made pool 0
 
 abbrev pub max_at : State → ℕ → ℕ
 max_at s queue = slice_index_or s.max queue 0
-
--- What the scenario says of its works and queues. A number that none has is read as the plainest one.
-
-abbrev pub plain_flags : Flags
-plain_flags = record { highpri = false; unbound = false; cpu_intensive = false; freezable = false; ordered = false }
-
-abbrev pub queue_at : ScenarioContents → ℕ → QueueDecl
-queue_at S queue = slice_index_or S.queues queue (record { name = []; max = 0; flags = plain_flags })
-
-abbrev pub work_at : ScenarioContents → ℕ → WorkContents
-work_at S work = slice_index_or S.works work (record { name = []; queue = record { 0 = 0 }; body = [] })
-
-abbrev pub flags_at : ScenarioContents → ℕ → Flags
-flags_at S queue = (queue_at S queue).flags
-
--- the number of a work's queue
-abbrev pub queue_of : ScenarioContents → ℕ → ℕ
-queue_of S work = (work_at S work).queue.0
-
--- the operation at a place of a work's body
-abbrev pub op_at : ScenarioContents → ℕ → ℕ → Op
-op_at S work pc = slice_index_or (work_at S work).body pc op.Finish
 
 -- Pools. CPU c has the normal pool 2c and the high pool 2c + 1; behind those of all CPUs stand the
 -- normal and the high unbound pool.

@@ -1,7 +1,5 @@
 -- What contracts see of a scenario: its parts as lists, without where they lie in memory.
-use Rattle.std.specs.Prelude.{ℕ, List, replicate}
-use Rattle.std.specs.List.{flat_map}
-use Rattle.cmwq_types.specs.declared.instr.Instr.{Instr}
+use Rattle.std.specs.Prelude.{ℕ, List}
 use Rattle.cmwq_types.specs.declared.instr.QueueId.{QueueId}
 use Rattle.cmwq_types.specs.declared.scenario.Op.{Op}
 use Rattle.cmwq_types.specs.declared.scenario.Line.{Line}
@@ -24,7 +22,3 @@ pub record ScenarioContents : Type 0 where
   pub queues : List QueueDecl
   pub works : List WorkContents
   pub actors : List ActorContents
-
--- the instructions of an actor: each line's, as often as it stands
-abbrev pub expand : ActorContents → List Instr
-expand actor = flat_map (λ line. replicate line.times line.instr) actor.lines

@@ -1,5 +1,7 @@
 pub mod Contents
 pub mod Faults
 pub mod First
+pub mod Listing
 pub mod Name
+pub mod Scenario
 pub mod StoredName
