@@ -1,5 +1,6 @@
 pub mod Counts
 pub mod Events
+pub mod Machine
 pub mod Moves
 pub mod State
 pub mod Table

@@ -1,6 +1,10 @@
 //! The instruction table of the workqueue emulator, and what a machine is.
 #![tactic(auto)]
 
+mod machine;
+mod runs;
 mod state;
 
+pub use machine::{LoadError, Machine};
+pub use runs::run;
 pub use state::{FlushTarget, Pending, Running};

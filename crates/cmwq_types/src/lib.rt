@@ -5,6 +5,7 @@
 mod check;
 mod instr;
 mod limits;
+mod memory;
 mod moves;
 mod name;
 mod reply;
@@ -16,6 +17,7 @@ pub use limits::{
     MAX_ACTORS, MAX_CPUS, MAX_FLUSHES, MAX_HISTORY, MAX_LINES, MAX_MAX_ACTIVE, MAX_NAME, MAX_OPS,
     MAX_QUEUES, MAX_STEPS, MAX_TEXT, MAX_TICKS, MAX_TIMES, MAX_WORKERS, MAX_WORKS,
 };
+pub use memory::NoMemory;
 pub use moves::Move;
 pub use name::Name;
 pub use reply::{Cause, Event, Mode, Place, Refusal, Reply};

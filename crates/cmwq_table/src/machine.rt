@@ -1,0 +1,48 @@
+//! What a machine is: a body that carries out the instruction table.
+ghost use Rattle.cmwq_table.specs.State.{State};
+ghost use Rattle.cmwq_table.specs.Machine.{Loads};
+ghost use Rattle.cmwq_table.specs.Table.{after_all, replies_from, table};
+ghost use Rattle.cmwq_types.specs.Contents.{ScenarioContents};
+ghost use Rattle.std.specs.Prelude.{◌≡◌, IfOk, OnOk};
+
+use cmwq_types::{Fault, Instr, Reply, Scenario};
+use std::alloc::{AllocError, Global};
+use thiserror::Error;
+
+/// Why a scenario wasn't loaded.
+#[derive(Clone, Copy, Debug, PartialEq, Eq, Error)]
+pub enum LoadError {
+    /// The scenario isn't valid. This is judged before memory is asked for.
+    #[error("{0}")]
+    Fault(Fault),
+    /// Memory ran out.
+    #[error("no memory")]
+    NoMemory,
+}
+
+/// A machine that carries out the instruction table on a scenario.
+///
+/// Every machine answers alike, however it keeps its state. The table is this project's profile of
+/// the kernel's workqueue.
+pub trait Machine: Drop {
+    /// The scenario that was loaded.
+    ghost loaded: { Self → ScenarioContents };
+
+    /// The whole state.
+    ghost state: { Self → State };
+
+    /// A machine in the scenario's start state, with room for all that can come.
+    ///
+    /// Answers `Fault` exactly where the scenario has one, and else may answer `NoMemory`.
+    fn load(alloc: Global, scenario: &Scenario) -> Result<Self, LoadError>
+        ensures { Loads loaded state scenario.now result };
+
+    /// Carries out one instruction, and answers it. It takes no memory.
+    fn exec(&mut self, instr: Instr) -> Reply
+        ensures exact { (state self.new, result) ≡ table (loaded self.old) (state self.old) instr }
+        ensures scenario { loaded self.new ≡ loaded self.old };
+
+    /// The time, in ticks.
+    fn now(&self) -> u64
+        ensures { result ≡ (state self.now).now };
+}
