@@ -1,0 +1,8 @@
+//! `Plain`: the instruction table as a plain program over vectors that are scanned. It is slow on
+//! purpose, the yardstick for every other machine.
+#![tactic(auto)]
+
+mod records;
+mod scans;
+mod setting;
+mod wanted;

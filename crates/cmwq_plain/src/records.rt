@@ -1,0 +1,104 @@
+//! The state as vectors that are scanned.
+ghost use Rattle.cmwq_table.specs.State.{idle_at, made_at, max_at, pending_at, running_at, seat};
+ghost use Rattle.cmwq_table.specs.Moves.{with_pending, with_running};
+ghost use Rattle.std.specs.Prelude.{◌≡◌, ◌<◌, ◌+◌, ◌^◌, length};
+
+use cmwq_table::{FlushTarget, Pending, Running};
+use std::marker::Model;
+
+/// The whole state: each vector has one entry a queue, work, worker or pool, and keeps its length.
+#[derive(Drop)]
+pub(crate) struct Records {
+    time: u64,
+    next: u64,
+    spent: u32,
+    frozen: bool,
+    max: Vec<u16>,
+    pending: Vec<Option<Pending>>,
+    running: Vec<Option<Running>>,
+    idle: Vec<Option<u64>>,
+    made: Vec<u8>,
+    flushes: Vec<FlushTarget>,
+}
+
+impl Model for Records {
+    ghost use Rattle.cmwq_table.specs.State.{State};
+
+    ghost Value = { State };
+
+    ghost view = { λ r. record {
+      now = r.time;
+      next = r.next;
+      spent = r.spent;
+      frozen = r.frozen;
+      max = r.max.items;
+      pending = r.pending.items;
+      running = r.running.items;
+      idle = r.idle.items;
+      made = r.made.items;
+      flushes = r.flushes.items;
+    } };
+}
+
+impl Records {
+    pub(crate) fn time(&self) -> u64
+        ensures { result ≡ self.now.now }
+    {
+        self.time
+    }
+
+    pub(crate) fn next_stamp(&self) -> u64
+        ensures { result ≡ self.now.next }
+    {
+        self.next
+    }
+
+    pub(crate) fn spent(&self) -> u32
+        ensures { result ≡ self.now.spent }
+    {
+        self.spent
+    }
+
+    pub(crate) fn is_frozen(&self) -> bool
+        ensures { result ≡ self.now.frozen }
+    {
+        self.frozen
+    }
+
+    pub(crate) fn max_of(&self, queue: u8) -> u16
+        ensures { result ≡ max_at self.now queue }
+    {
+        self.max.get(queue as usize).copied().unwrap_or(0)
+    }
+
+    pub(crate) fn pending_of(&self, work: usize) -> Option<Pending>
+        ensures { result ≡ pending_at self.now work }
+    {
+        self.pending.get(work).copied().unwrap_or(None)
+    }
+
+    pub(crate) fn running_of(&self, work: usize) -> Option<Running>
+        ensures { result ≡ running_at self.now work }
+    {
+        self.running.get(work).copied().unwrap_or(None)
+    }
+
+    pub(crate) fn idle_of(&self, pool: u8, worker: u8) -> Option<u64>
+        ensures { result ≡ idle_at self.now pool worker }
+    {
+        self.idle.get(seat(pool, worker)).copied().unwrap_or(None)
+    }
+
+    pub(crate) fn made_of(&self, pool: u8) -> u8
+        ensures { result ≡ made_at self.now pool }
+    {
+        self.made.get(pool as usize).copied().unwrap_or(0)
+    }
+}
+
+/// The number of a worker of a pool among all workers.
+fn seat(pool: u8, worker: u8) -> usize
+    ensures { result ≡ seat pool worker }
+{
+    64 * pool as usize + worker as usize
+}
