@@ -2,6 +2,7 @@
 //! purpose, the yardstick for every other machine.
 #![tactic(auto)]
 
+mod counts;
 mod records;
 mod scans;
 mod setting;

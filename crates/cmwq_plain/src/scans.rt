@@ -4,7 +4,7 @@ ghost use Rattle.cmwq_types.specs.Scenario.{flags_at, queue_of};
 ghost use Rattle.cmwq_plain.specs.Ready.{IsSetting};
 ghost use Rattle.cmwq_plain.specs.Wanted.{comes_before, is_wanted};
 ghost use Rattle.cmwq_table.specs.Counts.{due_of, is_active, is_deferred, is_due, is_inactive, is_listed, is_runnable, is_slept, pending_due, pending_stamp, pends, running_stamp, running_until, runs, until_of};
-ghost use Rattle.std.specs.Prelude.{◌≡◌, ◌<◌, ◌==◌, ◌&&◌, ◌||◌, IfSome, length, nat_lt, true};
+ghost use Rattle.std.specs.Prelude.{◌≡◌, ◌<◌, ◌≤◌, ◌==◌, ◌&&◌, ◌||◌, IfSome, length, nat_lt, true};
 
 use crate::records::Records;
 use crate::setting::{flags_of, queue_of};
@@ -67,7 +67,8 @@ impl Records {
 
     /// How many works are looked for.
     pub(crate) fn count(&self, scenario: &Scenario, wanted: Wanted) -> usize
-        ensures { result ≡ count_below (is_wanted scenario.now self.now wanted) (length scenario.now.works) }
+        ensures count { result ≡ count_below (is_wanted scenario.now self.now wanted) (length scenario.now.works) }
+        ensures few { result ≤ length scenario.now.works }
     {
         let mut count = 0;
         for w in 0..scenario.works.len() {
