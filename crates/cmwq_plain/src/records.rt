@@ -1,7 +1,7 @@
 //! The state as vectors that are scanned.
+ghost use Rattle.cmwq_table.specs.Moves.{taking, with_pending, with_running};
 ghost use Rattle.cmwq_table.specs.State.{idle_at, made_at, max_at, pending_at, running_at, seat};
-ghost use Rattle.cmwq_table.specs.Moves.{with_pending, with_running};
-ghost use Rattle.std.specs.Prelude.{◌≡◌, ◌<◌, ◌+◌, ◌^◌, length};
+ghost use Rattle.std.specs.Prelude.{◌≡◌, ◌<◌, ◌+◌, ◌-◌, ◌^◌, length, slice_set};
 
 use cmwq_table::{FlushTarget, Pending, Running};
 use std::marker::Model;
@@ -93,6 +93,50 @@ impl Records {
         ensures { result ≡ made_at self.now pool }
     {
         self.made.get(pool as usize).copied().unwrap_or(0)
+    }
+
+    /// Takes the next stamp.
+    pub(crate) fn take_stamp(&mut self)
+        requires { self.old.next < 2 ^ 63 }
+        ensures { self.new ≡ taking self.old }
+    {
+        self.next += 1;
+    }
+
+    pub(crate) fn set_pending(&mut self, work: usize, pending: Option<Pending>)
+        requires { work < length self.old.pending }
+        ensures { self.new ≡ with_pending self.old work pending }
+    {
+        self.pending[work] = pending;
+    }
+
+    pub(crate) fn set_running(&mut self, work: usize, running: Option<Running>)
+        requires { work < length self.old.running }
+        ensures { self.new ≡ with_running self.old work running }
+    {
+        self.running[work] = running;
+    }
+
+    pub(crate) fn set_idle(&mut self, pool: u8, worker: u8, stamp: Option<u64>)
+        requires { seat pool worker < length self.old.idle }
+        ensures { self.new ≡ record self.old { idle = slice_set self.old.idle (seat pool worker) stamp } }
+    {
+        self.idle[seat(pool, worker)] = stamp;
+    }
+
+    pub(crate) fn set_made(&mut self, pool: u8, made: u8)
+        requires { pool < length self.old.made }
+        ensures { self.new ≡ record self.old { made = slice_set self.old.made pool made } }
+    {
+        self.made[pool as usize] = made;
+    }
+
+    /// Counts one instruction as accepted.
+    pub(crate) fn spend(&mut self)
+        requires { self.old.spent < 2 ^ 32 - 1 }
+        ensures { self.new ≡ record self.old { spent = self.old.spent + 1 } }
+    {
+        self.spent += 1;
     }
 }
 
