@@ -3,6 +3,7 @@
 #![tactic(auto)]
 
 mod counts;
+mod placing;
 mod records;
 mod scans;
 mod setting;
