@@ -1,2 +1,3 @@
+pub mod InRange
 pub mod Ready
 pub mod Wanted

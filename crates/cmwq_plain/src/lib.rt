@@ -3,6 +3,7 @@
 #![tactic(auto)]
 
 mod counts;
+mod moving;
 mod placing;
 mod records;
 mod scans;
