@@ -1,3 +1,4 @@
+pub mod Burning
 pub mod InRange
 pub mod Ready
 pub mod Wanted

@@ -1,7 +1,7 @@
 //! Limits, counts, and the first of the works and workers that a move asks for.
 ghost use Rattle.cmwq_types.specs.First.{by_greatest, first_with};
 ghost use Rattle.cmwq_plain.specs.Ready.{IsSetting};
-ghost use Rattle.cmwq_table.specs.Counts.{active, burns, counted, first_due, first_inactive, first_listed, first_runnable, first_slept, free_worker, has_room, idle_stamp, if_ready, last_idle, limit, may_start, new_worker, ready_head, runs};
+ghost use Rattle.cmwq_table.specs.Counts.{active, counted, first_due, first_inactive, first_listed, first_runnable, first_slept, free_worker, has_room, idle_stamp, if_ready, last_idle, limit, may_start, new_worker, ready_head, runs};
 ghost use Rattle.cmwq_table.specs.State.{idle_at};
 ghost use Rattle.std.specs.Prelude.{◌≡◌, ◌<◌, ◌==◌, IfSome, length, true};
 
@@ -9,7 +9,7 @@ use crate::records::Records;
 use crate::setting::{flags_of, is_unbound};
 use crate::wanted::Wanted;
 use cmwq_table::Running;
-use cmwq_types::{Mode, Scenario};
+use cmwq_types::Scenario;
 
 impl Records {
     /// How many works of the queue may be active in a pool.
@@ -183,19 +183,6 @@ impl Records {
             Some(worker) => Some(worker),
             None => self.new_worker(scenario, pool),
         }
-    }
-
-    /// Whether the running work burns in a tick.
-    pub(crate) fn burns(&self, scenario: &Scenario, w: usize, r: Running) -> bool
-        requires setting { IsSetting scenario.now }
-        requires pool { r.pool < 255 }
-        ensures { result ≡ burns scenario.now self.now w (Some r) }
-    {
-        if is_unbound(scenario, r.pool) {
-            return matches!(r.mode, Mode::Runnable);
-        }
-        self.first_runnable(scenario, r.pool) == Some(w)
-            && (r.pool % 2 == 1 || self.first_runnable(scenario, r.pool + 1).is_none())
     }
 }
 

@@ -8,4 +8,5 @@ mod placing;
 mod records;
 mod scans;
 mod setting;
+mod ticking;
 mod wanted;

@@ -1,8 +1,10 @@
 //! The state as vectors that are scanned.
-ghost use Rattle.cmwq_table.specs.Moves.{taking, with_pending, with_running};
+ghost use Rattle.cmwq_plain.specs.Burning.{burns_beside};
+ghost use Rattle.cmwq_table.specs.Moves.{burned, taking, with_pending, with_running};
 ghost use Rattle.cmwq_table.specs.State.{idle_at, made_at, max_at, pending_at, running_at, seat};
 ghost use Rattle.std.specs.Prelude.{◌≡◌, ◌<◌, ◌+◌, ◌-◌, ◌^◌, length, slice_set};
 
+use crate::ticking::burn;
 use cmwq_table::{FlushTarget, Pending, Running};
 use std::marker::Model;
 
@@ -129,6 +131,21 @@ impl Records {
         ensures { self.new ≡ record self.old { made = slice_set self.old.made pool made } }
     {
         self.made[pool as usize] = made;
+    }
+
+    /// Each running work that has a CPU burns one tick.
+    pub(crate) fn burn(&mut self, heads: &[Option<usize>], unbound: u8)
+        ensures { self.new ≡ record self.old { running = burned (burns_beside heads.now unbound) 0 self.old.running } }
+    {
+        burn(&mut self.running, heads, unbound);
+    }
+
+    /// Lets the time go on by one tick.
+    pub(crate) fn pass_time(&mut self)
+        requires { self.old.now < 2 ^ 63 }
+        ensures { self.new ≡ record self.old { now = self.old.now + 1 } }
+    {
+        self.time += 1;
     }
 
     /// Counts one instruction as accepted.

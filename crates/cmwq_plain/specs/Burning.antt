@@ -1,0 +1,17 @@
+-- Who burns, once the head of each pool is known.
+use Rattle.std.specs.Prelude.{◌≡◌, ℕ, ◌+◌, ◌*◌, ◌<◌, Bool, false, ◌&&◌, ◌||◌, List, Option, Some, None, if◌then◌else◌, is_none, nat_le, slice_index_or}
+use Rattle.cmwq_types.specs.Contents.{ScenarioContents}
+use Rattle.cmwq_table.specs.Counts.{first_runnable, is_runnable, is_some_work}
+use Rattle.cmwq_table.specs.State.{State, is_high, pool_count}
+use Rattle.cmwq_table.specs.declared.state.Running.{Running}
+
+-- `burns`, with the heads in a list and `unbound` the least unbound pool
+abbrev pub burns_beside : List (Option ℕ) → ℕ → ℕ → Option Running → Bool
+burns_beside heads unbound w None = false
+burns_beside heads unbound w (Some r) =
+    if nat_le unbound r.pool then is_runnable r.mode
+    else is_some_work (slice_index_or heads r.pool None) w && (is_high r.pool || is_none (slice_index_or heads (r.pool + 1) None))
+
+-- the list has the first runnable work of each pool
+abbrev pub AreHeads : ScenarioContents → State → ℕ → List (Option ℕ) → Type 0
+AreHeads S s n heads = (pool : ℕ) → pool < n → slice_index_or heads pool None ≡ first_runnable S s pool
