@@ -58,3 +58,20 @@ pub record IsReady (S : ScenarioContents) (s : State) : Type 0 where
   pub made_long : length s.made ≡ pool_count S
   pub pending : (w : ℕ) → IsPendingReady S (pending_at s w)
   pub running : (w : ℕ) → IsRunningReady S (running_at s w)
+
+-- time and spent steps are as they were
+pub record HasSameClock (old new : State) : Type 0 where
+  pub now : new.now ≡ old.now
+  pub spent : new.spent ≡ old.spent
+
+-- what the machine keeps between two instructions: no counter can outgrow the scenario's steps
+pub record IsKept (S : ScenarioContents) (s : State) : Type 0 where
+  pub ready : IsReady S s
+  pub spent : s.spent ≤ S.steps
+  pub now : s.now ≤ s.spent
+  pub next : s.next ≤ 1024 * s.spent
+
+-- a loaded scenario and the state that it has come to
+pub record Loaded : Type 0 where
+  pub scenario : ScenarioContents
+  pub state : State

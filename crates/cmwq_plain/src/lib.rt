@@ -2,6 +2,7 @@
 //! purpose, the yardstick for every other machine.
 #![tactic(auto)]
 
+mod copy;
 mod counts;
 mod moving;
 mod placing;

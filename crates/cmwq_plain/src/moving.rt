@@ -1,6 +1,6 @@
 //! The moves of a worker pool: which one is next, and what each does.
 ghost use Rattle.cmwq_plain.specs.InRange.{IsMoveInRange};
-ghost use Rattle.cmwq_plain.specs.Ready.{IsReady, IsSetting};
+ghost use Rattle.cmwq_plain.specs.Ready.{HasSameClock, IsReady, IsSetting};
 ghost use Rattle.cmwq_table.specs.Moves.{advance, begun, carry_out, come_to_end, deferred, finish, first_moving, moved, next_move, queue_from_body, retire, start_move, started, started_on, taking, with_pending, with_running, woken};
 ghost use Rattle.cmwq_table.specs.Counts.{free_worker};
 ghost use Rattle.cmwq_types.specs.Scenario.{op_at};
@@ -72,6 +72,7 @@ impl Records {
         ensures event { result ≡ (moved scenario.now self.old pool next).1 }
         ensures ready { IsReady scenario.now self.new }
         ensures stamps { self.new.next ≤ self.old.next + 300 }
+        ensures clock { HasSameClock self.old self.new }
     {
         match next {
             Move::Advance(w) => self.advance(scenario, w.0 as usize),
@@ -100,6 +101,7 @@ impl Records {
         ensures event { result ≡ (advance scenario.now self.old w (running_at self.old w)).1 }
         ensures ready { IsReady scenario.now self.new }
         ensures stamps { self.new.next ≤ self.old.next + 300 }
+        ensures clock { HasSameClock self.old self.new }
     {
         match self.running_of(w) {
             Some(r) => self.carry_out(scenario, w, r),
@@ -117,6 +119,7 @@ impl Records {
         ensures event { result ≡ (carry_out scenario.now self.old w r (op_at scenario.now w r.pc)).1 }
         ensures ready { IsReady scenario.now self.new }
         ensures stamps { self.new.next ≤ self.old.next + 300 }
+        ensures clock { HasSameClock self.old self.new }
     {
         match op_of(scenario, w, r.pc) {
             Op::Burn(ticks) => {
@@ -156,6 +159,7 @@ impl Records {
         ensures event { result ≡ (queue_from_body scenario.now self.old other cpu (pending_at self.old other.0)).1 }
         ensures ready { IsReady scenario.now self.new }
         ensures stamps { self.new.next ≤ self.old.next + 1 }
+        ensures clock { HasSameClock self.old self.new }
     {
         let already = self.pending_of(other.0 as usize).is_some();
         if !already {
@@ -174,6 +178,7 @@ impl Records {
         ensures event { result ≡ (finish scenario.now self.old w r).1 }
         ensures ready { IsReady scenario.now self.new }
         ensures stamps { self.new.next ≤ self.old.next + 300 }
+        ensures clock { HasSameClock self.old self.new }
     {
         let event = self.come_to_end(scenario, w, r);
         self.fill(scenario, queue_of(scenario, w), r.pool);
@@ -190,6 +195,7 @@ impl Records {
         ensures event { result ≡ (come_to_end self.old w r (pending_at self.old w)).1 }
         ensures ready { IsReady scenario.now self.new }
         ensures stamps { self.new.next ≡ self.old.next + 1 }
+        ensures clock { HasSameClock self.old self.new }
     {
         match self.pending_of(w) {
             Some(
@@ -259,6 +265,7 @@ impl Records {
         ensures woken { self.new ≡ woken self.old w (running_at self.old w) }
         ensures ready { IsReady scenario.now self.new }
         ensures stamps { self.new.next ≤ self.old.next + 1 }
+        ensures clock { HasSameClock self.old self.new }
     {
         if let Some(r) = self.running_of(w) {
             let stamp = self.next_stamp();
@@ -281,6 +288,7 @@ impl Records {
         ensures started { self.new ≡ started self.old pool w (free_worker scenario.now self.old pool) (pending_at self.old w) }
         ensures ready { IsReady scenario.now self.new }
         ensures stamps { self.new.next ≤ self.old.next + 1 }
+        ensures clock { HasSameClock self.old self.new }
     {
         if let (Some(worker), Some(p)) = (self.free_worker(scenario, pool), self.pending_of(w)) {
             self.start_on(scenario, pool, w, worker, p);
@@ -310,6 +318,7 @@ impl Records {
         ensures deferred { self.new ≡ deferred self.old pool w (pending_at self.old w) }
         ensures ready { IsReady scenario.now self.new }
         ensures stamps { self.new.next ≡ self.old.next }
+        ensures clock { HasSameClock self.old self.new }
     {
         if let Some(p) = self.pending_of(w) {
             let place = Place::Deferred(pool);

@@ -1,5 +1,5 @@
 //! Placing works in pools, and filling what has room.
-ghost use Rattle.cmwq_plain.specs.Ready.{IsPlaceReady, IsReady, IsSetting};
+ghost use Rattle.cmwq_plain.specs.Ready.{HasSameClock, IsPlaceReady, IsReady, IsSetting};
 ghost use Rattle.cmwq_table.specs.Moves.{enlist, fill, fill_one, fire, newborn, place, pool_for, taking, with_pending};
 ghost use Rattle.std.specs.Prelude.{◌≡◌, ◌<◌, ◌≤◌, ◌+◌, ◌^◌, IsFalse, length};
 
@@ -84,6 +84,7 @@ impl Records {
         ensures filled { self.new ≡ fill_one scenario.now queue pool self.old }
         ensures ready { IsReady scenario.now self.new }
         ensures stamps { self.new.next ≤ self.old.next + 1 }
+        ensures clock { HasSameClock self.old self.new }
         ensures unchanged { IsFalse result → self.new ≡ self.old }
     {
         if !self.has_room(scenario, queue, pool) {
@@ -105,6 +106,7 @@ impl Records {
         ensures filled { self.new ≡ fill scenario.now queue pool self.old }
         ensures ready { IsReady scenario.now self.new }
         ensures stamps { self.new.next ≤ self.old.next + 256 }
+        ensures clock { HasSameClock self.old self.new }
     {
         for _turn in 0..scenario.works.len() {
             if !self.fill_one(scenario, queue, pool) {
@@ -121,6 +123,7 @@ impl Records {
         ensures fired { self.new ≡ fire scenario.now self.old w }
         ensures ready { IsReady scenario.now self.new }
         ensures stamps { self.new.next ≤ self.old.next + 1 }
+        ensures clock { HasSameClock self.old self.new }
     {
         if let Some(
             Pending {
