@@ -2,8 +2,10 @@
 //! purpose, the yardstick for every other machine.
 #![tactic(auto)]
 
+mod beginning;
 mod copy;
 mod counts;
+mod lines;
 mod moving;
 mod placing;
 mod records;

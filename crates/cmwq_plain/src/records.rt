@@ -2,7 +2,7 @@
 ghost use Rattle.cmwq_plain.specs.Burning.{burns_beside};
 ghost use Rattle.cmwq_table.specs.Moves.{burned, taking, with_pending, with_running};
 ghost use Rattle.cmwq_table.specs.State.{idle_at, made_at, max_at, pending_at, running_at, seat};
-ghost use Rattle.std.specs.Prelude.{◌≡◌, ◌<◌, ◌+◌, ◌-◌, ◌^◌, length, slice_set};
+ghost use Rattle.std.specs.Prelude.{◌≡◌, ◌<◌, ◌+◌, ◌-◌, ◌^◌, false, length, slice_set};
 
 use crate::ticking::burn;
 use cmwq_table::{FlushTarget, Pending, Running};
@@ -43,6 +43,31 @@ impl Model for Records {
 }
 
 impl Records {
+    /// A state before any instruction, with these vectors.
+    pub(crate) fn at_start(
+        max: Vec<u16>,
+        pending: Vec<Option<Pending>>,
+        running: Vec<Option<Running>>,
+        idle: Vec<Option<u64>>,
+        made: Vec<u8>,
+        flushes: Vec<FlushTarget>,
+    ) -> Records
+        ensures { result ≡ record { now = 0; next = 0; spent = 0; frozen = false; max = max.items; pending = pending.items; running = running.items; idle = idle.items; made = made.items; flushes = flushes.items } }
+    {
+        Records {
+            time: 0,
+            next: 0,
+            spent: 0,
+            frozen: false,
+            max,
+            pending,
+            running,
+            idle,
+            made,
+            flushes,
+        }
+    }
+
     pub(crate) fn time(&self) -> u64
         ensures { result ≡ self.now.now }
     {
