@@ -1,3 +1,4 @@
 pub mod FillLemmas
 pub mod ReadyLemmas
+pub mod SettingLemmas
 pub mod TickLemmas
