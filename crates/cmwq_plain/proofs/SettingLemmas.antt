@@ -52,7 +52,7 @@ pc-in_range op.Finish pc h = tt
 ends-in_range : (body : List Op) → length body ≤ 64 → (pc : ℕ) → IsPcInRange (slice_index_or body pc op.Finish) pc
 ends-in_range body long pc =
     elim (cases_lt pc (length body)) [
-      inl lt ↦ pc-in_range (slice_index_or body pc op.Finish) pc (omega arith)
+      | inl lt ↦ pc-in_range (slice_index_or body pc op.Finish) pc (omega arith)
       | inr ge ↦ subst (λ (o : Op). IsPcInRange o pc) (sym (get_or_past body pc op.Finish ge)) tt
     ]
 
@@ -95,8 +95,8 @@ IsSetting-valid S valid =
     let numbers : (few_cpus && few_workers && few_steps && nat_le S.flushes MAX_FLUSHES) ≡ true = passed (few_cpus && few_workers && few_steps && nat_le S.flushes MAX_FLUSHES) Range head.0 in
     let sizes : (nat_le (length S.queues) MAX_QUEUES && nat_le (length S.works) MAX_WORKS && nat_le (length S.actors) MAX_ACTORS) ≡ true = passed (nat_le (length S.queues) MAX_QUEUES && nat_le (length S.works) MAX_WORKS && nat_le (length S.actors) MAX_ACTORS) TooMany counts.0 in
     let bodies : (w : ℕ) → IsBodyInRange S (work_at S w).body =
-        along (work_fault S) (λ work. IsBodyInRange S work.body) (record { name = []; queue = record { 0 = 0 }; body = [] }) (work-in_range S) (no_body S) [] S.works parts.0
-        in
+    along (work_fault S) (λ work. IsBodyInRange S work.body) (record { name = []; queue = record { 0 = 0 }; body = [] }) (work-in_range S) (no_body S) [] S.works parts.0
+    in
     record {
       cpus = grind (arith, nat_tests);
       workers = grind (arith, nat_tests);

@@ -6,6 +6,7 @@ mod beginning;
 mod copy;
 mod counts;
 mod lines;
+mod machine;
 mod moving;
 mod placing;
 mod records;
@@ -13,3 +14,5 @@ mod scans;
 mod setting;
 mod ticking;
 mod wanted;
+
+pub use machine::Plain;

@@ -1,9 +1,9 @@
 //! The lines of the instruction table: refusals, effects and replies.
-ghost use Rattle.cmwq_plain.specs.Ready.{HasSameClock, IsReady, IsSetting};
+ghost use Rattle.cmwq_plain.specs.Ready.{HasSameClock, IsKept, IsReady, IsSetting};
 ghost use Rattle.cmwq_table.specs.State.{pending_at, pool_count};
 ghost use Rattle.cmwq_table.specs.Counts.{first_due};
 ghost use Rattle.cmwq_table.specs.Moves.{first_moving, moved_work, next_move};
-ghost use Rattle.cmwq_table.specs.Table.{effect, next, operands, queued, refusal, situation, spent_all, step_or_tick, stepped, unsettled};
+ghost use Rattle.cmwq_table.specs.Table.{effect, next, operands, queued, refusal, situation, spent_all, step_or_tick, stepped, table, unsettled};
 ghost use Rattle.std.specs.Prelude.{◌≡◌, ◌<◌, ◌≤◌, ◌+◌, ◌^◌, None, length};
 
 use crate::records::Records;
@@ -24,6 +24,22 @@ fn operands(scenario: &Scenario, instr: Instr) -> Option<Refusal>
 }
 
 impl Records {
+    /// The line of an instruction: a refusal changes nothing, and what is accepted is spent.
+    #[tactic(auto, unfolding(cmwq_table::specs::Table::table))]
+    pub(crate) fn exec(&mut self, scenario: &Scenario, instr: Instr) -> Reply
+        requires { IsKept scenario.now self.old }
+        ensures state { self.new ≡ (table scenario.now self.old instr).0 }
+        ensures reply { result ≡ (table scenario.now self.old instr).1 }
+        ensures kept { IsKept scenario.now self.new }
+    {
+        if let Some(why) = self.refusal(scenario, instr) {
+            return Reply::Refused(why);
+        }
+        let reply = self.effect(scenario, instr);
+        self.spend();
+        reply
+    }
+
     /// Why the instruction is refused: its operands, then spent steps, then the situation.
     pub(crate) fn refusal(&self, scenario: &Scenario, instr: Instr) -> Option<Refusal>
         requires { IsReady scenario.now self.now }
