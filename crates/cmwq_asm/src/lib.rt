@@ -1,0 +1,4 @@
+//! The text of a scenario: its listing.
+#![tactic(auto)]
+
+mod lines;
