@@ -2,3 +2,6 @@
 #![tactic(auto)]
 
 mod lines;
+mod listing;
+
+pub use listing::list;

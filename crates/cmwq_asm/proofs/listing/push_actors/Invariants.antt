@@ -1,0 +1,9 @@
+use Rattle.std.proofs.Common.{◌≡◌, ◌++◌, take}
+use Rattle.std.specs.List.{flat_map}
+use Rattle.std.specs.Prelude.{map}
+use Rattle.cmwq_types.specs.Listing.{actor_lines, written_text}
+use Rattle.cmwq_asm.proofs.listing.push_actors.Given as goal
+
+-- the lines so far
+abbrev pub invariant-loop-actor : goal.invariant-loop-actor
+invariant-loop-actor l = l.text.items ≡ l.fn.text.items ++ flat_map written_text (flat_map (actor_lines l.scenario) (take l.actor-index l.scenario.actors))

@@ -1,0 +1,9 @@
+use Rattle.std.proofs.Common.{◌≡◌, ◌++◌, take}
+use Rattle.std.specs.List.{flat_map}
+use Rattle.std.specs.Prelude.{map}
+use Rattle.cmwq_types.specs.Listing.{queue_line, written_text}
+use Rattle.cmwq_asm.proofs.listing.push_queues.Given as goal
+
+-- the lines so far
+abbrev pub invariant-loop-queue : goal.invariant-loop-queue
+invariant-loop-queue l = l.text.items ≡ l.fn.text.items ++ flat_map written_text (map queue_line (take l.queue-index l.queues))

@@ -1,0 +1,9 @@
+use Rattle.std.proofs.Common.{◌≡◌, ◌++◌, take}
+use Rattle.std.specs.List.{flat_map}
+use Rattle.std.specs.Prelude.{map}
+use Rattle.cmwq_types.specs.Listing.{work_line, written_text}
+use Rattle.cmwq_asm.proofs.listing.push_works.Given as goal
+
+-- the lines so far
+abbrev pub invariant-loop-work : goal.invariant-loop-work
+invariant-loop-work l = l.text.items ≡ l.fn.text.items ++ flat_map written_text (map (work_line l.scenario) (take l.work-index l.scenario.works))

@@ -1,0 +1,231 @@
+//! The listing of a scenario: its canonical text.
+ghost use Rattle.cmwq_types.specs.Listing.{Flagged, actor_line, actor_lines, body_lines, flag_words, instr_words, line_text, listing, op_line, queue_line, times_words, word_if, work_line, written_text};
+ghost use Rattle.cmwq_types.specs.Scenario.{queue_at, work_at};
+ghost use Rattle.std.specs.Fmt.{decimal};
+ghost use Rattle.std.specs.List.{flat_map, join_with_byte};
+ghost use Rattle.std.specs.Prelude.{◌≡◌, ◌++◌, ◌∷◌, [], IfOk, OnOk, map};
+
+use crate::lines::{push_line, push_others, push_words};
+use cmwq_types::{
+    Actor, Flags, Instr, Line, NoMemory, Op, QueueDecl, QueueId, Scenario, WorkDecl, WorkId,
+};
+use std::alloc::Global;
+
+/// The listing of the scenario: its lines in order, each with one space between words and a line
+/// feed at its end, with no comment and no blank line.
+pub fn list(alloc: Global, scenario: &Scenario) -> Result<Vec<u8>, NoMemory>
+    ensures { IfOk result (λ text. text.items ≡ listing scenario.now) }
+{
+    let mut text = Vec::new(alloc);
+    push_number(alloc, &mut text, b"cpus", u32::from(scenario.cpus))?;
+    push_number(alloc, &mut text, b"workers", u32::from(scenario.workers))?;
+    push_number(alloc, &mut text, b"steps", scenario.steps)?;
+    push_number(alloc, &mut text, b"flushes", u32::from(scenario.flushes))?;
+    push_queues(alloc, &mut text, &scenario.queues)?;
+    push_works(&mut text, scenario)?;
+    push_bodies(alloc, &mut text, scenario)?;
+    push_actors(alloc, &mut text, scenario)?;
+    Ok(text)
+}
+
+/// Writes a line of a word and a number.
+fn push_number(alloc: Global, text: &mut Vec<u8>, word: &[u8], n: u32) -> Result<(), NoMemory>
+    ensures { OnOk result (text.new.items ≡ text.old.items ++ line_text (word.now ∷ decimal n ∷ [])) }
+{
+    let digits = n.to_string(alloc)?;
+    push_line(text, word, &[digits.as_bytes()])
+}
+
+fn push_queues(alloc: Global, text: &mut Vec<u8>, queues: &[QueueDecl]) -> Result<(), NoMemory>
+    ensures { OnOk result (text.new.items ≡ text.old.items ++ flat_map written_text (map queue_line queues.now)) }
+{
+    for queue in queues {
+        push_queue(alloc, text, queue)?;
+    }
+    Ok(())
+}
+
+fn push_queue(alloc: Global, text: &mut Vec<u8>, queue: &QueueDecl) -> Result<(), NoMemory>
+    ensures { OnOk result (text.new.items ≡ text.old.items ++ written_text (queue_line queue.now)) }
+{
+    let max = queue.max.to_string(alloc)?;
+    let words: &[&[u8]] = &[queue.name.as_bytes(), b"max", max.as_bytes()];
+    push_flagged(text, b"queue", words, queue.flags)
+}
+
+/// Writes a line of the words and then the flags that are set.
+fn push_flagged(
+    text: &mut Vec<u8>,
+    first: &[u8],
+    others: &[&[u8]],
+    flags: Flags,
+) -> Result<(), NoMemory>
+    ensures { OnOk result (text.new.items ≡ text.old.items
+        ++ written_text (Flagged (first.now ∷ map (λ word. word.now) others.now) (flag_words flags))) }
+{
+    push_words(text, first, others)?;
+    push_flags(text, flags)?;
+    text.push(b'\n')?;
+    Ok(())
+}
+
+/// Writes the flags that are set, each behind a space.
+fn push_flags(text: &mut Vec<u8>, flags: Flags) -> Result<(), NoMemory>
+    ensures { OnOk result (text.new.items ≡ text.old.items ++ flat_map (λ word. 32 ∷ word) (flag_words flags)) }
+{
+    push_word_if(text, flags.highpri, b"highpri")?;
+    push_word_if(text, flags.unbound, b"unbound")?;
+    push_word_if(text, flags.cpu_intensive, b"cpu_intensive")?;
+    push_word_if(text, flags.freezable, b"freezable")?;
+    push_word_if(text, flags.ordered, b"ordered")?;
+    Ok(())
+}
+
+/// Writes the word behind a space, where the test holds.
+fn push_word_if(text: &mut Vec<u8>, holds: bool, word: &[u8]) -> Result<(), NoMemory>
+    ensures { OnOk result (text.new.items ≡ text.old.items ++ flat_map (λ word. 32 ∷ word) (word_if holds word.now)) }
+{
+    if holds {
+        push_others(text, &[word])?;
+    }
+    Ok(())
+}
+
+fn push_works(text: &mut Vec<u8>, scenario: &Scenario) -> Result<(), NoMemory>
+    ensures { OnOk result (text.new.items ≡ text.old.items ++ flat_map written_text (map (work_line scenario.now) scenario.now.works)) }
+{
+    for work in &scenario.works {
+        let queue = queue_name(scenario, work.queue);
+        push_line(text, b"work", &[work.name.as_bytes(), queue])?;
+    }
+    Ok(())
+}
+
+fn push_bodies(alloc: Global, text: &mut Vec<u8>, scenario: &Scenario) -> Result<(), NoMemory>
+    ensures { OnOk result (text.new.items ≡ text.old.items ++ flat_map written_text (flat_map (body_lines scenario.now) scenario.now.works)) }
+{
+    for work in &scenario.works {
+        push_line(text, b"body", &[work.name.as_bytes()])?;
+        push_ops(alloc, text, scenario, &work.body)?;
+    }
+    Ok(())
+}
+
+fn push_ops(
+    alloc: Global,
+    text: &mut Vec<u8>,
+    scenario: &Scenario,
+    body: &[Op],
+) -> Result<(), NoMemory>
+    ensures { OnOk result (text.new.items ≡ text.old.items ++ flat_map written_text (map (op_line scenario.now) body.now)) }
+{
+    for op in body {
+        push_op(alloc, text, scenario, *op)?;
+    }
+    Ok(())
+}
+
+fn push_op(alloc: Global, text: &mut Vec<u8>, scenario: &Scenario, op: Op) -> Result<(), NoMemory>
+    ensures { OnOk result (text.new.items ≡ text.old.items ++ written_text (op_line scenario.now op)) }
+{
+    match op {
+        Op::Burn(ticks) => push_number(alloc, text, b"burn", ticks),
+        Op::Sleep(ticks) => push_number(alloc, text, b"sleep", ticks),
+        Op::Queue(work, cpu) => {
+            let cpu = cpu.to_string(alloc)?;
+            push_line(text, b"queue", &[work_name(scenario, work), cpu.as_bytes()])
+        }
+        Op::Finish => push_line(text, b"finish", &[]),
+    }
+}
+
+fn push_actors(alloc: Global, text: &mut Vec<u8>, scenario: &Scenario) -> Result<(), NoMemory>
+    ensures { OnOk result (text.new.items ≡ text.old.items ++ flat_map written_text (flat_map (actor_lines scenario.now) scenario.now.actors)) }
+{
+    for actor in &scenario.actors {
+        push_line(text, b"actor", &[actor.name.as_bytes()])?;
+        push_lines(alloc, text, scenario, &actor.lines)?;
+    }
+    Ok(())
+}
+
+fn push_lines(
+    alloc: Global,
+    text: &mut Vec<u8>,
+    scenario: &Scenario,
+    lines: &[Line],
+) -> Result<(), NoMemory>
+    ensures { OnOk result (text.new.items ≡ text.old.items ++ flat_map written_text (map (actor_line scenario.now) lines.now)) }
+{
+    for line in lines {
+        push_actor_line(alloc, text, scenario, *line)?;
+    }
+    Ok(())
+}
+
+fn push_actor_line(
+    alloc: Global,
+    text: &mut Vec<u8>,
+    scenario: &Scenario,
+    line: Line,
+) -> Result<(), NoMemory>
+    ensures { OnOk result (text.new.items ≡ text.old.items ++ written_text (actor_line scenario.now line)) }
+{
+    push_instr(alloc, text, scenario, line.instr)?;
+    push_times(alloc, text, line.times)?;
+    text.push(b'\n')?;
+    Ok(())
+}
+
+fn push_instr(
+    alloc: Global,
+    text: &mut Vec<u8>,
+    scenario: &Scenario,
+    instr: Instr,
+) -> Result<(), NoMemory>
+    ensures { OnOk result (text.new.items ≡ text.old.items ++ join_with_byte 32 (instr_words scenario.now instr)) }
+{
+    match instr {
+        Instr::Queue(work, cpu) => {
+            let cpu = cpu.to_string(alloc)?;
+            push_words(text, b"queue", &[work_name(scenario, work), cpu.as_bytes()])
+        }
+        Instr::Step(pool) => {
+            let pool = pool.to_string(alloc)?;
+            push_words(text, b"step", &[pool.as_bytes()])
+        }
+        Instr::Tick => push_words(text, b"tick", &[]),
+        Instr::Next => push_words(text, b"next", &[]),
+    }
+}
+
+/// Writes `* N` behind a space, unless the line stands once.
+fn push_times(alloc: Global, text: &mut Vec<u8>, times: u32) -> Result<(), NoMemory>
+    ensures { OnOk result (text.new.items ≡ text.old.items ++ flat_map (λ word. 32 ∷ word) (times_words times)) }
+{
+    if times != 1 {
+        let times = times.to_string(alloc)?;
+        push_others(text, &[b"*", times.as_bytes()])?;
+    }
+    Ok(())
+}
+
+/// The name of a queue, or no bytes where no queue has the number.
+fn queue_name(scenario: &Scenario, queue: QueueId) -> &[u8]
+    ensures { result.now ≡ (queue_at scenario.now queue.0).name }
+{
+    match scenario.queues.get(queue.0 as usize) {
+        Some(declared) => declared.name.as_bytes(),
+        None => &[],
+    }
+}
+
+/// The name of a work, or no bytes where no work has the number.
+fn work_name(scenario: &Scenario, work: WorkId) -> &[u8]
+    ensures { result.now ≡ (work_at scenario.now work.0).name }
+{
+    match scenario.works.get(work.0 as usize) {
+        Some(declared) => declared.name.as_bytes(),
+        None => &[],
+    }
+}
