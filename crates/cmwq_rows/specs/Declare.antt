@@ -1,6 +1,6 @@
 -- Short words for writing scenarios down.
-use Rattle.std.specs.Prelude.{ℕ, Bool, true, false, List, [], ◌∷◌}
-use Rattle.cmwq_types.specs.Contents.{ScenarioContents, WorkContents, ActorContents}
+use Rattle.std.specs.Prelude.{ℕ, true, List, [], ◌∷◌}
+use Rattle.cmwq_types.specs.Contents.{ScenarioContents, WorkContents}
 use Rattle.cmwq_types.specs.declared.instr.Instr.{Instr}
 use Rattle.cmwq_types.specs.declared.instr.Instr.TheVariants as instr
 use Rattle.cmwq_types.specs.declared.scenario.Flags.{Flags}
@@ -28,7 +28,7 @@ cpu_intensive = record plain_flags { cpu_intensive = true }
 abbrev pub ordered : Flags
 ordered = record plain_flags { ordered = true }
 
--- the body `queue W 0`
+-- the operation `queue W 0`
 abbrev pub queues : ℕ → Op
 queues w = op.Queue (record { 0 = w }) 0
 

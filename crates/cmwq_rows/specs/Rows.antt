@@ -1,7 +1,7 @@
 -- Worked examples: a scenario, its one actor's lines, and what the run prints.
-use Rattle.std.specs.Prelude.{◌≡◌, ℕ, List, [], ◌∷◌, ◌++◌, codes}
+use Rattle.std.specs.Prelude.{ℕ, List, [], ◌∷◌, ◌++◌, codes}
 use Rattle.std.specs.List.{flat_map}
-use Rattle.cmwq_types.specs.Contents.{ScenarioContents, ActorContents}
+use Rattle.cmwq_types.specs.Contents.{ScenarioContents}
 use Rattle.cmwq_types.specs.Scenario.{expand, plain_flags}
 use Rattle.cmwq_types.specs.declared.instr.Instr.TheVariants as instr
 use Rattle.cmwq_types.specs.declared.scenario.Op.{Op}
@@ -36,31 +36,31 @@ document max nexts =
 abbrev pub max_active_3 : List ℕ
 max_active_3 =
     text (
-      codes "0 w0 starts" ∷ codes "0 w0 burns 5" ∷ codes "5 w0 sleeps 10" ∷ codes "5 w1 starts" ∷
-      codes "5 w1 burns 5" ∷ codes "10 w1 sleeps 10" ∷ codes "10 w2 starts" ∷
-      codes "10 w2 burns 5" ∷ codes "15 w2 sleeps 10" ∷ codes "15 w0 wakes" ∷
-      codes "15 w0 burns 5" ∷ codes "20 w0 finishes" ∷ codes "20 w1 wakes" ∷
-      codes "20 w1 finishes" ∷ codes "25 w2 wakes" ∷ codes "25 w2 finishes" ∷ [])
+    codes "0 w0 starts" ∷ codes "0 w0 burns 5" ∷ codes "5 w0 sleeps 10" ∷ codes "5 w1 starts" ∷
+    codes "5 w1 burns 5" ∷ codes "10 w1 sleeps 10" ∷ codes "10 w2 starts" ∷
+    codes "10 w2 burns 5" ∷ codes "15 w2 sleeps 10" ∷ codes "15 w0 wakes" ∷
+    codes "15 w0 burns 5" ∷ codes "20 w0 finishes" ∷
+    codes "20 w1 wakes" ∷ codes "20 w1 finishes" ∷ codes "25 w2 wakes" ∷ codes "25 w2 finishes" ∷ [])
 
 -- with `max_active` 2 the third is active once the first has finished
 abbrev pub max_active_2 : List ℕ
 max_active_2 =
     text (
-      codes "0 w0 starts" ∷ codes "0 w0 burns 5" ∷ codes "5 w0 sleeps 10" ∷ codes "5 w1 starts" ∷
-      codes "5 w1 burns 5" ∷ codes "10 w1 sleeps 10" ∷ codes "15 w0 wakes" ∷
-      codes "15 w0 burns 5" ∷ codes "20 w0 finishes" ∷ codes "20 w1 wakes" ∷
-      codes "20 w1 finishes" ∷ codes "20 w2 starts" ∷ codes "20 w2 burns 5" ∷
-      codes "25 w2 sleeps 10" ∷ codes "35 w2 wakes" ∷ codes "35 w2 finishes" ∷ [])
+    codes "0 w0 starts" ∷ codes "0 w0 burns 5" ∷ codes "5 w0 sleeps 10" ∷ codes "5 w1 starts" ∷
+    codes "5 w1 burns 5" ∷ codes "10 w1 sleeps 10" ∷ codes "15 w0 wakes" ∷
+    codes "15 w0 burns 5" ∷ codes "20 w0 finishes" ∷ codes "20 w1 wakes" ∷
+    codes "20 w1 finishes" ∷ codes "20 w2 starts" ∷ codes "20 w2 burns 5" ∷
+    codes "25 w2 sleeps 10" ∷ codes "35 w2 wakes" ∷ codes "35 w2 finishes" ∷ [])
 
 -- with `max_active` 1 they run one after another
 abbrev pub max_active_1 : List ℕ
 max_active_1 =
     text (
-      codes "0 w0 starts" ∷ codes "0 w0 burns 5" ∷ codes "5 w0 sleeps 10" ∷ codes "15 w0 wakes" ∷
-      codes "15 w0 burns 5" ∷ codes "20 w0 finishes" ∷ codes "20 w1 starts" ∷
-      codes "20 w1 burns 5" ∷ codes "25 w1 sleeps 10" ∷ codes "35 w1 wakes" ∷
-      codes "35 w1 finishes" ∷ codes "35 w2 starts" ∷ codes "35 w2 burns 5" ∷
-      codes "40 w2 sleeps 10" ∷ codes "50 w2 wakes" ∷ codes "50 w2 finishes" ∷ [])
+    codes "0 w0 starts" ∷ codes "0 w0 burns 5" ∷ codes "5 w0 sleeps 10" ∷ codes "15 w0 wakes" ∷
+    codes "15 w0 burns 5" ∷ codes "20 w0 finishes" ∷ codes "20 w1 starts" ∷
+    codes "20 w1 burns 5" ∷ codes "25 w1 sleeps 10" ∷ codes "35 w1 wakes" ∷
+    codes "35 w1 finishes" ∷ codes "35 w2 starts" ∷ codes "35 w2 burns 5" ∷
+    codes "40 w2 sleeps 10" ∷ codes "50 w2 wakes" ∷ codes "50 w2 finishes" ∷ [])
 
 -- w1 and w2 on a CPU-intensive queue of their own
 abbrev pub cpu_intensive_beside_normal : ScenarioContents
@@ -74,11 +74,11 @@ cpu_intensive_beside_normal =
 abbrev pub cpu_intensive_lines : List ℕ
 cpu_intensive_lines =
     text (
-      codes "0 w0 starts" ∷ codes "0 w0 burns 5" ∷ codes "5 w0 sleeps 10" ∷ codes "5 w1 starts" ∷
-      codes "5 w1 burns 5" ∷ codes "5 w2 starts" ∷ codes "10 w1 sleeps 10" ∷
-      codes "10 w2 burns 5" ∷ codes "15 w2 sleeps 10" ∷ codes "15 w0 wakes" ∷
-      codes "15 w0 burns 5" ∷ codes "20 w0 finishes" ∷ codes "20 w1 wakes" ∷
-      codes "20 w1 finishes" ∷ codes "25 w2 wakes" ∷ codes "25 w2 finishes" ∷ [])
+    codes "0 w0 starts" ∷ codes "0 w0 burns 5" ∷ codes "5 w0 sleeps 10" ∷ codes "5 w1 starts" ∷
+    codes "5 w1 burns 5" ∷ codes "5 w2 starts" ∷ codes "10 w1 sleeps 10" ∷
+    codes "10 w2 burns 5" ∷ codes "15 w2 sleeps 10" ∷ codes "15 w0 wakes" ∷
+    codes "15 w0 burns 5" ∷ codes "20 w0 finishes" ∷ codes "20 w1 wakes" ∷
+    codes "20 w1 finishes" ∷ codes "25 w2 wakes" ∷ codes "25 w2 finishes" ∷ [])
 
 abbrev pub burning : ℕ → List Op
 burning ticks = op.Burn ticks ∷ op.Finish ∷ []
@@ -95,8 +95,8 @@ high_beside_normal =
 abbrev pub high_lines : List ℕ
 high_lines =
     text (
-      codes "0 a starts" ∷ codes "0 a burns 2" ∷ codes "1 b starts" ∷ codes "1 b burns 2" ∷
-      codes "3 b finishes" ∷ codes "4 a finishes" ∷ [])
+    codes "0 a starts" ∷ codes "0 a burns 2" ∷ codes "1 b starts" ∷ codes "1 b burns 2" ∷
+    codes "3 b finishes" ∷ codes "4 a finishes" ∷ [])
 
 -- a and b on an unbound queue, c, d and e on an ordered one
 abbrev pub unbound_beside_ordered : ScenarioContents
@@ -111,10 +111,25 @@ unbound_beside_ordered =
 abbrev pub unbound_lines : List ℕ
 unbound_lines =
     text (
-      codes "0 a starts" ∷ codes "0 a burns 2" ∷ codes "0 b starts" ∷ codes "0 b burns 2" ∷
-      codes "0 c starts" ∷ codes "0 c burns 1" ∷ codes "1 c finishes" ∷ codes "1 d starts" ∷
-      codes "1 d burns 1" ∷ codes "2 a finishes" ∷ codes "2 b finishes" ∷ codes "2 d finishes" ∷
-      codes "2 e starts" ∷ codes "2 e burns 1" ∷ codes "3 e finishes" ∷ [])
+    codes "0 a starts" ∷ codes "0 a burns 2" ∷ codes "0 b starts" ∷ codes "0 b burns 2" ∷
+    codes "0 c starts" ∷ codes "0 c burns 1" ∷ codes "1 c finishes" ∷ codes "1 d starts" ∷
+    codes "1 d burns 1" ∷ codes "2 a finishes" ∷ codes "2 b finishes" ∷ codes "2 d finishes" ∷
+    codes "2 e starts" ∷ codes "2 e burns 1" ∷ codes "3 e finishes" ∷ [])
+
+-- the text of this scenario
+abbrev pub written_out : List ℕ
+written_out =
+    text (
+    codes "cpus 1" ∷ codes "workers 4" ∷ codes "steps 1000" ∷ codes "flushes 2" ∷
+    codes "queue u max 2 unbound" ∷ codes "queue o max 1 ordered" ∷
+    codes "work a u" ∷ codes "work b u" ∷ codes "work c o" ∷ codes "work d o" ∷ codes "work e o" ∷
+    codes "body a" ∷ codes "burn 2" ∷ codes "finish" ∷
+    codes "body b" ∷ codes "burn 2" ∷ codes "finish" ∷
+    codes "body c" ∷ codes "burn 1" ∷ codes "finish" ∷
+    codes "body d" ∷ codes "burn 1" ∷ codes "finish" ∷
+    codes "body e" ∷ codes "burn 1" ∷ codes "finish" ∷
+    codes "actor t" ∷ codes "queue a 0" ∷ codes "queue b 0" ∷ codes "queue c 0" ∷ codes "queue d 0" ∷
+    codes "queue e 0" ∷ codes "next * 18" ∷ [])
 
 -- a work is queued twice before it starts
 abbrev pub queued_twice : ScenarioContents
@@ -126,7 +141,7 @@ queued_twice =
 abbrev pub queued_twice_lines : List ℕ
 queued_twice_lines =
     text (
-      codes "0 already" ∷ codes "0 a starts" ∷ codes "0 a burns 1" ∷ codes "1 a finishes" ∷ [])
+    codes "0 already" ∷ codes "0 a starts" ∷ codes "0 a burns 1" ∷ codes "1 a finishes" ∷ [])
 
 -- a work queues itself and then sleeps
 abbrev pub queues_itself : ScenarioContents
@@ -139,8 +154,8 @@ queues_itself =
 abbrev pub queues_itself_lines : List ℕ
 queues_itself_lines =
     text (
-      codes "0 a starts" ∷ codes "0 a queues a" ∷ codes "0 a sleeps 2" ∷ codes "0 a defers" ∷
-      codes "2 a wakes" ∷ codes "2 a finishes and starts" ∷ [])
+    codes "0 a starts" ∷ codes "0 a queues a" ∷ codes "0 a sleeps 2" ∷ codes "0 a defers" ∷
+    codes "2 a wakes" ∷ codes "2 a finishes and starts" ∷ [])
 
 -- a work that queues itself for ever, and eight steps
 abbrev pub steps_run_out : ScenarioContents
@@ -152,9 +167,9 @@ steps_run_out =
 abbrev pub steps_run_out_lines : List ℕ
 steps_run_out_lines =
     text (
-      codes "0 a starts" ∷ codes "0 a queues a" ∷ codes "0 a finishes" ∷ codes "0 a starts" ∷
-      codes "0 a queues a" ∷ codes "0 a finishes" ∷ codes "0 a starts" ∷ codes "0 refused Spent" ∷
-      [])
+    codes "0 a starts" ∷ codes "0 a queues a" ∷ codes "0 a finishes" ∷ codes "0 a starts" ∷
+    codes "0 a queues a" ∷ codes "0 a finishes" ∷ codes "0 a starts" ∷ codes "0 refused Spent" ∷
+    [])
 
 -- instructions that can't be carried out, among others that can
 abbrev pub refused : ScenarioContents
@@ -166,6 +181,20 @@ refused =
 abbrev pub refused_lines : List ℕ
 refused_lines =
     text (
-      codes "0 refused NoSuchCpu" ∷ codes "0 refused Unsettled" ∷ codes "0 a starts" ∷
-      codes "0 a burns 1" ∷ codes "1 a finishes" ∷ codes "1 refused NothingToDo" ∷
-      codes "1 refused NoSuchPool" ∷ [])
+    codes "0 refused NoSuchCpu" ∷ codes "0 refused Unsettled" ∷ codes "0 a starts" ∷
+    codes "0 a burns 1" ∷ codes "1 a finishes" ∷ codes "1 refused NothingToDo" ∷
+    codes "1 refused NoSuchPool" ∷ [])
+
+-- one step, which the first instruction takes
+abbrev pub refused_in_order : ScenarioContents
+refused_in_order =
+    scenario 1 (queue (codes "q") 1 plain_flags ∷ []) (work (codes "a") 0 (burning 1) ∷ [])
+    (enqueue 0 0 ∷ enqueue 0 1 ∷ times (instr.Step 0) 1 ∷ times instr.Tick 1 ∷ times (instr.Step 1) 1
+    ∷ times (instr.Step 4) 1 ∷ [])
+
+-- CPU 1 and pool 4 aren't there; the tick would be unsettled, and pool 1 has nothing to do
+abbrev pub refused_in_order_lines : List ℕ
+refused_in_order_lines =
+    text (
+    codes "0 refused NoSuchCpu" ∷ codes "0 refused Spent" ∷ codes "0 refused Spent" ∷
+    codes "0 refused Spent" ∷ codes "0 refused NoSuchPool" ∷ [])

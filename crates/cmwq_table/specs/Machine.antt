@@ -1,5 +1,5 @@
 -- What loading a scenario answers.
-use Rattle.std.specs.Prelude.{◌≡◌, Option, Some, None, Result, Ok, Err}
+use Rattle.std.specs.Prelude.{◌≡◌, Some, Result, Ok, Err}
 use Rattle.cmwq_types.specs.Contents.{ScenarioContents}
 use Rattle.cmwq_types.specs.Faults.{first_fault, IsValid}
 use Rattle.cmwq_table.specs.State.{State, start}

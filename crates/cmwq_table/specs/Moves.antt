@@ -1,5 +1,5 @@
 -- What changes the state: placing and filling, the moves of a pool, firing and ticking.
-use Rattle.std.specs.Prelude.{◌≡◌, ℕ, zero, suc, ◌+◌, ◌-◌, ◌*◌, Bool, true, false, List, [], ◌∷◌, length, Option, Some, None, if◌then◌else◌, nat_lt, ◌==◌, is_some, slice_set}
+use Rattle.std.specs.Prelude.{ℕ, zero, suc, ◌+◌, ◌-◌, Bool, true, false, List, [], ◌∷◌, length, Option, Some, None, if◌then◌else◌, ◌==◌, is_some, slice_set}
 use Rattle.cmwq_types.specs.Contents.{ScenarioContents}
 use Rattle.cmwq_types.specs.Scenario.{queue_of, op_at}
 use Rattle.cmwq_types.specs.First.{first_below, by_least}
@@ -16,7 +16,7 @@ use Rattle.cmwq_types.specs.declared.scenario.Op.TheVariants as op
 use Rattle.cmwq_table.specs.declared.state.Pending.{Pending}
 use Rattle.cmwq_table.specs.declared.state.Running.{Running}
 use Rattle.cmwq_table.specs.State.{State, seat, pending_at, running_at, made_at, target, pool_count}
-use Rattle.cmwq_table.specs.Counts.{pends, is_deferred, has_room, may_start, first_inactive, first_listed, first_due, first_slept, ready_head, free_worker, or_else, burns}
+use Rattle.cmwq_table.specs.Counts.{is_deferred, has_room, may_start, first_inactive, first_listed, first_slept, ready_head, free_worker, or_else, burns}
 
 -- Changes of one work. `taking` has taken the next stamp.
 

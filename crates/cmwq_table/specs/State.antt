@@ -1,5 +1,5 @@
 -- The state of a machine, and what a scenario says of its parts.
-use Rattle.std.specs.Prelude.{◌≡◌, ℕ, ◌+◌, ◌*◌, ◌%◌, Bool, true, false, List, [], length, map, replicate, Option, Some, None, if◌then◌else◌, nat_le, ◌==◌, ◌||◌, slice_index_or, ◌∷◌}
+use Rattle.std.specs.Prelude.{ℕ, ◌+◌, ◌*◌, ◌%◌, Bool, false, List, [], length, map, replicate, Option, None, if◌then◌else◌, nat_le, ◌==◌, ◌||◌, slice_index_or}
 use Rattle.cmwq_types.specs.Contents.{ScenarioContents}
 use Rattle.cmwq_types.specs.Scenario.{flags_at}
 use Rattle.cmwq_table.specs.declared.state.Pending.{Pending}

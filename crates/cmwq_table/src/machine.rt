@@ -1,9 +1,9 @@
 //! What a machine is: a body that carries out the instruction table.
 ghost use Rattle.cmwq_table.specs.State.{State};
 ghost use Rattle.cmwq_table.specs.Machine.{Loads};
-ghost use Rattle.cmwq_table.specs.Table.{after_all, replies_from, table};
+ghost use Rattle.cmwq_table.specs.Table.{table};
 ghost use Rattle.cmwq_types.specs.Contents.{ScenarioContents};
-ghost use Rattle.std.specs.Prelude.{◌≡◌, IfOk, OnOk};
+ghost use Rattle.std.specs.Prelude.{◌≡◌};
 
 use cmwq_types::{Fault, Instr, Reply, Scenario};
 use std::alloc::{AllocError, Global};
@@ -38,11 +38,14 @@ pub trait Machine: Drop {
         ensures { Loads loaded state scenario.now result };
 
     /// Carries out one instruction, and answers it. It takes no memory.
+    ///
+    /// Where it answers `Refused` nothing has changed. Refusals are judged in this order: numbers that
+    /// nothing has, from left to right; then `Spent`; then what the state doesn't allow.
     fn exec(&mut self, instr: Instr) -> Reply
         ensures exact { (state self.new, result) ≡ table (loaded self.old) (state self.old) instr }
         ensures scenario { loaded self.new ≡ loaded self.old };
 
-    /// The time, in ticks.
+    /// The time, in ticks since the scenario was loaded.
     fn now(&self) -> u64
         ensures { result ≡ (state self.now).now };
 }

@@ -1,4 +1,6 @@
 //! The parts of a machine's state.
+//!
+//! A stamp is a number from a counter that only rises: a lower one is older.
 
 use cmwq_types::{Mode, Place, QueueId, WorkId};
 

@@ -1,5 +1,5 @@
 -- The names of queues, works and actors, as lists of bytes.
-use Rattle.std.specs.Prelude.{◌≡◌, ℕ, ◌+◌, ◌-◌, ◌≤◌, Bool, ◌&&◌, ◌||◌, List, ◌++◌, length, take, replicate, IsTrue, nat_le, ◌==◌, slice_index}
+use Rattle.std.specs.Prelude.{◌≡◌, ℕ, ◌-◌, Bool, ◌&&◌, ◌||◌, List, ◌++◌, length, take, replicate, IsTrue, nat_le, ◌==◌, slice_index}
 use Rattle.std.specs.List.{list_all}
 use Rattle.cmwq_types.specs.declared.limits.TheConstants.{MAX_NAME}
 

@@ -1,5 +1,4 @@
 //! The first fault of a scenario.
-ghost use Rattle.cmwq_types.specs.Contents.{WorkContents};
 ghost use Rattle.cmwq_types.specs.Faults.{Judges, actor_fault, body_fault, counts_fault, first_along, first_fault, fits_flags, is_body, is_finish, is_some_finish, line_fault, names_declared, numbers_fault, op_fault, queue_fault, work_fault};
 ghost use Rattle.std.specs.List.{list_any};
 ghost use Rattle.std.specs.Prelude.{◌≡◌, ◌-◌, [], IfErr, OnOk, length, slice_get};
@@ -40,8 +39,15 @@ pub enum Fault {
 impl Scenario {
     /// The first fault of the scenario, or `Ok` where it is valid.
     ///
-    /// Faults are judged in this order: the range of CPUs, workers, steps and flushes; too many
-    /// queues, works or actors; then queue by queue, work by work and actor by actor.
+    /// Faults are judged in this order, which is this project's own: `Range` of CPUs, workers, steps and
+    /// flushes; `TooMany` queues, works or actors; then
+    /// - of each queue `Duplicate`, `BadFlags`;
+    /// - of each work `Duplicate`, its queue `Unknown`, `TooMany` operations, `BadBody`, and of each
+    ///   operation its work `Unknown`, then `Range`;
+    /// - of each actor `Duplicate`, `TooMany` lines, and of each line its work `Unknown`, then `Range`
+    ///   of its times.
+    ///
+    /// CPU and pool numbers of an actor's lines aren't judged here: the machine refuses them.
     pub fn check(&self) -> Result<(), Fault>
         ensures valid { OnOk result (first_fault self.now ≡ None) }
         ensures fault { IfErr result (λ fault. first_fault self.now ≡ Some fault) }

@@ -1,9 +1,10 @@
 //! The name of a queue, a work or an actor.
 ghost use Rattle.std.specs.List.{list_all};
-ghost use Rattle.std.specs.Prelude.{◌≡◌, ◌↔◌, IfSome, IsSome, IsTrue};
+ghost use Rattle.std.specs.Prelude.{◌≡◌, ◌↔◌, IfSome, IsSome, IsTrue, Some};
 ghost use Rattle.cmwq_types.specs.Name.{is_name, is_name_byte};
 
 use crate::limits::MAX_NAME;
+use std::fmt;
 use std::marker::Model;
 
 /// A name: 1 to 15 bytes, the first of them `a` to `z`, the others `a` to `z`, `0` to `9` or `_`.
@@ -49,12 +50,27 @@ impl Name {
         })
     }
 
-    /// The bytes of the name.
+    /// The bytes of the name, 1 to 15.
     pub fn as_bytes(&self) -> &[u8]
         ensures bytes { result.now ≡ self.now }
         ensures name { IsTrue (is_name result.now) }
     {
         &self.bytes[..self.len as usize]
+    }
+
+    /// The name as a text.
+    pub fn as_str(&self) -> &str
+        ensures { result.now ≡ self.now }
+    {
+        str::from_utf8(self.as_bytes()).unwrap()
+    }
+}
+
+impl fmt::Display for Name {
+    ghost output = { λ name. Some name };
+
+    fn fmt<W: fmt::Write>(&self, f: &mut fmt::Formatter<W>) -> fmt::Result {
+        f.write_str(self.as_str())
     }
 }
 

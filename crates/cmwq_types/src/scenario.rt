@@ -11,7 +11,8 @@ pub struct Flags {
     pub highpri: bool,
     /// `WQ_UNBOUND`: its works go to an unbound pool.
     pub unbound: bool,
-    /// `WQ_CPU_INTENSIVE`: its running works don't count towards the concurrency level.
+    /// `WQ_CPU_INTENSIVE`: its running works don't count towards the concurrency level. It means nothing
+    /// for an unbound queue.
     pub cpu_intensive: bool,
     /// `WQ_FREEZABLE`: it activates nothing while the machine is frozen.
     pub freezable: bool,
@@ -36,7 +37,7 @@ pub enum Op {
     Burn(u32),
     /// Sleeps for this many ticks, 1 to 1,000,000.
     Sleep(u32),
-    /// Queues the work on the CPU.
+    /// Queues the work on the CPU, a number below the scenario's `cpus`. A pending work stays as it is.
     Queue(WorkId, u8),
     /// Ends the body.
     Finish,

@@ -1,5 +1,5 @@
 use Rattle.std.proofs.Common.{◌≡◌, [], take, drop}
-use Rattle.cmwq_types.specs.Faults.{first_along, op_fault, line_fault, work_fault, actor_fault, queue_fault}
+use Rattle.cmwq_types.specs.Faults.{first_along, queue_fault}
 use Rattle.cmwq_types.proofs.check.check_queues.Given as goal
 
 -- what is left has the first fault of the whole

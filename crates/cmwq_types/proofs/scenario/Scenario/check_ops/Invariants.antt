@@ -1,5 +1,5 @@
 use Rattle.std.proofs.Common.{◌≡◌, [], take, drop}
-use Rattle.cmwq_types.specs.Faults.{first_along, op_fault, line_fault, work_fault, actor_fault, queue_fault}
+use Rattle.cmwq_types.specs.Faults.{first_along, op_fault}
 use Rattle.cmwq_types.proofs.scenario.Scenario.check_ops.Given as goal
 
 -- what is left has the first fault of the whole
