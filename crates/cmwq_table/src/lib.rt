@@ -2,9 +2,11 @@
 #![tactic(auto)]
 
 mod machine;
+mod reply_line;
 mod runs;
 mod state;
 
 pub use machine::{LoadError, Machine};
+pub use reply_line::ReplyLine;
 pub use runs::run;
 pub use state::{FlushTarget, Pending, Running};
