@@ -3,7 +3,6 @@
 #![tactic(auto)]
 
 mod beginning;
-mod copy;
 mod counts;
 mod lines;
 mod machine;

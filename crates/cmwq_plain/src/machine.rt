@@ -1,6 +1,5 @@
 //! The plain machine.
 
-use crate::copy::copied;
 use crate::records::Records;
 use cmwq_table::{LoadError, Machine};
 use cmwq_types::{Instr, NoMemory, Reply, Scenario};
@@ -63,7 +62,7 @@ impl Plain {
         ensures state { IfOk result (λ machine. machine.state ≡ start scenario.now) }
     {
         let records = Records::new(alloc, scenario)?;
-        let scenario = copied(alloc, scenario)?;
+        let scenario = scenario.copy(alloc)?;
         Ok(Plain { scenario, records })
     }
 }

@@ -3,6 +3,7 @@
 #![tactic(auto)]
 
 mod check;
+mod copying;
 mod instr;
 mod limits;
 mod memory;

@@ -1,5 +1,5 @@
 use Rattle.std.proofs.Common.{◌≡◌, take}
-use Rattle.cmwq_plain.proofs.copy.copied_actors.Given as goal
+use Rattle.cmwq_types.proofs.copying.copied_actors.Given as goal
 
 abbrev pub invariant-loop-actor : goal.invariant-loop-actor
 invariant-loop-actor l = l.copy.items ≡ take l.actor-index l.actors

@@ -1,5 +1,5 @@
 use Rattle.std.proofs.Common.{◌≡◌, take}
-use Rattle.cmwq_plain.proofs.copy.copied_works.Given as goal
+use Rattle.cmwq_types.proofs.copying.copied_works.Given as goal
 
 abbrev pub invariant-loop-work : goal.invariant-loop-work
 invariant-loop-work l = l.copy.items ≡ take l.work-index l.works

@@ -1,25 +1,28 @@
 //! A copy of a scenario.
 ghost use Rattle.std.specs.Prelude.{◌≡◌, IfOk};
 
-use cmwq_types::{Actor, NoMemory, Scenario, WorkDecl};
+use crate::memory::NoMemory;
+use crate::scenario::{Actor, Scenario, WorkDecl};
 use std::alloc::Global;
 
-/// A scenario equal to this one.
-pub fn copied(alloc: Global, scenario: &Scenario) -> Result<Scenario, NoMemory>
-    ensures { IfOk result (λ copy. copy ≡ scenario.now) }
-{
-    let queues = Vec::from_slice(alloc, &scenario.queues)?;
-    let works = copied_works(alloc, &scenario.works)?;
-    let actors = copied_actors(alloc, &scenario.actors)?;
-    Ok(Scenario {
-        cpus: scenario.cpus,
-        workers: scenario.workers,
-        steps: scenario.steps,
-        flushes: scenario.flushes,
-        queues,
-        works,
-        actors,
-    })
+impl Scenario {
+    /// A scenario equal to this one. The only error is want of memory.
+    pub fn copy(&self, alloc: Global) -> Result<Scenario, NoMemory>
+        ensures { IfOk result (λ copy. copy ≡ self.now) }
+    {
+        let queues = Vec::from_slice(alloc, &self.queues)?;
+        let works = copied_works(alloc, &self.works)?;
+        let actors = copied_actors(alloc, &self.actors)?;
+        Ok(Scenario {
+            cpus: self.cpus,
+            workers: self.workers,
+            steps: self.steps,
+            flushes: self.flushes,
+            queues,
+            works,
+            actors,
+        })
+    }
 }
 
 fn copied_works(alloc: Global, works: &[WorkDecl]) -> Result<Vec<WorkDecl>, NoMemory>
