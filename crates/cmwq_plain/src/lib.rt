@@ -15,3 +15,6 @@ mod ticking;
 mod wanted;
 
 pub use machine::Plain;
+
+#[cfg(test)]
+mod tests;
