@@ -1,6 +1,9 @@
 //! The commands of the program as functions over readers and writers.
 #![tactic(auto)]
 
+mod error;
+mod reading;
 mod stream;
 
+pub use error::PlayError;
 pub use stream::{Marked, Sink, Source};

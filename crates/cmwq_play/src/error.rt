@@ -1,0 +1,55 @@
+//! Why a command ended early.
+
+use cmwq_types::NoMemory;
+use std::alloc::{AllocError, AllocFailed};
+use thiserror::Error;
+
+/// Why a command ended early.
+#[derive(Clone, Copy, Debug, PartialEq, Eq, Error)]
+pub enum PlayError {
+    /// The reader failed.
+    #[error("read")]
+    Read,
+    /// The writer failed, or took no bytes.
+    #[error("write")]
+    Write,
+    /// The text isn't the listing of a valid scenario with one actor, or is longer than a text may be.
+    #[error("bad text")]
+    BadText,
+    /// Memory ran out.
+    #[error("no memory")]
+    NoMemory,
+}
+
+impl From<AllocError> for PlayError {
+    ghost use Rattle.std.specs.Prelude.{◌≡◌};
+    ghost use Rattle.cmwq_play.specs.declared.error.PlayError.TheVariants.{NoMemory as no_memory};
+
+    ghost from_gives = { λ _ e. e ≡ no_memory };
+
+    fn from(_refused: AllocError) -> PlayError {
+        PlayError::NoMemory
+    }
+}
+
+impl<T: Drop> From<AllocFailed<T>> for PlayError {
+    ghost use Rattle.std.specs.Prelude.{◌≡◌};
+    ghost use Rattle.cmwq_play.specs.declared.error.PlayError.TheVariants.{NoMemory as no_memory};
+
+    ghost from_gives = { λ _ e. e ≡ no_memory };
+
+    fn from(_refused: AllocFailed<T>) -> PlayError {
+        PlayError::NoMemory
+    }
+}
+
+impl From<NoMemory> for PlayError {
+    ghost use Rattle.std.specs.Prelude.{◌≡◌};
+    ghost use Rattle.cmwq_play.specs.declared.error.PlayError.TheVariants.{NoMemory as no_memory};
+
+    ghost from_gives = { λ _ e. e ≡ no_memory };
+
+    fn from(_refused: NoMemory) -> PlayError {
+        PlayError::NoMemory
+    }
+}
