@@ -7,6 +7,8 @@ use Rattle.cmwq_types.specs.Listing.{listing}
 use Rattle.cmwq_types.specs.Scenario.{expand}
 use Rattle.cmwq_types.specs.declared.limits.TheConstants.{MAX_TEXT}
 use Rattle.cmwq_table.specs.Events.{events}
+use Rattle.cmwq_play.specs.declared.error.PlayError.{PlayError}
+use Rattle.cmwq_play.specs.declared.error.PlayError.TheVariants as errors
 
 -- of these lines the writer was given all but the block
 abbrev pub HasSent : Option (List ℕ) → Option (List ℕ) → List ℕ → List ℕ → Type 0
@@ -32,3 +34,10 @@ PrintsRun input before now =
 abbrev pub PrintsFrontOfRun : Option (List ℕ) → Option (List ℕ) → Option (List ℕ) → Type 0
 PrintsFrontOfRun input before now =
     (S : ScenarioContents) × (actor : ActorContents) × IsRun input S actor × HasSentFront before now (events S (expand actor))
+
+-- what sending may fail for
+abbrev pub IsSendError : PlayError → Type 0
+IsSendError errors.Write = Unit {0}
+IsSendError errors.NoMemory = Unit {0}
+IsSendError errors.Read = ⊥
+IsSendError errors.BadText = ⊥

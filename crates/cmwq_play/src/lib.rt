@@ -3,6 +3,7 @@
 
 mod error;
 mod reading;
+mod sending;
 mod stream;
 
 pub use error::PlayError;

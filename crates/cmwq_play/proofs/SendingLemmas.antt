@@ -1,0 +1,63 @@
+-- Bytes that go out one part after another.
+use Rattle.std.proofs.Common.{◌≡◌, ℕ, ◌+◌, ◌≤◌, List, [], ◌++◌, length, take, drop, Option, Some, None, sym, ap, ◌∙◌, subst, append_assoc, append-nil, refl, arith}
+use Rattle.std.proofs.lemmas.List.{take-append-drop}
+use Rattle.std.specs.Io.KnownBytes.{Appends, Keeps}
+use Rattle.cmwq_play.specs.Sending.{HasSent, HasSentFront}
+
+-- what is appended twice is appended as one
+pub appends_both : (before now after : Option (List ℕ)) (xs ys : List ℕ) → Appends before now xs → Appends now after ys → Appends before after (xs ++ ys)
+appends_both None now after xs ys first second = tt
+appends_both (Some b) None after xs ys first second = absurd first
+appends_both (Some b) (Some n) None xs ys first second = absurd second
+appends_both (Some b) (Some n) (Some a) xs ys first second =
+    second ∙ ap (λ (front : List ℕ). front ++ ys) first ∙ append_assoc b xs ys
+
+pub appends_none : (now : Option (List ℕ)) → Appends now now []
+appends_none None = tt
+appends_none (Some n) = sym (append-nil n)
+
+-- a front of what is sent first is a front of the whole
+pub front_of_more : (before now : Option (List ℕ)) (lines more : List ℕ) → HasSentFront before now lines → HasSentFront before now (lines ++ more)
+front_of_more before now lines more h =
+    (h.0, h.1 ++ more, h.2, sym (append_assoc h.0 h.1 more) ∙ ap (λ (front : List ℕ). front ++ more) h.3)
+
+-- what is sent but for a block, and of the block a front, is a front
+pub front_of_block : (before now after : Option (List ℕ)) (block lines : List ℕ) → HasSent before now block lines → HasSentFront now after block → HasSentFront before after lines
+front_of_block before now after block lines h f =
+    (h.0 ++ f.0, f.1, appends_both before now after h.0 f.0 h.1 f.2, append_assoc h.0 f.0 f.1 ∙ ap (λ (rest : List ℕ). h.0 ++ rest) f.3 ∙ h.2)
+
+-- what is sent but for a block is a front
+pub front_of_sent : (before now : Option (List ℕ)) (block lines : List ℕ) → HasSent before now block lines → HasSentFront before now lines
+front_of_sent before now block lines h = (h.0, block, h.1, h.2)
+
+-- once the block is out, all is sent
+pub sent_block : (before now after : Option (List ℕ)) (block lines : List ℕ) → HasSent before now block lines → Appends now after block → HasSent before after [] lines
+sent_block before now after block lines h a = (h.0 ++ block, appends_both before now after h.0 block h.1 a, append-nil (h.0 ++ block) ∙ h.2)
+
+-- a block may grow
+pub sent_more : (before now : Option (List ℕ)) (block lines line : List ℕ) → HasSent before now block lines → HasSent before now (block ++ line) (lines ++ line)
+sent_more before now block lines line h =
+    (h.0, h.1, sym (append_assoc h.0 block line) ∙ ap (λ (front : List ℕ). front ++ line) h.2)
+
+-- with an empty block all of the lines are out
+pub all_sent : (before now : Option (List ℕ)) (lines : List ℕ) → HasSent before now [] lines → Appends before now lines
+all_sent before now lines h = subst (λ (sent : List ℕ). Appends before now sent) (sym (append-nil h.0) ∙ h.2) h.1
+
+-- before anything, nothing is sent
+pub none_sent : (now : Option (List ℕ)) → HasSent now now [] []
+none_sent now = ([], appends_none now, refl)
+
+pub keeps_nothing : (before after : Option (List ℕ)) → Keeps before after → Appends before after []
+keeps_nothing None after h = tt
+keeps_nothing (Some b) None h = absurd h
+keeps_nothing (Some b) (Some a) h = h ∙ sym (append-nil b)
+
+-- of what is left, n more bytes are out
+pub sent_some : (before now after : Option (List ℕ)) (rest lines : List ℕ) (n : ℕ) → HasSent before now rest lines → Appends now after (take n rest) → HasSent before after (drop n rest) lines
+sent_some before now after rest lines n h a =
+    (h.0 ++ take n rest, appends_both before now after h.0 (take n rest) h.1 a, append_assoc h.0 (take n rest) (drop n rest) ∙ ap (λ (more : List ℕ). h.0 ++ more) (take-append-drop n rest) ∙ h.2)
+
+-- nothing more is out, and what is out is a front
+pub front_of_rest : (before now after : Option (List ℕ)) (rest lines : List ℕ) → HasSent before now rest lines → Appends now after [] → HasSentFront before after lines
+front_of_rest before now after rest lines h a =
+    (h.0 ++ [], rest, appends_both before now after h.0 [] h.1 a, ap (λ (front : List ℕ). front ++ rest) (append-nil h.0) ∙ h.2)
