@@ -1,0 +1,7 @@
+use Rattle.std.proofs.Common.{arith}
+use Rattle.cmwq_lock.proofs.Puts.{none_in}
+use Rattle.cmwq_lock.proofs.Opening.{takes_pass}
+use Rattle.cmwq_lock.proofs.steps.take_back.Goals as goal
+
+pub join_seat-requires : goal.join_seat-requires
+join_seat-requires g c = (c.requires.places.0.same_table, c.requires.places.1.same_table, none_in _ c.requires.bare, omega arith, takes_pass g.T.Kept _ _ _ _ _ c.requires.opens c.requires.out)

@@ -1,0 +1,136 @@
+-- What holds of the lock's table between any two steps.
+-- Word 0 is `drawn`, the number of tickets drawn, and word 1 is `served`, the number of turns ended. The one slot has the value.
+use Rattle.std.specs.Prelude.{◌≡◌, ℕ, ◌+◌, ◌^◌, ◌<◌, ◌≤◌, List, [], ◌∷◌, All, Option, Some}
+use mathlib.Core.Option.{none, some}
+use mathlib.Core.Option as maybe
+use lib.ListN.{get_elem?}
+use Rattle.atomic_table.specs.Table.{State}
+use Rattle.cmwq_lock.specs.declared.kept.Kept.{Ghosts}
+use Rattle.cmwq_lock.specs.declared.views.Identity.{Identity}
+use Rattle.cmwq_lock.specs.declared.views.Tries.{Tries}
+use Rattle.cmwq_lock.specs.declared.views.Queued.{Queued}
+use Rattle.cmwq_lock.specs.declared.views.Desk.{Desk}
+use Rattle.cmwq_lock.specs.declared.views.Held.{Held}
+use Rattle.cmwq_lock.specs.declared.views.Phase.{Phase}
+use Rattle.cmwq_lock.specs.declared.views.Phase.TheVariants.{Out, Waiting, Inside}
+use Rattle.cmwq_lock.specs.declared.views.View.{View}
+use Rattle.cmwq_lock.specs.declared.views.View.TheVariants.{Opener, Pass, Spent}
+use Rattle.cmwq_lock.specs.Log.{Grows}
+use Rattle.cmwq_lock.specs.Views.{ticket_of, caller_of, found_of, HasOrigin}
+
+-- the numbers and the log between two steps, who opened the lock, and which seat has each ticket and each caller's pass
+pub record Standing (O E : Type 0) : Type 0 where
+  pub drawn : ℕ
+  pub served : ℕ
+  pub current : List E
+  pub opener : ℕ
+  pub desk : Desk O
+  pub holder : ℕ → ℕ
+  pub seat_of : ℕ → ℕ
+
+abbrev pub Homes : Type 0 → Type 0
+Homes T = List (maybe.Option (Option (Held T)))
+
+-- the slot is home, with this in it
+abbrev pub home : {T : Type 0} → Held T → Homes T
+home h = some (Some h) ∷ []
+
+-- the slot is out with a seat
+abbrev pub away : {T : Type 0} → Homes T
+away = none ∷ []
+
+-- how many of the views are those of passes
+abbrev pub pass_count : {O E : Type 0} → View O E → ℕ
+pass_count (Pass who phase) = 1
+pass_count v = 0
+
+abbrev pub passes : {O E : Type 0} → List (View O E) → ℕ
+passes [] = 0
+passes (v ∷ vs) = pass_count v + passes vs
+
+module _ {T O E : Type 0} (K : Ghosts T O E) (o : O) where
+  -- the value after this many turns, with the lock's origin and this log
+  pub record IsKept (turns : ℕ) (current : List E) (h : Held T) : Type 0 where
+    pub turns_ended : h.turns ≡ turns
+    pub is_sound : K.sound h.value
+    pub origin_stays : K.origin h.value ≡ o
+    pub log_is : K.log h.value ≡ current
+
+  -- the log is legal, its tickets are those of ended turns, and its callers have been given out
+  pub record IsCurrent (served next : ℕ) (current : List E) : Type 0 where
+    pub is_legal : K.legal o current
+    pub tickets : All (λ e. K.ticket e < served) current
+    pub callers : All (λ e. K.caller e < next) current
+
+  module _ (at : Standing O E) where
+    -- the slot is home and no turn is going on, or a seat that is inside has it
+    pub data SlotIs (homes : Homes T) (views : List (View O E)) : Type 0 where
+      at_home : (h : Held T) → homes ≡ home h → IsKept at.served at.current h → SlotIs homes views
+      with_seat : (seat : ℕ) (who : Identity O) → homes ≡ away → get_elem? views seat ≡ some (Pass who (Inside at.served at.current)) → SlotIs homes views
+
+    module _ (homes : Homes T) (seat : ℕ) where
+      -- a pass with no ticket has met no number above `drawn`
+      pub record IsOut (t : Tries) : Type 0 where
+        pub loaded_below : t.loaded ≤ at.drawn
+        pub found_below : t.found ≤ at.drawn
+
+      -- a pass that waits is the one seat with its ticket, whose turn has not ended
+      pub record IsWaiting (q : Queued) : Type 0 where
+        pub not_ended : at.served ≤ q.ticket
+        pub was_drawn : q.ticket < at.drawn
+        pub is_holder : at.holder q.ticket ≡ seat
+        pub last_below : q.last ≤ at.served
+
+      -- a pass that is inside has the ticket that is served, and the slot; it knows the current log
+      pub record IsInside (ticket : ℕ) (found : List E) : Type 0 where
+        pub is_served : ticket ≡ at.served
+        pub was_drawn : ticket < at.drawn
+        pub is_holder : at.holder ticket ≡ seat
+        pub found_current : found ≡ at.current
+        pub slot_away : homes ≡ away
+
+      abbrev pub PhaseIs : Phase E → Type 0
+      PhaseIs (Out t) = IsOut t
+      PhaseIs (Waiting q) = IsWaiting q
+      PhaseIs (Inside t found) = IsInside t found
+
+      -- a pass is the one seat of its caller, whose number was given out
+      pub record IsPass (who : Identity O) (phase : Phase E) : Type 0 where
+        pub same_origin : who.origin.value ≡ o
+        pub was_given : who.caller < at.desk.next
+        pub is_seat : at.seat_of who.caller ≡ seat
+        pub phase_is : PhaseIs phase
+
+      pub record IsOpener (d : Desk O) : Type 0 where
+        pub is_seat : seat ≡ at.opener
+        pub is_desk : d ≡ at.desk
+
+      abbrev pub ViewIs : View O E → Type 0
+      ViewIs (Opener d) = IsOpener d
+      ViewIs (Pass who phase) = IsPass who phase
+      ViewIs Spent = Unit {0}
+
+  -- the rule of the lock
+  pub record IsRuled (s : State (Option (Held T)) (View O E)) : Type 0 where
+    pub at : Standing O E
+    pub words_are : s.words ≡ at.drawn ∷ at.served ∷ []
+    pub in_order : at.served ≤ at.drawn
+    pub bounded : at.drawn ≤ 2 ^ 62
+    pub slot_is : SlotIs at s.homes s.views
+    pub log_is : IsCurrent at.served at.desk.next at.current
+    pub opener_is : get_elem? s.views at.opener ≡ some (Opener at.desk)
+    pub desk_origin : at.desk.origin.value ≡ o
+    pub passes_out : passes s.views ≡ at.desk.out
+    pub each_view : (seat : ℕ) (v : View O E) → get_elem? s.views seat ≡ some v → ViewIs at s.homes seat v
+
+-- a new lock's opener
+abbrev pub opening_view : {O E : Type 0} → O → View O E
+opening_view o = Opener (record { origin = record { marker = record {}; value = o }; next = 0; out = 0 })
+
+-- the value as a turn leaves it: one more turn has ended, and the log has at most the turn's entry more
+module _ {T O E : Type 0} (K : Ghosts T O E) where
+  pub record IsLeft (v : View O E) (h : Held T) : Type 0 where
+    pub turns_ended : h.turns ≡ ticket_of v + 1
+    pub is_sound : K.sound h.value
+    pub same_origin : HasOrigin v (K.origin h.value)
+    pub log_grows : Grows K.ticket K.caller (found_of v) (K.log h.value) (ticket_of v) (caller_of v)

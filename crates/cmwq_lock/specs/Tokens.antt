@@ -1,0 +1,56 @@
+-- What clauses read of a lock and its tokens.
+use Rattle.std.specs.Prelude.{◌≡◌, ℕ, ◌<◌, List, All}
+use Rattle.cmwq_lock.specs.declared.kept.Kept.{Ghosts}
+use Rattle.cmwq_lock.specs.declared.views.View.{View}
+use Rattle.cmwq_lock.specs.declared.lock.TicketLock.{TicketLock}
+use Rattle.cmwq_lock.specs.declared.tokens.Opener.{Opener}
+use Rattle.cmwq_lock.specs.declared.tokens.Pass.{Pass}
+use Rattle.cmwq_lock.specs.declared.tokens.Drawn.{Drawn}
+use Rattle.cmwq_lock.specs.declared.fault.Why.{Why}
+use Rattle.cmwq_lock.specs.declared.fault.Why.TheVariants.{Raced, Exhausted}
+use Rattle.cmwq_lock.specs.Log.{Grows}
+use Rattle.cmwq_lock.specs.Views.{HasOrigin}
+
+module _ {T O E : Type 0} {K : Ghosts T O E} where
+  -- what the token knows
+  abbrev pub opener_view : Opener T O E K → View O E
+  opener_view opener = opener.seat.me.0
+
+  abbrev pub pass_view : Pass T O E K → View O E
+  pass_view pass = pass.seat.me.0
+
+  abbrev pub drawn_view : Drawn T O E K → View O E
+  drawn_view drawn = drawn.seat.me.0
+
+module _ {T O E : Type 0} (K : Ghosts T O E) where
+  -- the origin of the values that the lock keeps
+  abbrev pub lock_origin : TicketLock T O E → O
+  lock_origin lock = K.origin lock.table.shared.key.value
+
+  -- the token is this lock's
+  pub record IsOpenerOf (lock : TicketLock T O E) (opener : Opener T O E K) : Type 0 where
+    pub same_lock : opener.seat.table_id ≡ lock.table.shared.table_id
+    pub same_origin : HasOrigin (opener_view opener) (lock_origin lock)
+
+  pub record IsPassOf (lock : TicketLock T O E) (pass : Pass T O E K) : Type 0 where
+    pub same_lock : pass.seat.table_id ≡ lock.table.shared.table_id
+    pub same_origin : HasOrigin (pass_view pass) (lock_origin lock)
+
+  pub record IsDrawnOf (lock : TicketLock T O E) (drawn : Drawn T O E K) : Type 0 where
+    pub same_lock : drawn.seat.table_id ≡ lock.table.shared.table_id
+    pub same_origin : HasOrigin (drawn_view drawn) (lock_origin lock)
+
+  -- a turn of this ticket and caller: it finds a legal log and leaves one, which has at most its own entry more, and the call tells of both
+  pub record IsTurn (o : O) (ticket caller : ℕ) (tells : List E → List E → Type 0) : Type 0 where
+    pub before : List E
+    pub after : List E
+    pub found_legal : K.legal o before
+    pub found_earlier : All (λ e. K.ticket e < ticket) before
+    pub left_legal : K.legal o after
+    pub grows : Grows K.ticket K.caller before after ticket caller
+    pub told : tells before after
+
+-- a fact for each reason why no ticket was drawn
+abbrev pub MatchWhy : Why → (ℕ → ℕ → Type 0) → Type 0 → Type 0
+MatchWhy (Raced loaded found) raced exhausted = raced loaded found
+MatchWhy Exhausted raced exhausted = exhausted

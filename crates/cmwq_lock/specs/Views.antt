@@ -1,0 +1,114 @@
+-- What a seat knows, and how each kind of step changes that.
+use Rattle.std.specs.Prelude.{◌≡◌, ℕ, ◌+◌, ◌-◌, Bool, true, false, List, []}
+use Rattle.cmwq_lock.specs.declared.views.Tries.{Tries}
+use Rattle.cmwq_lock.specs.declared.views.Queued.{Queued}
+use Rattle.cmwq_lock.specs.declared.views.Phase.TheVariants.{Out, Waiting, Inside}
+use Rattle.cmwq_lock.specs.declared.views.View.{View}
+use Rattle.cmwq_lock.specs.declared.views.View.TheVariants.{Opener, Pass, Spent}
+
+-- what a pass has tried when it comes out: nothing yet
+abbrev pub untried : Tries
+untried = record { loads = 0; loaded = 0; losses = 0; found = 0 }
+
+-- a ticket just drawn, for which `served` was not looked at yet
+abbrev pub queued : ℕ → Queued
+queued n = record { ticket = n; looks = 0; last = 0 }
+
+module _ {O E : Type 0} where
+  -- one more load of `drawn`, which gave n
+  abbrev pub loaded : View O E → ℕ → View O E
+  loaded (Pass who (Out t)) n = Pass who (Out (record t { loads = t.loads + 1; loaded = n }))
+  loaded v n = v
+
+  -- one more exchange of `drawn` was lost, and found n
+  abbrev pub lost : View O E → ℕ → View O E
+  lost (Pass who (Out t)) n = Pass who (Out (record t { losses = t.losses + 1; found = n }))
+  lost v n = v
+
+  -- the exchange of `drawn` was won, and drew the ticket n
+  abbrev pub waiting : View O E → ℕ → View O E
+  waiting (Pass who (Out t)) n = Pass who (Waiting (queued n))
+  waiting v n = v
+
+  -- one more look at `served`, which gave n
+  abbrev pub looked : View O E → ℕ → View O E
+  looked (Pass who (Waiting q)) n = Pass who (Waiting (record q { looks = q.looks + 1; last = n }))
+  looked v n = v
+
+  -- the turn has begun, and found this log
+  abbrev pub inside : View O E → List E → View O E
+  inside (Pass who (Waiting q)) log = Pass who (Inside q.ticket log)
+  inside v log = v
+
+  -- the turn has ended
+  abbrev pub came_out : View O E → View O E
+  came_out (Pass who (Inside t log)) = Pass who (Out untried)
+  came_out v = v
+
+  -- the opener has given one more pass
+  abbrev pub given : View O E → View O E
+  given (Opener d) = Opener (record d { next = d.next + 1; out = d.out + 1 })
+  given v = v
+
+  -- the pass that an opener gives next
+  abbrev pub fresh : View O E → View O E
+  fresh (Opener d) = Pass (record { origin = d.origin; caller = d.next }) (Out untried)
+  fresh v = v
+
+  -- the opener has taken one pass back
+  abbrev pub taken_back : View O E → View O E → View O E
+  taken_back (Opener d) w = Opener (record d { out = d.out - 1 })
+  taken_back v w = v
+
+  -- whose view it is
+  abbrev pub is_opener : View O E → Bool
+  is_opener (Opener d) = true
+  is_opener v = false
+
+  abbrev pub is_out : View O E → Bool
+  is_out (Pass who (Out t)) = true
+  is_out v = false
+
+  abbrev pub is_waiting : View O E → Bool
+  is_waiting (Pass who (Waiting q)) = true
+  is_waiting v = false
+
+  abbrev pub is_inside : View O E → Bool
+  is_inside (Pass who (Inside t log)) = true
+  is_inside v = false
+
+  -- the number of the caller whose pass it is
+  abbrev pub caller_of : View O E → ℕ
+  caller_of (Pass who phase) = who.caller
+  caller_of v = 0
+
+  -- the ticket that a pass holds
+  abbrev pub ticket_of : View O E → ℕ
+  ticket_of (Pass who (Waiting q)) = q.ticket
+  ticket_of (Pass who (Inside t log)) = t
+  ticket_of v = 0
+
+  -- the log that a turn found
+  abbrev pub found_of : View O E → List E
+  found_of (Pass who (Inside t log)) = log
+  found_of v = []
+
+  -- the last value of `drawn` that a pass loaded
+  abbrev pub loaded_of : View O E → ℕ
+  loaded_of (Pass who (Out t)) = t.loaded
+  loaded_of v = 0
+
+  -- the number of the opener's next caller, and how many of its passes are out
+  abbrev pub next_of : View O E → ℕ
+  next_of (Opener d) = d.next
+  next_of v = 0
+
+  abbrev pub out_of : View O E → ℕ
+  out_of (Opener d) = d.out
+  out_of v = 0
+
+  -- the origin that a view holds
+  abbrev pub HasOrigin : View O E → O → Type 0
+  HasOrigin (Opener d) o = d.origin.value ≡ o
+  HasOrigin (Pass who phase) o = who.origin.value ≡ o
+  HasOrigin Spent o = ⊥

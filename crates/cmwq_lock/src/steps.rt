@@ -1,0 +1,173 @@
+//! The atomic steps of the lock, one function each, over the two words and the slot of its table.
+ghost use Rattle.std.specs.Prelude.{◌≡◌, ◌≢◌, ◌+◌, ◌^◌, ◌<◌, [], ◌∷◌, true, length, Some, None};
+ghost use Rattle.cmwq_lock.specs.Views.{is_opener, is_out, is_waiting, is_inside, loaded_of, given, fresh, taken_back};
+ghost use Rattle.cmwq_lock.specs.Steps.{load_drawn, exchange_drawn, look_served, end_turn};
+ghost use Rattle.cmwq_lock.specs.Rule.{IsLeft};
+ghost use Rattle.cmwq_lock.specs.Places.{IsPlaced};
+
+use crate::kept::Kept;
+use crate::views::{Held, View};
+use atomic_table::{Join, Play, Seat, Shared, Split, TableRule};
+use std::marker::PhantomData;
+use std::snapshot::Snapshot;
+
+/// Of the word that counts the tickets drawn, and of the one that counts the turns ended.
+const DRAWN: usize = 0;
+
+const SERVED: usize = 1;
+
+const SLOT: usize = 0;
+
+pub struct TicketRule<T> {
+    kept: PhantomData<T>,
+}
+
+impl<T: Kept> TableRule<Option<Held<T>>, View<T::Origin, T::Entry>, Snapshot<T>> for TicketRule<T> {
+    ghost use Rattle.cmwq_lock.specs.Rule.{IsRuled, opening_view};
+
+    ghost holds = { λ key. IsRuled T.Kept (T.origin key.value) };
+
+    ghost first = { λ key. opening_view (T.origin key.value) };
+}
+
+/// A seat at a lock's table.
+pub type Place<T> = Seat<Option<Held<T>>, View<<T as Kept>::Origin, <T as Kept>::Entry>>;
+
+/// The words and the slot of a lock.
+pub type Words<T> = Shared<
+    Option<Held<T>>,
+    View<<T as Kept>::Origin, <T as Kept>::Entry>,
+    Snapshot<T>,
+    TicketRule<T>,
+>;
+
+struct LoadDrawn;
+
+impl<T: Kept> Play<Option<Held<T>>, View<T::Origin, T::Entry>> for LoadDrawn {
+    ghost then = { λ st m n after. load_drawn m n after };
+}
+
+struct ExchangeDrawn;
+
+impl<T: Kept> Play<Option<Held<T>>, View<T::Origin, T::Entry>> for ExchangeDrawn {
+    ghost then = { λ st m n after. exchange_drawn st.first m n after };
+}
+
+struct LookServed;
+
+impl<T: Kept> Play<Option<Held<T>>, View<T::Origin, T::Entry>> for LookServed {
+    ghost then = { λ st m n after. look_served T.Kept m n after };
+}
+
+struct EndTurn;
+
+impl<T: Kept> Play<Option<Held<T>>, View<T::Origin, T::Entry>> for EndTurn {
+    ghost then = { λ st m n after. end_turn m after };
+}
+
+struct GivePass;
+
+impl<O, E> Split<View<O, E>> for GivePass {
+    ghost left = { given };
+
+    ghost right = { fresh };
+}
+
+struct TakePass;
+
+impl<O, E> Join<View<O, E>> for TakePass {
+    ghost use Rattle.cmwq_lock.specs.declared.views.View.TheVariants.{Spent};
+
+    ghost both = { taken_back };
+
+    ghost spent = { Spent };
+}
+
+/// Loads `drawn` once.
+pub(crate) fn load<T: Kept>(words: &Words<T>, seat: &mut Place<T>) -> u64
+    requires place { IsPlaced words.now seat.old }
+    requires out { is_out seat.old.me.0 ≡ true }
+    ensures place { seat.new.table_id ≡ seat.old.table_id }
+    ensures tells { load_drawn seat.old.me result seat.new.me }
+{
+    words.load::<LoadDrawn>(seat, DRAWN)
+}
+
+/// Exchanges `drawn` once, from what the seat loaded last to one more, and returns what it found.
+pub(crate) fn exchange<T: Kept>(words: &Words<T>, seat: &mut Place<T>, loaded: u64) -> u64
+    requires place { IsPlaced words.now seat.old }
+    requires out { is_out seat.old.me.0 ≡ true }
+    requires expects { loaded_of seat.old.me.0 ≡ loaded }
+    requires room { loaded < 2 ^ 62 }
+    ensures place { seat.new.table_id ≡ seat.old.table_id }
+    ensures tells { exchange_drawn loaded seat.old.me result seat.new.me }
+{
+    words.compare_exchange::<ExchangeDrawn>(seat, DRAWN, loaded, loaded + 1)
+}
+
+/// Looks at `served` once. Where it gives the seat's ticket the slot is taken.
+pub(crate) fn look<T: Kept>(words: &Words<T>, seat: &mut Place<T>) -> u64
+    requires place { IsPlaced words.now seat.old }
+    requires waits { is_waiting seat.old.me.0 ≡ true }
+    requires bare { length seat.old.me.1 ≡ 0 }
+    ensures place { seat.new.table_id ≡ seat.old.table_id }
+    ensures tells { look_served T.Kept seat.old.me result seat.new.me }
+{
+    words.load::<LookServed>(seat, SERVED)
+}
+
+/// Takes the value out of the slot that the seat has.
+pub(crate) fn take_value<T: Kept>(words: &Words<T>, seat: &mut Place<T>) -> Held<T>
+    requires place { IsPlaced words.now seat.old }
+    requires full { (h : _) × (seat.old.me.1 ≡ (0, Some h) ∷ []) }
+    ensures place { seat.new.table_id ≡ seat.old.table_id }
+    ensures value { seat.old.me.1 ≡ (0, Some result) ∷ [] }
+    ensures seat { seat.new.me ≡ (seat.old.me.0, (0, None) ∷ []) }
+{
+    words.exchange(seat, SLOT, None).unwrap()
+}
+
+/// Puts the value back into the slot that the seat has.
+pub(crate) fn put_value<T: Kept>(words: &Words<T>, seat: &mut Place<T>, held: Held<T>)
+    requires place { IsPlaced words.now seat.old }
+    requires empty { seat.old.me.1 ≡ (0, None) ∷ [] }
+    ensures place { seat.new.table_id ≡ seat.old.table_id }
+    ensures seat { seat.new.me ≡ (seat.old.me.0, (0, Some held) ∷ []) }
+{
+    let empty = words.exchange(seat, SLOT, Some(held));
+    let None = empty else { unreachable!() };
+}
+
+/// Ends the turn, and gives the slot back.
+pub(crate) fn end<T: Kept>(words: &Words<T>, seat: &mut Place<T>)
+    requires place { IsPlaced words.now seat.old }
+    requires inside { is_inside seat.old.me.0 ≡ true }
+    requires left { (h : _) × (seat.old.me.1 ≡ (0, Some h) ∷ []) × IsLeft T.Kept seat.old.me.0 h }
+    ensures place { seat.new.table_id ≡ seat.old.table_id }
+    ensures tells { end_turn seat.old.me seat.new.me }
+{
+    words.fetch_add::<EndTurn>(seat, SERVED, 1);
+}
+
+/// Makes the seat of the next pass.
+pub(crate) fn give<T: Kept>(words: &Words<T>, opener: &mut Place<T>) -> Place<T>
+    requires place { IsPlaced words.now opener.old }
+    requires opens { is_opener opener.old.me.0 ≡ true }
+    ensures place { (opener.new.table_id ≡ opener.old.table_id) × (result.table_id ≡ opener.old.table_id) }
+    ensures opener { opener.new.me ≡ (given opener.old.me.0, opener.old.me.1) }
+    ensures pass { result.me ≡ (fresh opener.old.me.0, []) }
+{
+    words.split_seat::<GivePass>(opener)
+}
+
+/// Ends the seat of a pass.
+pub(crate) fn take_back<T: Kept>(words: &Words<T>, opener: &mut Place<T>, pass: Place<T>)
+    requires places { IsPlaced words.now opener.old × IsPlaced words.now pass }
+    requires opens { is_opener opener.old.me.0 ≡ true }
+    requires out { is_out pass.me.0 ≡ true }
+    requires bare { length pass.me.1 ≡ 0 }
+    ensures place { opener.new.table_id ≡ opener.old.table_id }
+    ensures opener { opener.new.me ≡ (taken_back opener.old.me.0 pass.me.0, opener.old.me.1) }
+{
+    words.join_seat::<TakePass>(opener, pass)
+}
