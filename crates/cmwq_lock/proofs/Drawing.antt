@@ -1,5 +1,5 @@
 -- The steps on `drawn` keep the rule: its load, and the exchange that is won or lost.
-use Rattle.std.proofs.Common.{◌≡◌, ◌≢◌, ℕ, ◌+◌, ◌^◌, ◌<◌, true, false, eqb, List, [], ◌∷◌, get_or, set, sym, refl, ap, ◌∙◌, subst, arith, Option, eq-eqb, ne_eqb}
+use Rattle.std.proofs.Common.{◌≡◌, ◌≢◌, ℕ, ◌+◌, ◌^◌, ◌<◌, true, false, eqb, List, [], ◌∷◌, get_or, set, sym, refl, ap, ◌∙◌, subst, arith, Option, eq-eqb, ne_eqb, All}
 use mathlib.Core.Logic.{dite}
 use mathlib.Core.Option.{some, some-injective}
 use native.Mathlib.Decide.{ℕ_discrete}
@@ -11,14 +11,16 @@ use Rattle.cmwq_lock.specs.declared.kept.Kept.{Ghosts}
 use Rattle.cmwq_lock.specs.declared.views.Identity.{Identity}
 use Rattle.cmwq_lock.specs.declared.views.Tries.{Tries}
 use Rattle.cmwq_lock.specs.declared.views.Held.{Held}
+use Rattle.cmwq_lock.specs.declared.views.Phase.{Phase}
 use Rattle.cmwq_lock.specs.declared.views.Phase.TheVariants.{Out, Waiting, Inside}
 use Rattle.cmwq_lock.specs.declared.views.View.{View}
 use Rattle.cmwq_lock.specs.declared.views.View.TheVariants.{Pass}
 use Rattle.cmwq_lock.specs.Views.{is_out, is_inside, loaded_of, loaded, lost, waiting, queued}
 use Rattle.cmwq_lock.specs.Rule.{Standing, Homes, SlotIs, at_home, with_seat, IsRuled}
 use Rattle.cmwq_lock.specs.Steps.{load_drawn, exchange_drawn}
-use Rattle.cmwq_lock.proofs.Puts.{put, put_here, put_else}
-use Rattle.cmwq_lock.proofs.Moves.{stood, OthersStay, moved}
+use Rattle.cmwq_lock.proofs.Puts.{put, put_here, put_else, all_of}
+use Rattle.cmwq_lock.proofs.Moves.{stood, OthersStay, stepped_on}
+use Rattle.cmwq_lock.proofs.Logs.{all_seen}
 
 module _ {T O E : Type 0} (K : Ghosts T O E) (o : O) where
   -- a pass that is not inside does not have the slot
@@ -41,8 +43,8 @@ module _ {T O E : Type 0} (K : Ghosts T O E) (o : O) where
         loaded (Pass who (Out t)) n,
         keeps,
         tt,
-        moved K o s r r.at.drawn r.at.served r.at.current r.at.holder id who (Out t) (Out tried) (set s.words 0 n) s.homes here (ap (λ ws. set ws 0 (get_or ws 0 0)) r.words_are) r.in_order r.bounded
-            (slot_stays r.at r.at s.homes s.views id (Pass who (Out t)) (Pass who (Out tried)) refl refl here refl r.slot_is) r.log_is
+        stepped_on K o s r r.at.drawn r.at.holder id who (Out t) (Out tried) (set s.words 0 n) s.homes here (ap (λ ws. set ws 0 (get_or ws 0 0)) r.words_are) r.in_order r.bounded
+            (slot_stays r.at r.at s.homes s.views id (Pass who (Out t)) (Pass who (Out tried)) refl refl here refl r.slot_is)
             (record { loaded_below = omega arith; found_below = known.found_below }) (λ seat who' phase apart there known'. known'),
         (refl, omega arith),
       )
@@ -64,26 +66,32 @@ module _ {T O E : Type 0} (K : Ghosts T O E) (o : O) where
     slot_away = known.slot_away;
   }
 
-  exchange_won : (slots id old : ℕ) (who : Identity O) (t : Tries) (carried : List (ℕ × Option (Held T))) (s : State (Option (Held T)) (View O E)) (r : IsRuled K o s) → get_elem? s.views id ≡ some (Pass who (Out t))
+  exchange_won : (slots id old : ℕ) (who : Identity O E) (t : Tries) (carried : List (ℕ × Option (Held T))) (s : State (Option (Held T)) (View O E)) (r : IsRuled K o s) → get_elem? s.views id ≡ some (Pass who (Out t))
       → get_or s.words 0 0 ≡ old → old < 2 ^ 62 → IsRuled K o (stepped s 0 (old + 1) id carried (Pass who (Waiting (queued (get_or s.words 0 0)))) keeps)
   exchange_won slots id old who t carried s r here hit small = let n : ℕ = get_or s.words 0 0 in let is : n ≡ r.at.drawn = ap (λ ws. get_or ws 0 0) r.words_are in let order = r.in_order in
       let same : old ≡ r.at.drawn = sym hit ∙ is in
-      moved K o s r (r.at.drawn + 1) r.at.served r.at.current (put r.at.holder r.at.drawn id) id who (Out t) (Waiting (queued n)) (set s.words 0 (old + 1)) s.homes here
+      stepped_on K o s r (r.at.drawn + 1) (put r.at.holder r.at.drawn id) id who (Out t) (Waiting (queued n)) (set s.words 0 (old + 1)) s.homes here
       (ap (λ ws. set ws 0 (old + 1)) r.words_are ∙ ap (λ d. (d + 1) ∷ r.at.served ∷ []) same) (omega arith) (omega arith)
-      (slot_stays r.at _ s.homes s.views id (Pass who (Out t)) (Pass who (Waiting (queued n))) refl refl here refl r.slot_is) r.log_is
+      (slot_stays r.at _ s.homes s.views id (Pass who (Out t)) (Pass who (Waiting (queued n))) refl refl here refl r.slot_is)
       (record { not_ended = omega arith; was_drawn = omega arith; is_holder = ap (put r.at.holder r.at.drawn id) is ∙ put_here r.at.holder r.at.drawn id; last_below = omega arith })
       (others_draw r.at s.homes s.views id)
 
-  exchange_lost : (slots id : ℕ) (who : Identity O) (t : Tries) (carried : List (ℕ × Option (Held T))) (s : State (Option (Held T)) (View O E)) (r : IsRuled K o s) → get_elem? s.views id ≡ some (Pass who (Out t))
+  exchange_lost : (slots id : ℕ) (who : Identity O E) (t : Tries) (carried : List (ℕ × Option (Held T))) (s : State (Option (Held T)) (View O E)) (r : IsRuled K o s) → get_elem? s.views id ≡ some (Pass who (Out t))
       → IsRuled K o (stepped s 0 (get_or s.words 0 0) id carried (lost (Pass who (Out t)) (get_or s.words 0 0)) keeps)
   exchange_lost slots id who t carried s r here = let n : ℕ = get_or s.words 0 0 in let is : n ≡ r.at.drawn = ap (λ ws. get_or ws 0 0) r.words_are in
       let known = (r.each_view id (Pass who (Out t)) here).phase_is in let tried : Tries = record t { losses = t.losses + 1; found = n } in
-      moved K o s r r.at.drawn r.at.served r.at.current r.at.holder id who (Out t) (Out tried) (set s.words 0 n) s.homes here (ap (λ ws. set ws 0 (get_or ws 0 0)) r.words_are) r.in_order r.bounded
-      (slot_stays r.at r.at s.homes s.views id (Pass who (Out t)) (Pass who (Out tried)) refl refl here refl r.slot_is) r.log_is
+      stepped_on K o s r r.at.drawn r.at.holder id who (Out t) (Out tried) (set s.words 0 n) s.homes here (ap (λ ws. set ws 0 (get_or ws 0 0)) r.words_are) r.in_order r.bounded
+      (slot_stays r.at r.at s.homes s.views id (Pass who (Out t)) (Pass who (Out tried)) refl refl here refl r.slot_is)
       (record { loaded_below = known.loaded_below; found_below = omega arith }) (λ seat who' phase apart there known'. known')
 
+  -- all tickets that a pass has seen are below `drawn`
+  tickets_seen : (id : ℕ) (who : Identity O E) (phase : Phase E) (s : State (Option (Held T)) (View O E)) (r : IsRuled K o s) → get_elem? s.views id ≡ some (Pass who phase) → (n : ℕ) → n ≡ r.at.drawn
+      → All (λ e. K.ticket e < n) who.knows.seen
+  tickets_seen id who phase s r here n is = let order = r.in_order in all_seen (λ e. K.ticket e < n) r.at.current who.knows.seen (r.each_view id (Pass who phase) here).knows.begins
+      (all_of (λ e. K.ticket e < r.at.served) (λ e. K.ticket e < n) r.at.current (λ e below. omega arith) r.log_is.tickets)
+
   pub exchanges_drawn : (slots id old : ℕ) (me : Me (Option (Held T)) (View O E)) → is_out me.0 ≡ true → loaded_of me.0 ≡ old → old < 2 ^ 62
-      → Allows (IsRuled K o) slots id me 0 (λ n. either (eqb n old) (old + 1) n) (exchange_drawn old me)
+      → Allows (IsRuled K o) slots id me 0 (λ n. either (eqb n old) (old + 1) n) (exchange_drawn K old me)
   exchanges_drawn slots id old (Pass who (Out t), carried) out expected bounded s r deep here small = let n : ℕ = get_or s.words 0 0 in let is : n ≡ r.at.drawn = ap (λ ws. get_or ws 0 0) r.words_are in
       dite (ℕ_discrete n old)
       (λ hit. (
@@ -91,7 +99,7 @@ module _ {T O E : Type 0} (K : Ghosts T O E) (o : O) where
         keeps,
         tt,
         subst (λ b. IsRuled K o (stepped s 0 (either b (old + 1) n) id carried (waiting (Pass who (Out t)) n) keeps)) (sym (eq-eqb n old hit)) (exchange_won slots id old who t carried s r here hit bounded),
-        ((λ e. refl), λ apart. absurd (apart hit)),
+        ((λ e. (refl, tickets_seen id who (Out t) s r here n (omega arith))), λ apart. absurd (apart hit)),
       ))
       (λ miss. let below = (r.each_view id (Pass who (Out t)) here).phase_is.loaded_below in (
         lost (Pass who (Out t)) n,

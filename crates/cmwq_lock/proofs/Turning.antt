@@ -1,5 +1,5 @@
 -- The steps on `served` keep the rule: the look that begins a turn or does not, and the end of a turn.
-use Rattle.std.proofs.Common.{◌≡◌, ◌≢◌, ℕ, ◌+◌, ◌%◌, ◌^◌, ◌<◌, true, false, List, [], ◌∷◌, length, All, get_or, set, sym, refl, ap, ◌∙◌, subst, inl, inr, arith, Option, Some}
+use Rattle.std.proofs.Common.{◌≡◌, ◌≢◌, ℕ, ◌+◌, ◌%◌, ◌^◌, ◌<◌, true, false, List, [], ◌∷◌, length, All, get_or, set, sym, refl, ap, ◌∙◌, subst, inl, inr, arith, Option, Some, ◌++◌, drop}
 use mathlib.Core.Logic.{dite}
 use mathlib.Core.Option.{none, some, some-injective}
 use native.Mathlib.Decide.{ℕ_discrete}
@@ -14,12 +14,13 @@ use Rattle.cmwq_lock.specs.declared.views.Phase.{Phase}
 use Rattle.cmwq_lock.specs.declared.views.Phase.TheVariants.{Out, Waiting, Inside}
 use Rattle.cmwq_lock.specs.declared.views.View.{View}
 use Rattle.cmwq_lock.specs.declared.views.View.TheVariants.{Pass}
-use Rattle.cmwq_lock.specs.Log.{Grows}
-use Rattle.cmwq_lock.specs.Views.{is_waiting, is_inside, inside, looked, came_out, untried}
+use Rattle.cmwq_lock.specs.Log.{BeginsWith, calls_of, Grows}
+use Rattle.cmwq_lock.specs.Views.{is_waiting, is_inside, inside, looked, came_out, untried, seeing, having_left}
 use Rattle.cmwq_lock.specs.Rule.{Standing, Homes, home, away, SlotIs, at_home, with_seat, IsKept, IsCurrent, IsRuled, IsLeft}
-use Rattle.cmwq_lock.specs.Steps.{look_served, end_turn}
+use Rattle.cmwq_lock.specs.Steps.{look_served, end_turn, log_carried}
 use Rattle.cmwq_lock.proofs.Puts.{all_of, set_there}
-use Rattle.cmwq_lock.proofs.Moves.{stood, OthersStay, moved}
+use Rattle.cmwq_lock.proofs.Moves.{stood, OthersStay, log_stays, moved, stepped_on}
+use Rattle.cmwq_lock.proofs.Logs.{begins_itself, begins_after, others_after, own_after}
 use Rattle.cmwq_lock.proofs.Drawing.{slot_stays}
 
 module _ {T O E : Type 0} (K : Ghosts T O E) (o : O) where
@@ -35,7 +36,7 @@ module _ {T O E : Type 0} (K : Ghosts T O E) (o : O) where
   others_begin at homes homes' views id h full seat who (Inside ticket found) apart there known = let clash : home h ≡ away = sym full ∙ known.slot_away in cc
 
   -- a look that gives the ticket of a seat finds the value at home
-  begins : (slots id : ℕ) (who : Identity O) (q : Queued) (s : State (Option (Held T)) (View O E)) (r : IsRuled K o s) → get_elem? s.views id ≡ some (Pass who (Waiting q)) → get_or s.words 1 0 ≡ q.ticket
+  begins : (slots id : ℕ) (who : Identity O E) (q : Queued) (s : State (Option (Held T)) (View O E)) (r : IsRuled K o s) → get_elem? s.views id ≡ some (Pass who (Waiting q)) → get_or s.words 1 0 ≡ q.ticket
       → SlotIs K o r.at s.homes s.views
       → (h : Held T) × (get_elem? s.homes 0 ≡ some (some (Some h))) × IsKept K o r.at.served r.at.current h
       × IsRuled K o (stepped s 1 (get_or s.words 1 0) id [] (inside (Pass who (Waiting q)) (K.log h.value)) (takes 0 (Some h)))
@@ -45,8 +46,9 @@ module _ {T O E : Type 0} (K : Ghosts T O E) (o : O) where
         h,
         ap (λ hs. get_elem? hs 0) full,
         kept,
-        moved K o s r r.at.drawn r.at.served r.at.current r.at.holder id who (Waiting q) begun (set s.words 1 n) (set s.homes 0 none) here (ap (λ ws. set ws 1 (get_or ws 1 0)) r.words_are) r.in_order r.bounded
-            (with_seat id who (ap (λ hs. set hs 0 none) full) (set_there s.views id (Pass who (Waiting q)) (Pass who begun) here ∙ (λ i. some (Pass who (Inside (same i) (kept.log_is i)))))) r.log_is
+        moved K o s r r.at.drawn r.at.served r.at.current r.at.holder id who (seeing who (K.log h.value)) (Waiting q) begun (set s.words 1 n) (set s.homes 0 none) here refl refl (ap (λ ws. set ws 1 (get_or ws 1 0)) r.words_are) r.in_order r.bounded
+            (with_seat id (seeing who (K.log h.value)) (ap (λ hs. set hs 0 none) full) (set_there s.views id (Pass who (Waiting q)) (Pass (seeing who (K.log h.value)) begun) here ∙ (λ i. some (Pass (seeing who (K.log h.value)) (Inside (same i) (kept.log_is i)))))) r.log_is (log_stays K o who.knows.caller r.at.current)
+            (record { begins = subst (BeginsWith r.at.current) (sym kept.log_is) (begins_itself r.at.current); own_calls = (r.each_view id (Pass who (Waiting q)) here).knows.own_calls })
             (record { is_served = same; was_drawn = known.was_drawn; is_holder = known.is_holder; found_current = kept.log_is; slot_away = ap (λ hs. set hs 0 none) full })
             (others_begin r.at s.homes (set s.homes 0 none) s.views id h full),
       )
@@ -57,12 +59,12 @@ module _ {T O E : Type 0} (K : Ghosts T O E) (o : O) where
       let both : some (Pass who (Waiting q)) ≡ some (Pass other (Inside r.at.served r.at.current)) = sym here ∙ (ap (get_elem? s.views) one ∙ there) in
       let clash : false ≡ true = ap is_inside (some-injective _ _ both) in cc
 
-  look_lost : (slots id : ℕ) (who : Identity O) (q : Queued) (carried : List (ℕ × Option (Held T))) (s : State (Option (Held T)) (View O E)) (r : IsRuled K o s) → get_elem? s.views id ≡ some (Pass who (Waiting q))
+  look_lost : (slots id : ℕ) (who : Identity O E) (q : Queued) (carried : List (ℕ × Option (Held T))) (s : State (Option (Held T)) (View O E)) (r : IsRuled K o s) → get_elem? s.views id ≡ some (Pass who (Waiting q))
       → IsRuled K o (stepped s 1 (get_or s.words 1 0) id carried (looked (Pass who (Waiting q)) (get_or s.words 1 0)) keeps)
   look_lost slots id who q carried s r here = let n : ℕ = get_or s.words 1 0 in let is : n ≡ r.at.served = ap (λ ws. get_or ws 1 0) r.words_are in
       let known = (r.each_view id (Pass who (Waiting q)) here).phase_is in let once_more : Queued = record q { looks = q.looks + 1; last = n } in
-      moved K o s r r.at.drawn r.at.served r.at.current r.at.holder id who (Waiting q) (Waiting once_more) (set s.words 1 n) s.homes here (ap (λ ws. set ws 1 (get_or ws 1 0)) r.words_are) r.in_order r.bounded
-      (slot_stays K o r.at r.at s.homes s.views id (Pass who (Waiting q)) (Pass who (Waiting once_more)) refl refl here refl r.slot_is) r.log_is
+      stepped_on K o s r r.at.drawn r.at.holder id who (Waiting q) (Waiting once_more) (set s.words 1 n) s.homes here (ap (λ ws. set ws 1 (get_or ws 1 0)) r.words_are) r.in_order r.bounded
+      (slot_stays K o r.at r.at s.homes s.views id (Pass who (Waiting q)) (Pass who (Waiting once_more)) refl refl here refl r.slot_is)
       (record { not_ended = known.not_ended; was_drawn = known.was_drawn; is_holder = known.is_holder; last_below = omega arith }) (λ seat who' phase apart there known'. known')
 
   pub looks_served : (slots id : ℕ) (me : Me (Option (Held T)) (View O E)) → is_waiting me.0 ≡ true → length me.1 ≡ 0
@@ -83,6 +85,8 @@ module _ {T O E : Type 0} (K : Ghosts T O E) (o : O) where
               is_sound = kept.is_sound;
               same_origin = known.same_origin ∙ sym kept.origin_stays;
               tickets = subst (λ (z : ℕ × List E). All (λ e. K.ticket e < z.0) z.1) (λ i. (sym same i, sym kept.log_is i)) r.log_is.tickets;
+              begins = subst (λ (l : List E). BeginsWith l who.knows.seen) (sym kept.log_is) known.knows.begins;
+              own_calls = ap (calls_of K.caller who.knows.caller) kept.log_is ∙ known.knows.own_calls;
             },
             refl,
           )),
@@ -128,24 +132,29 @@ module _ {T O E : Type 0} (K : Ghosts T O E) (o : O) where
   }
 
   pub ends_turn : (slots id : ℕ) (me : Me (Option (Held T)) (View O E)) (h : Held T) → is_inside me.0 ≡ true → me.1 ≡ (0, Some h) ∷ [] → IsLeft K me.0 h
-      → Allows (IsRuled K o) slots id me 1 (λ n. (n + 1) % 2 ^ 64) (λ _. end_turn me)
+      → Allows (IsRuled K o) slots id me 1 (λ n. (n + 1) % 2 ^ 64) (λ _. end_turn K me)
   ends_turn slots id (Pass who (Inside ticket found), carried) h is_in holds left s r deep here small = let n : ℕ = get_or s.words 1 0 in let is : n ≡ r.at.served = ap (λ ws. get_or ws 1 0) r.words_are in
       let known = r.each_view id (Pass who (Inside ticket found)) here in let phase = known.phase_is in let same = phase.is_served in let below = phase.was_drawn in let bound = r.bounded in
       let next : (n + 1) % 2 ^ 64 ≡ r.at.served + 1 = omega arith in let full : set s.homes 0 (some (Some h)) ≡ home h = ap (λ hs. set hs 0 (some (Some h))) phase.slot_away in
       let origin : K.origin h.value ≡ o = sym left.same_origin ∙ known.same_origin in
       let at' = stood r.at r.at.drawn (r.at.served + 1) (K.log h.value) r.at.holder in
       let kept : IsKept K o (r.at.served + 1) (K.log h.value) h = record { turns_ended = left.turns_ended ∙ ap (λ (z : ℕ). z + 1) same; is_sound = left.is_sound; origin_stays = origin; log_is = refl } in
-      let grows : Grows K.ticket K.caller r.at.current (K.log h.value) r.at.served who.caller = subst (λ (z : List E × ℕ). Grows K.ticket K.caller z.0 (K.log h.value) z.1 who.caller) (λ i. (phase.found_current i, same i)) left.log_grows in
-      let ruled : IsRuled K o record { words = set s.words 1 ((n + 1) % 2 ^ 64); homes = set s.homes 0 (some (Some h)); views = set s.views id (Pass who (Out untried)) } =
-      moved K o s r r.at.drawn (r.at.served + 1) (K.log h.value) r.at.holder id who (Inside ticket found) (Out untried) (set s.words 1 ((n + 1) % 2 ^ 64)) (set s.homes 0 (some (Some h))) here
+      let caller : ℕ = who.knows.caller in let log : List E = K.log h.value in let who' : Identity O E = having_left who found log in
+      let grows : Grows K.ticket K.caller r.at.current log r.at.served caller = subst (λ (z : List E × ℕ). Grows K.ticket K.caller z.0 log z.1 caller) (λ i. (phase.found_current i, same i)) left.log_grows in
+      let own : calls_of K.caller caller log ≡ who.knows.mine ++ drop (length found) log = own_after K.ticket K.caller r.at.current log r.at.served caller grows who.knows.mine known.knows.own_calls
+      ∙ ap (λ (l : List E). who.knows.mine ++ drop (length l) log) (sym phase.found_current) in
+      let ruled : IsRuled K o record { words = set s.words 1 ((n + 1) % 2 ^ 64); homes = set s.homes 0 (some (Some h)); views = set s.views id (Pass who' (Out untried)) } =
+      moved K o s r r.at.drawn (r.at.served + 1) log r.at.holder id who who' (Inside ticket found) (Out untried) (set s.words 1 ((n + 1) % 2 ^ 64)) (set s.homes 0 (some (Some h))) here refl refl
       (ap (λ ws. set ws 1 ((get_or ws 1 0 + 1) % 2 ^ 64)) r.words_are ∙ ap (λ d. r.at.drawn ∷ d ∷ []) (ap (λ z. (z + 1) % 2 ^ 64) (sym is) ∙ next)) (omega arith) r.bounded (at_home h full kept)
-      (log_after r.at.served r.at.desk.next r.at.current (K.log h.value) who.caller h r.log_is known.was_given refl left.is_sound origin grows)
+      (log_after r.at.served r.at.opener_knows.next r.at.current log caller h r.log_is known.was_given refl left.is_sound origin grows)
+      (record { begins = begins_after K.ticket K.caller r.at.current log r.at.served caller grows; others = others_after K.ticket K.caller r.at.current log r.at.served caller grows })
+      (record { begins = begins_itself log; own_calls = own })
       (record { loaded_below = omega arith; found_below = omega arith })
-      (others_end r.at s.homes (set s.homes 0 (some (Some h))) s.views id (K.log h.value) (ap r.at.holder (sym same) ∙ phase.is_holder)) in (
-        came_out (Pass who (Inside ticket found)),
+      (others_end r.at s.homes (set s.homes 0 (some (Some h))) s.views id log (ap r.at.holder (sym same) ∙ phase.is_holder)) in (
+        came_out (Pass who (Inside ticket found)) log,
         gives,
         tt,
-        subst (λ c. IsRuled K o (stepped s 1 ((n + 1) % 2 ^ 64) id c (Pass who (Out untried)) gives)) (sym holds) ruled,
-        ap (λ c. (Pass who (Out untried), c)) (ap rest holds),
+        subst (λ c. IsRuled K o (stepped s 1 ((n + 1) % 2 ^ 64) id c (Pass who' (Out untried)) gives)) (sym holds) ruled,
+        λ i. (Pass (having_left who found (ap (log_carried K.log) (sym holds) i)) (Out untried), ap rest holds i),
       )
   ends_turn slots id (v, carried) h is_in holds left s r deep here small = cc

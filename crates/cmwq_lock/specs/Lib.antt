@@ -2,5 +2,6 @@ pub mod Log
 pub mod Views
 pub mod Rule
 pub mod Steps
-pub mod Places
+pub mod Promises
+pub mod Seats
 pub mod Tokens

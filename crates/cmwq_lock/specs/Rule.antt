@@ -6,27 +6,33 @@ use mathlib.Core.Option as maybe
 use lib.ListN.{get_elem?}
 use Rattle.atomic_table.specs.Table.{State}
 use Rattle.cmwq_lock.specs.declared.kept.Kept.{Ghosts}
+use Rattle.cmwq_lock.specs.declared.views.Knowledge.{Knowledge}
 use Rattle.cmwq_lock.specs.declared.views.Identity.{Identity}
 use Rattle.cmwq_lock.specs.declared.views.Tries.{Tries}
 use Rattle.cmwq_lock.specs.declared.views.Queued.{Queued}
-use Rattle.cmwq_lock.specs.declared.views.Desk.{Desk}
+use Rattle.cmwq_lock.specs.declared.views.OpenerView.{OpenerView}
 use Rattle.cmwq_lock.specs.declared.views.Held.{Held}
 use Rattle.cmwq_lock.specs.declared.views.Phase.{Phase}
 use Rattle.cmwq_lock.specs.declared.views.Phase.TheVariants.{Out, Waiting, Inside}
 use Rattle.cmwq_lock.specs.declared.views.View.{View}
 use Rattle.cmwq_lock.specs.declared.views.View.TheVariants.{Opener, Pass, Spent}
-use Rattle.cmwq_lock.specs.Log.{Grows}
+use Rattle.cmwq_lock.specs.Log.{BeginsWith, calls_of, Grows}
 use Rattle.cmwq_lock.specs.Views.{ticket_of, caller_of, found_of, HasOrigin}
 
--- the numbers and the log between two steps, who opened the lock, and which seat has each ticket and each caller's pass
+-- where what a caller knows stands: with the pass at this seat, or in the opener's record with this number
+pub data Whereabouts : Type 0 where
+  at_seat : ℕ → Whereabouts
+  in_record : ℕ → Whereabouts
+
+-- the numbers and the log between two steps, who opened the lock, which seat has each ticket, and where each caller stands
 pub record Standing (O E : Type 0) : Type 0 where
   pub drawn : ℕ
   pub served : ℕ
   pub current : List E
   pub opener : ℕ
-  pub desk : Desk O
+  pub opener_knows : OpenerView O E
   pub holder : ℕ → ℕ
-  pub seat_of : ℕ → ℕ
+  pub where_is : ℕ → Whereabouts
 
 abbrev pub Homes : Type 0 → Type 0
 Homes T = List (maybe.Option (Option (Held T)))
@@ -62,11 +68,27 @@ module _ {T O E : Type 0} (K : Ghosts T O E) (o : O) where
     pub tickets : All (λ e. K.ticket e < served) current
     pub callers : All (λ e. K.caller e < next) current
 
+  -- a caller has seen the begin of the log, and the log's entries with its number are its own, in order
+  pub record IsKnown (current : List E) (k : Knowledge E) : Type 0 where
+    pub begins : BeginsWith current k.seen
+    pub own_calls : calls_of K.caller k.caller current ≡ k.mine
+
   module _ (at : Standing O E) where
+    -- the caller stands there
+    abbrev pub StandsAt : List (View O E) → Whereabouts → ℕ → Type 0
+    StandsAt views (at_seat seat) c = (who : Identity O E) × (phase : Phase E) × (get_elem? views seat ≡ some (Pass who phase)) × (who.knows.caller ≡ c)
+    StandsAt views (in_record i) c = (k : Knowledge E) × (get_elem? at.opener_knows.records i ≡ some k) × (k.caller ≡ c)
+
+    -- a retired caller stands in its record, and its number was given out
+    pub record IsRecord (i : ℕ) (k : Knowledge E) : Type 0 where
+      pub was_given : k.caller < at.opener_knows.next
+      pub stands_there : at.where_is k.caller ≡ in_record i
+      pub knows : IsKnown at.current k
+
     -- the slot is home and no turn is going on, or a seat that is inside has it
     pub data SlotIs (homes : Homes T) (views : List (View O E)) : Type 0 where
       at_home : (h : Held T) → homes ≡ home h → IsKept at.served at.current h → SlotIs homes views
-      with_seat : (seat : ℕ) (who : Identity O) → homes ≡ away → get_elem? views seat ≡ some (Pass who (Inside at.served at.current)) → SlotIs homes views
+      with_seat : (seat : ℕ) (who : Identity O E) → homes ≡ away → get_elem? views seat ≡ some (Pass who (Inside at.served at.current)) → SlotIs homes views
 
     module _ (homes : Homes T) (seat : ℕ) where
       -- a pass with no ticket has met no number above `drawn`
@@ -94,16 +116,17 @@ module _ {T O E : Type 0} (K : Ghosts T O E) (o : O) where
       PhaseIs (Waiting q) = IsWaiting q
       PhaseIs (Inside t found) = IsInside t found
 
-      -- a pass is the one seat of its caller, whose number was given out
-      pub record IsPass (who : Identity O) (phase : Phase E) : Type 0 where
+      -- a pass is where its caller stands, whose number was given out
+      pub record IsPass (who : Identity O E) (phase : Phase E) : Type 0 where
         pub same_origin : who.origin.value ≡ o
-        pub was_given : who.caller < at.desk.next
-        pub is_seat : at.seat_of who.caller ≡ seat
+        pub was_given : who.knows.caller < at.opener_knows.next
+        pub stands_there : at.where_is who.knows.caller ≡ at_seat seat
+        pub knows : IsKnown at.current who.knows
         pub phase_is : PhaseIs phase
 
-      pub record IsOpener (d : Desk O) : Type 0 where
+      pub record IsOpener (d : OpenerView O E) : Type 0 where
         pub is_seat : seat ≡ at.opener
-        pub is_desk : d ≡ at.desk
+        pub knows_is : d ≡ at.opener_knows
 
       abbrev pub ViewIs : View O E → Type 0
       ViewIs (Opener d) = IsOpener d
@@ -117,15 +140,18 @@ module _ {T O E : Type 0} (K : Ghosts T O E) (o : O) where
     pub in_order : at.served ≤ at.drawn
     pub bounded : at.drawn ≤ 2 ^ 62
     pub slot_is : SlotIs at s.homes s.views
-    pub log_is : IsCurrent at.served at.desk.next at.current
-    pub opener_is : get_elem? s.views at.opener ≡ some (Opener at.desk)
-    pub desk_origin : at.desk.origin.value ≡ o
-    pub passes_out : passes s.views ≡ at.desk.out
+    pub log_is : IsCurrent at.served at.opener_knows.next at.current
+    pub opener_is : get_elem? s.views at.opener ≡ some (Opener at.opener_knows)
+    pub opener_origin : at.opener_knows.origin.value ≡ o
+    pub passes_out : passes s.views ≡ at.opener_knows.out
+    pub opener_seen : BeginsWith at.current at.opener_knows.seen
+    pub each_caller : (c : ℕ) → c < at.opener_knows.next → StandsAt at s.views (at.where_is c) c
+    pub each_record : (i : ℕ) (k : Knowledge E) → get_elem? at.opener_knows.records i ≡ some k → IsRecord at i k
     pub each_view : (seat : ℕ) (v : View O E) → get_elem? s.views seat ≡ some v → ViewIs at s.homes seat v
 
 -- a new lock's opener
 abbrev pub opening_view : {O E : Type 0} → O → View O E
-opening_view o = Opener (record { origin = record { marker = record {}; value = o }; next = 0; out = 0 })
+opening_view o = Opener (record { origin = record { marker = record {}; value = o }; next = 0; out = 0; seen = []; records = [] })
 
 -- the value as a turn leaves it: one more turn has ended, and the log has at most the turn's entry more
 module _ {T O E : Type 0} (K : Ghosts T O E) where

@@ -1,5 +1,5 @@
 -- What clauses read of a lock and its tokens.
-use Rattle.std.specs.Prelude.{◌≡◌, ℕ, ◌<◌, List, All}
+use Rattle.std.specs.Prelude.{◌≡◌, ℕ}
 use Rattle.cmwq_lock.specs.declared.kept.Kept.{Ghosts}
 use Rattle.cmwq_lock.specs.declared.views.View.{View}
 use Rattle.cmwq_lock.specs.declared.lock.TicketLock.{TicketLock}
@@ -8,7 +8,6 @@ use Rattle.cmwq_lock.specs.declared.tokens.Pass.{Pass}
 use Rattle.cmwq_lock.specs.declared.tokens.Drawn.{Drawn}
 use Rattle.cmwq_lock.specs.declared.fault.Why.{Why}
 use Rattle.cmwq_lock.specs.declared.fault.Why.TheVariants.{Raced, Exhausted}
-use Rattle.cmwq_lock.specs.Log.{Grows}
 use Rattle.cmwq_lock.specs.Views.{HasOrigin}
 
 module _ {T O E : Type 0} {K : Ghosts T O E} where
@@ -39,16 +38,6 @@ module _ {T O E : Type 0} (K : Ghosts T O E) where
   pub record IsDrawnOf (lock : TicketLock T O E) (drawn : Drawn T O E K) : Type 0 where
     pub same_lock : drawn.seat.table_id ≡ lock.table.shared.table_id
     pub same_origin : HasOrigin (drawn_view drawn) (lock_origin lock)
-
-  -- a turn of this ticket and caller: it finds a legal log and leaves one, which has at most its own entry more, and the call tells of both
-  pub record IsTurn (o : O) (ticket caller : ℕ) (tells : List E → List E → Type 0) : Type 0 where
-    pub before : List E
-    pub after : List E
-    pub found_legal : K.legal o before
-    pub found_earlier : All (λ e. K.ticket e < ticket) before
-    pub left_legal : K.legal o after
-    pub grows : Grows K.ticket K.caller before after ticket caller
-    pub told : tells before after
 
 -- a fact for each reason why no ticket was drawn
 abbrev pub MatchWhy : Why → (ℕ → ℕ → Type 0) → Type 0 → Type 0

@@ -1,10 +1,13 @@
 -- What a seat knows, and how each kind of step changes that.
-use Rattle.std.specs.Prelude.{◌≡◌, ℕ, ◌+◌, ◌-◌, Bool, true, false, List, []}
+use Rattle.std.specs.Prelude.{◌≡◌, ℕ, ◌+◌, ◌-◌, Bool, true, false, List, [], ◌∷◌, ◌++◌, length, drop}
+use Rattle.cmwq_lock.specs.declared.views.Knowledge.{Knowledge}
+use Rattle.cmwq_lock.specs.declared.views.Identity.{Identity}
 use Rattle.cmwq_lock.specs.declared.views.Tries.{Tries}
 use Rattle.cmwq_lock.specs.declared.views.Queued.{Queued}
 use Rattle.cmwq_lock.specs.declared.views.Phase.TheVariants.{Out, Waiting, Inside}
 use Rattle.cmwq_lock.specs.declared.views.View.{View}
 use Rattle.cmwq_lock.specs.declared.views.View.TheVariants.{Opener, Pass, Spent}
+use Rattle.cmwq_lock.specs.Log.{longer}
 
 -- what a pass has tried when it comes out: nothing yet
 abbrev pub untried : Tries
@@ -13,6 +16,14 @@ untried = record { loads = 0; loaded = 0; losses = 0; found = 0 }
 -- a ticket just drawn, for which `served` was not looked at yet
 abbrev pub queued : ℕ → Queued
 queued n = record { ticket = n; looks = 0; last = 0 }
+
+-- what is known once this log was seen
+abbrev pub seeing : {O E : Type 0} → Identity O E → List E → Identity O E
+seeing who log = record who { knows = record who.knows { seen = log } }
+
+-- what is known once a turn has changed the log from the one found to this one: the caller's own entries gain what is new
+abbrev pub having_left : {O E : Type 0} → Identity O E → List E → List E → Identity O E
+having_left who found log = record who { knows = record who.knows { seen = log; mine = who.knows.mine ++ drop (length found) log } }
 
 module _ {O E : Type 0} where
   -- one more load of `drawn`, which gave n
@@ -37,13 +48,13 @@ module _ {O E : Type 0} where
 
   -- the turn has begun, and found this log
   abbrev pub inside : View O E → List E → View O E
-  inside (Pass who (Waiting q)) log = Pass who (Inside q.ticket log)
+  inside (Pass who (Waiting q)) log = Pass (seeing who log) (Inside q.ticket log)
   inside v log = v
 
-  -- the turn has ended
-  abbrev pub came_out : View O E → View O E
-  came_out (Pass who (Inside t log)) = Pass who (Out untried)
-  came_out v = v
+  -- the turn has ended, and has left this log
+  abbrev pub came_out : View O E → List E → View O E
+  came_out (Pass who (Inside t found)) log = Pass (having_left who found log) (Out untried)
+  came_out v log = v
 
   -- the opener has given one more pass
   abbrev pub given : View O E → View O E
@@ -52,12 +63,12 @@ module _ {O E : Type 0} where
 
   -- the pass that an opener gives next
   abbrev pub fresh : View O E → View O E
-  fresh (Opener d) = Pass (record { origin = d.origin; caller = d.next }) (Out untried)
+  fresh (Opener d) = Pass (record { origin = d.origin; knows = record { caller = d.next; seen = d.seen; mine = [] } }) (Out untried)
   fresh v = v
 
-  -- the opener has taken one pass back
+  -- the opener has taken one pass back, and records what it knew
   abbrev pub taken_back : View O E → View O E → View O E
-  taken_back (Opener d) w = Opener (record d { out = d.out - 1 })
+  taken_back (Opener d) (Pass who phase) = Opener (record d { out = d.out - 1; seen = longer d.seen who.knows.seen; records = d.records ++ who.knows ∷ [] })
   taken_back v w = v
 
   -- whose view it is
@@ -77,10 +88,36 @@ module _ {O E : Type 0} where
   is_inside (Pass who (Inside t log)) = true
   is_inside v = false
 
+  -- whether the pass holds a ticket
+  abbrev pub has_ticket : View O E → Bool
+  has_ticket (Pass who (Waiting q)) = true
+  has_ticket (Pass who (Inside t log)) = true
+  has_ticket v = false
+
   -- the number of the caller whose pass it is
   abbrev pub caller_of : View O E → ℕ
-  caller_of (Pass who phase) = who.caller
+  caller_of (Pass who phase) = who.knows.caller
   caller_of v = 0
+
+  -- the log as it was last seen
+  abbrev pub seen_of : View O E → List E
+  seen_of (Pass who phase) = who.knows.seen
+  seen_of (Opener d) = d.seen
+  seen_of Spent = []
+
+  -- the entries of a caller's own calls
+  abbrev pub mine_of : View O E → List E
+  mine_of (Pass who phase) = who.knows.mine
+  mine_of v = []
+
+  -- all that a pass knows
+  abbrev pub knowledge_of : View O E → Knowledge E
+  knowledge_of v = record { caller = caller_of v; seen = seen_of v; mine = mine_of v }
+
+  -- what the retired callers knew
+  abbrev pub records_of : View O E → List (Knowledge E)
+  records_of (Opener d) = d.records
+  records_of v = []
 
   -- the ticket that a pass holds
   abbrev pub ticket_of : View O E → ℕ
@@ -92,6 +129,11 @@ module _ {O E : Type 0} where
   abbrev pub found_of : View O E → List E
   found_of (Pass who (Inside t log)) = log
   found_of v = []
+
+  -- what a pass has tried since it came out
+  abbrev pub tries_of : View O E → Tries
+  tries_of (Pass who (Out t)) = t
+  tries_of v = untried
 
   -- the last value of `drawn` that a pass loaded
   abbrev pub loaded_of : View O E → ℕ
@@ -112,3 +154,9 @@ module _ {O E : Type 0} where
   HasOrigin (Opener d) o = d.origin.value ≡ o
   HasOrigin (Pass who phase) o = who.origin.value ≡ o
   HasOrigin Spent o = ⊥
+
+  -- a pass's caller, what it saw and its own entries are as before
+  pub record SameKnowledge (v w : View O E) : Type 0 where
+    pub same_caller : caller_of w ≡ caller_of v
+    pub same_seen : seen_of w ≡ seen_of v
+    pub same_mine : mine_of w ≡ mine_of v

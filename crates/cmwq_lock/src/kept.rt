@@ -1,8 +1,10 @@
 //! What a lock keeps, and the calls that are carried out on it.
+//! A type says by an `impl Kept` what its log is, and by an `impl Call` what a turn may do.
 ghost use Rattle.std.specs.Prelude.{◌≡◌, ℕ, ◌<◌, List, [], All};
 ghost use Rattle.cmwq_lock.specs.Log.{Grows};
 
-/// A value that a lock can keep. It has an origin, which no call changes, and a log of entries.
+/// A value that a lock can keep. It has an origin, which no call changes, and a log of entries, each with the ticket and the
+/// number of the caller that made it. These exist in contracts alone.
 pub trait Kept {
     /// Where the value began.
     type Origin;
@@ -41,5 +43,6 @@ pub trait Call<T: Kept> {
         ensures sound { T.sound value.new }
         ensures origin { T.origin value.new ≡ T.origin value.old }
         ensures log { Grows T.ticket T.caller (T.log value.old) (T.log value.new) ticket caller }
-        ensures tells { tells (T.origin value.old) self (T.log value.old) (T.log value.new) ticket caller result };
+        ensures tells { tells (T.origin value.old) self
+            (T.log value.old) (T.log value.new) ticket caller result };
 }

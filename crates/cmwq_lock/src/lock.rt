@@ -1,13 +1,15 @@
-//! The lock, as callers use it.
-ghost use Rattle.std.specs.Prelude.{◌≡◌, ◌+◌, ◌-◌, ◌^◌, ◌<◌, ◌≤◌, [], ◌∷◌, true, length, IfOk, IfErr, Some};
-ghost use Rattle.cmwq_lock.specs.Views.{is_inside, loaded, lost, waiting, looked, came_out, given, fresh, taken_back, caller_of, ticket_of, next_of, out_of, HasOrigin};
+//! The lock, as callers use it. A clause speaks of what a token knows, its view, in the words of `specs/Views.antt`.
+ghost use Rattle.std.specs.Prelude.{◌≡◌, ◌+◌, ◌-◌, ◌^◌, ◌<◌, [], ◌∷◌, ◌++◌, All, IfOk, IfErr};
+ghost use Rattle.cmwq_lock.specs.Log.{BeginsWith, longer};
+ghost use Rattle.cmwq_lock.specs.Views.{loaded, lost, waiting, looked, came_out, given, fresh, taken_back, caller_of, ticket_of, next_of, out_of, seen_of, mine_of, records_of, knowledge_of, HasOrigin, SameKnowledge};
+ghost use Rattle.cmwq_lock.specs.Promises.{IsTurn, IsLastLog};
 ghost use Rattle.cmwq_lock.specs.Steps.{HasTurn};
 ghost use Rattle.cmwq_lock.specs.Rule.{opening_view};
-ghost use Rattle.cmwq_lock.specs.Places.{IsPlaced};
+ghost use Rattle.cmwq_lock.specs.Seats.{IsSeatOf};
 
 use crate::fault::{NoMemory, NotDrawn, NotYet, StillOut, TooMany, Why};
 use crate::kept::{Call, Kept};
-use crate::steps::{self, Place, TicketRule};
+use crate::steps::{self, LockSeat, TicketRule};
 use crate::tokens::{Drawn, Opener, Pass};
 use crate::views::{Held, View};
 use atomic_table::{Refused, Table};
@@ -22,7 +24,8 @@ const MOST_PASSES: u32 = 64;
 /// How many tickets a lock has.
 const MOST_TICKETS: u64 = 1 << 62;
 
-/// A value that callers take turns at, in the order of the tickets that they draw.
+/// A value that callers take turns at, in the order of the tickets that they draw. Each call has as condition that its token is
+/// this lock's.
 #[derive(Drop)]
 pub struct TicketLock<T: Kept> {
     pub(crate) table: Table<
@@ -37,9 +40,11 @@ pub struct TicketLock<T: Kept> {
 }
 
 impl<T: Kept + Drop> TicketLock<T> {
-    ghost use Rattle.cmwq_lock.specs.Tokens.{opener_view, pass_view, drawn_view, lock_origin, IsOpenerOf, IsPassOf, IsDrawnOf, IsTurn, MatchWhy};
+    ghost use Rattle.cmwq_lock.specs.Tokens.{opener_view, pass_view, drawn_view, lock_origin, IsOpenerOf, IsPassOf, IsDrawnOf, MatchWhy};
 
-    /// A lock round a value whose log is empty. `NoMemory` drops the value. No other call of the lock takes memory.
+    /// A lock round a value whose log is empty, and its opener, with no pass out. No other call of the lock takes memory.
+    ///
+    /// `NoMemory` where the allocator gives none; the value is then dropped.
     pub fn open(alloc: Global, value: T) -> Result<(TicketLock<T>, Opener<T>), NoMemory>
         requires sound { T.sound value }
         requires empty { T.log value ≡ [] }
@@ -63,7 +68,9 @@ impl<T: Kept + Drop> TicketLock<T> {
         }
     }
 
-    /// One more pass, with the next caller's number. Numbers rise from 0 and are never used again.
+    /// One more pass, with the next caller's number, no call of its own, and all that the opener has seen. Numbers rise from 0
+    /// to 2^32 - 1 and are never used again.
+    ///
     /// `TooMany` where 64 passes are out; the opener is then as before.
     pub fn pass(&self, opener: &mut Opener<T>) -> Result<Pass<T>, TooMany>
         requires lock { IsOpenerOf T.Kept self.now opener.old }
@@ -71,13 +78,20 @@ impl<T: Kept + Drop> TicketLock<T> {
         ensures lock { IsOpenerOf T.Kept self.now opener.new }
         ensures token { IfOk result (λ p. IsPassOf T.Kept self.now p) }
         ensures fresh { IfOk result (λ p. pass_view p ≡ fresh (opener_view opener.old)) }
-        ensures given { IfOk result (λ _. opener_view opener.new ≡ given (opener_view opener.old)) }
-        ensures number { IfOk result (λ p. caller_of (pass_view p) ≡ next_of (opener_view opener.old)) }
-        ensures next { IfOk result (λ _. next_of (opener_view opener.new) ≡ next_of (opener_view opener.old) + 1) }
-        ensures one_more { IfOk result (λ _. out_of (opener_view opener.new) ≡ out_of (opener_view opener.old) + 1) }
+        ensures given { IfOk result
+            (λ _. opener_view opener.new ≡ given (opener_view opener.old)) }
+        ensures number { IfOk result
+            (λ p. caller_of (pass_view p) ≡ next_of (opener_view opener.old)) }
+        ensures seen { IfOk result
+            (λ p. seen_of (pass_view p) ≡ seen_of (opener_view opener.old)) }
+        ensures mine { IfOk result (λ p. mine_of (pass_view p) ≡ []) }
+        ensures next { IfOk result
+            (λ _. next_of (opener_view opener.new) ≡ next_of (opener_view opener.old) + 1) }
+        ensures one_more { IfOk result
+            (λ _. out_of (opener_view opener.new) ≡ out_of (opener_view opener.old) + 1) }
         ensures few { IfOk result (λ _. out_of (opener_view opener.old) < 64) }
         ensures many { IfErr result (λ _. out_of (opener_view opener.old) ≡ 64) }
-        ensures same { IfErr result (λ _. opener_view opener.new ≡ opener_view opener.old) }
+        ensures same { IfErr result (λ _. opener.new ≡ opener.old) }
     {
         if opener.out >= MOST_PASSES {
             return Err(TooMany);
@@ -89,15 +103,22 @@ impl<T: Kept + Drop> TicketLock<T> {
         Ok(Pass { seat, caller })
     }
 
-    /// Draws a ticket by one load and one exchange. It does not wait and does not try again.
+    /// Draws a ticket, 0 to 2^62 - 1, by one load and one exchange. It does not wait and does not try again.
+    ///
+    /// `NotDrawn` gives the pass back: `Raced` where others drew between the two, `Exhausted` where no ticket is left.
     pub fn draw(&self, pass: Pass<T>) -> Result<Drawn<T>, NotDrawn<T>>
         requires { IsPassOf T.Kept self.now pass }
         ensures token { IfOk result (λ d. IsDrawnOf T.Kept self.now d) }
-        ensures caller { IfOk result (λ d. caller_of (drawn_view d) ≡ caller_of (pass_view pass)) }
-        ensures drawn { IfOk result (λ d. drawn_view d ≡ waiting (pass_view pass) (ticket_of (drawn_view d))) }
+        ensures knowledge { IfOk result (λ d. SameKnowledge (pass_view pass) (drawn_view d)) }
+        ensures drawn { IfOk result
+            (λ d. drawn_view d ≡ waiting (pass_view pass) (ticket_of (drawn_view d))) }
+        ensures later { IfOk result
+            (λ d. All (λ e. T.ticket e < ticket_of (drawn_view d)) (seen_of (drawn_view d))) }
         ensures range { IfOk result (λ d. ticket_of (drawn_view d) < 2 ^ 62) }
         ensures token_back { IfErr result (λ e. IsPassOf T.Kept self.now e.pass) }
-        ensures caller_back { IfErr result (λ e. caller_of (pass_view e.pass) ≡ caller_of (pass_view pass)) }
+        ensures knowledge_back { IfErr result
+            (λ e. SameKnowledge (pass_view pass) (pass_view e.pass)) }
+        // Raced: one load and one lost exchange more, with a rise between. Exhausted: one load more.
         ensures why { IfErr result (λ e. MatchWhy e.why
             (λ l f. (pass_view e.pass ≡ lost (loaded (pass_view pass) l) f) × (l < f))
             (pass_view e.pass ≡ loaded (pass_view pass) (2 ^ 62))) }
@@ -125,6 +146,9 @@ impl<T: Kept + Drop> TicketLock<T> {
     }
 
     /// Looks once whether the turn of the ticket has come, and carries the call out if it has. It does not wait.
+    /// The answer is the pass, the ticket that was spent, and what the call gave.
+    ///
+    /// `NotYet` where `served` is below the ticket; it gives the ticket and the call back.
     pub fn try_take<C: Call<T>>(
         &self,
         drawn: Drawn<T>,
@@ -132,15 +156,24 @@ impl<T: Kept + Drop> TicketLock<T> {
     ) -> Result<(Pass<T>, u64, C::Out), NotYet<T, C>>
         requires { IsDrawnOf T.Kept self.now drawn }
         ensures token { IfOk result (λ r. IsPassOf T.Kept self.now r.0) }
-        ensures caller { IfOk result (λ r. caller_of (pass_view r.0) ≡ caller_of (drawn_view drawn)) }
+        ensures caller { IfOk result
+            (λ r. caller_of (pass_view r.0) ≡ caller_of (drawn_view drawn)) }
         ensures ticket { IfOk result (λ r. r.1 ≡ ticket_of (drawn_view drawn)) }
-        ensures turn { IfOk result (λ r. IsTurn T.Kept (lock_origin T.Kept self.now) (ticket_of (drawn_view drawn)) (caller_of (drawn_view drawn))
-            (λ before after. C.tells (lock_origin T.Kept self.now) call before after (ticket_of (drawn_view drawn)) (caller_of (drawn_view drawn)) r.2)) }
+        ensures seen { IfOk result
+            (λ r. BeginsWith (seen_of (pass_view r.0)) (seen_of (drawn_view drawn))) }
+        ensures turn { IfOk result (λ r.
+            let o = lock_origin T.Kept self.now in let v = drawn_view drawn in
+            IsTurn T.Kept o v (pass_view r.0) (λ before after.
+            C.tells o call before after (ticket_of v) (caller_of v) r.2)) }
         ensures token_back { IfErr result (λ e. IsDrawnOf T.Kept self.now e.drawn) }
-        ensures caller_back { IfErr result (λ e. caller_of (drawn_view e.drawn) ≡ caller_of (drawn_view drawn)) }
-        ensures looked { IfErr result (λ e. drawn_view e.drawn ≡ looked (drawn_view drawn) e.served) }
+        ensures knowledge_back { IfErr result
+            (λ e. SameKnowledge (drawn_view drawn) (drawn_view e.drawn)) }
+        ensures looked { IfErr result
+            (λ e. drawn_view e.drawn ≡ looked (drawn_view drawn) e.served) }
         ensures not_yet { IfErr result (λ e. e.served < e.ticket) }
         ensures ticket_back { IfErr result (λ e. e.ticket ≡ ticket_of (drawn_view drawn)) }
+        ensures ticket_kept { IfErr result
+            (λ e. ticket_of (drawn_view e.drawn) ≡ ticket_of (drawn_view drawn)) }
         ensures call_back { IfErr result (λ e. e.call ≡ call) }
     {
         let Drawn {
@@ -164,7 +197,8 @@ impl<T: Kept + Drop> TicketLock<T> {
         }
         Ok(self.turn(seat, ticket, caller, call))
     }
-    /// Waits until the turn of the ticket has come, and carries the call out.
+    /// Looks until the turn of the ticket has come, with a pause after each look, and carries the call out. The answer is as
+    /// that of `try_take`. It may wait forever.
     pub fn take<C: Call<T>>(
         &self,
         rt: &impl Wait,
@@ -175,8 +209,10 @@ impl<T: Kept + Drop> TicketLock<T> {
         ensures token { IsPassOf T.Kept self.now result.0 }
         ensures caller { caller_of (pass_view result.0) ≡ caller_of (drawn_view drawn) }
         ensures ticket { result.1 ≡ ticket_of (drawn_view drawn) }
-        ensures turn { IsTurn T.Kept (lock_origin T.Kept self.now) (ticket_of (drawn_view drawn)) (caller_of (drawn_view drawn))
-            (λ before after. C.tells (lock_origin T.Kept self.now) call before after (ticket_of (drawn_view drawn)) (caller_of (drawn_view drawn)) result.2) }
+        ensures seen { BeginsWith (seen_of (pass_view result.0)) (seen_of (drawn_view drawn)) }
+        ensures turn { let o = lock_origin T.Kept self.now in let v = drawn_view drawn in
+            IsTurn T.Kept o v (pass_view result.0) (λ before after.
+            C.tells o call before after (ticket_of v) (caller_of v) result.2) }
     {
         let Drawn {
             mut seat,
@@ -196,19 +232,21 @@ impl<T: Kept + Drop> TicketLock<T> {
     // Carries a call out in the turn that the seat has, and ends the turn.
     fn turn<C: Call<T>>(
         &self,
-        mut seat: Place<T>,
+        mut seat: LockSeat<T>,
         ticket: u64,
         caller: u32,
         call: C,
     ) -> (Pass<T>, u64, C::Out)
-        requires place { IsPlaced self.now.table.shared seat }
+        requires place { IsSeatOf self.now.table.shared seat }
         requires begun { HasTurn T.Kept seat.me ticket caller }
         requires small { ticket < 2 ^ 62 }
         requires origin { HasOrigin seat.me.0 (lock_origin T.Kept self.now) }
         ensures token { IsPassOf T.Kept self.now result.0 }
-        ensures view { pass_view result.0 ≡ came_out seat.me.0 }
+        ensures caller { caller_of (pass_view result.0) ≡ caller }
         ensures ticket { result.1 ≡ ticket }
-        ensures turn { IsTurn T.Kept (lock_origin T.Kept self.now) ticket caller (λ before after. C.tells (lock_origin T.Kept self.now) call before after ticket caller result.2) }
+        ensures turn { let o = lock_origin T.Kept self.now in
+            IsTurn T.Kept o seat.me.0 (pass_view result.0) (λ before after.
+            C.tells o call before after ticket caller result.2) }
     {
         let words = &self.table.shared;
         let Held { mut value, turns } = steps::take_value(words, &mut seat);
@@ -222,13 +260,17 @@ impl<T: Kept + Drop> TicketLock<T> {
         (Pass { seat, caller }, ticket, out)
     }
 
-    /// Takes a pass back. Its caller's number is not used again.
+    /// Takes a pass back, and records what it knew. Its caller's number is not used again.
     pub fn retire(&self, opener: &mut Opener<T>, pass: Pass<T>)
         requires opener { IsOpenerOf T.Kept self.now opener.old }
         requires pass { IsPassOf T.Kept self.now pass }
         ensures lock { IsOpenerOf T.Kept self.now opener.new }
         ensures view { opener_view opener.new ≡ taken_back (opener_view opener.old) (pass_view pass) }
         ensures next { next_of (opener_view opener.new) ≡ next_of (opener_view opener.old) }
+        ensures recorded { records_of (opener_view opener.new)
+            ≡ records_of (opener_view opener.old) ++ knowledge_of (pass_view pass) ∷ [] }
+        ensures seen { seen_of (opener_view opener.new)
+            ≡ longer (seen_of (opener_view opener.old)) (seen_of (pass_view pass)) }
         ensures one_fewer { out_of (opener_view opener.new) ≡ out_of (opener_view opener.old) - 1 }
     {
         let Pass { seat, caller: _ } = pass;
@@ -236,13 +278,16 @@ impl<T: Kept + Drop> TicketLock<T> {
         opener.out = opener.out.saturating_sub(1);
     }
 
-    /// Takes the lock apart and gives the value back. `StillOut` where passes are not retired, with their number;
-    /// lock and opener are then as before.
+    /// Takes the lock apart and gives the value back.
+    ///
+    /// `StillOut` where passes are not retired, with their number; lock and opener are then as before.
     pub fn close(self, opener: Opener<T>) -> Result<T, StillOut<T>>
         requires { IsOpenerOf T.Kept self opener }
         ensures none_out { IfOk result (λ _. out_of (opener_view opener) ≡ 0) }
         ensures sound { IfOk result (λ v. T.sound v) }
         ensures origin { IfOk result (λ v. T.origin v ≡ lock_origin T.Kept self) }
+        ensures last { IfOk result
+            (λ v. IsLastLog T.Kept (records_of (opener_view opener)) (T.log v)) }
         ensures some_out { IfErr result (λ e. 0 < e.left) }
         ensures left { IfErr result (λ e. e.left ≡ out_of (opener_view opener)) }
         ensures lock_back { IfErr result (λ e. e.lock ≡ self) }

@@ -3,7 +3,7 @@ ghost use Rattle.std.specs.Prelude.{◌≡◌, ◌≢◌, ◌+◌, ◌^◌, ◌<
 ghost use Rattle.cmwq_lock.specs.Views.{is_opener, is_out, is_waiting, is_inside, loaded_of, given, fresh, taken_back};
 ghost use Rattle.cmwq_lock.specs.Steps.{load_drawn, exchange_drawn, look_served, end_turn};
 ghost use Rattle.cmwq_lock.specs.Rule.{IsLeft};
-ghost use Rattle.cmwq_lock.specs.Places.{IsPlaced};
+ghost use Rattle.cmwq_lock.specs.Seats.{IsSeatOf};
 
 use crate::kept::Kept;
 use crate::views::{Held, View};
@@ -31,7 +31,7 @@ impl<T: Kept> TableRule<Option<Held<T>>, View<T::Origin, T::Entry>, Snapshot<T>>
 }
 
 /// A seat at a lock's table.
-pub type Place<T> = Seat<Option<Held<T>>, View<<T as Kept>::Origin, <T as Kept>::Entry>>;
+pub type LockSeat<T> = Seat<Option<Held<T>>, View<<T as Kept>::Origin, <T as Kept>::Entry>>;
 
 /// The words and the slot of a lock.
 pub type Words<T> = Shared<
@@ -50,7 +50,7 @@ impl<T: Kept> Play<Option<Held<T>>, View<T::Origin, T::Entry>> for LoadDrawn {
 struct ExchangeDrawn;
 
 impl<T: Kept> Play<Option<Held<T>>, View<T::Origin, T::Entry>> for ExchangeDrawn {
-    ghost then = { λ st m n after. exchange_drawn st.first m n after };
+    ghost then = { λ st m n after. exchange_drawn T.Kept st.first m n after };
 }
 
 struct LookServed;
@@ -62,7 +62,7 @@ impl<T: Kept> Play<Option<Held<T>>, View<T::Origin, T::Entry>> for LookServed {
 struct EndTurn;
 
 impl<T: Kept> Play<Option<Held<T>>, View<T::Origin, T::Entry>> for EndTurn {
-    ghost then = { λ st m n after. end_turn m after };
+    ghost then = { λ st m n after. end_turn T.Kept m after };
 }
 
 struct GivePass;
@@ -84,8 +84,8 @@ impl<O, E> Join<View<O, E>> for TakePass {
 }
 
 /// Loads `drawn` once.
-pub(crate) fn load<T: Kept>(words: &Words<T>, seat: &mut Place<T>) -> u64
-    requires place { IsPlaced words.now seat.old }
+pub(crate) fn load<T: Kept>(words: &Words<T>, seat: &mut LockSeat<T>) -> u64
+    requires place { IsSeatOf words.now seat.old }
     requires out { is_out seat.old.me.0 ≡ true }
     ensures place { seat.new.table_id ≡ seat.old.table_id }
     ensures tells { load_drawn seat.old.me result seat.new.me }
@@ -94,20 +94,20 @@ pub(crate) fn load<T: Kept>(words: &Words<T>, seat: &mut Place<T>) -> u64
 }
 
 /// Exchanges `drawn` once, from what the seat loaded last to one more, and returns what it found.
-pub(crate) fn exchange<T: Kept>(words: &Words<T>, seat: &mut Place<T>, loaded: u64) -> u64
-    requires place { IsPlaced words.now seat.old }
+pub(crate) fn exchange<T: Kept>(words: &Words<T>, seat: &mut LockSeat<T>, loaded: u64) -> u64
+    requires place { IsSeatOf words.now seat.old }
     requires out { is_out seat.old.me.0 ≡ true }
     requires expects { loaded_of seat.old.me.0 ≡ loaded }
     requires room { loaded < 2 ^ 62 }
     ensures place { seat.new.table_id ≡ seat.old.table_id }
-    ensures tells { exchange_drawn loaded seat.old.me result seat.new.me }
+    ensures tells { exchange_drawn T.Kept loaded seat.old.me result seat.new.me }
 {
     words.compare_exchange::<ExchangeDrawn>(seat, DRAWN, loaded, loaded + 1)
 }
 
 /// Looks at `served` once. Where it gives the seat's ticket the slot is taken.
-pub(crate) fn look<T: Kept>(words: &Words<T>, seat: &mut Place<T>) -> u64
-    requires place { IsPlaced words.now seat.old }
+pub(crate) fn look<T: Kept>(words: &Words<T>, seat: &mut LockSeat<T>) -> u64
+    requires place { IsSeatOf words.now seat.old }
     requires waits { is_waiting seat.old.me.0 ≡ true }
     requires bare { length seat.old.me.1 ≡ 0 }
     ensures place { seat.new.table_id ≡ seat.old.table_id }
@@ -117,8 +117,8 @@ pub(crate) fn look<T: Kept>(words: &Words<T>, seat: &mut Place<T>) -> u64
 }
 
 /// Takes the value out of the slot that the seat has.
-pub(crate) fn take_value<T: Kept>(words: &Words<T>, seat: &mut Place<T>) -> Held<T>
-    requires place { IsPlaced words.now seat.old }
+pub(crate) fn take_value<T: Kept>(words: &Words<T>, seat: &mut LockSeat<T>) -> Held<T>
+    requires place { IsSeatOf words.now seat.old }
     requires full { (h : _) × (seat.old.me.1 ≡ (0, Some h) ∷ []) }
     ensures place { seat.new.table_id ≡ seat.old.table_id }
     ensures value { seat.old.me.1 ≡ (0, Some result) ∷ [] }
@@ -128,8 +128,8 @@ pub(crate) fn take_value<T: Kept>(words: &Words<T>, seat: &mut Place<T>) -> Held
 }
 
 /// Puts the value back into the slot that the seat has.
-pub(crate) fn put_value<T: Kept>(words: &Words<T>, seat: &mut Place<T>, held: Held<T>)
-    requires place { IsPlaced words.now seat.old }
+pub(crate) fn put_value<T: Kept>(words: &Words<T>, seat: &mut LockSeat<T>, held: Held<T>)
+    requires place { IsSeatOf words.now seat.old }
     requires empty { seat.old.me.1 ≡ (0, None) ∷ [] }
     ensures place { seat.new.table_id ≡ seat.old.table_id }
     ensures seat { seat.new.me ≡ (seat.old.me.0, (0, Some held) ∷ []) }
@@ -139,19 +139,19 @@ pub(crate) fn put_value<T: Kept>(words: &Words<T>, seat: &mut Place<T>, held: He
 }
 
 /// Ends the turn, and gives the slot back.
-pub(crate) fn end<T: Kept>(words: &Words<T>, seat: &mut Place<T>)
-    requires place { IsPlaced words.now seat.old }
+pub(crate) fn end<T: Kept>(words: &Words<T>, seat: &mut LockSeat<T>)
+    requires place { IsSeatOf words.now seat.old }
     requires inside { is_inside seat.old.me.0 ≡ true }
     requires left { (h : _) × (seat.old.me.1 ≡ (0, Some h) ∷ []) × IsLeft T.Kept seat.old.me.0 h }
     ensures place { seat.new.table_id ≡ seat.old.table_id }
-    ensures tells { end_turn seat.old.me seat.new.me }
+    ensures tells { end_turn T.Kept seat.old.me seat.new.me }
 {
     words.fetch_add::<EndTurn>(seat, SERVED, 1);
 }
 
 /// Makes the seat of the next pass.
-pub(crate) fn give<T: Kept>(words: &Words<T>, opener: &mut Place<T>) -> Place<T>
-    requires place { IsPlaced words.now opener.old }
+pub(crate) fn give<T: Kept>(words: &Words<T>, opener: &mut LockSeat<T>) -> LockSeat<T>
+    requires place { IsSeatOf words.now opener.old }
     requires opens { is_opener opener.old.me.0 ≡ true }
     ensures place { (opener.new.table_id ≡ opener.old.table_id) × (result.table_id ≡ opener.old.table_id) }
     ensures opener { opener.new.me ≡ (given opener.old.me.0, opener.old.me.1) }
@@ -161,8 +161,8 @@ pub(crate) fn give<T: Kept>(words: &Words<T>, opener: &mut Place<T>) -> Place<T>
 }
 
 /// Ends the seat of a pass.
-pub(crate) fn take_back<T: Kept>(words: &Words<T>, opener: &mut Place<T>, pass: Place<T>)
-    requires places { IsPlaced words.now opener.old × IsPlaced words.now pass }
+pub(crate) fn take_back<T: Kept>(words: &Words<T>, opener: &mut LockSeat<T>, pass: LockSeat<T>)
+    requires seats { IsSeatOf words.now opener.old × IsSeatOf words.now pass }
     requires opens { is_opener opener.old.me.0 ≡ true }
     requires out { is_out pass.me.0 ≡ true }
     requires bare { length pass.me.1 ≡ 0 }

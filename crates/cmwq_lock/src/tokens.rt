@@ -3,12 +3,12 @@ ghost use Rattle.std.specs.Prelude.{◌≡◌, ◌^◌, ◌<◌, ◌≤◌, true
 ghost use Rattle.cmwq_lock.specs.Views.{is_opener, is_out, is_waiting, caller_of, ticket_of, next_of, out_of};
 
 use crate::kept::Kept;
-use crate::steps::Place;
+use crate::steps::LockSeat;
 
 /// It gives passes out, takes them back, and closes the lock at the end.
 #[derive(Drop)]
 pub struct Opener<T: Kept> {
-    pub(crate) seat: Place<T>,
+    pub(crate) seat: LockSeat<T>,
     pub(crate) next: u64,
     pub(crate) out: u32,
     ghost opens: { is_opener seat.me.0 ≡ true },
@@ -20,7 +20,7 @@ pub struct Opener<T: Kept> {
 /// A caller's leave to draw tickets. A pass that is dropped stays out.
 #[derive(Drop)]
 pub struct Pass<T: Kept> {
-    pub(crate) seat: Place<T>,
+    pub(crate) seat: LockSeat<T>,
     pub(crate) caller: u32,
     ghost bare: { length seat.me.1 ≡ 0 },
     ghost is_out: { is_out seat.me.0 ≡ true },
@@ -29,7 +29,7 @@ pub struct Pass<T: Kept> {
 
 /// A ticket. It must be spent by `try_take` or `take`.
 pub struct Drawn<T: Kept> {
-    pub(crate) seat: Place<T>,
+    pub(crate) seat: LockSeat<T>,
     pub(crate) caller: u32,
     pub(crate) ticket: u64,
     ghost bare: { length seat.me.1 ≡ 0 },

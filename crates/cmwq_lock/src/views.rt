@@ -2,10 +2,17 @@
 use std::collections::LinkedList;
 use std::snapshot::Snapshot;
 
-/// Whose view it is.
-pub struct Identity<O> {
-    pub origin: Snapshot<O>,
+/// What a caller knows: its number, the log as it last saw it, and the entries of its own calls, in order.
+pub struct Knowledge<E> {
     pub caller: u64,
+    pub seen: LinkedList<E>,
+    pub mine: LinkedList<E>,
+}
+
+/// Whose pass it is.
+pub struct Identity<O, E> {
+    pub origin: Snapshot<O>,
+    pub knows: Knowledge<E>,
 }
 
 /// The loads and the lost exchanges of `drawn` since the pass came out, and the last value of each.
@@ -33,17 +40,20 @@ pub enum Phase<E> {
     Inside(u64, LinkedList<E>),
 }
 
-/// What the opener knows: the next caller's number, and how many passes are out.
-pub struct Desk<O> {
+/// What the opener knows: the next caller's number, how many passes are out, the log as it last saw it, and what each retired
+/// caller knew.
+pub struct OpenerView<O, E> {
     pub origin: Snapshot<O>,
     pub next: u64,
     pub out: u64,
+    pub seen: LinkedList<E>,
+    pub records: LinkedList<Knowledge<E>>,
 }
 
 /// What a seat knows.
 pub enum View<O, E> {
-    Opener(Desk<O>),
-    Pass(Identity<O>, Phase<E>),
+    Opener(OpenerView<O, E>),
+    Pass(Identity<O, E>, Phase<E>),
     /// Of a seat that was joined.
     Spent,
 }

@@ -1,0 +1,31 @@
+-- The tickets of the passes that wait or are inside are distinct, and not yet ended.
+use Rattle.std.proofs.Common.{◌≡◌, ℕ, ◌<◌, ◌≤◌, true, sym, ap, ◌∙◌, Option, arith}
+use mathlib.Core.Option.{some}
+use lib.ListN.{get_elem?}
+use Rattle.atomic_table.specs.Table.{State}
+use Rattle.cmwq_lock.specs.declared.kept.Kept.{Ghosts}
+use Rattle.cmwq_lock.specs.declared.views.Held.{Held}
+use Rattle.cmwq_lock.specs.declared.views.Phase.TheVariants.{Out, Waiting, Inside}
+use Rattle.cmwq_lock.specs.declared.views.View.{View}
+use Rattle.cmwq_lock.specs.declared.views.View.TheVariants.{Opener, Pass, Spent}
+use Rattle.cmwq_lock.specs.Views.{has_ticket, ticket_of}
+use Rattle.cmwq_lock.specs.Rule.{IsRuled}
+
+module _ {T O E : Type 0} (K : Ghosts T O E) (o : O) where
+  -- a ticket that a seat holds is not ended, was drawn, and has that seat for its holder
+  held_ticket : (s : State (Option (Held T)) (View O E)) (r : IsRuled K o s) (seat : ℕ) (v : View O E) → get_elem? s.views seat ≡ some v → has_ticket v ≡ true
+      → (r.at.served ≤ ticket_of v) × (ticket_of v < r.at.drawn) × (r.at.holder (ticket_of v) ≡ seat)
+  held_ticket s r seat (Pass who (Waiting q)) here has = let known = (r.each_view seat (Pass who (Waiting q)) here).phase_is in (known.not_ended, known.was_drawn, known.is_holder)
+  held_ticket s r seat (Pass who (Inside t log)) here has = let known = (r.each_view seat (Pass who (Inside t log)) here).phase_is in let same = known.is_served in (omega arith, known.was_drawn, known.is_holder)
+  held_ticket s r seat (Pass who (Out t)) here has = cc
+  held_ticket s r seat (Opener d) here has = cc
+  held_ticket s r seat Spent here has = cc
+
+  -- two seats with one ticket are one seat
+  pub tickets_distinct : (s : State (Option (Held T)) (View O E)) → IsRuled K o s → (one other : ℕ) (v w : View O E) → get_elem? s.views one ≡ some v → get_elem? s.views other ≡ some w → has_ticket v ≡ true → has_ticket w ≡ true
+      → ticket_of v ≡ ticket_of w → one ≡ other
+  tickets_distinct s r one other v w here there has has' same = sym (held_ticket s r one v here has).2 ∙ (ap r.at.holder same ∙ (held_ticket s r other w there has').2)
+
+  -- and it lies between the turns ended and the tickets drawn
+  pub tickets_in_range : (s : State (Option (Held T)) (View O E)) (r : IsRuled K o s) (seat : ℕ) (v : View O E) → get_elem? s.views seat ≡ some v → has_ticket v ≡ true → (r.at.served ≤ ticket_of v) × (ticket_of v < r.at.drawn)
+  tickets_in_range s r seat v here has = let it = held_ticket s r seat v here has in (it.0, it.1)
