@@ -2,7 +2,7 @@
 use Rattle.std.proofs.Common.{◌≡◌, ℕ, ◌+◌, ◌≤◌, List, [], ◌++◌, length, take, drop, Option, Some, None, sym, ap, ◌∙◌, subst, append_assoc, append-nil, refl, arith}
 use Rattle.std.proofs.lemmas.List.{take-append-drop}
 use Rattle.std.specs.Io.KnownBytes.{Appends, Keeps}
-use Rattle.cmwq_play.specs.Sending.{HasSent, HasSentFront}
+use Rattle.cmwq_play.specs.Sending.{HasSent, HasSentFront, Sends, SendsFront}
 
 -- what is appended twice is appended as one
 pub appends_both : (before now after : Option (List ℕ)) (xs ys : List ℕ) → Appends before now xs → Appends now after ys → Appends before after (xs ++ ys)
@@ -61,3 +61,25 @@ sent_some before now after rest lines n h a =
 pub front_of_rest : (before now after : Option (List ℕ)) (rest lines : List ℕ) → HasSent before now rest lines → Appends now after [] → HasSentFront before after lines
 front_of_rest before now after rest lines h a =
     (h.0 ++ [], rest, appends_both before now after h.0 [] h.1 a, ap (λ (front : List ℕ). front ++ rest) (append-nil h.0) ∙ h.2)
+
+-- lines sent one after another
+pub sends_then : (old now after : Option (List ℕ)) (block left rest first second : List ℕ) → Sends old block now left first → Sends now left after rest second → Sends old block after rest (first ++ second)
+sends_then old now after block left rest first second a b =
+    λ before earlier h. subst (λ (lines : List ℕ). HasSent before after rest lines) (append_assoc earlier first second) (b before (earlier ++ first) (a before earlier h))
+
+-- lines that were sent, and then a front of more
+pub front_then : (old now after : Option (List ℕ)) (block left first second : List ℕ) → Sends old block now left first → SendsFront now left after second → SendsFront old block after (first ++ second)
+front_then old now after block left first second a b =
+    λ before earlier h. subst (λ (lines : List ℕ). HasSentFront before after lines) (append_assoc earlier first second) (b before (earlier ++ first) (a before earlier h))
+
+-- a front of lines is a front of more lines
+pub front_more : (old now : Option (List ℕ)) (block lines more : List ℕ) → SendsFront old block now lines → SendsFront old block now (lines ++ more)
+front_more old now block lines more a =
+    λ before earlier h. subst (λ (l : List ℕ). HasSentFront before now l) (append_assoc earlier lines more) (front_of_more before now (earlier ++ lines) more (a before earlier h))
+
+-- with nothing sent, a front is out
+pub front_none : (old : Option (List ℕ)) (block lines : List ℕ) → SendsFront old block old lines
+front_none old block lines = λ before earlier h. front_of_more before old earlier lines (front_of_sent before old block earlier h)
+
+pub sends_none : (old : Option (List ℕ)) (block : List ℕ) → Sends old block old block []
+sends_none old block = λ before earlier h. subst (λ (lines : List ℕ). HasSent before old block lines) (sym (append-nil earlier)) h

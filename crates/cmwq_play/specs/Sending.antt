@@ -18,6 +18,16 @@ HasSent before now block lines = (sent : List ℕ) × Appends before now sent ×
 abbrev pub HasSentFront : Option (List ℕ) → Option (List ℕ) → List ℕ → Type 0
 HasSentFront before now lines = (sent : List ℕ) × (rest : List ℕ) × Appends before now sent × (sent ++ rest ≡ lines)
 
+-- from these contents and this block on, these lines were sent, but for a new block
+abbrev pub Sends : Option (List ℕ) → List ℕ → Option (List ℕ) → List ℕ → List ℕ → Type 0
+Sends old block now left lines =
+    (before : Option (List ℕ)) (earlier : List ℕ) → HasSent before old block earlier → HasSent before now left (earlier ++ lines)
+
+-- the same of a front of the lines, with nothing kept back
+abbrev pub SendsFront : Option (List ℕ) → List ℕ → Option (List ℕ) → List ℕ → Type 0
+SendsFront old block now lines =
+    (before : Option (List ℕ)) (earlier : List ℕ) → HasSent before old block earlier → HasSentFront before now (earlier ++ lines)
+
 -- The input is the listing of this valid scenario, and the actor is its only one.
 pub record IsRun (input : Option (List ℕ)) (S : ScenarioContents) (actor : ActorContents) : Type 0 where
   pub valid : IsValid S

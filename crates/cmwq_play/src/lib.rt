@@ -2,6 +2,7 @@
 #![tactic(auto)]
 
 mod error;
+mod issuing;
 mod reading;
 mod sending;
 mod stream;

@@ -1,7 +1,7 @@
 //! Sending lines to a writer, a block at a time.
-ghost use Rattle.cmwq_play.specs.Sending.{HasSent, HasSentFront, IsSendError};
+ghost use Rattle.cmwq_play.specs.Sending.{HasSent, HasSentFront, IsSendError, Sends, SendsFront};
 ghost use Rattle.std.specs.Io.KnownBytes.{Appends};
-ghost use Rattle.std.specs.Prelude.{◌≡◌, ◌≢◌, ◌<◌, ◌≤◌, ◌++◌, [], IfErr, IfOk, List, OnErr, OnOk, Option, false, length, take, true, ℕ};
+ghost use Rattle.std.specs.Prelude.{◌≡◌, ◌≢◌, ◌<◌, ◌≤◌, [], IfErr, IfOk, List, OnErr, OnOk, Option, false, length, take, true, ℕ};
 
 use crate::error::PlayError;
 use crate::stream::Sink;
@@ -51,11 +51,9 @@ pub(crate) fn send_line<W: Sink>(
     line: &[u8],
 ) -> Result<(), PlayError>
     requires { W.failed writer.old ≡ false }
-    ensures ok { OnOk result ((before : Option (List ℕ)) (lines : List ℕ) → HasSent before (W.contents writer.old) block.old.items lines
-        → HasSent before (W.contents writer.new) block.new.items (lines ++ line.now)) }
+    ensures ok { OnOk result (Sends (W.contents writer.old) block.old.items (W.contents writer.new) block.new.items line.now) }
     ensures sound { result ≢ Err PlayError.Write → W.failed writer.new ≡ false }
-    ensures err { OnErr result ((before : Option (List ℕ)) (lines : List ℕ) → HasSent before (W.contents writer.old) block.old.items lines
-        → HasSentFront before (W.contents writer.new) (lines ++ line.now)) }
+    ensures err { OnErr result (SendsFront (W.contents writer.old) block.old.items (W.contents writer.new) line.now) }
     ensures failed { result ≡ Err PlayError.Write → W.failed writer.new ≡ true }
     ensures why { IfErr result (λ error. IsSendError error) }
 {

@@ -4,6 +4,7 @@ use Rattle.std.specs.List.{flat_map}
 use Rattle.cmwq_types.specs.Contents.{ScenarioContents, WorkContents, ActorContents}
 use Rattle.cmwq_types.specs.declared.instr.Instr.{Instr}
 use Rattle.cmwq_types.specs.declared.scenario.Flags.{Flags}
+use Rattle.cmwq_types.specs.declared.scenario.Line.{Line}
 use Rattle.cmwq_types.specs.declared.scenario.Op.{Op}
 use Rattle.cmwq_types.specs.declared.scenario.Op.TheVariants.{Finish}
 use Rattle.cmwq_types.specs.declared.scenario.QueueDecl.{QueueDecl}
@@ -28,6 +29,10 @@ queue_of S work = (work_at S work).queue.0
 abbrev pub op_at : ScenarioContents → ℕ → ℕ → Op
 op_at S work pc = slice_index_or (work_at S work).body pc Finish
 
--- the instructions of an actor: each line's, as often as it stands
+-- the instructions of these lines: each line's, as often as it stands
+abbrev pub expand_lines : List Line → List Instr
+expand_lines lines = flat_map (λ line. replicate line.times line.instr) lines
+
+-- the instructions of an actor
 abbrev pub expand : ActorContents → List Instr
-expand actor = flat_map (λ line. replicate line.times line.instr) actor.lines
+expand actor = expand_lines actor.lines
