@@ -1,6 +1,7 @@
 //! The commands of the program as functions over readers and writers.
 #![tactic(auto)]
 
+mod drafting;
 mod error;
 mod issuing;
 mod reading;

@@ -49,11 +49,11 @@ loop-turn-preserved g c =
       loaded = c.issue.ensures.loaded;
       sound = c.in_ok-issue.ensures.sound (λ e. cc);
       reached =
-        parts_reached S start now old mid new block left rest (replicate k x) (x ∷ []) (g.M.Machine.state c.issue.new.machine) c.loop-turn.invariant.reached c.issue.ensures.state
-        ∙ ap (after_all S start) next;
+          parts_reached S start now old mid new block left rest (replicate k x) (x ∷ []) (g.M.Machine.state c.issue.new.machine) c.loop-turn.invariant.reached c.issue.ensures.state
+          ∙ ap (after_all S start) next;
       sent =
-        subst (λ (is : List Instr). Sends old block new rest (events_from S start is)) next
-        (parts_sent S start now old mid new block left rest (replicate k x) (x ∷ []) c.loop-turn.invariant.sent c.loop-turn.invariant.reached line);
+          subst (λ (is : List Instr). Sends old block new rest (events_from S start is)) next
+          (parts_sent S start now old mid new block left rest (replicate k x) (x ∷ []) c.loop-turn.invariant.sent c.loop-turn.invariant.reached line);
     }
 
 pub returns-clause-ok : goal.returns-clause-ok

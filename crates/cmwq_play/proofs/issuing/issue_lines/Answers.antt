@@ -36,8 +36,8 @@ returns-in_err-issue_line-clause-err g c =
     let more : List Instr = expand_lines (drop (i + 1) lines) in
     let so_far = parts_front S start now old mid new block left left before these c.loop-line.invariant.sent c.loop-line.invariant.reached c.in_err-issue_line.ensures.err in
     let whole : (before ++ these) ++ more ≡ expand_lines lines =
-        ap (λ (front : List Instr). front ++ more) (sym (expand_lines-more lines i no_line (omega arith))) ∙ sym (expand_lines-rest lines (i + 1))
-        in
+    ap (λ (front : List Instr). front ++ more) (sym (expand_lines-more lines i no_line (omega arith))) ∙ sym (expand_lines-rest lines (i + 1))
+    in
     let p = err_from_is_err_and c.from_residual.result c.from_residual.ensures.1 in
     rw p.1 (subst (λ (is : List Instr). SendsFront old block new (events_from S start is)) whole (whole_front S start now old mid new block left left (before ++ these) more so_far))
 
@@ -64,11 +64,11 @@ loop-line-preserved g c =
       loaded = c.issue_line.ensures.loaded;
       sound = c.in_ok-issue_line.ensures.sound (λ e. cc);
       reached =
-        parts_reached S start now old mid new block left rest before these (g.M.Machine.state c.issue_line.new.machine) c.loop-line.invariant.reached c.in_ok-issue_line.ensures.state
-        ∙ ap (after_all S start) next;
+          parts_reached S start now old mid new block left rest before these (g.M.Machine.state c.issue_line.new.machine) c.loop-line.invariant.reached c.in_ok-issue_line.ensures.state
+          ∙ ap (after_all S start) next;
       sent =
-        subst (λ (is : List Instr). Sends old block new rest (events_from S start is)) next
-        (parts_sent S start now old mid new block left rest before these c.loop-line.invariant.sent c.loop-line.invariant.reached c.in_ok-issue_line.ensures.ok);
+          subst (λ (is : List Instr). Sends old block new rest (events_from S start is)) next
+          (parts_sent S start now old mid new block left rest before these c.loop-line.invariant.sent c.loop-line.invariant.reached c.in_ok-issue_line.ensures.ok);
     }
 
 pub returns-clause-ok : goal.returns-clause-ok
