@@ -83,3 +83,10 @@ front_none old block lines = λ before earlier h. front_of_more before old earli
 
 pub sends_none : (old : Option (List ℕ)) (block : List ℕ) → Sends old block old block []
 sends_none old block = λ before earlier h. subst (λ (lines : List ℕ). HasSent before old block lines) (sym (append-nil earlier)) h
+
+-- lines sent with nothing before them
+pub sends_all : (old now : Option (List ℕ)) (left lines : List ℕ) → Sends old [] now left lines → HasSent old now left lines
+sends_all old now left lines sends = sends old [] (none_sent old)
+
+pub sends_front_all : (old now : Option (List ℕ)) (lines : List ℕ) → SendsFront old [] now lines → HasSentFront old now lines
+sends_front_all old now lines sends = sends old [] (none_sent old)

@@ -28,22 +28,28 @@ abbrev pub SendsFront : Option (List ℕ) → List ℕ → Option (List ℕ) →
 SendsFront old block now lines =
     (before : Option (List ℕ)) (earlier : List ℕ) → HasSent before old block earlier → HasSentFront before now (earlier ++ lines)
 
--- The input is the listing of this valid scenario, and the actor is its only one.
-pub record IsRun (input : Option (List ℕ)) (S : ScenarioContents) (actor : ActorContents) : Type 0 where
+-- the writer was given what the one actor's instructions print
+abbrev pub Prints : ScenarioContents → Option (List ℕ) → Option (List ℕ) → Type 0
+Prints S before now = (actor : ActorContents) × (S.actors ≡ actor ∷ []) × Appends before now (events S (expand actor))
+
+-- the writer was given a front of what the one actor's instructions print
+abbrev pub PrintsFront : ScenarioContents → Option (List ℕ) → Option (List ℕ) → Type 0
+PrintsFront S before now = (actor : ActorContents) × (S.actors ≡ actor ∷ []) × HasSentFront before now (events S (expand actor))
+
+-- The input, where it is known, is the listing of this valid scenario, which has one actor.
+pub record IsAccepted (input : Option (List ℕ)) (S : ScenarioContents) : Type 0 where
   pub valid : IsValid S
-  pub alone : S.actors ≡ actor ∷ []
-  pub read : IfSome input (λ text. text ≡ listing S)
+  pub alone : length S.actors ≡ 1
+  pub listed : IfSome input (λ text. listing S ≡ text)
   pub short : length (listing S) ≤ MAX_TEXT
 
--- the input is a scenario's listing, and the writer was given what its actor's instructions print
+-- the input is the listing of such a scenario, and the writer was given what it prints
 abbrev pub PrintsRun : Option (List ℕ) → Option (List ℕ) → Option (List ℕ) → Type 0
-PrintsRun input before now =
-    (S : ScenarioContents) × (actor : ActorContents) × IsRun input S actor × Appends before now (events S (expand actor))
+PrintsRun input before now = (S : ScenarioContents) × IsAccepted input S × Prints S before now
 
--- the same of a front of what they print
+-- the same of a front of what it prints
 abbrev pub PrintsFrontOfRun : Option (List ℕ) → Option (List ℕ) → Option (List ℕ) → Type 0
-PrintsFrontOfRun input before now =
-    (S : ScenarioContents) × (actor : ActorContents) × IsRun input S actor × HasSentFront before now (events S (expand actor))
+PrintsFrontOfRun input before now = (S : ScenarioContents) × IsAccepted input S × PrintsFront S before now
 
 -- what sending may fail for
 abbrev pub IsSendError : PlayError → Type 0

@@ -5,8 +5,10 @@ mod drafting;
 mod error;
 mod issuing;
 mod reading;
+mod running;
 mod sending;
 mod stream;
 
 pub use error::PlayError;
+pub use running::run;
 pub use stream::{Marked, Sink, Source};
