@@ -12,3 +12,6 @@ mod stream;
 pub use error::PlayError;
 pub use running::run;
 pub use stream::{Marked, Sink, Source};
+
+#[cfg(test)]
+mod tests;
