@@ -49,6 +49,10 @@ place_in S s w pool =
 abbrev pub place : ScenarioContents → State → ℕ → ℕ → State
 place S s w cpu = place_in S s w (pool_for S s w cpu)
 
+-- the work waits for a timer that runs until `due`, and will be placed on the CPU
+abbrev pub set_timer : State → ℕ → ℕ → ℕ → State
+set_timer s w cpu due = taking (with_pending s w (newborn s (Timer due cpu)))
+
 -- Filling: while the queue has room in the pool, its first inactive work there is listed.
 
 -- the pending work, listed under this stamp

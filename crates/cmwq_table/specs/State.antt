@@ -2,6 +2,7 @@
 use Rattle.std.specs.Prelude.{ℕ, ◌+◌, ◌*◌, ◌%◌, Bool, false, List, [], length, map, replicate, Option, None, if◌then◌else◌, nat_le, ◌==◌, ◌||◌, slice_index_or}
 use Rattle.cmwq_types.specs.Contents.{ScenarioContents}
 use Rattle.cmwq_types.specs.Scenario.{flags_at}
+use Rattle.cmwq_types.specs.declared.limits.TheConstants.{MAX_WORKERS}
 use Rattle.cmwq_table.specs.declared.state.Pending.{Pending}
 use Rattle.cmwq_table.specs.declared.state.Running.{Running}
 use Rattle.cmwq_table.specs.declared.state.FlushTarget.{FlushTarget}
@@ -30,7 +31,7 @@ pub record State : Type 0 where
 
 -- the number of a worker of a pool among all workers
 abbrev pub seat : ℕ → ℕ → ℕ
-seat pool worker = 64 * pool + worker
+seat pool worker = MAX_WORKERS * pool + worker
 
 abbrev pub pending_at : State → ℕ → Option Pending
 pending_at s work = slice_index_or s.pending work None
@@ -78,7 +79,7 @@ start S = record {
   max = map (λ queue. queue.max) S.queues;
   pending = replicate (length S.works) None;
   running = replicate (length S.works) None;
-  idle = replicate (64 * pool_count S) None;
+  idle = replicate (MAX_WORKERS * pool_count S) None;
   made = replicate (pool_count S) 0;
   flushes = [];
 }

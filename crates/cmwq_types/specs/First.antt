@@ -23,7 +23,8 @@ pub record IsFirst (before : ℕ → ℕ → Bool) (test : ℕ → Bool) (n m : 
   pub passes : test m ≡ true
   pub least : (k : ℕ) → k < n → test k ≡ true → before k m ≡ false
 
--- nothing comes before itself, nothing before what comes before it, and of three the third no later by way of the second
+-- Nothing comes before itself; of two at most one comes before the other; and if a doesn't come before b,
+-- nor b before c, then a doesn't come before c.
 pub record IsOrder (before : ℕ → ℕ → Bool) : Type 0 where
   pub apart : (a : ℕ) → before a a ≡ false
   pub one_way : (a b : ℕ) → before a b ≡ true → before b a ≡ false

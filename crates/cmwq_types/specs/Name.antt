@@ -17,9 +17,9 @@ is_name bytes =
     nat_le 1 (length bytes) && nat_le (length bytes) MAX_NAME && is_lowercase (slice_index bytes 0)
     && list_all is_name_byte bytes
 
--- the 15 bytes that keep a name: its own, then zeros
+-- the bytes that keep a name: its own, then zeros
 abbrev pub padded : List ℕ → List ℕ
-padded name = name ++ replicate (15 - length name) 0
+padded name = name ++ replicate (MAX_NAME - length name) 0
 
 -- these bytes and this length keep a name
 pub record IsStored (bytes : List ℕ) (n : ℕ) : Type 0 where
