@@ -39,7 +39,12 @@ module _ {T O E : Type 0} (K : Ghosts T O E) where
     pub same_lock : drawn.seat.table_id ≡ lock.table.shared.table_id
     pub same_origin : HasOrigin (drawn_view drawn) (lock_origin lock)
 
--- a fact for each reason why no ticket was drawn
-abbrev pub MatchWhy : Why → (ℕ → ℕ → Type 0) → Type 0 → Type 0
-MatchWhy (Raced loaded found) raced exhausted = raced loaded found
-MatchWhy Exhausted raced exhausted = exhausted
+-- a fact of the two numbers, where another caller drew between the load and the exchange
+abbrev pub IfRaced : Why → (ℕ → ℕ → Type 0) → Type 0
+IfRaced (Raced loaded found) fact = fact loaded found
+IfRaced Exhausted fact = Unit {0}
+
+-- a fact where all tickets are drawn
+abbrev pub IfExhausted : Why → Type 0 → Type 0
+IfExhausted (Raced loaded found) fact = Unit {0}
+IfExhausted Exhausted fact = fact

@@ -40,7 +40,7 @@ pub struct TicketLock<T: Kept> {
 }
 
 impl<T: Kept + Drop> TicketLock<T> {
-    ghost use Rattle.cmwq_lock.specs.Tokens.{opener_view, pass_view, drawn_view, lock_origin, IsOpenerOf, IsPassOf, IsDrawnOf, MatchWhy};
+    ghost use Rattle.cmwq_lock.specs.Tokens.{opener_view, pass_view, drawn_view, lock_origin, IsOpenerOf, IsPassOf, IsDrawnOf, IfRaced, IfExhausted};
 
     /// A lock round a value whose log is empty, and its opener, with no pass out. No other call of the lock takes memory.
     ///
@@ -118,9 +118,12 @@ impl<T: Kept + Drop> TicketLock<T> {
         ensures token_back { IfErr result (λ e. IsPassOf T.Kept self.now e.pass) }
         ensures knowledge_back { IfErr result
             (λ e. SameKnowledge (pass_view pass) (pass_view e.pass)) }
-        // Raced: one load and one lost exchange more, with a rise between. Exhausted: one load more.
-        ensures why { IfErr result (λ e. MatchWhy e.why
-            (λ l f. (pass_view e.pass ≡ lost (loaded (pass_view pass) l) f) × (l < f))
+        // One load more, and one lost exchange after it.
+        ensures raced { IfErr result (λ e. IfRaced e.why
+            (λ l f. pass_view e.pass ≡ lost (loaded (pass_view pass) l) f)) }
+        ensures rose { IfErr result (λ e. IfRaced e.why (λ l f. l < f)) }
+        // One load more, which gave 2^62.
+        ensures exhausted { IfErr result (λ e. IfExhausted e.why
             (pass_view e.pass ≡ loaded (pass_view pass) (2 ^ 62))) }
     {
         let Pass { mut seat, caller } = pass;
@@ -197,6 +200,7 @@ impl<T: Kept + Drop> TicketLock<T> {
         }
         Ok(self.turn(seat, ticket, caller, call))
     }
+
     /// Looks until the turn of the ticket has come, with a pause after each look, and carries the call out. The answer is as
     /// that of `try_take`. It may wait forever.
     pub fn take<C: Call<T>>(

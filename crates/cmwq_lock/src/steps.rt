@@ -11,11 +11,13 @@ use atomic_table::{Join, Play, Seat, Shared, Split, TableRule};
 use std::marker::PhantomData;
 use std::snapshot::Snapshot;
 
-/// Of the word that counts the tickets drawn, and of the one that counts the turns ended.
+/// The word that counts the tickets drawn.
 const DRAWN: usize = 0;
 
+/// The word that counts the turns ended.
 const SERVED: usize = 1;
 
+/// The slot that has the value.
 const SLOT: usize = 0;
 
 pub struct TicketRule<T> {

@@ -1,3 +1,4 @@
+//! What no clause says of the lock: that its calls succeed, for one thread and for two, and what a refused allocation leaves.
 ghost use Rattle.std.specs.Prelude.{◌≡◌, ◌<◌, ◌≤◌, ◌^◌, [], length, vec_capacity, IfOk};
 ghost use Rattle.std.proofs.Common.{lit≤};
 ghost use Rattle.cmwq_lock.specs.Tokens.{IsPassOf};
