@@ -62,7 +62,7 @@ impl Plain {
         ensures state { IfOk result (λ machine. machine.state ≡ start scenario.now) }
     {
         let records = Records::new(alloc, scenario)?;
-        let scenario = scenario.copy(alloc)?;
+        let scenario = scenario.copy()?;
         Ok(Plain { scenario, records })
     }
 }
