@@ -1,7 +1,7 @@
 //! The plain machine.
 
 use crate::records::Records;
-use cmwq_table::{LoadError, Machine};
+use cmwq_table::{LoadError, Machine, View};
 use cmwq_types::{Instr, NoMemory, Reply, Scenario};
 use std::alloc::Global;
 use std::marker::Model;
@@ -43,6 +43,16 @@ impl Machine for Plain {
     fn exec(&mut self, instr: Instr) -> Reply {
         let Plain { scenario, records } = self;
         records.exec(scenario, instr)
+    }
+
+    fn copy(&self) -> Result<Self, NoMemory> {
+        let scenario = self.scenario.copy()?;
+        let records = self.records.copy()?;
+        Ok(Plain { scenario, records })
+    }
+
+    fn look(&self) -> Result<View, NoMemory> {
+        self.records.look()
     }
 
     fn now(&self) -> u64 {
