@@ -177,11 +177,13 @@ impl Records {
         ensures clock { HasSameClock self.old self.new }
         ensures stamps { self.new.next ≤ self.old.next + 600 }
     {
-        if self.pending_of(w).is_some() {
-            return Reply::Already;
+        match self.pending_of(w) {
+            Some(_) => Reply::Already,
+            None => {
+                self.place_after(scenario, w, cpu, ticks);
+                Reply::Queued
+            }
         }
-        self.place_after(scenario, w, cpu, ticks);
-        Reply::Queued
     }
 
     /// The same, but a pending work is taken off first.
