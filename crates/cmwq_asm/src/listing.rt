@@ -190,13 +190,56 @@ fn push_instr(
             let cpu = cpu.to_string(alloc)?;
             push_words(text, b"queue", &[work_name(scenario, work), cpu.as_bytes()])
         }
-        Instr::Step(pool) => {
-            let pool = pool.to_string(alloc)?;
-            push_words(text, b"step", &[pool.as_bytes()])
+        Instr::Delay(work, cpu, ticks) => {
+            push_delayed(alloc, text, b"delay", work_name(scenario, work), cpu, ticks)
         }
+        Instr::Mod(work, cpu, ticks) => {
+            push_delayed(alloc, text, b"mod", work_name(scenario, work), cpu, ticks)
+        }
+        Instr::Cancel(work) => push_named(text, b"cancel", work_name(scenario, work)),
+        Instr::CancelSync(work) => push_named(text, b"cancel_sync", work_name(scenario, work)),
+        Instr::Flush(work) => push_named(text, b"flush", work_name(scenario, work)),
+        Instr::FlushDelayed(work) => push_named(text, b"flush_delayed", work_name(scenario, work)),
+        Instr::FlushQueue(queue) => push_named(text, b"flush_queue", queue_name(scenario, queue)),
+        Instr::Fire => push_words(text, b"fire", &[]),
+        Instr::Step(pool) => push_counted(alloc, text, b"step", u32::from(pool)),
         Instr::Tick => push_words(text, b"tick", &[]),
         Instr::Next => push_words(text, b"next", &[]),
+        Instr::Ask(flush) => push_counted(alloc, text, b"ask", u32::from(flush)),
+        Instr::State(work) => push_named(text, b"state", work_name(scenario, work)),
     }
+}
+
+/// Writes a word and the name of a work or queue.
+fn push_named(text: &mut Vec<u8>, word: &[u8], name: &[u8]) -> Result<(), NoMemory>
+    ensures { OnOk result (text.new.items ≡ text.old.items ++ join_with_byte 32 (word.now ∷ name.now ∷ [])) }
+{
+    push_words(text, word, &[name])
+}
+
+/// Writes a word and a number.
+fn push_counted(alloc: Global, text: &mut Vec<u8>, word: &[u8], n: u32) -> Result<(), NoMemory>
+    ensures { OnOk result (text.new.items ≡ text.old.items ++ join_with_byte 32 (word.now ∷ decimal n ∷ [])) }
+{
+    let digits = n.to_string(alloc)?;
+    push_words(text, word, &[digits.as_bytes()])
+}
+
+/// Writes a word, the name of a work, a CPU and how many ticks.
+fn push_delayed(
+    alloc: Global,
+    text: &mut Vec<u8>,
+    word: &[u8],
+    work: &[u8],
+    cpu: u8,
+    ticks: u32,
+) -> Result<(), NoMemory>
+    ensures { OnOk result (text.new.items ≡ text.old.items
+        ++ join_with_byte 32 (word.now ∷ work.now ∷ decimal cpu ∷ decimal ticks ∷ [])) }
+{
+    let cpu = cpu.to_string(alloc)?;
+    let ticks = ticks.to_string(alloc)?;
+    push_words(text, word, &[work, cpu.as_bytes(), ticks.as_bytes()])
 }
 
 /// Writes `* N` behind a space, unless the line stands once.

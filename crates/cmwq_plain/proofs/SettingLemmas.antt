@@ -101,6 +101,7 @@ IsSetting-valid S valid =
       cpus = grind (arith, nat_tests);
       workers = grind (arith, nat_tests);
       steps = grind (arith, nat_tests);
+      flushes = grind (arith, nat_tests);
       works = grind (arith, nat_tests);
       ops = λ w. (bodies w).ops;
       ends = λ w. (bodies w).ends;

@@ -2,6 +2,7 @@
 use Rattle.std.specs.Prelude.{◌≡◌, ℕ, ◌+◌, ◌*◌, ◌<◌, ◌≤◌, List, length, Option, Some, None}
 use Rattle.cmwq_types.specs.Contents.{ScenarioContents}
 use Rattle.cmwq_types.specs.Scenario.{op_at, queue_of}
+use Rattle.cmwq_types.specs.declared.limits.TheConstants.{MAX_FLUSHES}
 use Rattle.cmwq_types.specs.declared.reply.Place.{Place}
 use Rattle.cmwq_types.specs.declared.reply.Place.TheVariants.{Timer, Inactive, Listed, Deferred}
 use Rattle.cmwq_types.specs.declared.scenario.Op.{Op}
@@ -29,6 +30,7 @@ pub record IsSetting (S : ScenarioContents) : Type 0 where
   pub cpus : S.cpus ≤ 16
   pub workers : S.workers ≤ 64
   pub steps : S.steps ≤ 4294967295
+  pub flushes : S.flushes ≤ MAX_FLUSHES
   pub works : length S.works ≤ 256
   pub ops : (w pc : ℕ) → IsOpInRange S (op_at S w pc)
   pub ends : (w pc : ℕ) → IsPcInRange (op_at S w pc) pc

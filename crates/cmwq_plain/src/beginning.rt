@@ -5,7 +5,7 @@ ghost use Rattle.std.specs.Prelude.{◌≡◌, IfOk, map, replicate};
 
 use crate::records::Records;
 use crate::setting::pool_count;
-use cmwq_types::{NoMemory, QueueDecl, Scenario};
+use cmwq_types::{MAX_FLUSHES, NoMemory, QueueDecl, Scenario};
 use std::alloc::Global;
 
 impl Records {
@@ -21,7 +21,7 @@ impl Records {
         let running = filled(alloc, None, works)?;
         let idle = filled(alloc, None, 64 * pools)?;
         let made = filled(alloc, 0, pools)?;
-        let flushes = Vec::with_capacity(alloc, scenario.flushes as usize)?;
+        let flushes = Vec::with_capacity(alloc, MAX_FLUSHES as usize)?;
         Ok(Records::at_start(max, pending, running, idle, made, flushes))
     }
 }

@@ -4,7 +4,9 @@
 
 mod beginning;
 mod counts;
+mod flushes;
 mod lines;
+mod looking;
 mod machine;
 mod moving;
 mod placing;

@@ -1,7 +1,7 @@
 //! The plain machine.
 
 use crate::records::Records;
-use cmwq_table::{LoadError, Machine};
+use cmwq_table::{LoadError, Machine, View};
 use cmwq_types::{Instr, NoMemory, Reply, Scenario};
 use std::alloc::Global;
 use std::marker::Model;
@@ -45,6 +45,16 @@ impl Machine for Plain {
         records.exec(scenario, instr)
     }
 
+    fn copy(&self) -> Result<Self, NoMemory> {
+        let scenario = self.scenario.copy()?;
+        let records = self.records.copy()?;
+        Ok(Plain { scenario, records })
+    }
+
+    fn look(&self) -> Result<View, NoMemory> {
+        self.records.look()
+    }
+
     fn now(&self) -> u64 {
         self.records.time()
     }
@@ -62,7 +72,7 @@ impl Plain {
         ensures state { IfOk result (λ machine. machine.state ≡ start scenario.now) }
     {
         let records = Records::new(alloc, scenario)?;
-        let scenario = scenario.copy(alloc)?;
+        let scenario = scenario.copy()?;
         Ok(Plain { scenario, records })
     }
 }

@@ -1,6 +1,6 @@
 //! Placing works in pools, and filling what has room.
 ghost use Rattle.cmwq_plain.specs.Ready.{HasSameClock, IsPlaceReady, IsReady, IsSetting};
-ghost use Rattle.cmwq_table.specs.Moves.{enlist, fill, fill_one, fire, newborn, place, pool_for, taking, with_pending};
+ghost use Rattle.cmwq_table.specs.Moves.{enlist, fill, fill_from, fill_one, fire, newborn, place, place_after, pool_for, set_timer, take_off, taking, with_pending};
 ghost use Rattle.std.specs.Prelude.{◌≡◌, ◌<◌, ◌≤◌, ◌+◌, ◌^◌, IsFalse, length};
 
 use crate::records::Records;
@@ -84,6 +84,7 @@ impl Records {
         ensures filled { self.new ≡ fill_one scenario.now queue pool self.old }
         ensures ready { IsReady scenario.now self.new }
         ensures stamps { self.new.next ≤ self.old.next + 1 }
+        ensures flushes { self.new.flushes ≡ self.old.flushes }
         ensures clock { HasSameClock self.old self.new }
         ensures unchanged { IsFalse result → self.new ≡ self.old }
     {
@@ -106,11 +107,78 @@ impl Records {
         ensures filled { self.new ≡ fill scenario.now queue pool self.old }
         ensures ready { IsReady scenario.now self.new }
         ensures stamps { self.new.next ≤ self.old.next + 256 }
+        ensures flushes { self.new.flushes ≡ self.old.flushes }
         ensures clock { HasSameClock self.old self.new }
     {
         for _turn in 0..scenario.works.len() {
             if !self.fill_one(scenario, queue, pool) {
                 break;
+            }
+        }
+    }
+
+    /// Sets a timer for the work, which will be placed on the CPU.
+    fn set_timer(&mut self, scenario: &Scenario, w: usize, cpu: u8, due: u64)
+        requires ready { IsReady scenario.now self.old }
+        requires work { w < length scenario.now.works }
+        requires cpu { cpu < scenario.now.cpus }
+        requires stamps { self.old.next < 2 ^ 63 }
+        ensures set { self.new ≡ set_timer self.old w cpu due }
+        ensures ready { IsReady scenario.now self.new }
+    {
+        self.bear(scenario, w, Place::Timer { due, cpu });
+    }
+
+    /// Places the work after so many ticks, at once after none.
+    pub(crate) fn place_after(&mut self, scenario: &Scenario, w: usize, cpu: u8, ticks: u32)
+        requires ready { IsReady scenario.now self.old }
+        requires work { w < length scenario.now.works }
+        requires cpu { cpu < scenario.now.cpus }
+        requires time { self.old.now < 2 ^ 63 }
+        requires stamps { self.old.next < 2 ^ 63 }
+        ensures placed { self.new ≡ place_after scenario.now self.old w cpu ticks }
+        ensures ready { IsReady scenario.now self.new }
+        ensures stamps { self.new.next ≤ self.old.next + 1 }
+        ensures clock { HasSameClock self.old self.new }
+    {
+        if ticks == 0 {
+            self.place(scenario, w, cpu);
+        } else {
+            self.set_timer(scenario, w, cpu, self.time() + u64::from(ticks));
+        }
+    }
+
+    /// Takes a pending work off, and fills what it leaves.
+    pub(crate) fn take_off(&mut self, scenario: &Scenario, w: usize)
+        requires ready { IsReady scenario.now self.old }
+        requires work { w < length scenario.now.works }
+        requires stamps { self.old.next + 256 < 2 ^ 63 }
+        ensures taken { self.new ≡ take_off scenario.now self.old w }
+        ensures ready { IsReady scenario.now self.new }
+        ensures stamps { self.new.next ≤ self.old.next + 256 }
+        ensures flushes { self.new.flushes ≡ self.old.flushes }
+        ensures clock { HasSameClock self.old self.new }
+    {
+        if let Some(p) = self.pending_of(w) {
+            self.set_pending(w, None);
+            self.fill_from(scenario, queue_of(scenario, w), p.place);
+        }
+    }
+
+    /// Fills what a pending work left: nothing where it had a timer.
+    fn fill_from(&mut self, scenario: &Scenario, queue: u8, place: Place)
+        requires ready { IsReady scenario.now self.old }
+        requires stamps { self.old.next + 256 < 2 ^ 63 }
+        ensures filled { self.new ≡ fill_from scenario.now queue place self.old }
+        ensures ready { IsReady scenario.now self.new }
+        ensures stamps { self.new.next ≤ self.old.next + 256 }
+        ensures flushes { self.new.flushes ≡ self.old.flushes }
+        ensures clock { HasSameClock self.old self.new }
+    {
+        match place {
+            Place::Timer { .. } => {}
+            Place::Inactive(pool) | Place::Listed(pool) | Place::Deferred(pool) => {
+                self.fill(scenario, queue, pool);
             }
         }
     }

@@ -1,11 +1,15 @@
 //! The state as vectors that are scanned.
 ghost use Rattle.cmwq_plain.specs.Burning.{burns_beside};
-ghost use Rattle.cmwq_table.specs.Moves.{burned, taking, with_pending, with_running};
+ghost use Rattle.cmwq_table.specs.Table.{target_at};
+ghost use Rattle.cmwq_table.specs.View.{view_of};
+ghost use Rattle.cmwq_table.specs.Moves.{burned, taking, with_flush, with_pending, with_running};
 ghost use Rattle.cmwq_table.specs.State.{idle_at, made_at, max_at, pending_at, running_at, seat};
-ghost use Rattle.std.specs.Prelude.{◌≡◌, ◌<◌, ◌+◌, ◌-◌, ◌^◌, false, length, slice_set};
+ghost use Rattle.std.specs.Prelude.{◌≡◌, ◌<◌, ◌≤◌, ◌+◌, ◌-◌, ◌^◌, IfOk, false, length, slice_set, vec_capacity};
 
+use crate::looking::{entries, idle_workers};
 use crate::ticking::burn;
-use cmwq_table::{FlushTarget, Pending, Running};
+use cmwq_table::{FlushTarget, Pending, Running, View};
+use cmwq_types::{MAX_FLUSHES, NoMemory};
 use std::marker::Model;
 
 /// The whole state: each vector has one entry a queue, work, worker or pool, and keeps its length.
@@ -40,6 +44,11 @@ impl Model for Records {
       made = r.made.items;
       flushes = r.flushes.items;
     } };
+
+    ghost use Rattle.std.specs.Prelude.{◌≤◌, vec_capacity};
+    ghost use Rattle.cmwq_types.specs.declared.limits.TheConstants.{MAX_FLUSHES};
+
+    ghost invariant = { λ r. MAX_FLUSHES ≤ vec_capacity r.flushes };
 }
 
 impl Records {
@@ -52,6 +61,7 @@ impl Records {
         made: Vec<u8>,
         flushes: Vec<FlushTarget>,
     ) -> Records
+        requires { MAX_FLUSHES ≤ vec_capacity flushes }
         ensures { result ≡ record { now = 0; next = 0; spent = 0; frozen = false; max = max.items; pending = pending.items; running = running.items; idle = idle.items; made = made.items; flushes = flushes.items } }
     {
         Records {
@@ -171,6 +181,85 @@ impl Records {
         ensures { self.new ≡ record self.old { now = self.old.now + 1 } }
     {
         self.time += 1;
+    }
+
+    /// Records equal to these, with the same room.
+    pub(crate) fn copy(&self) -> Result<Records, NoMemory>
+        ensures { IfOk result (λ copy. copy ≡ self.now) }
+    {
+        let alloc = *self.max.allocator();
+        let max = Vec::from_slice(alloc, &self.max)?;
+        let pending = Vec::from_slice(alloc, &self.pending)?;
+        let running = Vec::from_slice(alloc, &self.running)?;
+        let idle = Vec::from_slice(alloc, &self.idle)?;
+        let made = Vec::from_slice(alloc, &self.made)?;
+        let mut flushes = Vec::with_capacity(alloc, MAX_FLUSHES as usize)?;
+        flushes.extend_from_slice(&self.flushes)?;
+        Ok(Records {
+            time: self.time,
+            next: self.next,
+            spent: self.spent,
+            frozen: self.frozen,
+            max,
+            pending,
+            running,
+            idle,
+            made,
+            flushes,
+        })
+    }
+
+    /// Every part of the state.
+    pub(crate) fn look(&self) -> Result<View, NoMemory>
+        requires pending { length self.now.pending ≤ 256 }
+        requires running { length self.now.running ≤ 256 }
+        requires idle { length self.now.idle ≤ 2176 }
+        ensures { IfOk result (λ view. view ≡ view_of self.now) }
+    {
+        let alloc = *self.max.allocator();
+        let max = Vec::from_slice(alloc, &self.max)?;
+        let pending = entries(alloc, &self.pending)?;
+        let running = entries(alloc, &self.running)?;
+        let idle = idle_workers(alloc, &self.idle)?;
+        let made = Vec::from_slice(alloc, &self.made)?;
+        let flushes = Vec::from_slice(alloc, &self.flushes)?;
+        Ok(View {
+            time: self.time,
+            next: self.next,
+            spent: self.spent,
+            frozen: self.frozen,
+            max,
+            pending,
+            running,
+            idle,
+            made,
+            flushes,
+        })
+    }
+
+    /// How many flushes were given.
+    pub(crate) fn flush_count(&self) -> usize
+        ensures { result ≡ length self.now.flushes }
+    {
+        self.flushes.len()
+    }
+
+    /// What the flush of this number waits for.
+    pub(crate) fn flush_target(&self, flush: u16) -> FlushTarget
+        ensures { result ≡ target_at self.now flush }
+    {
+        self.flushes
+            .get(flush as usize)
+            .copied()
+            .unwrap_or(FlushTarget::Nothing)
+    }
+
+    /// Gives a flush.
+    pub(crate) fn push_flush(&mut self, target: FlushTarget)
+        requires { length self.old.flushes < MAX_FLUSHES }
+        ensures { self.new ≡ with_flush self.old target }
+    {
+        self.flushes.push(target).unwrap();
     }
 
     /// Counts one instruction as accepted.

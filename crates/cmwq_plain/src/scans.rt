@@ -27,6 +27,9 @@ impl Records {
             Wanted::Counted { pool } => {
                 is_runnable(self.running_of(w), pool) && !self.is_intensive(scenario, w)
             }
+            Wanted::QueuedBefore { queue, bound } => {
+                queue_of(scenario, w) == queue && self.has_instance_before(w, bound)
+            }
             Wanted::Inactive { queue, pool } => {
                 queue_of(scenario, w) == queue && is_inactive(self.pending_of(w), pool)
             }
@@ -50,7 +53,10 @@ impl Records {
         ensures { result ≡ comes_before self.now wanted v w }
     {
         match wanted {
-            Wanted::ActivePending { .. } | Wanted::Inactive { .. } | Wanted::Listed { .. } => {
+            Wanted::ActivePending { .. }
+            | Wanted::QueuedBefore { .. }
+            | Wanted::Inactive { .. }
+            | Wanted::Listed { .. } => {
                 stamp_pending(self.pending_of(v)) < stamp_pending(self.pending_of(w))
             }
             Wanted::Due => is_less(

@@ -91,17 +91,16 @@ fn printed(rt: &impl Abort, alloc: Global, scenario: &Scenario) -> Result<String
     for actor in &scenario.actors {
         for line in &actor.lines {
             for _ in 0..line.times {
-                let reply = machine.exec(line.instr);
+                let instr = line.instr;
+                let reply = machine.exec(instr);
                 let time = machine.now();
-                let line = format!(in alloc;
-                    "{}",
-                    ReplyLine {
-                        scenario,
-                        time,
-                        reply
-                    }
-                )?;
-                text.push_str(line.as_str())?;
+                let said = ReplyLine {
+                    scenario,
+                    time,
+                    instr,
+                    reply,
+                };
+                text.push_str(said.to_string(alloc)?.as_str())?;
             }
         }
     }
@@ -260,7 +259,11 @@ fn a_work_that_queues_itself_defers(rt: HostRuntime) -> Result<(), Fail> {
 #[test]
 fn spent_steps_refuse(rt: HostRuntime) -> Result<(), Fail> {
     let body = [Op::Queue(WorkId(0), 0), Op::Finish];
-    let lines = [queueing(0, 0), times(Instr::Next, 8)];
+    let lines = [
+        queueing(0, 0),
+        times(Instr::Next, 8),
+        times(Instr::State(WorkId(0)), 1),
+    ];
     let text = alone(&rt, rt.alloc(), 1, &body, 8, &lines)?;
     assert_eq!(rt; text.as_str(), STEPS_RUN_OUT);
     Ok(())
@@ -279,6 +282,136 @@ fn refusals_come_in_their_order(rt: HostRuntime) -> Result<(), Fail> {
     ];
     let text = alone(&rt, rt.alloc(), 1, &[Op::Burn(1), Op::Finish], 1000, &lines)?;
     assert_eq!(rt; text.as_str(), REFUSED);
+    Ok(())
+}
+
+/// Works `a` and `b` on a queue of this `max_active`, each with this body, and these lines.
+fn two(
+    rt: &impl Abort,
+    alloc: Global,
+    max: u16,
+    body: &[Op],
+    lines: &[Line],
+) -> Result<Scenario, NoMemory> {
+    let works = vec![in alloc;
+        work(rt, alloc, "a", 0, body)?,
+        work(rt, alloc, "b", 0, body)?,
+    ]?;
+    scenario(rt, alloc, 1000, &[queue(rt, "q", max, PLAIN)], works, lines)
+}
+
+fn once(instr: Instr) -> Line {
+    times(instr, 1)
+}
+
+const A: WorkId = WorkId(0);
+
+const B: WorkId = WorkId(1);
+
+#[test]
+fn delayed_works_wait_for_their_timers(rt: HostRuntime) -> Result<(), Fail> {
+    let lines = [
+        once(Instr::Delay(A, 0, 0)),
+        once(Instr::Delay(B, 0, 3)),
+        once(Instr::Fire),
+        once(Instr::Mod(A, 0, 2)),
+        once(Instr::State(A)),
+        once(Instr::Cancel(B)),
+        once(Instr::Cancel(B)),
+        times(Instr::Next, 7),
+    ];
+    let scenario = two(&rt, rt.alloc(), 1, &[Op::Burn(1), Op::Finish], &lines)?;
+    assert_eq!(rt; printed(&rt, rt.alloc(), &scenario)?.as_str(), DELAYED);
+    Ok(())
+}
+
+#[test]
+fn flushes_wait_for_what_was_queued_before(rt: HostRuntime) -> Result<(), Fail> {
+    let lines = [
+        queueing(0, 0),
+        times(Instr::Next, 2),
+        queueing(0, 0),
+        once(Instr::Flush(A)),
+        once(Instr::FlushQueue(QueueId(0))),
+        queueing(1, 0),
+        once(Instr::Flush(B)),
+        times(Instr::Next, 3),
+        once(Instr::Ask(0)),
+        once(Instr::Next),
+        once(Instr::Ask(1)),
+        times(Instr::Next, 4),
+        once(Instr::Ask(0)),
+        once(Instr::Ask(1)),
+        once(Instr::State(B)),
+        once(Instr::Ask(2)),
+    ];
+    let scenario = two(&rt, rt.alloc(), 2, &[Op::Burn(2), Op::Finish], &lines)?;
+    assert_eq!(rt; printed(&rt, rt.alloc(), &scenario)?.as_str(), FLUSHED);
+    Ok(())
+}
+
+#[test]
+fn a_flush_of_a_delayed_work_places_it(rt: HostRuntime) -> Result<(), Fail> {
+    let lines = [
+        once(Instr::Delay(A, 0, 9)),
+        once(Instr::FlushDelayed(A)),
+        once(Instr::State(A)),
+        times(Instr::Next, 2),
+        queueing(0, 0),
+        once(Instr::CancelSync(A)),
+        once(Instr::Ask(1)),
+        times(Instr::Next, 3),
+        once(Instr::Ask(0)),
+        once(Instr::Ask(1)),
+        once(Instr::CancelSync(A)),
+    ];
+    let text = alone(&rt, rt.alloc(), 2, &[Op::Burn(2), Op::Finish], 1000, &lines)?;
+    assert_eq!(rt; text.as_str(), FLUSH_DELAYED);
+    Ok(())
+}
+
+#[test]
+fn a_running_work_is_queued_where_it_runs(rt: HostRuntime) -> Result<(), Fail> {
+    let lines = [
+        queueing(0, 0),
+        times(Instr::Next, 2),
+        queueing(0, 1),
+        once(Instr::State(A)),
+    ];
+    let mut scenario = two(&rt, rt.alloc(), 2, &[Op::Burn(2), Op::Finish], &lines)?;
+    scenario.cpus = 2;
+    assert_eq!(rt; printed(&rt, rt.alloc(), &scenario)?.as_str(), OTHER_CPU);
+    Ok(())
+}
+
+#[test]
+fn copies_are_equal_and_independent(rt: HostRuntime) -> Result<(), Fail> {
+    let scenario = two(&rt, rt.alloc(), 1, &[Op::Burn(1), Op::Finish], &[])?;
+    let mut machine = Plain::load(rt.alloc(), &scenario.copy()?).expect(&rt, "a valid scenario");
+    for instr in [
+        Instr::Queue(A, 0),
+        Instr::Next,
+        Instr::Delay(B, 0, 3),
+        Instr::Flush(A),
+        Instr::FlushQueue(QueueId(0)),
+    ] {
+        machine.exec(instr);
+    }
+    let mut copy = machine.copy()?;
+    let view = machine.look()?;
+    let same = copy.look()?;
+    assert_eq!(rt; view.time, same.time);
+    assert_eq!(rt; view.next, same.next);
+    assert_eq!(rt; view.spent, same.spent);
+    assert_eq!(rt; view.max.as_slice(), same.max.as_slice());
+    assert_eq!(rt; view.made.as_slice(), same.made.as_slice());
+    assert_eq!(rt; view.pending.len(), same.pending.len());
+    assert_eq!(rt; view.running.len(), same.running.len());
+    assert_eq!(rt; view.flushes.as_slice(), same.flushes.as_slice());
+    assert_eq!(rt; same.flushes.len(), 2);
+    copy.exec(Instr::Cancel(B));
+    assert_eq!(rt; copy.look()?.pending.len(), 0);
+    assert_eq!(rt; machine.look()?.pending.len(), 1);
     Ok(())
 }
 
@@ -454,6 +587,7 @@ const STEPS_RUN_OUT: &str = "0 a starts
 0 a finishes
 0 a starts
 0 refused Spent
+0 a idle runs 0/0
 ";
 
 const REFUSED: &str = "0 refused NoSuchCpu
@@ -463,4 +597,49 @@ const REFUSED: &str = "0 refused NoSuchCpu
 1 a finishes
 1 refused NothingToDo
 1 refused NoSuchPool
+";
+
+const DELAYED: &str = "0 refused NothingToDo
+0 changed
+0 a timer 2 still
+0 cancelled
+0 not pending
+2 a fires
+2 a starts
+2 a burns 1
+3 a finishes
+";
+
+const FLUSHED: &str = "0 a starts
+0 a burns 2
+0 flush 0
+0 flush 1
+0 refused TooManyFlushes
+2 a finishes
+2 no
+2 a starts
+2 no
+2 a burns 2
+4 a finishes
+4 yes
+4 yes
+4 b listed 0 still
+4 refused NoSuchFlush
+";
+
+const FLUSH_DELAYED: &str = "0 flush 0
+0 a listed 0 still
+0 a starts
+0 a burns 2
+0 cancelled flush 1
+0 no
+2 a finishes
+2 yes
+2 yes
+2 refused TooManyFlushes
+";
+
+const OTHER_CPU: &str = "0 a starts
+0 a burns 2
+0 a listed 0 runs 0/0
 ";

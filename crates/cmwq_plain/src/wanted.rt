@@ -9,6 +9,8 @@ pub(crate) enum Wanted {
     ActiveRunning { queue: u8, pool: u8 },
     /// A runnable work of the pool that counts towards its concurrency level.
     Counted { pool: u8 },
+    /// A work of the queue with an instance that was queued before.
+    QueuedBefore { queue: u8, bound: u64 },
     /// An inactive work of the queue in the pool.
     Inactive { queue: u8, pool: u8 },
     /// A work on the pool's worklist.

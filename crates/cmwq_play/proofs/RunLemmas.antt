@@ -17,8 +17,8 @@ pub events_from-append : (S : ScenarioContents) (s : State) (xs ys : List Instr)
 events_from-append S s [] ys = refl
 events_from-append S s (x ∷ xs) ys =
     let next = (table S s x).0 in
-    ap (λ (more : List ℕ). told S (table S s x) ++ more) (events_from-append S next xs ys)
-    ∙ sym (append_assoc (told S (table S s x)) (events_from S next xs) (events_from S (after_all S next xs) ys))
+    ap (λ (more : List ℕ). told S x (table S s x) ++ more) (events_from-append S next xs ys)
+    ∙ sym (append_assoc (told S x (table S s x)) (events_from S next xs) (events_from S (after_all S next xs) ys))
 
 pub after_all-append : (S : ScenarioContents) (s : State) (xs ys : List Instr) → after_all S s (xs ++ ys) ≡ after_all S (after_all S s xs) ys
 after_all-append S s [] ys = refl
@@ -54,8 +54,8 @@ module _ (S : ScenarioContents) (start now : State) (old mid new : Option (List 
       (front_more old new block (events_from S start xs) (events_from S (after_all S start xs) ys) front)
 
 -- one instruction prints its line
-pub events_from-one : (S : ScenarioContents) (s : State) (x : Instr) → events_from S s (x ∷ []) ≡ told S (table S s x)
-events_from-one S s x = append-nil (told S (table S s x))
+pub events_from-one : (S : ScenarioContents) (s : State) (x : Instr) → events_from S s (x ∷ []) ≡ told S x (table S s x)
+events_from-one S s x = append-nil (told S x (table S s x))
 
 -- so many of an instruction, and what is left of them
 pub replicate_rest : {A : Type 0} (k n : ℕ) (x : A) → k ≤ n → replicate n x ≡ replicate k x ++ replicate (n - k) x

@@ -1,5 +1,5 @@
 -- Bytes that go out one part after another.
-use Rattle.std.proofs.Common.{◌≡◌, ℕ, ◌+◌, ◌≤◌, List, [], ◌++◌, length, take, drop, Option, Some, None, sym, ap, ◌∙◌, subst, append_assoc, append-nil, refl, arith}
+use Rattle.std.proofs.Common.{ℕ, List, [], ◌++◌, take, drop, Option, Some, None, sym, ap, ◌∙◌, subst, append_assoc, append-nil, refl}
 use Rattle.std.proofs.lemmas.List.{take-append-drop}
 use Rattle.std.specs.Io.KnownBytes.{Appends, Keeps}
 use Rattle.cmwq_play.specs.Sending.{HasSent, HasSentFront, Sends, SendsFront}

@@ -124,12 +124,7 @@ impl Draft {
         if self.works.len() >= MAX_WORKS {
             return Err(Unread::Text);
         }
-        let place = self
-            .queues
-            .iter()
-            .position(|declared| declared.name.as_str() == queue)
-            .ok_or(Unread::Text)?;
-        let queue = QueueId(u8::try_from(place).map_err(|_| Unread::Text)?);
+        let queue = self.queue(queue)?;
         self.works.push(WorkDecl {
             name: name(text)?,
             queue,
@@ -167,16 +162,40 @@ impl Draft {
             [instr @ .., "*", n] => (instr, number(n)?),
             _ => (words, 1),
         };
-        let instr = match words {
-            ["queue", text, cpu] => Instr::Queue(self.work(text)?, number(cpu)?),
-            ["step", pool] => Instr::Step(number(pool)?),
-            ["tick"] => Instr::Tick,
-            ["next"] => Instr::Next,
-            _ => return Err(Unread::Text),
-        };
+        let instr = self.instr(words)?;
         let actor = self.actors.last_mut().ok_or(Unread::Text)?;
         actor.lines.push(Line { instr, times })?;
         Ok(())
+    }
+
+    fn instr(&self, words: &[&str]) -> Result<Instr, Unread> {
+        Ok(match words {
+            ["queue", text, cpu] => Instr::Queue(self.work(text)?, number(cpu)?),
+            ["delay", text, cpu, n] => Instr::Delay(self.work(text)?, number(cpu)?, number(n)?),
+            ["mod", text, cpu, n] => Instr::Mod(self.work(text)?, number(cpu)?, number(n)?),
+            ["cancel", text] => Instr::Cancel(self.work(text)?),
+            ["cancel_sync", text] => Instr::CancelSync(self.work(text)?),
+            ["flush", text] => Instr::Flush(self.work(text)?),
+            ["flush_delayed", text] => Instr::FlushDelayed(self.work(text)?),
+            ["flush_queue", text] => Instr::FlushQueue(self.queue(text)?),
+            ["fire"] => Instr::Fire,
+            ["step", pool] => Instr::Step(number(pool)?),
+            ["tick"] => Instr::Tick,
+            ["next"] => Instr::Next,
+            ["ask", flush] => Instr::Ask(number(flush)?),
+            ["state", text] => Instr::State(self.work(text)?),
+            _ => return Err(Unread::Text),
+        })
+    }
+
+    /// The number of the queue of this name.
+    fn queue(&self, text: &str) -> Result<QueueId, Unread> {
+        let place = self
+            .queues
+            .iter()
+            .position(|declared| declared.name.as_str() == text)
+            .ok_or(Unread::Text)?;
+        Ok(QueueId(u8::try_from(place).map_err(|_| Unread::Text)?))
     }
 
     /// The number of the work of this name.

@@ -26,9 +26,9 @@ fn issue<M: Machine, W: Sink>(
     ensures loaded { M.loaded machine.new ≡ scenario.now }
     ensures state { M.state machine.new ≡ (table scenario.now (M.state machine.old) instr).0 }
     ensures ok { OnOk result (Sends (W.contents writer.old) block.old.items (W.contents writer.new) block.new.items
-        (told scenario.now (table scenario.now (M.state machine.old) instr))) }
+        (told scenario.now instr (table scenario.now (M.state machine.old) instr))) }
     ensures err { OnErr result (SendsFront (W.contents writer.old) block.old.items (W.contents writer.new)
-        (told scenario.now (table scenario.now (M.state machine.old) instr))) }
+        (told scenario.now instr (table scenario.now (M.state machine.old) instr))) }
     ensures sound { result ≢ Err PlayError.Write → W.failed writer.new ≡ false }
     ensures failed { result ≡ Err PlayError.Write → W.failed writer.new ≡ true }
     ensures why { IfErr result (λ error. IsSendError error) }
@@ -48,12 +48,13 @@ fn reply_text<M: Machine>(
     requires { M.loaded machine.old ≡ scenario.now }
     ensures loaded { M.loaded machine.new ≡ scenario.now }
     ensures state { M.state machine.new ≡ (table scenario.now (M.state machine.old) instr).0 }
-    ensures text { IfOk result (λ text. string_bytes text ≡ told scenario.now (table scenario.now (M.state machine.old) instr)) }
+    ensures text { IfOk result (λ text. string_bytes text ≡ told scenario.now instr (table scenario.now (M.state machine.old) instr)) }
 {
     let reply = machine.exec(instr);
     let line = ReplyLine {
         scenario,
         time: machine.now(),
+        instr,
         reply,
     };
     Ok(line.to_string(alloc)?)

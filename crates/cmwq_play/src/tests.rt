@@ -191,6 +191,11 @@ fn only_listings_with_one_actor_are_taken(rt: HostRuntime) -> Result<(), Fail> {
         "queue q max 1\nwork a q\nbody a\nburn 01\nfinish\nactor t\n",
         "actor t\nqueue a 0\n",
         "actor t\ndance\n",
+        "actor t\nstate a\n",
+        "actor t\nflush_queue q\n",
+        "actor t\nask 65536\n",
+        "queue q max 1\nwork a q\nbody a\nfinish\nactor t\ndelay a 0\n",
+        "queue q max 1\nwork a q\nbody a\nfinish\nactor t\nmod a 0 4294967296\n",
     ] {
         let mut text = String::from_str(rt.alloc(), head)?;
         text.push_str(rest)?;
@@ -215,7 +220,7 @@ fn a_reader_without_end_is_bad_text(rt: HostRuntime) -> Result<(), Fail> {
 }
 
 /// A scenario's name, its text, and the lines that it prints.
-const EXAMPLES: [(&str, &str, &str); 10] = [
+const EXAMPLES: [(&str, &str, &str); 14] = [
     (
         "max_active_3",
         "cpus 1
@@ -548,6 +553,7 @@ finish
 actor t
 queue a 0
 next * 8
+state a
 ",
         "0 a starts
 0 a queues a
@@ -557,6 +563,7 @@ next * 8
 0 a finishes
 0 a starts
 0 refused Spent
+0 a idle runs 0/0
 ",
     ),
     (
@@ -588,6 +595,150 @@ step 4
 1 a finishes
 1 refused NothingToDo
 1 refused NoSuchPool
+",
+    ),
+    (
+        "timers",
+        "cpus 1
+workers 4
+steps 1000
+flushes 2
+queue q max 1
+work a q
+work b q
+body a
+burn 1
+finish
+body b
+burn 1
+finish
+actor t
+delay a 0 0
+delay b 0 3
+fire
+mod a 0 2
+state a
+cancel b
+cancel b
+next * 7
+",
+        "0 refused NothingToDo
+0 changed
+0 a timer 2 still
+0 cancelled
+0 not pending
+2 a fires
+2 a starts
+2 a burns 1
+3 a finishes
+",
+    ),
+    (
+        "flushes",
+        "cpus 1
+workers 4
+steps 1000
+flushes 2
+queue q max 2
+work a q
+work b q
+body a
+burn 2
+finish
+body b
+burn 2
+finish
+actor t
+queue a 0
+next * 2
+queue a 0
+flush a
+flush_queue q
+queue b 0
+flush b
+next * 3
+ask 0
+next
+ask 1
+next * 4
+ask 0
+ask 1
+state b
+ask 2
+",
+        "0 a starts
+0 a burns 2
+0 flush 0
+0 flush 1
+0 refused TooManyFlushes
+2 a finishes
+2 no
+2 a starts
+2 no
+2 a burns 2
+4 a finishes
+4 yes
+4 yes
+4 b listed 0 still
+4 refused NoSuchFlush
+",
+    ),
+    (
+        "cancelled_while_running",
+        "cpus 1
+workers 4
+steps 1000
+flushes 2
+queue q max 2
+work a q
+body a
+burn 2
+finish
+actor t
+delay a 0 9
+flush_delayed a
+state a
+next * 2
+queue a 0
+cancel_sync a
+ask 1
+next * 3
+ask 0
+ask 1
+cancel_sync a
+",
+        "0 flush 0
+0 a listed 0 still
+0 a starts
+0 a burns 2
+0 cancelled flush 1
+0 no
+2 a finishes
+2 yes
+2 yes
+2 refused TooManyFlushes
+",
+    ),
+    (
+        "queued_elsewhere",
+        "cpus 2
+workers 4
+steps 1000
+flushes 2
+queue q max 2
+work a q
+body a
+burn 2
+finish
+actor t
+queue a 0
+next * 2
+queue a 1
+state a
+",
+        "0 a starts
+0 a burns 2
+0 a listed 0 runs 0/0
 ",
     ),
 ];

@@ -36,6 +36,37 @@ queues w = op.Queue (record { 0 = w }) 0
 abbrev pub enqueue : ℕ → ℕ → Line
 enqueue w cpu = record { instr = instr.Queue (record { 0 = w }) cpu; times = 1 }
 
+-- `delay W 0 N` and `mod W 0 N`
+abbrev pub delay : ℕ → ℕ → Line
+delay w ticks = record { instr = instr.Delay (record { 0 = w }) 0 ticks; times = 1 }
+
+abbrev pub modify : ℕ → ℕ → Line
+modify w ticks = record { instr = instr.Mod (record { 0 = w }) 0 ticks; times = 1 }
+
+-- `cancel W` and `cancel_sync W`
+abbrev pub cancel : ℕ → Line
+cancel w = record { instr = instr.Cancel (record { 0 = w }); times = 1 }
+
+abbrev pub cancel_sync : ℕ → Line
+cancel_sync w = record { instr = instr.CancelSync (record { 0 = w }); times = 1 }
+
+-- `flush W`, `flush_delayed W` and `flush_queue Q`
+abbrev pub flush : ℕ → Line
+flush w = record { instr = instr.Flush (record { 0 = w }); times = 1 }
+
+abbrev pub flush_delayed : ℕ → Line
+flush_delayed w = record { instr = instr.FlushDelayed (record { 0 = w }); times = 1 }
+
+abbrev pub flush_queue : ℕ → Line
+flush_queue q = record { instr = instr.FlushQueue (record { 0 = q }); times = 1 }
+
+-- `ask F` and `state W`
+abbrev pub ask : ℕ → Line
+ask number = record { instr = instr.Ask number; times = 1 }
+
+abbrev pub state : ℕ → Line
+state w = record { instr = instr.State (record { 0 = w }); times = 1 }
+
 -- an instruction, this often
 abbrev pub times : Instr → ℕ → Line
 times instr n = record { instr = instr; times = n }

@@ -7,7 +7,7 @@ use Rattle.cmwq_types.specs.declared.instr.Instr.TheVariants as instr
 use Rattle.cmwq_types.specs.declared.scenario.Op.{Op}
 use Rattle.cmwq_types.specs.declared.scenario.Op.TheVariants as op
 use Rattle.cmwq_table.specs.Events.{events}
-use Rattle.cmwq_rows.specs.Declare.{queue, work, highpri, unbound, cpu_intensive, ordered, queues, enqueue, times, scenario}
+use Rattle.cmwq_rows.specs.Declare.{queue, work, highpri, unbound, cpu_intensive, ordered, queues, enqueue, delay, modify, cancel, cancel_sync, flush, flush_delayed, flush_queue, ask, state, times, scenario}
 
 -- a text of these lines
 abbrev pub text : List (List ℕ) → List ℕ
@@ -157,19 +157,20 @@ queues_itself_lines =
     codes "0 a starts" ∷ codes "0 a queues a" ∷ codes "0 a sleeps 2" ∷ codes "0 a defers" ∷
     codes "2 a wakes" ∷ codes "2 a finishes and starts" ∷ [])
 
--- a work that queues itself for ever, and eight steps
+-- a work that queues itself for ever, and eight steps; then a question
 abbrev pub steps_run_out : ScenarioContents
 steps_run_out =
     scenario 8 (queue (codes "q") 1 plain_flags ∷ [])
     (work (codes "a") 0 (queues 0 ∷ op.Finish ∷ []) ∷ [])
-    (enqueue 0 0 ∷ times instr.Next 8 ∷ [])
+    (enqueue 0 0 ∷ times instr.Next 8 ∷ state 0 ∷ [])
 
+-- the eighth `next` is one step too many; the question is answered all the same
 abbrev pub steps_run_out_lines : List ℕ
 steps_run_out_lines =
     text (
     codes "0 a starts" ∷ codes "0 a queues a" ∷ codes "0 a finishes" ∷ codes "0 a starts" ∷
     codes "0 a queues a" ∷ codes "0 a finishes" ∷ codes "0 a starts" ∷ codes "0 refused Spent" ∷
-    [])
+    codes "0 a idle runs 0/0" ∷ [])
 
 -- instructions that can't be carried out, among others that can
 abbrev pub refused : ScenarioContents
@@ -198,3 +199,67 @@ refused_in_order_lines =
     text (
     codes "0 refused NoSuchCpu" ∷ codes "0 refused Spent" ∷ codes "0 refused Spent" ∷
     codes "0 refused Spent" ∷ codes "0 refused NoSuchPool" ∷ [])
+
+-- a delay of no ticks, a timer, a timer in place of a work that waits, and cancels
+abbrev pub timers : ScenarioContents
+timers =
+    scenario 1000 (queue (codes "q") 1 plain_flags ∷ [])
+    (work (codes "a") 0 (burning 1) ∷ work (codes "b") 0 (burning 1) ∷ [])
+    (delay 0 0 ∷ delay 1 3 ∷ times instr.Fire 1 ∷ modify 0 2 ∷ state 0 ∷ cancel 1 ∷ cancel 1
+    ∷ times instr.Next 7 ∷ [])
+
+-- no timer has run out at first; a is on its timer until 2, and b's never fires
+abbrev pub timers_lines : List ℕ
+timers_lines =
+    text (
+    codes "0 refused NothingToDo" ∷ codes "0 changed" ∷ codes "0 a timer 2 still" ∷
+    codes "0 cancelled" ∷ codes "0 not pending" ∷ codes "2 a fires" ∷ codes "2 a starts" ∷
+    codes "2 a burns 1" ∷ codes "3 a finishes" ∷ [])
+
+-- a is queued again while it runs; flushes of a and of the queue, and then b is queued
+abbrev pub flushes : ScenarioContents
+flushes =
+    scenario 1000 (queue (codes "q") 2 plain_flags ∷ [])
+    (work (codes "a") 0 (burning 2) ∷ work (codes "b") 0 (burning 2) ∷ [])
+    (enqueue 0 0 ∷ times instr.Next 2 ∷ enqueue 0 0 ∷ flush 0 ∷ flush_queue 0 ∷ enqueue 1 0 ∷ flush 1
+    ∷ times instr.Next 3 ∷ ask 0 ∷ times instr.Next 1 ∷ ask 1 ∷ times instr.Next 4 ∷ ask 0 ∷ ask 1
+    ∷ state 1 ∷ ask 2 ∷ [])
+
+-- the first waits for the later instance of a, the second for both but not for b; a third isn't given
+abbrev pub flushes_lines : List ℕ
+flushes_lines =
+    text (
+    codes "0 a starts" ∷ codes "0 a burns 2" ∷ codes "0 flush 0" ∷ codes "0 flush 1" ∷
+    codes "0 refused TooManyFlushes" ∷ codes "2 a finishes" ∷ codes "2 no" ∷
+    codes "2 a starts" ∷ codes "2 no" ∷ codes "2 a burns 2" ∷ codes "4 a finishes" ∷
+    codes "4 yes" ∷ codes "4 yes" ∷ codes "4 b listed 0 still" ∷
+    codes "4 refused NoSuchFlush" ∷ [])
+
+-- a flush of a delayed work, and a cancel while the work runs and is pending again
+abbrev pub cancelled_while_running : ScenarioContents
+cancelled_while_running =
+    scenario 1000 (queue (codes "q") 2 plain_flags ∷ []) (work (codes "a") 0 (burning 2) ∷ [])
+    (delay 0 9 ∷ flush_delayed 0 ∷ state 0 ∷ times instr.Next 2 ∷ enqueue 0 0 ∷ cancel_sync 0 ∷ ask 1
+    ∷ times instr.Next 3 ∷ ask 0 ∷ ask 1 ∷ cancel_sync 0 ∷ [])
+
+-- the timer ends at once; the cancel takes off the pending instance, and its flush waits for the running one
+abbrev pub cancelled_while_running_lines : List ℕ
+cancelled_while_running_lines =
+    text (
+    codes "0 flush 0" ∷ codes "0 a listed 0 still" ∷ codes "0 a starts" ∷ codes "0 a burns 2" ∷
+    codes "0 cancelled flush 1" ∷ codes "0 no" ∷ codes "2 a finishes" ∷ codes "2 yes" ∷
+    codes "2 yes" ∷ codes "2 refused TooManyFlushes" ∷ [])
+
+-- a runs on CPU 0, and is queued on CPU 1
+abbrev pub queued_elsewhere : ScenarioContents
+queued_elsewhere =
+    record
+    (scenario 1000 (queue (codes "q") 2 plain_flags ∷ []) (work (codes "a") 0 (burning 2) ∷ [])
+    (enqueue 0 0 ∷ times instr.Next 2 ∷ enqueue 0 1 ∷ state 0 ∷ []))
+    { cpus = 2 }
+
+-- it is listed in the pool where it runs
+abbrev pub queued_elsewhere_lines : List ℕ
+queued_elsewhere_lines =
+    text (
+    codes "0 a starts" ∷ codes "0 a burns 2" ∷ codes "0 a listed 0 runs 0/0" ∷ [])

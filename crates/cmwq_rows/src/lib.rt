@@ -2,7 +2,7 @@
 //! prints, how one is listed, or that they are valid. No other crate stands on this one.
 #![tactic(auto)]
 
-ghost use Rattle.cmwq_rows.specs.Rows.{cpu_intensive_beside_normal, cpu_intensive_lines, document, high_beside_normal, high_lines, max_active_1, max_active_2, max_active_3, printed, queued_twice, queued_twice_lines, queues_itself, queues_itself_lines, refused, refused_in_order, refused_in_order_lines, refused_lines, steps_run_out, steps_run_out_lines, unbound_beside_ordered, unbound_lines, written_out};
+ghost use Rattle.cmwq_rows.specs.Rows.{cancelled_while_running, cancelled_while_running_lines, cpu_intensive_beside_normal, cpu_intensive_lines, document, flushes, flushes_lines, high_beside_normal, high_lines, max_active_1, max_active_2, max_active_3, printed, queued_elsewhere, queued_elsewhere_lines, queued_twice, queued_twice_lines, queues_itself, queues_itself_lines, refused, refused_in_order, refused_in_order_lines, refused_lines, steps_run_out, steps_run_out_lines, timers, timers_lines, unbound_beside_ordered, unbound_lines, written_out};
 ghost use Rattle.cmwq_types.specs.Faults.{IsValid};
 ghost use Rattle.cmwq_types.specs.Listing.{listing};
 ghost use Rattle.std.specs.Prelude.{◌≡◌};
@@ -47,7 +47,7 @@ pub fn requeued_work_defers()
     ensures { printed queues_itself ≡ queues_itself_lines }
 {}
 
-/// Once the steps are spent, every further instruction is refused.
+/// Once the steps are spent, every further instruction is refused, but a question is answered.
 pub fn spent_steps_refuse()
     ensures { printed steps_run_out ≡ steps_run_out_lines }
 {}
@@ -60,6 +60,28 @@ pub fn refusals_change_nothing()
 /// A wrong operand is refused before `Spent`, and `Spent` before what the situation doesn't allow.
 pub fn refusals_have_an_order()
     ensures { printed refused_in_order ≡ refused_in_order_lines }
+{}
+
+/// A delay of no ticks queues at once; `mod` takes a waiting work off and sets a timer; a cancelled timer
+/// doesn't fire.
+pub fn timers_fire_unless_cancelled()
+    ensures { printed timers ≡ timers_lines }
+{}
+
+/// A flush of a work waits for its later instance, and a flush of a queue for what was queued before.
+pub fn flushes_wait_for_what_was_queued()
+    ensures { printed flushes ≡ flushes_lines }
+{}
+
+/// A cancel of a work that is pending and runs takes the pending instance off, and its flush waits for
+/// the running one.
+pub fn cancel_sync_waits_for_running_work()
+    ensures { printed cancelled_while_running ≡ cancelled_while_running_lines }
+{}
+
+/// A work that is queued on another CPU while it runs stays with the pool where it runs.
+pub fn running_work_keeps_its_pool()
+    ensures { printed queued_elsewhere ≡ queued_elsewhere_lines }
 {}
 
 /// Each of these scenarios is valid.
@@ -75,6 +97,10 @@ pub fn examples_are_valid()
     ensures steps_run_out { IsValid steps_run_out }
     ensures refused { IsValid refused }
     ensures refused_in_order { IsValid refused_in_order }
+    ensures timers { IsValid timers }
+    ensures flushes { IsValid flushes }
+    ensures cancelled_while_running { IsValid cancelled_while_running }
+    ensures queued_elsewhere { IsValid queued_elsewhere }
 {}
 
 /// The listing of a scenario is its text, line by line.

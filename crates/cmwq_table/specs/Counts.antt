@@ -7,6 +7,8 @@ use Rattle.cmwq_types.specs.declared.reply.Place.{Place}
 use Rattle.cmwq_types.specs.declared.reply.Place.TheVariants.{Timer, Inactive, Listed, Deferred}
 use Rattle.cmwq_types.specs.declared.reply.Mode.{Mode}
 use Rattle.cmwq_types.specs.declared.reply.Mode.TheVariants.{Runnable, Asleep}
+use Rattle.cmwq_table.specs.declared.state.FlushTarget.{FlushTarget}
+use Rattle.cmwq_table.specs.declared.state.FlushTarget.TheVariants.{Instance, Queue, Nothing}
 use Rattle.cmwq_table.specs.declared.state.Pending.{Pending}
 use Rattle.cmwq_table.specs.declared.state.Running.{Running}
 use Rattle.cmwq_table.specs.State.{State, pending_at, running_at, idle_at, made_at, max_at, is_unbound, is_high}
@@ -37,6 +39,13 @@ is_deferred (Deferred at) = true
 is_deferred (Timer due cpu) = false
 is_deferred (Inactive at) = false
 is_deferred (Listed at) = false
+
+-- inactive, listed or deferred: it stands in a pool
+abbrev pub is_placed : Place → Bool
+is_placed (Inactive at) = true
+is_placed (Listed at) = true
+is_placed (Deferred at) = true
+is_placed (Timer due cpu) = false
 
 -- a timer that has run out
 abbrev pub is_due : Place → ℕ → Bool
@@ -203,3 +212,25 @@ burns S s w None = false
 burns S s w (Some r) =
     if is_unbound S r.pool then is_runnable r.mode
     else is_some_work (first_runnable S s r.pool) w && (is_high r.pool || is_none (first_runnable S s (r.pool + 1)))
+
+-- Flushes.
+
+-- a placed instance whose birth passes
+abbrev pub placed_born : (ℕ → Bool) → Option Pending → Bool
+placed_born test (Some p) = is_placed p.place && test p.born
+placed_born test None = false
+
+-- the work has a placed or a running instance whose birth passes
+abbrev pub has_instance : State → ℕ → (ℕ → Bool) → Bool
+has_instance s w test = placed_born test (pending_at s w) || runs (λ r. test r.born) (running_at s w)
+
+-- how many works of the queue have an instance that was queued before
+abbrev pub queued_before : ScenarioContents → State → ℕ → ℕ → ℕ
+queued_before S s queue bound =
+    count_below (λ w. (queue_of S w == queue) && has_instance s w (λ born. nat_lt born bound)) (length S.works)
+
+-- whether a flush on this is done
+abbrev pub is_done : ScenarioContents → State → FlushTarget → Bool
+is_done S s (Instance work born) = not (has_instance s work.0 (λ b. b == born))
+is_done S s (Queue queue bound) = queued_before S s queue.0 bound == 0
+is_done S s Nothing = true

@@ -1,10 +1,16 @@
 -- The lines that a run prints, as bytes.
-use Rattle.std.specs.Prelude.{ℕ, Bool, true, false, List, [], ◌∷◌, ◌++◌, codes}
+use Rattle.std.specs.Prelude.{ℕ, Bool, true, false, List, [], ◌∷◌, ◌++◌, Option, Some, None, codes}
 use Rattle.std.specs.Fmt.{decimal}
 use Rattle.cmwq_types.specs.Contents.{ScenarioContents}
 use Rattle.cmwq_types.specs.Scenario.{work_at}
 use Rattle.cmwq_types.specs.declared.instr.WorkId.{WorkId}
 use Rattle.cmwq_types.specs.declared.instr.Instr.{Instr}
+use Rattle.cmwq_types.specs.declared.instr.Instr.TheVariants as instr
+use Rattle.cmwq_types.specs.declared.reply.Mode.{Mode}
+use Rattle.cmwq_types.specs.declared.reply.Mode.TheVariants.{Runnable, Asleep}
+use Rattle.cmwq_types.specs.declared.reply.Place.{Place}
+use Rattle.cmwq_types.specs.declared.reply.Place.TheVariants.{Timer, Inactive, Listed, Deferred}
+use Rattle.cmwq_types.specs.declared.reply.WorkRun.{WorkRun}
 use Rattle.cmwq_types.specs.declared.reply.Event.{Event}
 use Rattle.cmwq_types.specs.declared.reply.Event.TheVariants as event
 use Rattle.cmwq_types.specs.declared.reply.Refusal.{Refusal}
@@ -36,9 +42,12 @@ event_text S (event.Queues other already) = codes "queues " ++ work_name S other
 -- a refusal's name
 abbrev pub refusal_text : Refusal → List ℕ
 refusal_text refusal.NoSuchWork = codes "NoSuchWork"
+refusal_text refusal.NoSuchQueue = codes "NoSuchQueue"
 refusal_text refusal.NoSuchCpu = codes "NoSuchCpu"
 refusal_text refusal.NoSuchPool = codes "NoSuchPool"
+refusal_text refusal.NoSuchFlush = codes "NoSuchFlush"
 refusal_text refusal.Spent = codes "Spent"
+refusal_text refusal.TooManyFlushes = codes "TooManyFlushes"
 refusal_text refusal.NothingToDo = codes "NothingToDo"
 refusal_text (refusal.Unsettled cause) = codes "Unsettled"
 
@@ -46,21 +55,73 @@ refusal_text (refusal.Unsettled cause) = codes "Unsettled"
 abbrev pub line_at : ℕ → List ℕ → List ℕ
 line_at now text = decimal now ++ codes " " ++ text ++ 10 ∷ []
 
--- the line of a reply at a time; what was queued or done without a word has none
-abbrev pub reply_line : ScenarioContents → ℕ → Reply → List ℕ
-reply_line S now reply.Queued = []
-reply_line S now reply.Done = []
-reply_line S now reply.Already = line_at now (codes "already")
-reply_line S now (reply.Event work event) = line_at now (work_name S work ++ codes " " ++ event_text S event)
-reply_line S now (reply.Refused why) = line_at now (codes "refused " ++ refusal_text why)
+-- where a work waits
+abbrev pub place_text : Option Place → List ℕ
+place_text None = codes "idle"
+place_text (Some (Timer due cpu)) = codes "timer " ++ decimal due
+place_text (Some (Inactive pool)) = codes "inactive " ++ decimal pool
+place_text (Some (Listed pool)) = codes "listed " ++ decimal pool
+place_text (Some (Deferred pool)) = codes "deferred " ++ decimal pool
 
-abbrev pub told : ScenarioContents → State × Reply → List ℕ
-told S after = reply_line S after.0.now after.1
+-- a pool and the number of one of its workers
+abbrev pub worker_text : WorkRun → List ℕ
+worker_text run = decimal run.pool ++ codes "/" ++ decimal run.worker
+
+abbrev pub mode_text : WorkRun → Mode → List ℕ
+mode_text run Runnable = codes "runs " ++ worker_text run
+mode_text run (Asleep until) = codes "asleep " ++ worker_text run ++ codes " " ++ decimal until
+
+-- where a work runs
+abbrev pub run_text : Option WorkRun → List ℕ
+run_text None = codes "still"
+run_text (Some run) = mode_text run run.mode
+
+-- whether the work was taken off, in a line on a flush
+abbrev pub was_text : Bool → List ℕ
+was_text true = codes "cancelled"
+was_text false = codes "not pending"
+
+-- the work that an instruction names, if it names one
+abbrev pub asked_name : ScenarioContents → Instr → List ℕ
+asked_name S (instr.State work) = work_name S work
+asked_name S (instr.Queue work cpu) = []
+asked_name S (instr.Delay work cpu ticks) = []
+asked_name S (instr.Mod work cpu ticks) = []
+asked_name S (instr.Cancel work) = []
+asked_name S (instr.CancelSync work) = []
+asked_name S (instr.Flush work) = []
+asked_name S (instr.FlushDelayed work) = []
+asked_name S (instr.FlushQueue queue) = []
+asked_name S instr.Fire = []
+asked_name S (instr.Step pool) = []
+asked_name S instr.Tick = []
+asked_name S instr.Next = []
+asked_name S (instr.Ask flush) = []
+
+-- the line of a reply at a time, to an instruction; what was queued or done without a word has none
+abbrev pub reply_line : ScenarioContents → ℕ → Instr → Reply → List ℕ
+reply_line S now asked reply.Queued = []
+reply_line S now asked reply.Done = []
+reply_line S now asked reply.Already = line_at now (codes "already")
+reply_line S now asked reply.Changed = line_at now (codes "changed")
+reply_line S now asked reply.Cancelled = line_at now (codes "cancelled")
+reply_line S now asked reply.NotPending = line_at now (codes "not pending")
+reply_line S now asked (reply.Sync was flush) = line_at now (was_text was ++ codes " flush " ++ decimal flush)
+reply_line S now asked (reply.Flush flush) = line_at now (codes "flush " ++ decimal flush)
+reply_line S now asked reply.Yes = line_at now (codes "yes")
+reply_line S now asked reply.No = line_at now (codes "no")
+reply_line S now asked (reply.Found state) =
+    line_at now (asked_name S asked ++ codes " " ++ place_text state.place ++ codes " " ++ run_text state.run)
+reply_line S now asked (reply.Event work event) = line_at now (work_name S work ++ codes " " ++ event_text S event)
+reply_line S now asked (reply.Refused why) = line_at now (codes "refused " ++ refusal_text why)
+
+abbrev pub told : ScenarioContents → Instr → State × Reply → List ℕ
+told S asked after = reply_line S after.0.now asked after.1
 
 -- the lines of the instructions from a state on
 abbrev pub events_from : ScenarioContents → State → List Instr → List ℕ
 events_from S s [] = []
-events_from S s (instr ∷ instrs) = told S (table S s instr) ++ events_from S (table S s instr).0 instrs
+events_from S s (i ∷ is) = told S i (table S s i) ++ events_from S (table S s i).0 is
 
 -- the lines of a run
 abbrev pub events : ScenarioContents → List Instr → List ℕ

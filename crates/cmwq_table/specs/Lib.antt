@@ -4,3 +4,4 @@ pub mod Machine
 pub mod Moves
 pub mod State
 pub mod Table
+pub mod View

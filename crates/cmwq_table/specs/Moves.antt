@@ -1,5 +1,5 @@
 -- What changes the state: placing and filling, the moves of a pool, firing and ticking.
-use Rattle.std.specs.Prelude.{ℕ, zero, suc, ◌+◌, ◌-◌, Bool, true, false, List, [], ◌∷◌, length, Option, Some, None, if◌then◌else◌, ◌==◌, is_some, slice_set}
+use Rattle.std.specs.Prelude.{ℕ, zero, suc, ◌+◌, ◌-◌, Bool, true, false, List, [], ◌∷◌, ◌++◌, length, Option, Some, None, if◌then◌else◌, ◌==◌, is_some, slice_set}
 use Rattle.cmwq_types.specs.Contents.{ScenarioContents}
 use Rattle.cmwq_types.specs.Scenario.{queue_of, op_at}
 use Rattle.cmwq_types.specs.First.{first_below, by_least}
@@ -13,10 +13,12 @@ use Rattle.cmwq_types.specs.declared.reply.Event.{Event}
 use Rattle.cmwq_types.specs.declared.reply.Event.TheVariants as event
 use Rattle.cmwq_types.specs.declared.scenario.Op.{Op}
 use Rattle.cmwq_types.specs.declared.scenario.Op.TheVariants as op
+use Rattle.cmwq_table.specs.declared.state.FlushTarget.{FlushTarget}
+use Rattle.cmwq_table.specs.declared.state.FlushTarget.TheVariants.{Instance, Nothing}
 use Rattle.cmwq_table.specs.declared.state.Pending.{Pending}
 use Rattle.cmwq_table.specs.declared.state.Running.{Running}
 use Rattle.cmwq_table.specs.State.{State, seat, pending_at, running_at, made_at, target, pool_count}
-use Rattle.cmwq_table.specs.Counts.{is_deferred, has_room, may_start, first_inactive, first_listed, first_slept, ready_head, free_worker, or_else, burns}
+use Rattle.cmwq_table.specs.Counts.{is_placed, is_deferred, has_room, may_start, first_inactive, first_listed, first_slept, ready_head, free_worker, or_else, burns}
 
 -- Changes of one work. `taking` has taken the next stamp.
 
@@ -52,6 +54,11 @@ place S s w cpu = place_in S s w (pool_for S s w cpu)
 -- the work waits for a timer that runs until `due`, and will be placed on the CPU
 abbrev pub set_timer : State → ℕ → ℕ → ℕ → State
 set_timer s w cpu due = taking (with_pending s w (newborn s (Timer due cpu)))
+
+-- after no ticks it is placed at once
+abbrev pub place_after : ScenarioContents → State → ℕ → ℕ → ℕ → State
+place_after S s w cpu zero = place S s w cpu
+place_after S s w cpu (suc ticks) = set_timer s w cpu (s.now + suc ticks)
 
 -- Filling: while the queue has room in the pool, its first inactive work there is listed.
 
@@ -219,6 +226,7 @@ abbrev pub fired : ScenarioContents → State → ℕ → Option Pending → Sta
 fired S s w (Some p) = fired_to S s w p.place
 fired S s w None = s
 
+-- the work's timer, if it has one, fires
 abbrev pub fire : ScenarioContents → State → ℕ → State
 fire S s w = fired S s w (pending_at s w)
 
@@ -235,3 +243,18 @@ burned test w (r ∷ rs) = (if test w r then one_less r else r) ∷ burned test 
 
 abbrev pub tick : ScenarioContents → State → State
 tick S s = record s { now = s.now + 1; running = burned (burns S s) 0 s.running }
+
+-- Flushes. A flush has the number of flushes given before it.
+
+abbrev pub with_flush : State → FlushTarget → State
+with_flush s target = record s { flushes = s.flushes ++ target ∷ [] }
+
+-- the running instance of the work, or nothing
+abbrev pub running_instance : ℕ → Option Running → FlushTarget
+running_instance w (Some r) = Instance (record { 0 = w }) r.born
+running_instance w None = Nothing
+
+-- the placed instance of the work, else the running one, else nothing
+abbrev pub last_instance : ℕ → Option Pending → Option Running → FlushTarget
+last_instance w (Some p) running = if is_placed p.place then Instance (record { 0 = w }) p.born else running_instance w running
+last_instance w None running = running_instance w running

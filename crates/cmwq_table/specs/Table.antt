@@ -1,21 +1,27 @@
 -- The instruction table. Each instruction has a line in `operands`, one in `situation` and one in `effect`.
-use Rattle.std.specs.Prelude.{ℕ, ◌+◌, Bool, List, [], ◌∷◌, length, Option, Some, None, if◌then◌else◌, nat_lt}
+use Rattle.std.specs.Prelude.{ℕ, ◌+◌, Bool, true, false, ◌||◌, List, [], ◌∷◌, length, Option, Some, None, if◌then◌else◌, is_some, nat_lt, slice_index_or}
 use Rattle.cmwq_types.specs.Contents.{ScenarioContents}
 use Rattle.cmwq_types.specs.declared.instr.WorkId.{WorkId}
 use Rattle.cmwq_types.specs.declared.instr.Instr.{Instr}
-use Rattle.cmwq_types.specs.declared.instr.Instr.TheVariants.{Queue, Step, Tick, Next}
+use Rattle.cmwq_types.specs.declared.instr.Instr.TheVariants as instr
 use Rattle.cmwq_types.specs.declared.moves.Move.{Move}
 use Rattle.cmwq_types.specs.declared.reply.Cause.TheVariants.{Due, Pool}
 use Rattle.cmwq_types.specs.declared.reply.Event.{Event}
 use Rattle.cmwq_types.specs.declared.reply.Event.TheVariants as event
 use Rattle.cmwq_types.specs.declared.reply.Refusal.{Refusal}
-use Rattle.cmwq_types.specs.declared.reply.Refusal.TheVariants.{NoSuchWork, NoSuchCpu, NoSuchPool, Spent, NothingToDo, Unsettled}
+use Rattle.cmwq_types.specs.declared.reply.Refusal.TheVariants.{NoSuchWork, NoSuchQueue, NoSuchCpu, NoSuchPool, NoSuchFlush, Spent, TooManyFlushes, NothingToDo, Unsettled}
+use Rattle.cmwq_types.specs.declared.reply.Place.{Place}
+use Rattle.cmwq_types.specs.declared.reply.WorkRun.{WorkRun}
 use Rattle.cmwq_types.specs.declared.reply.Reply.{Reply}
 use Rattle.cmwq_types.specs.declared.reply.Reply.TheVariants as reply
+use Rattle.cmwq_table.specs.declared.state.FlushTarget.{FlushTarget}
+use Rattle.cmwq_table.specs.declared.state.FlushTarget.TheVariants as target
+use Rattle.cmwq_table.specs.declared.state.FlushTarget.TheVariants.{Nothing}
 use Rattle.cmwq_table.specs.declared.state.Pending.{Pending}
-use Rattle.cmwq_table.specs.State.{State, pending_at, pool_count, start}
-use Rattle.cmwq_table.specs.Counts.{first_due, or_else}
-use Rattle.cmwq_table.specs.Moves.{place, next_move, moved, moved_work, first_moving, fire, tick}
+use Rattle.cmwq_table.specs.declared.state.Running.{Running}
+use Rattle.cmwq_table.specs.State.{State, pending_at, running_at, pool_count, start}
+use Rattle.cmwq_table.specs.Counts.{first_due, is_done, or_else}
+use Rattle.cmwq_table.specs.Moves.{place, place_after, take_off, taken_off, next_move, moved, moved_work, first_moving, fire, tick, with_flush, running_instance, last_instance}
 
 -- a refusal where the test fails
 abbrev pub refuse_unless : Bool → Refusal → Option Refusal
@@ -23,12 +29,44 @@ refuse_unless holds why = if holds then None else Some why
 
 -- Operands, judged from left to right.
 
-abbrev pub operands : ScenarioContents → Instr → Option Refusal
-operands S (Queue w cpu) =
-    or_else (refuse_unless (nat_lt w.0 (length S.works)) NoSuchWork) (refuse_unless (nat_lt cpu S.cpus) NoSuchCpu)
-operands S (Step pool) = refuse_unless (nat_lt pool (pool_count S)) NoSuchPool
-operands S Tick = None
-operands S Next = None
+abbrev pub no_work : ScenarioContents → WorkId → Option Refusal
+no_work S w = refuse_unless (nat_lt w.0 (length S.works)) NoSuchWork
+
+abbrev pub no_work_or_cpu : ScenarioContents → WorkId → ℕ → Option Refusal
+no_work_or_cpu S w cpu = or_else (no_work S w) (refuse_unless (nat_lt cpu S.cpus) NoSuchCpu)
+
+abbrev pub operands : ScenarioContents → State → Instr → Option Refusal
+operands S s (instr.Queue w cpu) = no_work_or_cpu S w cpu
+operands S s (instr.Delay w cpu ticks) = no_work_or_cpu S w cpu
+operands S s (instr.Mod w cpu ticks) = no_work_or_cpu S w cpu
+operands S s (instr.Cancel w) = no_work S w
+operands S s (instr.CancelSync w) = no_work S w
+operands S s (instr.Flush w) = no_work S w
+operands S s (instr.FlushDelayed w) = no_work S w
+operands S s (instr.FlushQueue q) = refuse_unless (nat_lt q.0 (length S.queues)) NoSuchQueue
+operands S s instr.Fire = None
+operands S s (instr.Step pool) = refuse_unless (nat_lt pool (pool_count S)) NoSuchPool
+operands S s instr.Tick = None
+operands S s instr.Next = None
+operands S s (instr.Ask flush) = refuse_unless (nat_lt flush (length s.flushes)) NoSuchFlush
+operands S s (instr.State w) = no_work S w
+
+-- A question is never Spent, and changes nothing.
+abbrev pub is_question : Instr → Bool
+is_question (instr.Ask flush) = true
+is_question (instr.State w) = true
+is_question (instr.Queue w cpu) = false
+is_question (instr.Delay w cpu ticks) = false
+is_question (instr.Mod w cpu ticks) = false
+is_question (instr.Cancel w) = false
+is_question (instr.CancelSync w) = false
+is_question (instr.Flush w) = false
+is_question (instr.FlushDelayed w) = false
+is_question (instr.FlushQueue q) = false
+is_question instr.Fire = false
+is_question (instr.Step pool) = false
+is_question instr.Tick = false
+is_question instr.Next = false
 
 -- The situation.
 
@@ -45,11 +83,24 @@ abbrev pub unsettled : Option ℕ → Option ℕ → Option Refusal
 unsettled (Some w) moving = Some (Unsettled Due)
 unsettled None moving = unsettled_by_pool moving
 
+abbrev pub no_more_flushes : ScenarioContents → State → Option Refusal
+no_more_flushes S s = refuse_unless (nat_lt (length s.flushes) S.flushes) TooManyFlushes
+
 abbrev pub situation : ScenarioContents → State → Instr → Option Refusal
-situation S s (Queue w cpu) = None
-situation S s (Step pool) = nothing_to_do (next_move S s pool)
-situation S s Tick = unsettled (first_due S s) (first_moving S s)
-situation S s Next = None
+situation S s (instr.Queue w cpu) = None
+situation S s (instr.Delay w cpu ticks) = None
+situation S s (instr.Mod w cpu ticks) = None
+situation S s (instr.Cancel w) = None
+situation S s (instr.CancelSync w) = no_more_flushes S s
+situation S s (instr.Flush w) = no_more_flushes S s
+situation S s (instr.FlushDelayed w) = no_more_flushes S s
+situation S s (instr.FlushQueue q) = no_more_flushes S s
+situation S s instr.Fire = nothing_to_do (first_due S s)
+situation S s (instr.Step pool) = nothing_to_do (next_move S s pool)
+situation S s instr.Tick = unsettled (first_due S s) (first_moving S s)
+situation S s instr.Next = None
+situation S s (instr.Ask flush) = None
+situation S s (instr.State w) = None
 
 -- The effect and the reply.
 
@@ -59,6 +110,33 @@ as_event w after = (after.0, reply.Event w after.1)
 abbrev pub queued : ScenarioContents → State → ℕ → ℕ → Option Pending → State × Reply
 queued S s w cpu (Some p) = (s, reply.Already)
 queued S s w cpu None = (place S s w cpu, reply.Queued)
+
+abbrev pub delayed : ScenarioContents → State → ℕ → ℕ → ℕ → Option Pending → State × Reply
+delayed S s w cpu ticks (Some p) = (s, reply.Already)
+delayed S s w cpu ticks None = (place_after S s w cpu ticks, reply.Queued)
+
+-- a pending work is taken off, which fills what it leaves, and queued anew
+abbrev pub modified : ScenarioContents → State → ℕ → ℕ → ℕ → Option Pending → State × Reply
+modified S s w cpu ticks (Some p) = (place_after S (taken_off S s w (Some p)) w cpu ticks, reply.Changed)
+modified S s w cpu ticks None = (place_after S s w cpu ticks, reply.Queued)
+
+abbrev pub cancelled : ScenarioContents → State → ℕ → Option Pending → State × Reply
+cancelled S s w (Some p) = (taken_off S s w (Some p), reply.Cancelled)
+cancelled S s w None = (s, reply.NotPending)
+
+-- a flush is given, and told by its number
+abbrev pub flushed : State → FlushTarget → State × Reply
+flushed s target = (with_flush s target, reply.Flush (length s.flushes))
+
+abbrev pub flushed_last : State → ℕ → State × Reply
+flushed_last s w = flushed s (last_instance w (pending_at s w) (running_at s w))
+
+abbrev pub cancelled_sync : State → Bool → ℕ → State × Reply
+cancelled_sync s was w = (with_flush s (running_instance w (running_at s w)), reply.Sync was (length s.flushes))
+
+abbrev pub fired_first : ScenarioContents → State → Option ℕ → State × Reply
+fired_first S s (Some w) = as_event (record { 0 = w }) (fire S s w, event.Fires)
+fired_first S s None = (s, reply.Refused NothingToDo)
 
 abbrev pub stepped : ScenarioContents → State → ℕ → Option Move → State × Reply
 stepped S s pool (Some move) = as_event (moved_work move) (moved S s pool move)
@@ -71,46 +149,73 @@ step_or_tick S s None = (tick S s, reply.Done)
 
 -- fire, else step the least pool that has a move, else tick
 abbrev pub next : ScenarioContents → State → Option ℕ → State × Reply
-next S s (Some w) = as_event (record { 0 = w }) (fire S s w, event.Fires)
+next S s (Some w) = fired_first S s (Some w)
 next S s None = step_or_tick S s (first_moving S s)
 
+abbrev pub yes_or_no : Bool → Reply
+yes_or_no holds = if holds then reply.Yes else reply.No
+
+abbrev pub target_at : State → ℕ → FlushTarget
+target_at s flush = slice_index_or s.flushes flush Nothing
+
+abbrev pub run_of : Option Running → Option WorkRun
+run_of (Some r) = Some (record { pool = r.pool; worker = r.worker; mode = r.mode })
+run_of None = None
+
+abbrev pub place_of : Option Pending → Option Place
+place_of (Some p) = Some p.place
+place_of None = None
+
+abbrev pub found : State → ℕ → Reply
+found s w = reply.Found (record { place = place_of (pending_at s w); run = run_of (running_at s w) })
+
 abbrev pub effect : ScenarioContents → State → Instr → State × Reply
-effect S s (Queue w cpu) = queued S s w.0 cpu (pending_at s w.0)
-effect S s (Step pool) = stepped S s pool (next_move S s pool)
-effect S s Tick = (tick S s, reply.Done)
-effect S s Next = next S s (first_due S s)
+effect S s (instr.Queue w cpu) = queued S s w.0 cpu (pending_at s w.0)
+effect S s (instr.Delay w cpu ticks) = delayed S s w.0 cpu ticks (pending_at s w.0)
+effect S s (instr.Mod w cpu ticks) = modified S s w.0 cpu ticks (pending_at s w.0)
+effect S s (instr.Cancel w) = cancelled S s w.0 (pending_at s w.0)
+effect S s (instr.CancelSync w) = cancelled_sync (take_off S s w.0) (is_some (pending_at s w.0)) w.0
+effect S s (instr.Flush w) = flushed_last s w.0
+effect S s (instr.FlushDelayed w) = flushed_last (fire S s w.0) w.0
+effect S s (instr.FlushQueue q) = flushed s (target.Queue q s.next)
+effect S s instr.Fire = fired_first S s (first_due S s)
+effect S s (instr.Step pool) = stepped S s pool (next_move S s pool)
+effect S s instr.Tick = (tick S s, reply.Done)
+effect S s instr.Next = next S s (first_due S s)
+effect S s (instr.Ask flush) = (s, yes_or_no (is_done S s (target_at s flush)))
+effect S s (instr.State w) = (s, found s w.0)
 
--- The line of an instruction: a refusal changes nothing, and what is accepted is spent.
+-- The line of an instruction: a refusal changes nothing, and what is accepted is spent, questions aside.
 
-abbrev pub spent_all : ScenarioContents → State → Option Refusal
-spent_all S s = refuse_unless (nat_lt s.spent S.steps) Spent
+abbrev pub spent_all : ScenarioContents → State → Instr → Option Refusal
+spent_all S s i = refuse_unless (is_question i || nat_lt s.spent S.steps) Spent
 
 -- refusals are judged in this order: operands, Spent, the situation
 abbrev pub refusal : ScenarioContents → State → Instr → Option Refusal
-refusal S s instr = or_else (operands S instr) (or_else (spent_all S s) (situation S s instr))
+refusal S s i = or_else (operands S s i) (or_else (spent_all S s i) (situation S s i))
 
-abbrev pub spending : State × Reply → State × Reply
-spending after = (record after.0 { spent = after.0.spent + 1 }, after.1)
+abbrev pub spending : Instr → State × Reply → State × Reply
+spending i after = (record after.0 { spent = after.0.spent + (if is_question i then 0 else 1) }, after.1)
 
-abbrev pub answer : State → Option Refusal → State × Reply → State × Reply
-answer s (Some why) after = (s, reply.Refused why)
-answer s None after = spending after
+abbrev pub answer : State → Instr → Option Refusal → State × Reply → State × Reply
+answer s i (Some why) after = (s, reply.Refused why)
+answer s i None after = spending i after
 
 -- the state after the instruction, and the reply
 unfoldable pub table : ScenarioContents → State → Instr → State × Reply
-table S s instr = answer s (refusal S s instr) (effect S s instr)
+table S s i = answer s i (refusal S s i) (effect S s i)
 
 -- Runs.
 
 -- the state after the instructions, one after another
 abbrev pub after_all : ScenarioContents → State → List Instr → State
 after_all S s [] = s
-after_all S s (instr ∷ instrs) = after_all S (table S s instr).0 instrs
+after_all S s (i ∷ is) = after_all S (table S s i).0 is
 
 -- the reply to each instruction, in order
 abbrev pub replies_from : ScenarioContents → State → List Instr → List Reply
 replies_from S s [] = []
-replies_from S s (instr ∷ instrs) = (table S s instr).1 ∷ replies_from S (table S s instr).0 instrs
+replies_from S s (i ∷ is) = (table S s i).1 ∷ replies_from S (table S s i).0 is
 
 -- the state that a scenario comes to by the instructions
 abbrev pub run : ScenarioContents → List Instr → State

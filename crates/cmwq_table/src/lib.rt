@@ -5,8 +5,10 @@ mod machine;
 mod reply_line;
 mod runs;
 mod state;
+mod view;
 
 pub use machine::{LoadError, Machine};
 pub use reply_line::ReplyLine;
 pub use runs::run;
 pub use state::{FlushTarget, Pending, Running};
+pub use view::{IdleWorker, View};

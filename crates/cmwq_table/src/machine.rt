@@ -3,9 +3,11 @@ ghost use Rattle.cmwq_table.specs.State.{State};
 ghost use Rattle.cmwq_table.specs.Machine.{Loads};
 ghost use Rattle.cmwq_table.specs.Table.{table};
 ghost use Rattle.cmwq_types.specs.Contents.{ScenarioContents};
-ghost use Rattle.std.specs.Prelude.{◌≡◌};
+ghost use Rattle.cmwq_table.specs.View.{view_of};
+ghost use Rattle.std.specs.Prelude.{◌≡◌, IfOk};
 
-use cmwq_types::{Fault, Instr, Reply, Scenario};
+use crate::view::View;
+use cmwq_types::{Fault, Instr, NoMemory, Reply, Scenario};
 use std::alloc::{AllocError, Global};
 use thiserror::Error;
 
@@ -44,6 +46,15 @@ pub trait Machine: Drop {
     fn exec(&mut self, instr: Instr) -> Reply
         ensures exact { (state self.new, result) ≡ table (loaded self.old) (state self.old) instr }
         ensures scenario { loaded self.new ≡ loaded self.old };
+
+    /// A machine in the same state, with the same room, and independent of this one.
+    fn copy(&self) -> Result<Self, NoMemory>
+        ensures scenario { IfOk result (λ copy. loaded copy ≡ loaded self.now) }
+        ensures state { IfOk result (λ copy. state copy ≡ state self.now) };
+
+    /// Every part of the state.
+    fn look(&self) -> Result<View, NoMemory>
+        ensures view { IfOk result (λ view. view ≡ view_of (state self.now)) };
 
     /// The time, in ticks since the scenario was loaded.
     fn now(&self) -> u64

@@ -1,8 +1,8 @@
 //! The line that a reply prints.
-ghost use Rattle.cmwq_table.specs.Events.{event_text, refusal_text, reply_line, work_name};
+ghost use Rattle.cmwq_table.specs.Events.{asked_name, event_text, place_text, refusal_text, reply_line, run_text, was_text, work_name};
 ghost use Rattle.std.specs.Prelude.{◌≡◌, Some};
 
-use cmwq_types::{Event, Refusal, Reply, Scenario, WorkId};
+use cmwq_types::{Event, Instr, Mode, Place, Refusal, Reply, Scenario, WorkId, WorkRun};
 use std::fmt;
 
 /// A reply at a time, to be printed for a reader of the scenario.
@@ -14,17 +14,35 @@ pub struct ReplyLine<'a> {
     pub scenario: &'a Scenario,
     /// The time of the reply, in ticks.
     pub time: u64,
+    /// The instruction that is answered: the line of an answer to `State` names its work.
+    pub instr: Instr,
     pub reply: Reply,
 }
 
 impl fmt::Display for ReplyLine<'_> {
-    ghost output = { λ line. Some (reply_line line.scenario.now line.time line.reply) };
+    ghost output = { λ line. Some (reply_line line.scenario.now line.time line.instr line.reply) };
 
     fn fmt<W: fmt::Write>(&self, f: &mut fmt::Formatter<W>) -> fmt::Result {
         let time = self.time;
         match self.reply {
             Reply::Queued | Reply::Done => Ok(()),
             Reply::Already => write!(f, "{time} already\n"),
+            Reply::Changed => write!(f, "{time} changed\n"),
+            Reply::Cancelled => write!(f, "{time} cancelled\n"),
+            Reply::NotPending => write!(f, "{time} not pending\n"),
+            Reply::Sync { was, flush } => {
+                let was = was_text(was);
+                write!(f, "{time} {was} flush {flush}\n")
+            }
+            Reply::Flush(flush) => write!(f, "{time} flush {flush}\n"),
+            Reply::Yes => write!(f, "{time} yes\n"),
+            Reply::No => write!(f, "{time} no\n"),
+            Reply::Found(state) => {
+                let work = asked_name(self.scenario, self.instr);
+                let place = PlaceWords(state.place);
+                let run = RunWords(state.run);
+                write!(f, "{time} {work} {place} {run}\n")
+            }
             Reply::Event { work, event } => {
                 let work = work_name(self.scenario, work);
                 let words = EventWords {
@@ -73,15 +91,73 @@ impl fmt::Display for EventWords<'_> {
     }
 }
 
+/// Where a work waits.
+#[derive(Clone, Copy)]
+struct PlaceWords(Option<Place>);
+
+impl fmt::Display for PlaceWords {
+    ghost output = { λ words. Some (place_text words.0) };
+
+    fn fmt<W: fmt::Write>(&self, f: &mut fmt::Formatter<W>) -> fmt::Result {
+        match self.0 {
+            None => write!(f, "idle"),
+            Some(Place::Timer { due, .. }) => write!(f, "timer {due}"),
+            Some(Place::Inactive(pool)) => write!(f, "inactive {pool}"),
+            Some(Place::Listed(pool)) => write!(f, "listed {pool}"),
+            Some(Place::Deferred(pool)) => write!(f, "deferred {pool}"),
+        }
+    }
+}
+
+/// Where a work runs.
+#[derive(Clone, Copy)]
+struct RunWords(Option<WorkRun>);
+
+impl fmt::Display for RunWords {
+    ghost output = { λ words. Some (run_text words.0) };
+
+    fn fmt<W: fmt::Write>(&self, f: &mut fmt::Formatter<W>) -> fmt::Result {
+        let Some(run) = self.0 else {
+            return write!(f, "still");
+        };
+        let pool = run.pool;
+        let worker = run.worker;
+        match run.mode {
+            Mode::Runnable => write!(f, "runs {pool}/{worker}"),
+            Mode::Asleep(until) => write!(f, "asleep {pool}/{worker} {until}"),
+        }
+    }
+}
+
+/// Whether the work was taken off.
+fn was_text(was: bool) -> &'static str
+    ensures { result.now ≡ was_text was }
+{
+    if was { "cancelled" } else { "not pending" }
+}
+
+/// The name of the work that the instruction asks for.
+fn asked_name(scenario: &Scenario, instr: Instr) -> &str
+    ensures { result.now ≡ asked_name scenario.now instr }
+{
+    match instr {
+        Instr::State(work) => work_name(scenario, work),
+        _ => "",
+    }
+}
+
 /// The refusal's name.
 fn refusal_name(why: Refusal) -> &'static str
     ensures { result.now ≡ refusal_text why }
 {
     match why {
         Refusal::NoSuchWork => "NoSuchWork",
+        Refusal::NoSuchQueue => "NoSuchQueue",
         Refusal::NoSuchCpu => "NoSuchCpu",
         Refusal::NoSuchPool => "NoSuchPool",
+        Refusal::NoSuchFlush => "NoSuchFlush",
         Refusal::Spent => "Spent",
+        Refusal::TooManyFlushes => "TooManyFlushes",
         Refusal::NothingToDo => "NothingToDo",
         Refusal::Unsettled(_) => "Unsettled",
     }

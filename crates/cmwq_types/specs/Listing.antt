@@ -53,9 +53,19 @@ body_lines S work = Words (codes "body" ∷ work.name ∷ []) ∷ map (op_line S
 
 abbrev pub instr_words : ScenarioContents → Instr → List (List ℕ)
 instr_words S (instr.Queue work cpu) = codes "queue" ∷ (work_at S work.0).name ∷ decimal cpu ∷ []
+instr_words S (instr.Delay work cpu ticks) = codes "delay" ∷ (work_at S work.0).name ∷ decimal cpu ∷ decimal ticks ∷ []
+instr_words S (instr.Mod work cpu ticks) = codes "mod" ∷ (work_at S work.0).name ∷ decimal cpu ∷ decimal ticks ∷ []
+instr_words S (instr.Cancel work) = codes "cancel" ∷ (work_at S work.0).name ∷ []
+instr_words S (instr.CancelSync work) = codes "cancel_sync" ∷ (work_at S work.0).name ∷ []
+instr_words S (instr.Flush work) = codes "flush" ∷ (work_at S work.0).name ∷ []
+instr_words S (instr.FlushDelayed work) = codes "flush_delayed" ∷ (work_at S work.0).name ∷ []
+instr_words S (instr.FlushQueue queue) = codes "flush_queue" ∷ (queue_at S queue.0).name ∷ []
+instr_words S instr.Fire = codes "fire" ∷ []
 instr_words S (instr.Step pool) = codes "step" ∷ decimal pool ∷ []
 instr_words S instr.Tick = codes "tick" ∷ []
 instr_words S instr.Next = codes "next" ∷ []
+instr_words S (instr.Ask flush) = codes "ask" ∷ decimal flush ∷ []
+instr_words S (instr.State work) = codes "state" ∷ (work_at S work.0).name ∷ []
 
 abbrev pub actor_line : ScenarioContents → Line → WrittenLine
 actor_line S line = Repeated (instr_words S line.instr) line.times

@@ -181,13 +181,21 @@ impl Scenario {
         Ok(())
     }
 
-    /// Whether the work that the instruction names, if it names one, is declared.
+    /// Whether the work or queue that the instruction names, if it names one, is declared.
     fn declares_names_of(&self, instr: Instr) -> bool
         ensures { result ≡ names_declared self.now instr }
     {
         match instr {
-            Instr::Queue(work, _) => (work.0 as usize) < self.works.len(),
-            Instr::Step(_) | Instr::Tick | Instr::Next => true,
+            Instr::Queue(work, _)
+            | Instr::Delay(work, _, _)
+            | Instr::Mod(work, _, _)
+            | Instr::Cancel(work)
+            | Instr::CancelSync(work)
+            | Instr::Flush(work)
+            | Instr::FlushDelayed(work)
+            | Instr::State(work) => (work.0 as usize) < self.works.len(),
+            Instr::FlushQueue(queue) => (queue.0 as usize) < self.queues.len(),
+            Instr::Fire | Instr::Step(_) | Instr::Tick | Instr::Next | Instr::Ask(_) => true,
         }
     }
 }

@@ -7,9 +7,10 @@ use std::alloc::Global;
 
 impl Scenario {
     /// A scenario equal to this one. The only error is want of memory.
-    pub fn copy(&self, alloc: Global) -> Result<Scenario, NoMemory>
+    pub fn copy(&self) -> Result<Scenario, NoMemory>
         ensures { IfOk result (λ copy. copy ≡ self.now) }
     {
+        let alloc = *self.queues.allocator();
         let queues = Vec::from_slice(alloc, &self.queues)?;
         let works = copied_works(alloc, &self.works)?;
         let actors = copied_actors(alloc, &self.actors)?;

@@ -17,6 +17,41 @@ pub enum Instr {
     ///
     /// Refused where there is no such work, or the CPU isn't below `cpus`.
     Queue(WorkId, u8),
+    /// Queues the work on the CPU after so many ticks, as the kernel's `queue_delayed_work_on` does. A
+    /// pending work stays as it is, and a delay of 0 queues at once.
+    ///
+    /// Refused as `Queue` is.
+    Delay(WorkId, u8, u32),
+    /// The same, but a pending work is taken off first, as by the kernel's `mod_delayed_work_on`.
+    ///
+    /// Refused as `Queue` is.
+    Mod(WorkId, u8, u32),
+    /// Takes a pending work off, as the kernel's `cancel_work` does.
+    ///
+    /// Refused where there is no such work.
+    Cancel(WorkId),
+    /// The same, and gives a flush on the running instance of the work: the kernel's
+    /// `cancel_work_sync` waits for that.
+    ///
+    /// Refused where there is no such work, or no further flush can be given.
+    CancelSync(WorkId),
+    /// Gives a flush on the last instance of the work that was queued, as the kernel's `flush_work`
+    /// waits for it. A work whose timer runs isn't placed yet.
+    ///
+    /// Refused as `CancelSync` is.
+    Flush(WorkId),
+    /// Ends the timer of the work, if it has one, and places the work; then as `Flush`. The kernel's
+    /// `flush_delayed_work`.
+    ///
+    /// Refused as `CancelSync` is.
+    FlushDelayed(WorkId),
+    /// Gives a flush on what was queued on the queue so far, as the kernel's `flush_workqueue` waits
+    /// for it.
+    ///
+    /// Refused where there is no such queue, or no further flush can be given.
+    FlushQueue(QueueId),
+    /// Fires the first timer that has run out. Refused where there is none.
+    Fire,
     /// Lets the worker pool of this number make its move.
     ///
     /// On N CPUs the pools are 0 to 2N + 1: of CPU c the normal pool 2c and the high pool 2c + 1, then
@@ -26,4 +61,8 @@ pub enum Instr {
     Tick,
     /// Fires a due timer, else steps the least pool that has a move, else ticks.
     Next,
+    /// Asks whether the flush of this number is done. Refused where no such flush was given.
+    Ask(u16),
+    /// Asks where the work is. Refused where there is no such work.
+    State(WorkId),
 }

@@ -22,5 +22,5 @@ pub use limits::{
 pub use memory::NoMemory;
 pub use moves::Move;
 pub use name::Name;
-pub use reply::{Cause, Event, Mode, Place, Refusal, Reply};
+pub use reply::{Cause, Event, Mode, Place, Refusal, Reply, WorkRun, WorkState};
 pub use scenario::{Actor, Flags, Line, Op, QueueDecl, Scenario, WorkDecl};

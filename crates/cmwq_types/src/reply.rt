@@ -61,16 +61,41 @@ pub enum Cause {
 pub enum Refusal {
     /// No work has the number.
     NoSuchWork,
+    /// No queue has the number.
+    NoSuchQueue,
     /// No CPU has the number.
     NoSuchCpu,
     /// No pool has the number.
     NoSuchPool,
+    /// No flush has the number.
+    NoSuchFlush,
     /// The scenario's `steps` are used up.
     Spent,
-    /// The pool has no move.
+    /// The scenario's `flushes` are used up.
+    TooManyFlushes,
+    /// The pool has no move, or no timer has run out.
     NothingToDo,
     /// Something can still happen without time.
     Unsettled(Cause),
+}
+
+/// Where a running work runs.
+#[derive(Clone, Copy, Debug, PartialEq, Eq)]
+pub struct WorkRun {
+    /// The pool in which it runs.
+    pub pool: u8,
+    /// The number of its worker in that pool.
+    pub worker: u8,
+    pub mode: Mode,
+}
+
+/// Where a work is.
+#[derive(Clone, Copy, Debug, PartialEq, Eq)]
+pub struct WorkState {
+    /// Where it waits, if it is pending.
+    pub place: Option<Place>,
+    /// Where it runs, if it runs.
+    pub run: Option<WorkRun>,
 }
 
 /// What the machine answers to an instruction.
@@ -80,8 +105,24 @@ pub enum Reply {
     Queued,
     /// The work was pending already, and nothing changed.
     Already,
+    /// The pending work was taken off and queued anew.
+    Changed,
+    /// The pending work was taken off.
+    Cancelled,
+    /// The work wasn't pending, and nothing changed.
+    NotPending,
+    /// The work `was` pending and was taken off, or not; the flush has this number.
+    Sync { was: bool, flush: u16 },
+    /// The flush has this number.
+    Flush(u16),
     /// It was done.
     Done,
+    /// It is so.
+    Yes,
+    /// It isn't so.
+    No,
+    /// This is where the work is.
+    Found(WorkState),
     /// The work moved.
     Event { work: WorkId, event: Event },
     /// It was refused, and nothing changed.

@@ -1,6 +1,5 @@
 use Rattle.std.proofs.Common.{◌≡◌, ◌++◌, take}
 use Rattle.std.specs.List.{flat_map}
-use Rattle.std.specs.Prelude.{map}
 use Rattle.cmwq_types.specs.Listing.{actor_lines, written_text}
 use Rattle.cmwq_asm.proofs.listing.push_actors.Given as goal
 

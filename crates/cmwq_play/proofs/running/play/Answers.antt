@@ -1,8 +1,8 @@
-use Rattle.std.proofs.Common.{[], List, ℕ, subst}
+use Rattle.std.proofs.Common.{List, ℕ, subst}
 use Rattle.std.proofs.lemmas.Result.{err_from_is_err_and}
 use Rattle.cmwq_types.specs.Scenario.{expand}
 use Rattle.cmwq_table.specs.Events.{events}
-use Rattle.cmwq_play.specs.Sending.{HasSent, Sends, SendsFront}
+use Rattle.cmwq_play.specs.Sending.{Sends, SendsFront}
 use Rattle.cmwq_play.proofs.SendingLemmas.{all_sent, sends_all, sends_front_all}
 use Rattle.cmwq_play.proofs.running.play.Goals as goal
 

@@ -8,6 +8,7 @@ abbrev pub invariant-loop-turn : goal.invariant-loop-turn
 invariant-loop-turn l = record {
   rest : fill_times l.scenario l.queue l.pool (length l.scenario.works - l._turn) l.self ≡ fill_times l.scenario l.queue l.pool (length l.scenario.works) l.fn.self;
   ready : IsReady l.scenario l.self;
+  flushes : l.self.flushes ≡ l.fn.self.flushes;
   clock : HasSameClock l.fn.self l.self;
   stamps : l.self.next ≤ l.fn.self.next + l._turn;
 }
