@@ -25,8 +25,8 @@ abbrev pub once_burning : List Op
 once_burning = op.Burn 5 ∷ op.Sleep 10 ∷ op.Finish ∷ []
 
 -- Three works on one queue of the kernel document, of this `max_active`; then so many times `next`.
-abbrev pub document : ℕ → ℕ → ScenarioContents
-document max nexts =
+abbrev pub three_works : ℕ → ℕ → ScenarioContents
+three_works max nexts =
     scenario 1000
     (queue (codes "q") max plain_flags ∷ [])
     (work (codes "w0") 0 twice_burning ∷ work (codes "w1") 0 once_burning ∷ work (codes "w2") 0 once_burning ∷ [])

@@ -2,24 +2,24 @@
 //! prints, how one is listed, or that they are valid. No other crate stands on this one.
 #![tactic(auto)]
 
-ghost use Rattle.cmwq_rows.specs.Rows.{cancelled_while_running, cancelled_while_running_lines, cpu_intensive_beside_normal, cpu_intensive_lines, document, flushes, flushes_lines, high_beside_normal, high_lines, max_active_1, max_active_2, max_active_3, printed, queued_elsewhere, queued_elsewhere_lines, queued_twice, queued_twice_lines, queues_itself, queues_itself_lines, refused, refused_in_order, refused_in_order_lines, refused_lines, steps_run_out, steps_run_out_lines, timers, timers_lines, unbound_beside_ordered, unbound_lines, written_out};
+ghost use Rattle.cmwq_rows.specs.Rows.{cancelled_while_running, cancelled_while_running_lines, cpu_intensive_beside_normal, cpu_intensive_lines, flushes, flushes_lines, high_beside_normal, high_lines, max_active_1, max_active_2, max_active_3, printed, queued_elsewhere, queued_elsewhere_lines, queued_twice, queued_twice_lines, queues_itself, queues_itself_lines, refused, refused_in_order, refused_in_order_lines, refused_lines, steps_run_out, steps_run_out_lines, three_works, timers, timers_lines, unbound_beside_ordered, unbound_lines, written_out};
 ghost use Rattle.cmwq_types.specs.Faults.{IsValid};
 ghost use Rattle.cmwq_types.specs.Listing.{listing};
 ghost use Rattle.std.specs.Prelude.{◌≡◌};
 
 /// The kernel document's scenario with `max_active` 3: all three works are active at once.
 pub fn works_sleep_by_turns()
-    ensures { printed (document 3 41) ≡ max_active_3 }
+    ensures { printed (three_works 3 41) ≡ max_active_3 }
 {}
 
 /// The same with `max_active` 2: the third work is active once the first has finished.
 pub fn third_work_waits_for_first()
-    ensures { printed (document 2 51) ≡ max_active_2 }
+    ensures { printed (three_works 2 51) ≡ max_active_2 }
 {}
 
 /// The same with `max_active` 1: the works run one after another.
 pub fn works_run_one_by_one()
-    ensures { printed (document 1 66) ≡ max_active_1 }
+    ensures { printed (three_works 1 66) ≡ max_active_1 }
 {}
 
 /// A CPU-intensive work doesn't keep another one from starting.
@@ -86,9 +86,9 @@ pub fn running_work_keeps_its_pool()
 
 /// Each of these scenarios is valid.
 pub fn examples_are_valid()
-    ensures document_3 { IsValid (document 3 41) }
-    ensures document_2 { IsValid (document 2 51) }
-    ensures document_1 { IsValid (document 1 66) }
+    ensures three_works_3 { IsValid (three_works 3 41) }
+    ensures three_works_2 { IsValid (three_works 2 51) }
+    ensures three_works_1 { IsValid (three_works 1 66) }
     ensures cpu_intensive { IsValid cpu_intensive_beside_normal }
     ensures high { IsValid high_beside_normal }
     ensures unbound { IsValid unbound_beside_ordered }
