@@ -201,11 +201,19 @@ fn push_instr(
         Instr::Flush(work) => push_named(text, b"flush", work_name(scenario, work)),
         Instr::FlushDelayed(work) => push_named(text, b"flush_delayed", work_name(scenario, work)),
         Instr::FlushQueue(queue) => push_named(text, b"flush_queue", queue_name(scenario, queue)),
+        Instr::SetMax(queue, max) => {
+            let max = max.to_string(alloc)?;
+            let name = queue_name(scenario, queue);
+            push_words(text, b"set_max", &[name, max.as_bytes()])
+        }
+        Instr::Freeze => push_words(text, b"freeze", &[]),
+        Instr::Thaw => push_words(text, b"thaw", &[]),
         Instr::Fire => push_words(text, b"fire", &[]),
         Instr::Step(pool) => push_counted(alloc, text, b"step", u32::from(pool)),
         Instr::Tick => push_words(text, b"tick", &[]),
         Instr::Next => push_words(text, b"next", &[]),
         Instr::Ask(flush) => push_counted(alloc, text, b"ask", u32::from(flush)),
+        Instr::Busy => push_words(text, b"busy", &[]),
         Instr::State(work) => push_named(text, b"state", work_name(scenario, work)),
     }
 }

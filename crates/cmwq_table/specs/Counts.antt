@@ -34,6 +34,13 @@ is_active (Deferred at) pool = at == pool
 is_active (Timer due cpu) pool = false
 is_active (Inactive at) pool = false
 
+-- the same, in whatever pool
+abbrev pub is_activated : Place → Bool
+is_activated (Listed at) = true
+is_activated (Deferred at) = true
+is_activated (Timer due cpu) = false
+is_activated (Inactive at) = false
+
 abbrev pub is_deferred : Place → Bool
 is_deferred (Deferred at) = true
 is_deferred (Timer due cpu) = false
@@ -117,6 +124,15 @@ active S s queue pool =
 
 abbrev pub has_room : ScenarioContents → State → ℕ → ℕ → Bool
 has_room S s queue pool = nat_lt (active S s queue pool) (limit S s queue)
+
+-- the work is listed, deferred or runs, and its queue is freezable
+abbrev pub is_busy_work : ScenarioContents → State → ℕ → Bool
+is_busy_work S s w =
+    (flags_at S (queue_of S w)).freezable && (pends is_activated (pending_at s w) || is_some (running_at s w))
+
+-- some freezable queue has an active work
+abbrev pub is_busy : ScenarioContents → State → Bool
+is_busy S s = not (count_below (is_busy_work S s) (length S.works) == 0)
 
 -- Concurrency.
 

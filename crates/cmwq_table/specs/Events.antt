@@ -46,8 +46,12 @@ refusal_text refusal.NoSuchQueue = codes "NoSuchQueue"
 refusal_text refusal.NoSuchCpu = codes "NoSuchCpu"
 refusal_text refusal.NoSuchPool = codes "NoSuchPool"
 refusal_text refusal.NoSuchFlush = codes "NoSuchFlush"
+refusal_text refusal.BadCount = codes "BadCount"
 refusal_text refusal.Spent = codes "Spent"
 refusal_text refusal.TooManyFlushes = codes "TooManyFlushes"
+refusal_text refusal.Ordered = codes "Ordered"
+refusal_text refusal.AlreadyFrozen = codes "AlreadyFrozen"
+refusal_text refusal.NotFrozen = codes "NotFrozen"
 refusal_text refusal.NothingToDo = codes "NothingToDo"
 refusal_text (refusal.Unsettled cause) = codes "Unsettled"
 
@@ -92,11 +96,15 @@ asked_name S (instr.CancelSync work) = []
 asked_name S (instr.Flush work) = []
 asked_name S (instr.FlushDelayed work) = []
 asked_name S (instr.FlushQueue queue) = []
+asked_name S (instr.SetMax queue max) = []
+asked_name S instr.Freeze = []
+asked_name S instr.Thaw = []
 asked_name S instr.Fire = []
 asked_name S (instr.Step pool) = []
 asked_name S instr.Tick = []
 asked_name S instr.Next = []
 asked_name S (instr.Ask flush) = []
+asked_name S instr.Busy = []
 
 -- the line of a reply at a time, to an instruction; what was queued or done without a word has none
 abbrev pub reply_line : ScenarioContents → ℕ → Instr → Reply → List ℕ

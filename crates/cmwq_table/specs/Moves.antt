@@ -1,7 +1,7 @@
 -- What changes the state: placing and filling, the moves of a pool, firing and ticking.
 use Rattle.std.specs.Prelude.{ℕ, zero, suc, ◌+◌, ◌-◌, Bool, true, false, List, [], ◌∷◌, ◌++◌, length, Option, Some, None, if◌then◌else◌, ◌==◌, is_some, slice_set}
 use Rattle.cmwq_types.specs.Contents.{ScenarioContents}
-use Rattle.cmwq_types.specs.Scenario.{queue_of, op_at}
+use Rattle.cmwq_types.specs.Scenario.{flags_at, queue_of, op_at}
 use Rattle.cmwq_types.specs.First.{first_below, by_least}
 use Rattle.cmwq_types.specs.declared.instr.WorkId.{WorkId}
 use Rattle.cmwq_types.specs.declared.moves.Move.{Move}
@@ -81,6 +81,33 @@ fill_times S queue pool (suc n) s = fill_times S queue pool n (fill_one S queue 
 -- no queue has more works to list than there are works
 abbrev pub fill : ScenarioContents → ℕ → ℕ → State → State
 fill S queue pool s = fill_times S queue pool (length S.works) s
+
+-- the queue is filled in each of the first n pools, pools rising
+abbrev pub fill_pools : ScenarioContents → ℕ → ℕ → State → State
+fill_pools S queue zero s = s
+fill_pools S queue (suc n) s = fill S queue n (fill_pools S queue n s)
+
+abbrev pub fill_everywhere : ScenarioContents → ℕ → State → State
+fill_everywhere S queue s = fill_pools S queue (pool_count S) s
+
+-- each freezable one of the first n queues is filled everywhere, queues rising
+abbrev pub fill_freezable : ScenarioContents → ℕ → State → State
+fill_freezable S zero s = s
+fill_freezable S (suc n) s =
+    if (flags_at S n).freezable then fill_everywhere S n (fill_freezable S n s) else fill_freezable S n s
+
+-- Limits and the freeze.
+
+-- the queue's max is set, and what has room now is activated
+abbrev pub set_max : ScenarioContents → State → ℕ → ℕ → State
+set_max S s queue max = fill_everywhere S queue (record s { max = slice_set s.max queue max })
+
+abbrev pub freeze : State → State
+freeze s = record s { frozen = true }
+
+-- the freeze ends, and what has room now is activated
+abbrev pub thaw : ScenarioContents → State → State
+thaw S s = fill_freezable S (length S.queues) (record s { frozen = false })
 
 -- Taking off: the work isn't pending any more, and what it leaves in a pool is filled.
 

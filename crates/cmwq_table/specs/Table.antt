@@ -1,15 +1,18 @@
 -- The instruction table. Each instruction has a line in `operands`, one in `situation` and one in `effect`.
-use Rattle.std.specs.Prelude.{ℕ, ◌+◌, Bool, true, false, ◌||◌, List, [], ◌∷◌, length, Option, Some, None, if◌then◌else◌, is_some, nat_lt, slice_index_or}
+use Rattle.std.specs.Prelude.{ℕ, ◌+◌, Bool, true, false, not, ◌||◌, List, [], ◌∷◌, length, Option, Some, None, if◌then◌else◌, is_some, nat_lt, slice_index_or}
 use Rattle.cmwq_types.specs.Contents.{ScenarioContents}
+use Rattle.cmwq_types.specs.Faults.{within}
+use Rattle.cmwq_types.specs.Scenario.{flags_at}
 use Rattle.cmwq_types.specs.declared.instr.WorkId.{WorkId}
 use Rattle.cmwq_types.specs.declared.instr.Instr.{Instr}
 use Rattle.cmwq_types.specs.declared.instr.Instr.TheVariants as instr
+use Rattle.cmwq_types.specs.declared.limits.TheConstants.{MAX_MAX_ACTIVE}
 use Rattle.cmwq_types.specs.declared.moves.Move.{Move}
 use Rattle.cmwq_types.specs.declared.reply.Cause.TheVariants.{Due, Pool}
 use Rattle.cmwq_types.specs.declared.reply.Event.{Event}
 use Rattle.cmwq_types.specs.declared.reply.Event.TheVariants as event
 use Rattle.cmwq_types.specs.declared.reply.Refusal.{Refusal}
-use Rattle.cmwq_types.specs.declared.reply.Refusal.TheVariants.{NoSuchWork, NoSuchQueue, NoSuchCpu, NoSuchPool, NoSuchFlush, Spent, TooManyFlushes, NothingToDo, Unsettled}
+use Rattle.cmwq_types.specs.declared.reply.Refusal.TheVariants.{NoSuchWork, NoSuchQueue, NoSuchCpu, NoSuchPool, NoSuchFlush, BadCount, Spent, TooManyFlushes, Ordered, AlreadyFrozen, NotFrozen, NothingToDo, Unsettled}
 use Rattle.cmwq_types.specs.declared.reply.Place.{Place}
 use Rattle.cmwq_types.specs.declared.reply.WorkRun.{WorkRun}
 use Rattle.cmwq_types.specs.declared.reply.Reply.{Reply}
@@ -20,8 +23,8 @@ use Rattle.cmwq_table.specs.declared.state.FlushTarget.TheVariants.{Nothing}
 use Rattle.cmwq_table.specs.declared.state.Pending.{Pending}
 use Rattle.cmwq_table.specs.declared.state.Running.{Running}
 use Rattle.cmwq_table.specs.State.{State, pending_at, running_at, pool_count, start}
-use Rattle.cmwq_table.specs.Counts.{first_due, is_done, or_else}
-use Rattle.cmwq_table.specs.Moves.{place, place_after, take_off, taken_off, next_move, moved, moved_work, first_moving, fire, tick, with_flush, running_instance, last_instance}
+use Rattle.cmwq_table.specs.Counts.{first_due, is_busy, is_done, or_else}
+use Rattle.cmwq_table.specs.Moves.{place, place_after, take_off, taken_off, set_max, freeze, thaw, next_move, moved, moved_work, first_moving, fire, tick, with_flush, running_instance, last_instance}
 
 -- a refusal where the test fails
 abbrev pub refuse_unless : Bool → Refusal → Option Refusal
@@ -44,16 +47,22 @@ operands S s (instr.CancelSync w) = no_work S w
 operands S s (instr.Flush w) = no_work S w
 operands S s (instr.FlushDelayed w) = no_work S w
 operands S s (instr.FlushQueue q) = refuse_unless (nat_lt q.0 (length S.queues)) NoSuchQueue
+operands S s (instr.SetMax q max) =
+    or_else (refuse_unless (nat_lt q.0 (length S.queues)) NoSuchQueue) (refuse_unless (within 1 MAX_MAX_ACTIVE max) BadCount)
+operands S s instr.Freeze = None
+operands S s instr.Thaw = None
 operands S s instr.Fire = None
 operands S s (instr.Step pool) = refuse_unless (nat_lt pool (pool_count S)) NoSuchPool
 operands S s instr.Tick = None
 operands S s instr.Next = None
 operands S s (instr.Ask flush) = refuse_unless (nat_lt flush (length s.flushes)) NoSuchFlush
+operands S s instr.Busy = None
 operands S s (instr.State w) = no_work S w
 
 -- A question is never Spent, and changes nothing.
 abbrev pub is_question : Instr → Bool
 is_question (instr.Ask flush) = true
+is_question instr.Busy = true
 is_question (instr.State w) = true
 is_question (instr.Queue w cpu) = false
 is_question (instr.Delay w cpu ticks) = false
@@ -63,6 +72,9 @@ is_question (instr.CancelSync w) = false
 is_question (instr.Flush w) = false
 is_question (instr.FlushDelayed w) = false
 is_question (instr.FlushQueue q) = false
+is_question (instr.SetMax q max) = false
+is_question instr.Freeze = false
+is_question instr.Thaw = false
 is_question instr.Fire = false
 is_question (instr.Step pool) = false
 is_question instr.Tick = false
@@ -95,11 +107,15 @@ situation S s (instr.CancelSync w) = no_more_flushes S s
 situation S s (instr.Flush w) = no_more_flushes S s
 situation S s (instr.FlushDelayed w) = no_more_flushes S s
 situation S s (instr.FlushQueue q) = no_more_flushes S s
+situation S s (instr.SetMax q max) = refuse_unless (not (flags_at S q.0).ordered) Ordered
+situation S s instr.Freeze = refuse_unless (not s.frozen) AlreadyFrozen
+situation S s instr.Thaw = refuse_unless s.frozen NotFrozen
 situation S s instr.Fire = nothing_to_do (first_due S s)
 situation S s (instr.Step pool) = nothing_to_do (next_move S s pool)
 situation S s instr.Tick = unsettled (first_due S s) (first_moving S s)
 situation S s instr.Next = None
 situation S s (instr.Ask flush) = None
+situation S s instr.Busy = None
 situation S s (instr.State w) = None
 
 -- The effect and the reply.
@@ -178,11 +194,15 @@ effect S s (instr.CancelSync w) = cancelled_sync (take_off S s w.0) (is_some (pe
 effect S s (instr.Flush w) = flushed_last s w.0
 effect S s (instr.FlushDelayed w) = flushed_last (fire S s w.0) w.0
 effect S s (instr.FlushQueue q) = flushed s (target.Queue q s.next)
+effect S s (instr.SetMax q max) = (set_max S s q.0 max, reply.Done)
+effect S s instr.Freeze = (freeze s, reply.Done)
+effect S s instr.Thaw = (thaw S s, reply.Done)
 effect S s instr.Fire = fired_first S s (first_due S s)
 effect S s (instr.Step pool) = stepped S s pool (next_move S s pool)
 effect S s instr.Tick = (tick S s, reply.Done)
 effect S s instr.Next = next S s (first_due S s)
 effect S s (instr.Ask flush) = (s, yes_or_no (is_done S s (target_at s flush)))
+effect S s instr.Busy = (s, yes_or_no (is_busy S s))
 effect S s (instr.State w) = (s, found s w.0)
 
 -- The line of an instruction: a refusal changes nothing, and what is accepted is spent, questions aside.

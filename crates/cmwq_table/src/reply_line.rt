@@ -156,8 +156,12 @@ fn refusal_name(why: Refusal) -> &'static str
         Refusal::NoSuchCpu => "NoSuchCpu",
         Refusal::NoSuchPool => "NoSuchPool",
         Refusal::NoSuchFlush => "NoSuchFlush",
+        Refusal::BadCount => "BadCount",
         Refusal::Spent => "Spent",
         Refusal::TooManyFlushes => "TooManyFlushes",
+        Refusal::Ordered => "Ordered",
+        Refusal::AlreadyFrozen => "AlreadyFrozen",
+        Refusal::NotFrozen => "NotFrozen",
         Refusal::NothingToDo => "NothingToDo",
         Refusal::Unsettled(_) => "Unsettled",
     }

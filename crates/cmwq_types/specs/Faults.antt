@@ -101,11 +101,15 @@ names_declared s (instr.CancelSync work) = nat_lt work.0 (length s.works)
 names_declared s (instr.Flush work) = nat_lt work.0 (length s.works)
 names_declared s (instr.FlushDelayed work) = nat_lt work.0 (length s.works)
 names_declared s (instr.FlushQueue queue) = nat_lt queue.0 (length s.queues)
+names_declared s (instr.SetMax queue max) = nat_lt queue.0 (length s.queues)
+names_declared s instr.Freeze = true
+names_declared s instr.Thaw = true
 names_declared s instr.Fire = true
 names_declared s (instr.Step pool) = true
 names_declared s instr.Tick = true
 names_declared s instr.Next = true
 names_declared s (instr.Ask flush) = true
+names_declared s instr.Busy = true
 names_declared s (instr.State work) = nat_lt work.0 (length s.works)
 
 abbrev pub line_fault : ScenarioContents → Line → Option Fault

@@ -60,11 +60,15 @@ instr_words S (instr.CancelSync work) = codes "cancel_sync" ∷ (work_at S work.
 instr_words S (instr.Flush work) = codes "flush" ∷ (work_at S work.0).name ∷ []
 instr_words S (instr.FlushDelayed work) = codes "flush_delayed" ∷ (work_at S work.0).name ∷ []
 instr_words S (instr.FlushQueue queue) = codes "flush_queue" ∷ (queue_at S queue.0).name ∷ []
+instr_words S (instr.SetMax queue max) = codes "set_max" ∷ (queue_at S queue.0).name ∷ decimal max ∷ []
+instr_words S instr.Freeze = codes "freeze" ∷ []
+instr_words S instr.Thaw = codes "thaw" ∷ []
 instr_words S instr.Fire = codes "fire" ∷ []
 instr_words S (instr.Step pool) = codes "step" ∷ decimal pool ∷ []
 instr_words S instr.Tick = codes "tick" ∷ []
 instr_words S instr.Next = codes "next" ∷ []
 instr_words S (instr.Ask flush) = codes "ask" ∷ decimal flush ∷ []
+instr_words S instr.Busy = codes "busy" ∷ []
 instr_words S (instr.State work) = codes "state" ∷ (work_at S work.0).name ∷ []
 
 abbrev pub actor_line : ScenarioContents → Line → WrittenLine

@@ -44,7 +44,7 @@ impl Scenario {
     /// - of each queue `Duplicate`, `BadFlags`;
     /// - of each work `Duplicate`, its queue `Unknown`, `TooMany` operations, `BadBody`, and of each
     ///   operation its work `Unknown`, then `Range`;
-    /// - of each actor `Duplicate`, `TooMany` lines, and of each line its work `Unknown`, then `Range`
+    /// - of each actor `Duplicate`, `TooMany` lines, and of each line its work or queue `Unknown`, then `Range`
     ///   of its times.
     ///
     /// CPU and pool numbers of an actor's lines aren't judged here: the machine refuses them.
@@ -194,8 +194,17 @@ impl Scenario {
             | Instr::Flush(work)
             | Instr::FlushDelayed(work)
             | Instr::State(work) => (work.0 as usize) < self.works.len(),
-            Instr::FlushQueue(queue) => (queue.0 as usize) < self.queues.len(),
-            Instr::Fire | Instr::Step(_) | Instr::Tick | Instr::Next | Instr::Ask(_) => true,
+            Instr::FlushQueue(queue) | Instr::SetMax(queue, _) => {
+                (queue.0 as usize) < self.queues.len()
+            }
+            Instr::Freeze
+            | Instr::Thaw
+            | Instr::Fire
+            | Instr::Step(_)
+            | Instr::Tick
+            | Instr::Next
+            | Instr::Ask(_)
+            | Instr::Busy => true,
         }
     }
 }

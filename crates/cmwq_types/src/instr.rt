@@ -50,6 +50,19 @@ pub enum Instr {
     ///
     /// Refused where there is no such queue, or no further flush can be given.
     FlushQueue(QueueId),
+    /// Sets the queue's `max`, as the kernel's `workqueue_set_max_active` does: of each pool the works
+    /// that have room now are activated, and nothing that is active is thrown out.
+    ///
+    /// Refused where there is no such queue, the number is outside 1 to 512, or the queue is ordered.
+    SetMax(QueueId, u32),
+    /// Freezes the machine, as the kernel's `freeze_workqueues_begin` does: nothing of a freezable queue
+    /// is activated until the thaw. What is on a worklist already is still started.
+    ///
+    /// Refused where it is frozen already.
+    Freeze,
+    /// Thaws the machine, as the kernel's `thaw_workqueues` does, and activates the works of freezable
+    /// queues that have room. Refused where it isn't frozen.
+    Thaw,
     /// Fires the first timer that has run out. Refused where there is none.
     Fire,
     /// Lets the worker pool of this number make its move.
@@ -63,6 +76,8 @@ pub enum Instr {
     Next,
     /// Asks whether the flush of this number is done. Refused where no such flush was given.
     Ask(u16),
+    /// Asks whether a freezable queue has an active work, as the kernel's `freeze_workqueues_busy` does.
+    Busy,
     /// Asks where the work is. Refused where there is no such work.
     State(WorkId),
 }

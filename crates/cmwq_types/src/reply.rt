@@ -69,10 +69,18 @@ pub enum Refusal {
     NoSuchPool,
     /// No flush has the number.
     NoSuchFlush,
+    /// A `max` is outside 1 to 512.
+    BadCount,
     /// The scenario's `steps` are used up.
     Spent,
     /// The scenario's `flushes` are used up.
     TooManyFlushes,
+    /// An ordered queue keeps `max` 1 for good.
+    Ordered,
+    /// The machine is frozen already.
+    AlreadyFrozen,
+    /// The machine isn't frozen.
+    NotFrozen,
     /// The pool has no move, or no timer has run out.
     NothingToDo,
     /// Something can still happen without time.
