@@ -25,6 +25,9 @@ unbound = record plain_flags { unbound = true }
 abbrev pub cpu_intensive : Flags
 cpu_intensive = record plain_flags { cpu_intensive = true }
 
+abbrev pub freezable : Flags
+freezable = record plain_flags { freezable = true }
+
 abbrev pub ordered : Flags
 ordered = record plain_flags { ordered = true }
 

@@ -7,7 +7,7 @@ use Rattle.cmwq_types.specs.declared.instr.Instr.TheVariants as instr
 use Rattle.cmwq_types.specs.declared.scenario.Op.{Op}
 use Rattle.cmwq_types.specs.declared.scenario.Op.TheVariants as op
 use Rattle.cmwq_table.specs.Events.{events}
-use Rattle.cmwq_rows.specs.Declare.{queue, work, highpri, unbound, cpu_intensive, ordered, queues, enqueue, delay, modify, cancel, cancel_sync, flush, flush_delayed, flush_queue, ask, state, times, scenario}
+use Rattle.cmwq_rows.specs.Declare.{queue, work, highpri, unbound, cpu_intensive, freezable, ordered, queues, enqueue, delay, modify, cancel, cancel_sync, flush, flush_delayed, flush_queue, set_max, ask, state, times, scenario}
 
 -- a text of these lines
 abbrev pub text : List (List ℕ) → List ℕ
@@ -263,3 +263,48 @@ abbrev pub queued_elsewhere_lines : List ℕ
 queued_elsewhere_lines =
     text (
     codes "0 a starts" ∷ codes "0 a burns 2" ∷ codes "0 a listed 0 runs 0/0" ∷ [])
+
+-- a runs and b is listed as the machine freezes; c is queued after it
+abbrev pub freeze_and_thaw : ScenarioContents
+freeze_and_thaw =
+    scenario 1000 (queue (codes "f") 2 freezable ∷ [])
+    (work (codes "a") 0 (burning 2) ∷ work (codes "b") 0 (burning 2) ∷ work (codes "c") 0 (burning 2) ∷ [])
+    (enqueue 0 0 ∷ times instr.Next 2 ∷ enqueue 1 0 ∷ times instr.Freeze 1 ∷ times instr.Freeze 1
+    ∷ enqueue 2 0 ∷ times instr.Busy 1 ∷ times instr.Next 8 ∷ times instr.Busy 1 ∷ times instr.Thaw 1
+    ∷ times instr.Thaw 1 ∷ times instr.Next 5 ∷ [])
+
+-- a goes on and b still starts; c starts after the thaw
+abbrev pub freeze_and_thaw_lines : List ℕ
+freeze_and_thaw_lines =
+    text (
+    codes "0 a starts" ∷ codes "0 a burns 2" ∷ codes "0 refused AlreadyFrozen" ∷ codes "0 yes" ∷
+    codes "2 a finishes" ∷ codes "2 b starts" ∷ codes "2 b burns 2" ∷ codes "4 b finishes" ∷
+    codes "4 no" ∷ codes "4 refused NotFrozen" ∷ codes "4 c starts" ∷ codes "4 c burns 2" ∷
+    codes "6 c finishes" ∷ [])
+
+-- three works are active when max falls to 1, and a fourth is queued; then max rises to 4
+abbrev pub max_down_and_up : ScenarioContents
+max_down_and_up =
+    scenario 1000 (queue (codes "q") 3 plain_flags ∷ queue (codes "o") 1 ordered ∷ [])
+    (work (codes "a") 0 (burning 1) ∷ work (codes "b") 0 (burning 1) ∷ work (codes "c") 0 (burning 1)
+    ∷ work (codes "d") 0 (burning 1) ∷ [])
+    (set_max 1 2 ∷ set_max 0 0 ∷ enqueue 0 0 ∷ enqueue 1 0 ∷ enqueue 2 0 ∷ set_max 0 1 ∷ enqueue 3 0
+    ∷ state 2 ∷ state 3 ∷ set_max 0 4 ∷ state 3 ∷ [])
+
+-- c stays listed, d waits, and is listed once there is room
+abbrev pub max_down_and_up_lines : List ℕ
+max_down_and_up_lines =
+    text (
+    codes "0 refused Ordered" ∷ codes "0 refused BadCount" ∷ codes "0 c listed 0 still" ∷
+    codes "0 d inactive 0 still" ∷ codes "0 d listed 0 still" ∷ [])
+
+-- max rises from 1 to 2: of the works that wait, the one that was queued first is activated
+abbrev pub activated_in_order : ScenarioContents
+activated_in_order =
+    scenario 1000 (queue (codes "q") 1 plain_flags ∷ [])
+    (work (codes "a") 0 (burning 1) ∷ work (codes "b") 0 (burning 1) ∷ work (codes "c") 0 (burning 1) ∷ [])
+    (enqueue 2 0 ∷ enqueue 1 0 ∷ enqueue 0 0 ∷ set_max 0 2 ∷ state 0 ∷ state 1 ∷ state 2 ∷ [])
+
+abbrev pub activated_in_order_lines : List ℕ
+activated_in_order_lines =
+    text (codes "0 a inactive 0 still" ∷ codes "0 b listed 0 still" ∷ codes "0 c listed 0 still" ∷ [])

@@ -2,7 +2,7 @@
 //! prints, how one is listed, or that they are valid. No other crate stands on this one.
 #![tactic(auto)]
 
-ghost use Rattle.cmwq_rows.specs.Rows.{cancelled_while_running, cancelled_while_running_lines, cpu_intensive_beside_normal, cpu_intensive_lines, flushes, flushes_lines, high_beside_normal, high_lines, max_active_1, max_active_2, max_active_3, printed, queued_elsewhere, queued_elsewhere_lines, queued_twice, queued_twice_lines, queues_itself, queues_itself_lines, refused, refused_in_order, refused_in_order_lines, refused_lines, steps_run_out, steps_run_out_lines, three_works, timers, timers_lines, unbound_beside_ordered, unbound_lines, written_out};
+ghost use Rattle.cmwq_rows.specs.Rows.{activated_in_order, activated_in_order_lines, cancelled_while_running, cancelled_while_running_lines, cpu_intensive_beside_normal, cpu_intensive_lines, flushes, flushes_lines, freeze_and_thaw, freeze_and_thaw_lines, high_beside_normal, high_lines, max_active_1, max_active_2, max_active_3, max_down_and_up, max_down_and_up_lines, printed, queued_elsewhere, queued_elsewhere_lines, queued_twice, queued_twice_lines, queues_itself, queues_itself_lines, refused, refused_in_order, refused_in_order_lines, refused_lines, steps_run_out, steps_run_out_lines, three_works, timers, timers_lines, unbound_beside_ordered, unbound_lines, written_out};
 ghost use Rattle.cmwq_types.specs.Faults.{IsValid};
 ghost use Rattle.cmwq_types.specs.Listing.{listing};
 ghost use Rattle.std.specs.Prelude.{◌≡◌};
@@ -84,6 +84,22 @@ pub fn running_work_keeps_its_pool()
     ensures { printed queued_elsewhere ≡ queued_elsewhere_lines }
 {}
 
+/// A frozen machine activates nothing of a freezable queue and drains what was listed; the thaw activates
+/// what was queued meanwhile.
+pub fn freeze_drains_and_thaw_fills()
+    ensures { printed freeze_and_thaw ≡ freeze_and_thaw_lines }
+{}
+
+/// Lowering `max` throws nothing out, and raising it activates what waits.
+pub fn max_falls_and_rises()
+    ensures { printed max_down_and_up ≡ max_down_and_up_lines }
+{}
+
+/// Once there is room, the work that was queued first is activated.
+pub fn room_activates_in_order()
+    ensures { printed activated_in_order ≡ activated_in_order_lines }
+{}
+
 /// Each of these scenarios is valid.
 pub fn examples_are_valid()
     ensures three_works_3 { IsValid (three_works 3 41) }
@@ -101,6 +117,9 @@ pub fn examples_are_valid()
     ensures flushes { IsValid flushes }
     ensures cancelled_while_running { IsValid cancelled_while_running }
     ensures queued_elsewhere { IsValid queued_elsewhere }
+    ensures freeze_and_thaw { IsValid freeze_and_thaw }
+    ensures max_down_and_up { IsValid max_down_and_up }
+    ensures activated_in_order { IsValid activated_in_order }
 {}
 
 /// The listing of a scenario is its text, line by line.
