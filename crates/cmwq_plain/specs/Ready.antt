@@ -73,7 +73,7 @@ pub record IsKept (S : ScenarioContents) (s : State) : Type 0 where
   pub ready : IsReady S s
   pub spent : s.spent ≤ S.steps
   pub now : s.now ≤ s.spent
-  pub next : s.next ≤ 524288 * s.spent
+  pub next : s.next ≤ 32 * 34 * 256 * s.spent
 
 -- a loaded scenario and the state that it has come to
 pub record Loaded : Type 0 where

@@ -7,7 +7,7 @@ ghost use Rattle.cmwq_types.specs.declared.limits.TheConstants.{MAX_MAX_ACTIVE};
 ghost use Rattle.cmwq_types.specs.declared.reply.Refusal.TheVariants.{BadCount, NoSuchQueue};
 ghost use Rattle.cmwq_table.specs.Moves.{fire, first_moving, moved_work, next_move, take_off};
 ghost use Rattle.cmwq_table.specs.Table.{cancelled, cancelled_sync, delayed, effect, fired_first, flushed, flushed_last, found, is_question, modified, next, no_work, no_work_or_cpu, operands, queued, refusal, refuse_unless, situation, step_or_tick, stepped, table, target_at, unsettled, yes_or_no};
-ghost use Rattle.std.specs.Prelude.{◌≡◌, ◌<◌, ◌≤◌, ◌+◌, ◌^◌, None, if◌then◌else◌, is_some, length, nat_lt};
+ghost use Rattle.std.specs.Prelude.{◌≡◌, ◌<◌, ◌≤◌, ◌+◌, ◌*◌, ◌^◌, None, if◌then◌else◌, is_some, length, nat_lt};
 
 use crate::records::Records;
 use crate::setting::{flags_of, pool_count};
@@ -123,13 +123,13 @@ impl Records {
         requires operands { operands scenario.now self.old instr ≡ None }
         requires situation { situation scenario.now self.old instr ≡ None }
         requires time { self.old.now < 2 ^ 62 }
-        requires stamps { self.old.next + 300000 < 2 ^ 63 }
+        requires stamps { self.old.next + 32 * 34 * 256 < 2 ^ 63 }
         ensures state { self.new ≡ (effect scenario.now self.old instr).0 }
         ensures reply { result ≡ (effect scenario.now self.old instr).1 }
         ensures ready { IsReady scenario.now self.new }
         ensures time { self.new.now ≤ self.old.now + (if is_question instr then 0 else 1) }
         ensures spent { self.new.spent ≡ self.old.spent }
-        ensures stamps { self.new.next ≤ self.old.next + (if is_question instr then 0 else 300000) }
+        ensures stamps { self.new.next ≤ self.old.next + (if is_question instr then 0 else 32 * 34 * 256) }
     {
         match instr {
             Instr::Queue(w, cpu) => self.queue(scenario, w.0 as usize, cpu),

@@ -9,5 +9,5 @@ invariant-loop-queue l = record {
   filled : l.self ≡ fill_freezable l.scenario l.queue l.fn.self;
   ready : IsReady l.scenario l.self;
   clock : HasSameClock l.fn.self l.self;
-  stamps : l.self.next ≤ l.fn.self.next + 8704 * l.queue;
+  stamps : l.self.next ≤ l.fn.self.next + 34 * 256 * l.queue;
 }
