@@ -102,6 +102,7 @@ IsSetting-valid S valid =
       workers = grind (arith, nat_tests);
       steps = grind (arith, nat_tests);
       flushes = grind (arith, nat_tests);
+      queues = grind (arith, nat_tests);
       works = grind (arith, nat_tests);
       ops = λ w. (bodies w).ops;
       ends = λ w. (bodies w).ends;

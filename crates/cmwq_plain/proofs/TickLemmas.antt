@@ -55,6 +55,7 @@ burned-by_heads S s heads are =
 pub tick-ready : (S : ScenarioContents) (s : State) → IsReady S s → IsReady S (tick S s)
 tick-ready S s ready = record {
   setting = ready.setting;
+  max_long = ready.max_long;
   pending_long = ready.pending_long;
   running_long = length-burned (burns S s) 0 s.running ∙ ready.running_long;
   idle_long = ready.idle_long;
