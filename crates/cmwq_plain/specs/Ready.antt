@@ -68,7 +68,8 @@ pub record HasSameClock (old new : State) : Type 0 where
   pub now : new.now ≡ old.now
   pub spent : new.spent ≡ old.spent
 
--- what the machine keeps between two instructions: no counter can outgrow the scenario's steps
+-- What the machine keeps between two instructions: no counter can outgrow the scenario's steps. One
+-- instruction fills 32 queues in 34 pools at most, and a fill gives each of 256 works one stamp at most.
 pub record IsKept (S : ScenarioContents) (s : State) : Type 0 where
   pub ready : IsReady S s
   pub spent : s.spent ≤ S.steps
