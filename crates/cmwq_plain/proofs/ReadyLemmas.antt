@@ -1,10 +1,10 @@
 -- What changes of the state keep of its readiness.
-use Rattle.std.proofs.Common.{◌≡◌, ℕ, suc, zero, ◌+◌, ◌*◌, ◌<◌, ◌≤◌, Bool, List, [], ◌∷◌, length, Option, Some, None, arith, refl, sym, ap, ◌∙◌, subst}
+use Rattle.std.proofs.Common.{ℕ, suc, zero, Bool, List, [], ◌∷◌, Option, None, ◌∙◌}
 use Rattle.std.proofs.Math.ListN.{length-set}
 use Rattle.std.specs.Prelude.{slice_set, slice_index_or}
 use Rattle.cmwq_types.specs.Contents.{ScenarioContents}
-use Rattle.cmwq_table.specs.State.{State, pending_at, running_at, pool_count, seat}
-use Rattle.cmwq_table.specs.Moves.{with_pending, with_running, taking, retire, started_on, begun}
+use Rattle.cmwq_table.specs.State.{State}
+use Rattle.cmwq_table.specs.Moves.{with_pending, with_running, taking}
 use Rattle.cmwq_table.specs.declared.state.Pending.{Pending}
 use Rattle.cmwq_table.specs.declared.state.Running.{Running}
 use Rattle.cmwq_plain.specs.Ready.{IsReady, IsPendingReady, IsRunningReady}

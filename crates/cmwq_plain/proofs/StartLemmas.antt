@@ -1,11 +1,11 @@
 -- The start state of a valid scenario can be gone on from.
-use Rattle.std.proofs.Common.{◌≡◌, ℕ, zero, suc, ◌+◌, ◌*◌, List, [], ◌∷◌, length, replicate, Option, None, arith, refl}
+use Rattle.std.proofs.Common.{ℕ, zero, suc, ◌*◌, length, replicate, Option, None, arith}
 use Rattle.std.proofs.lemmas.List.{length-map, length-replicate}
 use Rattle.std.specs.Prelude.{slice_index_or}
 use Rattle.cmwq_types.specs.Contents.{ScenarioContents}
 use Rattle.cmwq_types.specs.Faults.{IsValid}
 use Rattle.cmwq_table.specs.State.{pool_count, start}
-use Rattle.cmwq_plain.specs.Ready.{IsKept, IsPendingReady, IsReady, IsRunningReady}
+use Rattle.cmwq_plain.specs.Ready.{IsKept, IsPendingReady, IsRunningReady}
 use Rattle.cmwq_plain.proofs.SettingLemmas.{IsSetting-valid}
 
 each-none : {A : Type 0} (P : Option A → Type 0) → P None → (n w : ℕ) → P (slice_index_or (replicate n None) w None)

@@ -1,7 +1,7 @@
 -- What keeps the plain machine going: what a valid scenario gives, and what each state of it keeps.
-use Rattle.std.specs.Prelude.{◌≡◌, ℕ, ◌+◌, ◌*◌, ◌<◌, ◌≤◌, List, length, Option, Some, None}
+use Rattle.std.specs.Prelude.{◌≡◌, ℕ, ◌*◌, ◌<◌, ◌≤◌, length, Option, Some, None}
 use Rattle.cmwq_types.specs.Contents.{ScenarioContents}
-use Rattle.cmwq_types.specs.Scenario.{op_at, queue_of}
+use Rattle.cmwq_types.specs.Scenario.{op_at}
 use Rattle.cmwq_types.specs.declared.limits.TheConstants.{MAX_FLUSHES}
 use Rattle.cmwq_types.specs.declared.reply.Place.{Place}
 use Rattle.cmwq_types.specs.declared.reply.Place.TheVariants.{Timer, Inactive, Listed, Deferred}
@@ -68,7 +68,8 @@ pub record HasSameClock (old new : State) : Type 0 where
   pub now : new.now ≡ old.now
   pub spent : new.spent ≡ old.spent
 
--- what the machine keeps between two instructions: no counter can outgrow the scenario's steps
+-- What the machine keeps between two instructions: no counter can outgrow the scenario's steps. One
+-- instruction fills 32 queues in 34 pools at most, and a fill gives each of 256 works one stamp at most.
 pub record IsKept (S : ScenarioContents) (s : State) : Type 0 where
   pub ready : IsReady S s
   pub spent : s.spent ≤ S.steps

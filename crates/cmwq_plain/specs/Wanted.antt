@@ -1,8 +1,8 @@
 -- What each scan looks for, and in which order, in the table's words.
-use Rattle.std.specs.Prelude.{ℕ, Bool, not, ◌&&◌, ◌==◌, nat_lt}
+use Rattle.std.specs.Prelude.{ℕ, Bool, ◌&&◌, ◌==◌, nat_lt}
 use Rattle.cmwq_types.specs.Contents.{ScenarioContents}
 use Rattle.cmwq_types.specs.Scenario.{queue_of}
-use Rattle.cmwq_types.specs.First.{by_least, by_least_two}
+use Rattle.cmwq_types.specs.First.{by_least_two}
 use Rattle.cmwq_table.specs.State.{State, pending_at, running_at}
 use Rattle.cmwq_table.specs.Counts.{has_instance, is_active, is_busy_work, is_counted, is_due, is_inactive, is_listed, is_runnable, is_slept, pending_before, pending_due, pending_stamp, pends, running_before, running_stamp, running_until, runs}
 use Rattle.cmwq_plain.specs.declared.wanted.Wanted.{Wanted}
