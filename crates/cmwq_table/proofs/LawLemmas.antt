@@ -1,0 +1,4 @@
+pub mod Changes
+pub mod Counting
+pub mod Setting
+pub mod Sound
