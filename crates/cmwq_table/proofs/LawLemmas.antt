@@ -1,6 +1,9 @@
 pub mod Changes
 pub mod Concurrency
 pub mod Counting
+pub mod Fills
 pub mod Levels
+pub mod Makers
+pub mod Room
 pub mod Setting
 pub mod Sound

@@ -52,7 +52,7 @@ activates S s w at queue pool rest room true true of_queue in_pool =
 activates S s w at queue pool rest room true false of_queue in_pool = inl (omega arith)
 activates S s w at queue pool rest room false y of_queue in_pool = inl (omega arith)
 
-falls : (x y : Bool) (rest : ℕ) → bit (x && false) + rest ≤ bit (x && y) + rest
+pub falls : (x y : Bool) (rest : ℕ) → bit (x && false) + rest ≤ bit (x && y) + rest
 falls true true rest = omega arith
 falls true false rest = omega arith
 falls false y rest = omega arith
@@ -66,7 +66,7 @@ falls-right false y rest = omega arith
 passes-on : (x y : Bool) → bit (x && false) + bit (x && y) ≤ bit (x && y) + bit (x && false)
 passes-on x y = omega arith
 
-pool-same : (x : Bool) (a b pool rest : ℕ) → b ≡ a → rest + bit (x && (b == pool)) ≤ rest + bit (x && (a == pool))
+pub pool-same : (x : Bool) (a b pool rest : ℕ) → b ≡ a → rest + bit (x && (b == pool)) ≤ rest + bit (x && (a == pool))
 pool-same x a b pool rest e = let same : bit (x && (b == pool)) ≡ bit (x && (a == pool)) = ap (λ (at : ℕ). bit (x && (at == pool))) e in omega arith
 
 Kind-active : (S : ScenarioContents) (places wakes : Bool) (s : State) (w : ℕ) (left : Option ℕ) (a : Option Pending) (b : Option Running) (c : Option Pending) (d : Option Running) (n queue pool : ℕ) → Kind S places wakes s w left a b c d n → RisesIf (active S s queue pool < limit S s queue) (active_of S w queue pool c d) (active_of S w queue pool a b)
