@@ -4,6 +4,7 @@ pub mod Counting
 pub mod Fills
 pub mod Levels
 pub mod Makers
+pub mod Order
 pub mod Room
 pub mod Setting
 pub mod Sound
