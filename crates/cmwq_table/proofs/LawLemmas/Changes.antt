@@ -68,14 +68,15 @@ pub record Change (S : ScenarioContents) (places wakes : Bool) (left : Option �
   pub alters : Alters S s t w p r
   pub kind : Kind S places wakes s w left (pending_at s w) (running_at s w) p r t.next
 
--- Changes one after another. Where a queue loses an active instance in a pool, it is filled there.
-pub data Follows (S : ScenarioContents) (places wakes : Bool) : State → State → Type 0 where
-  stays : (s : State) → Follows S places wakes s s
-  changes : (s t u : State) (w : ℕ) → Change S places wakes None s t w → Follows S places wakes t u → Follows S places wakes s u
-  leaves : (s t u : State) (w pool : ℕ) → Change S places wakes (Some pool) s t w → Follows S places wakes t (fill S (queue_of S w) pool t) → Follows S places wakes (fill S (queue_of S w) pool t) u → Follows S places wakes s u
+-- Changes one after another. Where a queue loses an active instance in a pool it is filled there, which
+-- places nothing anew.
+pub data Follows (S : ScenarioContents) : Bool → Bool → State → State → Type 0 where
+  stays : (places wakes : Bool) (s : State) → Follows S places wakes s s
+  changes : (places wakes : Bool) (s t u : State) (w : ℕ) → Change S places wakes None s t w → Follows S places wakes t u → Follows S places wakes s u
+  leaves : (places wakes : Bool) (s t u : State) (w pool : ℕ) → Change S places wakes (Some pool) s t w → Follows S false wakes t (fill S (queue_of S w) pool t) → Follows S places wakes (fill S (queue_of S w) pool t) u → Follows S places wakes s u
 
 pub Follows-then : (S : ScenarioContents) (places wakes : Bool) (s t u : State) → Follows S places wakes s t → Follows S places wakes t u → Follows S places wakes s u
-Follows-then S places wakes s t u (stays a) next = next
-Follows-then S places wakes s t u (changes a b c w change rest) next = changes s b u w change (Follows-then S places wakes b t u rest next)
-Follows-then S places wakes s t u (leaves a b c w pool change filled rest) next =
-    leaves s b u w pool change filled (Follows-then S places wakes (fill S (queue_of S w) pool b) t u rest next)
+Follows-then S places wakes s t u (stays pl wk a) next = next
+Follows-then S places wakes s t u (changes pl wk a b c w change rest) next = changes places wakes s b u w change (Follows-then S places wakes b t u rest next)
+Follows-then S places wakes s t u (leaves pl wk a b c w pool change filled rest) next =
+    leaves places wakes s b u w pool change filled (Follows-then S places wakes (fill S (queue_of S w) pool b) t u rest next)

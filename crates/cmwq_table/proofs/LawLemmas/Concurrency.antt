@@ -91,11 +91,11 @@ one-then a b c (inr first) (inl second) = inr (omega arith)
 one-then a b c first (inr second) = inr second
 
 pub Follows-counted : (S : ScenarioContents) (places wakes : Bool) (s t : State) (pool : ℕ) → wakes ≡ false → Follows S places wakes s t → RisesWithin 1 (counted S t pool) (counted S s pool)
-Follows-counted S places wakes s t pool quiet (Follows.stays a) = inl (omega arith)
-Follows-counted S places wakes s t pool quiet (Follows.changes a b c w change rest) =
+Follows-counted S places wakes s t pool quiet (Follows.stays pl wk a) = inl (omega arith)
+Follows-counted S places wakes s t pool quiet (Follows.changes pl wk a b c w change rest) =
     one-then (counted S s pool) (counted S b pool) (counted S t pool) (Change-counted S places wakes None s b w pool quiet change) (Follows-counted S places wakes b t pool quiet rest)
-Follows-counted S places wakes s t pool quiet (Follows.leaves a b c w at change filled rest) =
+Follows-counted S places wakes s t pool quiet (Follows.leaves pl wk a b c w at change filled rest) =
     let after = fill S (queue_of S w) at b in
     one-then (counted S s pool) (counted S after pool) (counted S t pool)
-    (one-then (counted S s pool) (counted S b pool) (counted S after pool) (Change-counted S places wakes (Some at) s b w pool quiet change) (Follows-counted S places wakes b after pool quiet filled))
+    (one-then (counted S s pool) (counted S b pool) (counted S after pool) (Change-counted S places wakes (Some at) s b w pool quiet change) (Follows-counted S false wakes b after pool quiet filled))
     (Follows-counted S places wakes after t pool quiet rest)

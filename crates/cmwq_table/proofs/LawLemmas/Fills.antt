@@ -127,13 +127,13 @@ fill_times-stays S queue pool (suc n) s still = ap (fill_times S queue pool n) s
 fills-rest : (S : ScenarioContents) (places wakes : Bool) (queue pool n : ℕ) (s t : State) → IsLong S s → inactive S s queue pool ≤ suc n → ((u : State) → IsLong S u → inactive S u queue pool ≤ n → Fills S places wakes queue pool u (fill_times S queue pool n u)) → fill_one S queue pool s ≡ t → FillsOne S places wakes queue pool s t → Fills S places wakes queue pool s (fill_times S queue pool n t)
 fills-rest S places wakes queue pool n s t long few again e (FillsOne.full is_full) =
     subst (λ (u : State). Fills S places wakes queue pool s u) (sym (fill_times-stays S queue pool n s e))
-    (record { follows = Follows.stays s; long = long; full = is_full })
+    (record { follows = Follows.stays places wakes s; long = long; full = is_full })
 fills-rest S places wakes queue pool n s t long few again e (FillsOne.one u w change fewer) =
     let rest : Fills S places wakes queue pool t (fill_times S queue pool n t) = again t change.alters.long (omega arith) in
-    record { follows = Follows.changes s t (fill_times S queue pool n t) w change rest.follows; long = rest.long; full = rest.full }
+    record { follows = Follows.changes places wakes s t (fill_times S queue pool n t) w change rest.follows; long = rest.long; full = rest.full }
 
 fills-times : (S : ScenarioContents) (places wakes : Bool) (queue pool n : ℕ) (s : State) → IsLong S s → inactive S s queue pool ≤ n → Fills S places wakes queue pool s (fill_times S queue pool n s)
-fills-times S places wakes queue pool zero s long few = record { follows = Follows.stays s; long = long; full = full-unless S s queue pool long few }
+fills-times S places wakes queue pool zero s long few = record { follows = Follows.stays places wakes s; long = long; full = full-unless S s queue pool long few }
 fills-times S places wakes queue pool (suc n) s long few =
     fills-rest S places wakes queue pool n s (fill_one S queue pool s) long few (fills-times S places wakes queue pool n) refl (fills-one S places wakes queue pool s long)
 

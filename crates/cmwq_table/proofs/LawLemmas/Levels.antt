@@ -113,10 +113,10 @@ module _ (S : ScenarioContents) (places wakes : Bool) (left : Option ℕ) (s t :
       ]
 
 pub Follows-limit : (S : ScenarioContents) (places wakes : Bool) (s t : State) (queue : ℕ) → Follows S places wakes s t → limit S t queue ≡ limit S s queue
-Follows-limit S places wakes s t queue (Follows.stays a) = refl
-Follows-limit S places wakes s t queue (Follows.changes a b c w change rest) = Follows-limit S places wakes b t queue rest ∙ Change-limit S places wakes None s b w change queue
-Follows-limit S places wakes s t queue (Follows.leaves a b c w pool change filled rest) =
-    Follows-limit S places wakes (fill S (queue_of S w) pool b) t queue rest ∙ (Follows-limit S places wakes b (fill S (queue_of S w) pool b) queue filled ∙ Change-limit S places wakes (Some pool) s b w change queue)
+Follows-limit S places wakes s t queue (Follows.stays pl wk a) = refl
+Follows-limit S places wakes s t queue (Follows.changes pl wk a b c w change rest) = Follows-limit S places wakes b t queue rest ∙ Change-limit S places wakes None s b w change queue
+Follows-limit S places wakes s t queue (Follows.leaves pl wk a b c w pool change filled rest) =
+    Follows-limit S places wakes (fill S (queue_of S w) pool b) t queue rest ∙ (Follows-limit S false wakes b (fill S (queue_of S w) pool b) queue filled ∙ Change-limit S places wakes (Some pool) s b w change queue)
 
 within-then : (bound next a b c : ℕ) → next ≡ bound → RisesWithin bound b a → RisesWithin next c b → RisesWithin bound c a
 within-then bound next a b c e (inl first) (inl second) = inl (omega arith)
@@ -124,14 +124,14 @@ within-then bound next a b c e (inr first) (inl second) = inr (omega arith)
 within-then bound next a b c e first (inr second) = inr (omega arith)
 
 pub Follows-active : (S : ScenarioContents) (places wakes : Bool) (s t : State) (queue pool : ℕ) → Follows S places wakes s t → RisesWithin (limit S s queue) (active S t queue pool) (active S s queue pool)
-Follows-active S places wakes s t queue pool (Follows.stays a) = inl (omega arith)
-Follows-active S places wakes s t queue pool (Follows.changes a b c w change rest) =
+Follows-active S places wakes s t queue pool (Follows.stays pl wk a) = inl (omega arith)
+Follows-active S places wakes s t queue pool (Follows.changes pl wk a b c w change rest) =
     within-then (limit S s queue) (limit S b queue) (active S s queue pool) (active S b queue pool) (active S t queue pool) (Change-limit S places wakes None s b w change queue)
     (Change-active S places wakes None s b w change queue pool) (Follows-active S places wakes b t queue pool rest)
-Follows-active S places wakes s t queue pool (Follows.leaves a b c w at change filled rest) =
+Follows-active S places wakes s t queue pool (Follows.leaves pl wk a b c w at change filled rest) =
     let after = fill S (queue_of S w) at b in
     let kept : limit S b queue ≡ limit S s queue = Change-limit S places wakes (Some at) s b w change queue in
-    within-then (limit S s queue) (limit S after queue) (active S s queue pool) (active S after queue pool) (active S t queue pool) (Follows-limit S places wakes b after queue filled ∙ kept)
+    within-then (limit S s queue) (limit S after queue) (active S s queue pool) (active S after queue pool) (active S t queue pool) (Follows-limit S false wakes b after queue filled ∙ kept)
     (within-then (limit S s queue) (limit S b queue) (active S s queue pool) (active S b queue pool) (active S after queue pool) kept
-    (Change-active S places wakes (Some at) s b w change queue pool) (Follows-active S places wakes b after queue pool filled))
+    (Change-active S places wakes (Some at) s b w change queue pool) (Follows-active S false wakes b after queue pool filled))
     (Follows-active S places wakes after t queue pool rest)

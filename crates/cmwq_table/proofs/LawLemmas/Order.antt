@@ -214,3 +214,80 @@ module _ (S : ScenarioContents) (places wakes : Bool) (left : Option ℕ) (s t :
             | inr x_ne ↦ in_order v x born later ordered of_queue (active-else v born v_ne act) (inactive-else x later x_ne inactive)
           ]
       ]
+
+pub Follows-order : (S : ScenarioContents) (places wakes : Bool) (s t : State) → Follows S places wakes s t → IsSound S s → (places ≡ true → AreFull S s) → IsInOrder S s → IsInOrder S t
+Follows-order S places wakes s t (Follows.stays pl wk a) sound are_full in_order = in_order
+Follows-order S places wakes s t (Follows.changes pl wk a b c w change rest) sound are_full in_order =
+    Follows-order S places wakes b t rest (Change-sound S places wakes None s b w change sound)
+    (λ e queue pool. Change-full S places wakes None s b w queue pool sound (λ none of_queue. cc) change (are_full e queue pool))
+    (Change-order S places wakes None s b w sound are_full in_order change)
+Follows-order S places wakes s t (Follows.leaves pl wk a b c w at change filled rest) sound are_full in_order =
+    let after = fill S (queue_of S w) at b in
+    let sound_then : IsSound S b = Change-sound S places wakes (Some at) s b w change sound in
+    let order_then : IsInOrder S b = Change-order S places wakes (Some at) s b w sound are_full in_order change in
+    Follows-order S places wakes after t rest (Follows-sound S false wakes b after filled sound_then)
+    (λ e queue pool. Follows-full S places wakes s after queue pool (Follows.leaves places wakes s b after w at change filled (Follows.stays places wakes after)) sound (are_full e queue pool))
+    (Follows-order S false wakes b after filled sound_then (λ e. cc) order_then)
+
+-- the limit of an ordered queue is at most one
+pub limit-one : (S : ScenarioContents) (s : State) (queue : ℕ) → IsSound S s → (flags_at S queue).ordered ≡ true → limit S s queue ≤ 1
+limit-one S s queue sound ordered = limit-most (s.frozen && (flags_at S queue).freezable) (max_at s queue) (sound.ordered queue ordered)
+  where
+    limit-most : (b : Bool) (max : ℕ) → max ≤ 1 → cond b 0 max ≤ 1
+    limit-most true max h = omega arith
+    limit-most false max h = h
+
+-- an ordered queue has at most one active instance in a pool
+abbrev pub IsOneByOne : ScenarioContents → State → Type 0
+IsOneByOne S s = (queue pool : ℕ) → (flags_at S queue).ordered ≡ true → active S s queue pool ≤ 1
+
+pub Follows-one_by_one : (S : ScenarioContents) (places wakes : Bool) (s t : State) → Follows S places wakes s t → IsSound S s → IsOneByOne S s → IsOneByOne S t
+Follows-one_by_one S places wakes s t follows sound one queue pool ordered =
+    let was : active S s queue pool ≤ 1 = one queue pool ordered in
+    let most : limit S s queue ≤ 1 = limit-one S s queue sound ordered in
+    elim (Follows-active S places wakes s t queue pool follows) [
+      | inl fewer ↦ omega arith
+      | inr within ↦ omega arith
+    ]
+
+-- all its works go to one pool, and so it has at most one in all
+
+activated-there : (place : Place) (pool : ℕ) → ((at : ℕ) → place ≡ Listed at → at ≡ pool) → ((at : ℕ) → place ≡ Deferred at → at ≡ pool) → is_activated place ≡ is_active place pool
+activated-there (Listed at) pool listed deferred = sym (eq-eqb at pool (listed at refl))
+activated-there (Deferred at) pool listed deferred = sym (eq-eqb at pool (deferred at refl))
+activated-there (Timer due cpu) pool listed deferred = refl
+activated-there (Inactive at) pool listed deferred = refl
+
+ordered-pool : (S : ScenarioContents) (v queue at : ℕ) → (flags_at S queue).ordered ≡ true → queue_of S v ≡ queue → IsPoolOf S v at → at ≡ target S queue 0
+ordered-pool S v queue at ordered of_queue fits =
+    let ordered_there : (flags_at S (queue_of S v)).ordered ≡ true = ap (λ (q : ℕ). (flags_at S q).ordered) of_queue ∙ ordered in
+    fits.unbound (unbound-if-ordered (flags_at S (queue_of S v)).unbound (flags_at S (queue_of S v)).ordered ordered_there) ∙ ap (λ (q : ℕ). target S q 0) of_queue
+
+pends-there : (S : ScenarioContents) (next v queue : ℕ) (r : Option Running) (o : Option Pending) → (flags_at S queue).ordered ≡ true → queue_of S v ≡ queue → FitsIfPending S next v r o → pends is_activated o ≡ pends (λ place. is_active place (target S queue 0)) o
+pends-there S next v queue r (Some p) ordered of_queue fits =
+    activated-there p.place (target S queue 0)
+    (λ at e. ordered-pool S v queue at ordered of_queue (subst (λ (y : Place). FitsPlace S v r y) e fits.place).0)
+    (λ at e. ordered-pool S v queue at ordered of_queue (subst (λ (y : Place). FitsPlace S v r y) e fits.place).0)
+pends-there S next v queue r None ordered of_queue fits = refl
+
+runs-there : (S : ScenarioContents) (next v queue : ℕ) (r : Option Running) → (flags_at S queue).ordered ≡ true → queue_of S v ≡ queue → FitsIfRunning S next v r → is_some r ≡ runs (λ q. q.pool == target S queue 0) r
+runs-there S next v queue (Some r) ordered of_queue fits = sym (eq-eqb r.pool (target S queue 0) (ordered-pool S v queue r.pool ordered of_queue fits.pool))
+runs-there S next v queue None ordered of_queue fits = refl
+
+same-if : (x a b : Bool) → (x ≡ true → a ≡ b) → (x && a) ≡ (x && b)
+same-if true a b e = e refl
+same-if false a b e = refl
+
+pub at-most-one : (S : ScenarioContents) (s : State) (queue : ℕ) → IsSound S s → IsOneByOne S s → (flags_at S queue).ordered ≡ true → active_anywhere S s queue ≤ 1
+at-most-one S s queue sound one ordered =
+    let pool = target S queue 0 in
+    let pending : count_below (λ w. (queue_of S w == queue) && pends is_activated (pending_at s w)) (length S.works) ≡ count_below (λ w. (queue_of S w == queue) && pends (λ place. is_active place pool) (pending_at s w)) (length S.works) =
+    count_below-same (λ w. (queue_of S w == queue) && pends is_activated (pending_at s w)) (λ w. (queue_of S w == queue) && pends (λ place. is_active place pool) (pending_at s w)) (length S.works)
+    (λ w h. same-if (queue_of S w == queue) (pends is_activated (pending_at s w)) (pends (λ place. is_active place pool) (pending_at s w))
+    (λ e. pends-there S s.next w queue (running_at s w) (pending_at s w) ordered (eqb-true (queue_of S w) queue e) (sound.works w).pending)) in
+    let running : count_below (λ w. (queue_of S w == queue) && is_some (running_at s w)) (length S.works) ≡ count_below (λ w. (queue_of S w == queue) && runs (λ r. r.pool == pool) (running_at s w)) (length S.works) =
+    count_below-same (λ w. (queue_of S w == queue) && is_some (running_at s w)) (λ w. (queue_of S w == queue) && runs (λ r. r.pool == pool) (running_at s w)) (length S.works)
+    (λ w h. same-if (queue_of S w == queue) (is_some (running_at s w)) (runs (λ r. r.pool == pool) (running_at s w))
+    (λ e. runs-there S s.next w queue (running_at s w) ordered (eqb-true (queue_of S w) queue e) (sound.works w).running)) in
+    let most : active S s queue pool ≤ 1 = one queue pool ordered in
+    omega arith

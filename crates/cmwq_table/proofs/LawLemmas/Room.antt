@@ -100,11 +100,11 @@ abbrev pub AreFull : ScenarioContents → State → Type 0
 AreFull S s = (queue pool : ℕ) → IsFull S s queue pool
 
 pub Follows-full : (S : ScenarioContents) (places wakes : Bool) (s t : State) (queue pool : ℕ) → Follows S places wakes s t → IsSound S s → IsFull S s queue pool → IsFull S t queue pool
-Follows-full S places wakes s t queue pool (Follows.stays a) sound full = full
-Follows-full S places wakes s t queue pool (Follows.changes a b c w change rest) sound full =
+Follows-full S places wakes s t queue pool (Follows.stays pl wk a) sound full = full
+Follows-full S places wakes s t queue pool (Follows.changes pl wk a b c w change rest) sound full =
     Follows-full S places wakes b t queue pool rest (Change-sound S places wakes None s b w change sound)
     (Change-full S places wakes None s b w queue pool sound (λ e of_queue. cc) change full)
-Follows-full S places wakes s t queue pool (Follows.leaves a b c w at change filled rest) sound full =
+Follows-full S places wakes s t queue pool (Follows.leaves pl wk a b c w at change filled rest) sound full =
     let after = fill S (queue_of S w) at b in
     let sound_then : IsSound S b = Change-sound S places wakes (Some at) s b w change sound in
     let full_there : IsFull S after (queue_of S w) at = (fill-fills S places wakes (queue_of S w) at b change.alters.long).full in
@@ -112,8 +112,8 @@ Follows-full S places wakes s t queue pool (Follows.leaves a b c w at change fil
     elim (cases_eq (queue_of S w) queue) [
       | inl of_queue ↦ elim (cases_eq at pool) [
           | inl in_pool ↦ subst (λ (q : ℕ). IsFull S after q pool) of_queue (subst (λ (x : ℕ). IsFull S after (queue_of S w) x) in_pool full_there)
-          | inr other ↦ Follows-full S places wakes b after queue pool filled sound_then (Change-full S places wakes (Some at) s b w queue pool sound (λ e q. other cc) change full)
+          | inr other ↦ Follows-full S false wakes b after queue pool filled sound_then (Change-full S places wakes (Some at) s b w queue pool sound (λ e q. other cc) change full)
         ]
-      | inr other ↦ Follows-full S places wakes b after queue pool filled sound_then (Change-full S places wakes (Some at) s b w queue pool sound (λ e q. other q) change full)
+      | inr other ↦ Follows-full S false wakes b after queue pool filled sound_then (Change-full S places wakes (Some at) s b w queue pool sound (λ e q. other q) change full)
     ] in
-    Follows-full S places wakes after t queue pool rest (Follows-sound S places wakes b after filled sound_then) full_then
+    Follows-full S places wakes after t queue pool rest (Follows-sound S false wakes b after filled sound_then) full_then

@@ -218,8 +218,8 @@ module _ (S : ScenarioContents) (places wakes : Bool) (left : Option ℕ) (s t :
   }
 
 pub Follows-sound : (S : ScenarioContents) (places wakes : Bool) (s t : State) → Follows S places wakes s t → IsSound S s → IsSound S t
-Follows-sound S places wakes s t (Follows.stays a) sound = sound
-Follows-sound S places wakes s t (Follows.changes a b c w change rest) sound =
+Follows-sound S places wakes s t (Follows.stays pl wk a) sound = sound
+Follows-sound S places wakes s t (Follows.changes pl wk a b c w change rest) sound =
     Follows-sound S places wakes b t rest (Change-sound S places wakes None s b w change sound)
-Follows-sound S places wakes s t (Follows.leaves a b c w pool change filled rest) sound =
-    Follows-sound S places wakes (fill S (queue_of S w) pool b) t rest (Follows-sound S places wakes b (fill S (queue_of S w) pool b) filled (Change-sound S places wakes (Some pool) s b w change sound))
+Follows-sound S places wakes s t (Follows.leaves pl wk a b c w pool change filled rest) sound =
+    Follows-sound S places wakes (fill S (queue_of S w) pool b) t rest (Follows-sound S false wakes b (fill S (queue_of S w) pool b) filled (Change-sound S places wakes (Some pool) s b w change sound))
