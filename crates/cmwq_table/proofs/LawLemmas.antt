@@ -2,9 +2,11 @@ pub mod Changes
 pub mod Concurrency
 pub mod Counting
 pub mod Fills
+pub mod Instances
 pub mod Levels
 pub mod Makers
 pub mod Order
 pub mod Room
 pub mod Setting
 pub mod Sound
+pub mod Steps

@@ -47,8 +47,8 @@ pub record Alters (S : ScenarioContents) (s t : State) (w : ℕ) (p : Option Pen
 -- stamp. First stands the pool in which its queue loses an active instance, if it does.
 pub data Kind (S : ScenarioContents) (places wakes : Bool) (s : State) (w : ℕ) : Option ℕ → Option Pending → Option Running → Option Pending → Option Running → ℕ → Type 0 where
   placed : (r : Option Running) (pool : ℕ) → places ≡ true → IsPoolOf S w pool → RunsIn r pool → has_room S s (queue_of S w) pool ≡ true → Kind S places wakes s w None None r (newborn s (Listed pool)) r (s.next + 1)
-  put_off : (r : Option Running) (pool : ℕ) → IsPoolOf S w pool → RunsIn r pool → has_room S s (queue_of S w) pool ≡ false → Kind S places wakes s w None None r (newborn s (Inactive pool)) r (s.next + 1)
-  timed : (r : Option Running) (due cpu : ℕ) → cpu < S.cpus → Kind S places wakes s w None None r (newborn s (Timer due cpu)) r (s.next + 1)
+  put_off : (r : Option Running) (pool : ℕ) → places ≡ true → IsPoolOf S w pool → RunsIn r pool → has_room S s (queue_of S w) pool ≡ false → Kind S places wakes s w None None r (newborn s (Inactive pool)) r (s.next + 1)
+  timed : (r : Option Running) (due cpu : ℕ) → places ≡ true → cpu < S.cpus → Kind S places wakes s w None None r (newborn s (Timer due cpu)) r (s.next + 1)
   untimed : (born stamp : ℕ) (r : Option Running) (due cpu : ℕ) → Kind S places wakes s w None (Some (record { born = born; stamp = stamp; place = Timer due cpu })) r None r s.next
   taken_inactive : (born stamp : ℕ) (r : Option Running) (pool : ℕ) → Kind S places wakes s w (Some pool) (Some (record { born = born; stamp = stamp; place = Inactive pool })) r None r s.next
   taken_listed : (born stamp : ℕ) (r : Option Running) (pool : ℕ) → Kind S places wakes s w (Some pool) (Some (record { born = born; stamp = stamp; place = Listed pool })) r None r s.next

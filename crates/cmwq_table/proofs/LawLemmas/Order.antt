@@ -118,9 +118,9 @@ Kind-order S places wakes s w left a b c d n sound are_full ordered is (Kind.pla
       | inl pends ↦ inr (λ x later ne of_queue inactive. absurd (none-waits S s w at sound (are_full e (queue_of S w) at) ordered fits room x later of_queue inactive))
       | inr ran ↦ inl (inr ran)
     ])
-Kind-order S places wakes s w left a b c d n sound are_full ordered is (Kind.put_off r at fits with_run room) =
+Kind-order S places wakes s w left a b c d n sound are_full ordered is (Kind.put_off r at may_place fits with_run room) =
     Orders.quiet (λ born h. elim h [ inl pends ↦ absurd cc | inr ran ↦ inr ran ]) (λ later h. inr (sym h.1))
-Kind-order S places wakes s w left a b c d n sound are_full ordered is (Kind.timed r due cpu h) =
+Kind-order S places wakes s w left a b c d n sound are_full ordered is (Kind.timed r due cpu may_place h) =
     Orders.quiet (λ born h. elim h [ inl pends ↦ absurd cc | inr ran ↦ inr ran ]) (λ later h. cc)
 Kind-order S places wakes s w left a b c d n sound are_full ordered is (Kind.untimed born stamp r due cpu) =
     Orders.quiet (λ born h. elim h [ inl pends ↦ absurd pends | inr ran ↦ inr ran ]) (λ later h. absurd h)
