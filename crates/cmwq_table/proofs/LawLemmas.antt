@@ -5,6 +5,7 @@ pub mod Fills
 pub mod Instances
 pub mod Levels
 pub mod Makers
+pub mod Moving
 pub mod Order
 pub mod Room
 pub mod Setting
