@@ -1,9 +1,11 @@
+pub mod Alike
 pub mod Changes
 pub mod Concurrency
 pub mod Counting
 pub mod Fills
 pub mod Instances
 pub mod Levels
+pub mod Limits
 pub mod Makers
 pub mod Moving
 pub mod Order
