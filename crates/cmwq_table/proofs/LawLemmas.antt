@@ -2,6 +2,7 @@ pub mod Alike
 pub mod Changes
 pub mod Concurrency
 pub mod Counting
+pub mod Effects
 pub mod Fills
 pub mod Instances
 pub mod Levels
