@@ -1,4 +1,5 @@
 pub mod Alike
+pub mod Believed
 pub mod Changes
 pub mod Concurrency
 pub mod Counting
@@ -11,6 +12,7 @@ pub mod Makers
 pub mod Moving
 pub mod Order
 pub mod Room
+pub mod Runs
 pub mod Setting
 pub mod Sound
 pub mod Steps
