@@ -1,6 +1,6 @@
 pub mod Alike
-pub mod Believed
 pub mod Changes
+pub mod Conclusions
 pub mod Concurrency
 pub mod Counting
 pub mod Effects

@@ -13,7 +13,6 @@ use Rattle.cmwq_types.specs.declared.reply.Place.{Place}
 use Rattle.cmwq_types.specs.declared.reply.Place.TheVariants.{Timer, Inactive, Listed, Deferred}
 use Rattle.cmwq_types.specs.declared.reply.Reply.{Reply}
 use Rattle.cmwq_types.specs.declared.reply.Reply.TheVariants as reply
-use Rattle.cmwq_table.specs.declared.state.FlushTarget.{FlushTarget}
 use Rattle.cmwq_table.specs.declared.state.FlushTarget.TheVariants.{Instance, Queue}
 use Rattle.cmwq_table.specs.declared.state.Pending.{Pending}
 use Rattle.cmwq_table.specs.declared.state.Running.{Running}
@@ -136,7 +135,7 @@ GoesInOrder S s =
     (queue : ℕ) → (flags_at S queue).ordered ≡ true
     → (active_anywhere S s queue ≤ 1)
     × ((v w born later : ℕ) → queue_of S v ≡ queue → queue_of S w ≡ queue
-        → ActiveSince s v born → InactiveSince s w later → born < later)
+    → ActiveSince s v born → InactiveSince s w later → born < later)
 
 -- No idle room.
 
@@ -176,7 +175,7 @@ StayDone S s =
 unfoldable pub WaitForInstances : ScenarioContents → State → Type 0
 WaitForInstances S s =
     ((flush born : ℕ) (work : WorkId) → target_at s flush ≡ Instance work born → HasInstance s work.0 born
-        → is_done S s (target_at s flush) ≡ false)
+    → is_done S s (target_at s flush) ≡ false)
     × ((flush bound w born : ℕ) (queue : QueueId) → target_at s flush ≡ Queue queue bound
-        → queue_of S w ≡ queue.0 → born < bound → HasInstance s w born
-        → is_done S s (target_at s flush) ≡ false)
+    → queue_of S w ≡ queue.0 → born < bound → HasInstance s w born
+    → is_done S s (target_at s flush) ≡ false)

@@ -1,5 +1,5 @@
 -- States that differ in time, limits or what is left to burn alone.
-use Rattle.std.proofs.Common.{◌≡◌, ℕ, zero, suc, ◌+◌, ◌-◌, ◌<◌, ◌≤◌, Bool, true, false, not, cond, ◌&&◌, ◌||◌, List, [], ◌∷◌, length, Option, Some, None, arith, refl, sym, ap, ◌∙◌, subst, inl, inr, ◌⊎◌}
+use Rattle.std.proofs.Common.{◌≡◌, ℕ, zero, suc, ◌+◌, ◌≤◌, Bool, true, false, not, cond, ◌&&◌, ◌||◌, List, [], ◌∷◌, length, Option, Some, None, arith, refl, sym, ap, ◌∙◌, subst, inl, inr}
 use Rattle.std.specs.Prelude.{slice_index_or, is_some, ◌==◌}
 use Rattle.cmwq_types.specs.Contents.{ScenarioContents}
 use Rattle.cmwq_types.specs.First.{count_below}
@@ -11,12 +11,11 @@ use Rattle.cmwq_table.specs.declared.state.Running.{Running}
 use Rattle.cmwq_table.specs.State.{State, pending_at, running_at, is_unbound, max_at}
 use Rattle.cmwq_table.specs.Counts.{active, burns, counted, has_instance, is_active, is_counted, is_runnable, pends, placed_born, runs}
 use Rattle.cmwq_table.specs.Moves.{burned, one_less, tick}
-use Rattle.cmwq_table.specs.Table.{target_at}
 use Rattle.cmwq_table.proofs.LawLemmas.Changes.{IsLong, IsPoolOf, RunsIn}
 use Rattle.cmwq_table.proofs.LawLemmas.Counting.{count_below-same}
 use Rattle.cmwq_table.proofs.LawLemmas.Concurrency.{runnable}
 use Rattle.cmwq_table.proofs.LawLemmas.Order.{HasActive, HasInactive, IsInOrder, Ran}
-use Rattle.cmwq_table.proofs.LawLemmas.Sound.{IsSound, Fits, FitsIfPending, FitsIfRunning, FitsPlace, FitsTarget}
+use Rattle.cmwq_table.proofs.LawLemmas.Sound.{IsSound, Fits, FitsIfPending, FitsIfRunning, FitsPlace}
 
 -- two works run alike, but for what they have left to burn, or neither runs
 abbrev pub RunsAlike : Option Running → Option Running → Type 0

@@ -1,18 +1,13 @@
 -- The kinds of change that the table makes to one work, and chains of them.
-use Rattle.std.proofs.Common.{◌≡◌, ℕ, zero, suc, ◌+◌, ◌<◌, ◌≤◌, Bool, true, false, cond, ◌||◌, List, [], ◌∷◌, length, Option, Some, None, arith, refl, sym, ap, ◌∙◌}
-use Rattle.std.proofs.Math.ListN.{length-set}
-use Rattle.std.proofs.lemmas.List.{get_or-set_same, get_or-set_other}
-use Rattle.std.specs.Prelude.{slice_set, slice_index_or, is_some}
+use Rattle.std.proofs.Common.{◌≡◌, ℕ, ◌+◌, ◌<◌, ◌≤◌, Bool, true, false, ◌||◌, length, Option, Some, None}
 use Rattle.cmwq_types.specs.Contents.{ScenarioContents}
 use Rattle.cmwq_types.specs.Scenario.{flags_at, queue_of}
-use Rattle.cmwq_types.specs.declared.reply.Mode.TheVariants.{Runnable, Asleep}
-use Rattle.cmwq_types.specs.declared.reply.Place.{Place}
 use Rattle.cmwq_types.specs.declared.reply.Place.TheVariants.{Timer, Inactive, Listed, Deferred}
 use Rattle.cmwq_table.specs.declared.state.Pending.{Pending}
 use Rattle.cmwq_table.specs.declared.state.Running.{Running}
 use Rattle.cmwq_table.specs.State.{State, pending_at, running_at, made_at, pool_count, target}
 use Rattle.cmwq_table.specs.Counts.{has_room, may_start, first_inactive, is_deferred, is_runnable, pends}
-use Rattle.cmwq_table.specs.Moves.{newborn, listed_at, begun, fill}
+use Rattle.cmwq_table.specs.Moves.{newborn, begun, fill}
 
 -- the maps of the pending and of the running works have a place for each work
 pub record IsLong (S : ScenarioContents) (s : State) : Type 0 where

@@ -24,12 +24,12 @@ count_below-changed f g zero w h same = absurd (omega arith)
 count_below-changed f g (suc n) w h same =
     elim (cases_eq n w) [
       | inl e ↦ (let below : count_below f n ≡ count_below g n = count_below-same f g n (λ k k_below. same k (λ k_is. omega arith)) in
-        let before : bit (f n) ≡ bit (f w) = ap (λ (k : ℕ). bit (f k)) e in
-        let after : bit (g n) ≡ bit (g w) = ap (λ (k : ℕ). bit (g k)) e in
-        omega arith)
+          let before : bit (f n) ≡ bit (f w) = ap (λ (k : ℕ). bit (f k)) e in
+          let after : bit (g n) ≡ bit (g w) = ap (λ (k : ℕ). bit (g k)) e in
+          omega arith)
       | inr ne ↦ (let below : count_below f n + bit (g w) ≡ count_below g n + bit (f w) = count_below-changed f g n w (omega arith) same in
-        let here : bit (f n) ≡ bit (g n) = ap bit (same n ne) in
-        omega arith)
+          let here : bit (f n) ≡ bit (g n) = ap bit (same n ne) in
+          omega arith)
     ]
 
 -- where some number passes, the count isn't 0

@@ -1,19 +1,16 @@
 -- What an instruction does: time or limits change, then comes a chain of changes, then a flush may be given.
-use Rattle.std.proofs.Common.{◌≡◌, ℕ, zero, suc, ◌+◌, ◌-◌, ◌*◌, ◌<◌, ◌≤◌, Bool, true, false, not, cond, ◌&&◌, ◌||◌, List, [], ◌∷◌, ◌++◌, length, Option, Some, None, arith, refl, sym, ap, ◌∙◌, subst, inl, inr, ◌⊎◌}
-use Rattle.std.proofs.lemmas.Bool.{cases_lt, ltb-true, not-true}
-use Rattle.std.specs.Prelude.{is_some, nat_lt, ◌==◌}
+use Rattle.std.proofs.Common.{◌≡◌, ℕ, ◌<◌, ◌≤◌, Bool, true, false, not, cond, ◌&&◌, ◌||◌, length, Option, Some, None, arith, refl, inl, inr, ◌⊎◌}
+use Rattle.std.proofs.lemmas.Bool.{ltb-true, not-true}
+use Rattle.std.specs.Prelude.{nat_lt, ◌==◌}
 use Rattle.cmwq_types.specs.Contents.{ScenarioContents}
 use Rattle.cmwq_types.specs.First.{MatchFirst}
-use Rattle.cmwq_types.specs.Scenario.{flags_at, queue_of}
-use Rattle.cmwq_types.specs.declared.instr.QueueId.{QueueId}
+use Rattle.cmwq_types.specs.Scenario.{flags_at}
 use Rattle.cmwq_types.specs.declared.instr.WorkId.{WorkId}
 use Rattle.cmwq_types.specs.declared.instr.Instr.{Instr}
 use Rattle.cmwq_types.specs.declared.instr.Instr.TheVariants as instr
 use Rattle.cmwq_types.specs.declared.moves.Move.{Move}
 use Rattle.cmwq_types.specs.declared.reply.Refusal.{Refusal}
-use Rattle.cmwq_types.specs.declared.reply.Refusal.TheVariants.{NoSuchWork, NoSuchQueue, NoSuchCpu, BadCount, NothingToDo, Ordered, Unsettled}
-use Rattle.cmwq_types.specs.declared.reply.Cause.TheVariants.{Due, Pool}
-use Rattle.cmwq_types.specs.declared.reply.Place.{Place}
+use Rattle.cmwq_types.specs.declared.reply.Refusal.TheVariants.{NoSuchWork, NoSuchCpu, Ordered}
 use Rattle.cmwq_types.proofs.FirstLemmas.{by_least_two-order, first_below-is_first}
 use Rattle.cmwq_table.specs.declared.state.FlushTarget.{FlushTarget}
 use Rattle.cmwq_table.specs.declared.state.FlushTarget.TheVariants as target
@@ -23,15 +20,15 @@ use Rattle.cmwq_table.specs.State.{State, max_at, pending_at, pool_count, runnin
 use Rattle.cmwq_table.specs.Counts.{first_due, is_due, is_placed, pending_due, pending_stamp, pends}
 use Rattle.cmwq_table.specs.Counts as counts
 use Rattle.cmwq_table.specs.Laws.{tells_wake}
-use Rattle.cmwq_table.specs.Moves.{fill_everywhere, fill_freezable, fire, first_moving, freeze, last_instance, moved, next_move, place, place_after, running_instance, set_max, take_off, taken_off, thaw, tick, with_flush}
-use Rattle.cmwq_table.specs.Table.{cancelled, cancelled_sync, delayed, effect, fired_first, flushed, flushed_last, is_question, modified, next, no_work, no_work_or_cpu, operands, queued, refuse_unless, situation, step_or_tick, stepped, unsettled, unsettled_by_pool}
-use Rattle.cmwq_table.proofs.LawLemmas.Alike.{IsAlike, alike-limits, alike-sound, alike-tick, itself}
-use Rattle.cmwq_table.proofs.LawLemmas.Changes.{Follows, Follows-then, IsLong}
-use Rattle.cmwq_table.proofs.LawLemmas.Limits.{alike-full, fill_everywhere-full, freeze-full, limited, limited-ordered, limited-sound, set_max-full, thaw-full, thawed, thawed-sound}
-use Rattle.cmwq_table.proofs.LawLemmas.Moving.{MoveFits, moved-follows, next_move-fits}
+use Rattle.cmwq_table.specs.Moves.{fire, first_moving, freeze, last_instance, moved, next_move, place, place_after, running_instance, set_max, take_off, taken_off, thaw, tick, with_flush}
+use Rattle.cmwq_table.specs.Table.{cancelled, delayed, effect, fired_first, modified, next, no_work, no_work_or_cpu, operands, queued, refuse_unless, situation, step_or_tick, stepped, unsettled}
+use Rattle.cmwq_table.proofs.LawLemmas.Alike.{IsAlike, alike-limits, alike-tick, itself}
+use Rattle.cmwq_table.proofs.LawLemmas.Changes.{Follows, Follows-then}
+use Rattle.cmwq_table.proofs.LawLemmas.Limits.{alike-full, freeze-full, limited, limited-ordered, limited-sound, set_max-full, thaw-full, thawed, thawed-sound}
+use Rattle.cmwq_table.proofs.LawLemmas.Moving.{moved-follows, next_move-fits}
 use Rattle.cmwq_table.proofs.LawLemmas.Room.{AreFull, Follows-full}
 use Rattle.cmwq_table.proofs.LawLemmas.Setting.{IsSetting}
-use Rattle.cmwq_table.proofs.LawLemmas.Sound.{Fits, FitsIfPending, FitsIfRunning, FitsTarget, Follows-sound, IsSound}
+use Rattle.cmwq_table.proofs.LawLemmas.Sound.{FitsIfPending, FitsIfRunning, FitsTarget, Follows-sound, IsSound}
 use Rattle.cmwq_table.proofs.LawLemmas.Steps.{Stops, fill_freezable-follows, fill_pools-follows, fired-follows, place-follows, place_after-follows, stops-taken_off, take_off-follows}
 
 -- nothing could happen without time

@@ -1,20 +1,20 @@
 -- A fill is a chain of activations, and leaves no room for an inactive work.
-use Rattle.std.proofs.Common.{◌≡◌, ℕ, zero, suc, ◌+◌, ◌<◌, ◌≤◌, Bool, true, false, cond, ◌&&◌, List, [], ◌∷◌, length, Option, Some, None, arith, refl, sym, ap, ◌∙◌, subst, inl, inr, ◌⊎◌}
-use Rattle.std.proofs.lemmas.Bool.{cases_lt, cases_eq, eqb-true, eq-eqb, ltb-false, and_parts, and_from}
+use Rattle.std.proofs.Common.{◌≡◌, ℕ, zero, suc, ◌+◌, ◌<◌, ◌≤◌, Bool, true, false, cond, ◌&&◌, length, Option, Some, None, arith, refl, sym, ap, ◌∙◌, subst, inl, inr}
+use Rattle.std.proofs.lemmas.Bool.{cases_lt, eqb-true, eq-eqb, ltb-false, and_parts, and_from}
 use Rattle.std.proofs.lemmas.List.{get_or_past}
 use Rattle.std.specs.Prelude.{◌==◌}
 use Rattle.cmwq_types.specs.Contents.{ScenarioContents}
-use Rattle.cmwq_types.specs.First.{count_below, first_below, IsFirst, MatchFirst}
-use Rattle.cmwq_types.specs.Scenario.{flags_at, queue_of}
+use Rattle.cmwq_types.specs.First.{count_below, MatchFirst}
+use Rattle.cmwq_types.specs.Scenario.{queue_of}
 use Rattle.cmwq_types.specs.declared.reply.Place.{Place}
 use Rattle.cmwq_types.specs.declared.reply.Place.TheVariants.{Timer, Inactive, Listed, Deferred}
 use Rattle.cmwq_types.proofs.FirstLemmas.{by_least-order, first_below-is_first}
 use Rattle.cmwq_table.specs.declared.state.Pending.{Pending}
 use Rattle.cmwq_table.specs.declared.state.Running.{Running}
-use Rattle.cmwq_table.specs.State.{State, pending_at, running_at, pool_count}
+use Rattle.cmwq_table.specs.State.{State, pending_at, running_at}
 use Rattle.cmwq_table.specs.Counts.{active, limit, has_room, first_inactive, is_inactive, pends, pending_before, pending_stamp}
-use Rattle.cmwq_table.specs.Moves.{enlist, fill, fill_one, fill_times, fill_pools, fill_everywhere, fill_freezable, listed_at, taking, with_pending}
-use Rattle.cmwq_table.proofs.LawLemmas.Changes.{IsLong, Alters, Kind, Change, Follows, Follows-then}
+use Rattle.cmwq_table.specs.Moves.{enlist, fill, fill_one, fill_times, listed_at}
+use Rattle.cmwq_table.proofs.LawLemmas.Changes.{IsLong, Alters, Kind, Change, Follows}
 use Rattle.cmwq_table.proofs.LawLemmas.Counting.{bit, count_below-changed, count_below-none, count_below-most}
 use Rattle.cmwq_table.proofs.LawLemmas.Makers.{alters-pending}
 
@@ -35,8 +35,8 @@ waits-in_range S s w test long e =
     elim (cases_lt w (length S.works)) [
       | inl lt ↦ lt
       | inr past ↦ (let none : pending_at s w ≡ None = get_or_past s.pending w None (omega (arith, long.pending)) in
-        let fails : pends test (pending_at s w) ≡ false = ap (pends test) none in
-        absurd (cc (fails, e)))
+          let fails : pends test (pending_at s w) ≡ false = ap (pends test) none in
+          absurd (cc (fails, e)))
     ]
 
 pub first-is_first : (S : ScenarioContents) (s : State) (queue pool : ℕ) → MatchFirst (pending_before s) (λ w. (queue_of S w == queue) && waits s w pool) (length S.works) (first_inactive S s queue pool)
@@ -73,7 +73,7 @@ activate-change S places wakes s w pool long h room first (Some p) e is = record
   r = running_at s w;
   alters = alters-pending S s w (listed_at pool s.next (pending_at s w)) (s.next + 1) long h;
   kind = subst (λ (o : Option Pending). Kind S places wakes s w None o (running_at s w) (listed_at pool s.next o) (running_at s w) (s.next + 1)) (sym e)
-  (activate-kind S places wakes s w pool (running_at s w) p p.place refl is room first);
+      (activate-kind S places wakes s w pool (running_at s w) p p.place refl is room first);
 }
 activate-change S places wakes s w pool long h room first None e is = cc
 

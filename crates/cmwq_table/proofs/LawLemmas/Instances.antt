@@ -1,5 +1,5 @@
 -- No change brings back an instance that was born before.
-use Rattle.std.proofs.Common.{◌≡◌, ℕ, zero, suc, ◌+◌, ◌<◌, ◌≤◌, Bool, true, false, cond, ◌&&◌, ◌||◌, List, [], ◌∷◌, length, Option, Some, None, arith, refl, sym, ap, ◌∙◌, subst, inl, inr, ◌⊎◌}
+use Rattle.std.proofs.Common.{◌≡◌, ℕ, ◌≤◌, Bool, true, false, ◌||◌, Option, Some, None, arith, refl, sym, ap, ◌∙◌, inl, inr}
 use Rattle.std.proofs.lemmas.Bool.{cases_eq, or_cases, or_left, or_right}
 use Rattle.cmwq_types.specs.Contents.{ScenarioContents}
 use Rattle.cmwq_types.specs.Scenario.{queue_of}
@@ -52,9 +52,9 @@ pub Change-instances : (S : ScenarioContents) (places wakes : Bool) (left : Opti
 Change-instances S places wakes left s t w change v test early h =
     elim (cases_eq v w) [
       | inl v_is ↦ (let there : has_instance t w test ≡ true = ap (λ (k : ℕ). has_instance t k test) (sym v_is) ∙ h in
-        let here : instance_of test change.p change.r ≡ true = rw (change.alters.pending_here, change.alters.running_here) at there in
-        let before : has_instance s w test ≡ true = Kind-instance S places wakes s w left (pending_at s w) (running_at s w) change.p change.r t.next test early change.kind here in
-        ap (λ (k : ℕ). has_instance s k test) v_is ∙ before)
+          let here : instance_of test change.p change.r ≡ true = rw (change.alters.pending_here, change.alters.running_here) at there in
+          let before : has_instance s w test ≡ true = Kind-instance S places wakes s w left (pending_at s w) (running_at s w) change.p change.r t.next test early change.kind here in
+          ap (λ (k : ℕ). has_instance s k test) v_is ∙ before)
       | inr v_ne ↦ rw (change.alters.pending_else v v_ne, change.alters.running_else v v_ne) at h
     ]
 

@@ -1,16 +1,14 @@
 -- What changes make of the active counts and of the concurrency levels.
-use Rattle.std.proofs.Common.{◌≡◌, ℕ, zero, suc, ◌+◌, ◌<◌, ◌≤◌, Bool, true, false, not, cond, ◌&&◌, ◌||◌, List, [], ◌∷◌, length, Option, Some, None, arith, refl, sym, ap, ◌∙◌, subst, inl, inr, ◌⊎◌}
-use Rattle.std.proofs.lemmas.Bool.{cases_eq, ltb-true, eqb-true, or_cases}
-use Rattle.std.specs.Prelude.{is_some, ◌==◌}
+use Rattle.std.proofs.Common.{◌≡◌, ℕ, ◌+◌, ◌<◌, ◌≤◌, Bool, true, false, ◌&&◌, length, Option, Some, None, arith, refl, sym, ap, ◌∙◌, inl, inr, ◌⊎◌}
+use Rattle.std.proofs.lemmas.Bool.{ltb-true, eqb-true}
+use Rattle.std.specs.Prelude.{◌==◌}
 use Rattle.cmwq_types.specs.Contents.{ScenarioContents}
 use Rattle.cmwq_types.specs.First.{count_below}
-use Rattle.cmwq_types.specs.Scenario.{flags_at, queue_of}
-use Rattle.cmwq_types.specs.declared.reply.Place.{Place}
-use Rattle.cmwq_types.specs.declared.reply.Place.TheVariants.{Timer, Inactive, Listed, Deferred}
+use Rattle.cmwq_types.specs.Scenario.{queue_of}
 use Rattle.cmwq_table.specs.declared.state.Pending.{Pending}
 use Rattle.cmwq_table.specs.declared.state.Running.{Running}
-use Rattle.cmwq_table.specs.State.{State, pending_at, running_at, is_unbound}
-use Rattle.cmwq_table.specs.Counts.{active, limit, has_room, counted, may_start, is_active, is_counted, is_runnable, pends, runs}
+use Rattle.cmwq_table.specs.State.{State, pending_at, running_at}
+use Rattle.cmwq_table.specs.Counts.{active, limit, has_room, is_active, pends, runs}
 use Rattle.cmwq_table.specs.Moves.{fill}
 use Rattle.cmwq_table.proofs.LawLemmas.Counting.{bit, count_below-changed}
 use Rattle.cmwq_table.proofs.LawLemmas.Changes.{Alters, Kind, Change, Follows}

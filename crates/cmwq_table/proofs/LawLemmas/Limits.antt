@@ -1,10 +1,10 @@
 -- Changes of limits: what is filled everywhere is full everywhere.
-use Rattle.std.proofs.Common.{◌≡◌, ℕ, zero, suc, ◌+◌, ◌*◌, ◌<◌, ◌≤◌, Bool, true, false, cond, ◌&&◌, List, [], ◌∷◌, length, Option, Some, None, arith, refl, sym, ap, ◌∙◌, subst, inl, inr, ◌⊎◌}
+use Rattle.std.proofs.Common.{◌≡◌, ℕ, zero, suc, ◌<◌, ◌≤◌, Bool, true, false, cond, ◌&&◌, List, [], ◌∷◌, length, Option, Some, None, arith, refl, sym, ap, ◌∙◌, subst, inl, inr, ◌⊎◌}
 use Rattle.std.proofs.lemmas.Bool.{cases_eq, cases_lt, eqb-true}
-use Rattle.std.proofs.lemmas.List.{get_or-set_other, get_or_past}
+use Rattle.std.proofs.lemmas.List.{get_or-set_other}
 use Rattle.std.specs.Prelude.{slice_set, slice_index_or}
 use Rattle.cmwq_types.specs.Contents.{ScenarioContents}
-use Rattle.cmwq_types.specs.Scenario.{flags_at, plain_flags, queue_of}
+use Rattle.cmwq_types.specs.Scenario.{flags_at, plain_flags}
 use Rattle.cmwq_types.specs.declared.reply.Place.{Place}
 use Rattle.cmwq_types.specs.declared.reply.Place.TheVariants.{Timer, Inactive, Listed, Deferred}
 use Rattle.cmwq_types.specs.declared.scenario.QueueDecl.{QueueDecl}
@@ -12,12 +12,11 @@ use Rattle.cmwq_table.specs.declared.state.Pending.{Pending}
 use Rattle.cmwq_table.specs.declared.state.Running.{Running}
 use Rattle.cmwq_table.specs.State.{State, max_at, pending_at, pool_count, running_at}
 use Rattle.cmwq_table.specs.Counts.{active, is_inactive, limit, pends}
-use Rattle.cmwq_table.specs.Moves.{fill, fill_everywhere, fill_freezable, fill_pools, freeze, set_max, thaw, tick}
+use Rattle.cmwq_table.specs.Moves.{fill_everywhere, fill_freezable, fill_pools, freeze, set_max, thaw}
 use Rattle.cmwq_table.proofs.LawLemmas.Alike.{IsAlike, alike-active, alike-limits, alike-sound}
-use Rattle.cmwq_table.proofs.LawLemmas.Changes.{Follows, IsLong, IsPoolOf}
-use Rattle.cmwq_table.proofs.LawLemmas.Fills.{IsFull, fill-fills, waits}
+use Rattle.cmwq_table.proofs.LawLemmas.Fills.{IsFull, fill-fills}
 use Rattle.cmwq_table.proofs.LawLemmas.Room.{AreFull, Follows-full}
-use Rattle.cmwq_table.proofs.LawLemmas.Sound.{Fits, FitsIfPending, FitsPlace, Follows-sound, IsSound}
+use Rattle.cmwq_table.proofs.LawLemmas.Sound.{FitsIfPending, FitsPlace, Follows-sound, IsSound}
 use Rattle.cmwq_table.proofs.LawLemmas.Steps.{fill_freezable-follows, fill_pools-follows}
 
 -- alike states with limits that didn't rise are full alike
@@ -52,7 +51,7 @@ fill_pools-full S queue (suc n) s pool sound h =
     elim (cases_eq n pool) [
       | inl same ↦ subst (λ (at : ℕ). IsFull S (fill_pools S queue (suc n) s) queue at) same here.full
       | inr other ↦ Follows-full S false false (fill_pools S queue n s) (fill_pools S queue (suc n) s) queue pool here.follows
-        (Follows-sound S false false s (fill_pools S queue n s) below.0 sound) (fill_pools-full S queue n s pool sound (omega arith))
+          (Follows-sound S false false s (fill_pools S queue n s) below.0 sound) (fill_pools-full S queue n s pool sound (omega arith))
     ]
 
 pub fill_everywhere-full : (S : ScenarioContents) (queue : ℕ) (s : State) (pool : ℕ) → IsSound S s → IsFull S (fill_everywhere S queue s) queue pool
@@ -150,6 +149,6 @@ set_max-full S s queue max sound not_ordered are_full other pool =
     elim (cases_eq other queue) [
       | inl same ↦ subst (λ (q : ℕ). IsFull S (set_max S s queue max) q pool) (sym same) (fill_everywhere-full S queue begun pool sound_then)
       | inr apart ↦ (let kept : limit S begun other ≡ limit S s other = ap (λ (m : ℕ). cond (s.frozen && (flags_at S other).freezable) 0 m) (get_or-set_other s.max queue other max 0 apart) in
-        Follows-full S false false begun (set_max S s queue max) other pool (fill_pools-follows S false queue (pool_count S) begun sound_then.long).0 sound_then
-        (alike-full S s begun other pool (alike-limits S s (slice_set s.max queue max) s.frozen) (omega arith) (are_full other pool)))
+          Follows-full S false false begun (set_max S s queue max) other pool (fill_pools-follows S false queue (pool_count S) begun sound_then.long).0 sound_then
+          (alike-full S s begun other pool (alike-limits S s (slice_set s.max queue max) s.frozen) (omega arith) (are_full other pool)))
     ]

@@ -1,10 +1,10 @@
 -- Each move of a pool makes a chain of changes.
-use Rattle.std.proofs.Common.{◌≡◌, ℕ, zero, suc, ◌+◌, ◌*◌, ◌<◌, ◌≤◌, Bool, true, false, cond, ◌&&◌, ◌||◌, List, [], ◌∷◌, length, Option, Some, None, arith, refl, sym, ap, ◌∙◌, subst, inl, inr, ◌⊎◌}
+use Rattle.std.proofs.Common.{◌≡◌, ℕ, zero, suc, ◌+◌, ◌<◌, ◌≤◌, Bool, true, false, cond, ◌&&◌, ◌||◌, List, [], ◌∷◌, length, Option, Some, None, arith, refl, sym, ap, ◌∙◌, subst}
 use Rattle.std.proofs.lemmas.Bool.{and_parts, eqb-true, ltb-true}
 use Rattle.std.specs.Prelude.{slice_set, slice_index_or, is_some, nat_lt, ◌==◌}
 use Rattle.cmwq_types.specs.Contents.{ScenarioContents}
-use Rattle.cmwq_types.specs.First.{IsFirst, MatchFirst}
-use Rattle.cmwq_types.specs.Scenario.{flags_at, op_at, queue_of}
+use Rattle.cmwq_types.specs.First.{MatchFirst}
+use Rattle.cmwq_types.specs.Scenario.{op_at}
 use Rattle.cmwq_types.specs.declared.instr.WorkId.{WorkId}
 use Rattle.cmwq_types.specs.declared.moves.Move.{Move}
 use Rattle.cmwq_types.specs.declared.moves.Move.TheVariants.{Advance, Wake, Start, Defer}
@@ -19,9 +19,9 @@ use Rattle.cmwq_table.specs.declared.state.Running.{Running}
 use Rattle.cmwq_table.specs.State.{State, seat, pending_at, running_at, idle_at, made_at, is_unbound}
 use Rattle.cmwq_table.specs.Counts.{first_listed, first_ready, first_runnable, first_slept, free_worker, idle_stamp, if_ready, is_deferred, is_listed, is_runnable, is_slept, last_idle, may_start, new_worker, or_else, pends, pending_before, pending_stamp, ready_head, running_before, running_stamp, running_until, runs}
 use Rattle.cmwq_table.specs.Laws.{is_wakes}
-use Rattle.cmwq_table.specs.Moves.{advance, as_move, begin_again, begun, carry_out, come_to_end, deferred, fill, finish, moved, next_move, onward, place, queue_from_body, retire, start_first, start_move, started, started_on, take_listed, with_pending, with_running, woken}
+use Rattle.cmwq_table.specs.Moves.{advance, as_move, begin_again, begun, carry_out, come_to_end, deferred, finish, moved, next_move, onward, queue_from_body, retire, start_first, start_move, started, started_on, take_listed, with_running, woken}
 use Rattle.cmwq_table.proofs.LawLemmas.Setting.{IsOpInRange, IsSetting}
-use Rattle.cmwq_table.proofs.LawLemmas.Changes.{IsLong, Alters, Kind, Change, Follows, Follows-then}
+use Rattle.cmwq_table.proofs.LawLemmas.Changes.{Kind, Change, Follows}
 use Rattle.cmwq_table.proofs.LawLemmas.Makers.{alters-pending, alters-running, alters-both}
 use Rattle.cmwq_table.proofs.LawLemmas.Sound.{IsSound, Change-sound}
 use Rattle.cmwq_table.proofs.LawLemmas.Steps.{changed, leaving, one, place-follows}
@@ -248,7 +248,7 @@ defer-place S wakes s pool w r p (Listed at) sound h runs is is_pending =
       r = running_at s w;
       alters = alters-pending S s w q s.next sound.long h;
       kind = subst (λ (o : Option Pending). Kind S true wakes s w None o (running_at s w) q (running_at s w) s.next) (sym (is_pending ∙ same))
-      (subst (λ (o : Option Running). Kind S true wakes s w None (Some (record { born = p.born; stamp = p.stamp; place = Listed pool })) o q o s.next) (sym runs) (Kind.deferred p.born p.stamp pool r));
+          (subst (λ (o : Option Running). Kind S true wakes s w None (Some (record { born = p.born; stamp = p.stamp; place = Listed pool })) o q o s.next) (sym runs) (Kind.deferred p.born p.stamp pool r));
     })
 defer-place S wakes s pool w r p (Timer due cpu) sound h runs is is_pending = cc
 defer-place S wakes s pool w r p (Inactive at) sound h runs is is_pending = cc

@@ -1,5 +1,5 @@
 -- Of an ordered queue one work at a time is active, and those that wait were queued later.
-use Rattle.std.proofs.Common.{◌≡◌, ℕ, zero, suc, ◌+◌, ◌<◌, ◌≤◌, Bool, true, false, cond, ◌&&◌, ◌||◌, List, [], ◌∷◌, length, Option, Some, None, arith, refl, sym, ap, ◌∙◌, subst, inl, inr, ◌⊎◌}
+use Rattle.std.proofs.Common.{◌≡◌, ℕ, ◌<◌, ◌≤◌, Bool, true, false, cond, ◌&&◌, ◌||◌, length, Option, Some, None, arith, refl, sym, ap, ◌∙◌, subst, inl, inr, ◌⊎◌}
 use Rattle.std.proofs.lemmas.Bool.{cases_eq, eqb-true, eq-eqb, ltb-false, and_from, or_right}
 use Rattle.std.specs.Prelude.{is_some, ◌==◌}
 use Rattle.cmwq_types.specs.Contents.{ScenarioContents}
@@ -10,10 +10,10 @@ use Rattle.cmwq_types.specs.declared.reply.Place.TheVariants.{Timer, Inactive, L
 use Rattle.cmwq_table.specs.declared.state.Pending.{Pending}
 use Rattle.cmwq_table.specs.declared.state.Running.{Running}
 use Rattle.cmwq_table.specs.State.{State, pending_at, running_at, max_at, target}
-use Rattle.cmwq_table.specs.Counts.{active, limit, has_room, first_inactive, is_activated, is_active, is_inactive, pends, pending_before, pending_stamp, runs}
+use Rattle.cmwq_table.specs.Counts.{active, limit, has_room, is_activated, is_active, is_inactive, pends, pending_before, pending_stamp, runs}
 use Rattle.cmwq_table.specs.Laws.{active_anywhere, is_waiting}
 use Rattle.cmwq_table.specs.Moves.{fill}
-use Rattle.cmwq_table.proofs.LawLemmas.Changes.{IsLong, IsPoolOf, Kind, Change, Follows}
+use Rattle.cmwq_table.proofs.LawLemmas.Changes.{IsPoolOf, Kind, Change, Follows}
 use Rattle.cmwq_table.proofs.LawLemmas.Counting.{count_below-same}
 use Rattle.cmwq_table.proofs.LawLemmas.Fills.{IsFull, first-is_first, waits, waits-in_range}
 use Rattle.cmwq_table.proofs.LawLemmas.Levels.{Follows-active, room-below}
@@ -202,17 +202,17 @@ module _ (S : ScenarioContents) (places wakes : Bool) (left : Option ℕ) (s t :
   Change-order v x born later ordered of_queue act inactive =
       elim (cases_eq v w) [
         | inl v_is ↦ (let ordered_here : (flags_at S (queue_of S w)).ordered ≡ true = ap (λ (k : ℕ). (flags_at S (queue_of S k)).ordered) (sym v_is) ∙ ordered in
-          let same_queue : queue_of S x ≡ queue_of S w = of_queue ∙ ap (queue_of S) v_is in
-          elim (cases_eq x w) [
-            | inl x_is ↦ order-itself born later (orders ordered_here) ordered_here (active-now v born v_is act) (inactive-now x later x_is inactive)
-            | inr x_ne ↦ order-here born (orders ordered_here) x later x_ne ordered_here same_queue (active-now v born v_is act) (inactive-else x later x_ne inactive)
-          ])
+            let same_queue : queue_of S x ≡ queue_of S w = of_queue ∙ ap (queue_of S) v_is in
+            elim (cases_eq x w) [
+              | inl x_is ↦ order-itself born later (orders ordered_here) ordered_here (active-now v born v_is act) (inactive-now x later x_is inactive)
+              | inr x_ne ↦ order-here born (orders ordered_here) x later x_ne ordered_here same_queue (active-now v born v_is act) (inactive-else x later x_ne inactive)
+            ])
         | inr v_ne ↦ elim (cases_eq x w) [
-            | inl x_is ↦ (let same_queue : queue_of S w ≡ queue_of S v = ap (queue_of S) (sym x_is) ∙ of_queue in
+          | inl x_is ↦ (let same_queue : queue_of S w ≡ queue_of S v = ap (queue_of S) (sym x_is) ∙ of_queue in
               let ordered_here : (flags_at S (queue_of S w)).ordered ≡ true = ap (λ (q : ℕ). (flags_at S q).ordered) same_queue ∙ ordered in
               order-there v born later (orders ordered_here) ordered same_queue (active-else v born v_ne act) (inactive-now x later x_is inactive))
-            | inr x_ne ↦ in_order v x born later ordered of_queue (active-else v born v_ne act) (inactive-else x later x_ne inactive)
-          ]
+          | inr x_ne ↦ in_order v x born later ordered of_queue (active-else v born v_ne act) (inactive-else x later x_ne inactive)
+        ]
       ]
 
 pub Follows-order : (S : ScenarioContents) (places wakes : Bool) (s t : State) → Follows S places wakes s t → IsSound S s → (places ≡ true → AreFull S s) → IsInOrder S s → IsInOrder S t

@@ -1,20 +1,18 @@
 -- No change leaves room to an inactive work, but where an active instance leaves, and there the fill takes it.
-use Rattle.std.proofs.Common.{◌≡◌, ℕ, zero, suc, ◌+◌, ◌<◌, ◌≤◌, Bool, true, false, cond, ◌&&◌, List, [], ◌∷◌, length, Option, Some, None, arith, refl, sym, ap, ◌∙◌, subst, inl, inr, ◌⊎◌}
-use Rattle.std.proofs.lemmas.Bool.{cases_eq, cases_Bool, eqb-true, eq-eqb, ltb-false}
+use Rattle.std.proofs.Common.{◌≡◌, ℕ, ◌+◌, ◌≤◌, Bool, true, false, ◌&&◌, Option, Some, None, arith, refl, sym, ap, ◌∙◌, subst, inl, inr, ◌⊎◌}
+use Rattle.std.proofs.lemmas.Bool.{cases_eq, eqb-true, ltb-false}
 use Rattle.std.specs.Prelude.{◌==◌}
 use Rattle.cmwq_types.specs.Contents.{ScenarioContents}
 use Rattle.cmwq_types.specs.Scenario.{queue_of}
-use Rattle.cmwq_types.specs.declared.reply.Place.{Place}
-use Rattle.cmwq_types.specs.declared.reply.Place.TheVariants.{Timer, Inactive, Listed, Deferred}
 use Rattle.cmwq_table.specs.declared.state.Pending.{Pending}
 use Rattle.cmwq_table.specs.declared.state.Running.{Running}
-use Rattle.cmwq_table.specs.State.{State, pending_at, running_at, pool_count}
+use Rattle.cmwq_table.specs.State.{State, pending_at, running_at}
 use Rattle.cmwq_table.specs.Counts.{active, limit, has_room, is_active, is_inactive, pends, runs}
-use Rattle.cmwq_table.specs.Moves.{fill, fill_pools}
-use Rattle.cmwq_table.proofs.LawLemmas.Changes.{IsLong, Alters, Kind, Change, Follows, Follows-then}
+use Rattle.cmwq_table.specs.Moves.{fill}
+use Rattle.cmwq_table.proofs.LawLemmas.Changes.{Kind, Change, Follows}
 use Rattle.cmwq_table.proofs.LawLemmas.Counting.{bit}
-use Rattle.cmwq_table.proofs.LawLemmas.Levels.{active_of, active-changed, Change-limit, falls, pool-same, room-below}
-use Rattle.cmwq_table.proofs.LawLemmas.Fills.{Fills, IsFull, waits, fill-fills}
+use Rattle.cmwq_table.proofs.LawLemmas.Levels.{active_of, active-changed, Change-limit, falls, pool-same}
+use Rattle.cmwq_table.proofs.LawLemmas.Fills.{IsFull, waits, fill-fills}
 use Rattle.cmwq_table.proofs.LawLemmas.Sound.{IsSound, Fits, Change-sound, Follows-sound}
 
 -- the change takes no active instance away from this queue in this pool
@@ -87,10 +85,10 @@ Change-full S places wakes left s t w queue pool sound elsewhere change full v o
     let before : limit S s queue ≤ active S s queue pool =
     elim (cases_eq v w) [
       | inl v_is ↦ (let here : pends (λ place. is_inactive place pool) change.p ≡ true = ap (pends (λ place. is_inactive place pool)) (sym change.alters.pending_here) ∙ (ap (λ (k : ℕ). waits t k pool) (sym v_is) ∙ is_waiting) in
-        elim (keeps.waiting (ap (queue_of S) (sym v_is) ∙ of_queue) here) [
-          | inl was ↦ full w (ap (queue_of S) (sym v_is) ∙ of_queue) was
-          | inr above ↦ above
-        ])
+          elim (keeps.waiting (ap (queue_of S) (sym v_is) ∙ of_queue) here) [
+            | inl was ↦ full w (ap (queue_of S) (sym v_is) ∙ of_queue) was
+            | inr above ↦ above
+          ])
       | inr v_ne ↦ full v of_queue (ap (pends (λ place. is_inactive place pool)) (sym (change.alters.pending_else v v_ne)) ∙ is_waiting)
     ] in
     omega arith
@@ -111,9 +109,9 @@ Follows-full S places wakes s t queue pool (Follows.leaves pl wk a b c w at chan
     let full_then : IsFull S after queue pool =
     elim (cases_eq (queue_of S w) queue) [
       | inl of_queue ↦ elim (cases_eq at pool) [
-          | inl in_pool ↦ subst (λ (q : ℕ). IsFull S after q pool) of_queue (subst (λ (x : ℕ). IsFull S after (queue_of S w) x) in_pool full_there)
-          | inr other ↦ Follows-full S false wakes b after queue pool filled sound_then (Change-full S places wakes (Some at) s b w queue pool sound (λ e q. other cc) change full)
-        ]
+        | inl in_pool ↦ subst (λ (q : ℕ). IsFull S after q pool) of_queue (subst (λ (x : ℕ). IsFull S after (queue_of S w) x) in_pool full_there)
+        | inr other ↦ Follows-full S false wakes b after queue pool filled sound_then (Change-full S places wakes (Some at) s b w queue pool sound (λ e q. other cc) change full)
+      ]
       | inr other ↦ Follows-full S false wakes b after queue pool filled sound_then (Change-full S places wakes (Some at) s b w queue pool sound (λ e q. other q) change full)
     ] in
     Follows-full S places wakes after t queue pool rest (Follows-sound S false wakes b after filled sound_then) full_then

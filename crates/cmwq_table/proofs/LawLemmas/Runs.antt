@@ -1,33 +1,31 @@
 -- What holds of every state that a run comes to.
-use Rattle.std.proofs.Common.{◌≡◌, ℕ, zero, suc, ◌+◌, ◌*◌, ◌<◌, ◌≤◌, Bool, true, false, not, cond, ◌&&◌, ◌||◌, List, [], ◌∷◌, ◌++◌, length, replicate, Option, Some, None, arith, refl, sym, ap, ◌∙◌, subst, inl, inr, ◌⊎◌}
+use Rattle.std.proofs.Common.{◌≡◌, ℕ, zero, suc, Bool, true, false, ◌&&◌, List, [], ◌∷◌, ◌++◌, length, replicate, Option, Some, None, arith, refl, sym, ap, ◌∙◌, subst, inl, inr}
 use Rattle.std.proofs.lemmas.List.{length-replicate}
 use Rattle.std.specs.Prelude.{slice_index_or, ◌==◌}
 use Rattle.cmwq_types.specs.Contents.{ScenarioContents}
 use Rattle.cmwq_types.specs.First.{count_below}
-use Rattle.cmwq_types.specs.Scenario.{flags_at, queue_at, queue_of}
+use Rattle.cmwq_types.specs.Scenario.{queue_of}
 use Rattle.cmwq_types.specs.Faults.{IsValid}
 use Rattle.cmwq_types.specs.declared.instr.Instr.{Instr}
 use Rattle.cmwq_types.specs.declared.reply.Refusal.{Refusal}
 use Rattle.cmwq_types.specs.declared.reply.Reply.{Reply}
 use Rattle.cmwq_types.specs.declared.reply.Reply.TheVariants as reply
 use Rattle.cmwq_table.specs.declared.state.FlushTarget.{FlushTarget}
-use Rattle.cmwq_table.specs.declared.state.FlushTarget.TheVariants.{Instance, Queue, Nothing}
+use Rattle.cmwq_table.specs.declared.state.FlushTarget.TheVariants.{Nothing}
 use Rattle.cmwq_table.specs.declared.state.Pending.{Pending}
 use Rattle.cmwq_table.specs.declared.state.Running.{Running}
-use Rattle.cmwq_table.specs.State.{State, max_at, pending_at, pool_count, running_at, start}
+use Rattle.cmwq_table.specs.State.{State, pending_at, pool_count, running_at, start}
 use Rattle.cmwq_table.specs.Counts.{active, is_active, is_inactive, limit, pends, runs}
 use Rattle.cmwq_table.specs.Counts as counts
 use Rattle.cmwq_table.specs.Laws.{tells_wake}
-use Rattle.cmwq_table.specs.Moves.{with_flush}
-use Rattle.cmwq_table.specs.Table.{after_all, answer, effect, operands, refusal, run, situation, spent_all, table, target_at}
+use Rattle.cmwq_table.specs.Table.{after_all, answer, effect, operands, run, situation, spent_all, table}
 use Rattle.cmwq_table.proofs.LawLemmas.Alike.{alike-active, alike-order, alike-sound}
-use Rattle.cmwq_table.proofs.LawLemmas.Changes.{IsLong}
 use Rattle.cmwq_table.proofs.LawLemmas.Counting.{count_below-all_fail}
 use Rattle.cmwq_table.proofs.LawLemmas.Effects.{Effect, GivenFits, effect-is, with_given}
-use Rattle.cmwq_table.proofs.LawLemmas.Order.{Follows-one_by_one, Follows-order, HasActive, HasInactive, IsInOrder, IsOneByOne}
+use Rattle.cmwq_table.proofs.LawLemmas.Order.{Follows-one_by_one, Follows-order, HasActive, IsInOrder, IsOneByOne}
 use Rattle.cmwq_table.proofs.LawLemmas.Room.{AreFull}
 use Rattle.cmwq_table.proofs.LawLemmas.Setting.{IsSetting, IsSetting-valid, max-declared}
-use Rattle.cmwq_table.proofs.LawLemmas.Sound.{Fits, FitsIfPending, FitsIfRunning, FitsTarget, Follows-sound, IsSound}
+use Rattle.cmwq_table.proofs.LawLemmas.Sound.{Fits, FitsTarget, Follows-sound, IsSound}
 
 pub record IsReached (S : ScenarioContents) (s : State) : Type 0 where
   pub sound : IsSound S s
@@ -69,7 +67,7 @@ effect-reached S wakes s t spent reached effect =
       are_full = effect.ended_full;
       in_order = Follows-order S effect.places wakes effect.begun effect.ended effect.follows begun_sound effect.begun_full (alike-order S s effect.begun effect.alike reached.in_order);
       one_by_one = Follows-one_by_one S effect.places wakes effect.begun effect.ended effect.follows begun_sound
-      (λ queue pool ordered. rw (alike-active S s effect.begun queue pool effect.alike) (reached.one_by_one queue pool ordered));
+          (λ queue pool ordered. rw (alike-active S s effect.begun queue pool effect.alike) (reached.one_by_one queue pool ordered));
     } in
     subst (λ (u : State). IsReached S (record u { spent = spent })) (sym effect.after) (given-reached S effect.ended effect.given spent ended effect.given_fits)
 

@@ -1,5 +1,5 @@
 -- What a valid scenario gives the laws.
-use Rattle.std.proofs.Common.{◌≡◌, ℕ, zero, suc, ◌+◌, ◌<◌, ◌≤◌, Bool, true, false, ◌&&◌, List, [], ◌∷◌, ◌++◌, length, Option, Some, None, arith, refl}
+use Rattle.std.proofs.Common.{◌≡◌, ℕ, zero, suc, ◌<◌, ◌≤◌, Bool, true, false, ◌&&◌, List, [], ◌∷◌, ◌++◌, length, Option, Some, None, arith, refl}
 use Rattle.std.specs.Prelude.{slice_index_or, nat_le, nat_lt, map, if◌then◌else◌, ◌==◌}
 use Rattle.std.proofs.lemmas.Bool.{ltb-true}
 use Rattle.std.proofs.lemmas.Bool.Decides.{nat_tests}
@@ -7,7 +7,7 @@ use Rattle.std.specs.List.{list_any}
 use Rattle.std.specs.Str.{bytes_eq}
 use Rattle.cmwq_types.specs.Contents.{ScenarioContents, WorkContents}
 use Rattle.cmwq_types.specs.Faults.{IsValid, actor_fault, body_fault, counts_fault, fault_if, fault_unless, first_along, fits_flags, is_body, numbers_fault, op_fault, or_else, queue_fault, within, work_fault}
-use Rattle.cmwq_types.specs.Scenario.{flags_at, op_at, plain_flags, queue_at, work_at}
+use Rattle.cmwq_types.specs.Scenario.{op_at, plain_flags, queue_at}
 use Rattle.cmwq_types.specs.declared.check.Fault.{Fault}
 use Rattle.cmwq_types.specs.declared.check.Fault.TheVariants.{Range, TooMany, Duplicate, Unknown, BadBody, BadFlags}
 use Rattle.cmwq_types.specs.declared.limits.TheConstants.{MAX_MAX_ACTIVE, MAX_OPS}

@@ -1,5 +1,5 @@
 -- What holds of each state that a run comes to, work by work; and that each change keeps it.
-use Rattle.std.proofs.Common.{◌≡◌, ℕ, zero, suc, ◌+◌, ◌<◌, ◌≤◌, Bool, true, false, cond, List, [], ◌∷◌, length, Option, Some, None, arith, refl, sym, ap, ◌∙◌, subst, inl, inr, ◌⊎◌}
+use Rattle.std.proofs.Common.{◌≡◌, ℕ, ◌+◌, ◌<◌, ◌≤◌, Bool, true, false, Option, Some, None, arith, refl, sym, ap, ◌∙◌, subst, inl, inr, ◌⊎◌}
 use Rattle.std.proofs.lemmas.Bool.{cases_eq}
 use Rattle.std.specs.Prelude.{is_some}
 use Rattle.cmwq_types.specs.Contents.{ScenarioContents}
@@ -15,7 +15,7 @@ use Rattle.cmwq_table.specs.Counts.{is_deferred, pends}
 use Rattle.cmwq_table.specs.Moves.{fill}
 use Rattle.cmwq_table.specs.Table.{target_at}
 use Rattle.cmwq_table.specs.Laws.{is_waiting}
-use Rattle.cmwq_table.proofs.LawLemmas.Changes.{IsLong, IsPoolOf, RunsIn, Alters, Kind, Change, Follows}
+use Rattle.cmwq_table.proofs.LawLemmas.Changes.{IsLong, IsPoolOf, RunsIn, Kind, Change, Follows}
 
 -- where a work that may run waits
 abbrev pub FitsPlace : ScenarioContents → ℕ → Option Running → Place → Type 0
@@ -178,11 +178,11 @@ module _ (S : ScenarioContents) (places wakes : Bool) (left : Option ℕ) (s t :
 
   works : (v : ℕ) → Fits S t.next v (pending_at t v) (running_at t v)
   works v = elim (cases_eq v w) [
-      | inl e ↦ (let here : Fits S t.next w change.p change.r = Kind-fits S places wakes s w left (pending_at s w) (running_at s w) change.p change.r t.next change.kind (sound.works w) in
+    | inl e ↦ (let here : Fits S t.next w change.p change.r = Kind-fits S places wakes s w left (pending_at s w) (running_at s w) change.p change.r t.next change.kind (sound.works w) in
         let there : Fits S t.next w (pending_at t w) (running_at t w) = rw (change.alters.pending_here, change.alters.running_here) here in
         subst (λ (k : ℕ). Fits S t.next k (pending_at t k) (running_at t k)) (sym e) there)
-      | inr ne ↦ rw (change.alters.pending_else v ne, change.alters.running_else v ne) (Fits-later S s.next t.next v (pending_at s v) (running_at s v) later (sound.works v))
-    ]
+    | inr ne ↦ rw (change.alters.pending_else v ne, change.alters.running_else v ne) (Fits-later S s.next t.next v (pending_at s v) (running_at s v) later (sound.works v))
+  ]
 
   -- the changed work and another one
   apart-here : (v : ℕ) → (v ≡ w → ⊥) → (p q : Pending) → pending_at t w ≡ Some p → pending_at t v ≡ Some q → p.born ≡ q.born → ⊥
@@ -197,15 +197,15 @@ module _ (S : ScenarioContents) (places wakes : Bool) (left : Option ℕ) (s t :
 
   apart : (v x : ℕ) (p q : Pending) → pending_at t v ≡ Some p → pending_at t x ≡ Some q → p.born ≡ q.born → v ≡ x
   apart v x p q is_p is_q e = elim (cases_eq v w) [
-      | inl v_is ↦ elim (cases_eq x w) [
-          | inl x_is ↦ v_is ∙ sym x_is
-          | inr x_ne ↦ absurd (apart-here x x_ne p q (ap (pending_at t) (sym v_is) ∙ is_p) is_q e)
-        ]
-      | inr v_ne ↦ elim (cases_eq x w) [
-          | inl x_is ↦ absurd (apart-here v v_ne q p (ap (pending_at t) (sym x_is) ∙ is_q) is_p (sym e))
-          | inr x_ne ↦ sound.apart v x p q (sym (change.alters.pending_else v v_ne) ∙ is_p) (sym (change.alters.pending_else x x_ne) ∙ is_q) e
-        ]
+    | inl v_is ↦ elim (cases_eq x w) [
+      | inl x_is ↦ v_is ∙ sym x_is
+      | inr x_ne ↦ absurd (apart-here x x_ne p q (ap (pending_at t) (sym v_is) ∙ is_p) is_q e)
     ]
+    | inr v_ne ↦ elim (cases_eq x w) [
+      | inl x_is ↦ absurd (apart-here v v_ne q p (ap (pending_at t) (sym x_is) ∙ is_q) is_p (sym e))
+      | inr x_ne ↦ sound.apart v x p q (sym (change.alters.pending_else v v_ne) ∙ is_p) (sym (change.alters.pending_else x x_ne) ∙ is_q) e
+    ]
+  ]
 
   pub Change-sound : IsSound S t
   Change-sound = record {

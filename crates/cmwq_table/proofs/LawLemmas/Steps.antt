@@ -1,7 +1,6 @@
 -- Each of the table's words makes a chain of changes.
-use Rattle.std.proofs.Common.{◌≡◌, ℕ, zero, suc, ◌+◌, ◌-◌, ◌*◌, ◌<◌, ◌≤◌, Bool, true, false, cond, ◌&&◌, ◌||◌, List, [], ◌∷◌, length, Option, Some, None, arith, refl, sym, ap, ◌∙◌, subst, inl, inr, ◌⊎◌}
-use Rattle.std.proofs.lemmas.Bool.{cases_eq, cases_lt, cases_Bool}
-use Rattle.std.specs.Prelude.{slice_set, is_some}
+use Rattle.std.proofs.Common.{◌≡◌, ℕ, zero, suc, ◌+◌, ◌*◌, ◌<◌, ◌≤◌, Bool, true, false, cond, ◌||◌, length, Option, Some, None, arith, refl, sym, ap, ◌∙◌, subst, inl, inr}
+use Rattle.std.proofs.lemmas.Bool.{cases_eq}
 use Rattle.cmwq_types.specs.Contents.{ScenarioContents}
 use Rattle.cmwq_types.specs.Scenario.{flags_at, queue_of}
 use Rattle.cmwq_types.specs.declared.reply.Place.{Place}
@@ -10,11 +9,11 @@ use Rattle.cmwq_table.specs.declared.state.Pending.{Pending}
 use Rattle.cmwq_table.specs.declared.state.Running.{Running}
 use Rattle.cmwq_table.specs.State.{State, pending_at, running_at, pool_count, target, priority}
 use Rattle.cmwq_table.specs.Counts.{has_room}
-use Rattle.cmwq_table.specs.Moves.{begin_again, come_to_end, fill, filled, fill_everywhere, fill_freezable, fill_from, fill_pools, fire, fired, fired_to, newborn, place, place_after, place_in, pool_for, pool_or, retire, set_timer, take_off, taken_off, taking, with_pending, with_running}
+use Rattle.cmwq_table.specs.Moves.{fill, filled, fill_everywhere, fill_freezable, fill_from, fill_pools, fired, fired_to, newborn, place, place_after, pool_for, pool_or, set_timer, taken_off, with_pending}
 use Rattle.cmwq_table.proofs.LawLemmas.Changes.{IsLong, IsPoolOf, RunsIn, Alters, Kind, Change, Follows, Follows-then}
-use Rattle.cmwq_table.proofs.LawLemmas.Fills.{Fills, fill-fills}
-use Rattle.cmwq_table.proofs.LawLemmas.Makers.{alters-pending, alters-running, alters-both}
-use Rattle.cmwq_table.proofs.LawLemmas.Sound.{IsSound, Fits, FitsIfRunning, FitsIfPending, Change-sound, Follows-sound}
+use Rattle.cmwq_table.proofs.LawLemmas.Fills.{fill-fills}
+use Rattle.cmwq_table.proofs.LawLemmas.Makers.{alters-pending}
+use Rattle.cmwq_table.proofs.LawLemmas.Sound.{IsSound, Fits, FitsIfRunning, Change-sound}
 
 -- a change, from what the work pends and runs as before
 pub changed : (S : ScenarioContents) (places wakes : Bool) (left : Option ℕ) (s t : State) (w : ℕ) (a : Option Pending) (b : Option Running) (c : Option Pending) (d : Option Running) → pending_at s w ≡ a → running_at s w ≡ b → Alters S s t w c d → Kind S places wakes s w left a b c d t.next → Change S places wakes left s t w
@@ -23,7 +22,7 @@ changed S places wakes left s t w a b c d pends runs alters kind = record {
   r = d;
   alters = alters;
   kind = subst (λ (o : Option Pending). Kind S places wakes s w left o (running_at s w) c d t.next) (sym pends)
-  (subst (λ (o : Option Running). Kind S places wakes s w left a o c d t.next) (sym runs) kind);
+      (subst (λ (o : Option Running). Kind S places wakes s w left a o c d t.next) (sym runs) kind);
 }
 
 pub one : (S : ScenarioContents) (places wakes : Bool) (s t : State) (w : ℕ) → Change S places wakes None s t w → Follows S places wakes s t
@@ -106,7 +105,7 @@ Change-still : (S : ScenarioContents) (places wakes : Bool) (left : Option ℕ) 
 Change-still S places wakes left s t w v quiet idle change =
     elim (cases_eq v w) [
       | inl v_is ↦ (let before : pending_at s w ≡ None = ap (pending_at s) (sym v_is) ∙ idle in
-        ap (pending_at t) v_is ∙ (change.alters.pending_here ∙ Kind-still S places wakes s w left (pending_at s w) (running_at s w) change.p change.r t.next quiet before change.kind))
+          ap (pending_at t) v_is ∙ (change.alters.pending_here ∙ Kind-still S places wakes s w left (pending_at s w) (running_at s w) change.p change.r t.next quiet before change.kind))
       | inr v_ne ↦ change.alters.pending_else v v_ne ∙ idle
     ]
 
@@ -138,7 +137,7 @@ stops-place S wakes s w p (Timer due cpu) long h is =
     let alters : Alters S s (with_pending s w None) w None (running_at s w) = stop-alters S s w long h in
     record {
       follows = one S true wakes s (with_pending s w None) w
-      (changed S true wakes None s (with_pending s w None) w (Some (record { born = p.born; stamp = p.stamp; place = Timer due cpu })) (running_at s w) None (running_at s w) is refl alters (Kind.untimed p.born p.stamp (running_at s w) due cpu));
+          (changed S true wakes None s (with_pending s w None) w (Some (record { born = p.born; stamp = p.stamp; place = Timer due cpu })) (running_at s w) None (running_at s w) is refl alters (Kind.untimed p.born p.stamp (running_at s w) due cpu));
       stopped = alters.pending_here;
     }
 stops-place S wakes s w p (Inactive at) long h is =

@@ -1,14 +1,12 @@
 -- The laws, from what every state that a run comes to has, and from what an instruction does.
-use Rattle.std.proofs.Common.{◌≡◌, ℕ, zero, suc, ◌+◌, ◌*◌, ◌<◌, ◌≤◌, Bool, true, false, not, cond, ◌&&◌, ◌||◌, List, [], ◌∷◌, ◌++◌, length, Option, Some, None, arith, refl, sym, ap, ◌∙◌, subst, inl, inr, ◌⊎◌}
-use Rattle.std.proofs.lemmas.Bool.{and_from, and_left, and_right, cases_Bool, cases_eq, cases_lt, eq-eqb, eqb-false, eqb-true, le-ltb, lt-ltb, ltb-false, ne_eqb, not-true, or_left, or_parts, or_right}
+use Rattle.std.proofs.Common.{◌≡◌, ℕ, zero, suc, ◌+◌, ◌<◌, ◌≤◌, Bool, true, false, not, cond, ◌&&◌, List, [], ◌∷◌, ◌++◌, length, Option, Some, None, arith, refl, sym, ap, ◌∙◌, subst, inl, inr}
+use Rattle.std.proofs.lemmas.Bool.{and_from, cases_Bool, cases_lt, eq-eqb, eqb-true, le-ltb, lt-ltb, ltb-false, ne_eqb, or_left, or_parts, or_right}
 use Rattle.std.proofs.lemmas.List.{get_or_append_left, get_or_past, length-append}
 use Rattle.std.specs.Prelude.{is_some, nat_lt, slice_index_or, ◌==◌}
 use Rattle.cmwq_types.specs.Contents.{ScenarioContents}
-use Rattle.cmwq_types.specs.First.{IsFirst, MatchFirst, count_below}
+use Rattle.cmwq_types.specs.First.{MatchFirst}
 use Rattle.cmwq_types.specs.Scenario.{flags_at, queue_of}
 use Rattle.cmwq_types.specs.declared.instr.Instr.{Instr}
-use Rattle.cmwq_types.specs.declared.instr.QueueId.{QueueId}
-use Rattle.cmwq_types.specs.declared.instr.WorkId.{WorkId}
 use Rattle.cmwq_types.specs.declared.moves.Move.{Move}
 use Rattle.cmwq_types.specs.declared.moves.Move.TheVariants.{Advance, Wake}
 use Rattle.cmwq_types.specs.declared.reply.Place.{Place}
@@ -22,22 +20,21 @@ use Rattle.cmwq_table.specs.declared.state.Running.{Running}
 use Rattle.cmwq_table.specs.State.{State, idle_at, is_unbound, made_at, pending_at, pool_count, running_at}
 use Rattle.cmwq_table.specs.Counts.{active, counted, first_listed, first_slept, free_worker, has_instance, idle_stamp, is_deferred, is_done, is_inactive, is_listed, is_placed, last_idle, limit, may_start, new_worker, pends, placed_born, pending_before, queued_before, ready_head, runs}
 use Rattle.cmwq_table.specs.Counts as counts
-use Rattle.cmwq_table.specs.Laws.{ActiveSince, AtEveryInstruction, CanNotStart, GoesInOrder, HasInstance, HasNoIdleWorker, InEveryState, InactiveSince, IsInactiveIn, IsListedIn, LeavesNoRoom, PassesNoStart, PendsSince, RisesByWakes, RisesWithinLimit, RunsOnce, RunsSince, StayDone, WaitForInstances, is_waiting, placed_in, reply_to, state_after, tells_wake}
-use Rattle.cmwq_table.specs.Moves.{as_move, first_moving, next_move, start_first, start_move, take_listed, with_flush}
-use Rattle.cmwq_table.specs.Table.{after_all, run, table, target_at}
+use Rattle.cmwq_table.specs.Laws.{ActiveSince, AtEveryInstruction, CanNotStart, GoesInOrder, HasInstance, HasNoIdleWorker, InEveryState, InactiveSince, IsListedIn, LeavesNoRoom, PassesNoStart, RisesByWakes, RisesWithinLimit, RunsOnce, StayDone, WaitForInstances, placed_in, reply_to, state_after, tells_wake}
+use Rattle.cmwq_table.specs.Moves.{as_move, first_moving, next_move, start_first, start_move, take_listed}
+use Rattle.cmwq_table.specs.Table.{after_all, run, target_at}
 use Rattle.cmwq_table.proofs.LawLemmas.Alike.{alike-active, alike-counted, alike-instances}
-use Rattle.cmwq_table.proofs.LawLemmas.Changes.{Follows, RunsIn}
 use Rattle.cmwq_table.proofs.LawLemmas.Concurrency.{Follows-counted}
 use Rattle.cmwq_table.proofs.LawLemmas.Counting.{count_below-all_fail, count_below-none, count_below-passes}
 use Rattle.cmwq_table.proofs.LawLemmas.Effects.{Effect, IsSettled, with_given}
 use Rattle.cmwq_table.proofs.LawLemmas.Fills.{waits-in_range}
-use Rattle.cmwq_table.proofs.LawLemmas.Instances.{BringsNoneBack, Follows-flushes, Follows-instances, Follows-next, Follows-now, IsOnEarlier}
+use Rattle.cmwq_table.proofs.LawLemmas.Instances.{BringsNoneBack, Follows-flushes, Follows-instances, Follows-now}
 use Rattle.cmwq_table.proofs.LawLemmas.Levels.{Follows-active, Follows-limit, RisesWithin}
 use Rattle.cmwq_table.proofs.LawLemmas.Moving.{listed-is_first}
 use Rattle.cmwq_table.proofs.LawLemmas.Order.{HasActive, HasInactive, PendsActive, Ran, at-most-one}
 use Rattle.cmwq_table.proofs.LawLemmas.Runs.{IsReached, Outcome, outcome-is, run-reached, table-reached}
 use Rattle.cmwq_table.proofs.LawLemmas.Setting.{IsSetting, IsSetting-valid}
-use Rattle.cmwq_table.proofs.LawLemmas.Sound.{Fits, FitsIfPending, FitsIfRunning, FitsPlace, FitsTarget, IsSound}
+use Rattle.cmwq_table.proofs.LawLemmas.Sound.{Fits, FitsPlace, FitsTarget, IsSound}
 
 -- Concurrency level.
 
@@ -60,9 +57,9 @@ outcome-wakes S s t r (Outcome.done u q spent effect) pool rises above =
     elim (cases_Bool (tells_wake r)) [
       | inl told ↦ told
       | inr quiet ↦ elim (effect-counted S (tells_wake r) s u pool quiet effect) [
-          | inl fewer ↦ absurd (omega arith)
-          | inr one ↦ absurd (omega arith)
-        ]
+        | inl fewer ↦ absurd (omega arith)
+        | inr one ↦ absurd (omega arith)
+      ]
     ]
 
 pub rises_by_wakes : AtEveryInstruction RisesByWakes
@@ -119,9 +116,10 @@ all-made made most false test e within = let over : most ≤ made = ltb-false ma
 
 no-worker : (S : ScenarioContents) (s : State) (pool : ℕ) → IsSound S s → free_worker S s pool ≡ None → HasNoIdleWorker S s pool × (made_at s pool ≡ S.workers)
 no-worker S s pool sound e =
-    let both = none-free S s pool (last_idle S s pool) (new_worker S s pool) e in
-    (no-idle S s pool (last_idle S s pool) (first_below-is_first (λ v w. nat_lt (idle_stamp (idle_at s pool w)) (idle_stamp (idle_at s pool v))) (λ worker. is_some (idle_at s pool worker)) S.workers (by_greatest-order (λ worker. idle_stamp (idle_at s pool worker)))) both.0,
-    all-made (made_at s pool) S.workers (nat_lt (made_at s pool) S.workers) refl both.1 (sound.made pool))
+    let both = none-free S s pool (last_idle S s pool) (new_worker S s pool) e in (
+      no-idle S s pool (last_idle S s pool) (first_below-is_first (λ v w. nat_lt (idle_stamp (idle_at s pool w)) (idle_stamp (idle_at s pool v))) (λ worker. is_some (idle_at s pool worker)) S.workers (by_greatest-order (λ worker. idle_stamp (idle_at s pool worker)))) both.0,
+      all-made (made_at s pool) S.workers (nat_lt (made_at s pool) S.workers) refl both.1 (sound.made pool),
+    )
 
 not-taken : (w : ℕ) (r : Option Running) (worker : Option ℕ) → take_listed w r worker ≡ None → worker ≡ None
 not-taken w (Some r) worker e = cc
@@ -204,9 +202,10 @@ pub goes_in_order : InEveryState GoesInOrder
 unfolding GoesInOrder
 goes_in_order S valid instrs queue ordered =
     let s = run S instrs in
-    let reached : IsReached S s = run-reached S instrs valid in
-    (at-most-one S s queue reached.sound reached.one_by_one ordered,
-    λ v w born later v_is w_is act inactive. reached.in_order v w born later (ap (λ (q : ℕ). (flags_at S q).ordered) v_is ∙ ordered) (w_is ∙ sym v_is) (active-since s v born act) (inactive-since s w later inactive))
+    let reached : IsReached S s = run-reached S instrs valid in (
+      at-most-one S s queue reached.sound reached.one_by_one ordered,
+      λ v w born later v_is w_is act inactive. reached.in_order v w born later (ap (λ (q : ℕ). (flags_at S q).ordered) v_is ∙ ordered) (w_is ∙ sym v_is) (active-since s v born act) (inactive-since s w later inactive),
+    )
 
 -- No idle room.
 
@@ -233,9 +232,10 @@ pub runs_once : InEveryState RunsOnce
 unfolding RunsOnce
 runs_once S valid instrs w p is =
     let s = run S instrs in
-    let fits : Fits S s.next w (Some p) (running_at s w) = subst (λ (o : Option Pending). Fits S s.next w o (running_at s w)) is ((run-reached S instrs valid).sound.works w) in
-    (λ r runs placed. place-once S w r p.place (subst (λ (o : Option Running). FitsPlace S w o p.place) runs fits.pending.place) placed,
-    λ deferred. place-deferred S w (running_at s w) p.place fits.pending.place deferred)
+    let fits : Fits S s.next w (Some p) (running_at s w) = subst (λ (o : Option Pending). Fits S s.next w o (running_at s w)) is ((run-reached S instrs valid).sound.works w) in (
+      λ r runs placed. place-once S w r p.place (subst (λ (o : Option Running). FitsPlace S w o p.place) runs fits.pending.place) placed,
+      λ deferred. place-deferred S w (running_at s w) p.place fits.pending.place deferred,
+    )
 
 -- Flushes.
 
@@ -265,9 +265,9 @@ effect-keeps S wakes s t effect =
     let kept = given-flushes t effect.ended effect.given s.flushes flushes effect.after in
     record {
       back = λ w test early h.
-        let ended : has_instance effect.ended w test ≡ true = sym (given-instances effect.ended effect.given w test) ∙ (ap (λ (x : State). has_instance x w test) (sym effect.after) ∙ h) in
-        let begun : has_instance effect.begun w test ≡ true = Follows-instances S effect.places wakes effect.begun effect.ended effect.follows w test (λ born above. early born (omega (arith, effect.alike.next))) ended in
-        sym (alike-instances S s effect.begun w test effect.alike) ∙ begun;
+          let ended : has_instance effect.ended w test ≡ true = sym (given-instances effect.ended effect.given w test) ∙ (ap (λ (x : State). has_instance x w test) (sym effect.after) ∙ h) in
+          let begun : has_instance effect.begun w test ≡ true = Follows-instances S effect.places wakes effect.begun effect.ended effect.follows w test (λ born above. early born (omega (arith, effect.alike.next))) ended in
+          sym (alike-instances S s effect.begun w test effect.alike) ∙ begun;
       more = kept.0;
       same = λ flush h. kept.1 flush h ∙ ap (λ (flushes : List FlushTarget). slice_index_or flushes flush Nothing) flushes;
     }
@@ -340,11 +340,12 @@ pub wait_for_instances : InEveryState WaitForInstances
 unfolding WaitForInstances
 wait_for_instances S valid instrs =
     let s = run S instrs in
-    let reached : IsReached S s = run-reached S instrs valid in
-    (λ flush born work is instance.
-      ap (is_done S s) is ∙ ap not (instance-passes s work.0 born (λ b. b == born) (eq-eqb born born refl) instance),
-    λ flush bound w born queue is of_queue before instance.
-      let test = λ (v : ℕ). (queue_of S v == queue.0) && has_instance s v (λ b. nat_lt b bound) in
-      let passes : test w ≡ true = and_from (queue_of S w == queue.0) (has_instance s w (λ b. nat_lt b bound)) (eq-eqb (queue_of S w) queue.0 of_queue) (instance-passes s w born (λ b. nat_lt b bound) (lt-ltb born bound before) instance) in
-      let some : 0 < queued_before S s queue.0 bound = count_below-passes test (length S.works) w (instance-in_range S s w born reached.sound instance) passes in
-      ap (is_done S s) is ∙ ne_eqb (queued_before S s queue.0 bound) 0 (λ none. omega arith))
+    let reached : IsReached S s = run-reached S instrs valid in (
+      λ flush born work is instance.
+          ap (is_done S s) is ∙ ap not (instance-passes s work.0 born (λ b. b == born) (eq-eqb born born refl) instance),
+      λ flush bound w born queue is of_queue before instance.
+          let test = λ (v : ℕ). (queue_of S v == queue.0) && has_instance s v (λ b. nat_lt b bound) in
+          let passes : test w ≡ true = and_from (queue_of S w == queue.0) (has_instance s w (λ b. nat_lt b bound)) (eq-eqb (queue_of S w) queue.0 of_queue) (instance-passes s w born (λ b. nat_lt b bound) (lt-ltb born bound before) instance) in
+          let some : 0 < queued_before S s queue.0 bound = count_below-passes test (length S.works) w (instance-in_range S s w born reached.sound instance) passes in
+          ap (is_done S s) is ∙ ne_eqb (queued_before S s queue.0 bound) 0 (λ none. omega arith),
+    )
