@@ -1,5 +1,5 @@
 -- Scenarios and instructions by which the premises of the laws hold: no law is met for want of a case.
-use Rattle.std.specs.Prelude.{ℕ, List, [], ◌∷◌, ◌++◌, codes}
+use Rattle.std.specs.Prelude.{List, [], ◌∷◌, ◌++◌, codes}
 use Rattle.cmwq_types.specs.Contents.{ScenarioContents}
 use Rattle.cmwq_types.specs.Scenario.{expand_lines, plain_flags}
 use Rattle.cmwq_types.specs.declared.instr.Instr.{Instr}

@@ -1,5 +1,7 @@
 //! Runs in which the premises of the laws hold, as theorems over the definitions: no law is met for want of a
 //! case.
+#![tactic(auto, unfolding(cmwq_table::specs::Table::table))]
+
 ghost use Rattle.cmwq_rows.specs.Premises.{after_lines, before_tick, before_wake, both_queued, flushes_given, itself_deferred, itself_queued, one_flushed, one_worker, queued_once, queues_itself_again, sleeper, two_ordered, work_finished, work_queued_again, worker_taken};
 ghost use Rattle.cmwq_table.specs.Counts.{active, counted, is_done, limit};
 ghost use Rattle.cmwq_table.specs.Laws.{active_anywhere, reply_to, state_after, tells_wake};
