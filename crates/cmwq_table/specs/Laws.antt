@@ -38,20 +38,20 @@ reply_to S s i = (table S s i).1
 
 -- Concurrency level.
 
-abbrev pub is_wakes : Event → Bool
-is_wakes event.Wakes = true
-is_wakes event.Starts = false
-is_wakes (event.Burns ticks) = false
-is_wakes (event.Sleeps ticks) = false
-is_wakes event.Finishes = false
-is_wakes event.FinishesAndStarts = false
-is_wakes event.Defers = false
-is_wakes event.Fires = false
-is_wakes (event.Queues other already) = false
+abbrev pub is_wake : Event → Bool
+is_wake event.Wakes = true
+is_wake event.Starts = false
+is_wake (event.Burns ticks) = false
+is_wake (event.Sleeps ticks) = false
+is_wake event.Finishes = false
+is_wake event.FinishesAndStarts = false
+is_wake event.Defers = false
+is_wake event.Fires = false
+is_wake (event.Queues other already) = false
 
 -- the reply tells that a sleeper wakes
 abbrev pub tells_wake : Reply → Bool
-tells_wake (reply.Event work event) = is_wakes event
+tells_wake (reply.Event work event) = is_wake event
 tells_wake reply.Queued = false
 tells_wake reply.Already = false
 tells_wake reply.Changed = false
@@ -83,8 +83,8 @@ abbrev pub CanNotStart : ScenarioContents → State → ℕ → Type 0
 CanNotStart S s pool = (0 < counted S s pool) ⊎ (HasNoIdleWorker S s pool × (made_at s pool ≡ S.workers))
 
 -- Where time passes, no pool with a listed work could have started it.
-unfoldable pub PassesNoStart : ScenarioContents → State → Instr → Type 0
-PassesNoStart S s i = s.now < (state_after S s i).now → (pool w : ℕ) → IsListedIn s w pool → CanNotStart S s pool
+unfoldable pub TimeWaitsForStarts : ScenarioContents → State → Instr → Type 0
+TimeWaitsForStarts S s i = s.now < (state_after S s i).now → (pool w : ℕ) → IsListedIn s w pool → CanNotStart S s pool
 
 -- Limit.
 
@@ -157,8 +157,8 @@ placed_in (Deferred at) = Some at
 placed_in (Timer due cpu) = None
 
 -- A work that is placed and runs does both in one pool; a deferred work runs.
-unfoldable pub RunsOnce : ScenarioContents → State → Type 0
-RunsOnce S s =
+unfoldable pub IsNotReentrant : ScenarioContents → State → Type 0
+IsNotReentrant S s =
     (w : ℕ) (p : Pending) → pending_at s w ≡ Some p
     → ((r : Running) → running_at s w ≡ Some r → is_placed p.place ≡ true → placed_in p.place ≡ Some r.pool)
     × (is_deferred p.place ≡ true → is_some (running_at s w) ≡ true)

@@ -2,10 +2,10 @@
 //!
 //! Each function's contract is a law, over every valid scenario and every list of instructions. The functions
 //! do nothing: they carry the laws.
-ghost use Rattle.cmwq_table.specs.Laws.{AtEveryInstruction, GoesInOrder, InEveryState, LeavesNoRoom, PassesNoStart, RisesByWakes, RisesWithinLimit, RunsOnce, StayDone, WaitForInstances};
+ghost use Rattle.cmwq_table.specs.Laws.{AtEveryInstruction, GoesInOrder, InEveryState, LeavesNoRoom, TimeWaitsForStarts, RisesByWakes, RisesWithinLimit, IsNotReentrant, StayDone, WaitForInstances};
 
-/// A bound worker pool starts no work while a counted one is runnable: where its concurrency level rises and
-/// is then above one, a sleeping worker has woken.
+/// A bound worker pool starts no work that counts beside a counted runnable worker: where its concurrency level
+/// rises and is then above one, a sleeping worker has woken.
 #[tactic(auto, using(crate::proofs::LawLemmas::Conclusions::rises_by_wakes))]
 pub fn concurrency_level_rises_by_wakes()
     ensures { AtEveryInstruction RisesByWakes }
@@ -13,9 +13,9 @@ pub fn concurrency_level_rises_by_wakes()
 
 /// A pool starts the next work as soon as the last runnable one sleeps or ends: where time passes, each pool
 /// with a listed work has a counted runnable worker, or has no idle worker and has made all its workers.
-#[tactic(auto, using(crate::proofs::LawLemmas::Conclusions::passes_no_start))]
+#[tactic(auto, using(crate::proofs::LawLemmas::Conclusions::time_waits_for_starts))]
 pub fn no_time_passes_while_a_work_can_start()
-    ensures { AtEveryInstruction PassesNoStart }
+    ensures { AtEveryInstruction TimeWaitsForStarts }
 {}
 
 /// `max_active` bounds how many works of a queue are active in a pool: where that count rises, it is then at
@@ -41,9 +41,9 @@ pub fn inactive_works_leave_no_room()
 
 /// A work is executed by at most one worker at any time: where it is placed while it runs, it is placed in the
 /// pool in which it runs, and a deferred work runs.
-#[tactic(auto, using(crate::proofs::LawLemmas::Conclusions::runs_once))]
+#[tactic(auto, using(crate::proofs::LawLemmas::Conclusions::is_not_reentrant))]
 pub fn works_are_not_reentrant()
-    ensures { InEveryState RunsOnce }
+    ensures { InEveryState IsNotReentrant }
 {}
 
 /// A flush that is done stays done, whatever is queued after it.

@@ -20,7 +20,7 @@ use Rattle.cmwq_table.specs.declared.state.Running.{Running}
 use Rattle.cmwq_table.specs.State.{State, idle_at, is_unbound, made_at, pending_at, pool_count, running_at}
 use Rattle.cmwq_table.specs.Counts.{active, counted, first_listed, first_slept, free_worker, has_instance, idle_stamp, is_deferred, is_done, is_inactive, is_listed, is_placed, last_idle, limit, may_start, new_worker, pends, placed_born, pending_before, queued_before, ready_head, runs}
 use Rattle.cmwq_table.specs.Counts as counts
-use Rattle.cmwq_table.specs.Laws.{ActiveSince, AtEveryInstruction, CanNotStart, GoesInOrder, HasInstance, HasNoIdleWorker, InEveryState, InactiveSince, IsListedIn, LeavesNoRoom, PassesNoStart, RisesByWakes, RisesWithinLimit, RunsOnce, StayDone, WaitForInstances, placed_in, reply_to, state_after, tells_wake}
+use Rattle.cmwq_table.specs.Laws.{ActiveSince, AtEveryInstruction, CanNotStart, GoesInOrder, HasInstance, HasNoIdleWorker, InEveryState, InactiveSince, IsListedIn, LeavesNoRoom, TimeWaitsForStarts, RisesByWakes, RisesWithinLimit, IsNotReentrant, StayDone, WaitForInstances, placed_in, reply_to, state_after, tells_wake}
 use Rattle.cmwq_table.specs.Moves.{as_move, first_moving, next_move, start_first, start_move, take_listed}
 use Rattle.cmwq_table.specs.Table.{after_all, run, target_at}
 use Rattle.cmwq_table.proofs.LawLemmas.Alike.{alike-active, alike-counted, alike-instances}
@@ -155,9 +155,9 @@ settled-listed S s pool w sound settled listed =
     let still : start_move S s pool ≡ None = no-start (ready_head S s pool) (first_slept S s pool) (start_move S s pool) (settled-still S s pool settled pool_there) in
     cannot-start S s pool w sound there is (may_start S s pool) refl still
 
-pub passes_no_start : AtEveryInstruction PassesNoStart
-unfolding PassesNoStart
-passes_no_start S valid instrs i later pool w listed =
+pub time_waits_for_starts : AtEveryInstruction TimeWaitsForStarts
+unfolding TimeWaitsForStarts
+time_waits_for_starts S valid instrs i later pool w listed =
     let reached : IsReached S (run S instrs) = run-reached S instrs valid in
     let outcome : Outcome S (run S instrs) (state_after S (run S instrs) i) (reply_to S (run S instrs) i) = outcome-is S (run S instrs) i (IsSetting-valid S valid) reached in
     settled-listed S (run S instrs) pool w reached.sound (outcome-settled S (run S instrs) (state_after S (run S instrs) i) (reply_to S (run S instrs) i) outcome later) listed
@@ -228,9 +228,9 @@ place-deferred S w r (Inactive at) fits is = cc
 place-deferred S w r (Listed at) fits is = cc
 place-deferred S w r (Deferred at) fits is = fits.2
 
-pub runs_once : InEveryState RunsOnce
-unfolding RunsOnce
-runs_once S valid instrs w p is =
+pub is_not_reentrant : InEveryState IsNotReentrant
+unfolding IsNotReentrant
+is_not_reentrant S valid instrs w p is =
     let s = run S instrs in
     let fits : Fits S s.next w (Some p) (running_at s w) = subst (λ (o : Option Pending). Fits S s.next w o (running_at s w)) is ((run-reached S instrs valid).sound.works w) in (
       λ r runs placed. place-once S w r p.place (subst (λ (o : Option Running). FitsPlace S w o p.place) runs fits.pending.place) placed,

@@ -18,7 +18,7 @@ use Rattle.cmwq_table.specs.declared.state.Pending.{Pending}
 use Rattle.cmwq_table.specs.declared.state.Running.{Running}
 use Rattle.cmwq_table.specs.State.{State, seat, pending_at, running_at, idle_at, made_at, is_unbound}
 use Rattle.cmwq_table.specs.Counts.{first_listed, first_ready, first_runnable, first_slept, free_worker, idle_stamp, if_ready, is_deferred, is_listed, is_runnable, is_slept, last_idle, may_start, new_worker, or_else, pends, pending_before, pending_stamp, ready_head, running_before, running_stamp, running_until, runs}
-use Rattle.cmwq_table.specs.Laws.{is_wakes}
+use Rattle.cmwq_table.specs.Laws.{is_wake}
 use Rattle.cmwq_table.specs.Moves.{advance, as_move, begin_again, begun, carry_out, come_to_end, deferred, finish, moved, next_move, onward, queue_from_body, retire, start_first, start_move, started, started_on, take_listed, with_running, woken}
 use Rattle.cmwq_table.proofs.LawLemmas.Setting.{IsOpInRange, IsSetting}
 use Rattle.cmwq_table.proofs.LawLemmas.Changes.{Kind, Change, Follows}
@@ -260,8 +260,8 @@ defers S wakes s pool w (Some r) None sound h runs there is is_pending = Follows
 defers S wakes s pool w None o sound h runs there is is_pending = cc
 
 -- every move is a chain of changes, among which none wakes unless it tells so
-pub moved-follows : (S : ScenarioContents) (s : State) (pool : ℕ) (move : Move) → IsSetting S → IsSound S s → MoveFits S s pool move → Follows S true (is_wakes (moved S s pool move).1) s (moved S s pool move).0
-moved-follows S s pool (Advance w) setting sound fits = advances S (is_wakes (advance S s w.0 (running_at s w.0)).1) s w.0 (running_at s w.0) setting sound fits.0 refl fits.1
+pub moved-follows : (S : ScenarioContents) (s : State) (pool : ℕ) (move : Move) → IsSetting S → IsSound S s → MoveFits S s pool move → Follows S true (is_wake (moved S s pool move).1) s (moved S s pool move).0
+moved-follows S s pool (Advance w) setting sound fits = advances S (is_wake (advance S s w.0 (running_at s w.0)).1) s w.0 (running_at s w.0) setting sound fits.0 refl fits.1
 moved-follows S s pool (Wake w) setting sound fits = wakes-follows S s w.0 (running_at s w.0) sound fits refl
 moved-follows S s pool (Start w) setting sound fits = starts S false s pool w.0 (free_worker S s pool) (pending_at s w.0) sound fits.0 (free-below S s pool) fits.1 fits.2 fits.3 refl
 moved-follows S s pool (Defer w) setting sound fits = defers S false s pool w.0 (running_at s w.0) (pending_at s w.0) sound fits.0 refl fits.1 fits.2 refl
