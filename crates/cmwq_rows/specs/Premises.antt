@@ -8,7 +8,7 @@ use Rattle.cmwq_types.specs.declared.scenario.Line.{Line}
 use Rattle.cmwq_types.specs.declared.scenario.Op.TheVariants as op
 use Rattle.cmwq_table.specs.State.{State}
 use Rattle.cmwq_table.specs.Table.{run}
-use Rattle.cmwq_rows.specs.Declare.{queue, work, ordered, unbound, queues, enqueue, flush, flush_queue, times, scenario}
+use Rattle.cmwq_rows.specs.Declare.{queue, work, ordered, unbound, enqueue, flush, flush_queue, times, scenario}
 use Rattle.cmwq_rows.specs.Rows.{burning}
 
 -- the state that a scenario comes to by these lines
@@ -50,15 +50,11 @@ two_ordered =
 abbrev pub both_queued : List Line
 both_queued = enqueue 0 0 ∷ enqueue 1 0 ∷ []
 
--- a work queues itself and then sleeps
-abbrev pub queues_itself_again : ScenarioContents
-queues_itself_again = scenario 1000 (queue (codes "q") 2 plain_flags ∷ []) (work (codes "a") 0 (queues 0 ∷ op.Sleep 2 ∷ op.Finish ∷ []) ∷ []) []
-
--- it has queued itself
+-- the work that queues itself has done so
 abbrev pub itself_queued : List Line
 itself_queued = enqueue 0 0 ∷ times instr.Next 2 ∷ []
 
--- it sleeps, and its second instance's turn has come
+-- then it sleeps, and the turn of its second instance has come
 abbrev pub itself_deferred : List Line
 itself_deferred = enqueue 0 0 ∷ times instr.Next 4 ∷ []
 

@@ -2,7 +2,8 @@
 //! case.
 #![tactic(auto, unfolding(cmwq_table::specs::Table::table))]
 
-ghost use Rattle.cmwq_rows.specs.Premises.{after_lines, before_tick, before_wake, both_queued, flushes_given, itself_deferred, itself_queued, one_flushed, one_worker, queued_once, queues_itself_again, sleeper, two_ordered, work_finished, work_queued_again, worker_taken};
+ghost use Rattle.cmwq_rows.specs.Premises.{after_lines, before_tick, before_wake, both_queued, flushes_given, itself_deferred, itself_queued, one_flushed, one_worker, queued_once, sleeper, two_ordered, work_finished, work_queued_again, worker_taken};
+ghost use Rattle.cmwq_rows.specs.Rows.{queues_itself};
 ghost use Rattle.cmwq_table.specs.Counts.{active, counted, is_done, limit};
 ghost use Rattle.cmwq_table.specs.Laws.{active_anywhere, reply_to, state_after, tells_wake};
 ghost use Rattle.cmwq_table.specs.State.{idle_at, made_at, pending_at, running_at};
@@ -55,10 +56,10 @@ pub fn ordered_work_waits()
 
 /// A work is listed while it runs, and deferred while it sleeps.
 pub fn running_work_is_placed()
-    ensures listed { place_of (pending_at (after_lines queues_itself_again itself_queued) 0) ≡ Some (Place.Listed 0) }
-    ensures runs { is_some (running_at (after_lines queues_itself_again itself_queued) 0) ≡ true }
-    ensures deferred { place_of (pending_at (after_lines queues_itself_again itself_deferred) 0) ≡ Some (Place.Deferred 0) }
-    ensures sleeps { is_some (running_at (after_lines queues_itself_again itself_deferred) 0) ≡ true }
+    ensures listed { place_of (pending_at (after_lines queues_itself itself_queued) 0) ≡ Some (Place.Listed 0) }
+    ensures runs { is_some (running_at (after_lines queues_itself itself_queued) 0) ≡ true }
+    ensures deferred { place_of (pending_at (after_lines queues_itself itself_deferred) 0) ≡ Some (Place.Deferred 0) }
+    ensures sleeps { is_some (running_at (after_lines queues_itself itself_deferred) 0) ≡ true }
 {}
 
 /// A flush on a work and one on its queue aren't done while the work is listed.
@@ -86,6 +87,5 @@ pub fn premises_are_of_valid_scenarios()
     ensures sleeper { IsValid sleeper }
     ensures one_worker { IsValid one_worker }
     ensures two_ordered { IsValid two_ordered }
-    ensures queues_itself_again { IsValid queues_itself_again }
     ensures one_flushed { IsValid one_flushed }
 {}

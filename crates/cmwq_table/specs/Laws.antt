@@ -79,12 +79,12 @@ abbrev pub HasNoIdleWorker : ScenarioContents → State → ℕ → Type 0
 HasNoIdleWorker S s pool = (worker : ℕ) → worker < S.workers → idle_at s pool worker ≡ None
 
 -- the pool has a counted runnable worker; or it has no idle worker, and has made all its workers
-abbrev pub CanNotStart : ScenarioContents → State → ℕ → Type 0
-CanNotStart S s pool = (0 < counted S s pool) ⊎ (HasNoIdleWorker S s pool × (made_at s pool ≡ S.workers))
+abbrev pub CannotStart : ScenarioContents → State → ℕ → Type 0
+CannotStart S s pool = (0 < counted S s pool) ⊎ (HasNoIdleWorker S s pool × (made_at s pool ≡ S.workers))
 
 -- Where time passes, no pool with a listed work could have started it.
 unfoldable pub TimeWaitsForStarts : ScenarioContents → State → Instr → Type 0
-TimeWaitsForStarts S s i = s.now < (state_after S s i).now → (pool w : ℕ) → IsListedIn s w pool → CanNotStart S s pool
+TimeWaitsForStarts S s i = s.now < (state_after S s i).now → (pool w : ℕ) → IsListedIn s w pool → CannotStart S s pool
 
 -- Limit.
 

@@ -20,7 +20,7 @@ use Rattle.cmwq_table.specs.declared.state.Running.{Running}
 use Rattle.cmwq_table.specs.State.{State, idle_at, is_unbound, made_at, pending_at, pool_count, running_at}
 use Rattle.cmwq_table.specs.Counts.{active, counted, first_listed, first_slept, free_worker, has_instance, idle_stamp, is_deferred, is_done, is_inactive, is_listed, is_placed, last_idle, limit, may_start, new_worker, pends, placed_born, pending_before, queued_before, ready_head, runs}
 use Rattle.cmwq_table.specs.Counts as counts
-use Rattle.cmwq_table.specs.Laws.{ActiveSince, AtEveryInstruction, CanNotStart, GoesInOrder, HasInstance, HasNoIdleWorker, InEveryState, InactiveSince, IsListedIn, LeavesNoRoom, TimeWaitsForStarts, RisesByWakes, RisesWithinLimit, IsNotReentrant, StayDone, WaitForInstances, placed_in, reply_to, state_after, tells_wake}
+use Rattle.cmwq_table.specs.Laws.{ActiveSince, AtEveryInstruction, CannotStart, GoesInOrder, HasInstance, HasNoIdleWorker, InEveryState, InactiveSince, IsListedIn, LeavesNoRoom, TimeWaitsForStarts, RisesByWakes, RisesWithinLimit, IsNotReentrant, StayDone, WaitForInstances, placed_in, reply_to, state_after, tells_wake}
 use Rattle.cmwq_table.specs.Moves.{as_move, first_moving, next_move, start_first, start_move, take_listed}
 use Rattle.cmwq_table.specs.Table.{after_all, run, target_at}
 use Rattle.cmwq_table.proofs.LawLemmas.Alike.{alike-active, alike-counted, alike-instances}
@@ -135,7 +135,7 @@ not-zero : (n : ℕ) → (n == 0) ≡ false → 0 < n
 not-zero zero e = cc
 not-zero (suc n) e = omega arith
 
-cannot-start : (S : ScenarioContents) (s : State) (pool w : ℕ) → IsSound S s → w < length S.works → pends (λ place. is_listed place pool) (pending_at s w) ≡ true → (b : Bool) → may_start S s pool ≡ b → cond b (start_first s (first_listed S s pool) (free_worker S s pool)) None ≡ None → CanNotStart S s pool
+cannot-start : (S : ScenarioContents) (s : State) (pool w : ℕ) → IsSound S s → w < length S.works → pends (λ place. is_listed place pool) (pending_at s w) ≡ true → (b : Bool) → may_start S s pool ≡ b → cond b (start_first s (first_listed S s pool) (free_worker S s pool)) None ≡ None → CannotStart S s pool
 cannot-start S s pool w sound h listed true may e =
     inr (no-worker S s pool sound (not-first S s pool w (free_worker S s pool) (first_listed S s pool) h listed (listed-is_first S s pool) e))
 cannot-start S s pool w sound h listed false may e = inl (not-zero (counted S s pool) (or_parts (is_unbound S pool) (counted S s pool == 0) may).1)
@@ -146,7 +146,7 @@ listed-in_range S w pool r (Timer due cpu) fits is = cc
 listed-in_range S w pool r (Inactive at) fits is = cc
 listed-in_range S w pool r (Deferred at) fits is = cc
 
-settled-listed : (S : ScenarioContents) (s : State) (pool w : ℕ) → IsSound S s → IsSettled S s → IsListedIn s w pool → CanNotStart S s pool
+settled-listed : (S : ScenarioContents) (s : State) (pool w : ℕ) → IsSound S s → IsSettled S s → IsListedIn s w pool → CannotStart S s pool
 settled-listed S s pool w sound settled listed =
     let is : pends (λ place. is_listed place pool) (pending_at s w) ≡ true = ap (pends (λ place. is_listed place pool)) listed.1 ∙ listed.2 in
     let there : w < length S.works = waits-in_range S s w (λ place. is_listed place pool) sound.long is in
