@@ -1,3 +1,4 @@
+-- How the laws are proved. Nothing but the laws stands on these files.
 pub mod Alike
 pub mod Changes
 pub mod Conclusions

@@ -159,7 +159,8 @@ fits-alike : (S : ScenarioContents) (next w : ℕ) (a b : Option Running) (p q :
 fits-alike S next w a b p q e alike fits =
     subst (λ (o : Option Pending). Fits S next w o b) (sym e) (record { pending = pending-alike S next w a b p alike fits.pending; running = running-alike S next w a b alike fits.running })
 
-pub alike-sound : (S : ScenarioContents) (s t : State) → IsAlike S s t → IsSound S s → ((queue : ℕ) → (flags_at S queue).ordered ≡ true → max_at t queue ≤ 1) → IsSound S t
+pub alike-sound : (S : ScenarioContents) (s t : State) → IsAlike S s t → IsSound S s
+    → ((queue : ℕ) → (flags_at S queue).ordered ≡ true → max_at t queue ≤ 1) → IsSound S t
 alike-sound S s t alike sound ordered = record {
   long = alike.long sound.long;
   works = λ w. subst (λ (n : ℕ). Fits S n w (pending_at t w) (running_at t w)) (sym alike.next) (fits-alike S s.next w (running_at s w) (running_at t w) (pending_at s w) (pending_at t w) (alike.pending w) (alike.running w) (sound.works w));

@@ -41,19 +41,31 @@ pub record Alters (S : ScenarioContents) (s t : State) (w : ℕ) (p : Option Pen
 -- The kinds of change of the work w, from what it pends and runs as to what it then does, and the next
 -- stamp. First stands the pool in which its queue loses an active instance, if it does.
 pub data Kind (S : ScenarioContents) (places wakes : Bool) (s : State) (w : ℕ) : Option ℕ → Option Pending → Option Running → Option Pending → Option Running → ℕ → Type 0 where
-  placed : (r : Option Running) (pool : ℕ) → places ≡ true → IsPoolOf S w pool → RunsIn r pool → has_room S s (queue_of S w) pool ≡ true → Kind S places wakes s w None None r (newborn s (Listed pool)) r (s.next + 1)
-  put_off : (r : Option Running) (pool : ℕ) → places ≡ true → IsPoolOf S w pool → RunsIn r pool → has_room S s (queue_of S w) pool ≡ false → Kind S places wakes s w None None r (newborn s (Inactive pool)) r (s.next + 1)
+  placed : (r : Option Running) (pool : ℕ) → places ≡ true → IsPoolOf S w pool → RunsIn r pool → has_room S s (queue_of S w) pool ≡ true
+      → Kind S places wakes s w None None r (newborn s (Listed pool)) r (s.next + 1)
+  put_off : (r : Option Running) (pool : ℕ) → places ≡ true → IsPoolOf S w pool → RunsIn r pool → has_room S s (queue_of S w) pool ≡ false
+      → Kind S places wakes s w None None r (newborn s (Inactive pool)) r (s.next + 1)
   timed : (r : Option Running) (due cpu : ℕ) → places ≡ true → cpu < S.cpus → Kind S places wakes s w None None r (newborn s (Timer due cpu)) r (s.next + 1)
-  untimed : (born stamp : ℕ) (r : Option Running) (due cpu : ℕ) → Kind S places wakes s w None (Some (record { born = born; stamp = stamp; place = Timer due cpu })) r None r s.next
-  taken_inactive : (born stamp : ℕ) (r : Option Running) (pool : ℕ) → Kind S places wakes s w (Some pool) (Some (record { born = born; stamp = stamp; place = Inactive pool })) r None r s.next
-  taken_listed : (born stamp : ℕ) (r : Option Running) (pool : ℕ) → Kind S places wakes s w (Some pool) (Some (record { born = born; stamp = stamp; place = Listed pool })) r None r s.next
-  taken_deferred : (born stamp : ℕ) (r : Option Running) (pool : ℕ) → Kind S places wakes s w (Some pool) (Some (record { born = born; stamp = stamp; place = Deferred pool })) r None r s.next
-  activated : (born stamp : ℕ) (r : Option Running) (pool : ℕ) → has_room S s (queue_of S w) pool ≡ true → first_inactive S s (queue_of S w) pool ≡ Some w → Kind S places wakes s w None (Some (record { born = born; stamp = stamp; place = Inactive pool })) r (Some (record { born = born; stamp = s.next; place = Listed pool })) r (s.next + 1)
-  started : (born stamp pool worker : ℕ) → may_start S s pool ≡ true → Kind S places wakes s w None (Some (record { born = born; stamp = stamp; place = Listed pool })) None None (Some (begun born pool worker s.next)) (s.next + 1)
-  deferred : (born stamp pool : ℕ) (r : Running) → Kind S places wakes s w None (Some (record { born = born; stamp = stamp; place = Listed pool })) (Some r) (Some (record { born = born; stamp = stamp; place = Deferred pool })) (Some r) s.next
-  goes_on : (p : Option Pending) (r q : Running) → q.born ≡ r.born → q.pool ≡ r.pool → (is_runnable q.mode ≡ true → is_runnable r.mode ≡ true) → Kind S places wakes s w None p (Some r) p (Some q) s.next
+  untimed : (born stamp : ℕ) (r : Option Running) (due cpu : ℕ)
+      → Kind S places wakes s w None (Some (record { born = born; stamp = stamp; place = Timer due cpu })) r None r s.next
+  taken_inactive : (born stamp : ℕ) (r : Option Running) (pool : ℕ)
+      → Kind S places wakes s w (Some pool) (Some (record { born = born; stamp = stamp; place = Inactive pool })) r None r s.next
+  taken_listed : (born stamp : ℕ) (r : Option Running) (pool : ℕ)
+      → Kind S places wakes s w (Some pool) (Some (record { born = born; stamp = stamp; place = Listed pool })) r None r s.next
+  taken_deferred : (born stamp : ℕ) (r : Option Running) (pool : ℕ)
+      → Kind S places wakes s w (Some pool) (Some (record { born = born; stamp = stamp; place = Deferred pool })) r None r s.next
+  activated : (born stamp : ℕ) (r : Option Running) (pool : ℕ) → has_room S s (queue_of S w) pool ≡ true
+      → first_inactive S s (queue_of S w) pool ≡ Some w
+      → Kind S places wakes s w None (Some (record { born = born; stamp = stamp; place = Inactive pool })) r (Some (record { born = born; stamp = s.next; place = Listed pool })) r (s.next + 1)
+  started : (born stamp pool worker : ℕ) → may_start S s pool ≡ true
+      → Kind S places wakes s w None (Some (record { born = born; stamp = stamp; place = Listed pool })) None None (Some (begun born pool worker s.next)) (s.next + 1)
+  deferred : (born stamp pool : ℕ) (r : Running)
+      → Kind S places wakes s w None (Some (record { born = born; stamp = stamp; place = Listed pool })) (Some r) (Some (record { born = born; stamp = stamp; place = Deferred pool })) (Some r) s.next
+  goes_on : (p : Option Pending) (r q : Running) → q.born ≡ r.born → q.pool ≡ r.pool → (is_runnable q.mode ≡ true → is_runnable r.mode ≡ true)
+      → Kind S places wakes s w None p (Some r) p (Some q) s.next
   woken : (p : Option Pending) (r q : Running) → wakes ≡ true → q.born ≡ r.born → q.pool ≡ r.pool → Kind S places wakes s w None p (Some r) p (Some q) (s.next + 1)
-  again : (born stamp pool : ℕ) (r : Running) → is_runnable r.mode ≡ true → Kind S places wakes s w (Some r.pool) (Some (record { born = born; stamp = stamp; place = Deferred pool })) (Some r) None (Some (begun born r.pool r.worker s.next)) (s.next + 1)
+  again : (born stamp pool : ℕ) (r : Running) → is_runnable r.mode ≡ true
+      → Kind S places wakes s w (Some r.pool) (Some (record { born = born; stamp = stamp; place = Deferred pool })) (Some r) None (Some (begun born r.pool r.worker s.next)) (s.next + 1)
   retired : (p : Option Pending) (r : Running) → pends is_deferred p ≡ false → Kind S places wakes s w (Some r.pool) p (Some r) p None (s.next + 1)
 
 -- a change of one work
@@ -68,7 +80,8 @@ pub record Change (S : ScenarioContents) (places wakes : Bool) (left : Option �
 pub data Follows (S : ScenarioContents) : Bool → Bool → State → State → Type 0 where
   stays : (places wakes : Bool) (s : State) → Follows S places wakes s s
   changes : (places wakes : Bool) (s t u : State) (w : ℕ) → Change S places wakes None s t w → Follows S places wakes t u → Follows S places wakes s u
-  leaves : (places wakes : Bool) (s t u : State) (w pool : ℕ) → Change S places wakes (Some pool) s t w → Follows S false wakes t (fill S (queue_of S w) pool t) → Follows S places wakes (fill S (queue_of S w) pool t) u → Follows S places wakes s u
+  leaves : (places wakes : Bool) (s t u : State) (w pool : ℕ) → Change S places wakes (Some pool) s t w
+      → Follows S false wakes t (fill S (queue_of S w) pool t) → Follows S places wakes (fill S (queue_of S w) pool t) u → Follows S places wakes s u
 
 pub Follows-then : (S : ScenarioContents) (places wakes : Bool) (s t u : State) → Follows S places wakes s t → Follows S places wakes t u → Follows S places wakes s u
 Follows-then S places wakes s t u (stays pl wk a) next = next

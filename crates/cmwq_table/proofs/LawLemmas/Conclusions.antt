@@ -51,7 +51,8 @@ effect-counted S wakes s t pool quiet effect =
       | inr one ↦ inr (omega arith)
     ]
 
-outcome-wakes : (S : ScenarioContents) (s t : State) (r : Reply) → Outcome S s t r → (pool : ℕ) → counted S s pool < counted S t pool → 1 < counted S t pool → tells_wake r ≡ true
+outcome-wakes : (S : ScenarioContents) (s t : State) (r : Reply) → Outcome S s t r → (pool : ℕ) → counted S s pool < counted S t pool
+    → 1 < counted S t pool → tells_wake r ≡ true
 outcome-wakes S s t r (Outcome.refused why) pool rises above = absurd (omega arith)
 outcome-wakes S s t r (Outcome.done u q spent effect) pool rises above =
     elim (cases_Bool (tells_wake r)) [
@@ -106,7 +107,9 @@ none-free : (S : ScenarioContents) (s : State) (pool : ℕ) → (idle new : Opti
 none-free S s pool (Some worker) new e = cc
 none-free S s pool None new e = (refl, e)
 
-no-idle : (S : ScenarioContents) (s : State) (pool : ℕ) → (o : Option ℕ) → MatchFirst (λ v w. nat_lt (idle_stamp (idle_at s pool w)) (idle_stamp (idle_at s pool v))) (λ worker. is_some (idle_at s pool worker)) S.workers o → o ≡ None → HasNoIdleWorker S s pool
+no-idle : (S : ScenarioContents) (s : State) (pool : ℕ) → (o : Option ℕ)
+    → MatchFirst (λ v w. nat_lt (idle_stamp (idle_at s pool w)) (idle_stamp (idle_at s pool v))) (λ worker. is_some (idle_at s pool worker)) S.workers o
+    → o ≡ None → HasNoIdleWorker S s pool
 no-idle S s pool (Some worker) first e = cc
 no-idle S s pool None none e = λ worker h. no-some (idle_at s pool worker) (none worker h)
 
@@ -127,7 +130,10 @@ not-taken w None (Some worker) e = cc
 not-taken w None None e = refl
 
 -- the pool has a first listed work, which no worker is free for
-not-first : (S : ScenarioContents) (s : State) (pool w : ℕ) (worker o : Option ℕ) → w < length S.works → pends (λ place. is_listed place pool) (pending_at s w) ≡ true → MatchFirst (pending_before s) (λ w. pends (λ place. is_listed place pool) (pending_at s w)) (length S.works) o → start_first s o worker ≡ None → worker ≡ None
+not-first : (S : ScenarioContents) (s : State) (pool w : ℕ) (worker o : Option ℕ) → w < length S.works
+    → pends (λ place. is_listed place pool) (pending_at s w) ≡ true
+    → MatchFirst (pending_before s) (λ w. pends (λ place. is_listed place pool) (pending_at s w)) (length S.works) o → start_first s o worker ≡ None
+    → worker ≡ None
 not-first S s pool w worker (Some m) h listed first e = not-taken m (running_at s m) worker e
 not-first S s pool w worker None h listed none e = absurd (cc (none w h, listed))
 
@@ -135,7 +141,9 @@ not-zero : (n : ℕ) → (n == 0) ≡ false → 0 < n
 not-zero zero e = cc
 not-zero (suc n) e = omega arith
 
-cannot-start : (S : ScenarioContents) (s : State) (pool w : ℕ) → IsSound S s → w < length S.works → pends (λ place. is_listed place pool) (pending_at s w) ≡ true → (b : Bool) → may_start S s pool ≡ b → cond b (start_first s (first_listed S s pool) (free_worker S s pool)) None ≡ None → CannotStart S s pool
+cannot-start : (S : ScenarioContents) (s : State) (pool w : ℕ) → IsSound S s → w < length S.works
+    → pends (λ place. is_listed place pool) (pending_at s w) ≡ true → (b : Bool) → may_start S s pool ≡ b
+    → cond b (start_first s (first_listed S s pool) (free_worker S s pool)) None ≡ None → CannotStart S s pool
 cannot-start S s pool w sound h listed true may e =
     inr (no-worker S s pool sound (not-first S s pool w (free_worker S s pool) (first_listed S s pool) h listed (listed-is_first S s pool) e))
 cannot-start S s pool w sound h listed false may e = inl (not-zero (counted S s pool) (or_parts (is_unbound S pool) (counted S s pool == 0) may).1)
@@ -172,7 +180,8 @@ given-limit : (S : ScenarioContents) (s : State) (given : Option FlushTarget) (q
 given-limit S s (Some target) queue = refl
 given-limit S s None queue = refl
 
-outcome-active : (S : ScenarioContents) (s t : State) (r : Reply) → Outcome S s t r → (queue pool : ℕ) → active S s queue pool < active S t queue pool → active S t queue pool ≤ limit S t queue
+outcome-active : (S : ScenarioContents) (s t : State) (r : Reply) → Outcome S s t r → (queue pool : ℕ) → active S s queue pool < active S t queue pool
+    → active S t queue pool ≤ limit S t queue
 outcome-active S s t r (Outcome.refused why) queue pool rises = absurd (omega arith)
 outcome-active S s t r (Outcome.done u q spent effect) queue pool rises =
     let last : active S u queue pool ≡ active S effect.ended queue pool = ap (λ (x : State). active S x queue pool) effect.after ∙ given-active S effect.ended effect.given queue pool in
@@ -245,7 +254,8 @@ record KeepsFlushes (s t : State) : Type 0 where
   more : length s.flushes ≤ length t.flushes
   same : (flush : ℕ) → flush < length s.flushes → target_at t flush ≡ target_at s flush
 
-given-flushes : (s t : State) (given : Option FlushTarget) (flushes : List FlushTarget) → t.flushes ≡ flushes → s ≡ with_given t given → (length flushes ≤ length s.flushes) × ((flush : ℕ) → flush < length flushes → target_at s flush ≡ target_at t flush)
+given-flushes : (s t : State) (given : Option FlushTarget) (flushes : List FlushTarget) → t.flushes ≡ flushes → s ≡ with_given t given
+    → (length flushes ≤ length s.flushes) × ((flush : ℕ) → flush < length flushes → target_at s flush ≡ target_at t flush)
 given-flushes s t (Some target) flushes e is =
     let more : s.flushes ≡ t.flushes ++ target ∷ [] = ap (λ (x : State). x.flushes) is in
     let longer : length s.flushes ≡ length t.flushes + 1 = ap length more ∙ length-append t.flushes (target ∷ []) in
@@ -291,7 +301,8 @@ and-back true false false back e = refl
 and-back false a b back e = refl
 
 -- a flush that is done stays done, where no instance comes back
-done-stays : (S : ScenarioContents) (s t : State) (target : FlushTarget) → FitsTarget s.next target → BringsNoneBack s t → is_done S s target ≡ true → is_done S t target ≡ true
+done-stays : (S : ScenarioContents) (s t : State) (target : FlushTarget) → FitsTarget s.next target → BringsNoneBack s t → is_done S s target ≡ true
+    → is_done S t target ≡ true
 done-stays S s t (Instance work born) fits back done =
     not-back (has_instance s work.0 (λ b. b == born)) (has_instance t work.0 (λ b. b == born)) (back work.0 (λ b. b == born) (λ b above. ne_eqb b born (λ same. omega arith))) done
 done-stays S s t (Queue queue bound) fits back done =
@@ -304,7 +315,8 @@ done-stays S s t (Queue queue bound) fits back done =
     eq-eqb (queued_before S t queue.0 bound) 0 still
 done-stays S s t Nothing fits back done = refl
 
-all-stay : (S : ScenarioContents) (s : State) (later : List Instr) (flush : ℕ) → IsSetting S → IsReached S s → flush < length s.flushes → is_done S s (target_at s flush) ≡ true → is_done S (after_all S s later) (target_at (after_all S s later) flush) ≡ true
+all-stay : (S : ScenarioContents) (s : State) (later : List Instr) (flush : ℕ) → IsSetting S → IsReached S s → flush < length s.flushes
+    → is_done S s (target_at s flush) ≡ true → is_done S (after_all S s later) (target_at (after_all S s later) flush) ≡ true
 all-stay S s [] flush setting reached h done = done
 all-stay S s (i ∷ later) flush setting reached h done =
     let t = state_after S s i in

@@ -22,7 +22,8 @@ runnable S s pool = count_below (λ w. is_counted S s pool w) (length S.works)
 abbrev pub runnable_of : ScenarioContents → ℕ → ℕ → Option Running → ℕ
 runnable_of S w pool r = bit (runs (λ r. (r.pool == pool) && is_runnable r.mode) r && not (flags_at S (queue_of S w)).cpu_intensive)
 
-pub runnable-changed : (S : ScenarioContents) (s t : State) (w : ℕ) (p : Option Pending) (r : Option Running) (pool : ℕ) → Alters S s t w p r → runnable S t pool + runnable_of S w pool (running_at s w) ≡ runnable S s pool + runnable_of S w pool r
+pub runnable-changed : (S : ScenarioContents) (s t : State) (w : ℕ) (p : Option Pending) (r : Option Running) (pool : ℕ) → Alters S s t w p r
+    → runnable S t pool + runnable_of S w pool (running_at s w) ≡ runnable S s pool + runnable_of S w pool r
 runnable-changed S s t w p r pool alters =
     let counts = λ (v : ℕ) (o : Option Running). runs (λ r. (r.pool == pool) && is_runnable r.mode) o && not (flags_at S (queue_of S v)).cpu_intensive in
     let changed : runnable S t pool + bit (is_counted S s pool w) ≡ runnable S s pool + bit (is_counted S t pool w) =
@@ -30,7 +31,8 @@ runnable-changed S s t w p r pool alters =
     let here : bit (is_counted S t pool w) ≡ runnable_of S w pool r = ap (λ (o : Option Running). bit (counts w o)) alters.running_here in
     omega arith
 
-starts-counted : (S : ScenarioContents) (s : State) (at pool : ℕ) (counts : Bool) → may_start S s at ≡ true → (y : Bool) → (at == pool) ≡ y → RisesIf (may_start S s pool ≡ true) (bit ((y && true) && counts)) 0
+starts-counted : (S : ScenarioContents) (s : State) (at pool : ℕ) (counts : Bool) → may_start S s at ≡ true → (y : Bool) → (at == pool) ≡ y
+    → RisesIf (may_start S s pool ≡ true) (bit ((y && true) && counts)) 0
 starts-counted S s at pool true may true e =
     let same : at ≡ pool = eqb-true at pool e in
     inr (omega arith, ap (λ (a : ℕ). may_start S s a) (sym same) ∙ may)
@@ -44,13 +46,15 @@ goes-on-counted true false true counts h = let e : false ≡ true = h refl in cc
 goes-on-counted true false false counts h = omega arith
 goes-on-counted false a b counts h = omega arith
 
-goes-on : (r q : Running) (pool : ℕ) (counts : Bool) → q.pool ≡ r.pool → (is_runnable q.mode ≡ true → is_runnable r.mode ≡ true) → bit (((q.pool == pool) && is_runnable q.mode) && counts) ≤ bit (((r.pool == pool) && is_runnable r.mode) && counts)
+goes-on : (r q : Running) (pool : ℕ) (counts : Bool) → q.pool ≡ r.pool → (is_runnable q.mode ≡ true → is_runnable r.mode ≡ true)
+    → bit (((q.pool == pool) && is_runnable q.mode) && counts) ≤ bit (((r.pool == pool) && is_runnable r.mode) && counts)
 goes-on r q pool counts e mode =
     let same : bit (((q.pool == pool) && is_runnable q.mode) && counts) ≡ bit (((r.pool == pool) && is_runnable q.mode) && counts) = ap (λ (at : ℕ). bit (((at == pool) && is_runnable q.mode) && counts)) e in
     let less : bit (((r.pool == pool) && is_runnable q.mode) && counts) ≤ bit (((r.pool == pool) && is_runnable r.mode) && counts) = goes-on-counted (r.pool == pool) (is_runnable r.mode) (is_runnable q.mode) counts mode in
     omega arith
 
-Kind-runnable : (S : ScenarioContents) (places wakes : Bool) (s : State) (w : ℕ) (left : Option ℕ) (a : Option Pending) (b : Option Running) (c : Option Pending) (d : Option Running) (n pool : ℕ) → wakes ≡ false → Kind S places wakes s w left a b c d n → RisesIf (may_start S s pool ≡ true) (runnable_of S w pool d) (runnable_of S w pool b)
+Kind-runnable : (S : ScenarioContents) (places wakes : Bool) (s : State) (w : ℕ) (left : Option ℕ) (a : Option Pending) (b : Option Running) (c : Option Pending) (d : Option Running) (n pool : ℕ)
+    → wakes ≡ false → Kind S places wakes s w left a b c d n → RisesIf (may_start S s pool ≡ true) (runnable_of S w pool d) (runnable_of S w pool b)
 Kind-runnable S places wakes s w left a b c d n pool quiet (Kind.placed r at e fits with_run room) = inl (omega arith)
 Kind-runnable S places wakes s w left a b c d n pool quiet (Kind.put_off r at may_place fits with_run room) = inl (omega arith)
 Kind-runnable S places wakes s w left a b c d n pool quiet (Kind.timed r due cpu may_place h) = inl (omega arith)
@@ -70,12 +74,14 @@ Kind-runnable S places wakes s w left a b c d n pool quiet (Kind.again born stam
 Kind-runnable S places wakes s w left a b c d n pool quiet (Kind.retired p r e) = inl (omega arith)
 
 -- the level, from whether the pool is unbound
-level-rises : (unbound : Bool) (after before : ℕ) → RisesIf ((unbound || (cond unbound 0 before == 0)) ≡ true) after before → RisesWithin 1 (cond unbound 0 after) (cond unbound 0 before)
+level-rises : (unbound : Bool) (after before : ℕ) → RisesIf ((unbound || (cond unbound 0 before == 0)) ≡ true) after before
+    → RisesWithin 1 (cond unbound 0 after) (cond unbound 0 before)
 level-rises true after before rises = inl (omega arith)
 level-rises false after before (inl fewer) = inl fewer
 level-rises false after before (inr more) = let none : before ≡ 0 = eqb-true before 0 more.1 in inr (omega (arith, more.0))
 
-pub Change-counted : (S : ScenarioContents) (places wakes : Bool) (left : Option ℕ) (s t : State) (w pool : ℕ) → wakes ≡ false → Change S places wakes left s t w → RisesWithin 1 (counted S t pool) (counted S s pool)
+pub Change-counted : (S : ScenarioContents) (places wakes : Bool) (left : Option ℕ) (s t : State) (w pool : ℕ) → wakes ≡ false
+    → Change S places wakes left s t w → RisesWithin 1 (counted S t pool) (counted S s pool)
 Change-counted S places wakes left s t w pool quiet change =
     let changed : runnable S t pool + runnable_of S w pool (running_at s w) ≡ runnable S s pool + runnable_of S w pool change.r = runnable-changed S s t w change.p change.r pool change.alters in
     let rises : RisesIf (may_start S s pool ≡ true) (runnable S t pool) (runnable S s pool) =
@@ -90,7 +96,8 @@ one-then a b c (inl first) (inl second) = inl (omega arith)
 one-then a b c (inr first) (inl second) = inr (omega arith)
 one-then a b c first (inr second) = inr second
 
-pub Follows-counted : (S : ScenarioContents) (places wakes : Bool) (s t : State) (pool : ℕ) → wakes ≡ false → Follows S places wakes s t → RisesWithin 1 (counted S t pool) (counted S s pool)
+pub Follows-counted : (S : ScenarioContents) (places wakes : Bool) (s t : State) (pool : ℕ) → wakes ≡ false → Follows S places wakes s t
+    → RisesWithin 1 (counted S t pool) (counted S s pool)
 Follows-counted S places wakes s t pool quiet (Follows.stays pl wk a) = inl (omega arith)
 Follows-counted S places wakes s t pool quiet (Follows.changes pl wk a b c w change rest) =
     one-then (counted S s pool) (counted S b pool) (counted S t pool) (Change-counted S places wakes None s b w pool quiet change) (Follows-counted S places wakes b t pool quiet rest)

@@ -7,9 +7,6 @@ use Rattle.cmwq_types.specs.First.{count_below}
 abbrev pub bit : Bool → ℕ
 bit b = cond b 1 0
 
-pub bit-same : (a b : Bool) → a ≡ b → bit a ≡ bit b
-bit-same a b e = ap bit e
-
 -- tests that agree below n count alike
 pub count_below-same : (f g : ℕ → Bool) (n : ℕ) → ((k : ℕ) → k < n → f k ≡ g k) → count_below f n ≡ count_below g n
 count_below-same f g zero same = refl

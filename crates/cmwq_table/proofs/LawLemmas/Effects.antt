@@ -157,11 +157,13 @@ module _ (S : ScenarioContents) (s : State) (setting : IsSetting S) (sound : IsS
   queued-effect wakes w cpu (Some p) h there is = nothing wakes
   queued-effect wakes w cpu None h there is = changes wakes (place S s w cpu) (place-follows S wakes s w cpu sound h there is)
 
-  delayed-effect : (wakes : Bool) (w cpu delay : ℕ) (o : Option Pending) → w < length S.works → cpu < S.cpus → pending_at s w ≡ o → Effect S wakes s (delayed S s w cpu delay o).0
+  delayed-effect : (wakes : Bool) (w cpu delay : ℕ) (o : Option Pending) → w < length S.works → cpu < S.cpus → pending_at s w ≡ o
+      → Effect S wakes s (delayed S s w cpu delay o).0
   delayed-effect wakes w cpu delay (Some p) h there is = nothing wakes
   delayed-effect wakes w cpu delay None h there is = changes wakes (place_after S s w cpu delay) (place_after-follows S wakes s w cpu delay sound h there is)
 
-  modified-effect : (wakes : Bool) (w cpu delay : ℕ) (o : Option Pending) → w < length S.works → cpu < S.cpus → pending_at s w ≡ o → Effect S wakes s (modified S s w cpu delay o).0
+  modified-effect : (wakes : Bool) (w cpu delay : ℕ) (o : Option Pending) → w < length S.works → cpu < S.cpus → pending_at s w ≡ o
+      → Effect S wakes s (modified S s w cpu delay o).0
   modified-effect wakes w cpu delay (Some p) h there is =
       let off = taken_off S s w (Some p) in
       let stops : Stops S wakes s off w = stops-taken_off S wakes s w p sound h is in
@@ -195,7 +197,8 @@ if-given : (next : ℕ) (b : Bool) (x y : FlushTarget) → FitsTarget next x →
 if-given next true x y here there = here
 if-given next false x y here there = there
 
-last-given : (S : ScenarioContents) (next w : ℕ) (o : Option Pending) (r : Option Running) → FitsIfPending S next w r o → FitsIfRunning S next w r → FitsTarget next (last_instance w o r)
+last-given : (S : ScenarioContents) (next w : ℕ) (o : Option Pending) (r : Option Running) → FitsIfPending S next w r o → FitsIfRunning S next w r
+    → FitsTarget next (last_instance w o r)
 last-given S next w (Some p) r fits running = if-given next (is_placed p.place) (target.Instance (record { 0 = w }) p.born) (running_instance w r) fits.born (running-given S next w r running)
 last-given S next w None r fits running = running-given S next w r running
 
@@ -232,12 +235,14 @@ settled-if S s (Some w) moving e = cc
 settled-if S s None (Some pool) e = cc
 settled-if S s None None e = refl
 
-next-effect : (S : ScenarioContents) (s : State) (setting : IsSetting S) (sound : IsSound S s) (are_full : AreFull S s) → (o : Option ℕ) → ((w : ℕ) → o ≡ Some w → w < length S.works) → Effect S (tells_wake (next S s o).1) s (next S s o).0
+next-effect : (S : ScenarioContents) (s : State) (setting : IsSetting S) (sound : IsSound S s) (are_full : AreFull S s) → (o : Option ℕ)
+    → ((w : ℕ) → o ≡ Some w → w < length S.works) → Effect S (tells_wake (next S s o).1) s (next S s o).0
 next-effect S s setting sound are_full (Some w) there = fired-effect S s setting sound are_full false (Some w) there
 next-effect S s setting sound are_full None there = step_or_tick-effect S s setting sound are_full (first_moving S s) refl
 
 -- The table gives such an effect.
-pub effect-is : (S : ScenarioContents) (s : State) (i : Instr) → IsSetting S → IsSound S s → AreFull S s → operands S s i ≡ None → situation S s i ≡ None → Effect S (tells_wake (effect S s i).1) s (effect S s i).0
+pub effect-is : (S : ScenarioContents) (s : State) (i : Instr) → IsSetting S → IsSound S s → AreFull S s → operands S s i ≡ None
+    → situation S s i ≡ None → Effect S (tells_wake (effect S s i).1) s (effect S s i).0
 effect-is S s (instr.Queue w cpu) setting sound are_full operands_fit situation_fits =
     let there = work-and-cpu S w cpu operands_fit in
     queued-effect S s setting sound are_full (tells_wake (queued S s w.0 cpu (pending_at s w.0)).1) w.0 cpu (pending_at s w.0) there.0 there.1 refl

@@ -39,7 +39,8 @@ waits-in_range S s w test long e =
           absurd (cc (fails, e)))
     ]
 
-pub first-is_first : (S : ScenarioContents) (s : State) (queue pool : ℕ) → MatchFirst (pending_before s) (λ w. (queue_of S w == queue) && waits s w pool) (length S.works) (first_inactive S s queue pool)
+pub first-is_first : (S : ScenarioContents) (s : State) (queue pool : ℕ)
+    → MatchFirst (pending_before s) (λ w. (queue_of S w == queue) && waits s w pool) (length S.works) (first_inactive S s queue pool)
 first-is_first S s queue pool = first_below-is_first (pending_before s) (λ w. (queue_of S w == queue) && waits s w pool) (length S.works) (by_least-order (λ w. pending_stamp (pending_at s w)))
 
 -- a state that a fill of one work leaves: unchanged since nothing is left to fill, or one inactive work fewer
@@ -47,7 +48,8 @@ data FillsOne (S : ScenarioContents) (places wakes : Bool) (queue pool : ℕ) (s
   full : IsFull S s queue pool → FillsOne S places wakes queue pool s s
   one : (t : State) (w : ℕ) → Change S places wakes None s t w → inactive S t queue pool < inactive S s queue pool → FillsOne S places wakes queue pool s t
 
-full-none : (S : ScenarioContents) (s : State) (queue pool : ℕ) → IsLong S s → ((k : ℕ) → k < length S.works → ((queue_of S k == queue) && waits s k pool) ≡ false) → IsFull S s queue pool
+full-none : (S : ScenarioContents) (s : State) (queue pool : ℕ) → IsLong S s
+    → ((k : ℕ) → k < length S.works → ((queue_of S k == queue) && waits s k pool) ≡ false) → IsFull S s queue pool
 full-none S s queue pool long none w of_queue is_waiting =
     let there : w < length S.works = waits-in_range S s w (λ place. is_inactive place pool) long is_waiting in
     let fails : ((queue_of S w == queue) && waits s w pool) ≡ false = none w there in
@@ -57,7 +59,9 @@ full-none S s queue pool long none w of_queue is_waiting =
 full-no_room : (S : ScenarioContents) (s : State) (queue pool : ℕ) → has_room S s queue pool ≡ false → IsFull S s queue pool
 full-no_room S s queue pool e w of_queue is_waiting = ltb-false (active S s queue pool) (limit S s queue) e
 
-activate-kind : (S : ScenarioContents) (places wakes : Bool) (s : State) (w pool : ℕ) (r : Option Running) (p : Pending) (place : Place) → p.place ≡ place → is_inactive place pool ≡ true → has_room S s (queue_of S w) pool ≡ true → first_inactive S s (queue_of S w) pool ≡ Some w → Kind S places wakes s w None (Some p) r (listed_at pool s.next (Some p)) r (s.next + 1)
+activate-kind : (S : ScenarioContents) (places wakes : Bool) (s : State) (w pool : ℕ) (r : Option Running) (p : Pending) (place : Place)
+    → p.place ≡ place → is_inactive place pool ≡ true → has_room S s (queue_of S w) pool ≡ true → first_inactive S s (queue_of S w) pool ≡ Some w
+    → Kind S places wakes s w None (Some p) r (listed_at pool s.next (Some p)) r (s.next + 1)
 activate-kind S places wakes s w pool r p (Inactive at) e is room first =
     let same : at ≡ pool = eqb-true at pool is in
     let was : Some (record { born = p.born; stamp = p.stamp; place = Inactive pool }) ≡ Some p = ap (λ (x : Place). Some (record { born = p.born; stamp = p.stamp; place = x })) (ap Inactive (sym same) ∙ sym e) in
@@ -67,7 +71,9 @@ activate-kind S places wakes s w pool r p (Timer due cpu) e is room first = cc
 activate-kind S places wakes s w pool r p (Listed at) e is room first = cc
 activate-kind S places wakes s w pool r p (Deferred at) e is room first = cc
 
-activate-change : (S : ScenarioContents) (places wakes : Bool) (s : State) (w pool : ℕ) → IsLong S s → w < length S.works → has_room S s (queue_of S w) pool ≡ true → first_inactive S s (queue_of S w) pool ≡ Some w → (o : Option Pending) → pending_at s w ≡ o → pends (λ place. is_inactive place pool) o ≡ true → Change S places wakes None s (enlist s pool (Some w)) w
+activate-change : (S : ScenarioContents) (places wakes : Bool) (s : State) (w pool : ℕ) → IsLong S s → w < length S.works
+    → has_room S s (queue_of S w) pool ≡ true → first_inactive S s (queue_of S w) pool ≡ Some w → (o : Option Pending) → pending_at s w ≡ o
+    → pends (λ place. is_inactive place pool) o ≡ true → Change S places wakes None s (enlist s pool (Some w)) w
 activate-change S places wakes s w pool long h room first (Some p) e is = record {
   p = listed_at pool s.next (pending_at s w);
   r = running_at s w;
@@ -81,7 +87,9 @@ listed-waits : (pool stamp : ℕ) (o : Option Pending) → pends (λ place. is_i
 listed-waits pool stamp (Some p) = refl
 listed-waits pool stamp None = refl
 
-fewer-inactive : (S : ScenarioContents) (s t : State) (w queue pool : ℕ) (p : Option Pending) (r : Option Running) → Alters S s t w p r → ((queue_of S w == queue) && waits s w pool) ≡ true → pends (λ place. is_inactive place pool) p ≡ false → inactive S t queue pool < inactive S s queue pool
+fewer-inactive : (S : ScenarioContents) (s t : State) (w queue pool : ℕ) (p : Option Pending) (r : Option Running) → Alters S s t w p r
+    → ((queue_of S w == queue) && waits s w pool) ≡ true → pends (λ place. is_inactive place pool) p ≡ false
+    → inactive S t queue pool < inactive S s queue pool
 fewer-inactive S s t w queue pool p r alters passes still =
     let test = λ (v : ℕ) (o : Option Pending). (queue_of S v == queue) && pends (λ place. is_inactive place pool) o in
     let changed : inactive S t queue pool + bit (test w (pending_at s w)) ≡ inactive S s queue pool + bit (test w (pending_at t w)) =
@@ -91,7 +99,9 @@ fewer-inactive S s t w queue pool p r alters passes still =
     let after : bit (test w (pending_at t w)) ≡ 0 = ap (λ (o : Option Pending). bit (test w o)) alters.pending_here ∙ (ap (λ (b : Bool). bit ((queue_of S w == queue) && b)) still ∙ ap (λ (b : Bool). bit (b && false)) of_queue) in
     omega arith
 
-fills-found : (S : ScenarioContents) (places wakes : Bool) (queue pool : ℕ) (s : State) → IsLong S s → has_room S s queue pool ≡ true → (o : Option ℕ) → first_inactive S s queue pool ≡ o → MatchFirst (pending_before s) (λ w. (queue_of S w == queue) && waits s w pool) (length S.works) o → FillsOne S places wakes queue pool s (enlist s pool o)
+fills-found : (S : ScenarioContents) (places wakes : Bool) (queue pool : ℕ) (s : State) → IsLong S s → has_room S s queue pool ≡ true → (o : Option ℕ)
+    → first_inactive S s queue pool ≡ o → MatchFirst (pending_before s) (λ w. (queue_of S w == queue) && waits s w pool) (length S.works) o
+    → FillsOne S places wakes queue pool s (enlist s pool o)
 fills-found S places wakes queue pool s long room None e none = FillsOne.full (full-none S s queue pool long none)
 fills-found S places wakes queue pool s long room (Some w) e first =
     let parts = and_parts (queue_of S w == queue) (waits s w pool) first.passes in
@@ -103,7 +113,8 @@ fills-found S places wakes queue pool s long room (Some w) e first =
     FillsOne.one (enlist s pool (Some w)) w change
     (fewer-inactive S s (enlist s pool (Some w)) w queue pool (listed_at pool s.next (pending_at s w)) (running_at s w) alters first.passes (listed-waits pool s.next (pending_at s w)))
 
-fills-one-if : (S : ScenarioContents) (places wakes : Bool) (queue pool : ℕ) (s : State) → IsLong S s → (b : Bool) → has_room S s queue pool ≡ b → FillsOne S places wakes queue pool s (enlist s pool (cond b (first_inactive S s queue pool) None))
+fills-one-if : (S : ScenarioContents) (places wakes : Bool) (queue pool : ℕ) (s : State) → IsLong S s → (b : Bool) → has_room S s queue pool ≡ b
+    → FillsOne S places wakes queue pool s (enlist s pool (cond b (first_inactive S s queue pool) None))
 fills-one-if S places wakes queue pool s long true room = fills-found S places wakes queue pool s long room (first_inactive S s queue pool) refl (first-is_first S s queue pool)
 fills-one-if S places wakes queue pool s long false room = FillsOne.full (full-no_room S s queue pool room)
 
@@ -124,7 +135,9 @@ fill_times-stays : (S : ScenarioContents) (queue pool n : ℕ) (s : State) → f
 fill_times-stays S queue pool zero s still = refl
 fill_times-stays S queue pool (suc n) s still = ap (fill_times S queue pool n) still ∙ fill_times-stays S queue pool n s still
 
-fills-rest : (S : ScenarioContents) (places wakes : Bool) (queue pool n : ℕ) (s t : State) → IsLong S s → inactive S s queue pool ≤ suc n → ((u : State) → IsLong S u → inactive S u queue pool ≤ n → Fills S places wakes queue pool u (fill_times S queue pool n u)) → fill_one S queue pool s ≡ t → FillsOne S places wakes queue pool s t → Fills S places wakes queue pool s (fill_times S queue pool n t)
+fills-rest : (S : ScenarioContents) (places wakes : Bool) (queue pool n : ℕ) (s t : State) → IsLong S s → inactive S s queue pool ≤ suc n
+    → ((u : State) → IsLong S u → inactive S u queue pool ≤ n → Fills S places wakes queue pool u (fill_times S queue pool n u))
+    → fill_one S queue pool s ≡ t → FillsOne S places wakes queue pool s t → Fills S places wakes queue pool s (fill_times S queue pool n t)
 fills-rest S places wakes queue pool n s t long few again e (FillsOne.full is_full) =
     subst (λ (u : State). Fills S places wakes queue pool s u) (sym (fill_times-stays S queue pool n s e))
     (record { follows = Follows.stays places wakes s; long = long; full = is_full })
@@ -132,7 +145,8 @@ fills-rest S places wakes queue pool n s t long few again e (FillsOne.one u w ch
     let rest : Fills S places wakes queue pool t (fill_times S queue pool n t) = again t change.alters.long (omega arith) in
     record { follows = Follows.changes places wakes s t (fill_times S queue pool n t) w change rest.follows; long = rest.long; full = rest.full }
 
-fills-times : (S : ScenarioContents) (places wakes : Bool) (queue pool n : ℕ) (s : State) → IsLong S s → inactive S s queue pool ≤ n → Fills S places wakes queue pool s (fill_times S queue pool n s)
+fills-times : (S : ScenarioContents) (places wakes : Bool) (queue pool n : ℕ) (s : State) → IsLong S s → inactive S s queue pool ≤ n
+    → Fills S places wakes queue pool s (fill_times S queue pool n s)
 fills-times S places wakes queue pool zero s long few = record { follows = Follows.stays places wakes s; long = long; full = full-unless S s queue pool long few }
 fills-times S places wakes queue pool (suc n) s long few =
     fills-rest S places wakes queue pool n s (fill_one S queue pool s) long few (fills-times S places wakes queue pool n) refl (fills-one S places wakes queue pool s long)

@@ -28,7 +28,8 @@ left-of x y e h = elim (or_cases x y h) [ inl left ↦ left | inr right ↦ cc ]
 born-same : (test : ℕ → Bool) (p : Option Pending) (r q : Running) → q.born ≡ r.born → instance_of test p (Some q) ≡ true → instance_of test p (Some r) ≡ true
 born-same test p r q e h = ap (λ (born : ℕ). placed_born test p || test born) (sym e) ∙ h
 
-Kind-instance : (S : ScenarioContents) (places wakes : Bool) (s : State) (w : ℕ) (left : Option ℕ) (a : Option Pending) (b : Option Running) (c : Option Pending) (d : Option Running) (n : ℕ) (test : ℕ → Bool) → IsOnEarlier s.next test → Kind S places wakes s w left a b c d n → instance_of test c d ≡ true → instance_of test a b ≡ true
+Kind-instance : (S : ScenarioContents) (places wakes : Bool) (s : State) (w : ℕ) (left : Option ℕ) (a : Option Pending) (b : Option Running) (c : Option Pending) (d : Option Running) (n : ℕ) (test : ℕ → Bool)
+    → IsOnEarlier s.next test → Kind S places wakes s w left a b c d n → instance_of test c d ≡ true → instance_of test a b ≡ true
 Kind-instance S places wakes s w left a b c d n test early (Kind.placed r at e fits with_run room) h = right-of (test s.next) (runs (λ r. test r.born) r) (early s.next (omega arith)) h
 Kind-instance S places wakes s w left a b c d n test early (Kind.put_off r at may_place fits with_run room) h = right-of (test s.next) (runs (λ r. test r.born) r) (early s.next (omega arith)) h
 Kind-instance S places wakes s w left a b c d n test early (Kind.timed r due cpu may_place in_range) h = h

@@ -25,7 +25,8 @@ active_of S w queue pool p r =
     bit ((queue_of S w == queue) && pends (λ place. is_active place pool) p)
     + bit ((queue_of S w == queue) && runs (λ r. r.pool == pool) r)
 
-pub active-changed : (S : ScenarioContents) (s t : State) (w : ℕ) (p : Option Pending) (r : Option Running) (queue pool : ℕ) → Alters S s t w p r → active S t queue pool + active_of S w queue pool (pending_at s w) (running_at s w) ≡ active S s queue pool + active_of S w queue pool p r
+pub active-changed : (S : ScenarioContents) (s t : State) (w : ℕ) (p : Option Pending) (r : Option Running) (queue pool : ℕ) → Alters S s t w p r
+    → active S t queue pool + active_of S w queue pool (pending_at s w) (running_at s w) ≡ active S s queue pool + active_of S w queue pool p r
 active-changed S s t w p r queue pool alters =
     let pended = λ (x : State) (v : ℕ). (queue_of S v == queue) && pends (λ place. is_active place pool) (pending_at x v) in
     let ran = λ (x : State) (v : ℕ). (queue_of S v == queue) && runs (λ r. r.pool == pool) (running_at x v) in
@@ -41,7 +42,9 @@ pub room-below : (S : ScenarioContents) (s : State) (queue pool : ℕ) → has_r
 room-below S s queue pool room = ltb-true (active S s queue pool) (limit S s queue) room
 
 -- a work of the queue is activated in a pool with room
-activates : (S : ScenarioContents) (s : State) (w at queue pool rest : ℕ) → has_room S s (queue_of S w) at ≡ true → (x y : Bool) → (queue_of S w == queue) ≡ x → (at == pool) ≡ y → RisesIf (active S s queue pool < limit S s queue) (bit (x && y) + rest) (bit (x && false) + rest)
+activates : (S : ScenarioContents) (s : State) (w at queue pool rest : ℕ) → has_room S s (queue_of S w) at ≡ true → (x y : Bool)
+    → (queue_of S w == queue) ≡ x → (at == pool) ≡ y
+    → RisesIf (active S s queue pool < limit S s queue) (bit (x && y) + rest) (bit (x && false) + rest)
 activates S s w at queue pool rest room true true of_queue in_pool =
     let same_queue : queue_of S w ≡ queue = eqb-true (queue_of S w) queue of_queue in
     let same_pool : at ≡ pool = eqb-true at pool in_pool in
@@ -67,7 +70,9 @@ passes-on x y = omega arith
 pub pool-same : (x : Bool) (a b pool rest : ℕ) → b ≡ a → rest + bit (x && (b == pool)) ≤ rest + bit (x && (a == pool))
 pool-same x a b pool rest e = let same : bit (x && (b == pool)) ≡ bit (x && (a == pool)) = ap (λ (at : ℕ). bit (x && (at == pool))) e in omega arith
 
-Kind-active : (S : ScenarioContents) (places wakes : Bool) (s : State) (w : ℕ) (left : Option ℕ) (a : Option Pending) (b : Option Running) (c : Option Pending) (d : Option Running) (n queue pool : ℕ) → Kind S places wakes s w left a b c d n → RisesIf (active S s queue pool < limit S s queue) (active_of S w queue pool c d) (active_of S w queue pool a b)
+Kind-active : (S : ScenarioContents) (places wakes : Bool) (s : State) (w : ℕ) (left : Option ℕ) (a : Option Pending) (b : Option Running) (c : Option Pending) (d : Option Running) (n queue pool : ℕ)
+    → Kind S places wakes s w left a b c d n
+    → RisesIf (active S s queue pool < limit S s queue) (active_of S w queue pool c d) (active_of S w queue pool a b)
 Kind-active S places wakes s w left a b c d n queue pool (Kind.placed r at e fits with_run room) =
     activates S s w at queue pool (bit ((queue_of S w == queue) && runs (λ r. r.pool == pool) r)) room (queue_of S w == queue) (at == pool) refl refl
 Kind-active S places wakes s w left a b c d n queue pool (Kind.put_off r at may_place fits with_run room) = inl (omega arith)
@@ -121,7 +126,8 @@ within-then bound next a b c e (inl first) (inl second) = inl (omega arith)
 within-then bound next a b c e (inr first) (inl second) = inr (omega arith)
 within-then bound next a b c e first (inr second) = inr (omega arith)
 
-pub Follows-active : (S : ScenarioContents) (places wakes : Bool) (s t : State) (queue pool : ℕ) → Follows S places wakes s t → RisesWithin (limit S s queue) (active S t queue pool) (active S s queue pool)
+pub Follows-active : (S : ScenarioContents) (places wakes : Bool) (s t : State) (queue pool : ℕ) → Follows S places wakes s t
+    → RisesWithin (limit S s queue) (active S t queue pool) (active S s queue pool)
 Follows-active S places wakes s t queue pool (Follows.stays pl wk a) = inl (omega arith)
 Follows-active S places wakes s t queue pool (Follows.changes pl wk a b c w change rest) =
     within-then (limit S s queue) (limit S b queue) (active S s queue pool) (active S b queue pool) (active S t queue pool) (Change-limit S places wakes None s b w change queue)

@@ -34,7 +34,8 @@ place-in_range S w pool r (Timer due cpu) fits is = cc
 place-in_range S w pool r (Listed at) fits is = cc
 place-in_range S w pool r (Deferred at) fits is = cc
 
-waits-in_pools : (S : ScenarioContents) (next w pool : ℕ) (r : Option Running) (o : Option Pending) → FitsIfPending S next w r o → pends (λ place. is_inactive place pool) o ≡ true → pool < pool_count S
+waits-in_pools : (S : ScenarioContents) (next w pool : ℕ) (r : Option Running) (o : Option Pending) → FitsIfPending S next w r o
+    → pends (λ place. is_inactive place pool) o ≡ true → pool < pool_count S
 waits-in_pools S next w pool r (Some p) fits is = place-in_range S w pool r p.place fits.place is
 waits-in_pools S next w pool r None fits is = cc
 
@@ -62,7 +63,8 @@ fill_everywhere-full S queue s pool sound =
     ]
 
 -- a queue that is freezable, and is filled among the first n
-freezable-if : (S : ScenarioContents) (n queue pool : ℕ) (t : State) → IsSound S t → (b : Bool) → (flags_at S n).freezable ≡ b → (flags_at S queue).freezable ≡ true → (n ≡ queue) ⊎ IsFull S t queue pool → IsFull S (cond b (fill_everywhere S n t) t) queue pool
+freezable-if : (S : ScenarioContents) (n queue pool : ℕ) (t : State) → IsSound S t → (b : Bool) → (flags_at S n).freezable ≡ b
+    → (flags_at S queue).freezable ≡ true → (n ≡ queue) ⊎ IsFull S t queue pool → IsFull S (cond b (fill_everywhere S n t) t) queue pool
 freezable-if S n queue pool t sound true e freezable (inl same) = subst (λ (q : ℕ). IsFull S (fill_everywhere S n t) q pool) same (fill_everywhere-full S n t pool sound)
 freezable-if S n queue pool t sound true e freezable (inr before) = Follows-full S false false t (fill_everywhere S n t) queue pool (fill_pools-follows S false n (pool_count S) t sound.long).0 sound before
 freezable-if S n queue pool t sound false e freezable (inl same) =
@@ -70,7 +72,8 @@ freezable-if S n queue pool t sound false e freezable (inl same) =
     absurd (cc (there, e))
 freezable-if S n queue pool t sound false e freezable (inr before) = before
 
-fill_freezable-full : (S : ScenarioContents) (n : ℕ) (s : State) (queue pool : ℕ) → IsSound S s → queue < n → (flags_at S queue).freezable ≡ true → IsFull S (fill_freezable S n s) queue pool
+fill_freezable-full : (S : ScenarioContents) (n : ℕ) (s : State) (queue pool : ℕ) → IsSound S s → queue < n → (flags_at S queue).freezable ≡ true
+    → IsFull S (fill_freezable S n s) queue pool
 fill_freezable-full S zero s queue pool sound h freezable = absurd (omega arith)
 fill_freezable-full S (suc n) s queue pool sound h freezable =
     let t = fill_freezable S n s in
@@ -106,7 +109,8 @@ not-freezable true false max e = omega arith
 not-freezable false freezable max e = omega arith
 
 -- a queue that is freezable is declared
-freezable-declared : (queues : List QueueDecl) (queue : ℕ) → (slice_index_or queues queue (record { name = []; max = 0; flags = plain_flags })).flags.freezable ≡ true → queue < length queues
+freezable-declared : (queues : List QueueDecl) (queue : ℕ)
+    → (slice_index_or queues queue (record { name = []; max = 0; flags = plain_flags })).flags.freezable ≡ true → queue < length queues
 freezable-declared [] queue e = cc
 freezable-declared (q ∷ queues) zero e = omega arith
 freezable-declared (q ∷ queues) (suc queue) e = let below : queue < length queues = freezable-declared queues queue e in omega arith
@@ -118,7 +122,8 @@ thawed s = record s { frozen = false }
 pub thawed-sound : (S : ScenarioContents) (s : State) → IsSound S s → IsSound S (thawed s)
 thawed-sound S s sound = alike-sound S s (thawed s) (alike-limits S s s.max false) sound sound.ordered
 
-thaw-full-if : (S : ScenarioContents) (s : State) (queue pool : ℕ) → IsSound S s → AreFull S s → (b : Bool) → (flags_at S queue).freezable ≡ b → IsFull S (thaw S s) queue pool
+thaw-full-if : (S : ScenarioContents) (s : State) (queue pool : ℕ) → IsSound S s → AreFull S s → (b : Bool) → (flags_at S queue).freezable ≡ b
+    → IsFull S (thaw S s) queue pool
 thaw-full-if S s queue pool sound are_full true e =
     fill_freezable-full S (length S.queues) (thawed s) queue pool (thawed-sound S s sound) (freezable-declared S.queues queue e) e
 thaw-full-if S s queue pool sound are_full false e =
@@ -132,7 +137,8 @@ thaw-full S s sound are_full queue pool = thaw-full-if S s queue pool sound are_
 abbrev pub limited : State → ℕ → ℕ → State
 limited s queue max = record s { max = slice_set s.max queue max }
 
-pub limited-ordered : (S : ScenarioContents) (s : State) (queue max : ℕ) → IsSound S s → (flags_at S queue).ordered ≡ false → (other : ℕ) → (flags_at S other).ordered ≡ true → max_at (limited s queue max) other ≤ 1
+pub limited-ordered : (S : ScenarioContents) (s : State) (queue max : ℕ) → IsSound S s → (flags_at S queue).ordered ≡ false → (other : ℕ)
+    → (flags_at S other).ordered ≡ true → max_at (limited s queue max) other ≤ 1
 limited-ordered S s queue max sound not_ordered other ordered =
     let apart : other ≡ queue → ⊥ = λ same. absurd (cc (ap (λ (q : ℕ). (flags_at S q).ordered) same, ordered, not_ordered)) in
     let same : max_at (limited s queue max) other ≡ max_at s other = get_or-set_other s.max queue other max 0 apart in

@@ -10,7 +10,8 @@ use Rattle.cmwq_table.specs.State.{State, pending_at, running_at, made_at}
 use Rattle.cmwq_table.proofs.LawLemmas.Changes.{IsLong, Alters}
 
 -- the work pends otherwise
-pub alters-pending : (S : ScenarioContents) (s : State) (w : ℕ) (p : Option Pending) (next : ℕ) → IsLong S s → w < length S.works → Alters S s (record s { next = next; pending = slice_set s.pending w p }) w p (running_at s w)
+pub alters-pending : (S : ScenarioContents) (s : State) (w : ℕ) (p : Option Pending) (next : ℕ) → IsLong S s → w < length S.works
+    → Alters S s (record s { next = next; pending = slice_set s.pending w p }) w p (running_at s w)
 alters-pending S s w p next long h = record {
   in_range = h;
   pending_here = get_or-set_same s.pending w p None (omega (arith, long.pending));
@@ -26,7 +27,8 @@ alters-pending S s w p next long h = record {
 }
 
 -- the work runs otherwise, and a worker's seat may change
-pub alters-running : (S : ScenarioContents) (s : State) (w : ℕ) (r : Option Running) (next : ℕ) (idle : List (Option ℕ)) → IsLong S s → w < length S.works → Alters S s (record s { next = next; running = slice_set s.running w r; idle = idle }) w (pending_at s w) r
+pub alters-running : (S : ScenarioContents) (s : State) (w : ℕ) (r : Option Running) (next : ℕ) (idle : List (Option ℕ)) → IsLong S s
+    → w < length S.works → Alters S s (record s { next = next; running = slice_set s.running w r; idle = idle }) w (pending_at s w) r
 alters-running S s w r next idle long h = record {
   in_range = h;
   pending_here = refl;
@@ -42,7 +44,9 @@ alters-running S s w r next idle long h = record {
 }
 
 -- the work pends and runs otherwise; a worker's seat may change, and how many the pools have made
-pub alters-both : (S : ScenarioContents) (s : State) (w : ℕ) (p : Option Pending) (r : Option Running) (next : ℕ) (idle : List (Option ℕ)) (made : List ℕ) → IsLong S s → w < length S.works → (((pool : ℕ) → made_at s pool ≤ S.workers) → (pool : ℕ) → slice_index_or made pool 0 ≤ S.workers) → Alters S s (record s { next = next; pending = slice_set s.pending w p; running = slice_set s.running w r; idle = idle; made = made }) w p r
+pub alters-both : (S : ScenarioContents) (s : State) (w : ℕ) (p : Option Pending) (r : Option Running) (next : ℕ) (idle : List (Option ℕ)) (made : List ℕ)
+    → IsLong S s → w < length S.works → (((pool : ℕ) → made_at s pool ≤ S.workers) → (pool : ℕ) → slice_index_or made pool 0 ≤ S.workers)
+    → Alters S s (record s { next = next; pending = slice_set s.pending w p; running = slice_set s.running w r; idle = idle; made = made }) w p r
 alters-both S s w p r next idle made long h within = record {
   in_range = h;
   pending_here = get_or-set_same s.pending w p None (omega (arith, long.pending));

@@ -47,7 +47,8 @@ abbrev IfSome : (ℕ → Type 0) → Option ℕ → Type 0
 IfSome P (Some w) = P w
 IfSome P None = Unit {0}
 
-found-first : (before : ℕ → ℕ → Bool) (test : ℕ → Bool) (n : ℕ) (P : ℕ → Type 0) → ((w : ℕ) → w < n → test w ≡ true → P w) → (o : Option ℕ) → MatchFirst before test n o → IfSome P o
+found-first : (before : ℕ → ℕ → Bool) (test : ℕ → Bool) (n : ℕ) (P : ℕ → Type 0) → ((w : ℕ) → w < n → test w ≡ true → P w) → (o : Option ℕ)
+    → MatchFirst before test n o → IfSome P o
 found-first before test n P each (Some w) first = each w first.in_range first.passes
 found-first before test n P each None none = tt
 
@@ -92,7 +93,8 @@ slept-first S s pool =
 abbrev pub IsToStart : ScenarioContents → State → ℕ → ℕ → Type 0
 IsToStart S s pool w = (w < length S.works) × (pends (λ place. is_listed place pool) (pending_at s w) ≡ true)
 
-pub listed-is_first : (S : ScenarioContents) (s : State) (pool : ℕ) → MatchFirst (pending_before s) (λ w. pends (λ place. is_listed place pool) (pending_at s w)) (length S.works) (first_listed S s pool)
+pub listed-is_first : (S : ScenarioContents) (s : State) (pool : ℕ)
+    → MatchFirst (pending_before s) (λ w. pends (λ place. is_listed place pool) (pending_at s w)) (length S.works) (first_listed S s pool)
 listed-is_first S s pool = first_below-is_first (pending_before s) (λ w. pends (λ place. is_listed place pool) (pending_at s w)) (length S.works) (by_least-order (λ w. pending_stamp (pending_at s w)))
 
 listed-first : (S : ScenarioContents) (s : State) (pool : ℕ) → IfSome (IsToStart S s pool) (first_listed S s pool)
@@ -103,20 +105,25 @@ abbrev IfMove : (Move → Type 0) → Option Move → Type 0
 IfMove P (Some move) = P move
 IfMove P None = Unit {0}
 
-taken-fits : (S : ScenarioContents) (s : State) (pool w : ℕ) → IsToStart S s pool w → may_start S s pool ≡ true → (r : Option Running) → running_at s w ≡ r → (worker : Option ℕ) → IfMove (MoveFits S s pool) (take_listed w r worker)
+taken-fits : (S : ScenarioContents) (s : State) (pool w : ℕ) → IsToStart S s pool w → may_start S s pool ≡ true → (r : Option Running)
+    → running_at s w ≡ r → (worker : Option ℕ) → IfMove (MoveFits S s pool) (take_listed w r worker)
 taken-fits S s pool w listed may (Some r) e worker = (listed.0, ap is_some e, listed.1)
 taken-fits S s pool w listed may None e (Some worker) = (listed.0, e, may, listed.1)
 taken-fits S s pool w listed may None e None = tt
 
-first-fits : (S : ScenarioContents) (s : State) (pool : ℕ) → may_start S s pool ≡ true → (o : Option ℕ) → IfSome (IsToStart S s pool) o → (worker : Option ℕ) → IfMove (MoveFits S s pool) (start_first s o worker)
+first-fits : (S : ScenarioContents) (s : State) (pool : ℕ) → may_start S s pool ≡ true → (o : Option ℕ) → IfSome (IsToStart S s pool) o
+    → (worker : Option ℕ) → IfMove (MoveFits S s pool) (start_first s o worker)
 first-fits S s pool may (Some w) listed worker = taken-fits S s pool w listed may (running_at s w) refl worker
 first-fits S s pool may None listed worker = tt
 
-start-fits-if : (S : ScenarioContents) (s : State) (pool : ℕ) → (b : Bool) → may_start S s pool ≡ b → IfMove (MoveFits S s pool) (cond b (start_first s (first_listed S s pool) (free_worker S s pool)) None)
+start-fits-if : (S : ScenarioContents) (s : State) (pool : ℕ) → (b : Bool) → may_start S s pool ≡ b
+    → IfMove (MoveFits S s pool) (cond b (start_first s (first_listed S s pool) (free_worker S s pool)) None)
 start-fits-if S s pool true may = first-fits S s pool may (first_listed S s pool) (listed-first S s pool) (free_worker S s pool)
 start-fits-if S s pool false may = tt
 
-chosen-fits : (S : ScenarioContents) (s : State) (pool : ℕ) → (head slept : Option ℕ) (start : Option Move) → IfSome (IsReady S s) head → IfSome (λ w. w < length S.works) slept → IfMove (MoveFits S s pool) start → IfMove (MoveFits S s pool) (or_else (as_move Advance head) (or_else (as_move Wake slept) start))
+chosen-fits : (S : ScenarioContents) (s : State) (pool : ℕ) → (head slept : Option ℕ) (start : Option Move) → IfSome (IsReady S s) head
+    → IfSome (λ w. w < length S.works) slept → IfMove (MoveFits S s pool) start
+    → IfMove (MoveFits S s pool) (or_else (as_move Advance head) (or_else (as_move Wake slept) start))
 chosen-fits S s pool (Some w) slept start ready sleeper starts = ready
 chosen-fits S s pool None (Some w) start ready sleeper starts = sleeper
 chosen-fits S s pool None None start ready sleeper starts = starts
@@ -128,42 +135,53 @@ next_move-fits S s pool move e =
 
 -- Carrying out.
 
-goes : (S : ScenarioContents) (wakes : Bool) (s : State) (w : ℕ) (r q : Running) → IsSound S s → w < length S.works → running_at s w ≡ Some r → q.born ≡ r.born → q.pool ≡ r.pool → (is_runnable q.mode ≡ true → is_runnable r.mode ≡ true) → Change S true wakes None s (with_running s w (Some q)) w
+goes : (S : ScenarioContents) (wakes : Bool) (s : State) (w : ℕ) (r q : Running) → IsSound S s → w < length S.works → running_at s w ≡ Some r
+    → q.born ≡ r.born → q.pool ≡ r.pool → (is_runnable q.mode ≡ true → is_runnable r.mode ≡ true)
+    → Change S true wakes None s (with_running s w (Some q)) w
 goes S wakes s w r q sound h is same_born same_pool mode =
     changed S true wakes None s (with_running s w (Some q)) w (pending_at s w) (Some r) (pending_at s w) (Some q) refl is
     (alters-running S s w (Some q) s.next s.idle sound.long h) (Kind.goes_on (pending_at s w) r q same_born same_pool mode)
 
-retire-change : (S : ScenarioContents) (wakes : Bool) (s : State) (w : ℕ) (r : Running) → IsSound S s → w < length S.works → running_at s w ≡ Some r → pends is_deferred (pending_at s w) ≡ false → Change S true wakes (Some r.pool) s (retire s w r) w
+retire-change : (S : ScenarioContents) (wakes : Bool) (s : State) (w : ℕ) (r : Running) → IsSound S s → w < length S.works → running_at s w ≡ Some r
+    → pends is_deferred (pending_at s w) ≡ false → Change S true wakes (Some r.pool) s (retire s w r) w
 retire-change S wakes s w r sound h is still =
     changed S true wakes (Some r.pool) s (retire s w r) w (pending_at s w) (Some r) (pending_at s w) None refl is
     (alters-running S s w None (s.next + 1) (slice_set s.idle (seat r.pool r.worker) (Some s.next)) sound.long h)
     (Kind.retired (pending_at s w) r still)
 
-again-change : (S : ScenarioContents) (wakes : Bool) (s : State) (w : ℕ) (r : Running) (p : Pending) (at : ℕ) → IsSound S s → w < length S.works → running_at s w ≡ Some r → is_runnable r.mode ≡ true → pending_at s w ≡ Some (record { born = p.born; stamp = p.stamp; place = Deferred at }) → Change S true wakes (Some r.pool) s (begin_again s w r p) w
+again-change : (S : ScenarioContents) (wakes : Bool) (s : State) (w : ℕ) (r : Running) (p : Pending) (at : ℕ) → IsSound S s → w < length S.works
+    → running_at s w ≡ Some r → is_runnable r.mode ≡ true → pending_at s w ≡ Some (record { born = p.born; stamp = p.stamp; place = Deferred at })
+    → Change S true wakes (Some r.pool) s (begin_again s w r p) w
 again-change S wakes s w r p at sound h is runs is_pending =
     changed S true wakes (Some r.pool) s (begin_again s w r p) w (Some (record { born = p.born; stamp = p.stamp; place = Deferred at })) (Some r) None (Some (begun p.born r.pool r.worker s.next)) is_pending is
     (alters-both S s w None (Some (begun p.born r.pool r.worker s.next)) (s.next + 1) s.idle s.made sound.long h (λ within. within))
     (Kind.again p.born p.stamp at r runs)
 
-ends-in : (S : ScenarioContents) (wakes : Bool) (s : State) (w : ℕ) (r : Running) (p : Pending) (at : Place) → IsSound S s → w < length S.works → running_at s w ≡ Some r → is_runnable r.mode ≡ true → pending_at s w ≡ Some (record { born = p.born; stamp = p.stamp; place = at }) → Change S true wakes (Some r.pool) s (come_to_end s w r (Some (record { born = p.born; stamp = p.stamp; place = at }))).0 w
+ends-in : (S : ScenarioContents) (wakes : Bool) (s : State) (w : ℕ) (r : Running) (p : Pending) (at : Place) → IsSound S s → w < length S.works
+    → running_at s w ≡ Some r → is_runnable r.mode ≡ true → pending_at s w ≡ Some (record { born = p.born; stamp = p.stamp; place = at })
+    → Change S true wakes (Some r.pool) s (come_to_end s w r (Some (record { born = p.born; stamp = p.stamp; place = at }))).0 w
 ends-in S wakes s w r p (Deferred at) sound h is runs is_pending = again-change S wakes s w r p at sound h is runs is_pending
 ends-in S wakes s w r p (Timer due cpu) sound h is runs is_pending = retire-change S wakes s w r sound h is (ap (pends is_deferred) is_pending)
 ends-in S wakes s w r p (Inactive at) sound h is runs is_pending = retire-change S wakes s w r sound h is (ap (pends is_deferred) is_pending)
 ends-in S wakes s w r p (Listed at) sound h is runs is_pending = retire-change S wakes s w r sound h is (ap (pends is_deferred) is_pending)
 
-ends : (S : ScenarioContents) (wakes : Bool) (s : State) (w : ℕ) (r : Running) (o : Option Pending) → IsSound S s → w < length S.works → running_at s w ≡ Some r → is_runnable r.mode ≡ true → pending_at s w ≡ o → Change S true wakes (Some r.pool) s (come_to_end s w r o).0 w
+ends : (S : ScenarioContents) (wakes : Bool) (s : State) (w : ℕ) (r : Running) (o : Option Pending) → IsSound S s → w < length S.works
+    → running_at s w ≡ Some r → is_runnable r.mode ≡ true → pending_at s w ≡ o → Change S true wakes (Some r.pool) s (come_to_end s w r o).0 w
 ends S wakes s w r (Some p) sound h is runs is_pending = ends-in S wakes s w r p p.place sound h is runs is_pending
 ends S wakes s w r None sound h is runs is_pending = retire-change S wakes s w r sound h is (ap (pends is_deferred) is_pending)
 
-finish-follows : (S : ScenarioContents) (wakes : Bool) (s : State) (w : ℕ) (r : Running) → IsSound S s → w < length S.works → running_at s w ≡ Some r → is_runnable r.mode ≡ true → Follows S true wakes s (finish S s w r).0
+finish-follows : (S : ScenarioContents) (wakes : Bool) (s : State) (w : ℕ) (r : Running) → IsSound S s → w < length S.works → running_at s w ≡ Some r
+    → is_runnable r.mode ≡ true → Follows S true wakes s (finish S s w r).0
 finish-follows S wakes s w r sound h is runs =
     leaving S true wakes s (come_to_end s w r (pending_at s w)).0 w r.pool (ends S wakes s w r (pending_at s w) sound h is runs refl)
 
-queues-follows : (S : ScenarioContents) (wakes : Bool) (s : State) (other : WorkId) (cpu : ℕ) (o : Option Pending) → IsSound S s → other.0 < length S.works → cpu < S.cpus → pending_at s other.0 ≡ o → Follows S true wakes s (queue_from_body S s other cpu o).0
+queues-follows : (S : ScenarioContents) (wakes : Bool) (s : State) (other : WorkId) (cpu : ℕ) (o : Option Pending) → IsSound S s
+    → other.0 < length S.works → cpu < S.cpus → pending_at s other.0 ≡ o → Follows S true wakes s (queue_from_body S s other cpu o).0
 queues-follows S wakes s other cpu (Some p) sound h there is = Follows.stays true wakes s
 queues-follows S wakes s other cpu None sound h there is = place-follows S wakes s other.0 cpu sound h there is
 
-carries-out : (S : ScenarioContents) (wakes : Bool) (s : State) (w : ℕ) (r : Running) (o : Op) → IsSound S s → w < length S.works → running_at s w ≡ Some r → is_runnable r.mode ≡ true → IsOpInRange S o → Follows S true wakes s (carry_out S s w r o).0
+carries-out : (S : ScenarioContents) (wakes : Bool) (s : State) (w : ℕ) (r : Running) (o : Op) → IsSound S s → w < length S.works
+    → running_at s w ≡ Some r → is_runnable r.mode ≡ true → IsOpInRange S o → Follows S true wakes s (carry_out S s w r o).0
 carries-out S wakes s w r (op.Burn ticks) sound h is runs in_range =
     let q = record r { pc = r.pc + 1; left = ticks } in
     one S true wakes s (with_running s w (Some q)) w (goes S wakes s w r q sound h is refl refl (λ e. e))
@@ -176,11 +194,13 @@ carries-out S wakes s w r (op.Queue other cpu) sound h is runs in_range =
     (queues-follows S wakes (onward s w r) other cpu (pending_at s other.0) (Change-sound S true wakes None s (onward s w r) w change sound) in_range.0 in_range.1 refl)
 carries-out S wakes s w r op.Finish sound h is runs in_range = finish-follows S wakes s w r sound h is runs
 
-advances : (S : ScenarioContents) (wakes : Bool) (s : State) (w : ℕ) (o : Option Running) → IsSetting S → IsSound S s → w < length S.works → running_at s w ≡ o → runs (λ r. is_runnable r.mode) o ≡ true → Follows S true wakes s (advance S s w o).0
+advances : (S : ScenarioContents) (wakes : Bool) (s : State) (w : ℕ) (o : Option Running) → IsSetting S → IsSound S s → w < length S.works
+    → running_at s w ≡ o → runs (λ r. is_runnable r.mode) o ≡ true → Follows S true wakes s (advance S s w o).0
 advances S wakes s w (Some r) setting sound h is runs = carries-out S wakes s w r (op_at S w r.pc) sound h is runs (setting.ops w r.pc)
 advances S wakes s w None setting sound h is runs = Follows.stays true wakes s
 
-wakes-follows : (S : ScenarioContents) (s : State) (w : ℕ) (o : Option Running) → IsSound S s → w < length S.works → running_at s w ≡ o → Follows S true true s (woken s w o)
+wakes-follows : (S : ScenarioContents) (s : State) (w : ℕ) (o : Option Running) → IsSound S s → w < length S.works → running_at s w ≡ o
+    → Follows S true true s (woken s w o)
 wakes-follows S s w (Some r) sound h is =
     let q = record r { mode = Runnable; stamp = s.next } in
     one S true true s (woken s w (Some r)) w
@@ -208,7 +228,8 @@ new-below : (S : ScenarioContents) (made : ℕ) (b : Bool) → nat_lt made S.wor
 new-below S made true e = ltb-true made S.workers e
 new-below S made false e = tt
 
-or-below : (S : ScenarioContents) (x y : Option ℕ) → IfSome (λ worker. worker < S.workers) x → IfSome (λ worker. worker < S.workers) y → IfSome (λ worker. worker < S.workers) (or_else x y)
+or-below : (S : ScenarioContents) (x y : Option ℕ) → IfSome (λ worker. worker < S.workers) x → IfSome (λ worker. worker < S.workers) y
+    → IfSome (λ worker. worker < S.workers) (or_else x y)
 or-below S (Some x) y here there = here
 or-below S None y here there = there
 
@@ -219,7 +240,9 @@ made-one_more : (worker made most : ℕ) (b : Bool) → worker < most → made �
 made-one_more worker made most true h within = omega arith
 made-one_more worker made most false h within = within
 
-start-place : (S : ScenarioContents) (wakes : Bool) (s : State) (pool w worker : ℕ) (p : Pending) (at : Place) → IsSound S s → w < length S.works → worker < S.workers → running_at s w ≡ None → may_start S s pool ≡ true → is_listed at pool ≡ true → pending_at s w ≡ Some (record { born = p.born; stamp = p.stamp; place = at }) → Follows S true wakes s (started_on s pool w worker p)
+start-place : (S : ScenarioContents) (wakes : Bool) (s : State) (pool w worker : ℕ) (p : Pending) (at : Place) → IsSound S s → w < length S.works
+    → worker < S.workers → running_at s w ≡ None → may_start S s pool ≡ true → is_listed at pool ≡ true
+    → pending_at s w ≡ Some (record { born = p.born; stamp = p.stamp; place = at }) → Follows S true wakes s (started_on s pool w worker p)
 start-place S wakes s pool w worker p (Listed at) sound h seated idle may is is_pending =
     let same : Some (record { born = p.born; stamp = p.stamp; place = Listed at }) ≡ Some (record { born = p.born; stamp = p.stamp; place = Listed pool }) = ap (λ (x : ℕ). Some (record { born = p.born; stamp = p.stamp; place = Listed x })) (eqb-true at pool is) in
     let q = begun p.born pool worker s.next in
@@ -233,12 +256,16 @@ start-place S wakes s pool w worker p (Timer due cpu) sound h seated idle may is
 start-place S wakes s pool w worker p (Inactive at) sound h seated idle may is is_pending = cc
 start-place S wakes s pool w worker p (Deferred at) sound h seated idle may is is_pending = cc
 
-starts : (S : ScenarioContents) (wakes : Bool) (s : State) (pool w : ℕ) (worker : Option ℕ) (o : Option Pending) → IsSound S s → w < length S.works → IfSome (λ seated. seated < S.workers) worker → running_at s w ≡ None → may_start S s pool ≡ true → pends (λ place. is_listed place pool) o ≡ true → pending_at s w ≡ o → Follows S true wakes s (started s pool w worker o)
+starts : (S : ScenarioContents) (wakes : Bool) (s : State) (pool w : ℕ) (worker : Option ℕ) (o : Option Pending) → IsSound S s → w < length S.works
+    → IfSome (λ seated. seated < S.workers) worker → running_at s w ≡ None → may_start S s pool ≡ true
+    → pends (λ place. is_listed place pool) o ≡ true → pending_at s w ≡ o → Follows S true wakes s (started s pool w worker o)
 starts S wakes s pool w (Some worker) (Some p) sound h seated idle may is is_pending = start-place S wakes s pool w worker p p.place sound h seated idle may is is_pending
 starts S wakes s pool w (Some worker) None sound h seated idle may is is_pending = Follows.stays true wakes s
 starts S wakes s pool w None o sound h seated idle may is is_pending = Follows.stays true wakes s
 
-defer-place : (S : ScenarioContents) (wakes : Bool) (s : State) (pool w : ℕ) (r : Running) (p : Pending) (at : Place) → IsSound S s → w < length S.works → running_at s w ≡ Some r → is_listed at pool ≡ true → pending_at s w ≡ Some (record { born = p.born; stamp = p.stamp; place = at }) → Follows S true wakes s (deferred s pool w (Some p))
+defer-place : (S : ScenarioContents) (wakes : Bool) (s : State) (pool w : ℕ) (r : Running) (p : Pending) (at : Place) → IsSound S s
+    → w < length S.works → running_at s w ≡ Some r → is_listed at pool ≡ true
+    → pending_at s w ≡ Some (record { born = p.born; stamp = p.stamp; place = at }) → Follows S true wakes s (deferred s pool w (Some p))
 defer-place S wakes s pool w r p (Listed at) sound h runs is is_pending =
     let same : Some (record { born = p.born; stamp = p.stamp; place = Listed at }) ≡ Some (record { born = p.born; stamp = p.stamp; place = Listed pool }) = ap (λ (x : ℕ). Some (record { born = p.born; stamp = p.stamp; place = Listed x })) (eqb-true at pool is) in
     let q = Some (record { born = p.born; stamp = p.stamp; place = Deferred pool }) in
@@ -254,13 +281,16 @@ defer-place S wakes s pool w r p (Timer due cpu) sound h runs is is_pending = cc
 defer-place S wakes s pool w r p (Inactive at) sound h runs is is_pending = cc
 defer-place S wakes s pool w r p (Deferred at) sound h runs is is_pending = cc
 
-defers : (S : ScenarioContents) (wakes : Bool) (s : State) (pool w : ℕ) (r : Option Running) (o : Option Pending) → IsSound S s → w < length S.works → running_at s w ≡ r → is_some r ≡ true → pends (λ place. is_listed place pool) o ≡ true → pending_at s w ≡ o → Follows S true wakes s (deferred s pool w o)
+defers : (S : ScenarioContents) (wakes : Bool) (s : State) (pool w : ℕ) (r : Option Running) (o : Option Pending) → IsSound S s → w < length S.works
+    → running_at s w ≡ r → is_some r ≡ true → pends (λ place. is_listed place pool) o ≡ true → pending_at s w ≡ o
+    → Follows S true wakes s (deferred s pool w o)
 defers S wakes s pool w (Some r) (Some p) sound h runs there is is_pending = defer-place S wakes s pool w r p p.place sound h runs is is_pending
 defers S wakes s pool w (Some r) None sound h runs there is is_pending = Follows.stays true wakes s
 defers S wakes s pool w None o sound h runs there is is_pending = cc
 
 -- every move is a chain of changes, among which none wakes unless it tells so
-pub moved-follows : (S : ScenarioContents) (s : State) (pool : ℕ) (move : Move) → IsSetting S → IsSound S s → MoveFits S s pool move → Follows S true (is_wake (moved S s pool move).1) s (moved S s pool move).0
+pub moved-follows : (S : ScenarioContents) (s : State) (pool : ℕ) (move : Move) → IsSetting S → IsSound S s → MoveFits S s pool move
+    → Follows S true (is_wake (moved S s pool move).1) s (moved S s pool move).0
 moved-follows S s pool (Advance w) setting sound fits = advances S (is_wake (advance S s w.0 (running_at s w.0)).1) s w.0 (running_at s w.0) setting sound fits.0 refl fits.1
 moved-follows S s pool (Wake w) setting sound fits = wakes-follows S s w.0 (running_at s w.0) sound fits refl
 moved-follows S s pool (Start w) setting sound fits = starts S false s pool w.0 (free_worker S s pool) (pending_at s w.0) sound fits.0 (free-below S s pool) fits.1 fits.2 fits.3 refl

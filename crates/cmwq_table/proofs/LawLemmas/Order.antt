@@ -46,7 +46,9 @@ IsInOrder S s =
 -- what a change makes of the active and the inactive instances of its work
 data Orders (S : ScenarioContents) (s : State) (w : ℕ) (a : Option Pending) (b : Option Running) (c : Option Pending) (d : Option Running) : Type 0 where
   quiet : ((born : ℕ) → HasActive c d born → HasActive a b born) → ((later : ℕ) → HasInactive c later → HasInactive a later ⊎ (later ≡ s.next)) → Orders S s w a b c d
-  opens : ((later : ℕ) → HasInactive c later → ⊥) → ((born : ℕ) → HasActive c d born → HasActive a b born ⊎ ((x later : ℕ) → (x ≡ w → ⊥) → queue_of S x ≡ queue_of S w → HasInactive (pending_at s x) later → born < later)) → Orders S s w a b c d
+  opens : ((later : ℕ) → HasInactive c later → ⊥)
+      → ((born : ℕ) → HasActive c d born → HasActive a b born ⊎ ((x later : ℕ) → (x ≡ w → ⊥) → queue_of S x ≡ queue_of S w → HasInactive (pending_at s x) later → born < later))
+      → Orders S s w a b c d
 
 waiting-place : (place : Place) (pool : ℕ) → is_waiting place ≡ true → ((at : ℕ) → place ≡ Inactive at → at ≡ pool) → is_inactive place pool ≡ true
 waiting-place (Inactive at) pool e in_pool = eq-eqb at pool (in_pool at refl)
@@ -61,20 +63,24 @@ unbound-if-ordered : (unbound ordered : Bool) → ordered ≡ true → (unbound 
 unbound-if-ordered unbound ordered e = or_right unbound ordered e
 
 -- two works of one ordered queue go to one pool
-same-pool : (S : ScenarioContents) (w x pool at : ℕ) → (flags_at S (queue_of S w)).ordered ≡ true → queue_of S x ≡ queue_of S w → IsPoolOf S w pool → IsPoolOf S x at → at ≡ pool
+same-pool : (S : ScenarioContents) (w x pool at : ℕ) → (flags_at S (queue_of S w)).ordered ≡ true → queue_of S x ≡ queue_of S w → IsPoolOf S w pool
+    → IsPoolOf S x at → at ≡ pool
 same-pool S w x pool at ordered of_queue here there =
     let ordered_there : (flags_at S (queue_of S x)).ordered ≡ true = ap (λ (q : ℕ). (flags_at S q).ordered) of_queue ∙ ordered in
     there.unbound (unbound-if-ordered (flags_at S (queue_of S x)).unbound (flags_at S (queue_of S x)).ordered ordered_there)
     ∙ (ap (λ (q : ℕ). target S q 0) of_queue
     ∙ sym (here.unbound (unbound-if-ordered (flags_at S (queue_of S w)).unbound (flags_at S (queue_of S w)).ordered ordered)))
 
-waits-there : (S : ScenarioContents) (s : State) (w x pool later : ℕ) → (flags_at S (queue_of S w)).ordered ≡ true → queue_of S x ≡ queue_of S w → IsPoolOf S w pool → (r : Option Running) (o : Option Pending) → FitsIfPending S s.next x r o → HasInactive o later → pends (λ place. is_inactive place pool) o ≡ true
+waits-there : (S : ScenarioContents) (s : State) (w x pool later : ℕ) → (flags_at S (queue_of S w)).ordered ≡ true → queue_of S x ≡ queue_of S w
+    → IsPoolOf S w pool → (r : Option Running) (o : Option Pending) → FitsIfPending S s.next x r o → HasInactive o later
+    → pends (λ place. is_inactive place pool) o ≡ true
 waits-there S s w x pool later ordered of_queue here r (Some p) fits inactive =
     waiting-place p.place pool inactive.0 (λ at e. same-pool S w x pool at ordered of_queue here (place-pool S x r p.place at e fits.place))
 waits-there S s w x pool later ordered of_queue here r None fits inactive = absurd inactive
 
 -- the stamp of an inactive work is its birth
-stamp-born : (S : ScenarioContents) (next x later : ℕ) (r : Option Running) (o : Option Pending) → FitsIfPending S next x r o → HasInactive o later → pending_stamp o ≡ later
+stamp-born : (S : ScenarioContents) (next x later : ℕ) (r : Option Running) (o : Option Pending) → FitsIfPending S next x r o → HasInactive o later
+    → pending_stamp o ≡ later
 stamp-born S next x later r (Some p) fits inactive = fits.stamp inactive.0 ∙ inactive.1
 stamp-born S next x later r None fits inactive = absurd inactive
 
@@ -83,7 +89,10 @@ born-of (Some p) later inactive = (p, refl, inactive.1)
 born-of None later inactive = absurd inactive
 
 -- the first inactive work was born before another one of its ordered queue
-first-born : (S : ScenarioContents) (s : State) (w pool born stamp : ℕ) → IsSound S s → (flags_at S (queue_of S w)).ordered ≡ true → pending_at s w ≡ Some (record { born = born; stamp = stamp; place = Inactive pool }) → IsFirst (pending_before s) (λ v. (queue_of S v == queue_of S w) && waits s v pool) (length S.works) w → (x later : ℕ) → (x ≡ w → ⊥) → queue_of S x ≡ queue_of S w → HasInactive (pending_at s x) later → born < later
+first-born : (S : ScenarioContents) (s : State) (w pool born stamp : ℕ) → IsSound S s → (flags_at S (queue_of S w)).ordered ≡ true
+    → pending_at s w ≡ Some (record { born = born; stamp = stamp; place = Inactive pool })
+    → IsFirst (pending_before s) (λ v. (queue_of S v == queue_of S w) && waits s v pool) (length S.works) w → (x later : ℕ) → (x ≡ w → ⊥)
+    → queue_of S x ≡ queue_of S w → HasInactive (pending_at s x) later → born < later
 first-born S s w pool born stamp sound ordered is first x later ne of_queue inactive =
     let fits : Fits S s.next w (Some (record { born = born; stamp = stamp; place = Inactive pool })) (running_at s w) = subst (λ (o : Option Pending). Fits S s.next w o (running_at s w)) is (sound.works w) in
     let here : IsPoolOf S w pool = fits.pending.place.0 in
@@ -101,7 +110,9 @@ first-born S s w pool born stamp sound ordered is first x later ne of_queue inac
     ]
 
 -- where the queues are full, none waits beside room
-none-waits : (S : ScenarioContents) (s : State) (w pool : ℕ) → IsSound S s → IsFull S s (queue_of S w) pool → (flags_at S (queue_of S w)).ordered ≡ true → IsPoolOf S w pool → has_room S s (queue_of S w) pool ≡ true → (x later : ℕ) → queue_of S x ≡ queue_of S w → HasInactive (pending_at s x) later → ⊥
+none-waits : (S : ScenarioContents) (s : State) (w pool : ℕ) → IsSound S s → IsFull S s (queue_of S w) pool
+    → (flags_at S (queue_of S w)).ordered ≡ true → IsPoolOf S w pool → has_room S s (queue_of S w) pool ≡ true → (x later : ℕ)
+    → queue_of S x ≡ queue_of S w → HasInactive (pending_at s x) later → ⊥
 none-waits S s w pool sound is_full ordered here room x later of_queue inactive =
     let waiting : waits s x pool ≡ true = waits-there S s w x pool later ordered of_queue here (running_at s x) (pending_at s x) (sound.works x).pending inactive in
     let level : limit S s (queue_of S w) ≤ active S s (queue_of S w) pool = is_full x of_queue waiting in
@@ -112,7 +123,9 @@ moves-on : (p : Option Pending) (r q : Running) → q.born ≡ r.born → (born 
 moves-on p r q e born (inl pends) = inl pends
 moves-on p r q e born (inr ran) = inr (sym e ∙ ran)
 
-Kind-order : (S : ScenarioContents) (places wakes : Bool) (s : State) (w : ℕ) (left : Option ℕ) (a : Option Pending) (b : Option Running) (c : Option Pending) (d : Option Running) (n : ℕ) → IsSound S s → (places ≡ true → AreFull S s) → (flags_at S (queue_of S w)).ordered ≡ true → pending_at s w ≡ a → Kind S places wakes s w left a b c d n → Orders S s w a b c d
+Kind-order : (S : ScenarioContents) (places wakes : Bool) (s : State) (w : ℕ) (left : Option ℕ) (a : Option Pending) (b : Option Running) (c : Option Pending) (d : Option Running) (n : ℕ)
+    → IsSound S s → (places ≡ true → AreFull S s) → (flags_at S (queue_of S w)).ordered ≡ true → pending_at s w ≡ a
+    → Kind S places wakes s w left a b c d n → Orders S s w a b c d
 Kind-order S places wakes s w left a b c d n sound are_full ordered is (Kind.placed r at e fits with_run room) =
     Orders.opens (λ later h. cc) (λ born h. elim h [
       | inl pends ↦ inr (λ x later ne of_queue inactive. absurd (none-waits S s w at sound (are_full e (queue_of S w) at) ordered fits room x later of_queue inactive))
@@ -165,7 +178,9 @@ module _ (S : ScenarioContents) (places wakes : Bool) (left : Option ℕ) (s t :
   inactive-else v later ne h = rw (change.alters.pending_else v ne) at h
 
   -- the changed work is v, or x, or both
-  order-here : (born : ℕ) → Orders S s w (pending_at s w) (running_at s w) change.p change.r → (x later : ℕ) → (x ≡ w → ⊥) → (flags_at S (queue_of S w)).ordered ≡ true → queue_of S x ≡ queue_of S w → HasActive change.p change.r born → HasInactive (pending_at s x) later → born < later
+  order-here : (born : ℕ) → Orders S s w (pending_at s w) (running_at s w) change.p change.r → (x later : ℕ) → (x ≡ w → ⊥)
+      → (flags_at S (queue_of S w)).ordered ≡ true → queue_of S x ≡ queue_of S w → HasActive change.p change.r born
+      → HasInactive (pending_at s x) later → born < later
   order-here born (quiet actives inactives) x later ne ordered of_queue act inactive = in_order w x born later ordered of_queue (actives born act) inactive
   order-here born (opens no_inactive actives) x later ne ordered of_queue act inactive =
       elim (actives born act) [
@@ -173,7 +188,8 @@ module _ (S : ScenarioContents) (places wakes : Bool) (left : Option ℕ) (s t :
         | inr comes_first ↦ comes_first x later ne of_queue inactive
       ]
 
-  order-there : (v born later : ℕ) → Orders S s w (pending_at s w) (running_at s w) change.p change.r → (flags_at S (queue_of S v)).ordered ≡ true → queue_of S w ≡ queue_of S v → HasActive (pending_at s v) (running_at s v) born → HasInactive change.p later → born < later
+  order-there : (v born later : ℕ) → Orders S s w (pending_at s w) (running_at s w) change.p change.r → (flags_at S (queue_of S v)).ordered ≡ true
+      → queue_of S w ≡ queue_of S v → HasActive (pending_at s v) (running_at s v) born → HasInactive change.p later → born < later
   order-there v born later (quiet actives inactives) ordered of_queue act inactive =
       elim (inactives later inactive) [
         | inl before ↦ in_order v w born later ordered of_queue act before
@@ -181,7 +197,8 @@ module _ (S : ScenarioContents) (places wakes : Bool) (left : Option ℕ) (s t :
       ]
   order-there v born later (opens no_inactive actives) ordered of_queue act inactive = absurd (no_inactive later inactive)
 
-  order-itself : (born later : ℕ) → Orders S s w (pending_at s w) (running_at s w) change.p change.r → (flags_at S (queue_of S w)).ordered ≡ true → HasActive change.p change.r born → HasInactive change.p later → born < later
+  order-itself : (born later : ℕ) → Orders S s w (pending_at s w) (running_at s w) change.p change.r → (flags_at S (queue_of S w)).ordered ≡ true
+      → HasActive change.p change.r born → HasInactive change.p later → born < later
   order-itself born later (quiet actives inactives) ordered act inactive = order-there w born later (quiet actives inactives) ordered refl (actives born act) inactive
   order-itself born later (opens no_inactive actives) ordered act inactive = absurd (no_inactive later inactive)
 
@@ -215,7 +232,8 @@ module _ (S : ScenarioContents) (places wakes : Bool) (left : Option ℕ) (s t :
         ]
       ]
 
-pub Follows-order : (S : ScenarioContents) (places wakes : Bool) (s t : State) → Follows S places wakes s t → IsSound S s → (places ≡ true → AreFull S s) → IsInOrder S s → IsInOrder S t
+pub Follows-order : (S : ScenarioContents) (places wakes : Bool) (s t : State) → Follows S places wakes s t → IsSound S s
+    → (places ≡ true → AreFull S s) → IsInOrder S s → IsInOrder S t
 Follows-order S places wakes s t (Follows.stays pl wk a) sound are_full in_order = in_order
 Follows-order S places wakes s t (Follows.changes pl wk a b c w change rest) sound are_full in_order =
     Follows-order S places wakes b t rest (Change-sound S places wakes None s b w change sound)
@@ -252,7 +270,8 @@ Follows-one_by_one S places wakes s t follows sound one queue pool ordered =
 
 -- all its works go to one pool, and so it has at most one in all
 
-activated-there : (place : Place) (pool : ℕ) → ((at : ℕ) → place ≡ Listed at → at ≡ pool) → ((at : ℕ) → place ≡ Deferred at → at ≡ pool) → is_activated place ≡ is_active place pool
+activated-there : (place : Place) (pool : ℕ) → ((at : ℕ) → place ≡ Listed at → at ≡ pool) → ((at : ℕ) → place ≡ Deferred at → at ≡ pool)
+    → is_activated place ≡ is_active place pool
 activated-there (Listed at) pool listed deferred = sym (eq-eqb at pool (listed at refl))
 activated-there (Deferred at) pool listed deferred = sym (eq-eqb at pool (deferred at refl))
 activated-there (Timer due cpu) pool listed deferred = refl
@@ -263,14 +282,16 @@ ordered-pool S v queue at ordered of_queue fits =
     let ordered_there : (flags_at S (queue_of S v)).ordered ≡ true = ap (λ (q : ℕ). (flags_at S q).ordered) of_queue ∙ ordered in
     fits.unbound (unbound-if-ordered (flags_at S (queue_of S v)).unbound (flags_at S (queue_of S v)).ordered ordered_there) ∙ ap (λ (q : ℕ). target S q 0) of_queue
 
-pends-there : (S : ScenarioContents) (next v queue : ℕ) (r : Option Running) (o : Option Pending) → (flags_at S queue).ordered ≡ true → queue_of S v ≡ queue → FitsIfPending S next v r o → pends is_activated o ≡ pends (λ place. is_active place (target S queue 0)) o
+pends-there : (S : ScenarioContents) (next v queue : ℕ) (r : Option Running) (o : Option Pending) → (flags_at S queue).ordered ≡ true
+    → queue_of S v ≡ queue → FitsIfPending S next v r o → pends is_activated o ≡ pends (λ place. is_active place (target S queue 0)) o
 pends-there S next v queue r (Some p) ordered of_queue fits =
     activated-there p.place (target S queue 0)
     (λ at e. ordered-pool S v queue at ordered of_queue (subst (λ (y : Place). FitsPlace S v r y) e fits.place).0)
     (λ at e. ordered-pool S v queue at ordered of_queue (subst (λ (y : Place). FitsPlace S v r y) e fits.place).0)
 pends-there S next v queue r None ordered of_queue fits = refl
 
-runs-there : (S : ScenarioContents) (next v queue : ℕ) (r : Option Running) → (flags_at S queue).ordered ≡ true → queue_of S v ≡ queue → FitsIfRunning S next v r → is_some r ≡ runs (λ q. q.pool == target S queue 0) r
+runs-there : (S : ScenarioContents) (next v queue : ℕ) (r : Option Running) → (flags_at S queue).ordered ≡ true → queue_of S v ≡ queue
+    → FitsIfRunning S next v r → is_some r ≡ runs (λ q. q.pool == target S queue 0) r
 runs-there S next v queue (Some r) ordered of_queue fits = sym (eq-eqb r.pool (target S queue 0) (ordered-pool S v queue r.pool ordered of_queue fits.pool))
 runs-there S next v queue None ordered of_queue fits = refl
 

@@ -22,15 +22,18 @@ IsElsewhere S left w queue pool = left ≡ Some pool → queue_of S w ≡ queue 
 -- what a change must do to keep a queue full in a pool
 record KeepsFull (S : ScenarioContents) (s : State) (w queue pool : ℕ) (a : Option Pending) (b : Option Running) (c : Option Pending) (d : Option Running) : Type 0 where
   level : active_of S w queue pool a b ≤ active_of S w queue pool c d
-  waiting : queue_of S w ≡ queue → pends (λ place. is_inactive place pool) c ≡ true → (pends (λ place. is_inactive place pool) a ≡ true) ⊎ (limit S s queue ≤ active S s queue pool)
+  waiting : queue_of S w ≡ queue → pends (λ place. is_inactive place pool) c ≡ true
+      → (pends (λ place. is_inactive place pool) a ≡ true) ⊎ (limit S s queue ≤ active S s queue pool)
 
-not-both : (S : ScenarioContents) (w queue at pool rest : ℕ) → IsElsewhere S (Some at) w queue pool → (x y : Bool) → (queue_of S w == queue) ≡ x → (at == pool) ≡ y → bit (x && y) + rest ≤ bit (x && false) + rest
+not-both : (S : ScenarioContents) (w queue at pool rest : ℕ) → IsElsewhere S (Some at) w queue pool → (x y : Bool) → (queue_of S w == queue) ≡ x
+    → (at == pool) ≡ y → bit (x && y) + rest ≤ bit (x && false) + rest
 not-both S w queue at pool rest elsewhere true true of_queue in_pool =
     absurd (elsewhere (ap Some (eqb-true at pool in_pool)) (eqb-true (queue_of S w) queue of_queue))
 not-both S w queue at pool rest elsewhere true false of_queue in_pool = omega arith
 not-both S w queue at pool rest elsewhere false y of_queue in_pool = omega arith
 
-no-room : (S : ScenarioContents) (s : State) (w queue at pool : ℕ) → has_room S s (queue_of S w) at ≡ false → queue_of S w ≡ queue → (at == pool) ≡ true → limit S s queue ≤ active S s queue pool
+no-room : (S : ScenarioContents) (s : State) (w queue at pool : ℕ) → has_room S s (queue_of S w) at ≡ false → queue_of S w ≡ queue
+    → (at == pool) ≡ true → limit S s queue ≤ active S s queue pool
 no-room S s w queue at pool room of_queue in_pool =
     let there : has_room S s queue pool ≡ false = ap (λ (q : ℕ). has_room S s q pool) (sym of_queue) ∙ (ap (λ (a : ℕ). has_room S s (queue_of S w) a) (sym (eqb-true at pool in_pool)) ∙ room) in
     ltb-false (active S s queue pool) (limit S s queue) there
@@ -41,7 +44,8 @@ goes S s w queue pool p r q e = record {
   waiting = λ of_queue is. inl is;
 }
 
-Kind-full : (S : ScenarioContents) (places wakes : Bool) (s : State) (w : ℕ) (left : Option ℕ) (a : Option Pending) (b : Option Running) (c : Option Pending) (d : Option Running) (n queue pool : ℕ) → IsElsewhere S left w queue pool → Fits S s.next w a b → Kind S places wakes s w left a b c d n → KeepsFull S s w queue pool a b c d
+Kind-full : (S : ScenarioContents) (places wakes : Bool) (s : State) (w : ℕ) (left : Option ℕ) (a : Option Pending) (b : Option Running) (c : Option Pending) (d : Option Running) (n queue pool : ℕ)
+    → IsElsewhere S left w queue pool → Fits S s.next w a b → Kind S places wakes s w left a b c d n → KeepsFull S s w queue pool a b c d
 Kind-full S places wakes s w left a b c d n queue pool elsewhere fits (Kind.placed r at e pool_fits with_run room) =
     record { level = falls (queue_of S w == queue) (at == pool) (bit ((queue_of S w == queue) && runs (λ r. r.pool == pool) r)); waiting = λ of_queue is. cc }
 Kind-full S places wakes s w left a b c d n queue pool elsewhere fits (Kind.put_off r at may_place pool_fits with_run room) =
@@ -76,7 +80,8 @@ Kind-full S places wakes s w left a b c d n queue pool elsewhere fits (Kind.reti
     not-both S w queue r.pool pool pending elsewhere (queue_of S w == queue) (r.pool == pool) refl refl in
     record { level = omega arith; waiting = λ of_queue is. inl is }
 
-pub Change-full : (S : ScenarioContents) (places wakes : Bool) (left : Option ℕ) (s t : State) (w queue pool : ℕ) → IsSound S s → IsElsewhere S left w queue pool → Change S places wakes left s t w → IsFull S s queue pool → IsFull S t queue pool
+pub Change-full : (S : ScenarioContents) (places wakes : Bool) (left : Option ℕ) (s t : State) (w queue pool : ℕ) → IsSound S s
+    → IsElsewhere S left w queue pool → Change S places wakes left s t w → IsFull S s queue pool → IsFull S t queue pool
 Change-full S places wakes left s t w queue pool sound elsewhere change full v of_queue is_waiting =
     let keeps : KeepsFull S s w queue pool (pending_at s w) (running_at s w) change.p change.r = Kind-full S places wakes s w left (pending_at s w) (running_at s w) change.p change.r t.next queue pool elsewhere (sound.works w) change.kind in
     let changed : active S t queue pool + active_of S w queue pool (pending_at s w) (running_at s w) ≡ active S s queue pool + active_of S w queue pool change.p change.r = active-changed S s t w change.p change.r queue pool change.alters in
@@ -97,7 +102,8 @@ Change-full S places wakes left s t w queue pool sound elsewhere change full v o
 abbrev pub AreFull : ScenarioContents → State → Type 0
 AreFull S s = (queue pool : ℕ) → IsFull S s queue pool
 
-pub Follows-full : (S : ScenarioContents) (places wakes : Bool) (s t : State) (queue pool : ℕ) → Follows S places wakes s t → IsSound S s → IsFull S s queue pool → IsFull S t queue pool
+pub Follows-full : (S : ScenarioContents) (places wakes : Bool) (s t : State) (queue pool : ℕ) → Follows S places wakes s t → IsSound S s
+    → IsFull S s queue pool → IsFull S t queue pool
 Follows-full S places wakes s t queue pool (Follows.stays pl wk a) sound full = full
 Follows-full S places wakes s t queue pool (Follows.changes pl wk a b c w change rest) sound full =
     Follows-full S places wakes b t queue pool rest (Change-sound S places wakes None s b w change sound)

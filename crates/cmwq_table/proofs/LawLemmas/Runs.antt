@@ -34,7 +34,8 @@ pub record IsReached (S : ScenarioContents) (s : State) : Type 0 where
   pub one_by_one : IsOneByOne S s
 
 -- neither flushes nor what was spent matter to the works
-counted-on : (S : ScenarioContents) (s : State) (flushes : List FlushTarget) (spent : ℕ) → IsReached S s → ((flush : ℕ) → FitsTarget s.next (slice_index_or flushes flush Nothing)) → IsReached S (record s { flushes = flushes; spent = spent })
+counted-on : (S : ScenarioContents) (s : State) (flushes : List FlushTarget) (spent : ℕ) → IsReached S s
+    → ((flush : ℕ) → FitsTarget s.next (slice_index_or flushes flush Nothing)) → IsReached S (record s { flushes = flushes; spent = spent })
 counted-on S s flushes spent reached fits = record {
   sound = record {
     long = record { pending = reached.sound.long.pending; running = reached.sound.long.running };
@@ -49,13 +50,15 @@ counted-on S s flushes spent reached fits = record {
   one_by_one = reached.one_by_one;
 }
 
-one-more : (next : ℕ) (flushes : List FlushTarget) (target : FlushTarget) → ((flush : ℕ) → FitsTarget next (slice_index_or flushes flush Nothing)) → FitsTarget next target → (flush : ℕ) → FitsTarget next (slice_index_or (flushes ++ target ∷ []) flush Nothing)
+one-more : (next : ℕ) (flushes : List FlushTarget) (target : FlushTarget) → ((flush : ℕ) → FitsTarget next (slice_index_or flushes flush Nothing))
+    → FitsTarget next target → (flush : ℕ) → FitsTarget next (slice_index_or (flushes ++ target ∷ []) flush Nothing)
 one-more next [] target each here zero = here
 one-more next [] target each here (suc flush) = tt
 one-more next (f ∷ flushes) target each here zero = each zero
 one-more next (f ∷ flushes) target each here (suc flush) = one-more next flushes target (λ i. each (suc i)) here flush
 
-given-reached : (S : ScenarioContents) (s : State) (given : Option FlushTarget) (spent : ℕ) → IsReached S s → GivenFits s.next given → IsReached S (record (with_given s given) { spent = spent })
+given-reached : (S : ScenarioContents) (s : State) (given : Option FlushTarget) (spent : ℕ) → IsReached S s → GivenFits s.next given
+    → IsReached S (record (with_given s given) { spent = spent })
 given-reached S s (Some target) spent reached fits = counted-on S s (s.flushes ++ target ∷ []) spent reached (one-more s.next s.flushes target reached.sound.flushes fits)
 given-reached S s None spent reached fits = counted-on S s s.flushes spent reached reached.sound.flushes
 
@@ -76,7 +79,9 @@ pub data Outcome (S : ScenarioContents) (s : State) : State → Reply → Type 0
   refused : (why : Refusal) → Outcome S s s (reply.Refused why)
   done : (t : State) (r : Reply) (spent : ℕ) → Effect S (tells_wake r) s t → Outcome S s (record t { spent = spent }) r
 
-answers : (S : ScenarioContents) (s : State) (i : Instr) → IsSetting S → IsReached S s → (a b c : Option Refusal) → operands S s i ≡ a → situation S s i ≡ c → Outcome S s (answer s i (counts.or_else a (counts.or_else b c)) (effect S s i)).0 (answer s i (counts.or_else a (counts.or_else b c)) (effect S s i)).1
+answers : (S : ScenarioContents) (s : State) (i : Instr) → IsSetting S → IsReached S s → (a b c : Option Refusal) → operands S s i ≡ a
+    → situation S s i ≡ c
+    → Outcome S s (answer s i (counts.or_else a (counts.or_else b c)) (effect S s i)).0 (answer s i (counts.or_else a (counts.or_else b c)) (effect S s i)).1
 answers S s i setting reached (Some why) b c operands_are situation_is = Outcome.refused why
 answers S s i setting reached None (Some why) c operands_are situation_is = Outcome.refused why
 answers S s i setting reached None None (Some why) operands_are situation_is = Outcome.refused why

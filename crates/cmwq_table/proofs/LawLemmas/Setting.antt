@@ -39,7 +39,8 @@ passed true fault e = refl
 passed false fault e = cc
 
 -- what each judged element has, each element of a list without a fault has, and so has the default past its end
-along : {A : Type 0} (judge : List A → A → Option Fault) (P : A → Type 0) (d : A) → ((before : List A) (x : A) → judge before x ≡ None → P x) → P d → (before xs : List A) → first_along judge before xs ≡ None → (i : ℕ) → P (slice_index_or xs i d)
+along : {A : Type 0} (judge : List A → A → Option Fault) (P : A → Type 0) (d : A) → ((before : List A) (x : A) → judge before x ≡ None → P x) → P d
+    → (before xs : List A) → first_along judge before xs ≡ None → (i : ℕ) → P (slice_index_or xs i d)
 along judge P d each at_d before [] e i = at_d
 along judge P d each at_d before (x ∷ xs) e zero = each before x (neither (judge before x) (first_along judge (before ++ x ∷ []) xs) e).0
 along judge P d each at_d before (x ∷ xs) e (suc i) =
@@ -55,7 +56,8 @@ op-in_range S (op.Queue work cpu) e =
     (ltb-true work.0 (length S.works) (passed known Unknown both.0), ltb-true cpu S.cpus (passed there Range both.1))
 op-in_range S op.Finish e = tt
 
-work-in_range : (S : ScenarioContents) (before : List WorkContents) (work : WorkContents) → work_fault S before work ≡ None → (pc : ℕ) → IsOpInRange S (slice_index_or work.body pc op.Finish)
+work-in_range : (S : ScenarioContents) (before : List WorkContents) (work : WorkContents) → work_fault S before work ≡ None → (pc : ℕ)
+    → IsOpInRange S (slice_index_or work.body pc op.Finish)
 work-in_range S before work e =
     let taken = fault_if (list_any (λ other. bytes_eq other.name work.name) before) Duplicate in
     let declared = fault_unless (nat_lt work.queue.0 (length S.queues)) Unknown in
@@ -90,7 +92,8 @@ IsSetting-valid S valid =
     }
 
 -- what a scenario declares of a queue, read off the list of what it declares of each
-pub max-declared : (queues : List QueueDecl) (queue : ℕ) → slice_index_or (map (λ queue. queue.max) queues) queue 0 ≡ (slice_index_or queues queue (record { name = []; max = 0; flags = plain_flags })).max
+pub max-declared : (queues : List QueueDecl) (queue : ℕ)
+    → slice_index_or (map (λ queue. queue.max) queues) queue 0 ≡ (slice_index_or queues queue (record { name = []; max = 0; flags = plain_flags })).max
 max-declared [] queue = refl
 max-declared (q ∷ queues) zero = refl
 max-declared (q ∷ queues) (suc queue) = max-declared queues queue

@@ -85,7 +85,8 @@ place-moved S w r q (Inactive pool) e fits = (fits.0, e ∙ fits.1)
 place-moved S w r q (Listed pool) e fits = (fits.0, e ∙ fits.1)
 place-moved S w r q (Deferred pool) e fits = (fits.0, e ∙ fits.1, refl)
 
-pending-moved : (S : ScenarioContents) (next w : ℕ) (r q : Running) (p : Option Pending) → q.pool ≡ r.pool → FitsIfPending S next w (Some r) p → FitsIfPending S next w (Some q) p
+pending-moved : (S : ScenarioContents) (next w : ℕ) (r q : Running) (p : Option Pending) → q.pool ≡ r.pool → FitsIfPending S next w (Some r) p
+    → FitsIfPending S next w (Some q) p
 pending-moved S next w r q (Some p) e fits = record { born = fits.born; stamp = fits.stamp; place = place-moved S w r q p.place e fits.place }
 pending-moved S next w r q None e fits = tt
 
@@ -98,11 +99,13 @@ place-still S w r (Inactive pool) e fits = (fits.0, tt)
 place-still S w r (Listed pool) e fits = (fits.0, tt)
 place-still S w r (Deferred pool) e fits = cc
 
-pending-still : (S : ScenarioContents) (next w : ℕ) (r : Running) (p : Option Pending) → pends is_deferred p ≡ false → FitsIfPending S next w (Some r) p → FitsIfPending S next w None p
+pending-still : (S : ScenarioContents) (next w : ℕ) (r : Running) (p : Option Pending) → pends is_deferred p ≡ false
+    → FitsIfPending S next w (Some r) p → FitsIfPending S next w None p
 pending-still S next w r (Some p) e fits = record { born = fits.born; stamp = fits.stamp; place = place-still S w r p.place e fits.place }
 pending-still S next w r None e fits = tt
 
-pub Kind-next : (S : ScenarioContents) (places wakes : Bool) (s : State) (w : ℕ) (left : Option ℕ) (a : Option Pending) (b : Option Running) (c : Option Pending) (d : Option Running) (n : ℕ) → Kind S places wakes s w left a b c d n → s.next ≤ n
+pub Kind-next : (S : ScenarioContents) (places wakes : Bool) (s : State) (w : ℕ) (left : Option ℕ) (a : Option Pending) (b : Option Running) (c : Option Pending) (d : Option Running) (n : ℕ)
+    → Kind S places wakes s w left a b c d n → s.next ≤ n
 Kind-next S places wakes s w left a b c d n (Kind.placed r pool e fits with_run room) = omega arith
 Kind-next S places wakes s w left a b c d n (Kind.put_off r pool may_place fits with_run room) = omega arith
 Kind-next S places wakes s w left a b c d n (Kind.timed r due cpu may_place h) = omega arith
@@ -119,7 +122,8 @@ Kind-next S places wakes s w left a b c d n (Kind.again born stamp pool r run) =
 Kind-next S places wakes s w left a b c d n (Kind.retired p r e) = omega arith
 
 -- Where a change leaves it pending it fits there, and where it leaves it running too.
-Kind-fits : (S : ScenarioContents) (places wakes : Bool) (s : State) (w : ℕ) (left : Option ℕ) (a : Option Pending) (b : Option Running) (c : Option Pending) (d : Option Running) (n : ℕ) → Kind S places wakes s w left a b c d n → Fits S s.next w a b → Fits S n w c d
+Kind-fits : (S : ScenarioContents) (places wakes : Bool) (s : State) (w : ℕ) (left : Option ℕ) (a : Option Pending) (b : Option Running) (c : Option Pending) (d : Option Running) (n : ℕ)
+    → Kind S places wakes s w left a b c d n → Fits S s.next w a b → Fits S n w c d
 Kind-fits S places wakes s w left a b c d n (Kind.placed r pool e fits with_run room) was =
     record { pending = record { born = omega arith; stamp = λ still. refl; place = (fits, with_run) }; running = running-later S s.next (s.next + 1) w r (omega arith) was.running }
 Kind-fits S places wakes s w left a b c d n (Kind.put_off r pool may_place fits with_run room) was =
@@ -149,7 +153,8 @@ Kind-fits S places wakes s w left a b c d n (Kind.retired p r e) was =
 KeepsBirth : State → Option Pending → Pending → Type 0
 KeepsBirth s a q = ((p : Pending) × (a ≡ Some p) × (p.born ≡ q.born)) ⊎ (q.born ≡ s.next)
 
-Kind-births : (S : ScenarioContents) (places wakes : Bool) (s : State) (w : ℕ) (left : Option ℕ) (a : Option Pending) (b : Option Running) (c : Option Pending) (d : Option Running) (n : ℕ) → Kind S places wakes s w left a b c d n → (q : Pending) → c ≡ Some q → KeepsBirth s a q
+Kind-births : (S : ScenarioContents) (places wakes : Bool) (s : State) (w : ℕ) (left : Option ℕ) (a : Option Pending) (b : Option Running) (c : Option Pending) (d : Option Running) (n : ℕ)
+    → Kind S places wakes s w left a b c d n → (q : Pending) → c ≡ Some q → KeepsBirth s a q
 unfolding KeepsBirth
 Kind-births S places wakes s w left a b c d n (Kind.placed r pool e fits with_run room) q is = inr cc
 Kind-births S places wakes s w left a b c d n (Kind.put_off r pool may_place fits with_run room) q is = inr cc
