@@ -79,3 +79,27 @@ cut_after n = text (take n queues_itself_lines)
 -- that text with a byte after line 8 that no UTF-8 has
 abbrev pub with_bad_byte : List ℕ
 with_bad_byte = text (take 7 queues_itself_lines ++ (codes "queue a 0" ++ 255 ∷ []) ∷ codes "finish" ∷ [])
+
+-- One line's reason, by the lines that stand before it.
+
+-- as the first line of a text
+abbrev pub FirstLineIs : List ℕ → Why → Type 0
+FirstLineIs line reason = FaultIs (text (line ∷ [])) 1 reason
+
+-- after the head
+abbrev pub DeclaredIs : List ℕ → Why → Type 0
+DeclaredIs line reason = FaultIs (after_head (codes "queue q max 1" ∷ line ∷ [])) 6 reason
+
+-- in the body of the first of two works
+abbrev pub InBodyIs : List ℕ → Why → Type 0
+InBodyIs line reason =
+    FaultIs (after_head (codes "queue q max 1" ∷ codes "work a q" ∷ codes "work b q" ∷ codes "body a" ∷ line ∷ [])) 9 reason
+
+-- after the body of the first of two works
+abbrev pub AfterBodyIs : List ℕ → Why → Type 0
+AfterBodyIs line reason =
+    FaultIs (after_head (codes "queue q max 1" ∷ codes "work a q" ∷ codes "work b q" ∷ codes "body a" ∷ codes "finish" ∷ line ∷ [])) 10 reason
+
+-- as an actor's line
+abbrev pub InActorIs : List ℕ → Why → Type 0
+InActorIs line reason = FaultIs (after_head (with_work ++ codes "actor t" ∷ line ∷ [])) 11 reason

@@ -1,7 +1,7 @@
 -- The table of reasons: what each line tells at the stage where it stands, or why it can't.
-use Rattle.std.specs.Prelude.{ℕ, ◌+◌, Bool, true, false, not, ◌&&◌, ◌||◌, List, [], ◌∷◌, ◌++◌, length, Result, Ok, Err, if◌then◌else◌, codes, nat_lt, ◌==◌}
+use Rattle.std.specs.Prelude.{ℕ, ◌+◌, Bool, true, not, ◌&&◌, ◌||◌, List, [], ◌∷◌, ◌++◌, length, Result, Ok, Err, if◌then◌else◌, codes, nat_lt, ◌==◌}
 use Rattle.std.specs.Str.{bytes_eq, is_utf8}
-use Rattle.cmwq_types.specs.Contents.{ScenarioContents, WorkContents, ActorContents}
+use Rattle.cmwq_types.specs.Contents.{ScenarioContents, WorkContents}
 use Rattle.cmwq_types.specs.Faults.{fits_flags, is_finish}
 use Rattle.cmwq_types.specs.Scenario.{plain_flags}
 use Rattle.cmwq_types.specs.declared.check.Fault.TheVariants as fault
@@ -12,7 +12,7 @@ use Rattle.cmwq_types.specs.declared.scenario.Op.{Op}
 use Rattle.cmwq_types.specs.declared.scenario.Op.TheVariants as op
 use Rattle.cmwq_types.specs.declared.scenario.QueueDecl.{QueueDecl}
 use Rattle.cmwq_grammar.specs.Cutting.{words_of}
-use Rattle.cmwq_grammar.specs.Fields.{◌>>=◌, value_if, ended, made_last, new_name_at, declared_at, number_at, number_where, number_within, number_below, after_word}
+use Rattle.cmwq_grammar.specs.Fields.{◌>>=◌, value_if, ended, made_last, new_name_at, declared_at, number_at, number_within, number_below, after_word}
 use Rattle.cmwq_grammar.specs.Instructions.{queue_names, work_names, actor_names, work_id, queue_id, cannot_stand, line_at}
 use Rattle.cmwq_grammar.specs.Stages.{Stage, Start, Cpus, Workers, Steps, Queues, Works, Bodies, Body, Actor, head_of, with_body, with_actor}
 use Rattle.cmwq_grammar.specs.declared.why.Why.{Why}

@@ -1,5 +1,5 @@
 -- How far a text has come: what its lines so far have told.
-use Rattle.std.specs.Prelude.{ℕ, ◌+◌, List, [], ◌∷◌, ◌++◌, length, drop, map, if◌then◌else◌, nat_lt}
+use Rattle.std.specs.Prelude.{ℕ, List, [], ◌∷◌, ◌++◌, length}
 use Rattle.cmwq_types.specs.Contents.{ScenarioContents, WorkContents}
 use Rattle.cmwq_types.specs.Scenario.{work_at}
 use Rattle.cmwq_types.specs.declared.scenario.Line.{Line}
