@@ -1,2 +1,3 @@
 mod Basics
 mod FieldLemmas
+mod FlagLemmas

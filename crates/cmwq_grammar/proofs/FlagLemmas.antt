@@ -1,0 +1,585 @@
+-- The flags of a queue, in any order.
+use Rattle.std.proofs.Common.{◌≡◌, ℕ, zero, suc, ◌+◌, ◌<◌, ◌≤◌, Bool, true, false, not, ◌&&◌, ◌||◌, ◌⊎◌, List, [], ◌∷◌, ◌++◌, cond, Result, Ok, Err, arith, refl, sym, ap, ◌∙◌, inl, inr, subst, append_assoc, append-nil, codes}
+use Rattle.std.proofs.lemmas.List.Sorted.{IsPermutation-refl, IsPermutation-sym, IsPermutation-trans, IsPermutation-append_left, IsPermutation-append_right, IsPermutation-middle, IsPermutation-to_front, sum_by-IsPermutation}
+use Rattle.std.proofs.lemmas.List.Sums.{sum_by-cons}
+use Rattle.std.specs.List.{sum_by}
+use Rattle.std.specs.List.Sorted.{IsPermutation}
+use Rattle.std.specs.Str.{bytes_eq}
+use Rattle.cmwq_types.specs.Listing.{flag_words, word_if}
+use Rattle.cmwq_types.specs.Scenario.{plain_flags}
+use Rattle.cmwq_types.specs.declared.check.Fault.TheVariants as fault
+use Rattle.cmwq_types.specs.declared.scenario.Flags.{Flags}
+use Rattle.cmwq_grammar.specs.Fields.{◌>>=◌, value_if}
+use Rattle.cmwq_grammar.specs.Reasons.{add_flag, flags_at, set_once}
+use Rattle.cmwq_grammar.specs.declared.why.Why.{Why}
+use Rattle.cmwq_grammar.specs.declared.why.Why.TheVariants as why
+use Rattle.cmwq_grammar.proofs.Basics.{bind_ok, bind_at, value_if_ok, value_if_at, either, not_true, same_word, cond_yes, cond_no, chosen}
+
+-- Read: the flags that are set are the words, in some order.
+
+-- a word in the middle moves to the end
+to_end : (front back : List (List ℕ)) (x : List ℕ) → IsPermutation ((front ++ x ∷ []) ++ back) ((front ++ back) ++ x ∷ [])
+to_end front back x =
+    subst (λ (whole : List (List ℕ)). IsPermutation whole ((front ++ back) ++ x ∷ [])) (sym (append_assoc front (x ∷ []) back))
+    (IsPermutation-trans (front ++ x ∷ back) (x ∷ (front ++ back)) ((front ++ back) ++ x ∷ []) (IsPermutation-middle front x back)
+    (IsPermutation-sym ((front ++ back) ++ x ∷ []) (x ∷ (front ++ back)) (IsPermutation-to_front (front ++ back) x)))
+
+-- what ends so but for the order goes on
+end_further : (whole front back : List (List ℕ)) (x : List ℕ) → IsPermutation whole (front ++ x ∷ []) → IsPermutation (whole ++ back) ((front ++ back) ++ x ∷ [])
+end_further whole front back x h =
+    IsPermutation-trans (whole ++ back) ((front ++ x ∷ []) ++ back) ((front ++ back) ++ x ∷ []) (IsPermutation-append_left back whole (front ++ x ∷ []) h) (to_end front back x)
+
+highpri_moved : (f : Flags) → IsPermutation (flag_words (record f { highpri = true })) (flag_words (record f { highpri = false }) ++ codes "highpri" ∷ [])
+highpri_moved f = (end_further ((((codes "highpri" ∷ []) ++ word_if f.unbound (codes "unbound")) ++ word_if f.cpu_intensive (codes "cpu_intensive")) ++ word_if f.freezable (codes "freezable")) (((([]) ++ word_if f.unbound (codes "unbound")) ++ word_if f.cpu_intensive (codes "cpu_intensive")) ++ word_if f.freezable (codes "freezable")) (word_if f.ordered (codes "ordered")) (codes "highpri") (end_further (((codes "highpri" ∷ []) ++ word_if f.unbound (codes "unbound")) ++ word_if f.cpu_intensive (codes "cpu_intensive")) ((([]) ++ word_if f.unbound (codes "unbound")) ++ word_if f.cpu_intensive (codes "cpu_intensive")) (word_if f.freezable (codes "freezable")) (codes "highpri") (end_further ((codes "highpri" ∷ []) ++ word_if f.unbound (codes "unbound")) (([]) ++ word_if f.unbound (codes "unbound")) (word_if f.cpu_intensive (codes "cpu_intensive")) (codes "highpri") (end_further (codes "highpri" ∷ []) ([]) (word_if f.unbound (codes "unbound")) (codes "highpri") (IsPermutation-refl (codes "highpri" ∷ []))))))
+
+unbound_moved : (f : Flags) → IsPermutation (flag_words (record f { unbound = true })) (flag_words (record f { unbound = false }) ++ codes "unbound" ∷ [])
+unbound_moved f = (end_further (((((word_if f.highpri (codes "highpri")) ++ codes "unbound" ∷ [])) ++ word_if f.cpu_intensive (codes "cpu_intensive")) ++ word_if f.freezable (codes "freezable")) (((((word_if f.highpri (codes "highpri")) ++ [])) ++ word_if f.cpu_intensive (codes "cpu_intensive")) ++ word_if f.freezable (codes "freezable")) (word_if f.ordered (codes "ordered")) (codes "unbound") (end_further ((((word_if f.highpri (codes "highpri")) ++ codes "unbound" ∷ [])) ++ word_if f.cpu_intensive (codes "cpu_intensive")) ((((word_if f.highpri (codes "highpri")) ++ [])) ++ word_if f.cpu_intensive (codes "cpu_intensive")) (word_if f.freezable (codes "freezable")) (codes "unbound") (end_further (((word_if f.highpri (codes "highpri")) ++ codes "unbound" ∷ [])) (((word_if f.highpri (codes "highpri")) ++ [])) (word_if f.cpu_intensive (codes "cpu_intensive")) (codes "unbound") (subst (λ (front : List (List ℕ)). IsPermutation ((word_if f.highpri (codes "highpri")) ++ codes "unbound" ∷ []) (front ++ codes "unbound" ∷ [])) (sym (append-nil (word_if f.highpri (codes "highpri")))) (IsPermutation-refl ((word_if f.highpri (codes "highpri")) ++ codes "unbound" ∷ []))))))
+
+cpu_intensive_moved : (f : Flags) → IsPermutation (flag_words (record f { cpu_intensive = true })) (flag_words (record f { cpu_intensive = false }) ++ codes "cpu_intensive" ∷ [])
+cpu_intensive_moved f = (end_further ((((word_if f.highpri (codes "highpri") ++ word_if f.unbound (codes "unbound")) ++ codes "cpu_intensive" ∷ [])) ++ word_if f.freezable (codes "freezable")) ((((word_if f.highpri (codes "highpri") ++ word_if f.unbound (codes "unbound")) ++ [])) ++ word_if f.freezable (codes "freezable")) (word_if f.ordered (codes "ordered")) (codes "cpu_intensive") (end_further (((word_if f.highpri (codes "highpri") ++ word_if f.unbound (codes "unbound")) ++ codes "cpu_intensive" ∷ [])) (((word_if f.highpri (codes "highpri") ++ word_if f.unbound (codes "unbound")) ++ [])) (word_if f.freezable (codes "freezable")) (codes "cpu_intensive") (subst (λ (front : List (List ℕ)). IsPermutation ((word_if f.highpri (codes "highpri") ++ word_if f.unbound (codes "unbound")) ++ codes "cpu_intensive" ∷ []) (front ++ codes "cpu_intensive" ∷ [])) (sym (append-nil (word_if f.highpri (codes "highpri") ++ word_if f.unbound (codes "unbound")))) (IsPermutation-refl ((word_if f.highpri (codes "highpri") ++ word_if f.unbound (codes "unbound")) ++ codes "cpu_intensive" ∷ [])))))
+
+freezable_moved : (f : Flags) → IsPermutation (flag_words (record f { freezable = true })) (flag_words (record f { freezable = false }) ++ codes "freezable" ∷ [])
+freezable_moved f = (end_further (((word_if f.highpri (codes "highpri") ++ word_if f.unbound (codes "unbound") ++ word_if f.cpu_intensive (codes "cpu_intensive")) ++ codes "freezable" ∷ [])) (((word_if f.highpri (codes "highpri") ++ word_if f.unbound (codes "unbound") ++ word_if f.cpu_intensive (codes "cpu_intensive")) ++ [])) (word_if f.ordered (codes "ordered")) (codes "freezable") (subst (λ (front : List (List ℕ)). IsPermutation ((word_if f.highpri (codes "highpri") ++ word_if f.unbound (codes "unbound") ++ word_if f.cpu_intensive (codes "cpu_intensive")) ++ codes "freezable" ∷ []) (front ++ codes "freezable" ∷ [])) (sym (append-nil (word_if f.highpri (codes "highpri") ++ word_if f.unbound (codes "unbound") ++ word_if f.cpu_intensive (codes "cpu_intensive")))) (IsPermutation-refl ((word_if f.highpri (codes "highpri") ++ word_if f.unbound (codes "unbound") ++ word_if f.cpu_intensive (codes "cpu_intensive")) ++ codes "freezable" ∷ []))))
+
+ordered_moved : (f : Flags) → IsPermutation (flag_words (record f { ordered = true })) (flag_words (record f { ordered = false }) ++ codes "ordered" ∷ [])
+ordered_moved f = (subst (λ (front : List (List ℕ)). IsPermutation ((word_if f.highpri (codes "highpri") ++ word_if f.unbound (codes "unbound") ++ word_if f.cpu_intensive (codes "cpu_intensive") ++ word_if f.freezable (codes "freezable")) ++ codes "ordered" ∷ []) (front ++ codes "ordered" ∷ [])) (sym (append-nil (word_if f.highpri (codes "highpri") ++ word_if f.unbound (codes "unbound") ++ word_if f.cpu_intensive (codes "cpu_intensive") ++ word_if f.freezable (codes "freezable")))) (IsPermutation-refl ((word_if f.highpri (codes "highpri") ++ word_if f.unbound (codes "unbound") ++ word_if f.cpu_intensive (codes "cpu_intensive") ++ word_if f.freezable (codes "freezable")) ++ codes "ordered" ∷ [])))
+
+-- the flags with one more
+AddsWord : Flags → List ℕ → Flags → Type 0
+AddsWord f word g = IsPermutation (flag_words g) (flag_words f ++ word ∷ [])
+
+set_highpri : (f g : Flags) (word : List ℕ) → bytes_eq word (codes "highpri") ≡ true → set_once f.highpri (record f { highpri = true }) ≡ Ok g → AddsWord f word g
+unfolding AddsWord
+set_highpri f g word is e =
+    let set : (not f.highpri ≡ true) × (record f { highpri = true } ≡ g) = value_if_ok (not f.highpri) (record f { highpri = true }) (why.Fault fault.Duplicate) g e in
+    let was : f.highpri ≡ false = not_true f.highpri set.0 in
+    let same : word ≡ codes "highpri" = same_word word (codes "highpri") is in
+    let before : flag_words (record f { highpri = false }) ≡ flag_words f = ap (λ (b : Bool). flag_words (record f { highpri = b })) (sym was) in
+    subst (λ (h : Flags). IsPermutation (flag_words h) (flag_words f ++ word ∷ [])) set.1
+    (subst (λ (w : List ℕ). IsPermutation (flag_words (record f { highpri = true })) (flag_words f ++ w ∷ [])) (sym same)
+    (subst (λ (ws : List (List ℕ)). IsPermutation (flag_words (record f { highpri = true })) (ws ++ codes "highpri" ∷ [])) before (highpri_moved f)))
+
+set_unbound : (f g : Flags) (word : List ℕ) → bytes_eq word (codes "unbound") ≡ true → set_once f.unbound (record f { unbound = true }) ≡ Ok g → AddsWord f word g
+unfolding AddsWord
+set_unbound f g word is e =
+    let set : (not f.unbound ≡ true) × (record f { unbound = true } ≡ g) = value_if_ok (not f.unbound) (record f { unbound = true }) (why.Fault fault.Duplicate) g e in
+    let was : f.unbound ≡ false = not_true f.unbound set.0 in
+    let same : word ≡ codes "unbound" = same_word word (codes "unbound") is in
+    let before : flag_words (record f { unbound = false }) ≡ flag_words f = ap (λ (b : Bool). flag_words (record f { unbound = b })) (sym was) in
+    subst (λ (h : Flags). IsPermutation (flag_words h) (flag_words f ++ word ∷ [])) set.1
+    (subst (λ (w : List ℕ). IsPermutation (flag_words (record f { unbound = true })) (flag_words f ++ w ∷ [])) (sym same)
+    (subst (λ (ws : List (List ℕ)). IsPermutation (flag_words (record f { unbound = true })) (ws ++ codes "unbound" ∷ [])) before (unbound_moved f)))
+
+set_cpu_intensive : (f g : Flags) (word : List ℕ) → bytes_eq word (codes "cpu_intensive") ≡ true → set_once f.cpu_intensive (record f { cpu_intensive = true }) ≡ Ok g → AddsWord f word g
+unfolding AddsWord
+set_cpu_intensive f g word is e =
+    let set : (not f.cpu_intensive ≡ true) × (record f { cpu_intensive = true } ≡ g) = value_if_ok (not f.cpu_intensive) (record f { cpu_intensive = true }) (why.Fault fault.Duplicate) g e in
+    let was : f.cpu_intensive ≡ false = not_true f.cpu_intensive set.0 in
+    let same : word ≡ codes "cpu_intensive" = same_word word (codes "cpu_intensive") is in
+    let before : flag_words (record f { cpu_intensive = false }) ≡ flag_words f = ap (λ (b : Bool). flag_words (record f { cpu_intensive = b })) (sym was) in
+    subst (λ (h : Flags). IsPermutation (flag_words h) (flag_words f ++ word ∷ [])) set.1
+    (subst (λ (w : List ℕ). IsPermutation (flag_words (record f { cpu_intensive = true })) (flag_words f ++ w ∷ [])) (sym same)
+    (subst (λ (ws : List (List ℕ)). IsPermutation (flag_words (record f { cpu_intensive = true })) (ws ++ codes "cpu_intensive" ∷ [])) before (cpu_intensive_moved f)))
+
+set_freezable : (f g : Flags) (word : List ℕ) → bytes_eq word (codes "freezable") ≡ true → set_once f.freezable (record f { freezable = true }) ≡ Ok g → AddsWord f word g
+unfolding AddsWord
+set_freezable f g word is e =
+    let set : (not f.freezable ≡ true) × (record f { freezable = true } ≡ g) = value_if_ok (not f.freezable) (record f { freezable = true }) (why.Fault fault.Duplicate) g e in
+    let was : f.freezable ≡ false = not_true f.freezable set.0 in
+    let same : word ≡ codes "freezable" = same_word word (codes "freezable") is in
+    let before : flag_words (record f { freezable = false }) ≡ flag_words f = ap (λ (b : Bool). flag_words (record f { freezable = b })) (sym was) in
+    subst (λ (h : Flags). IsPermutation (flag_words h) (flag_words f ++ word ∷ [])) set.1
+    (subst (λ (w : List ℕ). IsPermutation (flag_words (record f { freezable = true })) (flag_words f ++ w ∷ [])) (sym same)
+    (subst (λ (ws : List (List ℕ)). IsPermutation (flag_words (record f { freezable = true })) (ws ++ codes "freezable" ∷ [])) before (freezable_moved f)))
+
+set_ordered : (f g : Flags) (word : List ℕ) → bytes_eq word (codes "ordered") ≡ true → set_once f.ordered (record f { ordered = true }) ≡ Ok g → AddsWord f word g
+unfolding AddsWord
+set_ordered f g word is e =
+    let set : (not f.ordered ≡ true) × (record f { ordered = true } ≡ g) = value_if_ok (not f.ordered) (record f { ordered = true }) (why.Fault fault.Duplicate) g e in
+    let was : f.ordered ≡ false = not_true f.ordered set.0 in
+    let same : word ≡ codes "ordered" = same_word word (codes "ordered") is in
+    let before : flag_words (record f { ordered = false }) ≡ flag_words f = ap (λ (b : Bool). flag_words (record f { ordered = b })) (sym was) in
+    subst (λ (h : Flags). IsPermutation (flag_words h) (flag_words f ++ word ∷ [])) set.1
+    (subst (λ (w : List ℕ). IsPermutation (flag_words (record f { ordered = true })) (flag_words f ++ w ∷ [])) (sym same)
+    (subst (λ (ws : List (List ℕ)). IsPermutation (flag_words (record f { ordered = true })) (ws ++ codes "ordered" ∷ [])) before (ordered_moved f)))
+
+abbrev no_flag : Result Flags Why
+no_flag = Err why.BadWord
+
+absurd_flag : (g : Flags) {A : Type 0} → no_flag ≡ Ok g → A
+absurd_flag g e = cc
+
+flag_read : (f g : Flags) (word : List ℕ) → add_flag f word ≡ Ok g → AddsWord f word g
+unfolding add_flag
+flag_read f g word e =
+    elim (chosen (bytes_eq word (codes "highpri")) (set_once f.highpri (record f { highpri = true })) (cond (bytes_eq word (codes "unbound")) (set_once f.unbound (record f { unbound = true })) (cond (bytes_eq word (codes "cpu_intensive")) (set_once f.cpu_intensive (record f { cpu_intensive = true })) (cond (bytes_eq word (codes "freezable")) (set_once f.freezable (record f { freezable = true })) (cond (bytes_eq word (codes "ordered")) (set_once f.ordered (record f { ordered = true })) no_flag)))) (Ok g) e) [
+    inl it ↦ set_highpri f g word it.0 it.1
+    | inr no0 ↦ elim (chosen (bytes_eq word (codes "unbound")) (set_once f.unbound (record f { unbound = true })) (cond (bytes_eq word (codes "cpu_intensive")) (set_once f.cpu_intensive (record f { cpu_intensive = true })) (cond (bytes_eq word (codes "freezable")) (set_once f.freezable (record f { freezable = true })) (cond (bytes_eq word (codes "ordered")) (set_once f.ordered (record f { ordered = true })) no_flag))) (Ok g) no0.1) [
+    inl it ↦ set_unbound f g word it.0 it.1
+    | inr no1 ↦ elim (chosen (bytes_eq word (codes "cpu_intensive")) (set_once f.cpu_intensive (record f { cpu_intensive = true })) (cond (bytes_eq word (codes "freezable")) (set_once f.freezable (record f { freezable = true })) (cond (bytes_eq word (codes "ordered")) (set_once f.ordered (record f { ordered = true })) no_flag)) (Ok g) no1.1) [
+    inl it ↦ set_cpu_intensive f g word it.0 it.1
+    | inr no2 ↦ elim (chosen (bytes_eq word (codes "freezable")) (set_once f.freezable (record f { freezable = true })) (cond (bytes_eq word (codes "ordered")) (set_once f.ordered (record f { ordered = true })) no_flag) (Ok g) no2.1) [
+    inl it ↦ set_freezable f g word it.0 it.1
+    | inr no3 ↦ elim (chosen (bytes_eq word (codes "ordered")) (set_once f.ordered (record f { ordered = true })) no_flag (Ok g) no3.1) [
+    inl it ↦ set_ordered f g word it.0 it.1
+    | inr no4 ↦ absurd_flag g no4.1 ] ] ] ] ]
+
+pub flags_read_from : (words : List (List ℕ)) (f g : Flags) → flags_at words f ≡ Ok g → IsPermutation (flag_words g) (flag_words f ++ words)
+unfolding flags_at AddsWord
+flags_read_from [] f g e =
+    let same : f ≡ g = cc in
+    subst (λ (h : Flags). IsPermutation (flag_words h) (flag_words f ++ [])) same
+    (subst (λ (ws : List (List ℕ)). IsPermutation (flag_words f) ws) (sym (append-nil (flag_words f))) (IsPermutation-refl (flag_words f)))
+flags_read_from (word ∷ rest) f g e =
+    let there : (h : Flags) × (add_flag f word ≡ Ok h) × (flags_at rest h ≡ Ok g) = bind_ok (add_flag f word) (flags_at rest) g e in
+    let here : IsPermutation (flag_words there.0) (flag_words f ++ word ∷ []) = flag_read f there.0 word there.1 in
+    let later : IsPermutation (flag_words g) (flag_words there.0 ++ rest) = flags_read_from rest there.0 g there.2 in
+    let joined : IsPermutation (flag_words there.0 ++ rest) ((flag_words f ++ word ∷ []) ++ rest) = IsPermutation-append_left rest (flag_words there.0) (flag_words f ++ word ∷ []) here in
+    subst (λ (ws : List (List ℕ)). IsPermutation (flag_words g) ws) (append_assoc (flag_words f) (word ∷ []) rest)
+    (IsPermutation-trans (flag_words g) (flag_words there.0 ++ rest) ((flag_words f ++ word ∷ []) ++ rest) later joined)
+
+pub flags_read : (words : List (List ℕ)) (g : Flags) → flags_at words plain_flags ≡ Ok g → IsPermutation (flag_words g) words
+flags_read words g e = flags_read_from words plain_flags g e
+
+-- Again: each flag stands as often in the words as in the flags.
+
+bit : Bool → ℕ
+bit b = cond b 1 0
+
+weight : List ℕ → List ℕ → ℕ
+weight x word = cond (bytes_eq word x) 1 0
+
+abbrev is_flag : List ℕ → Bool
+is_flag word = bytes_eq word (codes "highpri") || bytes_eq word (codes "unbound") || bytes_eq word (codes "cpu_intensive") || bytes_eq word (codes "freezable") || bytes_eq word (codes "ordered")
+
+other : List ℕ → ℕ
+other word = cond (is_flag word) 0 1
+
+count : (List ℕ → ℕ) → List (List ℕ) → ℕ
+count of [] = 0
+count of (word ∷ words) = of word + count of words
+
+count_is : (of : List ℕ → ℕ) (words : List (List ℕ)) → count of words ≡ sum_by of words
+unfolding count
+count_is of [] = refl
+count_is of (word ∷ words) = ap (λ (n : ℕ). of word + n) (count_is of words) ∙ sym (sum_by-cons of word words)
+
+count_permuted : (of : List ℕ → ℕ) (words other_words : List (List ℕ)) → IsPermutation words other_words → count of other_words ≡ count of words
+count_permuted of words other_words h = count_is of other_words ∙ sum_by-IsPermutation of words other_words h ∙ sym (count_is of words)
+
+record Tally (words : List (List ℕ)) (f g : Flags) : Type 0 where
+  highpri : bit f.highpri + count (weight (codes "highpri")) words ≡ bit g.highpri
+  unbound : bit f.unbound + count (weight (codes "unbound")) words ≡ bit g.unbound
+  cpu_intensive : bit f.cpu_intensive + count (weight (codes "cpu_intensive")) words ≡ bit g.cpu_intensive
+  freezable : bit f.freezable + count (weight (codes "freezable")) words ≡ bit g.freezable
+  ordered : bit f.ordered + count (weight (codes "ordered")) words ≡ bit g.ordered
+  others : count other words ≡ 0
+
+bit_at_most_one : (b : Bool) → bit b ≤ 1
+unfolding bit
+bit_at_most_one true = omega arith
+bit_at_most_one false = omega arith
+
+same_bit : (a b : Bool) → bit a ≡ bit b → a ≡ b
+unfolding bit
+same_bit true true e = refl
+same_bit true false e = absurd (omega arith)
+same_bit false true e = absurd (omega arith)
+same_bit false false e = refl
+
+unset : (b : Bool) (n m : ℕ) → bit b + suc n ≡ m → m ≤ 1 → b ≡ false
+unfolding bit
+unset true n m e small = absurd (omega arith)
+unset false n m e small = refl
+
+abbrev flags_of : Bool → Bool → Bool → Bool → Bool → Flags
+flags_of a b c d e = record { highpri = a; unbound = b; cpu_intensive = c; freezable = d; ordered = e }
+
+same_flags : (f g : Flags) → f.highpri ≡ g.highpri → f.unbound ≡ g.unbound → f.cpu_intensive ≡ g.cpu_intensive → f.freezable ≡ g.freezable → f.ordered ≡ g.ordered → f ≡ g
+same_flags f g highpri unbound cpu_intensive freezable ordered =
+    ap (λ (x : Bool). (flags_of x f.unbound f.cpu_intensive f.freezable f.ordered)) highpri
+    ∙ ap (λ (x : Bool). (flags_of g.highpri x f.cpu_intensive f.freezable f.ordered)) unbound
+    ∙ ap (λ (x : Bool). (flags_of g.highpri g.unbound x f.freezable f.ordered)) cpu_intensive
+    ∙ ap (λ (x : Bool). (flags_of g.highpri g.unbound g.cpu_intensive x f.ordered)) freezable
+    ∙ ap (λ (x : Bool). (flags_of g.highpri g.unbound g.cpu_intensive g.freezable x)) ordered
+
+add_highpri : (f : Flags) (word : List ℕ) → word ≡ codes "highpri" → f.highpri ≡ false → add_flag f word ≡ Ok (record f { highpri = true })
+unfolding add_flag
+add_highpri f word is was = ap (add_flag f) is ∙ value_if_at (not f.highpri) (record f { highpri = true }) (why.Fault fault.Duplicate) (ap not was)
+
+tally_highpri : (word : List ℕ) (words : List (List ℕ)) (f g : Flags) → word ≡ codes "highpri" → Tally (word ∷ words) f g → (f.highpri ≡ false) × Tally words (record f { highpri = true }) g
+unfolding count bit weight other
+tally_highpri word words f g is t =
+    let at_highpri : weight (codes "highpri") word ≡ 1 = ap (weight (codes "highpri")) is in
+    let at_unbound : weight (codes "unbound") word ≡ 0 = ap (weight (codes "unbound")) is in
+    let at_cpu_intensive : weight (codes "cpu_intensive") word ≡ 0 = ap (weight (codes "cpu_intensive")) is in
+    let at_freezable : weight (codes "freezable") word ≡ 0 = ap (weight (codes "freezable")) is in
+    let at_ordered : weight (codes "ordered") word ≡ 0 = ap (weight (codes "ordered")) is in
+    let at_other : other word ≡ 0 = ap other is in
+    let was : f.highpri ≡ false = unset f.highpri (count (weight (codes "highpri")) words) (bit g.highpri) (omega (arith, t.highpri)) (bit_at_most_one g.highpri) in
+    let was_bit : bit f.highpri ≡ 0 = ap bit was in
+    (was, record {
+      highpri = omega (arith, t.highpri);
+      unbound = omega (arith, t.unbound);
+      cpu_intensive = omega (arith, t.cpu_intensive);
+      freezable = omega (arith, t.freezable);
+      ordered = omega (arith, t.ordered);
+      others = omega (arith, t.others);
+    })
+
+add_unbound : (f : Flags) (word : List ℕ) → word ≡ codes "unbound" → f.unbound ≡ false → add_flag f word ≡ Ok (record f { unbound = true })
+unfolding add_flag
+add_unbound f word is was = ap (add_flag f) is ∙ value_if_at (not f.unbound) (record f { unbound = true }) (why.Fault fault.Duplicate) (ap not was)
+
+tally_unbound : (word : List ℕ) (words : List (List ℕ)) (f g : Flags) → word ≡ codes "unbound" → Tally (word ∷ words) f g → (f.unbound ≡ false) × Tally words (record f { unbound = true }) g
+unfolding count bit weight other
+tally_unbound word words f g is t =
+    let at_highpri : weight (codes "highpri") word ≡ 0 = ap (weight (codes "highpri")) is in
+    let at_unbound : weight (codes "unbound") word ≡ 1 = ap (weight (codes "unbound")) is in
+    let at_cpu_intensive : weight (codes "cpu_intensive") word ≡ 0 = ap (weight (codes "cpu_intensive")) is in
+    let at_freezable : weight (codes "freezable") word ≡ 0 = ap (weight (codes "freezable")) is in
+    let at_ordered : weight (codes "ordered") word ≡ 0 = ap (weight (codes "ordered")) is in
+    let at_other : other word ≡ 0 = ap other is in
+    let was : f.unbound ≡ false = unset f.unbound (count (weight (codes "unbound")) words) (bit g.unbound) (omega (arith, t.unbound)) (bit_at_most_one g.unbound) in
+    let was_bit : bit f.unbound ≡ 0 = ap bit was in
+    (was, record {
+      highpri = omega (arith, t.highpri);
+      unbound = omega (arith, t.unbound);
+      cpu_intensive = omega (arith, t.cpu_intensive);
+      freezable = omega (arith, t.freezable);
+      ordered = omega (arith, t.ordered);
+      others = omega (arith, t.others);
+    })
+
+add_cpu_intensive : (f : Flags) (word : List ℕ) → word ≡ codes "cpu_intensive" → f.cpu_intensive ≡ false → add_flag f word ≡ Ok (record f { cpu_intensive = true })
+unfolding add_flag
+add_cpu_intensive f word is was = ap (add_flag f) is ∙ value_if_at (not f.cpu_intensive) (record f { cpu_intensive = true }) (why.Fault fault.Duplicate) (ap not was)
+
+tally_cpu_intensive : (word : List ℕ) (words : List (List ℕ)) (f g : Flags) → word ≡ codes "cpu_intensive" → Tally (word ∷ words) f g → (f.cpu_intensive ≡ false) × Tally words (record f { cpu_intensive = true }) g
+unfolding count bit weight other
+tally_cpu_intensive word words f g is t =
+    let at_highpri : weight (codes "highpri") word ≡ 0 = ap (weight (codes "highpri")) is in
+    let at_unbound : weight (codes "unbound") word ≡ 0 = ap (weight (codes "unbound")) is in
+    let at_cpu_intensive : weight (codes "cpu_intensive") word ≡ 1 = ap (weight (codes "cpu_intensive")) is in
+    let at_freezable : weight (codes "freezable") word ≡ 0 = ap (weight (codes "freezable")) is in
+    let at_ordered : weight (codes "ordered") word ≡ 0 = ap (weight (codes "ordered")) is in
+    let at_other : other word ≡ 0 = ap other is in
+    let was : f.cpu_intensive ≡ false = unset f.cpu_intensive (count (weight (codes "cpu_intensive")) words) (bit g.cpu_intensive) (omega (arith, t.cpu_intensive)) (bit_at_most_one g.cpu_intensive) in
+    let was_bit : bit f.cpu_intensive ≡ 0 = ap bit was in
+    (was, record {
+      highpri = omega (arith, t.highpri);
+      unbound = omega (arith, t.unbound);
+      cpu_intensive = omega (arith, t.cpu_intensive);
+      freezable = omega (arith, t.freezable);
+      ordered = omega (arith, t.ordered);
+      others = omega (arith, t.others);
+    })
+
+add_freezable : (f : Flags) (word : List ℕ) → word ≡ codes "freezable" → f.freezable ≡ false → add_flag f word ≡ Ok (record f { freezable = true })
+unfolding add_flag
+add_freezable f word is was = ap (add_flag f) is ∙ value_if_at (not f.freezable) (record f { freezable = true }) (why.Fault fault.Duplicate) (ap not was)
+
+tally_freezable : (word : List ℕ) (words : List (List ℕ)) (f g : Flags) → word ≡ codes "freezable" → Tally (word ∷ words) f g → (f.freezable ≡ false) × Tally words (record f { freezable = true }) g
+unfolding count bit weight other
+tally_freezable word words f g is t =
+    let at_highpri : weight (codes "highpri") word ≡ 0 = ap (weight (codes "highpri")) is in
+    let at_unbound : weight (codes "unbound") word ≡ 0 = ap (weight (codes "unbound")) is in
+    let at_cpu_intensive : weight (codes "cpu_intensive") word ≡ 0 = ap (weight (codes "cpu_intensive")) is in
+    let at_freezable : weight (codes "freezable") word ≡ 1 = ap (weight (codes "freezable")) is in
+    let at_ordered : weight (codes "ordered") word ≡ 0 = ap (weight (codes "ordered")) is in
+    let at_other : other word ≡ 0 = ap other is in
+    let was : f.freezable ≡ false = unset f.freezable (count (weight (codes "freezable")) words) (bit g.freezable) (omega (arith, t.freezable)) (bit_at_most_one g.freezable) in
+    let was_bit : bit f.freezable ≡ 0 = ap bit was in
+    (was, record {
+      highpri = omega (arith, t.highpri);
+      unbound = omega (arith, t.unbound);
+      cpu_intensive = omega (arith, t.cpu_intensive);
+      freezable = omega (arith, t.freezable);
+      ordered = omega (arith, t.ordered);
+      others = omega (arith, t.others);
+    })
+
+add_ordered : (f : Flags) (word : List ℕ) → word ≡ codes "ordered" → f.ordered ≡ false → add_flag f word ≡ Ok (record f { ordered = true })
+unfolding add_flag
+add_ordered f word is was = ap (add_flag f) is ∙ value_if_at (not f.ordered) (record f { ordered = true }) (why.Fault fault.Duplicate) (ap not was)
+
+tally_ordered : (word : List ℕ) (words : List (List ℕ)) (f g : Flags) → word ≡ codes "ordered" → Tally (word ∷ words) f g → (f.ordered ≡ false) × Tally words (record f { ordered = true }) g
+unfolding count bit weight other
+tally_ordered word words f g is t =
+    let at_highpri : weight (codes "highpri") word ≡ 0 = ap (weight (codes "highpri")) is in
+    let at_unbound : weight (codes "unbound") word ≡ 0 = ap (weight (codes "unbound")) is in
+    let at_cpu_intensive : weight (codes "cpu_intensive") word ≡ 0 = ap (weight (codes "cpu_intensive")) is in
+    let at_freezable : weight (codes "freezable") word ≡ 0 = ap (weight (codes "freezable")) is in
+    let at_ordered : weight (codes "ordered") word ≡ 1 = ap (weight (codes "ordered")) is in
+    let at_other : other word ≡ 0 = ap other is in
+    let was : f.ordered ≡ false = unset f.ordered (count (weight (codes "ordered")) words) (bit g.ordered) (omega (arith, t.ordered)) (bit_at_most_one g.ordered) in
+    let was_bit : bit f.ordered ≡ 0 = ap bit was in
+    (was, record {
+      highpri = omega (arith, t.highpri);
+      unbound = omega (arith, t.unbound);
+      cpu_intensive = omega (arith, t.cpu_intensive);
+      freezable = omega (arith, t.freezable);
+      ordered = omega (arith, t.ordered);
+      others = omega (arith, t.others);
+    })
+
+not_other : (word : List ℕ) (words : List (List ℕ)) (f g : Flags) → bytes_eq word (codes "highpri") ≡ false → bytes_eq word (codes "unbound") ≡ false → bytes_eq word (codes "cpu_intensive") ≡ false → bytes_eq word (codes "freezable") ≡ false → bytes_eq word (codes "ordered") ≡ false → Tally (word ∷ words) f g → ⊥
+unfolding count other
+not_other word words f g no0 no1 no2 no3 no4 t =
+    let none : is_flag word ≡ false = all_no (bytes_eq word (codes "highpri")) (bytes_eq word (codes "unbound")) (bytes_eq word (codes "cpu_intensive")) (bytes_eq word (codes "freezable")) (bytes_eq word (codes "ordered")) no0 no1 no2 no3 no4 in
+    let one : other word ≡ 1 = ap (λ (b : Bool). cond b 0 1) none in
+    omega (arith, t.others)
+  where
+    all_no : (a b c d e : Bool) → a ≡ false → b ≡ false → c ≡ false → d ≡ false → e ≡ false → (a || b || c || d || e) ≡ false
+    all_no a b c d e p q r s t = cc
+
+flags_again_from : (words : List (List ℕ)) (f g : Flags) → Tally words f g → flags_at words f ≡ Ok g
+unfolding flags_at count
+flags_again_from [] f g t =
+    ap Ok (same_flags f g (same_bit f.highpri g.highpri (omega (arith, t.highpri))) (same_bit f.unbound g.unbound (omega (arith, t.unbound))) (same_bit f.cpu_intensive g.cpu_intensive (omega (arith, t.cpu_intensive))) (same_bit f.freezable g.freezable (omega (arith, t.freezable))) (same_bit f.ordered g.ordered (omega (arith, t.ordered))))
+flags_again_from (word ∷ words) f g t =
+    elim (either (bytes_eq word (codes "highpri"))) [
+    inl it ↦ (let is : word ≡ codes "highpri" = same_word word (codes "highpri") it in
+      let told : (f.highpri ≡ false) × Tally words (record f { highpri = true }) g = tally_highpri word words f g is t in
+      bind_at (add_flag f word) (flags_at words) (record f { highpri = true }) (add_highpri f word is told.0) ∙ flags_again_from words (record f { highpri = true }) g told.1)
+    | inr no0 ↦ elim (either (bytes_eq word (codes "unbound"))) [
+    inl it ↦ (let is : word ≡ codes "unbound" = same_word word (codes "unbound") it in
+      let told : (f.unbound ≡ false) × Tally words (record f { unbound = true }) g = tally_unbound word words f g is t in
+      bind_at (add_flag f word) (flags_at words) (record f { unbound = true }) (add_unbound f word is told.0) ∙ flags_again_from words (record f { unbound = true }) g told.1)
+    | inr no1 ↦ elim (either (bytes_eq word (codes "cpu_intensive"))) [
+    inl it ↦ (let is : word ≡ codes "cpu_intensive" = same_word word (codes "cpu_intensive") it in
+      let told : (f.cpu_intensive ≡ false) × Tally words (record f { cpu_intensive = true }) g = tally_cpu_intensive word words f g is t in
+      bind_at (add_flag f word) (flags_at words) (record f { cpu_intensive = true }) (add_cpu_intensive f word is told.0) ∙ flags_again_from words (record f { cpu_intensive = true }) g told.1)
+    | inr no2 ↦ elim (either (bytes_eq word (codes "freezable"))) [
+    inl it ↦ (let is : word ≡ codes "freezable" = same_word word (codes "freezable") it in
+      let told : (f.freezable ≡ false) × Tally words (record f { freezable = true }) g = tally_freezable word words f g is t in
+      bind_at (add_flag f word) (flags_at words) (record f { freezable = true }) (add_freezable f word is told.0) ∙ flags_again_from words (record f { freezable = true }) g told.1)
+    | inr no3 ↦ elim (either (bytes_eq word (codes "ordered"))) [
+    inl it ↦ (let is : word ≡ codes "ordered" = same_word word (codes "ordered") it in
+      let told : (f.ordered ≡ false) × Tally words (record f { ordered = true }) g = tally_ordered word words f g is t in
+      bind_at (add_flag f word) (flags_at words) (record f { ordered = true }) (add_ordered f word is told.0) ∙ flags_again_from words (record f { ordered = true }) g told.1)
+    | inr no4 ↦ absurd (not_other word words f g no0 no1 no2 no3 no4 t) ] ] ] ] ]
+
+counts_highpri : (a b c d e : Bool) → count (weight (codes "highpri")) (flag_words (record { highpri = a; unbound = b; cpu_intensive = c; freezable = d; ordered = e })) ≡ bit a
+unfolding count weight bit other
+counts_highpri true true true true true = refl
+counts_highpri true true true true false = refl
+counts_highpri true true true false true = refl
+counts_highpri true true true false false = refl
+counts_highpri true true false true true = refl
+counts_highpri true true false true false = refl
+counts_highpri true true false false true = refl
+counts_highpri true true false false false = refl
+counts_highpri true false true true true = refl
+counts_highpri true false true true false = refl
+counts_highpri true false true false true = refl
+counts_highpri true false true false false = refl
+counts_highpri true false false true true = refl
+counts_highpri true false false true false = refl
+counts_highpri true false false false true = refl
+counts_highpri true false false false false = refl
+counts_highpri false true true true true = refl
+counts_highpri false true true true false = refl
+counts_highpri false true true false true = refl
+counts_highpri false true true false false = refl
+counts_highpri false true false true true = refl
+counts_highpri false true false true false = refl
+counts_highpri false true false false true = refl
+counts_highpri false true false false false = refl
+counts_highpri false false true true true = refl
+counts_highpri false false true true false = refl
+counts_highpri false false true false true = refl
+counts_highpri false false true false false = refl
+counts_highpri false false false true true = refl
+counts_highpri false false false true false = refl
+counts_highpri false false false false true = refl
+counts_highpri false false false false false = refl
+
+counts_unbound : (a b c d e : Bool) → count (weight (codes "unbound")) (flag_words (record { highpri = a; unbound = b; cpu_intensive = c; freezable = d; ordered = e })) ≡ bit b
+unfolding count weight bit other
+counts_unbound true true true true true = refl
+counts_unbound true true true true false = refl
+counts_unbound true true true false true = refl
+counts_unbound true true true false false = refl
+counts_unbound true true false true true = refl
+counts_unbound true true false true false = refl
+counts_unbound true true false false true = refl
+counts_unbound true true false false false = refl
+counts_unbound true false true true true = refl
+counts_unbound true false true true false = refl
+counts_unbound true false true false true = refl
+counts_unbound true false true false false = refl
+counts_unbound true false false true true = refl
+counts_unbound true false false true false = refl
+counts_unbound true false false false true = refl
+counts_unbound true false false false false = refl
+counts_unbound false true true true true = refl
+counts_unbound false true true true false = refl
+counts_unbound false true true false true = refl
+counts_unbound false true true false false = refl
+counts_unbound false true false true true = refl
+counts_unbound false true false true false = refl
+counts_unbound false true false false true = refl
+counts_unbound false true false false false = refl
+counts_unbound false false true true true = refl
+counts_unbound false false true true false = refl
+counts_unbound false false true false true = refl
+counts_unbound false false true false false = refl
+counts_unbound false false false true true = refl
+counts_unbound false false false true false = refl
+counts_unbound false false false false true = refl
+counts_unbound false false false false false = refl
+
+counts_cpu_intensive : (a b c d e : Bool) → count (weight (codes "cpu_intensive")) (flag_words (record { highpri = a; unbound = b; cpu_intensive = c; freezable = d; ordered = e })) ≡ bit c
+unfolding count weight bit other
+counts_cpu_intensive true true true true true = refl
+counts_cpu_intensive true true true true false = refl
+counts_cpu_intensive true true true false true = refl
+counts_cpu_intensive true true true false false = refl
+counts_cpu_intensive true true false true true = refl
+counts_cpu_intensive true true false true false = refl
+counts_cpu_intensive true true false false true = refl
+counts_cpu_intensive true true false false false = refl
+counts_cpu_intensive true false true true true = refl
+counts_cpu_intensive true false true true false = refl
+counts_cpu_intensive true false true false true = refl
+counts_cpu_intensive true false true false false = refl
+counts_cpu_intensive true false false true true = refl
+counts_cpu_intensive true false false true false = refl
+counts_cpu_intensive true false false false true = refl
+counts_cpu_intensive true false false false false = refl
+counts_cpu_intensive false true true true true = refl
+counts_cpu_intensive false true true true false = refl
+counts_cpu_intensive false true true false true = refl
+counts_cpu_intensive false true true false false = refl
+counts_cpu_intensive false true false true true = refl
+counts_cpu_intensive false true false true false = refl
+counts_cpu_intensive false true false false true = refl
+counts_cpu_intensive false true false false false = refl
+counts_cpu_intensive false false true true true = refl
+counts_cpu_intensive false false true true false = refl
+counts_cpu_intensive false false true false true = refl
+counts_cpu_intensive false false true false false = refl
+counts_cpu_intensive false false false true true = refl
+counts_cpu_intensive false false false true false = refl
+counts_cpu_intensive false false false false true = refl
+counts_cpu_intensive false false false false false = refl
+
+counts_freezable : (a b c d e : Bool) → count (weight (codes "freezable")) (flag_words (record { highpri = a; unbound = b; cpu_intensive = c; freezable = d; ordered = e })) ≡ bit d
+unfolding count weight bit other
+counts_freezable true true true true true = refl
+counts_freezable true true true true false = refl
+counts_freezable true true true false true = refl
+counts_freezable true true true false false = refl
+counts_freezable true true false true true = refl
+counts_freezable true true false true false = refl
+counts_freezable true true false false true = refl
+counts_freezable true true false false false = refl
+counts_freezable true false true true true = refl
+counts_freezable true false true true false = refl
+counts_freezable true false true false true = refl
+counts_freezable true false true false false = refl
+counts_freezable true false false true true = refl
+counts_freezable true false false true false = refl
+counts_freezable true false false false true = refl
+counts_freezable true false false false false = refl
+counts_freezable false true true true true = refl
+counts_freezable false true true true false = refl
+counts_freezable false true true false true = refl
+counts_freezable false true true false false = refl
+counts_freezable false true false true true = refl
+counts_freezable false true false true false = refl
+counts_freezable false true false false true = refl
+counts_freezable false true false false false = refl
+counts_freezable false false true true true = refl
+counts_freezable false false true true false = refl
+counts_freezable false false true false true = refl
+counts_freezable false false true false false = refl
+counts_freezable false false false true true = refl
+counts_freezable false false false true false = refl
+counts_freezable false false false false true = refl
+counts_freezable false false false false false = refl
+
+counts_ordered : (a b c d e : Bool) → count (weight (codes "ordered")) (flag_words (record { highpri = a; unbound = b; cpu_intensive = c; freezable = d; ordered = e })) ≡ bit e
+unfolding count weight bit other
+counts_ordered true true true true true = refl
+counts_ordered true true true true false = refl
+counts_ordered true true true false true = refl
+counts_ordered true true true false false = refl
+counts_ordered true true false true true = refl
+counts_ordered true true false true false = refl
+counts_ordered true true false false true = refl
+counts_ordered true true false false false = refl
+counts_ordered true false true true true = refl
+counts_ordered true false true true false = refl
+counts_ordered true false true false true = refl
+counts_ordered true false true false false = refl
+counts_ordered true false false true true = refl
+counts_ordered true false false true false = refl
+counts_ordered true false false false true = refl
+counts_ordered true false false false false = refl
+counts_ordered false true true true true = refl
+counts_ordered false true true true false = refl
+counts_ordered false true true false true = refl
+counts_ordered false true true false false = refl
+counts_ordered false true false true true = refl
+counts_ordered false true false true false = refl
+counts_ordered false true false false true = refl
+counts_ordered false true false false false = refl
+counts_ordered false false true true true = refl
+counts_ordered false false true true false = refl
+counts_ordered false false true false true = refl
+counts_ordered false false true false false = refl
+counts_ordered false false false true true = refl
+counts_ordered false false false true false = refl
+counts_ordered false false false false true = refl
+counts_ordered false false false false false = refl
+
+counts_other : (a b c d e : Bool) → count (other) (flag_words (record { highpri = a; unbound = b; cpu_intensive = c; freezable = d; ordered = e })) ≡ 0
+unfolding count weight bit other
+counts_other true true true true true = refl
+counts_other true true true true false = refl
+counts_other true true true false true = refl
+counts_other true true true false false = refl
+counts_other true true false true true = refl
+counts_other true true false true false = refl
+counts_other true true false false true = refl
+counts_other true true false false false = refl
+counts_other true false true true true = refl
+counts_other true false true true false = refl
+counts_other true false true false true = refl
+counts_other true false true false false = refl
+counts_other true false false true true = refl
+counts_other true false false true false = refl
+counts_other true false false false true = refl
+counts_other true false false false false = refl
+counts_other false true true true true = refl
+counts_other false true true true false = refl
+counts_other false true true false true = refl
+counts_other false true true false false = refl
+counts_other false true false true true = refl
+counts_other false true false true false = refl
+counts_other false true false false true = refl
+counts_other false true false false false = refl
+counts_other false false true true true = refl
+counts_other false false true true false = refl
+counts_other false false true false true = refl
+counts_other false false true false false = refl
+counts_other false false false true true = refl
+counts_other false false false true false = refl
+counts_other false false false false true = refl
+counts_other false false false false false = refl
+
+tally_of : (g : Flags) (words : List (List ℕ)) → IsPermutation (flag_words g) words → Tally words plain_flags g
+unfolding bit
+tally_of g words h = record {
+  highpri = (let e : count (weight (codes "highpri")) words ≡ bit g.highpri = count_permuted (weight (codes "highpri")) (flag_words g) words h ∙ counts_highpri g.highpri g.unbound g.cpu_intensive g.freezable g.ordered in omega arith);
+  unbound = (let e : count (weight (codes "unbound")) words ≡ bit g.unbound = count_permuted (weight (codes "unbound")) (flag_words g) words h ∙ counts_unbound g.highpri g.unbound g.cpu_intensive g.freezable g.ordered in omega arith);
+  cpu_intensive = (let e : count (weight (codes "cpu_intensive")) words ≡ bit g.cpu_intensive = count_permuted (weight (codes "cpu_intensive")) (flag_words g) words h ∙ counts_cpu_intensive g.highpri g.unbound g.cpu_intensive g.freezable g.ordered in omega arith);
+  freezable = (let e : count (weight (codes "freezable")) words ≡ bit g.freezable = count_permuted (weight (codes "freezable")) (flag_words g) words h ∙ counts_freezable g.highpri g.unbound g.cpu_intensive g.freezable g.ordered in omega arith);
+  ordered = (let e : count (weight (codes "ordered")) words ≡ bit g.ordered = count_permuted (weight (codes "ordered")) (flag_words g) words h ∙ counts_ordered g.highpri g.unbound g.cpu_intensive g.freezable g.ordered in omega arith);
+  others = count_permuted other (flag_words g) words h ∙ counts_other g.highpri g.unbound g.cpu_intensive g.freezable g.ordered;
+}
+
+pub flags_again : (g : Flags) (words : List (List ℕ)) → IsPermutation (flag_words g) words → flags_at words plain_flags ≡ Ok g
+flags_again g words h = flags_again_from words plain_flags g (tally_of g words h)
