@@ -6,6 +6,13 @@ use Rattle.std.specs.Cmp.Lexicographic.{bytes_decides}
 use Rattle.std.specs.List.{list_all, list_any, position, position_or_len}
 use Rattle.std.specs.Str.{bytes_eq}
 use Rattle.cmwq_grammar.specs.Fields.{◌>>=◌, value_if}
+use Rattle.cmwq_grammar.specs.declared.why.Why.{Why}
+
+abbrev pub fine : {A : Type 0} → A → Result A Why
+fine x = Ok x
+
+pub ok_same : {A : Type 0} (x y : A) → fine x ≡ fine y → x ≡ y
+ok_same x y e = cc
 
 -- what went on had a value
 pub bind_ok : {A B E : Type 0} (r : Result A E) (next : A → Result B E) (y : B) → (r >>= next) ≡ Ok y → (x : A) × (r ≡ Ok x) × (next x ≡ Ok y)

@@ -1,3 +1,5 @@
 mod Basics
 mod FieldLemmas
 mod FlagLemmas
+mod LineLemmas
+mod NameLists
