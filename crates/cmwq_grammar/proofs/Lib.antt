@@ -1,5 +1,6 @@
 mod Basics
 mod FieldLemmas
 mod FlagLemmas
+mod InstrLemmas
 mod LineLemmas
 mod NameLists
