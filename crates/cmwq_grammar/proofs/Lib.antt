@@ -1,6 +1,7 @@
 mod Basics
 mod FieldLemmas
 mod FlagLemmas
+mod GoodScenario
 mod InstrLemmas
 mod LineLemmas
 mod NameLists
