@@ -1,4 +1,6 @@
 mod Basics
+mod Continuations
+mod Events
 mod FieldLemmas
 mod FlagLemmas
 mod GoodScenario
