@@ -7,3 +7,4 @@ mod GoodScenario
 mod InstrLemmas
 mod LineLemmas
 mod NameLists
+mod Soundness
