@@ -7,4 +7,6 @@ mod GoodScenario
 mod InstrLemmas
 mod LineLemmas
 mod NameLists
+mod SameLines
 mod Soundness
+mod StepRead
