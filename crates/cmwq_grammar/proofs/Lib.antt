@@ -10,3 +10,4 @@ mod NameLists
 mod SameLines
 mod Soundness
 mod StepRead
+mod StepSaid

@@ -183,7 +183,7 @@ work_said D rest next sound added =
 -- Bodies.
 
 -- the name of the next work
-next_name : (D S : ScenarioContents) (done : List WorkContents) (work : WorkContents) (more : List WorkContents) → S.works ≡ done ++ work ∷ more → D.works ≡ map bare S.works → get_or (work_names D) (length done) [] ≡ work.name
+pub next_name : (D S : ScenarioContents) (done : List WorkContents) (work : WorkContents) (more : List WorkContents) → S.works ≡ done ++ work ∷ more → D.works ≡ map bare S.works → get_or (work_names D) (length done) [] ≡ work.name
 next_name D S done work more works declared =
     ap (λ (ns : List (List ℕ)). get_or ns (length done) []) (same_work_names D S declared ∙ ap (map (λ (w : WorkContents). w.name)) works ∙ map-append (λ (w : WorkContents). w.name) done (work ∷ more))
     ∙ get_or_at (map (λ (w : WorkContents). w.name) done) work.name (map (λ w. w.name) more) [] (length done) (length-map done (λ w. w.name))
