@@ -7,7 +7,10 @@ mod GoodScenario
 mod InstrLemmas
 mod LineLemmas
 mod NameLists
+mod ReadingLemmas
 mod SameLines
 mod Soundness
+mod SpellingLemmas
 mod StepRead
 mod StepSaid
+mod Utf8Lemmas

@@ -332,7 +332,7 @@ finish_is_not (op.Queue work cpu) h e = cc
 finish_is_not op.Finish h e = cc
 
 -- operations without `finish` that a body begins with are at most all but its last
-fronts : (xs rest ys : List Op) → list_all (λ o. not (is_finish o)) xs ≡ true → xs ++ rest ≡ ys ++ op.Finish ∷ [] → length xs ≤ length ys
+pub fronts : (xs rest ys : List Op) → list_all (λ o. not (is_finish o)) xs ≡ true → xs ++ rest ≡ ys ++ op.Finish ∷ [] → length xs ≤ length ys
 fronts [] rest ys none e = omega arith
 fronts (x ∷ xs) rest [] none e =
     let here : (not (is_finish x) ≡ true) × (list_all (λ o. not (is_finish o)) xs ≡ true) = and_true (not (is_finish x)) (list_all (λ o. not (is_finish o)) xs) none in
@@ -357,7 +357,7 @@ ends_there (x ∷ xs) rest (y ∷ ys) none e =
     let here : (not (is_finish y) ≡ true) × (list_all (λ o. not (is_finish o)) ys ≡ true) = and_true (not (is_finish y)) (list_all (λ o. not (is_finish o)) ys) none in
     ends_there xs rest ys here.1 (same_tail x y (xs ++ op.Finish ∷ rest) (ys ++ op.Finish ∷ []) e)
 
-body_of : (S : ScenarioContents) (done : List WorkContents) (x : WorkContents) (more : List WorkContents) → Good S → S.works ≡ done ++ x ∷ more → GoodBody S.cpus (length S.works) x.body
+pub body_of : (S : ScenarioContents) (done : List WorkContents) (x : WorkContents) (more : List WorkContents) → Good S → S.works ≡ done ++ x ∷ more → GoodBody S.cpus (length S.works) x.body
 body_of S done x more good works =
     bodies_at (GoodBodyOf S.cpus (length S.works)) done more x (subst (λ (ws : List WorkContents). AllByRecursion (GoodBodyOf S.cpus (length S.works)) ws) works good.bodies)
 

@@ -3,6 +3,7 @@
 #![tactic(auto)]
 
 mod examples;
+mod laws;
 mod why;
 
 pub use why::Why;

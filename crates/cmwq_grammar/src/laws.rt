@@ -1,0 +1,10 @@
+//! The laws of texts, each the contract of a function with an empty body.
+ghost use Rattle.cmwq_grammar.specs.Grammar.{Spells};
+ghost use Rattle.cmwq_grammar.specs.Meaning.{reads};
+ghost use Rattle.cmwq_types.specs.Contents.{ScenarioContents};
+ghost use Rattle.std.specs.Prelude.{◌≡◌, ℕ, List, Ok};
+
+/// What is read is spelled so: a text that reads as a scenario spells it.
+pub fn read_text_spells_its_scenario()
+    ensures { (text : List ℕ) (S : ScenarioContents) → reads text ≡ Ok S → Spells text S }
+{}
