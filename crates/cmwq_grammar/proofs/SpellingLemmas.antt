@@ -14,7 +14,7 @@ use Rattle.cmwq_types.specs.declared.scenario.QueueDecl.{QueueDecl}
 use Rattle.cmwq_grammar.specs.Cutting.{lines_of, worded, words_of}
 use Rattle.cmwq_grammar.specs.Fields.{◌>>=◌}
 use Rattle.cmwq_grammar.specs.Grammar.{IsTextOf, SayAll, Spells}
-use Rattle.cmwq_grammar.specs.Meaning.{at_line, ends_before, fault_at, reads, reads_lines, stage_after}
+use Rattle.cmwq_grammar.specs.Meaning.{FaultAt, at_line, ends_before, fault_at, reads, reads_lines, stage_after}
 use Rattle.cmwq_grammar.specs.Reasons.{all_have_bodies, at_end, judge, step, with_works}
 use Rattle.cmwq_grammar.specs.Stages.{Stage, Start, Cpus, Workers, Steps, Queues, Works, Bodies, Body, Actor, with_actor}
 use Rattle.cmwq_grammar.specs.declared.why.Why.TheVariants as why
@@ -200,3 +200,12 @@ spelled_reads text S spells =
   where
     not_above : (n : ℕ) → n ≤ MAX_TEXT → ltb MAX_TEXT n ≡ false
     not_above n h = grind (arith, nat_tests)
+
+-- a text reads as one scenario
+pub one_spelled : (text : List ℕ) (S T : ScenarioContents) → Spells text S → Spells text T → S ≡ T
+one_spelled text S T first second = same (sym (spelled_reads text S first) ∙ spelled_reads text T second)
+  where
+    as_ok : ScenarioContents → Result ScenarioContents FaultAt
+    as_ok U = Ok U
+    same : as_ok S ≡ as_ok T → S ≡ T
+    same e = cc

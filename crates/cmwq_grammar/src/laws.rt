@@ -8,3 +8,13 @@ ghost use Rattle.std.specs.Prelude.{◌≡◌, ℕ, List, Ok};
 pub fn read_text_spells_its_scenario()
     ensures { (text : List ℕ) (S : ScenarioContents) → reads text ≡ Ok S → Spells text S }
 {}
+
+/// What is spelled so is read: a text that spells a scenario reads as it.
+pub fn spelled_text_reads_as_its_scenario()
+    ensures { (text : List ℕ) (S : ScenarioContents) → Spells text S → reads text ≡ Ok S }
+{}
+
+/// A text spells one scenario at most.
+pub fn text_spells_one_scenario()
+    ensures { (text : List ℕ) (S T : ScenarioContents) → Spells text S → Spells text T → S ≡ T }
+{}
