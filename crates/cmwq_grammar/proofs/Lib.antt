@@ -1,4 +1,5 @@
 mod Basics
+mod CanonicalLines
 mod Continuations
 mod Events
 mod FieldLemmas
