@@ -108,7 +108,7 @@ declared_again before name after rest is new =
 
 -- Numbers.
 
-numerals : IsNumeralModel (λ word. all_ascii_digits word ≡ true) (digits_value 10)
+pub numerals : IsNumeralModel (λ word. all_ascii_digits word ≡ true) (digits_value 10)
 numerals = numerals_by_value (λ word. all_ascii_digits word ≡ true) tells_all_ascii_digits
 
 pub within_fits : (low high n : ℕ) → within low high n ≡ true → (low ≤ n) × (n ≤ high)

@@ -7,6 +7,7 @@ mod FlagLemmas
 mod GoodScenario
 mod InstrLemmas
 mod LineLemmas
+mod ListingLemmas
 mod NameLists
 mod ReadingLemmas
 mod SameLines

@@ -1,7 +1,9 @@
 //! The laws of texts, each the contract of a function with an empty body.
-ghost use Rattle.cmwq_grammar.specs.Grammar.{Spells};
+ghost use Rattle.cmwq_grammar.specs.Grammar.{Fits, Spells};
 ghost use Rattle.cmwq_grammar.specs.Meaning.{reads};
 ghost use Rattle.cmwq_types.specs.Contents.{ScenarioContents};
+ghost use Rattle.cmwq_types.specs.Faults.{IsValid};
+ghost use Rattle.cmwq_types.specs.Listing.{listing};
 ghost use Rattle.std.specs.Prelude.{◌≡◌, ℕ, List, Ok};
 
 /// What is read is spelled so: a text that reads as a scenario spells it.
@@ -17,4 +19,10 @@ pub fn spelled_text_reads_as_its_scenario()
 /// A text spells one scenario at most.
 pub fn text_spells_one_scenario()
     ensures { (text : List ℕ) (S T : ScenarioContents) → Spells text S → Spells text T → S ≡ T }
+{}
+
+/// The listing of a scenario spells it, and so reads as it. So every listing has room in a text.
+pub fn listing_spells_its_scenario()
+    ensures spelled { (S : ScenarioContents) → IsValid S → Fits S → Spells (listing S) S }
+    ensures read { (S : ScenarioContents) → IsValid S → Fits S → reads (listing S) ≡ Ok S }
 {}
