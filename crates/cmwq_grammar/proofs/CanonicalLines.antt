@@ -58,7 +58,7 @@ cut_none p (x ∷ xs) none =
 
 -- Lines.
 
-abbrev is_feed : ℕ → Bool
+abbrev pub is_feed : ℕ → Bool
 is_feed byte = eqb byte 10
 
 keeps_first : (piece : List ℕ) (pieces : List (List ℕ)) → 0 < length pieces → without_empty_last (piece ∷ pieces) ≡ piece ∷ without_empty_last pieces

@@ -1,7 +1,9 @@
 mod Basics
 mod CanonicalLines
+mod Completions
 mod Continuations
 mod Events
+mod FaultLemmas
 mod FieldLemmas
 mod FlagLemmas
 mod GoodScenario

@@ -47,7 +47,7 @@ pub step_nothing : (stage : Stage) → step stage [] ≡ Ok stage
 unfolding step
 step_nothing stage = refl
 
-line_ok : {A : Type 0} (n : ℕ) (r : Result A Why) (x : A) → at_line n r ≡ Ok x → r ≡ Ok x
+pub line_ok : {A : Type 0} (n : ℕ) (r : Result A Why) (x : A) → at_line n r ≡ Ok x → r ≡ Ok x
 line_ok n (Ok y) x e = ap fine (same y x e)
   where
     same : {A : Type 0} (a b : A) → at_line n (fine a) ≡ at_line n (fine b) → a ≡ b
@@ -107,13 +107,13 @@ all_read n (line ∷ lines) stage next sound e =
 
 -- The end of a text.
 
-abbrev EndsAs : Stage → ScenarioContents → Type 0
+abbrev pub EndsAs : Stage → ScenarioContents → Type 0
 EndsAs stage S = Continues stage [] S × Good S
 
 no_scenario : {A : Type 0} (reason : Why) (S : ScenarioContents) → Err reason ≡ fine S → A
 no_scenario reason S e = cc
 
-queues_end : (D S : ScenarioContents) → SoundQueues D → D ≡ S → EndsAs (Queues D) S
+pub queues_end : (D S : ScenarioContents) → SoundQueues D → D ≡ S → EndsAs (Queues D) S
 queues_end D S sound e =
     subst (λ (T : ScenarioContents). EndsAs (Queues D) T) e (record {
       head = record { cpus = refl; workers = refl; steps = refl; flushes = refl };
@@ -133,7 +133,7 @@ bodies_end D S done sound all e =
       said = sym (ap (λ (as_ : List ActorContents). rest_lines (with_works D done) [] [] [] as_) sound.no_actors);
     }, sound_all D done sound all)
 
-actor_ends : (D S : ScenarioContents) (name : List ℕ) (given : List Line) → Good (with_actor D name given) → with_actor D name given ≡ S → EndsAs (Actor D name given) S
+pub actor_ends : (D S : ScenarioContents) (name : List ℕ) (given : List Line) → Good (with_actor D name given) → with_actor D name given ≡ S → EndsAs (Actor D name given) S
 actor_ends D S name given good e =
     subst (λ (T : ScenarioContents). EndsAs (Actor D name given) T) e (record {
       head = record { cpus = refl; workers = refl; steps = refl; flushes = refl };

@@ -124,7 +124,7 @@ names_of f same (w ∷ ws) = ap (λ (n : List ℕ). n ∷ map (λ (v : WorkConte
 pub names_of_bare : (ws : List WorkContents) → map (λ (w : WorkContents). w.name) (map bare ws) ≡ map (λ w. w.name) ws
 names_of_bare ws = names_of bare (λ w. refl) ws
 
-good_least : (D : ScenarioContents) → SoundWorks D → Good (record D { works = map at_least D.works })
+pub good_least : (D : ScenarioContents) → SoundWorks D → Good (record D { works = map at_least D.works })
 good_least D sound =
     let good = sound.good in
     let long : length (map at_least D.works) ≡ length D.works = length-map D.works at_least in
