@@ -1,11 +1,9 @@
 -- Results that go on, tests, and words that are equal.
-use Rattle.std.proofs.Common.{◌≡◌, ℕ, zero, suc, ◌+◌, ◌<◌, ◌≤◌, Bool, true, false, not, ◌&&◌, ◌||◌, ◌⊎◌, List, [], ◌∷◌, ◌++◌, map, length, get_or, take, drop, cond, Option, Some, None, Result, Ok, Err, arith, refl, sym, ap, ◌∙◌, inl, inr, subst}
-use Rattle.std.proofs.lemmas.Bool.Decides.{nat_tests}
-use Rattle.std.proofs.lemmas.List.Quantifiers.{position-Some}
+use Rattle.std.proofs.Common.{◌≡◌, ℕ, ◌+◌, Bool, true, false, not, ◌&&◌, ◌||◌, ◌⊎◌, List, [], ◌∷◌, ◌++◌, length, cond, Result, Ok, Err, arith, refl, ap, ◌∙◌, inl, inr}
 use Rattle.std.specs.Cmp.Lexicographic.{bytes_decides}
-use Rattle.std.specs.List.{list_all, list_any, position, position_or_len}
+use Rattle.std.specs.List.{list_any, position_or_len}
 use Rattle.std.specs.Str.{bytes_eq}
-use Rattle.cmwq_grammar.specs.Fields.{◌>>=◌, value_if}
+use Rattle.cmwq_grammar.specs.Fields.{◌>>=◌}
 use Rattle.cmwq_grammar.specs.declared.why.Why.{Why}
 
 abbrev pub fine : {A : Type 0} → A → Result A Why

@@ -1,17 +1,16 @@
 -- Lines of words of plain bytes, one space between them: cutting gives the words back.
-use Rattle.std.proofs.Common.{◌≡◌, ℕ, zero, suc, ◌+◌, ◌-◌, ◌<◌, ◌≤◌, Bool, true, false, not, ◌&&◌, ◌||◌, List, [], ◌∷◌, ◌++◌, map, length, get_or, take, cond, eqb, ltb, arith, refl, sym, ap, ◌∙◌, subst, append-nil, append_assoc, length-append}
+use Rattle.std.proofs.Common.{◌≡◌, ℕ, zero, suc, ◌+◌, ◌-◌, ◌<◌, Bool, true, false, not, ◌&&◌, ◌||◌, List, [], ◌∷◌, ◌++◌, map, length, get_or, take, eqb, ltb, arith, refl, ap, ◌∙◌, append_assoc}
 use Rattle.std.proofs.lemmas.Bool.Decides.{nat_tests}
 use Rattle.std.proofs.lemmas.List.{take_all}
 use Rattle.std.proofs.lemmas.List.Folds.{list_all-append}
 use Rattle.std.proofs.lemmas.List.Splits.{length-slice_split, slice_split-cons_no, slice_split-cons_yes}
 use Rattle.std.proofs.lemmas.Str.{IsUtf8-from_ascii, is_utf8-from_IsUtf8}
 use Rattle.std.specs.List.{before_first, filter, flat_map, join_with_byte, list_all, onto_first, position_or_len, slice_split, count_by}
-use Rattle.std.specs.Str.{IsUtf8, is_utf8}
+use Rattle.std.specs.Str.{is_utf8}
 use Rattle.std.specs.Str.Lines.{strip_carriage_return}
-use Rattle.cmwq_types.specs.Listing.{WrittenLine, Words, Flagged, Repeated, line_text, times_words, written_text}
 use Rattle.cmwq_grammar.specs.Cutting.{is_blank, is_empty, is_hash, lines_of, without_empty_last, worded, words_of}
 use Rattle.cmwq_grammar.proofs.Basics.{and_true, true_and, cond_no, cond_yes, not_true}
-use Rattle.cmwq_grammar.proofs.ReadingLemmas.{with_words, worded_on}
+use Rattle.cmwq_grammar.proofs.ReadingLemmas.{worded_on}
 use Rattle.cmwq_grammar.proofs.Utf8Lemmas.{AllUtf8}
 
 -- a byte of a word, and one of a line: no blank, no `#`, no carriage return or line feed, and ASCII

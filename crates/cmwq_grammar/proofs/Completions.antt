@@ -1,5 +1,5 @@
 -- Every stage that reading reaches goes on to some scenario.
-use Rattle.std.proofs.Common.{◌≡◌, ℕ, zero, suc, ◌+◌, ◌<◌, ◌≤◌, Bool, true, false, List, [], ◌∷◌, ◌++◌, map, length, arith, refl, sym, ap, ◌∙◌, append-nil}
+use Rattle.std.proofs.Common.{◌≡◌, ℕ, true, List, [], ◌∷◌, ◌++◌, map, arith, refl, sym, ap, ◌∙◌, append-nil}
 use Rattle.std.proofs.lemmas.List.{map-append}
 use Rattle.cmwq_types.specs.Contents.{ScenarioContents, WorkContents}
 use Rattle.cmwq_types.specs.Faults.{within}
@@ -9,7 +9,7 @@ use Rattle.cmwq_types.specs.declared.scenario.Line.{Line}
 use Rattle.cmwq_types.specs.declared.scenario.Op.{Op}
 use Rattle.cmwq_types.specs.declared.scenario.Op.TheVariants as op
 use Rattle.cmwq_grammar.specs.Stages.{Stage, Start, Cpus, Workers, Steps, Queues, Works, Bodies, Body, Actor, head_of, with_actor}
-use Rattle.cmwq_grammar.proofs.Continuations.{BodiesLeft, BodyLeft, Continues, SameHead, Sound, SoundBodies, SoundBody, SoundQueues, SoundWorks, WorksLeft, at_least, bare, rest_lines}
+use Rattle.cmwq_grammar.proofs.Continuations.{Continues, SameHead, Sound, SoundBodies, SoundBody, SoundQueues, SoundWorks, at_least, bare, rest_lines}
 use Rattle.cmwq_grammar.proofs.GoodScenario.{Good}
 use Rattle.cmwq_grammar.proofs.ReadingLemmas.{EndsAs, actor_ends, queues_end}
 use Rattle.cmwq_grammar.proofs.Soundness.{good_least}
@@ -23,9 +23,20 @@ pub record Completion (stage : Stage) : Type 0 where
 
 head_good : (cpus workers steps : ℕ) → within 1 MAX_CPUS cpus ≡ true → within 1 MAX_WORKERS workers ≡ true → within 1 MAX_STEPS steps ≡ true → Good (head_of cpus workers steps 0)
 head_good cpus workers steps a b c = record {
-  cpus = a; workers = b; steps = c; flushes = refl;
-  few_queues = omega arith; few_works = omega arith; few_actors = omega arith;
-  queue_names = tt; queues = refl; work_names = tt; works = refl; bodies = tt; actor_names = tt; actors = refl;
+  cpus = a;
+  workers = b;
+  steps = c;
+  flushes = refl;
+  few_queues = omega arith;
+  few_works = omega arith;
+  few_actors = omega arith;
+  queue_names = tt;
+  queues = refl;
+  work_names = tt;
+  works = refl;
+  bodies = tt;
+  actor_names = tt;
+  actors = refl;
 }
 
 same_head : (D : ScenarioContents) (works : List WorkContents) → SameHead D (record D { works = works })
@@ -90,7 +101,7 @@ body_complete D done ops sound =
         works = refl;
         body = refl;
         declared = sound.declared ∙ map-append bare done (sound.work ∷ sound.more)
-          ∙ ap (λ (ws : List WorkContents). map bare done ++ bare sound.work ∷ ws) (sym (bare_least sound.more)) ∙ sym (map-append bare done (x ∷ more));
+            ∙ ap (λ (ws : List WorkContents). map bare done ++ bare sound.work ∷ ws) (sym (bare_least sound.more)) ∙ sym (map-append bare done (x ∷ more));
         said = refl;
       };
     }

@@ -1,10 +1,10 @@
 -- Declarations, bodies and actors as stages take them: what is read, and that it is read.
-use Rattle.std.proofs.Common.{◌≡◌, ℕ, zero, suc, ◌+◌, ◌<◌, ◌≤◌, ◌^◌, Bool, true, false, not, ◌&&◌, ◌⊎◌, List, [], ◌∷◌, ◌++◌, map, length, get_or, cond, eqb, ltb, leb, Result, Ok, Err, arith, refl, sym, ap, ◌∙◌, inl, inr, subst, codes}
+use Rattle.std.proofs.Common.{◌≡◌, ℕ, ◌+◌, ◌<◌, true, false, not, ◌⊎◌, List, [], ◌∷◌, ◌++◌, length, get_or, eqb, ltb, Ok, Err, arith, sym, ap, ◌∙◌, inl, inr, subst, codes}
 use Rattle.std.proofs.lemmas.Bool.Decides.{nat_tests}
 use Rattle.std.specs.Str.{bytes_eq}
 use Rattle.cmwq_types.specs.Contents.{ScenarioContents, WorkContents}
 use Rattle.cmwq_types.specs.Faults.{fits_flags, is_finish}
-use Rattle.cmwq_types.specs.Listing.{actor_line, op_line, queue_line, work_line}
+use Rattle.cmwq_types.specs.Listing.{actor_line, queue_line, work_line}
 use Rattle.cmwq_types.specs.Name.{is_name}
 use Rattle.cmwq_types.specs.declared.check.Fault.TheVariants as fault
 use Rattle.cmwq_types.specs.declared.limits.TheConstants.{MAX_ACTORS, MAX_LINES, MAX_OPS, MAX_QUEUES, MAX_WORKS}
@@ -13,10 +13,9 @@ use Rattle.cmwq_types.specs.declared.scenario.Op.{Op}
 use Rattle.cmwq_types.specs.declared.scenario.QueueDecl.{QueueDecl}
 use Rattle.cmwq_grammar.specs.Fields.{◌>>=◌, declared_at, made_last, new_name_at, value_if}
 use Rattle.cmwq_grammar.specs.Grammar.{Says}
-use Rattle.cmwq_grammar.specs.Instructions.{actor_names, cannot_stand, instr_at, line_at, queue_names, then_times, work_names}
-use Rattle.cmwq_grammar.specs.Reasons.{add_actor, add_line, add_op, add_queue, add_work, is_next, op_at_line, open_actor, open_body, queue_at_line, work_at_line, work_of}
-use Rattle.cmwq_grammar.specs.Stages.{Stage, Start, Cpus, Workers, Steps, Queues, Works, Bodies, Body, Actor, with_actor, with_body}
-use Rattle.cmwq_grammar.specs.declared.why.Why.{Why}
+use Rattle.cmwq_grammar.specs.Instructions.{actor_names, cannot_stand, instr_at, line_at, queue_names, work_names}
+use Rattle.cmwq_grammar.specs.Reasons.{add_actor, add_line, add_op, add_queue, add_work, is_next, op_at_line, open_actor, open_body, queue_at_line, work_at_line}
+use Rattle.cmwq_grammar.specs.Stages.{Stage, Queues, Works, Bodies, Body, Actor, with_body}
 use Rattle.cmwq_grammar.specs.declared.why.Why.TheVariants as why
 use Rattle.cmwq_grammar.proofs.Basics.{ok_same, fine, bind_ok, bind_at, value_if_ok, value_if_at, chosen, either, cond_yes, cond_no, not_false, same_word}
 use Rattle.cmwq_grammar.proofs.FieldLemmas.{IsNew, declared_read, ended_again, last_read, new_name_read, new_name_again}
@@ -51,9 +50,10 @@ queue_stage : (D : ScenarioContents) (queue : QueueDecl) (next : Stage) → add_
 unfolding add_queue
 queue_stage D queue next e =
     elim (chosen (not (fits_flags queue)) (Err (why.Fault fault.BadFlags)) (value_if (ltb (length D.queues) MAX_QUEUES) (Queues (with_queue D queue)) (why.Fault fault.TooMany)) (Ok next) e) [
-    inl bad ↦ absurd (not_fine next bad.1)
-    | inr it ↦ (let room : (ltb (length D.queues) MAX_QUEUES ≡ true) × (Queues (with_queue D queue) ≡ next) = value_if_ok (ltb (length D.queues) MAX_QUEUES) (Queues (with_queue D queue)) (why.Fault fault.TooMany) next it.1 in
-      (not_false (fits_flags queue) it.0, below_test (length D.queues) MAX_QUEUES room.0, room.1)) ]
+      | inl bad ↦ absurd (not_fine next bad.1)
+      | inr it ↦ (let room : (ltb (length D.queues) MAX_QUEUES ≡ true) × (Queues (with_queue D queue) ≡ next) = value_if_ok (ltb (length D.queues) MAX_QUEUES) (Queues (with_queue D queue)) (why.Fault fault.TooMany) next it.1 in
+          (not_false (fits_flags queue) it.0, below_test (length D.queues) MAX_QUEUES room.0, room.1))
+    ]
   where
     not_fine : (n : Stage) → Err (why.Fault fault.BadFlags) ≡ fine n → ⊥
     not_fine n h = cc
@@ -88,7 +88,7 @@ unfolding add_work
 work_added D rest next e =
     let there : (w : WorkContents) × (work_at_line D rest ≡ Ok w) × (add_work D w ≡ Ok next) = bind_ok (work_at_line D rest) (add_work D) next e in
     let read : Says (work_line D there.0) (codes "work" ∷ rest) × IsNew (work_names D) (there.0).name × (is_name (there.0).name ≡ true) × (ltb ((there.0).queue).0 (length D.queues) ≡ true) × ((there.0).body ≡ []) =
-      work_read D rest there.0 there.1 in
+    work_read D rest there.0 there.1 in
     let room : (ltb (length D.works) MAX_WORKS ≡ true) × (Works (with_work D there.0) ≡ next) = value_if_ok (ltb (length D.works) MAX_WORKS) (Works (with_work D there.0)) (why.Fault fault.TooMany) next there.2 in
     record { work = there.0; stage = room.1; says = read.0; new = read.1; name = read.2; queue = read.3; bare = read.4; room = below_test (length D.works) MAX_WORKS room.0 }
 
@@ -103,15 +103,17 @@ pub body_opened : (D : ScenarioContents) (done : List WorkContents) (rest : List
 unfolding open_body
 body_opened D done rest next e =
     let last : (n : ℕ × List (List ℕ)) × ((declared_at (work_names D) rest >>= is_next (length done)) ≡ Ok n) × (made_last (λ work. Body D done []) n ≡ Ok next) =
-      bind_ok (declared_at (work_names D) rest >>= is_next (length done)) (made_last (λ work. Body D done [])) next e in
+    bind_ok (declared_at (work_names D) rest >>= is_next (length done)) (made_last (λ work. Body D done [])) next e in
     let work : (n : ℕ × List (List ℕ)) × (declared_at (work_names D) rest ≡ Ok n) × (is_next (length done) n ≡ Ok last.0) = bind_ok (declared_at (work_names D) rest) (is_next (length done)) last.0 last.1 in
     let placed : (eqb (work.0).0 (length done) ≡ true) × (work.0 ≡ last.0) = value_if_ok (eqb (work.0).0 (length done)) work.0 why.Misplaced last.0 work.2 in
     let made : ((last.0).1 ≡ []) × (Body D done [] ≡ next) = last_read (λ (n : ℕ). Body D done []) last.0 next last.2 in
     let there : (rest ≡ get_or (work_names D) (work.0).0 [] ∷ (work.0).1) × ((work.0).0 < length (work_names D)) = declared_read (work_names D) rest work.0 work.1 in
     let number : (work.0).0 ≡ length done = same_number (work.0).0 (length done) placed.0 in
-    let none : (work.0).1 ≡ [] = ap (λ (n : ℕ × List (List ℕ)). n.1) placed.1 ∙ made.0 in
-    (there.0 ∙ ap (λ (n : ℕ). get_or (work_names D) n [] ∷ (work.0).1) number ∙ ap (λ (ws : List (List ℕ)). get_or (work_names D) (length done) [] ∷ ws) none,
-      subst (λ (n : ℕ). n < length (work_names D)) number there.1, made.1)
+    let none : (work.0).1 ≡ [] = ap (λ (n : ℕ × List (List ℕ)). n.1) placed.1 ∙ made.0 in (
+      there.0 ∙ ap (λ (n : ℕ). get_or (work_names D) n [] ∷ (work.0).1) number ∙ ap (λ (ws : List (List ℕ)). get_or (work_names D) (length done) [] ∷ ws) none,
+      subst (λ (n : ℕ). n < length (work_names D)) number there.1,
+      made.1,
+    )
   where
     same_number : (n m : ℕ) → eqb n m ≡ true → n ≡ m
     same_number n m h = grind (arith, nat_tests)
@@ -122,8 +124,8 @@ body_opens D done names there =
     let name = get_or (work_names D) (length done) [] in
     let found : declared_at (work_names D) (name ∷ []) ≡ Ok (length done, []) = declared_good (work_names D) (length done) [] names there in
     let next : (declared_at (work_names D) (name ∷ []) >>= is_next (length done)) ≡ Ok (length done, []) =
-      bind_at (declared_at (work_names D) (name ∷ [])) (is_next (length done)) (length done, []) found
-      ∙ value_if_at (eqb (length done) (length done)) (length done, []) why.Misplaced (itself (length done)) in
+    bind_at (declared_at (work_names D) (name ∷ [])) (is_next (length done)) (length done, []) found
+    ∙ value_if_at (eqb (length done) (length done)) (length done, []) why.Misplaced (itself (length done)) in
     bind_at (declared_at (work_names D) (name ∷ []) >>= is_next (length done)) (made_last (λ work. Body D done [])) (length done, []) next ∙ ended_again (Body D done [])
   where
     itself : (n : ℕ) → eqb n n ≡ true
@@ -135,8 +137,8 @@ pub record OpAdded (D : ScenarioContents) (done : List WorkContents) (ops : List
   pub last : Op
   pub read : OpRead D word rest last
   pub stage :
-    ((is_finish last ≡ true) × (Bodies D (with_body D done (ops ++ last ∷ [])) ≡ next))
-    ⊎ ((is_finish last ≡ false) × (length ops + 1 < MAX_OPS) × (Body D done (ops ++ last ∷ []) ≡ next))
+      ((is_finish last ≡ true) × (Bodies D (with_body D done (ops ++ last ∷ [])) ≡ next))
+      ⊎ ((is_finish last ≡ false) × (length ops + 1 < MAX_OPS) × (Body D done (ops ++ last ∷ []) ≡ next))
 
 pub op_added : (D : ScenarioContents) (done : List WorkContents) (ops : List Op) (word : List ℕ) (rest : List (List ℕ)) (next : Stage) → (op_at_line D word rest >>= add_op D done ops) ≡ Ok next → OpAdded D done ops word rest next
 unfolding add_op
@@ -147,10 +149,11 @@ op_added D done ops word rest next e =
       last = there.0;
       read = op_read D word rest there.0 there.1;
       stage =
-        elim (chosen (is_finish there.0) (fine (Bodies D (with_body D done more))) (value_if (ltb (length ops + 1) MAX_OPS) (Body D done more) (why.Fault fault.TooMany)) (Ok next) there.2) [
-        inl it ↦ inl (it.0, ok_same (Bodies D (with_body D done more)) next it.1)
-        | inr it ↦ (let room : (ltb (length ops + 1) MAX_OPS ≡ true) × (Body D done more ≡ next) = value_if_ok (ltb (length ops + 1) MAX_OPS) (Body D done more) (why.Fault fault.TooMany) next it.1 in
-          inr (it.0, below_test (length ops + 1) MAX_OPS room.0, room.1)) ];
+          elim (chosen (is_finish there.0) (fine (Bodies D (with_body D done more))) (value_if (ltb (length ops + 1) MAX_OPS) (Body D done more) (why.Fault fault.TooMany)) (Ok next) there.2) [
+            | inl it ↦ inl (it.0, ok_same (Bodies D (with_body D done more)) next it.1)
+            | inr it ↦ (let room : (ltb (length ops + 1) MAX_OPS ≡ true) × (Body D done more ≡ next) = value_if_ok (ltb (length ops + 1) MAX_OPS) (Body D done more) (why.Fault fault.TooMany) next it.1 in
+                inr (it.0, below_test (length ops + 1) MAX_OPS room.0, room.1))
+          ];
     }
 
 pub finish_adds : (D : ScenarioContents) (done : List WorkContents) (ops : List Op) (last : Op) → is_finish last ≡ true → add_op D done ops last ≡ Ok (Bodies D (with_body D done (ops ++ last ∷ [])))
@@ -178,7 +181,7 @@ pub actor_opened : (D : ScenarioContents) (rest : List (List ℕ)) (next : Stage
 unfolding open_actor
 actor_opened D rest next e =
     let last : (n : List ℕ) × ((new_name_at (actor_names D) rest >>= made_last (λ name. name)) ≡ Ok n) × (add_actor D n ≡ Ok next) =
-      bind_ok (new_name_at (actor_names D) rest >>= made_last (λ name. name)) (add_actor D) next e in
+    bind_ok (new_name_at (actor_names D) rest >>= made_last (λ name. name)) (add_actor D) next e in
     let name : (n : List ℕ × List (List ℕ)) × (new_name_at (actor_names D) rest ≡ Ok n) × (made_last (λ m. m) n ≡ Ok last.0) = bind_ok (new_name_at (actor_names D) rest) (made_last (λ m. m)) last.0 last.1 in
     let made : ((name.0).1 ≡ []) × ((name.0).0 ≡ last.0) = last_read (λ (m : List ℕ). m) name.0 last.0 name.2 in
     let read : (rest ≡ (name.0).0 ∷ (name.0).1) × (is_name (name.0).0 ≡ true) × IsNew (actor_names D) (name.0).0 = new_name_read (actor_names D) rest name.0 name.1 in
@@ -196,7 +199,7 @@ pub actor_opens : (D : ScenarioContents) (name : List ℕ) → is_name name ≡ 
 unfolding open_actor
 actor_opens D name is new room =
     let found : (new_name_at (actor_names D) (name ∷ []) >>= made_last (λ n. n)) ≡ Ok name =
-      bind_at (new_name_at (actor_names D) (name ∷ [])) (made_last (λ n. n)) (name, []) (new_name_again (actor_names D) name [] is new) ∙ ended_again name in
+    bind_at (new_name_at (actor_names D) (name ∷ [])) (made_last (λ n. n)) (name, []) (new_name_again (actor_names D) name [] is new) ∙ ended_again name in
     bind_at (new_name_at (actor_names D) (name ∷ []) >>= made_last (λ n. n)) (add_actor D) name found
     ∙ value_if_at (ltb (length D.actors) MAX_ACTORS) (Actor D name []) (why.Fault fault.TooMany) (test_below (length D.actors) MAX_ACTORS room)
 
@@ -232,5 +235,6 @@ actor_refused D rest line h = err_not_fine line h
 pub not_actor : (D : ScenarioContents) (word : List ℕ) (rest : List (List ℕ)) (line : Line) → line_at D word rest ≡ Ok line → bytes_eq word (codes "actor") ≡ false
 not_actor D word rest line e =
     elim (either (bytes_eq word (codes "actor"))) [
-    inl it ↦ absurd (actor_refused D rest line (sym (ap (λ (w : List ℕ). line_at D w rest) (same_word word (codes "actor") it)) ∙ e))
-    | inr no_actor ↦ no_actor ]
+      | inl it ↦ absurd (actor_refused D rest line (sym (ap (λ (w : List ℕ). line_at D w rest) (same_word word (codes "actor") it)) ∙ e))
+      | inr no_actor ↦ no_actor
+    ]

@@ -1,27 +1,25 @@
 -- The first fault of a text: where reading fails is the first line with which no scenario's text begins.
-use Rattle.std.proofs.Common.{◌≡◌, ℕ, zero, suc, ◌+◌, ◌<◌, ◌≤◌, Bool, true, false, not, ◌&&◌, ◌⊎◌, List, [], ◌∷◌, ◌++◌, map, length, get_or, take, cond, eqb, ltb, Result, Ok, Err, arith, refl, sym, ap, ◌∙◌, inl, inr, subst, append-nil, append_assoc, length-append}
+use Rattle.std.proofs.Common.{◌≡◌, ℕ, zero, suc, ◌+◌, ◌<◌, ◌≤◌, Bool, true, false, not, ◌⊎◌, List, [], ◌∷◌, ◌++◌, map, length, get_or, take, cond, eqb, ltb, Result, Ok, Err, arith, refl, sym, ap, ◌∙◌, inl, inr, subst}
 use Rattle.std.proofs.lemmas.Bool.Decides.{nat_tests}
 use Rattle.std.proofs.lemmas.List.{map-append, take_more}
 use Rattle.std.proofs.lemmas.List.Elements.{filter-append}
 use Rattle.std.proofs.lemmas.List.Folds.{list_all-append}
-use Rattle.std.specs.List.{AllByRecursion, filter, list_all, onto_first, slice_split}
-use Rattle.std.specs.Str.{is_utf8}
+use Rattle.std.specs.List.{filter, list_all, onto_first, slice_split}
 use Rattle.cmwq_types.specs.Contents.{ScenarioContents}
 use Rattle.cmwq_types.specs.Listing.{WrittenLine, written}
 use Rattle.cmwq_types.specs.declared.limits.TheConstants.{MAX_TEXT}
 use Rattle.cmwq_grammar.specs.Cutting.{is_empty, lines_of, without_empty_last, worded, words_of}
-use Rattle.cmwq_grammar.specs.FaultLaw.{Begins, FaultAtEnd, FaultInLine, IsFault, ReasonAfter, ReasonAtEnd}
+use Rattle.cmwq_grammar.specs.FaultLaw.{Begins, FaultAtEnd, FaultInLine, IsFault}
 use Rattle.cmwq_grammar.specs.Fields.{◌>>=◌}
-use Rattle.cmwq_grammar.specs.Grammar.{IsTextOf, SayAll, Says, Spells}
+use Rattle.cmwq_grammar.specs.Grammar.{SayAll}
 use Rattle.cmwq_grammar.specs.Meaning.{FaultAt, at_line, ends_before, fault_at, reads, reads_lines, stage_after}
 use Rattle.cmwq_grammar.specs.Reasons.{at_end, judge}
 use Rattle.cmwq_grammar.specs.Stages.{Stage, Start}
 use Rattle.cmwq_grammar.specs.declared.why.Why.{Why}
 use Rattle.cmwq_grammar.specs.declared.why.Why.TheVariants as why
-use Rattle.cmwq_grammar.proofs.Basics.{and_true, true_and, bind_at, bind_ok, chosen, cond_no, cond_yes, either, fine}
+use Rattle.cmwq_grammar.proofs.Basics.{and_true, true_and, bind_at, bind_ok, chosen, cond_no, cond_yes, fine}
 use Rattle.cmwq_grammar.proofs.CanonicalLines.{all_plain, fed, fed_lines, is_feed, joined, no_feeds, plain_no_feeds, plain_utf8, plain_worded, plain_words}
 use Rattle.cmwq_grammar.proofs.Completions.{Completion, complete}
-use Rattle.cmwq_grammar.proofs.Continuations.{Sound}
 use Rattle.cmwq_grammar.proofs.GoodScenario.{Good, good_from_valid, valid_from_good}
 use Rattle.cmwq_grammar.proofs.ListingLemmas.{LinesFit, canonical, canonical_say, written_fits}
 use Rattle.cmwq_grammar.proofs.ReadingLemmas.{LinesRead, all_read, line_ok}
@@ -42,6 +40,7 @@ pieces_no_feeds (x ∷ xs) = at (is_feed x) refl (slice_split is_feed xs) (piece
     on_first (piece ∷ pieces) here all =
         let both : (no_feed piece ≡ true) × (no_feeds pieces ≡ true) = and_true (no_feed piece) (no_feeds pieces) all in
         true_and (no_feed (x ∷ piece)) (no_feeds pieces) (true_and (not (is_feed x)) (no_feed piece) here both.0) both.1
+
     at : (b : Bool) → is_feed x ≡ b → (pieces : List (List ℕ)) → no_feeds pieces ≡ true → no_feeds (cond b ([] ∷ pieces) (onto_first x pieces)) ≡ true
     at true e pieces all = all
     at false e pieces all = on_first pieces (ap not e) all
@@ -104,13 +103,18 @@ read_begins lines stage none e =
     let words : worded (lines_of text) ≡ worded lines ++ said = ap worded cut ∙ worded_both lines more ∙ ap (λ (ws : List (List (List ℕ))). worded lines ++ ws) (plain_worded said both.1) in
     let says : SayAll (told.0 ++ whole.lines) (worded lines ++ said) = say_on told.0 whole.lines (worded lines) said told.1 (canonical_say whole.lines) in
     let says_written : SayAll (written S) (worded lines ++ said) = subst (λ (ls : List WrittenLine). SayAll ls (worded lines ++ said)) told.2 says in
-    let valid = valid_from_good S whole.good in
-    (text, more, S, cut, record {
-      utf8 = text_utf8 text (subst AllUtf8 (sym cut) utf8);
-      lines = subst (λ (ws : List (List (List ℕ))). SayAll (written S) ws) (sym words) says_written;
-      valid = valid.0;
-      fits = valid.1;
-    })
+    let valid = valid_from_good S whole.good in (
+      text,
+      more,
+      S,
+      cut,
+      record {
+        utf8 = text_utf8 text (subst AllUtf8 (sym cut) utf8);
+        lines = subst (λ (ws : List (List (List ℕ))). SayAll (written S) ws) (sym words) says_written;
+        valid = valid.0;
+        fits = valid.1;
+      },
+    )
 
 pub begins_read : (lines : List (List ℕ)) → Begins lines → (stage : Stage) × (stage_after 1 lines Start ≡ Ok stage)
 begins_read lines (text, more, S, cut, is) =
@@ -155,18 +159,19 @@ unfolding stage_after
 fails_after n [] origin fault e = cc
 fails_after n (line ∷ lines) origin fault e =
     elim (bind_err (at_line n (judge origin line)) (stage_after (n + 1) lines) fault e) [
-    inl it ↦ (let told = fault_of n (judge origin line) fault it in
-      record { k = 0; there = omega arith; stage = origin; before = refl; reason = told.0; judged = told.1; is = ap (λ (m : ℕ). fault_at m told.0) (omega arith) ∙ told.2 })
-    | inr it ↦ (let later : FailsAfter (n + 1) lines it.0 fault = fails_after (n + 1) lines it.0 fault it.2 in
-      record {
-        k = suc later.k;
-        there = (let t : later.k < length lines = later.there in omega arith);
-        stage = later.stage;
-        before = bind_at (at_line n (judge origin line)) (stage_after (n + 1) (take later.k lines)) it.0 it.1 ∙ later.before;
-        reason = later.reason;
-        judged = later.judged;
-        is = ap (λ (m : ℕ). fault_at m later.reason) (omega arith) ∙ later.is;
-      }) ]
+      | inl it ↦ (let told = fault_of n (judge origin line) fault it in
+          record { k = 0; there = omega arith; stage = origin; before = refl; reason = told.0; judged = told.1; is = ap (λ (m : ℕ). fault_at m told.0) (omega arith) ∙ told.2 })
+      | inr it ↦ (let later : FailsAfter (n + 1) lines it.0 fault = fails_after (n + 1) lines it.0 fault it.2 in
+          record {
+            k = suc later.k;
+            there = (let t : later.k < length lines = later.there in omega arith);
+            stage = later.stage;
+            before = bind_at (at_line n (judge origin line)) (stage_after (n + 1) (take later.k lines)) it.0 it.1 ∙ later.before;
+            reason = later.reason;
+            judged = later.judged;
+            is = ap (λ (m : ℕ). fault_at m later.reason) (omega arith) ∙ later.is;
+          })
+    ]
 
 -- the same from the stage and the reason
 fails_at : (n : ℕ) (lines : List (List ℕ)) (origin : Stage) (k : ℕ) (stage : Stage) (reason : Why) → k < length lines → stage_after n (take k lines) origin ≡ Ok stage → judge stage (get_or lines k []) ≡ Err reason → stage_after n lines origin ≡ Err (fault_at (n + k) reason)
@@ -178,6 +183,7 @@ fails_at n (line ∷ lines) origin zero stage reason there before e =
   where
     stage_ok : Stage → Result Stage FaultAt
     stage_ok s = Ok s
+
     stage_same : (a b : Stage) → stage_ok a ≡ stage_ok b → a ≡ b
     stage_same a b h = cc
 fails_at n (line ∷ lines) origin (suc k) stage reason there before e =
@@ -195,6 +201,7 @@ one_more n [] line origin stage next before e =
   where
     stage_ok : Stage → Result Stage FaultAt
     stage_ok s = Ok s
+
     stage_same : (a b : Stage) → stage_ok a ≡ stage_ok b → a ≡ b
     stage_same a b h = cc
 one_more n (first ∷ lines) line origin stage next before e =
@@ -205,6 +212,7 @@ one_more n (first ∷ lines) line origin stage next before e =
   where
     stage_ok : Stage → Result Stage FaultAt
     stage_ok s = Ok s
+
     stage_same : (x y : Stage) → stage_ok x ≡ stage_ok y → x ≡ y
     stage_same x y h = cc
 
@@ -224,10 +232,10 @@ fault_in_line lines fault none fails =
       there = fails.there;
       before = read_begins front fails.stage (taken_no_feeds fails.k lines none) fails.before;
       with = λ begins.
-        let read = begins_read (take (fails.k + 1) lines) begins in
-        let grown : take (fails.k + 1) lines ≡ front ++ line ∷ [] = take_more lines fails.k [] fails.there in
-        let passes : judge fails.stage line ≡ Ok read.0 = one_more 1 front line Start fails.stage read.0 fails.before (ap (λ (ls : List (List ℕ)). stage_after 1 ls Start) (sym grown) ∙ read.1) in
-        not_both (judge fails.stage line) read.0 fails.reason passes fails.judged;
+          let read = begins_read (take (fails.k + 1) lines) begins in
+          let grown : take (fails.k + 1) lines ≡ front ++ line ∷ [] = take_more lines fails.k [] fails.there in
+          let passes : judge fails.stage line ≡ Ok read.0 = one_more 1 front line Start fails.stage read.0 fails.before (ap (λ (ls : List (List ℕ)). stage_after 1 ls Start) (sym grown) ∙ read.1) in
+          not_both (judge fails.stage line) read.0 fails.reason passes fails.judged;
       line = ap (λ (f : FaultAt). f.line) (sym fails.is) ∙ omega arith;
       why = (fails.stage, fails.before, fails.judged ∙ ap (λ (f : FaultAt). refused f.why) fails.is);
     }
@@ -267,10 +275,13 @@ fault_at_end text stage fault before e =
   where
     refused : Why → Result ScenarioContents Why
     refused w = Err w
+
     whole : reads_lines (lines_of text) ≡ Err fault
     whole = lines_end text stage fault before e
+
     as_ok : ScenarioContents → Result ScenarioContents FaultAt
     as_ok S = Ok S
+
     not_read : (S : ScenarioContents) → as_ok S ≡ Err fault → ⊥
     not_read S h = cc
 
@@ -279,11 +290,13 @@ unfolding reads reads_lines
 fault_is text fault e =
     let lines = lines_of text in
     elim (chosen (ltb MAX_TEXT (length text)) (failed (fault_at 0 why.TooLong)) (stage_after 1 lines Start >>= ends_before (length lines + 1)) (Err fault) e) [
-    inl it ↦ inl (is_long (length text) it.0, sym (fault_same (fault_at 0 why.TooLong) fault it.1))
-    | inr it ↦ elim (bind_err (stage_after 1 lines Start) (ends_before (length lines + 1)) fault it.1) [
-      inl here ↦ (let fails : FailsAfter 1 lines Start fault = fails_after 1 lines Start fault here in
-        inr (inl (not_long (length text) it.0, fails.k, fault_in_line lines fault (lines_no_feeds text) fails)))
-      | inr ends ↦ inr (inr (not_long (length text) it.0, fault_at_end text ends.0 fault ends.1 ends.2)) ] ]
+      | inl it ↦ inl (is_long (length text) it.0, sym (fault_same (fault_at 0 why.TooLong) fault it.1))
+      | inr it ↦ elim (bind_err (stage_after 1 lines Start) (ends_before (length lines + 1)) fault it.1) [
+        | inl here ↦ (let fails : FailsAfter 1 lines Start fault = fails_after 1 lines Start fault here in
+            inr (inl (not_long (length text) it.0, fails.k, fault_in_line lines fault (lines_no_feeds text) fails)))
+        | inr ends ↦ inr (inr (not_long (length text) it.0, fault_at_end text ends.0 fault ends.1 ends.2))
+      ]
+    ]
 
 pub is_fault : (text : List ℕ) (fault : FaultAt) → IsFault text fault → reads text ≡ Err fault
 unfolding reads reads_lines

@@ -1,21 +1,19 @@
 -- Fields: what is read is spelled so, and what is spelled so is read.
-use Rattle.std.proofs.Common.{◌≡◌, ℕ, zero, suc, ◌+◌, ◌<◌, ◌≤◌, ◌^◌, Bool, true, false, not, ◌&&◌, ◌||◌, ◌⊎◌, List, [], ◌∷◌, ◌++◌, map, length, get_or, take, drop, cond, eqb, ltb, leb, Option, Some, None, Result, Ok, Err, arith, rules, refl, sym, ap, ◌∙◌, inl, inr, subst, append_assoc, length-append}
+use Rattle.std.proofs.Common.{◌≡◌, ℕ, zero, suc, ◌+◌, ◌<◌, ◌≤◌, ◌^◌, Bool, true, false, not, ◌&&◌, ◌||◌, List, [], ◌∷◌, ◌++◌, length, get_or, eqb, ltb, leb, Option, Some, None, Ok, arith, refl, sym, ap, ◌∙◌, subst, length-append}
 use Rattle.std.proofs.lemmas.Bool.Decides.{nat_tests}
 use Rattle.std.proofs.lemmas.Fmt.{decimal-digits_value, decimal_nonempty, digits_decimal, digits_value-decimal, first_decimal, length-decimal-le}
-use Rattle.std.proofs.lemmas.List.{get_or_at}
 use Rattle.std.proofs.lemmas.List.Quantifiers.{position-Some}
 use Rattle.std.proofs.lemmas.Str.Parse.{IsNumeralModel, digits_value_short, numerals_by_value, tells_all_ascii_digits}
 use Rattle.std.specs.Fmt.{decimal}
-use Rattle.std.specs.List.{list_all, list_any, position, position_or_len}
+use Rattle.std.specs.List.{list_any, position, position_or_len}
 use Rattle.std.specs.Str.{all_ascii_digits, bytes_eq}
 use Rattle.std.specs.Str.Parse.{digits_value}
 use Rattle.cmwq_types.specs.Faults.{within}
 use Rattle.cmwq_types.specs.Name.{is_name}
 use Rattle.cmwq_types.specs.declared.check.Fault.TheVariants as fault
-use Rattle.cmwq_grammar.specs.Fields.{◌>>=◌, after_word, among, declared_at, ended, in_range, is_number, made, made_last, name_at, named, new_name_at, not_among, number_at, number_or_unknown, number_where, numbered, rest_if, word_at}
-use Rattle.cmwq_grammar.specs.declared.why.Why.{Why}
+use Rattle.cmwq_grammar.specs.Fields.{after_word, among, declared_at, ended, in_range, is_number, made_last, name_at, named, new_name_at, not_among, number_at, number_or_unknown, number_where, numbered, rest_if, word_at}
 use Rattle.cmwq_grammar.specs.declared.why.Why.TheVariants as why
-use Rattle.cmwq_grammar.proofs.Basics.{bind_ok, bind_at, value_if_ok, value_if_at, and_true, true_and, or_false, not_true, same_word, word_is, position_at, cond_yes, cond_no, chosen}
+use Rattle.cmwq_grammar.proofs.Basics.{bind_ok, bind_at, value_if_ok, value_if_at, and_true, true_and, not_true, same_word, word_is, position_at, cond_yes}
 
 -- The next word, and the end.
 
@@ -62,7 +60,7 @@ unfolding new_name_at
 new_name_read names words found e =
     let there : (x : List ℕ × List (List ℕ)) × (name_at words ≡ Ok x) × (not_among names x ≡ Ok found) = bind_ok (name_at words) (not_among names) found e in
     let tested : (not (list_any (λ other. bytes_eq other (there.0).0) names) ≡ true) × (there.0 ≡ found) =
-      value_if_ok (not (list_any (λ other. bytes_eq other (there.0).0) names)) there.0 (why.Fault fault.Duplicate) found there.2 in
+    value_if_ok (not (list_any (λ other. bytes_eq other (there.0).0) names)) there.0 (why.Fault fault.Duplicate) found there.2 in
     let is : (words ≡ found.0 ∷ found.1) × (is_name found.0 ≡ true) = name_read words found (there.1 ∙ ap Ok tested.1) in
     let new : list_any (λ other. bytes_eq other (there.0).0) names ≡ false = not_true _ tested.0 in
     (is.0, is.1, subst (λ (f : List ℕ × List (List ℕ)). IsNew names f.0) tested.1 new)
@@ -86,9 +84,9 @@ declared_read names words found e =
     let there : (x : List ℕ × List (List ℕ)) × (name_at words ≡ Ok x) × (among names x ≡ Ok found) = bind_ok (name_at words) (among names) found e in
     let name = (there.0).0 in
     let placed : (position (λ other. bytes_eq other name) names ≡ Some found.0) × ((there.0).1 ≡ found.1) =
-      number_found (there.0).1 (position (λ other. bytes_eq other name) names) found there.2 in
+    number_found (there.0).1 (position (λ other. bytes_eq other name) names) found there.2 in
     let at : (found.0 < length names) × (bytes_eq (get_or names found.0 []) name ≡ true) × ((k : ℕ) → k < found.0 → bytes_eq (get_or names k []) name ≡ false) =
-      position-Some (λ other. bytes_eq other name) names found.0 [] placed.0 in
+    position-Some (λ other. bytes_eq other name) names found.0 [] placed.0 in
     let is : (words ≡ (there.0).0 ∷ (there.0).1) × (is_name (there.0).0 ≡ true) = name_read words there.0 there.1 in
     let same : get_or names found.0 [] ≡ name = same_word (get_or names found.0 []) name at.1 in
     (is.0 ∙ ap (λ (w : List ℕ). w ∷ (there.0).1) (sym same) ∙ ap (λ (r : List (List ℕ)). get_or names found.0 [] ∷ r) placed.1, at.0)
@@ -99,11 +97,11 @@ unfolding declared_at
 declared_again before name after rest is new =
     let names = before ++ name ∷ after in
     let place : position_or_len (λ other. bytes_eq other name) names ≡ length before =
-      position_at (λ other. bytes_eq other name) before name after new (word_is name name refl) in
+    position_at (λ other. bytes_eq other name) before name after new (word_is name name refl) in
     let in_range : ltb (position_or_len (λ other. bytes_eq other name) names) (length names) ≡ true =
-      (let long : length names ≡ length before + suc (length after) = length-append before (name ∷ after) in grind (arith, nat_tests)) in
+    (let long : length names ≡ length before + suc (length after) = length-append before (name ∷ after) in grind (arith, nat_tests)) in
     let found : position (λ other. bytes_eq other name) names ≡ Some (length before) =
-      cond_yes (ltb (position_or_len (λ other. bytes_eq other name) names) (length names)) (Some (position_or_len (λ other. bytes_eq other name) names)) None in_range ∙ ap Some place in
+    cond_yes (ltb (position_or_len (λ other. bytes_eq other name) names) (length names)) (Some (position_or_len (λ other. bytes_eq other name) names)) None in_range ∙ ap Some place in
     bind_at (name_at (name ∷ rest)) (among names) (name, rest) (name_again name rest is) ∙ ap (number_or_unknown rest) found
 
 -- Numbers.
@@ -135,7 +133,7 @@ alone_fits word h = grind (arith, nat_tests)
 number_of_word : (word : List ℕ) → is_number word ≡ true → (word ≡ decimal (digits_value 10 word)) × (digits_value 10 word < 10 ^ 10)
 number_of_word word is =
     let parts : ((all_ascii_digits word && within 1 10 (length word)) ≡ true) × (is_first word ≡ true) =
-      and_true (all_ascii_digits word && within 1 10 (length word)) (is_first word) is in
+    and_true (all_ascii_digits word && within 1 10 (length word)) (is_first word) is in
     let more : (all_ascii_digits word ≡ true) × (within 1 10 (length word) ≡ true) = and_true (all_ascii_digits word) (within 1 10 (length word)) parts.0 in
     let short : (1 ≤ length word) × (length word ≤ 10) = within_fits 1 10 (length word) more.1 in
     let small : digits_value 10 word < 10 ^ 10 = digits_value_short numerals word 10 more.0 short.1 in
@@ -154,9 +152,11 @@ word_of_number n small =
     let digits : all_ascii_digits (decimal n) ≡ true = digits_decimal numerals n wide in
     let short : length (decimal n) ≤ 10 = length-decimal-le 10 n (omega arith) small wide in
     let long : 0 < length (decimal n) = decimal_nonempty n wide in
-    let len : within 1 10 (length (decimal n)) ≡ true = fits_within 1 10 (length (decimal n)) (omega arith) short in
-    (true_and (all_ascii_digits (decimal n) && within 1 10 (length (decimal n))) (is_first (decimal n))
-      (true_and (all_ascii_digits (decimal n)) (within 1 10 (length (decimal n))) digits len) (first_of_decimal n wide), digits_value-decimal numerals n wide)
+    let len : within 1 10 (length (decimal n)) ≡ true = fits_within 1 10 (length (decimal n)) (omega arith) short in (
+      true_and (all_ascii_digits (decimal n) && within 1 10 (length (decimal n))) (is_first (decimal n))
+          (true_and (all_ascii_digits (decimal n)) (within 1 10 (length (decimal n))) digits len) (first_of_decimal n wide),
+      digits_value-decimal numerals n wide,
+    )
 
 pub number_read : (words : List (List ℕ)) (found : ℕ × List (List ℕ)) → number_at words ≡ Ok found → (words ≡ decimal found.0 ∷ found.1) × (found.0 < 10 ^ 10)
 unfolding number_at

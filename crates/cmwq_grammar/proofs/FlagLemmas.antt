@@ -1,6 +1,6 @@
 -- The flags of a queue, in any order.
-use Rattle.std.proofs.Common.{◌≡◌, ℕ, zero, suc, ◌+◌, ◌<◌, ◌≤◌, Bool, true, false, not, ◌&&◌, ◌||◌, ◌⊎◌, List, [], ◌∷◌, ◌++◌, cond, Result, Ok, Err, arith, refl, sym, ap, ◌∙◌, inl, inr, subst, append_assoc, append-nil, codes}
-use Rattle.std.proofs.lemmas.List.Sorted.{IsPermutation-refl, IsPermutation-sym, IsPermutation-trans, IsPermutation-append_left, IsPermutation-append_right, IsPermutation-middle, IsPermutation-to_front, sum_by-IsPermutation}
+use Rattle.std.proofs.Common.{◌≡◌, ℕ, suc, ◌+◌, ◌≤◌, Bool, true, false, not, ◌||◌, List, [], ◌∷◌, ◌++◌, cond, Result, Ok, Err, arith, refl, sym, ap, ◌∙◌, inl, inr, subst, append_assoc, append-nil, codes}
+use Rattle.std.proofs.lemmas.List.Sorted.{IsPermutation-refl, IsPermutation-sym, IsPermutation-trans, IsPermutation-append_left, IsPermutation-middle, IsPermutation-to_front, sum_by-IsPermutation}
 use Rattle.std.proofs.lemmas.List.Sums.{sum_by-cons}
 use Rattle.std.specs.List.{sum_by}
 use Rattle.std.specs.List.Sorted.{IsPermutation}
@@ -9,11 +9,10 @@ use Rattle.cmwq_types.specs.Listing.{flag_words, word_if}
 use Rattle.cmwq_types.specs.Scenario.{plain_flags}
 use Rattle.cmwq_types.specs.declared.check.Fault.TheVariants as fault
 use Rattle.cmwq_types.specs.declared.scenario.Flags.{Flags}
-use Rattle.cmwq_grammar.specs.Fields.{◌>>=◌, value_if}
 use Rattle.cmwq_grammar.specs.Reasons.{add_flag, flags_at, set_once}
 use Rattle.cmwq_grammar.specs.declared.why.Why.{Why}
 use Rattle.cmwq_grammar.specs.declared.why.Why.TheVariants as why
-use Rattle.cmwq_grammar.proofs.Basics.{bind_ok, bind_at, value_if_ok, value_if_at, either, not_true, same_word, cond_yes, cond_no, chosen}
+use Rattle.cmwq_grammar.proofs.Basics.{bind_ok, bind_at, value_if_ok, value_if_at, either, not_true, same_word, chosen}
 
 -- Read: the flags that are set are the words, in some order.
 
@@ -113,16 +112,21 @@ flag_read : (f g : Flags) (word : List ℕ) → add_flag f word ≡ Ok g → Add
 unfolding add_flag
 flag_read f g word e =
     elim (chosen (bytes_eq word (codes "highpri")) (set_once f.highpri (record f { highpri = true })) (cond (bytes_eq word (codes "unbound")) (set_once f.unbound (record f { unbound = true })) (cond (bytes_eq word (codes "cpu_intensive")) (set_once f.cpu_intensive (record f { cpu_intensive = true })) (cond (bytes_eq word (codes "freezable")) (set_once f.freezable (record f { freezable = true })) (cond (bytes_eq word (codes "ordered")) (set_once f.ordered (record f { ordered = true })) no_flag)))) (Ok g) e) [
-    inl it ↦ set_highpri f g word it.0 it.1
-    | inr no0 ↦ elim (chosen (bytes_eq word (codes "unbound")) (set_once f.unbound (record f { unbound = true })) (cond (bytes_eq word (codes "cpu_intensive")) (set_once f.cpu_intensive (record f { cpu_intensive = true })) (cond (bytes_eq word (codes "freezable")) (set_once f.freezable (record f { freezable = true })) (cond (bytes_eq word (codes "ordered")) (set_once f.ordered (record f { ordered = true })) no_flag))) (Ok g) no0.1) [
-    inl it ↦ set_unbound f g word it.0 it.1
-    | inr no1 ↦ elim (chosen (bytes_eq word (codes "cpu_intensive")) (set_once f.cpu_intensive (record f { cpu_intensive = true })) (cond (bytes_eq word (codes "freezable")) (set_once f.freezable (record f { freezable = true })) (cond (bytes_eq word (codes "ordered")) (set_once f.ordered (record f { ordered = true })) no_flag)) (Ok g) no1.1) [
-    inl it ↦ set_cpu_intensive f g word it.0 it.1
-    | inr no2 ↦ elim (chosen (bytes_eq word (codes "freezable")) (set_once f.freezable (record f { freezable = true })) (cond (bytes_eq word (codes "ordered")) (set_once f.ordered (record f { ordered = true })) no_flag) (Ok g) no2.1) [
-    inl it ↦ set_freezable f g word it.0 it.1
-    | inr no3 ↦ elim (chosen (bytes_eq word (codes "ordered")) (set_once f.ordered (record f { ordered = true })) no_flag (Ok g) no3.1) [
-    inl it ↦ set_ordered f g word it.0 it.1
-    | inr no4 ↦ absurd_flag g no4.1 ] ] ] ] ]
+      | inl it ↦ set_highpri f g word it.0 it.1
+      | inr no0 ↦ elim (chosen (bytes_eq word (codes "unbound")) (set_once f.unbound (record f { unbound = true })) (cond (bytes_eq word (codes "cpu_intensive")) (set_once f.cpu_intensive (record f { cpu_intensive = true })) (cond (bytes_eq word (codes "freezable")) (set_once f.freezable (record f { freezable = true })) (cond (bytes_eq word (codes "ordered")) (set_once f.ordered (record f { ordered = true })) no_flag))) (Ok g) no0.1) [
+        | inl it ↦ set_unbound f g word it.0 it.1
+        | inr no1 ↦ elim (chosen (bytes_eq word (codes "cpu_intensive")) (set_once f.cpu_intensive (record f { cpu_intensive = true })) (cond (bytes_eq word (codes "freezable")) (set_once f.freezable (record f { freezable = true })) (cond (bytes_eq word (codes "ordered")) (set_once f.ordered (record f { ordered = true })) no_flag)) (Ok g) no1.1) [
+          | inl it ↦ set_cpu_intensive f g word it.0 it.1
+          | inr no2 ↦ elim (chosen (bytes_eq word (codes "freezable")) (set_once f.freezable (record f { freezable = true })) (cond (bytes_eq word (codes "ordered")) (set_once f.ordered (record f { ordered = true })) no_flag) (Ok g) no2.1) [
+            | inl it ↦ set_freezable f g word it.0 it.1
+            | inr no3 ↦ elim (chosen (bytes_eq word (codes "ordered")) (set_once f.ordered (record f { ordered = true })) no_flag (Ok g) no3.1) [
+              | inl it ↦ set_ordered f g word it.0 it.1
+              | inr no4 ↦ absurd_flag g no4.1
+            ]
+          ]
+        ]
+      ]
+    ]
 
 pub flags_read_from : (words : List (List ℕ)) (f g : Flags) → flags_at words f ≡ Ok g → IsPermutation (flag_words g) (flag_words f ++ words)
 unfolding flags_at AddsWord
@@ -217,15 +221,17 @@ tally_highpri word words f g is t =
     let at_ordered : weight (codes "ordered") word ≡ 0 = ap (weight (codes "ordered")) is in
     let at_other : other word ≡ 0 = ap other is in
     let was : f.highpri ≡ false = unset f.highpri (count (weight (codes "highpri")) words) (bit g.highpri) (omega (arith, t.highpri)) (bit_at_most_one g.highpri) in
-    let was_bit : bit f.highpri ≡ 0 = ap bit was in
-    (was, record {
-      highpri = omega (arith, t.highpri);
-      unbound = omega (arith, t.unbound);
-      cpu_intensive = omega (arith, t.cpu_intensive);
-      freezable = omega (arith, t.freezable);
-      ordered = omega (arith, t.ordered);
-      others = omega (arith, t.others);
-    })
+    let was_bit : bit f.highpri ≡ 0 = ap bit was in (
+      was,
+      record {
+        highpri = omega (arith, t.highpri);
+        unbound = omega (arith, t.unbound);
+        cpu_intensive = omega (arith, t.cpu_intensive);
+        freezable = omega (arith, t.freezable);
+        ordered = omega (arith, t.ordered);
+        others = omega (arith, t.others);
+      },
+    )
 
 add_unbound : (f : Flags) (word : List ℕ) → word ≡ codes "unbound" → f.unbound ≡ false → add_flag f word ≡ Ok (record f { unbound = true })
 unfolding add_flag
@@ -241,15 +247,17 @@ tally_unbound word words f g is t =
     let at_ordered : weight (codes "ordered") word ≡ 0 = ap (weight (codes "ordered")) is in
     let at_other : other word ≡ 0 = ap other is in
     let was : f.unbound ≡ false = unset f.unbound (count (weight (codes "unbound")) words) (bit g.unbound) (omega (arith, t.unbound)) (bit_at_most_one g.unbound) in
-    let was_bit : bit f.unbound ≡ 0 = ap bit was in
-    (was, record {
-      highpri = omega (arith, t.highpri);
-      unbound = omega (arith, t.unbound);
-      cpu_intensive = omega (arith, t.cpu_intensive);
-      freezable = omega (arith, t.freezable);
-      ordered = omega (arith, t.ordered);
-      others = omega (arith, t.others);
-    })
+    let was_bit : bit f.unbound ≡ 0 = ap bit was in (
+      was,
+      record {
+        highpri = omega (arith, t.highpri);
+        unbound = omega (arith, t.unbound);
+        cpu_intensive = omega (arith, t.cpu_intensive);
+        freezable = omega (arith, t.freezable);
+        ordered = omega (arith, t.ordered);
+        others = omega (arith, t.others);
+      },
+    )
 
 add_cpu_intensive : (f : Flags) (word : List ℕ) → word ≡ codes "cpu_intensive" → f.cpu_intensive ≡ false → add_flag f word ≡ Ok (record f { cpu_intensive = true })
 unfolding add_flag
@@ -265,15 +273,17 @@ tally_cpu_intensive word words f g is t =
     let at_ordered : weight (codes "ordered") word ≡ 0 = ap (weight (codes "ordered")) is in
     let at_other : other word ≡ 0 = ap other is in
     let was : f.cpu_intensive ≡ false = unset f.cpu_intensive (count (weight (codes "cpu_intensive")) words) (bit g.cpu_intensive) (omega (arith, t.cpu_intensive)) (bit_at_most_one g.cpu_intensive) in
-    let was_bit : bit f.cpu_intensive ≡ 0 = ap bit was in
-    (was, record {
-      highpri = omega (arith, t.highpri);
-      unbound = omega (arith, t.unbound);
-      cpu_intensive = omega (arith, t.cpu_intensive);
-      freezable = omega (arith, t.freezable);
-      ordered = omega (arith, t.ordered);
-      others = omega (arith, t.others);
-    })
+    let was_bit : bit f.cpu_intensive ≡ 0 = ap bit was in (
+      was,
+      record {
+        highpri = omega (arith, t.highpri);
+        unbound = omega (arith, t.unbound);
+        cpu_intensive = omega (arith, t.cpu_intensive);
+        freezable = omega (arith, t.freezable);
+        ordered = omega (arith, t.ordered);
+        others = omega (arith, t.others);
+      },
+    )
 
 add_freezable : (f : Flags) (word : List ℕ) → word ≡ codes "freezable" → f.freezable ≡ false → add_flag f word ≡ Ok (record f { freezable = true })
 unfolding add_flag
@@ -289,15 +299,17 @@ tally_freezable word words f g is t =
     let at_ordered : weight (codes "ordered") word ≡ 0 = ap (weight (codes "ordered")) is in
     let at_other : other word ≡ 0 = ap other is in
     let was : f.freezable ≡ false = unset f.freezable (count (weight (codes "freezable")) words) (bit g.freezable) (omega (arith, t.freezable)) (bit_at_most_one g.freezable) in
-    let was_bit : bit f.freezable ≡ 0 = ap bit was in
-    (was, record {
-      highpri = omega (arith, t.highpri);
-      unbound = omega (arith, t.unbound);
-      cpu_intensive = omega (arith, t.cpu_intensive);
-      freezable = omega (arith, t.freezable);
-      ordered = omega (arith, t.ordered);
-      others = omega (arith, t.others);
-    })
+    let was_bit : bit f.freezable ≡ 0 = ap bit was in (
+      was,
+      record {
+        highpri = omega (arith, t.highpri);
+        unbound = omega (arith, t.unbound);
+        cpu_intensive = omega (arith, t.cpu_intensive);
+        freezable = omega (arith, t.freezable);
+        ordered = omega (arith, t.ordered);
+        others = omega (arith, t.others);
+      },
+    )
 
 add_ordered : (f : Flags) (word : List ℕ) → word ≡ codes "ordered" → f.ordered ≡ false → add_flag f word ≡ Ok (record f { ordered = true })
 unfolding add_flag
@@ -313,15 +325,17 @@ tally_ordered word words f g is t =
     let at_ordered : weight (codes "ordered") word ≡ 1 = ap (weight (codes "ordered")) is in
     let at_other : other word ≡ 0 = ap other is in
     let was : f.ordered ≡ false = unset f.ordered (count (weight (codes "ordered")) words) (bit g.ordered) (omega (arith, t.ordered)) (bit_at_most_one g.ordered) in
-    let was_bit : bit f.ordered ≡ 0 = ap bit was in
-    (was, record {
-      highpri = omega (arith, t.highpri);
-      unbound = omega (arith, t.unbound);
-      cpu_intensive = omega (arith, t.cpu_intensive);
-      freezable = omega (arith, t.freezable);
-      ordered = omega (arith, t.ordered);
-      others = omega (arith, t.others);
-    })
+    let was_bit : bit f.ordered ≡ 0 = ap bit was in (
+      was,
+      record {
+        highpri = omega (arith, t.highpri);
+        unbound = omega (arith, t.unbound);
+        cpu_intensive = omega (arith, t.cpu_intensive);
+        freezable = omega (arith, t.freezable);
+        ordered = omega (arith, t.ordered);
+        others = omega (arith, t.others);
+      },
+    )
 
 not_other : (word : List ℕ) (words : List (List ℕ)) (f g : Flags) → bytes_eq word (codes "highpri") ≡ false → bytes_eq word (codes "unbound") ≡ false → bytes_eq word (codes "cpu_intensive") ≡ false → bytes_eq word (codes "freezable") ≡ false → bytes_eq word (codes "ordered") ≡ false → Tally (word ∷ words) f g → ⊥
 unfolding count other
@@ -339,26 +353,31 @@ flags_again_from [] f g t =
     ap Ok (same_flags f g (same_bit f.highpri g.highpri (omega (arith, t.highpri))) (same_bit f.unbound g.unbound (omega (arith, t.unbound))) (same_bit f.cpu_intensive g.cpu_intensive (omega (arith, t.cpu_intensive))) (same_bit f.freezable g.freezable (omega (arith, t.freezable))) (same_bit f.ordered g.ordered (omega (arith, t.ordered))))
 flags_again_from (word ∷ words) f g t =
     elim (either (bytes_eq word (codes "highpri"))) [
-    inl it ↦ (let is : word ≡ codes "highpri" = same_word word (codes "highpri") it in
-      let told : (f.highpri ≡ false) × Tally words (record f { highpri = true }) g = tally_highpri word words f g is t in
-      bind_at (add_flag f word) (flags_at words) (record f { highpri = true }) (add_highpri f word is told.0) ∙ flags_again_from words (record f { highpri = true }) g told.1)
-    | inr no0 ↦ elim (either (bytes_eq word (codes "unbound"))) [
-    inl it ↦ (let is : word ≡ codes "unbound" = same_word word (codes "unbound") it in
-      let told : (f.unbound ≡ false) × Tally words (record f { unbound = true }) g = tally_unbound word words f g is t in
-      bind_at (add_flag f word) (flags_at words) (record f { unbound = true }) (add_unbound f word is told.0) ∙ flags_again_from words (record f { unbound = true }) g told.1)
-    | inr no1 ↦ elim (either (bytes_eq word (codes "cpu_intensive"))) [
-    inl it ↦ (let is : word ≡ codes "cpu_intensive" = same_word word (codes "cpu_intensive") it in
-      let told : (f.cpu_intensive ≡ false) × Tally words (record f { cpu_intensive = true }) g = tally_cpu_intensive word words f g is t in
-      bind_at (add_flag f word) (flags_at words) (record f { cpu_intensive = true }) (add_cpu_intensive f word is told.0) ∙ flags_again_from words (record f { cpu_intensive = true }) g told.1)
-    | inr no2 ↦ elim (either (bytes_eq word (codes "freezable"))) [
-    inl it ↦ (let is : word ≡ codes "freezable" = same_word word (codes "freezable") it in
-      let told : (f.freezable ≡ false) × Tally words (record f { freezable = true }) g = tally_freezable word words f g is t in
-      bind_at (add_flag f word) (flags_at words) (record f { freezable = true }) (add_freezable f word is told.0) ∙ flags_again_from words (record f { freezable = true }) g told.1)
-    | inr no3 ↦ elim (either (bytes_eq word (codes "ordered"))) [
-    inl it ↦ (let is : word ≡ codes "ordered" = same_word word (codes "ordered") it in
-      let told : (f.ordered ≡ false) × Tally words (record f { ordered = true }) g = tally_ordered word words f g is t in
-      bind_at (add_flag f word) (flags_at words) (record f { ordered = true }) (add_ordered f word is told.0) ∙ flags_again_from words (record f { ordered = true }) g told.1)
-    | inr no4 ↦ absurd (not_other word words f g no0 no1 no2 no3 no4 t) ] ] ] ] ]
+      | inl it ↦ (let is : word ≡ codes "highpri" = same_word word (codes "highpri") it in
+          let told : (f.highpri ≡ false) × Tally words (record f { highpri = true }) g = tally_highpri word words f g is t in
+          bind_at (add_flag f word) (flags_at words) (record f { highpri = true }) (add_highpri f word is told.0) ∙ flags_again_from words (record f { highpri = true }) g told.1)
+      | inr no0 ↦ elim (either (bytes_eq word (codes "unbound"))) [
+        | inl it ↦ (let is : word ≡ codes "unbound" = same_word word (codes "unbound") it in
+            let told : (f.unbound ≡ false) × Tally words (record f { unbound = true }) g = tally_unbound word words f g is t in
+            bind_at (add_flag f word) (flags_at words) (record f { unbound = true }) (add_unbound f word is told.0) ∙ flags_again_from words (record f { unbound = true }) g told.1)
+        | inr no1 ↦ elim (either (bytes_eq word (codes "cpu_intensive"))) [
+          | inl it ↦ (let is : word ≡ codes "cpu_intensive" = same_word word (codes "cpu_intensive") it in
+              let told : (f.cpu_intensive ≡ false) × Tally words (record f { cpu_intensive = true }) g = tally_cpu_intensive word words f g is t in
+              bind_at (add_flag f word) (flags_at words) (record f { cpu_intensive = true }) (add_cpu_intensive f word is told.0) ∙ flags_again_from words (record f { cpu_intensive = true }) g told.1)
+          | inr no2 ↦ elim (either (bytes_eq word (codes "freezable"))) [
+            | inl it ↦ (let is : word ≡ codes "freezable" = same_word word (codes "freezable") it in
+                let told : (f.freezable ≡ false) × Tally words (record f { freezable = true }) g = tally_freezable word words f g is t in
+                bind_at (add_flag f word) (flags_at words) (record f { freezable = true }) (add_freezable f word is told.0) ∙ flags_again_from words (record f { freezable = true }) g told.1)
+            | inr no3 ↦ elim (either (bytes_eq word (codes "ordered"))) [
+              | inl it ↦ (let is : word ≡ codes "ordered" = same_word word (codes "ordered") it in
+                  let told : (f.ordered ≡ false) × Tally words (record f { ordered = true }) g = tally_ordered word words f g is t in
+                  bind_at (add_flag f word) (flags_at words) (record f { ordered = true }) (add_ordered f word is told.0) ∙ flags_again_from words (record f { ordered = true }) g told.1)
+              | inr no4 ↦ absurd (not_other word words f g no0 no1 no2 no3 no4 t)
+            ]
+          ]
+        ]
+      ]
+    ]
 
 counts_highpri : (a b c d e : Bool) → count (weight (codes "highpri")) (flag_words (record { highpri = a; unbound = b; cpu_intensive = c; freezable = d; ordered = e })) ≡ bit a
 unfolding count weight bit other

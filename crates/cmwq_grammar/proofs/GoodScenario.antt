@@ -1,14 +1,14 @@
 -- Valid scenarios whose names and numbers fit, in parts that grow with each line.
-use Rattle.std.proofs.Common.{◌≡◌, ℕ, zero, suc, ◌+◌, ◌-◌, ◌<◌, ◌≤◌, Bool, true, false, not, ◌&&◌, ◌||◌, ◌⊎◌, List, [], ◌∷◌, ◌++◌, map, length, get_or, take, cond, eqb, ltb, leb, Option, Some, None, arith, refl, sym, ap, ◌∙◌, inl, inr, subst, append_assoc, append-nil, length-append}
+use Rattle.std.proofs.Common.{◌≡◌, ℕ, ◌+◌, ◌-◌, ◌<◌, ◌≤◌, Bool, true, false, not, ◌&&◌, ◌||◌, List, [], ◌∷◌, ◌++◌, map, length, get_or, take, cond, eqb, ltb, leb, Option, Some, None, arith, refl, sym, ap, ◌∙◌, subst, length-append}
 use Rattle.std.proofs.lemmas.Bool.Decides.{nat_tests}
-use Rattle.std.proofs.lemmas.List.{length-map, map-append, take_more, take_all}
+use Rattle.std.proofs.lemmas.List.{map-append, take_more, take_all}
 use Rattle.std.proofs.lemmas.List.Folds.{list_all-append}
 use Rattle.std.proofs.lemmas.List.Sums.{sum_by-append, sum_by-cons}
-use Rattle.std.proofs.lemmas.Option.{get_or_from_slice_get, slice_get_past, slice_get-get_or}
+use Rattle.std.proofs.lemmas.Option.{get_or_from_slice_get}
 use Rattle.std.specs.List.{AllByRecursion, count_by, list_all, list_any, slice_get}
 use Rattle.std.specs.Str.{bytes_eq}
 use Rattle.cmwq_types.specs.Contents.{ScenarioContents, WorkContents, ActorContents}
-use Rattle.cmwq_types.specs.Faults.{IsValid, actor_fault, body_fault, counts_fault, fault_if, fault_unless, first_along, first_fault, fits_flags, is_body, is_finish, is_some_finish, line_fault, names_declared, numbers_fault, op_fault, or_else, queue_fault, within, work_fault}
+use Rattle.cmwq_types.specs.Faults.{IsValid, actor_fault, body_fault, counts_fault, fault_if, fault_unless, first_along, fits_flags, is_body, is_finish, is_some_finish, line_fault, names_declared, numbers_fault, op_fault, or_else, queue_fault, within, work_fault}
 use Rattle.cmwq_types.specs.Name.{is_name}
 use Rattle.cmwq_types.specs.declared.check.Fault.{Fault}
 use Rattle.cmwq_types.specs.declared.check.Fault.TheVariants as fault
@@ -19,7 +19,7 @@ use Rattle.cmwq_types.specs.declared.scenario.Op.TheVariants as op
 use Rattle.cmwq_types.specs.declared.scenario.QueueDecl.{QueueDecl}
 use Rattle.cmwq_grammar.specs.Grammar.{Fits, instr_fits}
 use Rattle.cmwq_grammar.specs.Instructions.{actor_names, queue_names, work_names}
-use Rattle.cmwq_grammar.proofs.Basics.{and_true, true_and, or_false, cond_yes, cond_no}
+use Rattle.cmwq_grammar.proofs.Basics.{and_true, true_and}
 use Rattle.cmwq_grammar.proofs.FieldLemmas.{IsNew}
 use Rattle.cmwq_grammar.proofs.InstrLemmas.{good_line}
 use Rattle.cmwq_grammar.proofs.LineLemmas.{good_op}
@@ -67,7 +67,7 @@ op_good S (op.Burn ticks) e = no_unless (within 1 MAX_TICKS ticks) fault.Range e
 op_good S (op.Sleep ticks) e = no_unless (within 1 MAX_TICKS ticks) fault.Range e
 op_good S (op.Queue work cpu) e =
     let both : (fault_unless (ltb work.0 (length S.works)) fault.Unknown ≡ None) × (fault_unless (ltb cpu S.cpus) fault.Range ≡ None) =
-      no_first (fault_unless (ltb work.0 (length S.works)) fault.Unknown) (fault_unless (ltb cpu S.cpus) fault.Range) e in
+    no_first (fault_unless (ltb work.0 (length S.works)) fault.Unknown) (fault_unless (ltb cpu S.cpus) fault.Range) e in
     true_and (ltb work.0 (length S.works)) (ltb cpu S.cpus) (no_unless (ltb work.0 (length S.works)) fault.Unknown both.0) (no_unless (ltb cpu S.cpus) fault.Range both.1)
 op_good S op.Finish e = refl
 
@@ -153,12 +153,12 @@ at_most_is n limit e = grind (arith, nat_tests)
 pub body_good : (S : ScenarioContents) (body : List Op) → body_fault S body ≡ None → GoodBody S.cpus (length S.works) body
 body_good S body e =
     let first : (fault_unless (leb (length body) MAX_OPS) fault.TooMany ≡ None) × (or_else (fault_unless (is_body body) fault.BadBody) (first_along (λ before op. op_fault S op) [] body) ≡ None) =
-      no_first (fault_unless (leb (length body) MAX_OPS) fault.TooMany) (or_else (fault_unless (is_body body) fault.BadBody) (first_along (λ before op. op_fault S op) [] body)) e in
+    no_first (fault_unless (leb (length body) MAX_OPS) fault.TooMany) (or_else (fault_unless (is_body body) fault.BadBody) (first_along (λ before op. op_fault S op) [] body)) e in
     let second : (fault_unless (is_body body) fault.BadBody ≡ None) × (first_along (λ before op. op_fault S op) [] body ≡ None) =
-      no_first (fault_unless (is_body body) fault.BadBody) (first_along (λ before op. op_fault S op) [] body) first.1 in
+    no_first (fault_unless (is_body body) fault.BadBody) (first_along (λ before op. op_fault S op) [] body) first.1 in
     let long : length body ≤ MAX_OPS = at_most (length body) MAX_OPS (no_unless (leb (length body) MAX_OPS) fault.TooMany first.0) in
     let is : (is_some_finish (slice_get body (length body - 1)) ≡ true) × (eqb (count_by is_finish body) 1 ≡ true) =
-      and_true (is_some_finish (slice_get body (length body - 1))) (eqb (count_by is_finish body) 1) (no_unless (is_body body) fault.BadBody second.0) in
+    and_true (is_some_finish (slice_get body (length body - 1))) (eqb (count_by is_finish body) 1) (no_unless (is_body body) fault.BadBody second.0) in
     let ops : List Op = take (length body - 1) body in
     let whole : body ≡ ops ++ op.Finish ∷ [] = last_finish body is.0 in
     let counted : count_by is_finish (ops ++ op.Finish ∷ []) ≡ count_by is_finish ops + 1 = sum_by-append (λ x. cond (is_finish x) 1 0) ops (op.Finish ∷ []) in
@@ -207,14 +207,15 @@ queues_good before [] e names = (tt, refl)
 queues_good before (q ∷ queues) e names =
     let first : (queue_fault before q ≡ None) × (first_along queue_fault (before ++ q ∷ []) queues ≡ None) = no_first (queue_fault before q) (first_along queue_fault (before ++ q ∷ []) queues) e in
     let here : (fault_if (list_any (λ other. bytes_eq other.name q.name) before) fault.Duplicate ≡ None) × (fault_unless (fits_flags q) fault.BadFlags ≡ None) =
-      no_first (fault_if (list_any (λ other. bytes_eq other.name q.name) before) fault.Duplicate) (fault_unless (fits_flags q) fault.BadFlags) first.0 in
+    no_first (fault_if (list_any (λ other. bytes_eq other.name q.name) before) fault.Duplicate) (fault_unless (fits_flags q) fault.BadFlags) first.0 in
     let named : (is_name q.name ≡ true) × (list_all (λ queue. is_name queue.name) queues ≡ true) = and_true (is_name q.name) (list_all (λ queue. is_name queue.name) queues) names in
     let later : GoodNames (map (λ queue. queue.name) (before ++ q ∷ [])) (map (λ queue. queue.name) queues) × (list_all fits_flags queues ≡ true) = queues_good (before ++ q ∷ []) queues first.1 named.1 in
     let new : IsNew (map (λ queue. queue.name) before) q.name =
-      any_of_map (λ (queue : QueueDecl). queue.name) (λ other. bytes_eq other q.name) before ∙ no_if (list_any (λ other. bytes_eq other.name q.name) before) fault.Duplicate here.0 in
-    let joined : map (λ (queue : QueueDecl). queue.name) (before ++ q ∷ []) ≡ map (λ queue. queue.name) before ++ q.name ∷ [] = map-append (λ queue. queue.name) before (q ∷ []) in
-    ((new, named.0, subst (λ (ns : List (List ℕ)). GoodNames ns (map (λ queue. queue.name) queues)) joined later.0),
-      true_and (fits_flags q) (list_all fits_flags queues) (no_unless (fits_flags q) fault.BadFlags here.1) later.1)
+    any_of_map (λ (queue : QueueDecl). queue.name) (λ other. bytes_eq other q.name) before ∙ no_if (list_any (λ other. bytes_eq other.name q.name) before) fault.Duplicate here.0 in
+    let joined : map (λ (queue : QueueDecl). queue.name) (before ++ q ∷ []) ≡ map (λ queue. queue.name) before ++ q.name ∷ [] = map-append (λ queue. queue.name) before (q ∷ []) in (
+      (new, named.0, subst (λ (ns : List (List ℕ)). GoodNames ns (map (λ queue. queue.name) queues)) joined later.0),
+      true_and (fits_flags q) (list_all fits_flags queues) (no_unless (fits_flags q) fault.BadFlags here.1) later.1,
+    )
 
 queues_valid : (before queues : List QueueDecl) → GoodNames (map (λ queue. queue.name) before) (map (λ queue. queue.name) queues) → list_all fits_flags queues ≡ true
     → (first_along queue_fault before queues ≡ None) × (list_all (λ queue. is_name queue.name) queues ≡ true)
@@ -223,12 +224,13 @@ queues_valid before (q ∷ queues) names fits =
     let both : (fits_flags q ≡ true) × (list_all fits_flags queues ≡ true) = and_true (fits_flags q) (list_all fits_flags queues) fits in
     let joined : map (λ (queue : QueueDecl). queue.name) (before ++ q ∷ []) ≡ map (λ queue. queue.name) before ++ q.name ∷ [] = map-append (λ queue. queue.name) before (q ∷ []) in
     let later : (first_along queue_fault (before ++ q ∷ []) queues ≡ None) × (list_all (λ queue. is_name queue.name) queues ≡ true) =
-      queues_valid (before ++ q ∷ []) queues (subst (λ (ns : List (List ℕ)). GoodNames ns (map (λ queue. queue.name) queues)) (sym joined) names.2) both.1 in
-    let new : list_any (λ other. bytes_eq other.name q.name) before ≡ false = sym (any_of_map (λ (queue : QueueDecl). queue.name) (λ other. bytes_eq other q.name) before) ∙ names.0 in
-    (none_first (queue_fault before q) (first_along queue_fault (before ++ q ∷ []) queues)
-      (none_first (fault_if (list_any (λ other. bytes_eq other.name q.name) before) fault.Duplicate) (fault_unless (fits_flags q) fault.BadFlags)
-      (if_none (list_any (λ other. bytes_eq other.name q.name) before) fault.Duplicate new) (unless_none (fits_flags q) fault.BadFlags both.0)) later.0,
-      true_and (is_name q.name) (list_all (λ queue. is_name queue.name) queues) names.1 later.1)
+    queues_valid (before ++ q ∷ []) queues (subst (λ (ns : List (List ℕ)). GoodNames ns (map (λ queue. queue.name) queues)) (sym joined) names.2) both.1 in
+    let new : list_any (λ other. bytes_eq other.name q.name) before ≡ false = sym (any_of_map (λ (queue : QueueDecl). queue.name) (λ other. bytes_eq other q.name) before) ∙ names.0 in (
+      none_first (queue_fault before q) (first_along queue_fault (before ++ q ∷ []) queues)
+          (none_first (fault_if (list_any (λ other. bytes_eq other.name q.name) before) fault.Duplicate) (fault_unless (fits_flags q) fault.BadFlags)
+          (if_none (list_any (λ other. bytes_eq other.name q.name) before) fault.Duplicate new) (unless_none (fits_flags q) fault.BadFlags both.0)) later.0,
+      true_and (is_name q.name) (list_all (λ queue. is_name queue.name) queues) names.1 later.1,
+    )
 
 -- Works.
 
@@ -245,17 +247,18 @@ works_good S before [] e names = (tt, refl, tt)
 works_good S before (w ∷ works) e names =
     let first : (work_fault S before w ≡ None) × (first_along (work_fault S) (before ++ w ∷ []) works ≡ None) = no_first (work_fault S before w) (first_along (work_fault S) (before ++ w ∷ []) works) e in
     let here : (fault_if (list_any (λ other. bytes_eq other.name w.name) before) fault.Duplicate ≡ None) × (or_else (fault_unless (ltb w.queue.0 (length S.queues)) fault.Unknown) (body_fault S w.body) ≡ None) =
-      no_first (fault_if (list_any (λ other. bytes_eq other.name w.name) before) fault.Duplicate) (or_else (fault_unless (ltb w.queue.0 (length S.queues)) fault.Unknown) (body_fault S w.body)) first.0 in
+    no_first (fault_if (list_any (λ other. bytes_eq other.name w.name) before) fault.Duplicate) (or_else (fault_unless (ltb w.queue.0 (length S.queues)) fault.Unknown) (body_fault S w.body)) first.0 in
     let queued : (fault_unless (ltb w.queue.0 (length S.queues)) fault.Unknown ≡ None) × (body_fault S w.body ≡ None) =
-      no_first (fault_unless (ltb w.queue.0 (length S.queues)) fault.Unknown) (body_fault S w.body) here.1 in
+    no_first (fault_unless (ltb w.queue.0 (length S.queues)) fault.Unknown) (body_fault S w.body) here.1 in
     let named : (is_name w.name ≡ true) × (list_all (λ work. is_name work.name) works ≡ true) = and_true (is_name w.name) (list_all (λ work. is_name work.name) works) names in
     let later = works_good S (before ++ w ∷ []) works first.1 named.1 in
     let new : IsNew (map (λ work. work.name) before) w.name =
-      any_of_map (λ (work : WorkContents). work.name) (λ other. bytes_eq other w.name) before ∙ no_if (list_any (λ other. bytes_eq other.name w.name) before) fault.Duplicate here.0 in
-    let joined : map (λ (work : WorkContents). work.name) (before ++ w ∷ []) ≡ map (λ work. work.name) before ++ w.name ∷ [] = map-append (λ work. work.name) before (w ∷ []) in
-    ((new, named.0, subst (λ (ns : List (List ℕ)). GoodNames ns (map (λ work. work.name) works)) joined later.0),
+    any_of_map (λ (work : WorkContents). work.name) (λ other. bytes_eq other w.name) before ∙ no_if (list_any (λ other. bytes_eq other.name w.name) before) fault.Duplicate here.0 in
+    let joined : map (λ (work : WorkContents). work.name) (before ++ w ∷ []) ≡ map (λ work. work.name) before ++ w.name ∷ [] = map-append (λ work. work.name) before (w ∷ []) in (
+      (new, named.0, subst (λ (ns : List (List ℕ)). GoodNames ns (map (λ work. work.name) works)) joined later.0),
       true_and (ltb w.queue.0 (length S.queues)) (list_all (on_queue_of (length S.queues)) works) (no_unless (ltb w.queue.0 (length S.queues)) fault.Unknown queued.0) later.1,
-      (body_good S w.body queued.1, later.2))
+      (body_good S w.body queued.1, later.2),
+    )
 
 works_valid : (S : ScenarioContents) (before works : List WorkContents) → GoodNames (map (λ work. work.name) before) (map (λ work. work.name) works) → list_all (on_queue_of (length S.queues)) works ≡ true → AllByRecursion (GoodBodyOf S.cpus (length S.works)) works
     → (first_along (work_fault S) before works ≡ None) × (list_all (λ work. is_name work.name) works ≡ true)
@@ -264,13 +267,14 @@ works_valid S before (w ∷ works) names queued bodies =
     let both : (ltb w.queue.0 (length S.queues) ≡ true) × (list_all (on_queue_of (length S.queues)) works ≡ true) = and_true (ltb w.queue.0 (length S.queues)) (list_all (on_queue_of (length S.queues)) works) queued in
     let joined : map (λ (work : WorkContents). work.name) (before ++ w ∷ []) ≡ map (λ work. work.name) before ++ w.name ∷ [] = map-append (λ work. work.name) before (w ∷ []) in
     let later : (first_along (work_fault S) (before ++ w ∷ []) works ≡ None) × (list_all (λ work. is_name work.name) works ≡ true) =
-      works_valid S (before ++ w ∷ []) works (subst (λ (ns : List (List ℕ)). GoodNames ns (map (λ work. work.name) works)) (sym joined) names.2) both.1 bodies.1 in
-    let new : list_any (λ other. bytes_eq other.name w.name) before ≡ false = sym (any_of_map (λ (work : WorkContents). work.name) (λ other. bytes_eq other w.name) before) ∙ names.0 in
-    (none_first (work_fault S before w) (first_along (work_fault S) (before ++ w ∷ []) works)
-      (none_first (fault_if (list_any (λ other. bytes_eq other.name w.name) before) fault.Duplicate) (or_else (fault_unless (ltb w.queue.0 (length S.queues)) fault.Unknown) (body_fault S w.body))
-      (if_none (list_any (λ other. bytes_eq other.name w.name) before) fault.Duplicate new)
-      (none_first (fault_unless (ltb w.queue.0 (length S.queues)) fault.Unknown) (body_fault S w.body) (unless_none (ltb w.queue.0 (length S.queues)) fault.Unknown both.0) (body_valid S w.body bodies.0))) later.0,
-      true_and (is_name w.name) (list_all (λ work. is_name work.name) works) names.1 later.1)
+    works_valid S (before ++ w ∷ []) works (subst (λ (ns : List (List ℕ)). GoodNames ns (map (λ work. work.name) works)) (sym joined) names.2) both.1 bodies.1 in
+    let new : list_any (λ other. bytes_eq other.name w.name) before ≡ false = sym (any_of_map (λ (work : WorkContents). work.name) (λ other. bytes_eq other w.name) before) ∙ names.0 in (
+      none_first (work_fault S before w) (first_along (work_fault S) (before ++ w ∷ []) works)
+          (none_first (fault_if (list_any (λ other. bytes_eq other.name w.name) before) fault.Duplicate) (or_else (fault_unless (ltb w.queue.0 (length S.queues)) fault.Unknown) (body_fault S w.body))
+          (if_none (list_any (λ other. bytes_eq other.name w.name) before) fault.Duplicate new)
+          (none_first (fault_unless (ltb w.queue.0 (length S.queues)) fault.Unknown) (body_fault S w.body) (unless_none (ltb w.queue.0 (length S.queues)) fault.Unknown both.0) (body_valid S w.body bodies.0))) later.0,
+      true_and (is_name w.name) (list_all (λ work. is_name work.name) works) names.1 later.1,
+    )
 
 -- Actors.
 
@@ -283,16 +287,18 @@ good_actor S actor = leb (length actor.lines) MAX_LINES && good_lines S actor.li
 line_is_good : (S : ScenarioContents) (line : Line) → line_fault S line ≡ None → instr_fits line.instr ≡ true → good_line S line ≡ true
 line_is_good S line e fits =
     let both : (fault_unless (names_declared S line.instr) fault.Unknown ≡ None) × (fault_unless (within 1 MAX_TIMES line.times) fault.Range ≡ None) =
-      no_first (fault_unless (names_declared S line.instr) fault.Unknown) (fault_unless (within 1 MAX_TIMES line.times) fault.Range) e in
+    no_first (fault_unless (names_declared S line.instr) fault.Unknown) (fault_unless (within 1 MAX_TIMES line.times) fault.Range) e in
     true_and (names_declared S line.instr && within 1 MAX_TIMES line.times) (instr_fits line.instr)
     (true_and (names_declared S line.instr) (within 1 MAX_TIMES line.times) (no_unless (names_declared S line.instr) fault.Unknown both.0) (no_unless (within 1 MAX_TIMES line.times) fault.Range both.1)) fits
 
 line_is_valid : (S : ScenarioContents) (line : Line) → good_line S line ≡ true → (line_fault S line ≡ None) × (instr_fits line.instr ≡ true)
 line_is_valid S line good =
     let parts : ((names_declared S line.instr && within 1 MAX_TIMES line.times) ≡ true) × (instr_fits line.instr ≡ true) = and_true (names_declared S line.instr && within 1 MAX_TIMES line.times) (instr_fits line.instr) good in
-    let tests : (names_declared S line.instr ≡ true) × (within 1 MAX_TIMES line.times ≡ true) = and_true (names_declared S line.instr) (within 1 MAX_TIMES line.times) parts.0 in
-    (none_first (fault_unless (names_declared S line.instr) fault.Unknown) (fault_unless (within 1 MAX_TIMES line.times) fault.Range)
-      (unless_none (names_declared S line.instr) fault.Unknown tests.0) (unless_none (within 1 MAX_TIMES line.times) fault.Range tests.1), parts.1)
+    let tests : (names_declared S line.instr ≡ true) × (within 1 MAX_TIMES line.times ≡ true) = and_true (names_declared S line.instr) (within 1 MAX_TIMES line.times) parts.0 in (
+      none_first (fault_unless (names_declared S line.instr) fault.Unknown) (fault_unless (within 1 MAX_TIMES line.times) fault.Range)
+          (unless_none (names_declared S line.instr) fault.Unknown tests.0) (unless_none (within 1 MAX_TIMES line.times) fault.Range tests.1),
+      parts.1,
+    )
 
 lines_good : (S : ScenarioContents) (before lines : List Line) → first_along (λ before line. line_fault S line) before lines ≡ None → list_all (λ line. instr_fits line.instr) lines ≡ true → good_lines S lines ≡ true
 lines_good S before [] e fits = refl
@@ -319,17 +325,18 @@ actors_good S before (a ∷ actors) e fits =
     let along = first_along (λ before line. line_fault S line) [] a.lines in
     let first : (actor_fault S before a ≡ None) × (first_along (actor_fault S) (before ++ a ∷ []) actors ≡ None) = no_first (actor_fault S before a) (first_along (actor_fault S) (before ++ a ∷ []) actors) e in
     let here : (fault_if (list_any (λ other. bytes_eq other.name a.name) before) fault.Duplicate ≡ None) × (or_else (fault_unless (leb (length a.lines) MAX_LINES) fault.TooMany) along ≡ None) =
-      no_first (fault_if (list_any (λ other. bytes_eq other.name a.name) before) fault.Duplicate) (or_else (fault_unless (leb (length a.lines) MAX_LINES) fault.TooMany) along) first.0 in
+    no_first (fault_if (list_any (λ other. bytes_eq other.name a.name) before) fault.Duplicate) (or_else (fault_unless (leb (length a.lines) MAX_LINES) fault.TooMany) along) first.0 in
     let few : (fault_unless (leb (length a.lines) MAX_LINES) fault.TooMany ≡ None) × (along ≡ None) = no_first (fault_unless (leb (length a.lines) MAX_LINES) fault.TooMany) along here.1 in
     let both : (fits_actor a ≡ true) × (list_all fits_actor actors ≡ true) = and_true (fits_actor a) (list_all fits_actor actors) fits in
     let named : (is_name a.name ≡ true) × (list_all (λ line. instr_fits line.instr) a.lines ≡ true) = and_true (is_name a.name) (list_all (λ line. instr_fits line.instr) a.lines) both.0 in
     let later = actors_good S (before ++ a ∷ []) actors first.1 both.1 in
     let new : IsNew (map (λ actor. actor.name) before) a.name =
-      any_of_map (λ (actor : ActorContents). actor.name) (λ other. bytes_eq other a.name) before ∙ no_if (list_any (λ other. bytes_eq other.name a.name) before) fault.Duplicate here.0 in
-    let joined : map (λ (actor : ActorContents). actor.name) (before ++ a ∷ []) ≡ map (λ actor. actor.name) before ++ a.name ∷ [] = map-append (λ actor. actor.name) before (a ∷ []) in
-    ((new, named.0, subst (λ (ns : List (List ℕ)). GoodNames ns (map (λ actor. actor.name) actors)) joined later.0),
+    any_of_map (λ (actor : ActorContents). actor.name) (λ other. bytes_eq other a.name) before ∙ no_if (list_any (λ other. bytes_eq other.name a.name) before) fault.Duplicate here.0 in
+    let joined : map (λ (actor : ActorContents). actor.name) (before ++ a ∷ []) ≡ map (λ actor. actor.name) before ++ a.name ∷ [] = map-append (λ actor. actor.name) before (a ∷ []) in (
+      (new, named.0, subst (λ (ns : List (List ℕ)). GoodNames ns (map (λ actor. actor.name) actors)) joined later.0),
       true_and (good_actor S a) (list_all (good_actor S) actors)
-      (true_and (leb (length a.lines) MAX_LINES) (good_lines S a.lines) (no_unless (leb (length a.lines) MAX_LINES) fault.TooMany few.0) (lines_good S [] a.lines few.1 named.1)) later.1)
+          (true_and (leb (length a.lines) MAX_LINES) (good_lines S a.lines) (no_unless (leb (length a.lines) MAX_LINES) fault.TooMany few.0) (lines_good S [] a.lines few.1 named.1)) later.1,
+    )
 
 actors_valid : (S : ScenarioContents) (before actors : List ActorContents) → GoodNames (map (λ actor. actor.name) before) (map (λ actor. actor.name) actors) → list_all (good_actor S) actors ≡ true
     → (first_along (actor_fault S) before actors ≡ None) × (list_all fits_actor actors ≡ true)
@@ -340,14 +347,15 @@ actors_valid S before (a ∷ actors) names good =
     let here : (leb (length a.lines) MAX_LINES ≡ true) × (good_lines S a.lines ≡ true) = and_true (leb (length a.lines) MAX_LINES) (good_lines S a.lines) both.0 in
     let joined : map (λ (actor : ActorContents). actor.name) (before ++ a ∷ []) ≡ map (λ actor. actor.name) before ++ a.name ∷ [] = map-append (λ actor. actor.name) before (a ∷ []) in
     let later : (first_along (actor_fault S) (before ++ a ∷ []) actors ≡ None) × (list_all fits_actor actors ≡ true) =
-      actors_valid S (before ++ a ∷ []) actors (subst (λ (ns : List (List ℕ)). GoodNames ns (map (λ actor. actor.name) actors)) (sym joined) names.2) both.1 in
+    actors_valid S (before ++ a ∷ []) actors (subst (λ (ns : List (List ℕ)). GoodNames ns (map (λ actor. actor.name) actors)) (sym joined) names.2) both.1 in
     let new : list_any (λ other. bytes_eq other.name a.name) before ≡ false = sym (any_of_map (λ (actor : ActorContents). actor.name) (λ other. bytes_eq other a.name) before) ∙ names.0 in
-    let lines : (along ≡ None) × (list_all (λ line. instr_fits line.instr) a.lines ≡ true) = lines_valid S [] a.lines here.1 in
-    (none_first (actor_fault S before a) (first_along (actor_fault S) (before ++ a ∷ []) actors)
-      (none_first (fault_if (list_any (λ other. bytes_eq other.name a.name) before) fault.Duplicate) (or_else (fault_unless (leb (length a.lines) MAX_LINES) fault.TooMany) along)
-      (if_none (list_any (λ other. bytes_eq other.name a.name) before) fault.Duplicate new)
-      (none_first (fault_unless (leb (length a.lines) MAX_LINES) fault.TooMany) along (unless_none (leb (length a.lines) MAX_LINES) fault.TooMany here.0) lines.0)) later.0,
-      true_and (fits_actor a) (list_all fits_actor actors) (true_and (is_name a.name) (list_all (λ line. instr_fits line.instr) a.lines) names.1 lines.1) later.1)
+    let lines : (along ≡ None) × (list_all (λ line. instr_fits line.instr) a.lines ≡ true) = lines_valid S [] a.lines here.1 in (
+      none_first (actor_fault S before a) (first_along (actor_fault S) (before ++ a ∷ []) actors)
+          (none_first (fault_if (list_any (λ other. bytes_eq other.name a.name) before) fault.Duplicate) (or_else (fault_unless (leb (length a.lines) MAX_LINES) fault.TooMany) along)
+          (if_none (list_any (λ other. bytes_eq other.name a.name) before) fault.Duplicate new)
+          (none_first (fault_unless (leb (length a.lines) MAX_LINES) fault.TooMany) along (unless_none (leb (length a.lines) MAX_LINES) fault.TooMany here.0) lines.0)) later.0,
+      true_and (fits_actor a) (list_all fits_actor actors) (true_and (is_name a.name) (list_all (λ line. instr_fits line.instr) a.lines) names.1 lines.1) later.1,
+    )
 
 -- The whole scenario.
 
@@ -391,13 +399,20 @@ good_from_valid S valid fits =
     let works = works_good S [] S.works d.0 fits.works in
     let actors = actors_good S [] S.actors d.1 fits.actors in
     record {
-      cpus = n1.0; workers = n1.1; steps = n2.1; flushes = n3.1;
+      cpus = n1.0;
+      workers = n1.1;
+      steps = n2.1;
+      flushes = n3.1;
       few_queues = at_most (length S.queues) MAX_QUEUES m1.0;
       few_works = at_most (length S.works) MAX_WORKS m1.1;
       few_actors = at_most (length S.actors) MAX_ACTORS m2.1;
-      queue_names = queues.0; queues = queues.1;
-      work_names = works.0; works = works.1; bodies = works.2;
-      actor_names = actors.0; actors = actors.1;
+      queue_names = queues.0;
+      queues = queues.1;
+      work_names = works.0;
+      works = works.1;
+      bodies = works.2;
+      actor_names = actors.0;
+      actors = actors.1;
     }
 
 pub valid_from_good : (S : ScenarioContents) → Good S → IsValid S × Fits S
@@ -416,9 +431,10 @@ valid_from_good S good =
     let actors = actors_valid S [] S.actors good.actor_names good.actors in
     let numbers : numbers_fault S ≡ None = unless_none (cpus && workers && steps && flushes) fault.Range (true_and (cpus && workers && steps) flushes (true_and (cpus && workers) steps (true_and cpus workers good.cpus good.workers) good.steps) good.flushes) in
     let counts : counts_fault S ≡ None =
-      unless_none (qs && ws && actors_few) fault.TooMany (true_and (qs && ws) actors_few (true_and qs ws (at_most_is (length S.queues) MAX_QUEUES good.few_queues) (at_most_is (length S.works) MAX_WORKS good.few_works)) (at_most_is (length S.actors) MAX_ACTORS good.few_actors)) in
-    (none_first (numbers_fault S) (or_else (counts_fault S) after_counts) numbers
-      (none_first (counts_fault S) after_counts counts
-      (none_first (first_along queue_fault [] S.queues) after_queues queues.0
-      (none_first (first_along (work_fault S) [] S.works) (first_along (actor_fault S) [] S.actors) works.0 actors.0))),
-      record { queues = queues.1; works = works.1; actors = actors.1 })
+    unless_none (qs && ws && actors_few) fault.TooMany (true_and (qs && ws) actors_few (true_and qs ws (at_most_is (length S.queues) MAX_QUEUES good.few_queues) (at_most_is (length S.works) MAX_WORKS good.few_works)) (at_most_is (length S.actors) MAX_ACTORS good.few_actors)) in (
+      none_first (numbers_fault S) (or_else (counts_fault S) after_counts) numbers
+          (none_first (counts_fault S) after_counts counts
+          (none_first (first_along queue_fault [] S.queues) after_queues queues.0
+          (none_first (first_along (work_fault S) [] S.works) (first_along (actor_fault S) [] S.actors) works.0 actors.0))),
+      record { queues = queues.1; works = works.1; actors = actors.1 },
+    )

@@ -1,9 +1,9 @@
 -- An actor's line: what is read is said so, and what is said so is read.
-use Rattle.std.proofs.Common.{◌≡◌, ℕ, zero, suc, ◌+◌, ◌<◌, ◌≤◌, ◌^◌, Bool, true, false, not, ◌&&◌, ◌⊎◌, List, [], ◌∷◌, ◌++◌, map, length, get_or, cond, ltb, leb, Result, Ok, Err, arith, refl, sym, ap, ◌∙◌, inl, inr, subst, codes, append-nil}
+use Rattle.std.proofs.Common.{◌≡◌, ℕ, ◌<◌, ◌≤◌, ◌^◌, Bool, true, ◌&&◌, ◌⊎◌, List, [], ◌∷◌, ◌++◌, length, get_or, ltb, leb, Result, Ok, Err, arith, refl, sym, ap, ◌∙◌, inl, inr, subst, codes, append-nil}
 use Rattle.std.proofs.lemmas.Bool.Decides.{nat_tests}
 use Rattle.std.specs.Fmt.{decimal}
 use Rattle.std.specs.Str.{bytes_eq}
-use Rattle.cmwq_types.specs.Contents.{ScenarioContents, WorkContents}
+use Rattle.cmwq_types.specs.Contents.{ScenarioContents}
 use Rattle.cmwq_types.specs.Faults.{names_declared, within}
 use Rattle.cmwq_types.specs.Listing.{actor_line, instr_words}
 use Rattle.cmwq_types.specs.Scenario.{queue_at, work_at}
@@ -15,10 +15,10 @@ use Rattle.cmwq_types.specs.declared.limits.TheConstants.{MAX_TIMES}
 use Rattle.cmwq_types.specs.declared.scenario.Line.{Line}
 use Rattle.cmwq_grammar.specs.Fields.{◌>>=◌, declared_at, made, made_last, number_where, number_within}
 use Rattle.cmwq_grammar.specs.Grammar.{Says, instr_fits}
-use Rattle.cmwq_grammar.specs.Instructions.{cannot_stand, instr_at, line_at, line_of, number_to, on_queue, on_queue_max, on_work, on_work_cpu, on_work_cpu_ticks, queue_id, queue_names, then_cpu, then_cpu_ticks, then_max, then_ticks, then_times, times_at, work_id, work_names}
+use Rattle.cmwq_grammar.specs.Instructions.{instr_at, line_at, line_of, number_to, on_queue, on_queue_max, on_work, on_work_cpu, on_work_cpu_ticks, queue_id, queue_names, then_cpu, then_cpu_ticks, then_max, then_ticks, then_times, times_at, work_id, work_names}
 use Rattle.cmwq_grammar.specs.declared.why.Why.{Why}
 use Rattle.cmwq_grammar.specs.declared.why.Why.TheVariants as why
-use Rattle.cmwq_grammar.proofs.Basics.{ok_same, bind_ok, bind_at, and_true, true_and, chosen, cond_yes, same_word, word_is}
+use Rattle.cmwq_grammar.proofs.Basics.{ok_same, bind_ok, bind_at, and_true, true_and, chosen, same_word}
 use Rattle.cmwq_grammar.proofs.FieldLemmas.{declared_read, ended_again, last_read, where_read, where_again, within_fits, fits_within}
 use Rattle.cmwq_grammar.proofs.LineLemmas.{not_standing}
 use Rattle.cmwq_grammar.proofs.NameLists.{GoodNames, name_of_queue, name_of_work, queue_below, queue_declared, work_below, work_declared}
@@ -50,10 +50,12 @@ work_read : (D : ScenarioContents) (make : WorkId → Instr) (rest : List (List 
 work_read D make rest found e =
     let work : (n : ℕ × List (List ℕ)) × (declared_at (work_names D) rest ≡ Ok n) × (made (λ w. make (work_id w)) n ≡ Ok found) = bind_ok (declared_at (work_names D) rest) (made (λ w. make (work_id w))) found e in
     let same : (make (work_id (work.0).0), (work.0).1) ≡ found = ok_same (make (work_id (work.0).0), (work.0).1) found work.2 in
-    let there : (rest ≡ get_or (work_names D) (work.0).0 [] ∷ (work.0).1) × ((work.0).0 < length (work_names D)) = declared_read (work_names D) rest work.0 work.1 in
-    ((work.0).0, ap (λ (f : Instr × List (List ℕ)). f.0) same,
+    let there : (rest ≡ get_or (work_names D) (work.0).0 [] ∷ (work.0).1) × ((work.0).0 < length (work_names D)) = declared_read (work_names D) rest work.0 work.1 in (
+      (work.0).0,
+      ap (λ (f : Instr × List (List ℕ)). f.0) same,
       there.0 ∙ ap (λ (n : List ℕ). n ∷ (work.0).1) (name_of_work D (work.0).0) ∙ ap (λ (f : Instr × List (List ℕ)). (work_at D (work.0).0).name ∷ f.1) same,
-      work_below D (work.0).0 there.1)
+      work_below D (work.0).0 there.1,
+    )
 
 work_reads : (D : ScenarioContents) (make : WorkId → Instr) (work : WorkId) (left : List (List ℕ)) → GoodNames [] (work_names D) → ltb work.0 (length D.works) ≡ true → on_work D make ((work_at D work.0).name ∷ left) ≡ Ok (make work, left)
 work_reads D make work left names below = bind_at (declared_at (work_names D) ((work_at D work.0).name ∷ left)) (made (λ w. make (work_id w))) (work.0, left) (work_declared D work.0 left names below)
@@ -64,10 +66,12 @@ queue_read : (D : ScenarioContents) (make : QueueId → Instr) (rest : List (Lis
 queue_read D make rest found e =
     let queue : (n : ℕ × List (List ℕ)) × (declared_at (queue_names D) rest ≡ Ok n) × (made (λ w. make (queue_id w)) n ≡ Ok found) = bind_ok (declared_at (queue_names D) rest) (made (λ w. make (queue_id w))) found e in
     let same : (make (queue_id (queue.0).0), (queue.0).1) ≡ found = ok_same (make (queue_id (queue.0).0), (queue.0).1) found queue.2 in
-    let there : (rest ≡ get_or (queue_names D) (queue.0).0 [] ∷ (queue.0).1) × ((queue.0).0 < length (queue_names D)) = declared_read (queue_names D) rest queue.0 queue.1 in
-    ((queue.0).0, ap (λ (f : Instr × List (List ℕ)). f.0) same,
+    let there : (rest ≡ get_or (queue_names D) (queue.0).0 [] ∷ (queue.0).1) × ((queue.0).0 < length (queue_names D)) = declared_read (queue_names D) rest queue.0 queue.1 in (
+      (queue.0).0,
+      ap (λ (f : Instr × List (List ℕ)). f.0) same,
       there.0 ∙ ap (λ (n : List ℕ). n ∷ (queue.0).1) (name_of_queue D (queue.0).0) ∙ ap (λ (f : Instr × List (List ℕ)). (queue_at D (queue.0).0).name ∷ f.1) same,
-      queue_below D (queue.0).0 there.1)
+      queue_below D (queue.0).0 there.1,
+    )
 
 queue_reads : (D : ScenarioContents) (make : QueueId → Instr) (queue : QueueId) (left : List (List ℕ)) → GoodNames [] (queue_names D) → ltb queue.0 (length D.queues) ≡ true → on_queue D make ((queue_at D queue.0).name ∷ left) ≡ Ok (make queue, left)
 queue_reads D make queue left names below = bind_at (declared_at (queue_names D) ((queue_at D queue.0).name ∷ left)) (made (λ w. make (queue_id w))) (queue.0, left) (queue_declared D queue.0 left names below)
@@ -91,10 +95,14 @@ work_cpu_read : (D : ScenarioContents) (make : WorkId → ℕ → Instr) (rest :
 work_cpu_read D make rest found e =
     let work : (n : ℕ × List (List ℕ)) × (declared_at (work_names D) rest ≡ Ok n) × (then_cpu make n ≡ Ok found) = bind_ok (declared_at (work_names D) rest) (then_cpu make) found e in
     let cpu : (n : ℕ) × (make (work_id (work.0).0) n ≡ found.0) × ((work.0).1 ≡ decimal n ∷ found.1) × (leb n 255 ≡ true) = number_read 255 (make (work_id (work.0).0)) (work.0).1 found work.2 in
-    let there : (rest ≡ get_or (work_names D) (work.0).0 [] ∷ (work.0).1) × ((work.0).0 < length (work_names D)) = declared_read (work_names D) rest work.0 work.1 in
-    ((work.0).0, cpu.0, cpu.1,
+    let there : (rest ≡ get_or (work_names D) (work.0).0 [] ∷ (work.0).1) × ((work.0).0 < length (work_names D)) = declared_read (work_names D) rest work.0 work.1 in (
+      (work.0).0,
+      cpu.0,
+      cpu.1,
       there.0 ∙ ap (λ (n : List ℕ). n ∷ (work.0).1) (name_of_work D (work.0).0) ∙ ap (λ (ws : List (List ℕ)). (work_at D (work.0).0).name ∷ ws) cpu.2,
-      work_below D (work.0).0 there.1, cpu.3)
+      work_below D (work.0).0 there.1,
+      cpu.3,
+    )
 
 work_cpu_reads : (D : ScenarioContents) (make : WorkId → ℕ → Instr) (work : WorkId) (cpu : ℕ) (left : List (List ℕ)) → GoodNames [] (work_names D) → ltb work.0 (length D.works) ≡ true → leb cpu 255 ≡ true
     → on_work_cpu D make ((work_at D work.0).name ∷ decimal cpu ∷ left) ≡ Ok (make work cpu, left)
@@ -108,14 +116,20 @@ work_cpu_ticks_read : (D : ScenarioContents) (make : WorkId → ℕ → ℕ → 
 work_cpu_ticks_read D make rest found e =
     let work : (n : ℕ × List (List ℕ)) × (declared_at (work_names D) rest ≡ Ok n) × (then_cpu_ticks make n ≡ Ok found) = bind_ok (declared_at (work_names D) rest) (then_cpu_ticks make) found e in
     let cpu : (n : ℕ × List (List ℕ)) × (number_where (within 0 255) (work.0).1 ≡ Ok n) × (then_ticks (make (work_id (work.0).0)) n ≡ Ok found) =
-      bind_ok (number_where (within 0 255) (work.0).1) (then_ticks (make (work_id (work.0).0))) found work.2 in
+    bind_ok (number_where (within 0 255) (work.0).1) (then_ticks (make (work_id (work.0).0))) found work.2 in
     let ticks : (n : ℕ) × (make (work_id (work.0).0) (cpu.0).0 n ≡ found.0) × ((cpu.0).1 ≡ decimal n ∷ found.1) × (leb n 4294967295 ≡ true) = number_read 4294967295 (make (work_id (work.0).0) (cpu.0).0) (cpu.0).1 found cpu.2 in
     let there : (rest ≡ get_or (work_names D) (work.0).0 [] ∷ (work.0).1) × ((work.0).0 < length (work_names D)) = declared_read (work_names D) rest work.0 work.1 in
-    let number : ((work.0).1 ≡ decimal (cpu.0).0 ∷ (cpu.0).1) × (within 0 255 (cpu.0).0 ≡ true) = where_read (within 0 255) (work.0).1 cpu.0 cpu.1 in
-    ((work.0).0, (cpu.0).0, ticks.0, ticks.1,
+    let number : ((work.0).1 ≡ decimal (cpu.0).0 ∷ (cpu.0).1) × (within 0 255 (cpu.0).0 ≡ true) = where_read (within 0 255) (work.0).1 cpu.0 cpu.1 in (
+      (work.0).0,
+      (cpu.0).0,
+      ticks.0,
+      ticks.1,
       there.0 ∙ ap (λ (n : List ℕ). n ∷ (work.0).1) (name_of_work D (work.0).0)
-      ∙ ap (λ (ws : List (List ℕ)). (work_at D (work.0).0).name ∷ ws) (number.0 ∙ ap (λ (ws : List (List ℕ)). decimal (cpu.0).0 ∷ ws) ticks.2),
-      work_below D (work.0).0 there.1, up_to 255 (cpu.0).0 number.1, ticks.3)
+          ∙ ap (λ (ws : List (List ℕ)). (work_at D (work.0).0).name ∷ ws) (number.0 ∙ ap (λ (ws : List (List ℕ)). decimal (cpu.0).0 ∷ ws) ticks.2),
+      work_below D (work.0).0 there.1,
+      up_to 255 (cpu.0).0 number.1,
+      ticks.3,
+    )
 
 work_cpu_ticks_reads : (D : ScenarioContents) (make : WorkId → ℕ → ℕ → Instr) (work : WorkId) (cpu ticks : ℕ) (left : List (List ℕ)) → GoodNames [] (work_names D) → ltb work.0 (length D.works) ≡ true → leb cpu 255 ≡ true → leb ticks 4294967295 ≡ true
     → on_work_cpu_ticks D make ((work_at D work.0).name ∷ decimal cpu ∷ decimal ticks ∷ left) ≡ Ok (make work cpu ticks, left)
@@ -130,10 +144,14 @@ queue_max_read : (D : ScenarioContents) (make : QueueId → ℕ → Instr) (rest
 queue_max_read D make rest found e =
     let queue : (n : ℕ × List (List ℕ)) × (declared_at (queue_names D) rest ≡ Ok n) × (then_max make n ≡ Ok found) = bind_ok (declared_at (queue_names D) rest) (then_max make) found e in
     let max : (n : ℕ) × (make (queue_id (queue.0).0) n ≡ found.0) × ((queue.0).1 ≡ decimal n ∷ found.1) × (leb n 4294967295 ≡ true) = number_read 4294967295 (make (queue_id (queue.0).0)) (queue.0).1 found queue.2 in
-    let there : (rest ≡ get_or (queue_names D) (queue.0).0 [] ∷ (queue.0).1) × ((queue.0).0 < length (queue_names D)) = declared_read (queue_names D) rest queue.0 queue.1 in
-    ((queue.0).0, max.0, max.1,
+    let there : (rest ≡ get_or (queue_names D) (queue.0).0 [] ∷ (queue.0).1) × ((queue.0).0 < length (queue_names D)) = declared_read (queue_names D) rest queue.0 queue.1 in (
+      (queue.0).0,
+      max.0,
+      max.1,
       there.0 ∙ ap (λ (n : List ℕ). n ∷ (queue.0).1) (name_of_queue D (queue.0).0) ∙ ap (λ (ws : List (List ℕ)). (queue_at D (queue.0).0).name ∷ ws) max.2,
-      queue_below D (queue.0).0 there.1, max.3)
+      queue_below D (queue.0).0 there.1,
+      max.3,
+    )
 
 queue_max_reads : (D : ScenarioContents) (make : QueueId → ℕ → Instr) (queue : QueueId) (max : ℕ) (left : List (List ℕ)) → GoodNames [] (queue_names D) → ltb queue.0 (length D.queues) ≡ true → leb max 4294967295 ≡ true
     → on_queue_max D make ((queue_at D queue.0).name ∷ decimal max ∷ left) ≡ Ok (make queue max, left)
@@ -240,42 +258,60 @@ pub instr_read : (D : ScenarioContents) (word : List ℕ) (rest : List (List ℕ
 unfolding instr_at
 instr_read D word rest found e =
     elim (chosen (bytes_eq word (codes "queue")) (on_work_cpu D instr.Queue rest) _ (Ok found) e) [
-    inl it ↦ queue_line_read D word rest found (same_word word (codes "queue") it.0) it.1
-    | inr not_queue ↦ elim (chosen (bytes_eq word (codes "delay")) (on_work_cpu_ticks D instr.Delay rest) _ (Ok found) not_queue.1) [
-    inl it ↦ delay_line_read D word rest found (same_word word (codes "delay") it.0) it.1
-    | inr not_delay ↦ elim (chosen (bytes_eq word (codes "mod")) (on_work_cpu_ticks D instr.Mod rest) _ (Ok found) not_delay.1) [
-    inl it ↦ mod_line_read D word rest found (same_word word (codes "mod") it.0) it.1
-    | inr not_mod ↦ elim (chosen (bytes_eq word (codes "cancel")) (on_work D instr.Cancel rest) _ (Ok found) not_mod.1) [
-    inl it ↦ cancel_line_read D word rest found (same_word word (codes "cancel") it.0) it.1
-    | inr not_cancel ↦ elim (chosen (bytes_eq word (codes "cancel_sync")) (on_work D instr.CancelSync rest) _ (Ok found) not_cancel.1) [
-    inl it ↦ cancel_sync_line_read D word rest found (same_word word (codes "cancel_sync") it.0) it.1
-    | inr not_cancel_sync ↦ elim (chosen (bytes_eq word (codes "flush")) (on_work D instr.Flush rest) _ (Ok found) not_cancel_sync.1) [
-    inl it ↦ flush_line_read D word rest found (same_word word (codes "flush") it.0) it.1
-    | inr not_flush ↦ elim (chosen (bytes_eq word (codes "flush_delayed")) (on_work D instr.FlushDelayed rest) _ (Ok found) not_flush.1) [
-    inl it ↦ flush_delayed_line_read D word rest found (same_word word (codes "flush_delayed") it.0) it.1
-    | inr not_flush_delayed ↦ elim (chosen (bytes_eq word (codes "flush_queue")) (on_queue D instr.FlushQueue rest) _ (Ok found) not_flush_delayed.1) [
-    inl it ↦ flush_queue_line_read D word rest found (same_word word (codes "flush_queue") it.0) it.1
-    | inr not_flush_queue ↦ elim (chosen (bytes_eq word (codes "set_max")) (on_queue_max D instr.SetMax rest) _ (Ok found) not_flush_queue.1) [
-    inl it ↦ set_max_line_read D word rest found (same_word word (codes "set_max") it.0) it.1
-    | inr not_set_max ↦ elim (chosen (bytes_eq word (codes "freeze")) (plainly instr.Freeze rest) _ (Ok found) not_set_max.1) [
-    inl it ↦ freeze_line_read D word rest found (same_word word (codes "freeze") it.0) it.1
-    | inr not_freeze ↦ elim (chosen (bytes_eq word (codes "thaw")) (plainly instr.Thaw rest) _ (Ok found) not_freeze.1) [
-    inl it ↦ thaw_line_read D word rest found (same_word word (codes "thaw") it.0) it.1
-    | inr not_thaw ↦ elim (chosen (bytes_eq word (codes "fire")) (plainly instr.Fire rest) _ (Ok found) not_thaw.1) [
-    inl it ↦ fire_line_read D word rest found (same_word word (codes "fire") it.0) it.1
-    | inr not_fire ↦ elim (chosen (bytes_eq word (codes "step")) (number_to 255 instr.Step rest) _ (Ok found) not_fire.1) [
-    inl it ↦ step_line_read D word rest found (same_word word (codes "step") it.0) it.1
-    | inr not_step ↦ elim (chosen (bytes_eq word (codes "tick")) (plainly instr.Tick rest) _ (Ok found) not_step.1) [
-    inl it ↦ tick_line_read D word rest found (same_word word (codes "tick") it.0) it.1
-    | inr not_tick ↦ elim (chosen (bytes_eq word (codes "next")) (plainly instr.Next rest) _ (Ok found) not_tick.1) [
-    inl it ↦ next_line_read D word rest found (same_word word (codes "next") it.0) it.1
-    | inr not_next ↦ elim (chosen (bytes_eq word (codes "ask")) (number_to 65535 instr.Ask rest) _ (Ok found) not_next.1) [
-    inl it ↦ ask_line_read D word rest found (same_word word (codes "ask") it.0) it.1
-    | inr not_ask ↦ elim (chosen (bytes_eq word (codes "busy")) (plainly instr.Busy rest) _ (Ok found) not_ask.1) [
-    inl it ↦ busy_line_read D word rest found (same_word word (codes "busy") it.0) it.1
-    | inr not_busy ↦ elim (chosen (bytes_eq word (codes "state")) (on_work D instr.State rest) _ (Ok found) not_busy.1) [
-    inl it ↦ state_line_read D word rest found (same_word word (codes "state") it.0) it.1
-    | inr not_state ↦ not_standing why.Misplaced word found not_state.1 ] ] ] ] ] ] ] ] ] ] ] ] ] ] ] ] ] ]
+      | inl it ↦ queue_line_read D word rest found (same_word word (codes "queue") it.0) it.1
+      | inr not_queue ↦ elim (chosen (bytes_eq word (codes "delay")) (on_work_cpu_ticks D instr.Delay rest) _ (Ok found) not_queue.1) [
+        | inl it ↦ delay_line_read D word rest found (same_word word (codes "delay") it.0) it.1
+        | inr not_delay ↦ elim (chosen (bytes_eq word (codes "mod")) (on_work_cpu_ticks D instr.Mod rest) _ (Ok found) not_delay.1) [
+          | inl it ↦ mod_line_read D word rest found (same_word word (codes "mod") it.0) it.1
+          | inr not_mod ↦ elim (chosen (bytes_eq word (codes "cancel")) (on_work D instr.Cancel rest) _ (Ok found) not_mod.1) [
+            | inl it ↦ cancel_line_read D word rest found (same_word word (codes "cancel") it.0) it.1
+            | inr not_cancel ↦ elim (chosen (bytes_eq word (codes "cancel_sync")) (on_work D instr.CancelSync rest) _ (Ok found) not_cancel.1) [
+              | inl it ↦ cancel_sync_line_read D word rest found (same_word word (codes "cancel_sync") it.0) it.1
+              | inr not_cancel_sync ↦ elim (chosen (bytes_eq word (codes "flush")) (on_work D instr.Flush rest) _ (Ok found) not_cancel_sync.1) [
+                | inl it ↦ flush_line_read D word rest found (same_word word (codes "flush") it.0) it.1
+                | inr not_flush ↦ elim (chosen (bytes_eq word (codes "flush_delayed")) (on_work D instr.FlushDelayed rest) _ (Ok found) not_flush.1) [
+                  | inl it ↦ flush_delayed_line_read D word rest found (same_word word (codes "flush_delayed") it.0) it.1
+                  | inr not_flush_delayed ↦ elim (chosen (bytes_eq word (codes "flush_queue")) (on_queue D instr.FlushQueue rest) _ (Ok found) not_flush_delayed.1) [
+                    | inl it ↦ flush_queue_line_read D word rest found (same_word word (codes "flush_queue") it.0) it.1
+                    | inr not_flush_queue ↦ elim (chosen (bytes_eq word (codes "set_max")) (on_queue_max D instr.SetMax rest) _ (Ok found) not_flush_queue.1) [
+                      | inl it ↦ set_max_line_read D word rest found (same_word word (codes "set_max") it.0) it.1
+                      | inr not_set_max ↦ elim (chosen (bytes_eq word (codes "freeze")) (plainly instr.Freeze rest) _ (Ok found) not_set_max.1) [
+                        | inl it ↦ freeze_line_read D word rest found (same_word word (codes "freeze") it.0) it.1
+                        | inr not_freeze ↦ elim (chosen (bytes_eq word (codes "thaw")) (plainly instr.Thaw rest) _ (Ok found) not_freeze.1) [
+                          | inl it ↦ thaw_line_read D word rest found (same_word word (codes "thaw") it.0) it.1
+                          | inr not_thaw ↦ elim (chosen (bytes_eq word (codes "fire")) (plainly instr.Fire rest) _ (Ok found) not_thaw.1) [
+                            | inl it ↦ fire_line_read D word rest found (same_word word (codes "fire") it.0) it.1
+                            | inr not_fire ↦ elim (chosen (bytes_eq word (codes "step")) (number_to 255 instr.Step rest) _ (Ok found) not_fire.1) [
+                              | inl it ↦ step_line_read D word rest found (same_word word (codes "step") it.0) it.1
+                              | inr not_step ↦ elim (chosen (bytes_eq word (codes "tick")) (plainly instr.Tick rest) _ (Ok found) not_step.1) [
+                                | inl it ↦ tick_line_read D word rest found (same_word word (codes "tick") it.0) it.1
+                                | inr not_tick ↦ elim (chosen (bytes_eq word (codes "next")) (plainly instr.Next rest) _ (Ok found) not_tick.1) [
+                                  | inl it ↦ next_line_read D word rest found (same_word word (codes "next") it.0) it.1
+                                  | inr not_next ↦ elim (chosen (bytes_eq word (codes "ask")) (number_to 65535 instr.Ask rest) _ (Ok found) not_next.1) [
+                                    | inl it ↦ ask_line_read D word rest found (same_word word (codes "ask") it.0) it.1
+                                    | inr not_ask ↦ elim (chosen (bytes_eq word (codes "busy")) (plainly instr.Busy rest) _ (Ok found) not_ask.1) [
+                                      | inl it ↦ busy_line_read D word rest found (same_word word (codes "busy") it.0) it.1
+                                      | inr not_busy ↦ elim (chosen (bytes_eq word (codes "state")) (on_work D instr.State rest) _ (Ok found) not_busy.1) [
+                                        | inl it ↦ state_line_read D word rest found (same_word word (codes "state") it.0) it.1
+                                        | inr not_state ↦ not_standing why.Misplaced word found not_state.1
+                                      ]
+                                    ]
+                                  ]
+                                ]
+                              ]
+                            ]
+                          ]
+                        ]
+                      ]
+                    ]
+                  ]
+                ]
+              ]
+            ]
+          ]
+        ]
+      ]
+    ]
 
 -- the instruction's words and then these are read as it
 abbrev pub InstrReads : ScenarioContents → Instr → List (List ℕ) → Type 0
@@ -320,12 +356,13 @@ times_read i [] line e =
     subst (λ (l : Line). (l.instr ≡ i) × TimesSaid [] l.times × (within 1 MAX_TIMES l.times ≡ true)) (ok_same (line_of i 1) line e) (refl, inr (refl, refl), refl)
 times_read i (word ∷ rest) line e =
     elim (chosen (bytes_eq word (codes "*")) (number_within 1 MAX_TIMES rest >>= made_last (line_of i)) (Err why.ExtraWord) (Ok line) e) [
-    inl it ↦ (let n = bind_ok (number_where (within 1 MAX_TIMES) rest) (made_last (line_of i)) line it.1 in
-      let made : ((n.0).1 ≡ []) × (line_of i (n.0).0 ≡ line) = last_read (line_of i) n.0 line n.2 in
-      let number : (rest ≡ decimal (n.0).0 ∷ (n.0).1) × (within 1 MAX_TIMES (n.0).0 ≡ true) = where_read (within 1 MAX_TIMES) rest n.0 n.1 in
-      let whole : word ∷ rest ≡ codes "*" ∷ decimal (n.0).0 ∷ [] = put_first word (codes "*") rest (decimal (n.0).0 ∷ []) (same_word word (codes "*") it.0) (number.0 ∙ ap (λ (ws : List (List ℕ)). decimal (n.0).0 ∷ ws) made.0) in
-      subst (λ (l : Line). (l.instr ≡ i) × TimesSaid (word ∷ rest) l.times × (within 1 MAX_TIMES l.times ≡ true)) made.1 (refl, inl whole, number.1))
-    | inr no_star ↦ (let no : Err why.ExtraWord ≡ Ok line = no_star.1 in cc) ]
+      | inl it ↦ (let n = bind_ok (number_where (within 1 MAX_TIMES) rest) (made_last (line_of i)) line it.1 in
+          let made : ((n.0).1 ≡ []) × (line_of i (n.0).0 ≡ line) = last_read (line_of i) n.0 line n.2 in
+          let number : (rest ≡ decimal (n.0).0 ∷ (n.0).1) × (within 1 MAX_TIMES (n.0).0 ≡ true) = where_read (within 1 MAX_TIMES) rest n.0 n.1 in
+          let whole : word ∷ rest ≡ codes "*" ∷ decimal (n.0).0 ∷ [] = put_first word (codes "*") rest (decimal (n.0).0 ∷ []) (same_word word (codes "*") it.0) (number.0 ∙ ap (λ (ws : List (List ℕ)). decimal (n.0).0 ∷ ws) made.0) in
+          subst (λ (l : Line). (l.instr ≡ i) × TimesSaid (word ∷ rest) l.times × (within 1 MAX_TIMES l.times ≡ true)) made.1 (refl, inl whole, number.1))
+      | inr no_star ↦ (let no : Err why.ExtraWord ≡ Ok line = no_star.1 in cc)
+    ]
 
 times_again : (i : Instr) (left : List (List ℕ)) (times : ℕ) → TimesSaid left times → within 1 MAX_TIMES times ≡ true → times_at i left ≡ Ok (line_of i times)
 times_again i left times (inl said) fits =
@@ -345,9 +382,10 @@ line_read D word rest line e =
     let read : Read D (word ∷ rest) there.0 = instr_read D word rest there.0 there.1 in
     let times : (line.instr ≡ (there.0).0) × TimesSaid (there.0).1 line.times × (within 1 MAX_TIMES line.times ≡ true) = times_read (there.0).0 (there.0).1 line there.2 in
     let i = (there.0).0 in
-    subst (λ (j : Instr). Says (actor_line D (line_of j line.times)) (word ∷ rest) × (good_line D (line_of j line.times) ≡ true)) (sym times.0)
-    (said_times D i (word ∷ rest) (there.0).1 line.times read.0 times.1,
-      true_and (names_declared D i && within 1 MAX_TIMES line.times) (instr_fits i) (true_and (names_declared D i) (within 1 MAX_TIMES line.times) read.1 times.2) read.2)
+    subst (λ (j : Instr). Says (actor_line D (line_of j line.times)) (word ∷ rest) × (good_line D (line_of j line.times) ≡ true)) (sym times.0) (
+      said_times D i (word ∷ rest) (there.0).1 line.times read.0 times.1,
+      true_and (names_declared D i && within 1 MAX_TIMES line.times) (instr_fits i) (true_and (names_declared D i) (within 1 MAX_TIMES line.times) read.1 times.2) read.2,
+    )
 
 pub line_again : (D : ScenarioContents) (line : Line) (said : List (List ℕ)) → GoodNames [] (work_names D) → GoodNames [] (queue_names D) → good_line D line ≡ true → Says (actor_line D line) said
     → (word : List ℕ) × (rest : List (List ℕ)) × (said ≡ word ∷ rest) × (line_at D word rest ≡ Ok line)
@@ -356,9 +394,12 @@ line_again D line said works queues good says =
     let parts : ((names_declared D line.instr && within 1 MAX_TIMES line.times) ≡ true) × (instr_fits line.instr ≡ true) = and_true (names_declared D line.instr && within 1 MAX_TIMES line.times) (instr_fits line.instr) good in
     let tests : (names_declared D line.instr ≡ true) × (within 1 MAX_TIMES line.times ≡ true) = and_true (names_declared D line.instr) (within 1 MAX_TIMES line.times) parts.0 in
     let left : (ws : List (List ℕ)) × (said ≡ instr_words D line.instr ++ ws) × TimesSaid ws line.times = left_of says in
-    let read : InstrReads D line.instr left.0 = instr_again D line.instr left.0 works queues tests.0 parts.1 in
-    (read.0, read.1, left.1 ∙ read.2,
-      bind_at (instr_at D read.0 read.1) then_times (line.instr, left.0) read.3 ∙ times_again line.instr left.0 line.times left.2 tests.1)
+    let read : InstrReads D line.instr left.0 = instr_again D line.instr left.0 works queues tests.0 parts.1 in (
+      read.0,
+      read.1,
+      left.1 ∙ read.2,
+      bind_at (instr_at D read.0 read.1) then_times (line.instr, left.0) read.3 ∙ times_again line.instr left.0 line.times left.2 tests.1,
+    )
   where
     left_of : Says (actor_line D line) said → (ws : List (List ℕ)) × (said ≡ instr_words D line.instr ++ ws) × TimesSaid ws line.times
     left_of (inl h) = (codes "*" ∷ decimal line.times ∷ [], h, inl refl)

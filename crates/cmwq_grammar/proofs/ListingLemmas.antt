@@ -1,5 +1,5 @@
 -- The listing of a scenario is its text, and fits.
-use Rattle.std.proofs.Common.{◌≡◌, ℕ, zero, suc, ◌+◌, ◌*◌, ◌^◌, ◌<◌, ◌≤◌, Bool, true, false, not, ◌&&◌, ◌||◌, List, [], ◌∷◌, ◌++◌, map, length, get_or, cond, eqb, ltb, leb, arith, refl, sym, ap, ◌∙◌, inl, inr, subst, append-nil, append_assoc, length-append, codes}
+use Rattle.std.proofs.Common.{◌≡◌, ℕ, zero, suc, ◌+◌, ◌*◌, ◌^◌, ◌<◌, ◌≤◌, Bool, true, false, not, ◌&&◌, List, [], ◌∷◌, ◌++◌, map, length, get_or, cond, eqb, ltb, leb, arith, refl, sym, ap, ◌∙◌, inl, inr, subst, append-nil, append_assoc, length-append, codes}
 use Rattle.std.proofs.lemmas.Bool.Decides.{nat_tests}
 use Rattle.std.proofs.lemmas.Fmt.{decimal_nonempty, digits_decimal, length-decimal-le}
 use Rattle.std.proofs.lemmas.Grind.{flat_map-append}
@@ -12,7 +12,7 @@ use Rattle.std.specs.List.{AllByRecursion, flat_map, list_all}
 use Rattle.std.specs.Str.{all_ascii_digits}
 use Rattle.cmwq_types.specs.Contents.{ScenarioContents, WorkContents, ActorContents}
 use Rattle.cmwq_types.specs.Faults.{IsValid, fits_flags, names_declared, within}
-use Rattle.cmwq_types.specs.Listing.{WrittenLine, Words, Flagged, Repeated, actor_line, actor_lines, body_lines, flag_words, instr_words, line_text, listing, numbered, op_line, queue_line, times_words, word_if, work_line, written, written_text}
+use Rattle.cmwq_types.specs.Listing.{WrittenLine, Words, Flagged, Repeated, actor_line, actor_lines, body_lines, flag_words, instr_words, listing, numbered, op_line, queue_line, times_words, word_if, work_line, written, written_text}
 use Rattle.cmwq_types.specs.Name.{is_lowercase, is_name, is_name_byte}
 use Rattle.cmwq_types.specs.Scenario.{queue_at, work_at}
 use Rattle.cmwq_types.specs.declared.instr.Instr.{Instr}
@@ -24,7 +24,7 @@ use Rattle.cmwq_types.specs.declared.scenario.Op.{Op}
 use Rattle.cmwq_types.specs.declared.scenario.Op.TheVariants as op
 use Rattle.cmwq_types.specs.declared.scenario.QueueDecl.{QueueDecl}
 use Rattle.cmwq_grammar.specs.Cutting.{is_empty, lines_of, worded}
-use Rattle.cmwq_grammar.specs.Grammar.{Fits, IsTextOf, SayAll, Says, Spells, instr_fits}
+use Rattle.cmwq_grammar.specs.Grammar.{Fits, SayAll, Says, Spells, instr_fits}
 use Rattle.cmwq_grammar.specs.Instructions.{queue_names, work_names}
 use Rattle.cmwq_grammar.proofs.Basics.{and_true, true_and, either, cond_no, cond_yes}
 use Rattle.cmwq_grammar.proofs.CanonicalLines.{all_plain, fed, fed_lines, joined, plain_byte, plain_no_feeds, plain_utf8, plain_word, plain_worded, plain_words}
@@ -46,8 +46,9 @@ canonical_says (Words words) = refl
 canonical_says (Flagged words flags) = (flags, IsPermutation-refl flags, refl)
 canonical_says (Repeated words times) =
     elim (either (eqb times 1)) [
-    inl one ↦ inr (grind (arith, nat_tests), ap (λ (ws : List (List ℕ)). words ++ ws) (cond_yes (eqb times 1) [] (codes "*" ∷ decimal times ∷ []) one) ∙ append-nil words)
-    | inr more ↦ inl (ap (λ (ws : List (List ℕ)). words ++ ws) (cond_no (eqb times 1) [] (codes "*" ∷ decimal times ∷ []) more)) ]
+      | inl one ↦ inr (grind (arith, nat_tests), ap (λ (ws : List (List ℕ)). words ++ ws) (cond_yes (eqb times 1) [] (codes "*" ∷ decimal times ∷ []) one) ∙ append-nil words)
+      | inr more ↦ inl (ap (λ (ws : List (List ℕ)). words ++ ws) (cond_no (eqb times 1) [] (codes "*" ∷ decimal times ∷ []) more))
+    ]
 
 pub canonical_say : (lines : List WrittenLine) → SayAll lines (map canonical lines)
 canonical_say [] = tt
@@ -162,8 +163,8 @@ line_fits : (k m : ℕ) (l : WrittenLine) (word : List ℕ) (words : List (List 
 line_fits k m l word words e fits h = record {
   plain = ap plain_words e ∙ true_and (not (is_empty (word ∷ words))) (list_all plain_word (word ∷ words)) (not_empty (suc (length words)) (omega arith)) fits.plain;
   short =
-    (let size : length (written_text l) ≡ total (word ∷ words) = ap length (written_is l) ∙ ap (λ (ws : List (List ℕ)). length (joined ws ++ 10 ∷ [])) e ∙ joined_size word words in
-    omega (arith, fits.short));
+      (let size : length (written_text l) ≡ total (word ∷ words) = ap length (written_is l) ∙ ap (λ (ws : List (List ℕ)). length (joined ws ++ 10 ∷ [])) e ∙ joined_size word words in
+      omega (arith, fits.short));
 }
 
 pub record LinesFit (k : ℕ) (lines : List WrittenLine) : Type 0 where
@@ -183,9 +184,9 @@ lines_on : (a b : ℕ) (xs ys : List WrittenLine) → LinesFit a xs → LinesFit
 lines_on a b xs ys x y = record {
   plain = ap all_plain (map-append canonical xs ys) ∙ list_all-append plain_words (map canonical xs) (map canonical ys) ∙ true_and (all_plain (map canonical xs)) (all_plain (map canonical ys)) x.plain y.plain;
   short =
-    (let whole : length (flat_map written_text (xs ++ ys)) ≡ length (flat_map written_text xs ++ flat_map written_text ys) = ap length (flat_map-append written_text xs ys) in
-    let sum : length (flat_map written_text xs ++ flat_map written_text ys) ≡ length (flat_map written_text xs) + length (flat_map written_text ys) = length-append (flat_map written_text xs) (flat_map written_text ys) in
-    omega (arith, x.short, y.short));
+      (let whole : length (flat_map written_text (xs ++ ys)) ≡ length (flat_map written_text xs ++ flat_map written_text ys) = ap length (flat_map-append written_text xs ys) in
+      let sum : length (flat_map written_text xs ++ flat_map written_text ys) ≡ length (flat_map written_text xs) + length (flat_map written_text ys) = length-append (flat_map written_text xs) (flat_map written_text ys) in
+      omega (arith, x.short, y.short));
 }
 
 lines_within : (a b : ℕ) (lines : List WrittenLine) → LinesFit a lines → a ≤ b → LinesFit b lines
@@ -380,8 +381,8 @@ actors_fit S before (a ∷ actors) works queues names good =
     let few : length a.lines ≤ MAX_LINES = at_most (length a.lines) MAX_LINES here.0 in
     lines_within (184342 + length actors * 184342) (suc (length actors) * 184342) (flat_map (actor_lines S) (a ∷ actors))
     (lines_on 184342 (length actors * 184342) (actor_lines S a) (flat_map (actor_lines S) actors)
-      (lines_within (22 + length a.lines * 45) 184342 (actor_lines S a) (line_on 22 (length a.lines * 45) (Words (codes "actor" ∷ a.name ∷ [])) (map (actor_line S) a.lines) (actor_line_fits a.name names.1) (lines_of_actor_fit S a.lines works queues here.1)) (omega arith))
-      (actors_fit S (before ++ a.name ∷ []) actors works queues names.2 both.1)) (omega arith)
+    (lines_within (22 + length a.lines * 45) 184342 (actor_lines S a) (line_on 22 (length a.lines * 45) (Words (codes "actor" ∷ a.name ∷ [])) (map (actor_line S) a.lines) (actor_line_fits a.name names.1) (lines_of_actor_fit S a.lines works queues here.1)) (omega arith))
+    (actors_fit S (before ++ a.name ∷ []) actors works queues names.2 both.1)) (omega arith)
 
 -- The whole listing.
 
@@ -404,20 +405,20 @@ written_fits S good =
     let actors : LinesFit d (flat_map (actor_lines S) S.actors) = actors_fit S [] S.actors good.work_names good.queue_names good.actor_names good.actors in
     let declared : LinesFit (a + b) (map queue_line S.queues ++ map (work_line S) S.works) = lines_on a b (map queue_line S.queues) (map (work_line S) S.works) queues works in
     let with_bodies : LinesFit (a + b + c) (map queue_line S.queues ++ map (work_line S) S.works ++ flat_map (body_lines S) S.works) =
-      lines_on (a + b) c (map queue_line S.queues ++ map (work_line S) S.works) (flat_map (body_lines S) S.works) declared bodies in
+    lines_on (a + b) c (map queue_line S.queues ++ map (work_line S) S.works) (flat_map (body_lines S) S.works) declared bodies in
     let rest : List WrittenLine = map queue_line S.queues ++ map (work_line S) S.works ++ flat_map (body_lines S) S.works ++ flat_map (actor_lines S) S.actors in
     let all : LinesFit (a + b + c + d) rest =
-      lines_on (a + b + c) d (map queue_line S.queues ++ map (work_line S) S.works ++ flat_map (body_lines S) S.works) (flat_map (actor_lines S) S.actors) with_bodies actors in
+    lines_on (a + b + c) d (map queue_line S.queues ++ map (work_line S) S.works ++ flat_map (body_lines S) S.works) (flat_map (actor_lines S) S.actors) with_bodies actors in
     let word : (k : ℕ) (w : List ℕ) → plain_word w ≡ true → length w ≤ k → WordFits k w = λ k w p h. record { plain = p; short = h } in
     lines_within ((4 + 12) + ((7 + 12) + ((5 + 12) + ((7 + 12) + (a + b + c + d))))) MAX_TEXT (written S)
     (line_on (4 + 12) ((7 + 12) + ((5 + 12) + ((7 + 12) + (a + b + c + d)))) (numbered (codes "cpus") S.cpus) (numbered (codes "workers") S.workers ∷ numbered (codes "steps") S.steps ∷ numbered (codes "flushes") S.flushes ∷ rest)
-      (numbered_fits 4 (codes "cpus") S.cpus (word 4 (codes "cpus") refl (omega arith)) (omega arith))
+    (numbered_fits 4 (codes "cpus") S.cpus (word 4 (codes "cpus") refl (omega arith)) (omega arith))
     (line_on (7 + 12) ((5 + 12) + ((7 + 12) + (a + b + c + d))) (numbered (codes "workers") S.workers) (numbered (codes "steps") S.steps ∷ numbered (codes "flushes") S.flushes ∷ rest)
-      (numbered_fits 7 (codes "workers") S.workers (word 7 (codes "workers") refl (omega arith)) (omega arith))
+    (numbered_fits 7 (codes "workers") S.workers (word 7 (codes "workers") refl (omega arith)) (omega arith))
     (line_on (5 + 12) ((7 + 12) + (a + b + c + d)) (numbered (codes "steps") S.steps) (numbered (codes "flushes") S.flushes ∷ rest)
-      (numbered_fits 5 (codes "steps") S.steps (word 5 (codes "steps") refl (omega arith)) (omega arith))
+    (numbered_fits 5 (codes "steps") S.steps (word 5 (codes "steps") refl (omega arith)) (omega arith))
     (line_on (7 + 12) (a + b + c + d) (numbered (codes "flushes") S.flushes) rest
-      (numbered_fits 7 (codes "flushes") S.flushes (word 7 (codes "flushes") refl (omega arith)) (omega arith)) all)))) (omega arith)
+    (numbered_fits 7 (codes "flushes") S.flushes (word 7 (codes "flushes") refl (omega arith)) (omega arith)) all)))) (omega arith)
 
 pub listing_lines : (S : ScenarioContents) → Good S → lines_of (listing S) ≡ map joined (map canonical (written S))
 listing_lines S good = ap lines_of (listing_is (written S)) ∙ fed_lines (map joined (map canonical (written S))) (plain_no_feeds (map canonical (written S)) (written_fits S good).plain)

@@ -1,8 +1,8 @@
 -- Lists of names of which no two are equal.
-use Rattle.std.proofs.Common.{◌≡◌, ℕ, zero, suc, ◌+◌, ◌<◌, ◌≤◌, Bool, true, false, List, [], ◌∷◌, ◌++◌, map, length, get_or, ltb, Result, Ok, Err, arith, refl, sym, ap, ◌∙◌, subst, append_assoc, append-nil, length-append, lt-ltb, ltb-true}
+use Rattle.std.proofs.Common.{◌≡◌, ℕ, zero, suc, ◌+◌, ◌<◌, true, List, [], ◌∷◌, ◌++◌, map, length, get_or, ltb, Ok, arith, refl, sym, ap, ◌∙◌, subst, append_assoc, append-nil, length-append}
 use Rattle.std.proofs.lemmas.Bool.Decides.{nat_tests}
-use Rattle.std.proofs.lemmas.List.{get_or_at, length-map}
-use Rattle.cmwq_types.specs.Contents.{ScenarioContents, WorkContents, ActorContents}
+use Rattle.std.proofs.lemmas.List.{length-map}
+use Rattle.cmwq_types.specs.Contents.{ScenarioContents, WorkContents}
 use Rattle.cmwq_types.specs.Name.{is_name}
 use Rattle.cmwq_types.specs.Scenario.{queue_at, work_at, plain_flags}
 use Rattle.cmwq_types.specs.declared.scenario.QueueDecl.{QueueDecl}
@@ -34,7 +34,7 @@ declared_from before (name ∷ names) zero rest good h =
     declared_again before name names rest good.1 good.0 ∙ ap (λ (n : ℕ). Ok (n, rest)) (omega arith)
 declared_from before (name ∷ names) (suc i) rest good h =
     let later : declared_at ((before ++ name ∷ []) ++ names) (get_or names i [] ∷ rest) ≡ Ok (length (before ++ name ∷ []) + i, rest) =
-      declared_from (before ++ name ∷ []) names i rest good.2 (omega arith) in
+    declared_from (before ++ name ∷ []) names i rest good.2 (omega arith) in
     let number : length (before ++ name ∷ []) + i ≡ length before + suc i = (let long : length (before ++ name ∷ []) ≡ length before + 1 = length-append before (name ∷ []) in omega arith) in
     ap (λ (ns : List (List ℕ)). declared_at ns (get_or names i [] ∷ rest)) (sym (append_assoc before (name ∷ []) names)) ∙ later ∙ ap (λ (n : ℕ). Ok (n, rest)) number
 

@@ -1,32 +1,25 @@
 -- Whole texts: what is read is spelled so, and what is spelled so is read.
-use Rattle.std.proofs.Common.{◌≡◌, ℕ, zero, suc, ◌+◌, ◌<◌, ◌≤◌, Bool, true, false, not, ◌⊎◌, List, [], ◌∷◌, ◌++◌, map, length, cond, eqb, ltb, Result, Ok, Err, arith, refl, sym, ap, ◌∙◌, inl, inr, subst, append-nil, append_assoc, length-append, codes}
+use Rattle.std.proofs.Common.{◌≡◌, ℕ, suc, ◌+◌, ◌≤◌, true, false, not, List, [], ◌∷◌, ◌++◌, length, cond, eqb, ltb, Result, Ok, Err, arith, refl, sym, ap, ◌∙◌, inl, inr, subst, append-nil}
 use Rattle.std.proofs.lemmas.Bool.Decides.{nat_tests}
-use Rattle.std.proofs.lemmas.List.{length-map}
-use Rattle.std.specs.List.{AllByRecursion, flat_map}
 use Rattle.std.specs.Str.{is_utf8}
 use Rattle.cmwq_types.specs.Contents.{ScenarioContents, WorkContents, ActorContents}
-use Rattle.cmwq_types.specs.Listing.{WrittenLine, actor_line, actor_lines, body_lines, numbered, op_line, queue_line, work_line, written}
+use Rattle.cmwq_types.specs.Listing.{WrittenLine, written}
 use Rattle.cmwq_types.specs.declared.check.Fault.TheVariants as fault
 use Rattle.cmwq_types.specs.declared.limits.TheConstants.{MAX_TEXT}
 use Rattle.cmwq_types.specs.declared.scenario.Line.{Line}
-use Rattle.cmwq_types.specs.declared.scenario.Op.{Op}
-use Rattle.cmwq_types.specs.declared.scenario.Op.TheVariants as op
-use Rattle.cmwq_types.specs.declared.scenario.QueueDecl.{QueueDecl}
 use Rattle.cmwq_grammar.specs.Cutting.{is_empty, lines_of, worded, words_of}
-use Rattle.cmwq_grammar.specs.Fields.{◌>>=◌}
-use Rattle.cmwq_grammar.specs.Grammar.{Fits, IsTextOf, SayAll, Says, Spells}
+use Rattle.cmwq_grammar.specs.Grammar.{SayAll, Spells}
 use Rattle.cmwq_grammar.specs.Meaning.{FaultAt, at_line, ends_before, fault_at, reads, reads_lines, stage_after}
 use Rattle.cmwq_grammar.specs.Reasons.{all_have_bodies, at_end, judge, step, with_works}
 use Rattle.cmwq_grammar.specs.Stages.{Stage, Start, Cpus, Workers, Steps, Queues, Works, Bodies, Body, Actor, with_actor}
 use Rattle.cmwq_grammar.specs.declared.why.Why.{Why}
 use Rattle.cmwq_grammar.specs.declared.why.Why.TheVariants as why
-use Rattle.cmwq_grammar.proofs.Basics.{bind_ok, bind_at, chosen, cond_no, cond_yes, fine, ok_same, value_if_ok, value_if_at}
-use Rattle.cmwq_grammar.proofs.Continuations.{ActorLeft, BodiesLeft, BodyLeft, Continues, QueuesLeft, SameHead, Sound, SoundBodies, SoundBody, SoundQueues, SoundWorks, WorksLeft, bare, rest_lines}
-use Rattle.cmwq_grammar.proofs.GoodScenario.{Good, GoodBody, good_from_valid, valid_from_good}
+use Rattle.cmwq_grammar.proofs.Basics.{bind_ok, chosen, cond_yes, fine, ok_same, value_if_ok}
+use Rattle.cmwq_grammar.proofs.Continuations.{Continues, Sound, SoundBodies, SoundQueues, rest_lines}
+use Rattle.cmwq_grammar.proofs.GoodScenario.{Good, valid_from_good}
 use Rattle.cmwq_grammar.proofs.Soundness.{sound_all}
 use Rattle.cmwq_grammar.proofs.StepRead.{ReadOn, all_declared, step_read}
-use Rattle.cmwq_grammar.proofs.StepSaid.{TakenOn, body_of, fronts, step_said}
-use Rattle.cmwq_grammar.proofs.Utf8Lemmas.{AllUtf8, lines_utf8, text_utf8}
+use Rattle.cmwq_grammar.proofs.Utf8Lemmas.{AllUtf8, text_utf8}
 
 -- One line.
 
@@ -34,7 +27,9 @@ pub judged : (stage next : Stage) (line : List ℕ) → judge stage line ≡ Ok 
 unfolding judge
 judged stage next line e =
     elim (chosen (is_utf8 line) (step stage (words_of line)) (Err why.BadUtf8) (fine next) e) [
-    inl it ↦ it | inr it ↦ absurd (not_fine it.1) ]
+      | inl it ↦ it
+      | inr it ↦ absurd (not_fine it.1)
+    ]
   where
     not_fine : Err why.BadUtf8 ≡ fine next → ⊥
     not_fine h = cc
@@ -81,9 +76,9 @@ read_on stage middle next (word ∷ rest) more sound e later =
     subst (λ (said : List (List (List ℕ))). LinesRead stage said next) (sym (with_words word rest more)) (record {
       sound = after.sound;
       front = λ lines S left.
-        let told = after.front lines S left in
-        let line = read.line (told.0 ++ lines) S told.2 in
-        (line.0 ∷ told.0, (line.1, told.1), line.2);
+          let told = after.front lines S left in
+          let line = read.line (told.0 ++ lines) S told.2 in
+          (line.0 ∷ told.0, (line.1, told.1), line.2);
     })
 
 pub sound_after : (stage next : Stage) (words : List (List ℕ)) → Sound stage → step stage words ≡ Ok next → Sound next
@@ -115,35 +110,44 @@ no_scenario reason S e = cc
 
 pub queues_end : (D S : ScenarioContents) → SoundQueues D → D ≡ S → EndsAs (Queues D) S
 queues_end D S sound e =
-    subst (λ (T : ScenarioContents). EndsAs (Queues D) T) e (record {
-      head = record { cpus = refl; workers = refl; steps = refl; flushes = refl };
-      more = [];
-      queues = sym (append-nil D.queues);
-      said = sym (ap (λ (ws : List WorkContents). rest_lines D [] ws ws D.actors) sound.no_works ∙ ap (λ (as_ : List ActorContents). rest_lines D [] [] [] as_) sound.no_actors);
-    }, sound.good)
+    subst (λ (T : ScenarioContents). EndsAs (Queues D) T) e (
+      record {
+        head = record { cpus = refl; workers = refl; steps = refl; flushes = refl };
+        more = [];
+        queues = sym (append-nil D.queues);
+        said = sym (ap (λ (ws : List WorkContents). rest_lines D [] ws ws D.actors) sound.no_works ∙ ap (λ (as_ : List ActorContents). rest_lines D [] [] [] as_) sound.no_actors);
+      },
+      sound.good,
+    )
 
 bodies_end : (D S : ScenarioContents) (done : List WorkContents) → SoundBodies D done → all_have_bodies D done ≡ true → with_works D done ≡ S → EndsAs (Bodies D done) S
 bodies_end D S done sound all e =
-    subst (λ (T : ScenarioContents). EndsAs (Bodies D done) T) e (record {
-      head = record { cpus = refl; workers = refl; steps = refl; flushes = refl };
-      queues = refl;
-      more = [];
-      works = sym (append-nil done);
-      declared = all_declared D done sound all;
-      said = sym (ap (λ (as_ : List ActorContents). rest_lines (with_works D done) [] [] [] as_) sound.no_actors);
-    }, sound_all D done sound all)
+    subst (λ (T : ScenarioContents). EndsAs (Bodies D done) T) e (
+      record {
+        head = record { cpus = refl; workers = refl; steps = refl; flushes = refl };
+        queues = refl;
+        more = [];
+        works = sym (append-nil done);
+        declared = all_declared D done sound all;
+        said = sym (ap (λ (as_ : List ActorContents). rest_lines (with_works D done) [] [] [] as_) sound.no_actors);
+      },
+      sound_all D done sound all,
+    )
 
 pub actor_ends : (D S : ScenarioContents) (name : List ℕ) (given : List Line) → Good (with_actor D name given) → with_actor D name given ≡ S → EndsAs (Actor D name given) S
 actor_ends D S name given good e =
-    subst (λ (T : ScenarioContents). EndsAs (Actor D name given) T) e (record {
-      head = record { cpus = refl; workers = refl; steps = refl; flushes = refl };
-      queues = refl;
-      works = refl;
-      left = [];
-      more = [];
-      actors = ap (λ (ls : List Line). D.actors ++ record { name = name; lines = ls } ∷ []) (sym (append-nil given));
-      said = refl;
-    }, good)
+    subst (λ (T : ScenarioContents). EndsAs (Actor D name given) T) e (
+      record {
+        head = record { cpus = refl; workers = refl; steps = refl; flushes = refl };
+        queues = refl;
+        works = refl;
+        left = [];
+        more = [];
+        actors = ap (λ (ls : List Line). D.actors ++ record { name = name; lines = ls } ∷ []) (sym (append-nil given));
+        said = refl;
+      },
+      good,
+    )
 
 pub end_read : (stage : Stage) (S : ScenarioContents) → Sound stage → at_end stage ≡ Ok S → EndsAs stage S
 unfolding at_end
@@ -175,17 +179,20 @@ pub read_spells : (text : List ℕ) (S : ScenarioContents) → reads text ≡ Ok
 unfolding reads
 read_spells text S e =
     elim (chosen (ltb MAX_TEXT (length text)) (Err (fault_at 0 why.TooLong)) (reads_lines (lines_of text)) (Ok S) e) [
-    inl long ↦ absurd (not_ok long.1)
-    | inr it ↦ (let read : SayAll (written S) (worded (lines_of text)) × Good S × AllUtf8 (lines_of text) = lines_read (lines_of text) S it.1 in
-      let valid = valid_from_good S read.1 in
-      record {
-        short = not_above (length text) it.0;
-        is_text = record { utf8 = text_utf8 text read.2; lines = read.0; valid = valid.0; fits = valid.1 };
-      }) ]
+      | inl long ↦ absurd (not_ok long.1)
+      | inr it ↦ (let read : SayAll (written S) (worded (lines_of text)) × Good S × AllUtf8 (lines_of text) = lines_read (lines_of text) S it.1 in
+          let valid = valid_from_good S read.1 in
+          record {
+            short = not_above (length text) it.0;
+            is_text = record { utf8 = text_utf8 text read.2; lines = read.0; valid = valid.0; fits = valid.1 };
+          })
+    ]
   where
     as_ok : ScenarioContents → Result ScenarioContents FaultAt
     as_ok T = Ok T
+
     not_ok : Err (fault_at 0 why.TooLong) ≡ as_ok S → ⊥
     not_ok h = cc
+
     not_above : (n : ℕ) → ltb MAX_TEXT n ≡ false → n ≤ MAX_TEXT
     not_above n h = grind (arith, nat_tests)

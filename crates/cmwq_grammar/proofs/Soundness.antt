@@ -1,11 +1,11 @@
 -- Each line that is read keeps a stage sound.
-use Rattle.std.proofs.Common.{◌≡◌, ℕ, zero, suc, ◌+◌, ◌<◌, ◌≤◌, Bool, true, false, not, ◌&&◌, ◌⊎◌, List, [], ◌∷◌, ◌++◌, map, length, get_or, cond, eqb, ltb, leb, arith, refl, sym, ap, ◌∙◌, inl, inr, subst, append_assoc, append-nil, length-append}
+use Rattle.std.proofs.Common.{◌≡◌, ℕ, suc, ◌+◌, ◌<◌, ◌≤◌, Bool, true, false, not, List, [], ◌∷◌, ◌++◌, map, length, get_or, eqb, leb, arith, refl, sym, ap, ◌∙◌, subst, append_assoc, append-nil, length-append}
 use Rattle.std.proofs.lemmas.Bool.Decides.{nat_tests}
 use Rattle.std.proofs.lemmas.List.{get_or_at, length-map, map-append, same_from_push}
 use Rattle.std.proofs.lemmas.List.Folds.{list_all-append, list_all-map}
 use Rattle.std.specs.List.{AllByRecursion, list_all}
 use Rattle.cmwq_types.specs.Contents.{ScenarioContents, WorkContents, ActorContents}
-use Rattle.cmwq_types.specs.Faults.{fits_flags, is_finish, within}
+use Rattle.cmwq_types.specs.Faults.{fits_flags, is_finish}
 use Rattle.cmwq_types.specs.Name.{is_name}
 use Rattle.cmwq_types.specs.Scenario.{work_at}
 use Rattle.cmwq_types.specs.declared.limits.TheConstants.{MAX_ACTORS, MAX_LINES, MAX_OPS, MAX_QUEUES, MAX_WORKS}
@@ -13,7 +13,7 @@ use Rattle.cmwq_types.specs.declared.scenario.Line.{Line}
 use Rattle.cmwq_types.specs.declared.scenario.Op.{Op}
 use Rattle.cmwq_types.specs.declared.scenario.Op.TheVariants as op
 use Rattle.cmwq_types.specs.declared.scenario.QueueDecl.{QueueDecl}
-use Rattle.cmwq_grammar.specs.Instructions.{actor_names, queue_names, work_names}
+use Rattle.cmwq_grammar.specs.Instructions.{work_names}
 use Rattle.cmwq_grammar.specs.Reasons.{all_have_bodies, with_works}
 use Rattle.cmwq_grammar.specs.Stages.{Stage, with_actor, with_body}
 use Rattle.cmwq_grammar.proofs.Basics.{and_true, true_and}
@@ -61,9 +61,13 @@ sound_queue D said next sound added =
     let long : length (D.queues ++ q ∷ []) ≡ length D.queues + 1 = length-append D.queues (q ∷ []) in
     record {
       good = record {
-        cpus = good.cpus; workers = good.workers; steps = good.steps; flushes = good.flushes;
+        cpus = good.cpus;
+        workers = good.workers;
+        steps = good.steps;
+        flushes = good.flushes;
         few_queues = (let room : length D.queues < MAX_QUEUES = added.room in omega arith);
-        few_works = good.few_works; few_actors = good.few_actors;
+        few_works = good.few_works;
+        few_actors = good.few_actors;
         queue_names = names_and_one (λ (queue : QueueDecl). queue.name) D.queues q good.queue_names added.new added.name;
         queues = all_and_one fits_flags D.queues q good.queues added.flags;
         work_names = good.work_names;
@@ -98,8 +102,8 @@ sound_work_on D said next added good no_actors names queued declared =
       names = names_and_one (λ (work : WorkContents). work.name) D.works w names added.new added.name;
       queued = all_and_one (on_queue_of (length D.queues)) D.works w queued added.queue;
       declared =
-        ap (λ (ws : List WorkContents). ws ++ w ∷ []) declared ∙ ap (λ (x : WorkContents). map bare D.works ++ x ∷ []) is_bare
-        ∙ sym (map-append bare D.works (w ∷ []));
+          ap (λ (ws : List WorkContents). ws ++ w ∷ []) declared ∙ ap (λ (x : WorkContents). map bare D.works ++ x ∷ []) is_bare
+          ∙ sym (map-append bare D.works (w ∷ []));
     }
 
 pub sound_first_work : (D : ScenarioContents) (said : List (List ℕ)) (next : Stage) → SoundQueues D → (added : WorkAdded D said next) → SoundWorks (with_work D added.work)
@@ -130,9 +134,15 @@ good_least D sound =
     let long : length (map at_least D.works) ≡ length D.works = length-map D.works at_least in
     let few : length D.works ≤ MAX_WORKS = sound.few in
     record {
-      cpus = good.cpus; workers = good.workers; steps = good.steps; flushes = good.flushes;
-      few_queues = good.few_queues; few_works = omega arith; few_actors = good.few_actors;
-      queue_names = good.queue_names; queues = good.queues;
+      cpus = good.cpus;
+      workers = good.workers;
+      steps = good.steps;
+      flushes = good.flushes;
+      few_queues = good.few_queues;
+      few_works = omega arith;
+      few_actors = good.few_actors;
+      queue_names = good.queue_names;
+      queues = good.queues;
       work_names = subst (λ (ns : List (List ℕ)). GoodNames [] ns) (sym (names_of at_least (λ w. refl) D.works)) sound.names;
       works = list_all-map (on_queue_of (length D.queues)) at_least D.works ∙ sound.queued;
       bodies = least_bodies D.cpus (length (map at_least D.works)) D.works;
@@ -193,7 +203,7 @@ sound_finish D done ops last sound finish =
     let all : List Op = ops ++ op.Finish ∷ [] in
     let x : WorkContents = record sound.work { body = all } in
     let same : with_body D done (ops ++ last ∷ []) ≡ done ++ x ∷ [] =
-      ap (λ (o : Op). with_body D done (ops ++ o ∷ [])) (finish_is last finish) ∙ with_open_body D done sound.work sound.more all sound.declared in
+    ap (λ (o : Op). with_body D done (ops ++ o ∷ [])) (finish_is last finish) ∙ with_open_body D done sound.work sound.more all sound.declared in
     let sound_x : SoundBodies D (done ++ x ∷ []) = record {
       no_actors = sound.no_actors;
       more = sound.more;
@@ -214,13 +224,19 @@ body_swap D front back work a b no_actors good body =
     let few : length (front ++ x ∷ back) ≤ MAX_WORKS = good.few_works in
     let on = on_queue_of (length D.queues) in
     record {
-      cpus = good.cpus; workers = good.workers; steps = good.steps; flushes = good.flushes;
-      few_queues = good.few_queues; few_works = omega arith; few_actors = good.few_actors;
-      queue_names = good.queue_names; queues = good.queues;
+      cpus = good.cpus;
+      workers = good.workers;
+      steps = good.steps;
+      flushes = good.flushes;
+      few_queues = good.few_queues;
+      few_works = omega arith;
+      few_actors = good.few_actors;
+      queue_names = good.queue_names;
+      queues = good.queues;
       work_names = subst (λ (ns : List (List ℕ)). GoodNames [] ns) (same_names (λ (w : WorkContents). w.name) front back x y refl) good.work_names;
       works = list_all-append on front (y ∷ back) ∙ sym (list_all-append on front (x ∷ back)) ∙ good.works;
       bodies = subst (λ (n : ℕ). AllByRecursion (GoodBodyOf D.cpus n) (front ++ y ∷ back)) long
-        (bodies_swap (GoodBodyOf D.cpus (length (front ++ x ∷ back))) front back x y good.bodies body);
+          (bodies_swap (GoodBodyOf D.cpus (length (front ++ x ∷ back))) front back x y good.bodies body);
       actor_names = good.actor_names;
       actors = ap (λ (as_ : List ActorContents). list_all (good_actor (record D { works = front ++ y ∷ back })) as_) no_actors;
     }
@@ -249,13 +265,13 @@ sound_op D done ops last sound going room good_last =
       declared = sound.declared;
       others = all_and_one (λ o. not (is_finish o)) ops last sound.others (ap not going);
       good = body_swap D front back sound.work (ops ++ op.Finish ∷ []) ((ops ++ last ∷ []) ++ op.Finish ∷ []) sound.no_actors sound.good
-        (record {
-          ops = ops ++ last ∷ [];
-          whole = refl;
-          good = all_and_one test ops last good_ops good_here;
-          others = all_and_one (λ o. not (is_finish o)) ops last sound.others (ap not going);
-          few = omega arith;
-        });
+          (record {
+            ops = ops ++ last ∷ [];
+            whole = refl;
+            good = all_and_one test ops last good_ops good_here;
+            others = all_and_one (λ o. not (is_finish o)) ops last sound.others (ap not going);
+            few = omega arith;
+          });
     }
 
 -- Actors.
@@ -265,11 +281,18 @@ sound_actor D rest next good opened =
     let a : ActorContents = record { name = opened.name; lines = [] } in
     let long : length (D.actors ++ a ∷ []) ≡ length D.actors + 1 = length-append D.actors (a ∷ []) in
     record {
-      cpus = good.cpus; workers = good.workers; steps = good.steps; flushes = good.flushes;
-      few_queues = good.few_queues; few_works = good.few_works;
+      cpus = good.cpus;
+      workers = good.workers;
+      steps = good.steps;
+      flushes = good.flushes;
+      few_queues = good.few_queues;
+      few_works = good.few_works;
       few_actors = (let room : length D.actors < MAX_ACTORS = opened.room in omega arith);
-      queue_names = good.queue_names; queues = good.queues;
-      work_names = good.work_names; works = good.works; bodies = good.bodies;
+      queue_names = good.queue_names;
+      queues = good.queues;
+      work_names = good.work_names;
+      works = good.works;
+      bodies = good.bodies;
       actor_names = names_and_one (λ (actor : ActorContents). actor.name) D.actors a good.actor_names opened.new opened.is;
       actors = all_and_one (good_actor D) D.actors a good.actors refl;
     }
@@ -279,6 +302,7 @@ sound_all D done sound all = closed sound.more sound.declared sound.good
   where
     same_number : (n m : ℕ) → eqb n m ≡ true → n ≡ m
     same_number n m h = grind (arith, nat_tests)
+
     closed : (more : List WorkContents) → D.works ≡ map bare (done ++ more) → Good (record D { works = done ++ map at_least more }) → Good (with_works D done)
     closed [] declared good = subst (λ (ws : List WorkContents). Good (record D { works = ws })) (append-nil done) good
     closed (w ∷ more) declared good =
@@ -298,13 +322,21 @@ sound_line D name lines line good good_one room =
     let few : length (D.actors ++ a ∷ []) ≤ MAX_ACTORS = good.few_actors in
     let count : length (D.actors ++ a ∷ []) ≡ length (D.actors ++ b ∷ []) = same_length D.actors [] a b in
     record {
-      cpus = good.cpus; workers = good.workers; steps = good.steps; flushes = good.flushes;
-      few_queues = good.few_queues; few_works = good.few_works; few_actors = omega arith;
-      queue_names = good.queue_names; queues = good.queues;
-      work_names = good.work_names; works = good.works; bodies = good.bodies;
+      cpus = good.cpus;
+      workers = good.workers;
+      steps = good.steps;
+      flushes = good.flushes;
+      few_queues = good.few_queues;
+      few_works = good.few_works;
+      few_actors = omega arith;
+      queue_names = good.queue_names;
+      queues = good.queues;
+      work_names = good.work_names;
+      works = good.works;
+      bodies = good.bodies;
       actor_names = subst (λ (ns : List (List ℕ)). GoodNames [] ns) (same_names (λ (actor : ActorContents). actor.name) D.actors [] a b refl) good.actor_names;
       actors = all_and_one (good_actor D) D.actors b parts.0
-        (true_and (leb (length (lines ++ line ∷ [])) MAX_LINES) (good_lines D (lines ++ line ∷ [])) (room_test (length (lines ++ line ∷ [])) (omega arith)) (all_and_one (good_line D) lines line here.1 good_one));
+          (true_and (leb (length (lines ++ line ∷ [])) MAX_LINES) (good_lines D (lines ++ line ∷ [])) (room_test (length (lines ++ line ∷ [])) (omega arith)) (all_and_one (good_line D) lines line here.1 good_one));
     }
   where
     room_test : (n : ℕ) → n ≤ MAX_LINES → leb n MAX_LINES ≡ true

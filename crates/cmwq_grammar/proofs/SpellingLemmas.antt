@@ -1,19 +1,17 @@
 -- What is spelled is read as it, up to any line of a text.
-use Rattle.std.proofs.Common.{◌≡◌, ℕ, zero, suc, ◌+◌, ◌<◌, ◌≤◌, Bool, true, false, not, List, [], ◌∷◌, ◌++◌, map, length, cond, eqb, ltb, Result, Ok, Err, arith, refl, sym, ap, ◌∙◌, subst, append-nil, length-append, codes}
+use Rattle.std.proofs.Common.{◌≡◌, ℕ, ◌+◌, ◌≤◌, true, false, List, [], ◌∷◌, ◌++◌, map, length, eqb, ltb, Result, Ok, Err, arith, refl, sym, ap, ◌∙◌, subst, append-nil, length-append}
 use Rattle.std.proofs.lemmas.Bool.Decides.{nat_tests}
 use Rattle.std.proofs.lemmas.List.{length-map}
-use Rattle.std.specs.List.{flat_map}
 use Rattle.std.specs.Str.{is_utf8}
 use Rattle.cmwq_types.specs.Contents.{ScenarioContents, WorkContents, ActorContents}
-use Rattle.cmwq_types.specs.Listing.{WrittenLine, actor_line, actor_lines, body_lines, op_line, queue_line, work_line, written}
+use Rattle.cmwq_types.specs.Listing.{WrittenLine, actor_line, op_line, written}
 use Rattle.cmwq_types.specs.declared.limits.TheConstants.{MAX_TEXT}
 use Rattle.cmwq_types.specs.declared.scenario.Line.{Line}
 use Rattle.cmwq_types.specs.declared.scenario.Op.{Op}
 use Rattle.cmwq_types.specs.declared.scenario.Op.TheVariants as op
 use Rattle.cmwq_types.specs.declared.scenario.QueueDecl.{QueueDecl}
 use Rattle.cmwq_grammar.specs.Cutting.{lines_of, worded, words_of}
-use Rattle.cmwq_grammar.specs.Fields.{◌>>=◌}
-use Rattle.cmwq_grammar.specs.Grammar.{IsTextOf, SayAll, Spells}
+use Rattle.cmwq_grammar.specs.Grammar.{SayAll, Spells}
 use Rattle.cmwq_grammar.specs.Meaning.{FaultAt, at_line, ends_before, fault_at, reads, reads_lines, stage_after}
 use Rattle.cmwq_grammar.specs.Reasons.{all_have_bodies, at_end, judge, step, with_works}
 use Rattle.cmwq_grammar.specs.Stages.{Stage, Start, Cpus, Workers, Steps, Queues, Works, Bodies, Body, Actor, with_actor}
@@ -120,9 +118,10 @@ bodies_end_said D S done sound left =
     let none : NoneLeft [] [] left.more S.actors = none_left S [] [] left.more S.actors left.said in
     let works : S.works ≡ done = left.works ∙ ap (λ (ws : List WorkContents). done ++ ws) none.bodies_end ∙ append-nil done in
     let size : length D.works ≡ length done = ap length left.declared ∙ length-map S.works bare ∙ ap length works in
-    let head = left.head in
-    (same (length done) (length D.works) (sym size),
-      same_scenario (with_works D done) S (record { cpus = head.cpus; workers = head.workers; steps = head.steps; flushes = head.flushes }) (sym left.queues) (sym works) (sound.no_actors ∙ sym none.actors_end))
+    let head = left.head in (
+      same (length done) (length D.works) (sym size),
+      same_scenario (with_works D done) S (record { cpus = head.cpus; workers = head.workers; steps = head.steps; flushes = head.flushes }) (sym left.queues) (sym works) (sound.no_actors ∙ sym none.actors_end),
+    )
   where
     same : (n m : ℕ) → n ≡ m → eqb n m ≡ true
     same n m h = grind (arith, nat_tests)
@@ -148,9 +147,9 @@ actor_end_said D S name given left =
     let last : [] ≡ rest_lines S [] [] [] left.more = left.said ∙ ap (λ (ls : List Line). map (actor_line S) ls ++ rest_lines S [] [] [] left.more) none in
     let no_more : NoneLeft [] [] [] left.more = none_left S [] [] [] left.more last in
     let actors : S.actors ≡ D.actors ++ record { name = name; lines = given } ∷ [] =
-      left.actors ∙ ap (λ (ls : List Line). D.actors ++ record { name = name; lines = given ++ ls } ∷ left.more) none
-      ∙ ap (λ (ls : List Line). D.actors ++ record { name = name; lines = ls } ∷ left.more) (append-nil given)
-      ∙ ap (λ (as_ : List ActorContents). D.actors ++ record { name = name; lines = given } ∷ as_) no_more.actors_end in
+    left.actors ∙ ap (λ (ls : List Line). D.actors ++ record { name = name; lines = given ++ ls } ∷ left.more) none
+    ∙ ap (λ (ls : List Line). D.actors ++ record { name = name; lines = ls } ∷ left.more) (append-nil given)
+    ∙ ap (λ (as_ : List ActorContents). D.actors ++ record { name = name; lines = given } ∷ as_) no_more.actors_end in
     let head = left.head in
     same_scenario (with_actor D name given) S (record { cpus = head.cpus; workers = head.workers; steps = head.steps; flushes = head.flushes }) (sym left.queues) (sym left.works) (sym actors)
   where
@@ -207,5 +206,6 @@ one_spelled text S T first second = same (sym (spelled_reads text S first) ∙ s
   where
     as_ok : ScenarioContents → Result ScenarioContents FaultAt
     as_ok U = Ok U
+
     same : as_ok S ≡ as_ok T → S ≡ T
     same e = cc

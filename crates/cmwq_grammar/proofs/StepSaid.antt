@@ -1,5 +1,5 @@
 -- What a line of a scenario says is taken by the stage that goes on with it.
-use Rattle.std.proofs.Common.{◌≡◌, ℕ, zero, suc, ◌+◌, ◌<◌, ◌≤◌, ◌^◌, Bool, true, false, not, ◌&&◌, ◌⊎◌, List, [], ◌∷◌, ◌++◌, map, length, get_or, cond, eqb, ltb, leb, Result, Ok, Err, arith, refl, sym, ap, ◌∙◌, inl, inr, subst, codes, append_assoc, append-nil, length-append}
+use Rattle.std.proofs.Common.{◌≡◌, ℕ, suc, ◌+◌, ◌<◌, ◌≤◌, ◌^◌, Bool, true, false, not, ◌&&◌, List, [], ◌∷◌, ◌++◌, map, length, get_or, cond, eqb, ltb, leb, Result, Ok, arith, refl, sym, ap, ◌∙◌, inl, inr, subst, codes, append_assoc, append-nil, length-append}
 use Rattle.std.proofs.lemmas.Bool.Decides.{nat_tests}
 use Rattle.std.proofs.lemmas.List.{length-map, map-append}
 use Rattle.std.specs.Fmt.{decimal}
@@ -8,7 +8,7 @@ use Rattle.std.specs.List.{AllByRecursion, flat_map, list_all}
 use Rattle.std.specs.Str.{bytes_eq}
 use Rattle.cmwq_types.specs.Contents.{ScenarioContents, WorkContents, ActorContents}
 use Rattle.cmwq_types.specs.Faults.{fits_flags, is_finish, within}
-use Rattle.cmwq_types.specs.Listing.{WrittenLine, Words, actor_line, actor_lines, body_lines, numbered, op_line, queue_line, work_line, written}
+use Rattle.cmwq_types.specs.Listing.{WrittenLine, Words, actor_line, actor_lines, body_lines, numbered, op_line, queue_line, work_line}
 use Rattle.cmwq_types.specs.Name.{is_name}
 use Rattle.cmwq_types.specs.declared.limits.TheConstants.{MAX_ACTORS, MAX_CPUS, MAX_FLUSHES, MAX_LINES, MAX_MAX_ACTIVE, MAX_OPS, MAX_QUEUES, MAX_STEPS, MAX_WORKERS, MAX_WORKS}
 use Rattle.cmwq_types.specs.declared.scenario.Line.{Line}
@@ -22,7 +22,7 @@ use Rattle.cmwq_grammar.specs.Reasons.{add_line, add_op, add_queue, add_work, al
 use Rattle.cmwq_grammar.specs.Stages.{Stage, Start, Cpus, Workers, Steps, Queues, Works, Bodies, Body, Actor, head_of, with_actor, with_body}
 use Rattle.cmwq_grammar.specs.declared.why.Why.{Why}
 use Rattle.cmwq_grammar.proofs.Basics.{and_true, bind_at, cond_no, cond_yes, either, same_head, same_tail}
-use Rattle.cmwq_grammar.proofs.Continuations.{ActorLeft, BodiesLeft, BodyLeft, Continues, QueuesLeft, SameHead, Sound, SoundBodies, SoundBody, SoundQueues, SoundWorks, WorksLeft, bare, rest_lines}
+use Rattle.cmwq_grammar.proofs.Continuations.{BodyLeft, Continues, SameHead, Sound, SoundBodies, SoundBody, SoundQueues, SoundWorks, bare, rest_lines}
 use Rattle.cmwq_grammar.proofs.Events.{actor_opens, body_opens, finish_adds, line_adds, not_actor, op_adds, queue_adds, with_queue, with_work, work_adds}
 use Rattle.cmwq_grammar.proofs.FieldLemmas.{IsNew, ended_again, where_again, within_fits, fits_within}
 use Rattle.cmwq_grammar.proofs.GoodScenario.{Good, GoodBody, GoodBodyOf, good_actor, good_lines, on_queue_of}
@@ -30,8 +30,8 @@ use Rattle.cmwq_grammar.proofs.InstrLemmas.{good_line, line_again}
 use Rattle.cmwq_grammar.proofs.LineLemmas.{good_op, op_again, queue_again, work_again}
 use Rattle.cmwq_grammar.proofs.NameLists.{GoodNames, good_at}
 use Rattle.cmwq_grammar.proofs.SameLines.{same_actor_line, same_op_line, same_work_line, same_work_names}
-use Rattle.cmwq_grammar.proofs.Soundness.{all_parts, bodies_at, names_of_bare, open_work, with_open_body}
-use Rattle.cmwq_grammar.proofs.StepRead.{all_declared, next_name}
+use Rattle.cmwq_grammar.proofs.Soundness.{all_parts, bodies_at, names_of_bare, with_open_body}
+use Rattle.cmwq_grammar.proofs.StepRead.{next_name}
 
 -- the stage takes these words, and goes on to the scenario with these lines
 pub record TakenOn (stage : Stage) (said : List (List ℕ)) (lines : List WrittenLine) (S : ScenarioContents) : Type 0 where
@@ -99,7 +99,7 @@ steps_taken cpus workers l lines S said good left says =
     let first : WrittenLine = numbered (codes "cpus") cpus in
     let second : WrittenLine = numbered (codes "workers") workers in
     let e : l ∷ lines ≡ after_2 S =
-      same_tail second (numbered (codes "workers") S.workers) (l ∷ lines) (after_2 S) (same_tail first (numbered (codes "cpus") S.cpus) (second ∷ l ∷ lines) (after_1 S) left.2) in
+    same_tail second (numbered (codes "workers") S.workers) (l ∷ lines) (after_2 S) (same_tail first (numbered (codes "cpus") S.cpus) (second ∷ l ∷ lines) (after_1 S) left.2) in
     let here : l ≡ numbered (codes "steps") S.steps = same_head l (numbered (codes "steps") S.steps) lines (after_3 S) e in
     record {
       word = codes "steps";
@@ -117,8 +117,8 @@ flushes_taken cpus workers steps l lines S said good left says =
     let second : WrittenLine = numbered (codes "workers") workers in
     let third : WrittenLine = numbered (codes "steps") steps in
     let e : l ∷ lines ≡ after_3 S =
-      same_tail third (numbered (codes "steps") S.steps) (l ∷ lines) (after_3 S)
-      (same_tail second (numbered (codes "workers") S.workers) (third ∷ l ∷ lines) (after_2 S) (same_tail first (numbered (codes "cpus") S.cpus) (second ∷ third ∷ l ∷ lines) (after_1 S) left.3)) in
+    same_tail third (numbered (codes "steps") S.steps) (l ∷ lines) (after_3 S)
+    (same_tail second (numbered (codes "workers") S.workers) (third ∷ l ∷ lines) (after_2 S) (same_tail first (numbered (codes "cpus") S.cpus) (second ∷ third ∷ l ∷ lines) (after_1 S) left.3)) in
     let here : l ≡ numbered (codes "flushes") S.flushes = same_head l (numbered (codes "flushes") S.flushes) lines (after_4 S) e in
     let small : S.flushes ≤ MAX_FLUSHES = at_most S.flushes MAX_FLUSHES good.flushes in
     record {
@@ -318,7 +318,10 @@ next_body_taken D done l lines S said good says head queues x more works declare
     let taken : BodyTaken D done l lines S said x = body_taken D done l lines S said good says head queues x more works declared e in
     let open_it : Result Stage Why = open_body D done (x.name ∷ []) in
     record {
-      word = codes "body"; rest = x.name ∷ []; whole = taken.whole; next = Body D done [];
+      word = codes "body";
+      rest = x.name ∷ [];
+      whole = taken.whole;
+      next = Body D done [];
       taken = cond_yes (not (all_have_bodies D done)) open_it _ (ap not (not_all D done S x more works declared)) ∙ taken.opens;
       continues = taken.left;
     }
@@ -387,53 +390,61 @@ op_taken D done ops l lines S said sound good says head queues x o left more wor
     let few : D.cpus ≤ 16 = subst (λ (n : ℕ). n ≤ 16) (sym head.cpus) cpus in
     let read = op_again D o said names few passes_here (says_as l (op_line D o) said (here ∙ sym (same_op_line D S o (same_work_names D S declared))) says) in
     elim (either (is_finish o)) [
-    inl finish ↦ (let last : o ≡ op.Finish = finish_op o finish in
-      let none : left ≡ [] = ends_there ops left body.ops body.others (ap (λ (p : Op). ops ++ p ∷ left) (sym last) ∙ whole) in
-      let sound_work : with_body D done (ops ++ o ∷ []) ≡ done ++ record (bare x) { body = ops ++ o ∷ [] } ∷ [] =
-        with_open_body D done x more (ops ++ o ∷ []) (declared ∙ ap (map bare) works) in
-      let same_x : record (bare x) { body = ops ++ o ∷ [] } ≡ x = ap (λ (b : List Op). with_this b) (ap (λ (r : List Op). ops ++ o ∷ r) (sym none) ∙ sym is) in
-      record {
-        word = read.0; rest = read.1; whole = read.2;
-        next = Bodies D (with_body D done (ops ++ o ∷ []));
-        taken = bind_at (op_at_line D read.0 read.1) (add_op D done ops) o read.3 ∙ finish_adds D done ops o finish;
-        continues = record {
-          head = head;
-          queues = queues;
-          more = more;
-          works = works ∙ sym (append_assoc done (x ∷ []) more)
-            ∙ ap (λ (ws : List WorkContents). ws ++ more) (ap (λ (w : WorkContents). done ++ w ∷ []) (sym same_x) ∙ sym sound_work);
-          declared = declared;
-          said = tail ∙ ap (λ (os : List Op). map (op_line S) os ++ rest_lines S [] [] more S.actors) none;
-        };
-      })
-    | inr going ↦ (let others : list_all (λ p. not (is_finish p)) (ops ++ o ∷ []) ≡ true = all_join (λ p. not (is_finish p)) ops (o ∷ []) sound.others (one_true (not (is_finish o)) (ap not going)) in
-      let short : length (ops ++ o ∷ []) ≤ length body.ops = fronts (ops ++ o ∷ []) left body.ops others (append_assoc ops (o ∷ []) left ∙ whole) in
-      let parts : length (ops ++ o ∷ []) ≡ length ops + 1 = length-append ops (o ∷ []) in
-      let room : length body.ops < MAX_OPS = body.few in
-      record {
-        word = read.0; rest = read.1; whole = read.2;
-        next = Body D done (ops ++ o ∷ []);
-        taken = bind_at (op_at_line D read.0 read.1) (add_op D done ops) o read.3 ∙ op_adds D done ops o going (omega arith);
-        continues = record {
-          head = head;
-          queues = queues;
-          work = x;
-          left = left;
-          more = more;
-          works = works;
-          body = is ∙ sym (append_assoc ops (o ∷ []) left);
-          declared = declared;
-          said = tail;
-        };
-      }) ]
+      | inl finish ↦ (let last : o ≡ op.Finish = finish_op o finish in
+          let none : left ≡ [] = ends_there ops left body.ops body.others (ap (λ (p : Op). ops ++ p ∷ left) (sym last) ∙ whole) in
+          let sound_work : with_body D done (ops ++ o ∷ []) ≡ done ++ record (bare x) { body = ops ++ o ∷ [] } ∷ [] =
+          with_open_body D done x more (ops ++ o ∷ []) (declared ∙ ap (map bare) works) in
+          let same_x : record (bare x) { body = ops ++ o ∷ [] } ≡ x = ap (λ (b : List Op). with_this b) (ap (λ (r : List Op). ops ++ o ∷ r) (sym none) ∙ sym is) in
+          record {
+            word = read.0;
+            rest = read.1;
+            whole = read.2;
+            next = Bodies D (with_body D done (ops ++ o ∷ []));
+            taken = bind_at (op_at_line D read.0 read.1) (add_op D done ops) o read.3 ∙ finish_adds D done ops o finish;
+            continues = record {
+              head = head;
+              queues = queues;
+              more = more;
+              works = works ∙ sym (append_assoc done (x ∷ []) more)
+                  ∙ ap (λ (ws : List WorkContents). ws ++ more) (ap (λ (w : WorkContents). done ++ w ∷ []) (sym same_x) ∙ sym sound_work);
+              declared = declared;
+              said = tail ∙ ap (λ (os : List Op). map (op_line S) os ++ rest_lines S [] [] more S.actors) none;
+            };
+          })
+      | inr going ↦ (let others : list_all (λ p. not (is_finish p)) (ops ++ o ∷ []) ≡ true = all_join (λ p. not (is_finish p)) ops (o ∷ []) sound.others (one_true (not (is_finish o)) (ap not going)) in
+          let short : length (ops ++ o ∷ []) ≤ length body.ops = fronts (ops ++ o ∷ []) left body.ops others (append_assoc ops (o ∷ []) left ∙ whole) in
+          let parts : length (ops ++ o ∷ []) ≡ length ops + 1 = length-append ops (o ∷ []) in
+          let room : length body.ops < MAX_OPS = body.few in
+          record {
+            word = read.0;
+            rest = read.1;
+            whole = read.2;
+            next = Body D done (ops ++ o ∷ []);
+            taken = bind_at (op_at_line D read.0 read.1) (add_op D done ops) o read.3 ∙ op_adds D done ops o going (omega arith);
+            continues = record {
+              head = head;
+              queues = queues;
+              work = x;
+              left = left;
+              more = more;
+              works = works;
+              body = is ∙ sym (append_assoc ops (o ∷ []) left);
+              declared = declared;
+              said = tail;
+            };
+          })
+    ]
   where
     with_this : List Op → WorkContents
     with_this b = record x { body = b }
+
     few_cpus : (n : ℕ) → within 1 MAX_CPUS n ≡ true → n ≤ 16
     few_cpus n h = let bounds : (1 ≤ n) × (n ≤ MAX_CPUS) = within_fits 1 MAX_CPUS n h in bounds.1
+
     one_true : (b : Bool) → b ≡ true → (b && true) ≡ true
     one_true true h = refl
     one_true false h = cc
+
     all_join : (p : Op → Bool) (xs ys : List Op) → list_all p xs ≡ true → list_all p ys ≡ true → list_all p (xs ++ ys) ≡ true
     all_join p xs ys a b = list_all-append p xs ys ∙ ap (λ (c : Bool). c && list_all p ys) a ∙ b
 
@@ -448,9 +459,10 @@ actor_at D S name lines more good actors =
     actor_opens D name named.1 named.0 (omega arith)
 
 actor_words : (l : WrittenLine) (lines : List WrittenLine) (S : ScenarioContents) (a : ActorContents) (more : List ActorContents) → l ∷ lines ≡ rest_lines S [] [] [] (a ∷ more) → (l ≡ Words (codes "actor" ∷ a.name ∷ [])) × (lines ≡ map (actor_line S) a.lines ++ rest_lines S [] [] [] more)
-actor_words l lines S a more e =
-    (same_head l (Words (codes "actor" ∷ a.name ∷ [])) lines (map (actor_line S) a.lines ++ rest_lines S [] [] [] more) e,
-      same_tail l (Words (codes "actor" ∷ a.name ∷ [])) lines (map (actor_line S) a.lines ++ rest_lines S [] [] [] more) e)
+actor_words l lines S a more e = (
+  same_head l (Words (codes "actor" ∷ a.name ∷ [])) lines (map (actor_line S) a.lines ++ rest_lines S [] [] [] more) e,
+  same_tail l (Words (codes "actor" ∷ a.name ∷ [])) lines (map (actor_line S) a.lines ++ rest_lines S [] [] [] more) e,
+)
 
 first_actor_taken : (D : ScenarioContents) (l : WrittenLine) (lines : List WrittenLine) (S : ScenarioContents) (said : List (List ℕ)) → SoundQueues D → Good S → Says l said → SameHead D S → S.queues ≡ D.queues → S.works ≡ [] → (a : ActorContents) (more : List ActorContents) → S.actors ≡ a ∷ more
     → l ∷ lines ≡ rest_lines S [] [] [] (a ∷ more) → TakenOn (Queues D) said lines S
@@ -459,7 +471,9 @@ first_actor_taken D l lines S said sound good says head queues works a more acto
     let told = actor_words l lines S a more e in
     let after : S.actors ≡ D.actors ++ a ∷ more = actors ∙ sym (ap (λ (as_ : List ActorContents). as_ ++ a ∷ more) sound.no_actors) in
     record {
-      word = codes "actor"; rest = a.name ∷ []; whole = says_as l (Words (codes "actor" ∷ a.name ∷ [])) said told.0 says;
+      word = codes "actor";
+      rest = a.name ∷ [];
+      whole = says_as l (Words (codes "actor" ∷ a.name ∷ [])) said told.0 says;
       next = Actor D a.name [];
       taken = actor_at D S a.name a.lines more good after;
       continues = record { head = head; queues = queues; works = works ∙ sym sound.no_works; left = a.lines; more = more; actors = after; said = told.1 };
@@ -474,12 +488,19 @@ actor_after_bodies_taken D done l lines S said sound good says head queues works
     let size : length D.works ≡ length done = ap length declared ∙ length-map S.works bare ∙ ap length works in
     let all : all_have_bodies D done ≡ true = same (length done) (length D.works) (sym size) in
     record {
-      word = codes "actor"; rest = a.name ∷ []; whole = says_as l (Words (codes "actor" ∷ a.name ∷ [])) said told.0 says;
+      word = codes "actor";
+      rest = a.name ∷ [];
+      whole = says_as l (Words (codes "actor" ∷ a.name ∷ [])) said told.0 says;
       next = Actor (with_works D done) a.name [];
       taken = cond_yes (all_have_bodies D done) (open_actor (with_works D done) (a.name ∷ [])) _ all ∙ actor_at (with_works D done) S a.name a.lines more good after;
       continues = record {
         head = record { cpus = head.cpus; workers = head.workers; steps = head.steps; flushes = head.flushes };
-        queues = queues; works = works; left = a.lines; more = more; actors = after; said = told.1;
+        queues = queues;
+        works = works;
+        left = a.lines;
+        more = more;
+        actors = after;
+        said = told.1;
       };
     }
   where
@@ -494,12 +515,19 @@ next_actor_taken D name given l lines S said good says head queues works a more 
     let old : ActorContents = record { name = name; lines = given } in
     let after : S.actors ≡ (D.actors ++ old ∷ []) ++ a ∷ more = actors ∙ sym (append_assoc D.actors (old ∷ []) (a ∷ more)) in
     record {
-      word = codes "actor"; rest = a.name ∷ []; whole = says_as l (Words (codes "actor" ∷ a.name ∷ [])) said told.0 says;
+      word = codes "actor";
+      rest = a.name ∷ [];
+      whole = says_as l (Words (codes "actor" ∷ a.name ∷ [])) said told.0 says;
       next = Actor (with_actor D name given) a.name [];
       taken = actor_at (with_actor D name given) S a.name a.lines more good after;
       continues = record {
         head = record { cpus = head.cpus; workers = head.workers; steps = head.steps; flushes = head.flushes };
-        queues = queues; works = works; left = a.lines; more = more; actors = after; said = told.1;
+        queues = queues;
+        works = works;
+        left = a.lines;
+        more = more;
+        actors = after;
+        said = told.1;
       };
     }
 
@@ -517,7 +545,7 @@ line_taken D name given l lines S said good says head queues works line left mor
     let here : l ≡ actor_line S line = same_head l (actor_line S line) lines after e in
     let a : ActorContents = record { name = name; lines = given ++ line ∷ left } in
     let both : (leb (length (given ++ line ∷ left)) MAX_LINES ≡ true) × (good_lines S (given ++ line ∷ left) ≡ true) =
-      and_true (leb (length (given ++ line ∷ left)) MAX_LINES) (good_lines S (given ++ line ∷ left)) (test_at (good_actor S) S.actors D.actors a more actors good.actors) in
+    and_true (leb (length (given ++ line ∷ left)) MAX_LINES) (good_lines S (given ++ line ∷ left)) (test_at (good_actor S) S.actors D.actors a more actors good.actors) in
     let is_good : good_line S line ≡ true = test_at (good_line S) (given ++ line ∷ left) given line left refl both.1 in
     let good_here : good_line D line ≡ true = sym (same_good_line D S line queues works) ∙ is_good in
     let names : GoodNames [] (work_names D) = subst (λ (ws : List WorkContents). GoodNames [] (map (λ (w : WorkContents). w.name) ws)) works good.work_names in
@@ -525,13 +553,19 @@ line_taken D name given l lines S said good says head queues works line left mor
     let parts : length (given ++ line ∷ left) ≡ length given + suc (length left) = length-append given (line ∷ left) in
     let few : length (given ++ line ∷ left) ≤ MAX_LINES = at_most (length (given ++ line ∷ left)) MAX_LINES both.0 in
     record {
-      word = read.0; rest = read.1; whole = read.2;
+      word = read.0;
+      rest = read.1;
+      whole = read.2;
       next = Actor D name (given ++ line ∷ []);
       taken =
-        cond_no (bytes_eq read.0 (codes "actor")) (open_actor (with_actor D name given) read.1) (line_at D read.0 read.1 >>= add_line D name given) (not_actor D read.0 read.1 line read.3)
-        ∙ bind_at (line_at D read.0 read.1) (add_line D name given) line read.3 ∙ line_adds D name given line (omega arith);
+          cond_no (bytes_eq read.0 (codes "actor")) (open_actor (with_actor D name given) read.1) (line_at D read.0 read.1 >>= add_line D name given) (not_actor D read.0 read.1 line read.3)
+          ∙ bind_at (line_at D read.0 read.1) (add_line D name given) line read.3 ∙ line_adds D name given line (omega arith);
       continues = record {
-        head = head; queues = queues; works = works; left = left; more = more;
+        head = head;
+        queues = queues;
+        works = works;
+        left = left;
+        more = more;
         actors = actors ∙ ap (λ (ls : List Line). D.actors ++ record { name = name; lines = ls } ∷ more) (sym (append_assoc given (line ∷ []) left));
         said = same_tail l (actor_line S line) lines after e;
       };

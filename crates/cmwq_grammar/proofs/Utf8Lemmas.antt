@@ -1,5 +1,5 @@
 -- A text is UTF-8 just where each of its lines is.
-use Rattle.std.proofs.Common.{◌≡◌, ℕ, zero, suc, ◌+◌, ◌<◌, ◌≤◌, Bool, true, false, List, [], ◌∷◌, ◌++◌, length, get_or, take, drop, cond, eqb, arith, refl, sym, ap, ◌∙◌, subst, append-nil, append_assoc, length-append}
+use Rattle.std.proofs.Common.{◌≡◌, ℕ, zero, suc, ◌+◌, ◌<◌, Bool, true, false, List, [], ◌∷◌, ◌++◌, length, get_or, take, drop, cond, eqb, arith, refl, sym, ap, ◌∙◌, subst, append_assoc, length-append}
 use Rattle.std.proofs.lemmas.Bool.Decides.{nat_tests}
 use Rattle.std.proofs.lemmas.List.{drop_at, get_or_at, take_at, nil_from_length}
 use Rattle.std.proofs.lemmas.List.Splits.{join_with_byte-slice_split}
@@ -63,6 +63,7 @@ pieces_of_lines (last ∷ []) all = (at (eqb (length last) 0) refl all, tt)
   where
     empty : eqb (length last) 0 ≡ true → last ≡ []
     empty e = nil_from_length last (grind (arith, nat_tests))
+
     at : (b : Bool) → eqb (length last) 0 ≡ b → AllUtf8 (cond b [] (last ∷ [])) → IsUtf8 last
     at true e rest = subst IsUtf8 (sym (empty e)) IsUtf8-nil
     at false e rest = IsUtf8-from_is_utf8 last rest.0
