@@ -16,6 +16,10 @@ use Rattle.cmwq_grammar.proofs.Basics.{bind_ok, bind_at, value_if_ok, value_if_a
 
 -- Read: the flags that are set are the words, in some order.
 
+-- the whole is the front and then the word, but for the order
+record Ends (whole front : List (List ℕ)) (x : List ℕ) : Type 0 where
+  order : IsPermutation whole (front ++ x ∷ [])
+
 -- a word in the middle moves to the end
 to_end : (front back : List (List ℕ)) (x : List ℕ) → IsPermutation ((front ++ x ∷ []) ++ back) ((front ++ back) ++ x ∷ [])
 to_end front back x =
@@ -23,25 +27,56 @@ to_end front back x =
     (IsPermutation-trans (front ++ x ∷ back) (x ∷ (front ++ back)) ((front ++ back) ++ x ∷ []) (IsPermutation-middle front x back)
     (IsPermutation-sym ((front ++ back) ++ x ∷ []) (x ∷ (front ++ back)) (IsPermutation-to_front (front ++ back) x)))
 
--- what ends so but for the order goes on
-end_further : (whole front back : List (List ℕ)) (x : List ℕ) → IsPermutation whole (front ++ x ∷ []) → IsPermutation (whole ++ back) ((front ++ back) ++ x ∷ [])
-end_further whole front back x h =
-    IsPermutation-trans (whole ++ back) ((front ++ x ∷ []) ++ back) ((front ++ back) ++ x ∷ []) (IsPermutation-append_left back whole (front ++ x ∷ []) h) (to_end front back x)
+-- the word stands after the front
+placed : (front : List (List ℕ)) (x : List ℕ) → Ends (front ++ x ∷ []) (front ++ []) x
+placed front x = record {
+  order =
+    subst (λ (f : List (List ℕ)). IsPermutation (front ++ x ∷ []) (f ++ x ∷ [])) (sym (append-nil front))
+    (IsPermutation-refl (front ++ x ∷ []));
+}
 
-highpri_moved : (f : Flags) → IsPermutation (flag_words (record f { highpri = true })) (flag_words (record f { highpri = false }) ++ codes "highpri" ∷ [])
-highpri_moved f = (end_further ((((codes "highpri" ∷ []) ++ word_if f.unbound (codes "unbound")) ++ word_if f.cpu_intensive (codes "cpu_intensive")) ++ word_if f.freezable (codes "freezable")) (((([]) ++ word_if f.unbound (codes "unbound")) ++ word_if f.cpu_intensive (codes "cpu_intensive")) ++ word_if f.freezable (codes "freezable")) (word_if f.ordered (codes "ordered")) (codes "highpri") (end_further (((codes "highpri" ∷ []) ++ word_if f.unbound (codes "unbound")) ++ word_if f.cpu_intensive (codes "cpu_intensive")) ((([]) ++ word_if f.unbound (codes "unbound")) ++ word_if f.cpu_intensive (codes "cpu_intensive")) (word_if f.freezable (codes "freezable")) (codes "highpri") (end_further ((codes "highpri" ∷ []) ++ word_if f.unbound (codes "unbound")) (([]) ++ word_if f.unbound (codes "unbound")) (word_if f.cpu_intensive (codes "cpu_intensive")) (codes "highpri") (end_further (codes "highpri" ∷ []) ([]) (word_if f.unbound (codes "unbound")) (codes "highpri") (IsPermutation-refl (codes "highpri" ∷ []))))))
+-- and words after it don't matter
+further : {whole front : List (List ℕ)} {x : List ℕ} → Ends whole front x → (back : List (List ℕ)) → Ends (whole ++ back) (front ++ back) x
+further {whole} {front} {x} h back = record {
+  order =
+    IsPermutation-trans (whole ++ back) ((front ++ x ∷ []) ++ back) ((front ++ back) ++ x ∷ [])
+    (IsPermutation-append_left back whole (front ++ x ∷ []) h.order) (to_end front back x);
+}
 
-unbound_moved : (f : Flags) → IsPermutation (flag_words (record f { unbound = true })) (flag_words (record f { unbound = false }) ++ codes "unbound" ∷ [])
-unbound_moved f = (end_further (((((word_if f.highpri (codes "highpri")) ++ codes "unbound" ∷ [])) ++ word_if f.cpu_intensive (codes "cpu_intensive")) ++ word_if f.freezable (codes "freezable")) (((((word_if f.highpri (codes "highpri")) ++ [])) ++ word_if f.cpu_intensive (codes "cpu_intensive")) ++ word_if f.freezable (codes "freezable")) (word_if f.ordered (codes "ordered")) (codes "unbound") (end_further ((((word_if f.highpri (codes "highpri")) ++ codes "unbound" ∷ [])) ++ word_if f.cpu_intensive (codes "cpu_intensive")) ((((word_if f.highpri (codes "highpri")) ++ [])) ++ word_if f.cpu_intensive (codes "cpu_intensive")) (word_if f.freezable (codes "freezable")) (codes "unbound") (end_further (((word_if f.highpri (codes "highpri")) ++ codes "unbound" ∷ [])) (((word_if f.highpri (codes "highpri")) ++ [])) (word_if f.cpu_intensive (codes "cpu_intensive")) (codes "unbound") (subst (λ (front : List (List ℕ)). IsPermutation ((word_if f.highpri (codes "highpri")) ++ codes "unbound" ∷ []) (front ++ codes "unbound" ∷ [])) (sym (append-nil (word_if f.highpri (codes "highpri")))) (IsPermutation-refl ((word_if f.highpri (codes "highpri")) ++ codes "unbound" ∷ []))))))
+abbrev highpri_word : Flags → List (List ℕ)
+highpri_word f = word_if f.highpri (codes "highpri")
 
-cpu_intensive_moved : (f : Flags) → IsPermutation (flag_words (record f { cpu_intensive = true })) (flag_words (record f { cpu_intensive = false }) ++ codes "cpu_intensive" ∷ [])
-cpu_intensive_moved f = (end_further ((((word_if f.highpri (codes "highpri") ++ word_if f.unbound (codes "unbound")) ++ codes "cpu_intensive" ∷ [])) ++ word_if f.freezable (codes "freezable")) ((((word_if f.highpri (codes "highpri") ++ word_if f.unbound (codes "unbound")) ++ [])) ++ word_if f.freezable (codes "freezable")) (word_if f.ordered (codes "ordered")) (codes "cpu_intensive") (end_further (((word_if f.highpri (codes "highpri") ++ word_if f.unbound (codes "unbound")) ++ codes "cpu_intensive" ∷ [])) (((word_if f.highpri (codes "highpri") ++ word_if f.unbound (codes "unbound")) ++ [])) (word_if f.freezable (codes "freezable")) (codes "cpu_intensive") (subst (λ (front : List (List ℕ)). IsPermutation ((word_if f.highpri (codes "highpri") ++ word_if f.unbound (codes "unbound")) ++ codes "cpu_intensive" ∷ []) (front ++ codes "cpu_intensive" ∷ [])) (sym (append-nil (word_if f.highpri (codes "highpri") ++ word_if f.unbound (codes "unbound")))) (IsPermutation-refl ((word_if f.highpri (codes "highpri") ++ word_if f.unbound (codes "unbound")) ++ codes "cpu_intensive" ∷ [])))))
+abbrev unbound_word : Flags → List (List ℕ)
+unbound_word f = word_if f.unbound (codes "unbound")
 
-freezable_moved : (f : Flags) → IsPermutation (flag_words (record f { freezable = true })) (flag_words (record f { freezable = false }) ++ codes "freezable" ∷ [])
-freezable_moved f = (end_further (((word_if f.highpri (codes "highpri") ++ word_if f.unbound (codes "unbound") ++ word_if f.cpu_intensive (codes "cpu_intensive")) ++ codes "freezable" ∷ [])) (((word_if f.highpri (codes "highpri") ++ word_if f.unbound (codes "unbound") ++ word_if f.cpu_intensive (codes "cpu_intensive")) ++ [])) (word_if f.ordered (codes "ordered")) (codes "freezable") (subst (λ (front : List (List ℕ)). IsPermutation ((word_if f.highpri (codes "highpri") ++ word_if f.unbound (codes "unbound") ++ word_if f.cpu_intensive (codes "cpu_intensive")) ++ codes "freezable" ∷ []) (front ++ codes "freezable" ∷ [])) (sym (append-nil (word_if f.highpri (codes "highpri") ++ word_if f.unbound (codes "unbound") ++ word_if f.cpu_intensive (codes "cpu_intensive")))) (IsPermutation-refl ((word_if f.highpri (codes "highpri") ++ word_if f.unbound (codes "unbound") ++ word_if f.cpu_intensive (codes "cpu_intensive")) ++ codes "freezable" ∷ []))))
+abbrev cpu_intensive_word : Flags → List (List ℕ)
+cpu_intensive_word f = word_if f.cpu_intensive (codes "cpu_intensive")
 
-ordered_moved : (f : Flags) → IsPermutation (flag_words (record f { ordered = true })) (flag_words (record f { ordered = false }) ++ codes "ordered" ∷ [])
-ordered_moved f = (subst (λ (front : List (List ℕ)). IsPermutation ((word_if f.highpri (codes "highpri") ++ word_if f.unbound (codes "unbound") ++ word_if f.cpu_intensive (codes "cpu_intensive") ++ word_if f.freezable (codes "freezable")) ++ codes "ordered" ∷ []) (front ++ codes "ordered" ∷ [])) (sym (append-nil (word_if f.highpri (codes "highpri") ++ word_if f.unbound (codes "unbound") ++ word_if f.cpu_intensive (codes "cpu_intensive") ++ word_if f.freezable (codes "freezable")))) (IsPermutation-refl ((word_if f.highpri (codes "highpri") ++ word_if f.unbound (codes "unbound") ++ word_if f.cpu_intensive (codes "cpu_intensive") ++ word_if f.freezable (codes "freezable")) ++ codes "ordered" ∷ [])))
+abbrev freezable_word : Flags → List (List ℕ)
+freezable_word f = word_if f.freezable (codes "freezable")
+
+abbrev ordered_word : Flags → List (List ℕ)
+ordered_word f = word_if f.ordered (codes "ordered")
+
+highpri_moved : (f : Flags) → Ends (flag_words (record f { highpri = true })) (flag_words (record f { highpri = false })) (codes "highpri")
+highpri_moved f =
+    further (further (further (further (placed [] (codes "highpri")) (unbound_word f)) (cpu_intensive_word f)) (freezable_word f)) (ordered_word f)
+
+unbound_moved : (f : Flags) → Ends (flag_words (record f { unbound = true })) (flag_words (record f { unbound = false })) (codes "unbound")
+unbound_moved f =
+    further (further (further (placed (highpri_word f) (codes "unbound")) (cpu_intensive_word f)) (freezable_word f)) (ordered_word f)
+
+cpu_intensive_moved : (f : Flags) → Ends (flag_words (record f { cpu_intensive = true })) (flag_words (record f { cpu_intensive = false })) (codes "cpu_intensive")
+cpu_intensive_moved f =
+    further (further (placed (highpri_word f ++ unbound_word f) (codes "cpu_intensive")) (freezable_word f)) (ordered_word f)
+
+freezable_moved : (f : Flags) → Ends (flag_words (record f { freezable = true })) (flag_words (record f { freezable = false })) (codes "freezable")
+freezable_moved f =
+    further (placed (highpri_word f ++ unbound_word f ++ cpu_intensive_word f) (codes "freezable")) (ordered_word f)
+
+ordered_moved : (f : Flags) → Ends (flag_words (record f { ordered = true })) (flag_words (record f { ordered = false })) (codes "ordered")
+ordered_moved f =
+    placed (highpri_word f ++ unbound_word f ++ cpu_intensive_word f ++ freezable_word f) (codes "ordered")
 
 -- the flags with one more
 AddsWord : Flags → List ℕ → Flags → Type 0
@@ -56,7 +91,7 @@ set_highpri f g word is e =
     let before : flag_words (record f { highpri = false }) ≡ flag_words f = ap (λ (b : Bool). flag_words (record f { highpri = b })) (sym was) in
     subst (λ (h : Flags). IsPermutation (flag_words h) (flag_words f ++ word ∷ [])) set.1
     (subst (λ (w : List ℕ). IsPermutation (flag_words (record f { highpri = true })) (flag_words f ++ w ∷ [])) (sym same)
-    (subst (λ (ws : List (List ℕ)). IsPermutation (flag_words (record f { highpri = true })) (ws ++ codes "highpri" ∷ [])) before (highpri_moved f)))
+    (subst (λ (ws : List (List ℕ)). IsPermutation (flag_words (record f { highpri = true })) (ws ++ codes "highpri" ∷ [])) before (highpri_moved f).order))
 
 set_unbound : (f g : Flags) (word : List ℕ) → bytes_eq word (codes "unbound") ≡ true → set_once f.unbound (record f { unbound = true }) ≡ Ok g → AddsWord f word g
 unfolding AddsWord
@@ -67,7 +102,7 @@ set_unbound f g word is e =
     let before : flag_words (record f { unbound = false }) ≡ flag_words f = ap (λ (b : Bool). flag_words (record f { unbound = b })) (sym was) in
     subst (λ (h : Flags). IsPermutation (flag_words h) (flag_words f ++ word ∷ [])) set.1
     (subst (λ (w : List ℕ). IsPermutation (flag_words (record f { unbound = true })) (flag_words f ++ w ∷ [])) (sym same)
-    (subst (λ (ws : List (List ℕ)). IsPermutation (flag_words (record f { unbound = true })) (ws ++ codes "unbound" ∷ [])) before (unbound_moved f)))
+    (subst (λ (ws : List (List ℕ)). IsPermutation (flag_words (record f { unbound = true })) (ws ++ codes "unbound" ∷ [])) before (unbound_moved f).order))
 
 set_cpu_intensive : (f g : Flags) (word : List ℕ) → bytes_eq word (codes "cpu_intensive") ≡ true → set_once f.cpu_intensive (record f { cpu_intensive = true }) ≡ Ok g → AddsWord f word g
 unfolding AddsWord
@@ -78,7 +113,7 @@ set_cpu_intensive f g word is e =
     let before : flag_words (record f { cpu_intensive = false }) ≡ flag_words f = ap (λ (b : Bool). flag_words (record f { cpu_intensive = b })) (sym was) in
     subst (λ (h : Flags). IsPermutation (flag_words h) (flag_words f ++ word ∷ [])) set.1
     (subst (λ (w : List ℕ). IsPermutation (flag_words (record f { cpu_intensive = true })) (flag_words f ++ w ∷ [])) (sym same)
-    (subst (λ (ws : List (List ℕ)). IsPermutation (flag_words (record f { cpu_intensive = true })) (ws ++ codes "cpu_intensive" ∷ [])) before (cpu_intensive_moved f)))
+    (subst (λ (ws : List (List ℕ)). IsPermutation (flag_words (record f { cpu_intensive = true })) (ws ++ codes "cpu_intensive" ∷ [])) before (cpu_intensive_moved f).order))
 
 set_freezable : (f g : Flags) (word : List ℕ) → bytes_eq word (codes "freezable") ≡ true → set_once f.freezable (record f { freezable = true }) ≡ Ok g → AddsWord f word g
 unfolding AddsWord
@@ -89,7 +124,7 @@ set_freezable f g word is e =
     let before : flag_words (record f { freezable = false }) ≡ flag_words f = ap (λ (b : Bool). flag_words (record f { freezable = b })) (sym was) in
     subst (λ (h : Flags). IsPermutation (flag_words h) (flag_words f ++ word ∷ [])) set.1
     (subst (λ (w : List ℕ). IsPermutation (flag_words (record f { freezable = true })) (flag_words f ++ w ∷ [])) (sym same)
-    (subst (λ (ws : List (List ℕ)). IsPermutation (flag_words (record f { freezable = true })) (ws ++ codes "freezable" ∷ [])) before (freezable_moved f)))
+    (subst (λ (ws : List (List ℕ)). IsPermutation (flag_words (record f { freezable = true })) (ws ++ codes "freezable" ∷ [])) before (freezable_moved f).order))
 
 set_ordered : (f g : Flags) (word : List ℕ) → bytes_eq word (codes "ordered") ≡ true → set_once f.ordered (record f { ordered = true }) ≡ Ok g → AddsWord f word g
 unfolding AddsWord
@@ -100,7 +135,7 @@ set_ordered f g word is e =
     let before : flag_words (record f { ordered = false }) ≡ flag_words f = ap (λ (b : Bool). flag_words (record f { ordered = b })) (sym was) in
     subst (λ (h : Flags). IsPermutation (flag_words h) (flag_words f ++ word ∷ [])) set.1
     (subst (λ (w : List ℕ). IsPermutation (flag_words (record f { ordered = true })) (flag_words f ++ w ∷ [])) (sym same)
-    (subst (λ (ws : List (List ℕ)). IsPermutation (flag_words (record f { ordered = true })) (ws ++ codes "ordered" ∷ [])) before (ordered_moved f)))
+    (subst (λ (ws : List (List ℕ)). IsPermutation (flag_words (record f { ordered = true })) (ws ++ codes "ordered" ∷ [])) before (ordered_moved f).order))
 
 abbrev no_flag : Result Flags Why
 no_flag = Err why.BadWord
@@ -111,22 +146,17 @@ absurd_flag g e = cc
 flag_read : (f g : Flags) (word : List ℕ) → add_flag f word ≡ Ok g → AddsWord f word g
 unfolding add_flag
 flag_read f g word e =
-    elim (chosen (bytes_eq word (codes "highpri")) (set_once f.highpri (record f { highpri = true })) (cond (bytes_eq word (codes "unbound")) (set_once f.unbound (record f { unbound = true })) (cond (bytes_eq word (codes "cpu_intensive")) (set_once f.cpu_intensive (record f { cpu_intensive = true })) (cond (bytes_eq word (codes "freezable")) (set_once f.freezable (record f { freezable = true })) (cond (bytes_eq word (codes "ordered")) (set_once f.ordered (record f { ordered = true })) no_flag)))) (Ok g) e) [
-      | inl it ↦ set_highpri f g word it.0 it.1
-      | inr no0 ↦ elim (chosen (bytes_eq word (codes "unbound")) (set_once f.unbound (record f { unbound = true })) (cond (bytes_eq word (codes "cpu_intensive")) (set_once f.cpu_intensive (record f { cpu_intensive = true })) (cond (bytes_eq word (codes "freezable")) (set_once f.freezable (record f { freezable = true })) (cond (bytes_eq word (codes "ordered")) (set_once f.ordered (record f { ordered = true })) no_flag))) (Ok g) no0.1) [
-        | inl it ↦ set_unbound f g word it.0 it.1
-        | inr no1 ↦ elim (chosen (bytes_eq word (codes "cpu_intensive")) (set_once f.cpu_intensive (record f { cpu_intensive = true })) (cond (bytes_eq word (codes "freezable")) (set_once f.freezable (record f { freezable = true })) (cond (bytes_eq word (codes "ordered")) (set_once f.ordered (record f { ordered = true })) no_flag)) (Ok g) no1.1) [
-          | inl it ↦ set_cpu_intensive f g word it.0 it.1
-          | inr no2 ↦ elim (chosen (bytes_eq word (codes "freezable")) (set_once f.freezable (record f { freezable = true })) (cond (bytes_eq word (codes "ordered")) (set_once f.ordered (record f { ordered = true })) no_flag) (Ok g) no2.1) [
-            | inl it ↦ set_freezable f g word it.0 it.1
-            | inr no3 ↦ elim (chosen (bytes_eq word (codes "ordered")) (set_once f.ordered (record f { ordered = true })) no_flag (Ok g) no3.1) [
-              | inl it ↦ set_ordered f g word it.0 it.1
-              | inr no4 ↦ absurd_flag g no4.1
-            ]
-          ]
-        ]
-      ]
-    ]
+    elim (chosen (bytes_eq word (codes "highpri")) (set_once f.highpri (record f { highpri = true })) _ (Ok g) e) [
+    inl it ↦ set_highpri f g word it.0 it.1
+    | inr no0 ↦ elim (chosen (bytes_eq word (codes "unbound")) (set_once f.unbound (record f { unbound = true })) _ (Ok g) no0.1) [
+    inl it ↦ set_unbound f g word it.0 it.1
+    | inr no1 ↦ elim (chosen (bytes_eq word (codes "cpu_intensive")) (set_once f.cpu_intensive (record f { cpu_intensive = true })) _ (Ok g) no1.1) [
+    inl it ↦ set_cpu_intensive f g word it.0 it.1
+    | inr no2 ↦ elim (chosen (bytes_eq word (codes "freezable")) (set_once f.freezable (record f { freezable = true })) _ (Ok g) no2.1) [
+    inl it ↦ set_freezable f g word it.0 it.1
+    | inr no3 ↦ elim (chosen (bytes_eq word (codes "ordered")) (set_once f.ordered (record f { ordered = true })) _ (Ok g) no3.1) [
+    inl it ↦ set_ordered f g word it.0 it.1
+    | inr no4 ↦ absurd_flag g no4.1 ] ] ] ] ]
 
 pub flags_read_from : (words : List (List ℕ)) (f g : Flags) → flags_at words f ≡ Ok g → IsPermutation (flag_words g) (flag_words f ++ words)
 unfolding flags_at AddsWord
