@@ -69,6 +69,9 @@ record WordFits (k : ℕ) (word : List ℕ) : Type 0 where
   plain : plain_word word ≡ true
   short : length word ≤ k
 
+literal : (k : ℕ) (word : List ℕ) → plain_word word ≡ true → length word ≤ k → WordFits k word
+literal k word plain short = record { plain = plain; short = short }
+
 -- how many bytes the words take, each with a blank or the line feed after it
 total : List (List ℕ) → ℕ
 total [] = 0
@@ -82,9 +85,9 @@ no_words : WordsFit 0 []
 unfolding total
 no_words = record { plain = refl; short = omega arith }
 
-word_on : (a b : ℕ) (word : List ℕ) (words : List (List ℕ)) → WordFits a word → WordsFit b words → WordsFit (a + 1 + b) (word ∷ words)
+word_on : {a b : ℕ} {word : List ℕ} {words : List (List ℕ)} → WordFits a word → WordsFit b words → WordsFit (a + 1 + b) (word ∷ words)
 unfolding total
-word_on a b word words w ws = record {
+word_on {word = word} {words = words} w ws = record {
   plain = true_and (plain_word word) (list_all plain_word words) w.plain ws.plain;
   short = omega (arith, w.short, ws.short);
 }
@@ -94,14 +97,14 @@ unfolding total
 total_append [] ys = omega arith
 total_append (x ∷ xs) ys = (let later : total (xs ++ ys) ≡ total xs + total ys = total_append xs ys in omega arith)
 
-words_on : (a b : ℕ) (xs ys : List (List ℕ)) → WordsFit a xs → WordsFit b ys → WordsFit (a + b) (xs ++ ys)
-words_on a b xs ys x y = record {
+words_on : {a b : ℕ} {xs ys : List (List ℕ)} → WordsFit a xs → WordsFit b ys → WordsFit (a + b) (xs ++ ys)
+words_on {xs = xs} {ys = ys} x y = record {
   plain = list_all-append plain_word xs ys ∙ true_and (list_all plain_word xs) (list_all plain_word ys) x.plain y.plain;
   short = (let sum : total (xs ++ ys) ≡ total xs + total ys = total_append xs ys in omega (arith, x.short, y.short));
 }
 
-words_within : (a b : ℕ) (words : List (List ℕ)) → WordsFit a words → a ≤ b → WordsFit b words
-words_within a b words w h = record { plain = w.plain; short = omega (arith, w.short) }
+words_within : {a : ℕ} {words : List (List ℕ)} (b : ℕ) → WordsFit a words → a ≤ b → WordsFit b words
+words_within b w h = record { plain = w.plain; short = omega (arith, w.short) }
 
 name_byte_plain : (b : ℕ) → is_name_byte b ≡ true → plain_byte b ≡ true
 name_byte_plain b h = grind (arith, nat_tests)
@@ -159,8 +162,8 @@ joined_size word (next ∷ more) =
     let later : length (joined (next ∷ more) ++ 10 ∷ []) ≡ total (next ∷ more) = joined_size next more in
     ap length (append_assoc word (32 ∷ joined (next ∷ more)) (10 ∷ [])) ∙ length-append word (32 ∷ (joined (next ∷ more) ++ 10 ∷ [])) ∙ omega arith
 
-line_fits : (k m : ℕ) (l : WrittenLine) (word : List ℕ) (words : List (List ℕ)) → canonical l ≡ word ∷ words → WordsFit m (word ∷ words) → m ≤ k → LineFits k l
-line_fits k m l word words e fits h = record {
+line_fits : {m : ℕ} {word : List ℕ} {words : List (List ℕ)} (k : ℕ) (l : WrittenLine) → canonical l ≡ word ∷ words → WordsFit m (word ∷ words) → m ≤ k → LineFits k l
+line_fits {word = word} {words = words} k l e fits h = record {
   plain = ap plain_words e ∙ true_and (not (is_empty (word ∷ words))) (list_all plain_word (word ∷ words)) (not_empty (suc (length words)) (omega arith)) fits.plain;
   short =
       (let size : length (written_text l) ≡ total (word ∷ words) = ap length (written_is l) ∙ ap (λ (ws : List (List ℕ)). length (joined ws ++ 10 ∷ [])) e ∙ joined_size word words in
@@ -174,14 +177,14 @@ pub record LinesFit (k : ℕ) (lines : List WrittenLine) : Type 0 where
 no_lines : LinesFit 0 []
 no_lines = record { plain = refl; short = omega arith }
 
-line_on : (a b : ℕ) (l : WrittenLine) (lines : List WrittenLine) → LineFits a l → LinesFit b lines → LinesFit (a + b) (l ∷ lines)
-line_on a b l lines x y = record {
+line_on : {a b : ℕ} {l : WrittenLine} {lines : List WrittenLine} → LineFits a l → LinesFit b lines → LinesFit (a + b) (l ∷ lines)
+line_on {l = l} {lines = lines} x y = record {
   plain = true_and (plain_words (canonical l)) (all_plain (map canonical lines)) x.plain y.plain;
   short = (let sum : length (written_text l ++ flat_map written_text lines) ≡ length (written_text l) + length (flat_map written_text lines) = length-append (written_text l) (flat_map written_text lines) in omega (arith, x.short, y.short));
 }
 
-lines_on : (a b : ℕ) (xs ys : List WrittenLine) → LinesFit a xs → LinesFit b ys → LinesFit (a + b) (xs ++ ys)
-lines_on a b xs ys x y = record {
+lines_on : {a b : ℕ} {xs ys : List WrittenLine} → LinesFit a xs → LinesFit b ys → LinesFit (a + b) (xs ++ ys)
+lines_on {xs = xs} {ys = ys} x y = record {
   plain = ap all_plain (map-append canonical xs ys) ∙ list_all-append plain_words (map canonical xs) (map canonical ys) ∙ true_and (all_plain (map canonical xs)) (all_plain (map canonical ys)) x.plain y.plain;
   short =
       (let whole : length (flat_map written_text (xs ++ ys)) ≡ length (flat_map written_text xs ++ flat_map written_text ys) = ap length (flat_map-append written_text xs ys) in
@@ -189,36 +192,35 @@ lines_on a b xs ys x y = record {
       omega (arith, x.short, y.short));
 }
 
-lines_within : (a b : ℕ) (lines : List WrittenLine) → LinesFit a lines → a ≤ b → LinesFit b lines
-lines_within a b lines x h = record { plain = x.plain; short = omega (arith, x.short) }
+lines_within : {a : ℕ} {lines : List WrittenLine} (b : ℕ) → LinesFit a lines → a ≤ b → LinesFit b lines
+lines_within b x h = record { plain = x.plain; short = omega (arith, x.short) }
 
 -- a line of literal words, names and numbers
 numbered_fits : (k : ℕ) (word : List ℕ) (n : ℕ) → WordFits k word → n < 10 ^ 10 → LineFits (k + 12) (numbered word n)
 numbered_fits k word n w small =
-    line_fits (k + 12) (k + 1 + (10 + 1 + 0)) (numbered word n) word (decimal n ∷ []) refl
-    (word_on k (10 + 1 + 0) word (decimal n ∷ []) w (word_on 10 0 (decimal n) [] (number_fits 10 n (omega arith) small (omega arith)) no_words)) (omega arith)
+    line_fits (k + 12) (numbered word n) refl (word_on w (word_on (number_fits 10 n (omega arith) small (omega arith)) no_words)) (omega arith)
 
 -- Queues.
 
 word_if_fits : (b : Bool) (k : ℕ) (word : List ℕ) → WordFits k word → WordsFit (k + 1) (word_if b word)
-word_if_fits true k word w = words_within (k + 1 + 0) (k + 1) (word ∷ []) (word_on k 0 word [] w no_words) (omega arith)
-word_if_fits false k word w = words_within 0 (k + 1) [] no_words (omega arith)
+word_if_fits true k word w = words_within (k + 1) (word_on w no_words) (omega arith)
+word_if_fits false k word w = words_within (k + 1) no_words (omega arith)
 
 flags_fit : (f : Flags) → WordsFit 48 (flag_words f)
 flags_fit f =
-    words_within (((((7 + 1) + (7 + 1)) + (13 + 1)) + (9 + 1)) + (7 + 1)) 48 (flag_words f) (words_on ((((7 + 1) + (7 + 1)) + (13 + 1)) + (9 + 1)) (7 + 1) ((((word_if f.highpri (codes "highpri")) ++ word_if f.unbound (codes "unbound")) ++ word_if f.cpu_intensive (codes "cpu_intensive")) ++ word_if f.freezable (codes "freezable")) (word_if f.ordered (codes "ordered")) (words_on (((7 + 1) + (7 + 1)) + (13 + 1)) (9 + 1) (((word_if f.highpri (codes "highpri")) ++ word_if f.unbound (codes "unbound")) ++ word_if f.cpu_intensive (codes "cpu_intensive")) (word_if f.freezable (codes "freezable")) (words_on ((7 + 1) + (7 + 1)) (13 + 1) ((word_if f.highpri (codes "highpri")) ++ word_if f.unbound (codes "unbound")) (word_if f.cpu_intensive (codes "cpu_intensive")) (words_on (7 + 1) (7 + 1) (word_if f.highpri (codes "highpri")) (word_if f.unbound (codes "unbound")) (word_if_fits f.highpri 7 (codes "highpri") (record { plain = refl; short = omega arith })) (word_if_fits f.unbound 7 (codes "unbound") (record { plain = refl; short = omega arith }))) (word_if_fits f.cpu_intensive 13 (codes "cpu_intensive") (record { plain = refl; short = omega arith }))) (word_if_fits f.freezable 9 (codes "freezable") (record { plain = refl; short = omega arith }))) (word_if_fits f.ordered 7 (codes "ordered") (record { plain = refl; short = omega arith }))) (omega arith)
+    words_within 48 (words_on (words_on (words_on (words_on (word_if_fits f.highpri 7 (codes "highpri") (record { plain = refl; short = omega arith })) (word_if_fits f.unbound 7 (codes "unbound") (record { plain = refl; short = omega arith }))) (word_if_fits f.cpu_intensive 13 (codes "cpu_intensive") (record { plain = refl; short = omega arith }))) (word_if_fits f.freezable 9 (codes "freezable") (record { plain = refl; short = omega arith }))) (word_if_fits f.ordered 7 (codes "ordered") (record { plain = refl; short = omega arith }))) (omega arith)
 
 queue_fits : (q : QueueDecl) → is_name q.name ≡ true → fits_flags q ≡ true → LineFits 78 (queue_line q)
 queue_fits q named fits =
     let parts : (within 1 MAX_MAX_ACTIVE q.max ≡ true) × (cond q.flags.ordered (eqb q.max 1) true ≡ true) = and_true (within 1 MAX_MAX_ACTIVE q.max) (cond q.flags.ordered (eqb q.max 1) true) fits in
     let bounds : (1 ≤ q.max) × (q.max ≤ MAX_MAX_ACTIVE) = within_fits 1 MAX_MAX_ACTIVE q.max parts.0 in
-    line_fits 78 (5 + 1 + (15 + 1 + (3 + 1 + (3 + 1 + (48))))) (queue_line q) (codes "queue") (q.name ∷ codes "max" ∷ decimal q.max ∷ flag_words q.flags) refl (word_on 5 (15 + 1 + (3 + 1 + (3 + 1 + (48)))) (codes "queue") (q.name ∷ (codes "max") ∷ (decimal q.max) ∷ flag_words q.flags) (record { plain = refl; short = omega arith }) (word_on 15 (3 + 1 + (3 + 1 + (48))) q.name ((codes "max") ∷ (decimal q.max) ∷ flag_words q.flags) (name_fits q.name named) (word_on 3 (3 + 1 + (48)) (codes "max") ((decimal q.max) ∷ flag_words q.flags) (record { plain = refl; short = omega arith }) (word_on 3 (48) (decimal q.max) (flag_words q.flags) (number_fits 3 q.max (omega arith) (omega arith) (omega arith)) (flags_fit q.flags))))) (omega arith)
+    line_fits 78 (queue_line q) refl (word_on (literal 5 (codes "queue") refl (omega arith)) (word_on (name_fits q.name named) (word_on (literal 3 (codes "max") refl (omega arith)) (word_on (number_fits 3 q.max (omega arith) (omega arith) (omega arith)) (flags_fit q.flags))))) (omega arith)
 
 queues_fit : (before : List (List ℕ)) (queues : List QueueDecl) → GoodNames before (map (λ (q : QueueDecl). q.name) queues) → list_all fits_flags queues ≡ true → LinesFit (length queues * 78) (map queue_line queues)
 queues_fit before [] names fits = no_lines
 queues_fit before (q ∷ queues) names fits =
     let both : (fits_flags q ≡ true) × (list_all fits_flags queues ≡ true) = and_true (fits_flags q) (list_all fits_flags queues) fits in
-    lines_within (78 + length queues * 78) (suc (length queues) * 78) (map queue_line (q ∷ queues)) (line_on 78 (length queues * 78) (queue_line q) (map queue_line queues) (queue_fits q names.1 both.0) (queues_fit (before ++ q.name ∷ []) queues names.2 both.1)) (omega arith)
+    lines_within (suc (length queues) * 78) (line_on (queue_fits q names.1 both.0) (queues_fit (before ++ q.name ∷ []) queues names.2 both.1)) (omega arith)
 
 -- Works.
 
@@ -241,42 +243,42 @@ work_name S i good h =
 
 work_fits : (S : ScenarioContents) (w : WorkContents) → GoodNames [] (queue_names S) → is_name w.name ≡ true → ltb w.queue.0 (length S.queues) ≡ true → LineFits 37 (work_line S w)
 work_fits S w queues named on =
-    line_fits 37 (4 + 1 + (15 + 1 + (15 + 1 + (0)))) (work_line S w) (codes "work") (w.name ∷ (queue_at S w.queue.0).name ∷ []) refl (word_on 4 (15 + 1 + (15 + 1 + (0))) (codes "work") (w.name ∷ (queue_at S w.queue.0).name ∷ []) (record { plain = refl; short = omega arith }) (word_on 15 (15 + 1 + (0)) w.name ((queue_at S w.queue.0).name ∷ []) (name_fits w.name named) (word_on 15 (0) (queue_at S w.queue.0).name ([]) (queue_name S w.queue.0 queues on) no_words))) (omega arith)
+    line_fits 37 (work_line S w) refl (word_on (literal 4 (codes "work") refl (omega arith)) (word_on (name_fits w.name named) (word_on (queue_name S w.queue.0 queues on) no_words))) (omega arith)
 
 works_fit : (S : ScenarioContents) (before : List (List ℕ)) (works : List WorkContents) → GoodNames [] (queue_names S) → GoodNames before (map (λ (w : WorkContents). w.name) works) → list_all (on_queue_of (length S.queues)) works ≡ true → LinesFit (length works * 37) (map (work_line S) works)
 works_fit S before [] queues names on = no_lines
 works_fit S before (w ∷ works) queues names on =
     let both : (ltb w.queue.0 (length S.queues) ≡ true) × (list_all (on_queue_of (length S.queues)) works ≡ true) = and_true (ltb w.queue.0 (length S.queues)) (list_all (on_queue_of (length S.queues)) works) on in
-    lines_within (37 + length works * 37) (suc (length works) * 37) (map (work_line S) (w ∷ works)) (line_on 37 (length works * 37) (work_line S w) (map (work_line S) works) (work_fits S w queues names.1 both.0) (works_fit S (before ++ w.name ∷ []) works queues names.2 both.1)) (omega arith)
+    lines_within (suc (length works) * 37) (line_on (work_fits S w queues names.1 both.0) (works_fit S (before ++ w.name ∷ []) works queues names.2 both.1)) (omega arith)
 
 -- Bodies.
 
 op_fits : (S : ScenarioContents) (o : Op) → GoodNames [] (work_names S) → S.cpus ≤ 16 → good_op S.cpus (length S.works) o ≡ true → LineFits 25 (op_line S o)
 op_fits S (op.Burn ticks) names few good =
     let bounds : (1 ≤ ticks) × (ticks ≤ MAX_TICKS) = within_fits 1 MAX_TICKS ticks good in
-    line_fits 25 (4 + 1 + (7 + 1 + (0))) (op_line S (op.Burn ticks)) (codes "burn") (decimal ticks ∷ []) refl (word_on 4 (7 + 1 + (0)) (codes "burn") ((decimal ticks) ∷ []) (record { plain = refl; short = omega arith }) (word_on 7 (0) (decimal ticks) ([]) (number_fits 7 ticks (omega arith) (omega arith) (omega arith)) no_words)) (omega arith)
+    line_fits 25 (op_line S (op.Burn ticks)) refl (word_on (literal 4 (codes "burn") refl (omega arith)) (word_on (number_fits 7 ticks (omega arith) (omega arith) (omega arith)) no_words)) (omega arith)
 op_fits S (op.Sleep ticks) names few good =
     let bounds : (1 ≤ ticks) × (ticks ≤ MAX_TICKS) = within_fits 1 MAX_TICKS ticks good in
-    line_fits 25 (5 + 1 + (7 + 1 + (0))) (op_line S (op.Sleep ticks)) (codes "sleep") (decimal ticks ∷ []) refl (word_on 5 (7 + 1 + (0)) (codes "sleep") ((decimal ticks) ∷ []) (record { plain = refl; short = omega arith }) (word_on 7 (0) (decimal ticks) ([]) (number_fits 7 ticks (omega arith) (omega arith) (omega arith)) no_words)) (omega arith)
+    line_fits 25 (op_line S (op.Sleep ticks)) refl (word_on (literal 5 (codes "sleep") refl (omega arith)) (word_on (number_fits 7 ticks (omega arith) (omega arith) (omega arith)) no_words)) (omega arith)
 op_fits S (op.Queue work cpu) names few good =
     let tests : (ltb work.0 (length S.works) ≡ true) × (ltb cpu S.cpus ≡ true) = and_true (ltb work.0 (length S.works)) (ltb cpu S.cpus) good in
     let small : cpu < S.cpus = below cpu S.cpus tests.1 in
-    line_fits 25 (5 + 1 + (15 + 1 + (2 + 1 + (0)))) (op_line S (op.Queue work cpu)) (codes "queue") ((work_at S work.0).name ∷ decimal cpu ∷ []) refl (word_on 5 (15 + 1 + (2 + 1 + (0))) (codes "queue") ((work_at S work.0).name ∷ (decimal cpu) ∷ []) (record { plain = refl; short = omega arith }) (word_on 15 (2 + 1 + (0)) (work_at S work.0).name ((decimal cpu) ∷ []) (work_name S work.0 names tests.0) (word_on 2 (0) (decimal cpu) ([]) (number_fits 2 cpu (omega arith) (omega arith) (omega arith)) no_words))) (omega arith)
+    line_fits 25 (op_line S (op.Queue work cpu)) refl (word_on (literal 5 (codes "queue") refl (omega arith)) (word_on (work_name S work.0 names tests.0) (word_on (number_fits 2 cpu (omega arith) (omega arith) (omega arith)) no_words))) (omega arith)
 op_fits S op.Finish names few good =
-    line_fits 25 (6 + 1 + (0)) (op_line S op.Finish) (codes "finish") [] refl (word_on 6 (0) (codes "finish") ([]) (record { plain = refl; short = omega arith }) no_words) (omega arith)
+    line_fits 25 (op_line S op.Finish) refl (word_on (literal 6 (codes "finish") refl (omega arith)) no_words) (omega arith)
 
 ops_fit : (S : ScenarioContents) (ops : List Op) → GoodNames [] (work_names S) → S.cpus ≤ 16 → list_all (good_op S.cpus (length S.works)) ops ≡ true → LinesFit (length ops * 25) (map (op_line S) ops)
 ops_fit S [] names few good = no_lines
 ops_fit S (o ∷ ops) names few good =
     let test = good_op S.cpus (length S.works) in
     let both : (test o ≡ true) × (list_all test ops ≡ true) = and_true (test o) (list_all test ops) good in
-    lines_within (25 + length ops * 25) (suc (length ops) * 25) (map (op_line S) (o ∷ ops)) (line_on 25 (length ops * 25) (op_line S o) (map (op_line S) ops) (op_fits S o names few both.0) (ops_fit S ops names few both.1)) (omega arith)
+    lines_within (suc (length ops) * 25) (line_on (op_fits S o names few both.0) (ops_fit S ops names few both.1)) (omega arith)
 
 body_line_fits : (name : List ℕ) → is_name name ≡ true → LineFits 21 (Words (codes "body" ∷ name ∷ []))
-body_line_fits name named = line_fits 21 (4 + 1 + (15 + 1 + (0))) (Words (codes "body" ∷ name ∷ [])) (codes "body") (name ∷ []) refl (word_on 4 (15 + 1 + (0)) (codes "body") (name ∷ []) (record { plain = refl; short = omega arith }) (word_on 15 (0) name ([]) (name_fits name named) no_words)) (omega arith)
+body_line_fits name named = line_fits 21 (Words (codes "body" ∷ name ∷ [])) refl (word_on (literal 4 (codes "body") refl (omega arith)) (word_on (name_fits name named) no_words)) (omega arith)
 
 actor_line_fits : (name : List ℕ) → is_name name ≡ true → LineFits 22 (Words (codes "actor" ∷ name ∷ []))
-actor_line_fits name named = line_fits 22 (5 + 1 + (15 + 1 + (0))) (Words (codes "actor" ∷ name ∷ [])) (codes "actor") (name ∷ []) refl (word_on 5 (15 + 1 + (0)) (codes "actor") (name ∷ []) (record { plain = refl; short = omega arith }) (word_on 15 (0) name ([]) (name_fits name named) no_words)) (omega arith)
+actor_line_fits name named = line_fits 22 (Words (codes "actor" ∷ name ∷ [])) refl (word_on (literal 5 (codes "actor") refl (omega arith)) (word_on (name_fits name named) no_words)) (omega arith)
 
 body_fits : (S : ScenarioContents) (w : WorkContents) → GoodNames [] (work_names S) → S.cpus ≤ 16 → is_name w.name ≡ true → GoodBody S.cpus (length S.works) w.body → LinesFit 1621 (body_lines S w)
 body_fits S w names few named body =
@@ -284,13 +286,12 @@ body_fits S w names few named body =
     let all : list_all test w.body ≡ true = ap (list_all test) body.whole ∙ list_all-append test body.ops (op.Finish ∷ []) ∙ true_and (list_all test body.ops) (list_all test (op.Finish ∷ [])) body.good refl in
     let size : length w.body ≡ length body.ops + 1 = ap length body.whole ∙ length-append body.ops (op.Finish ∷ []) in
     let room : length body.ops < MAX_OPS = body.few in
-    lines_within (21 + length w.body * 25) 1621 (body_lines S w) (line_on 21 (length w.body * 25) (Words (codes "body" ∷ w.name ∷ [])) (map (op_line S) w.body) (body_line_fits w.name named) (ops_fit S w.body names few all)) (omega arith)
+    lines_within 1621 (line_on (body_line_fits w.name named) (ops_fit S w.body names few all)) (omega arith)
 
 bodies_fit : (S : ScenarioContents) (before : List (List ℕ)) (works : List WorkContents) → GoodNames [] (work_names S) → S.cpus ≤ 16 → GoodNames before (map (λ (w : WorkContents). w.name) works) → AllByRecursion (GoodBodyOf S.cpus (length S.works)) works → LinesFit (length works * 1621) (flat_map (body_lines S) works)
 bodies_fit S before [] names few named bodies = no_lines
 bodies_fit S before (w ∷ works) names few named bodies =
-    lines_within (1621 + length works * 1621) (suc (length works) * 1621) (flat_map (body_lines S) (w ∷ works))
-    (lines_on 1621 (length works * 1621) (body_lines S w) (flat_map (body_lines S) works) (body_fits S w names few named.1 bodies.0) (bodies_fit S (before ++ w.name ∷ []) works names few named.2 bodies.1)) (omega arith)
+    lines_within (suc (length works) * 1621) (lines_on (body_fits S w names few named.1 bodies.0) (bodies_fit S (before ++ w.name ∷ []) works names few named.2 bodies.1)) (omega arith)
 
 -- Actors.
 
@@ -300,8 +301,8 @@ times_fit times fits =
     by_test (eqb times 1) (number_fits 5 times (omega arith) (omega arith) (omega arith))
   where
     by_test : (b : Bool) → WordFits 5 (decimal times) → WordsFit 8 (cond b [] (codes "*" ∷ decimal times ∷ []))
-    by_test true n = words_within 0 8 [] no_words (omega arith)
-    by_test false n = words_within (1 + 1 + (5 + 1 + 0)) 8 (codes "*" ∷ decimal times ∷ []) (word_on 1 (5 + 1 + 0) (codes "*") (decimal times ∷ []) (record { plain = refl; short = omega arith }) (word_on 5 0 (decimal times) [] n no_words)) (omega arith)
+    by_test true n = words_within 8 no_words (omega arith)
+    by_test false n = words_within 8 (word_on (literal 1 (codes "*") refl (omega arith)) (word_on n no_words)) (omega arith)
 
 -- the first word of an instruction, and its words
 record InstrFits (words : List (List ℕ)) : Type 0 where
@@ -313,65 +314,63 @@ record InstrFits (words : List (List ℕ)) : Type 0 where
 instr_fits_line : (S : ScenarioContents) (i : Instr) → GoodNames [] (work_names S) → GoodNames [] (queue_names S) → names_declared S i ≡ true → instr_fits i ≡ true → InstrFits (instr_words S i)
 instr_fits_line S (instr.Queue work cpu) works queues named fits =
     let small : cpu ≤ 255 = at_most cpu 255 fits in
-    record { first = codes "queue"; others = (work_at S work.0).name ∷ decimal cpu ∷ []; whole = refl; fits = words_within (5 + 1 + (15 + 1 + (3 + 1 + (0)))) 37 (codes "queue" ∷ (work_at S work.0).name ∷ decimal cpu ∷ []) (word_on 5 (15 + 1 + (3 + 1 + (0))) (codes "queue") ((work_at S work.0).name ∷ (decimal cpu) ∷ []) (record { plain = refl; short = omega arith }) (word_on 15 (3 + 1 + (0)) (work_at S work.0).name ((decimal cpu) ∷ []) (work_name S work.0 works named) (word_on 3 (0) (decimal cpu) ([]) (number_fits 3 cpu (omega arith) (omega arith) (omega arith)) no_words))) (omega arith) }
+    record { first = codes "queue"; others = (work_at S work.0).name ∷ decimal cpu ∷ []; whole = refl; fits = words_within 37 (word_on (literal 5 (codes "queue") refl (omega arith)) (word_on (work_name S work.0 works named) (word_on (number_fits 3 cpu (omega arith) (omega arith) (omega arith)) no_words))) (omega arith) }
 instr_fits_line S (instr.Delay work cpu ticks) works queues named fits =
     let both : (leb cpu 255 ≡ true) × (leb ticks 4294967295 ≡ true) = and_true (leb cpu 255) (leb ticks 4294967295) fits in
     let small : cpu ≤ 255 = at_most cpu 255 both.0 in
     let wide : ticks ≤ 4294967295 = at_most ticks 4294967295 both.1 in
-    record { first = codes "delay"; others = (work_at S work.0).name ∷ decimal cpu ∷ decimal ticks ∷ []; whole = refl; fits = words_within (5 + 1 + (15 + 1 + (3 + 1 + (10 + 1 + (0))))) 37 (codes "delay" ∷ (work_at S work.0).name ∷ decimal cpu ∷ decimal ticks ∷ []) (word_on 5 (15 + 1 + (3 + 1 + (10 + 1 + (0)))) (codes "delay") ((work_at S work.0).name ∷ (decimal cpu) ∷ (decimal ticks) ∷ []) (record { plain = refl; short = omega arith }) (word_on 15 (3 + 1 + (10 + 1 + (0))) (work_at S work.0).name ((decimal cpu) ∷ (decimal ticks) ∷ []) (work_name S work.0 works named) (word_on 3 (10 + 1 + (0)) (decimal cpu) ((decimal ticks) ∷ []) (number_fits 3 cpu (omega arith) (omega arith) (omega arith)) (word_on 10 (0) (decimal ticks) ([]) (number_fits 10 ticks (omega arith) (omega arith) (omega arith)) no_words)))) (omega arith) }
+    record { first = codes "delay"; others = (work_at S work.0).name ∷ decimal cpu ∷ decimal ticks ∷ []; whole = refl; fits = words_within 37 (word_on (literal 5 (codes "delay") refl (omega arith)) (word_on (work_name S work.0 works named) (word_on (number_fits 3 cpu (omega arith) (omega arith) (omega arith)) (word_on (number_fits 10 ticks (omega arith) (omega arith) (omega arith)) no_words)))) (omega arith) }
 instr_fits_line S (instr.Mod work cpu ticks) works queues named fits =
     let both : (leb cpu 255 ≡ true) × (leb ticks 4294967295 ≡ true) = and_true (leb cpu 255) (leb ticks 4294967295) fits in
     let small : cpu ≤ 255 = at_most cpu 255 both.0 in
     let wide : ticks ≤ 4294967295 = at_most ticks 4294967295 both.1 in
-    record { first = codes "mod"; others = (work_at S work.0).name ∷ decimal cpu ∷ decimal ticks ∷ []; whole = refl; fits = words_within (3 + 1 + (15 + 1 + (3 + 1 + (10 + 1 + (0))))) 37 (codes "mod" ∷ (work_at S work.0).name ∷ decimal cpu ∷ decimal ticks ∷ []) (word_on 3 (15 + 1 + (3 + 1 + (10 + 1 + (0)))) (codes "mod") ((work_at S work.0).name ∷ (decimal cpu) ∷ (decimal ticks) ∷ []) (record { plain = refl; short = omega arith }) (word_on 15 (3 + 1 + (10 + 1 + (0))) (work_at S work.0).name ((decimal cpu) ∷ (decimal ticks) ∷ []) (work_name S work.0 works named) (word_on 3 (10 + 1 + (0)) (decimal cpu) ((decimal ticks) ∷ []) (number_fits 3 cpu (omega arith) (omega arith) (omega arith)) (word_on 10 (0) (decimal ticks) ([]) (number_fits 10 ticks (omega arith) (omega arith) (omega arith)) no_words)))) (omega arith) }
+    record { first = codes "mod"; others = (work_at S work.0).name ∷ decimal cpu ∷ decimal ticks ∷ []; whole = refl; fits = words_within 37 (word_on (literal 3 (codes "mod") refl (omega arith)) (word_on (work_name S work.0 works named) (word_on (number_fits 3 cpu (omega arith) (omega arith) (omega arith)) (word_on (number_fits 10 ticks (omega arith) (omega arith) (omega arith)) no_words)))) (omega arith) }
 instr_fits_line S (instr.Cancel work) works queues named fits =
-    record { first = codes "cancel"; others = (work_at S work.0).name ∷ []; whole = refl; fits = words_within (6 + 1 + (15 + 1 + (0))) 37 (codes "cancel" ∷ (work_at S work.0).name ∷ []) (word_on 6 (15 + 1 + (0)) (codes "cancel") ((work_at S work.0).name ∷ []) (record { plain = refl; short = omega arith }) (word_on 15 (0) (work_at S work.0).name ([]) (work_name S work.0 works named) no_words)) (omega arith) }
+    record { first = codes "cancel"; others = (work_at S work.0).name ∷ []; whole = refl; fits = words_within 37 (word_on (literal 6 (codes "cancel") refl (omega arith)) (word_on (work_name S work.0 works named) no_words)) (omega arith) }
 instr_fits_line S (instr.CancelSync work) works queues named fits =
-    record { first = codes "cancel_sync"; others = (work_at S work.0).name ∷ []; whole = refl; fits = words_within (11 + 1 + (15 + 1 + (0))) 37 (codes "cancel_sync" ∷ (work_at S work.0).name ∷ []) (word_on 11 (15 + 1 + (0)) (codes "cancel_sync") ((work_at S work.0).name ∷ []) (record { plain = refl; short = omega arith }) (word_on 15 (0) (work_at S work.0).name ([]) (work_name S work.0 works named) no_words)) (omega arith) }
+    record { first = codes "cancel_sync"; others = (work_at S work.0).name ∷ []; whole = refl; fits = words_within 37 (word_on (literal 11 (codes "cancel_sync") refl (omega arith)) (word_on (work_name S work.0 works named) no_words)) (omega arith) }
 instr_fits_line S (instr.Flush work) works queues named fits =
-    record { first = codes "flush"; others = (work_at S work.0).name ∷ []; whole = refl; fits = words_within (5 + 1 + (15 + 1 + (0))) 37 (codes "flush" ∷ (work_at S work.0).name ∷ []) (word_on 5 (15 + 1 + (0)) (codes "flush") ((work_at S work.0).name ∷ []) (record { plain = refl; short = omega arith }) (word_on 15 (0) (work_at S work.0).name ([]) (work_name S work.0 works named) no_words)) (omega arith) }
+    record { first = codes "flush"; others = (work_at S work.0).name ∷ []; whole = refl; fits = words_within 37 (word_on (literal 5 (codes "flush") refl (omega arith)) (word_on (work_name S work.0 works named) no_words)) (omega arith) }
 instr_fits_line S (instr.FlushDelayed work) works queues named fits =
-    record { first = codes "flush_delayed"; others = (work_at S work.0).name ∷ []; whole = refl; fits = words_within (13 + 1 + (15 + 1 + (0))) 37 (codes "flush_delayed" ∷ (work_at S work.0).name ∷ []) (word_on 13 (15 + 1 + (0)) (codes "flush_delayed") ((work_at S work.0).name ∷ []) (record { plain = refl; short = omega arith }) (word_on 15 (0) (work_at S work.0).name ([]) (work_name S work.0 works named) no_words)) (omega arith) }
+    record { first = codes "flush_delayed"; others = (work_at S work.0).name ∷ []; whole = refl; fits = words_within 37 (word_on (literal 13 (codes "flush_delayed") refl (omega arith)) (word_on (work_name S work.0 works named) no_words)) (omega arith) }
 instr_fits_line S (instr.FlushQueue queue) works queues named fits =
-    record { first = codes "flush_queue"; others = (queue_at S queue.0).name ∷ []; whole = refl; fits = words_within (11 + 1 + (15 + 1 + (0))) 37 (codes "flush_queue" ∷ (queue_at S queue.0).name ∷ []) (word_on 11 (15 + 1 + (0)) (codes "flush_queue") ((queue_at S queue.0).name ∷ []) (record { plain = refl; short = omega arith }) (word_on 15 (0) (queue_at S queue.0).name ([]) (queue_name S queue.0 queues named) no_words)) (omega arith) }
+    record { first = codes "flush_queue"; others = (queue_at S queue.0).name ∷ []; whole = refl; fits = words_within 37 (word_on (literal 11 (codes "flush_queue") refl (omega arith)) (word_on (queue_name S queue.0 queues named) no_words)) (omega arith) }
 instr_fits_line S (instr.SetMax queue max) works queues named fits =
     let wide : max ≤ 4294967295 = at_most max 4294967295 fits in
-    record { first = codes "set_max"; others = (queue_at S queue.0).name ∷ decimal max ∷ []; whole = refl; fits = words_within (7 + 1 + (15 + 1 + (10 + 1 + (0)))) 37 (codes "set_max" ∷ (queue_at S queue.0).name ∷ decimal max ∷ []) (word_on 7 (15 + 1 + (10 + 1 + (0))) (codes "set_max") ((queue_at S queue.0).name ∷ (decimal max) ∷ []) (record { plain = refl; short = omega arith }) (word_on 15 (10 + 1 + (0)) (queue_at S queue.0).name ((decimal max) ∷ []) (queue_name S queue.0 queues named) (word_on 10 (0) (decimal max) ([]) (number_fits 10 max (omega arith) (omega arith) (omega arith)) no_words))) (omega arith) }
+    record { first = codes "set_max"; others = (queue_at S queue.0).name ∷ decimal max ∷ []; whole = refl; fits = words_within 37 (word_on (literal 7 (codes "set_max") refl (omega arith)) (word_on (queue_name S queue.0 queues named) (word_on (number_fits 10 max (omega arith) (omega arith) (omega arith)) no_words))) (omega arith) }
 instr_fits_line S instr.Freeze works queues named fits =
-    record { first = codes "freeze"; others = []; whole = refl; fits = words_within (6 + 1 + (0)) 37 (codes "freeze" ∷ []) (word_on 6 (0) (codes "freeze") ([]) (record { plain = refl; short = omega arith }) no_words) (omega arith) }
+    record { first = codes "freeze"; others = []; whole = refl; fits = words_within 37 (word_on (literal 6 (codes "freeze") refl (omega arith)) no_words) (omega arith) }
 instr_fits_line S instr.Thaw works queues named fits =
-    record { first = codes "thaw"; others = []; whole = refl; fits = words_within (4 + 1 + (0)) 37 (codes "thaw" ∷ []) (word_on 4 (0) (codes "thaw") ([]) (record { plain = refl; short = omega arith }) no_words) (omega arith) }
+    record { first = codes "thaw"; others = []; whole = refl; fits = words_within 37 (word_on (literal 4 (codes "thaw") refl (omega arith)) no_words) (omega arith) }
 instr_fits_line S instr.Fire works queues named fits =
-    record { first = codes "fire"; others = []; whole = refl; fits = words_within (4 + 1 + (0)) 37 (codes "fire" ∷ []) (word_on 4 (0) (codes "fire") ([]) (record { plain = refl; short = omega arith }) no_words) (omega arith) }
+    record { first = codes "fire"; others = []; whole = refl; fits = words_within 37 (word_on (literal 4 (codes "fire") refl (omega arith)) no_words) (omega arith) }
 instr_fits_line S (instr.Step n) works queues named fits =
     let small : n ≤ 255 = at_most n 255 fits in
-    record { first = codes "step"; others = decimal n ∷ []; whole = refl; fits = words_within (4 + 1 + (3 + 1 + (0))) 37 (codes "step" ∷ decimal n ∷ []) (word_on 4 (3 + 1 + (0)) (codes "step") ((decimal n) ∷ []) (record { plain = refl; short = omega arith }) (word_on 3 (0) (decimal n) ([]) (number_fits 3 n (omega arith) (omega arith) (omega arith)) no_words)) (omega arith) }
+    record { first = codes "step"; others = decimal n ∷ []; whole = refl; fits = words_within 37 (word_on (literal 4 (codes "step") refl (omega arith)) (word_on (number_fits 3 n (omega arith) (omega arith) (omega arith)) no_words)) (omega arith) }
 instr_fits_line S instr.Tick works queues named fits =
-    record { first = codes "tick"; others = []; whole = refl; fits = words_within (4 + 1 + (0)) 37 (codes "tick" ∷ []) (word_on 4 (0) (codes "tick") ([]) (record { plain = refl; short = omega arith }) no_words) (omega arith) }
+    record { first = codes "tick"; others = []; whole = refl; fits = words_within 37 (word_on (literal 4 (codes "tick") refl (omega arith)) no_words) (omega arith) }
 instr_fits_line S instr.Next works queues named fits =
-    record { first = codes "next"; others = []; whole = refl; fits = words_within (4 + 1 + (0)) 37 (codes "next" ∷ []) (word_on 4 (0) (codes "next") ([]) (record { plain = refl; short = omega arith }) no_words) (omega arith) }
+    record { first = codes "next"; others = []; whole = refl; fits = words_within 37 (word_on (literal 4 (codes "next") refl (omega arith)) no_words) (omega arith) }
 instr_fits_line S (instr.Ask n) works queues named fits =
     let small : n ≤ 65535 = at_most n 65535 fits in
-    record { first = codes "ask"; others = decimal n ∷ []; whole = refl; fits = words_within (3 + 1 + (5 + 1 + (0))) 37 (codes "ask" ∷ decimal n ∷ []) (word_on 3 (5 + 1 + (0)) (codes "ask") ((decimal n) ∷ []) (record { plain = refl; short = omega arith }) (word_on 5 (0) (decimal n) ([]) (number_fits 5 n (omega arith) (omega arith) (omega arith)) no_words)) (omega arith) }
+    record { first = codes "ask"; others = decimal n ∷ []; whole = refl; fits = words_within 37 (word_on (literal 3 (codes "ask") refl (omega arith)) (word_on (number_fits 5 n (omega arith) (omega arith) (omega arith)) no_words)) (omega arith) }
 instr_fits_line S instr.Busy works queues named fits =
-    record { first = codes "busy"; others = []; whole = refl; fits = words_within (4 + 1 + (0)) 37 (codes "busy" ∷ []) (word_on 4 (0) (codes "busy") ([]) (record { plain = refl; short = omega arith }) no_words) (omega arith) }
+    record { first = codes "busy"; others = []; whole = refl; fits = words_within 37 (word_on (literal 4 (codes "busy") refl (omega arith)) no_words) (omega arith) }
 instr_fits_line S (instr.State work) works queues named fits =
-    record { first = codes "state"; others = (work_at S work.0).name ∷ []; whole = refl; fits = words_within (5 + 1 + (15 + 1 + (0))) 37 (codes "state" ∷ (work_at S work.0).name ∷ []) (word_on 5 (15 + 1 + (0)) (codes "state") ((work_at S work.0).name ∷ []) (record { plain = refl; short = omega arith }) (word_on 15 (0) (work_at S work.0).name ([]) (work_name S work.0 works named) no_words)) (omega arith) }
+    record { first = codes "state"; others = (work_at S work.0).name ∷ []; whole = refl; fits = words_within 37 (word_on (literal 5 (codes "state") refl (omega arith)) (word_on (work_name S work.0 works named) no_words)) (omega arith) }
 
 line_of_actor_fits : (S : ScenarioContents) (line : Line) → GoodNames [] (work_names S) → GoodNames [] (queue_names S) → good_line S line ≡ true → LineFits 45 (actor_line S line)
 line_of_actor_fits S line works queues good =
     let parts : ((names_declared S line.instr && within 1 MAX_TIMES line.times) ≡ true) × (instr_fits line.instr ≡ true) = and_true (names_declared S line.instr && within 1 MAX_TIMES line.times) (instr_fits line.instr) good in
     let tests : (names_declared S line.instr ≡ true) × (within 1 MAX_TIMES line.times ≡ true) = and_true (names_declared S line.instr) (within 1 MAX_TIMES line.times) parts.0 in
     let i : InstrFits (instr_words S line.instr) = instr_fits_line S line.instr works queues tests.0 parts.1 in
-    line_fits 45 (37 + 8) (actor_line S line) i.first (i.others ++ times_words line.times) (ap (λ (ws : List (List ℕ)). ws ++ times_words line.times) i.whole)
-    (words_on 37 8 (i.first ∷ i.others) (times_words line.times) i.fits (times_fit line.times tests.1)) (omega arith)
+    line_fits 45 (actor_line S line) (ap (λ (ws : List (List ℕ)). ws ++ times_words line.times) i.whole) (words_on i.fits (times_fit line.times tests.1)) (omega arith)
 
 lines_of_actor_fit : (S : ScenarioContents) (lines : List Line) → GoodNames [] (work_names S) → GoodNames [] (queue_names S) → good_lines S lines ≡ true → LinesFit (length lines * 45) (map (actor_line S) lines)
 lines_of_actor_fit S [] works queues good = no_lines
 lines_of_actor_fit S (line ∷ lines) works queues good =
     let both : (good_line S line ≡ true) × (good_lines S lines ≡ true) = and_true (good_line S line) (good_lines S lines) good in
-    lines_within (45 + length lines * 45) (suc (length lines) * 45) (map (actor_line S) (line ∷ lines))
-    (line_on 45 (length lines * 45) (actor_line S line) (map (actor_line S) lines) (line_of_actor_fits S line works queues both.0) (lines_of_actor_fit S lines works queues both.1)) (omega arith)
+    lines_within (suc (length lines) * 45) (line_on (line_of_actor_fits S line works queues both.0) (lines_of_actor_fit S lines works queues both.1)) (omega arith)
 
 actors_fit : (S : ScenarioContents) (before : List (List ℕ)) (actors : List ActorContents) → GoodNames [] (work_names S) → GoodNames [] (queue_names S) → GoodNames before (map (λ (a : ActorContents). a.name) actors) → list_all (good_actor S) actors ≡ true → LinesFit (length actors * 184342) (flat_map (actor_lines S) actors)
 actors_fit S before [] works queues names good = no_lines
@@ -379,10 +378,7 @@ actors_fit S before (a ∷ actors) works queues names good =
     let both : (good_actor S a ≡ true) × (list_all (good_actor S) actors ≡ true) = and_true (good_actor S a) (list_all (good_actor S) actors) good in
     let here : (leb (length a.lines) MAX_LINES ≡ true) × (good_lines S a.lines ≡ true) = and_true (leb (length a.lines) MAX_LINES) (good_lines S a.lines) both.0 in
     let few : length a.lines ≤ MAX_LINES = at_most (length a.lines) MAX_LINES here.0 in
-    lines_within (184342 + length actors * 184342) (suc (length actors) * 184342) (flat_map (actor_lines S) (a ∷ actors))
-    (lines_on 184342 (length actors * 184342) (actor_lines S a) (flat_map (actor_lines S) actors)
-    (lines_within (22 + length a.lines * 45) 184342 (actor_lines S a) (line_on 22 (length a.lines * 45) (Words (codes "actor" ∷ a.name ∷ [])) (map (actor_line S) a.lines) (actor_line_fits a.name names.1) (lines_of_actor_fit S a.lines works queues here.1)) (omega arith))
-    (actors_fit S (before ++ a.name ∷ []) actors works queues names.2 both.1)) (omega arith)
+    lines_within (suc (length actors) * 184342) (lines_on (lines_within 184342 (line_on (actor_line_fits a.name names.1) (lines_of_actor_fit S a.lines works queues here.1)) (omega arith)) (actors_fit S (before ++ a.name ∷ []) actors works queues names.2 both.1)) (omega arith)
 
 -- The whole listing.
 
@@ -403,22 +399,14 @@ written_fits S good =
     let works : LinesFit b (map (work_line S) S.works) = works_fit S [] S.works good.queue_names good.work_names good.works in
     let bodies : LinesFit c (flat_map (body_lines S) S.works) = bodies_fit S [] S.works good.work_names cpus.1 good.work_names good.bodies in
     let actors : LinesFit d (flat_map (actor_lines S) S.actors) = actors_fit S [] S.actors good.work_names good.queue_names good.actor_names good.actors in
-    let declared : LinesFit (a + b) (map queue_line S.queues ++ map (work_line S) S.works) = lines_on a b (map queue_line S.queues) (map (work_line S) S.works) queues works in
+    let declared : LinesFit (a + b) (map queue_line S.queues ++ map (work_line S) S.works) = lines_on queues works in
     let with_bodies : LinesFit (a + b + c) (map queue_line S.queues ++ map (work_line S) S.works ++ flat_map (body_lines S) S.works) =
-    lines_on (a + b) c (map queue_line S.queues ++ map (work_line S) S.works) (flat_map (body_lines S) S.works) declared bodies in
+    lines_on declared bodies in
     let rest : List WrittenLine = map queue_line S.queues ++ map (work_line S) S.works ++ flat_map (body_lines S) S.works ++ flat_map (actor_lines S) S.actors in
     let all : LinesFit (a + b + c + d) rest =
-    lines_on (a + b + c) d (map queue_line S.queues ++ map (work_line S) S.works ++ flat_map (body_lines S) S.works) (flat_map (actor_lines S) S.actors) with_bodies actors in
+    lines_on with_bodies actors in
     let word : (k : ℕ) (w : List ℕ) → plain_word w ≡ true → length w ≤ k → WordFits k w = λ k w p h. record { plain = p; short = h } in
-    lines_within ((4 + 12) + ((7 + 12) + ((5 + 12) + ((7 + 12) + (a + b + c + d))))) MAX_TEXT (written S)
-    (line_on (4 + 12) ((7 + 12) + ((5 + 12) + ((7 + 12) + (a + b + c + d)))) (numbered (codes "cpus") S.cpus) (numbered (codes "workers") S.workers ∷ numbered (codes "steps") S.steps ∷ numbered (codes "flushes") S.flushes ∷ rest)
-    (numbered_fits 4 (codes "cpus") S.cpus (word 4 (codes "cpus") refl (omega arith)) (omega arith))
-    (line_on (7 + 12) ((5 + 12) + ((7 + 12) + (a + b + c + d))) (numbered (codes "workers") S.workers) (numbered (codes "steps") S.steps ∷ numbered (codes "flushes") S.flushes ∷ rest)
-    (numbered_fits 7 (codes "workers") S.workers (word 7 (codes "workers") refl (omega arith)) (omega arith))
-    (line_on (5 + 12) ((7 + 12) + (a + b + c + d)) (numbered (codes "steps") S.steps) (numbered (codes "flushes") S.flushes ∷ rest)
-    (numbered_fits 5 (codes "steps") S.steps (word 5 (codes "steps") refl (omega arith)) (omega arith))
-    (line_on (7 + 12) (a + b + c + d) (numbered (codes "flushes") S.flushes) rest
-    (numbered_fits 7 (codes "flushes") S.flushes (word 7 (codes "flushes") refl (omega arith)) (omega arith)) all)))) (omega arith)
+    lines_within MAX_TEXT (line_on (numbered_fits 4 (codes "cpus") S.cpus (word 4 (codes "cpus") refl (omega arith)) (omega arith)) (line_on (numbered_fits 7 (codes "workers") S.workers (word 7 (codes "workers") refl (omega arith)) (omega arith)) (line_on (numbered_fits 5 (codes "steps") S.steps (word 5 (codes "steps") refl (omega arith)) (omega arith)) (line_on (numbered_fits 7 (codes "flushes") S.flushes (word 7 (codes "flushes") refl (omega arith)) (omega arith)) all)))) (omega arith)
 
 pub listing_lines : (S : ScenarioContents) → Good S → lines_of (listing S) ≡ map joined (map canonical (written S))
 listing_lines S good = ap lines_of (listing_is (written S)) ∙ fed_lines (map joined (map canonical (written S))) (plain_no_feeds (map canonical (written S)) (written_fits S good).plain)
