@@ -79,7 +79,8 @@ pub same_tail : {A : Type 0} (x y : A) (xs ys : List A) → x ∷ xs ≡ y ∷ y
 same_tail x y xs ys e = cc
 
 -- none of these passes, and the next does: its place is the first
-pub position_at : {A : Type 0} (p : A → Bool) (before : List A) (x : A) (after : List A) → list_any p before ≡ false → p x ≡ true → position_or_len p (before ++ x ∷ after) ≡ length before
+pub position_at : {A : Type 0} (p : A → Bool) (before : List A) (x : A) (after : List A) → list_any p before ≡ false → p x ≡ true
+    → position_or_len p (before ++ x ∷ after) ≡ length before
 position_at p [] x after none passes = cond_no (not (p x)) (1 + position_or_len p after) 0 (ap not passes)
 position_at p (y ∷ before) x after none passes =
     let parts : (p y ≡ false) × (list_any p before ≡ false) = or_false (p y) (list_any p before) none in

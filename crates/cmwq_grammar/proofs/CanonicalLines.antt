@@ -127,16 +127,20 @@ joined_bytes (word ∷ next ∷ more) all =
 blanks_cut : (words : List (List ℕ)) → plain_words words ≡ true → slice_split is_blank (joined words) ≡ words
 blanks_cut [] all = cc
 blanks_cut (word ∷ []) all =
-    let some : (not (is_empty (word ∷ [])) ≡ true) × (list_all plain_word (word ∷ []) ≡ true) = and_true (not (is_empty (word ∷ []))) (list_all plain_word (word ∷ [])) all in
+    let some : (not (is_empty (word ∷ [])) ≡ true) × (list_all plain_word (word ∷ []) ≡ true) =
+    and_true (not (is_empty (word ∷ []))) (list_all plain_word (word ∷ [])) all in
     let both : (plain_word word ≡ true) × (true ≡ true) = and_true (plain_word word) true some.1 in
     let bytes : (not (is_empty word) ≡ true) × (list_all plain_byte word ≡ true) = and_true (not (is_empty word)) (list_all plain_byte word) both.0 in
     cut_none is_blank word (all_of plain_byte (λ b. not (is_blank b)) byte_not_blank word bytes.1)
 blanks_cut (word ∷ next ∷ more) all =
-    let some : (not (is_empty (word ∷ next ∷ more)) ≡ true) × (list_all plain_word (word ∷ next ∷ more) ≡ true) = and_true (not (is_empty (word ∷ next ∷ more))) (list_all plain_word (word ∷ next ∷ more)) all in
+    let some : (not (is_empty (word ∷ next ∷ more)) ≡ true) × (list_all plain_word (word ∷ next ∷ more) ≡ true) =
+    and_true (not (is_empty (word ∷ next ∷ more))) (list_all plain_word (word ∷ next ∷ more)) all in
     let both : (plain_word word ≡ true) × (list_all plain_word (next ∷ more) ≡ true) = and_true (plain_word word) (list_all plain_word (next ∷ more)) some.1 in
     let bytes : (not (is_empty word) ≡ true) × (list_all plain_byte word ≡ true) = and_true (not (is_empty word)) (list_all plain_byte word) both.0 in
-    let later : slice_split is_blank (joined (next ∷ more)) ≡ next ∷ more = blanks_cut (next ∷ more) (true_and (not (is_empty (next ∷ more))) (list_all plain_word (next ∷ more)) (ap not (not_nil (length more))) both.1) in
-    cut_at is_blank word 32 (joined (next ∷ more)) (all_of plain_byte (λ b. not (is_blank b)) byte_not_blank word bytes.1) refl ∙ ap (λ (ws : List (List ℕ)). word ∷ ws) later
+    let later : slice_split is_blank (joined (next ∷ more)) ≡ next ∷ more =
+    blanks_cut (next ∷ more) (true_and (not (is_empty (next ∷ more))) (list_all plain_word (next ∷ more)) (ap not (not_nil (length more))) both.1) in
+    cut_at is_blank word 32 (joined (next ∷ more)) (all_of plain_byte (λ b. not (is_blank b)) byte_not_blank word bytes.1) refl
+    ∙ ap (λ (ws : List (List ℕ)). word ∷ ws) later
   where
     not_nil : (n : ℕ) → eqb (suc n) 0 ≡ false
     not_nil n = grind (arith, nat_tests)
@@ -146,7 +150,8 @@ all_kept [] all = refl
 all_kept (word ∷ words) all =
     let both : (plain_word word ≡ true) × (list_all plain_word words ≡ true) = and_true (plain_word word) (list_all plain_word words) all in
     let some : (not (is_empty word) ≡ true) × (list_all plain_byte word ≡ true) = and_true (not (is_empty word)) (list_all plain_byte word) both.0 in
-    cond_yes (not (is_empty word)) (word ∷ filter (λ w. not (is_empty w)) words) (filter (λ w. not (is_empty w)) words) some.0 ∙ ap (λ (ws : List (List ℕ)). word ∷ ws) (all_kept words both.1)
+    cond_yes (not (is_empty word)) (word ∷ filter (λ w. not (is_empty w)) words) (filter (λ w. not (is_empty w)) words) some.0
+    ∙ ap (λ (ws : List (List ℕ)). word ∷ ws) (all_kept words both.1)
 
 pub words_again : (words : List (List ℕ)) → plain_words words ≡ true → words_of (joined words) ≡ words
 words_again words all =
@@ -196,7 +201,8 @@ plain_worded (words ∷ said) all =
     let both : (plain_words words ≡ true) × (all_plain said ≡ true) = and_true (plain_words words) (all_plain said) all in
     let some : (not (is_empty words) ≡ true) × (list_all plain_word words ≡ true) = and_true (not (is_empty words)) (list_all plain_word words) both.0 in
     ap (λ (ws : List (List ℕ)). worded_on ws (worded (map joined said))) (words_again words both.0)
-    ∙ cond_yes (not (is_empty words)) (words ∷ worded (map joined said)) (worded (map joined said)) some.0 ∙ ap (λ (ss : List (List (List ℕ))). words ∷ ss) (plain_worded said both.1)
+    ∙ cond_yes (not (is_empty words)) (words ∷ worded (map joined said)) (worded (map joined said)) some.0
+    ∙ ap (λ (ss : List (List (List ℕ))). words ∷ ss) (plain_worded said both.1)
 
 pub plain_utf8 : (said : List (List (List ℕ))) → all_plain said ≡ true → AllUtf8 (map joined said)
 plain_utf8 [] all = tt

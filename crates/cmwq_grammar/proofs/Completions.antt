@@ -21,7 +21,8 @@ pub record Completion (stage : Stage) : Type 0 where
   pub good : Good scenario
   pub continues : Continues stage lines scenario
 
-head_good : (cpus workers steps : ℕ) → within 1 MAX_CPUS cpus ≡ true → within 1 MAX_WORKERS workers ≡ true → within 1 MAX_STEPS steps ≡ true → Good (head_of cpus workers steps 0)
+head_good : (cpus workers steps : ℕ) → within 1 MAX_CPUS cpus ≡ true → within 1 MAX_WORKERS workers ≡ true → within 1 MAX_STEPS steps ≡ true
+    → Good (head_of cpus workers steps 0)
 head_good cpus workers steps a b c = record {
   cpus = a;
   workers = b;
@@ -78,7 +79,8 @@ bodies_complete D done sound =
         queues = refl;
         more = more;
         works = refl;
-        declared = sound.declared ∙ map-append bare done sound.more ∙ ap (λ (ws : List WorkContents). map bare done ++ ws) (sym (bare_least sound.more)) ∙ sym (map-append bare done more);
+        declared = sound.declared ∙ map-append bare done sound.more ∙ ap (λ (ws : List WorkContents). map bare done ++ ws) (sym (bare_least sound.more))
+            ∙ sym (map-append bare done more);
         said = refl;
       };
     }
@@ -119,8 +121,10 @@ actor_complete D name given good =
 pub complete : (stage : Stage) → Sound stage → Completion stage
 complete Start sound = record { scenario = head_of 1 1 1 0; lines = written (head_of 1 1 1 0); good = head_good 1 1 1 refl refl refl; continues = refl }
 complete (Cpus cpus) sound = record { scenario = head_of cpus 1 1 0; lines = _; good = head_good cpus 1 1 sound refl refl; continues = (refl, refl) }
-complete (Workers cpus workers) sound = record { scenario = head_of cpus workers 1 0; lines = _; good = head_good cpus workers 1 sound.0 sound.1 refl; continues = (refl, refl, refl) }
-complete (Steps cpus workers steps) sound = record { scenario = head_of cpus workers steps 0; lines = _; good = head_good cpus workers steps sound.0 sound.1 sound.2; continues = (refl, refl, refl, refl) }
+complete (Workers cpus workers) sound =
+    record { scenario = head_of cpus workers 1 0; lines = _; good = head_good cpus workers 1 sound.0 sound.1 refl; continues = (refl, refl, refl) }
+complete (Steps cpus workers steps) sound =
+    record { scenario = head_of cpus workers steps 0; lines = _; good = head_good cpus workers steps sound.0 sound.1 sound.2; continues = (refl, refl, refl, refl) }
 complete (Queues D) sound = queues_complete D sound
 complete (Works D) sound = works_complete D sound
 complete (Bodies D done) sound = bodies_complete D done sound

@@ -46,7 +46,8 @@ pub record QueueAdded (D : ScenarioContents) (said : List (List ℕ)) (next : St
   pub flags : fits_flags queue ≡ true
   pub room : length D.queues < MAX_QUEUES
 
-queue_stage : (D : ScenarioContents) (queue : QueueDecl) (next : Stage) → add_queue D queue ≡ Ok next → (fits_flags queue ≡ true) × (length D.queues < MAX_QUEUES) × (Queues (with_queue D queue) ≡ next)
+queue_stage : (D : ScenarioContents) (queue : QueueDecl) (next : Stage) → add_queue D queue ≡ Ok next
+    → (fits_flags queue ≡ true) × (length D.queues < MAX_QUEUES) × (Queues (with_queue D queue) ≡ next)
 unfolding add_queue
 queue_stage D queue next e =
     elim (chosen (not (fits_flags queue)) (Err (why.Fault fault.BadFlags)) (value_if (ltb (length D.queues) MAX_QUEUES) (Queues (with_queue D queue)) (why.Fault fault.TooMany)) (Ok next) e) [
@@ -58,14 +59,17 @@ queue_stage D queue next e =
     not_fine : (n : Stage) → Err (why.Fault fault.BadFlags) ≡ fine n → ⊥
     not_fine n h = cc
 
-pub queue_added : (D : ScenarioContents) (rest : List (List ℕ)) (next : Stage) → (queue_at_line D rest >>= add_queue D) ≡ Ok next → QueueAdded D (codes "queue" ∷ rest) next
+pub queue_added : (D : ScenarioContents) (rest : List (List ℕ)) (next : Stage) → (queue_at_line D rest >>= add_queue D) ≡ Ok next
+    → QueueAdded D (codes "queue" ∷ rest) next
 queue_added D rest next e =
     let there : (q : QueueDecl) × (queue_at_line D rest ≡ Ok q) × (add_queue D q ≡ Ok next) = bind_ok (queue_at_line D rest) (add_queue D) next e in
-    let read : Says (queue_line there.0) (codes "queue" ∷ rest) × IsNew (queue_names D) (there.0).name × (is_name (there.0).name ≡ true) = queue_read D rest there.0 there.1 in
+    let read : Says (queue_line there.0) (codes "queue" ∷ rest) × IsNew (queue_names D) (there.0).name × (is_name (there.0).name ≡ true) =
+    queue_read D rest there.0 there.1 in
     let added : (fits_flags there.0 ≡ true) × (length D.queues < MAX_QUEUES) × (Queues (with_queue D there.0) ≡ next) = queue_stage D there.0 next there.2 in
     record { queue = there.0; stage = added.2; says = read.0; new = read.1; name = read.2; flags = added.0; room = added.1 }
 
-pub queue_adds : (D : ScenarioContents) (queue : QueueDecl) → fits_flags queue ≡ true → length D.queues < MAX_QUEUES → add_queue D queue ≡ Ok (Queues (with_queue D queue))
+pub queue_adds : (D : ScenarioContents) (queue : QueueDecl) → fits_flags queue ≡ true → length D.queues < MAX_QUEUES
+    → add_queue D queue ≡ Ok (Queues (with_queue D queue))
 unfolding add_queue
 queue_adds D queue fits room =
     cond_no (not (fits_flags queue)) (Err (why.Fault fault.BadFlags)) (value_if (ltb (length D.queues) MAX_QUEUES) (Queues (with_queue D queue)) (why.Fault fault.TooMany)) (ap not fits)
@@ -89,7 +93,8 @@ work_added D rest next e =
     let there : (w : WorkContents) × (work_at_line D rest ≡ Ok w) × (add_work D w ≡ Ok next) = bind_ok (work_at_line D rest) (add_work D) next e in
     let read : Says (work_line D there.0) (codes "work" ∷ rest) × IsNew (work_names D) (there.0).name × (is_name (there.0).name ≡ true) × (ltb ((there.0).queue).0 (length D.queues) ≡ true) × ((there.0).body ≡ []) =
     work_read D rest there.0 there.1 in
-    let room : (ltb (length D.works) MAX_WORKS ≡ true) × (Works (with_work D there.0) ≡ next) = value_if_ok (ltb (length D.works) MAX_WORKS) (Works (with_work D there.0)) (why.Fault fault.TooMany) next there.2 in
+    let room : (ltb (length D.works) MAX_WORKS ≡ true) × (Works (with_work D there.0) ≡ next) =
+    value_if_ok (ltb (length D.works) MAX_WORKS) (Works (with_work D there.0)) (why.Fault fault.TooMany) next there.2 in
     record { work = there.0; stage = room.1; says = read.0; new = read.1; name = read.2; queue = read.3; bare = read.4; room = below_test (length D.works) MAX_WORKS room.0 }
 
 pub work_adds : (D : ScenarioContents) (work : WorkContents) → length D.works < MAX_WORKS → add_work D work ≡ Ok (Works (with_work D work))
@@ -104,7 +109,8 @@ unfolding open_body
 body_opened D done rest next e =
     let last : (n : ℕ × List (List ℕ)) × ((declared_at (work_names D) rest >>= is_next (length done)) ≡ Ok n) × (made_last (λ work. Body D done []) n ≡ Ok next) =
     bind_ok (declared_at (work_names D) rest >>= is_next (length done)) (made_last (λ work. Body D done [])) next e in
-    let work : (n : ℕ × List (List ℕ)) × (declared_at (work_names D) rest ≡ Ok n) × (is_next (length done) n ≡ Ok last.0) = bind_ok (declared_at (work_names D) rest) (is_next (length done)) last.0 last.1 in
+    let work : (n : ℕ × List (List ℕ)) × (declared_at (work_names D) rest ≡ Ok n) × (is_next (length done) n ≡ Ok last.0) =
+    bind_ok (declared_at (work_names D) rest) (is_next (length done)) last.0 last.1 in
     let placed : (eqb (work.0).0 (length done) ≡ true) × (work.0 ≡ last.0) = value_if_ok (eqb (work.0).0 (length done)) work.0 why.Misplaced last.0 work.2 in
     let made : ((last.0).1 ≡ []) × (Body D done [] ≡ next) = last_read (λ (n : ℕ). Body D done []) last.0 next last.2 in
     let there : (rest ≡ get_or (work_names D) (work.0).0 [] ∷ (work.0).1) × ((work.0).0 < length (work_names D)) = declared_read (work_names D) rest work.0 work.1 in
@@ -118,7 +124,8 @@ body_opened D done rest next e =
     same_number : (n m : ℕ) → eqb n m ≡ true → n ≡ m
     same_number n m h = grind (arith, nat_tests)
 
-pub body_opens : (D : ScenarioContents) (done : List WorkContents) → GoodNames [] (work_names D) → length done < length (work_names D) → open_body D done (get_or (work_names D) (length done) [] ∷ []) ≡ Ok (Body D done [])
+pub body_opens : (D : ScenarioContents) (done : List WorkContents) → GoodNames [] (work_names D) → length done < length (work_names D)
+    → open_body D done (get_or (work_names D) (length done) [] ∷ []) ≡ Ok (Body D done [])
 unfolding open_body
 body_opens D done names there =
     let name = get_or (work_names D) (length done) [] in
@@ -140,7 +147,8 @@ pub record OpAdded (D : ScenarioContents) (done : List WorkContents) (ops : List
       ((is_finish last ≡ true) × (Bodies D (with_body D done (ops ++ last ∷ [])) ≡ next))
       ⊎ ((is_finish last ≡ false) × (length ops + 1 < MAX_OPS) × (Body D done (ops ++ last ∷ []) ≡ next))
 
-pub op_added : (D : ScenarioContents) (done : List WorkContents) (ops : List Op) (word : List ℕ) (rest : List (List ℕ)) (next : Stage) → (op_at_line D word rest >>= add_op D done ops) ≡ Ok next → OpAdded D done ops word rest next
+pub op_added : (D : ScenarioContents) (done : List WorkContents) (ops : List Op) (word : List ℕ) (rest : List (List ℕ)) (next : Stage)
+    → (op_at_line D word rest >>= add_op D done ops) ≡ Ok next → OpAdded D done ops word rest next
 unfolding add_op
 op_added D done ops word rest next e =
     let there : (o : Op) × (op_at_line D word rest ≡ Ok o) × (add_op D done ops o ≡ Ok next) = bind_ok (op_at_line D word rest) (add_op D done ops) next e in
@@ -156,12 +164,14 @@ op_added D done ops word rest next e =
           ];
     }
 
-pub finish_adds : (D : ScenarioContents) (done : List WorkContents) (ops : List Op) (last : Op) → is_finish last ≡ true → add_op D done ops last ≡ Ok (Bodies D (with_body D done (ops ++ last ∷ [])))
+pub finish_adds : (D : ScenarioContents) (done : List WorkContents) (ops : List Op) (last : Op) → is_finish last ≡ true
+    → add_op D done ops last ≡ Ok (Bodies D (with_body D done (ops ++ last ∷ [])))
 unfolding add_op
 finish_adds D done ops last e =
     cond_yes (is_finish last) (fine (Bodies D (with_body D done (ops ++ last ∷ [])))) (value_if (ltb (length ops + 1) MAX_OPS) (Body D done (ops ++ last ∷ [])) (why.Fault fault.TooMany)) e
 
-pub op_adds : (D : ScenarioContents) (done : List WorkContents) (ops : List Op) (last : Op) → is_finish last ≡ false → length ops + 1 < MAX_OPS → add_op D done ops last ≡ Ok (Body D done (ops ++ last ∷ []))
+pub op_adds : (D : ScenarioContents) (done : List WorkContents) (ops : List Op) (last : Op) → is_finish last ≡ false → length ops + 1 < MAX_OPS
+    → add_op D done ops last ≡ Ok (Body D done (ops ++ last ∷ []))
 unfolding add_op
 op_adds D done ops last e room =
     cond_no (is_finish last) (fine (Bodies D (with_body D done (ops ++ last ∷ [])))) (value_if (ltb (length ops + 1) MAX_OPS) (Body D done (ops ++ last ∷ [])) (why.Fault fault.TooMany)) e
@@ -182,10 +192,12 @@ unfolding open_actor
 actor_opened D rest next e =
     let last : (n : List ℕ) × ((new_name_at (actor_names D) rest >>= made_last (λ name. name)) ≡ Ok n) × (add_actor D n ≡ Ok next) =
     bind_ok (new_name_at (actor_names D) rest >>= made_last (λ name. name)) (add_actor D) next e in
-    let name : (n : List ℕ × List (List ℕ)) × (new_name_at (actor_names D) rest ≡ Ok n) × (made_last (λ m. m) n ≡ Ok last.0) = bind_ok (new_name_at (actor_names D) rest) (made_last (λ m. m)) last.0 last.1 in
+    let name : (n : List ℕ × List (List ℕ)) × (new_name_at (actor_names D) rest ≡ Ok n) × (made_last (λ m. m) n ≡ Ok last.0) =
+    bind_ok (new_name_at (actor_names D) rest) (made_last (λ m. m)) last.0 last.1 in
     let made : ((name.0).1 ≡ []) × ((name.0).0 ≡ last.0) = last_read (λ (m : List ℕ). m) name.0 last.0 name.2 in
     let read : (rest ≡ (name.0).0 ∷ (name.0).1) × (is_name (name.0).0 ≡ true) × IsNew (actor_names D) (name.0).0 = new_name_read (actor_names D) rest name.0 name.1 in
-    let room : (ltb (length D.actors) MAX_ACTORS ≡ true) × (Actor D last.0 [] ≡ next) = value_if_ok (ltb (length D.actors) MAX_ACTORS) (Actor D last.0 []) (why.Fault fault.TooMany) next last.2 in
+    let room : (ltb (length D.actors) MAX_ACTORS ≡ true) × (Actor D last.0 [] ≡ next) =
+    value_if_ok (ltb (length D.actors) MAX_ACTORS) (Actor D last.0 []) (why.Fault fault.TooMany) next last.2 in
     record {
       name = last.0;
       stage = room.1;
@@ -195,7 +207,8 @@ actor_opened D rest next e =
       room = below_test (length D.actors) MAX_ACTORS room.0;
     }
 
-pub actor_opens : (D : ScenarioContents) (name : List ℕ) → is_name name ≡ true → IsNew (actor_names D) name → length D.actors < MAX_ACTORS → open_actor D (name ∷ []) ≡ Ok (Actor D name [])
+pub actor_opens : (D : ScenarioContents) (name : List ℕ) → is_name name ≡ true → IsNew (actor_names D) name → length D.actors < MAX_ACTORS
+    → open_actor D (name ∷ []) ≡ Ok (Actor D name [])
 unfolding open_actor
 actor_opens D name is new room =
     let found : (new_name_at (actor_names D) (name ∷ []) >>= made_last (λ n. n)) ≡ Ok name =
@@ -212,17 +225,21 @@ pub record LineAdded (D : ScenarioContents) (name : List ℕ) (lines : List Line
   pub good : good_line D line ≡ true
   pub room : length lines < MAX_LINES
 
-pub line_added : (D : ScenarioContents) (name : List ℕ) (lines : List Line) (word : List ℕ) (rest : List (List ℕ)) (next : Stage) → (line_at D word rest >>= add_line D name lines) ≡ Ok next → LineAdded D name lines (word ∷ rest) next
+pub line_added : (D : ScenarioContents) (name : List ℕ) (lines : List Line) (word : List ℕ) (rest : List (List ℕ)) (next : Stage)
+    → (line_at D word rest >>= add_line D name lines) ≡ Ok next → LineAdded D name lines (word ∷ rest) next
 unfolding add_line
 line_added D name lines word rest next e =
     let there : (l : Line) × (line_at D word rest ≡ Ok l) × (add_line D name lines l ≡ Ok next) = bind_ok (line_at D word rest) (add_line D name lines) next e in
     let read : Says (actor_line D there.0) (word ∷ rest) × (good_line D there.0 ≡ true) = line_read D word rest there.0 there.1 in
-    let room : (ltb (length lines) MAX_LINES ≡ true) × (Actor D name (lines ++ there.0 ∷ []) ≡ next) = value_if_ok (ltb (length lines) MAX_LINES) (Actor D name (lines ++ there.0 ∷ [])) (why.Fault fault.TooMany) next there.2 in
+    let room : (ltb (length lines) MAX_LINES ≡ true) × (Actor D name (lines ++ there.0 ∷ []) ≡ next) =
+    value_if_ok (ltb (length lines) MAX_LINES) (Actor D name (lines ++ there.0 ∷ [])) (why.Fault fault.TooMany) next there.2 in
     record { line = there.0; stage = room.1; says = read.0; good = read.1; room = below_test (length lines) MAX_LINES room.0 }
 
-pub line_adds : (D : ScenarioContents) (name : List ℕ) (lines : List Line) (line : Line) → length lines < MAX_LINES → add_line D name lines line ≡ Ok (Actor D name (lines ++ line ∷ []))
+pub line_adds : (D : ScenarioContents) (name : List ℕ) (lines : List Line) (line : Line) → length lines < MAX_LINES
+    → add_line D name lines line ≡ Ok (Actor D name (lines ++ line ∷ []))
 unfolding add_line
-line_adds D name lines line room = value_if_at (ltb (length lines) MAX_LINES) (Actor D name (lines ++ line ∷ [])) (why.Fault fault.TooMany) (test_below (length lines) MAX_LINES room)
+line_adds D name lines line room =
+    value_if_at (ltb (length lines) MAX_LINES) (Actor D name (lines ++ line ∷ [])) (why.Fault fault.TooMany) (test_below (length lines) MAX_LINES room)
 
 err_not_fine : (l : Line) → Err why.Misplaced ≡ fine l → ⊥
 err_not_fine l h = cc

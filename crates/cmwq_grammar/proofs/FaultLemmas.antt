@@ -77,7 +77,9 @@ utf8_front [] ys all = tt
 utf8_front (x ∷ xs) ys all = (all.0, utf8_front xs ys all.1)
 
 worded_both : (xs ys : List (List ℕ)) → worded (xs ++ ys) ≡ worded xs ++ worded ys
-worded_both xs ys = ap (λ (ws : List (List (List ℕ))). filter (λ words. not (is_empty words)) ws) (map-append words_of xs ys) ∙ filter-append (λ words. not (is_empty words)) (map words_of xs) (map words_of ys)
+worded_both xs ys =
+    ap (λ (ws : List (List (List ℕ))). filter (λ words. not (is_empty words)) ws) (map-append words_of xs ys)
+    ∙ filter-append (λ words. not (is_empty words)) (map words_of xs) (map words_of ys)
 
 say_on : (before after : List WrittenLine) (xs ys : List (List (List ℕ))) → SayAll before xs → SayAll after ys → SayAll (before ++ after) (xs ++ ys)
 say_on [] after [] ys a b = b
@@ -93,14 +95,17 @@ read_begins lines stage none e =
     let told = (read.0).front whole.lines S whole.continues in
     let fit : LinesFit MAX_TEXT (written S) = written_fits S whole.good in
     let said : List (List (List ℕ)) = map canonical whole.lines in
-    let parts : all_plain (map canonical told.0 ++ said) ≡ true = sym (ap all_plain (map-append canonical told.0 whole.lines)) ∙ ap (λ (ls : List WrittenLine). all_plain (map canonical ls)) told.2 ∙ fit.plain in
-    let both : (all_plain (map canonical told.0) ≡ true) × (all_plain said ≡ true) = and_true (all_plain (map canonical told.0)) (all_plain said) (sym (list_all-append plain_words (map canonical told.0) said) ∙ parts) in
+    let parts : all_plain (map canonical told.0 ++ said) ≡ true =
+    sym (ap all_plain (map-append canonical told.0 whole.lines)) ∙ ap (λ (ls : List WrittenLine). all_plain (map canonical ls)) told.2 ∙ fit.plain in
+    let both : (all_plain (map canonical told.0) ≡ true) × (all_plain said ≡ true) =
+    and_true (all_plain (map canonical told.0)) (all_plain said) (sym (list_all-append plain_words (map canonical told.0) said) ∙ parts) in
     let more : List (List ℕ) = map joined said in
     let text : List ℕ = fed (lines ++ more) in
     let feeds : no_feeds (lines ++ more) ≡ true = list_all-append no_feed lines more ∙ true_and (no_feeds lines) (no_feeds more) none (plain_no_feeds said both.1) in
     let cut : lines_of text ≡ lines ++ more = fed_lines (lines ++ more) feeds in
     let utf8 : AllUtf8 (lines ++ more) = utf8_on lines more read.1 (plain_utf8 said both.1) in
-    let words : worded (lines_of text) ≡ worded lines ++ said = ap worded cut ∙ worded_both lines more ∙ ap (λ (ws : List (List (List ℕ))). worded lines ++ ws) (plain_worded said both.1) in
+    let words : worded (lines_of text) ≡ worded lines ++ said =
+    ap worded cut ∙ worded_both lines more ∙ ap (λ (ws : List (List (List ℕ))). worded lines ++ ws) (plain_worded said both.1) in
     let says : SayAll (told.0 ++ whole.lines) (worded lines ++ said) = say_on told.0 whole.lines (worded lines) said told.1 (canonical_say whole.lines) in
     let says_written : SayAll (written S) (worded lines ++ said) = subst (λ (ls : List WrittenLine). SayAll ls (worded lines ++ said)) told.2 says in
     let valid = valid_from_good S whole.good in (
@@ -129,7 +134,8 @@ begins_read lines (text, more, S, cut, is) =
 abbrev failed : {A : Type 0} → FaultAt → Result A FaultAt
 failed fault = Err fault
 
-bind_err : {A B : Type 0} (r : Result A FaultAt) (next : A → Result B FaultAt) (fault : FaultAt) → (r >>= next) ≡ Err fault → (r ≡ Err fault) ⊎ ((x : A) × (r ≡ Ok x) × (next x ≡ Err fault))
+bind_err : {A B : Type 0} (r : Result A FaultAt) (next : A → Result B FaultAt) (fault : FaultAt) → (r >>= next) ≡ Err fault
+    → (r ≡ Err fault) ⊎ ((x : A) × (r ≡ Ok x) × (next x ≡ Err fault))
 bind_err (Ok x) next fault e = inr (x, refl, e)
 bind_err {B = B} (Err g) next fault e = inl (ap failed (same g fault e))
   where
@@ -174,12 +180,14 @@ fails_after n (line ∷ lines) origin fault e =
     ]
 
 -- the same from the stage and the reason
-fails_at : (n : ℕ) (lines : List (List ℕ)) (origin : Stage) (k : ℕ) (stage : Stage) (reason : Why) → k < length lines → stage_after n (take k lines) origin ≡ Ok stage → judge stage (get_or lines k []) ≡ Err reason → stage_after n lines origin ≡ Err (fault_at (n + k) reason)
+fails_at : (n : ℕ) (lines : List (List ℕ)) (origin : Stage) (k : ℕ) (stage : Stage) (reason : Why) → k < length lines → stage_after n (take k lines) origin ≡ Ok stage
+    → judge stage (get_or lines k []) ≡ Err reason → stage_after n lines origin ≡ Err (fault_at (n + k) reason)
 unfolding stage_after
 fails_at n [] origin k stage reason there before e = absurd (omega arith)
 fails_at n (line ∷ lines) origin zero stage reason there before e =
     let same : origin ≡ stage = stage_same origin stage before in
-    ap (λ (r : Result Stage Why). at_line n r >>= stage_after (n + 1) lines) (ap (λ (s : Stage). judge s line) same ∙ e) ∙ ap (λ (m : ℕ). failed (fault_at m reason)) (omega arith)
+    ap (λ (r : Result Stage Why). at_line n r >>= stage_after (n + 1) lines) (ap (λ (s : Stage). judge s line) same ∙ e)
+    ∙ ap (λ (m : ℕ). failed (fault_at m reason)) (omega arith)
   where
     stage_ok : Stage → Result Stage FaultAt
     stage_ok s = Ok s
@@ -187,12 +195,14 @@ fails_at n (line ∷ lines) origin zero stage reason there before e =
     stage_same : (a b : Stage) → stage_ok a ≡ stage_ok b → a ≡ b
     stage_same a b h = cc
 fails_at n (line ∷ lines) origin (suc k) stage reason there before e =
-    let first : (s : Stage) × (at_line n (judge origin line) ≡ Ok s) × (stage_after (n + 1) (take k lines) s ≡ Ok stage) = bind_ok (at_line n (judge origin line)) (stage_after (n + 1) (take k lines)) stage before in
+    let first : (s : Stage) × (at_line n (judge origin line) ≡ Ok s) × (stage_after (n + 1) (take k lines) s ≡ Ok stage) =
+    bind_ok (at_line n (judge origin line)) (stage_after (n + 1) (take k lines)) stage before in
     let later : stage_after (n + 1) lines first.0 ≡ Err (fault_at ((n + 1) + k) reason) = fails_at (n + 1) lines first.0 k stage reason (omega arith) first.2 e in
     bind_at (at_line n (judge origin line)) (stage_after (n + 1) lines) first.0 first.1 ∙ later ∙ ap (λ (m : ℕ). failed (fault_at m reason)) (omega arith)
 
 -- one line more
-one_more : (n : ℕ) (lines : List (List ℕ)) (line : List ℕ) (origin stage next : Stage) → stage_after n lines origin ≡ Ok stage → stage_after n (lines ++ line ∷ []) origin ≡ Ok next → judge stage line ≡ Ok next
+one_more : (n : ℕ) (lines : List (List ℕ)) (line : List ℕ) (origin stage next : Stage) → stage_after n lines origin ≡ Ok stage
+    → stage_after n (lines ++ line ∷ []) origin ≡ Ok next → judge stage line ≡ Ok next
 unfolding stage_after
 one_more n [] line origin stage next before e =
     let same : origin ≡ stage = stage_same origin stage before in
@@ -205,8 +215,10 @@ one_more n [] line origin stage next before e =
     stage_same : (a b : Stage) → stage_ok a ≡ stage_ok b → a ≡ b
     stage_same a b h = cc
 one_more n (first ∷ lines) line origin stage next before e =
-    let a : (s : Stage) × (at_line n (judge origin first) ≡ Ok s) × (stage_after (n + 1) lines s ≡ Ok stage) = bind_ok (at_line n (judge origin first)) (stage_after (n + 1) lines) stage before in
-    let b : (s : Stage) × (at_line n (judge origin first) ≡ Ok s) × (stage_after (n + 1) (lines ++ line ∷ []) s ≡ Ok next) = bind_ok (at_line n (judge origin first)) (stage_after (n + 1) (lines ++ line ∷ [])) next e in
+    let a : (s : Stage) × (at_line n (judge origin first) ≡ Ok s) × (stage_after (n + 1) lines s ≡ Ok stage) =
+    bind_ok (at_line n (judge origin first)) (stage_after (n + 1) lines) stage before in
+    let b : (s : Stage) × (at_line n (judge origin first) ≡ Ok s) × (stage_after (n + 1) (lines ++ line ∷ []) s ≡ Ok next) =
+    bind_ok (at_line n (judge origin first)) (stage_after (n + 1) (lines ++ line ∷ [])) next e in
     let same : b.0 ≡ a.0 = stage_same b.0 a.0 (sym b.1 ∙ a.1) in
     one_more (n + 1) lines line a.0 stage next a.2 (subst (λ (s : Stage). stage_after (n + 1) (lines ++ line ∷ []) s ≡ Ok next) same b.2)
   where
@@ -234,7 +246,8 @@ fault_in_line lines fault none fails =
       with = λ begins.
           let read = begins_read (take (fails.k + 1) lines) begins in
           let grown : take (fails.k + 1) lines ≡ front ++ line ∷ [] = take_more lines fails.k [] fails.there in
-          let passes : judge fails.stage line ≡ Ok read.0 = one_more 1 front line Start fails.stage read.0 fails.before (ap (λ (ls : List (List ℕ)). stage_after 1 ls Start) (sym grown) ∙ read.1) in
+          let passes : judge fails.stage line ≡ Ok read.0 =
+          one_more 1 front line Start fails.stage read.0 fails.before (ap (λ (ls : List (List ℕ)). stage_after 1 ls Start) (sym grown) ∙ read.1) in
           not_both (judge fails.stage line) read.0 fails.reason passes fails.judged;
       line = ap (λ (f : FaultAt). f.line) (sym fails.is) ∙ omega arith;
       why = (fails.stage, fails.before, fails.judged ∙ ap (λ (f : FaultAt). refused f.why) fails.is);
@@ -258,11 +271,13 @@ short_test n h = grind (arith, nat_tests)
 fault_same : (a b : FaultAt) → failed {A = ScenarioContents} a ≡ failed b → a ≡ b
 fault_same a b h = cc
 
-lines_end : (text : List ℕ) (stage : Stage) (fault : FaultAt) → stage_after 1 (lines_of text) Start ≡ Ok stage → ends_before (length (lines_of text) + 1) stage ≡ Err fault → reads_lines (lines_of text) ≡ Err fault
+lines_end : (text : List ℕ) (stage : Stage) (fault : FaultAt) → stage_after 1 (lines_of text) Start ≡ Ok stage
+    → ends_before (length (lines_of text) + 1) stage ≡ Err fault → reads_lines (lines_of text) ≡ Err fault
 unfolding reads_lines
 lines_end text stage fault before e = bind_at (stage_after 1 (lines_of text) Start) (ends_before (length (lines_of text) + 1)) stage before ∙ e
 
-fault_at_end : (text : List ℕ) (stage : Stage) (fault : FaultAt) → stage_after 1 (lines_of text) Start ≡ Ok stage → ends_before (length (lines_of text) + 1) stage ≡ Err fault → FaultAtEnd text fault
+fault_at_end : (text : List ℕ) (stage : Stage) (fault : FaultAt) → stage_after 1 (lines_of text) Start ≡ Ok stage
+    → ends_before (length (lines_of text) + 1) stage ≡ Err fault → FaultAtEnd text fault
 fault_at_end text stage fault before e =
     let lines = lines_of text in
     let told : (reason : Why) × (at_end stage ≡ Err reason) × (fault_at (length lines + 1) reason ≡ fault) = fault_of (length lines + 1) (at_end stage) fault e in

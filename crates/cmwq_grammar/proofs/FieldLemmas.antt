@@ -55,7 +55,8 @@ name_again name rest is =
 abbrev pub IsNew : List (List ℕ) → List ℕ → Type 0
 IsNew names name = list_any (λ other. bytes_eq other name) names ≡ false
 
-pub new_name_read : (names words : List (List ℕ)) (found : List ℕ × List (List ℕ)) → new_name_at names words ≡ Ok found → (words ≡ found.0 ∷ found.1) × (is_name found.0 ≡ true) × IsNew names found.0
+pub new_name_read : (names words : List (List ℕ)) (found : List ℕ × List (List ℕ)) → new_name_at names words ≡ Ok found
+    → (words ≡ found.0 ∷ found.1) × (is_name found.0 ≡ true) × IsNew names found.0
 unfolding new_name_at
 new_name_read names words found e =
     let there : (x : List ℕ × List (List ℕ)) × (name_at words ≡ Ok x) × (not_among names x ≡ Ok found) = bind_ok (name_at words) (not_among names) found e in
@@ -65,7 +66,8 @@ new_name_read names words found e =
     let new : list_any (λ other. bytes_eq other (there.0).0) names ≡ false = not_true _ tested.0 in
     (is.0, is.1, subst (λ (f : List ℕ × List (List ℕ)). IsNew names f.0) tested.1 new)
 
-pub new_name_again : (names : List (List ℕ)) (name : List ℕ) (rest : List (List ℕ)) → is_name name ≡ true → IsNew names name → new_name_at names (name ∷ rest) ≡ Ok (name, rest)
+pub new_name_again : (names : List (List ℕ)) (name : List ℕ) (rest : List (List ℕ)) → is_name name ≡ true → IsNew names name
+    → new_name_at names (name ∷ rest) ≡ Ok (name, rest)
 unfolding new_name_at
 new_name_again names name rest is new =
     bind_at (name_at (name ∷ rest)) (not_among names) (name, rest) (name_again name rest is)
@@ -78,7 +80,8 @@ number_found rest (Some number) found e =
 number_found rest None found e = cc
 
 -- a declared name that is read stands at its number
-pub declared_read : (names words : List (List ℕ)) (found : ℕ × List (List ℕ)) → declared_at names words ≡ Ok found → (words ≡ get_or names found.0 [] ∷ found.1) × (found.0 < length names)
+pub declared_read : (names words : List (List ℕ)) (found : ℕ × List (List ℕ)) → declared_at names words ≡ Ok found
+    → (words ≡ get_or names found.0 [] ∷ found.1) × (found.0 < length names)
 unfolding declared_at
 declared_read names words found e =
     let there : (x : List ℕ × List (List ℕ)) × (name_at words ≡ Ok x) × (among names x ≡ Ok found) = bind_ok (name_at words) (among names) found e in
@@ -92,7 +95,8 @@ declared_read names words found e =
     (is.0 ∙ ap (λ (w : List ℕ). w ∷ (there.0).1) (sym same) ∙ ap (λ (r : List (List ℕ)). get_or names found.0 [] ∷ r) placed.1, at.0)
 
 -- a name that is none of those before it is read as its number
-pub declared_again : (before : List (List ℕ)) (name : List ℕ) (after rest : List (List ℕ)) → is_name name ≡ true → IsNew before name → declared_at (before ++ name ∷ after) (name ∷ rest) ≡ Ok (length before, rest)
+pub declared_again : (before : List (List ℕ)) (name : List ℕ) (after rest : List (List ℕ)) → is_name name ≡ true → IsNew before name
+    → declared_at (before ++ name ∷ after) (name ∷ rest) ≡ Ok (length before, rest)
 unfolding declared_at
 declared_again before name after rest is new =
     let names = before ++ name ∷ after in
@@ -101,7 +105,8 @@ declared_again before name after rest is new =
     let in_range : ltb (position_or_len (λ other. bytes_eq other name) names) (length names) ≡ true =
     (let long : length names ≡ length before + suc (length after) = length-append before (name ∷ after) in grind (arith, nat_tests)) in
     let found : position (λ other. bytes_eq other name) names ≡ Some (length before) =
-    cond_yes (ltb (position_or_len (λ other. bytes_eq other name) names) (length names)) (Some (position_or_len (λ other. bytes_eq other name) names)) None in_range ∙ ap Some place in
+    cond_yes (ltb (position_or_len (λ other. bytes_eq other name) names) (length names)) (Some (position_or_len (λ other. bytes_eq other name) names)) None in_range
+    ∙ ap Some place in
     bind_at (name_at (name ∷ rest)) (among names) (name, rest) (name_again name rest is) ∙ ap (number_or_unknown rest) found
 
 -- Numbers.
@@ -163,7 +168,8 @@ unfolding number_at
 number_read words found e =
     let there : (x : List ℕ × List (List ℕ)) × (word_at words ≡ Ok x) × (numbered x ≡ Ok found) = bind_ok (word_at words) numbered found e in
     let word = (there.0).0 in
-    let tested : (is_number word ≡ true) × ((digits_value 10 word, (there.0).1) ≡ found) = value_if_ok (is_number word) (digits_value 10 word, (there.0).1) why.BadNumber found there.2 in
+    let tested : (is_number word ≡ true) × ((digits_value 10 word, (there.0).1) ≡ found) =
+    value_if_ok (is_number word) (digits_value 10 word, (there.0).1) why.BadNumber found there.2 in
     let is : (word ≡ decimal (digits_value 10 word)) × (digits_value 10 word < 10 ^ 10) = number_of_word word tested.0 in
     let whole : words ≡ decimal (digits_value 10 word) ∷ (there.0).1 = word_read words there.0 there.1 ∙ ap (λ (w : List ℕ). w ∷ (there.0).1) is.0 in
     subst (λ (f : ℕ × List (List ℕ)). (words ≡ decimal f.0 ∷ f.1) × (f.0 < 10 ^ 10)) tested.1 (whole, is.1)
@@ -176,7 +182,8 @@ number_again n rest small =
     ∙ value_if_at (is_number (decimal n)) (digits_value 10 (decimal n), rest) why.BadNumber is.0
     ∙ ap (λ (m : ℕ). Ok (m, rest)) is.1
 
-pub where_read : (test : ℕ → Bool) (words : List (List ℕ)) (found : ℕ × List (List ℕ)) → number_where test words ≡ Ok found → (words ≡ decimal found.0 ∷ found.1) × (test found.0 ≡ true)
+pub where_read : (test : ℕ → Bool) (words : List (List ℕ)) (found : ℕ × List (List ℕ)) → number_where test words ≡ Ok found
+    → (words ≡ decimal found.0 ∷ found.1) × (test found.0 ≡ true)
 unfolding number_where
 where_read test words found e =
     let there : (x : ℕ × List (List ℕ)) × (number_at words ≡ Ok x) × (in_range test x ≡ Ok found) = bind_ok (number_at words) (in_range test) found e in
@@ -201,7 +208,8 @@ given_read wanted words rest e =
 pub given_again : (wanted : List ℕ) (rest : List (List ℕ)) → after_word wanted (wanted ∷ rest) ≡ Ok rest
 unfolding after_word
 given_again wanted rest =
-    bind_at (word_at (wanted ∷ rest)) (rest_if wanted) (wanted, rest) (word_again wanted rest) ∙ value_if_at (bytes_eq wanted wanted) rest why.BadWord (word_is wanted wanted refl)
+    bind_at (word_at (wanted ∷ rest)) (rest_if wanted) (wanted, rest) (word_again wanted rest)
+    ∙ value_if_at (bytes_eq wanted wanted) rest why.BadWord (word_is wanted wanted refl)
 
 -- the last field of a line
 pub last_read : {A B : Type 0} (make : A → B) (found : A × List (List ℕ)) (y : B) → made_last make found ≡ Ok y → (found.1 ≡ []) × (make found.0 ≡ y)

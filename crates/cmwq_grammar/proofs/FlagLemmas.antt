@@ -31,16 +31,16 @@ to_end front back x =
 placed : (front : List (List ℕ)) (x : List ℕ) → Ends (front ++ x ∷ []) (front ++ []) x
 placed front x = record {
   order =
-    subst (λ (f : List (List ℕ)). IsPermutation (front ++ x ∷ []) (f ++ x ∷ [])) (sym (append-nil front))
-    (IsPermutation-refl (front ++ x ∷ []));
+      subst (λ (f : List (List ℕ)). IsPermutation (front ++ x ∷ []) (f ++ x ∷ [])) (sym (append-nil front))
+      (IsPermutation-refl (front ++ x ∷ []));
 }
 
 -- and words after it don't matter
 further : {whole front : List (List ℕ)} {x : List ℕ} → Ends whole front x → (back : List (List ℕ)) → Ends (whole ++ back) (front ++ back) x
 further {whole} {front} {x} h back = record {
   order =
-    IsPermutation-trans (whole ++ back) ((front ++ x ∷ []) ++ back) ((front ++ back) ++ x ∷ [])
-    (IsPermutation-append_left back whole (front ++ x ∷ []) h.order) (to_end front back x);
+      IsPermutation-trans (whole ++ back) ((front ++ x ∷ []) ++ back) ((front ++ back) ++ x ∷ [])
+      (IsPermutation-append_left back whole (front ++ x ∷ []) h.order) (to_end front back x);
 }
 
 abbrev highpri_word : Flags → List (List ℕ)
@@ -104,10 +104,12 @@ set_unbound f g word is e =
     (subst (λ (w : List ℕ). IsPermutation (flag_words (record f { unbound = true })) (flag_words f ++ w ∷ [])) (sym same)
     (subst (λ (ws : List (List ℕ)). IsPermutation (flag_words (record f { unbound = true })) (ws ++ codes "unbound" ∷ [])) before (unbound_moved f).order))
 
-set_cpu_intensive : (f g : Flags) (word : List ℕ) → bytes_eq word (codes "cpu_intensive") ≡ true → set_once f.cpu_intensive (record f { cpu_intensive = true }) ≡ Ok g → AddsWord f word g
+set_cpu_intensive : (f g : Flags) (word : List ℕ) → bytes_eq word (codes "cpu_intensive") ≡ true → set_once f.cpu_intensive (record f { cpu_intensive = true }) ≡ Ok g
+    → AddsWord f word g
 unfolding AddsWord
 set_cpu_intensive f g word is e =
-    let set : (not f.cpu_intensive ≡ true) × (record f { cpu_intensive = true } ≡ g) = value_if_ok (not f.cpu_intensive) (record f { cpu_intensive = true }) (why.Fault fault.Duplicate) g e in
+    let set : (not f.cpu_intensive ≡ true) × (record f { cpu_intensive = true } ≡ g) =
+    value_if_ok (not f.cpu_intensive) (record f { cpu_intensive = true }) (why.Fault fault.Duplicate) g e in
     let was : f.cpu_intensive ≡ false = not_true f.cpu_intensive set.0 in
     let same : word ≡ codes "cpu_intensive" = same_word word (codes "cpu_intensive") is in
     let before : flag_words (record f { cpu_intensive = false }) ≡ flag_words f = ap (λ (b : Bool). flag_words (record f { cpu_intensive = b })) (sym was) in
@@ -118,7 +120,8 @@ set_cpu_intensive f g word is e =
 set_freezable : (f g : Flags) (word : List ℕ) → bytes_eq word (codes "freezable") ≡ true → set_once f.freezable (record f { freezable = true }) ≡ Ok g → AddsWord f word g
 unfolding AddsWord
 set_freezable f g word is e =
-    let set : (not f.freezable ≡ true) × (record f { freezable = true } ≡ g) = value_if_ok (not f.freezable) (record f { freezable = true }) (why.Fault fault.Duplicate) g e in
+    let set : (not f.freezable ≡ true) × (record f { freezable = true } ≡ g) =
+    value_if_ok (not f.freezable) (record f { freezable = true }) (why.Fault fault.Duplicate) g e in
     let was : f.freezable ≡ false = not_true f.freezable set.0 in
     let same : word ≡ codes "freezable" = same_word word (codes "freezable") is in
     let before : flag_words (record f { freezable = false }) ≡ flag_words f = ap (λ (b : Bool). flag_words (record f { freezable = b })) (sym was) in
@@ -147,16 +150,21 @@ flag_read : (f g : Flags) (word : List ℕ) → add_flag f word ≡ Ok g → Add
 unfolding add_flag
 flag_read f g word e =
     elim (chosen (bytes_eq word (codes "highpri")) (set_once f.highpri (record f { highpri = true })) _ (Ok g) e) [
-    inl it ↦ set_highpri f g word it.0 it.1
-    | inr no0 ↦ elim (chosen (bytes_eq word (codes "unbound")) (set_once f.unbound (record f { unbound = true })) _ (Ok g) no0.1) [
-    inl it ↦ set_unbound f g word it.0 it.1
-    | inr no1 ↦ elim (chosen (bytes_eq word (codes "cpu_intensive")) (set_once f.cpu_intensive (record f { cpu_intensive = true })) _ (Ok g) no1.1) [
-    inl it ↦ set_cpu_intensive f g word it.0 it.1
-    | inr no2 ↦ elim (chosen (bytes_eq word (codes "freezable")) (set_once f.freezable (record f { freezable = true })) _ (Ok g) no2.1) [
-    inl it ↦ set_freezable f g word it.0 it.1
-    | inr no3 ↦ elim (chosen (bytes_eq word (codes "ordered")) (set_once f.ordered (record f { ordered = true })) _ (Ok g) no3.1) [
-    inl it ↦ set_ordered f g word it.0 it.1
-    | inr no4 ↦ absurd_flag g no4.1 ] ] ] ] ]
+      | inl it ↦ set_highpri f g word it.0 it.1
+      | inr no0 ↦ elim (chosen (bytes_eq word (codes "unbound")) (set_once f.unbound (record f { unbound = true })) _ (Ok g) no0.1) [
+        | inl it ↦ set_unbound f g word it.0 it.1
+        | inr no1 ↦ elim (chosen (bytes_eq word (codes "cpu_intensive")) (set_once f.cpu_intensive (record f { cpu_intensive = true })) _ (Ok g) no1.1) [
+          | inl it ↦ set_cpu_intensive f g word it.0 it.1
+          | inr no2 ↦ elim (chosen (bytes_eq word (codes "freezable")) (set_once f.freezable (record f { freezable = true })) _ (Ok g) no2.1) [
+            | inl it ↦ set_freezable f g word it.0 it.1
+            | inr no3 ↦ elim (chosen (bytes_eq word (codes "ordered")) (set_once f.ordered (record f { ordered = true })) _ (Ok g) no3.1) [
+              | inl it ↦ set_ordered f g word it.0 it.1
+              | inr no4 ↦ absurd_flag g no4.1
+            ]
+          ]
+        ]
+      ]
+    ]
 
 pub flags_read_from : (words : List (List ℕ)) (f g : Flags) → flags_at words f ≡ Ok g → IsPermutation (flag_words g) (flag_words f ++ words)
 unfolding flags_at AddsWord
@@ -168,7 +176,8 @@ flags_read_from (word ∷ rest) f g e =
     let there : (h : Flags) × (add_flag f word ≡ Ok h) × (flags_at rest h ≡ Ok g) = bind_ok (add_flag f word) (flags_at rest) g e in
     let here : IsPermutation (flag_words there.0) (flag_words f ++ word ∷ []) = flag_read f there.0 word there.1 in
     let later : IsPermutation (flag_words g) (flag_words there.0 ++ rest) = flags_read_from rest there.0 g there.2 in
-    let joined : IsPermutation (flag_words there.0 ++ rest) ((flag_words f ++ word ∷ []) ++ rest) = IsPermutation-append_left rest (flag_words there.0) (flag_words f ++ word ∷ []) here in
+    let joined : IsPermutation (flag_words there.0 ++ rest) ((flag_words f ++ word ∷ []) ++ rest) =
+    IsPermutation-append_left rest (flag_words there.0) (flag_words f ++ word ∷ []) here in
     subst (λ (ws : List (List ℕ)). IsPermutation (flag_words g) ws) (append_assoc (flag_words f) (word ∷ []) rest)
     (IsPermutation-trans (flag_words g) (flag_words there.0 ++ rest) ((flag_words f ++ word ∷ []) ++ rest) later joined)
 
@@ -184,7 +193,8 @@ weight : List ℕ → List ℕ → ℕ
 weight x word = cond (bytes_eq word x) 1 0
 
 abbrev is_flag : List ℕ → Bool
-is_flag word = bytes_eq word (codes "highpri") || bytes_eq word (codes "unbound") || bytes_eq word (codes "cpu_intensive") || bytes_eq word (codes "freezable") || bytes_eq word (codes "ordered")
+is_flag word =
+    bytes_eq word (codes "highpri") || bytes_eq word (codes "unbound") || bytes_eq word (codes "cpu_intensive") || bytes_eq word (codes "freezable") || bytes_eq word (codes "ordered")
 
 other : List ℕ → ℕ
 other word = cond (is_flag word) 0 1
@@ -241,7 +251,8 @@ add_highpri : (f : Flags) (word : List ℕ) → word ≡ codes "highpri" → f.h
 unfolding add_flag
 add_highpri f word is was = ap (add_flag f) is ∙ value_if_at (not f.highpri) (record f { highpri = true }) (why.Fault fault.Duplicate) (ap not was)
 
-tally_highpri : (word : List ℕ) (words : List (List ℕ)) (f g : Flags) → word ≡ codes "highpri" → Tally (word ∷ words) f g → (f.highpri ≡ false) × Tally words (record f { highpri = true }) g
+tally_highpri : (word : List ℕ) (words : List (List ℕ)) (f g : Flags) → word ≡ codes "highpri" → Tally (word ∷ words) f g
+    → (f.highpri ≡ false) × Tally words (record f { highpri = true }) g
 unfolding count bit weight other
 tally_highpri word words f g is t =
     let at_highpri : weight (codes "highpri") word ≡ 1 = ap (weight (codes "highpri")) is in
@@ -267,7 +278,8 @@ add_unbound : (f : Flags) (word : List ℕ) → word ≡ codes "unbound" → f.u
 unfolding add_flag
 add_unbound f word is was = ap (add_flag f) is ∙ value_if_at (not f.unbound) (record f { unbound = true }) (why.Fault fault.Duplicate) (ap not was)
 
-tally_unbound : (word : List ℕ) (words : List (List ℕ)) (f g : Flags) → word ≡ codes "unbound" → Tally (word ∷ words) f g → (f.unbound ≡ false) × Tally words (record f { unbound = true }) g
+tally_unbound : (word : List ℕ) (words : List (List ℕ)) (f g : Flags) → word ≡ codes "unbound" → Tally (word ∷ words) f g
+    → (f.unbound ≡ false) × Tally words (record f { unbound = true }) g
 unfolding count bit weight other
 tally_unbound word words f g is t =
     let at_highpri : weight (codes "highpri") word ≡ 0 = ap (weight (codes "highpri")) is in
@@ -293,7 +305,8 @@ add_cpu_intensive : (f : Flags) (word : List ℕ) → word ≡ codes "cpu_intens
 unfolding add_flag
 add_cpu_intensive f word is was = ap (add_flag f) is ∙ value_if_at (not f.cpu_intensive) (record f { cpu_intensive = true }) (why.Fault fault.Duplicate) (ap not was)
 
-tally_cpu_intensive : (word : List ℕ) (words : List (List ℕ)) (f g : Flags) → word ≡ codes "cpu_intensive" → Tally (word ∷ words) f g → (f.cpu_intensive ≡ false) × Tally words (record f { cpu_intensive = true }) g
+tally_cpu_intensive : (word : List ℕ) (words : List (List ℕ)) (f g : Flags) → word ≡ codes "cpu_intensive" → Tally (word ∷ words) f g
+    → (f.cpu_intensive ≡ false) × Tally words (record f { cpu_intensive = true }) g
 unfolding count bit weight other
 tally_cpu_intensive word words f g is t =
     let at_highpri : weight (codes "highpri") word ≡ 0 = ap (weight (codes "highpri")) is in
@@ -302,7 +315,8 @@ tally_cpu_intensive word words f g is t =
     let at_freezable : weight (codes "freezable") word ≡ 0 = ap (weight (codes "freezable")) is in
     let at_ordered : weight (codes "ordered") word ≡ 0 = ap (weight (codes "ordered")) is in
     let at_other : other word ≡ 0 = ap other is in
-    let was : f.cpu_intensive ≡ false = unset f.cpu_intensive (count (weight (codes "cpu_intensive")) words) (bit g.cpu_intensive) (omega (arith, t.cpu_intensive)) (bit_at_most_one g.cpu_intensive) in
+    let was : f.cpu_intensive ≡ false =
+    unset f.cpu_intensive (count (weight (codes "cpu_intensive")) words) (bit g.cpu_intensive) (omega (arith, t.cpu_intensive)) (bit_at_most_one g.cpu_intensive) in
     let was_bit : bit f.cpu_intensive ≡ 0 = ap bit was in (
       was,
       record {
@@ -319,7 +333,8 @@ add_freezable : (f : Flags) (word : List ℕ) → word ≡ codes "freezable" →
 unfolding add_flag
 add_freezable f word is was = ap (add_flag f) is ∙ value_if_at (not f.freezable) (record f { freezable = true }) (why.Fault fault.Duplicate) (ap not was)
 
-tally_freezable : (word : List ℕ) (words : List (List ℕ)) (f g : Flags) → word ≡ codes "freezable" → Tally (word ∷ words) f g → (f.freezable ≡ false) × Tally words (record f { freezable = true }) g
+tally_freezable : (word : List ℕ) (words : List (List ℕ)) (f g : Flags) → word ≡ codes "freezable" → Tally (word ∷ words) f g
+    → (f.freezable ≡ false) × Tally words (record f { freezable = true }) g
 unfolding count bit weight other
 tally_freezable word words f g is t =
     let at_highpri : weight (codes "highpri") word ≡ 0 = ap (weight (codes "highpri")) is in
@@ -328,7 +343,8 @@ tally_freezable word words f g is t =
     let at_freezable : weight (codes "freezable") word ≡ 1 = ap (weight (codes "freezable")) is in
     let at_ordered : weight (codes "ordered") word ≡ 0 = ap (weight (codes "ordered")) is in
     let at_other : other word ≡ 0 = ap other is in
-    let was : f.freezable ≡ false = unset f.freezable (count (weight (codes "freezable")) words) (bit g.freezable) (omega (arith, t.freezable)) (bit_at_most_one g.freezable) in
+    let was : f.freezable ≡ false =
+    unset f.freezable (count (weight (codes "freezable")) words) (bit g.freezable) (omega (arith, t.freezable)) (bit_at_most_one g.freezable) in
     let was_bit : bit f.freezable ≡ 0 = ap bit was in (
       was,
       record {
@@ -345,7 +361,8 @@ add_ordered : (f : Flags) (word : List ℕ) → word ≡ codes "ordered" → f.o
 unfolding add_flag
 add_ordered f word is was = ap (add_flag f) is ∙ value_if_at (not f.ordered) (record f { ordered = true }) (why.Fault fault.Duplicate) (ap not was)
 
-tally_ordered : (word : List ℕ) (words : List (List ℕ)) (f g : Flags) → word ≡ codes "ordered" → Tally (word ∷ words) f g → (f.ordered ≡ false) × Tally words (record f { ordered = true }) g
+tally_ordered : (word : List ℕ) (words : List (List ℕ)) (f g : Flags) → word ≡ codes "ordered" → Tally (word ∷ words) f g
+    → (f.ordered ≡ false) × Tally words (record f { ordered = true }) g
 unfolding count bit weight other
 tally_ordered word words f g is t =
     let at_highpri : weight (codes "highpri") word ≡ 0 = ap (weight (codes "highpri")) is in
@@ -367,10 +384,12 @@ tally_ordered word words f g is t =
       },
     )
 
-not_other : (word : List ℕ) (words : List (List ℕ)) (f g : Flags) → bytes_eq word (codes "highpri") ≡ false → bytes_eq word (codes "unbound") ≡ false → bytes_eq word (codes "cpu_intensive") ≡ false → bytes_eq word (codes "freezable") ≡ false → bytes_eq word (codes "ordered") ≡ false → Tally (word ∷ words) f g → ⊥
+not_other : (word : List ℕ) (words : List (List ℕ)) (f g : Flags) → bytes_eq word (codes "highpri") ≡ false → bytes_eq word (codes "unbound") ≡ false
+    → bytes_eq word (codes "cpu_intensive") ≡ false → bytes_eq word (codes "freezable") ≡ false → bytes_eq word (codes "ordered") ≡ false → Tally (word ∷ words) f g → ⊥
 unfolding count other
 not_other word words f g no0 no1 no2 no3 no4 t =
-    let none : is_flag word ≡ false = all_no (bytes_eq word (codes "highpri")) (bytes_eq word (codes "unbound")) (bytes_eq word (codes "cpu_intensive")) (bytes_eq word (codes "freezable")) (bytes_eq word (codes "ordered")) no0 no1 no2 no3 no4 in
+    let none : is_flag word ≡ false =
+    all_no (bytes_eq word (codes "highpri")) (bytes_eq word (codes "unbound")) (bytes_eq word (codes "cpu_intensive")) (bytes_eq word (codes "freezable")) (bytes_eq word (codes "ordered")) no0 no1 no2 no3 no4 in
     let one : other word ≡ 1 = ap (λ (b : Bool). cond b 0 1) none in
     omega (arith, t.others)
   where
@@ -385,23 +404,28 @@ flags_again_from (word ∷ words) f g t =
     elim (either (bytes_eq word (codes "highpri"))) [
       | inl it ↦ (let is : word ≡ codes "highpri" = same_word word (codes "highpri") it in
           let told : (f.highpri ≡ false) × Tally words (record f { highpri = true }) g = tally_highpri word words f g is t in
-          bind_at (add_flag f word) (flags_at words) (record f { highpri = true }) (add_highpri f word is told.0) ∙ flags_again_from words (record f { highpri = true }) g told.1)
+          bind_at (add_flag f word) (flags_at words) (record f { highpri = true }) (add_highpri f word is told.0)
+          ∙ flags_again_from words (record f { highpri = true }) g told.1)
       | inr no0 ↦ elim (either (bytes_eq word (codes "unbound"))) [
         | inl it ↦ (let is : word ≡ codes "unbound" = same_word word (codes "unbound") it in
             let told : (f.unbound ≡ false) × Tally words (record f { unbound = true }) g = tally_unbound word words f g is t in
-            bind_at (add_flag f word) (flags_at words) (record f { unbound = true }) (add_unbound f word is told.0) ∙ flags_again_from words (record f { unbound = true }) g told.1)
+            bind_at (add_flag f word) (flags_at words) (record f { unbound = true }) (add_unbound f word is told.0)
+            ∙ flags_again_from words (record f { unbound = true }) g told.1)
         | inr no1 ↦ elim (either (bytes_eq word (codes "cpu_intensive"))) [
           | inl it ↦ (let is : word ≡ codes "cpu_intensive" = same_word word (codes "cpu_intensive") it in
               let told : (f.cpu_intensive ≡ false) × Tally words (record f { cpu_intensive = true }) g = tally_cpu_intensive word words f g is t in
-              bind_at (add_flag f word) (flags_at words) (record f { cpu_intensive = true }) (add_cpu_intensive f word is told.0) ∙ flags_again_from words (record f { cpu_intensive = true }) g told.1)
+              bind_at (add_flag f word) (flags_at words) (record f { cpu_intensive = true }) (add_cpu_intensive f word is told.0)
+              ∙ flags_again_from words (record f { cpu_intensive = true }) g told.1)
           | inr no2 ↦ elim (either (bytes_eq word (codes "freezable"))) [
             | inl it ↦ (let is : word ≡ codes "freezable" = same_word word (codes "freezable") it in
                 let told : (f.freezable ≡ false) × Tally words (record f { freezable = true }) g = tally_freezable word words f g is t in
-                bind_at (add_flag f word) (flags_at words) (record f { freezable = true }) (add_freezable f word is told.0) ∙ flags_again_from words (record f { freezable = true }) g told.1)
+                bind_at (add_flag f word) (flags_at words) (record f { freezable = true }) (add_freezable f word is told.0)
+                ∙ flags_again_from words (record f { freezable = true }) g told.1)
             | inr no3 ↦ elim (either (bytes_eq word (codes "ordered"))) [
               | inl it ↦ (let is : word ≡ codes "ordered" = same_word word (codes "ordered") it in
                   let told : (f.ordered ≡ false) × Tally words (record f { ordered = true }) g = tally_ordered word words f g is t in
-                  bind_at (add_flag f word) (flags_at words) (record f { ordered = true }) (add_ordered f word is told.0) ∙ flags_again_from words (record f { ordered = true }) g told.1)
+                  bind_at (add_flag f word) (flags_at words) (record f { ordered = true }) (add_ordered f word is told.0)
+                  ∙ flags_again_from words (record f { ordered = true }) g told.1)
               | inr no4 ↦ absurd (not_other word words f g no0 no1 no2 no3 no4 t)
             ]
           ]
@@ -409,7 +433,8 @@ flags_again_from (word ∷ words) f g t =
       ]
     ]
 
-counts_highpri : (a b c d e : Bool) → count (weight (codes "highpri")) (flag_words (record { highpri = a; unbound = b; cpu_intensive = c; freezable = d; ordered = e })) ≡ bit a
+counts_highpri : (a b c d e : Bool)
+    → count (weight (codes "highpri")) (flag_words (record { highpri = a; unbound = b; cpu_intensive = c; freezable = d; ordered = e })) ≡ bit a
 unfolding count weight bit other
 counts_highpri true true true true true = refl
 counts_highpri true true true true false = refl
@@ -444,7 +469,8 @@ counts_highpri false false false true false = refl
 counts_highpri false false false false true = refl
 counts_highpri false false false false false = refl
 
-counts_unbound : (a b c d e : Bool) → count (weight (codes "unbound")) (flag_words (record { highpri = a; unbound = b; cpu_intensive = c; freezable = d; ordered = e })) ≡ bit b
+counts_unbound : (a b c d e : Bool)
+    → count (weight (codes "unbound")) (flag_words (record { highpri = a; unbound = b; cpu_intensive = c; freezable = d; ordered = e })) ≡ bit b
 unfolding count weight bit other
 counts_unbound true true true true true = refl
 counts_unbound true true true true false = refl
@@ -479,7 +505,8 @@ counts_unbound false false false true false = refl
 counts_unbound false false false false true = refl
 counts_unbound false false false false false = refl
 
-counts_cpu_intensive : (a b c d e : Bool) → count (weight (codes "cpu_intensive")) (flag_words (record { highpri = a; unbound = b; cpu_intensive = c; freezable = d; ordered = e })) ≡ bit c
+counts_cpu_intensive : (a b c d e : Bool)
+    → count (weight (codes "cpu_intensive")) (flag_words (record { highpri = a; unbound = b; cpu_intensive = c; freezable = d; ordered = e })) ≡ bit c
 unfolding count weight bit other
 counts_cpu_intensive true true true true true = refl
 counts_cpu_intensive true true true true false = refl
@@ -514,7 +541,8 @@ counts_cpu_intensive false false false true false = refl
 counts_cpu_intensive false false false false true = refl
 counts_cpu_intensive false false false false false = refl
 
-counts_freezable : (a b c d e : Bool) → count (weight (codes "freezable")) (flag_words (record { highpri = a; unbound = b; cpu_intensive = c; freezable = d; ordered = e })) ≡ bit d
+counts_freezable : (a b c d e : Bool)
+    → count (weight (codes "freezable")) (flag_words (record { highpri = a; unbound = b; cpu_intensive = c; freezable = d; ordered = e })) ≡ bit d
 unfolding count weight bit other
 counts_freezable true true true true true = refl
 counts_freezable true true true true false = refl
@@ -549,7 +577,8 @@ counts_freezable false false false true false = refl
 counts_freezable false false false false true = refl
 counts_freezable false false false false false = refl
 
-counts_ordered : (a b c d e : Bool) → count (weight (codes "ordered")) (flag_words (record { highpri = a; unbound = b; cpu_intensive = c; freezable = d; ordered = e })) ≡ bit e
+counts_ordered : (a b c d e : Bool)
+    → count (weight (codes "ordered")) (flag_words (record { highpri = a; unbound = b; cpu_intensive = c; freezable = d; ordered = e })) ≡ bit e
 unfolding count weight bit other
 counts_ordered true true true true true = refl
 counts_ordered true true true true false = refl

@@ -79,16 +79,20 @@ op_valid S (op.Queue work cpu) e =
     none_first (fault_unless (ltb work.0 (length S.works)) fault.Unknown) (fault_unless (ltb cpu S.cpus) fault.Range) (unless_none (ltb work.0 (length S.works)) fault.Unknown both.0) (unless_none (ltb cpu S.cpus) fault.Range both.1)
 op_valid S op.Finish e = refl
 
-ops_good : (S : ScenarioContents) (before ops : List Op) → first_along (λ before op. op_fault S op) before ops ≡ None → list_all (good_op S.cpus (length S.works)) ops ≡ true
+ops_good : (S : ScenarioContents) (before ops : List Op) → first_along (λ before op. op_fault S op) before ops ≡ None
+    → list_all (good_op S.cpus (length S.works)) ops ≡ true
 ops_good S before [] e = refl
 ops_good S before (o ∷ ops) e =
-    let both : (op_fault S o ≡ None) × (first_along (λ before op. op_fault S op) (before ++ o ∷ []) ops ≡ None) = no_first (op_fault S o) (first_along (λ before op. op_fault S op) (before ++ o ∷ []) ops) e in
+    let both : (op_fault S o ≡ None) × (first_along (λ before op. op_fault S op) (before ++ o ∷ []) ops ≡ None) =
+    no_first (op_fault S o) (first_along (λ before op. op_fault S op) (before ++ o ∷ []) ops) e in
     true_and (good_op S.cpus (length S.works) o) (list_all (good_op S.cpus (length S.works)) ops) (op_good S o both.0) (ops_good S (before ++ o ∷ []) ops both.1)
 
-ops_valid : (S : ScenarioContents) (before ops : List Op) → list_all (good_op S.cpus (length S.works)) ops ≡ true → first_along (λ before op. op_fault S op) before ops ≡ None
+ops_valid : (S : ScenarioContents) (before ops : List Op) → list_all (good_op S.cpus (length S.works)) ops ≡ true
+    → first_along (λ before op. op_fault S op) before ops ≡ None
 ops_valid S before [] e = refl
 ops_valid S before (o ∷ ops) e =
-    let both : (good_op S.cpus (length S.works) o ≡ true) × (list_all (good_op S.cpus (length S.works)) ops ≡ true) = and_true (good_op S.cpus (length S.works) o) (list_all (good_op S.cpus (length S.works)) ops) e in
+    let both : (good_op S.cpus (length S.works) o ≡ true) × (list_all (good_op S.cpus (length S.works)) ops ≡ true) =
+    and_true (good_op S.cpus (length S.works) o) (list_all (good_op S.cpus (length S.works)) ops) e in
     none_first (op_fault S o) (first_along (λ before op. op_fault S op) (before ++ o ∷ []) ops) (op_valid S o both.0) (ops_valid S (before ++ o ∷ []) ops both.1)
 
 finish_of : (o : Op) → is_finish o ≡ true → o ≡ op.Finish
@@ -169,7 +173,8 @@ body_good S body e =
     let test = good_op S.cpus (length S.works) in
     let all : list_all test body ≡ true = ops_good S [] body second.1 in
     let split : list_all test (ops ++ op.Finish ∷ []) ≡ (list_all test ops && list_all test (op.Finish ∷ [])) = list_all-append test ops (op.Finish ∷ []) in
-    let front : (list_all test ops ≡ true) × (list_all test (op.Finish ∷ []) ≡ true) = and_true (list_all test ops) (list_all test (op.Finish ∷ [])) (sym split ∙ sym (ap (list_all test) whole) ∙ all) in
+    let front : (list_all test ops ≡ true) × (list_all test (op.Finish ∷ []) ≡ true) =
+    and_true (list_all test ops) (list_all test (op.Finish ∷ [])) (sym split ∙ sym (ap (list_all test) whole) ∙ all) in
     record { ops = ops; whole = whole; good = front.0; others = none_counted ops (omega arith); few = omega arith }
 
 finish_last : (ops : List Op) → slice_get (ops ++ op.Finish ∷ []) (length (ops ++ op.Finish ∷ []) - 1) ≡ Some op.Finish
@@ -205,14 +210,19 @@ queues_good : (before queues : List QueueDecl) → first_along queue_fault befor
     → GoodNames (map (λ queue. queue.name) before) (map (λ queue. queue.name) queues) × (list_all fits_flags queues ≡ true)
 queues_good before [] e names = (tt, refl)
 queues_good before (q ∷ queues) e names =
-    let first : (queue_fault before q ≡ None) × (first_along queue_fault (before ++ q ∷ []) queues ≡ None) = no_first (queue_fault before q) (first_along queue_fault (before ++ q ∷ []) queues) e in
+    let first : (queue_fault before q ≡ None) × (first_along queue_fault (before ++ q ∷ []) queues ≡ None) =
+    no_first (queue_fault before q) (first_along queue_fault (before ++ q ∷ []) queues) e in
     let here : (fault_if (list_any (λ other. bytes_eq other.name q.name) before) fault.Duplicate ≡ None) × (fault_unless (fits_flags q) fault.BadFlags ≡ None) =
     no_first (fault_if (list_any (λ other. bytes_eq other.name q.name) before) fault.Duplicate) (fault_unless (fits_flags q) fault.BadFlags) first.0 in
-    let named : (is_name q.name ≡ true) × (list_all (λ queue. is_name queue.name) queues ≡ true) = and_true (is_name q.name) (list_all (λ queue. is_name queue.name) queues) names in
-    let later : GoodNames (map (λ queue. queue.name) (before ++ q ∷ [])) (map (λ queue. queue.name) queues) × (list_all fits_flags queues ≡ true) = queues_good (before ++ q ∷ []) queues first.1 named.1 in
+    let named : (is_name q.name ≡ true) × (list_all (λ queue. is_name queue.name) queues ≡ true) =
+    and_true (is_name q.name) (list_all (λ queue. is_name queue.name) queues) names in
+    let later : GoodNames (map (λ queue. queue.name) (before ++ q ∷ [])) (map (λ queue. queue.name) queues) × (list_all fits_flags queues ≡ true) =
+    queues_good (before ++ q ∷ []) queues first.1 named.1 in
     let new : IsNew (map (λ queue. queue.name) before) q.name =
-    any_of_map (λ (queue : QueueDecl). queue.name) (λ other. bytes_eq other q.name) before ∙ no_if (list_any (λ other. bytes_eq other.name q.name) before) fault.Duplicate here.0 in
-    let joined : map (λ (queue : QueueDecl). queue.name) (before ++ q ∷ []) ≡ map (λ queue. queue.name) before ++ q.name ∷ [] = map-append (λ queue. queue.name) before (q ∷ []) in (
+    any_of_map (λ (queue : QueueDecl). queue.name) (λ other. bytes_eq other q.name) before
+    ∙ no_if (list_any (λ other. bytes_eq other.name q.name) before) fault.Duplicate here.0 in
+    let joined : map (λ (queue : QueueDecl). queue.name) (before ++ q ∷ []) ≡ map (λ queue. queue.name) before ++ q.name ∷ [] =
+    map-append (λ queue. queue.name) before (q ∷ []) in (
       (new, named.0, subst (λ (ns : List (List ℕ)). GoodNames ns (map (λ queue. queue.name) queues)) joined later.0),
       true_and (fits_flags q) (list_all fits_flags queues) (no_unless (fits_flags q) fault.BadFlags here.1) later.1,
     )
@@ -222,10 +232,12 @@ queues_valid : (before queues : List QueueDecl) → GoodNames (map (λ queue. qu
 queues_valid before [] names fits = (refl, refl)
 queues_valid before (q ∷ queues) names fits =
     let both : (fits_flags q ≡ true) × (list_all fits_flags queues ≡ true) = and_true (fits_flags q) (list_all fits_flags queues) fits in
-    let joined : map (λ (queue : QueueDecl). queue.name) (before ++ q ∷ []) ≡ map (λ queue. queue.name) before ++ q.name ∷ [] = map-append (λ queue. queue.name) before (q ∷ []) in
+    let joined : map (λ (queue : QueueDecl). queue.name) (before ++ q ∷ []) ≡ map (λ queue. queue.name) before ++ q.name ∷ [] =
+    map-append (λ queue. queue.name) before (q ∷ []) in
     let later : (first_along queue_fault (before ++ q ∷ []) queues ≡ None) × (list_all (λ queue. is_name queue.name) queues ≡ true) =
     queues_valid (before ++ q ∷ []) queues (subst (λ (ns : List (List ℕ)). GoodNames ns (map (λ queue. queue.name) queues)) (sym joined) names.2) both.1 in
-    let new : list_any (λ other. bytes_eq other.name q.name) before ≡ false = sym (any_of_map (λ (queue : QueueDecl). queue.name) (λ other. bytes_eq other q.name) before) ∙ names.0 in (
+    let new : list_any (λ other. bytes_eq other.name q.name) before ≡ false =
+    sym (any_of_map (λ (queue : QueueDecl). queue.name) (λ other. bytes_eq other q.name) before) ∙ names.0 in (
       none_first (queue_fault before q) (first_along queue_fault (before ++ q ∷ []) queues)
           (none_first (fault_if (list_any (λ other. bytes_eq other.name q.name) before) fault.Duplicate) (fault_unless (fits_flags q) fault.BadFlags)
           (if_none (list_any (λ other. bytes_eq other.name q.name) before) fault.Duplicate new) (unless_none (fits_flags q) fault.BadFlags both.0)) later.0,
@@ -241,34 +253,43 @@ on_queue_of queues work = ltb work.queue.0 queues
 abbrev pub GoodBodyOf : ℕ → ℕ → WorkContents → Type 0
 GoodBodyOf cpus works work = GoodBody cpus works work.body
 
-works_good : (S : ScenarioContents) (before works : List WorkContents) → first_along (work_fault S) before works ≡ None → list_all (λ work. is_name work.name) works ≡ true
+works_good : (S : ScenarioContents) (before works : List WorkContents) → first_along (work_fault S) before works ≡ None
+    → list_all (λ work. is_name work.name) works ≡ true
     → GoodNames (map (λ work. work.name) before) (map (λ work. work.name) works) × (list_all (on_queue_of (length S.queues)) works ≡ true) × AllByRecursion (GoodBodyOf S.cpus (length S.works)) works
 works_good S before [] e names = (tt, refl, tt)
 works_good S before (w ∷ works) e names =
-    let first : (work_fault S before w ≡ None) × (first_along (work_fault S) (before ++ w ∷ []) works ≡ None) = no_first (work_fault S before w) (first_along (work_fault S) (before ++ w ∷ []) works) e in
+    let first : (work_fault S before w ≡ None) × (first_along (work_fault S) (before ++ w ∷ []) works ≡ None) =
+    no_first (work_fault S before w) (first_along (work_fault S) (before ++ w ∷ []) works) e in
     let here : (fault_if (list_any (λ other. bytes_eq other.name w.name) before) fault.Duplicate ≡ None) × (or_else (fault_unless (ltb w.queue.0 (length S.queues)) fault.Unknown) (body_fault S w.body) ≡ None) =
     no_first (fault_if (list_any (λ other. bytes_eq other.name w.name) before) fault.Duplicate) (or_else (fault_unless (ltb w.queue.0 (length S.queues)) fault.Unknown) (body_fault S w.body)) first.0 in
     let queued : (fault_unless (ltb w.queue.0 (length S.queues)) fault.Unknown ≡ None) × (body_fault S w.body ≡ None) =
     no_first (fault_unless (ltb w.queue.0 (length S.queues)) fault.Unknown) (body_fault S w.body) here.1 in
-    let named : (is_name w.name ≡ true) × (list_all (λ work. is_name work.name) works ≡ true) = and_true (is_name w.name) (list_all (λ work. is_name work.name) works) names in
+    let named : (is_name w.name ≡ true) × (list_all (λ work. is_name work.name) works ≡ true) =
+    and_true (is_name w.name) (list_all (λ work. is_name work.name) works) names in
     let later = works_good S (before ++ w ∷ []) works first.1 named.1 in
     let new : IsNew (map (λ work. work.name) before) w.name =
-    any_of_map (λ (work : WorkContents). work.name) (λ other. bytes_eq other w.name) before ∙ no_if (list_any (λ other. bytes_eq other.name w.name) before) fault.Duplicate here.0 in
-    let joined : map (λ (work : WorkContents). work.name) (before ++ w ∷ []) ≡ map (λ work. work.name) before ++ w.name ∷ [] = map-append (λ work. work.name) before (w ∷ []) in (
+    any_of_map (λ (work : WorkContents). work.name) (λ other. bytes_eq other w.name) before
+    ∙ no_if (list_any (λ other. bytes_eq other.name w.name) before) fault.Duplicate here.0 in
+    let joined : map (λ (work : WorkContents). work.name) (before ++ w ∷ []) ≡ map (λ work. work.name) before ++ w.name ∷ [] =
+    map-append (λ work. work.name) before (w ∷ []) in (
       (new, named.0, subst (λ (ns : List (List ℕ)). GoodNames ns (map (λ work. work.name) works)) joined later.0),
       true_and (ltb w.queue.0 (length S.queues)) (list_all (on_queue_of (length S.queues)) works) (no_unless (ltb w.queue.0 (length S.queues)) fault.Unknown queued.0) later.1,
       (body_good S w.body queued.1, later.2),
     )
 
-works_valid : (S : ScenarioContents) (before works : List WorkContents) → GoodNames (map (λ work. work.name) before) (map (λ work. work.name) works) → list_all (on_queue_of (length S.queues)) works ≡ true → AllByRecursion (GoodBodyOf S.cpus (length S.works)) works
+works_valid : (S : ScenarioContents) (before works : List WorkContents) → GoodNames (map (λ work. work.name) before) (map (λ work. work.name) works)
+    → list_all (on_queue_of (length S.queues)) works ≡ true → AllByRecursion (GoodBodyOf S.cpus (length S.works)) works
     → (first_along (work_fault S) before works ≡ None) × (list_all (λ work. is_name work.name) works ≡ true)
 works_valid S before [] names queued bodies = (refl, refl)
 works_valid S before (w ∷ works) names queued bodies =
-    let both : (ltb w.queue.0 (length S.queues) ≡ true) × (list_all (on_queue_of (length S.queues)) works ≡ true) = and_true (ltb w.queue.0 (length S.queues)) (list_all (on_queue_of (length S.queues)) works) queued in
-    let joined : map (λ (work : WorkContents). work.name) (before ++ w ∷ []) ≡ map (λ work. work.name) before ++ w.name ∷ [] = map-append (λ work. work.name) before (w ∷ []) in
+    let both : (ltb w.queue.0 (length S.queues) ≡ true) × (list_all (on_queue_of (length S.queues)) works ≡ true) =
+    and_true (ltb w.queue.0 (length S.queues)) (list_all (on_queue_of (length S.queues)) works) queued in
+    let joined : map (λ (work : WorkContents). work.name) (before ++ w ∷ []) ≡ map (λ work. work.name) before ++ w.name ∷ [] =
+    map-append (λ work. work.name) before (w ∷ []) in
     let later : (first_along (work_fault S) (before ++ w ∷ []) works ≡ None) × (list_all (λ work. is_name work.name) works ≡ true) =
     works_valid S (before ++ w ∷ []) works (subst (λ (ns : List (List ℕ)). GoodNames ns (map (λ work. work.name) works)) (sym joined) names.2) both.1 bodies.1 in
-    let new : list_any (λ other. bytes_eq other.name w.name) before ≡ false = sym (any_of_map (λ (work : WorkContents). work.name) (λ other. bytes_eq other w.name) before) ∙ names.0 in (
+    let new : list_any (λ other. bytes_eq other.name w.name) before ≡ false =
+    sym (any_of_map (λ (work : WorkContents). work.name) (λ other. bytes_eq other w.name) before) ∙ names.0 in (
       none_first (work_fault S before w) (first_along (work_fault S) (before ++ w ∷ []) works)
           (none_first (fault_if (list_any (λ other. bytes_eq other.name w.name) before) fault.Duplicate) (or_else (fault_unless (ltb w.queue.0 (length S.queues)) fault.Unknown) (body_fault S w.body))
           (if_none (list_any (λ other. bytes_eq other.name w.name) before) fault.Duplicate new)
@@ -293,26 +314,33 @@ line_is_good S line e fits =
 
 line_is_valid : (S : ScenarioContents) (line : Line) → good_line S line ≡ true → (line_fault S line ≡ None) × (instr_fits line.instr ≡ true)
 line_is_valid S line good =
-    let parts : ((names_declared S line.instr && within 1 MAX_TIMES line.times) ≡ true) × (instr_fits line.instr ≡ true) = and_true (names_declared S line.instr && within 1 MAX_TIMES line.times) (instr_fits line.instr) good in
-    let tests : (names_declared S line.instr ≡ true) × (within 1 MAX_TIMES line.times ≡ true) = and_true (names_declared S line.instr) (within 1 MAX_TIMES line.times) parts.0 in (
+    let parts : ((names_declared S line.instr && within 1 MAX_TIMES line.times) ≡ true) × (instr_fits line.instr ≡ true) =
+    and_true (names_declared S line.instr && within 1 MAX_TIMES line.times) (instr_fits line.instr) good in
+    let tests : (names_declared S line.instr ≡ true) × (within 1 MAX_TIMES line.times ≡ true) =
+    and_true (names_declared S line.instr) (within 1 MAX_TIMES line.times) parts.0 in (
       none_first (fault_unless (names_declared S line.instr) fault.Unknown) (fault_unless (within 1 MAX_TIMES line.times) fault.Range)
           (unless_none (names_declared S line.instr) fault.Unknown tests.0) (unless_none (within 1 MAX_TIMES line.times) fault.Range tests.1),
       parts.1,
     )
 
-lines_good : (S : ScenarioContents) (before lines : List Line) → first_along (λ before line. line_fault S line) before lines ≡ None → list_all (λ line. instr_fits line.instr) lines ≡ true → good_lines S lines ≡ true
+lines_good : (S : ScenarioContents) (before lines : List Line) → first_along (λ before line. line_fault S line) before lines ≡ None
+    → list_all (λ line. instr_fits line.instr) lines ≡ true → good_lines S lines ≡ true
 lines_good S before [] e fits = refl
 lines_good S before (l ∷ lines) e fits =
-    let first : (line_fault S l ≡ None) × (first_along (λ before line. line_fault S line) (before ++ l ∷ []) lines ≡ None) = no_first (line_fault S l) (first_along (λ before line. line_fault S line) (before ++ l ∷ []) lines) e in
-    let both : (instr_fits l.instr ≡ true) × (list_all (λ line. instr_fits line.instr) lines ≡ true) = and_true (instr_fits l.instr) (list_all (λ line. instr_fits line.instr) lines) fits in
+    let first : (line_fault S l ≡ None) × (first_along (λ before line. line_fault S line) (before ++ l ∷ []) lines ≡ None) =
+    no_first (line_fault S l) (first_along (λ before line. line_fault S line) (before ++ l ∷ []) lines) e in
+    let both : (instr_fits l.instr ≡ true) × (list_all (λ line. instr_fits line.instr) lines ≡ true) =
+    and_true (instr_fits l.instr) (list_all (λ line. instr_fits line.instr) lines) fits in
     true_and (good_line S l) (good_lines S lines) (line_is_good S l first.0 both.0) (lines_good S (before ++ l ∷ []) lines first.1 both.1)
 
-lines_valid : (S : ScenarioContents) (before lines : List Line) → good_lines S lines ≡ true → (first_along (λ before line. line_fault S line) before lines ≡ None) × (list_all (λ line. instr_fits line.instr) lines ≡ true)
+lines_valid : (S : ScenarioContents) (before lines : List Line) → good_lines S lines ≡ true
+    → (first_along (λ before line. line_fault S line) before lines ≡ None) × (list_all (λ line. instr_fits line.instr) lines ≡ true)
 lines_valid S before [] good = (refl, refl)
 lines_valid S before (l ∷ lines) good =
     let both : (good_line S l ≡ true) × (good_lines S lines ≡ true) = and_true (good_line S l) (good_lines S lines) good in
     let here : (line_fault S l ≡ None) × (instr_fits l.instr ≡ true) = line_is_valid S l both.0 in
-    let later : (first_along (λ before line. line_fault S line) (before ++ l ∷ []) lines ≡ None) × (list_all (λ line. instr_fits line.instr) lines ≡ true) = lines_valid S (before ++ l ∷ []) lines both.1 in
+    let later : (first_along (λ before line. line_fault S line) (before ++ l ∷ []) lines ≡ None) × (list_all (λ line. instr_fits line.instr) lines ≡ true) =
+    lines_valid S (before ++ l ∷ []) lines both.1 in
     (none_first (line_fault S l) (first_along (λ before line. line_fault S line) (before ++ l ∷ []) lines) here.0 later.0, true_and (instr_fits l.instr) (list_all (λ line. instr_fits line.instr) lines) here.1 later.1)
 
 abbrev fits_actor : ActorContents → Bool
@@ -323,32 +351,40 @@ actors_good : (S : ScenarioContents) (before actors : List ActorContents) → fi
 actors_good S before [] e fits = (tt, refl)
 actors_good S before (a ∷ actors) e fits =
     let along = first_along (λ before line. line_fault S line) [] a.lines in
-    let first : (actor_fault S before a ≡ None) × (first_along (actor_fault S) (before ++ a ∷ []) actors ≡ None) = no_first (actor_fault S before a) (first_along (actor_fault S) (before ++ a ∷ []) actors) e in
+    let first : (actor_fault S before a ≡ None) × (first_along (actor_fault S) (before ++ a ∷ []) actors ≡ None) =
+    no_first (actor_fault S before a) (first_along (actor_fault S) (before ++ a ∷ []) actors) e in
     let here : (fault_if (list_any (λ other. bytes_eq other.name a.name) before) fault.Duplicate ≡ None) × (or_else (fault_unless (leb (length a.lines) MAX_LINES) fault.TooMany) along ≡ None) =
     no_first (fault_if (list_any (λ other. bytes_eq other.name a.name) before) fault.Duplicate) (or_else (fault_unless (leb (length a.lines) MAX_LINES) fault.TooMany) along) first.0 in
-    let few : (fault_unless (leb (length a.lines) MAX_LINES) fault.TooMany ≡ None) × (along ≡ None) = no_first (fault_unless (leb (length a.lines) MAX_LINES) fault.TooMany) along here.1 in
+    let few : (fault_unless (leb (length a.lines) MAX_LINES) fault.TooMany ≡ None) × (along ≡ None) =
+    no_first (fault_unless (leb (length a.lines) MAX_LINES) fault.TooMany) along here.1 in
     let both : (fits_actor a ≡ true) × (list_all fits_actor actors ≡ true) = and_true (fits_actor a) (list_all fits_actor actors) fits in
-    let named : (is_name a.name ≡ true) × (list_all (λ line. instr_fits line.instr) a.lines ≡ true) = and_true (is_name a.name) (list_all (λ line. instr_fits line.instr) a.lines) both.0 in
+    let named : (is_name a.name ≡ true) × (list_all (λ line. instr_fits line.instr) a.lines ≡ true) =
+    and_true (is_name a.name) (list_all (λ line. instr_fits line.instr) a.lines) both.0 in
     let later = actors_good S (before ++ a ∷ []) actors first.1 both.1 in
     let new : IsNew (map (λ actor. actor.name) before) a.name =
-    any_of_map (λ (actor : ActorContents). actor.name) (λ other. bytes_eq other a.name) before ∙ no_if (list_any (λ other. bytes_eq other.name a.name) before) fault.Duplicate here.0 in
-    let joined : map (λ (actor : ActorContents). actor.name) (before ++ a ∷ []) ≡ map (λ actor. actor.name) before ++ a.name ∷ [] = map-append (λ actor. actor.name) before (a ∷ []) in (
+    any_of_map (λ (actor : ActorContents). actor.name) (λ other. bytes_eq other a.name) before
+    ∙ no_if (list_any (λ other. bytes_eq other.name a.name) before) fault.Duplicate here.0 in
+    let joined : map (λ (actor : ActorContents). actor.name) (before ++ a ∷ []) ≡ map (λ actor. actor.name) before ++ a.name ∷ [] =
+    map-append (λ actor. actor.name) before (a ∷ []) in (
       (new, named.0, subst (λ (ns : List (List ℕ)). GoodNames ns (map (λ actor. actor.name) actors)) joined later.0),
       true_and (good_actor S a) (list_all (good_actor S) actors)
           (true_and (leb (length a.lines) MAX_LINES) (good_lines S a.lines) (no_unless (leb (length a.lines) MAX_LINES) fault.TooMany few.0) (lines_good S [] a.lines few.1 named.1)) later.1,
     )
 
-actors_valid : (S : ScenarioContents) (before actors : List ActorContents) → GoodNames (map (λ actor. actor.name) before) (map (λ actor. actor.name) actors) → list_all (good_actor S) actors ≡ true
+actors_valid : (S : ScenarioContents) (before actors : List ActorContents) → GoodNames (map (λ actor. actor.name) before) (map (λ actor. actor.name) actors)
+    → list_all (good_actor S) actors ≡ true
     → (first_along (actor_fault S) before actors ≡ None) × (list_all fits_actor actors ≡ true)
 actors_valid S before [] names good = (refl, refl)
 actors_valid S before (a ∷ actors) names good =
     let along = first_along (λ before line. line_fault S line) [] a.lines in
     let both : (good_actor S a ≡ true) × (list_all (good_actor S) actors ≡ true) = and_true (good_actor S a) (list_all (good_actor S) actors) good in
     let here : (leb (length a.lines) MAX_LINES ≡ true) × (good_lines S a.lines ≡ true) = and_true (leb (length a.lines) MAX_LINES) (good_lines S a.lines) both.0 in
-    let joined : map (λ (actor : ActorContents). actor.name) (before ++ a ∷ []) ≡ map (λ actor. actor.name) before ++ a.name ∷ [] = map-append (λ actor. actor.name) before (a ∷ []) in
+    let joined : map (λ (actor : ActorContents). actor.name) (before ++ a ∷ []) ≡ map (λ actor. actor.name) before ++ a.name ∷ [] =
+    map-append (λ actor. actor.name) before (a ∷ []) in
     let later : (first_along (actor_fault S) (before ++ a ∷ []) actors ≡ None) × (list_all fits_actor actors ≡ true) =
     actors_valid S (before ++ a ∷ []) actors (subst (λ (ns : List (List ℕ)). GoodNames ns (map (λ actor. actor.name) actors)) (sym joined) names.2) both.1 in
-    let new : list_any (λ other. bytes_eq other.name a.name) before ≡ false = sym (any_of_map (λ (actor : ActorContents). actor.name) (λ other. bytes_eq other a.name) before) ∙ names.0 in
+    let new : list_any (λ other. bytes_eq other.name a.name) before ≡ false =
+    sym (any_of_map (λ (actor : ActorContents). actor.name) (λ other. bytes_eq other a.name) before) ∙ names.0 in
     let lines : (along ≡ None) × (list_all (λ line. instr_fits line.instr) a.lines ≡ true) = lines_valid S [] a.lines here.1 in (
       none_first (actor_fault S before a) (first_along (actor_fault S) (before ++ a ∷ []) actors)
           (none_first (fault_if (list_any (λ other. bytes_eq other.name a.name) before) fault.Duplicate) (or_else (fault_unless (leb (length a.lines) MAX_LINES) fault.TooMany) along)
@@ -382,12 +418,14 @@ good_from_valid S valid fits =
     let a : (numbers_fault S ≡ None) × (or_else (counts_fault S) after_counts ≡ None) = no_first (numbers_fault S) (or_else (counts_fault S) after_counts) valid in
     let b : (counts_fault S ≡ None) × (after_counts ≡ None) = no_first (counts_fault S) after_counts a.1 in
     let c : (first_along queue_fault [] S.queues ≡ None) × (after_queues ≡ None) = no_first (first_along queue_fault [] S.queues) after_queues b.1 in
-    let d : (first_along (work_fault S) [] S.works ≡ None) × (first_along (actor_fault S) [] S.actors ≡ None) = no_first (first_along (work_fault S) [] S.works) (first_along (actor_fault S) [] S.actors) c.1 in
+    let d : (first_along (work_fault S) [] S.works ≡ None) × (first_along (actor_fault S) [] S.actors ≡ None) =
+    no_first (first_along (work_fault S) [] S.works) (first_along (actor_fault S) [] S.actors) c.1 in
     let cpus = within 1 MAX_CPUS S.cpus in
     let workers = within 1 MAX_WORKERS S.workers in
     let steps = within 1 MAX_STEPS S.steps in
     let flushes = leb S.flushes MAX_FLUSHES in
-    let n3 : ((cpus && workers && steps) ≡ true) × (flushes ≡ true) = and_true (cpus && workers && steps) flushes (no_unless (cpus && workers && steps && flushes) fault.Range a.0) in
+    let n3 : ((cpus && workers && steps) ≡ true) × (flushes ≡ true) =
+    and_true (cpus && workers && steps) flushes (no_unless (cpus && workers && steps && flushes) fault.Range a.0) in
     let n2 : ((cpus && workers) ≡ true) × (steps ≡ true) = and_true (cpus && workers) steps n3.0 in
     let n1 : (cpus ≡ true) × (workers ≡ true) = and_true cpus workers n2.0 in
     let qs = leb (length S.queues) MAX_QUEUES in
@@ -429,7 +467,8 @@ valid_from_good S good =
     let queues = queues_valid [] S.queues good.queue_names good.queues in
     let works = works_valid S [] S.works good.work_names good.works good.bodies in
     let actors = actors_valid S [] S.actors good.actor_names good.actors in
-    let numbers : numbers_fault S ≡ None = unless_none (cpus && workers && steps && flushes) fault.Range (true_and (cpus && workers && steps) flushes (true_and (cpus && workers) steps (true_and cpus workers good.cpus good.workers) good.steps) good.flushes) in
+    let numbers : numbers_fault S ≡ None =
+    unless_none (cpus && workers && steps && flushes) fault.Range (true_and (cpus && workers && steps) flushes (true_and (cpus && workers) steps (true_and cpus workers good.cpus good.workers) good.steps) good.flushes) in
     let counts : counts_fault S ≡ None =
     unless_none (qs && ws && actors_few) fault.TooMany (true_and (qs && ws) actors_few (true_and qs ws (at_most_is (length S.queues) MAX_QUEUES good.few_queues) (at_most_is (length S.works) MAX_WORKS good.few_works)) (at_most_is (length S.actors) MAX_ACTORS good.few_actors)) in (
       none_first (numbers_fault S) (or_else (counts_fault S) after_counts) numbers

@@ -25,13 +25,16 @@ use Rattle.cmwq_grammar.proofs.NameLists.{GoodNames, name_of_queue, name_of_work
 
 -- `queue NAME max N FLAG..`
 
-pub queue_read : (D : ScenarioContents) (rest : List (List ℕ)) (queue : QueueDecl) → queue_at_line D rest ≡ Ok queue → Says (queue_line queue) (codes "queue" ∷ rest) × IsNew (queue_names D) queue.name × (is_name queue.name ≡ true)
+pub queue_read : (D : ScenarioContents) (rest : List (List ℕ)) (queue : QueueDecl) → queue_at_line D rest ≡ Ok queue
+    → Says (queue_line queue) (codes "queue" ∷ rest) × IsNew (queue_names D) queue.name × (is_name queue.name ≡ true)
 unfolding queue_at_line
 queue_read D rest queue e =
-    let name : (n : List ℕ × List (List ℕ)) × (new_name_at (queue_names D) rest ≡ Ok n) × (then_max n ≡ Ok queue) = bind_ok (new_name_at (queue_names D) rest) then_max queue e in
+    let name : (n : List ℕ × List (List ℕ)) × (new_name_at (queue_names D) rest ≡ Ok n) × (then_max n ≡ Ok queue) =
+    bind_ok (new_name_at (queue_names D) rest) then_max queue e in
     let word : (after : List (List ℕ)) × (after_word (codes "max") (name.0).1 ≡ Ok after) × (then_number (name.0).0 after ≡ Ok queue) =
     bind_ok (after_word (codes "max") (name.0).1) (then_number (name.0).0) queue name.2 in
-    let max : (n : ℕ × List (List ℕ)) × (number_at word.0 ≡ Ok n) × (then_flags (name.0).0 n ≡ Ok queue) = bind_ok (number_at word.0) (then_flags (name.0).0) queue word.2 in
+    let max : (n : ℕ × List (List ℕ)) × (number_at word.0 ≡ Ok n) × (then_flags (name.0).0 n ≡ Ok queue) =
+    bind_ok (number_at word.0) (then_flags (name.0).0) queue word.2 in
     let flags : (f : Flags) × (flags_at (max.0).1 plain_flags ≡ Ok f) × (queue_of_flags (name.0).0 (max.0).0 f ≡ Ok queue) =
     bind_ok (flags_at (max.0).1 plain_flags) (queue_of_flags (name.0).0 (max.0).0) queue max.2 in
     let built : QueueDecl = record { name = (name.0).0; max = (max.0).0; flags = flags.0 } in
@@ -44,7 +47,8 @@ queue_read D rest queue e =
     subst (λ (q : QueueDecl). Says (queue_line q) (codes "queue" ∷ rest) × IsNew (queue_names D) q.name × (is_name q.name ≡ true)) same
     (((max.0).1, flags_read (max.0).1 flags.0 flags.1, whole), named.2, named.1)
 
-pub queue_again : (D : ScenarioContents) (queue : QueueDecl) (said : List (List ℕ)) → Says (queue_line queue) said → IsNew (queue_names D) queue.name → is_name queue.name ≡ true → queue.max < 10 ^ 10 → (rest : List (List ℕ)) × (said ≡ codes "queue" ∷ rest) × (queue_at_line D rest ≡ Ok queue)
+pub queue_again : (D : ScenarioContents) (queue : QueueDecl) (said : List (List ℕ)) → Says (queue_line queue) said → IsNew (queue_names D) queue.name
+    → is_name queue.name ≡ true → queue.max < 10 ^ 10 → (rest : List (List ℕ)) × (said ≡ codes "queue" ∷ rest) × (queue_at_line D rest ≡ Ok queue)
 unfolding queue_at_line
 queue_again D queue said says new is small =
     let flags = says.0 in
@@ -63,12 +67,14 @@ pub work_read : (D : ScenarioContents) (rest : List (List ℕ)) (work : WorkCont
     → Says (work_line D work) (codes "work" ∷ rest) × IsNew (work_names D) work.name × (is_name work.name ≡ true) × (ltb work.queue.0 (length D.queues) ≡ true) × (work.body ≡ [])
 unfolding work_at_line
 work_read D rest work e =
-    let name : (n : List ℕ × List (List ℕ)) × (new_name_at (work_names D) rest ≡ Ok n) × (then_queue D n ≡ Ok work) = bind_ok (new_name_at (work_names D) rest) (then_queue D) work e in
+    let name : (n : List ℕ × List (List ℕ)) × (new_name_at (work_names D) rest ≡ Ok n) × (then_queue D n ≡ Ok work) =
+    bind_ok (new_name_at (work_names D) rest) (then_queue D) work e in
     let queue : (q : ℕ × List (List ℕ)) × (declared_at (queue_names D) (name.0).1 ≡ Ok q) × (made_last (work_of (name.0).0) q ≡ Ok work) =
     bind_ok (declared_at (queue_names D) (name.0).1) (made_last (work_of (name.0).0)) work name.2 in
     let made : ((queue.0).1 ≡ []) × (work_of (name.0).0 (queue.0).0 ≡ work) = last_read (work_of (name.0).0) queue.0 work queue.2 in
     let named : (rest ≡ (name.0).0 ∷ (name.0).1) × (is_name (name.0).0 ≡ true) × IsNew (work_names D) (name.0).0 = new_name_read (work_names D) rest name.0 name.1 in
-    let there : ((name.0).1 ≡ get_or (queue_names D) (queue.0).0 [] ∷ (queue.0).1) × ((queue.0).0 < length (queue_names D)) = declared_read (queue_names D) (name.0).1 queue.0 queue.1 in
+    let there : ((name.0).1 ≡ get_or (queue_names D) (queue.0).0 [] ∷ (queue.0).1) × ((queue.0).0 < length (queue_names D)) =
+    declared_read (queue_names D) (name.0).1 queue.0 queue.1 in
     let last : (name.0).1 ≡ (queue_at D (queue.0).0).name ∷ [] =
     there.0 ∙ ap (λ (n : List ℕ). n ∷ (queue.0).1) (name_of_queue D (queue.0).0) ∙ ap (λ (ws : List (List ℕ)). (queue_at D (queue.0).0).name ∷ ws) made.0 in
     let whole : codes "work" ∷ rest ≡ codes "work" ∷ (name.0).0 ∷ (queue_at D (queue.0).0).name ∷ [] =
@@ -76,7 +82,9 @@ work_read D rest work e =
     subst (λ (w : WorkContents). Says (work_line D w) (codes "work" ∷ rest) × IsNew (work_names D) w.name × (is_name w.name ≡ true) × (ltb w.queue.0 (length D.queues) ≡ true) × (w.body ≡ [])) made.1
     (whole, named.2, named.1, queue_below D (queue.0).0 there.1, refl)
 
-pub work_again : (D : ScenarioContents) (work : WorkContents) (said : List (List ℕ)) → Says (work_line D work) said → GoodNames [] (queue_names D) → IsNew (work_names D) work.name → is_name work.name ≡ true → ltb work.queue.0 (length D.queues) ≡ true → (rest : List (List ℕ)) × (said ≡ codes "work" ∷ rest) × (work_at_line D rest ≡ Ok (work_of work.name work.queue.0))
+pub work_again : (D : ScenarioContents) (work : WorkContents) (said : List (List ℕ)) → Says (work_line D work) said → GoodNames [] (queue_names D)
+    → IsNew (work_names D) work.name → is_name work.name ≡ true → ltb work.queue.0 (length D.queues) ≡ true
+    → (rest : List (List ℕ)) × (said ≡ codes "work" ∷ rest) × (work_at_line D rest ≡ Ok (work_of work.name work.queue.0))
 unfolding work_at_line
 work_again D work said says good new is below =
     let queue = (queue_at D work.queue.0).name in (
@@ -99,10 +107,12 @@ good_op cpus works op.Finish = true
 abbrev pub OpRead : ScenarioContents → List ℕ → List (List ℕ) → Op → Type 0
 OpRead D word rest next = Says (op_line D next) (word ∷ rest) × (good_op D.cpus (length D.works) next ≡ true)
 
-ticks_read : (D : ScenarioContents) (make : ℕ → Op) (word first : List ℕ) (rest : List (List ℕ)) (next : Op) → word ≡ first → (number_where (within 1 MAX_TICKS) rest >>= made_last make) ≡ Ok next
+ticks_read : (D : ScenarioContents) (make : ℕ → Op) (word first : List ℕ) (rest : List (List ℕ)) (next : Op) → word ≡ first
+    → (number_where (within 1 MAX_TICKS) rest >>= made_last make) ≡ Ok next
     → (ticks : ℕ) × (make ticks ≡ next) × (word ∷ rest ≡ first ∷ decimal ticks ∷ []) × (within 1 MAX_TICKS ticks ≡ true)
 ticks_read D make word first rest next is e =
-    let ticks : (n : ℕ × List (List ℕ)) × (number_where (within 1 MAX_TICKS) rest ≡ Ok n) × (made_last make n ≡ Ok next) = bind_ok (number_where (within 1 MAX_TICKS) rest) (made_last make) next e in
+    let ticks : (n : ℕ × List (List ℕ)) × (number_where (within 1 MAX_TICKS) rest ≡ Ok n) × (made_last make n ≡ Ok next) =
+    bind_ok (number_where (within 1 MAX_TICKS) rest) (made_last make) next e in
     let made : ((ticks.0).1 ≡ []) × (make (ticks.0).0 ≡ next) = last_read make ticks.0 next ticks.2 in
     let number : (rest ≡ decimal (ticks.0).0 ∷ (ticks.0).1) × (within 1 MAX_TICKS (ticks.0).0 ≡ true) = where_read (within 1 MAX_TICKS) rest ticks.0 ticks.1 in (
       (ticks.0).0,
@@ -111,12 +121,15 @@ ticks_read D make word first rest next is e =
       number.1,
     )
 
-queue_op_read : (D : ScenarioContents) (word : List ℕ) (rest : List (List ℕ)) (next : Op) → word ≡ codes "queue" → (declared_at (work_names D) rest >>= then_cpu D) ≡ Ok next → OpRead D word rest next
+queue_op_read : (D : ScenarioContents) (word : List ℕ) (rest : List (List ℕ)) (next : Op) → word ≡ codes "queue"
+    → (declared_at (work_names D) rest >>= then_cpu D) ≡ Ok next → OpRead D word rest next
 queue_op_read D word rest next is e =
-    let work : (n : ℕ × List (List ℕ)) × (declared_at (work_names D) rest ≡ Ok n) × (then_cpu D n ≡ Ok next) = bind_ok (declared_at (work_names D) rest) (then_cpu D) next e in
+    let work : (n : ℕ × List (List ℕ)) × (declared_at (work_names D) rest ≡ Ok n) × (then_cpu D n ≡ Ok next) =
+    bind_ok (declared_at (work_names D) rest) (then_cpu D) next e in
     let make = op.Queue (work_id (work.0).0) in
     let below = λ (n : ℕ). ltb n D.cpus in
-    let cpu : (n : ℕ × List (List ℕ)) × (number_where below (work.0).1 ≡ Ok n) × (made_last make n ≡ Ok next) = bind_ok (number_where below (work.0).1) (made_last make) next work.2 in
+    let cpu : (n : ℕ × List (List ℕ)) × (number_where below (work.0).1 ≡ Ok n) × (made_last make n ≡ Ok next) =
+    bind_ok (number_where below (work.0).1) (made_last make) next work.2 in
     let made : ((cpu.0).1 ≡ []) × (make (cpu.0).0 ≡ next) = last_read make cpu.0 next cpu.2 in
     let there : (rest ≡ get_or (work_names D) (work.0).0 [] ∷ (work.0).1) × ((work.0).0 < length (work_names D)) = declared_read (work_names D) rest work.0 work.1 in
     let number : ((work.0).1 ≡ decimal (cpu.0).0 ∷ (cpu.0).1) × (below (cpu.0).0 ≡ true) = where_read below (work.0).1 cpu.0 cpu.1 in
@@ -126,14 +139,18 @@ queue_op_read D word rest next is e =
     ∙ ap (λ (ws : List (List ℕ)). codes "queue" ∷ ws) (there.0 ∙ ap (λ (n : List ℕ). n ∷ (work.0).1) (name_of_work D (work.0).0) ∙ ap (λ (ws : List (List ℕ)). (work_at D (work.0).0).name ∷ ws) last) in
     subst (λ (o : Op). OpRead D word rest o) made.1 (whole, true_and (ltb (work.0).0 (length D.works)) (ltb (cpu.0).0 D.cpus) (work_below D (work.0).0 there.1) number.1)
 
-burn_read : (D : ScenarioContents) (word : List ℕ) (rest : List (List ℕ)) (next : Op) → word ≡ codes "burn" → (number_where (within 1 MAX_TICKS) rest >>= made_last op.Burn) ≡ Ok next → OpRead D word rest next
+burn_read : (D : ScenarioContents) (word : List ℕ) (rest : List (List ℕ)) (next : Op) → word ≡ codes "burn"
+    → (number_where (within 1 MAX_TICKS) rest >>= made_last op.Burn) ≡ Ok next → OpRead D word rest next
 burn_read D word rest next is e =
-    let told : (ticks : ℕ) × (op.Burn ticks ≡ next) × (word ∷ rest ≡ codes "burn" ∷ decimal ticks ∷ []) × (within 1 MAX_TICKS ticks ≡ true) = ticks_read D op.Burn word (codes "burn") rest next is e in
+    let told : (ticks : ℕ) × (op.Burn ticks ≡ next) × (word ∷ rest ≡ codes "burn" ∷ decimal ticks ∷ []) × (within 1 MAX_TICKS ticks ≡ true) =
+    ticks_read D op.Burn word (codes "burn") rest next is e in
     subst (λ (o : Op). OpRead D word rest o) told.1 (told.2, told.3)
 
-sleep_read : (D : ScenarioContents) (word : List ℕ) (rest : List (List ℕ)) (next : Op) → word ≡ codes "sleep" → (number_where (within 1 MAX_TICKS) rest >>= made_last op.Sleep) ≡ Ok next → OpRead D word rest next
+sleep_read : (D : ScenarioContents) (word : List ℕ) (rest : List (List ℕ)) (next : Op) → word ≡ codes "sleep"
+    → (number_where (within 1 MAX_TICKS) rest >>= made_last op.Sleep) ≡ Ok next → OpRead D word rest next
 sleep_read D word rest next is e =
-    let told : (ticks : ℕ) × (op.Sleep ticks ≡ next) × (word ∷ rest ≡ codes "sleep" ∷ decimal ticks ∷ []) × (within 1 MAX_TICKS ticks ≡ true) = ticks_read D op.Sleep word (codes "sleep") rest next is e in
+    let told : (ticks : ℕ) × (op.Sleep ticks ≡ next) × (word ∷ rest ≡ codes "sleep" ∷ decimal ticks ∷ []) × (within 1 MAX_TICKS ticks ≡ true) =
+    ticks_read D op.Sleep word (codes "sleep") rest next is e in
     subst (λ (o : Op). OpRead D word rest o) told.1 (told.2, told.3)
 
 finish_read : (D : ScenarioContents) (word : List ℕ) (rest : List (List ℕ)) (next : Op) → word ≡ codes "finish" → ended op.Finish rest ≡ Ok next → OpRead D word rest next
@@ -167,21 +184,24 @@ op_read D word rest next e =
 abbrev pub OpReads : ScenarioContents → List (List ℕ) → Op → Type 0
 OpReads D said next = (word : List ℕ) × (rest : List (List ℕ)) × (said ≡ word ∷ rest) × (op_at_line D word rest ≡ Ok next)
 
-pub op_again : (D : ScenarioContents) (next : Op) (said : List (List ℕ)) → GoodNames [] (work_names D) → D.cpus ≤ 16 → good_op D.cpus (length D.works) next ≡ true → Says (op_line D next) said → OpReads D said next
+pub op_again : (D : ScenarioContents) (next : Op) (said : List (List ℕ)) → GoodNames [] (work_names D) → D.cpus ≤ 16 → good_op D.cpus (length D.works) next ≡ true
+    → Says (op_line D next) said → OpReads D said next
 unfolding op_at_line
 op_again D (op.Burn ticks) said names few good says =
     let fits : (1 ≤ ticks) × (ticks ≤ MAX_TICKS) = within_fits 1 MAX_TICKS ticks good in (
       codes "burn",
       decimal ticks ∷ [],
       says,
-      bind_at (number_where (within 1 MAX_TICKS) (decimal ticks ∷ [])) (made_last op.Burn) (ticks, []) (where_again (within 1 MAX_TICKS) ticks [] (omega arith) good) ∙ ended_again (op.Burn ticks),
+      bind_at (number_where (within 1 MAX_TICKS) (decimal ticks ∷ [])) (made_last op.Burn) (ticks, []) (where_again (within 1 MAX_TICKS) ticks [] (omega arith) good)
+          ∙ ended_again (op.Burn ticks),
     )
 op_again D (op.Sleep ticks) said names few good says =
     let fits : (1 ≤ ticks) × (ticks ≤ MAX_TICKS) = within_fits 1 MAX_TICKS ticks good in (
       codes "sleep",
       decimal ticks ∷ [],
       says,
-      bind_at (number_where (within 1 MAX_TICKS) (decimal ticks ∷ [])) (made_last op.Sleep) (ticks, []) (where_again (within 1 MAX_TICKS) ticks [] (omega arith) good) ∙ ended_again (op.Sleep ticks),
+      bind_at (number_where (within 1 MAX_TICKS) (decimal ticks ∷ [])) (made_last op.Sleep) (ticks, []) (where_again (within 1 MAX_TICKS) ticks [] (omega arith) good)
+          ∙ ended_again (op.Sleep ticks),
     )
 op_again D (op.Queue work cpu) said names few good says =
     let tests : (ltb work.0 (length D.works) ≡ true) × (ltb cpu D.cpus ≡ true) = and_true (ltb work.0 (length D.works)) (ltb cpu D.cpus) good in
@@ -191,7 +211,8 @@ op_again D (op.Queue work cpu) said names few good says =
       (work_at D work.0).name ∷ decimal cpu ∷ [],
       says,
       bind_at (declared_at (work_names D) ((work_at D work.0).name ∷ decimal cpu ∷ [])) (then_cpu D) (work.0, decimal cpu ∷ []) (work_declared D work.0 (decimal cpu ∷ []) names tests.0)
-          ∙ bind_at (number_where below (decimal cpu ∷ [])) (made_last (op.Queue work)) (cpu, []) (where_again below cpu [] small tests.1) ∙ ended_again (op.Queue work cpu),
+          ∙ bind_at (number_where below (decimal cpu ∷ [])) (made_last (op.Queue work)) (cpu, []) (where_again below cpu [] small tests.1)
+          ∙ ended_again (op.Queue work cpu),
     )
   where
     below_small : (n limit : ℕ) → ltb n limit ≡ true → limit ≤ 16 → n < 10 ^ 10

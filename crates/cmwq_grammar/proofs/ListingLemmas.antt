@@ -61,7 +61,8 @@ written_is (Repeated words times) = refl
 
 pub listing_is : (lines : List WrittenLine) → flat_map written_text lines ≡ fed (map joined (map canonical lines))
 listing_is [] = refl
-listing_is (l ∷ lines) = ap (λ (t : List ℕ). t ++ flat_map written_text lines) (written_is l) ∙ ap (λ (t : List ℕ). (joined (canonical l) ++ 10 ∷ []) ++ t) (listing_is lines)
+listing_is (l ∷ lines) =
+    ap (λ (t : List ℕ). t ++ flat_map written_text lines) (written_is l) ∙ ap (λ (t : List ℕ). (joined (canonical l) ++ 10 ∷ []) ++ t) (listing_is lines)
 
 -- Words that are plain, and how long they are.
 
@@ -185,10 +186,12 @@ line_on {l = l} {lines = lines} x y = record {
 
 lines_on : {a b : ℕ} {xs ys : List WrittenLine} → LinesFit a xs → LinesFit b ys → LinesFit (a + b) (xs ++ ys)
 lines_on {xs = xs} {ys = ys} x y = record {
-  plain = ap all_plain (map-append canonical xs ys) ∙ list_all-append plain_words (map canonical xs) (map canonical ys) ∙ true_and (all_plain (map canonical xs)) (all_plain (map canonical ys)) x.plain y.plain;
+  plain = ap all_plain (map-append canonical xs ys) ∙ list_all-append plain_words (map canonical xs) (map canonical ys)
+      ∙ true_and (all_plain (map canonical xs)) (all_plain (map canonical ys)) x.plain y.plain;
   short =
       (let whole : length (flat_map written_text (xs ++ ys)) ≡ length (flat_map written_text xs ++ flat_map written_text ys) = ap length (flat_map-append written_text xs ys) in
-      let sum : length (flat_map written_text xs ++ flat_map written_text ys) ≡ length (flat_map written_text xs) + length (flat_map written_text ys) = length-append (flat_map written_text xs) (flat_map written_text ys) in
+      let sum : length (flat_map written_text xs ++ flat_map written_text ys) ≡ length (flat_map written_text xs) + length (flat_map written_text ys) =
+      length-append (flat_map written_text xs) (flat_map written_text ys) in
       omega (arith, x.short, y.short));
 }
 
@@ -212,11 +215,13 @@ flags_fit f =
 
 queue_fits : (q : QueueDecl) → is_name q.name ≡ true → fits_flags q ≡ true → LineFits 78 (queue_line q)
 queue_fits q named fits =
-    let parts : (within 1 MAX_MAX_ACTIVE q.max ≡ true) × (cond q.flags.ordered (eqb q.max 1) true ≡ true) = and_true (within 1 MAX_MAX_ACTIVE q.max) (cond q.flags.ordered (eqb q.max 1) true) fits in
+    let parts : (within 1 MAX_MAX_ACTIVE q.max ≡ true) × (cond q.flags.ordered (eqb q.max 1) true ≡ true) =
+    and_true (within 1 MAX_MAX_ACTIVE q.max) (cond q.flags.ordered (eqb q.max 1) true) fits in
     let bounds : (1 ≤ q.max) × (q.max ≤ MAX_MAX_ACTIVE) = within_fits 1 MAX_MAX_ACTIVE q.max parts.0 in
     line_fits 78 (queue_line q) refl (word_on (literal 5 (codes "queue") refl (omega arith)) (word_on (name_fits q.name named) (word_on (literal 3 (codes "max") refl (omega arith)) (word_on (number_fits 3 q.max (omega arith) (omega arith) (omega arith)) (flags_fit q.flags))))) (omega arith)
 
-queues_fit : (before : List (List ℕ)) (queues : List QueueDecl) → GoodNames before (map (λ (q : QueueDecl). q.name) queues) → list_all fits_flags queues ≡ true → LinesFit (length queues * 78) (map queue_line queues)
+queues_fit : (before : List (List ℕ)) (queues : List QueueDecl) → GoodNames before (map (λ (q : QueueDecl). q.name) queues) → list_all fits_flags queues ≡ true
+    → LinesFit (length queues * 78) (map queue_line queues)
 queues_fit before [] names fits = no_lines
 queues_fit before (q ∷ queues) names fits =
     let both : (fits_flags q ≡ true) × (list_all fits_flags queues ≡ true) = and_true (fits_flags q) (list_all fits_flags queues) fits in
@@ -241,14 +246,18 @@ work_name S i good h =
     let there : i < length S.works = below i (length S.works) h in
     subst (λ (n : List ℕ). WordFits 15 n) (name_of_work S i) (name_fits (get_or (work_names S) i []) (is_name_at [] (work_names S) i good (omega arith)))
 
-work_fits : (S : ScenarioContents) (w : WorkContents) → GoodNames [] (queue_names S) → is_name w.name ≡ true → ltb w.queue.0 (length S.queues) ≡ true → LineFits 37 (work_line S w)
+work_fits : (S : ScenarioContents) (w : WorkContents) → GoodNames [] (queue_names S) → is_name w.name ≡ true → ltb w.queue.0 (length S.queues) ≡ true
+    → LineFits 37 (work_line S w)
 work_fits S w queues named on =
     line_fits 37 (work_line S w) refl (word_on (literal 4 (codes "work") refl (omega arith)) (word_on (name_fits w.name named) (word_on (queue_name S w.queue.0 queues on) no_words))) (omega arith)
 
-works_fit : (S : ScenarioContents) (before : List (List ℕ)) (works : List WorkContents) → GoodNames [] (queue_names S) → GoodNames before (map (λ (w : WorkContents). w.name) works) → list_all (on_queue_of (length S.queues)) works ≡ true → LinesFit (length works * 37) (map (work_line S) works)
+works_fit : (S : ScenarioContents) (before : List (List ℕ)) (works : List WorkContents) → GoodNames [] (queue_names S)
+    → GoodNames before (map (λ (w : WorkContents). w.name) works) → list_all (on_queue_of (length S.queues)) works ≡ true
+    → LinesFit (length works * 37) (map (work_line S) works)
 works_fit S before [] queues names on = no_lines
 works_fit S before (w ∷ works) queues names on =
-    let both : (ltb w.queue.0 (length S.queues) ≡ true) × (list_all (on_queue_of (length S.queues)) works ≡ true) = and_true (ltb w.queue.0 (length S.queues)) (list_all (on_queue_of (length S.queues)) works) on in
+    let both : (ltb w.queue.0 (length S.queues) ≡ true) × (list_all (on_queue_of (length S.queues)) works ≡ true) =
+    and_true (ltb w.queue.0 (length S.queues)) (list_all (on_queue_of (length S.queues)) works) on in
     lines_within (suc (length works) * 37) (line_on (work_fits S w queues names.1 both.0) (works_fit S (before ++ w.name ∷ []) works queues names.2 both.1)) (omega arith)
 
 -- Bodies.
@@ -267,7 +276,8 @@ op_fits S (op.Queue work cpu) names few good =
 op_fits S op.Finish names few good =
     line_fits 25 (op_line S op.Finish) refl (word_on (literal 6 (codes "finish") refl (omega arith)) no_words) (omega arith)
 
-ops_fit : (S : ScenarioContents) (ops : List Op) → GoodNames [] (work_names S) → S.cpus ≤ 16 → list_all (good_op S.cpus (length S.works)) ops ≡ true → LinesFit (length ops * 25) (map (op_line S) ops)
+ops_fit : (S : ScenarioContents) (ops : List Op) → GoodNames [] (work_names S) → S.cpus ≤ 16 → list_all (good_op S.cpus (length S.works)) ops ≡ true
+    → LinesFit (length ops * 25) (map (op_line S) ops)
 ops_fit S [] names few good = no_lines
 ops_fit S (o ∷ ops) names few good =
     let test = good_op S.cpus (length S.works) in
@@ -275,20 +285,27 @@ ops_fit S (o ∷ ops) names few good =
     lines_within (suc (length ops) * 25) (line_on (op_fits S o names few both.0) (ops_fit S ops names few both.1)) (omega arith)
 
 body_line_fits : (name : List ℕ) → is_name name ≡ true → LineFits 21 (Words (codes "body" ∷ name ∷ []))
-body_line_fits name named = line_fits 21 (Words (codes "body" ∷ name ∷ [])) refl (word_on (literal 4 (codes "body") refl (omega arith)) (word_on (name_fits name named) no_words)) (omega arith)
+body_line_fits name named =
+    line_fits 21 (Words (codes "body" ∷ name ∷ [])) refl (word_on (literal 4 (codes "body") refl (omega arith)) (word_on (name_fits name named) no_words)) (omega arith)
 
 actor_line_fits : (name : List ℕ) → is_name name ≡ true → LineFits 22 (Words (codes "actor" ∷ name ∷ []))
-actor_line_fits name named = line_fits 22 (Words (codes "actor" ∷ name ∷ [])) refl (word_on (literal 5 (codes "actor") refl (omega arith)) (word_on (name_fits name named) no_words)) (omega arith)
+actor_line_fits name named =
+    line_fits 22 (Words (codes "actor" ∷ name ∷ [])) refl (word_on (literal 5 (codes "actor") refl (omega arith)) (word_on (name_fits name named) no_words)) (omega arith)
 
-body_fits : (S : ScenarioContents) (w : WorkContents) → GoodNames [] (work_names S) → S.cpus ≤ 16 → is_name w.name ≡ true → GoodBody S.cpus (length S.works) w.body → LinesFit 1621 (body_lines S w)
+body_fits : (S : ScenarioContents) (w : WorkContents) → GoodNames [] (work_names S) → S.cpus ≤ 16 → is_name w.name ≡ true → GoodBody S.cpus (length S.works) w.body
+    → LinesFit 1621 (body_lines S w)
 body_fits S w names few named body =
     let test = good_op S.cpus (length S.works) in
-    let all : list_all test w.body ≡ true = ap (list_all test) body.whole ∙ list_all-append test body.ops (op.Finish ∷ []) ∙ true_and (list_all test body.ops) (list_all test (op.Finish ∷ [])) body.good refl in
+    let all : list_all test w.body ≡ true =
+    ap (list_all test) body.whole ∙ list_all-append test body.ops (op.Finish ∷ [])
+    ∙ true_and (list_all test body.ops) (list_all test (op.Finish ∷ [])) body.good refl in
     let size : length w.body ≡ length body.ops + 1 = ap length body.whole ∙ length-append body.ops (op.Finish ∷ []) in
     let room : length body.ops < MAX_OPS = body.few in
     lines_within 1621 (line_on (body_line_fits w.name named) (ops_fit S w.body names few all)) (omega arith)
 
-bodies_fit : (S : ScenarioContents) (before : List (List ℕ)) (works : List WorkContents) → GoodNames [] (work_names S) → S.cpus ≤ 16 → GoodNames before (map (λ (w : WorkContents). w.name) works) → AllByRecursion (GoodBodyOf S.cpus (length S.works)) works → LinesFit (length works * 1621) (flat_map (body_lines S) works)
+bodies_fit : (S : ScenarioContents) (before : List (List ℕ)) (works : List WorkContents) → GoodNames [] (work_names S) → S.cpus ≤ 16
+    → GoodNames before (map (λ (w : WorkContents). w.name) works) → AllByRecursion (GoodBodyOf S.cpus (length S.works)) works
+    → LinesFit (length works * 1621) (flat_map (body_lines S) works)
 bodies_fit S before [] names few named bodies = no_lines
 bodies_fit S before (w ∷ works) names few named bodies =
     lines_within (suc (length works) * 1621) (lines_on (body_fits S w names few named.1 bodies.0) (bodies_fit S (before ++ w.name ∷ []) works names few named.2 bodies.1)) (omega arith)
@@ -311,7 +328,8 @@ record InstrFits (words : List (List ℕ)) : Type 0 where
   whole : words ≡ first ∷ others
   fits : WordsFit 37 (first ∷ others)
 
-instr_fits_line : (S : ScenarioContents) (i : Instr) → GoodNames [] (work_names S) → GoodNames [] (queue_names S) → names_declared S i ≡ true → instr_fits i ≡ true → InstrFits (instr_words S i)
+instr_fits_line : (S : ScenarioContents) (i : Instr) → GoodNames [] (work_names S) → GoodNames [] (queue_names S) → names_declared S i ≡ true → instr_fits i ≡ true
+    → InstrFits (instr_words S i)
 instr_fits_line S (instr.Queue work cpu) works queues named fits =
     let small : cpu ≤ 255 = at_most cpu 255 fits in
     record { first = codes "queue"; others = (work_at S work.0).name ∷ decimal cpu ∷ []; whole = refl; fits = words_within 37 (word_on (literal 5 (codes "queue") refl (omega arith)) (word_on (work_name S work.0 works named) (word_on (number_fits 3 cpu (omega arith) (omega arith) (omega arith)) no_words))) (omega arith) }
@@ -359,20 +377,26 @@ instr_fits_line S instr.Busy works queues named fits =
 instr_fits_line S (instr.State work) works queues named fits =
     record { first = codes "state"; others = (work_at S work.0).name ∷ []; whole = refl; fits = words_within 37 (word_on (literal 5 (codes "state") refl (omega arith)) (word_on (work_name S work.0 works named) no_words)) (omega arith) }
 
-line_of_actor_fits : (S : ScenarioContents) (line : Line) → GoodNames [] (work_names S) → GoodNames [] (queue_names S) → good_line S line ≡ true → LineFits 45 (actor_line S line)
+line_of_actor_fits : (S : ScenarioContents) (line : Line) → GoodNames [] (work_names S) → GoodNames [] (queue_names S) → good_line S line ≡ true
+    → LineFits 45 (actor_line S line)
 line_of_actor_fits S line works queues good =
-    let parts : ((names_declared S line.instr && within 1 MAX_TIMES line.times) ≡ true) × (instr_fits line.instr ≡ true) = and_true (names_declared S line.instr && within 1 MAX_TIMES line.times) (instr_fits line.instr) good in
-    let tests : (names_declared S line.instr ≡ true) × (within 1 MAX_TIMES line.times ≡ true) = and_true (names_declared S line.instr) (within 1 MAX_TIMES line.times) parts.0 in
+    let parts : ((names_declared S line.instr && within 1 MAX_TIMES line.times) ≡ true) × (instr_fits line.instr ≡ true) =
+    and_true (names_declared S line.instr && within 1 MAX_TIMES line.times) (instr_fits line.instr) good in
+    let tests : (names_declared S line.instr ≡ true) × (within 1 MAX_TIMES line.times ≡ true) =
+    and_true (names_declared S line.instr) (within 1 MAX_TIMES line.times) parts.0 in
     let i : InstrFits (instr_words S line.instr) = instr_fits_line S line.instr works queues tests.0 parts.1 in
     line_fits 45 (actor_line S line) (ap (λ (ws : List (List ℕ)). ws ++ times_words line.times) i.whole) (words_on i.fits (times_fit line.times tests.1)) (omega arith)
 
-lines_of_actor_fit : (S : ScenarioContents) (lines : List Line) → GoodNames [] (work_names S) → GoodNames [] (queue_names S) → good_lines S lines ≡ true → LinesFit (length lines * 45) (map (actor_line S) lines)
+lines_of_actor_fit : (S : ScenarioContents) (lines : List Line) → GoodNames [] (work_names S) → GoodNames [] (queue_names S) → good_lines S lines ≡ true
+    → LinesFit (length lines * 45) (map (actor_line S) lines)
 lines_of_actor_fit S [] works queues good = no_lines
 lines_of_actor_fit S (line ∷ lines) works queues good =
     let both : (good_line S line ≡ true) × (good_lines S lines ≡ true) = and_true (good_line S line) (good_lines S lines) good in
     lines_within (suc (length lines) * 45) (line_on (line_of_actor_fits S line works queues both.0) (lines_of_actor_fit S lines works queues both.1)) (omega arith)
 
-actors_fit : (S : ScenarioContents) (before : List (List ℕ)) (actors : List ActorContents) → GoodNames [] (work_names S) → GoodNames [] (queue_names S) → GoodNames before (map (λ (a : ActorContents). a.name) actors) → list_all (good_actor S) actors ≡ true → LinesFit (length actors * 184342) (flat_map (actor_lines S) actors)
+actors_fit : (S : ScenarioContents) (before : List (List ℕ)) (actors : List ActorContents) → GoodNames [] (work_names S) → GoodNames [] (queue_names S)
+    → GoodNames before (map (λ (a : ActorContents). a.name) actors) → list_all (good_actor S) actors ≡ true
+    → LinesFit (length actors * 184342) (flat_map (actor_lines S) actors)
 actors_fit S before [] works queues names good = no_lines
 actors_fit S before (a ∷ actors) works queues names good =
     let both : (good_actor S a ≡ true) × (list_all (good_actor S) actors ≡ true) = and_true (good_actor S a) (list_all (good_actor S) actors) good in
@@ -409,7 +433,8 @@ written_fits S good =
     lines_within MAX_TEXT (line_on (numbered_fits 4 (codes "cpus") S.cpus (word 4 (codes "cpus") refl (omega arith)) (omega arith)) (line_on (numbered_fits 7 (codes "workers") S.workers (word 7 (codes "workers") refl (omega arith)) (omega arith)) (line_on (numbered_fits 5 (codes "steps") S.steps (word 5 (codes "steps") refl (omega arith)) (omega arith)) (line_on (numbered_fits 7 (codes "flushes") S.flushes (word 7 (codes "flushes") refl (omega arith)) (omega arith)) all)))) (omega arith)
 
 pub listing_lines : (S : ScenarioContents) → Good S → lines_of (listing S) ≡ map joined (map canonical (written S))
-listing_lines S good = ap lines_of (listing_is (written S)) ∙ fed_lines (map joined (map canonical (written S))) (plain_no_feeds (map canonical (written S)) (written_fits S good).plain)
+listing_lines S good =
+    ap lines_of (listing_is (written S)) ∙ fed_lines (map joined (map canonical (written S))) (plain_no_feeds (map canonical (written S)) (written_fits S good).plain)
 
 pub listing_spells : (S : ScenarioContents) → IsValid S → Fits S → Spells (listing S) S
 listing_spells S valid fits =

@@ -66,7 +66,8 @@ pub record LinesRead (stage : Stage) (said : List (List (List ℕ))) (next : Sta
   pub sound : Sound next
   pub front : (lines : List WrittenLine) (S : ScenarioContents) → Continues next lines S → (before : List WrittenLine) × SayAll before said × Continues stage (before ++ lines) S
 
-read_on : (stage middle next : Stage) (words : List (List ℕ)) (more : List (List (List ℕ))) → Sound stage → step stage words ≡ Ok middle → (Sound middle → LinesRead middle more next) → LinesRead stage (worded_on words more) next
+read_on : (stage middle next : Stage) (words : List (List ℕ)) (more : List (List (List ℕ))) → Sound stage → step stage words ≡ Ok middle
+    → (Sound middle → LinesRead middle more next) → LinesRead stage (worded_on words more) next
 read_on stage middle next [] more sound e later =
     let same : stage ≡ middle = ok_same stage middle (sym (step_nothing stage) ∙ e) in
     subst (λ (σ : Stage). LinesRead σ more next) (sym same) (later (subst Sound same sound))
@@ -85,7 +86,8 @@ pub sound_after : (stage next : Stage) (words : List (List ℕ)) → Sound stage
 sound_after stage next [] sound e = subst Sound (ok_same stage next (sym (step_nothing stage) ∙ e)) sound
 sound_after stage next (word ∷ rest) sound e = (step_read stage word rest next sound e).sound
 
-pub all_read : (n : ℕ) (lines : List (List ℕ)) (stage next : Stage) → Sound stage → stage_after n lines stage ≡ Ok next → LinesRead stage (worded lines) next × AllUtf8 lines
+pub all_read : (n : ℕ) (lines : List (List ℕ)) (stage next : Stage) → Sound stage → stage_after n lines stage ≡ Ok next
+    → LinesRead stage (worded lines) next × AllUtf8 lines
 unfolding stage_after
 all_read n [] stage next sound e =
     let same : stage ≡ next = stage_same stage next e in
@@ -94,7 +96,8 @@ all_read n [] stage next sound e =
     stage_same : (a b : Stage) → at_line 0 (fine a) ≡ at_line 0 (fine b) → a ≡ b
     stage_same a b h = cc
 all_read n (line ∷ lines) stage next sound e =
-    let there : (σ : Stage) × (at_line n (judge stage line) ≡ Ok σ) × (stage_after (n + 1) lines σ ≡ Ok next) = bind_ok (at_line n (judge stage line)) (stage_after (n + 1) lines) next e in
+    let there : (σ : Stage) × (at_line n (judge stage line) ≡ Ok σ) × (stage_after (n + 1) lines σ ≡ Ok next) =
+    bind_ok (at_line n (judge stage line)) (stage_after (n + 1) lines) next e in
     let one : (is_utf8 line ≡ true) × (step stage (words_of line) ≡ Ok there.0) = judged stage there.0 line (line_ok n (judge stage line) there.0 there.1) in
     let middle : Sound there.0 = sound_after stage there.0 (words_of line) sound one.1 in
     let later : LinesRead there.0 (worded lines) next × AllUtf8 lines = all_read (n + 1) lines there.0 next middle there.2 in
@@ -134,7 +137,8 @@ bodies_end D S done sound all e =
       sound_all D done sound all,
     )
 
-pub actor_ends : (D S : ScenarioContents) (name : List ℕ) (given : List Line) → Good (with_actor D name given) → with_actor D name given ≡ S → EndsAs (Actor D name given) S
+pub actor_ends : (D S : ScenarioContents) (name : List ℕ) (given : List Line) → Good (with_actor D name given) → with_actor D name given ≡ S
+    → EndsAs (Actor D name given) S
 actor_ends D S name given good e =
     subst (λ (T : ScenarioContents). EndsAs (Actor D name given) T) e (
       record {
@@ -168,7 +172,8 @@ end_read (Actor D name given) S sound e = actor_ends D S name given sound (ok_sa
 pub lines_read : (lines : List (List ℕ)) (S : ScenarioContents) → reads_lines lines ≡ Ok S → SayAll (written S) (worded lines) × Good S × AllUtf8 lines
 unfolding reads_lines
 lines_read lines S e =
-    let there : (σ : Stage) × (stage_after 1 lines Start ≡ Ok σ) × (ends_before (length lines + 1) σ ≡ Ok S) = bind_ok (stage_after 1 lines Start) (ends_before (length lines + 1)) S e in
+    let there : (σ : Stage) × (stage_after 1 lines Start ≡ Ok σ) × (ends_before (length lines + 1) σ ≡ Ok S) =
+    bind_ok (stage_after 1 lines Start) (ends_before (length lines + 1)) S e in
     let read : LinesRead Start (worded lines) there.0 × AllUtf8 lines = all_read 1 lines Start there.0 tt there.1 in
     let ends : EndsAs there.0 S = end_read there.0 S (read.0).sound (line_ok (length lines + 1) (at_end there.0) S there.2) in
     let told = (read.0).front [] S ends.0 in

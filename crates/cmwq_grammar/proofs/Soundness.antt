@@ -33,8 +33,10 @@ all_and_one p xs x all one = list_all-append p xs (x ∷ []) ∙ true_and (list_
 pub all_parts : {A : Type 0} (p : A → Bool) (xs ys : List A) → list_all p (xs ++ ys) ≡ true → (list_all p xs ≡ true) × (list_all p ys ≡ true)
 all_parts p xs ys all = and_true (list_all p xs) (list_all p ys) (sym (list_all-append p xs ys) ∙ all)
 
-names_and_one : {A : Type 0} (name : A → List ℕ) (xs : List A) (x : A) → GoodNames [] (map name xs) → IsNew (map name xs) (name x) → is_name (name x) ≡ true → GoodNames [] (map name (xs ++ x ∷ []))
-names_and_one name xs x good new is = subst (λ (ns : List (List ℕ)). GoodNames [] ns) (sym (map-append name xs (x ∷ []))) (good_more [] (map name xs) (name x) good new is)
+names_and_one : {A : Type 0} (name : A → List ℕ) (xs : List A) (x : A) → GoodNames [] (map name xs) → IsNew (map name xs) (name x) → is_name (name x) ≡ true
+    → GoodNames [] (map name (xs ++ x ∷ []))
+names_and_one name xs x good new is =
+    subst (λ (ns : List (List ℕ)). GoodNames [] ns) (sym (map-append name xs (x ∷ []))) (good_more [] (map name xs) (name x) good new is)
 
 -- two lists that differ in one element, of one name
 same_names : {A : Type 0} (name : A → List ℕ) (front back : List A) (x y : A) → name x ≡ name y → map name (front ++ x ∷ back) ≡ map name (front ++ y ∷ back)
@@ -48,7 +50,8 @@ pub bodies_at : (P : WorkContents → Type 0) (front back : List WorkContents) (
 bodies_at P [] back x all = all.0
 bodies_at P (w ∷ front) back x all = bodies_at P front back x all.1
 
-bodies_swap : (P : WorkContents → Type 0) (front back : List WorkContents) (x y : WorkContents) → AllByRecursion P (front ++ x ∷ back) → P y → AllByRecursion P (front ++ y ∷ back)
+bodies_swap : (P : WorkContents → Type 0) (front back : List WorkContents) (x y : WorkContents) → AllByRecursion P (front ++ x ∷ back) → P y
+    → AllByRecursion P (front ++ y ∷ back)
 bodies_swap P [] back x y all here = (here, all.1)
 bodies_swap P (w ∷ front) back x y all here = (all.0, bodies_swap P front back x y all.1 here)
 
@@ -88,7 +91,8 @@ bare_same work e = ap (λ (b : List Op). with_this b) e
     with_this : List Op → WorkContents
     with_this b = record work { body = b }
 
-sound_work_on : (D : ScenarioContents) (said : List (List ℕ)) (next : Stage) (added : WorkAdded D said next) → Good (record D { works = [] }) → D.actors ≡ [] → GoodNames [] (work_names D) → list_all (on_queue_of (length D.queues)) D.works ≡ true → D.works ≡ map bare D.works
+sound_work_on : (D : ScenarioContents) (said : List (List ℕ)) (next : Stage) (added : WorkAdded D said next) → Good (record D { works = [] }) → D.actors ≡ []
+    → GoodNames [] (work_names D) → list_all (on_queue_of (length D.queues)) D.works ≡ true → D.works ≡ map bare D.works
     → SoundWorks (with_work D added.work)
 sound_work_on D said next added good no_actors names queued declared =
     let w = added.work in
@@ -106,7 +110,8 @@ sound_work_on D said next added good no_actors names queued declared =
           ∙ sym (map-append bare D.works (w ∷ []));
     }
 
-pub sound_first_work : (D : ScenarioContents) (said : List (List ℕ)) (next : Stage) → SoundQueues D → (added : WorkAdded D said next) → SoundWorks (with_work D added.work)
+pub sound_first_work : (D : ScenarioContents) (said : List (List ℕ)) (next : Stage) → SoundQueues D → (added : WorkAdded D said next)
+    → SoundWorks (with_work D added.work)
 sound_first_work D said next sound added =
     let good = sound.good in
     sound_work_on D said next added (subst (λ (ws : List WorkContents). Good (record D { works = ws })) sound.no_works good) sound.no_actors good.work_names good.works
@@ -121,7 +126,8 @@ least_bodies : (cpus works : ℕ) (ws : List WorkContents) → AllByRecursion (G
 least_bodies cpus works [] = tt
 least_bodies cpus works (w ∷ ws) = (record { ops = []; whole = refl; good = refl; others = refl; few = omega arith }, least_bodies cpus works ws)
 
-names_of : (f : WorkContents → WorkContents) → ((w : WorkContents) → (f w).name ≡ w.name) → (ws : List WorkContents) → map (λ (w : WorkContents). w.name) (map f ws) ≡ map (λ w. w.name) ws
+names_of : (f : WorkContents → WorkContents) → ((w : WorkContents) → (f w).name ≡ w.name) → (ws : List WorkContents)
+    → map (λ (w : WorkContents). w.name) (map f ws) ≡ map (λ w. w.name) ws
 names_of f same [] = refl
 names_of f same (w ∷ ws) = ap (λ (n : List ℕ). n ∷ map (λ (v : WorkContents). v.name) (map f ws)) (same w) ∙ ap (λ (ns : List (List ℕ)). w.name ∷ ns) (names_of f same ws)
 
@@ -177,7 +183,8 @@ sound_body D done sound there = opened sound.more sound.declared sound.good
     opened (w ∷ more) declared good = record { no_actors = sound.no_actors; work = w; more = more; declared = declared; others = refl; good = good }
 
 -- the work whose body is open
-pub open_work : (D : ScenarioContents) (done : List WorkContents) (work : WorkContents) (more : List WorkContents) → D.works ≡ map bare (done ++ work ∷ more) → work_at D (length done) ≡ bare work
+pub open_work : (D : ScenarioContents) (done : List WorkContents) (work : WorkContents) (more : List WorkContents) → D.works ≡ map bare (done ++ work ∷ more)
+    → work_at D (length done) ≡ bare work
 open_work D done work more declared =
     ap (λ (ws : List WorkContents). get_or ws (length done) none) (declared ∙ map-append bare done (work ∷ more))
     ∙ get_or_at (map bare done) (bare work) (map bare more) none (length done) (length-map done bare)
@@ -185,12 +192,15 @@ open_work D done work more declared =
     none : WorkContents
     none = record { name = []; queue = record { 0 = 0 }; body = [] }
 
-pub with_open_body : (D : ScenarioContents) (done : List WorkContents) (work : WorkContents) (more : List WorkContents) (ops : List Op) → D.works ≡ map bare (done ++ work ∷ more) → with_body D done ops ≡ done ++ record work { body = ops } ∷ []
+pub with_open_body : (D : ScenarioContents) (done : List WorkContents) (work : WorkContents) (more : List WorkContents) (ops : List Op)
+    → D.works ≡ map bare (done ++ work ∷ more) → with_body D done ops ≡ done ++ record work { body = ops } ∷ []
 with_open_body D done work more ops declared = ap (λ (w : WorkContents). done ++ record w { body = ops } ∷ []) (open_work D done work more declared)
 
-declared_with : (done : List WorkContents) (work : WorkContents) (more : List WorkContents) (ops : List Op) → map bare (done ++ work ∷ more) ≡ map bare ((done ++ record work { body = ops } ∷ []) ++ more)
+declared_with : (done : List WorkContents) (work : WorkContents) (more : List WorkContents) (ops : List Op)
+    → map bare (done ++ work ∷ more) ≡ map bare ((done ++ record work { body = ops } ∷ []) ++ more)
 declared_with done work more ops =
-    map-append bare done (work ∷ more) ∙ sym (map-append bare done (record work { body = ops } ∷ more)) ∙ ap (map bare) (sym (append_assoc done (record work { body = ops } ∷ []) more))
+    map-append bare done (work ∷ more) ∙ sym (map-append bare done (record work { body = ops } ∷ more))
+    ∙ ap (map bare) (sym (append_assoc done (record work { body = ops } ∷ []) more))
 
 finish_is : (last : Op) → is_finish last ≡ true → last ≡ op.Finish
 finish_is (op.Burn ticks) e = cc
@@ -198,7 +208,8 @@ finish_is (op.Sleep ticks) e = cc
 finish_is (op.Queue work cpu) e = cc
 finish_is op.Finish e = refl
 
-pub sound_finish : (D : ScenarioContents) (done : List WorkContents) (ops : List Op) (last : Op) → SoundBody D done ops → is_finish last ≡ true → SoundBodies D (with_body D done (ops ++ last ∷ []))
+pub sound_finish : (D : ScenarioContents) (done : List WorkContents) (ops : List Op) (last : Op) → SoundBody D done ops → is_finish last ≡ true
+    → SoundBodies D (with_body D done (ops ++ last ∷ []))
 sound_finish D done ops last sound finish =
     let all : List Op = ops ++ op.Finish ∷ [] in
     let x : WorkContents = record sound.work { body = all } in
@@ -215,7 +226,8 @@ sound_finish D done ops last sound finish =
 declared_length : (D : ScenarioContents) (ws : List WorkContents) → D.works ≡ map bare ws → length D.works ≡ length ws
 declared_length D ws e = ap length e ∙ length-map ws bare
 
-body_swap : (D : ScenarioContents) (front back : List WorkContents) (work : WorkContents) (a b : List Op) → D.actors ≡ [] → Good (record D { works = front ++ record work { body = a } ∷ back }) → GoodBody D.cpus (length (front ++ record work { body = a } ∷ back)) b
+body_swap : (D : ScenarioContents) (front back : List WorkContents) (work : WorkContents) (a b : List Op) → D.actors ≡ []
+    → Good (record D { works = front ++ record work { body = a } ∷ back }) → GoodBody D.cpus (length (front ++ record work { body = a } ∷ back)) b
     → Good (record D { works = front ++ record work { body = b } ∷ back })
 body_swap D front back work a b no_actors good body =
     let x : WorkContents = record work { body = a } in
@@ -241,7 +253,8 @@ body_swap D front back work a b no_actors good body =
       actors = ap (λ (as_ : List ActorContents). list_all (good_actor (record D { works = front ++ y ∷ back })) as_) no_actors;
     }
 
-pub sound_op : (D : ScenarioContents) (done : List WorkContents) (ops : List Op) (last : Op) → SoundBody D done ops → is_finish last ≡ false → length ops + 1 < MAX_OPS → good_op D.cpus (length D.works) last ≡ true → SoundBody D done (ops ++ last ∷ [])
+pub sound_op : (D : ScenarioContents) (done : List WorkContents) (ops : List Op) (last : Op) → SoundBody D done ops → is_finish last ≡ false → length ops + 1 < MAX_OPS
+    → good_op D.cpus (length D.works) last ≡ true → SoundBody D done (ops ++ last ∷ [])
 sound_op D done ops last sound going room good_last =
     let front = done in
     let back : List WorkContents = map at_least sound.more in
@@ -311,7 +324,8 @@ sound_all D done sound all = closed sound.more sound.declared sound.good
         let same : length done ≡ length D.works = same_number (length done) (length D.works) all in
         absurd (omega arith)
 
-pub sound_line : (D : ScenarioContents) (name : List ℕ) (lines : List Line) (line : Line) → Good (with_actor D name lines) → good_line D line ≡ true → length lines < MAX_LINES → Good (with_actor D name (lines ++ line ∷ []))
+pub sound_line : (D : ScenarioContents) (name : List ℕ) (lines : List Line) (line : Line) → Good (with_actor D name lines) → good_line D line ≡ true
+    → length lines < MAX_LINES → Good (with_actor D name (lines ++ line ∷ []))
 sound_line D name lines line good good_one room =
     let a : ActorContents = record { name = name; lines = lines } in
     let b : ActorContents = record { name = name; lines = lines ++ line ∷ [] } in

@@ -34,9 +34,11 @@ pub record Reached (n : ℕ) (lines more : List (List ℕ)) (stage : Stage) (S :
 
 -- reading goes on so from each stage that these lines can follow
 abbrev GoesOn : ℕ → List (List ℕ) → List (List ℕ) → ScenarioContents → Type 0
-GoesOn n lines more S = (stage : Stage) (left : List WrittenLine) → Sound stage → Continues stage left S → SayAll left (worded (lines ++ more)) → Reached n lines more stage S
+GoesOn n lines more S =
+    (stage : Stage) (left : List WrittenLine) → Sound stage → Continues stage left S → SayAll left (worded (lines ++ more)) → Reached n lines more stage S
 
-abbrev reached_by : (n : ℕ) (line : List ℕ) (lines more : List (List ℕ)) (stage next : Stage) (S : ScenarioContents) → judge stage line ≡ Ok next → Reached (n + 1) lines more next S → Reached n (line ∷ lines) more stage S
+abbrev reached_by : (n : ℕ) (line : List ℕ) (lines more : List (List ℕ)) (stage next : Stage) (S : ScenarioContents) → judge stage line ≡ Ok next
+    → Reached (n + 1) lines more next S → Reached n (line ∷ lines) more stage S
 unfolding stage_after
 reached_by n line lines more stage next S e later = record {
   next = later.next;
@@ -47,7 +49,8 @@ reached_by n line lines more stage next S e later = record {
   says = later.says;
 }
 
-line_said : (n : ℕ) (line : List ℕ) (lines more : List (List ℕ)) (S : ScenarioContents) → Good S → is_utf8 line ≡ true → (words : List (List ℕ)) → words_of line ≡ words → (stage : Stage) (left : List WrittenLine) → Sound stage → Continues stage left S
+line_said : (n : ℕ) (line : List ℕ) (lines more : List (List ℕ)) (S : ScenarioContents) → Good S → is_utf8 line ≡ true → (words : List (List ℕ)) → words_of line ≡ words
+    → (stage : Stage) (left : List WrittenLine) → Sound stage → Continues stage left S
     → SayAll left (worded_on words (worded (lines ++ more))) → GoesOn (n + 1) lines more S → Reached n (line ∷ lines) more stage S
 line_said n line lines more S good utf8 [] e stage left sound continues says later =
     reached_by n line lines more stage stage S (judges stage line [] utf8 e ∙ step_nothing stage) (later stage left sound continues says)
@@ -77,7 +80,8 @@ record NoneLeft (queues : List QueueDecl) (works bodies : List WorkContents) (ac
   bodies_end : bodies ≡ []
   actors_end : actors ≡ []
 
-none_left : (S : ScenarioContents) (queues : List QueueDecl) (works bodies : List WorkContents) (actors : List ActorContents) → [] ≡ rest_lines S queues works bodies actors → NoneLeft queues works bodies actors
+none_left : (S : ScenarioContents) (queues : List QueueDecl) (works bodies : List WorkContents) (actors : List ActorContents)
+    → [] ≡ rest_lines S queues works bodies actors → NoneLeft queues works bodies actors
 none_left S (q ∷ queues) works bodies actors e = cc
 none_left S [] (w ∷ works) bodies actors e = cc
 none_left S [] [] (b ∷ bodies) actors e = cc
@@ -113,7 +117,8 @@ works_end_said D S sound left =
     let size : length D.works ≡ length left.front = ap length left.declared ∙ length-map left.front bare in
     absurd (omega (arith, sound.some))
 
-bodies_end_said : (D S : ScenarioContents) (done : List WorkContents) → SoundBodies D done → BodiesLeft D done [] S → (all_have_bodies D done ≡ true) × (with_works D done ≡ S)
+bodies_end_said : (D S : ScenarioContents) (done : List WorkContents) → SoundBodies D done → BodiesLeft D done [] S
+    → (all_have_bodies D done ≡ true) × (with_works D done ≡ S)
 bodies_end_said D S done sound left =
     let none : NoneLeft [] [] left.more S.actors = none_left S [] [] left.more S.actors left.said in
     let works : S.works ≡ done = left.works ∙ ap (λ (ws : List WorkContents). done ++ ws) none.bodies_end ∙ append-nil done in
@@ -184,7 +189,8 @@ nothing_left (l ∷ left) says = absurd says
 pub text_reads : (lines : List (List ℕ)) (S : ScenarioContents) → AllUtf8 lines → Good S → SayAll (written S) (worded lines) → reads_lines lines ≡ Ok S
 unfolding reads_lines
 text_reads lines S utf8 good says =
-    let on : Reached 1 lines [] Start S = all_said 1 lines [] S good utf8 Start (written S) tt refl (subst (λ (ls : List (List ℕ)). SayAll (written S) (worded ls)) (sym (append-nil lines)) says) in
+    let on : Reached 1 lines [] Start S =
+    all_said 1 lines [] S good utf8 Start (written S) tt refl (subst (λ (ls : List (List ℕ)). SayAll (written S) (worded ls)) (sym (append-nil lines)) says) in
     let none : on.left ≡ [] = nothing_left on.left on.says in
     let ends : at_end on.next ≡ Ok S = end_said on.next S on.sound good (subst (λ (ls : List WrittenLine). Continues on.next ls S) none on.continues) in
     bind_at (stage_after 1 lines Start) (ends_before (length lines + 1)) on.next on.reached ∙ ap (at_line (length lines + 1)) ends

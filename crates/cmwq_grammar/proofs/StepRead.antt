@@ -35,19 +35,23 @@ pub record ReadOn (stage : Stage) (said : List (List ℕ)) (next : Stage) : Type
 
 -- The numbers at the head.
 
-number_told : (low high : ℕ) (make : ℕ → Stage) (word first : List ℕ) (rest : List (List ℕ)) (next : Stage) → bytes_eq word first ≡ true → (number_within low high rest >>= made_last make) ≡ Ok next
+number_told : (low high : ℕ) (make : ℕ → Stage) (word first : List ℕ) (rest : List (List ℕ)) (next : Stage) → bytes_eq word first ≡ true
+    → (number_within low high rest >>= made_last make) ≡ Ok next
     → (n : ℕ) × (make n ≡ next) × (word ∷ rest ≡ first ∷ decimal n ∷ []) × (within low high n ≡ true)
 number_told low high make word first rest next is e =
-    let n : (m : ℕ × List (List ℕ)) × (number_where (within low high) rest ≡ Ok m) × (made_last make m ≡ Ok next) = bind_ok (number_where (within low high) rest) (made_last make) next e in
+    let n : (m : ℕ × List (List ℕ)) × (number_where (within low high) rest ≡ Ok m) × (made_last make m ≡ Ok next) =
+    bind_ok (number_where (within low high) rest) (made_last make) next e in
     let made : ((n.0).1 ≡ []) × (make (n.0).0 ≡ next) = last_read make n.0 next n.2 in
     let number : (rest ≡ decimal (n.0).0 ∷ (n.0).1) × (within low high (n.0).0 ≡ true) = where_read (within low high) rest n.0 n.1 in (
       (n.0).0,
       made.1,
-      ap (λ (w : List ℕ). w ∷ rest) (same_word word first is) ∙ ap (λ (ws : List (List ℕ)). first ∷ ws) (number.0 ∙ ap (λ (ws : List (List ℕ)). decimal (n.0).0 ∷ ws) made.0),
+      ap (λ (w : List ℕ). w ∷ rest) (same_word word first is)
+          ∙ ap (λ (ws : List (List ℕ)). first ∷ ws) (number.0 ∙ ap (λ (ws : List (List ℕ)). decimal (n.0).0 ∷ ws) made.0),
       number.1,
     )
 
-cpus_read : (word : List ℕ) (rest : List (List ℕ)) (next : Stage) → bytes_eq word (codes "cpus") ≡ true → (number_within 1 MAX_CPUS rest >>= made_last Cpus) ≡ Ok next → ReadOn Start (word ∷ rest) next
+cpus_read : (word : List ℕ) (rest : List (List ℕ)) (next : Stage) → bytes_eq word (codes "cpus") ≡ true → (number_within 1 MAX_CPUS rest >>= made_last Cpus) ≡ Ok next
+    → ReadOn Start (word ∷ rest) next
 cpus_read word rest next is e =
     let told = number_told 1 MAX_CPUS Cpus word (codes "cpus") rest next is e in
     subst (λ (σ : Stage). ReadOn Start (word ∷ rest) σ) told.1 (record {
@@ -55,7 +59,8 @@ cpus_read word rest next is e =
       line = λ lines S left. (numbered (codes "cpus") told.0, told.2, left.1);
     })
 
-workers_read : (cpus : ℕ) (word : List ℕ) (rest : List (List ℕ)) (next : Stage) → Sound (Cpus cpus) → bytes_eq word (codes "workers") ≡ true → (number_within 1 MAX_WORKERS rest >>= made_last (Workers cpus)) ≡ Ok next → ReadOn (Cpus cpus) (word ∷ rest) next
+workers_read : (cpus : ℕ) (word : List ℕ) (rest : List (List ℕ)) (next : Stage) → Sound (Cpus cpus) → bytes_eq word (codes "workers") ≡ true
+    → (number_within 1 MAX_WORKERS rest >>= made_last (Workers cpus)) ≡ Ok next → ReadOn (Cpus cpus) (word ∷ rest) next
 workers_read cpus word rest next sound is e =
     let told = number_told 1 MAX_WORKERS (Workers cpus) word (codes "workers") rest next is e in
     subst (λ (σ : Stage). ReadOn (Cpus cpus) (word ∷ rest) σ) told.1 (record {
@@ -63,7 +68,8 @@ workers_read cpus word rest next sound is e =
       line = λ lines S left. (numbered (codes "workers") told.0, told.2, (left.0, left.2));
     })
 
-steps_read : (cpus workers : ℕ) (word : List ℕ) (rest : List (List ℕ)) (next : Stage) → Sound (Workers cpus workers) → bytes_eq word (codes "steps") ≡ true → (number_within 1 MAX_STEPS rest >>= made_last (Steps cpus workers)) ≡ Ok next → ReadOn (Workers cpus workers) (word ∷ rest) next
+steps_read : (cpus workers : ℕ) (word : List ℕ) (rest : List (List ℕ)) (next : Stage) → Sound (Workers cpus workers) → bytes_eq word (codes "steps") ≡ true
+    → (number_within 1 MAX_STEPS rest >>= made_last (Steps cpus workers)) ≡ Ok next → ReadOn (Workers cpus workers) (word ∷ rest) next
 steps_read cpus workers word rest next sound is e =
     let told = number_told 1 MAX_STEPS (Steps cpus workers) word (codes "steps") rest next is e in
     subst (λ (σ : Stage). ReadOn (Workers cpus workers) (word ∷ rest) σ) told.1 (record {
@@ -115,7 +121,8 @@ flushes_read cpus workers steps word rest next sound is e =
 
 -- Queues and works.
 
-queue_said : (D : ScenarioContents) (rest : List (List ℕ)) (next : Stage) → SoundQueues D → QueueAdded D (codes "queue" ∷ rest) next → ReadOn (Queues D) (codes "queue" ∷ rest) next
+queue_said : (D : ScenarioContents) (rest : List (List ℕ)) (next : Stage) → SoundQueues D → QueueAdded D (codes "queue" ∷ rest) next
+    → ReadOn (Queues D) (codes "queue" ∷ rest) next
 queue_said D rest next sound added =
     let q = added.queue in
     subst (λ (σ : Stage). ReadOn (Queues D) (codes "queue" ∷ rest) σ) added.stage (record {
@@ -153,11 +160,13 @@ nil_of_map : (ws : List WorkContents) → [] ≡ map bare ws → ws ≡ []
 nil_of_map [] e = refl
 nil_of_map (w ∷ ws) e = cc
 
-says_work : (D S : ScenarioContents) (w x : WorkContents) (said : List (List ℕ)) → S.queues ≡ D.queues → w ≡ bare x → Says (work_line D w) said → Says (work_line S x) said
+says_work : (D S : ScenarioContents) (w x : WorkContents) (said : List (List ℕ)) → S.queues ≡ D.queues → w ≡ bare x → Says (work_line D w) said
+    → Says (work_line S x) said
 says_work D S w x said queues same says =
     subst (λ (l : WrittenLine). Says l said) (ap (work_line D) same ∙ same_work_line D S (bare x) queues) says
 
-first_work_said : (D : ScenarioContents) (rest : List (List ℕ)) (next : Stage) → SoundQueues D → WorkAdded D (codes "work" ∷ rest) next → ReadOn (Queues D) (codes "work" ∷ rest) next
+first_work_said : (D : ScenarioContents) (rest : List (List ℕ)) (next : Stage) → SoundQueues D → WorkAdded D (codes "work" ∷ rest) next
+    → ReadOn (Queues D) (codes "work" ∷ rest) next
 first_work_said D rest next sound added =
     subst (λ (σ : Stage). ReadOn (Queues D) (codes "work" ∷ rest) σ) added.stage (record {
       sound = sound_first_work D (codes "work" ∷ rest) next sound added;
@@ -169,7 +178,8 @@ first_work_said D rest next sound added =
         → (l : WrittenLine) × Says l (codes "work" ∷ rest) × Continues (Queues D) (l ∷ lines) S
     went lines S left (before, x, front, declared, same) =
         let none : before ≡ [] = nil_of_map before (sym sound.no_works ∙ declared) in
-        let works : S.works ≡ x ∷ left.more = left.works ∙ ap (λ (ws : List WorkContents). ws ++ left.more) (front ∙ ap (λ (ws : List WorkContents). ws ++ x ∷ []) none) in (
+        let works : S.works ≡ x ∷ left.more =
+        left.works ∙ ap (λ (ws : List WorkContents). ws ++ left.more) (front ∙ ap (λ (ws : List WorkContents). ws ++ x ∷ []) none) in (
           work_line S x,
           says_work D S added.work x (codes "work" ∷ rest) left.queues same added.says,
           record {
@@ -180,7 +190,8 @@ first_work_said D rest next sound added =
           },
         )
 
-work_said : (D : ScenarioContents) (rest : List (List ℕ)) (next : Stage) → SoundWorks D → WorkAdded D (codes "work" ∷ rest) next → ReadOn (Works D) (codes "work" ∷ rest) next
+work_said : (D : ScenarioContents) (rest : List (List ℕ)) (next : Stage) → SoundWorks D → WorkAdded D (codes "work" ∷ rest) next
+    → ReadOn (Works D) (codes "work" ∷ rest) next
 work_said D rest next sound added =
     subst (λ (σ : Stage). ReadOn (Works D) (codes "work" ∷ rest) σ) added.stage (record {
       sound = sound_work D (codes "work" ∷ rest) next sound added;
@@ -207,12 +218,14 @@ work_said D rest next sound added =
 -- Bodies.
 
 -- the name of the next work
-pub next_name : (D S : ScenarioContents) (done : List WorkContents) (work : WorkContents) (more : List WorkContents) → S.works ≡ done ++ work ∷ more → D.works ≡ map bare S.works → get_or (work_names D) (length done) [] ≡ work.name
+pub next_name : (D S : ScenarioContents) (done : List WorkContents) (work : WorkContents) (more : List WorkContents) → S.works ≡ done ++ work ∷ more
+    → D.works ≡ map bare S.works → get_or (work_names D) (length done) [] ≡ work.name
 next_name D S done work more works declared =
     ap (λ (ns : List (List ℕ)). get_or ns (length done) []) (same_work_names D S declared ∙ ap (map (λ (w : WorkContents). w.name)) works ∙ map-append (λ (w : WorkContents). w.name) done (work ∷ more))
     ∙ get_or_at (map (λ (w : WorkContents). w.name) done) work.name (map (λ w. w.name) more) [] (length done) (length-map done (λ w. w.name))
 
-body_lines_from : (D S : ScenarioContents) (done : List WorkContents) (lines : List WrittenLine) → (left : BodyLeft D done [] lines S) → Words (codes "body" ∷ (left.work).name ∷ []) ∷ lines ≡ rest_lines S [] [] (left.work ∷ left.more) S.actors
+body_lines_from : (D S : ScenarioContents) (done : List WorkContents) (lines : List WrittenLine) → (left : BodyLeft D done [] lines S)
+    → Words (codes "body" ∷ (left.work).name ∷ []) ∷ lines ≡ rest_lines S [] [] (left.work ∷ left.more) S.actors
 body_lines_from D S done lines left =
     let w = left.work in
     let after = flat_map (body_lines S) left.more in
@@ -220,7 +233,8 @@ body_lines_from D S done lines left =
     ap (λ (ls : List WrittenLine). Words (codes "body" ∷ w.name ∷ []) ∷ ls)
     (left.said ∙ ap (λ (ops : List Op). map (op_line S) ops ++ (after ++ actors)) (sym left.body) ∙ sym (append_assoc (map (op_line S) w.body) after actors))
 
-first_body_said : (D : ScenarioContents) (rest : List (List ℕ)) (next : Stage) → SoundWorks D → open_body D [] rest ≡ Ok next → ReadOn (Works D) (codes "body" ∷ rest) next
+first_body_said : (D : ScenarioContents) (rest : List (List ℕ)) (next : Stage) → SoundWorks D → open_body D [] rest ≡ Ok next
+    → ReadOn (Works D) (codes "body" ∷ rest) next
 first_body_said D rest next sound e =
     let opened = body_opened D [] rest next e in
     subst (λ (σ : Stage). ReadOn (Works D) (codes "body" ∷ rest) σ) opened.2 (record {
@@ -240,7 +254,8 @@ first_body_said D rest next sound e =
       );
     })
 
-body_said : (D : ScenarioContents) (done : List WorkContents) (rest : List (List ℕ)) (next : Stage) → SoundBodies D done → open_body D done rest ≡ Ok next → ReadOn (Bodies D done) (codes "body" ∷ rest) next
+body_said : (D : ScenarioContents) (done : List WorkContents) (rest : List (List ℕ)) (next : Stage) → SoundBodies D done → open_body D done rest ≡ Ok next
+    → ReadOn (Bodies D done) (codes "body" ∷ rest) next
 body_said D done rest next sound e =
     let opened = body_opened D done rest next e in
     subst (λ (σ : Stage). ReadOn (Bodies D done) (codes "body" ∷ rest) σ) opened.2 (record {
@@ -262,7 +277,8 @@ body_said D done rest next sound e =
 says_op : (D S : ScenarioContents) (o : Op) (said : List (List ℕ)) → D.works ≡ map bare S.works → Says (op_line D o) said → Says (op_line S o) said
 says_op D S o said declared says = subst (λ (l : WrittenLine). Says l said) (same_op_line D S o (same_work_names D S declared)) says
 
-op_said : (D : ScenarioContents) (done : List WorkContents) (ops : List Op) (word : List ℕ) (rest : List (List ℕ)) (next : Stage) → SoundBody D done ops → OpAdded D done ops word rest next → ReadOn (Body D done ops) (word ∷ rest) next
+op_said : (D : ScenarioContents) (done : List WorkContents) (ops : List Op) (word : List ℕ) (rest : List (List ℕ)) (next : Stage) → SoundBody D done ops
+    → OpAdded D done ops word rest next → ReadOn (Body D done ops) (word ∷ rest) next
 op_said D done ops word rest next sound added =
     let o = added.last in
     elim added.stage [
@@ -306,7 +322,8 @@ op_said D done ops word rest next sound added =
 
 -- Actors.
 
-first_actor_said : (D : ScenarioContents) (rest : List (List ℕ)) (next : Stage) → SoundQueues D → open_actor D rest ≡ Ok next → ReadOn (Queues D) (codes "actor" ∷ rest) next
+first_actor_said : (D : ScenarioContents) (rest : List (List ℕ)) (next : Stage) → SoundQueues D → open_actor D rest ≡ Ok next
+    → ReadOn (Queues D) (codes "actor" ∷ rest) next
 first_actor_said D rest next sound e =
     let opened : ActorOpened D rest next = actor_opened D rest next e in
     subst (λ (σ : Stage). ReadOn (Queues D) (codes "actor" ∷ rest) σ) opened.stage (record {
@@ -343,7 +360,8 @@ all_declared D done sound all = closed sound.more sound.declared
         let same : length done ≡ length D.works = same_number (length done) (length D.works) all in
         absurd (omega arith)
 
-actor_after_bodies_said : (D : ScenarioContents) (done : List WorkContents) (rest : List (List ℕ)) (next : Stage) → SoundBodies D done → all_have_bodies D done ≡ true → open_actor (with_works D done) rest ≡ Ok next → ReadOn (Bodies D done) (codes "actor" ∷ rest) next
+actor_after_bodies_said : (D : ScenarioContents) (done : List WorkContents) (rest : List (List ℕ)) (next : Stage) → SoundBodies D done → all_have_bodies D done ≡ true
+    → open_actor (with_works D done) rest ≡ Ok next → ReadOn (Bodies D done) (codes "actor" ∷ rest) next
 actor_after_bodies_said D done rest next sound all e =
     let opened : ActorOpened (with_works D done) rest next = actor_opened (with_works D done) rest next e in
     let declared : D.works ≡ map bare done = all_declared D done sound all in
@@ -360,12 +378,14 @@ actor_after_bodies_said D done rest next sound all e =
               more = [];
               works = left.works ∙ sym (append-nil done);
               declared = declared ∙ sym (ap (map bare) left.works);
-              said = ap (λ (ls : List WrittenLine). Words (codes "actor" ∷ opened.name ∷ []) ∷ ls) left.said ∙ sym (ap (λ (as_ : List ActorContents). rest_lines S [] [] [] as_) actors);
+              said = ap (λ (ls : List WrittenLine). Words (codes "actor" ∷ opened.name ∷ []) ∷ ls) left.said
+                  ∙ sym (ap (λ (as_ : List ActorContents). rest_lines S [] [] [] as_) actors);
             },
           );
     })
 
-next_actor_said : (D : ScenarioContents) (name : List ℕ) (given : List Line) (rest : List (List ℕ)) (next : Stage) → Good (with_actor D name given) → open_actor (with_actor D name given) rest ≡ Ok next → ReadOn (Actor D name given) (codes "actor" ∷ rest) next
+next_actor_said : (D : ScenarioContents) (name : List ℕ) (given : List Line) (rest : List (List ℕ)) (next : Stage) → Good (with_actor D name given)
+    → open_actor (with_actor D name given) rest ≡ Ok next → ReadOn (Actor D name given) (codes "actor" ∷ rest) next
 next_actor_said D name given rest next good e =
     let opened : ActorOpened (with_actor D name given) rest next = actor_opened (with_actor D name given) rest next e in
     subst (λ (σ : Stage). ReadOn (Actor D name given) (codes "actor" ∷ rest) σ) opened.stage (record {
@@ -388,7 +408,8 @@ next_actor_said D name given rest next good e =
           );
     })
 
-line_said : (D : ScenarioContents) (name : List ℕ) (given : List Line) (word : List ℕ) (rest : List (List ℕ)) (next : Stage) → Good (with_actor D name given) → LineAdded D name given (word ∷ rest) next → ReadOn (Actor D name given) (word ∷ rest) next
+line_said : (D : ScenarioContents) (name : List ℕ) (given : List Line) (word : List ℕ) (rest : List (List ℕ)) (next : Stage) → Good (with_actor D name given)
+    → LineAdded D name given (word ∷ rest) next → ReadOn (Actor D name given) (word ∷ rest) next
 line_said D name given word rest next good added =
     let line = added.line in
     subst (λ (σ : Stage). ReadOn (Actor D name given) (word ∷ rest) σ) added.stage (record {
@@ -410,7 +431,8 @@ line_said D name given word rest next good added =
 
 -- Every stage.
 
-with_word : (stage : Stage) (word first : List ℕ) (rest : List (List ℕ)) (next : Stage) → bytes_eq word first ≡ true → ReadOn stage (first ∷ rest) next → ReadOn stage (word ∷ rest) next
+with_word : (stage : Stage) (word first : List ℕ) (rest : List (List ℕ)) (next : Stage) → bytes_eq word first ≡ true → ReadOn stage (first ∷ rest) next
+    → ReadOn stage (word ∷ rest) next
 with_word stage word first rest next is read = subst (λ (w : List ℕ). ReadOn stage (w ∷ rest) next) (sym (same_word word first is)) read
 
 pub step_read : (stage : Stage) (word : List ℕ) (rest : List (List ℕ)) (next : Stage) → Sound stage → step stage (word ∷ rest) ≡ Ok next → ReadOn stage (word ∷ rest) next

@@ -47,7 +47,8 @@ says_as l m said e says = subst (λ (x : WrittenLine). Says x said) e says
 
 -- The numbers at the head.
 
-number_taken : (low high n : ℕ) (make : ℕ → Stage) → within low high n ≡ true → high < 10 ^ 10 → (number_within low high (decimal n ∷ []) >>= made_last make) ≡ Ok (make n)
+number_taken : (low high n : ℕ) (make : ℕ → Stage) → within low high n ≡ true → high < 10 ^ 10
+    → (number_within low high (decimal n ∷ []) >>= made_last make) ≡ Ok (make n)
 number_taken low high n make fits small =
     let bounds : (low ≤ n) × (n ≤ high) = within_fits low high n fits in
     bind_at (number_where (within low high) (decimal n ∷ [])) (made_last make) (n, []) (where_again (within low high) n [] (omega arith) fits) ∙ ended_again (make n)
@@ -65,7 +66,8 @@ after_2 S = numbered (codes "steps") S.steps ∷ after_3 S
 abbrev after_1 : ScenarioContents → List WrittenLine
 after_1 S = numbered (codes "workers") S.workers ∷ after_2 S
 
-cpus_taken : (l : WrittenLine) (lines : List WrittenLine) (S : ScenarioContents) (said : List (List ℕ)) → Good S → Continues Start (l ∷ lines) S → Says l said → TakenOn Start said lines S
+cpus_taken : (l : WrittenLine) (lines : List WrittenLine) (S : ScenarioContents) (said : List (List ℕ)) → Good S → Continues Start (l ∷ lines) S → Says l said
+    → TakenOn Start said lines S
 unfolding step
 cpus_taken l lines S said good e says =
     let here : l ≡ numbered (codes "cpus") S.cpus = same_head l (numbered (codes "cpus") S.cpus) lines (after_1 S) e in
@@ -78,7 +80,8 @@ cpus_taken l lines S said good e says =
       continues = (refl, ap (λ (x : WrittenLine). x ∷ lines) (sym here) ∙ e);
     }
 
-workers_taken : (cpus : ℕ) (l : WrittenLine) (lines : List WrittenLine) (S : ScenarioContents) (said : List (List ℕ)) → Good S → Continues (Cpus cpus) (l ∷ lines) S → Says l said → TakenOn (Cpus cpus) said lines S
+workers_taken : (cpus : ℕ) (l : WrittenLine) (lines : List WrittenLine) (S : ScenarioContents) (said : List (List ℕ)) → Good S → Continues (Cpus cpus) (l ∷ lines) S
+    → Says l said → TakenOn (Cpus cpus) said lines S
 unfolding step
 workers_taken cpus l lines S said good left says =
     let first : WrittenLine = numbered (codes "cpus") cpus in
@@ -93,7 +96,8 @@ workers_taken cpus l lines S said good left says =
       continues = (left.0, refl, ap (λ (x : WrittenLine). first ∷ x ∷ lines) (sym here) ∙ left.1);
     }
 
-steps_taken : (cpus workers : ℕ) (l : WrittenLine) (lines : List WrittenLine) (S : ScenarioContents) (said : List (List ℕ)) → Good S → Continues (Workers cpus workers) (l ∷ lines) S → Says l said → TakenOn (Workers cpus workers) said lines S
+steps_taken : (cpus workers : ℕ) (l : WrittenLine) (lines : List WrittenLine) (S : ScenarioContents) (said : List (List ℕ)) → Good S
+    → Continues (Workers cpus workers) (l ∷ lines) S → Says l said → TakenOn (Workers cpus workers) said lines S
 unfolding step
 steps_taken cpus workers l lines S said good left says =
     let first : WrittenLine = numbered (codes "cpus") cpus in
@@ -110,7 +114,8 @@ steps_taken cpus workers l lines S said good left says =
       continues = (left.0, left.1, refl, ap (λ (x : WrittenLine). first ∷ second ∷ x ∷ lines) (sym here) ∙ left.2);
     }
 
-flushes_taken : (cpus workers steps : ℕ) (l : WrittenLine) (lines : List WrittenLine) (S : ScenarioContents) (said : List (List ℕ)) → Good S → Continues (Steps cpus workers steps) (l ∷ lines) S → Says l said → TakenOn (Steps cpus workers steps) said lines S
+flushes_taken : (cpus workers steps : ℕ) (l : WrittenLine) (lines : List WrittenLine) (S : ScenarioContents) (said : List (List ℕ)) → Good S
+    → Continues (Steps cpus workers steps) (l ∷ lines) S → Says l said → TakenOn (Steps cpus workers steps) said lines S
 unfolding step
 flushes_taken cpus workers steps l lines S said good left says =
     let first : WrittenLine = numbered (codes "cpus") cpus in
@@ -142,12 +147,14 @@ flushes_taken cpus workers steps l lines S said good left says =
 
 queue_small : (queue : QueueDecl) → fits_flags queue ≡ true → queue.max < 10 ^ 10
 queue_small queue fits =
-    let parts : (within 1 MAX_MAX_ACTIVE queue.max ≡ true) × (cond queue.flags.ordered (eqb queue.max 1) true ≡ true) = and_true (within 1 MAX_MAX_ACTIVE queue.max) (cond queue.flags.ordered (eqb queue.max 1) true) fits in
+    let parts : (within 1 MAX_MAX_ACTIVE queue.max ≡ true) × (cond queue.flags.ordered (eqb queue.max 1) true ≡ true) =
+    and_true (within 1 MAX_MAX_ACTIVE queue.max) (cond queue.flags.ordered (eqb queue.max 1) true) fits in
     let bounds : (1 ≤ queue.max) × (queue.max ≤ MAX_MAX_ACTIVE) = within_fits 1 MAX_MAX_ACTIVE queue.max parts.0 in
     omega arith
 
 -- the name of an element is none of those before it
-name_at : {A : Type 0} (name : A → List ℕ) (whole front : List A) (x : A) (more : List A) → whole ≡ front ++ x ∷ more → GoodNames [] (map name whole) → IsNew (map name front) (name x) × (is_name (name x) ≡ true)
+name_at : {A : Type 0} (name : A → List ℕ) (whole front : List A) (x : A) (more : List A) → whole ≡ front ++ x ∷ more → GoodNames [] (map name whole)
+    → IsNew (map name front) (name x) × (is_name (name x) ≡ true)
 name_at name whole front x more e good =
     good_at [] (map name front) (name x) (map name more) (subst (λ (ns : List (List ℕ)). GoodNames [] ns) (ap (map name) e ∙ map-append name front (x ∷ more)) good)
 
@@ -164,7 +171,8 @@ place_below whole front x more e =
     let parts : length (front ++ x ∷ more) ≡ length front + suc (length more) = length-append front (x ∷ more) in
     omega arith
 
-queue_taken : (D : ScenarioContents) (l : WrittenLine) (lines : List WrittenLine) (S : ScenarioContents) (said : List (List ℕ)) → Good S → Says l said → SameHead D S → (q : QueueDecl) (more : List QueueDecl) → S.queues ≡ D.queues ++ q ∷ more
+queue_taken : (D : ScenarioContents) (l : WrittenLine) (lines : List WrittenLine) (S : ScenarioContents) (said : List (List ℕ)) → Good S → Says l said → SameHead D S
+    → (q : QueueDecl) (more : List QueueDecl) → S.queues ≡ D.queues ++ q ∷ more
     → l ∷ lines ≡ rest_lines S (q ∷ more) S.works S.works S.actors → TakenOn (Queues D) said lines S
 unfolding step
 queue_taken D l lines S said good says head q more queues e =
@@ -196,9 +204,11 @@ record WorkTaken (D : ScenarioContents) (x : WorkContents) (said : List (List �
   whole : said ≡ codes "work" ∷ rest
   taken : (work_at_line D rest >>= add_work D) ≡ Ok (Works (with_work D (bare x)))
 
-work_taken : (D S : ScenarioContents) (front : List WorkContents) (x : WorkContents) (more : List WorkContents) (said : List (List ℕ)) → Good S → S.queues ≡ D.queues → S.works ≡ front ++ x ∷ more → D.works ≡ map bare front → Says (work_line S x) said → WorkTaken D x said
+work_taken : (D S : ScenarioContents) (front : List WorkContents) (x : WorkContents) (more : List WorkContents) (said : List (List ℕ)) → Good S → S.queues ≡ D.queues
+    → S.works ≡ front ++ x ∷ more → D.works ≡ map bare front → Says (work_line S x) said → WorkTaken D x said
 work_taken D S front x more said good queues works declared says =
-    let named : IsNew (map (λ (w : WorkContents). w.name) front) x.name × (is_name x.name ≡ true) = name_at (λ (w : WorkContents). w.name) S.works front x more works good.work_names in
+    let named : IsNew (map (λ (w : WorkContents). w.name) front) x.name × (is_name x.name ≡ true) =
+    name_at (λ (w : WorkContents). w.name) S.works front x more works good.work_names in
     let names : map (λ (w : WorkContents). w.name) front ≡ work_names D = sym (names_of_bare front) ∙ ap (map (λ (w : WorkContents). w.name)) (sym declared) in
     let new : IsNew (work_names D) x.name = subst (λ (ns : List (List ℕ)). IsNew ns x.name) names named.0 in
     let on : on_queue_of (length S.queues) x ≡ true = test_at (on_queue_of (length S.queues)) S.works front x more works good.works in
@@ -214,7 +224,8 @@ work_taken D S front x more said good queues works declared says =
       taken = bind_at (work_at_line D again.0) (add_work D) (bare x) again.2 ∙ work_adds D (bare x) (omega arith);
     }
 
-first_work_taken : (D : ScenarioContents) (l : WrittenLine) (lines : List WrittenLine) (S : ScenarioContents) (said : List (List ℕ)) → SoundQueues D → Good S → Says l said → SameHead D S → S.queues ≡ D.queues → (x : WorkContents) (more : List WorkContents) → S.works ≡ x ∷ more
+first_work_taken : (D : ScenarioContents) (l : WrittenLine) (lines : List WrittenLine) (S : ScenarioContents) (said : List (List ℕ)) → SoundQueues D → Good S
+    → Says l said → SameHead D S → S.queues ≡ D.queues → (x : WorkContents) (more : List WorkContents) → S.works ≡ x ∷ more
     → l ∷ lines ≡ rest_lines S [] (x ∷ more) S.works S.actors → TakenOn (Queues D) said lines S
 unfolding step
 first_work_taken D l lines S said sound good says head queues x more works e =
@@ -237,7 +248,8 @@ first_work_taken D l lines S said sound good says head queues x more works e =
       };
     }
 
-next_work_taken : (D : ScenarioContents) (l : WrittenLine) (lines : List WrittenLine) (S : ScenarioContents) (said : List (List ℕ)) → Good S → Says l said → SameHead D S → S.queues ≡ D.queues → (front : List WorkContents) (x : WorkContents) (more : List WorkContents) → S.works ≡ front ++ x ∷ more → D.works ≡ map bare front
+next_work_taken : (D : ScenarioContents) (l : WrittenLine) (lines : List WrittenLine) (S : ScenarioContents) (said : List (List ℕ)) → Good S → Says l said → SameHead D S
+    → S.queues ≡ D.queues → (front : List WorkContents) (x : WorkContents) (more : List WorkContents) → S.works ≡ front ++ x ∷ more → D.works ≡ map bare front
     → l ∷ lines ≡ rest_lines S [] (x ∷ more) S.works S.actors → TakenOn (Works D) said lines S
 unfolding step
 next_work_taken D l lines S said good says head queues front x more works declared e =
@@ -270,7 +282,8 @@ record BodyTaken (D : ScenarioContents) (done : List WorkContents) (l : WrittenL
   opens : open_body D done (x.name ∷ []) ≡ Ok (Body D done [])
   left : BodyLeft D done [] lines S
 
-body_taken : (D : ScenarioContents) (done : List WorkContents) (l : WrittenLine) (lines : List WrittenLine) (S : ScenarioContents) (said : List (List ℕ)) → Good S → Says l said → SameHead D S → S.queues ≡ D.queues → (x : WorkContents) (more : List WorkContents) → S.works ≡ done ++ x ∷ more → D.works ≡ map bare S.works
+body_taken : (D : ScenarioContents) (done : List WorkContents) (l : WrittenLine) (lines : List WrittenLine) (S : ScenarioContents) (said : List (List ℕ)) → Good S
+    → Says l said → SameHead D S → S.queues ≡ D.queues → (x : WorkContents) (more : List WorkContents) → S.works ≡ done ++ x ∷ more → D.works ≡ map bare S.works
     → l ∷ lines ≡ rest_lines S [] [] (x ∷ more) S.actors → BodyTaken D done l lines S said x
 body_taken D done l lines S said good says head queues x more works declared e =
     let after = flat_map (body_lines S) more in
@@ -291,18 +304,21 @@ body_taken D done l lines S said good says head queues x more works declared e =
         works = works;
         body = refl;
         declared = declared;
-        said = same_tail l (Words (codes "body" ∷ x.name ∷ [])) lines ((map (op_line S) x.body ++ after) ++ actors) e ∙ append_assoc (map (op_line S) x.body) after actors;
+        said = same_tail l (Words (codes "body" ∷ x.name ∷ [])) lines ((map (op_line S) x.body ++ after) ++ actors) e
+            ∙ append_assoc (map (op_line S) x.body) after actors;
       };
     }
 
-first_body_taken : (D : ScenarioContents) (l : WrittenLine) (lines : List WrittenLine) (S : ScenarioContents) (said : List (List ℕ)) → Good S → Says l said → SameHead D S → S.queues ≡ D.queues → (x : WorkContents) (more : List WorkContents) → S.works ≡ x ∷ more → D.works ≡ map bare S.works
+first_body_taken : (D : ScenarioContents) (l : WrittenLine) (lines : List WrittenLine) (S : ScenarioContents) (said : List (List ℕ)) → Good S → Says l said → SameHead D S
+    → S.queues ≡ D.queues → (x : WorkContents) (more : List WorkContents) → S.works ≡ x ∷ more → D.works ≡ map bare S.works
     → l ∷ lines ≡ rest_lines S [] [] (x ∷ more) S.actors → TakenOn (Works D) said lines S
 unfolding step
 first_body_taken D l lines S said good says head queues x more works declared e =
     let taken : BodyTaken D [] l lines S said x = body_taken D [] l lines S said good says head queues x more works declared e in
     record { word = codes "body"; rest = x.name ∷ []; whole = taken.whole; next = Body D [] []; taken = taken.opens; continues = taken.left }
 
-not_all : (D : ScenarioContents) (done : List WorkContents) (S : ScenarioContents) (x : WorkContents) (more : List WorkContents) → S.works ≡ done ++ x ∷ more → D.works ≡ map bare S.works → all_have_bodies D done ≡ false
+not_all : (D : ScenarioContents) (done : List WorkContents) (S : ScenarioContents) (x : WorkContents) (more : List WorkContents) → S.works ≡ done ++ x ∷ more
+    → D.works ≡ map bare S.works → all_have_bodies D done ≡ false
 not_all D done S x more works declared =
     let below : length done < length S.works = place_below S.works done x more works in
     let size : length D.works ≡ length S.works = ap length declared ∙ length-map S.works bare in
@@ -311,7 +327,8 @@ not_all D done S x more works declared =
     apart : (n m : ℕ) → n < m → eqb n m ≡ false
     apart n m h = grind (arith, nat_tests)
 
-next_body_taken : (D : ScenarioContents) (done : List WorkContents) (l : WrittenLine) (lines : List WrittenLine) (S : ScenarioContents) (said : List (List ℕ)) → Good S → Says l said → SameHead D S → S.queues ≡ D.queues → (x : WorkContents) (more : List WorkContents) → S.works ≡ done ++ x ∷ more → D.works ≡ map bare S.works
+next_body_taken : (D : ScenarioContents) (done : List WorkContents) (l : WrittenLine) (lines : List WrittenLine) (S : ScenarioContents) (said : List (List ℕ)) → Good S
+    → Says l said → SameHead D S → S.queues ≡ D.queues → (x : WorkContents) (more : List WorkContents) → S.works ≡ done ++ x ∷ more → D.works ≡ map bare S.works
     → l ∷ lines ≡ rest_lines S [] [] (x ∷ more) S.actors → TakenOn (Bodies D done) said lines S
 unfolding step
 next_body_taken D done l lines S said good says head queues x more works declared e =
@@ -360,7 +377,8 @@ ends_there (x ∷ xs) rest (y ∷ ys) none e =
     let here : (not (is_finish y) ≡ true) × (list_all (λ o. not (is_finish o)) ys ≡ true) = and_true (not (is_finish y)) (list_all (λ o. not (is_finish o)) ys) none in
     ends_there xs rest ys here.1 (same_tail x y (xs ++ op.Finish ∷ rest) (ys ++ op.Finish ∷ []) e)
 
-pub body_of : (S : ScenarioContents) (done : List WorkContents) (x : WorkContents) (more : List WorkContents) → Good S → S.works ≡ done ++ x ∷ more → GoodBody S.cpus (length S.works) x.body
+pub body_of : (S : ScenarioContents) (done : List WorkContents) (x : WorkContents) (more : List WorkContents) → Good S → S.works ≡ done ++ x ∷ more
+    → GoodBody S.cpus (length S.works) x.body
 body_of S done x more good works =
     bodies_at (GoodBodyOf S.cpus (length S.works)) done more x (subst (λ (ws : List WorkContents). AllByRecursion (GoodBodyOf S.cpus (length S.works)) ws) works good.bodies)
 
@@ -370,7 +388,8 @@ finish_op (op.Sleep ticks) e = cc
 finish_op (op.Queue work cpu) e = cc
 finish_op op.Finish e = refl
 
-op_taken : (D : ScenarioContents) (done : List WorkContents) (ops : List Op) (l : WrittenLine) (lines : List WrittenLine) (S : ScenarioContents) (said : List (List ℕ)) → SoundBody D done ops → Good S → Says l said → SameHead D S → S.queues ≡ D.queues
+op_taken : (D : ScenarioContents) (done : List WorkContents) (ops : List Op) (l : WrittenLine) (lines : List WrittenLine) (S : ScenarioContents) (said : List (List ℕ))
+    → SoundBody D done ops → Good S → Says l said → SameHead D S → S.queues ≡ D.queues
     → (x : WorkContents) (o : Op) (left : List Op) (more : List WorkContents) → S.works ≡ done ++ x ∷ more → x.body ≡ ops ++ o ∷ left → D.works ≡ map bare S.works
     → l ∷ lines ≡ map (op_line S) (o ∷ left) ++ rest_lines S [] [] more S.actors → TakenOn (Body D done ops) said lines S
 unfolding step
@@ -385,7 +404,8 @@ op_taken D done ops l lines S said sound good says head queues x o left more wor
     let test = good_op S.cpus (length S.works) in
     let all : list_all test (body.ops ++ op.Finish ∷ []) ≡ true = all_join test body.ops (op.Finish ∷ []) body.good refl in
     let passes : test o ≡ true = test_at test (body.ops ++ op.Finish ∷ []) ops o left (sym whole) all in
-    let passes_here : good_op D.cpus (length D.works) o ≡ true = ap (λ (n : ℕ). good_op n (length D.works) o) head.cpus ∙ ap (λ (n : ℕ). good_op S.cpus n o) size ∙ passes in
+    let passes_here : good_op D.cpus (length D.works) o ≡ true =
+    ap (λ (n : ℕ). good_op n (length D.works) o) head.cpus ∙ ap (λ (n : ℕ). good_op S.cpus n o) size ∙ passes in
     let cpus : S.cpus ≤ 16 = few_cpus S.cpus good.cpus in
     let few : D.cpus ≤ 16 = subst (λ (n : ℕ). n ≤ 16) (sym head.cpus) cpus in
     let read = op_again D o said names few passes_here (says_as l (op_line D o) said (here ∙ sym (same_op_line D S o (same_work_names D S declared))) says) in
@@ -450,7 +470,8 @@ op_taken D done ops l lines S said sound good says head queues x o left more wor
 
 -- Actors.
 
-actor_at : (D S : ScenarioContents) (name : List ℕ) (lines : List Line) (more : List ActorContents) → Good S → S.actors ≡ D.actors ++ record { name = name; lines = lines } ∷ more → open_actor D (name ∷ []) ≡ Ok (Actor D name [])
+actor_at : (D S : ScenarioContents) (name : List ℕ) (lines : List Line) (more : List ActorContents) → Good S
+    → S.actors ≡ D.actors ++ record { name = name; lines = lines } ∷ more → open_actor D (name ∷ []) ≡ Ok (Actor D name [])
 actor_at D S name lines more good actors =
     let a : ActorContents = record { name = name; lines = lines } in
     let named : IsNew (actor_names D) name × (is_name name ≡ true) = name_at (λ (x : ActorContents). x.name) S.actors D.actors a more actors good.actor_names in
@@ -458,13 +479,15 @@ actor_at D S name lines more good actors =
     let few : length S.actors ≤ MAX_ACTORS = good.few_actors in
     actor_opens D name named.1 named.0 (omega arith)
 
-actor_words : (l : WrittenLine) (lines : List WrittenLine) (S : ScenarioContents) (a : ActorContents) (more : List ActorContents) → l ∷ lines ≡ rest_lines S [] [] [] (a ∷ more) → (l ≡ Words (codes "actor" ∷ a.name ∷ [])) × (lines ≡ map (actor_line S) a.lines ++ rest_lines S [] [] [] more)
+actor_words : (l : WrittenLine) (lines : List WrittenLine) (S : ScenarioContents) (a : ActorContents) (more : List ActorContents)
+    → l ∷ lines ≡ rest_lines S [] [] [] (a ∷ more) → (l ≡ Words (codes "actor" ∷ a.name ∷ [])) × (lines ≡ map (actor_line S) a.lines ++ rest_lines S [] [] [] more)
 actor_words l lines S a more e = (
   same_head l (Words (codes "actor" ∷ a.name ∷ [])) lines (map (actor_line S) a.lines ++ rest_lines S [] [] [] more) e,
   same_tail l (Words (codes "actor" ∷ a.name ∷ [])) lines (map (actor_line S) a.lines ++ rest_lines S [] [] [] more) e,
 )
 
-first_actor_taken : (D : ScenarioContents) (l : WrittenLine) (lines : List WrittenLine) (S : ScenarioContents) (said : List (List ℕ)) → SoundQueues D → Good S → Says l said → SameHead D S → S.queues ≡ D.queues → S.works ≡ [] → (a : ActorContents) (more : List ActorContents) → S.actors ≡ a ∷ more
+first_actor_taken : (D : ScenarioContents) (l : WrittenLine) (lines : List WrittenLine) (S : ScenarioContents) (said : List (List ℕ)) → SoundQueues D → Good S
+    → Says l said → SameHead D S → S.queues ≡ D.queues → S.works ≡ [] → (a : ActorContents) (more : List ActorContents) → S.actors ≡ a ∷ more
     → l ∷ lines ≡ rest_lines S [] [] [] (a ∷ more) → TakenOn (Queues D) said lines S
 unfolding step
 first_actor_taken D l lines S said sound good says head queues works a more actors e =
@@ -479,7 +502,8 @@ first_actor_taken D l lines S said sound good says head queues works a more acto
       continues = record { head = head; queues = queues; works = works ∙ sym sound.no_works; left = a.lines; more = more; actors = after; said = told.1 };
     }
 
-actor_after_bodies_taken : (D : ScenarioContents) (done : List WorkContents) (l : WrittenLine) (lines : List WrittenLine) (S : ScenarioContents) (said : List (List ℕ)) → SoundBodies D done → Good S → Says l said → SameHead D S → S.queues ≡ D.queues → S.works ≡ done → D.works ≡ map bare S.works
+actor_after_bodies_taken : (D : ScenarioContents) (done : List WorkContents) (l : WrittenLine) (lines : List WrittenLine) (S : ScenarioContents) (said : List (List ℕ))
+    → SoundBodies D done → Good S → Says l said → SameHead D S → S.queues ≡ D.queues → S.works ≡ done → D.works ≡ map bare S.works
     → (a : ActorContents) (more : List ActorContents) → S.actors ≡ a ∷ more → l ∷ lines ≡ rest_lines S [] [] [] (a ∷ more) → TakenOn (Bodies D done) said lines S
 unfolding step
 actor_after_bodies_taken D done l lines S said sound good says head queues works declared a more actors e =
@@ -507,7 +531,8 @@ actor_after_bodies_taken D done l lines S said sound good says head queues works
     same : (n m : ℕ) → n ≡ m → eqb n m ≡ true
     same n m h = grind (arith, nat_tests)
 
-next_actor_taken : (D : ScenarioContents) (name : List ℕ) (given : List Line) (l : WrittenLine) (lines : List WrittenLine) (S : ScenarioContents) (said : List (List ℕ)) → Good S → Says l said → SameHead D S → S.queues ≡ D.queues → S.works ≡ D.works
+next_actor_taken : (D : ScenarioContents) (name : List ℕ) (given : List Line) (l : WrittenLine) (lines : List WrittenLine) (S : ScenarioContents) (said : List (List ℕ))
+    → Good S → Says l said → SameHead D S → S.queues ≡ D.queues → S.works ≡ D.works
     → (a : ActorContents) (more : List ActorContents) → S.actors ≡ D.actors ++ record { name = name; lines = given } ∷ a ∷ more → l ∷ lines ≡ rest_lines S [] [] [] (a ∷ more) → TakenOn (Actor D name given) said lines S
 unfolding step
 next_actor_taken D name given l lines S said good says head queues works a more actors e =
@@ -536,7 +561,8 @@ same_good_line D S line queues works =
     ap (λ (qs : List QueueDecl). good_line (record S { queues = qs }) line) queues
     ∙ ap (λ (ws : List WorkContents). good_line (record S { queues = D.queues; works = ws }) line) works
 
-line_taken : (D : ScenarioContents) (name : List ℕ) (given : List Line) (l : WrittenLine) (lines : List WrittenLine) (S : ScenarioContents) (said : List (List ℕ)) → Good S → Says l said → SameHead D S → S.queues ≡ D.queues → S.works ≡ D.works
+line_taken : (D : ScenarioContents) (name : List ℕ) (given : List Line) (l : WrittenLine) (lines : List WrittenLine) (S : ScenarioContents) (said : List (List ℕ))
+    → Good S → Says l said → SameHead D S → S.queues ≡ D.queues → S.works ≡ D.works
     → (line : Line) (left : List Line) (more : List ActorContents) → S.actors ≡ D.actors ++ record { name = name; lines = given ++ line ∷ left } ∷ more
     → l ∷ lines ≡ map (actor_line S) (line ∷ left) ++ rest_lines S [] [] [] more → TakenOn (Actor D name given) said lines S
 unfolding step
@@ -549,7 +575,8 @@ line_taken D name given l lines S said good says head queues works line left mor
     let is_good : good_line S line ≡ true = test_at (good_line S) (given ++ line ∷ left) given line left refl both.1 in
     let good_here : good_line D line ≡ true = sym (same_good_line D S line queues works) ∙ is_good in
     let names : GoodNames [] (work_names D) = subst (λ (ws : List WorkContents). GoodNames [] (map (λ (w : WorkContents). w.name) ws)) works good.work_names in
-    let read = line_again D line said names (queue_names_of D S good queues) good_here (says_as l (actor_line D line) said (here ∙ sym (same_actor_line D S line queues works)) says) in
+    let read =
+    line_again D line said names (queue_names_of D S good queues) good_here (says_as l (actor_line D line) said (here ∙ sym (same_actor_line D S line queues works)) says) in
     let parts : length (given ++ line ∷ left) ≡ length given + suc (length left) = length-append given (line ∷ left) in
     let few : length (given ++ line ∷ left) ≤ MAX_LINES = at_most (length (given ++ line ∷ left)) MAX_LINES both.0 in
     record {
@@ -579,7 +606,8 @@ line_taken D name given l lines S said good says head queues works line left mor
 no_line : {A : Type 0} (l : WrittenLine) (lines : List WrittenLine) → l ∷ lines ≡ [] → A
 no_line l lines e = cc
 
-queues_go_on : (D : ScenarioContents) (l : WrittenLine) (lines : List WrittenLine) (S : ScenarioContents) (said : List (List ℕ)) → SoundQueues D → Good S → Says l said → SameHead D S
+queues_go_on : (D : ScenarioContents) (l : WrittenLine) (lines : List WrittenLine) (S : ScenarioContents) (said : List (List ℕ)) → SoundQueues D → Good S → Says l said
+    → SameHead D S
     → (more : List QueueDecl) (works : List WorkContents) (actors : List ActorContents) → S.queues ≡ D.queues ++ more → S.works ≡ works → S.actors ≡ actors
     → l ∷ lines ≡ rest_lines S more works works actors → TakenOn (Queues D) said lines S
 queues_go_on D l lines S said sound good says head (q ∷ more) works actors e f g h =
@@ -592,7 +620,8 @@ queues_go_on D l lines S said sound good says head [] [] (a ∷ actors) e f g h 
     first_actor_taken D l lines S said sound good says head (e ∙ append-nil D.queues) f a actors g h
 queues_go_on D l lines S said sound good says head [] [] [] e f g h = no_line l lines h
 
-works_go_on : (D : ScenarioContents) (l : WrittenLine) (lines : List WrittenLine) (S : ScenarioContents) (said : List (List ℕ)) → SoundWorks D → Good S → Says l said → SameHead D S → S.queues ≡ D.queues
+works_go_on : (D : ScenarioContents) (l : WrittenLine) (lines : List WrittenLine) (S : ScenarioContents) (said : List (List ℕ)) → SoundWorks D → Good S → Says l said
+    → SameHead D S → S.queues ≡ D.queues
     → (front more works : List WorkContents) → S.works ≡ front ++ more → D.works ≡ map bare front → S.works ≡ works → l ∷ lines ≡ rest_lines S [] more works S.actors → TakenOn (Works D) said lines S
 works_go_on D l lines S said sound good says head queues front (x ∷ more) works e f g h =
     next_work_taken D l lines S said good says head queues front x more e f (h ∙ ap (λ (ws : List WorkContents). rest_lines S [] (x ∷ more) ws S.actors) (sym g))
@@ -604,7 +633,8 @@ works_go_on D l lines S said sound good says head queues front [] [] e f g h =
     let all : length S.works ≡ length front = ap length (e ∙ append-nil front) in
     absurd (omega (arith, sound.some))
 
-bodies_go_on : (D : ScenarioContents) (done : List WorkContents) (l : WrittenLine) (lines : List WrittenLine) (S : ScenarioContents) (said : List (List ℕ)) → SoundBodies D done → Good S → Says l said → SameHead D S → S.queues ≡ D.queues
+bodies_go_on : (D : ScenarioContents) (done : List WorkContents) (l : WrittenLine) (lines : List WrittenLine) (S : ScenarioContents) (said : List (List ℕ))
+    → SoundBodies D done → Good S → Says l said → SameHead D S → S.queues ≡ D.queues
     → (more : List WorkContents) (actors : List ActorContents) → S.works ≡ done ++ more → D.works ≡ map bare S.works → S.actors ≡ actors → l ∷ lines ≡ rest_lines S [] [] more actors → TakenOn (Bodies D done) said lines S
 bodies_go_on D done l lines S said sound good says head queues (x ∷ more) actors e f g h =
     next_body_taken D done l lines S said good says head queues x more e f (h ∙ ap (λ (as_ : List ActorContents). rest_lines S [] [] (x ∷ more) as_) (sym g))
@@ -612,7 +642,8 @@ bodies_go_on D done l lines S said sound good says head queues [] (a ∷ actors)
     actor_after_bodies_taken D done l lines S said sound good says head queues (e ∙ append-nil done) f a actors g h
 bodies_go_on D done l lines S said sound good says head queues [] [] e f g h = no_line l lines h
 
-body_goes_on : (D : ScenarioContents) (done : List WorkContents) (ops : List Op) (l : WrittenLine) (lines : List WrittenLine) (S : ScenarioContents) (said : List (List ℕ)) → SoundBody D done ops → Good S → Says l said → SameHead D S → S.queues ≡ D.queues
+body_goes_on : (D : ScenarioContents) (done : List WorkContents) (ops : List Op) (l : WrittenLine) (lines : List WrittenLine) (S : ScenarioContents) (said : List (List ℕ))
+    → SoundBody D done ops → Good S → Says l said → SameHead D S → S.queues ≡ D.queues
     → (x : WorkContents) (left : List Op) (more : List WorkContents) → S.works ≡ done ++ x ∷ more → x.body ≡ ops ++ left → D.works ≡ map bare S.works
     → l ∷ lines ≡ map (op_line S) left ++ rest_lines S [] [] more S.actors → TakenOn (Body D done ops) said lines S
 body_goes_on D done ops l lines S said sound good says head queues x (o ∷ left) more e f g h =
@@ -624,7 +655,8 @@ body_goes_on D done ops l lines S said sound good says head queues x [] more e f
     let whole : length x.body ≡ length body.ops + 1 = ap length body.whole ∙ length-append body.ops (op.Finish ∷ []) in
     absurd (omega arith)
 
-actor_goes_on : (D : ScenarioContents) (name : List ℕ) (given : List Line) (l : WrittenLine) (lines : List WrittenLine) (S : ScenarioContents) (said : List (List ℕ)) → Good S → Says l said → SameHead D S → S.queues ≡ D.queues → S.works ≡ D.works
+actor_goes_on : (D : ScenarioContents) (name : List ℕ) (given : List Line) (l : WrittenLine) (lines : List WrittenLine) (S : ScenarioContents) (said : List (List ℕ))
+    → Good S → Says l said → SameHead D S → S.queues ≡ D.queues → S.works ≡ D.works
     → (left : List Line) (more : List ActorContents) → S.actors ≡ D.actors ++ record { name = name; lines = given ++ left } ∷ more
     → l ∷ lines ≡ map (actor_line S) left ++ rest_lines S [] [] [] more → TakenOn (Actor D name given) said lines S
 actor_goes_on D name given l lines S said good says head queues works (line ∷ left) more e h =
@@ -634,7 +666,8 @@ actor_goes_on D name given l lines S said good says head queues works [] (a ∷ 
     (e ∙ ap (λ (ls : List Line). D.actors ++ record { name = name; lines = ls } ∷ a ∷ more) (append-nil given)) h
 actor_goes_on D name given l lines S said good says head queues works [] [] e h = no_line l lines h
 
-pub step_said : (stage : Stage) (l : WrittenLine) (lines : List WrittenLine) (S : ScenarioContents) (said : List (List ℕ)) → Sound stage → Good S → Continues stage (l ∷ lines) S → Says l said → TakenOn stage said lines S
+pub step_said : (stage : Stage) (l : WrittenLine) (lines : List WrittenLine) (S : ScenarioContents) (said : List (List ℕ)) → Sound stage → Good S
+    → Continues stage (l ∷ lines) S → Says l said → TakenOn stage said lines S
 step_said Start l lines S said sound good left says = cpus_taken l lines S said good left says
 step_said (Cpus cpus) l lines S said sound good left says = workers_taken cpus l lines S said good left says
 step_said (Workers cpus workers) l lines S said sound good left says = steps_taken cpus workers l lines S said good left says
