@@ -211,14 +211,22 @@ word_if_fits false k word w = words_within (k + 1) no_words (omega arith)
 
 flags_fit : (f : Flags) → WordsFit 48 (flag_words f)
 flags_fit f =
-    words_within 48 (words_on (words_on (words_on (words_on (word_if_fits f.highpri 7 (codes "highpri") (record { plain = refl; short = omega arith })) (word_if_fits f.unbound 7 (codes "unbound") (record { plain = refl; short = omega arith }))) (word_if_fits f.cpu_intensive 13 (codes "cpu_intensive") (record { plain = refl; short = omega arith }))) (word_if_fits f.freezable 9 (codes "freezable") (record { plain = refl; short = omega arith }))) (word_if_fits f.ordered 7 (codes "ordered") (record { plain = refl; short = omega arith }))) (omega arith)
+    let highpri = word_if_fits f.highpri 7 (codes "highpri") (literal 7 (codes "highpri") refl (omega arith)) in
+    let unbound = word_if_fits f.unbound 7 (codes "unbound") (literal 7 (codes "unbound") refl (omega arith)) in
+    let intensive = word_if_fits f.cpu_intensive 13 (codes "cpu_intensive") (literal 13 (codes "cpu_intensive") refl (omega arith)) in
+    let freezable = word_if_fits f.freezable 9 (codes "freezable") (literal 9 (codes "freezable") refl (omega arith)) in
+    let ordered = word_if_fits f.ordered 7 (codes "ordered") (literal 7 (codes "ordered") refl (omega arith)) in
+    words_within 48 (words_on (words_on (words_on (words_on highpri unbound) intensive) freezable) ordered) (omega arith)
 
 queue_fits : (q : QueueDecl) → is_name q.name ≡ true → fits_flags q ≡ true → LineFits 78 (queue_line q)
 queue_fits q named fits =
     let parts : (within 1 MAX_MAX_ACTIVE q.max ≡ true) × (cond q.flags.ordered (eqb q.max 1) true ≡ true) =
     and_true (within 1 MAX_MAX_ACTIVE q.max) (cond q.flags.ordered (eqb q.max 1) true) fits in
     let bounds : (1 ≤ q.max) × (q.max ≤ MAX_MAX_ACTIVE) = within_fits 1 MAX_MAX_ACTIVE q.max parts.0 in
-    line_fits 78 (queue_line q) refl (word_on (literal 5 (codes "queue") refl (omega arith)) (word_on (name_fits q.name named) (word_on (literal 3 (codes "max") refl (omega arith)) (word_on (number_fits 3 q.max (omega arith) (omega arith) (omega arith)) (flags_fit q.flags))))) (omega arith)
+    line_fits 78 (queue_line q) refl (word_on (literal 5 (codes "queue") refl (omega arith))
+    (word_on (name_fits q.name named)
+    (word_on (literal 3 (codes "max") refl (omega arith))
+    (word_on (number_fits 3 q.max (omega arith) (omega arith) (omega arith)) (flags_fit q.flags))))) (omega arith)
 
 queues_fit : (before : List (List ℕ)) (queues : List QueueDecl) → GoodNames before (map (λ (q : QueueDecl). q.name) queues) → list_all fits_flags queues ≡ true
     → LinesFit (length queues * 78) (map queue_line queues)
@@ -249,7 +257,9 @@ work_name S i good h =
 work_fits : (S : ScenarioContents) (w : WorkContents) → GoodNames [] (queue_names S) → is_name w.name ≡ true → ltb w.queue.0 (length S.queues) ≡ true
     → LineFits 37 (work_line S w)
 work_fits S w queues named on =
-    line_fits 37 (work_line S w) refl (word_on (literal 4 (codes "work") refl (omega arith)) (word_on (name_fits w.name named) (word_on (queue_name S w.queue.0 queues on) no_words))) (omega arith)
+    line_fits 37 (work_line S w) refl (word_on (literal 4 (codes "work") refl (omega arith))
+    (word_on (name_fits w.name named)
+    (word_on (queue_name S w.queue.0 queues on) no_words))) (omega arith)
 
 works_fit : (S : ScenarioContents) (before : List (List ℕ)) (works : List WorkContents) → GoodNames [] (queue_names S)
     → GoodNames before (map (λ (w : WorkContents). w.name) works) → list_all (on_queue_of (length S.queues)) works ≡ true
@@ -265,14 +275,18 @@ works_fit S before (w ∷ works) queues names on =
 op_fits : (S : ScenarioContents) (o : Op) → GoodNames [] (work_names S) → S.cpus ≤ 16 → good_op S.cpus (length S.works) o ≡ true → LineFits 25 (op_line S o)
 op_fits S (op.Burn ticks) names few good =
     let bounds : (1 ≤ ticks) × (ticks ≤ MAX_TICKS) = within_fits 1 MAX_TICKS ticks good in
-    line_fits 25 (op_line S (op.Burn ticks)) refl (word_on (literal 4 (codes "burn") refl (omega arith)) (word_on (number_fits 7 ticks (omega arith) (omega arith) (omega arith)) no_words)) (omega arith)
+    line_fits 25 (op_line S (op.Burn ticks)) refl (word_on (literal 4 (codes "burn") refl (omega arith))
+    (word_on (number_fits 7 ticks (omega arith) (omega arith) (omega arith)) no_words)) (omega arith)
 op_fits S (op.Sleep ticks) names few good =
     let bounds : (1 ≤ ticks) × (ticks ≤ MAX_TICKS) = within_fits 1 MAX_TICKS ticks good in
-    line_fits 25 (op_line S (op.Sleep ticks)) refl (word_on (literal 5 (codes "sleep") refl (omega arith)) (word_on (number_fits 7 ticks (omega arith) (omega arith) (omega arith)) no_words)) (omega arith)
+    line_fits 25 (op_line S (op.Sleep ticks)) refl (word_on (literal 5 (codes "sleep") refl (omega arith))
+    (word_on (number_fits 7 ticks (omega arith) (omega arith) (omega arith)) no_words)) (omega arith)
 op_fits S (op.Queue work cpu) names few good =
     let tests : (ltb work.0 (length S.works) ≡ true) × (ltb cpu S.cpus ≡ true) = and_true (ltb work.0 (length S.works)) (ltb cpu S.cpus) good in
     let small : cpu < S.cpus = below cpu S.cpus tests.1 in
-    line_fits 25 (op_line S (op.Queue work cpu)) refl (word_on (literal 5 (codes "queue") refl (omega arith)) (word_on (work_name S work.0 names tests.0) (word_on (number_fits 2 cpu (omega arith) (omega arith) (omega arith)) no_words))) (omega arith)
+    line_fits 25 (op_line S (op.Queue work cpu)) refl (word_on (literal 5 (codes "queue") refl (omega arith))
+    (word_on (work_name S work.0 names tests.0)
+    (word_on (number_fits 2 cpu (omega arith) (omega arith) (omega arith)) no_words))) (omega arith)
 op_fits S op.Finish names few good =
     line_fits 25 (op_line S op.Finish) refl (word_on (literal 6 (codes "finish") refl (omega arith)) no_words) (omega arith)
 
@@ -328,54 +342,67 @@ record InstrFits (words : List (List ℕ)) : Type 0 where
   whole : words ≡ first ∷ others
   fits : WordsFit 37 (first ∷ others)
 
+instr_of : {m : ℕ} {first : List ℕ} {others : List (List ℕ)} → WordsFit m (first ∷ others) → m ≤ 37 → InstrFits (first ∷ others)
+instr_of {first = first} {others = others} fits h = record { first = first; others = others; whole = refl; fits = words_within 37 fits h }
+
 instr_fits_line : (S : ScenarioContents) (i : Instr) → GoodNames [] (work_names S) → GoodNames [] (queue_names S) → names_declared S i ≡ true → instr_fits i ≡ true
     → InstrFits (instr_words S i)
 instr_fits_line S (instr.Queue work cpu) works queues named fits =
     let small : cpu ≤ 255 = at_most cpu 255 fits in
-    record { first = codes "queue"; others = (work_at S work.0).name ∷ decimal cpu ∷ []; whole = refl; fits = words_within 37 (word_on (literal 5 (codes "queue") refl (omega arith)) (word_on (work_name S work.0 works named) (word_on (number_fits 3 cpu (omega arith) (omega arith) (omega arith)) no_words))) (omega arith) }
+    instr_of (word_on (literal 5 (codes "queue") refl (omega arith))
+    (word_on (work_name S work.0 works named)
+    (word_on (number_fits 3 cpu (omega arith) (omega arith) (omega arith)) no_words))) (omega arith)
 instr_fits_line S (instr.Delay work cpu ticks) works queues named fits =
     let both : (leb cpu 255 ≡ true) × (leb ticks 4294967295 ≡ true) = and_true (leb cpu 255) (leb ticks 4294967295) fits in
     let small : cpu ≤ 255 = at_most cpu 255 both.0 in
     let wide : ticks ≤ 4294967295 = at_most ticks 4294967295 both.1 in
-    record { first = codes "delay"; others = (work_at S work.0).name ∷ decimal cpu ∷ decimal ticks ∷ []; whole = refl; fits = words_within 37 (word_on (literal 5 (codes "delay") refl (omega arith)) (word_on (work_name S work.0 works named) (word_on (number_fits 3 cpu (omega arith) (omega arith) (omega arith)) (word_on (number_fits 10 ticks (omega arith) (omega arith) (omega arith)) no_words)))) (omega arith) }
+    instr_of (word_on (literal 5 (codes "delay") refl (omega arith))
+    (word_on (work_name S work.0 works named)
+    (word_on (number_fits 3 cpu (omega arith) (omega arith) (omega arith))
+    (word_on (number_fits 10 ticks (omega arith) (omega arith) (omega arith)) no_words)))) (omega arith)
 instr_fits_line S (instr.Mod work cpu ticks) works queues named fits =
     let both : (leb cpu 255 ≡ true) × (leb ticks 4294967295 ≡ true) = and_true (leb cpu 255) (leb ticks 4294967295) fits in
     let small : cpu ≤ 255 = at_most cpu 255 both.0 in
     let wide : ticks ≤ 4294967295 = at_most ticks 4294967295 both.1 in
-    record { first = codes "mod"; others = (work_at S work.0).name ∷ decimal cpu ∷ decimal ticks ∷ []; whole = refl; fits = words_within 37 (word_on (literal 3 (codes "mod") refl (omega arith)) (word_on (work_name S work.0 works named) (word_on (number_fits 3 cpu (omega arith) (omega arith) (omega arith)) (word_on (number_fits 10 ticks (omega arith) (omega arith) (omega arith)) no_words)))) (omega arith) }
+    instr_of (word_on (literal 3 (codes "mod") refl (omega arith))
+    (word_on (work_name S work.0 works named)
+    (word_on (number_fits 3 cpu (omega arith) (omega arith) (omega arith))
+    (word_on (number_fits 10 ticks (omega arith) (omega arith) (omega arith)) no_words)))) (omega arith)
 instr_fits_line S (instr.Cancel work) works queues named fits =
-    record { first = codes "cancel"; others = (work_at S work.0).name ∷ []; whole = refl; fits = words_within 37 (word_on (literal 6 (codes "cancel") refl (omega arith)) (word_on (work_name S work.0 works named) no_words)) (omega arith) }
+    instr_of (word_on (literal 6 (codes "cancel") refl (omega arith)) (word_on (work_name S work.0 works named) no_words)) (omega arith)
 instr_fits_line S (instr.CancelSync work) works queues named fits =
-    record { first = codes "cancel_sync"; others = (work_at S work.0).name ∷ []; whole = refl; fits = words_within 37 (word_on (literal 11 (codes "cancel_sync") refl (omega arith)) (word_on (work_name S work.0 works named) no_words)) (omega arith) }
+    instr_of (word_on (literal 11 (codes "cancel_sync") refl (omega arith)) (word_on (work_name S work.0 works named) no_words)) (omega arith)
 instr_fits_line S (instr.Flush work) works queues named fits =
-    record { first = codes "flush"; others = (work_at S work.0).name ∷ []; whole = refl; fits = words_within 37 (word_on (literal 5 (codes "flush") refl (omega arith)) (word_on (work_name S work.0 works named) no_words)) (omega arith) }
+    instr_of (word_on (literal 5 (codes "flush") refl (omega arith)) (word_on (work_name S work.0 works named) no_words)) (omega arith)
 instr_fits_line S (instr.FlushDelayed work) works queues named fits =
-    record { first = codes "flush_delayed"; others = (work_at S work.0).name ∷ []; whole = refl; fits = words_within 37 (word_on (literal 13 (codes "flush_delayed") refl (omega arith)) (word_on (work_name S work.0 works named) no_words)) (omega arith) }
+    instr_of (word_on (literal 13 (codes "flush_delayed") refl (omega arith)) (word_on (work_name S work.0 works named) no_words)) (omega arith)
 instr_fits_line S (instr.FlushQueue queue) works queues named fits =
-    record { first = codes "flush_queue"; others = (queue_at S queue.0).name ∷ []; whole = refl; fits = words_within 37 (word_on (literal 11 (codes "flush_queue") refl (omega arith)) (word_on (queue_name S queue.0 queues named) no_words)) (omega arith) }
+    instr_of (word_on (literal 11 (codes "flush_queue") refl (omega arith)) (word_on (queue_name S queue.0 queues named) no_words)) (omega arith)
 instr_fits_line S (instr.SetMax queue max) works queues named fits =
     let wide : max ≤ 4294967295 = at_most max 4294967295 fits in
-    record { first = codes "set_max"; others = (queue_at S queue.0).name ∷ decimal max ∷ []; whole = refl; fits = words_within 37 (word_on (literal 7 (codes "set_max") refl (omega arith)) (word_on (queue_name S queue.0 queues named) (word_on (number_fits 10 max (omega arith) (omega arith) (omega arith)) no_words))) (omega arith) }
+    instr_of (word_on (literal 7 (codes "set_max") refl (omega arith))
+    (word_on (queue_name S queue.0 queues named)
+    (word_on (number_fits 10 max (omega arith) (omega arith) (omega arith)) no_words))) (omega arith)
 instr_fits_line S instr.Freeze works queues named fits =
-    record { first = codes "freeze"; others = []; whole = refl; fits = words_within 37 (word_on (literal 6 (codes "freeze") refl (omega arith)) no_words) (omega arith) }
+    instr_of (word_on (literal 6 (codes "freeze") refl (omega arith)) no_words) (omega arith)
 instr_fits_line S instr.Thaw works queues named fits =
-    record { first = codes "thaw"; others = []; whole = refl; fits = words_within 37 (word_on (literal 4 (codes "thaw") refl (omega arith)) no_words) (omega arith) }
+    instr_of (word_on (literal 4 (codes "thaw") refl (omega arith)) no_words) (omega arith)
 instr_fits_line S instr.Fire works queues named fits =
-    record { first = codes "fire"; others = []; whole = refl; fits = words_within 37 (word_on (literal 4 (codes "fire") refl (omega arith)) no_words) (omega arith) }
+    instr_of (word_on (literal 4 (codes "fire") refl (omega arith)) no_words) (omega arith)
 instr_fits_line S (instr.Step n) works queues named fits =
     let small : n ≤ 255 = at_most n 255 fits in
-    record { first = codes "step"; others = decimal n ∷ []; whole = refl; fits = words_within 37 (word_on (literal 4 (codes "step") refl (omega arith)) (word_on (number_fits 3 n (omega arith) (omega arith) (omega arith)) no_words)) (omega arith) }
+    instr_of (word_on (literal 4 (codes "step") refl (omega arith)) (word_on (number_fits 3 n (omega arith) (omega arith) (omega arith)) no_words)) (omega arith)
 instr_fits_line S instr.Tick works queues named fits =
-    record { first = codes "tick"; others = []; whole = refl; fits = words_within 37 (word_on (literal 4 (codes "tick") refl (omega arith)) no_words) (omega arith) }
+    instr_of (word_on (literal 4 (codes "tick") refl (omega arith)) no_words) (omega arith)
 instr_fits_line S instr.Next works queues named fits =
-    record { first = codes "next"; others = []; whole = refl; fits = words_within 37 (word_on (literal 4 (codes "next") refl (omega arith)) no_words) (omega arith) }
+    instr_of (word_on (literal 4 (codes "next") refl (omega arith)) no_words) (omega arith)
 instr_fits_line S (instr.Ask n) works queues named fits =
     let small : n ≤ 65535 = at_most n 65535 fits in
-    record { first = codes "ask"; others = decimal n ∷ []; whole = refl; fits = words_within 37 (word_on (literal 3 (codes "ask") refl (omega arith)) (word_on (number_fits 5 n (omega arith) (omega arith) (omega arith)) no_words)) (omega arith) }
+    instr_of (word_on (literal 3 (codes "ask") refl (omega arith)) (word_on (number_fits 5 n (omega arith) (omega arith) (omega arith)) no_words)) (omega arith)
 instr_fits_line S instr.Busy works queues named fits =
-    record { first = codes "busy"; others = []; whole = refl; fits = words_within 37 (word_on (literal 4 (codes "busy") refl (omega arith)) no_words) (omega arith) }
+    instr_of (word_on (literal 4 (codes "busy") refl (omega arith)) no_words) (omega arith)
 instr_fits_line S (instr.State work) works queues named fits =
-    record { first = codes "state"; others = (work_at S work.0).name ∷ []; whole = refl; fits = words_within 37 (word_on (literal 5 (codes "state") refl (omega arith)) (word_on (work_name S work.0 works named) no_words)) (omega arith) }
+    instr_of (word_on (literal 5 (codes "state") refl (omega arith)) (word_on (work_name S work.0 works named) no_words)) (omega arith)
 
 line_of_actor_fits : (S : ScenarioContents) (line : Line) → GoodNames [] (work_names S) → GoodNames [] (queue_names S) → good_line S line ≡ true
     → LineFits 45 (actor_line S line)
@@ -429,8 +456,14 @@ written_fits S good =
     let rest : List WrittenLine = map queue_line S.queues ++ map (work_line S) S.works ++ flat_map (body_lines S) S.works ++ flat_map (actor_lines S) S.actors in
     let all : LinesFit (a + b + c + d) rest =
     lines_on with_bodies actors in
-    let word : (k : ℕ) (w : List ℕ) → plain_word w ≡ true → length w ≤ k → WordFits k w = λ k w p h. record { plain = p; short = h } in
-    lines_within MAX_TEXT (line_on (numbered_fits 4 (codes "cpus") S.cpus (word 4 (codes "cpus") refl (omega arith)) (omega arith)) (line_on (numbered_fits 7 (codes "workers") S.workers (word 7 (codes "workers") refl (omega arith)) (omega arith)) (line_on (numbered_fits 5 (codes "steps") S.steps (word 5 (codes "steps") refl (omega arith)) (omega arith)) (line_on (numbered_fits 7 (codes "flushes") S.flushes (word 7 (codes "flushes") refl (omega arith)) (omega arith)) all)))) (omega arith)
+    let cpus_line : LineFits 16 (numbered (codes "cpus") S.cpus) = numbered_fits 4 (codes "cpus") S.cpus (literal 4 (codes "cpus") refl (omega arith)) (omega arith) in
+    let workers_line : LineFits 19 (numbered (codes "workers") S.workers) =
+    numbered_fits 7 (codes "workers") S.workers (literal 7 (codes "workers") refl (omega arith)) (omega arith) in
+    let steps_line : LineFits 17 (numbered (codes "steps") S.steps) =
+    numbered_fits 5 (codes "steps") S.steps (literal 5 (codes "steps") refl (omega arith)) (omega arith) in
+    let flushes_line : LineFits 19 (numbered (codes "flushes") S.flushes) =
+    numbered_fits 7 (codes "flushes") S.flushes (literal 7 (codes "flushes") refl (omega arith)) (omega arith) in
+    lines_within MAX_TEXT (line_on cpus_line (line_on workers_line (line_on steps_line (line_on flushes_line all)))) (omega arith)
 
 pub listing_lines : (S : ScenarioContents) → Good S → lines_of (listing S) ≡ map joined (map canonical (written S))
 listing_lines S good =
