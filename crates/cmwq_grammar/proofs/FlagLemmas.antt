@@ -433,231 +433,80 @@ flags_again_from (word ∷ words) f g t =
       ]
     ]
 
-counts_highpri : (a b c d e : Bool)
-    → count (weight (codes "highpri")) (flag_words (record { highpri = a; unbound = b; cpu_intensive = c; freezable = d; ordered = e })) ≡ bit a
-unfolding count weight bit other
-counts_highpri true true true true true = refl
-counts_highpri true true true true false = refl
-counts_highpri true true true false true = refl
-counts_highpri true true true false false = refl
-counts_highpri true true false true true = refl
-counts_highpri true true false true false = refl
-counts_highpri true true false false true = refl
-counts_highpri true true false false false = refl
-counts_highpri true false true true true = refl
-counts_highpri true false true true false = refl
-counts_highpri true false true false true = refl
-counts_highpri true false true false false = refl
-counts_highpri true false false true true = refl
-counts_highpri true false false true false = refl
-counts_highpri true false false false true = refl
-counts_highpri true false false false false = refl
-counts_highpri false true true true true = refl
-counts_highpri false true true true false = refl
-counts_highpri false true true false true = refl
-counts_highpri false true true false false = refl
-counts_highpri false true false true true = refl
-counts_highpri false true false true false = refl
-counts_highpri false true false false true = refl
-counts_highpri false true false false false = refl
-counts_highpri false false true true true = refl
-counts_highpri false false true true false = refl
-counts_highpri false false true false true = refl
-counts_highpri false false true false false = refl
-counts_highpri false false false true true = refl
-counts_highpri false false false true false = refl
-counts_highpri false false false false true = refl
-counts_highpri false false false false false = refl
+count_both : (of : List ℕ → ℕ) (xs ys : List (List ℕ)) → count of (xs ++ ys) ≡ count of xs + count of ys
+unfolding count
+count_both of [] ys = omega arith
+count_both of (x ∷ xs) ys = (let later : count of (xs ++ ys) ≡ count of xs + count of ys = count_both of xs ys in omega arith)
 
-counts_unbound : (a b c d e : Bool)
-    → count (weight (codes "unbound")) (flag_words (record { highpri = a; unbound = b; cpu_intensive = c; freezable = d; ordered = e })) ≡ bit b
-unfolding count weight bit other
-counts_unbound true true true true true = refl
-counts_unbound true true true true false = refl
-counts_unbound true true true false true = refl
-counts_unbound true true true false false = refl
-counts_unbound true true false true true = refl
-counts_unbound true true false true false = refl
-counts_unbound true true false false true = refl
-counts_unbound true true false false false = refl
-counts_unbound true false true true true = refl
-counts_unbound true false true true false = refl
-counts_unbound true false true false true = refl
-counts_unbound true false true false false = refl
-counts_unbound true false false true true = refl
-counts_unbound true false false true false = refl
-counts_unbound true false false false true = refl
-counts_unbound true false false false false = refl
-counts_unbound false true true true true = refl
-counts_unbound false true true true false = refl
-counts_unbound false true true false true = refl
-counts_unbound false true true false false = refl
-counts_unbound false true false true true = refl
-counts_unbound false true false true false = refl
-counts_unbound false true false false true = refl
-counts_unbound false true false false false = refl
-counts_unbound false false true true true = refl
-counts_unbound false false true true false = refl
-counts_unbound false false true false true = refl
-counts_unbound false false true false false = refl
-counts_unbound false false false true true = refl
-counts_unbound false false false true false = refl
-counts_unbound false false false false true = refl
-counts_unbound false false false false false = refl
+-- a number that counts where the test holds
+number_if : Bool → ℕ → ℕ
+number_if b n = cond b n 0
 
-counts_cpu_intensive : (a b c d e : Bool)
-    → count (weight (codes "cpu_intensive")) (flag_words (record { highpri = a; unbound = b; cpu_intensive = c; freezable = d; ordered = e })) ≡ bit c
-unfolding count weight bit other
-counts_cpu_intensive true true true true true = refl
-counts_cpu_intensive true true true true false = refl
-counts_cpu_intensive true true true false true = refl
-counts_cpu_intensive true true true false false = refl
-counts_cpu_intensive true true false true true = refl
-counts_cpu_intensive true true false true false = refl
-counts_cpu_intensive true true false false true = refl
-counts_cpu_intensive true true false false false = refl
-counts_cpu_intensive true false true true true = refl
-counts_cpu_intensive true false true true false = refl
-counts_cpu_intensive true false true false true = refl
-counts_cpu_intensive true false true false false = refl
-counts_cpu_intensive true false false true true = refl
-counts_cpu_intensive true false false true false = refl
-counts_cpu_intensive true false false false true = refl
-counts_cpu_intensive true false false false false = refl
-counts_cpu_intensive false true true true true = refl
-counts_cpu_intensive false true true true false = refl
-counts_cpu_intensive false true true false true = refl
-counts_cpu_intensive false true true false false = refl
-counts_cpu_intensive false true false true true = refl
-counts_cpu_intensive false true false true false = refl
-counts_cpu_intensive false true false false true = refl
-counts_cpu_intensive false true false false false = refl
-counts_cpu_intensive false false true true true = refl
-counts_cpu_intensive false false true true false = refl
-counts_cpu_intensive false false true false true = refl
-counts_cpu_intensive false false true false false = refl
-counts_cpu_intensive false false false true true = refl
-counts_cpu_intensive false false false true false = refl
-counts_cpu_intensive false false false false true = refl
-counts_cpu_intensive false false false false false = refl
+count_if : (of : List ℕ → ℕ) (b : Bool) (word : List ℕ) → count of (word_if b word) ≡ number_if b (of word)
+unfolding count number_if
+count_if of true word = omega arith
+count_if of false word = refl
 
-counts_freezable : (a b c d e : Bool)
-    → count (weight (codes "freezable")) (flag_words (record { highpri = a; unbound = b; cpu_intensive = c; freezable = d; ordered = e })) ≡ bit d
-unfolding count weight bit other
-counts_freezable true true true true true = refl
-counts_freezable true true true true false = refl
-counts_freezable true true true false true = refl
-counts_freezable true true true false false = refl
-counts_freezable true true false true true = refl
-counts_freezable true true false true false = refl
-counts_freezable true true false false true = refl
-counts_freezable true true false false false = refl
-counts_freezable true false true true true = refl
-counts_freezable true false true true false = refl
-counts_freezable true false true false true = refl
-counts_freezable true false true false false = refl
-counts_freezable true false false true true = refl
-counts_freezable true false false true false = refl
-counts_freezable true false false false true = refl
-counts_freezable true false false false false = refl
-counts_freezable false true true true true = refl
-counts_freezable false true true true false = refl
-counts_freezable false true true false true = refl
-counts_freezable false true true false false = refl
-counts_freezable false true false true true = refl
-counts_freezable false true false true false = refl
-counts_freezable false true false false true = refl
-counts_freezable false true false false false = refl
-counts_freezable false false true true true = refl
-counts_freezable false false true true false = refl
-counts_freezable false false true false true = refl
-counts_freezable false false true false false = refl
-counts_freezable false false false true true = refl
-counts_freezable false false false true false = refl
-counts_freezable false false false false true = refl
-counts_freezable false false false false false = refl
+none_if : (b : Bool) → number_if b 0 ≡ 0
+unfolding number_if
+none_if true = refl
+none_if false = refl
 
-counts_ordered : (a b c d e : Bool)
-    → count (weight (codes "ordered")) (flag_words (record { highpri = a; unbound = b; cpu_intensive = c; freezable = d; ordered = e })) ≡ bit e
-unfolding count weight bit other
-counts_ordered true true true true true = refl
-counts_ordered true true true true false = refl
-counts_ordered true true true false true = refl
-counts_ordered true true true false false = refl
-counts_ordered true true false true true = refl
-counts_ordered true true false true false = refl
-counts_ordered true true false false true = refl
-counts_ordered true true false false false = refl
-counts_ordered true false true true true = refl
-counts_ordered true false true true false = refl
-counts_ordered true false true false true = refl
-counts_ordered true false true false false = refl
-counts_ordered true false false true true = refl
-counts_ordered true false false true false = refl
-counts_ordered true false false false true = refl
-counts_ordered true false false false false = refl
-counts_ordered false true true true true = refl
-counts_ordered false true true true false = refl
-counts_ordered false true true false true = refl
-counts_ordered false true true false false = refl
-counts_ordered false true false true true = refl
-counts_ordered false true false true false = refl
-counts_ordered false true false false true = refl
-counts_ordered false true false false false = refl
-counts_ordered false false true true true = refl
-counts_ordered false false true true false = refl
-counts_ordered false false true false true = refl
-counts_ordered false false true false false = refl
-counts_ordered false false false true true = refl
-counts_ordered false false false true false = refl
-counts_ordered false false false false true = refl
-counts_ordered false false false false false = refl
-
-counts_other : (a b c d e : Bool) → count (other) (flag_words (record { highpri = a; unbound = b; cpu_intensive = c; freezable = d; ordered = e })) ≡ 0
-unfolding count weight bit other
-counts_other true true true true true = refl
-counts_other true true true true false = refl
-counts_other true true true false true = refl
-counts_other true true true false false = refl
-counts_other true true false true true = refl
-counts_other true true false true false = refl
-counts_other true true false false true = refl
-counts_other true true false false false = refl
-counts_other true false true true true = refl
-counts_other true false true true false = refl
-counts_other true false true false true = refl
-counts_other true false true false false = refl
-counts_other true false false true true = refl
-counts_other true false false true false = refl
-counts_other true false false false true = refl
-counts_other true false false false false = refl
-counts_other false true true true true = refl
-counts_other false true true true false = refl
-counts_other false true true false true = refl
-counts_other false true true false false = refl
-counts_other false true false true true = refl
-counts_other false true false true false = refl
-counts_other false true false false true = refl
-counts_other false true false false false = refl
-counts_other false false true true true = refl
-counts_other false false true true false = refl
-counts_other false false true false true = refl
-counts_other false false true false false = refl
-counts_other false false false true true = refl
-counts_other false false false true false = refl
-counts_other false false false false true = refl
-counts_other false false false false false = refl
+-- what the words of the flags count
+counted : (of : List ℕ → ℕ) (g : Flags) → count of (flag_words g)
+    ≡ number_if g.highpri (of (codes "highpri")) + number_if g.unbound (of (codes "unbound")) + number_if g.cpu_intensive (of (codes "cpu_intensive"))
+    + number_if g.freezable (of (codes "freezable")) + number_if g.ordered (of (codes "ordered"))
+counted of g =
+    let h = highpri_word g in
+    let u = unbound_word g in
+    let i = cpu_intensive_word g in
+    let z = freezable_word g in
+    let o = ordered_word g in
+    let first : count of (h ++ u) ≡ count of h + count of u = count_both of h u in
+    let second : count of (h ++ u ++ i) ≡ count of (h ++ u) + count of i = count_both of (h ++ u) i in
+    let third : count of (h ++ u ++ i ++ z) ≡ count of (h ++ u ++ i) + count of z = count_both of (h ++ u ++ i) z in
+    let fourth : count of (h ++ u ++ i ++ z ++ o) ≡ count of (h ++ u ++ i ++ z) + count of o = count_both of (h ++ u ++ i ++ z) o in
+    let at_h : count of h ≡ number_if g.highpri (of (codes "highpri")) = count_if of g.highpri (codes "highpri") in
+    let at_u : count of u ≡ number_if g.unbound (of (codes "unbound")) = count_if of g.unbound (codes "unbound") in
+    let at_i : count of i ≡ number_if g.cpu_intensive (of (codes "cpu_intensive")) = count_if of g.cpu_intensive (codes "cpu_intensive") in
+    let at_z : count of z ≡ number_if g.freezable (of (codes "freezable")) = count_if of g.freezable (codes "freezable") in
+    let at_o : count of o ≡ number_if g.ordered (of (codes "ordered")) = count_if of g.ordered (codes "ordered") in
+    omega arith
 
 tally_of : (g : Flags) (words : List (List ℕ)) → IsPermutation (flag_words g) words → Tally words plain_flags g
-unfolding bit
-tally_of g words h = record {
-  highpri = (let e : count (weight (codes "highpri")) words ≡ bit g.highpri = count_permuted (weight (codes "highpri")) (flag_words g) words h ∙ counts_highpri g.highpri g.unbound g.cpu_intensive g.freezable g.ordered in omega arith);
-  unbound = (let e : count (weight (codes "unbound")) words ≡ bit g.unbound = count_permuted (weight (codes "unbound")) (flag_words g) words h ∙ counts_unbound g.highpri g.unbound g.cpu_intensive g.freezable g.ordered in omega arith);
-  cpu_intensive = (let e : count (weight (codes "cpu_intensive")) words ≡ bit g.cpu_intensive = count_permuted (weight (codes "cpu_intensive")) (flag_words g) words h ∙ counts_cpu_intensive g.highpri g.unbound g.cpu_intensive g.freezable g.ordered in omega arith);
-  freezable = (let e : count (weight (codes "freezable")) words ≡ bit g.freezable = count_permuted (weight (codes "freezable")) (flag_words g) words h ∙ counts_freezable g.highpri g.unbound g.cpu_intensive g.freezable g.ordered in omega arith);
-  ordered = (let e : count (weight (codes "ordered")) words ≡ bit g.ordered = count_permuted (weight (codes "ordered")) (flag_words g) words h ∙ counts_ordered g.highpri g.unbound g.cpu_intensive g.freezable g.ordered in omega arith);
-  others = count_permuted other (flag_words g) words h ∙ counts_other g.highpri g.unbound g.cpu_intensive g.freezable g.ordered;
-}
+unfolding bit weight other number_if
+tally_of g words h =
+    let no_highpri : number_if g.highpri 0 ≡ 0 = none_if g.highpri in
+    let no_unbound : number_if g.unbound 0 ≡ 0 = none_if g.unbound in
+    let no_cpu_intensive : number_if g.cpu_intensive 0 ≡ 0 = none_if g.cpu_intensive in
+    let no_freezable : number_if g.freezable 0 ≡ 0 = none_if g.freezable in
+    let no_ordered : number_if g.ordered 0 ≡ 0 = none_if g.ordered in
+    record {
+      highpri =
+          (let same : count (weight (codes "highpri")) words ≡ count (weight (codes "highpri")) (flag_words g) = count_permuted (weight (codes "highpri")) (flag_words g) words h in
+          let each = counted (weight (codes "highpri")) g in
+          omega arith);
+      unbound =
+          (let same : count (weight (codes "unbound")) words ≡ count (weight (codes "unbound")) (flag_words g) = count_permuted (weight (codes "unbound")) (flag_words g) words h in
+          let each = counted (weight (codes "unbound")) g in
+          omega arith);
+      cpu_intensive =
+          (let same : count (weight (codes "cpu_intensive")) words ≡ count (weight (codes "cpu_intensive")) (flag_words g) = count_permuted (weight (codes "cpu_intensive")) (flag_words g) words h in
+          let each = counted (weight (codes "cpu_intensive")) g in
+          omega arith);
+      freezable =
+          (let same : count (weight (codes "freezable")) words ≡ count (weight (codes "freezable")) (flag_words g) = count_permuted (weight (codes "freezable")) (flag_words g) words h in
+          let each = counted (weight (codes "freezable")) g in
+          omega arith);
+      ordered =
+          (let same : count (weight (codes "ordered")) words ≡ count (weight (codes "ordered")) (flag_words g) = count_permuted (weight (codes "ordered")) (flag_words g) words h in
+          let each = counted (weight (codes "ordered")) g in
+          omega arith);
+      others =
+          (let same : count other words ≡ count other (flag_words g) = count_permuted other (flag_words g) words h in
+          let each = counted other g in
+          omega arith);
+    }
 
 pub flags_again : (g : Flags) (words : List (List ℕ)) → IsPermutation (flag_words g) words → flags_at words plain_flags ≡ Ok g
 flags_again g words h = flags_again_from words plain_flags g (tally_of g words h)

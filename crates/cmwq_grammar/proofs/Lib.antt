@@ -1,4 +1,5 @@
 mod Basics
+pub mod CallerLemmas
 mod CanonicalLines
 mod Completions
 mod Continuations

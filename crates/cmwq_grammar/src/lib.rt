@@ -2,8 +2,8 @@
 //! first fault of a text is. Laws over these definitions are functions with empty bodies.
 #![tactic(auto)]
 
-mod examples;
-mod laws;
+pub mod examples;
+pub mod laws;
 mod why;
 
 pub use why::Why;
