@@ -1,6 +1,7 @@
 //! The text of a scenario: its listing.
 #![tactic(auto)]
 
+mod cutting;
 mod lines;
 mod listing;
 
