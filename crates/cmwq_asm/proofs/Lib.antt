@@ -1,2 +1,3 @@
 mod CuttingLemmas
 pub mod LineLemmas
+mod TokenLemmas

@@ -4,5 +4,7 @@
 mod cutting;
 mod lines;
 mod listing;
+mod naming;
+mod tokens;
 
 pub use listing::list;
