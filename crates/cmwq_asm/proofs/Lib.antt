@@ -1,3 +1,4 @@
 mod CuttingLemmas
 pub mod LineLemmas
+mod NameLemmas
 mod TokenLemmas

@@ -1,13 +1,33 @@
-//! The names of one kind (queues, works or actors), in the order of their declarations.
-ghost use Rattle.std.specs.Prelude.{◌≡◌, ◌++◌, ◌∷◌, [], OnOk, position};
+//! Names in a text, and the names of one kind in the order of their declarations.
+ghost use Rattle.std.specs.List.{list_any};
+ghost use Rattle.std.specs.Prelude.{◌≡◌, ◌++◌, ◌∷◌, [], OnOk, false, position};
 ghost use Rattle.std.specs.Str.{bytes_eq};
 
-use cmwq_types::NoMemory;
+use cmwq_types::{Name, NoMemory};
 use indexmap::IndexSet;
 use std::alloc::Global;
 use std::marker::Model;
 
-/// Distinct names, each a part of the text. A name's place is its number.
+/// A name where it stands in the text. Contracts see its bytes.
+#[derive(Debug, Drop)]
+pub(crate) struct Named<'t> {
+    pub(crate) name: Name,
+    /// The text's bytes, which are the name's.
+    pub(crate) bytes: &'t [u8],
+}
+
+impl<'t> Model for Named<'t> {
+    ghost use Rattle.std.specs.Prelude.{◌≡◌, List, ℕ};
+
+    ghost Value = { List ℕ };
+
+    ghost view = { λ n. n.name };
+
+    ghost invariant = { λ n. n.bytes.now ≡ n.name };
+}
+
+/// Distinct names of one kind (queues, works or actors), each with its bytes in the text. A name's place
+/// is its number.
 #[derive(Drop)]
 pub(crate) struct Names<'t> {
     names: IndexSet<&'t [u8]>,
@@ -31,10 +51,26 @@ impl<'t> Names<'t> {
         }
     }
 
-    /// The number of the name, if it was declared.
-    pub(crate) fn find(&self, name: &[u8]) -> Option<usize>
+    /// Whether the name is there.
+    pub(crate) fn contains(&self, name: &[u8]) -> bool
+        ensures { result ≡ list_any (λ other. bytes_eq other name.now) self.now }
+    {
+        self.names.contains(&name)
+    }
+
+    /// The number of the name, if it is there.
+    pub(crate) fn number_of(&self, name: &[u8]) -> Option<usize>
         ensures { result ≡ position (λ other. bytes_eq other name.now) self.now }
     {
         self.names.get_index_of(&name)
+    }
+
+    /// Adds a name that isn't there yet.
+    pub(crate) fn add(&mut self, name: &'t [u8]) -> Result<(), NoMemory>
+        requires { list_any (λ other. bytes_eq other name.now) self.old ≡ false }
+        ensures { OnOk result (self.new ≡ self.old ++ name.now ∷ []) }
+    {
+        self.names.insert(name)?;
+        Ok(())
     }
 }
