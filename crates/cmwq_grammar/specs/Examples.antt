@@ -1,0 +1,105 @@
+-- Short texts, and what reading them gives.
+use Rattle.std.specs.Prelude.{◌≡◌, ℕ, List, [], ◌∷◌, ◌++◌, take, Ok, Err, codes}
+use Rattle.std.specs.List.{flat_map}
+use Rattle.cmwq_types.specs.Contents.{ScenarioContents, ActorContents}
+use Rattle.cmwq_types.specs.Scenario.{plain_flags}
+use Rattle.cmwq_types.specs.declared.instr.Instr.TheVariants as instr
+use Rattle.cmwq_types.specs.declared.scenario.Line.{Line}
+use Rattle.cmwq_types.specs.declared.scenario.Op.TheVariants as op
+use Rattle.cmwq_types.specs.declared.scenario.QueueDecl.{QueueDecl}
+use Rattle.cmwq_grammar.specs.Meaning.{reads, fault_at}
+use Rattle.cmwq_grammar.specs.Stages.{head_of}
+use Rattle.cmwq_grammar.specs.declared.why.Why.{Why}
+
+-- a text of these lines
+abbrev pub text : List (List ℕ) → List ℕ
+text lines = flat_map (λ line. line ++ 10 ∷ []) lines
+
+-- the first fault of a text is at this line, for this reason
+abbrev pub FaultIs : List ℕ → ℕ → Why → Type 0
+FaultIs bytes line reason = reads bytes ≡ Err (fault_at line reason)
+
+-- the text reads as this scenario
+abbrev pub ReadsAs : List ℕ → ScenarioContents → Type 0
+ReadsAs bytes S = reads bytes ≡ Ok S
+
+-- the least head that a text can have, with 8 steps
+abbrev pub head_lines : List (List ℕ)
+head_lines = codes "cpus 1" ∷ codes "workers 1" ∷ codes "steps 8" ∷ codes "flushes 0" ∷ []
+
+-- the scenario of that head alone
+abbrev pub nothing : ScenarioContents
+nothing = head_of 1 1 8 0
+
+-- the same, written freely
+abbrev pub free_head : List ℕ
+free_head =
+    codes "# a scenario of nothing\r\n\ncpus\t1 # one CPU\r\n  workers 1\t\r\n\t\r\nsteps \t 8#steps\nflushes 0\r\n# the end"
+
+-- the head and then these lines
+abbrev pub after_head : List (List ℕ) → List ℕ
+after_head lines = text (head_lines ++ lines)
+
+-- a queue, a work and its body, which queues the work
+abbrev pub with_work : List (List ℕ)
+with_work =
+    codes "queue q max 1" ∷ codes "work a q" ∷ codes "body a" ∷ codes "queue a 0" ∷ codes "finish" ∷ []
+
+-- the work that queues itself until no steps are left
+abbrev pub queues_itself_lines : List (List ℕ)
+queues_itself_lines =
+    (codes "cpus 1" ∷ codes "workers 4" ∷ codes "steps 8" ∷ codes "flushes 2" ∷ [])
+    ++ with_work ++ codes "actor t" ∷ codes "queue a 0" ∷ codes "next * 8" ∷ codes "state a" ∷ []
+
+-- what the first lines of that text tell: the numbers and the queue, then the work too, then the actor too
+abbrev pub queue_alone : List QueueDecl → ScenarioContents
+queue_alone queues = record (head_of 1 4 8 2) { queues = queues }
+
+abbrev pub one_work : List ActorContents → ScenarioContents
+one_work actors =
+    record (queue_alone (record { name = codes "q"; max = 1; flags = plain_flags } ∷ [])) {
+      works = record { name = codes "a"; queue = record { 0 = 0 }; body = op.Queue (record { 0 = 0 }) 0 ∷ op.Finish ∷ [] } ∷ [];
+      actors = actors;
+    }
+
+-- an actor `t` of these lines
+abbrev pub actor_t : List Line → List ActorContents
+actor_t lines = record { name = codes "t"; lines = lines } ∷ []
+
+abbrev pub queues_itself : ScenarioContents
+queues_itself =
+    one_work (actor_t (
+    record { instr = instr.Queue (record { 0 = 0 }) 0; times = 1 } ∷ record { instr = instr.Next; times = 8 }
+    ∷ record { instr = instr.State (record { 0 = 0 }); times = 1 } ∷ []))
+
+-- that text cut after n lines
+abbrev pub cut_after : ℕ → List ℕ
+cut_after n = text (take n queues_itself_lines)
+
+-- that text with a byte after line 8 that no UTF-8 has
+abbrev pub with_bad_byte : List ℕ
+with_bad_byte = text (take 7 queues_itself_lines ++ (codes "queue a 0" ++ 255 ∷ []) ∷ codes "finish" ∷ [])
+
+-- One line's reason, by the lines that stand before it.
+
+-- as the first line of a text
+abbrev pub FirstLineIs : List ℕ → Why → Type 0
+FirstLineIs line reason = FaultIs (text (line ∷ [])) 1 reason
+
+-- after the head
+abbrev pub DeclaredIs : List ℕ → Why → Type 0
+DeclaredIs line reason = FaultIs (after_head (codes "queue q max 1" ∷ line ∷ [])) 6 reason
+
+-- in the body of the first of two works
+abbrev pub InBodyIs : List ℕ → Why → Type 0
+InBodyIs line reason =
+    FaultIs (after_head (codes "queue q max 1" ∷ codes "work a q" ∷ codes "work b q" ∷ codes "body a" ∷ line ∷ [])) 9 reason
+
+-- after the body of the first of two works
+abbrev pub AfterBodyIs : List ℕ → Why → Type 0
+AfterBodyIs line reason =
+    FaultIs (after_head (codes "queue q max 1" ∷ codes "work a q" ∷ codes "work b q" ∷ codes "body a" ∷ codes "finish" ∷ line ∷ [])) 10 reason
+
+-- as an actor's line
+abbrev pub InActorIs : List ℕ → Why → Type 0
+InActorIs line reason = FaultIs (after_head (with_work ++ codes "actor t" ∷ line ∷ [])) 11 reason

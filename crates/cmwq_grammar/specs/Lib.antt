@@ -1,0 +1,9 @@
+pub mod Cutting
+pub mod Examples
+pub mod FaultLaw
+pub mod Fields
+pub mod Grammar
+pub mod Instructions
+pub mod Meaning
+pub mod Reasons
+pub mod Stages

@@ -1,0 +1,8 @@
+//! The grammar of a scenario's text: which texts spell which scenario, what reading gives, and where the
+//! first fault of a text is. Laws over these definitions are functions with empty bodies.
+#![tactic(auto)]
+
+mod examples;
+mod why;
+
+pub use why::Why;
