@@ -1,4 +1,5 @@
 mod CuttingLemmas
 pub mod LineLemmas
 mod NameLemmas
+mod NumberLemmas
 mod TokenLemmas

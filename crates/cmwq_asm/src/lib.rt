@@ -3,6 +3,7 @@
 
 mod cutting;
 mod fault;
+mod fields;
 mod lines;
 mod listing;
 mod naming;

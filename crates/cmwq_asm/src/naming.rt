@@ -11,9 +11,9 @@ use std::marker::Model;
 /// A name where it stands in the text. Contracts see its bytes.
 #[derive(Debug, Drop)]
 pub(crate) struct Named<'t> {
-    pub(crate) name: Name,
-    /// The text's bytes, which are the name's.
-    pub(crate) bytes: &'t [u8],
+    name: Name,
+    /// Where it stands.
+    bytes: &'t [u8],
 }
 
 impl<'t> Model for Named<'t> {
@@ -24,6 +24,29 @@ impl<'t> Model for Named<'t> {
     ghost view = { λ n. n.name };
 
     ghost invariant = { λ n. n.bytes.now ≡ n.name };
+}
+
+impl<'t> Named<'t> {
+    /// The name that stands there.
+    pub(crate) fn new(name: Name, bytes: &'t [u8]) -> Named<'t>
+        requires { name ≡ bytes.now }
+        ensures { result ≡ name }
+    {
+        Named { name, bytes }
+    }
+
+    pub(crate) fn name(&self) -> Name
+        ensures { result ≡ self.now }
+    {
+        self.name
+    }
+
+    /// Its bytes in the text.
+    fn bytes(&self) -> &'t [u8]
+        ensures { result.now ≡ self.now }
+    {
+        self.bytes
+    }
 }
 
 /// Distinct names of one kind (queues, works or actors), each with its bytes in the text. A name's place
@@ -52,25 +75,25 @@ impl<'t> Names<'t> {
     }
 
     /// Whether the name is there.
-    pub(crate) fn contains(&self, name: &[u8]) -> bool
+    pub(crate) fn contains(&self, name: &Named) -> bool
         ensures { result ≡ list_any (λ other. bytes_eq other name.now) self.now }
     {
-        self.names.contains(&name)
+        self.names.contains(&name.bytes())
     }
 
     /// The number of the name, if it is there.
-    pub(crate) fn number_of(&self, name: &[u8]) -> Option<usize>
+    pub(crate) fn number_of(&self, name: &Named) -> Option<usize>
         ensures { result ≡ position (λ other. bytes_eq other name.now) self.now }
     {
-        self.names.get_index_of(&name)
+        self.names.get_index_of(&name.bytes())
     }
 
     /// Adds a name that isn't there yet.
-    pub(crate) fn add(&mut self, name: &'t [u8]) -> Result<(), NoMemory>
+    pub(crate) fn add(&mut self, name: &Named<'t>) -> Result<(), NoMemory>
         requires { list_any (λ other. bytes_eq other name.now) self.old ≡ false }
         ensures { OnOk result (self.new ≡ self.old ++ name.now ∷ []) }
     {
-        self.names.insert(name)?;
+        self.names.insert(name.bytes())?;
         Ok(())
     }
 }
