@@ -2,6 +2,7 @@
 #![tactic(auto)]
 
 mod cutting;
+mod draft;
 mod fault;
 mod fields;
 mod lines;

@@ -1,0 +1,201 @@
+//! The scenario that a text has told so far, with its names.
+ghost use Rattle.cmwq_grammar.specs.Instructions.{actor_names, queue_names, work_names};
+ghost use Rattle.cmwq_grammar.specs.Stages.{head_of};
+ghost use Rattle.std.specs.List.{list_any};
+ghost use Rattle.std.specs.Prelude.{◌≡◌, ◌++◌, ◌∷◌, [], IfOk, false, length, map};
+ghost use Rattle.std.specs.Str.{bytes_eq};
+
+use crate::naming::{Named, Names};
+use cmwq_types::{Actor, Flags, Line, NoMemory, QueueDecl, QueueId, Scenario, WorkDecl};
+use std::alloc::Global;
+use std::marker::Model;
+
+/// The parts of a scenario that are told so far. Contracts see the scenario of these parts.
+#[derive(Drop)]
+pub(crate) struct Draft<'t> {
+    cpus: u8,
+    workers: u8,
+    steps: u32,
+    flushes: u16,
+    queues: Vec<QueueDecl>,
+    works: Vec<WorkDecl>,
+    actors: Vec<Actor>,
+    queue_names: Names<'t>,
+    work_names: Names<'t>,
+    actor_names: Names<'t>,
+}
+
+impl<'t> Model for Draft<'t> {
+    ghost use Rattle.cmwq_types.specs.Contents.{ScenarioContents};
+    ghost use Rattle.std.specs.Prelude.{◌≡◌, map};
+
+    ghost Value = { ScenarioContents };
+
+    ghost view = { λ d. record {
+      cpus = d.cpus;
+      workers = d.workers;
+      steps = d.steps;
+      flushes = d.flushes;
+      queues = d.queues.items;
+      works = d.works.items;
+      actors = d.actors.items;
+    } };
+
+    ghost invariant = { λ d.
+      (d.queue_names ≡ map (λ queue. queue.name) d.queues.items)
+      × (d.work_names ≡ map (λ work. work.name) d.works.items)
+      × (d.actor_names ≡ map (λ actor. actor.name) d.actors.items) };
+}
+
+impl<'t> Draft<'t> {
+    /// A scenario of these numbers alone.
+    pub(crate) fn new(
+        alloc: Global,
+        cpus: u8,
+        workers: u8,
+        steps: u32,
+        flushes: u16,
+    ) -> Draft<'t>
+        ensures { result ≡ head_of cpus workers steps flushes }
+    {
+        Draft {
+            cpus,
+            workers,
+            steps,
+            flushes,
+            queues: Vec::new(alloc),
+            works: Vec::new(alloc),
+            actors: Vec::new(alloc),
+            queue_names: Names::new(alloc),
+            work_names: Names::new(alloc),
+            actor_names: Names::new(alloc),
+        }
+    }
+
+    pub(crate) fn cpus(&self) -> u8
+        ensures { result ≡ self.now.cpus }
+    {
+        self.cpus
+    }
+
+    pub(crate) fn queues(&self) -> &[QueueDecl]
+        ensures { result.now ≡ self.now.queues }
+    {
+        &self.queues
+    }
+
+    pub(crate) fn works(&self) -> &[WorkDecl]
+        ensures { result.now ≡ self.now.works }
+    {
+        &self.works
+    }
+
+    pub(crate) fn actors(&self) -> &[Actor]
+        ensures { result.now ≡ self.now.actors }
+    {
+        &self.actors
+    }
+
+    /// The queues' names, by their numbers.
+    pub(crate) fn queue_names(&self) -> &Names<'t>
+        ensures { result.now ≡ queue_names self.now }
+    {
+        &self.queue_names
+    }
+
+    /// The works' names, by their numbers.
+    pub(crate) fn work_names(&self) -> &Names<'t>
+        ensures { result.now ≡ work_names self.now }
+    {
+        &self.work_names
+    }
+
+    /// The actors' names.
+    pub(crate) fn actor_names(&self) -> &Names<'t>
+        ensures { result.now ≡ actor_names self.now }
+    {
+        &self.actor_names
+    }
+
+    /// With a further queue.
+    pub(crate) fn with_queue(
+        mut self,
+        name: &Named<'t>,
+        max: u16,
+        flags: Flags,
+    ) -> Result<Draft<'t>, NoMemory>
+        requires { list_any (λ other. bytes_eq other name.now) (queue_names self) ≡ false }
+        ensures { IfOk result (λ draft. draft
+            ≡ record self.entry { queues = self.entry.queues ++ record { name = name.now; max = max; flags = flags } ∷ [] }) }
+    {
+        self.queue_names.add(name)?;
+        self.queues.push(QueueDecl {
+            name: name.name(),
+            max,
+            flags,
+        })?;
+        Ok(self)
+    }
+
+    /// With a further work, which has no body yet.
+    pub(crate) fn with_work(
+        mut self,
+        alloc: Global,
+        name: &Named<'t>,
+        queue: QueueId,
+    ) -> Result<Draft<'t>, NoMemory>
+        requires { list_any (λ other. bytes_eq other name.now) (work_names self) ≡ false }
+        ensures { IfOk result (λ draft. draft
+            ≡ record self.entry { works = self.entry.works ++ record { name = name.now; queue = queue; body = [] } ∷ [] }) }
+    {
+        self.work_names.add(name)?;
+        self.works.push(WorkDecl {
+            name: name.name(),
+            queue,
+            body: Vec::new(alloc),
+        })?;
+        Ok(self)
+    }
+
+    /// With a further actor.
+    pub(crate) fn with_actor(
+        mut self,
+        name: &Named<'t>,
+        lines: Vec<Line>,
+    ) -> Result<Draft<'t>, NoMemory>
+        requires { list_any (λ other. bytes_eq other name.now) (actor_names self) ≡ false }
+        ensures { IfOk result (λ draft. draft
+            ≡ record self.entry { actors = self.entry.actors ++ record { name = name.now; lines = lines.items } ∷ [] }) }
+    {
+        self.actor_names.add(name)?;
+        self.actors.push(Actor {
+            name: name.name(),
+            lines,
+        })?;
+        Ok(self)
+    }
+
+    /// With these works, of the same names.
+    pub(crate) fn with_works(mut self, works: Vec<WorkDecl>) -> Draft<'t>
+        requires { map (λ work. work.name) works.items ≡ work_names self }
+        ensures { result ≡ record self.entry { works = works.items } }
+    {
+        self.works = works;
+        self
+    }
+
+    /// The scenario of what was told.
+    pub(crate) fn into_scenario(self) -> Scenario
+        ensures { result ≡ self.entry }
+    {
+        Scenario {
+            cpus: self.cpus,
+            workers: self.workers,
+            steps: self.steps,
+            flushes: self.flushes,
+            queues: self.queues,
+            works: self.works,
+            actors: self.actors,
+        }
+    }
+}
