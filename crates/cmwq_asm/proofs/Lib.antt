@@ -1,5 +1,8 @@
+mod BodyLemmas
 mod CuttingLemmas
+mod HeaderLemmas
 pub mod LineLemmas
+mod LineSteps
 mod NameLemmas
 mod NumberLemmas
 mod TokenLemmas

@@ -1,1 +1,5 @@
 pub mod Answers
+pub mod Header
+pub mod Parts
+pub mod Refusals
+pub mod Stages

@@ -1,13 +1,18 @@
 //! The text of a scenario: its listing, and what a text says.
 #![tactic(auto)]
 
+mod bodies;
 mod cutting;
 mod draft;
 mod fault;
 mod fields;
+mod header;
 mod lines;
 mod listing;
+mod misplaced;
 mod naming;
+mod open;
+mod stage;
 mod tokens;
 
 pub use cmwq_grammar::Why;

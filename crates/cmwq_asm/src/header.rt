@@ -1,0 +1,46 @@
+//! The four lines at a text's head.
+ghost use Rattle.cmwq_asm.specs.Answers.{Gives, Tells};
+ghost use Rattle.cmwq_asm.specs.Header.{head_number};
+ghost use Rattle.cmwq_asm.specs.Stages.{stage_of};
+ghost use Rattle.cmwq_grammar.specs.Reasons.{step};
+ghost use Rattle.cmwq_grammar.specs.Stages as stage;
+ghost use Rattle.std.specs.Prelude.{◌≤◌, ◌∷◌, IfOk};
+
+use crate::draft::Draft;
+use crate::fault::LineError;
+use crate::fields::{is_word, read_end, read_number_within};
+use crate::misplaced::refusal;
+use crate::stage::Stage;
+use crate::tokens::Token;
+use cmwq_grammar::Why;
+use cmwq_types::{MAX_CPUS, MAX_FLUSHES, MAX_STEPS, MAX_WORKERS};
+use std::alloc::Global;
+
+#[tactic(auto, using(crate::proofs::LineSteps::line_steps))]
+/// The number of a line that must be this word and a number from `low` to `high`.
+fn read_head_number(
+    wanted: &[u8],
+    low: u32,
+    high: u32,
+    word: &[u8],
+    rest: &[Token],
+) -> Result<u32, Why>
+    ensures number { Tells (λ n. n) result (head_number wanted.now low high word.now rest.now) }
+    ensures within { IfOk result (λ n. n ≤ high) }
+{
+    if !is_word(word, wanted) {
+        return Err(refusal(Why::Misplaced, word));
+    }
+    let (number, rest) = read_number_within(low, high, rest)?;
+    read_end(rest)?;
+    Ok(number)
+}
+
+/// `cpus N`.
+#[tactic(auto, using(crate::proofs::HeaderLemmas::head_steps), unfolding(cmwq_grammar::specs::Reasons::step))]
+pub(crate) fn read_cpus<'t>(word: &[u8], rest: &[Token]) -> Result<Stage<'t>, LineError>
+    ensures { Gives stage_of result (step stage.Start (word.now ∷ rest.now)) }
+{
+    let cpus = read_head_number(b"cpus", 1, u32::from(MAX_CPUS), word, rest)?;
+    Ok(Stage::Cpus(cpus as u8))
+}
