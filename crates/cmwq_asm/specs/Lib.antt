@@ -1,4 +1,5 @@
 pub mod Answers
+pub mod Declarations
 pub mod Header
 pub mod Parts
 pub mod Refusals

@@ -2,11 +2,13 @@
 ghost use Rattle.cmwq_grammar.specs.Instructions.{actor_names, queue_names, work_names};
 ghost use Rattle.cmwq_grammar.specs.Stages.{head_of};
 ghost use Rattle.std.specs.List.{list_any};
-ghost use Rattle.std.specs.Prelude.{◌≡◌, ◌++◌, ◌∷◌, [], IfOk, false, length, map};
+ghost use Rattle.std.specs.Prelude.{◌≡◌, ◌<◌, ◌≤◌, ◌++◌, ◌∷◌, [], IfOk, false, length, map};
 ghost use Rattle.std.specs.Str.{bytes_eq};
 
 use crate::naming::{Named, Names};
-use cmwq_types::{Actor, Flags, Line, NoMemory, QueueDecl, QueueId, Scenario, WorkDecl};
+use cmwq_types::{
+    Actor, Flags, Line, MAX_QUEUES, MAX_WORKS, NoMemory, QueueDecl, QueueId, Scenario, WorkDecl,
+};
 use std::alloc::Global;
 use std::marker::Model;
 
@@ -41,8 +43,12 @@ impl<'t> Model for Draft<'t> {
       actors = d.actors.items;
     } };
 
+    ghost use Rattle.cmwq_types.specs.declared.limits.TheConstants.{MAX_QUEUES, MAX_WORKS};
+    ghost use Rattle.std.specs.Prelude.{◌≤◌, length};
+
     ghost invariant = { λ d.
-      (d.queue_names ≡ map (λ queue. queue.name) d.queues.items)
+      (length d.queues.items ≤ MAX_QUEUES) × (length d.works.items ≤ MAX_WORKS)
+      × (d.queue_names ≡ map (λ queue. queue.name) d.queues.items)
       × (d.work_names ≡ map (λ work. work.name) d.works.items)
       × (d.actor_names ≡ map (λ actor. actor.name) d.actors.items) };
 }
@@ -98,14 +104,16 @@ impl<'t> Draft<'t> {
 
     /// The queues' names, by their numbers.
     pub(crate) fn queue_names(&self) -> &Names<'t>
-        ensures { result.now ≡ queue_names self.now }
+        ensures names { result.now ≡ queue_names self.now }
+        ensures few { length result.now ≤ MAX_QUEUES }
     {
         &self.queue_names
     }
 
     /// The works' names, by their numbers.
     pub(crate) fn work_names(&self) -> &Names<'t>
-        ensures { result.now ≡ work_names self.now }
+        ensures names { result.now ≡ work_names self.now }
+        ensures few { length result.now ≤ MAX_WORKS }
     {
         &self.work_names
     }
@@ -124,7 +132,8 @@ impl<'t> Draft<'t> {
         max: u16,
         flags: Flags,
     ) -> Result<Draft<'t>, NoMemory>
-        requires { list_any (λ other. bytes_eq other name.now) (queue_names self) ≡ false }
+        requires room { length self.queues < MAX_QUEUES }
+        requires new { list_any (λ other. bytes_eq other name.now) (queue_names self) ≡ false }
         ensures { IfOk result (λ draft. draft
             ≡ record self.entry { queues = self.entry.queues ++ record { name = name.now; max = max; flags = flags } ∷ [] }) }
     {
@@ -144,7 +153,8 @@ impl<'t> Draft<'t> {
         name: &Named<'t>,
         queue: QueueId,
     ) -> Result<Draft<'t>, NoMemory>
-        requires { list_any (λ other. bytes_eq other name.now) (work_names self) ≡ false }
+        requires room { length self.works < MAX_WORKS }
+        requires new { list_any (λ other. bytes_eq other name.now) (work_names self) ≡ false }
         ensures { IfOk result (λ draft. draft
             ≡ record self.entry { works = self.entry.works ++ record { name = name.now; queue = queue; body = [] } ∷ [] }) }
     {
@@ -177,7 +187,8 @@ impl<'t> Draft<'t> {
 
     /// With these works, of the same names.
     pub(crate) fn with_works(mut self, works: Vec<WorkDecl>) -> Draft<'t>
-        requires { map (λ work. work.name) works.items ≡ work_names self }
+        requires count { length works.items ≡ length self.works }
+        requires names { map (λ work. work.name) works.items ≡ work_names self }
         ensures { result ≡ record self.entry { works = works.items } }
     {
         self.works = works;

@@ -44,3 +44,47 @@ pub(crate) fn read_cpus<'t>(word: &[u8], rest: &[Token]) -> Result<Stage<'t>, Li
     let cpus = read_head_number(b"cpus", 1, u32::from(MAX_CPUS), word, rest)?;
     Ok(Stage::Cpus(cpus as u8))
 }
+
+/// `workers N`.
+#[tactic(auto, using(crate::proofs::HeaderLemmas::head_steps), unfolding(cmwq_grammar::specs::Reasons::step))]
+pub(crate) fn read_workers<'t>(
+    cpus: u8,
+    word: &[u8],
+    rest: &[Token],
+) -> Result<Stage<'t>, LineError>
+    ensures { Gives stage_of result (step (stage.Cpus cpus) (word.now ∷ rest.now)) }
+{
+    let workers = read_head_number(b"workers", 1, u32::from(MAX_WORKERS), word, rest)?;
+    Ok(Stage::Workers(cpus, workers as u8))
+}
+
+/// `steps N`.
+#[tactic(auto, using(crate::proofs::HeaderLemmas::head_steps), unfolding(cmwq_grammar::specs::Reasons::step))]
+pub(crate) fn read_steps<'t>(
+    cpus: u8,
+    workers: u8,
+    word: &[u8],
+    rest: &[Token],
+) -> Result<Stage<'t>, LineError>
+    ensures { Gives stage_of result (step (stage.Workers cpus workers) (word.now ∷ rest.now)) }
+{
+    let steps = read_head_number(b"steps", 1, MAX_STEPS, word, rest)?;
+    Ok(Stage::Steps(cpus, workers, steps))
+}
+
+/// `flushes N`, the head's last line.
+#[tactic(auto, using(crate::proofs::HeaderLemmas::head_steps), unfolding(cmwq_grammar::specs::Reasons::step))]
+pub(crate) fn read_flushes<'t>(
+    alloc: Global,
+    cpus: u8,
+    workers: u8,
+    steps: u32,
+    word: &[u8],
+    rest: &[Token],
+) -> Result<Stage<'t>, LineError>
+    ensures { Gives stage_of result (step (stage.Steps cpus workers steps) (word.now ∷ rest.now)) }
+{
+    let flushes = read_head_number(b"flushes", 0, u32::from(MAX_FLUSHES), word, rest)?;
+    let draft = Draft::new(alloc, cpus, workers, steps, flushes as u16);
+    Ok(Stage::Queues(draft))
+}

@@ -3,6 +3,7 @@
 
 mod bodies;
 mod cutting;
+mod declarations;
 mod draft;
 mod fault;
 mod fields;
@@ -12,6 +13,7 @@ mod listing;
 mod misplaced;
 mod naming;
 mod open;
+mod queues;
 mod stage;
 mod tokens;
 
