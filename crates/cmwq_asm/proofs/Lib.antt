@@ -1,8 +1,10 @@
 mod BodyLemmas
 mod CuttingLemmas
 mod HeaderLemmas
+mod LastFields
 pub mod LineLemmas
 mod LineSteps
 mod NameLemmas
 mod NumberLemmas
+mod Refused
 mod TokenLemmas

@@ -1,6 +1,9 @@
 pub mod Answers
 pub mod Declarations
 pub mod Header
+pub mod Instructions
+pub mod LastFields
+pub mod Operations
 pub mod Parts
 pub mod Refusals
 pub mod Stages

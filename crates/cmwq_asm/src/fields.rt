@@ -1,6 +1,7 @@
 //! The fields of a line. Each is read off the words that are left: its value and the words after it, or
 //! why it isn't there.
 ghost use Rattle.cmwq_asm.specs.Answers.{Tells};
+ghost use Rattle.cmwq_asm.specs.LastFields.{last};
 ghost use Rattle.cmwq_grammar.specs.Fields.{after_word, declared_at, ended, is_number, name_at, new_name_at, number_at, number_where, word_at};
 ghost use Rattle.cmwq_types.specs.Faults.{within};
 ghost use Rattle.std.specs.Char.{is_ascii_digit};
@@ -30,11 +31,12 @@ pub(crate) fn read_word<'a, 't>(words: &'a [Token<'t>]) -> Field<'a, 't, &'t [u8
 
 /// The value, if no word is left.
 #[tactic(auto, unfolding(cmwq_grammar::specs::Fields::ended))]
-pub(crate) fn read_end(words: &[Token]) -> Result<(), Why>
-    ensures { Tells (λ none. none) result (ended tt words.now) }
+pub(crate) fn ended<T: Drop>(value: T, words: &[Token]) -> Result<T, Why>
+    ensures told { Tells (λ found. found) result (ended value words.now) }
+    ensures same { IfOk result (λ found. found ≡ value) }
 {
     if words.is_empty() {
-        Ok(())
+        Ok(value)
     } else {
         Err(Why::ExtraWord)
     }
@@ -126,6 +128,44 @@ pub(crate) fn read_number_below<'a, 't>(
         return Err(Why::Fault(Fault::Range));
     }
     Ok((number as u8, rest))
+}
+
+/// The number of a name that is among these, in a line's last word.
+pub(crate) fn read_last_declared(names: &Names, words: &[Token]) -> Result<usize, Why>
+    ensures number { Tells (λ n. n) result (last (declared_at names.now words.now)) }
+    ensures within { IfOk result (λ n. n < length names.now) }
+{
+    let (number, rest) = read_declared(names, words)?;
+    ended(number, rest)
+}
+
+/// A name that isn't among these yet, in a line's last word.
+pub(crate) fn read_last_new_name<'t>(
+    names: &Names,
+    words: &[Token<'t>],
+) -> Result<Named<'t>, Why>
+    ensures name { Tells (λ name. name) result (last (new_name_at names.now words.now)) }
+    ensures new { IfOk result (λ name. list_any (λ other. bytes_eq other name) names.now ≡ false) }
+{
+    let (name, rest) = read_new_name(names, words)?;
+    ended(name, rest)
+}
+
+/// A number from `low` to `high`, both included, in a line's last word.
+pub(crate) fn read_last_number_within(low: u32, high: u32, words: &[Token]) -> Result<u32, Why>
+    ensures number { Tells (λ n. n) result (last (number_where (within low high) words.now)) }
+    ensures within { IfOk result (λ n. n ≤ high) }
+{
+    let (number, rest) = read_number_within(low, high, words)?;
+    ended(number, rest)
+}
+
+/// A number below the limit, in a line's last word.
+pub(crate) fn read_last_number_below(limit: u8, words: &[Token]) -> Result<u8, Why>
+    ensures { Tells (λ n. n) result (last (number_where (λ n. nat_lt n limit) words.now)) }
+{
+    let (number, rest) = read_number_below(limit, words)?;
+    ended(number, rest)
 }
 
 /// The words after this word, which must stand here.

@@ -8,7 +8,7 @@ ghost use Rattle.std.specs.Prelude.{◌≤◌, ◌∷◌, IfOk};
 
 use crate::draft::Draft;
 use crate::fault::LineError;
-use crate::fields::{is_word, read_end, read_number_within};
+use crate::fields::{is_word, read_last_number_within};
 use crate::misplaced::refusal;
 use crate::stage::Stage;
 use crate::tokens::Token;
@@ -31,9 +31,7 @@ fn read_head_number(
     if !is_word(word, wanted) {
         return Err(refusal(Why::Misplaced, word));
     }
-    let (number, rest) = read_number_within(low, high, rest)?;
-    read_end(rest)?;
-    Ok(number)
+    read_last_number_within(low, high, rest)
 }
 
 /// `cpus N`.

@@ -1,6 +1,7 @@
 //! The text of a scenario: its listing, and what a text says.
 #![tactic(auto)]
 
+mod actors;
 mod bodies;
 mod cutting;
 mod declarations;
@@ -8,14 +9,17 @@ mod draft;
 mod fault;
 mod fields;
 mod header;
+mod instructions;
 mod lines;
 mod listing;
 mod misplaced;
 mod naming;
 mod open;
+mod operations;
 mod queues;
 mod stage;
 mod tokens;
+mod works;
 
 pub use cmwq_grammar::Why;
 pub use fault::AsmError;
