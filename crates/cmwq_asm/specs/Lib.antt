@@ -7,3 +7,4 @@ pub mod Operations
 pub mod Parts
 pub mod Refusals
 pub mod Stages
+pub mod Steps

@@ -48,5 +48,6 @@ pub(crate) fn add_line<'t>(mut actor: OpenActor<'t>, line: Line) -> Result<Stage
 pub(crate) fn close_actor<'t>(actor: OpenActor<'t>) -> Result<Draft<'t>, NoMemory>
     ensures { IfOk result (λ draft. draft ≡ with_actor actor.entry.draft actor.entry.name actor.entry.lines.items) }
 {
-    actor.draft.with_actor(&actor.name, actor.lines)
+    let OpenActor { draft, name, lines } = actor;
+    draft.with_actor(&name, lines)
 }

@@ -2,7 +2,7 @@
 ghost use Rattle.cmwq_asm.specs.Answers.{Tells};
 ghost use Rattle.cmwq_asm.specs.Instructions.{last_instr_at, later_instr_at};
 ghost use Rattle.cmwq_grammar.specs.Instructions.{instr_at, line_at, number_to, on_queue, on_queue_max, on_work, on_work_cpu, on_work_cpu_ticks, times_at};
-ghost use Rattle.std.specs.Prelude.{◌≡◌};
+ghost use Rattle.std.specs.Prelude.{◌∷◌};
 
 use crate::draft::Draft;
 use crate::fields::{
@@ -23,20 +23,25 @@ pub(crate) fn read_line(draft: &Draft, word: &[u8], rest: &[Token]) -> Result<Li
 }
 
 /// The line of this instruction, which stands once, or as often as `* N` says.
-#[tactic(auto, using(crate::proofs::LineSteps::line_steps))]
 fn read_times(instr: Instr, words: &[Token]) -> Result<Line, Why>
     ensures { Tells (λ line. line) result (times_at instr words.now) }
 {
     match words {
         [] => Ok(Line { instr, times: 1 }),
-        [word, rest @ ..] => {
-            if !is_word(word.bytes(), b"*") {
-                return Err(Why::ExtraWord);
-            }
-            let times = read_last_number_within(1, MAX_TIMES, rest)?;
-            Ok(Line { instr, times })
-        }
+        [word, rest @ ..] => read_repeated(instr, word.bytes(), rest),
     }
+}
+
+/// The line of this instruction behind which the word stands, which must be `*`.
+#[tactic(auto, using(crate::proofs::LineSteps::line_steps))]
+fn read_repeated(instr: Instr, word: &[u8], rest: &[Token]) -> Result<Line, Why>
+    ensures { Tells (λ line. line) result (times_at instr (word.now ∷ rest.now)) }
+{
+    if !is_word(word, b"*") {
+        return Err(Why::ExtraWord);
+    }
+    let times = read_last_number_within(1, MAX_TIMES, rest)?;
+    Ok(Line { instr, times })
 }
 
 /// The instruction that begins with this word.

@@ -18,6 +18,7 @@ mod open;
 mod operations;
 mod queues;
 mod stage;
+mod steps;
 mod tokens;
 mod works;
 

@@ -2,6 +2,7 @@
 ghost use Rattle.cmwq_asm.specs.Answers.{Gives, Tells};
 ghost use Rattle.cmwq_asm.specs.Declarations.{queue_of};
 ghost use Rattle.cmwq_asm.specs.Stages.{stage_of};
+ghost use Rattle.cmwq_asm.specs.Steps.{declared_queue};
 ghost use Rattle.cmwq_grammar.specs.Instructions.{queue_names};
 ghost use Rattle.cmwq_grammar.specs.Reasons.{add_flag, add_queue, flags_at, queue_at_line, set_once};
 ghost use Rattle.cmwq_types.specs.Faults.{fits_flags};
@@ -19,9 +20,20 @@ use crate::tokens::Token;
 use cmwq_grammar::Why;
 use cmwq_types::{Fault, Flags, MAX_MAX_ACTIVE, MAX_QUEUES};
 
+/// Declares the queue that is behind the word `queue`.
+pub(crate) fn declare_queue<'t>(
+    draft: Draft<'t>,
+    rest: &[Token<'t>],
+) -> Result<Stage<'t>, LineError>
+    ensures { Gives stage_of result (declared_queue draft.entry rest.now) }
+{
+    let queue = read_queue(&draft, rest)?;
+    add_queue(draft, queue)
+}
+
 /// What is behind the word `queue`.
 #[tactic(auto, unfolding(cmwq_grammar::specs::Reasons::queue_at_line))]
-pub(crate) fn read_queue<'t>(
+fn read_queue<'t>(
     draft: &Draft<'t>,
     rest: &[Token<'t>],
 ) -> Result<QueueLine<'t>, Why>
@@ -88,7 +100,7 @@ fn set_once(was_set: bool, flags: Flags) -> Result<Flags, Why>
 
 /// Declares the queue.
 #[tactic(auto, unfolding(cmwq_grammar::specs::Reasons::add_queue))]
-pub(crate) fn add_queue<'t>(
+fn add_queue<'t>(
     draft: Draft<'t>,
     queue: QueueLine<'t>,
 ) -> Result<Stage<'t>, LineError>

@@ -2,6 +2,7 @@
 ghost use Rattle.cmwq_asm.specs.Answers.{Gives, Tells};
 ghost use Rattle.cmwq_asm.specs.Declarations.{work_of};
 ghost use Rattle.cmwq_asm.specs.Stages.{stage_of};
+ghost use Rattle.cmwq_asm.specs.Steps.{declared_work};
 ghost use Rattle.cmwq_grammar.specs.Instructions.{work_names};
 ghost use Rattle.cmwq_grammar.specs.Reasons.{add_work, work_at_line};
 ghost use Rattle.std.specs.List.{list_any};
@@ -18,9 +19,21 @@ use cmwq_grammar::Why;
 use cmwq_types::{Fault, MAX_WORKS, QueueId};
 use std::alloc::Global;
 
+/// Declares the work that is behind the word `work`.
+pub(crate) fn declare_work<'t>(
+    alloc: Global,
+    draft: Draft<'t>,
+    rest: &[Token<'t>],
+) -> Result<Stage<'t>, LineError>
+    ensures { Gives stage_of result (declared_work draft.entry rest.now) }
+{
+    let work = read_work(&draft, rest)?;
+    add_work(alloc, draft, work)
+}
+
 /// What is behind the word `work`.
 #[tactic(auto, using(crate::proofs::LineSteps::line_steps), unfolding(cmwq_grammar::specs::Reasons::work_at_line))]
-pub(crate) fn read_work<'t>(draft: &Draft<'t>, rest: &[Token<'t>]) -> Result<WorkLine<'t>, Why>
+fn read_work<'t>(draft: &Draft<'t>, rest: &[Token<'t>]) -> Result<WorkLine<'t>, Why>
     ensures line { Tells work_of result (work_at_line draft.now rest.now) }
     ensures new { IfOk result (λ work. list_any (λ other. bytes_eq other work.name) (work_names draft.now) ≡ false) }
 {
@@ -32,7 +45,7 @@ pub(crate) fn read_work<'t>(draft: &Draft<'t>, rest: &[Token<'t>]) -> Result<Wor
 
 /// Declares the work.
 #[tactic(auto, unfolding(cmwq_grammar::specs::Reasons::add_work))]
-pub(crate) fn add_work<'t>(
+fn add_work<'t>(
     alloc: Global,
     draft: Draft<'t>,
     work: WorkLine<'t>,
