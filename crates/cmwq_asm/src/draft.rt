@@ -12,9 +12,9 @@ use cmwq_types::{
 use std::alloc::Global;
 use std::marker::Model;
 
-/// The parts of a scenario that are told so far. Contracts see the scenario of these parts.
+/// What is told so far, with the names by their numbers.
 #[derive(Drop)]
-pub(crate) struct Draft<'t> {
+struct Parts<'t> {
     cpus: u8,
     workers: u8,
     steps: u32,
@@ -27,6 +27,11 @@ pub(crate) struct Draft<'t> {
     actor_names: Names<'t>,
 }
 
+/// The parts of a scenario that are told so far. Contracts see the scenario of these parts.
+pub(crate) struct Draft<'t> {
+    parts: Parts<'t>,
+}
+
 impl<'t> Model for Draft<'t> {
     ghost use Rattle.cmwq_types.specs.Contents.{ScenarioContents};
     ghost use Rattle.std.specs.Prelude.{◌≡◌, map};
@@ -34,23 +39,30 @@ impl<'t> Model for Draft<'t> {
     ghost Value = { ScenarioContents };
 
     ghost view = { λ d. record {
-      cpus = d.cpus;
-      workers = d.workers;
-      steps = d.steps;
-      flushes = d.flushes;
-      queues = d.queues.items;
-      works = d.works.items;
-      actors = d.actors.items;
+      cpus = d.parts.cpus;
+      workers = d.parts.workers;
+      steps = d.parts.steps;
+      flushes = d.parts.flushes;
+      queues = d.parts.queues.items;
+      works = d.parts.works.items;
+      actors = d.parts.actors.items;
     } };
 
     ghost use Rattle.cmwq_types.specs.declared.limits.TheConstants.{MAX_QUEUES, MAX_WORKS};
     ghost use Rattle.std.specs.Prelude.{◌≤◌, length};
 
     ghost invariant = { λ d.
-      (length d.queues.items ≤ MAX_QUEUES) × (length d.works.items ≤ MAX_WORKS)
-      × (d.queue_names ≡ map (λ queue. queue.name) d.queues.items)
-      × (d.work_names ≡ map (λ work. work.name) d.works.items)
-      × (d.actor_names ≡ map (λ actor. actor.name) d.actors.items) };
+      (length d.parts.queues.items ≤ MAX_QUEUES) × (length d.parts.works.items ≤ MAX_WORKS)
+      × (d.parts.queue_names ≡ map (λ queue. queue.name) d.parts.queues.items)
+      × (d.parts.work_names ≡ map (λ work. work.name) d.parts.works.items)
+      × (d.parts.actor_names ≡ map (λ actor. actor.name) d.parts.actors.items) };
+}
+
+/// A draft is dropped as one: whoever drops it needs to know nothing of its parts.
+impl<'t> Drop for Draft<'t> {
+    fn drop(self) {
+        let Draft { parts: _parts } = self;
+    }
 }
 
 impl<'t> Draft<'t> {
@@ -64,7 +76,7 @@ impl<'t> Draft<'t> {
     ) -> Draft<'t>
         ensures { result ≡ head_of cpus workers steps flushes }
     {
-        Draft {
+        let parts = Parts {
             cpus,
             workers,
             steps,
@@ -75,31 +87,32 @@ impl<'t> Draft<'t> {
             queue_names: Names::new(alloc),
             work_names: Names::new(alloc),
             actor_names: Names::new(alloc),
-        }
+        };
+        Draft { parts }
     }
 
     pub(crate) fn cpus(&self) -> u8
         ensures { result ≡ self.now.cpus }
     {
-        self.cpus
+        self.parts.cpus
     }
 
     pub(crate) fn queues(&self) -> &[QueueDecl]
         ensures { result.now ≡ self.now.queues }
     {
-        &self.queues
+        &self.parts.queues
     }
 
     pub(crate) fn works(&self) -> &[WorkDecl]
         ensures { result.now ≡ self.now.works }
     {
-        &self.works
+        &self.parts.works
     }
 
     pub(crate) fn actors(&self) -> &[Actor]
         ensures { result.now ≡ self.now.actors }
     {
-        &self.actors
+        &self.parts.actors
     }
 
     /// The queues' names, by their numbers.
@@ -107,7 +120,7 @@ impl<'t> Draft<'t> {
         ensures names { result.now ≡ queue_names self.now }
         ensures few { length result.now ≤ MAX_QUEUES }
     {
-        &self.queue_names
+        &self.parts.queue_names
     }
 
     /// The works' names, by their numbers.
@@ -115,19 +128,19 @@ impl<'t> Draft<'t> {
         ensures names { result.now ≡ work_names self.now }
         ensures few { length result.now ≤ MAX_WORKS }
     {
-        &self.work_names
+        &self.parts.work_names
     }
 
     /// The actors' names.
     pub(crate) fn actor_names(&self) -> &Names<'t>
         ensures { result.now ≡ actor_names self.now }
     {
-        &self.actor_names
+        &self.parts.actor_names
     }
 
     /// With a further queue.
     pub(crate) fn with_queue(
-        mut self,
+        self,
         name: &Named<'t>,
         max: u16,
         flags: Flags,
@@ -137,18 +150,19 @@ impl<'t> Draft<'t> {
         ensures { IfOk result (λ draft. draft
             ≡ record self.entry { queues = self.entry.queues ++ record { name = name.now; max = max; flags = flags } ∷ [] }) }
     {
-        self.queue_names.add(name)?;
-        self.queues.push(QueueDecl {
+        let Draft { mut parts } = self;
+        parts.queue_names.add(name)?;
+        parts.queues.push(QueueDecl {
             name: name.name(),
             max,
             flags,
         })?;
-        Ok(self)
+        Ok(Draft { parts })
     }
 
     /// With a further work, which has no body yet.
     pub(crate) fn with_work(
-        mut self,
+        self,
         alloc: Global,
         name: &Named<'t>,
         queue: QueueId,
@@ -158,18 +172,19 @@ impl<'t> Draft<'t> {
         ensures { IfOk result (λ draft. draft
             ≡ record self.entry { works = self.entry.works ++ record { name = name.now; queue = queue; body = [] } ∷ [] }) }
     {
-        self.work_names.add(name)?;
-        self.works.push(WorkDecl {
+        let Draft { mut parts } = self;
+        parts.work_names.add(name)?;
+        parts.works.push(WorkDecl {
             name: name.name(),
             queue,
             body: Vec::new(alloc),
         })?;
-        Ok(self)
+        Ok(Draft { parts })
     }
 
     /// With a further actor.
     pub(crate) fn with_actor(
-        mut self,
+        self,
         name: &Named<'t>,
         lines: Vec<Line>,
     ) -> Result<Draft<'t>, NoMemory>
@@ -177,36 +192,39 @@ impl<'t> Draft<'t> {
         ensures { IfOk result (λ draft. draft
             ≡ record self.entry { actors = self.entry.actors ++ record { name = name.now; lines = lines.items } ∷ [] }) }
     {
-        self.actor_names.add(name)?;
-        self.actors.push(Actor {
+        let Draft { mut parts } = self;
+        parts.actor_names.add(name)?;
+        parts.actors.push(Actor {
             name: name.name(),
             lines,
         })?;
-        Ok(self)
+        Ok(Draft { parts })
     }
 
     /// With these works, of the same names.
-    pub(crate) fn with_works(mut self, works: Vec<WorkDecl>) -> Draft<'t>
+    pub(crate) fn with_works(self, works: Vec<WorkDecl>) -> Draft<'t>
         requires count { length works.items ≡ length self.works }
         requires names { map (λ work. work.name) works.items ≡ work_names self }
         ensures { result ≡ record self.entry { works = works.items } }
     {
-        self.works = works;
-        self
+        let Draft { mut parts } = self;
+        parts.works = works;
+        Draft { parts }
     }
 
     /// The scenario of what was told.
     pub(crate) fn into_scenario(self) -> Scenario
         ensures { result ≡ self.entry }
     {
+        let Draft { parts } = self;
         Scenario {
-            cpus: self.cpus,
-            workers: self.workers,
-            steps: self.steps,
-            flushes: self.flushes,
-            queues: self.queues,
-            works: self.works,
-            actors: self.actors,
+            cpus: parts.cpus,
+            workers: parts.workers,
+            steps: parts.steps,
+            flushes: parts.flushes,
+            queues: parts.queues,
+            works: parts.works,
+            actors: parts.actors,
         }
     }
 }

@@ -176,9 +176,20 @@ pub(crate) fn at_end(stage: Stage) -> Result<Scenario, LineError>
 {
     match stage {
         Stage::Queues(draft) => Ok(draft.into_scenario()),
-        Stage::Bodies(bodies) if bodies.are_complete() => Ok(bodies.into_draft().into_scenario()),
+        Stage::Bodies(bodies) => end_between_bodies(bodies),
         Stage::Body(_) => Err(LineError::Why(Why::Fault(Fault::BadBody))),
         Stage::Actor(actor) => Ok(close_actor(actor)?.into_scenario()),
         _ => Err(LineError::Why(Why::MissingWord)),
     }
+}
+
+/// The scenario of a text that ends where no body is open.
+#[tactic(auto, unfolding(cmwq_grammar::specs::Reasons::at_end))]
+fn end_between_bodies(bodies: Bodies) -> Result<Scenario, LineError>
+    ensures { Gives (λ scenario. scenario) result (at_end (stage.Bodies bodies.entry.told bodies.entry.done)) }
+{
+    if !bodies.are_complete() {
+        return Err(LineError::Why(Why::MissingWord));
+    }
+    Ok(bodies.into_draft().into_scenario())
 }
