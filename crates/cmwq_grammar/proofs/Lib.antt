@@ -1,0 +1,21 @@
+mod Basics
+pub mod CallerLemmas
+mod CanonicalLines
+mod Completions
+mod Continuations
+mod Events
+mod FaultLemmas
+mod FieldLemmas
+mod FlagLemmas
+mod GoodScenario
+mod InstrLemmas
+mod LineLemmas
+mod ListingLemmas
+mod NameLists
+mod ReadingLemmas
+mod SameLines
+mod Soundness
+mod SpellingLemmas
+mod StepRead
+mod StepSaid
+mod Utf8Lemmas

@@ -1,6 +1,6 @@
 -- Short texts, and what reading them gives.
-use Rattle.std.specs.Prelude.{◌≡◌, ℕ, List, [], ◌∷◌, ◌++◌, take, Ok, Err, codes}
-use Rattle.std.specs.List.{flat_map}
+use Rattle.std.specs.Prelude.{◌≡◌, ℕ, ◌+◌, List, [], ◌∷◌, ◌++◌, map, replicate, take, Ok, Err, codes}
+use Rattle.std.specs.List.{flat_map, range_with_len}
 use Rattle.cmwq_types.specs.Contents.{ScenarioContents, ActorContents}
 use Rattle.cmwq_types.specs.Scenario.{plain_flags}
 use Rattle.cmwq_types.specs.declared.instr.Instr.TheVariants as instr
@@ -55,9 +55,12 @@ queues_itself_lines =
 abbrev pub queue_alone : List QueueDecl → ScenarioContents
 queue_alone queues = record (head_of 1 4 8 2) { queues = queues }
 
+abbrev pub queue_q : List QueueDecl
+queue_q = record { name = codes "q"; max = 1; flags = plain_flags } ∷ []
+
 abbrev pub one_work : List ActorContents → ScenarioContents
 one_work actors =
-    record (queue_alone (record { name = codes "q"; max = 1; flags = plain_flags } ∷ [])) {
+    record (queue_alone queue_q) {
       works = record { name = codes "a"; queue = record { 0 = 0 }; body = op.Queue (record { 0 = 0 }) 0 ∷ op.Finish ∷ [] } ∷ [];
       actors = actors;
     }
@@ -66,11 +69,13 @@ one_work actors =
 abbrev pub actor_t : List Line → List ActorContents
 actor_t lines = record { name = codes "t"; lines = lines } ∷ []
 
-abbrev pub queues_itself : ScenarioContents
-queues_itself =
-    one_work (actor_t (
+abbrev pub itself_lines : List Line
+itself_lines =
     record { instr = instr.Queue (record { 0 = 0 }) 0; times = 1 } ∷ record { instr = instr.Next; times = 8 }
-    ∷ record { instr = instr.State (record { 0 = 0 }); times = 1 } ∷ []))
+    ∷ record { instr = instr.State (record { 0 = 0 }); times = 1 } ∷ []
+
+abbrev pub queues_itself : ScenarioContents
+queues_itself = one_work (actor_t itself_lines)
 
 -- that text cut after n lines
 abbrev pub cut_after : ℕ → List ℕ
@@ -103,3 +108,17 @@ AfterBodyIs line reason =
 -- as an actor's line
 abbrev pub InActorIs : List ℕ → Why → Type 0
 InActorIs line reason = FaultIs (after_head (with_work ++ codes "actor t" ∷ line ∷ [])) 11 reason
+
+-- sixteen actors `a` to `p`, which do nothing
+abbrev pub letters : List (List ℕ)
+letters = map (λ k. (97 + k) ∷ []) (range_with_len 0 16)
+
+abbrev pub actor_lines : List (List ℕ)
+actor_lines = map (λ name. codes "actor " ++ name) letters
+
+abbrev pub sixteen_actors : List ActorContents
+sixteen_actors = map (λ name. record { name = name; lines = [] }) letters
+
+-- a body of 63 operations that isn't ended
+abbrev pub long_body : List (List ℕ)
+long_body = codes "queue q max 1" ∷ codes "work a q" ∷ codes "body a" ∷ replicate 63 (codes "burn 1")

@@ -1,7 +1,7 @@
 //! Short texts, as theorems over the definitions: what reading them gives.
-ghost use Rattle.cmwq_grammar.specs.Examples.{AfterBodyIs, DeclaredIs, FaultIs, FirstLineIs, InActorIs, InBodyIs, ReadsAs, after_head, cut_after, free_head, head_lines, nothing, one_work, queue_alone, queues_itself, text, with_bad_byte, with_work};
+ghost use Rattle.cmwq_grammar.specs.Examples.{AfterBodyIs, DeclaredIs, FaultIs, FirstLineIs, InActorIs, InBodyIs, ReadsAs, actor_lines, actor_t, after_head, cut_after, free_head, head_lines, itself_lines, long_body, nothing, one_work, queue_alone, queue_q, queues_itself, sixteen_actors, text, with_bad_byte};
 ghost use Rattle.cmwq_types.specs.Listing.{listing};
-ghost use Rattle.std.specs.Prelude.{◌≡◌, ◌∷◌, ◌++◌, [], codes};
+ghost use Rattle.std.specs.Prelude.{◌≡◌, ◌∷◌, ◌++◌, [], codes, take};
 
 use crate::why::Why;
 use cmwq_types::Fault;
@@ -45,10 +45,14 @@ pub fn cut_listing_ends_well_or_not()
     ensures cut_2 { FaultIs (cut_after 2) 3 Why.MissingWord }
     ensures cut_3 { FaultIs (cut_after 3) 4 Why.MissingWord }
     ensures cut_4 { ReadsAs (cut_after 4) (queue_alone []) }
+    ensures cut_5 { ReadsAs (cut_after 5) (queue_alone queue_q) }
     ensures cut_6 { FaultIs (cut_after 6) 7 Why.MissingWord }
     ensures cut_7 { FaultIs (cut_after 7) 8 (Why.Fault Fault.BadBody) }
     ensures cut_8 { FaultIs (cut_after 8) 9 (Why.Fault Fault.BadBody) }
     ensures cut_9 { ReadsAs (cut_after 9) (one_work []) }
+    ensures cut_10 { ReadsAs (cut_after 10) (one_work (actor_t [])) }
+    ensures cut_11 { ReadsAs (cut_after 11) (one_work (actor_t (take 1 itself_lines))) }
+    ensures cut_12 { ReadsAs (cut_after 12) (one_work (actor_t (take 2 itself_lines))) }
 {}
 
 /// A byte that isn't UTF-8 is the first fault of its line.
@@ -136,4 +140,12 @@ pub fn reasons_in_actors()
     ensures too_many_times { InActorIs (codes "next * 65536") (Why.Fault Fault.Range) }
     ensures bad_times { InActorIs (codes "next * x") Why.BadNumber }
     ensures extra_times { InActorIs (codes "next * 2 *") Why.ExtraWord }
+{}
+
+/// One actor, or one operation that isn't `finish`, over its limit is too many.
+pub fn one_over_a_limit_is_too_many()
+    ensures actors { ReadsAs (after_head actor_lines) (record nothing { actors = sixteen_actors }) }
+    ensures actor { FaultIs (after_head (actor_lines ++ codes "actor t" ∷ [])) 21 (Why.Fault Fault.TooMany) }
+    ensures operation { FaultIs (after_head (long_body ++ codes "burn 1" ∷ [])) 71 (Why.Fault Fault.TooMany) }
+    ensures finish { FaultIs (after_head (long_body ++ codes "finish" ∷ codes "finish" ∷ [])) 72 Why.Misplaced }
 {}

@@ -2,7 +2,8 @@
 //! first fault of a text is. Laws over these definitions are functions with empty bodies.
 #![tactic(auto)]
 
-mod examples;
+pub mod examples;
+pub mod laws;
 mod why;
 
 pub use why::Why;

@@ -29,6 +29,10 @@ pub returns-clause-cut_4 : goal.returns-clause-cut_4
 unfolding digits encode chars is_utf8 after_word declared_at ended name_at new_name_at number_at number_where word_at cannot_stand instr_at line_at reads reads_lines stage_after add_flag add_line add_op add_queue add_work at_end flags_at judge op_at_line open_actor open_body queue_at_line step work_at_line
 returns-clause-cut_4 c = refl
 
+pub returns-clause-cut_5 : goal.returns-clause-cut_5
+unfolding digits encode chars is_utf8 after_word declared_at ended name_at new_name_at number_at number_where word_at cannot_stand instr_at line_at reads reads_lines stage_after add_flag add_line add_op add_queue add_work at_end flags_at judge op_at_line open_actor open_body queue_at_line step work_at_line
+returns-clause-cut_5 c = refl
+
 pub returns-clause-cut_6 : goal.returns-clause-cut_6
 unfolding digits encode chars is_utf8 after_word declared_at ended name_at new_name_at number_at number_where word_at cannot_stand instr_at line_at reads reads_lines stage_after add_flag add_line add_op add_queue add_work at_end flags_at judge op_at_line open_actor open_body queue_at_line step work_at_line
 returns-clause-cut_6 c = refl
@@ -44,3 +48,15 @@ returns-clause-cut_8 c = refl
 pub returns-clause-cut_9 : goal.returns-clause-cut_9
 unfolding digits encode chars is_utf8 after_word declared_at ended name_at new_name_at number_at number_where word_at cannot_stand instr_at line_at reads reads_lines stage_after add_flag add_line add_op add_queue add_work at_end flags_at judge op_at_line open_actor open_body queue_at_line step work_at_line
 returns-clause-cut_9 c = refl
+
+pub returns-clause-cut_10 : goal.returns-clause-cut_10
+unfolding digits encode chars is_utf8 after_word declared_at ended name_at new_name_at number_at number_where word_at cannot_stand instr_at line_at reads reads_lines stage_after add_flag add_line add_op add_queue add_work at_end flags_at judge op_at_line open_actor open_body queue_at_line step work_at_line
+returns-clause-cut_10 c = refl
+
+pub returns-clause-cut_11 : goal.returns-clause-cut_11
+unfolding digits encode chars is_utf8 after_word declared_at ended name_at new_name_at number_at number_where word_at cannot_stand instr_at line_at reads reads_lines stage_after add_flag add_line add_op add_queue add_work at_end flags_at judge op_at_line open_actor open_body queue_at_line step work_at_line
+returns-clause-cut_11 c = refl
+
+pub returns-clause-cut_12 : goal.returns-clause-cut_12
+unfolding digits encode chars is_utf8 after_word declared_at ended name_at new_name_at number_at number_where word_at cannot_stand instr_at line_at reads reads_lines stage_after add_flag add_line add_op add_queue add_work at_end flags_at judge op_at_line open_actor open_body queue_at_line step work_at_line
+returns-clause-cut_12 c = refl

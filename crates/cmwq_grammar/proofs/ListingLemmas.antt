@@ -1,0 +1,486 @@
+-- The listing of a scenario is its text, and fits.
+use Rattle.std.proofs.Common.{◌≡◌, ℕ, zero, suc, ◌+◌, ◌*◌, ◌^◌, ◌<◌, ◌≤◌, Bool, true, false, not, ◌&&◌, List, [], ◌∷◌, ◌++◌, map, length, get_or, cond, eqb, ltb, leb, arith, refl, sym, ap, ◌∙◌, inl, inr, subst, append-nil, append_assoc, length-append, codes}
+use Rattle.std.proofs.lemmas.Bool.Decides.{nat_tests}
+use Rattle.std.proofs.lemmas.Fmt.{decimal_nonempty, digits_decimal, length-decimal-le}
+use Rattle.std.proofs.lemmas.Grind.{flat_map-append}
+use Rattle.std.proofs.lemmas.List.{length-map, map-append}
+use Rattle.std.proofs.lemmas.List.Folds.{list_all-append}
+use Rattle.std.proofs.lemmas.List.Sorted.{IsPermutation-refl}
+use Rattle.std.specs.Char.{is_ascii_digit}
+use Rattle.std.specs.Fmt.{decimal}
+use Rattle.std.specs.List.{AllByRecursion, flat_map, list_all}
+use Rattle.std.specs.Str.{all_ascii_digits}
+use Rattle.cmwq_types.specs.Contents.{ScenarioContents, WorkContents, ActorContents}
+use Rattle.cmwq_types.specs.Faults.{IsValid, fits_flags, names_declared, within}
+use Rattle.cmwq_types.specs.Listing.{WrittenLine, Words, Flagged, Repeated, actor_line, actor_lines, body_lines, flag_words, instr_words, listing, numbered, op_line, queue_line, times_words, word_if, work_line, written, written_text}
+use Rattle.cmwq_types.specs.Name.{is_lowercase, is_name, is_name_byte}
+use Rattle.cmwq_types.specs.Scenario.{queue_at, work_at}
+use Rattle.cmwq_types.specs.declared.instr.Instr.{Instr}
+use Rattle.cmwq_types.specs.declared.instr.Instr.TheVariants as instr
+use Rattle.cmwq_types.specs.declared.limits.TheConstants.{MAX_ACTORS, MAX_CPUS, MAX_FLUSHES, MAX_LINES, MAX_MAX_ACTIVE, MAX_OPS, MAX_QUEUES, MAX_STEPS, MAX_TEXT, MAX_TICKS, MAX_TIMES, MAX_WORKERS, MAX_WORKS}
+use Rattle.cmwq_types.specs.declared.scenario.Flags.{Flags}
+use Rattle.cmwq_types.specs.declared.scenario.Line.{Line}
+use Rattle.cmwq_types.specs.declared.scenario.Op.{Op}
+use Rattle.cmwq_types.specs.declared.scenario.Op.TheVariants as op
+use Rattle.cmwq_types.specs.declared.scenario.QueueDecl.{QueueDecl}
+use Rattle.cmwq_grammar.specs.Cutting.{is_empty, lines_of, worded}
+use Rattle.cmwq_grammar.specs.Grammar.{Fits, SayAll, Says, Spells, instr_fits}
+use Rattle.cmwq_grammar.specs.Instructions.{queue_names, work_names}
+use Rattle.cmwq_grammar.proofs.Basics.{and_true, true_and, either, cond_no, cond_yes}
+use Rattle.cmwq_grammar.proofs.CanonicalLines.{all_plain, fed, fed_lines, joined, plain_byte, plain_no_feeds, plain_utf8, plain_word, plain_worded, plain_words}
+use Rattle.cmwq_grammar.proofs.FieldLemmas.{numerals, within_fits}
+use Rattle.cmwq_grammar.proofs.GoodScenario.{Good, GoodBody, GoodBodyOf, good_actor, good_from_valid, good_lines, on_queue_of}
+use Rattle.cmwq_grammar.proofs.InstrLemmas.{good_line}
+use Rattle.cmwq_grammar.proofs.LineLemmas.{good_op}
+use Rattle.cmwq_grammar.proofs.NameLists.{GoodNames, name_of_queue, name_of_work}
+use Rattle.cmwq_grammar.proofs.Utf8Lemmas.{AllUtf8, text_utf8}
+
+-- The words of a line as the listing has them.
+abbrev pub canonical : WrittenLine → List (List ℕ)
+canonical (Words words) = words
+canonical (Flagged words flags) = words ++ flags
+canonical (Repeated words times) = words ++ times_words times
+
+pub canonical_says : (l : WrittenLine) → Says l (canonical l)
+canonical_says (Words words) = refl
+canonical_says (Flagged words flags) = (flags, IsPermutation-refl flags, refl)
+canonical_says (Repeated words times) =
+    elim (either (eqb times 1)) [
+      | inl one ↦ inr (grind (arith, nat_tests), ap (λ (ws : List (List ℕ)). words ++ ws) (cond_yes (eqb times 1) [] (codes "*" ∷ decimal times ∷ []) one) ∙ append-nil words)
+      | inr more ↦ inl (ap (λ (ws : List (List ℕ)). words ++ ws) (cond_no (eqb times 1) [] (codes "*" ∷ decimal times ∷ []) more))
+    ]
+
+pub canonical_say : (lines : List WrittenLine) → SayAll lines (map canonical lines)
+canonical_say [] = tt
+canonical_say (l ∷ lines) = (canonical_says l, canonical_say lines)
+
+written_is : (l : WrittenLine) → written_text l ≡ joined (canonical l) ++ 10 ∷ []
+written_is (Words words) = refl
+written_is (Flagged words flags) = refl
+written_is (Repeated words times) = refl
+
+pub listing_is : (lines : List WrittenLine) → flat_map written_text lines ≡ fed (map joined (map canonical lines))
+listing_is [] = refl
+listing_is (l ∷ lines) =
+    ap (λ (t : List ℕ). t ++ flat_map written_text lines) (written_is l) ∙ ap (λ (t : List ℕ). (joined (canonical l) ++ 10 ∷ []) ++ t) (listing_is lines)
+
+-- Words that are plain, and how long they are.
+
+record WordFits (k : ℕ) (word : List ℕ) : Type 0 where
+  plain : plain_word word ≡ true
+  short : length word ≤ k
+
+literal : (k : ℕ) (word : List ℕ) → plain_word word ≡ true → length word ≤ k → WordFits k word
+literal k word plain short = record { plain = plain; short = short }
+
+-- how many bytes the words take, each with a blank or the line feed after it
+total : List (List ℕ) → ℕ
+total [] = 0
+total (word ∷ words) = length word + 1 + total words
+
+record WordsFit (k : ℕ) (words : List (List ℕ)) : Type 0 where
+  plain : list_all plain_word words ≡ true
+  short : total words ≤ k
+
+no_words : WordsFit 0 []
+unfolding total
+no_words = record { plain = refl; short = omega arith }
+
+word_on : {a b : ℕ} {word : List ℕ} {words : List (List ℕ)} → WordFits a word → WordsFit b words → WordsFit (a + 1 + b) (word ∷ words)
+unfolding total
+word_on {word = word} {words = words} w ws = record {
+  plain = true_and (plain_word word) (list_all plain_word words) w.plain ws.plain;
+  short = omega (arith, w.short, ws.short);
+}
+
+total_append : (xs ys : List (List ℕ)) → total (xs ++ ys) ≡ total xs + total ys
+unfolding total
+total_append [] ys = omega arith
+total_append (x ∷ xs) ys = (let later : total (xs ++ ys) ≡ total xs + total ys = total_append xs ys in omega arith)
+
+words_on : {a b : ℕ} {xs ys : List (List ℕ)} → WordsFit a xs → WordsFit b ys → WordsFit (a + b) (xs ++ ys)
+words_on {xs = xs} {ys = ys} x y = record {
+  plain = list_all-append plain_word xs ys ∙ true_and (list_all plain_word xs) (list_all plain_word ys) x.plain y.plain;
+  short = (let sum : total (xs ++ ys) ≡ total xs + total ys = total_append xs ys in omega (arith, x.short, y.short));
+}
+
+words_within : {a : ℕ} {words : List (List ℕ)} (b : ℕ) → WordsFit a words → a ≤ b → WordsFit b words
+words_within b w h = record { plain = w.plain; short = omega (arith, w.short) }
+
+name_byte_plain : (b : ℕ) → is_name_byte b ≡ true → plain_byte b ≡ true
+name_byte_plain b h = grind (arith, nat_tests)
+
+digit_plain : (b : ℕ) → is_ascii_digit b ≡ true → plain_byte b ≡ true
+digit_plain b h = grind (arith, nat_tests)
+
+names_plain : (xs : List ℕ) → list_all is_name_byte xs ≡ true → list_all plain_byte xs ≡ true
+names_plain [] h = refl
+names_plain (x ∷ xs) h =
+    let both : (is_name_byte x ≡ true) × (list_all is_name_byte xs ≡ true) = and_true (is_name_byte x) (list_all is_name_byte xs) h in
+    true_and (plain_byte x) (list_all plain_byte xs) (name_byte_plain x both.0) (names_plain xs both.1)
+
+digits_plain : (xs : List ℕ) → all_ascii_digits xs ≡ true → list_all plain_byte xs ≡ true
+digits_plain [] h = refl
+digits_plain (x ∷ xs) h =
+    let both : (is_ascii_digit x ≡ true) × (all_ascii_digits xs ≡ true) = and_true (is_ascii_digit x) (all_ascii_digits xs) h in
+    true_and (plain_byte x) (list_all plain_byte xs) (digit_plain x both.0) (digits_plain xs both.1)
+
+not_empty : (n : ℕ) → 1 ≤ n → not (eqb n 0) ≡ true
+not_empty n h = grind (arith, nat_tests)
+
+at_most : (n limit : ℕ) → leb n limit ≡ true → n ≤ limit
+at_most n limit h = grind (arith, nat_tests)
+
+below : (n limit : ℕ) → ltb n limit ≡ true → n < limit
+below n limit h = grind (arith, nat_tests)
+
+name_fits : (name : List ℕ) → is_name name ≡ true → WordFits 15 name
+name_fits name is =
+    let first = leb 1 (length name) in
+    let second = leb (length name) 15 in
+    let third = is_lowercase (get_or name 0 0) in
+    let a : ((first && second && third) ≡ true) × (list_all is_name_byte name ≡ true) = and_true (first && second && third) (list_all is_name_byte name) is in
+    let b : ((first && second) ≡ true) × (third ≡ true) = and_true (first && second) third a.0 in
+    let c : (first ≡ true) × (second ≡ true) = and_true first second b.0 in
+    record { plain = true_and (not (is_empty name)) (list_all plain_byte name) (not_empty (length name) (at_most 1 (length name) c.0)) (names_plain name a.1); short = at_most (length name) 15 c.1 }
+
+number_fits : (k n : ℕ) → 0 < k → n < 10 ^ k → n < 2 ^ 64 → WordFits k (decimal n)
+number_fits k n some small wide = record {
+  plain = true_and (not (is_empty (decimal n))) (list_all plain_byte (decimal n)) (not_empty (length (decimal n)) (decimal_nonempty n wide)) (digits_plain (decimal n) (digits_decimal numerals n wide));
+  short = length-decimal-le k n some small wide;
+}
+
+-- Lines.
+
+record LineFits (k : ℕ) (l : WrittenLine) : Type 0 where
+  plain : plain_words (canonical l) ≡ true
+  short : length (written_text l) ≤ k
+
+joined_size : (word : List ℕ) (words : List (List ℕ)) → length (joined (word ∷ words) ++ 10 ∷ []) ≡ total (word ∷ words)
+unfolding total
+joined_size word [] = length-append word (10 ∷ []) ∙ omega arith
+joined_size word (next ∷ more) =
+    let later : length (joined (next ∷ more) ++ 10 ∷ []) ≡ total (next ∷ more) = joined_size next more in
+    ap length (append_assoc word (32 ∷ joined (next ∷ more)) (10 ∷ [])) ∙ length-append word (32 ∷ (joined (next ∷ more) ++ 10 ∷ [])) ∙ omega arith
+
+line_fits : {m : ℕ} {word : List ℕ} {words : List (List ℕ)} (k : ℕ) (l : WrittenLine) → canonical l ≡ word ∷ words → WordsFit m (word ∷ words) → m ≤ k → LineFits k l
+line_fits {word = word} {words = words} k l e fits h = record {
+  plain = ap plain_words e ∙ true_and (not (is_empty (word ∷ words))) (list_all plain_word (word ∷ words)) (not_empty (suc (length words)) (omega arith)) fits.plain;
+  short =
+      (let size : length (written_text l) ≡ total (word ∷ words) = ap length (written_is l) ∙ ap (λ (ws : List (List ℕ)). length (joined ws ++ 10 ∷ [])) e ∙ joined_size word words in
+      omega (arith, fits.short));
+}
+
+pub record LinesFit (k : ℕ) (lines : List WrittenLine) : Type 0 where
+  pub plain : all_plain (map canonical lines) ≡ true
+  pub short : length (flat_map written_text lines) ≤ k
+
+no_lines : LinesFit 0 []
+no_lines = record { plain = refl; short = omega arith }
+
+line_on : {a b : ℕ} {l : WrittenLine} {lines : List WrittenLine} → LineFits a l → LinesFit b lines → LinesFit (a + b) (l ∷ lines)
+line_on {l = l} {lines = lines} x y = record {
+  plain = true_and (plain_words (canonical l)) (all_plain (map canonical lines)) x.plain y.plain;
+  short = (let sum : length (written_text l ++ flat_map written_text lines) ≡ length (written_text l) + length (flat_map written_text lines) = length-append (written_text l) (flat_map written_text lines) in omega (arith, x.short, y.short));
+}
+
+lines_on : {a b : ℕ} {xs ys : List WrittenLine} → LinesFit a xs → LinesFit b ys → LinesFit (a + b) (xs ++ ys)
+lines_on {xs = xs} {ys = ys} x y = record {
+  plain = ap all_plain (map-append canonical xs ys) ∙ list_all-append plain_words (map canonical xs) (map canonical ys)
+      ∙ true_and (all_plain (map canonical xs)) (all_plain (map canonical ys)) x.plain y.plain;
+  short =
+      (let whole : length (flat_map written_text (xs ++ ys)) ≡ length (flat_map written_text xs ++ flat_map written_text ys) = ap length (flat_map-append written_text xs ys) in
+      let sum : length (flat_map written_text xs ++ flat_map written_text ys) ≡ length (flat_map written_text xs) + length (flat_map written_text ys) =
+      length-append (flat_map written_text xs) (flat_map written_text ys) in
+      omega (arith, x.short, y.short));
+}
+
+lines_within : {a : ℕ} {lines : List WrittenLine} (b : ℕ) → LinesFit a lines → a ≤ b → LinesFit b lines
+lines_within b x h = record { plain = x.plain; short = omega (arith, x.short) }
+
+-- a line of literal words, names and numbers
+numbered_fits : (k : ℕ) (word : List ℕ) (n : ℕ) → WordFits k word → n < 10 ^ 10 → LineFits (k + 12) (numbered word n)
+numbered_fits k word n w small =
+    line_fits (k + 12) (numbered word n) refl (word_on w (word_on (number_fits 10 n (omega arith) small (omega arith)) no_words)) (omega arith)
+
+-- Queues.
+
+word_if_fits : (b : Bool) (k : ℕ) (word : List ℕ) → WordFits k word → WordsFit (k + 1) (word_if b word)
+word_if_fits true k word w = words_within (k + 1) (word_on w no_words) (omega arith)
+word_if_fits false k word w = words_within (k + 1) no_words (omega arith)
+
+flags_fit : (f : Flags) → WordsFit 48 (flag_words f)
+flags_fit f =
+    let highpri = word_if_fits f.highpri 7 (codes "highpri") (literal 7 (codes "highpri") refl (omega arith)) in
+    let unbound = word_if_fits f.unbound 7 (codes "unbound") (literal 7 (codes "unbound") refl (omega arith)) in
+    let intensive = word_if_fits f.cpu_intensive 13 (codes "cpu_intensive") (literal 13 (codes "cpu_intensive") refl (omega arith)) in
+    let freezable = word_if_fits f.freezable 9 (codes "freezable") (literal 9 (codes "freezable") refl (omega arith)) in
+    let ordered = word_if_fits f.ordered 7 (codes "ordered") (literal 7 (codes "ordered") refl (omega arith)) in
+    words_within 48 (words_on (words_on (words_on (words_on highpri unbound) intensive) freezable) ordered) (omega arith)
+
+queue_fits : (q : QueueDecl) → is_name q.name ≡ true → fits_flags q ≡ true → LineFits 78 (queue_line q)
+queue_fits q named fits =
+    let parts : (within 1 MAX_MAX_ACTIVE q.max ≡ true) × (cond q.flags.ordered (eqb q.max 1) true ≡ true) =
+    and_true (within 1 MAX_MAX_ACTIVE q.max) (cond q.flags.ordered (eqb q.max 1) true) fits in
+    let bounds : (1 ≤ q.max) × (q.max ≤ MAX_MAX_ACTIVE) = within_fits 1 MAX_MAX_ACTIVE q.max parts.0 in
+    line_fits 78 (queue_line q) refl (word_on (literal 5 (codes "queue") refl (omega arith))
+    (word_on (name_fits q.name named)
+    (word_on (literal 3 (codes "max") refl (omega arith))
+    (word_on (number_fits 3 q.max (omega arith) (omega arith) (omega arith)) (flags_fit q.flags))))) (omega arith)
+
+queues_fit : (before : List (List ℕ)) (queues : List QueueDecl) → GoodNames before (map (λ (q : QueueDecl). q.name) queues) → list_all fits_flags queues ≡ true
+    → LinesFit (length queues * 78) (map queue_line queues)
+queues_fit before [] names fits = no_lines
+queues_fit before (q ∷ queues) names fits =
+    let both : (fits_flags q ≡ true) × (list_all fits_flags queues ≡ true) = and_true (fits_flags q) (list_all fits_flags queues) fits in
+    lines_within (suc (length queues) * 78) (line_on (queue_fits q names.1 both.0) (queues_fit (before ++ q.name ∷ []) queues names.2 both.1)) (omega arith)
+
+-- Works.
+
+is_name_at : (before names : List (List ℕ)) (i : ℕ) → GoodNames before names → i < length names → is_name (get_or names i []) ≡ true
+is_name_at before [] i good h = absurd (omega arith)
+is_name_at before (name ∷ names) zero good h = good.1
+is_name_at before (name ∷ names) (suc i) good h = is_name_at (before ++ name ∷ []) names i good.2 (omega arith)
+
+queue_name : (S : ScenarioContents) (i : ℕ) → GoodNames [] (queue_names S) → ltb i (length S.queues) ≡ true → WordFits 15 (queue_at S i).name
+queue_name S i good h =
+    let size : length (queue_names S) ≡ length S.queues = length-map S.queues (λ (q : QueueDecl). q.name) in
+    let there : i < length S.queues = below i (length S.queues) h in
+    subst (λ (n : List ℕ). WordFits 15 n) (name_of_queue S i) (name_fits (get_or (queue_names S) i []) (is_name_at [] (queue_names S) i good (omega arith)))
+
+work_name : (S : ScenarioContents) (i : ℕ) → GoodNames [] (work_names S) → ltb i (length S.works) ≡ true → WordFits 15 (work_at S i).name
+work_name S i good h =
+    let size : length (work_names S) ≡ length S.works = length-map S.works (λ (w : WorkContents). w.name) in
+    let there : i < length S.works = below i (length S.works) h in
+    subst (λ (n : List ℕ). WordFits 15 n) (name_of_work S i) (name_fits (get_or (work_names S) i []) (is_name_at [] (work_names S) i good (omega arith)))
+
+work_fits : (S : ScenarioContents) (w : WorkContents) → GoodNames [] (queue_names S) → is_name w.name ≡ true → ltb w.queue.0 (length S.queues) ≡ true
+    → LineFits 37 (work_line S w)
+work_fits S w queues named on =
+    line_fits 37 (work_line S w) refl (word_on (literal 4 (codes "work") refl (omega arith))
+    (word_on (name_fits w.name named)
+    (word_on (queue_name S w.queue.0 queues on) no_words))) (omega arith)
+
+works_fit : (S : ScenarioContents) (before : List (List ℕ)) (works : List WorkContents) → GoodNames [] (queue_names S)
+    → GoodNames before (map (λ (w : WorkContents). w.name) works) → list_all (on_queue_of (length S.queues)) works ≡ true
+    → LinesFit (length works * 37) (map (work_line S) works)
+works_fit S before [] queues names on = no_lines
+works_fit S before (w ∷ works) queues names on =
+    let both : (ltb w.queue.0 (length S.queues) ≡ true) × (list_all (on_queue_of (length S.queues)) works ≡ true) =
+    and_true (ltb w.queue.0 (length S.queues)) (list_all (on_queue_of (length S.queues)) works) on in
+    lines_within (suc (length works) * 37) (line_on (work_fits S w queues names.1 both.0) (works_fit S (before ++ w.name ∷ []) works queues names.2 both.1)) (omega arith)
+
+-- Bodies.
+
+op_fits : (S : ScenarioContents) (o : Op) → GoodNames [] (work_names S) → S.cpus ≤ 16 → good_op S.cpus (length S.works) o ≡ true → LineFits 25 (op_line S o)
+op_fits S (op.Burn ticks) names few good =
+    let bounds : (1 ≤ ticks) × (ticks ≤ MAX_TICKS) = within_fits 1 MAX_TICKS ticks good in
+    line_fits 25 (op_line S (op.Burn ticks)) refl (word_on (literal 4 (codes "burn") refl (omega arith))
+    (word_on (number_fits 7 ticks (omega arith) (omega arith) (omega arith)) no_words)) (omega arith)
+op_fits S (op.Sleep ticks) names few good =
+    let bounds : (1 ≤ ticks) × (ticks ≤ MAX_TICKS) = within_fits 1 MAX_TICKS ticks good in
+    line_fits 25 (op_line S (op.Sleep ticks)) refl (word_on (literal 5 (codes "sleep") refl (omega arith))
+    (word_on (number_fits 7 ticks (omega arith) (omega arith) (omega arith)) no_words)) (omega arith)
+op_fits S (op.Queue work cpu) names few good =
+    let tests : (ltb work.0 (length S.works) ≡ true) × (ltb cpu S.cpus ≡ true) = and_true (ltb work.0 (length S.works)) (ltb cpu S.cpus) good in
+    let small : cpu < S.cpus = below cpu S.cpus tests.1 in
+    line_fits 25 (op_line S (op.Queue work cpu)) refl (word_on (literal 5 (codes "queue") refl (omega arith))
+    (word_on (work_name S work.0 names tests.0)
+    (word_on (number_fits 2 cpu (omega arith) (omega arith) (omega arith)) no_words))) (omega arith)
+op_fits S op.Finish names few good =
+    line_fits 25 (op_line S op.Finish) refl (word_on (literal 6 (codes "finish") refl (omega arith)) no_words) (omega arith)
+
+ops_fit : (S : ScenarioContents) (ops : List Op) → GoodNames [] (work_names S) → S.cpus ≤ 16 → list_all (good_op S.cpus (length S.works)) ops ≡ true
+    → LinesFit (length ops * 25) (map (op_line S) ops)
+ops_fit S [] names few good = no_lines
+ops_fit S (o ∷ ops) names few good =
+    let test = good_op S.cpus (length S.works) in
+    let both : (test o ≡ true) × (list_all test ops ≡ true) = and_true (test o) (list_all test ops) good in
+    lines_within (suc (length ops) * 25) (line_on (op_fits S o names few both.0) (ops_fit S ops names few both.1)) (omega arith)
+
+body_line_fits : (name : List ℕ) → is_name name ≡ true → LineFits 21 (Words (codes "body" ∷ name ∷ []))
+body_line_fits name named =
+    line_fits 21 (Words (codes "body" ∷ name ∷ [])) refl (word_on (literal 4 (codes "body") refl (omega arith)) (word_on (name_fits name named) no_words)) (omega arith)
+
+actor_line_fits : (name : List ℕ) → is_name name ≡ true → LineFits 22 (Words (codes "actor" ∷ name ∷ []))
+actor_line_fits name named =
+    line_fits 22 (Words (codes "actor" ∷ name ∷ [])) refl (word_on (literal 5 (codes "actor") refl (omega arith)) (word_on (name_fits name named) no_words)) (omega arith)
+
+body_fits : (S : ScenarioContents) (w : WorkContents) → GoodNames [] (work_names S) → S.cpus ≤ 16 → is_name w.name ≡ true → GoodBody S.cpus (length S.works) w.body
+    → LinesFit 1621 (body_lines S w)
+body_fits S w names few named body =
+    let test = good_op S.cpus (length S.works) in
+    let all : list_all test w.body ≡ true =
+    ap (list_all test) body.whole ∙ list_all-append test body.ops (op.Finish ∷ [])
+    ∙ true_and (list_all test body.ops) (list_all test (op.Finish ∷ [])) body.good refl in
+    let size : length w.body ≡ length body.ops + 1 = ap length body.whole ∙ length-append body.ops (op.Finish ∷ []) in
+    let room : length body.ops < MAX_OPS = body.few in
+    lines_within 1621 (line_on (body_line_fits w.name named) (ops_fit S w.body names few all)) (omega arith)
+
+bodies_fit : (S : ScenarioContents) (before : List (List ℕ)) (works : List WorkContents) → GoodNames [] (work_names S) → S.cpus ≤ 16
+    → GoodNames before (map (λ (w : WorkContents). w.name) works) → AllByRecursion (GoodBodyOf S.cpus (length S.works)) works
+    → LinesFit (length works * 1621) (flat_map (body_lines S) works)
+bodies_fit S before [] names few named bodies = no_lines
+bodies_fit S before (w ∷ works) names few named bodies =
+    lines_within (suc (length works) * 1621) (lines_on (body_fits S w names few named.1 bodies.0) (bodies_fit S (before ++ w.name ∷ []) works names few named.2 bodies.1)) (omega arith)
+
+-- Actors.
+
+times_fit : (times : ℕ) → within 1 MAX_TIMES times ≡ true → WordsFit 8 (times_words times)
+times_fit times fits =
+    let bounds : (1 ≤ times) × (times ≤ MAX_TIMES) = within_fits 1 MAX_TIMES times fits in
+    by_test (eqb times 1) (number_fits 5 times (omega arith) (omega arith) (omega arith))
+  where
+    by_test : (b : Bool) → WordFits 5 (decimal times) → WordsFit 8 (cond b [] (codes "*" ∷ decimal times ∷ []))
+    by_test true n = words_within 8 no_words (omega arith)
+    by_test false n = words_within 8 (word_on (literal 1 (codes "*") refl (omega arith)) (word_on n no_words)) (omega arith)
+
+-- the first word of an instruction, and its words
+record InstrFits (words : List (List ℕ)) : Type 0 where
+  first : List ℕ
+  others : List (List ℕ)
+  whole : words ≡ first ∷ others
+  fits : WordsFit 37 (first ∷ others)
+
+instr_of : {m : ℕ} {first : List ℕ} {others : List (List ℕ)} → WordsFit m (first ∷ others) → m ≤ 37 → InstrFits (first ∷ others)
+instr_of {first = first} {others = others} fits h = record { first = first; others = others; whole = refl; fits = words_within 37 fits h }
+
+instr_fits_line : (S : ScenarioContents) (i : Instr) → GoodNames [] (work_names S) → GoodNames [] (queue_names S) → names_declared S i ≡ true → instr_fits i ≡ true
+    → InstrFits (instr_words S i)
+instr_fits_line S (instr.Queue work cpu) works queues named fits =
+    let small : cpu ≤ 255 = at_most cpu 255 fits in
+    instr_of (word_on (literal 5 (codes "queue") refl (omega arith))
+    (word_on (work_name S work.0 works named)
+    (word_on (number_fits 3 cpu (omega arith) (omega arith) (omega arith)) no_words))) (omega arith)
+instr_fits_line S (instr.Delay work cpu ticks) works queues named fits =
+    let both : (leb cpu 255 ≡ true) × (leb ticks 4294967295 ≡ true) = and_true (leb cpu 255) (leb ticks 4294967295) fits in
+    let small : cpu ≤ 255 = at_most cpu 255 both.0 in
+    let wide : ticks ≤ 4294967295 = at_most ticks 4294967295 both.1 in
+    instr_of (word_on (literal 5 (codes "delay") refl (omega arith))
+    (word_on (work_name S work.0 works named)
+    (word_on (number_fits 3 cpu (omega arith) (omega arith) (omega arith))
+    (word_on (number_fits 10 ticks (omega arith) (omega arith) (omega arith)) no_words)))) (omega arith)
+instr_fits_line S (instr.Mod work cpu ticks) works queues named fits =
+    let both : (leb cpu 255 ≡ true) × (leb ticks 4294967295 ≡ true) = and_true (leb cpu 255) (leb ticks 4294967295) fits in
+    let small : cpu ≤ 255 = at_most cpu 255 both.0 in
+    let wide : ticks ≤ 4294967295 = at_most ticks 4294967295 both.1 in
+    instr_of (word_on (literal 3 (codes "mod") refl (omega arith))
+    (word_on (work_name S work.0 works named)
+    (word_on (number_fits 3 cpu (omega arith) (omega arith) (omega arith))
+    (word_on (number_fits 10 ticks (omega arith) (omega arith) (omega arith)) no_words)))) (omega arith)
+instr_fits_line S (instr.Cancel work) works queues named fits =
+    instr_of (word_on (literal 6 (codes "cancel") refl (omega arith)) (word_on (work_name S work.0 works named) no_words)) (omega arith)
+instr_fits_line S (instr.CancelSync work) works queues named fits =
+    instr_of (word_on (literal 11 (codes "cancel_sync") refl (omega arith)) (word_on (work_name S work.0 works named) no_words)) (omega arith)
+instr_fits_line S (instr.Flush work) works queues named fits =
+    instr_of (word_on (literal 5 (codes "flush") refl (omega arith)) (word_on (work_name S work.0 works named) no_words)) (omega arith)
+instr_fits_line S (instr.FlushDelayed work) works queues named fits =
+    instr_of (word_on (literal 13 (codes "flush_delayed") refl (omega arith)) (word_on (work_name S work.0 works named) no_words)) (omega arith)
+instr_fits_line S (instr.FlushQueue queue) works queues named fits =
+    instr_of (word_on (literal 11 (codes "flush_queue") refl (omega arith)) (word_on (queue_name S queue.0 queues named) no_words)) (omega arith)
+instr_fits_line S (instr.SetMax queue max) works queues named fits =
+    let wide : max ≤ 4294967295 = at_most max 4294967295 fits in
+    instr_of (word_on (literal 7 (codes "set_max") refl (omega arith))
+    (word_on (queue_name S queue.0 queues named)
+    (word_on (number_fits 10 max (omega arith) (omega arith) (omega arith)) no_words))) (omega arith)
+instr_fits_line S instr.Freeze works queues named fits =
+    instr_of (word_on (literal 6 (codes "freeze") refl (omega arith)) no_words) (omega arith)
+instr_fits_line S instr.Thaw works queues named fits =
+    instr_of (word_on (literal 4 (codes "thaw") refl (omega arith)) no_words) (omega arith)
+instr_fits_line S instr.Fire works queues named fits =
+    instr_of (word_on (literal 4 (codes "fire") refl (omega arith)) no_words) (omega arith)
+instr_fits_line S (instr.Step n) works queues named fits =
+    let small : n ≤ 255 = at_most n 255 fits in
+    instr_of (word_on (literal 4 (codes "step") refl (omega arith)) (word_on (number_fits 3 n (omega arith) (omega arith) (omega arith)) no_words)) (omega arith)
+instr_fits_line S instr.Tick works queues named fits =
+    instr_of (word_on (literal 4 (codes "tick") refl (omega arith)) no_words) (omega arith)
+instr_fits_line S instr.Next works queues named fits =
+    instr_of (word_on (literal 4 (codes "next") refl (omega arith)) no_words) (omega arith)
+instr_fits_line S (instr.Ask n) works queues named fits =
+    let small : n ≤ 65535 = at_most n 65535 fits in
+    instr_of (word_on (literal 3 (codes "ask") refl (omega arith)) (word_on (number_fits 5 n (omega arith) (omega arith) (omega arith)) no_words)) (omega arith)
+instr_fits_line S instr.Busy works queues named fits =
+    instr_of (word_on (literal 4 (codes "busy") refl (omega arith)) no_words) (omega arith)
+instr_fits_line S (instr.State work) works queues named fits =
+    instr_of (word_on (literal 5 (codes "state") refl (omega arith)) (word_on (work_name S work.0 works named) no_words)) (omega arith)
+
+line_of_actor_fits : (S : ScenarioContents) (line : Line) → GoodNames [] (work_names S) → GoodNames [] (queue_names S) → good_line S line ≡ true
+    → LineFits 45 (actor_line S line)
+line_of_actor_fits S line works queues good =
+    let parts : ((names_declared S line.instr && within 1 MAX_TIMES line.times) ≡ true) × (instr_fits line.instr ≡ true) =
+    and_true (names_declared S line.instr && within 1 MAX_TIMES line.times) (instr_fits line.instr) good in
+    let tests : (names_declared S line.instr ≡ true) × (within 1 MAX_TIMES line.times ≡ true) =
+    and_true (names_declared S line.instr) (within 1 MAX_TIMES line.times) parts.0 in
+    let i : InstrFits (instr_words S line.instr) = instr_fits_line S line.instr works queues tests.0 parts.1 in
+    line_fits 45 (actor_line S line) (ap (λ (ws : List (List ℕ)). ws ++ times_words line.times) i.whole) (words_on i.fits (times_fit line.times tests.1)) (omega arith)
+
+lines_of_actor_fit : (S : ScenarioContents) (lines : List Line) → GoodNames [] (work_names S) → GoodNames [] (queue_names S) → good_lines S lines ≡ true
+    → LinesFit (length lines * 45) (map (actor_line S) lines)
+lines_of_actor_fit S [] works queues good = no_lines
+lines_of_actor_fit S (line ∷ lines) works queues good =
+    let both : (good_line S line ≡ true) × (good_lines S lines ≡ true) = and_true (good_line S line) (good_lines S lines) good in
+    lines_within (suc (length lines) * 45) (line_on (line_of_actor_fits S line works queues both.0) (lines_of_actor_fit S lines works queues both.1)) (omega arith)
+
+actors_fit : (S : ScenarioContents) (before : List (List ℕ)) (actors : List ActorContents) → GoodNames [] (work_names S) → GoodNames [] (queue_names S)
+    → GoodNames before (map (λ (a : ActorContents). a.name) actors) → list_all (good_actor S) actors ≡ true
+    → LinesFit (length actors * 184342) (flat_map (actor_lines S) actors)
+actors_fit S before [] works queues names good = no_lines
+actors_fit S before (a ∷ actors) works queues names good =
+    let both : (good_actor S a ≡ true) × (list_all (good_actor S) actors ≡ true) = and_true (good_actor S a) (list_all (good_actor S) actors) good in
+    let here : (leb (length a.lines) MAX_LINES ≡ true) × (good_lines S a.lines ≡ true) = and_true (leb (length a.lines) MAX_LINES) (good_lines S a.lines) both.0 in
+    let few : length a.lines ≤ MAX_LINES = at_most (length a.lines) MAX_LINES here.0 in
+    lines_within (suc (length actors) * 184342) (lines_on (lines_within 184342 (line_on (actor_line_fits a.name names.1) (lines_of_actor_fit S a.lines works queues here.1)) (omega arith)) (actors_fit S (before ++ a.name ∷ []) actors works queues names.2 both.1)) (omega arith)
+
+-- The whole listing.
+
+pub written_fits : (S : ScenarioContents) → Good S → LinesFit MAX_TEXT (written S)
+written_fits S good =
+    let cpus : (1 ≤ S.cpus) × (S.cpus ≤ MAX_CPUS) = within_fits 1 MAX_CPUS S.cpus good.cpus in
+    let workers : (1 ≤ S.workers) × (S.workers ≤ MAX_WORKERS) = within_fits 1 MAX_WORKERS S.workers good.workers in
+    let steps : (1 ≤ S.steps) × (S.steps ≤ MAX_STEPS) = within_fits 1 MAX_STEPS S.steps good.steps in
+    let flushes : S.flushes ≤ MAX_FLUSHES = at_most S.flushes MAX_FLUSHES good.flushes in
+    let few_queues : length S.queues ≤ MAX_QUEUES = good.few_queues in
+    let few_works : length S.works ≤ MAX_WORKS = good.few_works in
+    let few_actors : length S.actors ≤ MAX_ACTORS = good.few_actors in
+    let a : ℕ = length S.queues * 78 in
+    let b : ℕ = length S.works * 37 in
+    let c : ℕ = length S.works * 1621 in
+    let d : ℕ = length S.actors * 184342 in
+    let queues : LinesFit a (map queue_line S.queues) = queues_fit [] S.queues good.queue_names good.queues in
+    let works : LinesFit b (map (work_line S) S.works) = works_fit S [] S.works good.queue_names good.work_names good.works in
+    let bodies : LinesFit c (flat_map (body_lines S) S.works) = bodies_fit S [] S.works good.work_names cpus.1 good.work_names good.bodies in
+    let actors : LinesFit d (flat_map (actor_lines S) S.actors) = actors_fit S [] S.actors good.work_names good.queue_names good.actor_names good.actors in
+    let declared : LinesFit (a + b) (map queue_line S.queues ++ map (work_line S) S.works) = lines_on queues works in
+    let with_bodies : LinesFit (a + b + c) (map queue_line S.queues ++ map (work_line S) S.works ++ flat_map (body_lines S) S.works) =
+    lines_on declared bodies in
+    let rest : List WrittenLine = map queue_line S.queues ++ map (work_line S) S.works ++ flat_map (body_lines S) S.works ++ flat_map (actor_lines S) S.actors in
+    let all : LinesFit (a + b + c + d) rest =
+    lines_on with_bodies actors in
+    let cpus_line : LineFits 16 (numbered (codes "cpus") S.cpus) = numbered_fits 4 (codes "cpus") S.cpus (literal 4 (codes "cpus") refl (omega arith)) (omega arith) in
+    let workers_line : LineFits 19 (numbered (codes "workers") S.workers) =
+    numbered_fits 7 (codes "workers") S.workers (literal 7 (codes "workers") refl (omega arith)) (omega arith) in
+    let steps_line : LineFits 17 (numbered (codes "steps") S.steps) =
+    numbered_fits 5 (codes "steps") S.steps (literal 5 (codes "steps") refl (omega arith)) (omega arith) in
+    let flushes_line : LineFits 19 (numbered (codes "flushes") S.flushes) =
+    numbered_fits 7 (codes "flushes") S.flushes (literal 7 (codes "flushes") refl (omega arith)) (omega arith) in
+    lines_within MAX_TEXT (line_on cpus_line (line_on workers_line (line_on steps_line (line_on flushes_line all)))) (omega arith)
+
+pub listing_lines : (S : ScenarioContents) → Good S → lines_of (listing S) ≡ map joined (map canonical (written S))
+listing_lines S good =
+    ap lines_of (listing_is (written S)) ∙ fed_lines (map joined (map canonical (written S))) (plain_no_feeds (map canonical (written S)) (written_fits S good).plain)
+
+pub listing_spells : (S : ScenarioContents) → IsValid S → Fits S → Spells (listing S) S
+listing_spells S valid fits =
+    let good : Good S = good_from_valid S valid fits in
+    let fit : LinesFit MAX_TEXT (written S) = written_fits S good in
+    let lines : lines_of (listing S) ≡ map joined (map canonical (written S)) = listing_lines S good in
+    let said : worded (lines_of (listing S)) ≡ map canonical (written S) = ap worded lines ∙ plain_worded (map canonical (written S)) fit.plain in
+    record {
+      short = fit.short;
+      is_text = record {
+        utf8 = text_utf8 (listing S) (subst AllUtf8 (sym lines) (plain_utf8 (map canonical (written S)) fit.plain));
+        lines = subst (λ (ws : List (List (List ℕ))). SayAll (written S) ws) (sym said) (canonical_say (written S));
+        valid = valid;
+        fits = fits;
+      };
+    }

@@ -1,0 +1,35 @@
+//! The laws of texts, each the contract of a function with an empty body.
+ghost use Rattle.cmwq_grammar.specs.FaultLaw.{IsFault};
+ghost use Rattle.cmwq_grammar.specs.Grammar.{Fits, Spells};
+ghost use Rattle.cmwq_grammar.specs.Meaning.{FaultAt, reads};
+ghost use Rattle.cmwq_types.specs.Contents.{ScenarioContents};
+ghost use Rattle.cmwq_types.specs.Faults.{IsValid};
+ghost use Rattle.cmwq_types.specs.Listing.{listing};
+ghost use Rattle.std.specs.Prelude.{◌≡◌, ◌↔◌, ℕ, Err, List, Ok};
+
+/// What is read is spelled so: a text that reads as a scenario spells it.
+pub fn read_text_spells_its_scenario()
+    ensures { (text : List ℕ) (S : ScenarioContents) → reads text ≡ Ok S → Spells text S }
+{}
+
+/// What is spelled so is read: a text that spells a scenario reads as it.
+pub fn spelled_text_reads_as_its_scenario()
+    ensures { (text : List ℕ) (S : ScenarioContents) → Spells text S → reads text ≡ Ok S }
+{}
+
+/// A text spells one scenario at most.
+pub fn text_spells_one_scenario()
+    ensures { (text : List ℕ) (S T : ScenarioContents) → Spells text S → Spells text T → S ≡ T }
+{}
+
+/// The listing of a scenario spells it, and so reads as it. So every listing has room in a text.
+pub fn listing_spells_its_scenario()
+    ensures spelled { (S : ScenarioContents) → IsValid S → Fits S → Spells (listing S) S }
+    ensures read { (S : ScenarioContents) → IsValid S → Fits S → reads (listing S) ≡ Ok S }
+{}
+
+/// Where reading fails is the first fault of the text: the first line with which no scenario's text
+/// begins, for the table's reason; or the end, where a text may not end there.
+pub fn reading_fails_at_the_first_fault()
+    ensures { (text : List ℕ) (fault : FaultAt) → reads text ≡ Err fault ↔ IsFault text fault }
+{}
