@@ -7,4 +7,5 @@ mod LineSteps
 mod NameLemmas
 mod NumberLemmas
 mod Refused
+mod TextLemmas
 mod TokenLemmas

@@ -8,3 +8,4 @@ pub mod Parts
 pub mod Refusals
 pub mod Stages
 pub mod Steps
+pub mod Texts

@@ -2,6 +2,7 @@
 #![tactic(auto)]
 
 mod actors;
+mod assembling;
 mod bodies;
 mod cutting;
 mod declarations;

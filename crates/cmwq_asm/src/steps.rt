@@ -3,7 +3,8 @@ ghost use Rattle.cmwq_asm.specs.Answers.{Gives};
 ghost use Rattle.cmwq_asm.specs.Stages.{stage_of};
 ghost use Rattle.cmwq_grammar.specs.Reasons.{at_end, judge, step};
 ghost use Rattle.cmwq_grammar.specs.Stages as stage;
-ghost use Rattle.std.specs.Prelude.{◌∷◌};
+ghost use Rattle.std.specs.Prelude.{◌≡◌, ◌∷◌};
+ghost use Rattle.std.specs.Str.{is_utf8};
 
 use crate::actors::{add_line, close_actor, open_actor};
 use crate::bodies::Bodies;
@@ -32,11 +33,18 @@ pub(crate) fn judge<'t>(
 ) -> Result<Stage<'t>, LineError>
     ensures { Gives stage_of result (judge (stage_of stage.entry) line.now) }
 {
-    if str::from_utf8(line).is_err() {
+    if !is_text(line) {
         return Err(LineError::Why(Why::BadUtf8));
     }
     let words = tokens_of(alloc, line)?;
     step(alloc, stage, &words)
+}
+
+/// Whether the bytes are UTF-8.
+fn is_text(bytes: &[u8]) -> bool
+    ensures { result ≡ is_utf8 bytes.now }
+{
+    str::from_utf8(bytes).is_ok()
 }
 
 /// The stage after a line of these words. A line without words tells nothing.

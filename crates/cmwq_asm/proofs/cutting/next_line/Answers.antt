@@ -1,7 +1,7 @@
 use Rattle.std.proofs.Common.{◌∙◌, ◌+◌, sym, arith, rules}
 use Rattle.std.proofs.lemmas.Grind.{common_steps}
 use Rattle.cmwq_grammar.specs.Cutting.{lines_of}
-use Rattle.cmwq_asm.proofs.CuttingLemmas.{lines_of-some, lines_of-none, length-filled, rest_is}
+use Rattle.cmwq_asm.proofs.CuttingLemmas.{lines_of-some, lines_of-none, rest_is}
 use Rattle.cmwq_asm.proofs.cutting.next_line.Goals as goal
 
 pub returns-in-Some-clause-lines : goal.returns-in-Some-clause-lines
