@@ -11,9 +11,10 @@ module _ {A : Type 0} (name : A → List ℕ) where
   names_more done works items work next room same at named now =
       let longer : length items ≡ length done + 1 = grind (arith, common_steps) in
       let room_there : length done < length (map name works) = grind (arith, common_steps) in
-      let at_name : get_or (map name works) (length done) [] ≡ name work = get_or-map name works (length done) next [] room ∙ ap name (sym at) ∙ sym named in
-      (omega (arith, longer),
-       ap (map name) now ∙ map-append name done (work ∷ []) ∙ ap (λ (names : List (List ℕ)). names ++ name work ∷ []) same
-       ∙ ap (λ (n : List ℕ). take (length done) (map name works) ++ n ∷ []) (sym at_name)
-       ∙ sym (take_more (map name works) (length done) [] room_there)
-       ∙ ap (λ (n : ℕ). take n (map name works)) (sym longer))
+      let at_name : get_or (map name works) (length done) [] ≡ name work = get_or-map name works (length done) next [] room ∙ ap name (sym at) ∙ sym named in (
+        omega (arith, longer),
+        ap (map name) now ∙ map-append name done (work ∷ []) ∙ ap (λ (names : List (List ℕ)). names ++ name work ∷ []) same
+            ∙ ap (λ (n : List ℕ). take (length done) (map name works) ++ n ∷ []) (sym at_name)
+            ∙ sym (take_more (map name works) (length done) [] room_there)
+            ∙ ap (λ (n : ℕ). take n (map name works)) (sym longer),
+      )

@@ -1,3 +1,4 @@
+mod AssembleLemmas
 mod BodyLemmas
 mod CuttingLemmas
 mod HeaderLemmas

@@ -1,21 +1,59 @@
 //! Assembling: the scenario that a text spells, or its first fault.
-ghost use Rattle.cmwq_asm.specs.Texts.{AsmErrorIs, Assembles, GivesStage};
+ghost use Rattle.cmwq_asm.specs.Texts.{AsmErrorIs, Assembles, GivesStage, IsScenario, IsToldAs, ToldFault};
 ghost use Rattle.cmwq_grammar.specs.Cutting.{lines_of};
-ghost use Rattle.cmwq_grammar.specs.Meaning.{reads, stage_after};
+ghost use Rattle.cmwq_grammar.specs.FaultLaw.{IsFault};
+ghost use Rattle.cmwq_grammar.specs.Grammar.{Fits, Spells};
+ghost use Rattle.cmwq_grammar.specs.Meaning.{FaultAt, reads, stage_after};
 ghost use Rattle.cmwq_grammar.specs.Stages as stage;
+ghost use Rattle.cmwq_types.specs.Contents.{ScenarioContents};
+ghost use Rattle.cmwq_types.specs.Faults.{IsValid};
 ghost use Rattle.std.specs.Prelude.{◌≡◌, ◌≤◌, IfOk, length};
 
 use crate::cutting::next_line;
 use crate::fault::{AsmError, LineError};
+use crate::listing::list;
 use crate::stage::Stage;
 use crate::steps::{at_end, judge};
 use cmwq_grammar::Why;
+use cmwq_grammar::laws::{
+    read_text_spells_its_scenario, reading_fails_at_the_first_fault,
+    spelled_text_reads_as_its_scenario,
+};
 use cmwq_types::{MAX_TEXT, Scenario};
 use std::alloc::Global;
 
+/// The scenario that the text spells.
+///
+/// Any other text has a first fault, and gives that: the first line with which no scenario's text begins,
+/// or the end of a text that may not end there. The rules of texts are this project's own.
+pub fn assemble(alloc: Global, text: &[u8]) -> Result<Scenario, AsmError>
+    // What is assembled is spelled so.
+    ensures found { IfOk result (λ scenario. Spells text.now scenario) }
+    // What is spelled so is assembled, unless memory runs out.
+    ensures only { (S : ScenarioContents) → Spells text.now S → IsScenario result S }
+    // A fault that is told is the text's first.
+    ensures fault { ToldFault text.now result }
+    // The text's first fault is told, unless memory runs out.
+    ensures exact { (fault : FaultAt) → IsFault text.now fault → IsToldAs result fault }
+{
+    read_text_spells_its_scenario();
+    spelled_text_reads_as_its_scenario();
+    reading_fails_at_the_first_fault();
+    read_text(alloc, text)
+}
+
+/// The scenario as it is assembled from its listing.
+pub fn assemble_again(alloc: Global, scenario: &Scenario) -> Result<Scenario, AsmError>
+    // A valid scenario comes back, unless memory runs out.
+    ensures { IsValid scenario.now → Fits scenario.now → IsScenario result scenario.now }
+{
+    let text = list(alloc, scenario)?;
+    assemble(alloc, &text)
+}
+
 /// What reading the text gives.
 #[tactic(auto, unfolding(cmwq_grammar::specs::Meaning::reads, cmwq_grammar::specs::Meaning::reads_lines))]
-pub(crate) fn read_text(alloc: Global, text: &[u8]) -> Result<Scenario, AsmError>
+fn read_text(alloc: Global, text: &[u8]) -> Result<Scenario, AsmError>
     ensures { Assembles result (reads text.now) }
 {
     if text.len() > MAX_TEXT {

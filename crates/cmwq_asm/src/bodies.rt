@@ -25,7 +25,7 @@ impl<'t> Model for Bodies<'t> {
     ghost view = { λ b. record { told = b.draft; done = b.done.items } };
 
     ghost invariant = { λ b. (length b.done.items ≤ length b.draft.works)
-      × (map (λ work. work.name) b.done.items ≡ take (length b.done.items) (map (λ work. work.name) b.draft.works)) };
+        × (map (λ work. work.name) b.done.items ≡ take (length b.done.items) (map (λ work. work.name) b.draft.works)) };
 }
 
 impl<'t> Bodies<'t> {

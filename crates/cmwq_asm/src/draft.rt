@@ -52,10 +52,10 @@ impl<'t> Model for Draft<'t> {
     ghost use Rattle.std.specs.Prelude.{◌≤◌, length};
 
     ghost invariant = { λ d.
-      (length d.parts.queues.items ≤ MAX_QUEUES) × (length d.parts.works.items ≤ MAX_WORKS)
-      × (d.parts.queue_names ≡ map (λ queue. queue.name) d.parts.queues.items)
-      × (d.parts.work_names ≡ map (λ work. work.name) d.parts.works.items)
-      × (d.parts.actor_names ≡ map (λ actor. actor.name) d.parts.actors.items) };
+        (length d.parts.queues.items ≤ MAX_QUEUES) × (length d.parts.works.items ≤ MAX_WORKS)
+        × (d.parts.queue_names ≡ map (λ queue. queue.name) d.parts.queues.items)
+        × (d.parts.work_names ≡ map (λ work. work.name) d.parts.works.items)
+        × (d.parts.actor_names ≡ map (λ actor. actor.name) d.parts.actors.items) };
 }
 
 /// A draft is dropped as one: whoever drops it needs to know nothing of its parts.
@@ -67,13 +67,7 @@ impl<'t> Drop for Draft<'t> {
 
 impl<'t> Draft<'t> {
     /// A scenario of these numbers alone.
-    pub(crate) fn new(
-        alloc: Global,
-        cpus: u8,
-        workers: u8,
-        steps: u32,
-        flushes: u16,
-    ) -> Draft<'t>
+    pub(crate) fn new(alloc: Global, cpus: u8, workers: u8, steps: u32, flushes: u16) -> Draft<'t>
         ensures { result ≡ head_of cpus workers steps flushes }
     {
         let parts = Parts {

@@ -18,6 +18,17 @@ pub enum AsmError {
     NoMemory,
 }
 
+impl From<NoMemory> for AsmError {
+    ghost use Rattle.cmwq_asm.specs.declared.fault.AsmError.TheVariants as asm;
+    ghost use Rattle.std.specs.Prelude.{◌≡◌};
+
+    ghost from_gives = { λ _ e. e ≡ asm.NoMemory };
+
+    fn from(_refused: NoMemory) -> AsmError {
+        AsmError::NoMemory
+    }
+}
+
 /// Why a line can't be taken.
 #[derive(Clone, Copy, Debug, PartialEq, Eq)]
 pub(crate) enum LineError {

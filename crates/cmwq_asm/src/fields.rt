@@ -72,10 +72,7 @@ pub(crate) fn read_new_name<'a, 't>(
 
 /// The number of a name that is among these.
 #[tactic(auto, unfolding(cmwq_grammar::specs::Fields::declared_at))]
-pub(crate) fn read_declared<'a, 't>(
-    names: &Names,
-    words: &'a [Token<'t>],
-) -> Field<'a, 't, usize>
+pub(crate) fn read_declared<'a, 't>(names: &Names, words: &'a [Token<'t>]) -> Field<'a, 't, usize>
     ensures number { Tells (λ field. (field.0, field.1.now)) result (declared_at names.now words.now) }
     ensures within { IfOk result (λ field. field.0 < length names.now) }
 {
@@ -117,10 +114,7 @@ pub(crate) fn read_number_within<'a, 't>(
 
 /// A number below the limit.
 #[tactic(auto, unfolding(cmwq_grammar::specs::Fields::number_where))]
-pub(crate) fn read_number_below<'a, 't>(
-    limit: u8,
-    words: &'a [Token<'t>],
-) -> Field<'a, 't, u8>
+pub(crate) fn read_number_below<'a, 't>(limit: u8, words: &'a [Token<'t>]) -> Field<'a, 't, u8>
     ensures { Tells (λ field. (field.0, field.1.now)) result (number_where (λ n. nat_lt n limit) words.now) }
 {
     let (number, rest) = read_number(words)?;
@@ -140,10 +134,7 @@ pub(crate) fn read_last_declared(names: &Names, words: &[Token]) -> Result<usize
 }
 
 /// A name that isn't among these yet, in a line's last word.
-pub(crate) fn read_last_new_name<'t>(
-    names: &Names,
-    words: &[Token<'t>],
-) -> Result<Named<'t>, Why>
+pub(crate) fn read_last_new_name<'t>(names: &Names, words: &[Token<'t>]) -> Result<Named<'t>, Why>
     ensures name { Tells (λ name. name) result (last (new_name_at names.now words.now)) }
     ensures new { IfOk result (λ name. list_any (λ other. bytes_eq other name) names.now ≡ false) }
 {

@@ -5,9 +5,7 @@ ghost use Rattle.cmwq_grammar.specs.Instructions.{instr_at, line_at, number_to, 
 ghost use Rattle.std.specs.Prelude.{◌∷◌};
 
 use crate::draft::Draft;
-use crate::fields::{
-    Field, is_word, read_declared, read_last_number_within, read_number_within,
-};
+use crate::fields::{Field, is_word, read_declared, read_last_number_within, read_number_within};
 use crate::misplaced::refusal;
 use crate::tokens::Token;
 use cmwq_grammar::Why;
@@ -46,11 +44,7 @@ fn read_repeated(instr: Instr, word: &[u8], rest: &[Token]) -> Result<Line, Why>
 
 /// The instruction that begins with this word.
 #[tactic(auto, unfolding(cmwq_grammar::specs::Instructions::instr_at))]
-fn read_instr<'a, 't>(
-    draft: &Draft,
-    word: &[u8],
-    rest: &'a [Token<'t>],
-) -> Field<'a, 't, Instr>
+fn read_instr<'a, 't>(draft: &Draft, word: &[u8], rest: &'a [Token<'t>]) -> Field<'a, 't, Instr>
     ensures { Tells (λ field. (field.0, field.1.now)) result (instr_at draft.now word.now rest.now) }
 {
     if is_word(word, b"queue") {

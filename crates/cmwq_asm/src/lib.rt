@@ -20,9 +20,12 @@ mod operations;
 mod queues;
 mod stage;
 mod steps;
+#[cfg(test)]
+mod tests;
 mod tokens;
 mod works;
 
+pub use assembling::{assemble, assemble_again};
 pub use cmwq_grammar::Why;
 pub use fault::AsmError;
 pub use listing::list;

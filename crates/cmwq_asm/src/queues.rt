@@ -33,10 +33,7 @@ pub(crate) fn declare_queue<'t>(
 
 /// What is behind the word `queue`.
 #[tactic(auto, unfolding(cmwq_grammar::specs::Reasons::queue_at_line))]
-fn read_queue<'t>(
-    draft: &Draft<'t>,
-    rest: &[Token<'t>],
-) -> Result<QueueLine<'t>, Why>
+fn read_queue<'t>(draft: &Draft<'t>, rest: &[Token<'t>]) -> Result<QueueLine<'t>, Why>
     ensures line { Tells queue_of result (queue_at_line draft.now rest.now) }
     ensures new { IfOk result (λ queue. list_any (λ other. bytes_eq other queue.name) (queue_names draft.now) ≡ false) }
 {
@@ -71,19 +68,49 @@ fn add_flag(flags: Flags, word: &[u8]) -> Result<Flags, Why>
     ensures { Tells (λ flags. flags) result (add_flag flags word.now) }
 {
     if is_word(word, b"highpri") {
-        return set_once(flags.highpri, Flags { highpri: true, ..flags });
+        return set_once(
+            flags.highpri,
+            Flags {
+                highpri: true,
+                ..flags
+            },
+        );
     }
     if is_word(word, b"unbound") {
-        return set_once(flags.unbound, Flags { unbound: true, ..flags });
+        return set_once(
+            flags.unbound,
+            Flags {
+                unbound: true,
+                ..flags
+            },
+        );
     }
     if is_word(word, b"cpu_intensive") {
-        return set_once(flags.cpu_intensive, Flags { cpu_intensive: true, ..flags });
+        return set_once(
+            flags.cpu_intensive,
+            Flags {
+                cpu_intensive: true,
+                ..flags
+            },
+        );
     }
     if is_word(word, b"freezable") {
-        return set_once(flags.freezable, Flags { freezable: true, ..flags });
+        return set_once(
+            flags.freezable,
+            Flags {
+                freezable: true,
+                ..flags
+            },
+        );
     }
     if is_word(word, b"ordered") {
-        return set_once(flags.ordered, Flags { ordered: true, ..flags });
+        return set_once(
+            flags.ordered,
+            Flags {
+                ordered: true,
+                ..flags
+            },
+        );
     }
     Err(Why::BadWord)
 }
@@ -100,10 +127,7 @@ fn set_once(was_set: bool, flags: Flags) -> Result<Flags, Why>
 
 /// Declares the queue.
 #[tactic(auto, unfolding(cmwq_grammar::specs::Reasons::add_queue))]
-fn add_queue<'t>(
-    draft: Draft<'t>,
-    queue: QueueLine<'t>,
-) -> Result<Stage<'t>, LineError>
+fn add_queue<'t>(draft: Draft<'t>, queue: QueueLine<'t>) -> Result<Stage<'t>, LineError>
     requires { list_any (λ other. bytes_eq other queue.name) (queue_names draft) ≡ false }
     ensures { Gives stage_of result (add_queue draft.entry (queue_of queue.entry)) }
 {

@@ -49,11 +49,7 @@ fn is_text(bytes: &[u8]) -> bool
 
 /// The stage after a line of these words. A line without words tells nothing.
 #[tactic(auto, unfolding(cmwq_grammar::specs::Reasons::step))]
-fn step<'t>(
-    alloc: Global,
-    stage: Stage<'t>,
-    words: &[Token<'t>],
-) -> Result<Stage<'t>, LineError>
+fn step<'t>(alloc: Global, stage: Stage<'t>, words: &[Token<'t>]) -> Result<Stage<'t>, LineError>
     ensures { Gives stage_of result (step (stage_of stage.entry) words.now) }
 {
     match words {
@@ -149,11 +145,7 @@ fn between_bodies<'t>(
 
 /// A line in an open body.
 #[tactic(auto, unfolding(cmwq_grammar::specs::Reasons::step))]
-fn in_body<'t>(
-    body: OpenBody<'t>,
-    word: &[u8],
-    rest: &[Token<'t>],
-) -> Result<Stage<'t>, LineError>
+fn in_body<'t>(body: OpenBody<'t>, word: &[u8], rest: &[Token<'t>]) -> Result<Stage<'t>, LineError>
     ensures { Gives stage_of result (step (stage.Body body.entry.bodies.told body.entry.bodies.done body.entry.ops.items) (word.now ∷ rest.now)) }
 {
     let op = read_op(body.bodies.draft(), word, rest)?;

@@ -45,11 +45,7 @@ fn read_work<'t>(draft: &Draft<'t>, rest: &[Token<'t>]) -> Result<WorkLine<'t>, 
 
 /// Declares the work.
 #[tactic(auto, unfolding(cmwq_grammar::specs::Reasons::add_work))]
-fn add_work<'t>(
-    alloc: Global,
-    draft: Draft<'t>,
-    work: WorkLine<'t>,
-) -> Result<Stage<'t>, LineError>
+fn add_work<'t>(alloc: Global, draft: Draft<'t>, work: WorkLine<'t>) -> Result<Stage<'t>, LineError>
     requires { list_any (λ other. bytes_eq other work.name) (work_names draft) ≡ false }
     ensures { Gives stage_of result (add_work draft.entry (work_of work.entry)) }
 {

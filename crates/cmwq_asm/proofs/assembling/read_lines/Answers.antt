@@ -13,7 +13,7 @@ returns-in-Err-clause-stage c =
     let lines = lines_of c.loop-line.rest.now in
     told_fails c.at_line.result now c.in-Err.error (judge (stage_of c.loop-line.stage) c.in-Some.line.now) (stage_after 1 (lines_of c.args.text.now) Start) c.at_line.ensures c.in-Err.ensures
     (λ reason refused. sym c.loop-line.invariant.stage
-      ∙ fault_in_line now lines c.in-Some.line.now (lines_of c.in-Some.behind.now) (stage_of c.loop-line.stage) reason c.in-Some.ensures.lines refused)
+    ∙ fault_in_line now lines c.in-Some.line.now (lines_of c.in-Some.behind.now) (stage_of c.loop-line.stage) reason c.in-Some.ensures.lines refused)
 
 pub loop-line-preserved : goal.loop-line-preserved
 loop-line-preserved c =

@@ -14,7 +14,7 @@ returns-in_err-cpu c =
     let rest = c.in_ok-work.rest.now in
     not_there (λ op. op) c.from_residual-in_err-cpu.result _ c.in_err-cpu.field-0.0 c.from_residual-in_err-cpu.ensures.1
     (then_ok (declared_at (work_names S) c.args.rest.now) (then_cpu S) (work, rest)
-      (ap (λ names. declared_at names c.args.rest.now) (sym c.work_names.ensures.names) ∙ c.in_ok-work.ensures.number)
+    (ap (λ names. declared_at names c.args.rest.now) (sym c.work_names.ensures.names) ∙ c.in_ok-work.ensures.number)
     ∙ last_err (op.Queue (work_id work)) (number_below S.cpus rest) _ (rw c.cpus.ensures at c.in_err-cpu.ensures))
 
 pub returns : goal.returns
@@ -23,5 +23,5 @@ returns c =
     let work = c.in_ok-work.work in
     let rest = c.in_ok-work.rest.now in
     then_ok (declared_at (work_names S) c.args.rest.now) (then_cpu S) (work, rest)
-      (ap (λ names. declared_at names c.args.rest.now) (sym c.work_names.ensures.names) ∙ c.in_ok-work.ensures.number)
+    (ap (λ names. declared_at names c.args.rest.now) (sym c.work_names.ensures.names) ∙ c.in_ok-work.ensures.number)
     ∙ last_ok (op.Queue (work_id work)) (number_below S.cpus rest) _ (rw c.cpus.ensures at c.in_ok-cpu.ensures)

@@ -15,6 +15,6 @@ returns-in_err-queue-clause-line c =
     let rest = c.in_ok-name.rest.now in
     not_there told_work c.from_residual-in_err-queue.result _ c.in_err-queue.field-0.0 c.from_residual-in_err-queue.ensures.1
     (then_ok (new_name_at (work_names S) c.args.rest.now) (then_queue S) (name, rest)
-      (ap (λ names. new_name_at names c.args.rest.now) (sym c.work_names.ensures.names) ∙ c.in_ok-name.ensures.name)
+    (ap (λ names. new_name_at names c.args.rest.now) (sym c.work_names.ensures.names) ∙ c.in_ok-name.ensures.name)
     ∙ last_err (work_of name) (declared_at (queue_names S) rest) _
-      (rw c.queue_names.ensures.names at c.in_err-queue.ensures.number))
+    (rw c.queue_names.ensures.names at c.in_err-queue.ensures.number))
