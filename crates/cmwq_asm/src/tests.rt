@@ -192,24 +192,24 @@ fn a_listing_is_assembled_and_listed_again(rt: HostRuntime) -> Result<(), Fail> 
 
 const FREE: &[u8] = b"# a head\r\n\tcpus\t1\r\nworkers 1 # one\r\n\r\nsteps   8 \r\nflushes 0#";
 
+/// The same as it is listed.
+const PLAIN: &[u8] = b"cpus 1\nworkers 1\nsteps 8\nflushes 0\n";
+
 #[test]
 fn blanks_and_comments_are_free(rt: HostRuntime) -> Result<(), Fail> {
     let scenario = assemble(rt.alloc(), FREE)?;
     let listing = list(rt.alloc(), &scenario)?;
-    assert_eq!(rt;
-        listing.as_slice(),
-        b"cpus 1\nworkers 1\nsteps 8\nflushes 0\n"
-    );
+    assert_eq!(rt; listing.as_slice(), PLAIN);
     Ok(())
 }
 
 #[test]
 fn a_text_can_be_too_long(rt: HostRuntime) -> Result<(), Fail> {
-    let text = vec![in rt.alloc(); b'\n'; MAX_TEXT + 1]?;
-    assert_eq!(rt; first_fault(rt.alloc(), &text)?, Some((0, Why::TooLong)));
+    let comment = vec![in rt.alloc(); b'#'; MAX_TEXT + 1]?;
+    assert_eq!(rt; first_fault(rt.alloc(), &comment)?, Some((0, Why::TooLong)));
     assert_eq!(rt;
-        first_fault(rt.alloc(), &text[1..])?,
-        Some((4_194_305, Why::MissingWord))
+        first_fault(rt.alloc(), &comment[1..])?,
+        Some((2, Why::MissingWord))
     );
     Ok(())
 }
