@@ -1,1 +1,12 @@
+mod AssembleLemmas
+mod BodyLemmas
+mod CuttingLemmas
+mod HeaderLemmas
+mod LastFields
 pub mod LineLemmas
+mod LineSteps
+mod NameLemmas
+mod NumberLemmas
+mod Refused
+mod TextLemmas
+mod TokenLemmas

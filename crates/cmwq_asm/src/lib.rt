@@ -1,7 +1,31 @@
-//! The text of a scenario: its listing.
+//! The text of a scenario: its listing, and what a text says.
 #![tactic(auto)]
 
+mod actors;
+mod assembling;
+mod bodies;
+mod cutting;
+mod declarations;
+mod draft;
+mod fault;
+mod fields;
+mod header;
+mod instructions;
 mod lines;
 mod listing;
+mod misplaced;
+mod naming;
+mod open;
+mod operations;
+mod queues;
+mod stage;
+mod steps;
+#[cfg(test)]
+mod tests;
+mod tokens;
+mod works;
 
+pub use assembling::{assemble, assemble_again};
+pub use cmwq_grammar::Why;
+pub use fault::AsmError;
 pub use listing::list;

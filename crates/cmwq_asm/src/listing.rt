@@ -1,4 +1,6 @@
 //! The listing of a scenario: its canonical text.
+ghost use Rattle.cmwq_grammar.specs.Grammar.{Fits, Spells};
+ghost use Rattle.cmwq_types.specs.Faults.{IsValid};
 ghost use Rattle.cmwq_types.specs.Listing.{Flagged, actor_line, actor_lines, body_lines, flag_words, instr_words, line_text, listing, op_line, queue_line, times_words, word_if, work_line, written_text};
 ghost use Rattle.cmwq_types.specs.Scenario.{queue_at, work_at};
 ghost use Rattle.std.specs.Fmt.{decimal};
@@ -6,6 +8,7 @@ ghost use Rattle.std.specs.List.{flat_map, join_with_byte};
 ghost use Rattle.std.specs.Prelude.{◌≡◌, ◌++◌, ◌∷◌, [], IfOk, OnOk, map};
 
 use crate::lines::{push_line, push_others, push_words};
+use cmwq_grammar::laws::listing_spells_its_scenario;
 use cmwq_types::{
     Actor, Flags, Instr, Line, NoMemory, Op, QueueDecl, QueueId, Scenario, WorkDecl, WorkId,
 };
@@ -14,6 +17,16 @@ use std::alloc::Global;
 /// The listing of the scenario: its lines in order, each with one space between words and a line
 /// feed at its end, with no comment and no blank line.
 pub fn list(alloc: Global, scenario: &Scenario) -> Result<Vec<u8>, NoMemory>
+    ensures listing { IfOk result (λ text. text.items ≡ listing scenario.now) }
+    // The text of a valid scenario spells it.
+    ensures spells { IsValid scenario.now → Fits scenario.now → IfOk result (λ text. Spells text.items scenario.now) }
+{
+    listing_spells_its_scenario();
+    write_listing(alloc, scenario)
+}
+
+/// The listing.
+fn write_listing(alloc: Global, scenario: &Scenario) -> Result<Vec<u8>, NoMemory>
     ensures { IfOk result (λ text. text.items ≡ listing scenario.now) }
 {
     let mut text = Vec::new(alloc);

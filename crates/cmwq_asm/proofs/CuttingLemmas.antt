@@ -1,0 +1,69 @@
+-- The parts between cuts, by the place of the first cut.
+use Rattle.std.proofs.Common.{◌≡◌, ℕ, suc, ◌+◌, ◌-◌, ◌<◌, Bool, true, false, cond, List, [], ◌∷◌, length, take, drop, Option, None, Some, sym, ap, ◌∙◌, refl, arith, position, nat_lt, ◌==◌}
+use Rattle.std.specs.List.{slice_split, position_or_len, before_first, after_first}
+use Rattle.std.proofs.lemmas.Bool.Decides.{nat_tests}
+use Rattle.std.proofs.lemmas.Grind.{common_steps}
+use Rattle.std.proofs.lemmas.List.Splits.{slice_split_none, slice_split_first, length-slice_split}
+use Rattle.std.proofs.lemmas.List.Sums.{fails_before_first}
+use Rattle.cmwq_grammar.specs.Cutting.{without_empty_last, lines_of}
+
+module _ (p : ℕ → Bool) where
+  -- which place, by whether it is below the length
+  chosen : (b : Bool) (n m : ℕ) → cond b (Some n) None ≡ Some m → (b ≡ true) × (n ≡ m)
+  chosen true n m e = (refl, cc)
+  chosen false n m e = cc
+
+  absent : (b : Bool) (n : ℕ) → cond b (Some n) None ≡ None → b ≡ false
+  absent true n e = cc
+  absent false n e = refl
+
+  pub slice_split-position_none : (xs : List ℕ) → position p xs ≡ None → slice_split p xs ≡ xs ∷ []
+  slice_split-position_none xs none =
+      let past : nat_lt (position_or_len p xs) (length xs) ≡ false = absent _ _ none in
+      slice_split_none p xs (λ k d k_below. fails_before_first p xs k d (grind (arith, nat_tests)))
+
+  pub slice_split-position_some : (xs : List ℕ) (i : ℕ) → position p xs ≡ Some i → slice_split p xs ≡ take i xs ∷ slice_split p (drop (i + 1) xs)
+  slice_split-position_some xs i some =
+      let at = chosen _ _ _ some in
+      let below : nat_lt (position_or_len p xs) (length xs) ≡ true = at.0 in
+      slice_split_first p xs 0 (grind (arith, nat_tests))
+      ∙ ap (λ (n : ℕ). take n xs ∷ slice_split p (drop (n + 1) xs)) at.1
+
+  pub before_first-position_some : (xs : List ℕ) (i : ℕ) → position p xs ≡ Some i → before_first p xs ≡ take i xs
+  before_first-position_some xs i some = ap (λ (n : ℕ). take n xs) (chosen _ _ _ some).1
+
+  pub position_some-below : (xs : List ℕ) (i : ℕ) → position p xs ≡ Some i → i < length xs
+  position_some-below xs i some =
+      let at = chosen _ _ _ some in
+      let below : nat_lt (position_or_len p xs) (length xs) ≡ true = at.0 in
+      let same : position_or_len p xs ≡ i = at.1 in
+      grind (arith, nat_tests)
+
+-- a piece before other pieces is a line
+without_empty_last-more : (piece : List ℕ) (pieces : List (List ℕ)) → 0 < length pieces → without_empty_last (piece ∷ pieces) ≡ piece ∷ without_empty_last pieces
+without_empty_last-more piece [] more = absurd (omega arith)
+without_empty_last-more piece (next ∷ pieces) more = refl
+
+pub lines_of-some : (text : List ℕ) (i : ℕ) → position (λ byte. byte == 10) text ≡ Some i → lines_of text ≡ take i text ∷ lines_of (drop (i + 1) text)
+lines_of-some text i some =
+    ap without_empty_last (slice_split-position_some (λ byte. byte == 10) text i some)
+    ∙ without_empty_last-more (take i text) (slice_split (λ byte. byte == 10) (drop (i + 1) text)) (omega (arith, length-slice_split (λ (byte : ℕ). byte == 10) (drop (i + 1) text)))
+
+-- a piece that isn't empty
+without_empty_last-one : (byte : ℕ) (bytes : List ℕ) → without_empty_last ((byte ∷ bytes) ∷ []) ≡ (byte ∷ bytes) ∷ []
+without_empty_last-one byte bytes =
+    let filled : (suc (length bytes) == 0) ≡ false = grind (arith, nat_tests) in
+    ap (λ (empty : Bool). cond empty [] ((byte ∷ bytes) ∷ [])) filled
+
+pub lines_of-none : (text : List ℕ) → position (λ byte. byte == 10) text ≡ None → 0 < length text → lines_of text ≡ text ∷ []
+lines_of-none [] none some_bytes = absurd (omega arith)
+lines_of-none (byte ∷ bytes) none some_bytes =
+    ap without_empty_last (slice_split-position_none (λ byte. byte == 10) (byte ∷ bytes) none)
+    ∙ without_empty_last-one byte bytes
+
+-- the rest of a list, with the length that it has
+rest : (n : ℕ) (xs : List ℕ) → drop n xs ≡ take (length xs - n) (drop n xs)
+rest n xs = grind (arith, common_steps)
+
+pub rest_is : (lines : List ℕ → List (List ℕ)) (first : List ℕ) (n : ℕ) (xs : List ℕ) → first ∷ lines (drop n xs) ≡ first ∷ lines (take (length xs - n) (drop n xs))
+rest_is lines first n xs = ap (λ (bytes : List ℕ). first ∷ lines bytes) (rest n xs)

@@ -1,0 +1,31 @@
+use Rattle.std.proofs.Common.{◌≡◌, ◌+◌, ◌∙◌, ap, sym, length, arith}
+use Rattle.cmwq_grammar.specs.Cutting.{lines_of}
+use Rattle.cmwq_grammar.specs.Meaning.{stage_after}
+use Rattle.cmwq_grammar.specs.Reasons.{judge}
+use Rattle.cmwq_grammar.specs.Stages.{Start}
+use Rattle.cmwq_asm.specs.Stages.{stage_of}
+use Rattle.cmwq_asm.proofs.TextLemmas.{next_stage, fault_in_line, last_stage, told_fails}
+use Rattle.cmwq_asm.proofs.assembling.read_lines.Goals as goal
+
+pub returns-in-Err-clause-stage : goal.returns-in-Err-clause-stage
+returns-in-Err-clause-stage c =
+    let now = c.loop-line.lines + 1 in
+    let lines = lines_of c.loop-line.rest.now in
+    told_fails c.at_line.result now c.in-Err.error (judge (stage_of c.loop-line.stage) c.in-Some.line.now) (stage_after 1 (lines_of c.args.text.now) Start) c.at_line.ensures c.in-Err.ensures
+    (λ reason refused. sym c.loop-line.invariant.stage
+    ∙ fault_in_line now lines c.in-Some.line.now (lines_of c.in-Some.behind.now) (stage_of c.loop-line.stage) reason c.in-Some.ensures.lines refused)
+
+pub loop-line-preserved : goal.loop-line-preserved
+loop-line-preserved c =
+    let now = c.loop-line.lines + 1 in
+    let lines = lines_of c.loop-line.rest.now in
+    record {
+      stage = sym (next_stage now lines c.in-Some.line.now (lines_of c.in-Some.behind.now) (stage_of c.loop-line.stage) (stage_of c.in-Ok.next) c.in-Some.ensures.lines c.in-Ok.ensures) ∙ c.loop-line.invariant.stage;
+      count = omega (arith, ap length c.in-Some.ensures.lines);
+      room = omega (arith, c.in-Some.ensures.ends);
+    }
+
+pub returns-clause-stage : goal.returns-clause-stage
+returns-clause-stage c =
+    sym c.loop-line.invariant.stage
+    ∙ last_stage (c.loop-line.lines + 1) (lines_of c.loop-line.rest.now) (stage_of c.loop-line.stage) c.in_default.ensures.lines

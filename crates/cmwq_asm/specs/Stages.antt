@@ -1,0 +1,16 @@
+-- The grammar's stage that a stage of the code stands for.
+use Rattle.cmwq_grammar.specs.Stages.{Stage}
+use Rattle.cmwq_grammar.specs.Stages as stage
+use Rattle.cmwq_asm.specs.declared.stage.Stage.{Stage as Reached}
+use Rattle.cmwq_asm.specs.declared.stage.Stage.TheVariants as reached
+
+abbrev pub stage_of : Reached → Stage
+stage_of reached.Start = stage.Start
+stage_of (reached.Cpus cpus) = stage.Cpus cpus
+stage_of (reached.Workers cpus workers) = stage.Workers cpus workers
+stage_of (reached.Steps cpus workers steps) = stage.Steps cpus workers steps
+stage_of (reached.Queues draft) = stage.Queues draft
+stage_of (reached.Works draft) = stage.Works draft
+stage_of (reached.Bodies bodies) = stage.Bodies bodies.told bodies.done
+stage_of (reached.Body told) = stage.Body told.bodies.told told.bodies.done told.ops.items
+stage_of (reached.Actor told) = stage.Actor told.draft told.name told.lines.items

@@ -1,0 +1,53 @@
+//! The lines of an actor: `actor NAME`, and its instructions.
+ghost use Rattle.cmwq_asm.specs.Answers.{Gives};
+ghost use Rattle.cmwq_asm.specs.Stages.{stage_of};
+ghost use Rattle.cmwq_grammar.specs.Reasons.{add_line, open_actor};
+ghost use Rattle.cmwq_grammar.specs.Stages.{with_actor};
+ghost use Rattle.std.specs.Prelude.{◌≡◌, IfOk};
+
+use crate::draft::Draft;
+use crate::fault::LineError;
+use crate::fields::read_last_new_name;
+use crate::open::OpenActor;
+use crate::stage::Stage;
+use crate::tokens::Token;
+use cmwq_grammar::Why;
+use cmwq_types::{Fault, Line, MAX_ACTORS, MAX_LINES, NoMemory};
+use std::alloc::Global;
+
+/// Opens the actor that what is behind the word `actor` names.
+#[tactic(auto, unfolding(cmwq_grammar::specs::Reasons::open_actor))]
+pub(crate) fn open_actor<'t>(
+    alloc: Global,
+    draft: Draft<'t>,
+    rest: &[Token<'t>],
+) -> Result<Stage<'t>, LineError>
+    ensures { Gives stage_of result (open_actor draft.entry rest.now) }
+{
+    let name = read_last_new_name(draft.actor_names(), rest)?;
+    if draft.actors().len() >= MAX_ACTORS {
+        return Err(LineError::Why(Why::Fault(Fault::TooMany)));
+    }
+    let lines = Vec::new(alloc);
+    Ok(Stage::Actor(OpenActor { draft, name, lines }))
+}
+
+/// Adds a line to the actor.
+#[tactic(auto, unfolding(cmwq_grammar::specs::Reasons::add_line))]
+pub(crate) fn add_line<'t>(mut actor: OpenActor<'t>, line: Line) -> Result<Stage<'t>, LineError>
+    ensures { Gives stage_of result (add_line actor.entry.draft actor.entry.name actor.entry.lines.items line) }
+{
+    if actor.lines.len() >= MAX_LINES {
+        return Err(LineError::Why(Why::Fault(Fault::TooMany)));
+    }
+    actor.lines.push(line)?;
+    Ok(Stage::Actor(actor))
+}
+
+/// What was told, with this actor, which has no further lines.
+pub(crate) fn close_actor<'t>(actor: OpenActor<'t>) -> Result<Draft<'t>, NoMemory>
+    ensures { IfOk result (λ draft. draft ≡ with_actor actor.entry.draft actor.entry.name actor.entry.lines.items) }
+{
+    let OpenActor { draft, name, lines } = actor;
+    draft.with_actor(&name, lines)
+}

@@ -1,0 +1,101 @@
+//! Assembling: the scenario that a text spells, or its first fault.
+ghost use Rattle.cmwq_asm.specs.Texts.{AsmErrorIs, Assembles, GivesStage, IsScenario, IsToldAs, ToldFault};
+ghost use Rattle.cmwq_grammar.specs.Cutting.{lines_of};
+ghost use Rattle.cmwq_grammar.specs.FaultLaw.{IsFault};
+ghost use Rattle.cmwq_grammar.specs.Grammar.{Fits, Spells};
+ghost use Rattle.cmwq_grammar.specs.Meaning.{FaultAt, reads, stage_after};
+ghost use Rattle.cmwq_grammar.specs.Stages as stage;
+ghost use Rattle.cmwq_types.specs.Contents.{ScenarioContents};
+ghost use Rattle.cmwq_types.specs.Faults.{IsValid};
+ghost use Rattle.std.specs.Prelude.{◌≡◌, ◌≤◌, IfOk, length};
+
+use crate::cutting::next_line;
+use crate::fault::{AsmError, LineError};
+use crate::listing::list;
+use crate::stage::Stage;
+use crate::steps::{at_end, judge};
+use cmwq_grammar::Why;
+use cmwq_grammar::laws::{
+    read_text_spells_its_scenario, reading_fails_at_the_first_fault,
+    spelled_text_reads_as_its_scenario,
+};
+use cmwq_types::{MAX_TEXT, Scenario};
+use std::alloc::Global;
+
+/// The scenario that the text spells.
+///
+/// Any other text has a first fault, and gives that: the first line with which no scenario's text begins,
+/// or the end of a text that may not end there. The rules of texts are this project's own.
+pub fn assemble(alloc: Global, text: &[u8]) -> Result<Scenario, AsmError>
+    // What is assembled is spelled so.
+    ensures found { IfOk result (λ scenario. Spells text.now scenario) }
+    // What is spelled so is assembled, unless memory runs out.
+    ensures only { (S : ScenarioContents) → Spells text.now S → IsScenario result S }
+    // A fault that is told is the text's first.
+    ensures fault { ToldFault text.now result }
+    // The text's first fault is told, unless memory runs out.
+    ensures exact { (fault : FaultAt) → IsFault text.now fault → IsToldAs result fault }
+{
+    read_text_spells_its_scenario();
+    spelled_text_reads_as_its_scenario();
+    reading_fails_at_the_first_fault();
+    read_text(alloc, text)
+}
+
+/// The scenario as it is assembled from its listing.
+pub fn assemble_again(alloc: Global, scenario: &Scenario) -> Result<Scenario, AsmError>
+    // A valid scenario comes back, unless memory runs out.
+    ensures { IsValid scenario.now → Fits scenario.now → IsScenario result scenario.now }
+{
+    let text = list(alloc, scenario)?;
+    assemble(alloc, &text)
+}
+
+/// What reading the text gives.
+#[tactic(auto, unfolding(cmwq_grammar::specs::Meaning::reads, cmwq_grammar::specs::Meaning::reads_lines))]
+fn read_text(alloc: Global, text: &[u8]) -> Result<Scenario, AsmError>
+    ensures { Assembles result (reads text.now) }
+{
+    if text.len() > MAX_TEXT {
+        return Err(AsmError::At {
+            line: 0,
+            why: Why::TooLong,
+        });
+    }
+    let (stage, lines) = read_lines(alloc, text)?;
+    match at_end(stage) {
+        Ok(scenario) => Ok(scenario),
+        Err(error) => Err(at_line(lines + 1, error)),
+    }
+}
+
+/// The stage after all lines of the text, and how many there are.
+fn read_lines<'t>(alloc: Global, text: &'t [u8]) -> Result<(Stage<'t>, u32), AsmError>
+    requires { length text.now ≤ MAX_TEXT }
+    ensures stage { GivesStage result (stage_after 1 (lines_of text.now) stage.Start) }
+    ensures count { IfOk result (λ read. read.1 ≡ length (lines_of text.now)) }
+    ensures few { IfOk result (λ read. read.1 ≤ MAX_TEXT) }
+{
+    let mut stage = Stage::Start;
+    let mut lines = 0;
+    let mut rest = text;
+    while let Some((line, behind)) = next_line(rest) {
+        lines += 1;
+        stage = match judge(alloc, stage, line) {
+            Ok(next) => next,
+            Err(error) => return Err(at_line(lines, error)),
+        };
+        rest = behind;
+    }
+    Ok((stage, lines))
+}
+
+/// The fault of this line.
+fn at_line(line: u32, error: LineError) -> AsmError
+    ensures { AsmErrorIs result line error }
+{
+    match error {
+        LineError::Why(why) => AsmError::At { line, why },
+        LineError::NoMemory => AsmError::NoMemory,
+    }
+}

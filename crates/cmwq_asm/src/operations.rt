@@ -1,0 +1,119 @@
+//! The lines of a body: `body NAME`, its operations, and `finish`.
+ghost use Rattle.cmwq_asm.specs.Answers.{Gives, Tells};
+ghost use Rattle.cmwq_asm.specs.Operations.{next_at, queued_at, ticks_at};
+ghost use Rattle.cmwq_asm.specs.Stages.{stage_of};
+ghost use Rattle.cmwq_grammar.specs.Reasons.{add_op, not_in_body, op_at_line, open_body};
+ghost use Rattle.std.specs.Prelude.{◌≡◌, ◌<◌, OnOk, length};
+
+use crate::bodies::Bodies;
+use crate::draft::Draft;
+use crate::fault::LineError;
+use crate::fields::{
+    ended, is_word, read_declared, read_last_number_below, read_last_number_within,
+};
+use crate::misplaced::refusal;
+use crate::open::OpenBody;
+use crate::stage::Stage;
+use crate::tokens::Token;
+use cmwq_grammar::Why;
+use cmwq_types::{Fault, MAX_OPS, MAX_TICKS, Op, WorkId};
+use std::alloc::Global;
+
+/// Opens the body of the next work, which what is behind the word `body` must name.
+#[tactic(auto, using(crate::proofs::LineSteps::line_steps), unfolding(cmwq_grammar::specs::Reasons::open_body))]
+pub(crate) fn open_body<'t>(
+    alloc: Global,
+    bodies: Bodies<'t>,
+    rest: &[Token],
+) -> Result<Stage<'t>, LineError>
+    ensures { Gives stage_of result (open_body bodies.entry.told bodies.entry.done rest.now) }
+{
+    read_next(&bodies, rest)?;
+    let ops = Vec::new(alloc);
+    Ok(Stage::Body(OpenBody { bodies, ops }))
+}
+
+/// The number of the next work, which must be named in the line's last word.
+fn read_next(bodies: &Bodies, rest: &[Token]) -> Result<usize, Why>
+    ensures next { Tells (λ n. n) result (next_at bodies.now.told bodies.now.done rest.now) }
+    ensures there { OnOk result (length bodies.now.done < length bodies.now.told.works) }
+{
+    let (work, rest) = read_declared(bodies.draft().work_names(), rest)?;
+    if work != bodies.count() {
+        return Err(Why::Misplaced);
+    }
+    ended(work, rest)
+}
+
+/// The operation of a body's line.
+#[tactic(auto, using(crate::proofs::LineSteps::line_steps), unfolding(cmwq_grammar::specs::Reasons::op_at_line))]
+pub(crate) fn read_op(draft: &Draft, word: &[u8], rest: &[Token]) -> Result<Op, Why>
+    ensures { Tells (λ op. op) result (op_at_line draft.now word.now rest.now) }
+{
+    if is_word(word, b"burn") {
+        return read_burn(rest);
+    }
+    if is_word(word, b"sleep") {
+        return read_sleep(rest);
+    }
+    if is_word(word, b"queue") {
+        return read_queued(draft, rest);
+    }
+    if is_word(word, b"finish") {
+        return ended(Op::Finish, rest);
+    }
+    Err(refusal(not_in_body(word), word))
+}
+
+#[tactic(auto, using(crate::proofs::LineSteps::line_steps))]
+fn read_burn(rest: &[Token]) -> Result<Op, Why>
+    ensures { Tells (λ op. op) result (ticks_at Op.Burn rest.now) }
+{
+    let ticks = read_last_number_within(1, MAX_TICKS, rest)?;
+    Ok(Op::Burn(ticks))
+}
+
+#[tactic(auto, using(crate::proofs::LineSteps::line_steps))]
+fn read_sleep(rest: &[Token]) -> Result<Op, Why>
+    ensures { Tells (λ op. op) result (ticks_at Op.Sleep rest.now) }
+{
+    let ticks = read_last_number_within(1, MAX_TICKS, rest)?;
+    Ok(Op::Sleep(ticks))
+}
+
+#[tactic(auto, using(crate::proofs::LineSteps::line_steps))]
+fn read_queued(draft: &Draft, rest: &[Token]) -> Result<Op, Why>
+    ensures { Tells (λ op. op) result (queued_at draft.now rest.now) }
+{
+    let (work, rest) = read_declared(draft.work_names(), rest)?;
+    let cpu = read_last_number_below(draft.cpus(), rest)?;
+    Ok(Op::Queue(WorkId(work as u16), cpu))
+}
+
+/// The reason against a word in an open body: before `body` or `actor` the body lacks its `finish`.
+fn not_in_body(word: &[u8]) -> Why
+    ensures { result ≡ not_in_body word.now }
+{
+    if is_word(word, b"body") || is_word(word, b"actor") {
+        Why::Fault(Fault::BadBody)
+    } else {
+        Why::Misplaced
+    }
+}
+
+/// Adds the operation to the body; `finish` ends it, and any other must leave room for that.
+#[tactic(auto, unfolding(cmwq_grammar::specs::Reasons::add_op))]
+pub(crate) fn add_op<'t>(mut body: OpenBody<'t>, op: Op) -> Result<Stage<'t>, LineError>
+    ensures { Gives stage_of result (add_op body.entry.bodies.told body.entry.bodies.done body.entry.ops.items op) }
+{
+    let is_last = matches!(op, Op::Finish);
+    if !is_last && body.ops.len() + 1 >= MAX_OPS {
+        return Err(LineError::Why(Why::Fault(Fault::TooMany)));
+    }
+    body.ops.push(op)?;
+    if is_last {
+        Ok(Stage::Bodies(body.bodies.with_body(body.ops)?))
+    } else {
+        Ok(Stage::Body(body))
+    }
+}

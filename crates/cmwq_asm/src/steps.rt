@@ -1,0 +1,195 @@
+//! What each line adds at the stage where it stands.
+ghost use Rattle.cmwq_asm.specs.Answers.{Gives};
+ghost use Rattle.cmwq_asm.specs.Stages.{stage_of};
+ghost use Rattle.cmwq_grammar.specs.Reasons.{at_end, judge, step};
+ghost use Rattle.cmwq_grammar.specs.Stages as stage;
+ghost use Rattle.std.specs.Prelude.{◌≡◌, ◌∷◌};
+ghost use Rattle.std.specs.Str.{is_utf8};
+
+use crate::actors::{add_line, close_actor, open_actor};
+use crate::bodies::Bodies;
+use crate::draft::Draft;
+use crate::fault::LineError;
+use crate::fields::is_word;
+use crate::header::{read_cpus, read_flushes, read_steps, read_workers};
+use crate::instructions::read_line;
+use crate::misplaced::refusal;
+use crate::open::{OpenActor, OpenBody};
+use crate::operations::{add_op, open_body, read_op};
+use crate::queues::declare_queue;
+use crate::stage::Stage;
+use crate::tokens::{Token, tokens_of};
+use crate::works::declare_work;
+use cmwq_grammar::Why;
+use cmwq_types::{Fault, Scenario};
+use std::alloc::Global;
+
+/// The stage after this line, or the first reason against it.
+#[tactic(auto, unfolding(cmwq_grammar::specs::Reasons::judge))]
+pub(crate) fn judge<'t>(
+    alloc: Global,
+    stage: Stage<'t>,
+    line: &'t [u8],
+) -> Result<Stage<'t>, LineError>
+    ensures { Gives stage_of result (judge (stage_of stage.entry) line.now) }
+{
+    if !is_text(line) {
+        return Err(LineError::Why(Why::BadUtf8));
+    }
+    let words = tokens_of(alloc, line)?;
+    step(alloc, stage, &words)
+}
+
+/// Whether the bytes are UTF-8.
+fn is_text(bytes: &[u8]) -> bool
+    ensures { result ≡ is_utf8 bytes.now }
+{
+    str::from_utf8(bytes).is_ok()
+}
+
+/// The stage after a line of these words. A line without words tells nothing.
+#[tactic(auto, unfolding(cmwq_grammar::specs::Reasons::step))]
+fn step<'t>(alloc: Global, stage: Stage<'t>, words: &[Token<'t>]) -> Result<Stage<'t>, LineError>
+    ensures { Gives stage_of result (step (stage_of stage.entry) words.now) }
+{
+    match words {
+        [] => Ok(stage),
+        [word, rest @ ..] => step_on(alloc, stage, word.bytes(), rest),
+    }
+}
+
+/// The stage after a line that begins with this word.
+fn step_on<'t>(
+    alloc: Global,
+    stage: Stage<'t>,
+    word: &[u8],
+    rest: &[Token<'t>],
+) -> Result<Stage<'t>, LineError>
+    ensures { Gives stage_of result (step (stage_of stage.entry) (word.now ∷ rest.now)) }
+{
+    match stage {
+        Stage::Start => read_cpus(word, rest),
+        Stage::Cpus(cpus) => read_workers(cpus, word, rest),
+        Stage::Workers(cpus, workers) => read_steps(cpus, workers, word, rest),
+        Stage::Steps(cpus, workers, steps) => {
+            read_flushes(alloc, cpus, workers, steps, word, rest)
+        }
+        Stage::Queues(draft) => in_queues(alloc, draft, word, rest),
+        Stage::Works(draft) => in_works(alloc, draft, word, rest),
+        Stage::Bodies(bodies) => between_bodies(alloc, bodies, word, rest),
+        Stage::Body(body) => in_body(body, word, rest),
+        Stage::Actor(actor) => in_actor(alloc, actor, word, rest),
+    }
+}
+
+/// A line behind the head, or behind a queue.
+#[tactic(auto, using(crate::proofs::LineSteps::line_steps), unfolding(cmwq_grammar::specs::Reasons::step))]
+fn in_queues<'t>(
+    alloc: Global,
+    draft: Draft<'t>,
+    word: &[u8],
+    rest: &[Token<'t>],
+) -> Result<Stage<'t>, LineError>
+    ensures { Gives stage_of result (step (stage.Queues draft.entry) (word.now ∷ rest.now)) }
+{
+    if is_word(word, b"queue") {
+        return declare_queue(draft, rest);
+    }
+    if is_word(word, b"work") {
+        return declare_work(alloc, draft, rest);
+    }
+    if is_word(word, b"actor") {
+        return open_actor(alloc, draft, rest);
+    }
+    Err(LineError::Why(refusal(Why::Misplaced, word)))
+}
+
+/// A line behind a work.
+#[tactic(auto, using(crate::proofs::LineSteps::line_steps), unfolding(cmwq_grammar::specs::Reasons::step))]
+fn in_works<'t>(
+    alloc: Global,
+    draft: Draft<'t>,
+    word: &[u8],
+    rest: &[Token<'t>],
+) -> Result<Stage<'t>, LineError>
+    ensures { Gives stage_of result (step (stage.Works draft.entry) (word.now ∷ rest.now)) }
+{
+    if is_word(word, b"work") {
+        return declare_work(alloc, draft, rest);
+    }
+    if is_word(word, b"body") {
+        return open_body(alloc, Bodies::new(alloc, draft), rest);
+    }
+    Err(LineError::Why(refusal(Why::Misplaced, word)))
+}
+
+/// A line behind the `finish` of a body.
+#[tactic(auto, using(crate::proofs::LineSteps::line_steps), unfolding(cmwq_grammar::specs::Reasons::step))]
+fn between_bodies<'t>(
+    alloc: Global,
+    bodies: Bodies<'t>,
+    word: &[u8],
+    rest: &[Token<'t>],
+) -> Result<Stage<'t>, LineError>
+    ensures { Gives stage_of result (step (stage.Bodies bodies.entry.told bodies.entry.done) (word.now ∷ rest.now)) }
+{
+    let are_complete = bodies.are_complete();
+    if is_word(word, b"body") && !are_complete {
+        return open_body(alloc, bodies, rest);
+    }
+    if is_word(word, b"actor") && are_complete {
+        return open_actor(alloc, bodies.into_draft(), rest);
+    }
+    Err(LineError::Why(refusal(Why::Misplaced, word)))
+}
+
+/// A line in an open body.
+#[tactic(auto, unfolding(cmwq_grammar::specs::Reasons::step))]
+fn in_body<'t>(body: OpenBody<'t>, word: &[u8], rest: &[Token<'t>]) -> Result<Stage<'t>, LineError>
+    ensures { Gives stage_of result (step (stage.Body body.entry.bodies.told body.entry.bodies.done body.entry.ops.items) (word.now ∷ rest.now)) }
+{
+    let op = read_op(body.bodies.draft(), word, rest)?;
+    add_op(body, op)
+}
+
+/// A line behind an actor's first line.
+#[tactic(auto, unfolding(cmwq_grammar::specs::Reasons::step))]
+fn in_actor<'t>(
+    alloc: Global,
+    actor: OpenActor<'t>,
+    word: &[u8],
+    rest: &[Token<'t>],
+) -> Result<Stage<'t>, LineError>
+    ensures { Gives stage_of result (step (stage.Actor actor.entry.draft actor.entry.name actor.entry.lines.items) (word.now ∷ rest.now)) }
+{
+    if is_word(word, b"actor") {
+        return open_actor(alloc, close_actor(actor)?, rest);
+    }
+    let line = read_line(&actor.draft, word, rest)?;
+    add_line(actor, line)
+}
+
+/// The scenario of a text that ends at this stage, or why it may not.
+#[tactic(auto, unfolding(cmwq_grammar::specs::Reasons::at_end))]
+pub(crate) fn at_end(stage: Stage) -> Result<Scenario, LineError>
+    ensures { Gives (λ scenario. scenario) result (at_end (stage_of stage.entry)) }
+{
+    match stage {
+        Stage::Queues(draft) => Ok(draft.into_scenario()),
+        Stage::Bodies(bodies) => end_between_bodies(bodies),
+        Stage::Body(_) => Err(LineError::Why(Why::Fault(Fault::BadBody))),
+        Stage::Actor(actor) => Ok(close_actor(actor)?.into_scenario()),
+        _ => Err(LineError::Why(Why::MissingWord)),
+    }
+}
+
+/// The scenario of a text that ends where no body is open.
+#[tactic(auto, unfolding(cmwq_grammar::specs::Reasons::at_end))]
+fn end_between_bodies(bodies: Bodies) -> Result<Scenario, LineError>
+    ensures { Gives (λ scenario. scenario) result (at_end (stage.Bodies bodies.entry.told bodies.entry.done)) }
+{
+    if !bodies.are_complete() {
+        return Err(LineError::Why(Why::MissingWord));
+    }
+    Ok(bodies.into_draft().into_scenario())
+}
