@@ -2,7 +2,7 @@
 ghost use Rattle.cmwq_asm.specs.Texts.{AsmErrorIs, Assembles, GivesStage, IsScenario, IsToldAs, ToldFault};
 ghost use Rattle.cmwq_grammar.specs.Cutting.{lines_of};
 ghost use Rattle.cmwq_grammar.specs.FaultLaw.{IsFault};
-ghost use Rattle.cmwq_grammar.specs.Grammar.{Fits, Spells};
+ghost use Rattle.cmwq_grammar.specs.Grammar.{Spells};
 ghost use Rattle.cmwq_grammar.specs.Meaning.{FaultAt, reads, stage_after};
 ghost use Rattle.cmwq_grammar.specs.Stages as stage;
 ghost use Rattle.cmwq_types.specs.Contents.{ScenarioContents};
@@ -45,7 +45,7 @@ pub fn assemble(alloc: Global, text: &[u8]) -> Result<Scenario, AsmError>
 /// The scenario as it is assembled from its listing.
 pub fn assemble_again(alloc: Global, scenario: &Scenario) -> Result<Scenario, AsmError>
     // A valid scenario comes back, unless memory runs out.
-    ensures { IsValid scenario.now → Fits scenario.now → IsScenario result scenario.now }
+    ensures { IsValid scenario.now → IsScenario result scenario.now }
 {
     let text = list(alloc, scenario)?;
     assemble(alloc, &text)
