@@ -1,0 +1,7 @@
+use Rattle.std.proofs.Common.{◌≡◌, ◌++◌, take}
+use Rattle.std.specs.List.{flat_map}
+use Rattle.cmwq_image.proofs.writing.push_actors.Given as goal
+use Rattle.cmwq_image.specs.Image.{actor_image}
+
+abbrev pub invariant-loop-actor : goal.invariant-loop-actor
+invariant-loop-actor l = l.bytes.items ≡ l.fn.bytes.items ++ flat_map actor_image (take l.actor-index l.actors)
