@@ -1,3 +1,7 @@
+pub mod Codec
+pub mod FieldCodecs
 pub mod LoopLemmas
 pub mod NameLemmas
 pub mod SizeLemmas
+pub mod WordCodecs
+pub mod PartCodecs

@@ -1,3 +1,4 @@
 pub mod Image
 pub mod ImageFault
 pub mod Limits
+pub mod Worked

@@ -4,6 +4,7 @@
 mod error;
 mod fields;
 mod head;
+pub mod laws;
 mod parts;
 mod reading;
 mod tags;
