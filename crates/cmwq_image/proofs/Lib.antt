@@ -5,3 +5,4 @@ pub mod NameLemmas
 pub mod SizeLemmas
 pub mod WordCodecs
 pub mod PartCodecs
+pub mod WholeCodecs

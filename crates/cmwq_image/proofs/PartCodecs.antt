@@ -19,13 +19,13 @@ use Rattle.cmwq_image.proofs.Codec.{Codec, Parts, nothing, one_then, convert}
 use Rattle.cmwq_image.proofs.FieldCodecs.{InRange, Each, numbers, names, versions, many_of, wide8, wide16, wide32}
 use Rattle.cmwq_image.proofs.WordCodecs.{ops, instrs}
 
-bytes_of : (low high : ℕ) → low ≤ high → high < 256 → Codec (number_at w8 low high) (number w8) (InRange low high)
+pub bytes_of : (low high : ℕ) → low ≤ high → high < 256 → Codec (number_at w8 low high) (number w8) (InRange low high)
 bytes_of low high some below = numbers w8 256 low high wide8 some below
 
-shorts : (low high : ℕ) → low ≤ high → high < 65536 → Codec (number_at w16 low high) (number w16) (InRange low high)
+pub shorts : (low high : ℕ) → low ≤ high → high < 65536 → Codec (number_at w16 low high) (number w16) (InRange low high)
 shorts low high some below = numbers w16 65536 low high wide16 some below
 
-longs : (low high : ℕ) → low ≤ high → high < 4294967296 → Codec (number_at w32 low high) (number w32) (InRange low high)
+pub longs : (low high : ℕ) → low ≤ high → high < 4294967296 → Codec (number_at w32 low high) (number w32) (InRange low high)
 longs low high some below = numbers w32 4294967296 low high wide32 some below
 
 -- ---- flags
