@@ -180,8 +180,8 @@ field_stops {A} fault settles size meaning write Fits means at bytes e stopped =
           let found = refused_is (fault at) e (behind size (place at bytes)) (meaning (take size bytes)) (sym (open_field fault size meaning (place at bytes) long) ∙ stopped) in
           let front : length (take size bytes) ≡ size = omega (arith, length-take size bytes) in
           let never : (other : List ℕ) → field fault size meaning (place at ([] ++ (take size bytes ++ other))) ≡ Err (fault at) = λ other.
-              open_field fault size meaning (place at (take size bytes ++ other)) (omega (arith, length-append (take size bytes) other))
-              ∙ ap (λ (f : Option A). accepted (fault at) (behind size (place at (take size bytes ++ other))) f) (ap meaning (take_at (take size bytes) other size front) ∙ found.0) in
+          open_field fault size meaning (place at (take size bytes ++ other)) (omega (arith, length-append (take size bytes) other))
+          ∙ ap (λ (f : Option A). accepted (fault at) (behind size (place at (take size bytes ++ other))) f) (ap meaning (take_at (take size bytes) other size front) ∙ found.0) in
           subst (λ (x : ImageError). Stops (field fault size meaning) write Fits at bytes x) (sym found.1) (record {
             front = [];
             left = bytes;

@@ -61,14 +61,14 @@ InRange low high n = (low ≤ n) × (n ≤ high)
 within_is : (low high n m : ℕ) → if_within low high n ≡ Some m → (n ≡ m) × InRange low high m
 within_is low high n m h = go (within low high n) refl h
   where
-  go : (b : Bool) → within low high n ≡ b → cond b (Some n) None ≡ Some m → (n ≡ m) × InRange low high m
-  go true t e =
-      let same : n ≡ m = cc in
-      let parts = and_parts (nat_le low n) (nat_le n high) t in
-      let a : low ≤ n = grind (arith, nat_tests) in
-      let b : n ≤ high = grind (arith, nat_tests) in
-      (same, (omega arith, omega arith))
-  go false t e = absurd cc
+    go : (b : Bool) → within low high n ≡ b → cond b (Some n) None ≡ Some m → (n ≡ m) × InRange low high m
+    go true t e =
+        let same : n ≡ m = cc in
+        let parts = and_parts (nat_le low n) (nat_le n high) t in
+        let a : low ≤ n = grind (arith, nat_tests) in
+        let b : n ≤ high = grind (arith, nat_tests) in
+        (same, (omega arith, omega arith))
+    go false t e = absurd cc
 
 is_within : (low high n : ℕ) → InRange low high n → if_within low high n ≡ Some n
 is_within low high n h =
@@ -105,14 +105,14 @@ name_meant : (bytes name : List ℕ) → name_of bytes ≡ Some name → IsTrue 
 name_meant [] name h = absurd cc
 name_meant (len ∷ bytes) name h = go (bytes_eq (len ∷ bytes) (name_field (take len bytes)) && is_name (take len bytes)) refl h
   where
-  go : (b : Bool) → (bytes_eq (len ∷ bytes) (name_field (take len bytes)) && is_name (take len bytes)) ≡ b → cond b (Some (take len bytes)) None ≡ Some name
-      → IsTrue (is_name name) × (len ∷ bytes ≡ name_field name)
-  go true t e =
-      let same : take len bytes ≡ name = cc in
-      let parts = and_parts (bytes_eq (len ∷ bytes) (name_field (take len bytes))) (is_name (take len bytes)) t in
-      let equal = (bytes_eq-Decides (len ∷ bytes) (name_field (take len bytes))).0 parts.0 in
-      (ap is_name (sym same) ∙ parts.1, equal ∙ ap name_field same)
-  go false t e = absurd cc
+    go : (b : Bool) → (bytes_eq (len ∷ bytes) (name_field (take len bytes)) && is_name (take len bytes)) ≡ b → cond b (Some (take len bytes)) None ≡ Some name
+        → IsTrue (is_name name) × (len ∷ bytes ≡ name_field name)
+    go true t e =
+        let same : take len bytes ≡ name = cc in
+        let parts = and_parts (bytes_eq (len ∷ bytes) (name_field (take len bytes))) (is_name (take len bytes)) t in
+        let equal = (bytes_eq-Decides (len ∷ bytes) (name_field (take len bytes))).0 parts.0 in
+        (ap is_name (sym same) ∙ parts.1, equal ∙ ap name_field same)
+    go false t e = absurd cc
 
 pub name_size : (name : List ℕ) → IsTrue (is_name name) → length name ≤ 15
 name_size name named =
@@ -194,13 +194,13 @@ many_of {A} one write Fits c (suc n) =
     one_then one (λ first. many one n >>= λ others. done (first ∷ others)) (first_of_all c.some) write Fits
     (λ xs. flat_map write (drop 1 xs)) (FrontIs Fits c.some n) (flat_map write) (Each Fits (suc n)) c
     (λ first fits.
-        one_then (many one n) (λ others. done (first ∷ others)) (drop 1) (flat_map write) (Each Fits n)
-        (λ xs. []) (λ others xs. xs ≡ first ∷ others) (λ xs. flat_map write (drop 1 xs)) (FrontIs Fits c.some n first)
-        (many_of one write Fits c n) (λ others all. nothing (first ∷ others)) (record {
-          join = λ others xs. front_join Fits c.some n first others xs;
-          cut = front_cut Fits c.some n first;
-          written = λ xs h. sym (append-nil (flat_map write (drop 1 xs)));
-        }))
+    one_then (many one n) (λ others. done (first ∷ others)) (drop 1) (flat_map write) (Each Fits n)
+    (λ xs. []) (λ others xs. xs ≡ first ∷ others) (λ xs. flat_map write (drop 1 xs)) (FrontIs Fits c.some n first)
+    (many_of one write Fits c n) (λ others all. nothing (first ∷ others)) (record {
+      join = λ others xs. front_join Fits c.some n first others xs;
+      cut = front_cut Fits c.some n first;
+      written = λ xs h. sym (append-nil (flat_map write (drop 1 xs)));
+    }))
     (record {
       join = λ x xs. all_join Fits c.some n x xs;
       cut = all_cut Fits c.some n;

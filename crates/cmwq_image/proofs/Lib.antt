@@ -6,3 +6,4 @@ pub mod SizeLemmas
 pub mod WordCodecs
 pub mod PartCodecs
 pub mod WholeCodecs
+pub mod ReadingLemmas

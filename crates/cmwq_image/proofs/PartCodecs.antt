@@ -140,8 +140,8 @@ queues_zero name max bits small =
       written = λ q h. refl;
     })
   where
-  made_alike : (n n' : List ℕ) (m m' : ℕ) (f f' : Flags) → n ≡ n' → m ≡ m' → f ≡ f' → queue_with n m f ≡ queue_with n' m' f'
-  made_alike n n' m m' f f' a b c = ap (λ (x : List ℕ). queue_with x m f) a ∙ ap (λ x. queue_with n' x f) b ∙ ap (λ (x : Flags). queue_with n' m' x) c
+    made_alike : (n n' : List ℕ) (m m' : ℕ) (f f' : Flags) → n ≡ n' → m ≡ m' → f ≡ f' → queue_with n m f ≡ queue_with n' m' f'
+    made_alike n n' m m' f f' a b c = ap (λ (x : List ℕ). queue_with x m f) a ∙ ap (λ x. queue_with n' x f) b ∙ ap (λ (x : Flags). queue_with n' m' x) c
 
 queues_bits : (name : List ℕ) (max : ℕ)
     → Codec (number_at w8 0 31 >>= λ bits. number_at w8 0 0 >>= λ nothing. done (made_queue name max bits)) (λ q. in_order (number w8 (flag_bits q.flags) ∷ number w8 0 ∷ [])) (λ q. (q.name ≡ name) × (q.max ≡ max))

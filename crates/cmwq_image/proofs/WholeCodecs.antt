@@ -322,13 +322,20 @@ scenarios_actors head queues works =
     (λ S. NumbersAre head S × (S.queues ≡ queues) × (S.works ≡ works) × Each ActorFits head.actors S.actors)
     (many_of actor_at actor_image ActorFits actors head.actors) (λ actors fits. nothing (scenario_with head queues works actors)) (record {
       join = λ actors S fits e.
-          let actors_are : S.actors ≡ actors = ap (λ (x : ScenarioContents). x.actors) e in
-          (actors_are, ((ap (λ (x : ScenarioContents). x.cpus) e, ap (λ (x : ScenarioContents). x.workers) e, ap (λ (x : ScenarioContents). x.steps) e, ap (λ (x : ScenarioContents). x.flushes) e),
-          ap (λ (x : ScenarioContents). x.queues) e, ap (λ (x : ScenarioContents). x.works) e, subst (Each ActorFits head.actors) (sym actors_are) fits));
-      cut = λ S h.
-          (h.3,
-          same_numbers S.cpus S.workers S.steps S.flushes head.cpus head.workers head.steps head.flushes S.queues S.works S.actors h.0.0 h.0.1 h.0.2 h.0.3
-          ∙ ap (λ (x : List QueueDecl). scenario_with head x S.works S.actors) h.1 ∙ ap (λ (x : List WorkContents). scenario_with head queues x S.actors) h.2);
+          let actors_are : S.actors ≡ actors = ap (λ (x : ScenarioContents). x.actors) e in (
+            actors_are,
+            (
+              (ap (λ (x : ScenarioContents). x.cpus) e, ap (λ (x : ScenarioContents). x.workers) e, ap (λ (x : ScenarioContents). x.steps) e, ap (λ (x : ScenarioContents). x.flushes) e),
+              ap (λ (x : ScenarioContents). x.queues) e,
+              ap (λ (x : ScenarioContents). x.works) e,
+              subst (Each ActorFits head.actors) (sym actors_are) fits,
+            ),
+          );
+      cut = λ S h. (
+        h.3,
+        same_numbers S.cpus S.workers S.steps S.flushes head.cpus head.workers head.steps head.flushes S.queues S.works S.actors h.0.0 h.0.1 h.0.2 h.0.3
+            ∙ ap (λ (x : List QueueDecl). scenario_with head x S.works S.actors) h.1 ∙ ap (λ (x : List WorkContents). scenario_with head queues x S.actors) h.2,
+      );
       written = λ S h. refl;
     })
 
@@ -376,39 +383,53 @@ scenario_join : (head : Head) (S : ScenarioContents) → HeadFits head
     → NumbersAre head S × Each IsQueue head.queues S.queues × Each WorkFits head.works S.works × Each ActorFits head.actors S.actors → (head_of S ≡ head) × HasImage S
 scenario_join head S fits h =
     let head_is : head_of S ≡ head =
-        ap (λ x. head_with x S.workers S.steps S.flushes (length S.queues) (length S.works) (length S.actors)) h.0.0
-        ∙ ap (λ x. head_with head.cpus x S.steps S.flushes (length S.queues) (length S.works) (length S.actors)) h.0.1
-        ∙ ap (λ x. head_with head.cpus head.workers x S.flushes (length S.queues) (length S.works) (length S.actors)) h.0.2
-        ∙ ap (λ x. head_with head.cpus head.workers head.steps x (length S.queues) (length S.works) (length S.actors)) h.0.3
-        ∙ ap (λ x. head_with head.cpus head.workers head.steps head.flushes x (length S.works) (length S.actors)) h.1.0
-        ∙ ap (λ x. head_with head.cpus head.workers head.steps head.flushes head.queues x (length S.actors)) h.2.0
-        ∙ ap (λ x. head_with head.cpus head.workers head.steps head.flushes head.queues head.works x) h.3.0 in
-    (head_is, record {
-      contents = record {
-        cpus = omega (arith, h.0.0, fits.0);
-        workers = omega (arith, h.0.1, fits.1);
-        steps = omega (arith, h.0.2, fits.2);
-        flushes = omega (arith, h.0.3, fits.3);
-        queues = h.1.1;
-        works = first_all IsWork HasBodySize S.works h.2.1;
-        actors = first_all IsActor HasLinesSize S.actors h.3.1;
-      };
-      sized = record {
-        queues = omega (arith, h.1.0, fits.4);
-        works = omega (arith, h.2.0, fits.5);
-        actors = omega (arith, h.3.0, fits.6);
-        bodies = second_all IsWork HasBodySize S.works h.2.1;
-        lines = second_all IsActor HasLinesSize S.actors h.3.1;
-      };
-    })
+    ap (λ x. head_with x S.workers S.steps S.flushes (length S.queues) (length S.works) (length S.actors)) h.0.0
+    ∙ ap (λ x. head_with head.cpus x S.steps S.flushes (length S.queues) (length S.works) (length S.actors)) h.0.1
+    ∙ ap (λ x. head_with head.cpus head.workers x S.flushes (length S.queues) (length S.works) (length S.actors)) h.0.2
+    ∙ ap (λ x. head_with head.cpus head.workers head.steps x (length S.queues) (length S.works) (length S.actors)) h.0.3
+    ∙ ap (λ x. head_with head.cpus head.workers head.steps head.flushes x (length S.works) (length S.actors)) h.1.0
+    ∙ ap (λ x. head_with head.cpus head.workers head.steps head.flushes head.queues x (length S.actors)) h.2.0
+    ∙ ap (λ x. head_with head.cpus head.workers head.steps head.flushes head.queues head.works x) h.3.0 in (
+      head_is,
+      record {
+        contents = record {
+          cpus = omega (arith, h.0.0, fits.0);
+          workers = omega (arith, h.0.1, fits.1);
+          steps = omega (arith, h.0.2, fits.2);
+          flushes = omega (arith, h.0.3, fits.3);
+          queues = h.1.1;
+          works = first_all IsWork HasBodySize S.works h.2.1;
+          actors = first_all IsActor HasLinesSize S.actors h.3.1;
+        };
+        sized = record {
+          queues = omega (arith, h.1.0, fits.4);
+          works = omega (arith, h.2.0, fits.5);
+          actors = omega (arith, h.3.0, fits.6);
+          bodies = second_all IsWork HasBodySize S.works h.2.1;
+          lines = second_all IsActor HasLinesSize S.actors h.3.1;
+        };
+      },
+    )
 
 scenario_cut : (S : ScenarioContents) → HasImage S
     → HeadFits (head_of S) × (NumbersAre (head_of S) S × Each IsQueue (length S.queues) S.queues × Each WorkFits (length S.works) S.works × Each ActorFits (length S.actors) S.actors)
-scenario_cut S h =
-    ((omega (arith, h.contents.cpus), omega (arith, h.contents.workers), omega (arith, h.contents.steps), omega (arith, h.contents.flushes),
-    h.sized.queues, h.sized.works, h.sized.actors),
-    ((refl, refl, refl, refl), (refl, h.contents.queues), (refl, both_all IsWork HasBodySize S.works h.contents.works h.sized.bodies),
-    (refl, both_all IsActor HasLinesSize S.actors h.contents.actors h.sized.lines)))
+scenario_cut S h = (
+  (
+    omega (arith, h.contents.cpus),
+    omega (arith, h.contents.workers),
+    omega (arith, h.contents.steps),
+    omega (arith, h.contents.flushes),
+    h.sized.queues,
+    h.sized.works,
+    h.sized.actors,
+  ),
+  (
+    (refl, refl, refl, refl),
+    (refl, h.contents.queues),
+    (refl, both_all IsWork HasBodySize S.works h.contents.works h.sized.bodies),
+    (refl, both_all IsActor HasLinesSize S.actors h.contents.actors h.sized.lines),
+  ),
+)
 
 pub scenarios : Codec scenario_at rest_image HasImage
 unfolding scenario_at

@@ -80,10 +80,11 @@ words_n {T} {B} code tag_of room made tag as_word Fits laws t cpu a cpu_fits a_f
           let n_fits : n ≤ (room t).n = fits.1 in
           (n_is, ((tag_is, record { cpu_fits = omega arith; a_fits = omega arith; n_fits = omega arith }), cpu_is, a_is));
       cut = λ x h.
-          let n_fits : (as_word x).n ≤ (room t).n = h.0.1.n_fits in
-          ((omega arith, n_fits),
-          sym (laws.again x) ∙ ap (λ (u : T). made u (as_word x).cpu (as_word x).a (as_word x).n) h.0.0
-          ∙ ap (λ c. made t c (as_word x).a (as_word x).n) h.1 ∙ ap (λ b. made t cpu b (as_word x).n) h.2);
+          let n_fits : (as_word x).n ≤ (room t).n = h.0.1.n_fits in (
+            (omega arith, n_fits),
+            sym (laws.again x) ∙ ap (λ (u : T). made u (as_word x).cpu (as_word x).a (as_word x).n) h.0.0
+                ∙ ap (λ c. made t c (as_word x).a (as_word x).n) h.1 ∙ ap (λ b. made t cpu b (as_word x).n) h.2,
+          );
       written = λ x h. refl;
     })
 
@@ -144,9 +145,9 @@ pick : {T : Type 0} (code : T → ℕ) (n k : ℕ) (t found : T) (later : Option
     → cond (eqb n k) (Some t) later ≡ Some found → n ≡ code found
 pick {T} code n k t found later is rest e = go (eqb n k) refl e
   where
-  go : (b : Bool) → eqb n k ≡ b → cond b (Some t) later ≡ Some found → n ≡ code found
-  go true same h = let it : t ≡ found = cc in eqb-true n k same ∙ sym is ∙ ap code it
-  go false same h = rest h
+    go : (b : Bool) → eqb n k ≡ b → cond b (Some t) later ≡ Some found → n ≡ code found
+    go true same h = let it : t ≡ found = cc in eqb-true n k same ∙ sym is ∙ ap code it
+    go false same h = rest h
 
 -- words with the same fields
 plain : (tag cpu a n c b m : ℕ) → cpu ≡ c → a ≡ b → n ≡ m → word tag cpu a n ≡ word tag c b m

@@ -1,3 +1,4 @@
+pub mod FaultMeaning
 pub mod Image
 pub mod ImageFault
 pub mod Limits

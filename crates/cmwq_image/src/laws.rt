@@ -1,13 +1,38 @@
 //! Laws of images, each the contract of a function with an empty body.
+ghost use Rattle.cmwq_image.specs.FaultMeaning.{Means};
 ghost use Rattle.cmwq_image.specs.Image.{image};
 ghost use Rattle.cmwq_image.specs.ImageFault.{reading};
-ghost use Rattle.cmwq_image.specs.Limits.{AreBytes, IsContents};
+ghost use Rattle.cmwq_image.specs.Limits.{AreBytes, HasSize, IsContents};
 ghost use Rattle.cmwq_image.specs.Worked.{worked_image, worked_scenario};
+ghost use Rattle.cmwq_image.specs.declared.error.ImageError.{ImageError};
 ghost use Rattle.cmwq_image.specs.declared.error.ImageError.TheVariants as errors;
-ghost use Rattle.cmwq_types.specs.declared.check.Fault.TheVariants.{Range};
 ghost use Rattle.cmwq_types.specs.Contents.{ScenarioContents};
 ghost use Rattle.cmwq_types.specs.Faults.{IsValid};
-ghost use Rattle.std.specs.Prelude.{◌≡◌, ◌↔◌, ◌++◌, ◌∷◌, [], List, Ok, Err, length, take, slice_set, ℕ};
+ghost use Rattle.cmwq_types.specs.declared.check.Fault.TheVariants.{Range};
+ghost use Rattle.std.specs.Prelude.{◌≡◌, ◌↔◌, ◌++◌, ◌∷◌, [], Err, List, Ok, length, slice_set, take, ℕ};
+
+/// Bytes are read as a scenario exactly where they are its image and it is valid.
+pub fn images_are_read()
+    ensures { (bytes : List ℕ) (S : ScenarioContents) → AreBytes bytes → (reading bytes ≡ Ok S) ↔ (IsContents S × IsValid S × (bytes ≡ image S)) }
+{}
+
+/// What is written is read again.
+#[tactic(auto, using(crate::proofs::ReadingLemmas::reading_again))]
+pub fn written_is_read()
+    ensures { (S : ScenarioContents) → IsContents S → IsValid S → reading (image S) ≡ Ok S }
+{}
+
+/// Each image is that of one scenario. The scenarios needn't be valid.
+#[tactic(auto, using(crate::proofs::ReadingLemmas::one_image))]
+pub fn image_has_one_scenario()
+    ensures { (S T : ScenarioContents) → IsContents S → HasSize S → IsContents T → HasSize T → image S ≡ image T → S ≡ T }
+{}
+
+/// What each fault says of the bytes, in words of images alone.
+#[tactic(auto, using(crate::proofs::ReadingLemmas::means))]
+pub fn faults_have_meanings()
+    ensures { (bytes : List ℕ) (fault : ImageError) → AreBytes bytes → reading bytes ≡ Err fault → Means bytes fault }
+{}
 
 /// The worked image is the image of the worked scenario, which is valid.
 pub fn worked_image_is_written()

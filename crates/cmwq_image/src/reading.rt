@@ -1,8 +1,11 @@
 //! Reading an image.
+ghost use Rattle.cmwq_image.specs.FaultMeaning.{Means};
 ghost use Rattle.cmwq_image.specs.Image.{image};
-ghost use Rattle.cmwq_image.specs.ImageFault.{Gives, judged, reading, scenario_at};
+ghost use Rattle.cmwq_image.specs.ImageFault.{Gives, reading, scenario_at};
+ghost use Rattle.cmwq_image.specs.Limits.{IsContents};
+ghost use Rattle.cmwq_types.specs.Contents.{ScenarioContents};
 ghost use Rattle.cmwq_types.specs.Faults.{IsValid};
-ghost use Rattle.std.specs.Prelude.{◌≡◌, ◌≤◌, ◌+◌, IfOk, Ok};
+ghost use Rattle.std.specs.Prelude.{◌≡◌, IfErr, IfOk, Ok};
 
 use crate::error::ImageError;
 use crate::fields::Fields;
@@ -14,8 +17,14 @@ use std::alloc::Global;
 /// Faults are judged in this order, which is this project's own: `Magic`; then field by field from the
 /// left `Truncated`, `Version` or `BadField`; then `Extra`; then the first fault of the scenario itself.
 pub fn read(alloc: Global, bytes: &[u8]) -> Result<Scenario, ImageError>
-    // Which fault it is.
-    ensures exact { Gives (λ scenario. scenario) result (reading bytes.now) }
+    // What is read has the bytes as its image.
+    ensures found { IfOk result (λ scenario. IsContents scenario × IsValid scenario × (bytes.now ≡ image scenario)) }
+    // The image of a valid scenario is read, unless memory runs out.
+    ensures only { (S : ScenarioContents) → IsContents S → IsValid S → bytes.now ≡ image S → Gives (λ scenario. scenario) result (Ok S) }
+    // Which fault it is: the first one from the left.
+    ensures fault { Gives (λ scenario. scenario) result (reading bytes.now) }
+    // What the fault says of the bytes.
+    ensures meaning { IfErr result (λ fault. Means bytes.now fault) }
 {
     read_all(alloc, bytes)
 }
