@@ -1,10 +1,10 @@
 -- The fields of an image: what is read of each is what is written.
-use Rattle.std.proofs.Common.{◌≡◌, ℕ, zero, suc, ◌+◌, ◌-◌, ◌^◌, ◌<◌, ◌≤◌, Bool, true, false, cond, ltb, leb, eqb, ◌&&◌, List, [], ◌∷◌, ◌++◌, length, get_or, take, drop, replicate, Option, Some, None, Result, Ok, Err, refl, sym, ap, subst, ◌∙◌, append_assoc, arith}
+use Rattle.std.proofs.Common.{◌≡◌, ℕ, zero, suc, ◌-◌, ◌<◌, ◌≤◌, Bool, true, false, cond, ◌&&◌, List, [], ◌∷◌, ◌++◌, length, take, drop, replicate, Some, None, refl, sym, ap, subst, ◌∙◌, arith}
 use Rattle.std.specs.Int.{Width, w8, w16, w32, byte_len, from_be_bytes, to_be_bytes}
 use Rattle.std.specs.List.{flat_map, AllByRecursion}
 use Rattle.std.specs.Prelude.{nat_le, IsTrue}
 use Rattle.std.specs.Str.{bytes_eq}
-use Rattle.std.proofs.lemmas.Bool.{and_parts, eqb-true}
+use Rattle.std.proofs.lemmas.Bool.{and_parts}
 use Rattle.std.proofs.lemmas.Bool.Decides.{nat_tests}
 use Rattle.std.proofs.lemmas.List.{length-append, length-replicate, take_at, append-nil}
 use Rattle.std.proofs.lemmas.List.Concat.{flat_map-cons}
@@ -13,10 +13,10 @@ use Rattle.std.proofs.lemmas.Slice.Eq.{bytes_eq-Decides}
 use Rattle.cmwq_types.specs.Faults.{within}
 use Rattle.cmwq_types.specs.Name.{is_name, padded}
 use Rattle.cmwq_image.specs.Image.{number, name_field}
-use Rattle.cmwq_image.specs.ImageFault.{Place, Reader, ◌>>=◌, done, many, field, number_at, if_within, version_at, name_at, name_of}
+use Rattle.cmwq_image.specs.ImageFault.{Reader, ◌>>=◌, done, many, number_at, if_within, version_at, name_at, name_of}
 use Rattle.cmwq_image.specs.Limits.{AreBytes}
 use Rattle.cmwq_image.specs.declared.error.ImageError.TheVariants as errors
-use Rattle.cmwq_image.proofs.Codec.{Codec, Meaning, Parts, of_field, bad_field, bad_version, convert, nothing, one_then}
+use Rattle.cmwq_image.proofs.Codec.{Codec, Meaning, of_field, bad_field, bad_version, convert, nothing, one_then}
 
 -- ---- numbers
 

@@ -7,3 +7,4 @@ pub mod WordCodecs
 pub mod PartCodecs
 pub mod WholeCodecs
 pub mod ReadingLemmas
+pub mod WritingLemmas

@@ -1,23 +1,15 @@
 -- The parts of an image: what is read of each is what is written.
-use Rattle.std.proofs.Common.{◌≡◌, ℕ, zero, suc, ◌+◌, ◌-◌, ◌*◌, ◌/◌, ◌%◌, ◌^◌, ◌<◌, ◌≤◌, Bool, true, false, cond, eqb, List, [], ◌∷◌, ◌++◌, length, refl, sym, ap, subst, ◌∙◌, arith}
+use Rattle.std.proofs.Common.{◌≡◌, ℕ, zero, suc, ◌*◌, ◌/◌, ◌%◌, ◌<◌, ◌≤◌, Bool, true, false, eqb, List, [], ◌∷◌, refl, sym, ap, ◌∙◌, arith}
 use Rattle.std.specs.Int.{w8, w16, w32}
-use Rattle.std.specs.List.{flat_map, AllByRecursion}
 use Rattle.std.specs.Prelude.{IsTrue}
-use Rattle.cmwq_types.specs.Contents.{ScenarioContents, WorkContents, ActorContents}
 use Rattle.cmwq_types.specs.Name.{is_name}
-use Rattle.cmwq_types.specs.declared.instr.Instr.{Instr}
-use Rattle.cmwq_types.specs.declared.instr.QueueId.{QueueId}
 use Rattle.cmwq_types.specs.declared.scenario.Flags.{Flags}
-use Rattle.cmwq_types.specs.declared.scenario.Line.{Line}
-use Rattle.cmwq_types.specs.declared.scenario.Op.{Op}
 use Rattle.cmwq_types.specs.declared.scenario.QueueDecl.{QueueDecl}
-use Rattle.cmwq_image.specs.Image.{in_order, number, name_field, worth, flag_bits, queue_image, op_image, work_image, word_image, instr_word, line_image, actor_image, image, magic}
-use Rattle.cmwq_image.specs.ImageFault.{Reader, ◌>>=◌, done, many, number_at, byte_at, short_at, long_at, version_at, name_at, is_set, flags_of, queue_at, op_at, work_at, instr_at, line_at, actor_at, head_at, scenario_at}
-use Rattle.cmwq_image.specs.Limits.{AreBytes, IsQueue, IsOp, IsWork, IsInstr, IsLine, IsActor, IsContents, HasBodySize, HasLinesSize, HasSize}
-use Rattle.cmwq_image.specs.declared.head.Head.{Head}
-use Rattle.cmwq_image.proofs.Codec.{Codec, Parts, nothing, one_then, convert}
-use Rattle.cmwq_image.proofs.FieldCodecs.{InRange, Each, numbers, names, versions, many_of, wide8, wide16, wide32}
-use Rattle.cmwq_image.proofs.WordCodecs.{ops, instrs}
+use Rattle.cmwq_image.specs.Image.{in_order, number, name_field, worth, flag_bits, queue_image}
+use Rattle.cmwq_image.specs.ImageFault.{◌>>=◌, done, number_at, short_at, name_at, flags_of, queue_at}
+use Rattle.cmwq_image.specs.Limits.{IsQueue}
+use Rattle.cmwq_image.proofs.Codec.{Codec, nothing, one_then}
+use Rattle.cmwq_image.proofs.FieldCodecs.{InRange, numbers, names, wide8, wide16, wide32}
 
 pub bytes_of : (low high : ℕ) → low ≤ high → high < 256 → Codec (number_at w8 low high) (number w8) (InRange low high)
 bytes_of low high some below = numbers w8 256 low high wide8 some below

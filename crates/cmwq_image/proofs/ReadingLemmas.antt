@@ -1,5 +1,5 @@
 -- The laws of reading: what is read is the image of what it is read as, and what each fault means.
-use Rattle.std.proofs.Common.{◌≡◌, ℕ, zero, suc, ◌+◌, ◌^◌, ◌<◌, ◌≤◌, Bool, true, false, cond, eqb, List, [], ◌∷◌, ◌++◌, length, take, drop, Option, Some, None, Result, Ok, Err, refl, sym, ap, subst, ◌∙◌, append_assoc, arith}
+use Rattle.std.proofs.Common.{◌≡◌, ℕ, ◌+◌, ◌<◌, ◌≤◌, Bool, true, false, cond, eqb, List, [], ◌∷◌, ◌++◌, length, take, drop, Option, Some, None, Result, Ok, Err, refl, sym, ap, subst, ◌∙◌, append_assoc, arith}
 use Rattle.std.specs.Prelude.{IfOk, IfErr, ◌↔◌}
 use Rattle.std.specs.Str.{bytes_eq}
 use Rattle.std.proofs.lemmas.Bool.{eqb-true}
@@ -10,11 +10,11 @@ use Rattle.cmwq_types.specs.Faults.{first_fault, IsValid}
 use Rattle.cmwq_types.specs.declared.check.Fault.{Fault}
 use Rattle.cmwq_image.specs.FaultMeaning.{IsImage, Begins, BeginsNone, IsBadAt, EndsAt, Means}
 use Rattle.cmwq_image.specs.Image.{image, magic}
-use Rattle.cmwq_image.specs.ImageFault.{Place, Reader, done, scenario_at, judged, unless_faulty, behind_magic, from_there, reading, Fails, Gives}
+use Rattle.cmwq_image.specs.ImageFault.{Place, done, scenario_at, judged, unless_faulty, from_there, reading, Fails, Gives}
 use Rattle.cmwq_image.specs.Limits.{AreBytes, IsContents, HasSize}
 use Rattle.cmwq_image.specs.declared.error.ImageError.{ImageError}
 use Rattle.cmwq_image.specs.declared.error.ImageError.TheVariants as errors
-use Rattle.cmwq_image.proofs.Codec.{Codec, Taken, Stops, Never, place, AreBytes-drop}
+use Rattle.cmwq_image.proofs.Codec.{Stops, Never, place, AreBytes-drop}
 use Rattle.cmwq_image.proofs.SizeLemmas.{sized}
 use Rattle.cmwq_image.proofs.WholeCodecs.{HasImage, rest_image, scenarios}
 

@@ -1,12 +1,12 @@
 -- A valid scenario has no more parts than an image can have.
-use Rattle.std.proofs.Common.{◌≡◌, ℕ, ◌-◌, ◌≤◌, ◌<◌, suc, zero, Bool, true, false, cond, ltb, leb, eqb, ◌&&◌, List, [], ◌∷◌, ◌++◌, length, Option, Some, None, refl, sym, ap, ◌∙◌, arith, All}
+use Rattle.std.proofs.Common.{◌≡◌, ℕ, ◌-◌, ◌≤◌, Bool, true, false, ◌&&◌, List, [], ◌∷◌, ◌++◌, length, Option, Some, None, refl, arith}
 use Rattle.std.proofs.lemmas.Bool.{and_parts}
 use Rattle.std.proofs.lemmas.Bool.Decides.{nat_tests}
 use Rattle.std.proofs.lemmas.List.Elements.{All-from_recursion}
 use Rattle.std.specs.List.{AllByRecursion}
 use Rattle.std.specs.Prelude.{slice_get, nat_le}
 use Rattle.cmwq_types.specs.Contents.{ScenarioContents, WorkContents, ActorContents}
-use Rattle.cmwq_types.specs.Faults.{or_else, fault_unless, fault_if, first_along, work_fault, actor_fault, body_fault, queue_fault, op_fault, line_fault, is_body, is_some_finish, first_fault, counts_fault, numbers_fault, IsValid}
+use Rattle.cmwq_types.specs.Faults.{or_else, fault_unless, first_along, work_fault, actor_fault, body_fault, queue_fault, is_body, is_some_finish, counts_fault, numbers_fault, IsValid}
 use Rattle.cmwq_types.specs.declared.check.Fault.{Fault}
 use Rattle.cmwq_types.specs.declared.scenario.Op.{Op}
 use Rattle.cmwq_image.specs.Limits.{HasBodySize, HasLinesSize, HasSize, BodiesFit, LinesFit}

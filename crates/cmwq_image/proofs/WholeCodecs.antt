@@ -1,20 +1,19 @@
 -- Works, actors and the whole: what is read of each is what is written.
-use Rattle.std.proofs.Common.{◌≡◌, ℕ, zero, suc, ◌+◌, ◌^◌, ◌<◌, ◌≤◌, List, [], ◌∷◌, ◌++◌, length, refl, sym, ap, subst, ◌∙◌, arith}
+use Rattle.std.proofs.Common.{◌≡◌, ℕ, ◌≤◌, List, [], ◌∷◌, ◌++◌, length, refl, sym, ap, subst, ◌∙◌, arith}
 use Rattle.std.specs.Int.{w8, w16, w32}
 use Rattle.std.specs.List.{flat_map, AllByRecursion}
 use Rattle.std.specs.Prelude.{IsTrue}
 use Rattle.cmwq_types.specs.Contents.{ScenarioContents, WorkContents, ActorContents}
 use Rattle.cmwq_types.specs.Name.{is_name}
 use Rattle.cmwq_types.specs.declared.instr.Instr.{Instr}
-use Rattle.cmwq_types.specs.declared.instr.QueueId.{QueueId}
 use Rattle.cmwq_types.specs.declared.scenario.Line.{Line}
 use Rattle.cmwq_types.specs.declared.scenario.Op.{Op}
 use Rattle.cmwq_types.specs.declared.scenario.QueueDecl.{QueueDecl}
 use Rattle.cmwq_image.specs.Image.{in_order, number, name_field, queue_image, op_image, work_image, word_image, instr_word, line_image, actor_image, image, magic}
-use Rattle.cmwq_image.specs.ImageFault.{Reader, ◌>>=◌, done, many, number_at, byte_at, short_at, long_at, version_at, name_at, queue_at, op_at, work_at, instr_at, line_at, actor_at, head_at, scenario_at}
-use Rattle.cmwq_image.specs.Limits.{AreBytes, IsQueue, IsOp, IsWork, IsInstr, IsLine, IsActor, IsContents, HasBodySize, HasLinesSize, HasSize}
+use Rattle.cmwq_image.specs.ImageFault.{◌>>=◌, done, many, number_at, byte_at, short_at, long_at, version_at, name_at, queue_at, op_at, work_at, instr_at, line_at, actor_at, head_at, scenario_at}
+use Rattle.cmwq_image.specs.Limits.{IsQueue, IsOp, IsWork, IsInstr, IsLine, IsActor, IsContents, HasBodySize, HasLinesSize, HasSize}
 use Rattle.cmwq_image.specs.declared.head.Head.{Head}
-use Rattle.cmwq_image.proofs.Codec.{Codec, Parts, nothing, one_then}
+use Rattle.cmwq_image.proofs.Codec.{Codec, nothing, one_then}
 use Rattle.cmwq_image.proofs.FieldCodecs.{InRange, Each, names, versions, many_of}
 use Rattle.cmwq_image.proofs.PartCodecs.{bytes_of, shorts, longs, queues}
 use Rattle.cmwq_image.proofs.WordCodecs.{ops, instrs}

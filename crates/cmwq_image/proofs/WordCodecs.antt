@@ -1,14 +1,14 @@
 -- The words of operations and instructions: what is read of each is what is written.
-use Rattle.std.proofs.Common.{◌≡◌, ℕ, zero, suc, ◌+◌, ◌-◌, ◌^◌, ◌<◌, ◌≤◌, Bool, true, false, cond, eqb, List, [], ◌∷◌, ◌++◌, length, Option, Some, None, refl, sym, ap, subst, ◌∙◌, arith}
+use Rattle.std.proofs.Common.{◌≡◌, ℕ, ◌<◌, ◌≤◌, Bool, true, false, cond, eqb, [], ◌∷◌, ◌++◌, Option, Some, refl, sym, ap, subst, ◌∙◌, arith}
 use Rattle.std.specs.Int.{w8, w16, w32, from_be_bytes}
 use Rattle.std.proofs.lemmas.Bool.{eqb-true}
 use Rattle.cmwq_types.specs.declared.instr.Instr.{Instr}
 use Rattle.cmwq_types.specs.declared.instr.Instr.TheVariants as instr
 use Rattle.cmwq_types.specs.declared.scenario.Op.{Op}
 use Rattle.cmwq_types.specs.declared.scenario.Op.TheVariants as op
-use Rattle.cmwq_image.specs.Image.{in_order, number, word, word_image, op_word, op_image, instr_word}
-use Rattle.cmwq_image.specs.ImageFault.{Reader, ◌>>=◌, done, field, number_at, op_tag_of, op_room, op_of, op_at, instr_tag_of, instr_room, instr_of, instr_at}
-use Rattle.cmwq_image.specs.Limits.{AreBytes, IsOp, IsInstr}
+use Rattle.cmwq_image.specs.Image.{in_order, number, word, word_image, op_word, instr_word}
+use Rattle.cmwq_image.specs.ImageFault.{◌>>=◌, done, field, number_at, op_tag_of, op_room, op_of, op_at, instr_tag_of, instr_room, instr_of, instr_at}
+use Rattle.cmwq_image.specs.Limits.{IsOp, IsInstr}
 use Rattle.cmwq_image.specs.declared.error.ImageError.TheVariants as errors
 use Rattle.cmwq_image.specs.declared.tags.InstrTag.{InstrTag}
 use Rattle.cmwq_image.specs.declared.tags.InstrTag.TheVariants as instr_tag
@@ -16,7 +16,7 @@ use Rattle.cmwq_image.specs.declared.tags.OpTag.{OpTag}
 use Rattle.cmwq_image.specs.declared.tags.OpTag.TheVariants as op_tag
 use Rattle.cmwq_image.specs.declared.word.Room.{Room}
 use Rattle.cmwq_image.specs.declared.word.Word.{Word}
-use Rattle.cmwq_image.proofs.Codec.{Codec, Meaning, Parts, of_field, bad_field, nothing, one_then}
+use Rattle.cmwq_image.proofs.Codec.{Codec, Meaning, of_field, bad_field, nothing, one_then}
 use Rattle.cmwq_image.proofs.FieldCodecs.{InRange, numbers, wide8, wide16, wide32}
 
 -- a word's fields have room

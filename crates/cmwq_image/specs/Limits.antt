@@ -1,5 +1,5 @@
 -- What has an image.
-use Rattle.std.specs.Prelude.{◌≡◌, ℕ, ◌≤◌, ◌<◌, ◌^◌, List, length, IsTrue, slice_index}
+use Rattle.std.specs.Prelude.{ℕ, ◌≤◌, ◌<◌, ◌^◌, List, length, IsTrue, slice_index}
 use Rattle.std.specs.List.{All, AllByRecursion}
 use Rattle.cmwq_types.specs.Contents.{ScenarioContents, WorkContents, ActorContents}
 use Rattle.cmwq_types.specs.Name.{is_name}

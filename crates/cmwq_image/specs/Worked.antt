@@ -1,5 +1,5 @@
 -- A worked image: one queue, one work that queues itself, and one actor of three lines.
-use Rattle.std.specs.Prelude.{ℕ, List, [], ◌∷◌, ◌++◌, replicate}
+use Rattle.std.specs.Prelude.{ℕ, List, [], ◌∷◌, replicate}
 use Rattle.cmwq_types.specs.Contents.{ScenarioContents, WorkContents, ActorContents}
 use Rattle.cmwq_types.specs.Scenario.{plain_flags}
 use Rattle.cmwq_types.specs.declared.instr.Instr.{Instr}

@@ -1,7 +1,7 @@
 //! Laws of images, each the contract of a function with an empty body.
 ghost use Rattle.cmwq_image.specs.FaultMeaning.{Means};
 ghost use Rattle.cmwq_image.specs.Image.{image};
-ghost use Rattle.cmwq_image.specs.ImageFault.{reading};
+ghost use Rattle.cmwq_image.specs.ImageFault.{Gives, reading};
 ghost use Rattle.cmwq_image.specs.Limits.{AreBytes, HasSize, IsContents};
 ghost use Rattle.cmwq_image.specs.Worked.{worked_image, worked_scenario};
 ghost use Rattle.cmwq_image.specs.declared.error.ImageError.{ImageError};
@@ -10,6 +10,12 @@ ghost use Rattle.cmwq_types.specs.Contents.{ScenarioContents};
 ghost use Rattle.cmwq_types.specs.Faults.{IsValid};
 ghost use Rattle.cmwq_types.specs.declared.check.Fault.TheVariants.{Range};
 ghost use Rattle.std.specs.Prelude.{◌≡◌, ◌↔◌, ◌++◌, ◌∷◌, [], Err, List, Ok, length, slice_set, take, ℕ};
+
+use crate::error::ImageError;
+use crate::reading::read;
+use crate::writing::write;
+use cmwq_types::Scenario;
+use std::alloc::Global;
 
 /// Bytes are read as a scenario exactly where they are its image and it is valid.
 pub fn images_are_read()
@@ -21,6 +27,16 @@ pub fn images_are_read()
 pub fn written_is_read()
     ensures { (S : ScenarioContents) → IsContents S → IsValid S → reading (image S) ≡ Ok S }
 {}
+
+/// Writes the scenario and reads it again: it comes back, unless memory runs out. This stands on what `write`
+/// and `read` say and on nothing else of them.
+pub fn read_back(alloc: Global, scenario: &Scenario) -> Result<Scenario, ImageError>
+    requires { IsValid scenario.now }
+    ensures { Gives (λ again. again) result (Ok scenario.now) }
+{
+    let bytes = write(alloc, scenario)?;
+    read(alloc, &bytes)
+}
 
 /// Each image is that of one scenario. The scenarios needn't be valid.
 #[tactic(auto, using(crate::proofs::ReadingLemmas::one_image))]

@@ -1,11 +1,12 @@
 //! Writing an image.
 ghost use Rattle.cmwq_image.specs.Image.{actor_image, flag_bits, head_image, image, in_order, instr_word, line_image, name_field, number, op_image, op_word, queue_image, word_image, work_image, worth};
-ghost use Rattle.cmwq_image.specs.Limits.{BodiesFit, LinesFit};
+ghost use Rattle.cmwq_image.specs.Limits.{BodiesFit, IsActor, IsContents, IsInstr, IsLine, IsOp, IsQueue, IsWork, LinesFit};
 ghost use Rattle.cmwq_types.specs.Faults.{IsValid};
+ghost use Rattle.cmwq_types.specs.Name.{is_name};
 ghost use Rattle.cmwq_types.specs.declared.limits.TheConstants.{MAX_ACTORS, MAX_LINES, MAX_OPS, MAX_QUEUES, MAX_WORKS};
 ghost use Rattle.std.specs.Int.{w8, w16, w32};
-ghost use Rattle.std.specs.List.{flat_map};
-ghost use Rattle.std.specs.Prelude.{◌≡◌, ◌∷◌, ◌++◌, ◌≤◌, [], IfOk, OnOk, length};
+ghost use Rattle.std.specs.List.{All, flat_map};
+ghost use Rattle.std.specs.Prelude.{◌≡◌, ◌∷◌, ◌++◌, ◌≤◌, ◌<◌, ◌^◌, [], IfOk, IsTrue, OnOk, length};
 
 use crate::tags::{InstrTag, OpTag};
 use crate::word::Word;
@@ -15,7 +16,8 @@ use std::alloc::Global;
 /// The image of a valid scenario. The only error is want of memory.
 pub fn write(alloc: Global, scenario: &Scenario) -> Result<Vec<u8>, NoMemory>
     requires { IsValid scenario.now }
-    ensures { IfOk result (λ bytes. bytes.items ≡ image scenario.now) }
+    ensures image { IfOk result (λ bytes. bytes.items ≡ image scenario.now) }
+    ensures contents { OnOk result (IsContents scenario.now) }
 {
     let mut bytes = Vec::new(alloc);
     push_head(&mut bytes, scenario)?;
@@ -48,7 +50,8 @@ fn push_long(bytes: &mut Vec<u8>, n: u32) -> Result<(), NoMemory>
 
 /// Writes the length of the name, its bytes, and zeros.
 fn push_name(bytes: &mut Vec<u8>, name: &Name) -> Result<(), NoMemory>
-    ensures { OnOk result (bytes.new.items ≡ bytes.old.items ++ name_field name.now) }
+    ensures image { OnOk result (bytes.new.items ≡ bytes.old.items ++ name_field name.now) }
+    ensures name { OnOk result (IsTrue (is_name name.now)) }
 {
     let text = name.as_bytes();
     let mut field = [0u8; 16];
@@ -63,7 +66,11 @@ fn push_head(bytes: &mut Vec<u8>, scenario: &Scenario) -> Result<(), NoMemory>
     requires queues { length scenario.now.queues ≤ MAX_QUEUES }
     requires works { length scenario.now.works ≤ MAX_WORKS }
     requires actors { length scenario.now.actors ≤ MAX_ACTORS }
-    ensures { OnOk result (bytes.new.items ≡ bytes.old.items ++ head_image scenario.now) }
+    ensures image { OnOk result (bytes.new.items ≡ bytes.old.items ++ head_image scenario.now) }
+    ensures cpus { OnOk result (scenario.now.cpus < 2 ^ 8) }
+    ensures workers { OnOk result (scenario.now.workers < 2 ^ 8) }
+    ensures steps { OnOk result (scenario.now.steps < 2 ^ 32) }
+    ensures flushes { OnOk result (scenario.now.flushes < 2 ^ 16) }
 {
     bytes.extend_from_slice(b"CMWQ")?;
     push_short(bytes, 1)?;
@@ -73,8 +80,12 @@ fn push_head(bytes: &mut Vec<u8>, scenario: &Scenario) -> Result<(), NoMemory>
 }
 
 fn push_numbers(bytes: &mut Vec<u8>, scenario: &Scenario) -> Result<(), NoMemory>
-    ensures { OnOk result (bytes.new.items ≡ bytes.old.items ++ in_order (number w8 scenario.now.cpus ∷ number w8 scenario.now.workers
+    ensures image { OnOk result (bytes.new.items ≡ bytes.old.items ++ in_order (number w8 scenario.now.cpus ∷ number w8 scenario.now.workers
         ∷ number w32 scenario.now.steps ∷ number w16 scenario.now.flushes ∷ [])) }
+    ensures cpus { OnOk result (scenario.now.cpus < 2 ^ 8) }
+    ensures workers { OnOk result (scenario.now.workers < 2 ^ 8) }
+    ensures steps { OnOk result (scenario.now.steps < 2 ^ 32) }
+    ensures flushes { OnOk result (scenario.now.flushes < 2 ^ 16) }
 {
     push_byte(bytes, scenario.cpus)?;
     push_byte(bytes, scenario.workers)?;
@@ -96,7 +107,8 @@ fn push_counts(bytes: &mut Vec<u8>, scenario: &Scenario) -> Result<(), NoMemory>
 }
 
 fn push_queues(bytes: &mut Vec<u8>, queues: &[QueueDecl]) -> Result<(), NoMemory>
-    ensures { OnOk result (bytes.new.items ≡ bytes.old.items ++ flat_map queue_image queues.now) }
+    ensures image { OnOk result (bytes.new.items ≡ bytes.old.items ++ flat_map queue_image queues.now) }
+    ensures queues { OnOk result (All IsQueue queues.now) }
 {
     for queue in queues {
         push_queue(bytes, queue)?;
@@ -105,7 +117,8 @@ fn push_queues(bytes: &mut Vec<u8>, queues: &[QueueDecl]) -> Result<(), NoMemory
 }
 
 fn push_queue(bytes: &mut Vec<u8>, queue: &QueueDecl) -> Result<(), NoMemory>
-    ensures { OnOk result (bytes.new.items ≡ bytes.old.items ++ queue_image queue.now) }
+    ensures image { OnOk result (bytes.new.items ≡ bytes.old.items ++ queue_image queue.now) }
+    ensures queue { OnOk result (IsQueue queue.now) }
 {
     push_name(bytes, &queue.name)?;
     push_short(bytes, queue.max)?;
@@ -132,7 +145,8 @@ fn worth(flag: bool, bit: u8) -> u8
 
 fn push_works(bytes: &mut Vec<u8>, works: &[WorkDecl]) -> Result<(), NoMemory>
     requires { BodiesFit works.now }
-    ensures { OnOk result (bytes.new.items ≡ bytes.old.items ++ flat_map work_image works.now) }
+    ensures image { OnOk result (bytes.new.items ≡ bytes.old.items ++ flat_map work_image works.now) }
+    ensures works { OnOk result (All IsWork works.now) }
 {
     for work in works {
         push_work(bytes, work)?;
@@ -142,7 +156,8 @@ fn push_works(bytes: &mut Vec<u8>, works: &[WorkDecl]) -> Result<(), NoMemory>
 
 fn push_work(bytes: &mut Vec<u8>, work: &WorkDecl) -> Result<(), NoMemory>
     requires { length work.now.body ≤ MAX_OPS }
-    ensures { OnOk result (bytes.new.items ≡ bytes.old.items ++ work_image work.now) }
+    ensures image { OnOk result (bytes.new.items ≡ bytes.old.items ++ work_image work.now) }
+    ensures work { OnOk result (IsWork work.now) }
 {
     push_name(bytes, &work.name)?;
     push_byte(bytes, work.queue.0)?;
@@ -151,7 +166,8 @@ fn push_work(bytes: &mut Vec<u8>, work: &WorkDecl) -> Result<(), NoMemory>
 }
 
 fn push_ops(bytes: &mut Vec<u8>, body: &[Op]) -> Result<(), NoMemory>
-    ensures { OnOk result (bytes.new.items ≡ bytes.old.items ++ flat_map op_image body.now) }
+    ensures image { OnOk result (bytes.new.items ≡ bytes.old.items ++ flat_map op_image body.now) }
+    ensures body { OnOk result (All IsOp body.now) }
 {
     for op in body {
         push_word(bytes, op_word(*op))?;
@@ -161,7 +177,8 @@ fn push_ops(bytes: &mut Vec<u8>, body: &[Op]) -> Result<(), NoMemory>
 
 fn push_actors(bytes: &mut Vec<u8>, actors: &[Actor]) -> Result<(), NoMemory>
     requires { LinesFit actors.now }
-    ensures { OnOk result (bytes.new.items ≡ bytes.old.items ++ flat_map actor_image actors.now) }
+    ensures image { OnOk result (bytes.new.items ≡ bytes.old.items ++ flat_map actor_image actors.now) }
+    ensures actors { OnOk result (All IsActor actors.now) }
 {
     for actor in actors {
         push_actor(bytes, actor)?;
@@ -171,7 +188,8 @@ fn push_actors(bytes: &mut Vec<u8>, actors: &[Actor]) -> Result<(), NoMemory>
 
 fn push_actor(bytes: &mut Vec<u8>, actor: &Actor) -> Result<(), NoMemory>
     requires { length actor.now.lines ≤ MAX_LINES }
-    ensures { OnOk result (bytes.new.items ≡ bytes.old.items ++ actor_image actor.now) }
+    ensures image { OnOk result (bytes.new.items ≡ bytes.old.items ++ actor_image actor.now) }
+    ensures actor { OnOk result (IsActor actor.now) }
 {
     push_name(bytes, &actor.name)?;
     push_short(bytes, actor.lines.len() as u16)?;
@@ -179,7 +197,8 @@ fn push_actor(bytes: &mut Vec<u8>, actor: &Actor) -> Result<(), NoMemory>
 }
 
 fn push_lines(bytes: &mut Vec<u8>, lines: &[Line]) -> Result<(), NoMemory>
-    ensures { OnOk result (bytes.new.items ≡ bytes.old.items ++ flat_map line_image lines.now) }
+    ensures image { OnOk result (bytes.new.items ≡ bytes.old.items ++ flat_map line_image lines.now) }
+    ensures lines { OnOk result (All IsLine lines.now) }
 {
     for line in lines {
         push_line(bytes, *line)?;
@@ -188,7 +207,8 @@ fn push_lines(bytes: &mut Vec<u8>, lines: &[Line]) -> Result<(), NoMemory>
 }
 
 fn push_line(bytes: &mut Vec<u8>, line: Line) -> Result<(), NoMemory>
-    ensures { OnOk result (bytes.new.items ≡ bytes.old.items ++ line_image line) }
+    ensures image { OnOk result (bytes.new.items ≡ bytes.old.items ++ line_image line) }
+    ensures line { IsLine line }
 {
     push_word(bytes, instr_word(line.instr))?;
     push_long(bytes, line.times)
@@ -205,7 +225,8 @@ fn push_word(bytes: &mut Vec<u8>, word: Word) -> Result<(), NoMemory>
 
 /// The word of an operation.
 fn op_word(op: Op) -> Word
-    ensures { result ≡ op_word op }
+    ensures image { result ≡ op_word op }
+    ensures op { IsOp op }
 {
     match op {
         Op::Burn(ticks) => Word::new(OpTag::Burn as u8, 0, 0, ticks),
@@ -217,7 +238,8 @@ fn op_word(op: Op) -> Word
 
 /// The word of an instruction.
 fn instr_word(instr: Instr) -> Word
-    ensures { result ≡ instr_word instr }
+    ensures image { result ≡ instr_word instr }
+    ensures instr { IsInstr instr }
 {
     match instr {
         Instr::Queue(work, cpu) => Word::new(InstrTag::Queue as u8, cpu, work.0, 0),
