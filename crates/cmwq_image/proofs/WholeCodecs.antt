@@ -1,0 +1,447 @@
+-- Works, actors and the whole: what is read of each is what is written.
+use Rattle.std.proofs.Common.{◌≡◌, ℕ, ◌≤◌, List, [], ◌∷◌, ◌++◌, length, refl, sym, ap, subst, ◌∙◌, arith}
+use Rattle.std.specs.Int.{w8, w16, w32}
+use Rattle.std.specs.List.{flat_map, AllByRecursion}
+use Rattle.std.specs.Prelude.{IsTrue}
+use Rattle.cmwq_types.specs.Contents.{ScenarioContents, WorkContents, ActorContents}
+use Rattle.cmwq_types.specs.Name.{is_name}
+use Rattle.cmwq_types.specs.declared.instr.Instr.{Instr}
+use Rattle.cmwq_types.specs.declared.scenario.Line.{Line}
+use Rattle.cmwq_types.specs.declared.scenario.Op.{Op}
+use Rattle.cmwq_types.specs.declared.scenario.QueueDecl.{QueueDecl}
+use Rattle.cmwq_image.specs.Image.{in_order, number, name_field, queue_image, op_image, work_image, word_image, instr_word, line_image, actor_image, image, magic}
+use Rattle.cmwq_image.specs.ImageFault.{◌>>=◌, done, many, number_at, byte_at, short_at, long_at, version_at, name_at, queue_at, op_at, work_at, instr_at, line_at, actor_at, head_at, scenario_at}
+use Rattle.cmwq_image.specs.Limits.{IsQueue, IsOp, IsWork, IsInstr, IsLine, IsActor, IsContents, HasBodySize, HasLinesSize, HasSize}
+use Rattle.cmwq_image.specs.declared.head.Head.{Head}
+use Rattle.cmwq_image.proofs.Codec.{Codec, nothing, one_then}
+use Rattle.cmwq_image.proofs.FieldCodecs.{InRange, Each, names, versions, many_of}
+use Rattle.cmwq_image.proofs.PartCodecs.{bytes_of, shorts, longs, queues}
+use Rattle.cmwq_image.proofs.WordCodecs.{ops, instrs}
+
+-- ---- works
+
+abbrev work_with : List ℕ → ℕ → List Op → WorkContents
+work_with name queue body = record { name = name; queue = record { 0 = queue }; body = body }
+
+same_work : (n n' : List ℕ) (q q' : ℕ) (b : List Op) → n ≡ n' → q ≡ q' → work_with n q b ≡ work_with n' q' b
+same_work n n' q q' b e f = ap (λ (x : List ℕ). work_with x q b) e ∙ ap (λ x. work_with n' x b) f
+
+works_body : (name : List ℕ) (queue count : ℕ)
+    → Codec (many op_at count >>= λ body. done (work_with name queue body)) (λ w. in_order (flat_map op_image w.body ∷ []))
+    (λ w. (w.name ≡ name) × (w.queue.0 ≡ queue) × Each IsOp count w.body)
+works_body name queue count =
+    one_then (many op_at count) (λ body. done (work_with name queue body)) (λ w. w.body) (flat_map op_image) (Each IsOp count)
+    (λ w. []) (λ body w. w ≡ work_with name queue body) (λ w. in_order (flat_map op_image w.body ∷ []))
+    (λ w. (w.name ≡ name) × (w.queue.0 ≡ queue) × Each IsOp count w.body)
+    (many_of op_at op_image IsOp ops count) (λ body fits. nothing (work_with name queue body)) (record {
+      join = λ body w fits e.
+          let body_is : w.body ≡ body = ap (λ (x : WorkContents). x.body) e in
+          (body_is, (ap (λ (x : WorkContents). x.name) e, ap (λ (x : WorkContents). x.queue.0) e, subst (Each IsOp count) (sym body_is) fits));
+      cut = λ w h. (h.2, same_work w.name name w.queue.0 queue w.body h.0 h.1);
+      written = λ w h. refl;
+    })
+
+works_count : (name : List ℕ) (queue : ℕ)
+    → Codec (number_at w8 1 64 >>= λ count. many op_at count >>= λ body. done (work_with name queue body)) (λ w. in_order (number w8 (length w.body) ∷ flat_map op_image w.body ∷ []))
+    (λ w. (w.name ≡ name) × (w.queue.0 ≡ queue) × HasBodySize w × AllByRecursion IsOp w.body)
+works_count name queue =
+    one_then (number_at w8 1 64) (λ count. many op_at count >>= λ body. done (work_with name queue body)) (λ w. length w.body) (number w8) (InRange 1 64)
+    (λ w. in_order (flat_map op_image w.body ∷ [])) (λ count w. (w.name ≡ name) × (w.queue.0 ≡ queue) × Each IsOp count w.body)
+    (λ w. in_order (number w8 (length w.body) ∷ flat_map op_image w.body ∷ []))
+    (λ w. (w.name ≡ name) × (w.queue.0 ≡ queue) × HasBodySize w × AllByRecursion IsOp w.body)
+    (bytes_of 1 64 (omega arith) (omega arith)) (λ count fits. works_body name queue count) (record {
+      join = λ count w fits h. (h.2.0, (h.0, h.1, (omega (arith, h.2.0, fits.0), omega (arith, h.2.0, fits.1)), h.2.1));
+      cut = λ w h. ((h.2.0, h.2.1), (h.0, h.1, (refl, h.3)));
+      written = λ w h. refl;
+    })
+
+works_queue : (name : List ℕ)
+    → Codec (byte_at >>= λ queue. number_at w8 1 64 >>= λ count. many op_at count >>= λ body. done (work_with name queue body))
+    (λ w. in_order (number w8 w.queue.0 ∷ number w8 (length w.body) ∷ flat_map op_image w.body ∷ []))
+    (λ w. (w.name ≡ name) × (w.queue.0 ≤ 255) × HasBodySize w × AllByRecursion IsOp w.body)
+works_queue name =
+    one_then byte_at (λ queue. number_at w8 1 64 >>= λ count. many op_at count >>= λ body. done (work_with name queue body)) (λ w. w.queue.0) (number w8) (InRange 0 255)
+    (λ w. in_order (number w8 (length w.body) ∷ flat_map op_image w.body ∷ [])) (λ queue w. (w.name ≡ name) × (w.queue.0 ≡ queue) × HasBodySize w × AllByRecursion IsOp w.body)
+    (λ w. in_order (number w8 w.queue.0 ∷ number w8 (length w.body) ∷ flat_map op_image w.body ∷ []))
+    (λ w. (w.name ≡ name) × (w.queue.0 ≤ 255) × HasBodySize w × AllByRecursion IsOp w.body)
+    (bytes_of 0 255 (omega arith) (omega arith)) (λ queue fits. works_count name queue) (record {
+      join = λ queue w fits h. (h.1, (h.0, omega (arith, h.1, fits.1), h.2, h.3));
+      cut = λ w h. ((omega arith, h.1), (h.0, refl, h.2, h.3));
+      written = λ w h. refl;
+    })
+
+pub works : Codec work_at work_image (λ w. IsWork w × HasBodySize w)
+unfolding work_at
+works =
+    one_then name_at (λ name. byte_at >>= λ queue. number_at w8 1 64 >>= λ count. many op_at count >>= λ body. done (work_with name queue body)) (λ w. w.name) name_field (λ name. IsTrue (is_name name))
+    (λ w. in_order (number w8 w.queue.0 ∷ number w8 (length w.body) ∷ flat_map op_image w.body ∷ [])) (λ name w. (w.name ≡ name) × (w.queue.0 ≤ 255) × HasBodySize w × AllByRecursion IsOp w.body)
+    work_image (λ w. IsWork w × HasBodySize w)
+    names (λ name fits. works_queue name) (record {
+      join = λ name w fits h. (h.0, (record { name = ap is_name h.0 ∙ fits; queue = omega (arith, h.1); body = h.3 }, h.2));
+      cut = λ w h. (h.0.name, (refl, omega (arith, h.0.queue), h.1, h.0.body));
+      written = λ w h. refl;
+    })
+
+-- ---- lines and actors
+
+abbrev line_with : Instr → ℕ → Line
+line_with instr times = record { instr = instr; times = times }
+
+lines_times : (instr : Instr) → Codec (long_at >>= λ times. done (line_with instr times)) (λ l. in_order (number w32 l.times ∷ [])) (λ l. (l.instr ≡ instr) × (l.times ≤ 4294967295))
+lines_times instr =
+    one_then long_at (λ times. done (line_with instr times)) (λ l. l.times) (number w32) (InRange 0 4294967295)
+    (λ l. []) (λ times l. l ≡ line_with instr times) (λ l. in_order (number w32 l.times ∷ [])) (λ l. (l.instr ≡ instr) × (l.times ≤ 4294967295))
+    (longs 0 4294967295 (omega arith) (omega arith)) (λ times fits. nothing (line_with instr times)) (record {
+      join = λ times l fits e.
+          let times_is : l.times ≡ times = ap (λ (x : Line). x.times) e in
+          (times_is, (ap (λ (x : Line). x.instr) e, omega (arith, fits.1)));
+      cut = λ l h. ((omega arith, h.1), ap (λ (x : Instr). line_with x l.times) h.0);
+      written = λ l h. refl;
+    })
+
+pub lines : Codec line_at line_image IsLine
+unfolding line_at
+lines =
+    one_then instr_at (λ instr. long_at >>= λ times. done (line_with instr times)) (λ l. l.instr) (λ i. word_image (instr_word i)) IsInstr
+    (λ l. in_order (number w32 l.times ∷ [])) (λ instr l. (l.instr ≡ instr) × (l.times ≤ 4294967295)) line_image IsLine
+    instrs (λ instr fits. lines_times instr) (record {
+      join = λ instr l fits h. (h.0, record { instr = subst IsInstr (sym h.0) fits; times = omega (arith, h.1) });
+      cut = λ l h. (h.instr, (refl, omega (arith, h.times)));
+      written = λ l h. refl;
+    })
+
+abbrev actor_with : List ℕ → List Line → ActorContents
+actor_with name lines = record { name = name; lines = lines }
+
+actors_lines : (name : List ℕ) (count : ℕ)
+    → Codec (many line_at count >>= λ lines. done (actor_with name lines)) (λ a. in_order (flat_map line_image a.lines ∷ [])) (λ a. (a.name ≡ name) × Each IsLine count a.lines)
+actors_lines name count =
+    one_then (many line_at count) (λ lines. done (actor_with name lines)) (λ a. a.lines) (flat_map line_image) (Each IsLine count)
+    (λ a. []) (λ lines a. a ≡ actor_with name lines) (λ a. in_order (flat_map line_image a.lines ∷ [])) (λ a. (a.name ≡ name) × Each IsLine count a.lines)
+    (many_of line_at line_image IsLine lines count) (λ lines fits. nothing (actor_with name lines)) (record {
+      join = λ lines a fits e.
+          let lines_are : a.lines ≡ lines = ap (λ (x : ActorContents). x.lines) e in
+          (lines_are, (ap (λ (x : ActorContents). x.name) e, subst (Each IsLine count) (sym lines_are) fits));
+      cut = λ a h. (h.1, ap (λ (x : List ℕ). actor_with x a.lines) h.0);
+      written = λ a h. refl;
+    })
+
+actors_count : (name : List ℕ)
+    → Codec (number_at w16 0 4096 >>= λ count. many line_at count >>= λ lines. done (actor_with name lines)) (λ a. in_order (number w16 (length a.lines) ∷ flat_map line_image a.lines ∷ []))
+    (λ a. (a.name ≡ name) × HasLinesSize a × AllByRecursion IsLine a.lines)
+actors_count name =
+    one_then (number_at w16 0 4096) (λ count. many line_at count >>= λ lines. done (actor_with name lines)) (λ a. length a.lines) (number w16) (InRange 0 4096)
+    (λ a. in_order (flat_map line_image a.lines ∷ [])) (λ count a. (a.name ≡ name) × Each IsLine count a.lines)
+    (λ a. in_order (number w16 (length a.lines) ∷ flat_map line_image a.lines ∷ [])) (λ a. (a.name ≡ name) × HasLinesSize a × AllByRecursion IsLine a.lines)
+    (shorts 0 4096 (omega arith) (omega arith)) (λ count fits. actors_lines name count) (record {
+      join = λ count a fits h. (h.1.0, (h.0, omega (arith, h.1.0, fits.1), h.1.1));
+      cut = λ a h. ((omega arith, h.1), (h.0, (refl, h.2)));
+      written = λ a h. refl;
+    })
+
+pub actors : Codec actor_at actor_image (λ a. IsActor a × HasLinesSize a)
+unfolding actor_at
+actors =
+    one_then name_at (λ name. number_at w16 0 4096 >>= λ count. many line_at count >>= λ lines. done (actor_with name lines)) (λ a. a.name) name_field (λ name. IsTrue (is_name name))
+    (λ a. in_order (number w16 (length a.lines) ∷ flat_map line_image a.lines ∷ [])) (λ name a. (a.name ≡ name) × HasLinesSize a × AllByRecursion IsLine a.lines)
+    actor_image (λ a. IsActor a × HasLinesSize a)
+    names (λ name fits. actors_count name) (record {
+      join = λ name a fits h. (h.0, (record { name = ap is_name h.0 ∙ fits; lines = h.2 }, h.1));
+      cut = λ a h. (h.0.name, (refl, h.1, h.0.lines));
+      written = λ a h. refl;
+    })
+
+-- ---- the head
+
+abbrev head_with : (cpus workers steps flushes queues works actors : ℕ) → Head
+head_with cpus workers steps flushes queues works actors =
+    record { cpus = cpus; workers = workers; steps = steps; flushes = flushes; queues = queues; works = works; actors = actors }
+
+same_head : (a b c d e f g a' b' c' d' e' f' : ℕ) → a ≡ a' → b ≡ b' → c ≡ c' → d ≡ d' → e ≡ e' → f ≡ f' → head_with a b c d e f g ≡ head_with a' b' c' d' e' f' g
+same_head a b c d e f g a' b' c' d' e' f' p q r s t u =
+    ap (λ x. head_with x b c d e f g) p ∙ ap (λ x. head_with a' x c d e f g) q ∙ ap (λ x. head_with a' b' x d e f g) r
+    ∙ ap (λ x. head_with a' b' c' x e f g) s ∙ ap (λ x. head_with a' b' c' d' x f g) t ∙ ap (λ x. head_with a' b' c' d' e' x g) u
+
+heads_actors : (cpus workers steps flushes queues works : ℕ)
+    → Codec (number_at w8 0 16 >>= λ actors. done (head_with cpus workers steps flushes queues works actors))
+    (λ h. in_order (number w8 h.actors ∷ [])) (λ h. (h.cpus ≡ cpus) × (h.workers ≡ workers) × (h.steps ≡ steps) × (h.flushes ≡ flushes) × (h.queues ≡ queues) × (h.works ≡ works) × (h.actors ≤ 16))
+heads_actors cpus workers steps flushes queues works =
+    one_then (number_at w8 0 16) (λ actors. done (head_with cpus workers steps flushes queues works actors)) (λ h. h.actors) (number w8) (InRange 0 16)
+    (λ h. []) (λ actors h. h ≡ head_with cpus workers steps flushes queues works actors)
+    (λ h. in_order (number w8 h.actors ∷ [])) (λ h. (h.cpus ≡ cpus) × (h.workers ≡ workers) × (h.steps ≡ steps) × (h.flushes ≡ flushes) × (h.queues ≡ queues) × (h.works ≡ works) × (h.actors ≤ 16))
+    (bytes_of 0 16 (omega arith) (omega arith)) (λ actors fits. nothing (head_with cpus workers steps flushes queues works actors)) (record {
+      join = λ actors h fits e.
+          let actors_is : h.actors ≡ actors = ap (λ (x : Head). x.actors) e in
+          (actors_is, (ap (λ (x : Head). x.cpus) e, ap (λ (x : Head). x.workers) e, ap (λ (x : Head). x.steps) e, ap (λ (x : Head). x.flushes) e, ap (λ (x : Head). x.queues) e, ap (λ (x : Head). x.works) e, omega (arith, fits.1)));
+      cut = λ h i. ((omega arith, i.6), same_head h.cpus h.workers h.steps h.flushes h.queues h.works h.actors cpus workers steps flushes queues works i.0 i.1 i.2 i.3 i.4 i.5);
+      written = λ h i. refl;
+    })
+
+heads_works : (cpus workers steps flushes queues : ℕ)
+    → Codec (number_at w16 0 256 >>= λ works. number_at w8 0 16 >>= λ actors. done (head_with cpus workers steps flushes queues works actors))
+    (λ h. in_order (number w16 h.works ∷ number w8 h.actors ∷ [])) (λ h. (h.cpus ≡ cpus) × (h.workers ≡ workers) × (h.steps ≡ steps) × (h.flushes ≡ flushes) × (h.queues ≡ queues) × (h.works ≤ 256) × (h.actors ≤ 16))
+heads_works cpus workers steps flushes queues =
+    one_then (number_at w16 0 256) (λ works. number_at w8 0 16 >>= λ actors. done (head_with cpus workers steps flushes queues works actors)) (λ h. h.works) (number w16) (InRange 0 256)
+    (λ h. in_order (number w8 h.actors ∷ [])) (λ works h. (h.cpus ≡ cpus) × (h.workers ≡ workers) × (h.steps ≡ steps) × (h.flushes ≡ flushes) × (h.queues ≡ queues) × (h.works ≡ works) × (h.actors ≤ 16))
+    (λ h. in_order (number w16 h.works ∷ number w8 h.actors ∷ [])) (λ h. (h.cpus ≡ cpus) × (h.workers ≡ workers) × (h.steps ≡ steps) × (h.flushes ≡ flushes) × (h.queues ≡ queues) × (h.works ≤ 256) × (h.actors ≤ 16))
+    (shorts 0 256 (omega arith) (omega arith)) (λ works fits. heads_actors cpus workers steps flushes queues works) (record {
+      join = λ works h fits i. (i.5, (i.0, i.1, i.2, i.3, i.4, omega (arith, i.5, fits.1), i.6));
+      cut = λ h i. ((omega arith, i.5), (i.0, i.1, i.2, i.3, i.4, refl, i.6));
+      written = λ h i. refl;
+    })
+
+heads_queues : (cpus workers steps flushes : ℕ)
+    → Codec (number_at w8 0 32 >>= λ queues. number_at w16 0 256 >>= λ works. number_at w8 0 16 >>= λ actors. done (head_with cpus workers steps flushes queues works actors))
+    (λ h. in_order (number w8 h.queues ∷ number w16 h.works ∷ number w8 h.actors ∷ [])) (λ h. (h.cpus ≡ cpus) × (h.workers ≡ workers) × (h.steps ≡ steps) × (h.flushes ≡ flushes) × (h.queues ≤ 32) × (h.works ≤ 256) × (h.actors ≤ 16))
+heads_queues cpus workers steps flushes =
+    one_then (number_at w8 0 32) (λ queues. number_at w16 0 256 >>= λ works. number_at w8 0 16 >>= λ actors. done (head_with cpus workers steps flushes queues works actors)) (λ h. h.queues) (number w8) (InRange 0 32)
+    (λ h. in_order (number w16 h.works ∷ number w8 h.actors ∷ [])) (λ queues h. (h.cpus ≡ cpus) × (h.workers ≡ workers) × (h.steps ≡ steps) × (h.flushes ≡ flushes) × (h.queues ≡ queues) × (h.works ≤ 256) × (h.actors ≤ 16))
+    (λ h. in_order (number w8 h.queues ∷ number w16 h.works ∷ number w8 h.actors ∷ [])) (λ h. (h.cpus ≡ cpus) × (h.workers ≡ workers) × (h.steps ≡ steps) × (h.flushes ≡ flushes) × (h.queues ≤ 32) × (h.works ≤ 256) × (h.actors ≤ 16))
+    (bytes_of 0 32 (omega arith) (omega arith)) (λ queues fits. heads_works cpus workers steps flushes queues) (record {
+      join = λ queues h fits i. (i.4, (i.0, i.1, i.2, i.3, omega (arith, i.4, fits.1), i.5, i.6));
+      cut = λ h i. ((omega arith, i.4), (i.0, i.1, i.2, i.3, refl, i.5, i.6));
+      written = λ h i. refl;
+    })
+
+heads_flushes : (cpus workers steps : ℕ)
+    → Codec (short_at >>= λ flushes. number_at w8 0 32 >>= λ queues. number_at w16 0 256 >>= λ works. number_at w8 0 16 >>= λ actors. done (head_with cpus workers steps flushes queues works actors))
+    (λ h. in_order (number w16 h.flushes ∷ number w8 h.queues ∷ number w16 h.works ∷ number w8 h.actors ∷ [])) (λ h. (h.cpus ≡ cpus) × (h.workers ≡ workers) × (h.steps ≡ steps) × (h.flushes ≤ 65535) × (h.queues ≤ 32) × (h.works ≤ 256) × (h.actors ≤ 16))
+heads_flushes cpus workers steps =
+    one_then short_at (λ flushes. number_at w8 0 32 >>= λ queues. number_at w16 0 256 >>= λ works. number_at w8 0 16 >>= λ actors. done (head_with cpus workers steps flushes queues works actors)) (λ h. h.flushes) (number w16) (InRange 0 65535)
+    (λ h. in_order (number w8 h.queues ∷ number w16 h.works ∷ number w8 h.actors ∷ [])) (λ flushes h. (h.cpus ≡ cpus) × (h.workers ≡ workers) × (h.steps ≡ steps) × (h.flushes ≡ flushes) × (h.queues ≤ 32) × (h.works ≤ 256) × (h.actors ≤ 16))
+    (λ h. in_order (number w16 h.flushes ∷ number w8 h.queues ∷ number w16 h.works ∷ number w8 h.actors ∷ [])) (λ h. (h.cpus ≡ cpus) × (h.workers ≡ workers) × (h.steps ≡ steps) × (h.flushes ≤ 65535) × (h.queues ≤ 32) × (h.works ≤ 256) × (h.actors ≤ 16))
+    (shorts 0 65535 (omega arith) (omega arith)) (λ flushes fits. heads_queues cpus workers steps flushes) (record {
+      join = λ flushes h fits i. (i.3, (i.0, i.1, i.2, omega (arith, i.3, fits.1), i.4, i.5, i.6));
+      cut = λ h i. ((omega arith, i.3), (i.0, i.1, i.2, refl, i.4, i.5, i.6));
+      written = λ h i. refl;
+    })
+
+heads_steps : (cpus workers : ℕ)
+    → Codec (long_at >>= λ steps. short_at >>= λ flushes. number_at w8 0 32 >>= λ queues. number_at w16 0 256 >>= λ works. number_at w8 0 16 >>= λ actors. done (head_with cpus workers steps flushes queues works actors))
+    (λ h. in_order (number w32 h.steps ∷ number w16 h.flushes ∷ number w8 h.queues ∷ number w16 h.works ∷ number w8 h.actors ∷ [])) (λ h. (h.cpus ≡ cpus) × (h.workers ≡ workers) × (h.steps ≤ 4294967295) × (h.flushes ≤ 65535) × (h.queues ≤ 32) × (h.works ≤ 256) × (h.actors ≤ 16))
+heads_steps cpus workers =
+    one_then long_at (λ steps. short_at >>= λ flushes. number_at w8 0 32 >>= λ queues. number_at w16 0 256 >>= λ works. number_at w8 0 16 >>= λ actors. done (head_with cpus workers steps flushes queues works actors)) (λ h. h.steps) (number w32) (InRange 0 4294967295)
+    (λ h. in_order (number w16 h.flushes ∷ number w8 h.queues ∷ number w16 h.works ∷ number w8 h.actors ∷ [])) (λ steps h. (h.cpus ≡ cpus) × (h.workers ≡ workers) × (h.steps ≡ steps) × (h.flushes ≤ 65535) × (h.queues ≤ 32) × (h.works ≤ 256) × (h.actors ≤ 16))
+    (λ h. in_order (number w32 h.steps ∷ number w16 h.flushes ∷ number w8 h.queues ∷ number w16 h.works ∷ number w8 h.actors ∷ [])) (λ h. (h.cpus ≡ cpus) × (h.workers ≡ workers) × (h.steps ≤ 4294967295) × (h.flushes ≤ 65535) × (h.queues ≤ 32) × (h.works ≤ 256) × (h.actors ≤ 16))
+    (longs 0 4294967295 (omega arith) (omega arith)) (λ steps fits. heads_flushes cpus workers steps) (record {
+      join = λ steps h fits i. (i.2, (i.0, i.1, omega (arith, i.2, fits.1), i.3, i.4, i.5, i.6));
+      cut = λ h i. ((omega arith, i.2), (i.0, i.1, refl, i.3, i.4, i.5, i.6));
+      written = λ h i. refl;
+    })
+
+heads_workers : (cpus : ℕ)
+    → Codec (byte_at >>= λ workers. long_at >>= λ steps. short_at >>= λ flushes. number_at w8 0 32 >>= λ queues. number_at w16 0 256 >>= λ works. number_at w8 0 16 >>= λ actors. done (head_with cpus workers steps flushes queues works actors))
+    (λ h. in_order (number w8 h.workers ∷ number w32 h.steps ∷ number w16 h.flushes ∷ number w8 h.queues ∷ number w16 h.works ∷ number w8 h.actors ∷ [])) (λ h. (h.cpus ≡ cpus) × (h.workers ≤ 255) × (h.steps ≤ 4294967295) × (h.flushes ≤ 65535) × (h.queues ≤ 32) × (h.works ≤ 256) × (h.actors ≤ 16))
+heads_workers cpus =
+    one_then byte_at (λ workers. long_at >>= λ steps. short_at >>= λ flushes. number_at w8 0 32 >>= λ queues. number_at w16 0 256 >>= λ works. number_at w8 0 16 >>= λ actors. done (head_with cpus workers steps flushes queues works actors)) (λ h. h.workers) (number w8) (InRange 0 255)
+    (λ h. in_order (number w32 h.steps ∷ number w16 h.flushes ∷ number w8 h.queues ∷ number w16 h.works ∷ number w8 h.actors ∷ [])) (λ workers h. (h.cpus ≡ cpus) × (h.workers ≡ workers) × (h.steps ≤ 4294967295) × (h.flushes ≤ 65535) × (h.queues ≤ 32) × (h.works ≤ 256) × (h.actors ≤ 16))
+    (λ h. in_order (number w8 h.workers ∷ number w32 h.steps ∷ number w16 h.flushes ∷ number w8 h.queues ∷ number w16 h.works ∷ number w8 h.actors ∷ [])) (λ h. (h.cpus ≡ cpus) × (h.workers ≤ 255) × (h.steps ≤ 4294967295) × (h.flushes ≤ 65535) × (h.queues ≤ 32) × (h.works ≤ 256) × (h.actors ≤ 16))
+    (bytes_of 0 255 (omega arith) (omega arith)) (λ workers fits. heads_steps cpus workers) (record {
+      join = λ workers h fits i. (i.1, (i.0, omega (arith, i.1, fits.1), i.2, i.3, i.4, i.5, i.6));
+      cut = λ h i. ((omega arith, i.1), (i.0, refl, i.2, i.3, i.4, i.5, i.6));
+      written = λ h i. refl;
+    })
+
+heads_cpus : Codec (byte_at >>= λ cpus. byte_at >>= λ workers. long_at >>= λ steps. short_at >>= λ flushes. number_at w8 0 32 >>= λ queues. number_at w16 0 256 >>= λ works. number_at w8 0 16 >>= λ actors. done (head_with cpus workers steps flushes queues works actors))
+    (λ h. in_order (number w8 h.cpus ∷ number w8 h.workers ∷ number w32 h.steps ∷ number w16 h.flushes ∷ number w8 h.queues ∷ number w16 h.works ∷ number w8 h.actors ∷ [])) (λ h. (h.cpus ≤ 255) × (h.workers ≤ 255) × (h.steps ≤ 4294967295) × (h.flushes ≤ 65535) × (h.queues ≤ 32) × (h.works ≤ 256) × (h.actors ≤ 16))
+heads_cpus =
+    one_then byte_at (λ cpus. byte_at >>= λ workers. long_at >>= λ steps. short_at >>= λ flushes. number_at w8 0 32 >>= λ queues. number_at w16 0 256 >>= λ works. number_at w8 0 16 >>= λ actors. done (head_with cpus workers steps flushes queues works actors)) (λ h. h.cpus) (number w8) (InRange 0 255)
+    (λ h. in_order (number w8 h.workers ∷ number w32 h.steps ∷ number w16 h.flushes ∷ number w8 h.queues ∷ number w16 h.works ∷ number w8 h.actors ∷ [])) (λ cpus h. (h.cpus ≡ cpus) × (h.workers ≤ 255) × (h.steps ≤ 4294967295) × (h.flushes ≤ 65535) × (h.queues ≤ 32) × (h.works ≤ 256) × (h.actors ≤ 16))
+    (λ h. in_order (number w8 h.cpus ∷ number w8 h.workers ∷ number w32 h.steps ∷ number w16 h.flushes ∷ number w8 h.queues ∷ number w16 h.works ∷ number w8 h.actors ∷ [])) (λ h. (h.cpus ≤ 255) × (h.workers ≤ 255) × (h.steps ≤ 4294967295) × (h.flushes ≤ 65535) × (h.queues ≤ 32) × (h.works ≤ 256) × (h.actors ≤ 16))
+    (bytes_of 0 255 (omega arith) (omega arith)) (λ cpus fits. heads_workers cpus) (record {
+      join = λ cpus h fits i. (i.0, (omega (arith, i.0, fits.1), i.1, i.2, i.3, i.4, i.5, i.6));
+      cut = λ h i. ((omega arith, i.0), (refl, i.1, i.2, i.3, i.4, i.5, i.6));
+      written = λ h i. refl;
+    })
+
+abbrev HeadFits : Head → Type 0
+HeadFits h = (h.cpus ≤ 255) × (h.workers ≤ 255) × (h.steps ≤ 4294967295) × (h.flushes ≤ 65535) × (h.queues ≤ 32) × (h.works ≤ 256) × (h.actors ≤ 16)
+
+abbrev head_bytes : Head → List ℕ
+head_bytes h = in_order (number w16 1 ∷ number w8 h.cpus ∷ number w8 h.workers ∷ number w32 h.steps ∷ number w16 h.flushes ∷ number w8 h.queues ∷ number w16 h.works ∷ number w8 h.actors ∷ [])
+
+pub heads : Codec head_at head_bytes HeadFits
+unfolding head_at
+heads =
+    one_then version_at (λ version. byte_at >>= λ cpus. byte_at >>= λ workers. long_at >>= λ steps. short_at >>= λ flushes. number_at w8 0 32 >>= λ queues. number_at w16 0 256 >>= λ works. number_at w8 0 16 >>= λ actors. done (head_with cpus workers steps flushes queues works actors)) (λ h. 1) (number w16) (InRange 1 1)
+    (λ h. in_order (number w8 h.cpus ∷ number w8 h.workers ∷ number w32 h.steps ∷ number w16 h.flushes ∷ number w8 h.queues ∷ number w16 h.works ∷ number w8 h.actors ∷ [])) (λ version h. HeadFits h) head_bytes HeadFits
+    versions (λ version fits. heads_cpus) (record {
+      join = λ version h fits i. (omega (arith, fits.0, fits.1), i);
+      cut = λ h i. ((omega arith, omega arith), i);
+      written = λ h i. refl;
+    })
+
+-- ---- the whole
+
+both_all : {A : Type 0} (P Q : A → Type 0) (xs : List A) → AllByRecursion P xs → AllByRecursion Q xs → AllByRecursion (λ x. P x × Q x) xs
+both_all P Q [] p q = tt
+both_all P Q (x ∷ xs) p q = ((p.0, q.0), both_all P Q xs p.1 q.1)
+
+first_all : {A : Type 0} (P Q : A → Type 0) (xs : List A) → AllByRecursion (λ x. P x × Q x) xs → AllByRecursion P xs
+first_all P Q [] h = tt
+first_all P Q (x ∷ xs) h = (h.0.0, first_all P Q xs h.1)
+
+second_all : {A : Type 0} (P Q : A → Type 0) (xs : List A) → AllByRecursion (λ x. P x × Q x) xs → AllByRecursion Q xs
+second_all P Q [] h = tt
+second_all P Q (x ∷ xs) h = (h.0.1, second_all P Q xs h.1)
+
+abbrev head_of : ScenarioContents → Head
+head_of S = head_with S.cpus S.workers S.steps S.flushes (length S.queues) (length S.works) (length S.actors)
+
+abbrev scenario_with : Head → List QueueDecl → List WorkContents → List ActorContents → ScenarioContents
+scenario_with head queues works actors =
+    record { cpus = head.cpus; workers = head.workers; steps = head.steps; flushes = head.flushes; queues = queues; works = works; actors = actors }
+
+abbrev WorkFits : WorkContents → Type 0
+WorkFits w = IsWork w × HasBodySize w
+
+abbrev ActorFits : ActorContents → Type 0
+ActorFits a = IsActor a × HasLinesSize a
+
+abbrev numbered : (cpus workers steps flushes : ℕ) → List QueueDecl → List WorkContents → List ActorContents → ScenarioContents
+numbered cpus workers steps flushes queues works actors =
+    record { cpus = cpus; workers = workers; steps = steps; flushes = flushes; queues = queues; works = works; actors = actors }
+
+-- the numbers of a scenario are these
+abbrev NumbersAre : Head → ScenarioContents → Type 0
+NumbersAre head S = (S.cpus ≡ head.cpus) × (S.workers ≡ head.workers) × (S.steps ≡ head.steps) × (S.flushes ≡ head.flushes)
+
+same_numbers : (a b c d a' b' c' d' : ℕ) (queues : List QueueDecl) (works : List WorkContents) (actors : List ActorContents)
+    → a ≡ a' → b ≡ b' → c ≡ c' → d ≡ d' → numbered a b c d queues works actors ≡ numbered a' b' c' d' queues works actors
+same_numbers a b c d a' b' c' d' queues works actors p q r s =
+    ap (λ x. numbered x b c d queues works actors) p ∙ ap (λ x. numbered a' x c d queues works actors) q
+    ∙ ap (λ x. numbered a' b' x d queues works actors) r ∙ ap (λ x. numbered a' b' c' x queues works actors) s
+
+scenarios_actors : (head : Head) (queues : List QueueDecl) (works : List WorkContents)
+    → Codec (many actor_at head.actors >>= λ actors. done (scenario_with head queues works actors)) (λ S. in_order (flat_map actor_image S.actors ∷ []))
+    (λ S. NumbersAre head S × (S.queues ≡ queues) × (S.works ≡ works) × Each ActorFits head.actors S.actors)
+scenarios_actors head queues works =
+    one_then (many actor_at head.actors) (λ actors. done (scenario_with head queues works actors)) (λ S. S.actors) (flat_map actor_image) (Each ActorFits head.actors)
+    (λ S. []) (λ actors S. S ≡ scenario_with head queues works actors) (λ S. in_order (flat_map actor_image S.actors ∷ []))
+    (λ S. NumbersAre head S × (S.queues ≡ queues) × (S.works ≡ works) × Each ActorFits head.actors S.actors)
+    (many_of actor_at actor_image ActorFits actors head.actors) (λ actors fits. nothing (scenario_with head queues works actors)) (record {
+      join = λ actors S fits e.
+          let actors_are : S.actors ≡ actors = ap (λ (x : ScenarioContents). x.actors) e in (
+            actors_are,
+            (
+              (ap (λ (x : ScenarioContents). x.cpus) e, ap (λ (x : ScenarioContents). x.workers) e, ap (λ (x : ScenarioContents). x.steps) e, ap (λ (x : ScenarioContents). x.flushes) e),
+              ap (λ (x : ScenarioContents). x.queues) e,
+              ap (λ (x : ScenarioContents). x.works) e,
+              subst (Each ActorFits head.actors) (sym actors_are) fits,
+            ),
+          );
+      cut = λ S h. (
+        h.3,
+        same_numbers S.cpus S.workers S.steps S.flushes head.cpus head.workers head.steps head.flushes S.queues S.works S.actors h.0.0 h.0.1 h.0.2 h.0.3
+            ∙ ap (λ (x : List QueueDecl). scenario_with head x S.works S.actors) h.1 ∙ ap (λ (x : List WorkContents). scenario_with head queues x S.actors) h.2,
+      );
+      written = λ S h. refl;
+    })
+
+scenarios_works : (head : Head) (queues : List QueueDecl)
+    → Codec (many work_at head.works >>= λ works. many actor_at head.actors >>= λ actors. done (scenario_with head queues works actors))
+    (λ S. in_order (flat_map work_image S.works ∷ flat_map actor_image S.actors ∷ []))
+    (λ S. NumbersAre head S × (S.queues ≡ queues) × Each WorkFits head.works S.works × Each ActorFits head.actors S.actors)
+scenarios_works head queues =
+    one_then (many work_at head.works) (λ works. many actor_at head.actors >>= λ actors. done (scenario_with head queues works actors)) (λ S. S.works) (flat_map work_image) (Each WorkFits head.works)
+    (λ S. in_order (flat_map actor_image S.actors ∷ [])) (λ works S. NumbersAre head S × (S.queues ≡ queues) × (S.works ≡ works) × Each ActorFits head.actors S.actors)
+    (λ S. in_order (flat_map work_image S.works ∷ flat_map actor_image S.actors ∷ []))
+    (λ S. NumbersAre head S × (S.queues ≡ queues) × Each WorkFits head.works S.works × Each ActorFits head.actors S.actors)
+    (many_of work_at work_image WorkFits works head.works) (λ works fits. scenarios_actors head queues works) (record {
+      join = λ works S fits h. (h.2, (h.0, h.1, subst (Each WorkFits head.works) (sym h.2) fits, h.3));
+      cut = λ S h. (h.2, (h.0, h.1, refl, h.3));
+      written = λ S h. refl;
+    })
+
+scenarios_queues : (head : Head)
+    → Codec (many queue_at head.queues >>= λ queues. many work_at head.works >>= λ works. many actor_at head.actors >>= λ actors. done (scenario_with head queues works actors))
+    (λ S. in_order (flat_map queue_image S.queues ∷ flat_map work_image S.works ∷ flat_map actor_image S.actors ∷ []))
+    (λ S. NumbersAre head S × Each IsQueue head.queues S.queues × Each WorkFits head.works S.works × Each ActorFits head.actors S.actors)
+scenarios_queues head =
+    one_then (many queue_at head.queues) (λ queues. many work_at head.works >>= λ works. many actor_at head.actors >>= λ actors. done (scenario_with head queues works actors)) (λ S. S.queues) (flat_map queue_image) (Each IsQueue head.queues)
+    (λ S. in_order (flat_map work_image S.works ∷ flat_map actor_image S.actors ∷ []))
+    (λ queues S. NumbersAre head S × (S.queues ≡ queues) × Each WorkFits head.works S.works × Each ActorFits head.actors S.actors)
+    (λ S. in_order (flat_map queue_image S.queues ∷ flat_map work_image S.works ∷ flat_map actor_image S.actors ∷ []))
+    (λ S. NumbersAre head S × Each IsQueue head.queues S.queues × Each WorkFits head.works S.works × Each ActorFits head.actors S.actors)
+    (many_of queue_at queue_image IsQueue queues head.queues) (λ queues fits. scenarios_works head queues) (record {
+      join = λ queues S fits h. (h.1, (h.0, subst (Each IsQueue head.queues) (sym h.1) fits, h.2, h.3));
+      cut = λ S h. (h.1, (h.0, refl, h.2, h.3));
+      written = λ S h. refl;
+    })
+
+-- what has an image
+pub record HasImage (S : ScenarioContents) : Type 0 where
+  pub contents : IsContents S
+  pub sized : HasSize S
+
+-- the image, behind the magic bytes
+abbrev pub rest_image : ScenarioContents → List ℕ
+rest_image S = head_bytes (head_of S) ++ in_order (flat_map queue_image S.queues ∷ flat_map work_image S.works ∷ flat_map actor_image S.actors ∷ [])
+
+scenario_join : (head : Head) (S : ScenarioContents) → HeadFits head
+    → NumbersAre head S × Each IsQueue head.queues S.queues × Each WorkFits head.works S.works × Each ActorFits head.actors S.actors → (head_of S ≡ head) × HasImage S
+scenario_join head S fits h =
+    let head_is : head_of S ≡ head =
+    ap (λ x. head_with x S.workers S.steps S.flushes (length S.queues) (length S.works) (length S.actors)) h.0.0
+    ∙ ap (λ x. head_with head.cpus x S.steps S.flushes (length S.queues) (length S.works) (length S.actors)) h.0.1
+    ∙ ap (λ x. head_with head.cpus head.workers x S.flushes (length S.queues) (length S.works) (length S.actors)) h.0.2
+    ∙ ap (λ x. head_with head.cpus head.workers head.steps x (length S.queues) (length S.works) (length S.actors)) h.0.3
+    ∙ ap (λ x. head_with head.cpus head.workers head.steps head.flushes x (length S.works) (length S.actors)) h.1.0
+    ∙ ap (λ x. head_with head.cpus head.workers head.steps head.flushes head.queues x (length S.actors)) h.2.0
+    ∙ ap (λ x. head_with head.cpus head.workers head.steps head.flushes head.queues head.works x) h.3.0 in (
+      head_is,
+      record {
+        contents = record {
+          cpus = omega (arith, h.0.0, fits.0);
+          workers = omega (arith, h.0.1, fits.1);
+          steps = omega (arith, h.0.2, fits.2);
+          flushes = omega (arith, h.0.3, fits.3);
+          queues = h.1.1;
+          works = first_all IsWork HasBodySize S.works h.2.1;
+          actors = first_all IsActor HasLinesSize S.actors h.3.1;
+        };
+        sized = record {
+          queues = omega (arith, h.1.0, fits.4);
+          works = omega (arith, h.2.0, fits.5);
+          actors = omega (arith, h.3.0, fits.6);
+          bodies = second_all IsWork HasBodySize S.works h.2.1;
+          lines = second_all IsActor HasLinesSize S.actors h.3.1;
+        };
+      },
+    )
+
+scenario_cut : (S : ScenarioContents) → HasImage S
+    → HeadFits (head_of S) × (NumbersAre (head_of S) S × Each IsQueue (length S.queues) S.queues × Each WorkFits (length S.works) S.works × Each ActorFits (length S.actors) S.actors)
+scenario_cut S h = (
+  (
+    omega (arith, h.contents.cpus),
+    omega (arith, h.contents.workers),
+    omega (arith, h.contents.steps),
+    omega (arith, h.contents.flushes),
+    h.sized.queues,
+    h.sized.works,
+    h.sized.actors,
+  ),
+  (
+    (refl, refl, refl, refl),
+    (refl, h.contents.queues),
+    (refl, both_all IsWork HasBodySize S.works h.contents.works h.sized.bodies),
+    (refl, both_all IsActor HasLinesSize S.actors h.contents.actors h.sized.lines),
+  ),
+)
+
+pub scenarios : Codec scenario_at rest_image HasImage
+unfolding scenario_at
+scenarios =
+    one_then head_at (λ head. many queue_at head.queues >>= λ queues. many work_at head.works >>= λ works. many actor_at head.actors >>= λ actors. done (scenario_with head queues works actors)) head_of head_bytes HeadFits
+    (λ S. in_order (flat_map queue_image S.queues ∷ flat_map work_image S.works ∷ flat_map actor_image S.actors ∷ []))
+    (λ head S. NumbersAre head S × Each IsQueue head.queues S.queues × Each WorkFits head.works S.works × Each ActorFits head.actors S.actors)
+    rest_image HasImage
+    heads (λ head fits. scenarios_queues head) (record {
+      join = λ head S fits h. scenario_join head S fits h;
+      cut = scenario_cut;
+      written = λ S h. refl;
+    })
+
+pub image_is : (S : ScenarioContents) → image S ≡ magic ++ rest_image S
+image_is S = refl

@@ -1,0 +1,512 @@
+-- The words of operations and instructions: what is read of each is what is written.
+use Rattle.std.proofs.Common.{◌≡◌, ℕ, ◌<◌, ◌≤◌, Bool, true, false, cond, eqb, [], ◌∷◌, ◌++◌, Option, Some, refl, sym, ap, subst, ◌∙◌, arith}
+use Rattle.std.specs.Int.{w8, w16, w32, from_be_bytes}
+use Rattle.std.proofs.lemmas.Bool.{eqb-true}
+use Rattle.cmwq_types.specs.declared.instr.Instr.{Instr}
+use Rattle.cmwq_types.specs.declared.instr.Instr.TheVariants as instr
+use Rattle.cmwq_types.specs.declared.scenario.Op.{Op}
+use Rattle.cmwq_types.specs.declared.scenario.Op.TheVariants as op
+use Rattle.cmwq_image.specs.Image.{in_order, number, word, word_image, op_word, instr_word}
+use Rattle.cmwq_image.specs.ImageFault.{◌>>=◌, done, field, number_at, op_tag_of, op_room, op_of, op_at, instr_tag_of, instr_room, instr_of, instr_at}
+use Rattle.cmwq_image.specs.Limits.{IsOp, IsInstr}
+use Rattle.cmwq_image.specs.declared.error.ImageError.TheVariants as errors
+use Rattle.cmwq_image.specs.declared.tags.InstrTag.{InstrTag}
+use Rattle.cmwq_image.specs.declared.tags.InstrTag.TheVariants as instr_tag
+use Rattle.cmwq_image.specs.declared.tags.OpTag.{OpTag}
+use Rattle.cmwq_image.specs.declared.tags.OpTag.TheVariants as op_tag
+use Rattle.cmwq_image.specs.declared.word.Room.{Room}
+use Rattle.cmwq_image.specs.declared.word.Word.{Word}
+use Rattle.cmwq_image.proofs.Codec.{Codec, Meaning, of_field, bad_field, nothing, one_then}
+use Rattle.cmwq_image.proofs.FieldCodecs.{InRange, numbers, wide8, wide16, wide32}
+
+-- a word's fields have room
+pub record Within (room : Room) (cpu a n : ℕ) : Type 0 where
+  pub cpu_fits : cpu ≤ room.cpu
+  pub a_fits : a ≤ room.a
+  pub n_fits : n ≤ room.n
+
+pub record IsRoom (room : Room) : Type 0 where
+  pub cpu_fits : room.cpu < 256
+  pub a_fits : room.a < 65536
+  pub n_fits : room.n < 4294967296
+
+-- What a kind of words is: its tags, the room behind each, and the values that they stand for.
+pub record WordLaws {T B : Type 0} (code : T → ℕ) (tag_of : ℕ → Option T) (room : T → Room) (made : T → (cpu a n : ℕ) → B) (tag : B → T) (as_word : B → Word) (Fits : B → Type 0) : Type 0 where
+  pub small : (t : T) → code t < 256
+  pub known : (n : ℕ) (t : T) → tag_of n ≡ Some t → n ≡ code t
+  pub found : (t : T) → tag_of (code t) ≡ Some t
+  pub some : T
+  pub is_room : (t : T) → IsRoom (room t)
+  pub tagged : (x : B) → (as_word x).tag ≡ code (tag x)
+  pub within : (x : B) → Fits x → Within (room (tag x)) (as_word x).cpu (as_word x).a (as_word x).n
+  pub fits : (x : B) → Within (room (tag x)) (as_word x).cpu (as_word x).a (as_word x).n → Fits x
+  pub made_tag : (t : T) (cpu a n : ℕ) → tag (made t cpu a n) ≡ t
+  pub made_word : (t : T) (cpu a n : ℕ) → Within (room t) cpu a n → as_word (made t cpu a n) ≡ word (code t) cpu a n
+  pub again : (x : B) → made (tag x) (as_word x).cpu (as_word x).a (as_word x).n ≡ x
+
+tag_meaning : {T B : Type 0} (code : T → ℕ) (tag_of : ℕ → Option T) (room : T → Room) (made : T → (cpu a n : ℕ) → B) (tag : B → T) (as_word : B → Word) (Fits : B → Type 0)
+    → WordLaws code tag_of room made tag as_word Fits → Meaning 1 (λ bytes. tag_of (from_be_bytes w8 bytes)) (λ t. number w8 (code t)) (λ t. Unit {0})
+tag_meaning {T} code tag_of room made tag as_word Fits laws = record {
+  small = omega arith;
+  takes = λ bytes t fine size meant. (tt, sym (wide8.back bytes size fine) ∙ ap (number w8) (laws.known (from_be_bytes w8 bytes) t meant));
+  again = λ t fits. ap tag_of (wide8.again (code t) (laws.small t)) ∙ laws.found t;
+  long = λ t fits. refl;
+  some = laws.some;
+  some_fits = tt;
+}
+
+-- Behind a tag: the word's value has this tag, and these fields, and what is still to come has room.
+
+abbrev Tagged : {T B : Type 0} (room : T → Room) (tag : B → T) (as_word : B → Word) → T → B → Type 0
+Tagged room tag as_word t x = (tag x ≡ t) × Within (room t) (as_word x).cpu (as_word x).a (as_word x).n
+
+words_n : {T B : Type 0} (code : T → ℕ) (tag_of : ℕ → Option T) (room : T → Room) (made : T → (cpu a n : ℕ) → B) (tag : B → T) (as_word : B → Word) (Fits : B → Type 0)
+    → WordLaws code tag_of room made tag as_word Fits → (t : T) (cpu a : ℕ) → cpu ≤ (room t).cpu → a ≤ (room t).a
+    → Codec (number_at w32 0 (room t).n >>= λ n. done (made t cpu a n)) (λ x. in_order (number w32 (as_word x).n ∷ []))
+    (λ x. Tagged room tag as_word t x × ((as_word x).cpu ≡ cpu) × ((as_word x).a ≡ a))
+words_n {T} {B} code tag_of room made tag as_word Fits laws t cpu a cpu_fits a_fits =
+    one_then (number_at w32 0 (room t).n) (λ n. done (made t cpu a n)) (λ x. (as_word x).n) (number w32) (InRange 0 (room t).n)
+    (λ x. []) (λ n x. x ≡ made t cpu a n) (λ x. in_order (number w32 (as_word x).n ∷ []))
+    (λ x. Tagged room tag as_word t x × ((as_word x).cpu ≡ cpu) × ((as_word x).a ≡ a))
+    (numbers w32 4294967296 0 (room t).n wide32 (omega arith) (laws.is_room t).n_fits)
+    (λ n fits. nothing (made t cpu a n))
+    (record {
+      join = λ n x fits e.
+          let is : as_word x ≡ word (code t) cpu a n = ap as_word e ∙ laws.made_word t cpu a n (record { cpu_fits = cpu_fits; a_fits = a_fits; n_fits = fits.1 }) in
+          let cpu_is : (as_word x).cpu ≡ cpu = ap (λ (w : Word). w.cpu) is in
+          let a_is : (as_word x).a ≡ a = ap (λ (w : Word). w.a) is in
+          let n_is : (as_word x).n ≡ n = ap (λ (w : Word). w.n) is in
+          let tag_is : tag x ≡ t = ap tag e ∙ laws.made_tag t cpu a n in
+          let n_fits : n ≤ (room t).n = fits.1 in
+          (n_is, ((tag_is, record { cpu_fits = omega arith; a_fits = omega arith; n_fits = omega arith }), cpu_is, a_is));
+      cut = λ x h.
+          let n_fits : (as_word x).n ≤ (room t).n = h.0.1.n_fits in (
+            (omega arith, n_fits),
+            sym (laws.again x) ∙ ap (λ (u : T). made u (as_word x).cpu (as_word x).a (as_word x).n) h.0.0
+                ∙ ap (λ c. made t c (as_word x).a (as_word x).n) h.1 ∙ ap (λ b. made t cpu b (as_word x).n) h.2,
+          );
+      written = λ x h. refl;
+    })
+
+words_a : {T B : Type 0} (code : T → ℕ) (tag_of : ℕ → Option T) (room : T → Room) (made : T → (cpu a n : ℕ) → B) (tag : B → T) (as_word : B → Word) (Fits : B → Type 0)
+    → WordLaws code tag_of room made tag as_word Fits → (t : T) (cpu : ℕ) → cpu ≤ (room t).cpu
+    → Codec (number_at w16 0 (room t).a >>= λ a. number_at w32 0 (room t).n >>= λ n. done (made t cpu a n)) (λ x. in_order (number w16 (as_word x).a ∷ number w32 (as_word x).n ∷ []))
+    (λ x. Tagged room tag as_word t x × ((as_word x).cpu ≡ cpu))
+words_a {T} {B} code tag_of room made tag as_word Fits laws t cpu cpu_fits =
+    one_then (number_at w16 0 (room t).a) (λ a. number_at w32 0 (room t).n >>= λ n. done (made t cpu a n)) (λ x. (as_word x).a) (number w16) (InRange 0 (room t).a)
+    (λ x. in_order (number w32 (as_word x).n ∷ [])) (λ a x. Tagged room tag as_word t x × ((as_word x).cpu ≡ cpu) × ((as_word x).a ≡ a))
+    (λ x. in_order (number w16 (as_word x).a ∷ number w32 (as_word x).n ∷ []))
+    (λ x. Tagged room tag as_word t x × ((as_word x).cpu ≡ cpu))
+    (numbers w16 65536 0 (room t).a wide16 (omega arith) (laws.is_room t).a_fits)
+    (λ a fits. words_n code tag_of room made tag as_word Fits laws t cpu a cpu_fits fits.1)
+    (record {
+      join = λ a x fits h. (h.2, (h.0, h.1));
+      cut = λ x h. let a_fits : (as_word x).a ≤ (room t).a = h.0.1.a_fits in ((omega arith, a_fits), (h.0, h.1, refl));
+      written = λ x h. refl;
+    })
+
+words_cpu : {T B : Type 0} (code : T → ℕ) (tag_of : ℕ → Option T) (room : T → Room) (made : T → (cpu a n : ℕ) → B) (tag : B → T) (as_word : B → Word) (Fits : B → Type 0)
+    → WordLaws code tag_of room made tag as_word Fits → (t : T)
+    → Codec (number_at w8 0 (room t).cpu >>= λ cpu. number_at w16 0 (room t).a >>= λ a. number_at w32 0 (room t).n >>= λ n. done (made t cpu a n))
+    (λ x. in_order (number w8 (as_word x).cpu ∷ number w16 (as_word x).a ∷ number w32 (as_word x).n ∷ [])) (Tagged room tag as_word t)
+words_cpu {T} {B} code tag_of room made tag as_word Fits laws t =
+    one_then (number_at w8 0 (room t).cpu) (λ cpu. number_at w16 0 (room t).a >>= λ a. number_at w32 0 (room t).n >>= λ n. done (made t cpu a n)) (λ x. (as_word x).cpu) (number w8) (InRange 0 (room t).cpu)
+    (λ x. in_order (number w16 (as_word x).a ∷ number w32 (as_word x).n ∷ [])) (λ cpu x. Tagged room tag as_word t x × ((as_word x).cpu ≡ cpu))
+    (λ x. in_order (number w8 (as_word x).cpu ∷ number w16 (as_word x).a ∷ number w32 (as_word x).n ∷ []))
+    (Tagged room tag as_word t)
+    (numbers w8 256 0 (room t).cpu wide8 (omega arith) (laws.is_room t).cpu_fits)
+    (λ cpu fits. words_a code tag_of room made tag as_word Fits laws t cpu fits.1)
+    (record {
+      join = λ cpu x fits h. (h.1, h.0);
+      cut = λ x h. let cpu_fits : (as_word x).cpu ≤ (room t).cpu = h.1.cpu_fits in ((omega arith, cpu_fits), (h, refl));
+      written = λ x h. refl;
+    })
+
+words : {T B : Type 0} (code : T → ℕ) (tag_of : ℕ → Option T) (room : T → Room) (made : T → (cpu a n : ℕ) → B) (tag : B → T) (as_word : B → Word) (Fits : B → Type 0)
+    → WordLaws code tag_of room made tag as_word Fits
+    → Codec (field errors.BadField 1 (λ bytes. tag_of (from_be_bytes w8 bytes)) >>= λ t. number_at w8 0 (room t).cpu >>= λ cpu. number_at w16 0 (room t).a >>= λ a. number_at w32 0 (room t).n >>= λ n. done (made t cpu a n))
+    (λ x. word_image (as_word x)) Fits
+words {T} {B} code tag_of room made tag as_word Fits laws =
+    one_then (field errors.BadField 1 (λ bytes. tag_of (from_be_bytes w8 bytes)))
+    (λ t. number_at w8 0 (room t).cpu >>= λ cpu. number_at w16 0 (room t).a >>= λ a. number_at w32 0 (room t).n >>= λ n. done (made t cpu a n))
+    tag (λ t. number w8 (code t)) (λ t. Unit {0})
+    (λ x. in_order (number w8 (as_word x).cpu ∷ number w16 (as_word x).a ∷ number w32 (as_word x).n ∷ [])) (Tagged room tag as_word)
+    (λ x. word_image (as_word x)) Fits
+    (of_field errors.BadField bad_field 1 (λ bytes. tag_of (from_be_bytes w8 bytes)) (λ t. number w8 (code t)) (λ t. Unit {0}) (tag_meaning code tag_of room made tag as_word Fits laws))
+    (λ t fits. words_cpu code tag_of room made tag as_word Fits laws t)
+    (record {
+      join = λ t x any h. (h.0, laws.fits x (subst (λ (u : T). Within (room u) (as_word x).cpu (as_word x).a (as_word x).n) (sym h.0) h.1));
+      cut = λ x h. (tt, (refl, laws.within x h));
+      written = λ x h. ap (λ n. number w8 n ++ in_order (number w8 (as_word x).cpu ∷ number w16 (as_word x).a ∷ number w32 (as_word x).n ∷ [])) (laws.tagged x);
+    })
+
+-- a step along the table of tags
+pick : {T : Type 0} (code : T → ℕ) (n k : ℕ) (t found : T) (later : Option T) → code t ≡ k → (later ≡ Some found → n ≡ code found)
+    → cond (eqb n k) (Some t) later ≡ Some found → n ≡ code found
+pick {T} code n k t found later is rest e = go (eqb n k) refl e
+  where
+    go : (b : Bool) → eqb n k ≡ b → cond b (Some t) later ≡ Some found → n ≡ code found
+    go true same h = let it : t ≡ found = cc in eqb-true n k same ∙ sym is ∙ ap code it
+    go false same h = rest h
+
+-- words with the same fields
+plain : (tag cpu a n c b m : ℕ) → cpu ≡ c → a ≡ b → n ≡ m → word tag cpu a n ≡ word tag c b m
+plain tag cpu a n c b m e f g = ap (λ x. word tag x a n) e ∙ ap (λ x. word tag c x n) f ∙ ap (λ x. word tag c b x) g
+
+-- ---- operations
+
+abbrev op_code : OpTag → ℕ
+op_code op_tag.Burn = 1
+op_code op_tag.Sleep = 2
+op_code op_tag.Queue = 3
+op_code op_tag.Finish = 4
+
+abbrev op_tag_is : Op → OpTag
+op_tag_is (op.Burn ticks) = op_tag.Burn
+op_tag_is (op.Sleep ticks) = op_tag.Sleep
+op_tag_is (op.Queue work cpu) = op_tag.Queue
+op_tag_is op.Finish = op_tag.Finish
+
+op_small : (t : OpTag) → op_code t < 256
+op_small op_tag.Burn = omega arith
+op_small op_tag.Sleep = omega arith
+op_small op_tag.Queue = omega arith
+op_small op_tag.Finish = omega arith
+
+op_found : (t : OpTag) → op_tag_of (op_code t) ≡ Some t
+op_found op_tag.Burn = refl
+op_found op_tag.Sleep = refl
+op_found op_tag.Queue = refl
+op_found op_tag.Finish = refl
+
+op_is_room : (t : OpTag) → IsRoom (op_room t)
+op_is_room op_tag.Burn = record { cpu_fits = omega arith; a_fits = omega arith; n_fits = omega arith }
+op_is_room op_tag.Sleep = record { cpu_fits = omega arith; a_fits = omega arith; n_fits = omega arith }
+op_is_room op_tag.Queue = record { cpu_fits = omega arith; a_fits = omega arith; n_fits = omega arith }
+op_is_room op_tag.Finish = record { cpu_fits = omega arith; a_fits = omega arith; n_fits = omega arith }
+
+op_tagged : (x : Op) → (op_word x).tag ≡ op_code (op_tag_is x)
+op_tagged (op.Burn ticks) = refl
+op_tagged (op.Sleep ticks) = refl
+op_tagged (op.Queue work cpu) = refl
+op_tagged op.Finish = refl
+
+op_within : (x : Op) → IsOp x → Within (op_room (op_tag_is x)) (op_word x).cpu (op_word x).a (op_word x).n
+op_within (op.Burn ticks) h = record { cpu_fits = omega arith; a_fits = omega arith; n_fits = omega arith }
+op_within (op.Sleep ticks) h = record { cpu_fits = omega arith; a_fits = omega arith; n_fits = omega arith }
+op_within (op.Queue work cpu) h = record { cpu_fits = omega arith; a_fits = omega arith; n_fits = omega arith }
+op_within op.Finish h = record { cpu_fits = omega arith; a_fits = omega arith; n_fits = omega arith }
+
+op_fits : (x : Op) → Within (op_room (op_tag_is x)) (op_word x).cpu (op_word x).a (op_word x).n → IsOp x
+op_fits (op.Burn ticks) h = omega (arith, h.n_fits)
+op_fits (op.Sleep ticks) h = omega (arith, h.n_fits)
+op_fits (op.Queue work cpu) h = (omega (arith, h.a_fits), omega (arith, h.cpu_fits))
+op_fits op.Finish h = tt
+
+op_made_tag : (t : OpTag) (cpu a n : ℕ) → op_tag_is (op_of t cpu a n) ≡ t
+op_made_tag op_tag.Burn cpu a n = refl
+op_made_tag op_tag.Sleep cpu a n = refl
+op_made_tag op_tag.Queue cpu a n = refl
+op_made_tag op_tag.Finish cpu a n = refl
+
+op_made_word : (t : OpTag) (cpu a n : ℕ) → Within (op_room t) cpu a n → op_word (op_of t cpu a n) ≡ word (op_code t) cpu a n
+op_made_word op_tag.Burn cpu a n h = plain 1 0 0 n cpu a n (omega (arith, h.cpu_fits)) (omega (arith, h.a_fits)) (omega (arith, h.n_fits))
+op_made_word op_tag.Sleep cpu a n h = plain 2 0 0 n cpu a n (omega (arith, h.cpu_fits)) (omega (arith, h.a_fits)) (omega (arith, h.n_fits))
+op_made_word op_tag.Queue cpu a n h = plain 3 cpu a 0 cpu a n (omega (arith, h.cpu_fits)) (omega (arith, h.a_fits)) (omega (arith, h.n_fits))
+op_made_word op_tag.Finish cpu a n h = plain 4 0 0 0 cpu a n (omega (arith, h.cpu_fits)) (omega (arith, h.a_fits)) (omega (arith, h.n_fits))
+
+op_again : (x : Op) → op_of (op_tag_is x) (op_word x).cpu (op_word x).a (op_word x).n ≡ x
+op_again (op.Burn ticks) = refl
+op_again (op.Sleep ticks) = refl
+op_again (op.Queue work cpu) = refl
+op_again op.Finish = refl
+
+op_known : (n : ℕ) (t : OpTag) → op_tag_of n ≡ Some t → n ≡ op_code t
+op_known n t =
+    pick op_code n 1 op_tag.Burn t _ refl (
+    pick op_code n 2 op_tag.Sleep t _ refl (
+    pick op_code n 3 op_tag.Queue t _ refl (
+    pick op_code n 4 op_tag.Finish t _ refl (
+    λ never. absurd cc))))
+
+op_laws : WordLaws op_code op_tag_of op_room op_of op_tag_is op_word IsOp
+op_laws = record {
+  small = op_small;
+  known = op_known;
+  found = op_found;
+  some = op_tag.Burn;
+  is_room = op_is_room;
+  tagged = op_tagged;
+  within = op_within;
+  fits = op_fits;
+  made_tag = op_made_tag;
+  made_word = op_made_word;
+  again = op_again;
+}
+
+pub ops : Codec op_at (λ x. word_image (op_word x)) IsOp
+unfolding op_at
+ops = words op_code op_tag_of op_room op_of op_tag_is op_word IsOp op_laws
+
+-- ---- instructions
+
+abbrev instr_code : InstrTag → ℕ
+instr_code instr_tag.Queue = 16
+instr_code instr_tag.Delay = 17
+instr_code instr_tag.Mod = 18
+instr_code instr_tag.Cancel = 19
+instr_code instr_tag.CancelSync = 20
+instr_code instr_tag.Flush = 21
+instr_code instr_tag.FlushDelayed = 22
+instr_code instr_tag.FlushQueue = 23
+instr_code instr_tag.SetMax = 24
+instr_code instr_tag.Freeze = 25
+instr_code instr_tag.Thaw = 26
+instr_code instr_tag.Fire = 27
+instr_code instr_tag.Step = 28
+instr_code instr_tag.Tick = 29
+instr_code instr_tag.Next = 30
+instr_code instr_tag.Ask = 31
+instr_code instr_tag.Busy = 32
+instr_code instr_tag.State = 33
+
+abbrev instr_tag_is : Instr → InstrTag
+instr_tag_is (instr.Queue work cpu) = instr_tag.Queue
+instr_tag_is (instr.Delay work cpu ticks) = instr_tag.Delay
+instr_tag_is (instr.Mod work cpu ticks) = instr_tag.Mod
+instr_tag_is (instr.Cancel work) = instr_tag.Cancel
+instr_tag_is (instr.CancelSync work) = instr_tag.CancelSync
+instr_tag_is (instr.Flush work) = instr_tag.Flush
+instr_tag_is (instr.FlushDelayed work) = instr_tag.FlushDelayed
+instr_tag_is (instr.FlushQueue queue) = instr_tag.FlushQueue
+instr_tag_is (instr.SetMax queue max) = instr_tag.SetMax
+instr_tag_is instr.Freeze = instr_tag.Freeze
+instr_tag_is instr.Thaw = instr_tag.Thaw
+instr_tag_is instr.Fire = instr_tag.Fire
+instr_tag_is (instr.Step pool) = instr_tag.Step
+instr_tag_is instr.Tick = instr_tag.Tick
+instr_tag_is instr.Next = instr_tag.Next
+instr_tag_is (instr.Ask flush) = instr_tag.Ask
+instr_tag_is instr.Busy = instr_tag.Busy
+instr_tag_is (instr.State work) = instr_tag.State
+
+instr_small : (t : InstrTag) → instr_code t < 256
+instr_small instr_tag.Queue = omega arith
+instr_small instr_tag.Delay = omega arith
+instr_small instr_tag.Mod = omega arith
+instr_small instr_tag.Cancel = omega arith
+instr_small instr_tag.CancelSync = omega arith
+instr_small instr_tag.Flush = omega arith
+instr_small instr_tag.FlushDelayed = omega arith
+instr_small instr_tag.FlushQueue = omega arith
+instr_small instr_tag.SetMax = omega arith
+instr_small instr_tag.Freeze = omega arith
+instr_small instr_tag.Thaw = omega arith
+instr_small instr_tag.Fire = omega arith
+instr_small instr_tag.Step = omega arith
+instr_small instr_tag.Tick = omega arith
+instr_small instr_tag.Next = omega arith
+instr_small instr_tag.Ask = omega arith
+instr_small instr_tag.Busy = omega arith
+instr_small instr_tag.State = omega arith
+
+instr_found : (t : InstrTag) → instr_tag_of (instr_code t) ≡ Some t
+instr_found instr_tag.Queue = refl
+instr_found instr_tag.Delay = refl
+instr_found instr_tag.Mod = refl
+instr_found instr_tag.Cancel = refl
+instr_found instr_tag.CancelSync = refl
+instr_found instr_tag.Flush = refl
+instr_found instr_tag.FlushDelayed = refl
+instr_found instr_tag.FlushQueue = refl
+instr_found instr_tag.SetMax = refl
+instr_found instr_tag.Freeze = refl
+instr_found instr_tag.Thaw = refl
+instr_found instr_tag.Fire = refl
+instr_found instr_tag.Step = refl
+instr_found instr_tag.Tick = refl
+instr_found instr_tag.Next = refl
+instr_found instr_tag.Ask = refl
+instr_found instr_tag.Busy = refl
+instr_found instr_tag.State = refl
+
+instr_is_room : (t : InstrTag) → IsRoom (instr_room t)
+instr_is_room instr_tag.Queue = record { cpu_fits = omega arith; a_fits = omega arith; n_fits = omega arith }
+instr_is_room instr_tag.Delay = record { cpu_fits = omega arith; a_fits = omega arith; n_fits = omega arith }
+instr_is_room instr_tag.Mod = record { cpu_fits = omega arith; a_fits = omega arith; n_fits = omega arith }
+instr_is_room instr_tag.Cancel = record { cpu_fits = omega arith; a_fits = omega arith; n_fits = omega arith }
+instr_is_room instr_tag.CancelSync = record { cpu_fits = omega arith; a_fits = omega arith; n_fits = omega arith }
+instr_is_room instr_tag.Flush = record { cpu_fits = omega arith; a_fits = omega arith; n_fits = omega arith }
+instr_is_room instr_tag.FlushDelayed = record { cpu_fits = omega arith; a_fits = omega arith; n_fits = omega arith }
+instr_is_room instr_tag.FlushQueue = record { cpu_fits = omega arith; a_fits = omega arith; n_fits = omega arith }
+instr_is_room instr_tag.SetMax = record { cpu_fits = omega arith; a_fits = omega arith; n_fits = omega arith }
+instr_is_room instr_tag.Freeze = record { cpu_fits = omega arith; a_fits = omega arith; n_fits = omega arith }
+instr_is_room instr_tag.Thaw = record { cpu_fits = omega arith; a_fits = omega arith; n_fits = omega arith }
+instr_is_room instr_tag.Fire = record { cpu_fits = omega arith; a_fits = omega arith; n_fits = omega arith }
+instr_is_room instr_tag.Step = record { cpu_fits = omega arith; a_fits = omega arith; n_fits = omega arith }
+instr_is_room instr_tag.Tick = record { cpu_fits = omega arith; a_fits = omega arith; n_fits = omega arith }
+instr_is_room instr_tag.Next = record { cpu_fits = omega arith; a_fits = omega arith; n_fits = omega arith }
+instr_is_room instr_tag.Ask = record { cpu_fits = omega arith; a_fits = omega arith; n_fits = omega arith }
+instr_is_room instr_tag.Busy = record { cpu_fits = omega arith; a_fits = omega arith; n_fits = omega arith }
+instr_is_room instr_tag.State = record { cpu_fits = omega arith; a_fits = omega arith; n_fits = omega arith }
+
+instr_tagged : (x : Instr) → (instr_word x).tag ≡ instr_code (instr_tag_is x)
+instr_tagged (instr.Queue work cpu) = refl
+instr_tagged (instr.Delay work cpu ticks) = refl
+instr_tagged (instr.Mod work cpu ticks) = refl
+instr_tagged (instr.Cancel work) = refl
+instr_tagged (instr.CancelSync work) = refl
+instr_tagged (instr.Flush work) = refl
+instr_tagged (instr.FlushDelayed work) = refl
+instr_tagged (instr.FlushQueue queue) = refl
+instr_tagged (instr.SetMax queue max) = refl
+instr_tagged instr.Freeze = refl
+instr_tagged instr.Thaw = refl
+instr_tagged instr.Fire = refl
+instr_tagged (instr.Step pool) = refl
+instr_tagged instr.Tick = refl
+instr_tagged instr.Next = refl
+instr_tagged (instr.Ask flush) = refl
+instr_tagged instr.Busy = refl
+instr_tagged (instr.State work) = refl
+
+instr_within : (x : Instr) → IsInstr x → Within (instr_room (instr_tag_is x)) (instr_word x).cpu (instr_word x).a (instr_word x).n
+instr_within (instr.Queue work cpu) h = record { cpu_fits = omega arith; a_fits = omega arith; n_fits = omega arith }
+instr_within (instr.Delay work cpu ticks) h = record { cpu_fits = omega arith; a_fits = omega arith; n_fits = omega arith }
+instr_within (instr.Mod work cpu ticks) h = record { cpu_fits = omega arith; a_fits = omega arith; n_fits = omega arith }
+instr_within (instr.Cancel work) h = record { cpu_fits = omega arith; a_fits = omega arith; n_fits = omega arith }
+instr_within (instr.CancelSync work) h = record { cpu_fits = omega arith; a_fits = omega arith; n_fits = omega arith }
+instr_within (instr.Flush work) h = record { cpu_fits = omega arith; a_fits = omega arith; n_fits = omega arith }
+instr_within (instr.FlushDelayed work) h = record { cpu_fits = omega arith; a_fits = omega arith; n_fits = omega arith }
+instr_within (instr.FlushQueue queue) h = record { cpu_fits = omega arith; a_fits = omega arith; n_fits = omega arith }
+instr_within (instr.SetMax queue max) h = record { cpu_fits = omega arith; a_fits = omega arith; n_fits = omega arith }
+instr_within instr.Freeze h = record { cpu_fits = omega arith; a_fits = omega arith; n_fits = omega arith }
+instr_within instr.Thaw h = record { cpu_fits = omega arith; a_fits = omega arith; n_fits = omega arith }
+instr_within instr.Fire h = record { cpu_fits = omega arith; a_fits = omega arith; n_fits = omega arith }
+instr_within (instr.Step pool) h = record { cpu_fits = omega arith; a_fits = omega arith; n_fits = omega arith }
+instr_within instr.Tick h = record { cpu_fits = omega arith; a_fits = omega arith; n_fits = omega arith }
+instr_within instr.Next h = record { cpu_fits = omega arith; a_fits = omega arith; n_fits = omega arith }
+instr_within (instr.Ask flush) h = record { cpu_fits = omega arith; a_fits = omega arith; n_fits = omega arith }
+instr_within instr.Busy h = record { cpu_fits = omega arith; a_fits = omega arith; n_fits = omega arith }
+instr_within (instr.State work) h = record { cpu_fits = omega arith; a_fits = omega arith; n_fits = omega arith }
+
+instr_fits : (x : Instr) → Within (instr_room (instr_tag_is x)) (instr_word x).cpu (instr_word x).a (instr_word x).n → IsInstr x
+instr_fits (instr.Queue work cpu) h = (omega (arith, h.a_fits), omega (arith, h.cpu_fits))
+instr_fits (instr.Delay work cpu ticks) h = (omega (arith, h.a_fits), omega (arith, h.cpu_fits), omega (arith, h.n_fits))
+instr_fits (instr.Mod work cpu ticks) h = (omega (arith, h.a_fits), omega (arith, h.cpu_fits), omega (arith, h.n_fits))
+instr_fits (instr.Cancel work) h = omega (arith, h.a_fits)
+instr_fits (instr.CancelSync work) h = omega (arith, h.a_fits)
+instr_fits (instr.Flush work) h = omega (arith, h.a_fits)
+instr_fits (instr.FlushDelayed work) h = omega (arith, h.a_fits)
+instr_fits (instr.FlushQueue queue) h = omega (arith, h.a_fits)
+instr_fits (instr.SetMax queue max) h = (omega (arith, h.a_fits), omega (arith, h.n_fits))
+instr_fits instr.Freeze h = tt
+instr_fits instr.Thaw h = tt
+instr_fits instr.Fire h = tt
+instr_fits (instr.Step pool) h = omega (arith, h.cpu_fits)
+instr_fits instr.Tick h = tt
+instr_fits instr.Next h = tt
+instr_fits (instr.Ask flush) h = omega (arith, h.a_fits)
+instr_fits instr.Busy h = tt
+instr_fits (instr.State work) h = omega (arith, h.a_fits)
+
+instr_made_tag : (t : InstrTag) (cpu a n : ℕ) → instr_tag_is (instr_of t cpu a n) ≡ t
+instr_made_tag instr_tag.Queue cpu a n = refl
+instr_made_tag instr_tag.Delay cpu a n = refl
+instr_made_tag instr_tag.Mod cpu a n = refl
+instr_made_tag instr_tag.Cancel cpu a n = refl
+instr_made_tag instr_tag.CancelSync cpu a n = refl
+instr_made_tag instr_tag.Flush cpu a n = refl
+instr_made_tag instr_tag.FlushDelayed cpu a n = refl
+instr_made_tag instr_tag.FlushQueue cpu a n = refl
+instr_made_tag instr_tag.SetMax cpu a n = refl
+instr_made_tag instr_tag.Freeze cpu a n = refl
+instr_made_tag instr_tag.Thaw cpu a n = refl
+instr_made_tag instr_tag.Fire cpu a n = refl
+instr_made_tag instr_tag.Step cpu a n = refl
+instr_made_tag instr_tag.Tick cpu a n = refl
+instr_made_tag instr_tag.Next cpu a n = refl
+instr_made_tag instr_tag.Ask cpu a n = refl
+instr_made_tag instr_tag.Busy cpu a n = refl
+instr_made_tag instr_tag.State cpu a n = refl
+
+instr_made_word : (t : InstrTag) (cpu a n : ℕ) → Within (instr_room t) cpu a n → instr_word (instr_of t cpu a n) ≡ word (instr_code t) cpu a n
+instr_made_word instr_tag.Queue cpu a n h = plain 16 cpu a 0 cpu a n (omega (arith, h.cpu_fits)) (omega (arith, h.a_fits)) (omega (arith, h.n_fits))
+instr_made_word instr_tag.Delay cpu a n h = plain 17 cpu a n cpu a n (omega (arith, h.cpu_fits)) (omega (arith, h.a_fits)) (omega (arith, h.n_fits))
+instr_made_word instr_tag.Mod cpu a n h = plain 18 cpu a n cpu a n (omega (arith, h.cpu_fits)) (omega (arith, h.a_fits)) (omega (arith, h.n_fits))
+instr_made_word instr_tag.Cancel cpu a n h = plain 19 0 a 0 cpu a n (omega (arith, h.cpu_fits)) (omega (arith, h.a_fits)) (omega (arith, h.n_fits))
+instr_made_word instr_tag.CancelSync cpu a n h = plain 20 0 a 0 cpu a n (omega (arith, h.cpu_fits)) (omega (arith, h.a_fits)) (omega (arith, h.n_fits))
+instr_made_word instr_tag.Flush cpu a n h = plain 21 0 a 0 cpu a n (omega (arith, h.cpu_fits)) (omega (arith, h.a_fits)) (omega (arith, h.n_fits))
+instr_made_word instr_tag.FlushDelayed cpu a n h = plain 22 0 a 0 cpu a n (omega (arith, h.cpu_fits)) (omega (arith, h.a_fits)) (omega (arith, h.n_fits))
+instr_made_word instr_tag.FlushQueue cpu a n h = plain 23 0 a 0 cpu a n (omega (arith, h.cpu_fits)) (omega (arith, h.a_fits)) (omega (arith, h.n_fits))
+instr_made_word instr_tag.SetMax cpu a n h = plain 24 0 a n cpu a n (omega (arith, h.cpu_fits)) (omega (arith, h.a_fits)) (omega (arith, h.n_fits))
+instr_made_word instr_tag.Freeze cpu a n h = plain 25 0 0 0 cpu a n (omega (arith, h.cpu_fits)) (omega (arith, h.a_fits)) (omega (arith, h.n_fits))
+instr_made_word instr_tag.Thaw cpu a n h = plain 26 0 0 0 cpu a n (omega (arith, h.cpu_fits)) (omega (arith, h.a_fits)) (omega (arith, h.n_fits))
+instr_made_word instr_tag.Fire cpu a n h = plain 27 0 0 0 cpu a n (omega (arith, h.cpu_fits)) (omega (arith, h.a_fits)) (omega (arith, h.n_fits))
+instr_made_word instr_tag.Step cpu a n h = plain 28 cpu 0 0 cpu a n (omega (arith, h.cpu_fits)) (omega (arith, h.a_fits)) (omega (arith, h.n_fits))
+instr_made_word instr_tag.Tick cpu a n h = plain 29 0 0 0 cpu a n (omega (arith, h.cpu_fits)) (omega (arith, h.a_fits)) (omega (arith, h.n_fits))
+instr_made_word instr_tag.Next cpu a n h = plain 30 0 0 0 cpu a n (omega (arith, h.cpu_fits)) (omega (arith, h.a_fits)) (omega (arith, h.n_fits))
+instr_made_word instr_tag.Ask cpu a n h = plain 31 0 a 0 cpu a n (omega (arith, h.cpu_fits)) (omega (arith, h.a_fits)) (omega (arith, h.n_fits))
+instr_made_word instr_tag.Busy cpu a n h = plain 32 0 0 0 cpu a n (omega (arith, h.cpu_fits)) (omega (arith, h.a_fits)) (omega (arith, h.n_fits))
+instr_made_word instr_tag.State cpu a n h = plain 33 0 a 0 cpu a n (omega (arith, h.cpu_fits)) (omega (arith, h.a_fits)) (omega (arith, h.n_fits))
+
+instr_again : (x : Instr) → instr_of (instr_tag_is x) (instr_word x).cpu (instr_word x).a (instr_word x).n ≡ x
+instr_again (instr.Queue work cpu) = refl
+instr_again (instr.Delay work cpu ticks) = refl
+instr_again (instr.Mod work cpu ticks) = refl
+instr_again (instr.Cancel work) = refl
+instr_again (instr.CancelSync work) = refl
+instr_again (instr.Flush work) = refl
+instr_again (instr.FlushDelayed work) = refl
+instr_again (instr.FlushQueue queue) = refl
+instr_again (instr.SetMax queue max) = refl
+instr_again instr.Freeze = refl
+instr_again instr.Thaw = refl
+instr_again instr.Fire = refl
+instr_again (instr.Step pool) = refl
+instr_again instr.Tick = refl
+instr_again instr.Next = refl
+instr_again (instr.Ask flush) = refl
+instr_again instr.Busy = refl
+instr_again (instr.State work) = refl
+
+instr_known : (n : ℕ) (t : InstrTag) → instr_tag_of n ≡ Some t → n ≡ instr_code t
+instr_known n t =
+    pick instr_code n 16 instr_tag.Queue t _ refl (
+    pick instr_code n 17 instr_tag.Delay t _ refl (
+    pick instr_code n 18 instr_tag.Mod t _ refl (
+    pick instr_code n 19 instr_tag.Cancel t _ refl (
+    pick instr_code n 20 instr_tag.CancelSync t _ refl (
+    pick instr_code n 21 instr_tag.Flush t _ refl (
+    pick instr_code n 22 instr_tag.FlushDelayed t _ refl (
+    pick instr_code n 23 instr_tag.FlushQueue t _ refl (
+    pick instr_code n 24 instr_tag.SetMax t _ refl (
+    pick instr_code n 25 instr_tag.Freeze t _ refl (
+    pick instr_code n 26 instr_tag.Thaw t _ refl (
+    pick instr_code n 27 instr_tag.Fire t _ refl (
+    pick instr_code n 28 instr_tag.Step t _ refl (
+    pick instr_code n 29 instr_tag.Tick t _ refl (
+    pick instr_code n 30 instr_tag.Next t _ refl (
+    pick instr_code n 31 instr_tag.Ask t _ refl (
+    pick instr_code n 32 instr_tag.Busy t _ refl (
+    pick instr_code n 33 instr_tag.State t _ refl (
+    λ never. absurd cc))))))))))))))))))
+
+instr_laws : WordLaws instr_code instr_tag_of instr_room instr_of instr_tag_is instr_word IsInstr
+instr_laws = record {
+  small = instr_small;
+  known = instr_known;
+  found = instr_found;
+  some = instr_tag.Queue;
+  is_room = instr_is_room;
+  tagged = instr_tagged;
+  within = instr_within;
+  fits = instr_fits;
+  made_tag = instr_made_tag;
+  made_word = instr_made_word;
+  again = instr_again;
+}
+
+pub instrs : Codec instr_at (λ x. word_image (instr_word x)) IsInstr
+unfolding instr_at
+instrs = words instr_code instr_tag_of instr_room instr_of instr_tag_is instr_word IsInstr instr_laws

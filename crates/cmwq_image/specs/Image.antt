@@ -1,0 +1,106 @@
+-- The image of a scenario: its bytes, field by field.
+use Rattle.std.specs.Prelude.{ℕ, ◌+◌, Bool, List, [], ◌∷◌, ◌++◌, length, codes, if◌then◌else◌}
+use Rattle.std.specs.Int.{Width, w8, w16, w32, to_be_bytes}
+use Rattle.std.specs.List.{flat_map}
+use Rattle.cmwq_types.specs.Contents.{ScenarioContents, WorkContents, ActorContents}
+use Rattle.cmwq_types.specs.Name.{padded}
+use Rattle.cmwq_types.specs.declared.instr.Instr.{Instr}
+use Rattle.cmwq_types.specs.declared.instr.Instr.TheVariants as instr
+use Rattle.cmwq_types.specs.declared.scenario.Flags.{Flags}
+use Rattle.cmwq_types.specs.declared.scenario.Line.{Line}
+use Rattle.cmwq_types.specs.declared.scenario.Op.{Op}
+use Rattle.cmwq_types.specs.declared.scenario.Op.TheVariants as op
+use Rattle.cmwq_types.specs.declared.scenario.QueueDecl.{QueueDecl}
+use Rattle.cmwq_image.specs.declared.word.Word.{Word}
+
+-- one field after the other
+abbrev pub in_order : List (List ℕ) → List ℕ
+in_order [] = []
+in_order (field ∷ fields) = field ++ in_order fields
+
+-- a number, its highest byte first
+abbrev pub number : Width → ℕ → List ℕ
+number width n = to_be_bytes width n
+
+-- 16 bytes: the length of the name, its bytes, and zeros
+abbrev pub name_field : List ℕ → List ℕ
+name_field name = length name ∷ padded name
+
+-- Queues.
+
+-- what a flag is worth in the byte of flags
+abbrev pub worth : Bool → ℕ → ℕ
+worth flag bit = if flag then bit else 0
+
+abbrev pub flag_bits : Flags → ℕ
+flag_bits flags =
+    worth flags.highpri 1 + worth flags.unbound 2 + worth flags.cpu_intensive 4 + worth flags.freezable 8 + worth flags.ordered 16
+
+abbrev pub queue_image : QueueDecl → List ℕ
+queue_image queue =
+    in_order (name_field queue.name ∷ number w16 queue.max ∷ number w8 (flag_bits queue.flags) ∷ number w8 0 ∷ [])
+
+-- Operations and instructions are words of 8 bytes. What a tag doesn't use is zero.
+
+abbrev pub word : (tag cpu a n : ℕ) → Word
+word tag cpu a n = record { tag = tag; cpu = cpu; a = a; n = n }
+
+abbrev pub word_image : Word → List ℕ
+word_image w = in_order (number w8 w.tag ∷ number w8 w.cpu ∷ number w16 w.a ∷ number w32 w.n ∷ [])
+
+abbrev pub op_word : Op → Word
+op_word (op.Burn ticks) = word 1 0 0 ticks
+op_word (op.Sleep ticks) = word 2 0 0 ticks
+op_word (op.Queue work cpu) = word 3 cpu work.0 0
+op_word op.Finish = word 4 0 0 0
+
+abbrev pub instr_word : Instr → Word
+instr_word (instr.Queue work cpu) = word 16 cpu work.0 0
+instr_word (instr.Delay work cpu ticks) = word 17 cpu work.0 ticks
+instr_word (instr.Mod work cpu ticks) = word 18 cpu work.0 ticks
+instr_word (instr.Cancel work) = word 19 0 work.0 0
+instr_word (instr.CancelSync work) = word 20 0 work.0 0
+instr_word (instr.Flush work) = word 21 0 work.0 0
+instr_word (instr.FlushDelayed work) = word 22 0 work.0 0
+instr_word (instr.FlushQueue queue) = word 23 0 queue.0 0
+instr_word (instr.SetMax queue max) = word 24 0 queue.0 max
+instr_word instr.Freeze = word 25 0 0 0
+instr_word instr.Thaw = word 26 0 0 0
+instr_word instr.Fire = word 27 0 0 0
+instr_word (instr.Step pool) = word 28 pool 0 0
+instr_word instr.Tick = word 29 0 0 0
+instr_word instr.Next = word 30 0 0 0
+instr_word (instr.Ask flush) = word 31 0 flush 0
+instr_word instr.Busy = word 32 0 0 0
+instr_word (instr.State work) = word 33 0 work.0 0
+
+-- Works and actors.
+
+abbrev pub op_image : Op → List ℕ
+op_image op = word_image (op_word op)
+
+abbrev pub work_image : WorkContents → List ℕ
+work_image work =
+    in_order (name_field work.name ∷ number w8 work.queue.0 ∷ number w8 (length work.body) ∷ flat_map op_image work.body ∷ [])
+
+abbrev pub line_image : Line → List ℕ
+line_image line = in_order (word_image (instr_word line.instr) ∷ number w32 line.times ∷ [])
+
+abbrev pub actor_image : ActorContents → List ℕ
+actor_image actor =
+    in_order (name_field actor.name ∷ number w16 (length actor.lines) ∷ flat_map line_image actor.lines ∷ [])
+
+-- The whole image.
+
+abbrev pub magic : List ℕ
+magic = codes "CMWQ"
+
+-- 18 bytes: what it is, the version, the scenario's numbers, and how many queues, works and actors follow
+abbrev pub head_image : ScenarioContents → List ℕ
+head_image S =
+    in_order (magic ∷ number w16 1 ∷ number w8 S.cpus ∷ number w8 S.workers ∷ number w32 S.steps ∷ number w16 S.flushes
+    ∷ number w8 (length S.queues) ∷ number w16 (length S.works) ∷ number w8 (length S.actors) ∷ [])
+
+abbrev pub image : ScenarioContents → List ℕ
+image S =
+    in_order (head_image S ∷ flat_map queue_image S.queues ∷ flat_map work_image S.works ∷ flat_map actor_image S.actors ∷ [])

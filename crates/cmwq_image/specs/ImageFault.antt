@@ -1,0 +1,326 @@
+-- What bytes say, read field by field from the left, and the first fault that is met.
+use Rattle.std.specs.Prelude.{◌≡◌, ℕ, ◌+◌, ◌/◌, ◌%◌, zero, suc, Bool, ◌&&◌, List, [], ◌∷◌, length, take, drop, Option, Some, None, Result, Ok, Err, nat_lt, ◌==◌, if◌then◌else◌}
+use Rattle.std.specs.Int.{Width, w8, w16, w32, byte_len, from_be_bytes}
+use Rattle.std.specs.Str.{bytes_eq}
+use Rattle.cmwq_types.specs.Contents.{ScenarioContents, WorkContents, ActorContents}
+use Rattle.cmwq_types.specs.Faults.{first_fault, within}
+use Rattle.cmwq_types.specs.Name.{is_name}
+use Rattle.cmwq_types.specs.declared.check.Fault.{Fault}
+use Rattle.cmwq_types.specs.declared.instr.Instr.{Instr}
+use Rattle.cmwq_types.specs.declared.instr.Instr.TheVariants as instr
+use Rattle.cmwq_types.specs.declared.limits.TheConstants.{MAX_QUEUES, MAX_WORKS, MAX_ACTORS, MAX_OPS, MAX_LINES}
+use Rattle.cmwq_types.specs.declared.scenario.Flags.{Flags}
+use Rattle.cmwq_types.specs.declared.scenario.Line.{Line}
+use Rattle.cmwq_types.specs.declared.scenario.Op.{Op}
+use Rattle.cmwq_types.specs.declared.scenario.Op.TheVariants as op
+use Rattle.cmwq_types.specs.declared.scenario.QueueDecl.{QueueDecl}
+use Rattle.cmwq_image.specs.Image.{magic, name_field}
+use Rattle.cmwq_image.specs.declared.error.ImageError.{ImageError}
+use Rattle.cmwq_image.specs.declared.error.ImageError.TheVariants as errors
+use Rattle.cmwq_image.specs.declared.head.Head.{Head}
+use Rattle.cmwq_image.specs.declared.tags.InstrTag.{InstrTag}
+use Rattle.cmwq_image.specs.declared.tags.InstrTag.TheVariants as instr_tag
+use Rattle.cmwq_image.specs.declared.tags.OpTag.{OpTag}
+use Rattle.cmwq_image.specs.declared.tags.OpTag.TheVariants as op_tag
+use Rattle.cmwq_image.specs.declared.word.Room.{Room}
+
+-- an offset, and the bytes from there on
+pub record Place : Type 0 where
+  pub at : ℕ
+  pub rest : List ℕ
+
+-- A reader takes fields from the front: a value and the place behind it, or the first fault.
+abbrev pub Reader : Type 0 → Type 0
+Reader A = Place → Result (A × Place) ImageError
+
+-- what was read is handed on, a fault stays
+abbrev pub hand_on : {A B : Type 0} → (A → Reader B) → Result (A × Place) ImageError → Result (B × Place) ImageError
+hand_on next (Ok found) = next found.0 found.1
+hand_on next (Err fault) = Err fault
+
+infixl 10 ◌>>=◌
+abbrev pub ◌>>=◌ : {A B : Type 0} → Reader A → (A → Reader B) → Reader B
+(first >>= next) place = hand_on next (first place)
+
+-- nothing more is read
+abbrev pub done : {A : Type 0} → A → Reader A
+done value place = Ok (value, place)
+
+-- so many readings, one after the other
+abbrev pub many : {A : Type 0} → Reader A → ℕ → Reader (List A)
+many one zero = done []
+many one (suc n) = one >>= λ first. many one n >>= λ others. done (first ∷ others)
+
+-- Fields.
+
+abbrev pub behind : ℕ → Place → Place
+behind size place = record { at = place.at + size; rest = drop size place.rest }
+
+abbrev pub accepted : {A : Type 0} → ImageError → Place → Option A → Result (A × Place) ImageError
+accepted fault after (Some value) = Ok (value, after)
+accepted fault after None = Err fault
+
+-- a field of so many bytes: all of them are there, and they mean something
+abbrev pub field : {A : Type 0} → (ℕ → ImageError) → ℕ → (List ℕ → Option A) → Reader A
+field fault size meaning place =
+    if nat_lt (length place.rest) size then Err errors.Truncated
+    else accepted (fault place.at) (behind size place) (meaning (take size place.rest))
+
+-- the number, if it is within the limits
+abbrev pub if_within : ℕ → ℕ → ℕ → Option ℕ
+if_within low high n = if within low high n then Some n else None
+
+-- a number from low to high
+abbrev pub number_at : Width → (low high : ℕ) → Reader ℕ
+number_at width low high = field errors.BadField (byte_len width) (λ bytes. if_within low high (from_be_bytes width bytes))
+
+-- a number that may be any
+abbrev pub byte_at : Reader ℕ
+byte_at = number_at w8 0 255
+
+abbrev pub short_at : Reader ℕ
+short_at = number_at w16 0 65535
+
+abbrev pub long_at : Reader ℕ
+long_at = number_at w32 0 4294967295
+
+-- the one version that there is
+abbrev pub version_at : Reader ℕ
+version_at = field (λ at. errors.Version) 2 (λ bytes. if_within 1 1 (from_be_bytes w16 bytes))
+
+-- the name of which these bytes are the field
+abbrev pub name_of : List ℕ → Option (List ℕ)
+name_of [] = None
+name_of (len ∷ bytes) =
+    let name = take len bytes in
+    if bytes_eq (len ∷ bytes) (name_field name) && is_name name then Some name else None
+
+abbrev pub name_at : Reader (List ℕ)
+name_at = field errors.BadField 16 name_of
+
+-- Queues.
+
+abbrev pub is_set : ℕ → ℕ → Bool
+is_set bits bit = bits / bit % 2 == 1
+
+abbrev pub flags_of : ℕ → Flags
+flags_of bits = record {
+  highpri = is_set bits 1;
+  unbound = is_set bits 2;
+  cpu_intensive = is_set bits 4;
+  freezable = is_set bits 8;
+  ordered = is_set bits 16;
+}
+
+unfoldable pub queue_at : Reader QueueDecl
+queue_at = do
+  name ← name_at
+  max ← short_at
+  bits ← number_at w8 0 31
+  nothing ← number_at w8 0 0
+  done (record { name = name; max = max; flags = flags_of bits })
+
+-- Words.
+
+-- behind a tag: the greatest value that each field can have, 0 where the tag doesn't use it
+abbrev pub room : (cpu a n : ℕ) → Room
+room cpu a n = record { cpu = cpu; a = a; n = n }
+
+abbrev pub op_tag_of : ℕ → Option OpTag
+op_tag_of n =
+    if n == 1 then Some op_tag.Burn
+    else (if n == 2 then Some op_tag.Sleep
+    else (if n == 3 then Some op_tag.Queue
+    else (if n == 4 then Some op_tag.Finish
+    else None)))
+
+abbrev pub op_room : OpTag → Room
+op_room op_tag.Burn = room 0 0 4294967295
+op_room op_tag.Sleep = room 0 0 4294967295
+op_room op_tag.Queue = room 255 65535 0
+op_room op_tag.Finish = room 0 0 0
+
+-- the operation of a tag, with the fields of its word
+abbrev pub op_of : OpTag → (cpu a n : ℕ) → Op
+op_of op_tag.Burn cpu a n = op.Burn n
+op_of op_tag.Sleep cpu a n = op.Sleep n
+op_of op_tag.Queue cpu a n = op.Queue (record { 0 = a }) cpu
+op_of op_tag.Finish cpu a n = op.Finish
+
+abbrev pub op_tag_at : Reader OpTag
+op_tag_at = field errors.BadField 1 (λ bytes. op_tag_of (from_be_bytes w8 bytes))
+
+unfoldable pub op_at : Reader Op
+op_at = do
+  tag ← op_tag_at
+  cpu ← number_at w8 0 (op_room tag).cpu
+  a ← number_at w16 0 (op_room tag).a
+  n ← number_at w32 0 (op_room tag).n
+  done (op_of tag cpu a n)
+
+abbrev pub instr_tag_of : ℕ → Option InstrTag
+instr_tag_of n =
+    if n == 16 then Some instr_tag.Queue
+    else (if n == 17 then Some instr_tag.Delay
+    else (if n == 18 then Some instr_tag.Mod
+    else (if n == 19 then Some instr_tag.Cancel
+    else (if n == 20 then Some instr_tag.CancelSync
+    else (if n == 21 then Some instr_tag.Flush
+    else (if n == 22 then Some instr_tag.FlushDelayed
+    else (if n == 23 then Some instr_tag.FlushQueue
+    else (if n == 24 then Some instr_tag.SetMax
+    else (if n == 25 then Some instr_tag.Freeze
+    else (if n == 26 then Some instr_tag.Thaw
+    else (if n == 27 then Some instr_tag.Fire
+    else (if n == 28 then Some instr_tag.Step
+    else (if n == 29 then Some instr_tag.Tick
+    else (if n == 30 then Some instr_tag.Next
+    else (if n == 31 then Some instr_tag.Ask
+    else (if n == 32 then Some instr_tag.Busy
+    else (if n == 33 then Some instr_tag.State
+    else None)))))))))))))))))
+
+-- a queue's number has one byte in a scenario
+abbrev pub instr_room : InstrTag → Room
+instr_room instr_tag.Queue = room 255 65535 0
+instr_room instr_tag.Delay = room 255 65535 4294967295
+instr_room instr_tag.Mod = room 255 65535 4294967295
+instr_room instr_tag.Cancel = room 0 65535 0
+instr_room instr_tag.CancelSync = room 0 65535 0
+instr_room instr_tag.Flush = room 0 65535 0
+instr_room instr_tag.FlushDelayed = room 0 65535 0
+instr_room instr_tag.FlushQueue = room 0 255 0
+instr_room instr_tag.SetMax = room 0 255 4294967295
+instr_room instr_tag.Freeze = room 0 0 0
+instr_room instr_tag.Thaw = room 0 0 0
+instr_room instr_tag.Fire = room 0 0 0
+instr_room instr_tag.Step = room 255 0 0
+instr_room instr_tag.Tick = room 0 0 0
+instr_room instr_tag.Next = room 0 0 0
+instr_room instr_tag.Ask = room 0 65535 0
+instr_room instr_tag.Busy = room 0 0 0
+instr_room instr_tag.State = room 0 65535 0
+
+-- the instruction of a tag, with the fields of its word
+abbrev pub instr_of : InstrTag → (cpu a n : ℕ) → Instr
+instr_of instr_tag.Queue cpu a n = instr.Queue (record { 0 = a }) cpu
+instr_of instr_tag.Delay cpu a n = instr.Delay (record { 0 = a }) cpu n
+instr_of instr_tag.Mod cpu a n = instr.Mod (record { 0 = a }) cpu n
+instr_of instr_tag.Cancel cpu a n = instr.Cancel (record { 0 = a })
+instr_of instr_tag.CancelSync cpu a n = instr.CancelSync (record { 0 = a })
+instr_of instr_tag.Flush cpu a n = instr.Flush (record { 0 = a })
+instr_of instr_tag.FlushDelayed cpu a n = instr.FlushDelayed (record { 0 = a })
+instr_of instr_tag.FlushQueue cpu a n = instr.FlushQueue (record { 0 = a })
+instr_of instr_tag.SetMax cpu a n = instr.SetMax (record { 0 = a }) n
+instr_of instr_tag.Freeze cpu a n = instr.Freeze
+instr_of instr_tag.Thaw cpu a n = instr.Thaw
+instr_of instr_tag.Fire cpu a n = instr.Fire
+instr_of instr_tag.Step cpu a n = instr.Step cpu
+instr_of instr_tag.Tick cpu a n = instr.Tick
+instr_of instr_tag.Next cpu a n = instr.Next
+instr_of instr_tag.Ask cpu a n = instr.Ask a
+instr_of instr_tag.Busy cpu a n = instr.Busy
+instr_of instr_tag.State cpu a n = instr.State (record { 0 = a })
+
+abbrev pub instr_tag_at : Reader InstrTag
+instr_tag_at = field errors.BadField 1 (λ bytes. instr_tag_of (from_be_bytes w8 bytes))
+
+unfoldable pub instr_at : Reader Instr
+instr_at = do
+  tag ← instr_tag_at
+  cpu ← number_at w8 0 (instr_room tag).cpu
+  a ← number_at w16 0 (instr_room tag).a
+  n ← number_at w32 0 (instr_room tag).n
+  done (instr_of tag cpu a n)
+
+-- Works and actors.
+
+unfoldable pub work_at : Reader WorkContents
+work_at = do
+  name ← name_at
+  queue ← byte_at
+  ops ← number_at w8 1 MAX_OPS
+  body ← many op_at ops
+  done (record { name = name; queue = record { 0 = queue }; body = body })
+
+unfoldable pub line_at : Reader Line
+line_at = do
+  instr ← instr_at
+  times ← long_at
+  done (record { instr = instr; times = times })
+
+unfoldable pub actor_at : Reader ActorContents
+actor_at = do
+  name ← name_at
+  count ← number_at w16 0 MAX_LINES
+  lines ← many line_at count
+  done (record { name = name; lines = lines })
+
+-- The whole image.
+
+-- what stands behind the four bytes that tell what it is
+unfoldable pub head_at : Reader Head
+head_at = do
+  version ← version_at
+  cpus ← byte_at
+  workers ← byte_at
+  steps ← long_at
+  flushes ← short_at
+  queues ← number_at w8 0 MAX_QUEUES
+  works ← number_at w16 0 MAX_WORKS
+  actors ← number_at w8 0 MAX_ACTORS
+  done (record { cpus = cpus; workers = workers; steps = steps; flushes = flushes; queues = queues; works = works; actors = actors })
+
+unfoldable pub scenario_at : Reader ScenarioContents
+scenario_at = do
+  head ← head_at
+  queues ← many queue_at head.queues
+  works ← many work_at head.works
+  actors ← many actor_at head.actors
+  done (record {
+    cpus = head.cpus;
+    workers = head.workers;
+    steps = head.steps;
+    flushes = head.flushes;
+    queues = queues;
+    works = works;
+    actors = actors;
+  })
+
+-- a fault of the scenario itself
+abbrev pub unless_faulty : ScenarioContents → Option Fault → Result ScenarioContents ImageError
+unless_faulty S None = Ok S
+unless_faulty S (Some fault) = Err (errors.Fault fault)
+
+-- nothing may be left, and then the scenario is judged
+abbrev pub judged : Result (ScenarioContents × Place) ImageError → Result ScenarioContents ImageError
+judged (Ok found) = if length found.1.rest == 0 then unless_faulty found.0 (first_fault found.0) else Err errors.Extra
+judged (Err fault) = Err fault
+
+-- behind the four bytes that tell what it is
+abbrev pub behind_magic : List ℕ → Result Place ImageError
+behind_magic bytes =
+    if bytes_eq (take 4 bytes) magic then Ok (behind 4 (record { at = 0; rest = bytes })) else Err errors.Magic
+
+abbrev pub from_there : Result Place ImageError → Result ScenarioContents ImageError
+from_there (Ok place) = judged (scenario_at place)
+from_there (Err fault) = Err fault
+
+-- the scenario of which the bytes are the image, or the first fault
+unfoldable pub reading : List ℕ → Result ScenarioContents ImageError
+reading bytes = from_there (behind_magic bytes)
+
+-- What a function returned, seen by view, is what reading gives, unless memory ran out.
+
+abbrev pub Fails : {Y : Type 0} → ImageError → Result Y ImageError → Type 0
+Fails errors.NoMemory read = Unit {0}
+Fails errors.Magic read = read ≡ Err errors.Magic
+Fails errors.Version read = read ≡ Err errors.Version
+Fails errors.Truncated read = read ≡ Err errors.Truncated
+Fails errors.Extra read = read ≡ Err errors.Extra
+Fails (errors.BadField at) read = read ≡ Err (errors.BadField at)
+Fails (errors.Fault fault) read = read ≡ Err (errors.Fault fault)
+
+abbrev pub Gives : {X Y : Type 0} → (X → Y) → Result X ImageError → Result Y ImageError → Type 0
+Gives view (Ok x) read = read ≡ Ok (view x)
+Gives view (Err e) read = Fails e read

@@ -1,0 +1,5 @@
+pub mod FaultMeaning
+pub mod Image
+pub mod ImageFault
+pub mod Limits
+pub mod Worked

@@ -1,0 +1,179 @@
+//! The fields of an image, one after the other.
+ghost use Rattle.cmwq_image.specs.ImageFault.{Gives, behind_magic, field, instr_tag_at, name_at, name_of, number_at, op_tag_at, version_at};
+ghost use Rattle.std.specs.List.{list_all};
+ghost use Rattle.std.specs.Int.{w8, w16, w32};
+ghost use Rattle.std.specs.Prelude.{◌≡◌, ◌+◌, ◌≤◌, ◌==◌, IfOk, OnOk, Some, length};
+ghost use Rattle.cmwq_image.specs.declared.error.ImageError.TheVariants as errors;
+
+use crate::error::ImageError;
+use crate::tags::{InstrTag, OpTag};
+use cmwq_types::{MAX_NAME, Name};
+use std::marker::Model;
+
+/// What is left of the bytes of an image.
+#[derive(Drop)]
+pub(crate) struct Fields<'a> {
+    at: u32,
+    rest: &'a [u8],
+}
+
+impl<'a> Model for Fields<'a> {
+    ghost use Rattle.cmwq_image.specs.ImageFault.{Place};
+
+    ghost Value = { Place };
+
+    ghost view = { λ fields. record { at = fields.at; rest = fields.rest.now } };
+}
+
+impl<'a> Fields<'a> {
+    /// The fields behind the magic bytes.
+    pub(crate) fn behind_magic(bytes: &'a [u8]) -> Result<Fields<'a>, ImageError>
+        ensures read { Gives (λ fields. fields) result (behind_magic bytes.now) }
+        ensures at { IfOk result (λ fields. fields.at ≡ 4) }
+    {
+        match bytes.strip_prefix(b"CMWQ") {
+            Some(rest) => Ok(Fields { at: 4, rest }),
+            None => Err(ImageError::Magic),
+        }
+    }
+
+    /// Whether nothing is left.
+    pub(crate) fn is_empty(&self) -> bool
+        ensures { result ≡ (length self.now.rest == 0) }
+    {
+        self.rest.is_empty()
+    }
+
+    /// The bytes of a field, all of them.
+    fn take(&mut self, size: usize) -> Result<&'a [u8], ImageError>
+        requires { self.old.at + size ≤ u32.MAX }
+        ensures read { Gives (λ bytes. (bytes.now, self.new)) result (field errors.BadField size Some self.old) }
+        ensures size { IfOk result (λ bytes. length bytes.now ≡ size) }
+        ensures ahead { OnOk result (self.new.at ≡ self.old.at + size) }
+    {
+        if self.rest.len() < size {
+            return Err(ImageError::Truncated);
+        }
+        let (front, rest) = self.rest.split_at(size);
+        self.at += size as u32;
+        self.rest = rest;
+        Ok(front)
+    }
+
+    /// A number of one byte, from `low` to `high`.
+    pub(crate) fn byte(&mut self, low: u8, high: u8) -> Result<u8, ImageError>
+        requires { self.old.at + 1 ≤ u32.MAX }
+        ensures read { Gives (λ n. (n, self.new)) result (number_at w8 low high self.old) }
+        ensures within { IfOk result (λ n. (low ≤ n) × (n ≤ high)) }
+        ensures ahead { OnOk result (self.new.at ≡ self.old.at + 1) }
+    {
+        let at = self.at;
+        let bytes = self.take(1)?;
+        let n = u8::from_be_bytes([bytes[0]]);
+        if n < low || high < n {
+            return Err(ImageError::BadField(at));
+        }
+        Ok(n)
+    }
+
+    /// A number of two bytes, from `low` to `high`.
+    pub(crate) fn short(&mut self, low: u16, high: u16) -> Result<u16, ImageError>
+        requires { self.old.at + 2 ≤ u32.MAX }
+        ensures read { Gives (λ n. (n, self.new)) result (number_at w16 low high self.old) }
+        ensures within { IfOk result (λ n. (low ≤ n) × (n ≤ high)) }
+        ensures ahead { OnOk result (self.new.at ≡ self.old.at + 2) }
+    {
+        let at = self.at;
+        let bytes = self.take(2)?;
+        let n = u16::from_be_bytes([bytes[0], bytes[1]]);
+        if n < low || high < n {
+            return Err(ImageError::BadField(at));
+        }
+        Ok(n)
+    }
+
+    /// A number of four bytes, from `low` to `high`.
+    pub(crate) fn long(&mut self, low: u32, high: u32) -> Result<u32, ImageError>
+        requires { self.old.at + 4 ≤ u32.MAX }
+        ensures read { Gives (λ n. (n, self.new)) result (number_at w32 low high self.old) }
+        ensures within { IfOk result (λ n. (low ≤ n) × (n ≤ high)) }
+        ensures ahead { OnOk result (self.new.at ≡ self.old.at + 4) }
+    {
+        let at = self.at;
+        let bytes = self.take(4)?;
+        let n = u32::from_be_bytes([bytes[0], bytes[1], bytes[2], bytes[3]]);
+        if n < low || high < n {
+            return Err(ImageError::BadField(at));
+        }
+        Ok(n)
+    }
+
+    /// The version, which is 1.
+    pub(crate) fn version(&mut self) -> Result<(), ImageError>
+        requires { self.old.at + 2 ≤ u32.MAX }
+        ensures read { Gives (λ nothing. (1, self.new)) result (version_at self.old) }
+        ensures ahead { OnOk result (self.new.at ≡ self.old.at + 2) }
+    {
+        let bytes = self.take(2)?;
+        if u16::from_be_bytes([bytes[0], bytes[1]]) != 1 {
+            return Err(ImageError::Version);
+        }
+        Ok(())
+    }
+
+    /// A name: its length, its bytes, and zeros.
+    pub(crate) fn name(&mut self) -> Result<Name, ImageError>
+        requires { self.old.at + 16 ≤ u32.MAX }
+        ensures read { Gives (λ name. (name, self.new)) result (name_at self.old) }
+        ensures ahead { OnOk result (self.new.at ≡ self.old.at + 16) }
+    {
+        let at = self.at;
+        let bytes = self.take(16)?;
+        name_of(bytes).ok_or(ImageError::BadField(at))
+    }
+
+    /// The tag of an operation.
+    pub(crate) fn op_tag(&mut self) -> Result<OpTag, ImageError>
+        requires { self.old.at + 1 ≤ u32.MAX }
+        ensures read { Gives (λ tag. (tag, self.new)) result (op_tag_at self.old) }
+        ensures ahead { OnOk result (self.new.at ≡ self.old.at + 1) }
+    {
+        let at = self.at;
+        let bytes = self.take(1)?;
+        OpTag::of(u8::from_be_bytes([bytes[0]])).ok_or(ImageError::BadField(at))
+    }
+
+    /// The tag of an instruction.
+    pub(crate) fn instr_tag(&mut self) -> Result<InstrTag, ImageError>
+        requires { self.old.at + 1 ≤ u32.MAX }
+        ensures read { Gives (λ tag. (tag, self.new)) result (instr_tag_at self.old) }
+        ensures ahead { OnOk result (self.new.at ≡ self.old.at + 1) }
+    {
+        let at = self.at;
+        let bytes = self.take(1)?;
+        InstrTag::of(u8::from_be_bytes([bytes[0]])).ok_or(ImageError::BadField(at))
+    }
+}
+
+/// The name of which these 16 bytes are the field.
+fn name_of(bytes: &[u8]) -> Option<Name>
+    requires { length bytes.now ≡ 16 }
+    ensures { result ≡ name_of bytes.now }
+{
+    let len = bytes[0] as usize;
+    if len > MAX_NAME {
+        return None;
+    }
+    let (name, rest) = bytes[1..].split_at(len);
+    if !are_zeros(rest) {
+        return None;
+    }
+    Name::read(name)
+}
+
+/// Whether each byte is 0.
+fn are_zeros(bytes: &[u8]) -> bool
+    ensures { result ≡ list_all (λ byte. byte == 0) bytes.now }
+{
+    bytes.iter().all(|byte| *byte == 0)
+}

@@ -1,0 +1,65 @@
+//! Reading an image.
+ghost use Rattle.cmwq_image.specs.FaultMeaning.{Means};
+ghost use Rattle.cmwq_image.specs.Image.{image};
+ghost use Rattle.cmwq_image.specs.ImageFault.{Gives, reading, scenario_at};
+ghost use Rattle.cmwq_image.specs.Limits.{IsContents};
+ghost use Rattle.cmwq_types.specs.Contents.{ScenarioContents};
+ghost use Rattle.cmwq_types.specs.Faults.{IsValid};
+ghost use Rattle.std.specs.Prelude.{◌≡◌, IfErr, IfOk, Ok};
+
+use crate::error::ImageError;
+use crate::fields::Fields;
+use cmwq_types::Scenario;
+use std::alloc::Global;
+
+/// The scenario of which the bytes are the image.
+///
+/// Faults are judged in this order, which is this project's own: `Magic`; then field by field from the
+/// left `Truncated`, `Version` or `BadField`; then `Extra`; then the first fault of the scenario itself.
+pub fn read(alloc: Global, bytes: &[u8]) -> Result<Scenario, ImageError>
+    // What is read has the bytes as its image.
+    ensures found { IfOk result (λ scenario. IsContents scenario × IsValid scenario × (bytes.now ≡ image scenario)) }
+    // The image of a valid scenario is read, unless memory runs out.
+    ensures only { (S : ScenarioContents) → IsContents S → IsValid S → bytes.now ≡ image S → Gives (λ scenario. scenario) result (Ok S) }
+    // Which fault it is: the first one from the left.
+    ensures fault { Gives (λ scenario. scenario) result (reading bytes.now) }
+    // What the fault says of the bytes.
+    ensures meaning { IfErr result (λ fault. Means bytes.now fault) }
+{
+    read_all(alloc, bytes)
+}
+
+#[tactic(auto, unfolding(crate::specs::ImageFault::reading))]
+fn read_all(alloc: Global, bytes: &[u8]) -> Result<Scenario, ImageError>
+    ensures { Gives (λ scenario. scenario) result (reading bytes.now) }
+{
+    let mut fields = Fields::behind_magic(bytes)?;
+    let scenario = read_scenario(alloc, &mut fields)?;
+    if !fields.is_empty() {
+        return Err(ImageError::Extra);
+    }
+    match scenario.check() {
+        Ok(()) => Ok(scenario),
+        Err(fault) => Err(ImageError::Fault(fault)),
+    }
+}
+
+#[tactic(auto, unfolding(crate::specs::ImageFault::scenario_at))]
+fn read_scenario(alloc: Global, fields: &mut Fields) -> Result<Scenario, ImageError>
+    requires { fields.old.at ≡ 4 }
+    ensures { Gives (λ scenario. (scenario, fields.new)) result (scenario_at fields.old) }
+{
+    let head = fields.head()?;
+    let queues = fields.queues(alloc, head.queues)?;
+    let works = fields.works(alloc, head.works)?;
+    let actors = fields.actors(alloc, head.actors)?;
+    Ok(Scenario {
+        cpus: head.cpus,
+        workers: head.workers,
+        steps: head.steps,
+        flushes: head.flushes,
+        queues,
+        works,
+        actors,
+    })
+}
