@@ -1,2 +1,4 @@
 pub mod RunLemmas
 pub mod SendingLemmas
+pub mod TextLemmas
+pub mod ImageLemmas

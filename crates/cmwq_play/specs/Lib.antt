@@ -1,2 +1,4 @@
+pub mod Images
 pub mod Sending
 pub mod Stream
+pub mod Texts

@@ -1,12 +1,13 @@
 -- What has gone out of some lines, and what a run may leave.
-use Rattle.std.specs.Prelude.{◌≡◌, ℕ, ◌≤◌, List, [], ◌∷◌, ◌++◌, length, Option, IfSome}
+use Rattle.std.specs.Prelude.{◌≡◌, ℕ, List, [], ◌∷◌, ◌++◌, Option}
 use Rattle.std.specs.Io.KnownBytes.{Appends}
 use Rattle.cmwq_types.specs.Contents.{ActorContents, ScenarioContents}
-use Rattle.cmwq_types.specs.Faults.{IsValid}
 use Rattle.cmwq_types.specs.Listing.{listing}
 use Rattle.cmwq_types.specs.Scenario.{expand}
-use Rattle.cmwq_types.specs.declared.limits.TheConstants.{MAX_TEXT}
 use Rattle.cmwq_table.specs.Events.{events}
+use Rattle.cmwq_image.specs.Image.{image}
+use Rattle.cmwq_play.specs.Images.{IsImage}
+use Rattle.cmwq_play.specs.Texts.{IsSpelled}
 use Rattle.cmwq_play.specs.declared.error.PlayError.{PlayError}
 use Rattle.cmwq_play.specs.declared.error.PlayError.TheVariants as errors
 
@@ -36,24 +37,43 @@ Prints S before now = (actor : ActorContents) × (S.actors ≡ actor ∷ []) × 
 abbrev pub PrintsFront : ScenarioContents → Option (List ℕ) → Option (List ℕ) → Type 0
 PrintsFront S before now = (actor : ActorContents) × (S.actors ≡ actor ∷ []) × HasSentFront before now (events S (expand actor))
 
--- The input, where it is known, is the listing of this valid scenario, which has one actor.
-pub record IsAccepted (input : Option (List ℕ)) (S : ScenarioContents) : Type 0 where
-  pub valid : IsValid S
-  pub alone : length S.actors ≡ 1
-  pub listed : IfSome input (λ text. listing S ≡ text)
-  pub short : length (listing S) ≤ MAX_TEXT
-
--- the input is the listing of such a scenario, and the writer was given what it prints
+-- the input spells such a scenario with one actor, and the writer was given what it prints
 abbrev pub PrintsRun : Option (List ℕ) → Option (List ℕ) → Option (List ℕ) → Type 0
-PrintsRun input before now = (S : ScenarioContents) × IsAccepted input S × Prints S before now
+PrintsRun input before now = (S : ScenarioContents) × IsSpelled input S × Prints S before now
 
 -- the same of a front of what it prints
 abbrev pub PrintsFrontOfRun : Option (List ℕ) → Option (List ℕ) → Option (List ℕ) → Type 0
-PrintsFrontOfRun input before now = (S : ScenarioContents) × IsAccepted input S × PrintsFront S before now
+PrintsFrontOfRun input before now = (S : ScenarioContents) × IsSpelled input S × PrintsFront S before now
+
+-- the input spells a scenario, and the writer was given its listing
+abbrev pub Lists : Option (List ℕ) → Option (List ℕ) → Option (List ℕ) → Type 0
+Lists input before now = (S : ScenarioContents) × IsSpelled input S × Appends before now (listing S)
+
+-- the same of a front of the listing
+abbrev pub ListsFront : Option (List ℕ) → Option (List ℕ) → Option (List ℕ) → Type 0
+ListsFront input before now = (S : ScenarioContents) × IsSpelled input S × HasSentFront before now (listing S)
+
+-- the input spells a scenario, and the writer was given its image
+abbrev pub WritesImage : Option (List ℕ) → Option (List ℕ) → Option (List ℕ) → Type 0
+WritesImage input before now = (S : ScenarioContents) × IsSpelled input S × Appends before now (image S)
+
+-- the same of a front of the image
+abbrev pub WritesImageFront : Option (List ℕ) → Option (List ℕ) → Option (List ℕ) → Type 0
+WritesImageFront input before now = (S : ScenarioContents) × IsSpelled input S × HasSentFront before now (image S)
+
+-- the input is a scenario's image, and the writer was given its listing
+abbrev pub ListsImage : Option (List ℕ) → Option (List ℕ) → Option (List ℕ) → Type 0
+ListsImage input before now = (S : ScenarioContents) × IsImage input S × Appends before now (listing S)
+
+-- the same of a front of the listing
+abbrev pub ListsImageFront : Option (List ℕ) → Option (List ℕ) → Option (List ℕ) → Type 0
+ListsImageFront input before now = (S : ScenarioContents) × IsImage input S × HasSentFront before now (listing S)
 
 -- what sending may fail for
 abbrev pub IsSendError : PlayError → Type 0
 IsSendError errors.Write = Unit {0}
 IsSendError errors.NoMemory = Unit {0}
 IsSendError errors.Read = ⊥
-IsSendError errors.BadText = ⊥
+IsSendError (errors.Asm fault) = ⊥
+IsSendError (errors.Image fault) = ⊥
+IsSendError errors.Actors = ⊥

@@ -1,5 +1,7 @@
 //! Why a command ended early.
 
+use cmwq_asm::AsmError;
+use cmwq_image::ImageError;
 use cmwq_types::NoMemory;
 use std::alloc::{AllocError, AllocFailed};
 use thiserror::Error;
@@ -13,9 +15,15 @@ pub enum PlayError {
     /// The writer failed, or took no bytes.
     #[error("write")]
     Write,
-    /// The text isn't the listing of a valid scenario with one actor, or is longer than a text may be.
-    #[error("bad text")]
-    BadText,
+    /// The text isn't a scenario's.
+    #[error("{0}")]
+    Asm(AsmError),
+    /// The bytes aren't a scenario's image.
+    #[error("image: {0}")]
+    Image(ImageError),
+    /// The scenario hasn't exactly one actor.
+    #[error("actors")]
+    Actors,
     /// Memory ran out.
     #[error("no memory")]
     NoMemory,

@@ -1,32 +1,36 @@
 //! `run`: from a scenario's text to the lines that it prints.
-ghost use Rattle.cmwq_play.specs.Sending.{IsAccepted, IsSendError, Prints, PrintsFront, PrintsFrontOfRun, PrintsRun, Sends, SendsFront};
+ghost use Rattle.cmwq_play.specs.Sending.{IsSendError, Prints, PrintsFront, PrintsFrontOfRun, PrintsRun, Sends, SendsFront};
+ghost use Rattle.cmwq_play.specs.Texts.{HasOtherActors, IsBeforeWriting, IsOutside, TellsFault};
+ghost use Rattle.cmwq_grammar.specs.FaultLaw.{IsFault};
+ghost use Rattle.cmwq_grammar.specs.Grammar.{Spells};
+ghost use Rattle.cmwq_grammar.specs.Meaning.{FaultAt};
 ghost use Rattle.cmwq_table.specs.Events.{events};
+ghost use Rattle.cmwq_types.specs.Contents.{ScenarioContents};
 ghost use Rattle.cmwq_types.specs.Scenario.{expand};
 ghost use Rattle.cmwq_types.specs.Faults.{IsValid};
 ghost use Rattle.cmwq_types.specs.declared.limits.TheConstants.{MAX_TEXT};
 ghost use Rattle.cmwq_table.specs.State.{start};
 ghost use Rattle.std.specs.Io.KnownBytes.{Keeps};
-ghost use Rattle.std.specs.Prelude.{◌≡◌, ◌≢◌, ◌<◌, ◌≤◌, ◌+◌, ◌↔◌, ◌⊎◌, ◌∷◌, [], IfErr, IfOk, IfSome, IsErr, OnErr, OnOk, Some, false, length, true};
+ghost use Rattle.std.specs.Prelude.{◌≡◌, ◌≢◌, ◌≤◌, ◌+◌, ◌↔◌, ◌⊎◌, ◌==◌, ◌∷◌, [], Err, IfErr, IfSome, MatchResult, OnErr, OnOk, false, length, true};
 
-use crate::drafting::draft_of;
 use crate::error::PlayError;
 use crate::issuing::issue_lines;
-use crate::reading::read_whole;
+use crate::reading::read_text;
 use crate::sending::send_block;
 use crate::stream::{Sink, Source};
-use cmwq_asm::list;
+use cmwq_asm::AsmError;
 use cmwq_plain::Plain;
 use cmwq_table::Machine;
-use cmwq_types::{Actor, NoMemory, Scenario};
+use cmwq_types::{Actor, Scenario};
 use std::alloc::Global;
 
 /// Reads a scenario's text, issues its one actor's instructions on a machine, and writes the lines
 /// of the replies as they come, a block at a time.
 ///
-/// For now the text has to be the canonical listing of a valid scenario with exactly one actor; any
-/// other text is `BadText`, and so is one of more than 4,194,304 bytes. At most one byte more than
-/// that is read. On `BadText` and `Read` nothing was written; on `Write` and `NoMemory` what was
-/// written is a front of the lines.
+/// It answers `Asm` with the text's fault exactly where the text spells no scenario, and `Actors`
+/// exactly where the scenario hasn't one actor; then, and on `Read`, nothing was written. On `Write`
+/// and `NoMemory` what was written is a front of the lines. At most one byte more is read than the
+/// 4,194,304 that a text may have.
 pub fn run<R: Source, W: Sink>(
     alloc: Global,
     reader: &mut R,
@@ -35,26 +39,42 @@ pub fn run<R: Source, W: Sink>(
     requires reader { R.failed reader.old ≡ false }
     requires writer { W.failed writer.old ≡ false }
 
-    // The bytes read are the listing of a valid scenario with one actor, and its events were written.
+    // The bytes read spell a scenario with one actor, and its events were written.
     ensures ok { OnOk result (PrintsRun (R.remaining reader.old) (W.contents writer.old) (W.contents writer.new)) }
-    ensures bad_text { result ≡ Err PlayError.BadText → Keeps (W.contents writer.old) (W.contents writer.new) }
-    ensures too_long { IfSome (R.remaining reader.old) (λ input. MAX_TEXT < length input → IsErr result) }
+
+    // What the text is decides the answer, unless a read or write fails or memory runs out.
+    ensures runs { IfSome (R.remaining reader.old) (λ text. (S : ScenarioContents) → Spells text S → length S.actors ≡ 1
+        → IfErr result (λ error. IsOutside error)) }
+    ensures actors { IfSome (R.remaining reader.old) (λ text. (S : ScenarioContents) → Spells text S → length S.actors ≢ 1
+        → MatchResult result (λ _. ⊥) (λ error. (error ≡ PlayError.Actors) ⊎ IsOutside error)) }
+    ensures fault { IfSome (R.remaining reader.old) (λ text. (fault : FaultAt) → IsFault text fault
+        → MatchResult result (λ _. ⊥) (λ error. (error ≡ PlayError.Asm (AsmError.At fault.line fault.why)) ⊎ IsOutside error)) }
+    ensures told { IfSome (R.remaining reader.old) (λ text. IfErr result (λ error. TellsFault text error)) }
+    ensures told_actors { result ≡ Err PlayError.Actors → HasOtherActors (R.remaining reader.old) }
 
     // A failed read or write is told as such, and nothing else is.
     ensures read { (result ≡ Err PlayError.Read) ↔ (R.failed reader.new ≡ true) }
-    ensures unread { result ≡ Err PlayError.Read → Keeps (W.contents writer.old) (W.contents writer.new) }
     ensures write { (result ≡ Err PlayError.Write) ↔ (W.failed writer.new ≡ true) }
+
+    // Nothing is written before the instructions are issued.
+    ensures silent { IfErr result (λ error. IsBeforeWriting error → Keeps (W.contents writer.old) (W.contents writer.new)) }
     ensures unwritten { result ≡ Err PlayError.Write → PrintsFrontOfRun (R.remaining reader.old) (W.contents writer.old) (W.contents writer.new) }
     ensures no_memory { result ≡ Err PlayError.NoMemory → Keeps (W.contents writer.old) (W.contents writer.new)
         ⊎ PrintsFrontOfRun (R.remaining reader.old) (W.contents writer.old) (W.contents writer.new) }
 
     ensures few { IfSome (R.remaining reader.old) (λ input. IfSome (R.remaining reader.new) (λ left. length input ≤ length left + MAX_TEXT + 1)) }
 {
-    let text = read_whole(alloc, reader)?;
-    match accepted(alloc, &text)? {
-        Some(scenario) => load_and_play(alloc, &scenario, writer),
-        None => Err(PlayError::BadText),
+    let scenario = read_text(alloc, reader)?;
+    if !has_one_actor(&scenario) {
+        return Err(PlayError::Actors);
     }
+    load_and_play(alloc, &scenario, writer)
+}
+
+fn has_one_actor(scenario: &Scenario) -> bool
+    ensures { result ≡ (length scenario.now.actors == 1) }
+{
+    scenario.actors.len() == 1
 }
 
 /// Issues the one actor's instructions on a new machine, and writes the lines of the replies.
@@ -122,23 +142,4 @@ fn issue_actor<M: Machine, W: Sink>(
 {
     issue_lines(alloc, scenario, machine, writer, block, &actor.lines)?;
     Ok(())
-}
-
-/// The scenario whose listing the text is, if it is the listing of a valid one with one actor.
-fn accepted(alloc: Global, text: &[u8]) -> Result<Option<Scenario>, NoMemory>
-    requires { length text.now ≤ MAX_TEXT }
-    ensures { IfOk result (λ found. IfSome found (IsAccepted (Some text.now))) }
-{
-    let Some(scenario) = draft_of(alloc, text)? else {
-        return Ok(None);
-    };
-    if scenario.check().is_err() || scenario.actors.len() != 1 {
-        return Ok(None);
-    }
-    let listing = list(alloc, &scenario)?;
-    if listing.as_slice() == text {
-        Ok(Some(scenario))
-    } else {
-        Ok(None)
-    }
 }
