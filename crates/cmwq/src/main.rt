@@ -1,6 +1,8 @@
 //! The program `cmwq`: words in, status out.
 #![tactic(auto)]
 
+ghost use Rattle.std.specs.Prelude.{◌≡◌, IfOk, false};
+
 mod fault;
 mod request;
 
@@ -37,18 +39,61 @@ where
         }
     };
     match request::parse(rt.alloc(), words.as_slice()) {
-        Ok(Request::Run { file }) => {
-            run_file(rt, file)?;
+        Ok(request) => {
+            answer(rt, request)?;
             Ok(request::GOOD)
         }
         Err(error) => request::tell(rt, &error),
     }
 }
 
-/// Opens the file, runs the scenario in it, and writes its events to standard output.
-fn run_file<R: Files + Print + AllocGlobal>(rt: &R, path: &str) -> Result<(), PlayError> {
-    let file = File::open(rt, path).map_err(|_| PlayError::Read)?;
-    let mut reader = Marked::new(file);
+/// Does what is asked.
+fn answer<R>(rt: &R, request: Request<'_>) -> Result<(), PlayError>
+where
+    R: Files + Print + AllocGlobal,
+{
+    match request {
+        Request::Run { file } => run(rt, file),
+        Request::List { file } => list(rt, file),
+        Request::Asm { file, out } => asm(rt, file, out),
+        Request::Show { image } => show(rt, image),
+    }
+}
+
+/// Runs the scenario whose text is in the file, and writes its events to standard output.
+fn run<R: Files + Print + AllocGlobal>(rt: &R, file: &str) -> Result<(), PlayError> {
+    let mut reader = opened(rt, file)?;
     let mut writer = Marked::new(io::writer(rt));
     cmwq_play::run(rt.alloc(), &mut reader, &mut writer)
+}
+
+/// Writes the listing of the scenario whose text is in the file to standard output.
+fn list<R: Files + Print + AllocGlobal>(rt: &R, file: &str) -> Result<(), PlayError> {
+    let mut reader = opened(rt, file)?;
+    let mut writer = Marked::new(io::writer(rt));
+    cmwq_play::list_text(rt.alloc(), &mut reader, &mut writer)
+}
+
+/// Makes the image file of the scenario whose text is in the file. The image file is made anew
+/// first, and it stays empty where there is a fault before the image is written.
+fn asm<R: Files + AllocGlobal>(rt: &R, file: &str, out: &str) -> Result<(), PlayError> {
+    let made = File::create(rt, out).map_err(|_| PlayError::Write)?;
+    let mut writer = Marked::new(made);
+    let mut reader = opened(rt, file)?;
+    cmwq_play::to_image(rt.alloc(), &mut reader, &mut writer)
+}
+
+/// Writes the listing of the scenario whose image is in the file to standard output.
+fn show<R: Files + Print + AllocGlobal>(rt: &R, image: &str) -> Result<(), PlayError> {
+    let mut reader = opened(rt, image)?;
+    let mut writer = Marked::new(io::writer(rt));
+    cmwq_play::from_image(rt.alloc(), &mut reader, &mut writer)
+}
+
+/// The file, opened to be read.
+fn opened<R: Files>(rt: &R, path: &str) -> Result<Marked<R::File>, PlayError>
+    ensures { IfOk result (λ reader. reader.failed ≡ false) }
+{
+    let file = File::open(rt, path).map_err(|_| PlayError::Read)?;
+    Ok(Marked::new(file))
 }

@@ -1,8 +1,9 @@
 //! The command line: which words ask for what.
 
-ghost use Rattle.clap.specs.Words.{Row, Text, app_of, first_of, kind_of, subcommand_rows_of};
-ghost use Rattle.cmwq.specs.Request.{IsPlainWord, RunsFile, command_line};
-ghost use Rattle.std.specs.Prelude.{◌≡◌, ◌≢◌, ◌⊎◌, [], ◌∷◌, Err, IfOk, List, Ok, Some, codes, map, option_map, string_bytes};
+ghost use Rattle.clap.specs.Words.{Text, app_of, first_of, found_of, kind_of, rows_of, rule_of, subcommand_rows_of};
+ghost use Rattle.clap.specs.declared.builder.command.Command.TheViews.{out-Command as fields_of};
+ghost use Rattle.cmwq.specs.Request.{Asks, IsPlainWord, asked_in, asked_of, command_line, command_on, required_rule, words_of};
+ghost use Rattle.std.specs.Prelude.{◌≡◌, ◌≢◌, ◌⊎◌, [], ◌∷◌, Err, IfOk, Ok, codes, false, map, option_map, string_bytes};
 
 use clap::error::ErrorKind;
 use clap::{Arg, ArgMatches, Command, Error};
@@ -15,44 +16,70 @@ pub const GOOD: u8 = 0;
 /// The exit status of words that aren't a command line of the program.
 pub const USAGE: u8 = 2;
 
-/// What the words ask for.
+/// What the words ask for. The paths are as they were given.
 #[derive(Clone, Copy, Debug, PartialEq, Eq)]
 pub enum Request<'a> {
-    /// Run the scenario in this file.
+    /// Run the scenario whose text is in this file.
     Run {
-        /// The file's path, as it was given.
+        /// The text's path.
         file: &'a str,
+    },
+    /// List the scenario whose text is in this file.
+    List {
+        /// The text's path.
+        file: &'a str,
+    },
+    /// Make an image of the scenario whose text is in a file.
+    Asm {
+        /// The text's path.
+        file: &'a str,
+        /// The image's path.
+        out: &'a str,
+    },
+    /// List the scenario whose image is in this file.
+    Show {
+        /// The image's path.
+        image: &'a str,
     },
 }
 
 /// What follows the help.
 const AFTER_HELP: &str = "\
-Example:
+Examples:
   cmwq run scenarios/max_active_3.cmwq
+  cmwq list scenarios/max_active_3.cmwq
+  cmwq asm scenarios/max_active_3.cmwq max_active_3.image
+  cmwq show max_active_3.image
 
 Exit status:
   0  the command did what it was asked
-  1  the file isn't a scenario text in canonical form
+  1  the file isn't a scenario's text or image, or the scenario hasn't one actor
   2  the command line is wrong
-  3  a file can't be opened or read, or the output can't be written
+  3  a file can't be opened, made, read or written
   4  memory ran out";
 
 /// Reads the words, of which the first is the program's name. The error is a usage fault, help that
 /// was asked for, or want of memory; it holds the text for the user.
 ///
-/// `run FILE` asks to run FILE, where FILE isn't empty and doesn't begin with a hyphen; it then
-/// fails only for want of memory.
+/// Each command's words ask for it, where no FILE, OUT or IMAGE is empty or begins with a hyphen;
+/// the call then fails only for want of memory.
 pub fn parse<'a>(alloc: Global, words: &'a [String]) -> Result<Request<'a>, Error>
     ensures run { (name file : Text) → map string_bytes words.entry.now ≡ name ∷ codes "run" ∷ file ∷ []
-        → IsPlainWord file → RunsFile file result }
+        → IsPlainWord file → Asks (codes "run" ∷ file ∷ []) result }
+    ensures list { (name file : Text) → map string_bytes words.entry.now ≡ name ∷ codes "list" ∷ file ∷ []
+        → IsPlainWord file → Asks (codes "list" ∷ file ∷ []) result }
+    ensures asm { (name file out : Text) → map string_bytes words.entry.now ≡ name ∷ codes "asm" ∷ file ∷ out ∷ []
+        → IsPlainWord file → IsPlainWord out → Asks (codes "asm" ∷ file ∷ out ∷ []) result }
+    ensures show { (name image : Text) → map string_bytes words.entry.now ≡ name ∷ codes "show" ∷ image ∷ []
+        → IsPlainWord image → Asks (codes "show" ∷ image ∷ []) result }
 {
     let mut command = command(alloc)?;
     let matches = command.try_get_matches_from_mut(words)?;
-    match file_to_run(&matches) {
-        Some(file) => Ok(Request::Run { file }),
+    match request_of(&matches) {
+        Some(request) => Ok(request),
         None => Err(command.error(
             ErrorKind::MissingSubcommand,
-            "a command and its file are required",
+            "a command and its files are required",
         )?),
     }
 }
@@ -78,30 +105,96 @@ pub fn tell<R: Print + Eprint>(rt: &R, error: &Error) -> Result<u8, PlayError>
     }
 }
 
-/// The file that `run` is given, if that is the command.
-fn file_to_run<'a>(matches: &ArgMatches<'a>) -> Option<&'a str>
-    ensures { (rows : List Row) → subcommand_rows_of matches.now ≡ Some (codes "run", rows)
-        → option_map (λ file. file.now) result ≡ first_of (codes "FILE") rows }
+/// What the command that was met asks for.
+fn request_of<'a>(matches: &ArgMatches<'a>) -> Option<Request<'a>>
+    ensures { option_map (λ request. words_of request) result ≡ asked_of (subcommand_rows_of matches.now) }
 {
-    matches.subcommand_matches("run")?.get_str("FILE")
+    let (name, given) = matches.subcommand()?;
+    request_by(name, given)
+}
+
+/// What the command of this name asks for, given these values.
+fn request_by<'a>(name: &str, given: &ArgMatches<'a>) -> Option<Request<'a>>
+    ensures { option_map (λ request. words_of request) result ≡ asked_in (name.now, rows_of (found_of given.now)) }
+{
+    match name {
+        "run" => {
+            let file = value_of(given, "FILE")?;
+            Some(Request::Run { file })
+        }
+        "list" => {
+            let file = value_of(given, "FILE")?;
+            Some(Request::List { file })
+        }
+        "asm" => {
+            let file = value_of(given, "FILE")?;
+            let out = value_of(given, "OUT")?;
+            Some(Request::Asm { file, out })
+        }
+        "show" => {
+            let image = value_of(given, "IMAGE")?;
+            Some(Request::Show { image })
+        }
+        _ => None,
+    }
+}
+
+/// The value of the argument.
+fn value_of<'a>(given: &ArgMatches<'a>, id: &str) -> Option<&'a str>
+    ensures { option_map (λ value. value.now) result ≡ first_of id.now (rows_of (found_of given.now)) }
+{
+    given.get_str(id)
 }
 
 /// The command line of the program.
 fn command<'a>(alloc: Global) -> Result<Command<'a>, AllocError>
     ensures { IfOk result (λ r. app_of r ≡ command_line) }
 {
-    let file = Arg::new(alloc, "FILE")
-        .required(true)
-        .help("The scenario's text, in canonical form");
-    let run = Command::new(alloc, "run")
-        .about("Runs a scenario and writes its events to standard output")
-        .arg(file)?;
+    let run = on_text(
+        alloc,
+        "run",
+        "Runs a scenario and writes its events to standard output",
+    )?;
+    let list = on_text(
+        alloc,
+        "list",
+        "Writes a scenario's listing to standard output",
+    )?;
+    let asm = on_text(alloc, "asm", "Makes the image of a scenario")?.arg(argument(
+        alloc,
+        "OUT",
+        "The image file to make",
+    ))?;
+    let show = Command::new(alloc, "show")
+        .about("Writes the listing of an image's scenario to standard output")
+        .arg(argument(alloc, "IMAGE", "The scenario's image"))?;
     Command::new(alloc, "cmwq")
         .about("Emulates the concurrency-managed workqueues of the Linux kernel")
         .after_help(AFTER_HELP)
         .subcommand_required(true)
         .arg_required_else_help(true)
-        .subcommand(run)
+        .subcommand(run)?
+        .subcommand(list)?
+        .subcommand(asm)?
+        .subcommand(show)
+}
+
+/// A command on the text of a scenario.
+fn on_text<'a>(alloc: Global, name: &'a str, about: &'a str) -> Result<Command<'a>, AllocError>
+    ensures app { IfOk result (λ r. app_of r ≡ command_on name.entry.now (codes "FILE")) }
+    ensures local { IfOk result (λ r. (fields_of r).has_globals ≡ false) }
+{
+    Command::new(alloc, name)
+        .about(about)
+        .arg(argument(alloc, "FILE", "The scenario's text"))
+}
+
+/// An argument that has to be given.
+fn argument<'a>(alloc: Global, id: &'a str, help: &'a str) -> Arg<'a>
+    ensures rule { rule_of result ≡ required_rule id.entry.now }
+    ensures local { result.global ≡ false }
+{
+    Arg::new(alloc, id).required(true).help(help)
 }
 
 #[cfg(test)]
@@ -116,15 +209,24 @@ mod tests {
     }
 
     #[test]
-    fn run_takes_one_file(rt: HostRuntime) -> Result<(), Fail> {
-        let given = words(rt.alloc(), "cmwq run lesson.cmwq")?;
-        let request = parse(rt.alloc(), given.as_slice())?;
-        assert!(rt;
-            request
-                == Request::Run {
-                    file: "lesson.cmwq"
-                }
-        );
+    fn each_command_has_its_words(rt: HostRuntime) -> Result<(), Fail> {
+        let rows = [
+            ("cmwq run a.cmwq", Request::Run { file: "a.cmwq" }),
+            ("cmwq list a.cmwq", Request::List { file: "a.cmwq" }),
+            (
+                "cmwq asm a.cmwq a.image",
+                Request::Asm {
+                    file: "a.cmwq",
+                    out: "a.image",
+                },
+            ),
+            ("cmwq show a.image", Request::Show { image: "a.image" }),
+        ];
+        for (line, want) in rows {
+            let given = words(rt.alloc(), line)?;
+            let request = parse(rt.alloc(), given.as_slice())?;
+            assert!(rt; request == want, "{line}");
+        }
         Ok(())
     }
 
@@ -133,9 +235,11 @@ mod tests {
         let rows = [
             ("cmwq", ErrorKind::DisplayHelpOnMissingArgumentOrSubcommand),
             ("cmwq run", ErrorKind::MissingRequiredArgument),
-            ("cmwq run a b", ErrorKind::UnknownArgument),
+            ("cmwq asm a", ErrorKind::MissingRequiredArgument),
+            ("cmwq list a b", ErrorKind::UnknownArgument),
+            ("cmwq asm a b c", ErrorKind::UnknownArgument),
             ("cmwq walk a", ErrorKind::InvalidSubcommand),
-            ("cmwq run a --fast", ErrorKind::UnknownArgument),
+            ("cmwq show a --fast", ErrorKind::UnknownArgument),
         ];
         for (line, want) in rows {
             let given = words(rt.alloc(), line)?;
@@ -152,8 +256,8 @@ mod tests {
             "cmwq --help",
             "cmwq -h",
             "cmwq help",
-            "cmwq run --help",
-            "cmwq help run",
+            "cmwq asm --help",
+            "cmwq help show",
         ] {
             let given = words(rt.alloc(), line)?;
             let error = parse(rt.alloc(), given.as_slice()).expect_err(&rt, line);
