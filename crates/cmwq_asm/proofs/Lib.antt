@@ -5,6 +5,7 @@ mod HeaderLemmas
 mod LastFields
 pub mod LineLemmas
 mod LineSteps
+pub mod ListingLemmas
 mod NameLemmas
 mod NumberLemmas
 mod Refused

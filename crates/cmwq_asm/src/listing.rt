@@ -1,11 +1,12 @@
 //! The listing of a scenario: its canonical text.
-ghost use Rattle.cmwq_grammar.specs.Grammar.{Fits, Spells};
+ghost use Rattle.cmwq_grammar.specs.Grammar.{Fits, Spells, instr_fits};
 ghost use Rattle.cmwq_types.specs.Faults.{IsValid};
 ghost use Rattle.cmwq_types.specs.Listing.{Flagged, actor_line, actor_lines, body_lines, flag_words, instr_words, line_text, listing, op_line, queue_line, times_words, word_if, work_line, written_text};
+ghost use Rattle.cmwq_types.specs.Name.{is_name};
 ghost use Rattle.cmwq_types.specs.Scenario.{queue_at, work_at};
 ghost use Rattle.std.specs.Fmt.{decimal};
-ghost use Rattle.std.specs.List.{flat_map, join_with_byte};
-ghost use Rattle.std.specs.Prelude.{◌≡◌, ◌++◌, ◌∷◌, [], IfOk, OnOk, map};
+ghost use Rattle.std.specs.List.{flat_map, join_with_byte, list_all};
+ghost use Rattle.std.specs.Prelude.{◌≡◌, ◌&&◌, ◌++◌, ◌∷◌, [], IfOk, IsTrue, OnOk, map};
 
 use crate::lines::{push_line, push_others, push_words};
 use cmwq_grammar::laws::listing_spells_its_scenario;
@@ -15,19 +16,19 @@ use cmwq_types::{
 use std::alloc::Global;
 
 /// The listing of the scenario: its lines in order, each with one space between words and a line
-/// feed at its end, with no comment and no blank line.
+/// feed at its end, with no comment and no blank line. It is a text of the scenario.
 pub fn list(alloc: Global, scenario: &Scenario) -> Result<Vec<u8>, NoMemory>
     ensures listing { IfOk result (λ text. text.items ≡ listing scenario.now) }
-    // The text of a valid scenario spells it.
-    ensures spells { IsValid scenario.now → Fits scenario.now → IfOk result (λ text. Spells text.items scenario.now) }
+    ensures spells { IfOk result (λ text. IsValid scenario.now → Spells text.items scenario.now) }
 {
     listing_spells_its_scenario();
-    write_listing(alloc, scenario)
+    listing_of(alloc, scenario)
 }
 
-/// The listing.
-fn write_listing(alloc: Global, scenario: &Scenario) -> Result<Vec<u8>, NoMemory>
-    ensures { IfOk result (λ text. text.items ≡ listing scenario.now) }
+/// The listing, of a scenario whose names are names and whose numbers fit, as those of each are.
+fn listing_of(alloc: Global, scenario: &Scenario) -> Result<Vec<u8>, NoMemory>
+    ensures listing { IfOk result (λ text. text.items ≡ listing scenario.now) }
+    ensures fits { OnOk result (Fits scenario.now) }
 {
     let mut text = Vec::new(alloc);
     push_number(alloc, &mut text, b"cpus", u32::from(scenario.cpus))?;
@@ -50,7 +51,8 @@ fn push_number(alloc: Global, text: &mut Vec<u8>, word: &[u8], n: u32) -> Result
 }
 
 fn push_queues(alloc: Global, text: &mut Vec<u8>, queues: &[QueueDecl]) -> Result<(), NoMemory>
-    ensures { OnOk result (text.new.items ≡ text.old.items ++ flat_map written_text (map queue_line queues.now)) }
+    ensures text { OnOk result (text.new.items ≡ text.old.items ++ flat_map written_text (map queue_line queues.now)) }
+    ensures names { OnOk result (IsTrue (list_all (λ queue. is_name queue.name) queues.now)) }
 {
     for queue in queues {
         push_queue(alloc, text, queue)?;
@@ -59,7 +61,8 @@ fn push_queues(alloc: Global, text: &mut Vec<u8>, queues: &[QueueDecl]) -> Resul
 }
 
 fn push_queue(alloc: Global, text: &mut Vec<u8>, queue: &QueueDecl) -> Result<(), NoMemory>
-    ensures { OnOk result (text.new.items ≡ text.old.items ++ written_text (queue_line queue.now)) }
+    ensures text { OnOk result (text.new.items ≡ text.old.items ++ written_text (queue_line queue.now)) }
+    ensures name { OnOk result (IsTrue (is_name queue.now.name)) }
 {
     let max = queue.max.to_string(alloc)?;
     let words: &[&[u8]] = &[queue.name.as_bytes(), b"max", max.as_bytes()];
@@ -105,7 +108,8 @@ fn push_word_if(text: &mut Vec<u8>, holds: bool, word: &[u8]) -> Result<(), NoMe
 }
 
 fn push_works(text: &mut Vec<u8>, scenario: &Scenario) -> Result<(), NoMemory>
-    ensures { OnOk result (text.new.items ≡ text.old.items ++ flat_map written_text (map (work_line scenario.now) scenario.now.works)) }
+    ensures text { OnOk result (text.new.items ≡ text.old.items ++ flat_map written_text (map (work_line scenario.now) scenario.now.works)) }
+    ensures names { OnOk result (IsTrue (list_all (λ work. is_name work.name) scenario.now.works)) }
 {
     for work in &scenario.works {
         let queue = queue_name(scenario, work.queue);
@@ -153,7 +157,8 @@ fn push_op(alloc: Global, text: &mut Vec<u8>, scenario: &Scenario, op: Op) -> Re
 }
 
 fn push_actors(alloc: Global, text: &mut Vec<u8>, scenario: &Scenario) -> Result<(), NoMemory>
-    ensures { OnOk result (text.new.items ≡ text.old.items ++ flat_map written_text (flat_map (actor_lines scenario.now) scenario.now.actors)) }
+    ensures text { OnOk result (text.new.items ≡ text.old.items ++ flat_map written_text (flat_map (actor_lines scenario.now) scenario.now.actors)) }
+    ensures fits { OnOk result (IsTrue (list_all (λ actor. is_name actor.name && list_all (λ line. instr_fits line.instr) actor.lines) scenario.now.actors)) }
 {
     for actor in &scenario.actors {
         push_line(text, b"actor", &[actor.name.as_bytes()])?;
@@ -168,7 +173,8 @@ fn push_lines(
     scenario: &Scenario,
     lines: &[Line],
 ) -> Result<(), NoMemory>
-    ensures { OnOk result (text.new.items ≡ text.old.items ++ flat_map written_text (map (actor_line scenario.now) lines.now)) }
+    ensures text { OnOk result (text.new.items ≡ text.old.items ++ flat_map written_text (map (actor_line scenario.now) lines.now)) }
+    ensures fits { OnOk result (IsTrue (list_all (λ line. instr_fits line.instr) lines.now)) }
 {
     for line in lines {
         push_actor_line(alloc, text, scenario, *line)?;
@@ -182,7 +188,8 @@ fn push_actor_line(
     scenario: &Scenario,
     line: Line,
 ) -> Result<(), NoMemory>
-    ensures { OnOk result (text.new.items ≡ text.old.items ++ written_text (actor_line scenario.now line)) }
+    ensures text { OnOk result (text.new.items ≡ text.old.items ++ written_text (actor_line scenario.now line)) }
+    ensures fits { OnOk result (IsTrue (instr_fits line.instr)) }
 {
     push_instr(alloc, text, scenario, line.instr)?;
     push_times(alloc, text, line.times)?;
@@ -196,7 +203,8 @@ fn push_instr(
     scenario: &Scenario,
     instr: Instr,
 ) -> Result<(), NoMemory>
-    ensures { OnOk result (text.new.items ≡ text.old.items ++ join_with_byte 32 (instr_words scenario.now instr)) }
+    ensures text { OnOk result (text.new.items ≡ text.old.items ++ join_with_byte 32 (instr_words scenario.now instr)) }
+    ensures fits { OnOk result (IsTrue (instr_fits instr)) }
 {
     match instr {
         Instr::Queue(work, cpu) => {

@@ -1,10 +1,10 @@
 -- What changes of the state keep of its readiness.
-use Rattle.std.proofs.Common.{◌≡◌, ℕ, suc, zero, ◌+◌, ◌*◌, ◌<◌, ◌≤◌, Bool, List, [], ◌∷◌, length, Option, Some, None, arith, refl, sym, ap, ◌∙◌, subst}
+use Rattle.std.proofs.Common.{ℕ, suc, zero, Bool, List, [], ◌∷◌, Option, None, ◌∙◌}
 use Rattle.std.proofs.Math.ListN.{length-set}
 use Rattle.std.specs.Prelude.{slice_set, slice_index_or}
 use Rattle.cmwq_types.specs.Contents.{ScenarioContents}
-use Rattle.cmwq_table.specs.State.{State, pending_at, running_at, pool_count, seat}
-use Rattle.cmwq_table.specs.Moves.{with_pending, with_running, taking, retire, started_on, begun}
+use Rattle.cmwq_table.specs.State.{State}
+use Rattle.cmwq_table.specs.Moves.{with_pending, with_running, taking}
 use Rattle.cmwq_table.specs.declared.state.Pending.{Pending}
 use Rattle.cmwq_table.specs.declared.state.Running.{Running}
 use Rattle.cmwq_plain.specs.Ready.{IsReady, IsPendingReady, IsRunningReady}
@@ -20,6 +20,7 @@ each-set P (y ∷ ys) (suc i) x each here (suc w) = each-set P ys i x (λ v. eac
 pub IsReady-with_pending : (S : ScenarioContents) (s : State) (w : ℕ) (p : Option Pending) → IsReady S s → IsPendingReady S p → IsReady S (with_pending s w p)
 IsReady-with_pending S s w p ready here = record {
   setting = ready.setting;
+  max_long = ready.max_long;
   pending_long = length-set s.pending w p ∙ ready.pending_long;
   running_long = ready.running_long;
   idle_long = ready.idle_long;
@@ -31,6 +32,7 @@ IsReady-with_pending S s w p ready here = record {
 pub IsReady-with_running : (S : ScenarioContents) (s : State) (w : ℕ) (r : Option Running) → IsReady S s → IsRunningReady S r → IsReady S (with_running s w r)
 IsReady-with_running S s w r ready here = record {
   setting = ready.setting;
+  max_long = ready.max_long;
   pending_long = ready.pending_long;
   running_long = length-set s.running w r ∙ ready.running_long;
   idle_long = ready.idle_long;
@@ -42,6 +44,7 @@ IsReady-with_running S s w r ready here = record {
 pub IsReady-taking : (S : ScenarioContents) (s : State) → IsReady S s → IsReady S (taking s)
 IsReady-taking S s ready = record {
   setting = ready.setting;
+  max_long = ready.max_long;
   pending_long = ready.pending_long;
   running_long = ready.running_long;
   idle_long = ready.idle_long;
@@ -54,6 +57,7 @@ IsReady-taking S s ready = record {
 pub IsReady-with_worker : (S : ScenarioContents) (s : State) (i pool n : ℕ) (stamp : Option ℕ) → IsReady S s → IsReady S (record s { idle = slice_set s.idle i stamp; made = slice_set s.made pool n })
 IsReady-with_worker S s i pool n stamp ready = record {
   setting = ready.setting;
+  max_long = ready.max_long;
   pending_long = ready.pending_long;
   running_long = ready.running_long;
   idle_long = length-set s.idle i stamp ∙ ready.idle_long;
@@ -65,9 +69,34 @@ IsReady-with_worker S s i pool n stamp ready = record {
 pub IsReady-with_idle : (S : ScenarioContents) (s : State) (i : ℕ) (stamp : Option ℕ) → IsReady S s → IsReady S (record s { idle = slice_set s.idle i stamp })
 IsReady-with_idle S s i stamp ready = record {
   setting = ready.setting;
+  max_long = ready.max_long;
   pending_long = ready.pending_long;
   running_long = ready.running_long;
   idle_long = length-set s.idle i stamp ∙ ready.idle_long;
+  made_long = ready.made_long;
+  pending = ready.pending;
+  running = ready.running;
+}
+
+pub IsReady-with_max : (S : ScenarioContents) (s : State) (queue max : ℕ) → IsReady S s → IsReady S (record s { max = slice_set s.max queue max })
+IsReady-with_max S s queue max ready = record {
+  setting = ready.setting;
+  max_long = length-set s.max queue max ∙ ready.max_long;
+  pending_long = ready.pending_long;
+  running_long = ready.running_long;
+  idle_long = ready.idle_long;
+  made_long = ready.made_long;
+  pending = ready.pending;
+  running = ready.running;
+}
+
+pub IsReady-with_frozen : (S : ScenarioContents) (s : State) (frozen : Bool) → IsReady S s → IsReady S (record s { frozen = frozen })
+IsReady-with_frozen S s frozen ready = record {
+  setting = ready.setting;
+  max_long = ready.max_long;
+  pending_long = ready.pending_long;
+  running_long = ready.running_long;
+  idle_long = ready.idle_long;
   made_long = ready.made_long;
   pending = ready.pending;
   running = ready.running;

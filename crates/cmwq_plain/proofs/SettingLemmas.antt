@@ -1,5 +1,5 @@
 -- What a valid scenario gives.
-use Rattle.std.proofs.Common.{◌≡◌, ℕ, zero, suc, ◌+◌, ◌<◌, ◌≤◌, Bool, true, false, cond, ◌&&◌, List, [], ◌∷◌, ◌++◌, length, Option, Some, None, arith, refl, sym, ap, ◌∙◌, subst, ◌⊎◌, inl, inr}
+use Rattle.std.proofs.Common.{◌≡◌, ℕ, zero, suc, ◌<◌, ◌≤◌, Bool, true, false, ◌&&◌, List, [], ◌∷◌, ◌++◌, length, Option, Some, None, arith, refl, sym, subst, inl, inr}
 use Rattle.std.specs.Prelude.{slice_index_or, nat_le, nat_lt}
 use Rattle.std.proofs.lemmas.Bool.{cases_lt, leb-true, ltb-true}
 use Rattle.std.proofs.lemmas.Bool.Decides.{nat_tests}
@@ -8,7 +8,7 @@ use Rattle.std.specs.List.{list_any}
 use Rattle.std.specs.Str.{bytes_eq}
 use Rattle.cmwq_types.specs.Contents.{ScenarioContents, WorkContents}
 use Rattle.cmwq_types.specs.Faults.{IsValid, actor_fault, body_fault, counts_fault, fault_if, fault_unless, first_along, is_body, numbers_fault, op_fault, or_else, queue_fault, within, work_fault}
-use Rattle.cmwq_types.specs.Scenario.{op_at, work_at}
+use Rattle.cmwq_types.specs.Scenario.{work_at}
 use Rattle.cmwq_types.specs.declared.check.Fault.{Fault}
 use Rattle.cmwq_types.specs.declared.check.Fault.TheVariants.{Range, TooMany, Duplicate, Unknown, BadBody}
 use Rattle.cmwq_types.specs.declared.limits.TheConstants.{MAX_ACTORS, MAX_CPUS, MAX_FLUSHES, MAX_OPS, MAX_QUEUES, MAX_STEPS, MAX_WORKERS, MAX_WORKS}
@@ -102,6 +102,7 @@ IsSetting-valid S valid =
       workers = grind (arith, nat_tests);
       steps = grind (arith, nat_tests);
       flushes = grind (arith, nat_tests);
+      queues = grind (arith, nat_tests);
       works = grind (arith, nat_tests);
       ops = λ w. (bodies w).ops;
       ends = λ w. (bodies w).ends;

@@ -1,11 +1,11 @@
 -- The start state of a valid scenario can be gone on from.
-use Rattle.std.proofs.Common.{◌≡◌, ℕ, zero, suc, ◌+◌, ◌*◌, List, [], ◌∷◌, length, replicate, Option, None, arith, refl}
-use Rattle.std.proofs.lemmas.List.{length-replicate}
+use Rattle.std.proofs.Common.{ℕ, zero, suc, ◌*◌, length, replicate, Option, None, arith}
+use Rattle.std.proofs.lemmas.List.{length-map, length-replicate}
 use Rattle.std.specs.Prelude.{slice_index_or}
 use Rattle.cmwq_types.specs.Contents.{ScenarioContents}
 use Rattle.cmwq_types.specs.Faults.{IsValid}
 use Rattle.cmwq_table.specs.State.{pool_count, start}
-use Rattle.cmwq_plain.specs.Ready.{IsKept, IsPendingReady, IsReady, IsRunningReady}
+use Rattle.cmwq_plain.specs.Ready.{IsKept, IsPendingReady, IsRunningReady}
 use Rattle.cmwq_plain.proofs.SettingLemmas.{IsSetting-valid}
 
 each-none : {A : Type 0} (P : Option A → Type 0) → P None → (n w : ℕ) → P (slice_index_or (replicate n None) w None)
@@ -17,6 +17,7 @@ pub IsKept-start : (S : ScenarioContents) → IsValid S → IsKept S (start S)
 IsKept-start S valid = record {
   ready = record {
     setting = IsSetting-valid S valid;
+    max_long = length-map S.queues (λ queue. queue.max);
     pending_long = length-replicate (length S.works) None;
     running_long = length-replicate (length S.works) None;
     idle_long = length-replicate (64 * pool_count S) None;

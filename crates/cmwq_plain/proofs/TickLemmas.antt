@@ -1,5 +1,5 @@
 -- A tick, once the head of each pool is known.
-use Rattle.std.proofs.Common.{◌≡◌, ℕ, zero, suc, ◌+◌, ◌*◌, ◌<◌, ◌≤◌, Bool, true, false, cond, ◌&&◌, ◌||◌, List, [], ◌∷◌, length, Option, Some, None, arith, refl, sym, ap, ◌∙◌, leb}
+use Rattle.std.proofs.Common.{◌≡◌, ℕ, zero, suc, ◌+◌, ◌*◌, ◌<◌, Bool, true, false, cond, ◌&&◌, ◌||◌, List, [], ◌∷◌, length, Option, Some, None, arith, refl, ap, ◌∙◌}
 use Rattle.std.specs.Prelude.{slice_index_or, is_none, nat_le}
 use Rattle.std.proofs.lemmas.Bool.{leb-false}
 use Rattle.cmwq_types.specs.Contents.{ScenarioContents}
@@ -55,6 +55,7 @@ burned-by_heads S s heads are =
 pub tick-ready : (S : ScenarioContents) (s : State) → IsReady S s → IsReady S (tick S s)
 tick-ready S s ready = record {
   setting = ready.setting;
+  max_long = ready.max_long;
   pending_long = ready.pending_long;
   running_long = length-burned (burns S s) 0 s.running ∙ ready.running_long;
   idle_long = ready.idle_long;

@@ -1,8 +1,8 @@
 -- Who burns, once the head of each pool is known.
-use Rattle.std.specs.Prelude.{◌≡◌, ℕ, ◌+◌, ◌*◌, ◌<◌, Bool, false, ◌&&◌, ◌||◌, List, Option, Some, None, if◌then◌else◌, is_none, nat_le, slice_index_or}
+use Rattle.std.specs.Prelude.{◌≡◌, ℕ, ◌+◌, ◌<◌, Bool, false, ◌&&◌, ◌||◌, List, Option, Some, None, if◌then◌else◌, is_none, nat_le, slice_index_or}
 use Rattle.cmwq_types.specs.Contents.{ScenarioContents}
 use Rattle.cmwq_table.specs.Counts.{first_runnable, is_runnable, is_some_work}
-use Rattle.cmwq_table.specs.State.{State, is_high, pool_count}
+use Rattle.cmwq_table.specs.State.{State, is_high}
 use Rattle.cmwq_table.specs.declared.state.Running.{Running}
 
 -- `burns`, with the heads in a list and `unbound` the least unbound pool

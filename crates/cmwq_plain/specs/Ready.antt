@@ -1,7 +1,7 @@
 -- What keeps the plain machine going: what a valid scenario gives, and what each state of it keeps.
-use Rattle.std.specs.Prelude.{◌≡◌, ℕ, ◌+◌, ◌*◌, ◌<◌, ◌≤◌, List, length, Option, Some, None}
+use Rattle.std.specs.Prelude.{◌≡◌, ℕ, ◌*◌, ◌<◌, ◌≤◌, length, Option, Some, None}
 use Rattle.cmwq_types.specs.Contents.{ScenarioContents}
-use Rattle.cmwq_types.specs.Scenario.{op_at, queue_of}
+use Rattle.cmwq_types.specs.Scenario.{op_at}
 use Rattle.cmwq_types.specs.declared.limits.TheConstants.{MAX_FLUSHES}
 use Rattle.cmwq_types.specs.declared.reply.Place.{Place}
 use Rattle.cmwq_types.specs.declared.reply.Place.TheVariants.{Timer, Inactive, Listed, Deferred}
@@ -31,6 +31,7 @@ pub record IsSetting (S : ScenarioContents) : Type 0 where
   pub workers : S.workers ≤ 64
   pub steps : S.steps ≤ 4294967295
   pub flushes : S.flushes ≤ MAX_FLUSHES
+  pub queues : length S.queues ≤ 32
   pub works : length S.works ≤ 256
   pub ops : (w pc : ℕ) → IsOpInRange S (op_at S w pc)
   pub ends : (w pc : ℕ) → IsPcInRange (op_at S w pc) pc
@@ -54,6 +55,7 @@ IsRunningReady S None = Unit {0}
 -- each vector has its length, and each record can be read and gone on from
 pub record IsReady (S : ScenarioContents) (s : State) : Type 0 where
   pub setting : IsSetting S
+  pub max_long : length s.max ≡ length S.queues
   pub pending_long : length s.pending ≡ length S.works
   pub running_long : length s.running ≡ length S.works
   pub idle_long : length s.idle ≡ 64 * pool_count S
@@ -66,12 +68,13 @@ pub record HasSameClock (old new : State) : Type 0 where
   pub now : new.now ≡ old.now
   pub spent : new.spent ≡ old.spent
 
--- what the machine keeps between two instructions: no counter can outgrow the scenario's steps
+-- What the machine keeps between two instructions: no counter can outgrow the scenario's steps. One
+-- instruction fills 32 queues in 34 pools at most, and a fill gives each of 256 works one stamp at most.
 pub record IsKept (S : ScenarioContents) (s : State) : Type 0 where
   pub ready : IsReady S s
   pub spent : s.spent ≤ S.steps
   pub now : s.now ≤ s.spent
-  pub next : s.next ≤ 1024 * s.spent
+  pub next : s.next ≤ 32 * 34 * 256 * s.spent
 
 -- a loaded scenario and the state that it has come to
 pub record Loaded : Type 0 where

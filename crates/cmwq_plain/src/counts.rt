@@ -1,7 +1,7 @@
 //! Limits, counts, and the first of the works and workers that a move asks for.
 ghost use Rattle.cmwq_types.specs.First.{by_greatest, first_with};
 ghost use Rattle.cmwq_plain.specs.Ready.{IsSetting};
-ghost use Rattle.cmwq_table.specs.Counts.{active, counted, first_due, first_inactive, first_listed, first_runnable, first_slept, free_worker, has_room, idle_stamp, if_ready, last_idle, limit, may_start, new_worker, ready_head, runs};
+ghost use Rattle.cmwq_table.specs.Counts.{active, counted, first_due, first_inactive, first_listed, first_runnable, first_slept, free_worker, has_room, idle_stamp, if_ready, is_busy, last_idle, limit, may_start, new_worker, ready_head, runs};
 ghost use Rattle.cmwq_table.specs.State.{idle_at};
 ghost use Rattle.std.specs.Prelude.{◌≡◌, ◌<◌, ◌==◌, IfSome, length, true};
 
@@ -38,6 +38,13 @@ impl Records {
         ensures { result ≡ has_room scenario.now self.now queue pool }
     {
         self.active(scenario, queue, pool) < self.limit(scenario, queue) as usize
+    }
+
+    /// Whether a freezable queue has an active work.
+    pub(crate) fn is_busy(&self, scenario: &Scenario) -> bool
+        ensures { result ≡ is_busy scenario.now self.now }
+    {
+        self.count(scenario, Wanted::Busy) != 0
     }
 
     /// The concurrency level of the pool.

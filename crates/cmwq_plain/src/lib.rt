@@ -5,6 +5,7 @@
 mod beginning;
 mod counts;
 mod flushes;
+mod limits;
 mod lines;
 mod looking;
 mod machine;
@@ -18,5 +19,7 @@ mod wanted;
 
 pub use machine::Plain;
 
+#[cfg(test)]
+mod limit_tests;
 #[cfg(test)]
 mod tests;

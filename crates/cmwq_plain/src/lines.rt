@@ -1,21 +1,27 @@
 //! The lines of the instruction table: refusals, effects and replies.
 ghost use Rattle.cmwq_plain.specs.Ready.{HasSameClock, IsKept, IsReady, IsSetting};
 ghost use Rattle.cmwq_table.specs.State.{pending_at, pool_count};
-ghost use Rattle.cmwq_table.specs.Counts.{first_due, is_done};
+ghost use Rattle.cmwq_table.specs.Counts.{first_due, is_busy, is_done, or_else};
+ghost use Rattle.cmwq_types.specs.Faults.{within};
+ghost use Rattle.cmwq_types.specs.declared.limits.TheConstants.{MAX_MAX_ACTIVE};
+ghost use Rattle.cmwq_types.specs.declared.reply.Refusal.TheVariants.{BadCount, NoSuchQueue};
 ghost use Rattle.cmwq_table.specs.Moves.{fire, first_moving, moved_work, next_move, take_off};
-ghost use Rattle.cmwq_table.specs.Table.{cancelled, cancelled_sync, delayed, effect, fired_first, flushed, flushed_last, found, is_question, modified, next, no_work, no_work_or_cpu, operands, queued, refusal, situation, step_or_tick, stepped, table, target_at, unsettled, yes_or_no};
-ghost use Rattle.std.specs.Prelude.{◌≡◌, ◌<◌, ◌≤◌, ◌+◌, ◌^◌, None, if◌then◌else◌, is_some, length};
+ghost use Rattle.cmwq_table.specs.Table.{cancelled, cancelled_sync, delayed, effect, fired_first, flushed, flushed_last, found, is_question, modified, next, no_work, no_work_or_cpu, operands, queued, refusal, refuse_unless, situation, step_or_tick, stepped, table, target_at, unsettled, yes_or_no};
+ghost use Rattle.std.specs.Prelude.{◌≡◌, ◌<◌, ◌≤◌, ◌+◌, ◌*◌, ◌^◌, None, if◌then◌else◌, is_some, length, nat_lt};
 
 use crate::records::Records;
-use crate::setting::pool_count;
+use crate::setting::{flags_of, pool_count};
 use cmwq_table::FlushTarget;
-use cmwq_types::{Cause, Event, Instr, Move, Refusal, Reply, Scenario, WorkId, WorkRun, WorkState};
+use cmwq_types::{
+    Cause, Event, Instr, MAX_MAX_ACTIVE, Move, QueueId, Refusal, Reply, Scenario, WorkId, WorkRun,
+    WorkState,
+};
 
 /// Whether the instruction is a question, which is never spent and changes nothing.
 fn is_question(instr: Instr) -> bool
     ensures { result ≡ is_question instr }
 {
-    matches!(instr, Instr::Ask(_) | Instr::State(_))
+    matches!(instr, Instr::Ask(_) | Instr::Busy | Instr::State(_))
 }
 
 impl Records {
@@ -69,6 +75,7 @@ impl Records {
             Instr::FlushQueue(q) if q.0 as usize >= scenario.queues.len() => {
                 Some(Refusal::NoSuchQueue)
             }
+            Instr::SetMax(q, max) => no_queue_or_count(scenario, q, max),
             Instr::Step(pool) if pool >= pool_count(scenario) => Some(Refusal::NoSuchPool),
             Instr::Ask(flush) if flush as usize >= self.flush_count() => Some(Refusal::NoSuchFlush),
             _ => None,
@@ -84,6 +91,9 @@ impl Records {
                 if self.flush_count() >= scenario.flushes as usize => {
                 Some(Refusal::TooManyFlushes)
             }
+            Instr::SetMax(q, _) if flags_of(scenario, q.0).ordered => Some(Refusal::Ordered),
+            Instr::Freeze if self.is_frozen() => Some(Refusal::AlreadyFrozen),
+            Instr::Thaw if !self.is_frozen() => Some(Refusal::NotFrozen),
             Instr::Fire if self.first_due(scenario).is_none() => Some(Refusal::NothingToDo),
             Instr::Step(pool) if self.next_move(scenario, pool).is_none() => {
                 Some(Refusal::NothingToDo)
@@ -113,13 +123,13 @@ impl Records {
         requires operands { operands scenario.now self.old instr ≡ None }
         requires situation { situation scenario.now self.old instr ≡ None }
         requires time { self.old.now < 2 ^ 62 }
-        requires stamps { self.old.next + 600 < 2 ^ 63 }
+        requires stamps { self.old.next + 32 * 34 * 256 < 2 ^ 63 }
         ensures state { self.new ≡ (effect scenario.now self.old instr).0 }
         ensures reply { result ≡ (effect scenario.now self.old instr).1 }
         ensures ready { IsReady scenario.now self.new }
         ensures time { self.new.now ≤ self.old.now + (if is_question instr then 0 else 1) }
         ensures spent { self.new.spent ≡ self.old.spent }
-        ensures stamps { self.new.next ≤ self.old.next + (if is_question instr then 0 else 600) }
+        ensures stamps { self.new.next ≤ self.old.next + (if is_question instr then 0 else 32 * 34 * 256) }
     {
         match instr {
             Instr::Queue(w, cpu) => self.queue(scenario, w.0 as usize, cpu),
@@ -133,6 +143,18 @@ impl Records {
                 let bound = self.next_stamp();
                 self.flush(scenario, FlushTarget::Queue { queue, bound })
             }
+            Instr::SetMax(q, max) => {
+                self.set_max_active(scenario, q.0, max as u16);
+                Reply::Done
+            }
+            Instr::Freeze => {
+                self.freeze(scenario);
+                Reply::Done
+            }
+            Instr::Thaw => {
+                self.thaw(scenario);
+                Reply::Done
+            }
             Instr::Fire => self.fire_first(scenario),
             Instr::Step(pool) => self.step(scenario, pool),
             Instr::Tick => {
@@ -141,6 +163,7 @@ impl Records {
             }
             Instr::Next => self.next(scenario),
             Instr::Ask(flush) => self.ask(scenario, flush),
+            Instr::Busy => self.busy(scenario),
             Instr::State(w) => self.found(w.0 as usize),
         }
     }
@@ -319,6 +342,17 @@ impl Records {
         }
     }
 
+    /// Whether a freezable queue has an active work.
+    fn busy(&self, scenario: &Scenario) -> Reply
+        ensures { result ≡ yes_or_no (is_busy scenario.now self.now) }
+    {
+        if self.is_busy(scenario) {
+            Reply::Yes
+        } else {
+            Reply::No
+        }
+    }
+
     /// Where the work is.
     fn found(&self, w: usize) -> Reply
         ensures { result ≡ found self.now w }
@@ -413,6 +447,19 @@ fn no_work_or_cpu(scenario: &Scenario, w: WorkId, cpu: u8) -> Option<Refusal>
     }
     if cpu >= scenario.cpus {
         return Some(Refusal::NoSuchCpu);
+    }
+    None
+}
+
+/// The `max` of a queue is 1 to 512.
+fn no_queue_or_count(scenario: &Scenario, q: QueueId, max: u32) -> Option<Refusal>
+    ensures { result ≡ or_else (refuse_unless (nat_lt q.0 (length scenario.now.queues)) NoSuchQueue) (refuse_unless (within 1 MAX_MAX_ACTIVE max) BadCount) }
+{
+    if q.0 as usize >= scenario.queues.len() {
+        return Some(Refusal::NoSuchQueue);
+    }
+    if max < 1 || u32::from(MAX_MAX_ACTIVE) < max {
+        return Some(Refusal::BadCount);
     }
     None
 }

@@ -132,6 +132,19 @@ impl Records {
         self.made.get(pool as usize).copied().unwrap_or(0)
     }
 
+    pub(crate) fn set_max(&mut self, queue: u8, max: u16)
+        requires { queue < length self.old.max }
+        ensures { self.new ≡ record self.old { max = slice_set self.old.max queue max } }
+    {
+        self.max[queue as usize] = max;
+    }
+
+    pub(crate) fn set_frozen(&mut self, frozen: bool)
+        ensures { self.new ≡ record self.old { frozen = frozen } }
+    {
+        self.frozen = frozen;
+    }
+
     /// Takes the next stamp.
     pub(crate) fn take_stamp(&mut self)
         requires { self.old.next < 2 ^ 63 }

@@ -3,7 +3,7 @@ ghost use Rattle.cmwq_types.specs.First.{count_below, first_below, first_with};
 ghost use Rattle.cmwq_types.specs.Scenario.{flags_at, queue_of};
 ghost use Rattle.cmwq_plain.specs.Ready.{IsSetting};
 ghost use Rattle.cmwq_plain.specs.Wanted.{comes_before, is_wanted};
-ghost use Rattle.cmwq_table.specs.Counts.{due_of, is_active, is_deferred, is_due, is_inactive, is_listed, is_runnable, is_slept, pending_due, pending_stamp, pends, running_stamp, running_until, runs, until_of};
+ghost use Rattle.cmwq_table.specs.Counts.{due_of, is_activated, is_active, is_deferred, is_due, is_inactive, is_listed, is_runnable, is_slept, pending_due, pending_stamp, pends, running_stamp, running_until, runs, until_of};
 ghost use Rattle.std.specs.Prelude.{◌≡◌, ◌<◌, ◌≤◌, ◌==◌, ◌&&◌, ◌||◌, IfSome, length, nat_lt, true};
 
 use crate::records::Records;
@@ -30,6 +30,10 @@ impl Records {
             Wanted::QueuedBefore { queue, bound } => {
                 queue_of(scenario, w) == queue && self.has_instance_before(w, bound)
             }
+            Wanted::Busy => {
+                self.is_freezable(scenario, w)
+                    && (is_activated(self.pending_of(w)) || self.running_of(w).is_some())
+            }
             Wanted::Inactive { queue, pool } => {
                 queue_of(scenario, w) == queue && is_inactive(self.pending_of(w), pool)
             }
@@ -48,6 +52,13 @@ impl Records {
         flags_of(scenario, queue_of(scenario, w)).cpu_intensive
     }
 
+    /// Whether the work's queue is freezable.
+    fn is_freezable(&self, scenario: &Scenario, w: usize) -> bool
+        ensures { result ≡ (flags_at scenario.now (queue_of scenario.now w)).freezable }
+    {
+        flags_of(scenario, queue_of(scenario, w)).freezable
+    }
+
     /// Whether the one work comes before the other, in the order of the scan.
     fn comes_before(&self, wanted: Wanted, v: usize, w: usize) -> bool
         ensures { result ≡ comes_before self.now wanted v w }
@@ -55,6 +66,7 @@ impl Records {
         match wanted {
             Wanted::ActivePending { .. }
             | Wanted::QueuedBefore { .. }
+            | Wanted::Busy
             | Wanted::Inactive { .. }
             | Wanted::Listed { .. } => {
                 stamp_pending(self.pending_of(v)) < stamp_pending(self.pending_of(w))
@@ -127,6 +139,16 @@ fn is_active(pending: Option<Pending>, pool: u8) -> bool
             },
         ) => at == pool,
         _ => false,
+    }
+}
+
+/// Whether the work is listed or deferred, in whatever pool.
+fn is_activated(pending: Option<Pending>) -> bool
+    ensures { result ≡ pends is_activated pending }
+{
+    match pending {
+        Some(p) => matches!(p.place, Place::Listed(_) | Place::Deferred(_)),
+        None => false,
     }
 }
 

@@ -10,7 +10,7 @@ use std::alloc::Global;
 use std::process::Abort;
 use std::test::Fail;
 
-const PLAIN: Flags = Flags {
+pub(crate) const PLAIN: Flags = Flags {
     highpri: false,
     unbound: false,
     cpu_intensive: false,
@@ -26,7 +26,7 @@ fn name(rt: &impl Abort, text: &str) -> Name {
     Name::read(text.as_bytes()).expect(rt, "a name")
 }
 
-fn queue(rt: &impl Abort, text: &str, max: u16, flags: Flags) -> QueueDecl {
+pub(crate) fn queue(rt: &impl Abort, text: &str, max: u16, flags: Flags) -> QueueDecl {
     QueueDecl {
         name: name(rt, text),
         max,
@@ -34,7 +34,7 @@ fn queue(rt: &impl Abort, text: &str, max: u16, flags: Flags) -> QueueDecl {
     }
 }
 
-fn work(
+pub(crate) fn work(
     rt: &impl Abort,
     alloc: Global,
     text: &str,
@@ -49,16 +49,16 @@ fn work(
     })
 }
 
-fn queueing(w: u16, cpu: u8) -> Line {
+pub(crate) fn queueing(w: u16, cpu: u8) -> Line {
     times(Instr::Queue(WorkId(w), cpu), 1)
 }
 
-fn times(instr: Instr, times: u32) -> Line {
+pub(crate) fn times(instr: Instr, times: u32) -> Line {
     Line { instr, times }
 }
 
 /// One CPU, four workers a pool, and the one actor `t`.
-fn scenario(
+pub(crate) fn scenario(
     rt: &impl Abort,
     alloc: Global,
     steps: u32,
@@ -85,7 +85,11 @@ fn scenario(
 }
 
 /// What the scenario's actors print.
-fn printed(rt: &impl Abort, alloc: Global, scenario: &Scenario) -> Result<String, NoMemory> {
+pub(crate) fn printed(
+    rt: &impl Abort,
+    alloc: Global,
+    scenario: &Scenario,
+) -> Result<String, NoMemory> {
     let mut machine = Plain::load(alloc, scenario).expect(rt, "a valid scenario");
     let mut text = String::new(alloc);
     for actor in &scenario.actors {
@@ -300,7 +304,7 @@ fn two(
     scenario(rt, alloc, 1000, &[queue(rt, "q", max, PLAIN)], works, lines)
 }
 
-fn once(instr: Instr) -> Line {
+pub(crate) fn once(instr: Instr) -> Line {
     times(instr, 1)
 }
 

@@ -11,6 +11,8 @@ pub(crate) enum Wanted {
     Counted { pool: u8 },
     /// A work of the queue with an instance that was queued before.
     QueuedBefore { queue: u8, bound: u64 },
+    /// A work of a freezable queue that is listed, deferred or runs.
+    Busy,
     /// An inactive work of the queue in the pool.
     Inactive { queue: u8, pool: u8 },
     /// A work on the pool's worklist.

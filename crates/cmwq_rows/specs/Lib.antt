@@ -1,2 +1,3 @@
 pub mod Declare
+pub mod Premises
 pub mod Rows

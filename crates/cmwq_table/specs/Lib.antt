@@ -1,5 +1,6 @@
 pub mod Counts
 pub mod Events
+pub mod Laws
 pub mod Machine
 pub mod Moves
 pub mod State

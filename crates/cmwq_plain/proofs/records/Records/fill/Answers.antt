@@ -1,5 +1,5 @@
 use Rattle.std.proofs.Common.{◌≡◌, ◌-◌, length, sym, ◌∙◌}
-use Rattle.cmwq_table.specs.Moves.{fill_one, fill_times}
+use Rattle.cmwq_table.specs.Moves.{fill_one}
 use Rattle.cmwq_plain.proofs.FillLemmas.{fill_times-stays}
 use Rattle.cmwq_plain.proofs.records.Records.fill.Goals as goal
 

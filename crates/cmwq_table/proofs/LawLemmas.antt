@@ -1,0 +1,19 @@
+-- How the laws are proved. Nothing but the laws stands on these files.
+pub mod Alike
+pub mod Changes
+pub mod Conclusions
+pub mod Concurrency
+pub mod Counting
+pub mod Effects
+pub mod Fills
+pub mod Instances
+pub mod Levels
+pub mod Limits
+pub mod Makers
+pub mod Moving
+pub mod Order
+pub mod Room
+pub mod Runs
+pub mod Setting
+pub mod Sound
+pub mod Steps

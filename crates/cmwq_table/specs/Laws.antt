@@ -1,0 +1,181 @@
+-- The laws: what one may believe of workqueues without reading the table.
+use Rattle.std.specs.Prelude.{◌≡◌, ◌⊎◌, ℕ, ◌+◌, ◌<◌, ◌≤◌, Bool, true, false, ◌&&◌, List, length, Option, Some, None, is_some, ◌==◌}
+use Rattle.cmwq_types.specs.Contents.{ScenarioContents}
+use Rattle.cmwq_types.specs.Faults.{IsValid}
+use Rattle.cmwq_types.specs.First.{count_below}
+use Rattle.cmwq_types.specs.Scenario.{flags_at, queue_of}
+use Rattle.cmwq_types.specs.declared.instr.Instr.{Instr}
+use Rattle.cmwq_types.specs.declared.instr.QueueId.{QueueId}
+use Rattle.cmwq_types.specs.declared.instr.WorkId.{WorkId}
+use Rattle.cmwq_types.specs.declared.reply.Event.{Event}
+use Rattle.cmwq_types.specs.declared.reply.Event.TheVariants as event
+use Rattle.cmwq_types.specs.declared.reply.Place.{Place}
+use Rattle.cmwq_types.specs.declared.reply.Place.TheVariants.{Timer, Inactive, Listed, Deferred}
+use Rattle.cmwq_types.specs.declared.reply.Reply.{Reply}
+use Rattle.cmwq_types.specs.declared.reply.Reply.TheVariants as reply
+use Rattle.cmwq_table.specs.declared.state.FlushTarget.TheVariants.{Instance, Queue}
+use Rattle.cmwq_table.specs.declared.state.Pending.{Pending}
+use Rattle.cmwq_table.specs.declared.state.Running.{Running}
+use Rattle.cmwq_table.specs.State.{State, pending_at, running_at, idle_at, made_at}
+use Rattle.cmwq_table.specs.Counts.{limit, active, counted, is_inactive, is_listed, is_activated, is_deferred, is_placed, is_done, pends}
+use Rattle.cmwq_table.specs.Table.{table, run, after_all, target_at}
+
+-- Where a law holds.
+
+-- in every state that a valid scenario comes to
+abbrev pub InEveryState : (ScenarioContents → State → Type 0) → Type 0
+InEveryState law = (S : ScenarioContents) → IsValid S → (instrs : List Instr) → law S (run S instrs)
+
+-- at every instruction that comes then
+abbrev pub AtEveryInstruction : (ScenarioContents → State → Instr → Type 0) → Type 0
+AtEveryInstruction law = (S : ScenarioContents) → IsValid S → (instrs : List Instr) (i : Instr) → law S (run S instrs) i
+
+abbrev pub state_after : ScenarioContents → State → Instr → State
+state_after S s i = (table S s i).0
+
+abbrev pub reply_to : ScenarioContents → State → Instr → Reply
+reply_to S s i = (table S s i).1
+
+-- Concurrency level.
+
+abbrev pub is_wake : Event → Bool
+is_wake event.Wakes = true
+is_wake event.Starts = false
+is_wake (event.Burns ticks) = false
+is_wake (event.Sleeps ticks) = false
+is_wake event.Finishes = false
+is_wake event.FinishesAndStarts = false
+is_wake event.Defers = false
+is_wake event.Fires = false
+is_wake (event.Queues other already) = false
+
+-- the reply tells that a sleeper wakes
+abbrev pub tells_wake : Reply → Bool
+tells_wake (reply.Event work event) = is_wake event
+tells_wake reply.Queued = false
+tells_wake reply.Already = false
+tells_wake reply.Changed = false
+tells_wake reply.Cancelled = false
+tells_wake reply.NotPending = false
+tells_wake (reply.Sync was flush) = false
+tells_wake (reply.Flush flush) = false
+tells_wake reply.Done = false
+tells_wake reply.Yes = false
+tells_wake reply.No = false
+tells_wake (reply.Found found) = false
+tells_wake (reply.Refused refusal) = false
+
+-- Where the concurrency level of a pool rises and is then above one, a sleeper has woken.
+unfoldable pub RisesByWakes : ScenarioContents → State → Instr → Type 0
+RisesByWakes S s i =
+    (pool : ℕ) → counted S s pool < counted S (state_after S s i) pool → 1 < counted S (state_after S s i) pool
+    → tells_wake (reply_to S s i) ≡ true
+
+-- the work is listed in the pool
+abbrev pub IsListedIn : State → ℕ → ℕ → Type 0
+IsListedIn s w pool = (p : Pending) × (pending_at s w ≡ Some p) × (is_listed p.place pool ≡ true)
+
+abbrev pub HasNoIdleWorker : ScenarioContents → State → ℕ → Type 0
+HasNoIdleWorker S s pool = (worker : ℕ) → worker < S.workers → idle_at s pool worker ≡ None
+
+-- the pool has a counted runnable worker; or it has no idle worker, and has made all its workers
+abbrev pub CannotStart : ScenarioContents → State → ℕ → Type 0
+CannotStart S s pool = (0 < counted S s pool) ⊎ (HasNoIdleWorker S s pool × (made_at s pool ≡ S.workers))
+
+-- Where time passes, no pool with a listed work could have started it.
+unfoldable pub TimeWaitsForStarts : ScenarioContents → State → Instr → Type 0
+TimeWaitsForStarts S s i = s.now < (state_after S s i).now → (pool w : ℕ) → IsListedIn s w pool → CannotStart S s pool
+
+-- Limit.
+
+-- Where the active count of a queue in a pool rises, it is then at most the limit.
+unfoldable pub RisesWithinLimit : ScenarioContents → State → Instr → Type 0
+RisesWithinLimit S s i =
+    (queue pool : ℕ) → active S s queue pool < active S (state_after S s i) queue pool
+    → active S (state_after S s i) queue pool ≤ limit S (state_after S s i) queue
+
+-- Instances.
+
+-- the work has a pending instance of this birth, in a place that passes
+abbrev pub PendsSince : (Place → Bool) → State → ℕ → ℕ → Type 0
+PendsSince test s w born = (p : Pending) × (pending_at s w ≡ Some p) × (test p.place ≡ true) × (p.born ≡ born)
+
+-- the work has a running instance of this birth
+abbrev pub RunsSince : State → ℕ → ℕ → Type 0
+RunsSince s w born = (r : Running) × (running_at s w ≡ Some r) × (r.born ≡ born)
+
+abbrev pub is_waiting : Place → Bool
+is_waiting (Inactive at) = true
+is_waiting (Timer due cpu) = false
+is_waiting (Listed at) = false
+is_waiting (Deferred at) = false
+
+-- listed, deferred or running
+abbrev pub ActiveSince : State → ℕ → ℕ → Type 0
+ActiveSince s w born = PendsSince is_activated s w born ⊎ RunsSince s w born
+
+abbrev pub InactiveSince : State → ℕ → ℕ → Type 0
+InactiveSince s w born = PendsSince is_waiting s w born
+
+-- inactive, listed, deferred or running
+abbrev pub HasInstance : State → ℕ → ℕ → Type 0
+HasInstance s w born = PendsSince is_placed s w born ⊎ RunsSince s w born
+
+-- Ordered queues.
+
+-- how many instances of the queue's works are active, over all pools
+abbrev pub active_anywhere : ScenarioContents → State → ℕ → ℕ
+active_anywhere S s queue =
+    count_below (λ w. (queue_of S w == queue) && pends is_activated (pending_at s w)) (length S.works)
+    + count_below (λ w. (queue_of S w == queue) && is_some (running_at s w)) (length S.works)
+
+-- An ordered queue has at most one active instance, and that one was queued before every inactive one.
+unfoldable pub GoesInOrder : ScenarioContents → State → Type 0
+GoesInOrder S s =
+    (queue : ℕ) → (flags_at S queue).ordered ≡ true
+    → (active_anywhere S s queue ≤ 1)
+    × ((v w born later : ℕ) → queue_of S v ≡ queue → queue_of S w ≡ queue
+    → ActiveSince s v born → InactiveSince s w later → born < later)
+
+-- No idle room.
+
+-- the work is inactive in the pool
+abbrev pub IsInactiveIn : State → ℕ → ℕ → Type 0
+IsInactiveIn s w pool = (p : Pending) × (pending_at s w ≡ Some p) × (is_inactive p.place pool ≡ true)
+
+-- Where a queue has an inactive instance in a pool, its active count there is at least the limit.
+unfoldable pub LeavesNoRoom : ScenarioContents → State → Type 0
+LeavesNoRoom S s = (pool w : ℕ) → IsInactiveIn s w pool → limit S s (queue_of S w) ≤ active S s (queue_of S w) pool
+
+-- Non-reentrance.
+
+-- the pool in which a pending work is placed, if it is
+abbrev pub placed_in : Place → Option ℕ
+placed_in (Inactive at) = Some at
+placed_in (Listed at) = Some at
+placed_in (Deferred at) = Some at
+placed_in (Timer due cpu) = None
+
+-- A work that is placed and runs does both in one pool; a deferred work runs.
+unfoldable pub IsNotReentrant : ScenarioContents → State → Type 0
+IsNotReentrant S s =
+    (w : ℕ) (p : Pending) → pending_at s w ≡ Some p
+    → ((r : Running) → running_at s w ≡ Some r → is_placed p.place ≡ true → placed_in p.place ≡ Some r.pool)
+    × (is_deferred p.place ≡ true → is_some (running_at s w) ≡ true)
+
+-- Flushes.
+
+-- A flush that is done stays done, whatever comes after.
+unfoldable pub StayDone : ScenarioContents → State → Type 0
+StayDone S s =
+    (flush : ℕ) → flush < length s.flushes → is_done S s (target_at s flush) ≡ true
+    → (later : List Instr) → is_done S (after_all S s later) (target_at (after_all S s later) flush) ≡ true
+
+-- A flush isn't done while an instance that it is on is placed or runs.
+unfoldable pub WaitForInstances : ScenarioContents → State → Type 0
+WaitForInstances S s =
+    ((flush born : ℕ) (work : WorkId) → target_at s flush ≡ Instance work born → HasInstance s work.0 born
+    → is_done S s (target_at s flush) ≡ false)
+    × ((flush bound w born : ℕ) (queue : QueueId) → target_at s flush ≡ Queue queue bound
+    → queue_of S w ≡ queue.0 → born < bound → HasInstance s w born
+    → is_done S s (target_at s flush) ≡ false)

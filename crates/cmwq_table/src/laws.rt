@@ -1,0 +1,60 @@
+//! What a reader believes about workqueues without reading the table.
+//!
+//! Each function's contract is a law, over every valid scenario and every list of instructions. The functions
+//! do nothing: they carry the laws.
+ghost use Rattle.cmwq_table.specs.Laws.{AtEveryInstruction, GoesInOrder, InEveryState, LeavesNoRoom, TimeWaitsForStarts, RisesByWakes, RisesWithinLimit, IsNotReentrant, StayDone, WaitForInstances};
+
+/// A bound worker pool starts no work that counts beside a counted runnable worker: where its concurrency level
+/// rises and is then above one, a sleeping worker has woken.
+#[tactic(auto, using(crate::proofs::LawLemmas::Conclusions::rises_by_wakes))]
+pub fn concurrency_level_rises_by_wakes()
+    ensures { AtEveryInstruction RisesByWakes }
+{}
+
+/// A pool starts the next work as soon as the last runnable one sleeps or ends: where time passes, each pool
+/// with a listed work has a counted runnable worker, or has no idle worker and has made all its workers.
+#[tactic(auto, using(crate::proofs::LawLemmas::Conclusions::time_waits_for_starts))]
+pub fn no_time_passes_while_a_work_can_start()
+    ensures { AtEveryInstruction TimeWaitsForStarts }
+{}
+
+/// `max_active` bounds how many works of a queue are active in a pool: where that count rises, it is then at
+/// most the queue's limit.
+#[tactic(auto, using(crate::proofs::LawLemmas::Conclusions::rises_within_limit))]
+pub fn active_works_rise_within_the_limit()
+    ensures { AtEveryInstruction RisesWithinLimit }
+{}
+
+/// An ordered queue executes at most one work at any time, in the order of queueing: it has at most one active
+/// instance over all pools, and that one was queued before every inactive instance.
+#[tactic(auto, using(crate::proofs::LawLemmas::Conclusions::goes_in_order))]
+pub fn ordered_queues_go_one_by_one_in_order()
+    ensures { InEveryState GoesInOrder }
+{}
+
+/// A work is held back by the limit alone: where a queue has an inactive instance in a pool, its active count
+/// there is at least its limit.
+#[tactic(auto, using(crate::proofs::LawLemmas::Conclusions::leaves_no_room))]
+pub fn inactive_works_leave_no_room()
+    ensures { InEveryState LeavesNoRoom }
+{}
+
+/// A work is executed by at most one worker at any time: where it is placed while it runs, it is placed in the
+/// pool in which it runs, and a deferred work runs.
+#[tactic(auto, using(crate::proofs::LawLemmas::Conclusions::is_not_reentrant))]
+pub fn works_are_not_reentrant()
+    ensures { InEveryState IsNotReentrant }
+{}
+
+/// A flush that is done stays done, whatever is queued after it.
+#[tactic(auto, using(crate::proofs::LawLemmas::Conclusions::stay_done))]
+pub fn done_flushes_stay_done()
+    ensures { InEveryState StayDone }
+{}
+
+/// A flush waits for what it is on: it isn't done while such an instance is inactive, listed or deferred, or
+/// runs.
+#[tactic(auto, using(crate::proofs::LawLemmas::Conclusions::wait_for_instances))]
+pub fn flushes_wait_for_their_instances()
+    ensures { InEveryState WaitForInstances }
+{}
