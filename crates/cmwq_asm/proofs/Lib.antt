@@ -5,7 +5,7 @@ mod HeaderLemmas
 mod LastFields
 pub mod LineLemmas
 mod LineSteps
-mod ListingLemmas
+pub mod ListingLemmas
 mod NameLemmas
 mod NumberLemmas
 mod Refused

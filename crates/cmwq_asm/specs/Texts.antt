@@ -1,7 +1,6 @@
 -- What reading a whole text answers: what the grammar's reading gives, or want of memory.
-use Rattle.std.specs.Prelude.{◌≡◌, ℕ, List, Result, Ok, Err}
+use Rattle.std.specs.Prelude.{◌≡◌, ℕ, Result, Ok, Err}
 use Rattle.cmwq_types.specs.Contents.{ScenarioContents}
-use Rattle.cmwq_grammar.specs.FaultLaw.{IsFault}
 use Rattle.cmwq_grammar.specs.Meaning.{FaultAt, fault_at}
 use Rattle.cmwq_grammar.specs.Stages.{Stage}
 use Rattle.cmwq_asm.specs.Stages.{stage_of}
@@ -29,21 +28,3 @@ Assembles (Err error) said = Fails error said
 abbrev pub GivesStage : Result (Reached × ℕ) AsmError → Result Stage FaultAt → Type 0
 GivesStage (Ok read) said = said ≡ Ok (stage_of read.0)
 GivesStage (Err error) said = Fails error said
-
--- the answer is this scenario, or want of memory
-abbrev pub IsScenario : Result ScenarioContents AsmError → ScenarioContents → Type 0
-IsScenario (Ok scenario) S = scenario ≡ S
-IsScenario (Err (asm.At line why)) S = ⊥
-IsScenario (Err asm.NoMemory) S = Unit {0}
-
--- a fault that the answer tells is the text's first
-abbrev pub ToldFault : List ℕ → Result ScenarioContents AsmError → Type 0
-ToldFault text (Ok scenario) = Unit {0}
-ToldFault text (Err (asm.At line why)) = IsFault text (fault_at line why)
-ToldFault text (Err asm.NoMemory) = Unit {0}
-
--- the answer tells this fault, or want of memory
-abbrev pub IsToldAs : Result ScenarioContents AsmError → FaultAt → Type 0
-IsToldAs (Ok scenario) fault = ⊥
-IsToldAs (Err (asm.At line why)) fault = fault ≡ fault_at line why
-IsToldAs (Err asm.NoMemory) fault = Unit {0}

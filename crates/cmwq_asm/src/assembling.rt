@@ -1,13 +1,14 @@
 //! Assembling: the scenario that a text spells, or its first fault.
-ghost use Rattle.cmwq_asm.specs.Texts.{AsmErrorIs, Assembles, GivesStage, IsScenario, IsToldAs, ToldFault};
+ghost use Rattle.cmwq_asm.specs.Texts.{AsmErrorIs, Assembles, GivesStage};
 ghost use Rattle.cmwq_grammar.specs.Cutting.{lines_of};
 ghost use Rattle.cmwq_grammar.specs.FaultLaw.{IsFault};
 ghost use Rattle.cmwq_grammar.specs.Grammar.{Spells};
-ghost use Rattle.cmwq_grammar.specs.Meaning.{FaultAt, reads, stage_after};
+ghost use Rattle.cmwq_grammar.specs.Meaning.{FaultAt, fault_at, reads, stage_after};
 ghost use Rattle.cmwq_grammar.specs.Stages as stage;
+ghost use Rattle.cmwq_grammar.specs.declared.why.Why.{Why};
 ghost use Rattle.cmwq_types.specs.Contents.{ScenarioContents};
 ghost use Rattle.cmwq_types.specs.Faults.{IsValid};
-ghost use Rattle.std.specs.Prelude.{◌≡◌, ◌≤◌, IfOk, length};
+ghost use Rattle.std.specs.Prelude.{◌≡◌, ◌≤◌, ◌⊎◌, ℕ, IfOk, MatchResult, length};
 
 use crate::cutting::next_line;
 use crate::fault::{AsmError, LineError};
@@ -28,13 +29,14 @@ use std::alloc::Global;
 /// or the end of a text that may not end there. The rules of texts are this project's own.
 pub fn assemble(alloc: Global, text: &[u8]) -> Result<Scenario, AsmError>
     // What is assembled is spelled so.
-    ensures found { IfOk result (λ scenario. Spells text.now scenario) }
+    ensures found { IfOk result (λ s. Spells text.now s) }
     // What is spelled so is assembled, unless memory runs out.
-    ensures only { (S : ScenarioContents) → Spells text.now S → IsScenario result S }
+    ensures only { (S : ScenarioContents) → Spells text.now S → MatchResult result (λ s. s ≡ S) (λ e. e ≡ AsmError.NoMemory) }
     // A fault that is told is the text's first.
-    ensures fault { ToldFault text.now result }
+    ensures told { (line : ℕ) (why : Why) → result ≡ Err (AsmError.At line why) → IsFault text.now (fault_at line why) }
     // The text's first fault is told, unless memory runs out.
-    ensures exact { (fault : FaultAt) → IsFault text.now fault → IsToldAs result fault }
+    ensures fault { (fault : FaultAt) → IsFault text.now fault
+        → MatchResult result (λ s. ⊥) (λ e. (e ≡ AsmError.At fault.line fault.why) ⊎ (e ≡ AsmError.NoMemory)) }
 {
     read_text_spells_its_scenario();
     spelled_text_reads_as_its_scenario();
@@ -42,10 +44,11 @@ pub fn assemble(alloc: Global, text: &[u8]) -> Result<Scenario, AsmError>
     read_text(alloc, text)
 }
 
-/// The scenario as it is assembled from its listing.
+/// The valid scenario as it is assembled from its listing.
 pub fn assemble_again(alloc: Global, scenario: &Scenario) -> Result<Scenario, AsmError>
-    // A valid scenario comes back, unless memory runs out.
-    ensures { IsValid scenario.now → IsScenario result scenario.now }
+    requires { IsValid scenario.now }
+    // It comes back, unless memory runs out.
+    ensures { MatchResult result (λ s. s ≡ scenario.now) (λ e. e ≡ AsmError.NoMemory) }
 {
     let text = list(alloc, scenario)?;
     assemble(alloc, &text)

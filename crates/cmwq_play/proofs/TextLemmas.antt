@@ -10,7 +10,6 @@ use Rattle.cmwq_grammar.specs.Grammar.{Spells}
 use Rattle.cmwq_grammar.specs.Meaning.{FaultAt, fault_at}
 use Rattle.cmwq_asm.specs.declared.fault.AsmError.{AsmError}
 use Rattle.cmwq_asm.specs.declared.fault.AsmError.TheVariants.{At, NoMemory as asm_no_memory}
-use Rattle.cmwq_asm.specs.Texts.{IsToldAs}
 use Rattle.cmwq_play.specs.Texts.{IsOutside, IsSpelled, TellsFault}
 use Rattle.cmwq_grammar.specs.declared.why.Why.{Why}
 use Rattle.cmwq_play.specs.declared.error.PlayError.{PlayError}
@@ -96,10 +95,9 @@ module _ (now : Option (List ℕ)) (text : List ℕ) where
 
 -- the assembler's fault is told as it is
 pub told_as_it_is : (error : AsmError) (line : ℕ) (why : Why) (fault : FaultAt) → error ≡ At line why
-    → IsToldAs (Err error) fault → (Asm (At line why) ≡ Asm (At fault.line fault.why)) ⊎ IsOutside (Asm (At line why))
-told_as_it_is (At n reason) line why fault is told =
-    inl (ap Asm (sym is) ∙ ap (λ (f : FaultAt). Asm (At f.line f.why)) (sym told))
-told_as_it_is asm_no_memory line why fault is told = cc
+    → (error ≡ At fault.line fault.why) ⊎ (error ≡ asm_no_memory) → (Asm (At line why) ≡ Asm (At fault.line fault.why)) ⊎ IsOutside (Asm (At line why))
+told_as_it_is error line why fault is (inl told) = inl (ap Asm (sym is ∙ told))
+told_as_it_is error line why fault is (inr outside) = cc
 
 -- a text that spells a scenario has no fault
 pub never_faulty : (input : Option (List ℕ)) (goal : FaultAt → Type 0) → IfSome input (λ text. (fault : FaultAt) → IsFault text fault → ⊥)

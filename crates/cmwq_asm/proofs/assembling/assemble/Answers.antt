@@ -7,8 +7,8 @@ returns-clause-found c = found_spelled c.args.text.now c.read_text.result c.read
 pub returns-clause-only : goal.returns-clause-only
 returns-clause-only c = only_spelled c.args.text.now c.read_text.result c.read_text.ensures c.spelled_text_reads_as_its_scenario.ensures
 
-pub returns-clause-fault : goal.returns-clause-fault
-returns-clause-fault c = told_fault c.args.text.now c.read_text.result c.read_text.ensures c.reading_fails_at_the_first_fault.ensures
+pub returns-clause-told : goal.returns-clause-told
+returns-clause-told c = told_fault c.args.text.now c.read_text.result c.read_text.ensures c.reading_fails_at_the_first_fault.ensures
 
-pub returns-clause-exact : goal.returns-clause-exact
-returns-clause-exact c = fault_told c.args.text.now c.read_text.result c.read_text.ensures c.reading_fails_at_the_first_fault.ensures
+pub returns-clause-fault : goal.returns-clause-fault
+returns-clause-fault c = fault_told c.args.text.now c.read_text.result c.read_text.ensures c.reading_fails_at_the_first_fault.ensures
