@@ -190,11 +190,15 @@ fn lines_go_out_before_all_are_made(rt: HostRuntime) -> Result<(), Fail> {
 
 #[test]
 fn a_text_may_be_written_in_other_ways(rt: HostRuntime) -> Result<(), Fail> {
-    let text = "# a lesson\r\ncpus 1\r\n\tworkers  1\n\nsteps 8 # few\nflushes 0\nqueue o max 1 ordered unbound\nactor t\nstep 9 * 1";
+    let text =
+        "# a lesson\r\ncpus 1\r\n\tworkers  1\n\nsteps 8 # few\nflushes 0\nqueue o max 1 ordered unbound\nactor t\nstep 9 * 1";
     let mut reader = reading_of(text.as_bytes(), 4096, 0);
     let mut writer = writing_to(rt.alloc(), 4096, 0, Failure::Error);
     assert_eq!(rt; run(rt.alloc(), &mut reader, &mut writer), Ok(()));
-    assert_eq!(rt; writer.inner.taken.as_slice(), "0 refused NoSuchPool\n".as_bytes());
+    assert_eq!(rt;
+        writer.inner.taken.as_slice(),
+        "0 refused NoSuchPool\n".as_bytes()
+    );
     Ok(())
 }
 
@@ -204,7 +208,11 @@ const REFUSED: [(&str, u32, Why); 6] = [
     ("actor t\ntick 1\n", 6, Why::ExtraWord),
     ("actor t\n\nask 65536\n", 7, Why::Fault(Fault::Range)),
     ("actor t\nstate a\n", 6, Why::Fault(Fault::Unknown)),
-    ("queue q max 2 ordered\nactor t\n", 5, Why::Fault(Fault::BadFlags)),
+    (
+        "queue q max 2 ordered\nactor t\n",
+        5,
+        Why::Fault(Fault::BadFlags),
+    ),
     (
         "queue q max 1\nwork a q\nbody a\nburn 1\nactor t\n",
         9,
@@ -265,7 +273,11 @@ fn a_listing_lists_as_itself(rt: HostRuntime) -> Result<(), Fail> {
     for (name, text, _) in EXAMPLES {
         let mut reader = reading_of(text.as_bytes(), 4096, 0);
         let mut writer = writing_to(rt.alloc(), 5, 0, Failure::Error);
-        assert_eq!(rt; list_text(rt.alloc(), &mut reader, &mut writer), Ok(()), "{name}");
+        assert_eq!(rt;
+            list_text(rt.alloc(), &mut reader, &mut writer),
+            Ok(()),
+            "{name}"
+        );
         assert_eq!(rt; writer.inner.taken.as_slice(), text.as_bytes(), "{name}");
     }
     Ok(())
@@ -276,10 +288,18 @@ fn a_text_comes_back_from_its_image(rt: HostRuntime) -> Result<(), Fail> {
     for (name, text, _) in EXAMPLES {
         let mut reader = reading_of(text.as_bytes(), 4096, 0);
         let mut image = writing_to(rt.alloc(), 5, 0, Failure::Error);
-        assert_eq!(rt; to_image(rt.alloc(), &mut reader, &mut image), Ok(()), "{name}");
+        assert_eq!(rt;
+            to_image(rt.alloc(), &mut reader, &mut image),
+            Ok(()),
+            "{name}"
+        );
         let mut reader = reading_of(image.inner.taken.as_slice(), 5, 0);
         let mut writer = writing_to(rt.alloc(), 4096, 0, Failure::Error);
-        assert_eq!(rt; from_image(rt.alloc(), &mut reader, &mut writer), Ok(()), "{name}");
+        assert_eq!(rt;
+            from_image(rt.alloc(), &mut reader, &mut writer),
+            Ok(()),
+            "{name}"
+        );
         assert_eq!(rt; writer.inner.taken.as_slice(), text.as_bytes(), "{name}");
     }
     Ok(())
@@ -292,7 +312,10 @@ fn the_worked_image_is_written(rt: HostRuntime) -> Result<(), Fail> {
             let mut reader = reading_of(text.as_bytes(), 4096, 0);
             let mut image = writing_to(rt.alloc(), 4096, 0, Failure::Error);
             assert_eq!(rt; to_image(rt.alloc(), &mut reader, &mut image), Ok(()));
-            assert_eq!(rt; image.inner.taken.as_slice(), IMAGE_OF_STEPS_RUN_OUT.as_slice());
+            assert_eq!(rt;
+                image.inner.taken.as_slice(),
+                IMAGE_OF_STEPS_RUN_OUT.as_slice()
+            );
             return Ok(());
         }
     }

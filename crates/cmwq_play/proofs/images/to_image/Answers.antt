@@ -24,5 +24,8 @@ pub returns-clause-ok : goal.returns-clause-ok
 returns-clause-ok g c =
     let contents = g.W.Write.contents in
     let same : c.deref.result.now ≡ image c.in_ok-scenario.scenario = grind (arith, common_steps, c.deref.ensures.value, c.in_ok-image.ensures, c.scenario.view_is) in
-    on_ok_weaker c.put_all.result (λ appended. (c.in_ok-scenario.scenario, c.in_ok-scenario.ensures.found,
-    subst (λ (bytes : List ℕ). Appends (contents c.args.writer.now) (contents c.put_all.new.writer) bytes) same appended)) c.put_all.ensures.ok
+    on_ok_weaker c.put_all.result (λ appended. (
+      c.in_ok-scenario.scenario,
+      c.in_ok-scenario.ensures.found,
+      subst (λ (bytes : List ℕ). Appends (contents c.args.writer.now) (contents c.put_all.new.writer) bytes) same appended,
+    )) c.put_all.ensures.ok

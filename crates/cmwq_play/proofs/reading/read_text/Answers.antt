@@ -10,7 +10,7 @@ use Rattle.cmwq_play.specs.declared.error.PlayError.TheVariants.{Asm}
 use Rattle.cmwq_play.proofs.reading.read_text.Goals as goal
 
 pub returns-clause-found : goal.returns-clause-found
-returns-clause-found g c = 
+returns-clause-found g c =
     known_all_spelled (g.R.Read.remaining c.read_whole.new.reader) c.in_ok-text.text.items (λ s. s) (g.R.Read.remaining c.args.reader.now) c.assembled.result
     c.in_ok-text.ensures.front c.in_ok-text.ensures.whole (subst (λ (bytes : List ℕ). IfOk c.assembled.result (λ s. Spells bytes s)) c.deref.ensures.value c.assembled.ensures.found)
 
