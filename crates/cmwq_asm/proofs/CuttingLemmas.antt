@@ -1,6 +1,6 @@
 -- The parts between cuts, by the place of the first cut.
-use Rattle.std.proofs.Common.{◌≡◌, ℕ, suc, ◌+◌, ◌-◌, ◌<◌, Bool, true, false, cond, List, [], ◌∷◌, length, take, drop, Option, None, Some, sym, ap, ◌∙◌, refl, arith, position, nat_lt, ◌==◌}
-use Rattle.std.specs.List.{slice_split, position_or_len, before_first, after_first}
+use Rattle.std.proofs.Common.{◌≡◌, ℕ, suc, ◌+◌, ◌-◌, ◌<◌, Bool, true, false, cond, List, [], ◌∷◌, length, take, drop, None, Some, ap, ◌∙◌, refl, arith, position, nat_lt, ◌==◌}
+use Rattle.std.specs.List.{slice_split, position_or_len, before_first}
 use Rattle.std.proofs.lemmas.Bool.Decides.{nat_tests}
 use Rattle.std.proofs.lemmas.Grind.{common_steps}
 use Rattle.std.proofs.lemmas.List.Splits.{slice_split_none, slice_split_first, length-slice_split}

@@ -5,7 +5,6 @@ use Rattle.std.specs.Result.{is_ok}
 use Rattle.std.specs.Str.{IsUtf8, is_utf8}
 use Rattle.std.proofs.lemmas.Str.{IsUtf8-from_is_utf8, is_utf8-from_IsUtf8}
 use Rattle.cmwq_types.specs.Contents.{ScenarioContents}
-use Rattle.cmwq_grammar.specs.Cutting.{lines_of}
 use Rattle.cmwq_grammar.specs.Fields.{◌>>=◌}
 use Rattle.cmwq_grammar.specs.Meaning.{FaultAt, fault_at, at_line, stage_after, ends_before, reads_lines}
 use Rattle.cmwq_grammar.specs.Reasons.{judge, at_end}
@@ -14,7 +13,6 @@ use Rattle.cmwq_grammar.specs.declared.why.Why.{Why}
 use Rattle.cmwq_asm.specs.Texts.{AsmErrorIs, Fails}
 use Rattle.cmwq_asm.specs.Answers.{Refuses}
 use Rattle.cmwq_asm.specs.declared.fault.AsmError.{AsmError}
-use Rattle.cmwq_asm.specs.declared.fault.AsmError.TheVariants as asm
 use Rattle.cmwq_asm.specs.declared.fault.LineError.{LineError}
 use Rattle.cmwq_asm.specs.declared.fault.LineError.TheVariants as error
 
