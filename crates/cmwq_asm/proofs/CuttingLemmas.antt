@@ -1,6 +1,6 @@
 -- The parts between cuts, by the place of the first cut.
-use Rattle.std.proofs.Common.{◌≡◌, ℕ, suc, ◌+◌, ◌-◌, ◌<◌, Bool, true, false, cond, List, [], ◌∷◌, length, take, drop, Option, None, Some, sym, ap, ◌∙◌, refl, arith, position, nat_lt, ◌==◌}
-use Rattle.std.specs.List.{slice_split, position_or_len, before_first, after_first}
+use Rattle.std.proofs.Common.{◌≡◌, ℕ, suc, ◌+◌, ◌-◌, ◌<◌, Bool, true, false, cond, List, [], ◌∷◌, length, take, drop, None, Some, ap, ◌∙◌, refl, arith, position, nat_lt, ◌==◌}
+use Rattle.std.specs.List.{slice_split, position_or_len}
 use Rattle.std.proofs.lemmas.Bool.Decides.{nat_tests}
 use Rattle.std.proofs.lemmas.Grind.{common_steps}
 use Rattle.std.proofs.lemmas.List.Splits.{slice_split_none, slice_split_first, length-slice_split}
@@ -28,16 +28,6 @@ module _ (p : ℕ → Bool) where
       let below : nat_lt (position_or_len p xs) (length xs) ≡ true = at.0 in
       slice_split_first p xs 0 (grind (arith, nat_tests))
       ∙ ap (λ (n : ℕ). take n xs ∷ slice_split p (drop (n + 1) xs)) at.1
-
-  pub before_first-position_some : (xs : List ℕ) (i : ℕ) → position p xs ≡ Some i → before_first p xs ≡ take i xs
-  before_first-position_some xs i some = ap (λ (n : ℕ). take n xs) (chosen _ _ _ some).1
-
-  pub position_some-below : (xs : List ℕ) (i : ℕ) → position p xs ≡ Some i → i < length xs
-  position_some-below xs i some =
-      let at = chosen _ _ _ some in
-      let below : nat_lt (position_or_len p xs) (length xs) ≡ true = at.0 in
-      let same : position_or_len p xs ≡ i = at.1 in
-      grind (arith, nat_tests)
 
 -- a piece before other pieces is a line
 without_empty_last-more : (piece : List ℕ) (pieces : List (List ℕ)) → 0 < length pieces → without_empty_last (piece ∷ pieces) ≡ piece ∷ without_empty_last pieces

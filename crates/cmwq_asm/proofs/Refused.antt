@@ -12,23 +12,10 @@ module _ {A B : Type 0} (view : A → B) where
   refused (Ok found) said reason told why = absurd told
   refused (Err e) said reason told why = subst (λ given. Gives view (Err given) said) (sym told) why
 
-  pub wanting : (answer : Result A LineError) (said : Result B Why) → IsErrAnd answer (λ e. e ≡ error.NoMemory) → Gives view answer said
-  wanting (Ok found) said told = absurd told
-  wanting (Err e) said told = subst (λ given. Gives view (Err given) said) (sym told) tt
-
   pub not_there : (answer : Result A Why) (said : Result B Why) (reason : Why) → IsErrAnd answer (λ e. e ≡ reason) → said ≡ Err reason → Tells view answer said
   not_there (Ok found) said reason told why = absurd told
   not_there (Err e) said reason told why = subst (λ given. Tells view (Err given) said) (sym told) why
 
-  pub same_tells : (answer : Result A Why) (said other : Result B Why) → said ≡ other → Tells view answer other → Tells view answer said
-  same_tells answer said other same tells = subst (λ says. Tells view answer says) (sym same) tells
-
-  pub same_gives : (answer : Result A LineError) (said other : Result B Why) → said ≡ other → Gives view answer other → Gives view answer said
-  same_gives answer said other same gives = subst (λ says. Gives view answer says) (sym same) gives
-
 -- a step that went well, and what follows it
 pub then_ok : {A B E : Type 0} (r : Result A E) (next : A → Result B E) (found : A) → r ≡ Ok found → (r >>= next) ≡ next found
 then_ok {A = A} {B = B} {E = E} r next found e = ap (λ (given : Result A E). given >>= next) e
-
-pub then_err : {A B E : Type 0} (r : Result A E) (next : A → Result B E) (reason : E) → r ≡ Err reason → (r >>= next) ≡ Err reason
-then_err {A = A} {B = B} {E = E} r next reason e = ap (λ (given : Result A E). given >>= next) e

@@ -1,20 +1,17 @@
 -- Reading a text line by line.
-use Rattle.std.proofs.Common.{◌≡◌, ℕ, ◌+◌, List, [], ◌∷◌, length, ap, ◌∙◌, refl, sym, subst}
+use Rattle.std.proofs.Common.{◌≡◌, ℕ, ◌+◌, List, [], ◌∷◌, ap, ◌∙◌, refl, sym, subst}
 use Rattle.std.specs.Prelude.{Result, Ok, Err, MatchResult, Bool, true, false}
 use Rattle.std.specs.Result.{is_ok}
 use Rattle.std.specs.Str.{IsUtf8, is_utf8}
 use Rattle.std.proofs.lemmas.Str.{IsUtf8-from_is_utf8, is_utf8-from_IsUtf8}
-use Rattle.cmwq_types.specs.Contents.{ScenarioContents}
-use Rattle.cmwq_grammar.specs.Cutting.{lines_of}
 use Rattle.cmwq_grammar.specs.Fields.{◌>>=◌}
-use Rattle.cmwq_grammar.specs.Meaning.{FaultAt, fault_at, at_line, stage_after, ends_before, reads_lines}
-use Rattle.cmwq_grammar.specs.Reasons.{judge, at_end}
-use Rattle.cmwq_grammar.specs.Stages.{Stage, Start}
+use Rattle.cmwq_grammar.specs.Meaning.{FaultAt, fault_at, at_line, stage_after}
+use Rattle.cmwq_grammar.specs.Reasons.{judge}
+use Rattle.cmwq_grammar.specs.Stages.{Stage}
 use Rattle.cmwq_grammar.specs.declared.why.Why.{Why}
 use Rattle.cmwq_asm.specs.Texts.{AsmErrorIs, Fails}
 use Rattle.cmwq_asm.specs.Answers.{Refuses}
 use Rattle.cmwq_asm.specs.declared.fault.AsmError.{AsmError}
-use Rattle.cmwq_asm.specs.declared.fault.AsmError.TheVariants as asm
 use Rattle.cmwq_asm.specs.declared.fault.LineError.{LineError}
 use Rattle.cmwq_asm.specs.declared.fault.LineError.TheVariants as error
 
@@ -36,18 +33,6 @@ fault_in_line n lines line more stage reason cut judged =
 pub last_stage : (n : ℕ) (lines : List (List ℕ)) (stage : Stage) → lines ≡ [] → stage_after n lines stage ≡ Ok stage
 unfolding stage_after
 last_stage n lines stage none = ap (λ (all : List (List ℕ)). stage_after n all stage) none
-
--- what reading gives, by the stage after all lines
-pub reads-from_stage : (lines : List (List ℕ)) (stage : Stage) (n : ℕ) (said : Result ScenarioContents Why) → stage_after 1 lines Start ≡ Ok stage → n ≡ length lines → at_end stage ≡ said → reads_lines lines ≡ at_line (n + 1) said
-unfolding reads_lines
-reads-from_stage lines stage n said reached count ended =
-    ap (λ (given : Result Stage FaultAt). given >>= ends_before (length lines + 1)) reached
-    ∙ ap (λ (k : ℕ). at_line (k + 1) (at_end stage)) (sym count)
-    ∙ ap (at_line (n + 1)) ended
-
-pub reads-from_fault : (lines : List (List ℕ)) (fault : FaultAt) → stage_after 1 lines Start ≡ Err fault → reads_lines lines ≡ Err fault
-unfolding reads_lines
-reads-from_fault lines fault failed = ap (λ (given : Result Stage FaultAt). given >>= ends_before (length lines + 1)) failed
 
 -- a line's error, told with the line
 pub told_fails : {A B : Type 0} (answer : AsmError) (line : ℕ) (e : LineError) (said : Result A Why) (text : Result B FaultAt) → AsmErrorIs answer line e → Refuses e said → ((reason : Why) → said ≡ Err reason → text ≡ Err (fault_at line reason)) → Fails answer text

@@ -1,5 +1,5 @@
 -- The words of a line, as they come from its pieces.
-use Rattle.std.proofs.Common.{◌≡◌, ℕ, ◌+◌, ◌≤◌, not, List, [], ◌++◌, length, Option, None, Some}
+use Rattle.std.proofs.Common.{ℕ, ◌+◌, ◌≤◌, not, List, [], length, Option, None, Some}
 use Rattle.std.specs.List.{filter, slice_split}
 use Rattle.cmwq_grammar.specs.Cutting.{is_blank, is_empty}
 

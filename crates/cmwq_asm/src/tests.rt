@@ -22,13 +22,13 @@ fn first_fault(alloc: Global, text: &[u8]) -> Result<Option<(u32, Why)>, NoMemor
 
 /// The bytes before the end of this many lines.
 fn cut_after(text: &[u8], lines: usize) -> &[u8] {
-    let mut count = 0;
+    let mut left = lines;
     for (place, byte) in text.iter().enumerate() {
-        if count == lines {
+        if left == 0 {
             return &text[..place];
         }
         if *byte == b'\n' {
-            count += 1;
+            left -= 1;
         }
     }
     text

@@ -1,4 +1,4 @@
-use Rattle.std.proofs.Common.{◌∙◌, ◌+◌, sym, arith, rules}
+use Rattle.std.proofs.Common.{◌∙◌, ◌+◌, sym, arith}
 use Rattle.std.proofs.lemmas.Grind.{common_steps}
 use Rattle.cmwq_grammar.specs.Cutting.{lines_of}
 use Rattle.cmwq_asm.proofs.CuttingLemmas.{lines_of-some, lines_of-none, rest_is}

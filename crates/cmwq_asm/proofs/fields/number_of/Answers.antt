@@ -1,5 +1,5 @@
 use Rattle.std.proofs.Common.{◌≡◌, true, true≢false, sym, ◌∙◌, ap, is_some, is_ok, subst}
-use Rattle.std.specs.Str.Parse.{digits_value, ParsesUnsigned}
+use Rattle.std.specs.Str.Parse.{ParsesUnsigned}
 use Rattle.cmwq_grammar.specs.Fields.{is_number}
 use Rattle.cmwq_asm.proofs.NumberLemmas.{IsUtf8-number, accepted, accepted_is, parse-number}
 use Rattle.cmwq_asm.proofs.fields.number_of.Goals as goal

@@ -1,5 +1,4 @@
 use Rattle.std.proofs.Common.{ℕ, ◌∙◌, ap, sym, Ok}
-use Rattle.cmwq_types.specs.declared.limits.TheConstants.{MAX_FLUSHES}
 use Rattle.cmwq_grammar.specs.Reasons.{step}
 use Rattle.cmwq_grammar.specs.Stages as stage
 use Rattle.cmwq_grammar.specs.Stages.{head_of}

@@ -1,4 +1,3 @@
-use Rattle.cmwq_types.specs.declared.limits.TheConstants.{MAX_WORKERS}
 use Rattle.cmwq_grammar.specs.Reasons.{step}
 use Rattle.cmwq_grammar.specs.Stages as stage
 use Rattle.cmwq_asm.specs.Stages.{stage_of}

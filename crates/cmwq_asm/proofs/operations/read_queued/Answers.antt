@@ -1,4 +1,4 @@
-use Rattle.std.proofs.Common.{ℕ, ◌∙◌, ap, sym, nat_lt}
+use Rattle.std.proofs.Common.{◌∙◌, ap, sym}
 use Rattle.cmwq_types.specs.declared.scenario.Op.TheVariants as op
 use Rattle.cmwq_grammar.specs.Fields.{declared_at, number_below}
 use Rattle.cmwq_grammar.specs.Instructions.{work_id, work_names}

@@ -1,5 +1,5 @@
-use Rattle.std.proofs.Common.{ℕ, ◌∙◌, ap, sym}
-use Rattle.cmwq_grammar.specs.Fields.{declared_at, new_name_at, made_last}
+use Rattle.std.proofs.Common.{◌∙◌, ap, sym}
+use Rattle.cmwq_grammar.specs.Fields.{declared_at, new_name_at}
 use Rattle.cmwq_grammar.specs.Instructions.{work_names, queue_names}
 use Rattle.cmwq_grammar.specs.Reasons.{work_at_line, work_of, then_queue}
 use Rattle.cmwq_asm.specs.Declarations.{work_of as told_work}

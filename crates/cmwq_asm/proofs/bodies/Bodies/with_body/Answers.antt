@@ -1,4 +1,4 @@
-use Rattle.std.proofs.Common.{sym, ap, ◌∙◌, refl, length, arith, rules}
+use Rattle.std.proofs.Common.{ap, length, arith, rules}
 use Rattle.cmwq_asm.proofs.BodyLemmas.{names_more}
 use Rattle.cmwq_asm.proofs.bodies.Bodies.with_body.Goals as goal
 

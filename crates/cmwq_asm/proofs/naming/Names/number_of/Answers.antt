@@ -1,4 +1,4 @@
-use Rattle.std.proofs.Common.{◌∙◌, sym, ap, position}
+use Rattle.std.proofs.Common.{◌∙◌, ap, position}
 use Rattle.std.specs.Str.{bytes_eq}
 use Rattle.cmwq_asm.proofs.NameLemmas.{position-keys}
 use Rattle.cmwq_asm.proofs.naming.Names.number_of.Goals as goal
