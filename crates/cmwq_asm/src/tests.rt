@@ -154,6 +154,38 @@ fn a_line_that_spoils_the_scenario_is_told(rt: HostRuntime) -> Result<(), Fail> 
     Ok(())
 }
 
+const TOO_MANY: [Faulty; 2] = [
+    // The 17th actor.
+    (
+        b"cpus 1\nworkers 1\nsteps 8\nflushes 0\nactor a\nactor b\nactor c\nactor d\nactor e\nactor f\nactor g\nactor h\nactor i\nactor j\nactor k\nactor l\nactor m\nactor n\nactor o\nactor p\nactor q\n",
+        21,
+        Why::Fault(Fault::TooMany),
+    ),
+    // The 64th operation, which isn't `finish`.
+    (
+        b"cpus 1\nworkers 1\nsteps 8\nflushes 0\nqueue q max 1\nwork a q\nbody a\n\
+        burn 1\nburn 1\nburn 1\nburn 1\nburn 1\nburn 1\nburn 1\nburn 1\n\
+        burn 1\nburn 1\nburn 1\nburn 1\nburn 1\nburn 1\nburn 1\nburn 1\n\
+        burn 1\nburn 1\nburn 1\nburn 1\nburn 1\nburn 1\nburn 1\nburn 1\n\
+        burn 1\nburn 1\nburn 1\nburn 1\nburn 1\nburn 1\nburn 1\nburn 1\n\
+        burn 1\nburn 1\nburn 1\nburn 1\nburn 1\nburn 1\nburn 1\nburn 1\n\
+        burn 1\nburn 1\nburn 1\nburn 1\nburn 1\nburn 1\nburn 1\nburn 1\n\
+        burn 1\nburn 1\nburn 1\nburn 1\nburn 1\nburn 1\nburn 1\nburn 1\n\
+        burn 1\nburn 1\nburn 1\nburn 1\nburn 1\nburn 1\nburn 1\nburn 1\n\
+        ",
+        71,
+        Why::Fault(Fault::TooMany),
+    ),
+];
+
+#[test]
+fn one_part_over_its_limit_is_too_many(rt: HostRuntime) -> Result<(), Fail> {
+    for (text, line, why) in TOO_MANY {
+        assert_eq!(rt; first_fault(rt.alloc(), text)?, Some((line, why)));
+    }
+    Ok(())
+}
+
 const CUTS: [Option<(u32, Why)>; 14] = [
     Some((1, Why::MissingWord)),
     Some((2, Why::MissingWord)),
