@@ -11,6 +11,8 @@ mod fault;
 mod fields;
 mod header;
 mod instructions;
+#[cfg(test)]
+mod limit_tests;
 mod lines;
 mod listing;
 mod misplaced;

@@ -1,18 +1,18 @@
 //! Texts and their faults, worked out by hand from the rules of texts, never from a run.
 use crate::{AsmError, Why, assemble, list};
-use cmwq_types::{Fault, MAX_TEXT, NoMemory};
+use cmwq_types::{Fault, NoMemory};
 use std::alloc::Global;
 use std::test::Fail;
 
 /// A text, the line of its first fault, and why.
-type Faulty = (&'static [u8], u32, Why);
+pub(crate) type Faulty = (&'static [u8], u32, Why);
 
 /// The listing of a scenario whose one work queues itself.
 const LISTING: &[u8] =
     b"cpus 1\nworkers 4\nsteps 8\nflushes 2\nqueue q max 1\nwork a q\nbody a\nqueue a 0\nfinish\nactor t\nqueue a 0\nnext * 8\nstate a\n";
 
 /// The first fault of the text, if it has one.
-fn first_fault(alloc: Global, text: &[u8]) -> Result<Option<(u32, Why)>, NoMemory> {
+pub(crate) fn first_fault(alloc: Global, text: &[u8]) -> Result<Option<(u32, Why)>, NoMemory> {
     match assemble(alloc, text) {
         Ok(_) => Ok(None),
         Err(AsmError::At { line, why }) => Ok(Some((line, why))),
@@ -222,10 +222,12 @@ fn a_listing_is_assembled_and_listed_again(rt: HostRuntime) -> Result<(), Fail> 
     Ok(())
 }
 
-const FREE: &[u8] = b"# a head\r\n\tcpus\t1\r\nworkers 1 # one\r\n\r\nsteps   8 \r\nflushes 0#";
+const FREE: &[u8] = b"# a head\r\n\tcpus\t1\r\nworkers 1 # one\r\n\r\nsteps   8 \r\nflushes 0#\n\
+    queue q max 1 ordered freezable cpu_intensive unbound highpri\nactor t\ntick * 1";
 
 /// The same as it is listed.
-const PLAIN: &[u8] = b"cpus 1\nworkers 1\nsteps 8\nflushes 0\n";
+const PLAIN: &[u8] = b"cpus 1\nworkers 1\nsteps 8\nflushes 0\n\
+    queue q max 1 highpri unbound cpu_intensive freezable ordered\nactor t\ntick\n";
 
 #[test]
 fn blanks_and_comments_are_free(rt: HostRuntime) -> Result<(), Fail> {
@@ -237,11 +239,22 @@ fn blanks_and_comments_are_free(rt: HostRuntime) -> Result<(), Fail> {
 
 #[test]
 fn a_text_can_be_too_long(rt: HostRuntime) -> Result<(), Fail> {
-    let comment = vec![in rt.alloc(); b'#'; MAX_TEXT + 1]?;
+    let comment = vec![in rt.alloc(); b'#'; 4_194_305]?;
     assert_eq!(rt; first_fault(rt.alloc(), &comment)?, Some((0, Why::TooLong)));
     assert_eq!(rt;
         first_fault(rt.alloc(), &comment[1..])?,
         Some((2, Why::MissingWord))
+    );
+    Ok(())
+}
+
+#[test]
+fn a_text_is_too_long_whatever_is_in_it(rt: HostRuntime) -> Result<(), Fail> {
+    let bytes = vec![in rt.alloc(); 0xff; 4_194_305]?;
+    assert_eq!(rt; first_fault(rt.alloc(), &bytes)?, Some((0, Why::TooLong)));
+    assert_eq!(rt;
+        first_fault(rt.alloc(), &bytes[1..])?,
+        Some((1, Why::BadUtf8))
     );
     Ok(())
 }

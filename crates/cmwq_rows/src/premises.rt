@@ -7,11 +7,23 @@ ghost use Rattle.cmwq_rows.specs.Rows.{queues_itself};
 ghost use Rattle.cmwq_table.specs.Counts.{active, counted, is_done, limit};
 ghost use Rattle.cmwq_table.specs.Laws.{active_anywhere, reply_to, state_after, tells_wake};
 ghost use Rattle.cmwq_table.specs.State.{idle_at, made_at, pending_at, running_at};
-ghost use Rattle.cmwq_table.specs.Table.{place_of, target_at};
+ghost use Rattle.cmwq_table.specs.Table.{is_question, place_of, target_at};
 ghost use Rattle.cmwq_types.specs.Faults.{IsValid};
 ghost use Rattle.std.specs.Prelude.{◌≡◌, [], None, Some, false, is_some, length, true};
 
-use cmwq_types::{Instr, Place};
+use cmwq_table::FlushTarget;
+use cmwq_types::{Instr, Place, Refusal, Reply};
+
+/// An instruction is refused: a timer is to fire where none is due.
+pub fn instruction_is_refused()
+    ensures { reply_to one_flushed (after_lines one_flushed []) Instr.Fire ≡ Reply.Refused Refusal.NothingToDo }
+{}
+
+/// A question is answered.
+pub fn question_is_answered()
+    ensures question { is_question Instr.Busy ≡ true }
+    ensures answer { reply_to one_flushed (after_lines one_flushed []) Instr.Busy ≡ Reply.No }
+{}
 
 /// The concurrency level of a pool rises from one to two, as a sleeping work wakes beside a burning one.
 pub fn level_rises_above_one()
@@ -65,6 +77,8 @@ pub fn running_work_is_placed()
 /// A flush on a work and one on its queue aren't done while the work is listed.
 pub fn flushes_are_given()
     ensures two { length (after_lines one_flushed flushes_given).flushes ≡ 2 }
+    ensures on_work { target_at (after_lines one_flushed flushes_given) 0 ≡ FlushTarget.Instance (record { 0 = 0 }) 0 }
+    ensures on_queue { target_at (after_lines one_flushed flushes_given) 1 ≡ FlushTarget.Queue (record { 0 = 0 }) 1 }
     ensures of_work { is_done one_flushed (after_lines one_flushed flushes_given) (target_at (after_lines one_flushed flushes_given) 0) ≡ false }
     ensures of_queue { is_done one_flushed (after_lines one_flushed flushes_given) (target_at (after_lines one_flushed flushes_given) 1) ≡ false }
 {}

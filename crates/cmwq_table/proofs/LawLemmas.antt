@@ -12,6 +12,7 @@ pub mod Limits
 pub mod Makers
 pub mod Moving
 pub mod Order
+pub mod Refusals
 pub mod Room
 pub mod Runs
 pub mod Setting

@@ -11,6 +11,7 @@ use Rattle.cmwq_types.specs.declared.reply.Event.{Event}
 use Rattle.cmwq_types.specs.declared.reply.Event.TheVariants as event
 use Rattle.cmwq_types.specs.declared.reply.Place.{Place}
 use Rattle.cmwq_types.specs.declared.reply.Place.TheVariants.{Timer, Inactive, Listed, Deferred}
+use Rattle.cmwq_types.specs.declared.reply.Refusal.{Refusal}
 use Rattle.cmwq_types.specs.declared.reply.Reply.{Reply}
 use Rattle.cmwq_types.specs.declared.reply.Reply.TheVariants as reply
 use Rattle.cmwq_table.specs.declared.state.FlushTarget.TheVariants.{Instance, Queue}
@@ -18,7 +19,7 @@ use Rattle.cmwq_table.specs.declared.state.Pending.{Pending}
 use Rattle.cmwq_table.specs.declared.state.Running.{Running}
 use Rattle.cmwq_table.specs.State.{State, pending_at, running_at, idle_at, made_at}
 use Rattle.cmwq_table.specs.Counts.{limit, active, counted, is_inactive, is_listed, is_activated, is_deferred, is_placed, is_done, pends}
-use Rattle.cmwq_table.specs.Table.{table, run, after_all, target_at}
+use Rattle.cmwq_table.specs.Table.{table, run, after_all, is_question, target_at}
 
 -- Where a law holds.
 
@@ -35,6 +36,16 @@ state_after S s i = (table S s i).0
 
 abbrev pub reply_to : ScenarioContents → State → Instr → Reply
 reply_to S s i = (table S s i).1
+
+-- Refusals and questions.
+
+-- An instruction that is refused leaves the state as it was.
+unfoldable pub ChangesNothingRefused : ScenarioContents → State → Instr → Type 0
+ChangesNothingRefused S s i = (why : Refusal) → reply_to S s i ≡ reply.Refused why → state_after S s i ≡ s
+
+-- A question leaves the state as it was, whatever the answer.
+unfoldable pub ChangesNothingAsked : ScenarioContents → State → Instr → Type 0
+ChangesNothingAsked S s i = is_question i ≡ true → state_after S s i ≡ s
 
 -- Concurrency level.
 

@@ -2,10 +2,24 @@
 //!
 //! Each function's contract is a law, over every valid scenario and every list of instructions. The functions
 //! do nothing: they carry the laws.
-ghost use Rattle.cmwq_table.specs.Laws.{AtEveryInstruction, GoesInOrder, InEveryState, LeavesNoRoom, TimeWaitsForStarts, RisesByWakes, RisesWithinLimit, IsNotReentrant, StayDone, WaitForInstances};
+ghost use Rattle.cmwq_table.specs.Laws.{AtEveryInstruction, ChangesNothingAsked, ChangesNothingRefused, GoesInOrder, InEveryState, LeavesNoRoom, TimeWaitsForStarts, RisesByWakes, RisesWithinLimit, IsNotReentrant, StayDone, WaitForInstances};
 
-/// A bound worker pool starts no work that counts beside a counted runnable worker: where its concurrency level
-/// rises and is then above one, a sleeping worker has woken.
+/// An instruction that is refused changes nothing: neither a work, a worker or a flush, nor the time, the stamps
+/// or what was spent. That is this project's own rule.
+#[tactic(auto, using(crate::proofs::LawLemmas::Refusals::changes_nothing_refused))]
+pub fn refused_instructions_change_nothing()
+    ensures { AtEveryInstruction ChangesNothingRefused }
+{}
+
+/// A question changes nothing, whatever it is answered. That is this project's own rule.
+#[tactic(auto, using(crate::proofs::LawLemmas::Refusals::changes_nothing_asked))]
+pub fn questions_change_nothing()
+    ensures { AtEveryInstruction ChangesNothingAsked }
+{}
+
+/// A bound worker pool takes no counted work off its worklist beside a counted runnable worker: where its
+/// concurrency level rises and is then above one, a sleeping worker has woken. (A deferred work that starts takes
+/// the place of the one that finished, so the level doesn't rise by it.)
 #[tactic(auto, using(crate::proofs::LawLemmas::Conclusions::rises_by_wakes))]
 pub fn concurrency_level_rises_by_wakes()
     ensures { AtEveryInstruction RisesByWakes }
@@ -32,8 +46,8 @@ pub fn ordered_queues_go_one_by_one_in_order()
     ensures { InEveryState GoesInOrder }
 {}
 
-/// A work is held back by the limit alone: where a queue has an inactive instance in a pool, its active count
-/// there is at least its limit.
+/// Nothing but the limit of its queue keeps a work inactive: where a queue has an inactive instance in a pool,
+/// its active count there is at least its limit.
 #[tactic(auto, using(crate::proofs::LawLemmas::Conclusions::leaves_no_room))]
 pub fn inactive_works_leave_no_room()
     ensures { InEveryState LeavesNoRoom }
