@@ -109,7 +109,7 @@ mod tests {
 
     #[test]
     fn each_fault_has_its_status_and_line(rt: HostRuntime) -> Result<(), Fail> {
-        let rows: [(PlayError, u8, &[u8]); 11] = [
+        let rows: [(PlayError, u8, &[u8]); 14] = [
             (
                 at(6, Why::Fault(Fault::Duplicate)),
                 1,
@@ -131,6 +131,13 @@ mod tests {
                 1,
                 b"image: Truncated\n",
             ),
+            (PlayError::Image(ImageError::Magic), 1, b"image: Magic\n"),
+            (
+                PlayError::Image(ImageError::Version),
+                1,
+                b"image: Version\n",
+            ),
+            (PlayError::Image(ImageError::Extra), 1, b"image: Extra\n"),
             (PlayError::Actors, 1, b"actors\n"),
             (PlayError::Read, 3, b"read\n"),
             (PlayError::Write, 3, b"write\n"),

@@ -5,10 +5,13 @@ ghost use Rattle.std.specs.Prelude.{◌≡◌, IfOk, false};
 
 mod fault;
 mod request;
+#[cfg(test)]
+mod tests;
 
 use cmwq_play::{Marked, PlayError};
 use request::Request;
 use std::fs::File;
+use std::io::Write;
 use std::process::ExitCode;
 use std::rt::{Env, Files};
 use std::{env, io};
@@ -40,37 +43,46 @@ where
     };
     match request::parse(rt.alloc(), words.as_slice()) {
         Ok(request) => {
-            answer(rt, request)?;
+            answer(rt, io::writer(rt), request)?;
             Ok(request::GOOD)
         }
         Err(error) => request::tell(rt, &error),
     }
 }
 
-/// Does what is asked.
-fn answer<R>(rt: &R, request: Request<'_>) -> Result<(), PlayError>
-where
-    R: Files + Print + AllocGlobal,
-{
+/// Does what is asked. Events and listings go to the writer.
+fn answer<R: Files + AllocGlobal, W: Write + Drop>(
+    rt: &R,
+    writer: W,
+    request: Request<'_>,
+) -> Result<(), PlayError> {
     match request {
-        Request::Run { file } => run(rt, file),
-        Request::List { file } => list(rt, file),
+        Request::Run { file } => run(rt, writer, file),
+        Request::List { file } => list(rt, writer, file),
         Request::Asm { file, out } => asm(rt, file, out),
-        Request::Show { image } => show(rt, image),
+        Request::Show { image } => show(rt, writer, image),
     }
 }
 
-/// Runs the scenario whose text is in the file, and writes its events to standard output.
-fn run<R: Files + Print + AllocGlobal>(rt: &R, file: &str) -> Result<(), PlayError> {
+/// Runs the scenario whose text is in the file, and writes its events.
+fn run<R: Files + AllocGlobal, W: Write + Drop>(
+    rt: &R,
+    writer: W,
+    file: &str,
+) -> Result<(), PlayError> {
     let mut reader = opened(rt, file)?;
-    let mut writer = Marked::new(io::writer(rt));
+    let mut writer = Marked::new(writer);
     cmwq_play::run(rt.alloc(), &mut reader, &mut writer)
 }
 
-/// Writes the listing of the scenario whose text is in the file to standard output.
-fn list<R: Files + Print + AllocGlobal>(rt: &R, file: &str) -> Result<(), PlayError> {
+/// Writes the listing of the scenario whose text is in the file.
+fn list<R: Files + AllocGlobal, W: Write + Drop>(
+    rt: &R,
+    writer: W,
+    file: &str,
+) -> Result<(), PlayError> {
     let mut reader = opened(rt, file)?;
-    let mut writer = Marked::new(io::writer(rt));
+    let mut writer = Marked::new(writer);
     cmwq_play::list_text(rt.alloc(), &mut reader, &mut writer)
 }
 
@@ -83,10 +95,14 @@ fn asm<R: Files + AllocGlobal>(rt: &R, file: &str, out: &str) -> Result<(), Play
     cmwq_play::to_image(rt.alloc(), &mut reader, &mut writer)
 }
 
-/// Writes the listing of the scenario whose image is in the file to standard output.
-fn show<R: Files + Print + AllocGlobal>(rt: &R, image: &str) -> Result<(), PlayError> {
+/// Writes the listing of the scenario whose image is in the file.
+fn show<R: Files + AllocGlobal, W: Write + Drop>(
+    rt: &R,
+    writer: W,
+    image: &str,
+) -> Result<(), PlayError> {
     let mut reader = opened(rt, image)?;
-    let mut writer = Marked::new(io::writer(rt));
+    let mut writer = Marked::new(writer);
     cmwq_play::from_image(rt.alloc(), &mut reader, &mut writer)
 }
 

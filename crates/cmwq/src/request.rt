@@ -51,6 +51,8 @@ Examples:
   cmwq asm scenarios/max_active_3.cmwq max_active_3.image
   cmwq show max_active_3.image
 
+The formats of scenarios and images, and what each fault means, are in docs/FORMATS.md.
+
 Exit status:
   0  the command did what it was asked
   1  the file isn't a scenario's text or image, or the scenario hasn't one actor
@@ -163,7 +165,7 @@ fn command<'a>(alloc: Global) -> Result<Command<'a>, AllocError>
     let asm = on_text(alloc, "asm", "Makes the image of a scenario")?.arg(argument(
         alloc,
         "OUT",
-        "The image file to make",
+        "The image file to make; what it held is lost, even where FILE has a fault",
     ))?;
     let show = Command::new(alloc, "show")
         .about("Writes the listing of an image's scenario to standard output")

@@ -175,7 +175,7 @@ fn a_failed_write_is_told_and_a_front_was_written(rt: HostRuntime) -> Result<(),
 
 #[test]
 fn lines_go_out_before_all_are_made(rt: HostRuntime) -> Result<(), Fail> {
-    // Two hundred thousand lines of two bytes and more: they don't fit one block.
+    // 131,070 lines of 21 bytes: they don't fit one block.
     let text = "cpus 1\nworkers 1\nsteps 1\nflushes 0\nactor t\nstep 9 * 65535\nstep 9 * 65535\n";
     let mut reader = reading_of(text.as_bytes(), 4096, 0);
     let mut writer = writing_to(rt.alloc(), 1_000_000, 0, Failure::Error);
@@ -346,4 +346,85 @@ fn a_failed_write_of_a_listing_is_told(rt: HostRuntime) -> Result<(), Fail> {
         assert_eq!(rt; writer.inner.taken.len() + 1, fails);
     }
     Ok(())
+}
+
+#[test]
+fn a_failed_read_of_a_listing_is_told(rt: HostRuntime) -> Result<(), Fail> {
+    let (_, text, _) = EXAMPLES[0];
+    for fails in [1, 2, 10] {
+        let mut reader = reading_of(text.as_bytes(), 16, fails);
+        let mut writer = writing_to(rt.alloc(), 4096, 0, Failure::Error);
+        let result = list_text(rt.alloc(), &mut reader, &mut writer);
+        assert_eq!(rt; result, Err(PlayError::Read), "call {fails}");
+        assert!(rt; writer.inner.calls == 0, "call {fails}");
+    }
+    Ok(())
+}
+
+#[test]
+fn a_failed_read_or_write_of_an_image_is_told(rt: HostRuntime) -> Result<(), Fail> {
+    let (_, text, _) = EXAMPLES[0];
+    for fails in [1, 2, 10] {
+        let mut reader = reading_of(text.as_bytes(), 16, fails);
+        let mut writer = writing_to(rt.alloc(), 1, 0, Failure::Error);
+        let result = to_image(rt.alloc(), &mut reader, &mut writer);
+        assert_eq!(rt; result, Err(PlayError::Read), "call {fails}");
+        assert!(rt; writer.inner.calls == 0, "call {fails}");
+        let mut reader = reading_of(text.as_bytes(), 16, 0);
+        let mut writer = writing_to(rt.alloc(), 1, fails, Failure::Error);
+        let result = to_image(rt.alloc(), &mut reader, &mut writer);
+        assert_eq!(rt; result, Err(PlayError::Write), "call {fails}");
+        assert_eq!(rt; writer.inner.taken.len() + 1, fails);
+    }
+    Ok(())
+}
+
+#[test]
+fn a_failed_read_or_write_behind_an_image_is_told(rt: HostRuntime) -> Result<(), Fail> {
+    let image = IMAGE_OF_STEPS_RUN_OUT;
+    for fails in [1, 2, 7] {
+        let mut reader = reading_of(&image, 16, fails);
+        let mut writer = writing_to(rt.alloc(), 1, 0, Failure::Error);
+        let result = from_image(rt.alloc(), &mut reader, &mut writer);
+        assert_eq!(rt; result, Err(PlayError::Read), "call {fails}");
+        assert!(rt; writer.inner.calls == 0, "call {fails}");
+        let mut reader = reading_of(&image, 16, 0);
+        let mut writer = writing_to(rt.alloc(), 1, fails, Failure::TakesNone);
+        let result = from_image(rt.alloc(), &mut reader, &mut writer);
+        assert_eq!(rt; result, Err(PlayError::Write), "call {fails}");
+        assert_eq!(rt; writer.inner.taken.len() + 1, fails);
+    }
+    Ok(())
+}
+
+/// A byte of the image of `steps_run_out`, what it is set to, and the fault that the image then has.
+const FAULTY_IMAGES: [(usize, u8, ImageError); 5] = [
+    (3, 0x52, ImageError::Magic),
+    (5, 2, ImageError::Version),
+    // 17 CPUs; the zero byte; a queue that isn't declared
+    (6, 17, ImageError::Fault(Fault::Range)),
+    (37, 1, ImageError::BadField(37)),
+    (54, 1, ImageError::Fault(Fault::Unknown)),
+];
+
+/// What `from_image` answers to the bytes, and how often it wrote.
+fn listed_from(alloc: Global, image: &[u8]) -> (Result<(), PlayError>, usize) {
+    let mut reader = reading_of(image, 4096, 0);
+    let mut writer = writing_to(alloc, 4096, 0, Failure::Error);
+    let result = from_image(alloc, &mut reader, &mut writer);
+    (result, writer.inner.calls)
+}
+
+#[test]
+fn a_fault_of_an_image_is_told_before_anything_is_written(rt: HostRuntime) {
+    for (offset, byte, fault) in FAULTY_IMAGES {
+        let mut image = IMAGE_OF_STEPS_RUN_OUT;
+        if let Some(place) = image.get_mut(offset) {
+            *place = byte;
+        }
+        let told = listed_from(rt.alloc(), &image);
+        assert_eq!(rt; told, (Err(PlayError::Image(fault)), 0), "byte {offset}");
+    }
+    let told = listed_from(rt.alloc(), &IMAGE_OF_STEPS_RUN_OUT[..125]);
+    assert_eq!(rt; told, (Err(PlayError::Image(ImageError::Truncated)), 0));
 }

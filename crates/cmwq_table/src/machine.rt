@@ -41,8 +41,9 @@ pub trait Machine: Drop {
 
     /// Carries out one instruction, and answers it. It takes no memory.
     ///
-    /// Where it answers `Refused` nothing has changed. Refusals are judged in this order: numbers that
-    /// nothing has, from left to right; then `Spent`; then what the state doesn't allow.
+    /// Where it answers `Refused` nothing has changed. Refusals are judged in this order: operands, from left
+    /// to right (numbers that nothing has, and a `max` outside 1 to 512); then `Spent`; then what the state
+    /// doesn't allow.
     fn exec(&mut self, instr: Instr) -> Reply
         ensures exact { (state self.new, result) ≡ table (loaded self.old) (state self.old) instr }
         ensures scenario { loaded self.new ≡ loaded self.old };

@@ -11,11 +11,13 @@ use std::fmt;
 /// which say nothing. The format is this project's own.
 #[derive(Clone, Copy, Debug)]
 pub struct ReplyLine<'a> {
+    /// The scenario whose names the line has.
     pub scenario: &'a Scenario,
     /// The time of the reply, in ticks.
     pub time: u64,
     /// The instruction that is answered: the line of an answer to `State` names its work.
     pub instr: Instr,
+    /// The answer.
     pub reply: Reply,
 }
 

@@ -11,6 +11,7 @@ pub struct Pending {
     pub born: u64,
     /// The stamp of its place.
     pub stamp: u64,
+    /// Where it is: with a timer, inactive, listed or deferred.
     pub place: Place,
 }
 
@@ -27,6 +28,7 @@ pub struct Running {
     pub pc: u8,
     /// How many ticks it has still to burn.
     pub left: u32,
+    /// Whether it is runnable, or until when it sleeps.
     pub mode: Mode,
     /// The stamp of its start or its last wake.
     pub stamp: u64,

@@ -10,7 +10,9 @@ pub struct WorkId(pub u16);
 
 /// One instruction: what an actor may ask of the machine.
 ///
-/// Its operands are judged when it is carried out; an operand out of range is refused.
+/// Its operands are judged when it is carried out; an operand out of range is refused. Each instruction but the
+/// three questions `Ask`, `Busy` and `State` is also refused, as `Spent`, where the scenario's `steps` are spent.
+/// The instructions are calls of the kernel's, as each says; their refusals are this project's own.
 #[derive(Clone, Copy, Debug, PartialEq, Eq)]
 pub enum Instr {
     /// Queues the work on the CPU, as the kernel's `queue_work_on` does. A pending work stays as it is.
@@ -68,7 +70,9 @@ pub enum Instr {
     /// Lets the worker pool of this number make its move.
     ///
     /// On N CPUs the pools are 0 to 2N + 1: of CPU c the normal pool 2c and the high pool 2c + 1, then
-    /// the unbound normal one and the unbound high one. Refused where the pool has no move.
+    /// the unbound normal one and the unbound high one.
+    ///
+    /// Refused where there is no such pool, or the pool has no move.
     Step(u8),
     /// Lets one tick of time pass. It is refused while anything could happen without time.
     Tick,

@@ -1,4 +1,5 @@
-//! The limits of a scenario. They are this project's own; the kernel has `WQ_MAX_ACTIVE` (512) alone.
+//! The limits of a scenario, and of the lock, the histories and the debugger over its machine. They are this
+//! project's own; the kernel has `WQ_MAX_ACTIVE` (512) alone.
 
 /// The most bytes of a name.
 pub const MAX_NAME: usize = 15;

@@ -94,6 +94,7 @@ pub struct WorkRun {
     pub pool: u8,
     /// The number of its worker in that pool.
     pub worker: u8,
+    /// Whether it is runnable, or until when it sleeps.
     pub mode: Mode,
 }
 

@@ -7,7 +7,8 @@ use std::marker::Model;
 /// The flags of a queue, as in the kernel's `alloc_workqueue`.
 #[derive(Clone, Copy, Debug, PartialEq, Eq)]
 pub struct Flags {
-    /// `WQ_HIGHPRI`: its works go to the high pool of a CPU.
+    /// `WQ_HIGHPRI`: its works go to the high pool of a CPU, or to the unbound high pool where the queue is
+    /// unbound or ordered.
     pub highpri: bool,
     /// `WQ_UNBOUND`: its works go to an unbound pool.
     pub unbound: bool,
@@ -27,6 +28,7 @@ pub struct QueueDecl {
     pub name: Name,
     /// Its `max_active`, 1 to 512; 1 where it is ordered.
     pub max: u16,
+    /// What else it is told to do with its works.
     pub flags: Flags,
 }
 
@@ -65,6 +67,7 @@ impl Model for WorkDecl {
 /// An instruction that an actor gives a number of times.
 #[derive(Clone, Copy, Debug, PartialEq, Eq)]
 pub struct Line {
+    /// The instruction.
     pub instr: Instr,
     /// How often, 1 to 65,535.
     pub times: u32,
