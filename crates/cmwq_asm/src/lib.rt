@@ -11,8 +11,6 @@ mod fault;
 mod fields;
 mod header;
 mod instructions;
-mod lines;
-mod listing;
 mod misplaced;
 mod naming;
 mod open;
@@ -27,5 +25,5 @@ mod works;
 
 pub use assembling::{assemble, assemble_again};
 pub use cmwq_grammar::Why;
+pub use cmwq_list::list;
 pub use fault::AsmError;
-pub use listing::list;
