@@ -12,7 +12,6 @@ ghost use Rattle.std.specs.Prelude.{◌≡◌, ◌≤◌, ◌⊎◌, ℕ, IfOk, 
 
 use crate::cutting::next_line;
 use crate::fault::{AsmError, LineError};
-use crate::listing::list;
 use crate::stage::Stage;
 use crate::steps::{at_end, judge};
 use cmwq_grammar::Why;
@@ -20,6 +19,7 @@ use cmwq_grammar::laws::{
     read_text_spells_its_scenario, reading_fails_at_the_first_fault,
     spelled_text_reads_as_its_scenario,
 };
+use cmwq_list::list;
 use cmwq_types::{MAX_TEXT, Scenario};
 use std::alloc::Global;
 

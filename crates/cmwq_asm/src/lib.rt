@@ -13,8 +13,6 @@ mod header;
 mod instructions;
 #[cfg(test)]
 mod limit_tests;
-mod lines;
-mod listing;
 mod misplaced;
 mod naming;
 mod open;
@@ -29,5 +27,5 @@ mod works;
 
 pub use assembling::{assemble, assemble_again};
 pub use cmwq_grammar::Why;
+pub use cmwq_list::list;
 pub use fault::AsmError;
-pub use listing::list;

@@ -1,7 +1,7 @@
 use Rattle.std.proofs.Common.{append_assoc}
 use Rattle.std.specs.Prelude.{map}
-use Rattle.cmwq_asm.proofs.LineLemmas.{joined_cons}
-use Rattle.cmwq_asm.proofs.lines.push_words.Goals as goal
+use Rattle.cmwq_list.proofs.LineLemmas.{joined_cons}
+use Rattle.cmwq_list.proofs.lines.push_words.Goals as goal
 
 pub returns : goal.returns
 returns c =

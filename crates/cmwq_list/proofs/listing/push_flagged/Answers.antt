@@ -2,8 +2,8 @@ use Rattle.std.proofs.Common.{ℕ, List, [], ◌∷◌, ◌++◌, sym, ap, ◌�
 use Rattle.std.specs.List.{flat_map, join_with_byte}
 use Rattle.std.specs.Prelude.{map}
 use Rattle.cmwq_types.specs.Listing.{flag_words}
-use Rattle.cmwq_asm.proofs.LineLemmas.{joined_more}
-use Rattle.cmwq_asm.proofs.listing.push_flagged.Goals as goal
+use Rattle.cmwq_list.proofs.LineLemmas.{joined_more}
+use Rattle.cmwq_list.proofs.listing.push_flagged.Goals as goal
 
 pub returns : goal.returns
 returns c =

@@ -3,7 +3,7 @@ use Rattle.std.specs.List.{flat_map, list_all}
 use Rattle.std.specs.Prelude.{IsTrue, map}
 use Rattle.cmwq_types.specs.Listing.{actor_line, written_text}
 use Rattle.cmwq_grammar.specs.Grammar.{instr_fits}
-use Rattle.cmwq_asm.proofs.listing.push_lines.Given as goal
+use Rattle.cmwq_list.proofs.listing.push_lines.Given as goal
 
 -- the lines so far, and that what they list fits
 abbrev pub invariant-loop-line : goal.invariant-loop-line

@@ -1,7 +1,7 @@
 use Rattle.std.proofs.Common.{◌≡◌, ◌++◌, take}
 use Rattle.std.specs.List.{flat_map}
 use Rattle.cmwq_types.specs.Listing.{body_lines, written_text}
-use Rattle.cmwq_asm.proofs.listing.push_bodies.Given as goal
+use Rattle.cmwq_list.proofs.listing.push_bodies.Given as goal
 
 -- the lines so far
 abbrev pub invariant-loop-work : goal.invariant-loop-work

@@ -2,7 +2,7 @@ use Rattle.std.proofs.Common.{◌≡◌, ◌++◌, take}
 use Rattle.std.specs.List.{flat_map}
 use Rattle.std.specs.Prelude.{map}
 use Rattle.cmwq_types.specs.Listing.{op_line, written_text}
-use Rattle.cmwq_asm.proofs.listing.push_ops.Given as goal
+use Rattle.cmwq_list.proofs.listing.push_ops.Given as goal
 
 -- the lines so far
 abbrev pub invariant-loop-op : goal.invariant-loop-op

@@ -4,7 +4,7 @@ use Rattle.std.specs.List.{flat_map, list_all}
 use Rattle.cmwq_types.specs.Listing.{actor_lines, written_text}
 use Rattle.cmwq_grammar.specs.Grammar.{instr_fits}
 use Rattle.cmwq_types.specs.Name.{is_name}
-use Rattle.cmwq_asm.proofs.listing.push_actors.Given as goal
+use Rattle.cmwq_list.proofs.listing.push_actors.Given as goal
 
 -- the lines so far, and that what they list fits
 abbrev pub invariant-loop-actor : goal.invariant-loop-actor

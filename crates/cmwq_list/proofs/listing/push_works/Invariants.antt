@@ -3,7 +3,7 @@ use Rattle.std.specs.List.{flat_map, list_all}
 use Rattle.std.specs.Prelude.{IsTrue, map}
 use Rattle.cmwq_types.specs.Listing.{work_line, written_text}
 use Rattle.cmwq_types.specs.Name.{is_name}
-use Rattle.cmwq_asm.proofs.listing.push_works.Given as goal
+use Rattle.cmwq_list.proofs.listing.push_works.Given as goal
 
 -- the lines so far, and that what they list fits
 abbrev pub invariant-loop-work : goal.invariant-loop-work

@@ -1,6 +1,6 @@
 use Rattle.std.proofs.Common.{append_assoc}
 use Rattle.std.proofs.lemmas.Grind.{flat_map-append}
-use Rattle.cmwq_asm.proofs.listing.push_flags.Goals as goal
+use Rattle.cmwq_list.proofs.listing.push_flags.Goals as goal
 
 pub returns : goal.returns
 returns c =

@@ -1,5 +1,5 @@
-use Rattle.cmwq_asm.proofs.ListingLemmas.{listed_spells}
-use Rattle.cmwq_asm.proofs.listing.list.Goals as goal
+use Rattle.cmwq_list.proofs.ListingLemmas.{listed_spells}
+use Rattle.cmwq_list.proofs.listing.list.Goals as goal
 
 pub returns-clause-spells : goal.returns-clause-spells
 returns-clause-spells c =
