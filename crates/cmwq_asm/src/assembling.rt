@@ -25,8 +25,10 @@ use std::alloc::Global;
 
 /// The scenario that the text spells.
 ///
-/// Any other text has a first fault, and gives that: the first line with which no scenario's text begins,
-/// or the end of a text that may not end there. The rules of texts are this project's own.
+/// Any other text has a first fault, and gives that: the first line such that no scenario's text begins with the
+/// lines up to it, or the end of a text that may not end there. Lines are counted from 1; a text of more than
+/// 4,194,304 bytes is `TooLong` at line 0, whatever is in it. `NoMemory` says nothing of the text. The rules of
+/// texts are this project's own.
 pub fn assemble(alloc: Global, text: &[u8]) -> Result<Scenario, AsmError>
     // What is assembled is spelled so.
     ensures found { IfOk result (λ s. Spells text.now s) }
@@ -44,7 +46,8 @@ pub fn assemble(alloc: Global, text: &[u8]) -> Result<Scenario, AsmError>
     read_text(alloc, text)
 }
 
-/// The valid scenario as it is assembled from its listing.
+/// Lists the valid scenario and assembles the listing: the scenario comes back. This stands on what `list` and
+/// `assemble` say and on nothing else of them.
 pub fn assemble_again(alloc: Global, scenario: &Scenario) -> Result<Scenario, AsmError>
     requires { IsValid scenario.now }
     // It comes back, unless memory runs out.

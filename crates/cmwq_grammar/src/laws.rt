@@ -22,14 +22,15 @@ pub fn text_spells_one_scenario()
     ensures { (text : List ℕ) (S T : ScenarioContents) → Spells text S → Spells text T → S ≡ T }
 {}
 
-/// The listing of a scenario spells it, and so reads as it. So every listing has room in a text.
+/// The listing of a valid scenario whose names are names and whose numbers an instruction can hold spells it, and
+/// so reads as it. So each such listing has room in a text.
 pub fn listing_spells_its_scenario()
     ensures spelled { (S : ScenarioContents) → IsValid S → Fits S → Spells (listing S) S }
     ensures read { (S : ScenarioContents) → IsValid S → Fits S → reads (listing S) ≡ Ok S }
 {}
 
-/// Where reading fails is the first fault of the text: the first line with which no scenario's text
-/// begins, for the table's reason; or the end, where a text may not end there.
+/// Where reading fails is the first fault of the text: the first line such that no scenario's text begins with
+/// the lines up to it, for the table's reason; or the end, where a text may not end there.
 pub fn reading_fails_at_the_first_fault()
     ensures { (text : List ℕ) (fault : FaultAt) → reads text ≡ Err fault ↔ IsFault text fault }
 {}

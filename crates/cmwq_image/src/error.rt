@@ -19,7 +19,7 @@ pub enum ImageError {
     /// They go on after the last field.
     #[error("Extra")]
     Extra,
-    /// The field that begins at this offset can't have its value.
+    /// The field that begins at this offset, in bytes from 0, can't have its value.
     #[error("BadField {0}")]
     BadField(u32),
     /// They are the image of a scenario that isn't valid.

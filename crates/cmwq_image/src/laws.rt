@@ -38,7 +38,8 @@ pub fn read_back(alloc: Global, scenario: &Scenario) -> Result<Scenario, ImageEr
     read(alloc, &bytes)
 }
 
-/// Each image is that of one scenario. The scenarios needn't be valid.
+/// Each image is that of one scenario. The scenarios needn't be valid, but have no more parts than an image can
+/// have, and no empty body.
 #[tactic(auto, using(crate::proofs::ReadingLemmas::one_image))]
 pub fn image_has_one_scenario()
     ensures { (S T : ScenarioContents) → IsContents S → HasSize S → IsContents T → HasSize T → image S ≡ image T → S ≡ T }

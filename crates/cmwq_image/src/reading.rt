@@ -15,7 +15,8 @@ use std::alloc::Global;
 /// The scenario of which the bytes are the image.
 ///
 /// Faults are judged in this order, which is this project's own: `Magic`; then field by field from the
-/// left `Truncated`, `Version` or `BadField`; then `Extra`; then the first fault of the scenario itself.
+/// left `Truncated`, `Version` or `BadField`; then `Extra`; then the first fault of the scenario itself. Besides
+/// there may be `NoMemory`, which says nothing of the bytes.
 pub fn read(alloc: Global, bytes: &[u8]) -> Result<Scenario, ImageError>
     // What is read has the bytes as its image.
     ensures found { IfOk result (λ scenario. IsContents scenario × IsValid scenario × (bytes.now ≡ image scenario)) }

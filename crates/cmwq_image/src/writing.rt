@@ -13,7 +13,9 @@ use crate::word::Word;
 use cmwq_types::{Actor, Flags, Instr, Line, Name, NoMemory, Op, QueueDecl, Scenario, WorkDecl};
 use std::alloc::Global;
 
-/// The image of a valid scenario. The only error is want of memory.
+/// The image of a valid scenario, at most 923,058 bytes: a head, then each queue, each work with its operations and
+/// each actor with its lines, in order, numbers with their highest byte first. The format is this project's own,
+/// version 1, and is drawn in `docs/FORMATS.md`. The only error is want of memory.
 pub fn write(alloc: Global, scenario: &Scenario) -> Result<Vec<u8>, NoMemory>
     requires { IsValid scenario.now }
     ensures image { IfOk result (λ bytes. bytes.items ≡ image scenario.now) }

@@ -15,8 +15,11 @@ use cmwq_types::{
 };
 use std::alloc::Global;
 
-/// The listing of the scenario: its lines in order, each with one space between words and a line
-/// feed at its end, with no comment and no blank line. It is a text of the scenario.
+/// The listing of the scenario, as bytes: its lines in order, each with one space between words and a line
+/// feed at its end, with no comment and no blank line. The format is this project's own.
+///
+/// The listing of a valid scenario is a text that spells it. A scenario that isn't valid is listed too, and a
+/// work or queue of a number that isn't declared then has no name there. It fails only for want of memory.
 pub fn list(alloc: Global, scenario: &Scenario) -> Result<Vec<u8>, NoMemory>
     ensures listing { IfOk result (λ text. text.items ≡ listing scenario.now) }
     ensures spells { IfOk result (λ text. IsValid scenario.now → Spells text.items scenario.now) }

@@ -90,6 +90,24 @@ fn max_active_goes_down_and_up(rt: HostRuntime) -> Result<(), Fail> {
 }
 
 #[test]
+fn the_work_queued_first_is_activated_first(rt: HostRuntime) -> Result<(), Fail> {
+    let q = QueueId(0);
+    let lines = [
+        once(Instr::SetMax(q, 1)),
+        queueing(2, 0),
+        queueing(1, 0),
+        queueing(0, 0),
+        once(Instr::SetMax(q, 2)),
+        once(Instr::State(WorkId(0))),
+        once(Instr::State(WorkId(1))),
+        once(Instr::State(WorkId(2))),
+    ];
+    let scenario = limited(&rt, rt.alloc(), &lines)?;
+    assert_eq!(rt; printed(&rt, rt.alloc(), &scenario)?.as_str(), IN_ORDER);
+    Ok(())
+}
+
+#[test]
 fn a_look_shows_limits_and_the_freeze(rt: HostRuntime) -> Result<(), Fail> {
     let scenario = freezable(&rt, rt.alloc(), &[])?;
     let mut machine = Plain::load(rt.alloc(), &scenario).expect(&rt, "a valid scenario");
@@ -121,4 +139,9 @@ const LIMITED: &str = "0 refused Ordered
 0 c listed 0 still
 0 d inactive 0 still
 0 d listed 0 still
+";
+
+const IN_ORDER: &str = "0 a inactive 0 still
+0 b listed 0 still
+0 c listed 0 still
 ";

@@ -1,7 +1,7 @@
 //! Worked examples as texts, with what they print.
 
 /// A scenario's name, its text, and the lines that it prints.
-pub(super) const EXAMPLES: [(&str, &str, &str); 16] = [
+pub(super) const EXAMPLES: [(&str, &str, &str); 17] = [
     (
         "max_active_3",
         "cpus 1
@@ -612,6 +612,39 @@ state d
 0 c listed 0 still
 0 d inactive 0 still
 0 d listed 0 still
+",
+    ),
+    (
+        "activation_order",
+        "cpus 1
+workers 4
+steps 1000
+flushes 2
+queue q max 1
+work a q
+work b q
+work c q
+body a
+burn 1
+finish
+body b
+burn 1
+finish
+body c
+burn 1
+finish
+actor t
+queue c 0
+queue b 0
+queue a 0
+set_max q 2
+state a
+state b
+state c
+",
+        "0 a inactive 0 still
+0 b listed 0 still
+0 c listed 0 still
 ",
     ),
 ];
