@@ -14,7 +14,7 @@ use Rattle.cmwq_types.specs.declared.check.Fault.TheVariants.{Range, TooMany, Du
 use Rattle.cmwq_types.specs.declared.limits.TheConstants.{MAX_ACTORS, MAX_CPUS, MAX_FLUSHES, MAX_OPS, MAX_QUEUES, MAX_STEPS, MAX_WORKERS, MAX_WORKS}
 use Rattle.cmwq_types.specs.declared.scenario.Op.{Op}
 use Rattle.cmwq_types.specs.declared.scenario.Op.TheVariants as op
-use Rattle.cmwq_plain.specs.Ready.{IsOpInRange, IsPcInRange, IsSetting}
+use Rattle.cmwq_records.specs.Setting.{IsOpInRange, IsPcInRange, IsSetting}
 
 -- no first fault of two: neither
 neither : (a b : Option Fault) → or_else a b ≡ None → (a ≡ None) × (b ≡ None)

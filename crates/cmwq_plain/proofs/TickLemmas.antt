@@ -7,7 +7,8 @@ use Rattle.cmwq_table.specs.Counts.{burns, first_runnable, is_runnable, is_some_
 use Rattle.cmwq_table.specs.Moves.{burned, one_less, tick}
 use Rattle.cmwq_table.specs.State.{State, is_high, pool_count}
 use Rattle.cmwq_table.specs.declared.state.Running.{Running}
-use Rattle.cmwq_plain.specs.Burning.{AreHeads, burns_beside}
+use Rattle.cmwq_records.specs.Burning.{burns_beside}
+use Rattle.cmwq_plain.specs.Heads.{AreHeads}
 use Rattle.cmwq_plain.specs.Ready.{IsReady, IsRunningReady}
 
 -- tests that agree where P holds burn alike a list in which it holds everywhere

@@ -1,4 +1,3 @@
-pub mod Burning
+pub mod Heads
 pub mod InRange
 pub mod Ready
-pub mod Wanted

@@ -1,40 +1,12 @@
--- What keeps the plain machine going: what a valid scenario gives, and what each state of it keeps.
+-- What keeps the plain machine going from one instruction to the next.
 use Rattle.std.specs.Prelude.{◌≡◌, ℕ, ◌*◌, ◌<◌, ◌≤◌, length, Option, Some, None}
 use Rattle.cmwq_types.specs.Contents.{ScenarioContents}
-use Rattle.cmwq_types.specs.Scenario.{op_at}
-use Rattle.cmwq_types.specs.declared.limits.TheConstants.{MAX_FLUSHES}
 use Rattle.cmwq_types.specs.declared.reply.Place.{Place}
 use Rattle.cmwq_types.specs.declared.reply.Place.TheVariants.{Timer, Inactive, Listed, Deferred}
-use Rattle.cmwq_types.specs.declared.scenario.Op.{Op}
-use Rattle.cmwq_types.specs.declared.scenario.Op.TheVariants as op
 use Rattle.cmwq_table.specs.State.{State, pending_at, running_at, pool_count}
 use Rattle.cmwq_table.specs.declared.state.Pending.{Pending}
 use Rattle.cmwq_table.specs.declared.state.Running.{Running}
-
--- an operation that queues a work names one that there is, and a CPU that there is
-abbrev pub IsOpInRange : ScenarioContents → Op → Type 0
-IsOpInRange S (op.Burn ticks) = Unit {0}
-IsOpInRange S (op.Sleep ticks) = Unit {0}
-IsOpInRange S (op.Queue work cpu) = (work.0 < length S.works) × (cpu < S.cpus)
-IsOpInRange S op.Finish = Unit {0}
-
--- after an operation that doesn't end the body, the next place is 64 at most
-abbrev pub IsPcInRange : Op → ℕ → Type 0
-IsPcInRange (op.Burn ticks) pc = pc < 64
-IsPcInRange (op.Sleep ticks) pc = pc < 64
-IsPcInRange (op.Queue work cpu) pc = pc < 64
-IsPcInRange op.Finish pc = Unit {0}
-
--- what a valid scenario gives
-pub record IsSetting (S : ScenarioContents) : Type 0 where
-  pub cpus : S.cpus ≤ 16
-  pub workers : S.workers ≤ 64
-  pub steps : S.steps ≤ 4294967295
-  pub flushes : S.flushes ≤ MAX_FLUSHES
-  pub queues : length S.queues ≤ 32
-  pub works : length S.works ≤ 256
-  pub ops : (w pc : ℕ) → IsOpInRange S (op_at S w pc)
-  pub ends : (w pc : ℕ) → IsPcInRange (op_at S w pc) pc
+use Rattle.cmwq_records.specs.Setting.{IsSetting}
 
 abbrev pub IsPlaceReady : ScenarioContents → Place → Type 0
 IsPlaceReady S (Timer due cpu) = cpu < S.cpus

@@ -1,21 +1,14 @@
 //! `Plain`: the instruction table as a plain program over vectors that are scanned. It is slow on
-//! purpose, the yardstick for every other machine.
+//! purpose, the yardstick for every other machine. Here stands what each instruction does; the
+//! vectors and what is read from them are `cmwq_records`.
 #![tactic(auto)]
 
-mod beginning;
-mod counts;
-mod flushes;
 mod limits;
 mod lines;
-mod looking;
 mod machine;
 mod moving;
 mod placing;
-mod records;
-mod scans;
-mod setting;
 mod ticking;
-mod wanted;
 
 pub use machine::Plain;
 

@@ -1,6 +1,7 @@
 //! The plain machine.
 
-use crate::records::Records;
+use crate::lines::exec;
+use cmwq_records::Records;
 use cmwq_table::{LoadError, Machine, View};
 use cmwq_types::{Instr, NoMemory, Reply, Scenario};
 use std::alloc::Global;
@@ -42,7 +43,7 @@ impl Machine for Plain {
 
     fn exec(&mut self, instr: Instr) -> Reply {
         let Plain { scenario, records } = self;
-        records.exec(scenario, instr)
+        exec(scenario, records, instr)
     }
 
     fn copy(&self) -> Result<Self, NoMemory> {

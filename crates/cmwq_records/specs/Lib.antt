@@ -1,0 +1,3 @@
+pub mod Burning
+pub mod Setting
+pub mod Wanted

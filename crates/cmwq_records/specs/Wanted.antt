@@ -1,0 +1,36 @@
+-- What each scan looks for, and in which order, in the table's words.
+use Rattle.std.specs.Prelude.{ℕ, Bool, ◌&&◌, ◌==◌, nat_lt}
+use Rattle.cmwq_types.specs.Contents.{ScenarioContents}
+use Rattle.cmwq_types.specs.Scenario.{queue_of}
+use Rattle.cmwq_types.specs.First.{by_least_two}
+use Rattle.cmwq_table.specs.State.{State, pending_at, running_at}
+use Rattle.cmwq_table.specs.Counts.{has_instance, is_active, is_busy_work, is_counted, is_due, is_inactive, is_listed, is_runnable, is_slept, pending_before, pending_due, pending_stamp, pends, running_before, running_stamp, running_until, runs}
+use Rattle.cmwq_records.specs.declared.wanted.Wanted.{Wanted}
+use Rattle.cmwq_records.specs.declared.wanted.Wanted.TheVariants.{ActivePending, ActiveRunning, Counted, QueuedBefore, Busy, Inactive, Listed, Due, Slept, Runnable, Ready}
+
+abbrev pub is_wanted : ScenarioContents → State → Wanted → ℕ → Bool
+is_wanted S s (ActivePending queue pool) w = (queue_of S w == queue) && pends (λ place. is_active place pool) (pending_at s w)
+is_wanted S s (ActiveRunning queue pool) w = (queue_of S w == queue) && runs (λ r. r.pool == pool) (running_at s w)
+is_wanted S s (Counted pool) w = is_counted S s pool w
+is_wanted S s (QueuedBefore queue bound) w = (queue_of S w == queue) && has_instance s w (λ born. nat_lt born bound)
+is_wanted S s Busy w = is_busy_work S s w
+is_wanted S s (Inactive queue pool) w = (queue_of S w == queue) && pends (λ place. is_inactive place pool) (pending_at s w)
+is_wanted S s (Listed pool) w = pends (λ place. is_listed place pool) (pending_at s w)
+is_wanted S s Due w = pends (λ place. is_due place s.now) (pending_at s w)
+is_wanted S s (Slept pool) w = runs (λ r. (r.pool == pool) && is_slept r.mode s.now) (running_at s w)
+is_wanted S s (Runnable pool) w = runs (λ r. (r.pool == pool) && is_runnable r.mode) (running_at s w)
+is_wanted S s (Ready pool) w = runs (λ r. (r.pool == pool) && is_runnable r.mode && (r.left == 0)) (running_at s w)
+
+-- timers by (due, stamp), sleepers by (until, stamp), all others by stamp
+abbrev pub comes_before : State → Wanted → ℕ → ℕ → Bool
+comes_before s (ActivePending queue pool) = pending_before s
+comes_before s (ActiveRunning queue pool) = running_before s
+comes_before s (Counted pool) = running_before s
+comes_before s (QueuedBefore queue bound) = pending_before s
+comes_before s Busy = pending_before s
+comes_before s (Inactive queue pool) = pending_before s
+comes_before s (Listed pool) = pending_before s
+comes_before s Due = by_least_two (λ w. pending_due (pending_at s w)) (λ w. pending_stamp (pending_at s w))
+comes_before s (Slept pool) = by_least_two (λ w. running_until (running_at s w)) (λ w. running_stamp (running_at s w))
+comes_before s (Runnable pool) = running_before s
+comes_before s (Ready pool) = running_before s
