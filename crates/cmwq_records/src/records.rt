@@ -87,14 +87,14 @@ impl Records {
         self.time
     }
 
-    /// The next stamp: how many were given out. A stamp tells which of two things came first.
+    /// The next stamp: how many were given out, from 0. Of two things the one of lesser stamp came first.
     pub fn next_stamp(&self) -> u64
         ensures { result ≡ self.now.next }
     {
         self.next
     }
 
-    /// How many instructions were accepted, questions aside.
+    /// How many instructions were spent: accepted, questions aside.
     pub fn spent(&self) -> u32
         ensures { result ≡ self.now.spent }
     {
@@ -294,7 +294,7 @@ impl Records {
         self.flushes.push(target).unwrap();
     }
 
-    /// Counts one instruction as accepted.
+    /// Counts one more instruction as spent.
     pub fn spend(&mut self)
         requires { self.old.spent < 2 ^ 32 - 1 }
         ensures { self.new ≡ record self.old { spent = self.old.spent + 1 } }

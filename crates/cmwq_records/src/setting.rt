@@ -70,8 +70,9 @@ pub(crate) fn is_unbound(scenario: &Scenario, pool: u8) -> bool
     2 * scenario.cpus <= pool
 }
 
-/// The number of the pool to which the queue's works go from the CPU: of the CPU's two pools, or of
-/// the two unbound ones, the high one where the queue is `highpri`.
+/// The number of the pool to which the queue's works go from the CPU: one of the two unbound pools
+/// where the queue is `unbound` or `ordered`, else one of the CPU's two; of these the high one where the
+/// queue is `highpri`.
 pub fn target_of(scenario: &Scenario, queue: u8, cpu: u8) -> u8
     requires setting { IsSetting scenario.now }
     requires cpu { cpu < scenario.now.cpus }
