@@ -16,8 +16,8 @@ use cmwq_grammar::Why;
 use cmwq_types::{MAX_CPUS, MAX_FLUSHES, MAX_STEPS, MAX_WORKERS};
 use std::alloc::Global;
 
-#[tactic(auto, using(crate::proofs::LineSteps::line_steps))]
 /// The number of a line that must be this word and a number from `low` to `high`.
+#[tactic(auto, using(crate::proofs::LineSteps::line_steps))]
 fn read_head_number(
     wanted: &[u8],
     low: u32,

@@ -32,7 +32,7 @@ pub enum Why {
     /// The text has more than 4,194,304 bytes.
     #[error("TooLong")]
     TooLong,
-    /// The line gives the scenario this fault.
+    /// The line gives the scenario this fault; at the text's end, an open body has no `finish`.
     #[error("{0}")]
     Fault(Fault),
 }

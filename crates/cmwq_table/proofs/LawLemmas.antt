@@ -1,5 +1,6 @@
 -- How the laws are proved. Nothing but the laws stands on these files.
 pub mod Alike
+pub mod Busy
 pub mod Changes
 pub mod Conclusions
 pub mod Concurrency

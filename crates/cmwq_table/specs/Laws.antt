@@ -18,7 +18,7 @@ use Rattle.cmwq_table.specs.declared.state.FlushTarget.TheVariants.{Instance, Qu
 use Rattle.cmwq_table.specs.declared.state.Pending.{Pending}
 use Rattle.cmwq_table.specs.declared.state.Running.{Running}
 use Rattle.cmwq_table.specs.State.{State, pending_at, running_at, idle_at, made_at}
-use Rattle.cmwq_table.specs.Counts.{limit, active, counted, is_inactive, is_listed, is_activated, is_deferred, is_placed, is_done, pends}
+use Rattle.cmwq_table.specs.Counts.{limit, active, counted, is_busy, is_inactive, is_listed, is_activated, is_deferred, is_placed, is_done, pends}
 use Rattle.cmwq_table.specs.Table.{table, run, after_all, is_question, target_at}
 
 -- Where a law holds.
@@ -157,6 +157,18 @@ IsInactiveIn s w pool = (p : Pending) × (pending_at s w ≡ Some p) × (is_inac
 -- Where a queue has an inactive instance in a pool, its active count there is at least the limit.
 unfoldable pub LeavesNoRoom : ScenarioContents → State → Type 0
 LeavesNoRoom S s = (pool w : ℕ) → IsInactiveIn s w pool → limit S s (queue_of S w) ≤ active S s (queue_of S w) pool
+
+-- Busy.
+
+-- some freezable queue has an active work in some pool
+abbrev pub HasActiveIn : ScenarioContents → State → Type 0
+HasActiveIn S s = (queue : ℕ) × (pool : ℕ) × ((flags_at S queue).freezable ≡ true) × (0 < active S s queue pool)
+
+-- Busy is said of works; it is the same as that a freezable queue has an active work in some pool.
+unfoldable pub TellsActive : ScenarioContents → State → Type 0
+TellsActive S s =
+    (is_busy S s ≡ true → HasActiveIn S s)
+    × ((queue pool : ℕ) → (flags_at S queue).freezable ≡ true → 0 < active S s queue pool → is_busy S s ≡ true)
 
 -- Non-reentrance.
 

@@ -2,7 +2,7 @@
 //!
 //! Each function's contract is a law, over every valid scenario and every list of instructions. The functions
 //! do nothing: they carry the laws.
-ghost use Rattle.cmwq_table.specs.Laws.{AtEveryInstruction, ChangesNothingAsked, ChangesNothingRefused, GoesInOrder, InEveryState, LeavesNoRoom, TimeWaitsForStarts, RisesByWakes, RisesWithinLimit, IsNotReentrant, StayDone, WaitForInstances};
+ghost use Rattle.cmwq_table.specs.Laws.{AtEveryInstruction, ChangesNothingAsked, ChangesNothingRefused, GoesInOrder, InEveryState, LeavesNoRoom, TimeWaitsForStarts, RisesByWakes, RisesWithinLimit, IsNotReentrant, StayDone, TellsActive, WaitForInstances};
 
 /// An instruction that is refused changes nothing: neither a work, a worker or a flush, nor the time, the stamps
 /// or what was spent. That is this project's own rule.
@@ -51,6 +51,13 @@ pub fn ordered_queues_go_one_by_one_in_order()
 #[tactic(auto, using(crate::proofs::LawLemmas::Conclusions::leaves_no_room))]
 pub fn inactive_works_leave_no_room()
     ensures { InEveryState LeavesNoRoom }
+{}
+
+/// `Busy` is answered yes exactly where some freezable queue has an active work in some pool, as the kernel's
+/// `freeze_workqueues_busy` counts them.
+#[tactic(auto, using(crate::proofs::LawLemmas::Busy::tells_active))]
+pub fn busy_tells_of_active_works()
+    ensures { InEveryState TellsActive }
 {}
 
 /// A work is executed by at most one worker at any time: where it is placed while it runs, it is placed in the
