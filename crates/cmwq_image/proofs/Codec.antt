@@ -110,7 +110,7 @@ refused_is : {A : Type 0} (fault e : ImageError) (after : Place) (found : Option
 refused_is fault e after (Some y) h = absurd cc
 refused_is fault e after None h = (refl, cc)
 
-open_field : {A : Type 0} (fault : ℕ → ImageError) (size : ℕ) (meaning : List ℕ → Option A) (here : Place) → size ≤ length here.rest
+pub open_field : {A : Type 0} (fault : ℕ → ImageError) (size : ℕ) (meaning : List ℕ → Option A) (here : Place) → size ≤ length here.rest
     → field fault size meaning here ≡ accepted (fault here.at) (behind size here) (meaning (take size here.rest))
 open_field fault size meaning here h =
     let long : ltb (length here.rest) size ≡ false = le-ltb _ _ h in

@@ -58,7 +58,7 @@ wide32 = record {
 abbrev pub InRange : ℕ → ℕ → ℕ → Type 0
 InRange low high n = (low ≤ n) × (n ≤ high)
 
-within_is : (low high n m : ℕ) → if_within low high n ≡ Some m → (n ≡ m) × InRange low high m
+pub within_is : (low high n m : ℕ) → if_within low high n ≡ Some m → (n ≡ m) × InRange low high m
 within_is low high n m h = go (within low high n) refl h
   where
     go : (b : Bool) → within low high n ≡ b → cond b (Some n) None ≡ Some m → (n ≡ m) × InRange low high m

@@ -8,3 +8,4 @@ pub mod PartCodecs
 pub mod WholeCodecs
 pub mod ReadingLemmas
 pub mod WritingLemmas
+pub mod FrontLemmas

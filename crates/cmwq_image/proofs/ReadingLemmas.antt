@@ -84,7 +84,7 @@ reading_takes bytes S fine e =
 behind_image : (S : ScenarioContents) (rest : List ℕ) → HasImage S → scenario_at (place 4 (rest_image S ++ rest)) ≡ Ok (S, place (4 + length (rest_image S)) rest)
 behind_image S rest fits = scenarios.again 4 S rest fits
 
-whole_image : (S : ScenarioContents) → HasImage S → scenario_at (place 4 (rest_image S)) ≡ Ok (S, place (4 + length (rest_image S)) [])
+pub whole_image : (S : ScenarioContents) → HasImage S → scenario_at (place 4 (rest_image S)) ≡ Ok (S, place (4 + length (rest_image S)) [])
 whole_image S fits = ap (λ (b : List ℕ). scenario_at (place 4 b)) (sym (append-nil (rest_image S))) ∙ behind_image S [] fits
 
 pub reading_again : (S : ScenarioContents) → IsContents S → IsValid S → reading (image S) ≡ Ok S

@@ -9,7 +9,7 @@ ghost use Rattle.cmwq_image.specs.declared.error.ImageError.TheVariants as error
 ghost use Rattle.cmwq_types.specs.Contents.{ScenarioContents};
 ghost use Rattle.cmwq_types.specs.Faults.{IsValid};
 ghost use Rattle.cmwq_types.specs.declared.check.Fault.TheVariants.{Range};
-ghost use Rattle.std.specs.Prelude.{◌≡◌, ◌↔◌, ◌++◌, ◌∷◌, [], Err, List, Ok, length, slice_set, take, ℕ};
+ghost use Rattle.std.specs.Prelude.{◌≡◌, ◌↔◌, ◌≤◌, ◌<◌, ◌++◌, ◌∷◌, [], Err, List, Ok, length, slice_set, take, ℕ};
 
 use crate::error::ImageError;
 use crate::reading::read;
@@ -49,6 +49,21 @@ pub fn image_has_one_scenario()
 #[tactic(auto, using(crate::proofs::ReadingLemmas::means))]
 pub fn faults_have_meanings()
     ensures { (bytes : List ℕ) (fault : ImageError) → AreBytes bytes → reading bytes ≡ Err fault → Means bytes fault }
+{}
+
+/// No image is longer than 923,058 bytes. The scenario needn't be valid, but has no more parts than an image can
+/// have, and no empty body; a valid one is so.
+#[tactic(auto, using(crate::proofs::FrontLemmas::image_size, crate::proofs::FrontLemmas::valid_image_size))]
+pub fn image_is_at_most_923058_bytes()
+    ensures sized { (S : ScenarioContents) → IsContents S → HasSize S → length (image S) ≤ 923058 }
+    ensures valid { (S : ScenarioContents) → IsContents S → IsValid S → length (image S) ≤ 923058 }
+{}
+
+/// No image is longer than 923,058 bytes, so what stands behind the first 923,059 bytes changes nothing: these, or
+/// more of them, are read as all the bytes are, as the same scenario or with the same fault.
+#[tactic(auto, using(crate::proofs::FrontLemmas::far_bytes))]
+pub fn far_bytes_change_no_reading()
+    ensures { (n : ℕ) (bytes : List ℕ) → 923058 < n → reading (take n bytes) ≡ reading bytes }
 {}
 
 /// The worked image is the image of the worked scenario, which is valid.

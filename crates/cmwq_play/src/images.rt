@@ -3,7 +3,8 @@ ghost use Rattle.cmwq_grammar.specs.FaultLaw.{IsFault};
 ghost use Rattle.cmwq_grammar.specs.Grammar.{Spells};
 ghost use Rattle.cmwq_grammar.specs.Meaning.{FaultAt};
 ghost use Rattle.cmwq_image.specs.Image.{image};
-ghost use Rattle.cmwq_play.specs.Images.{IsImage, TellsImageFault, front_of};
+ghost use Rattle.cmwq_image.specs.Limits.{IsContents};
+ghost use Rattle.cmwq_play.specs.Images.{IsImage, TellsImageFault};
 ghost use Rattle.cmwq_play.specs.Sending.{ListsImage, ListsImageFront, WritesImage, WritesImageFront};
 ghost use Rattle.cmwq_play.specs.Texts.{IsOutside, TellsFault};
 ghost use Rattle.cmwq_types.specs.Contents.{ScenarioContents};
@@ -17,6 +18,7 @@ use crate::reading::{read_text, read_whole};
 use crate::sending::put_all;
 use crate::stream::{Sink, Source};
 use cmwq_asm::{AsmError, list};
+use cmwq_image::laws::{far_bytes_change_no_reading, image_is_at_most_923058_bytes};
 use cmwq_image::{ImageError, read, write};
 use cmwq_types::Scenario;
 use std::alloc::Global;
@@ -63,7 +65,7 @@ pub fn to_image<R: Source, W: Sink>(
 ///
 /// It answers `Image` with the first fault of the bytes exactly where they are no image. Nothing was
 /// written then, and on `Read` and `NoMemory`; on `Write` what was written is a front of the listing.
-/// At most 4,194,305 bytes are read, which is more than any image has.
+/// At most 4,194,305 bytes are read: no image is longer than 923,058, so what comes after changes no answer.
 pub fn from_image<R: Source, W: Sink>(
     alloc: Global,
     reader: &mut R,
@@ -72,9 +74,9 @@ pub fn from_image<R: Source, W: Sink>(
     requires reader { R.failed reader.old ≡ false }
     requires writer { W.failed writer.old ≡ false }
 
-    // The bytes read are a scenario's image, and its listing was written; else it tells their first fault.
+    // The input is a scenario's image, and its listing was written; else it tells the input's first fault.
     ensures ok { OnOk result (ListsImage (R.remaining reader.old) (W.contents writer.old) (W.contents writer.new)) }
-    ensures told { IfSome (R.remaining reader.old) (λ bytes. IfErr result (λ error. TellsImageFault (front_of bytes) error)) }
+    ensures told { IfSome (R.remaining reader.old) (λ bytes. IfErr result (λ error. TellsImageFault bytes error)) }
 
     // A failed read or write is told as such, and nothing else is.
     ensures read { (result ≡ Err PlayError.Read) ↔ (R.failed reader.new ≡ true) }
@@ -94,18 +96,20 @@ pub fn from_image<R: Source, W: Sink>(
 fn read_image<R: Source>(alloc: Global, reader: &mut R) -> Result<Scenario, PlayError>
     requires { R.failed reader.old ≡ false }
     ensures found { IfOk result (λ scenario. IsImage (R.remaining reader.old) scenario) }
-    ensures told { IfSome (R.remaining reader.old) (λ bytes. IfErr result (λ error. TellsImageFault (front_of bytes) error)) }
+    ensures told { IfSome (R.remaining reader.old) (λ bytes. IfErr result (λ error. TellsImageFault bytes error)) }
     ensures read { (result ≡ Err PlayError.Read) ↔ (R.failed reader.new ≡ true) }
     ensures no_write { result ≢ Err PlayError.Write }
     ensures few { IfSome (R.remaining reader.old) (λ input. IfSome (R.remaining reader.new) (λ left. length input ≤ length left + MAX_TEXT + 1)) }
 {
+    far_bytes_change_no_reading();
+    image_is_at_most_923058_bytes();
     let bytes = read_whole(alloc, reader)?;
     imaged(alloc, &bytes)
 }
 
 /// The scenario of which the bytes are the image, or their first fault.
 fn imaged(alloc: Global, bytes: &[u8]) -> Result<Scenario, PlayError>
-    ensures found { IfOk result (λ scenario. IsValid scenario × (bytes.now ≡ image scenario)) }
+    ensures found { IfOk result (λ scenario. IsContents scenario × IsValid scenario × (bytes.now ≡ image scenario)) }
     ensures told { IfErr result (λ error. TellsImageFault bytes.now error) }
     ensures no_read { result ≢ Err PlayError.Read }
     ensures no_write { result ≢ Err PlayError.Write }

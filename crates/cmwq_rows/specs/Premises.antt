@@ -8,7 +8,7 @@ use Rattle.cmwq_types.specs.declared.scenario.Line.{Line}
 use Rattle.cmwq_types.specs.declared.scenario.Op.TheVariants as op
 use Rattle.cmwq_table.specs.State.{State}
 use Rattle.cmwq_table.specs.Table.{run}
-use Rattle.cmwq_rows.specs.Declare.{queue, work, ordered, unbound, enqueue, flush, flush_queue, times, scenario}
+use Rattle.cmwq_rows.specs.Declare.{queue, work, freezable, ordered, unbound, enqueue, flush, flush_queue, times, scenario}
 use Rattle.cmwq_rows.specs.Rows.{burning}
 
 -- the state that a scenario comes to by these lines
@@ -76,3 +76,7 @@ work_queued_again = work_finished ++ enqueue 0 0 ∷ []
 -- the instruction that queues the first work on CPU 0
 abbrev pub queued_once : Instr
 queued_once = instr.Queue (record { 0 = 0 }) 0
+
+-- one work on a freezable queue
+abbrev pub one_freezable : ScenarioContents
+one_freezable = scenario 1000 (queue (codes "f") 1 freezable ∷ []) (work (codes "a") 0 (burning 1) ∷ []) []

@@ -2,9 +2,9 @@
 //! case.
 #![tactic(auto, unfolding(cmwq_table::specs::Table::table))]
 
-ghost use Rattle.cmwq_rows.specs.Premises.{after_lines, before_tick, before_wake, both_queued, flushes_given, itself_deferred, itself_queued, one_flushed, one_worker, queued_once, sleeper, two_ordered, work_finished, work_queued_again, worker_taken};
+ghost use Rattle.cmwq_rows.specs.Premises.{after_lines, before_tick, before_wake, both_queued, flushes_given, itself_deferred, itself_queued, one_flushed, one_freezable, one_worker, queued_once, sleeper, two_ordered, work_finished, work_queued_again, worker_taken};
 ghost use Rattle.cmwq_rows.specs.Rows.{queues_itself};
-ghost use Rattle.cmwq_table.specs.Counts.{active, counted, is_done, limit};
+ghost use Rattle.cmwq_table.specs.Counts.{active, counted, is_busy, is_done, limit};
 ghost use Rattle.cmwq_table.specs.Laws.{active_anywhere, reply_to, state_after, tells_wake};
 ghost use Rattle.cmwq_table.specs.State.{idle_at, made_at, pending_at, running_at};
 ghost use Rattle.cmwq_table.specs.Table.{is_question, place_of, target_at};
@@ -66,6 +66,14 @@ pub fn ordered_work_waits()
     ensures limit { limit two_ordered (after_lines two_ordered both_queued) 0 ≡ 1 }
 {}
 
+/// A freezable queue has an active work, and is busy; before, it is neither.
+pub fn freezable_queue_is_busy()
+    ensures idle { active one_freezable (after_lines one_freezable []) 0 0 ≡ 0 }
+    ensures not_busy { is_busy one_freezable (after_lines one_freezable []) ≡ false }
+    ensures active { active one_freezable (state_after one_freezable (after_lines one_freezable []) queued_once) 0 0 ≡ 1 }
+    ensures busy { is_busy one_freezable (state_after one_freezable (after_lines one_freezable []) queued_once) ≡ true }
+{}
+
 /// A work is listed while it runs, and deferred while it sleeps.
 pub fn running_work_is_placed()
     ensures listed { place_of (pending_at (after_lines queues_itself itself_queued) 0) ≡ Some (Place.Listed 0) }
@@ -102,4 +110,5 @@ pub fn premises_are_of_valid_scenarios()
     ensures one_worker { IsValid one_worker }
     ensures two_ordered { IsValid two_ordered }
     ensures one_flushed { IsValid one_flushed }
+    ensures one_freezable { IsValid one_freezable }
 {}
