@@ -1,0 +1,93 @@
+"""A test of `check`: what makes a crate's must-fail edits run again, and what it refuses. It calls no prover."""
+import importlib.machinery
+import importlib.util
+import os
+import subprocess
+import sys
+import tempfile
+
+sys.dont_write_bytecode = True
+TOP = os.path.dirname(os.path.dirname(os.path.realpath(__file__)))
+loader = importlib.machinery.SourceFileLoader("check", f"{TOP}/check")
+check = importlib.util.module_from_spec(importlib.util.spec_from_loader("check", loader))
+loader.exec_module(check)
+
+# `high` stands on `low`, and `side` on nothing.
+FILES = {
+    "crates.txt": "low: thiserror\nhigh: low\nside:\n",
+    "gate/edits.sums": "",
+    "crates/low/src/lib.rt": "fn low() {}\n",
+    "crates/low/specs/Lib.antt": "pub mod Low\n",
+    "crates/low/must-fail/low_is_high.edit": "file: src/lib.rt\nold: low\nnew: high\n",
+    "crates/high/src/lib.rt": "fn high() {}\n",
+    "crates/high/must-fail/high_is_low.edit": "file: src/lib.rt\nold: high\nnew: low\n",
+    "crates/side/src/lib.rt": "fn side() {}\n",
+    "crates/side/must-fail/side_is_low.edit": "file: src/lib.rt\nold: side\nnew: low\n",
+}
+
+
+def write(room, path, text):
+    os.makedirs(os.path.dirname(f"{room}/{path}"), exist_ok=True)
+    with open(f"{room}/{path}", "w", encoding="utf-8") as it:
+        it.write(text)
+
+
+def made(room):
+    """The tree above, with each crate's edits seen refused."""
+    for path, text in FILES.items():
+        write(room, path, text)
+    edits = check.Edits(room, "a kit")
+    assert edits.plan("00")[0] == ["high", "low", "side"], "with no sums all are tried"
+    edits.write(edits.owners)
+
+
+def changed(path, text, kit="a kit"):
+    """The crates whose edits run after one file of the tree has changed."""
+    with tempfile.TemporaryDirectory() as room:
+        made(room)
+        write(room, path, text)
+        return check.Edits(room, kit).plan("00")[0]
+
+
+def faults(path, text):
+    with tempfile.TemporaryDirectory() as room:
+        made(room)
+        write(room, path, text)
+        return check.Edits(room, "a kit").faults
+
+
+def copied(skipped):
+    with tempfile.TemporaryDirectory() as room, tempfile.TemporaryDirectory() as copy:
+        made(room)
+        subprocess.run(["git", "init", "-q"], cwd=room, check=True)
+        check.copy_without(room, copy, skipped)
+        return [os.path.relpath(it, copy) for it in check.files_of(copy)]
+
+
+LOW = FILES["crates/low/must-fail/low_is_high.edit"]
+for path, text, want in [
+    ("docs/GATE.md", "words\n", []),
+    ("crates/low/specs/Lib.antt", "pub mod Lou\n", ["high", "low"]),
+    ("crates/low/src/lib.rt", "fn low()  {}\n", ["high", "low"]),
+    ("crates/low/proofs/Lib.antt", "\n", ["high", "low"]),
+    ("crates/low/must-fail/low_is_high.edit", LOW + "\n", ["low"]),
+    ("crates/high/src/lib.rt", "fn high()  {}\n", ["high"]),
+    ("crates.txt", "low: thiserror clap\nhigh: low\nside:\n", ["high", "low"]),
+]:
+    assert changed(path, text) == want, path
+assert changed("docs/GATE.md", "words\n", "another kit") == ["high", "low", "side"]
+
+with tempfile.TemporaryDirectory() as room:
+    made(room)
+    chosen = [check.Edits(room, "a kit").plan(commit)[2] for commit in ("0", "1", "2", "3")]
+    assert chosen == [["high"], ["low"], ["side"], ["high"]], "one of the skipped is tried all the same"
+
+assert faults("docs/GATE.md", "words\n") == []
+assert len(faults("gate/edits.sums", "gone 00\n")) == 1, "a sum that no crate has"
+assert len(faults("crates/low/must-fail/deep/low_is_side.edit", LOW)) == 1, "an edit in a folder"
+assert len(faults("crates/low/low_is_side.edit", LOW)) == 1, "an edit beside the folder"
+assert len(faults("crates/gone/must-fail/low_is_side.edit", LOW)) == 1, "an edit of no crate"
+
+assert sorted(copied([])) == sorted(FILES)
+assert sorted(set(FILES) - set(copied(["low"]))) == ["crates/low/must-fail/low_is_high.edit"]
+print("gate/test_check.py: ok")
