@@ -1,6 +1,6 @@
 //! How the program tells a fault: its exit status, and its line on standard error.
 
-ghost use Rattle.cmwq.specs.Fault.{fault_name, line_of, status_of, why_name};
+ghost use Rattle.cmwq_command.specs.Fault.{fault_name, line_of, status_of, why_name};
 ghost use Rattle.std.specs.Io.KnownBytes.{Appends};
 ghost use Rattle.std.specs.Prelude.{◌≡◌, OnOk, Some};
 
@@ -95,62 +95,5 @@ fn fault_name(fault: Fault) -> &'static str
         Fault::Unknown => "Unknown",
         Fault::BadBody => "BadBody",
         Fault::BadFlags => "BadFlags",
-    }
-}
-
-#[cfg(test)]
-mod tests {
-    use super::*;
-    use std::test::Fail;
-
-    fn at(line: u32, why: Why) -> PlayError {
-        PlayError::Asm(AsmError::At { line, why })
-    }
-
-    #[test]
-    fn each_fault_has_its_status_and_line(rt: HostRuntime) -> Result<(), Fail> {
-        let rows: [(PlayError, u8, &[u8]); 14] = [
-            (
-                at(6, Why::Fault(Fault::Duplicate)),
-                1,
-                b"line 6: Duplicate\n",
-            ),
-            (at(1, Why::MissingWord), 1, b"line 1: MissingWord\n"),
-            (
-                PlayError::Image(ImageError::BadField(37)),
-                1,
-                b"image: BadField 37\n",
-            ),
-            (
-                PlayError::Image(ImageError::Fault(Fault::Range)),
-                1,
-                b"image: Range\n",
-            ),
-            (
-                PlayError::Image(ImageError::Truncated),
-                1,
-                b"image: Truncated\n",
-            ),
-            (PlayError::Image(ImageError::Magic), 1, b"image: Magic\n"),
-            (
-                PlayError::Image(ImageError::Version),
-                1,
-                b"image: Version\n",
-            ),
-            (PlayError::Image(ImageError::Extra), 1, b"image: Extra\n"),
-            (PlayError::Actors, 1, b"actors\n"),
-            (PlayError::Read, 3, b"read\n"),
-            (PlayError::Write, 3, b"write\n"),
-            (PlayError::NoMemory, 4, b"no memory\n"),
-            (PlayError::Asm(AsmError::NoMemory), 4, b"no memory\n"),
-            (PlayError::Image(ImageError::NoMemory), 4, b"no memory\n"),
-        ];
-        for (fault, want, line) in rows {
-            assert_eq!(rt; status(fault), want, "{fault}");
-            let mut told = Vec::new(rt.alloc());
-            fault_line(&mut told, fault)?;
-            assert_eq!(rt; told.as_slice(), line, "{fault}");
-        }
-        Ok(())
     }
 }

@@ -2,8 +2,8 @@ use Rattle.std.proofs.Common.{rules, ap₂, ◌≡◌, ◌∙◌, ◌||◌, code
 use Rattle.std.proofs.lemmas.Result.{IfOk-weaker}
 use Rattle.clap.specs.Words.{App, app_of, new_app, with_rule, with_subcommand}
 use Rattle.clap.specs.declared.builder.command.Command.TheViews.{out-Command as fields_of}
-use Rattle.cmwq.specs.Request.{program}
-use Rattle.cmwq.proofs.request.command.Goals as goal
+use Rattle.cmwq_command.specs.Request.{program}
+use Rattle.cmwq_command.proofs.request.command.Goals as goal
 
 abbrev adds : App → App → App
 adds line command = with_subcommand line command.top

@@ -2,7 +2,7 @@
 
 ghost use Rattle.clap.specs.Words.{Text, app_of, first_of, found_of, kind_of, rows_of, rule_of, subcommand_rows_of};
 ghost use Rattle.clap.specs.declared.builder.command.Command.TheViews.{out-Command as fields_of};
-ghost use Rattle.cmwq.specs.Request.{Asks, IsPlainWord, asked_in, asked_of, command_line, command_on, required_rule, words_of};
+ghost use Rattle.cmwq_command.specs.Request.{Asks, IsPlainWord, asked_in, asked_of, command_line, command_on, required_rule, words_of};
 ghost use Rattle.std.specs.Prelude.{◌≡◌, ◌≢◌, ◌⊎◌, [], ◌∷◌, Err, IfOk, Ok, codes, false, map, option_map, string_bytes};
 
 use clap::error::ErrorKind;
@@ -197,75 +197,4 @@ fn argument<'a>(alloc: Global, id: &'a str, help: &'a str) -> Arg<'a>
     ensures local { result.global ≡ false }
 {
     Arg::new(alloc, id).required(true).help(help)
-}
-
-#[cfg(test)]
-mod tests {
-    use super::*;
-    use std::test::Fail;
-
-    fn words(alloc: Global, line: &str) -> Result<Vec<String>, AllocError> {
-        line.split(' ')
-            .map(|word| String::from_str(alloc, word))
-            .try_collect(alloc)
-    }
-
-    #[test]
-    fn each_command_has_its_words(rt: HostRuntime) -> Result<(), Fail> {
-        let rows = [
-            ("cmwq run a.cmwq", Request::Run { file: "a.cmwq" }),
-            ("cmwq list a.cmwq", Request::List { file: "a.cmwq" }),
-            (
-                "cmwq asm a.cmwq a.image",
-                Request::Asm {
-                    file: "a.cmwq",
-                    out: "a.image",
-                },
-            ),
-            ("cmwq show a.image", Request::Show { image: "a.image" }),
-        ];
-        for (line, want) in rows {
-            let given = words(rt.alloc(), line)?;
-            let request = parse(rt.alloc(), given.as_slice())?;
-            assert!(rt; request == want, "{line}");
-        }
-        Ok(())
-    }
-
-    #[test]
-    fn wrong_words_are_usage_faults(rt: HostRuntime) -> Result<(), Fail> {
-        let rows = [
-            ("cmwq", ErrorKind::DisplayHelpOnMissingArgumentOrSubcommand),
-            ("cmwq run", ErrorKind::MissingRequiredArgument),
-            ("cmwq asm a", ErrorKind::MissingRequiredArgument),
-            ("cmwq list a b", ErrorKind::UnknownArgument),
-            ("cmwq asm a b c", ErrorKind::UnknownArgument),
-            ("cmwq walk a", ErrorKind::InvalidSubcommand),
-            ("cmwq show a --fast", ErrorKind::UnknownArgument),
-        ];
-        for (line, want) in rows {
-            let given = words(rt.alloc(), line)?;
-            let error = parse(rt.alloc(), given.as_slice()).expect_err(&rt, line);
-            assert!(rt; error.kind() == want, "{line}");
-            assert!(rt; error.use_stderr() && error.exit_code() == 2, "{line}");
-        }
-        Ok(())
-    }
-
-    #[test]
-    fn help_is_no_fault(rt: HostRuntime) -> Result<(), Fail> {
-        for line in [
-            "cmwq --help",
-            "cmwq -h",
-            "cmwq help",
-            "cmwq asm --help",
-            "cmwq help show",
-        ] {
-            let given = words(rt.alloc(), line)?;
-            let error = parse(rt.alloc(), given.as_slice()).expect_err(&rt, line);
-            assert!(rt; error.kind() == ErrorKind::DisplayHelp, "{line}");
-            assert!(rt; !error.use_stderr() && error.exit_code() == 0, "{line}");
-        }
-        Ok(())
-    }
 }

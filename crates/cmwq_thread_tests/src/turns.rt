@@ -3,7 +3,7 @@ ghost use Rattle.std.specs.Prelude.{◌≡◌, ◌<◌, ◌≤◌, ◌^◌, [], 
 ghost use Rattle.std.proofs.Common.{lit≤};
 ghost use Rattle.cmwq_lock.specs.Tokens.{IsPassOf};
 
-use crate::{
+use cmwq_lock::{
     Call, Drawn, Kept, NoMemory, NotDrawn, NotYet, Opener, Pass, StillOut, TicketLock, TooMany,
 };
 use std::alloc::Global;
