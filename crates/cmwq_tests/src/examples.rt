@@ -1,10 +1,21 @@
-//! Worked examples as texts, with what they print.
+//! Worked examples as texts, with what they print, and a worked image. What is printed comes from the kernel's
+//! document and from this project's own worked examples, never from a run.
 
-/// A scenario's name, its text, and the lines that it prints.
-pub(super) const EXAMPLES: [(&str, &str, &str); 17] = [
-    (
-        "max_active_3",
-        "cpus 1
+/// A scenario's text, and the lines that running it prints.
+#[derive(Clone, Copy)]
+pub(crate) struct Example {
+    /// The example's name.
+    pub(crate) name: &'static str,
+    /// The text, as it is listed.
+    pub(crate) text: &'static [u8],
+    /// What is printed.
+    pub(crate) prints: &'static [u8],
+}
+
+/// The kernel's document's works under `max_active` 3.
+pub(crate) const MAX_ACTIVE_3: Example = Example {
+    name: "max_active_3",
+    text: b"cpus 1
 workers 4
 steps 1000
 flushes 2
@@ -31,7 +42,7 @@ queue w1 0
 queue w2 0
 next * 41
 ",
-        "0 w0 starts
+    prints: b"0 w0 starts
 0 w0 burns 5
 5 w0 sleeps 10
 5 w1 starts
@@ -48,10 +59,43 @@ next * 41
 25 w2 wakes
 25 w2 finishes
 ",
-    ),
-    (
-        "max_active_2",
-        "cpus 1
+};
+
+/// A work that queues itself until the steps run out.
+pub(crate) const STEPS_RUN_OUT: Example = Example {
+    name: "steps_run_out",
+    text: b"cpus 1
+workers 4
+steps 8
+flushes 2
+queue q max 1
+work a q
+body a
+queue a 0
+finish
+actor t
+queue a 0
+next * 8
+state a
+",
+    prints: b"0 a starts
+0 a queues a
+0 a finishes
+0 a starts
+0 a queues a
+0 a finishes
+0 a starts
+0 refused Spent
+0 a idle runs 0/0
+",
+};
+
+/// All examples.
+pub(crate) const EXAMPLES: [Example; 21] = [
+    MAX_ACTIVE_3,
+    Example {
+        name: "max_active_2",
+        text: b"cpus 1
 workers 4
 steps 1000
 flushes 2
@@ -78,7 +122,7 @@ queue w1 0
 queue w2 0
 next * 51
 ",
-        "0 w0 starts
+        prints: b"0 w0 starts
 0 w0 burns 5
 5 w0 sleeps 10
 5 w1 starts
@@ -95,10 +139,10 @@ next * 51
 35 w2 wakes
 35 w2 finishes
 ",
-    ),
-    (
-        "max_active_1",
-        "cpus 1
+    },
+    Example {
+        name: "max_active_1",
+        text: b"cpus 1
 workers 4
 steps 1000
 flushes 2
@@ -125,7 +169,7 @@ queue w1 0
 queue w2 0
 next * 66
 ",
-        "0 w0 starts
+        prints: b"0 w0 starts
 0 w0 burns 5
 5 w0 sleeps 10
 15 w0 wakes
@@ -142,10 +186,10 @@ next * 66
 50 w2 wakes
 50 w2 finishes
 ",
-    ),
-    (
-        "cpu_intensive",
-        "cpus 1
+    },
+    Example {
+        name: "cpu_intensive",
+        text: b"cpus 1
 workers 4
 steps 1000
 flushes 2
@@ -173,7 +217,7 @@ queue w1 0
 queue w2 0
 next * 41
 ",
-        "0 w0 starts
+        prints: b"0 w0 starts
 0 w0 burns 5
 5 w0 sleeps 10
 5 w1 starts
@@ -190,10 +234,10 @@ next * 41
 25 w2 wakes
 25 w2 finishes
 ",
-    ),
-    (
-        "high_priority",
-        "cpus 1
+    },
+    Example {
+        name: "high_priority",
+        text: b"cpus 1
 workers 4
 steps 1000
 flushes 2
@@ -213,17 +257,17 @@ next * 3
 queue b 0
 next * 7
 ",
-        "0 a starts
+        prints: b"0 a starts
 0 a burns 2
 1 b starts
 1 b burns 2
 3 b finishes
 4 a finishes
 ",
-    ),
-    (
-        "unbound_and_ordered",
-        "cpus 1
+    },
+    Example {
+        name: "unbound_and_ordered",
+        text: b"cpus 1
 workers 4
 steps 1000
 flushes 2
@@ -257,7 +301,7 @@ queue d 0
 queue e 0
 next * 18
 ",
-        "0 a starts
+        prints: b"0 a starts
 0 a burns 2
 0 b starts
 0 b burns 2
@@ -273,10 +317,10 @@ next * 18
 2 e burns 1
 3 e finishes
 ",
-    ),
-    (
-        "queued_twice",
-        "cpus 1
+    },
+    Example {
+        name: "queued_twice",
+        text: b"cpus 1
 workers 4
 steps 1000
 flushes 2
@@ -290,15 +334,15 @@ queue a 0
 queue a 0
 next * 4
 ",
-        "0 already
+        prints: b"0 already
 0 a starts
 0 a burns 1
 1 a finishes
 ",
-    ),
-    (
-        "queues_itself",
-        "cpus 1
+    },
+    Example {
+        name: "queues_itself",
+        text: b"cpus 1
 workers 4
 steps 1000
 flushes 2
@@ -312,44 +356,18 @@ actor t
 queue a 0
 next * 8
 ",
-        "0 a starts
+        prints: b"0 a starts
 0 a queues a
 0 a sleeps 2
 0 a defers
 2 a wakes
 2 a finishes and starts
 ",
-    ),
-    (
-        "steps_run_out",
-        "cpus 1
-workers 4
-steps 8
-flushes 2
-queue q max 1
-work a q
-body a
-queue a 0
-finish
-actor t
-queue a 0
-next * 8
-state a
-",
-        "0 a starts
-0 a queues a
-0 a finishes
-0 a starts
-0 a queues a
-0 a finishes
-0 a starts
-0 refused Spent
-0 a idle runs 0/0
-",
-    ),
-    (
-        "refusals",
-        "cpus 1
+    },
+    STEPS_RUN_OUT,
+    Example {
+        name: "refusals",
+        text: b"cpus 1
 workers 4
 steps 1000
 flushes 2
@@ -369,7 +387,7 @@ step 0
 step 0
 step 4
 ",
-        "0 refused NoSuchCpu
+        prints: b"0 refused NoSuchCpu
 0 refused Unsettled
 0 a starts
 0 a burns 1
@@ -377,10 +395,10 @@ step 4
 1 refused NothingToDo
 1 refused NoSuchPool
 ",
-    ),
-    (
-        "timers",
-        "cpus 1
+    },
+    Example {
+        name: "timers",
+        text: b"cpus 1
 workers 4
 steps 1000
 flushes 2
@@ -403,7 +421,7 @@ cancel b
 cancel b
 next * 7
 ",
-        "0 refused NothingToDo
+        prints: b"0 refused NothingToDo
 0 changed
 0 a timer 2 still
 0 cancelled
@@ -413,10 +431,10 @@ next * 7
 2 a burns 1
 3 a finishes
 ",
-    ),
-    (
-        "flushes",
-        "cpus 1
+    },
+    Example {
+        name: "flushes",
+        text: b"cpus 1
 workers 4
 steps 1000
 flushes 2
@@ -447,7 +465,7 @@ ask 1
 state b
 ask 2
 ",
-        "0 a starts
+        prints: b"0 a starts
 0 a burns 2
 0 flush 0
 0 flush 1
@@ -463,10 +481,10 @@ ask 2
 4 b listed 0 still
 4 refused NoSuchFlush
 ",
-    ),
-    (
-        "cancelled_while_running",
-        "cpus 1
+    },
+    Example {
+        name: "cancelled_while_running",
+        text: b"cpus 1
 workers 4
 steps 1000
 flushes 2
@@ -488,7 +506,7 @@ ask 0
 ask 1
 cancel_sync a
 ",
-        "0 flush 0
+        prints: b"0 flush 0
 0 a listed 0 still
 0 a starts
 0 a burns 2
@@ -499,10 +517,10 @@ cancel_sync a
 2 yes
 2 refused TooManyFlushes
 ",
-    ),
-    (
-        "queued_elsewhere",
-        "cpus 2
+    },
+    Example {
+        name: "queued_elsewhere",
+        text: b"cpus 2
 workers 4
 steps 1000
 flushes 2
@@ -517,14 +535,14 @@ next * 2
 queue a 1
 state a
 ",
-        "0 a starts
+        prints: b"0 a starts
 0 a burns 2
 0 a listed 0 runs 0/0
 ",
-    ),
-    (
-        "freeze",
-        "cpus 1
+    },
+    Example {
+        name: "freeze",
+        text: b"cpus 1
 workers 4
 steps 1000
 flushes 2
@@ -555,7 +573,7 @@ thaw
 thaw
 next * 5
 ",
-        "0 a starts
+        prints: b"0 a starts
 0 a burns 2
 0 refused AlreadyFrozen
 0 yes
@@ -569,10 +587,10 @@ next * 5
 4 c burns 2
 6 c finishes
 ",
-    ),
-    (
-        "set_max",
-        "cpus 1
+    },
+    Example {
+        name: "set_max",
+        text: b"cpus 1
 workers 4
 steps 1000
 flushes 2
@@ -607,16 +625,16 @@ state d
 set_max q 4
 state d
 ",
-        "0 refused Ordered
+        prints: b"0 refused Ordered
 0 refused BadCount
 0 c listed 0 still
 0 d inactive 0 still
 0 d listed 0 still
 ",
-    ),
-    (
-        "activation_order",
-        "cpus 1
+    },
+    Example {
+        name: "activation_order",
+        text: b"cpus 1
 workers 4
 steps 1000
 flushes 2
@@ -642,15 +660,155 @@ state a
 state b
 state c
 ",
-        "0 a inactive 0 still
+        prints: b"0 a inactive 0 still
 0 b listed 0 still
 0 c listed 0 still
 ",
-    ),
+    },
+    Example {
+        name: "refusals_counted",
+        text: b"cpus 1
+workers 4
+steps 1000
+flushes 2
+queue q max 1
+work a q
+body a
+burn 1
+finish
+actor t
+queue a 1
+queue a 0
+tick
+step 0 * 2
+tick
+step 0 * 2
+step 4
+",
+        prints: b"0 refused NoSuchCpu
+0 refused Unsettled
+0 a starts
+0 a burns 1
+1 a finishes
+1 refused NothingToDo
+1 refused NoSuchPool
+",
+    },
+    Example {
+        name: "queued_elsewhere_beside_another",
+        text: b"cpus 2
+workers 4
+steps 1000
+flushes 2
+queue q max 2
+work a q
+work b q
+body a
+burn 2
+finish
+body b
+burn 2
+finish
+actor t
+queue a 0
+next * 2
+queue a 1
+state a
+",
+        prints: b"0 a starts
+0 a burns 2
+0 a listed 0 runs 0/0
+",
+    },
+    Example {
+        name: "freeze_counted",
+        text: b"cpus 1
+workers 4
+steps 1000
+flushes 2
+queue f max 2 freezable
+work a f
+work b f
+work c f
+body a
+burn 2
+finish
+body b
+burn 2
+finish
+body c
+burn 2
+finish
+actor t
+queue a 0
+next * 2
+queue b 0
+freeze * 2
+queue c 0
+busy
+next * 8
+busy
+thaw * 2
+next * 5
+",
+        prints: b"0 a starts
+0 a burns 2
+0 refused AlreadyFrozen
+0 yes
+2 a finishes
+2 b starts
+2 b burns 2
+4 b finishes
+4 no
+4 refused NotFrozen
+4 c starts
+4 c burns 2
+6 c finishes
+",
+    },
+    Example {
+        name: "activation_order_after_set_max",
+        text: b"cpus 1
+workers 4
+steps 1000
+flushes 2
+queue q max 3
+queue o max 1 ordered
+work a q
+work b q
+work c q
+work d q
+body a
+burn 1
+finish
+body b
+burn 1
+finish
+body c
+burn 1
+finish
+body d
+burn 1
+finish
+actor t
+set_max q 1
+queue c 0
+queue b 0
+queue a 0
+set_max q 2
+state a
+state b
+state c
+",
+        prints: b"0 a inactive 0 still
+0 b listed 0 still
+0 c listed 0 still
+",
+    },
 ];
 
-/// The image of `steps_run_out`.
-pub(super) const IMAGE_OF_STEPS_RUN_OUT: [u8; 126] = [
+/// The image of the example whose steps run out.
+pub(crate) const IMAGE_OF_STEPS_RUN_OUT: [u8; 126] = [
     0x43, 0x4d, 0x57, 0x51, 0x00, 0x01, 0x01, 0x04, 0x00, 0x00, 0x00, 0x08, 0x00, 0x02, 0x01, 0x00,
     0x01, 0x01, 0x01, 0x71, 0x00, 0x00, 0x00, 0x00, 0x00, 0x00, 0x00, 0x00, 0x00, 0x00, 0x00, 0x00,
     0x00, 0x00, 0x00, 0x01, 0x00, 0x00, 0x01, 0x61, 0x00, 0x00, 0x00, 0x00, 0x00, 0x00, 0x00, 0x00,

@@ -1,0 +1,13 @@
+//! Tests of every layer, over tables of rows.
+#![tactic(auto)]
+
+#[cfg(test)]
+mod commands;
+#[cfg(test)]
+mod examples;
+#[cfg(test)]
+mod images;
+#[cfg(test)]
+mod machines;
+#[cfg(test)]
+mod streams;
