@@ -11,8 +11,6 @@ mod fault;
 mod fields;
 mod header;
 mod instructions;
-#[cfg(test)]
-mod limit_tests;
 mod misplaced;
 mod naming;
 mod open;
@@ -20,8 +18,6 @@ mod operations;
 mod queues;
 mod stage;
 mod steps;
-#[cfg(test)]
-mod tests;
 mod tokens;
 mod works;
 

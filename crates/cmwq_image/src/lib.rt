@@ -14,6 +14,3 @@ mod writing;
 pub use error::ImageError;
 pub use reading::read;
 pub use writing::write;
-
-#[cfg(test)]
-mod tests;

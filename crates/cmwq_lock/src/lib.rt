@@ -9,8 +9,6 @@ mod fault;
 mod kept;
 mod lock;
 mod steps;
-#[cfg(test)]
-mod tests;
 mod tokens;
 mod views;
 

@@ -11,8 +11,3 @@ mod placing;
 mod ticking;
 
 pub use machine::Plain;
-
-#[cfg(test)]
-mod limit_tests;
-#[cfg(test)]
-mod tests;

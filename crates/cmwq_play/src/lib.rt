@@ -16,6 +16,3 @@ pub use listing::list_text;
 pub use reading::read_text;
 pub use running::run;
 pub use stream::{Marked, Sink, Source};
-
-#[cfg(test)]
-mod tests;

@@ -1,0 +1,72 @@
+//! A request, carried out on files.
+ghost use Rattle.std.specs.Prelude.{◌≡◌, IfOk, false};
+
+use crate::request::Request;
+use cmwq_play::{Marked, PlayError};
+use std::fs::File;
+use std::io::Write;
+use std::rt::Files;
+
+/// Does what is asked. Events and listings go to the writer.
+pub fn answer<R: Files + AllocGlobal, W: Write + Drop>(
+    rt: &R,
+    writer: W,
+    request: Request<'_>,
+) -> Result<(), PlayError> {
+    match request {
+        Request::Run { file } => run(rt, writer, file),
+        Request::List { file } => list(rt, writer, file),
+        Request::Asm { file, out } => asm(rt, file, out),
+        Request::Show { image } => show(rt, writer, image),
+    }
+}
+
+/// Runs the scenario whose text is in the file, and writes its events.
+fn run<R: Files + AllocGlobal, W: Write + Drop>(
+    rt: &R,
+    writer: W,
+    file: &str,
+) -> Result<(), PlayError> {
+    let mut reader = opened(rt, file)?;
+    let mut writer = Marked::new(writer);
+    cmwq_play::run(rt.alloc(), &mut reader, &mut writer)
+}
+
+/// Writes the listing of the scenario whose text is in the file.
+fn list<R: Files + AllocGlobal, W: Write + Drop>(
+    rt: &R,
+    writer: W,
+    file: &str,
+) -> Result<(), PlayError> {
+    let mut reader = opened(rt, file)?;
+    let mut writer = Marked::new(writer);
+    cmwq_play::list_text(rt.alloc(), &mut reader, &mut writer)
+}
+
+/// Makes the image file of the scenario whose text is in the file. The image file is made anew
+/// first, and it stays empty where there is a fault before the image is written.
+fn asm<R: Files + AllocGlobal>(rt: &R, file: &str, out: &str) -> Result<(), PlayError> {
+    let made = File::create(rt, out).map_err(|_| PlayError::Write)?;
+    let mut writer = Marked::new(made);
+    let mut reader = opened(rt, file)?;
+    cmwq_play::to_image(rt.alloc(), &mut reader, &mut writer)
+}
+
+/// Writes the listing of the scenario whose image is in the file.
+fn show<R: Files + AllocGlobal, W: Write + Drop>(
+    rt: &R,
+    writer: W,
+    image: &str,
+) -> Result<(), PlayError> {
+    let mut reader = opened(rt, image)?;
+    let mut writer = Marked::new(writer);
+    cmwq_play::from_image(rt.alloc(), &mut reader, &mut writer)
+}
+
+/// The file, opened to be read.
+fn opened<R: Files>(rt: &R, path: &str) -> Result<Marked<R::File>, PlayError>
+    ensures { IfOk result (λ reader. reader.failed ≡ false) }
+{
+    let file = File::open(rt, path).map_err(|_| PlayError::Read)?;
+    Ok(Marked::new(file))
+}

@@ -1,0 +1,247 @@
+//! The commands over memory: what they write, reads and writes that fail, and input that is refused.
+use crate::examples::{EXAMPLES, Example, IMAGE_OF_STEPS_RUN_OUT, MAX_ACTIVE_3, STEPS_RUN_OUT};
+use crate::streams::{
+    Command, Failure, Input, Outcome, Output, carried_out, reading_of, writing_to,
+};
+use cmwq_asm::AsmError;
+use cmwq_grammar::Why;
+use cmwq_image::ImageError;
+use cmwq_play::PlayError;
+use cmwq_types::Fault;
+use std::alloc::Global;
+use std::process::Abort;
+
+/// What the command writes, where nothing fails, when this many bytes are read and written a call.
+fn written(
+    rt: &impl Abort,
+    alloc: Global,
+    name: &str,
+    command: Command,
+    bytes: &[u8],
+    steps: (usize, usize),
+) -> Vec<u8> {
+    let (read, write) = steps;
+    let input = reading_of(bytes, read);
+    let outcome = carried_out(alloc, command, input, writing_to(alloc, write));
+    assert_eq!(rt; outcome.result, Ok(()), "{name}: {command:?}");
+    outcome.written
+}
+
+/// Carries the command out on the bytes, and compares what it writes.
+fn check_written(
+    rt: &impl Abort,
+    alloc: Global,
+    name: &str,
+    command: Command,
+    bytes: &[u8],
+    steps: (usize, usize),
+    want: &[u8],
+) {
+    let written = written(rt, alloc, name, command, bytes, steps);
+    assert_eq!(rt; written.as_slice(), want, "{name}: {command:?}");
+}
+
+#[test]
+fn examples_are_run_and_listed_and_come_back_from_their_images(rt: HostRuntime) {
+    let alloc = rt.alloc();
+    for Example { name, text, prints } in EXAMPLES {
+        check_written(&rt, alloc, name, Command::Run, text, (7, 4096), prints);
+        check_written(&rt, alloc, name, Command::List, text, (4096, 5), text);
+        let image = written(&rt, alloc, name, Command::Asm, text, (4096, 5));
+        check_written(&rt, alloc, name, Command::Show, &image, (5, 4096), text);
+    }
+}
+
+/// A text that isn't as it would be listed.
+const OTHER_WAYS: &[u8] = b"# a lesson\r\ncpus 1\r\n\tworkers  1\n\nsteps 8 # few\nflushes 0\n\
+    queue o max 1 ordered unbound\nactor t\nstep 9 * 1";
+
+#[test]
+fn a_text_in_other_ways_is_run_and_the_worked_image_is_written(rt: HostRuntime) {
+    let rows: [(Command, &[u8], &[u8]); 2] = [
+        (Command::Run, OTHER_WAYS, b"0 refused NoSuchPool\n"),
+        (
+            Command::Asm,
+            STEPS_RUN_OUT.text,
+            &IMAGE_OF_STEPS_RUN_OUT,
+        ),
+    ];
+    for (command, bytes, want) in rows {
+        check_written(&rt, rt.alloc(), "worked", command, bytes, (4096, 4096), want);
+    }
+}
+
+/// Commands and what they read.
+fn inputs() -> [(Command, &'static [u8]); 6] {
+    [
+        (Command::Run, MAX_ACTIVE_3.text),
+        (Command::List, MAX_ACTIVE_3.text),
+        (Command::Asm, MAX_ACTIVE_3.text),
+        (Command::Run, STEPS_RUN_OUT.text),
+        (Command::Asm, STEPS_RUN_OUT.text),
+        (Command::Show, &IMAGE_OF_STEPS_RUN_OUT),
+    ]
+}
+
+/// The outcome where each call reads 16 bytes, and the read of this number fails.
+fn with_failed_read(alloc: Global, command: Command, bytes: &[u8], fails: usize) -> Outcome {
+    let mut input = reading_of(bytes, 16);
+    input.fails = fails;
+    carried_out(alloc, command, input, writing_to(alloc, 4096))
+}
+
+#[test]
+fn a_failed_read_is_told_and_nothing_was_written(rt: HostRuntime) {
+    for (command, bytes) in inputs() {
+        let reads = with_failed_read(rt.alloc(), command, bytes, 0).reads;
+        assert!(rt; reads > bytes.len() / 16, "{command:?}: there were many calls");
+        for fails in 1..=reads {
+            let outcome = with_failed_read(rt.alloc(), command, bytes, fails);
+            assert_eq!(rt; outcome.result, Err(PlayError::Read), "{command:?}: read {fails}");
+            assert_eq!(rt; outcome.writes, 0, "{command:?}: read {fails}");
+        }
+    }
+}
+
+/// The outcome where each call writes one byte, and the write of this number fails.
+fn with_failed_write(
+    alloc: Global,
+    command: Command,
+    bytes: &[u8],
+    fails: usize,
+    failure: Failure,
+) -> Outcome {
+    let mut output = writing_to(alloc, 1);
+    output.fails = fails;
+    output.failure = failure;
+    carried_out(alloc, command, reading_of(bytes, 4096), output)
+}
+
+/// Lets each write fail in turn: it is told, and a front of what is written otherwise was written.
+fn check_failed_writes(
+    rt: &impl Abort,
+    alloc: Global,
+    command: Command,
+    bytes: &[u8],
+    failure: Failure,
+) {
+    let whole = with_failed_write(alloc, command, bytes, 0, failure);
+    assert_eq!(rt; whole.writes, whole.written.len(), "{command:?}: one byte a call");
+    for fails in 1..=whole.writes {
+        let outcome = with_failed_write(alloc, command, bytes, fails, failure);
+        let front = whole.written.get(..fails - 1);
+        assert_eq!(rt; outcome.result, Err(PlayError::Write), "{command:?}: write {fails}");
+        assert!(rt; front == Some(outcome.written.as_slice()), "{command:?}: write {fails}");
+    }
+}
+
+#[test]
+fn a_failed_write_is_told_and_a_front_was_written(rt: HostRuntime) {
+    for (command, bytes) in inputs() {
+        check_failed_writes(&rt, rt.alloc(), command, bytes, Failure::Error);
+        check_failed_writes(&rt, rt.alloc(), command, bytes, Failure::TakesNone);
+    }
+}
+
+/// 131,070 lines of 21 bytes: they don't fit one block.
+const LONG: &[u8] =
+    b"cpus 1\nworkers 1\nsteps 1\nflushes 0\nactor t\nstep 9 * 65535\nstep 9 * 65535\n";
+
+#[test]
+fn lines_go_out_before_all_are_made(rt: HostRuntime) {
+    let output = writing_to(rt.alloc(), 1_000_000);
+    let outcome = carried_out(rt.alloc(), Command::Run, reading_of(LONG, 4096), output);
+    assert_eq!(rt; outcome.result, Ok(()));
+    let line = "0 refused NoSuchPool\n";
+    assert_eq!(rt; outcome.written.len(), 2 * 65535 * line.len());
+    assert!(rt; outcome.writes > 100, "a block at a time");
+}
+
+/// Texts that `run` refuses, at which line, and why.
+const REFUSED: [(&[u8], u32, Why); 6] = [
+    (
+        b"cpus 1\nworkers 1\nsteps 8\nflushes 0\nactor t\ndance\n",
+        6,
+        Why::BadWord,
+    ),
+    (
+        b"cpus 1\nworkers 1\nsteps 8\nflushes 0\nactor t\ntick 1\n",
+        6,
+        Why::ExtraWord,
+    ),
+    (
+        b"cpus 1\nworkers 1\nsteps 8\nflushes 0\nactor t\n\nask 65536\n",
+        7,
+        Why::Fault(Fault::Range),
+    ),
+    (
+        b"cpus 1\nworkers 1\nsteps 8\nflushes 0\nactor t\nstate a\n",
+        6,
+        Why::Fault(Fault::Unknown),
+    ),
+    (
+        b"cpus 1\nworkers 1\nsteps 8\nflushes 0\nqueue q max 2 ordered\nactor t\n",
+        5,
+        Why::Fault(Fault::BadFlags),
+    ),
+    (
+        b"cpus 1\nworkers 1\nsteps 8\nflushes 0\nqueue q max 1\nwork a q\nbody a\nburn 1\nactor t\n",
+        9,
+        Why::Fault(Fault::BadBody),
+    ),
+];
+
+/// Texts of no actor and of two.
+const NOT_ONE_ACTOR: [&[u8]; 2] = [
+    b"cpus 1\nworkers 1\nsteps 8\nflushes 0\n",
+    b"cpus 1\nworkers 1\nsteps 8\nflushes 0\nactor t\nactor u\n",
+];
+
+/// The error of a text whose first fault is at this line.
+fn at(line: u32, why: Why) -> PlayError {
+    PlayError::Asm(AsmError::At { line, why })
+}
+
+/// The command answers this error and writes nothing. The answer is how often it read.
+pub(crate) fn check_refused(
+    rt: &impl Abort,
+    alloc: Global,
+    command: Command,
+    input: Input<'_>,
+    want: PlayError,
+) -> usize {
+    let outcome = carried_out(alloc, command, input, writing_to(alloc, 4096));
+    assert_eq!(rt; outcome.result, Err(want), "{command:?}");
+    assert_eq!(rt; outcome.writes, 0, "{command:?}: {want}");
+    outcome.reads
+}
+
+#[test]
+fn a_text_is_refused_before_anything_is_written(rt: HostRuntime) {
+    for (text, line, why) in REFUSED {
+        let input = reading_of(text, 4096);
+        check_refused(&rt, rt.alloc(), Command::Run, input, at(line, why));
+    }
+    for text in NOT_ONE_ACTOR {
+        let input = reading_of(text, 4096);
+        check_refused(&rt, rt.alloc(), Command::Run, input, PlayError::Actors);
+    }
+}
+
+/// The bytes, and then hashes without end.
+fn endless(bytes: &[u8]) -> Input<'_> {
+    let mut input = reading_of(bytes, 4096);
+    input.endless = true;
+    input
+}
+
+#[test]
+fn input_without_end_is_refused(rt: HostRuntime) {
+    let too_long = at(0, Why::TooLong);
+    let reads = check_refused(&rt, rt.alloc(), Command::Run, endless(b""), too_long);
+    // 4,194,305 bytes, 4,096 a call
+    assert_eq!(rt; reads, 1025);
+    let input = endless(&IMAGE_OF_STEPS_RUN_OUT);
+    let extra = PlayError::Image(ImageError::Extra);
+    check_refused(&rt, rt.alloc(), Command::Show, input, extra);
+}

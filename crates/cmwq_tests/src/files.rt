@@ -1,0 +1,112 @@
+//! Each command on real files, as the program carries it out.
+use crate::examples::{IMAGE_OF_STEPS_RUN_OUT as IMAGE, STEPS_RUN_OUT};
+use cmwq_asm::AsmError;
+use cmwq_command::answer;
+use cmwq_command::request::Request;
+use cmwq_grammar::Why;
+use cmwq_image::ImageError;
+use cmwq_play::PlayError;
+use cmwq_types::Fault;
+use std::fs;
+use std::process::Abort;
+use std::rt::Files;
+
+/// A new folder.
+fn make_folder<R: Files + AllocGlobal + Abort>(rt: &R, path: &str) {
+    let _ = fs::remove_dir_all(rt, path);
+    fs::create_dir(rt, path).expect(rt, "the folder is made");
+}
+
+/// The file has these bytes alone.
+fn put_file<R: Files + AllocGlobal + Abort>(rt: &R, path: &str, bytes: &[u8]) {
+    fs::write(rt, path, bytes).expect(rt, "the file is written");
+}
+
+/// Compares what the file has.
+fn check_file<R: Files + AllocGlobal + Abort>(rt: &R, path: &str, want: &[u8]) {
+    let bytes = fs::read(rt, path).expect(rt, "the file is read");
+    assert_eq!(rt; bytes.as_slice(), want, "{path}");
+}
+
+/// Compares the answer, and what was written to standard output.
+fn check_answer<R: Files + AllocGlobal + Abort>(
+    rt: &R,
+    request: Request<'_>,
+    want: Result<(), PlayError>,
+    printed: &[u8],
+) {
+    let mut output = Vec::new(rt.alloc());
+    let result = answer(rt, &mut output, request);
+    assert_eq!(rt; result, want, "{request:?}");
+    assert_eq!(rt; output.as_slice(), printed, "{request:?}");
+}
+
+#[test]
+fn each_command_reads_and_writes_files(rt: HostRuntime) {
+    make_folder(&rt, "cmwq_commands");
+    let file = "cmwq_commands/a.cmwq";
+    let out = "cmwq_commands/a.image";
+    put_file(&rt, file, STEPS_RUN_OUT.text);
+    check_answer(&rt, Request::Run { file }, Ok(()), STEPS_RUN_OUT.prints);
+    check_answer(&rt, Request::List { file }, Ok(()), STEPS_RUN_OUT.text);
+    check_answer(&rt, Request::Asm { file, out }, Ok(()), b"");
+    check_file(&rt, out, &IMAGE);
+    check_answer(&rt, Request::Show { image: out }, Ok(()), STEPS_RUN_OUT.text);
+    let _ = fs::remove_dir_all(&rt, "cmwq_commands");
+}
+
+/// `asm` answers this fault where OUT is a file already, and OUT is empty then.
+fn check_emptied<R: Files + AllocGlobal + Abort>(rt: &R, file: &str, out: &str, want: PlayError) {
+    put_file(rt, out, b"an older image");
+    check_answer(rt, Request::Asm { file, out }, Err(want), b"");
+    check_file(rt, out, b"");
+}
+
+/// The error of a text whose first fault is at its first line.
+fn at_first(why: Why) -> PlayError {
+    PlayError::Asm(AsmError::At { line: 1, why })
+}
+
+#[test]
+fn an_image_file_is_made_before_the_text_is_opened(rt: HostRuntime) {
+    make_folder(&rt, "cmwq_asm_faults");
+    let file = "cmwq_asm_faults/a.cmwq";
+    let out = "cmwq_asm_faults/a.image";
+    check_emptied(&rt, file, out, PlayError::Read);
+    put_file(&rt, file, b"cpus 17\n");
+    check_emptied(&rt, file, out, at_first(Why::Fault(Fault::Range)));
+    // One path for both: the text is gone before it is opened.
+    check_emptied(&rt, file, file, at_first(Why::MissingWord));
+    let _ = fs::remove_dir_all(&rt, "cmwq_asm_faults");
+}
+
+#[test]
+fn a_file_that_is_not_there_is_a_failed_read_or_write(rt: HostRuntime) {
+    let file = "cmwq_no_folder/a.cmwq";
+    let out = "cmwq_no_folder/a.image";
+    for (request, fault) in [
+        (Request::Run { file }, PlayError::Read),
+        (Request::List { file }, PlayError::Read),
+        (Request::Show { image: out }, PlayError::Read),
+        (Request::Asm { file, out }, PlayError::Write),
+    ] {
+        check_answer(&rt, request, Err(fault), b"");
+    }
+}
+
+#[test]
+fn a_faulty_image_is_told(rt: HostRuntime) {
+    make_folder(&rt, "cmwq_show_faults");
+    let image = "cmwq_show_faults/a.image";
+    let mut changed = IMAGE;
+    changed[37] = 1;
+    let rows: [(&[u8], ImageError); 2] = [
+        (&changed, ImageError::BadField(37)),
+        (STEPS_RUN_OUT.text, ImageError::Magic),
+    ];
+    for (bytes, fault) in rows {
+        put_file(&rt, image, bytes);
+        check_answer(&rt, Request::Show { image }, Err(PlayError::Image(fault)), b"");
+    }
+    let _ = fs::remove_dir_all(&rt, "cmwq_show_faults");
+}

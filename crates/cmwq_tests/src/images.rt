@@ -1,0 +1,113 @@
+//! The worked image cut short, made longer and changed. The expected answers are worked out by hand from the
+//! table of fields.
+use crate::commands::check_refused;
+use crate::examples::{IMAGE_OF_STEPS_RUN_OUT as IMAGE, STEPS_RUN_OUT};
+use crate::streams::{Command, reading_of};
+use cmwq_asm::assemble;
+use cmwq_image::{ImageError, read, write};
+use cmwq_play::PlayError;
+use cmwq_types::Fault;
+use std::alloc::Global;
+use std::process::Abort;
+
+/// The bytes are refused for this, read by themselves and by the command that lists images.
+fn check_faulty(rt: &impl Abort, alloc: Global, bytes: &[u8], want: ImageError) {
+    assert_eq!(rt; read(alloc, bytes).err(), Some(want));
+    let input = reading_of(bytes, 4096);
+    check_refused(rt, alloc, Command::Show, input, PlayError::Image(want));
+}
+
+#[test]
+fn the_worked_image_is_written_and_read(rt: HostRuntime) {
+    let scenario = assemble(rt.alloc(), STEPS_RUN_OUT.text).expect(&rt, "a scenario's text");
+    let bytes = write(rt.alloc(), &scenario).expect(&rt, "memory is left");
+    assert_eq!(rt; bytes.as_slice(), IMAGE.as_slice());
+    let scenario = read(rt.alloc(), &IMAGE).expect(&rt, "a scenario's image");
+    let bytes = write(rt.alloc(), &scenario).expect(&rt, "memory is left");
+    assert_eq!(rt; bytes.as_slice(), IMAGE.as_slice());
+}
+
+#[test]
+fn each_beginning_is_truncated(rt: HostRuntime) {
+    for n in 0..126 {
+        let fault = if n < 4 {
+            ImageError::Magic
+        } else {
+            ImageError::Truncated
+        };
+        check_faulty(&rt, rt.alloc(), &IMAGE[..n], fault);
+    }
+}
+
+#[test]
+fn one_byte_more_is_extra(rt: HostRuntime) {
+    let mut bytes = [0; 127];
+    bytes[..126].copy_from_slice(&IMAGE);
+    check_faulty(&rt, rt.alloc(), &bytes, ImageError::Extra);
+}
+
+/// Some bytes by their offset, what each is set to, and the fault that the image then has.
+const CHANGED: [(&[(usize, u8)], ImageError); 23] = [
+    (&[(3, 0x52)], ImageError::Magic),
+    (&[(5, 2)], ImageError::Version),
+    // 17 CPUs
+    (&[(6, 17)], ImageError::Fault(Fault::Range)),
+    // 33 queues; 257 works; 17 actors
+    (&[(14, 33)], ImageError::BadField(14)),
+    (&[(15, 1)], ImageError::BadField(15)),
+    (&[(17, 17)], ImageError::BadField(17)),
+    // a second queue takes the work's bytes, and a name of length 0 is left behind it
+    (&[(14, 2)], ImageError::BadField(58)),
+    // no actor
+    (&[(17, 0)], ImageError::Extra),
+    // names of no byte, of 16, with a byte behind them, and of a letter in upper case
+    (&[(18, 0)], ImageError::BadField(18)),
+    (&[(18, 16)], ImageError::BadField(18)),
+    (&[(33, 0x71)], ImageError::BadField(18)),
+    (&[(19, 0x51)], ImageError::BadField(18)),
+    // max 0; a sixth flag; the zero byte
+    (&[(35, 0)], ImageError::Fault(Fault::BadFlags)),
+    (&[(36, 32)], ImageError::BadField(36)),
+    (&[(37, 1)], ImageError::BadField(37)),
+    // a queue that isn't declared; no operation
+    (&[(54, 1)], ImageError::Fault(Fault::Unknown)),
+    (&[(55, 0)], ImageError::BadField(55)),
+    // an instruction among the operations; the fields that `finish` doesn't use
+    (&[(56, 16)], ImageError::BadField(56)),
+    (&[(66, 1)], ImageError::BadField(66)),
+    (&[(71, 1)], ImageError::BadField(68)),
+    // an operation among the instructions; no times
+    (&[(90, 3)], ImageError::BadField(90)),
+    (&[(101, 0)], ImageError::Fault(Fault::Range)),
+    // an instruction on a queue whose number has more than one byte
+    (&[(114, 23), (116, 1)], ImageError::BadField(116)),
+];
+
+/// The worked image with some bytes changed.
+fn changed(changes: &[(usize, u8)]) -> [u8; 126] {
+    let mut bytes = IMAGE;
+    for (offset, byte) in changes {
+        if let Some(place) = bytes.get_mut(*offset) {
+            *place = *byte;
+        }
+    }
+    bytes
+}
+
+#[test]
+fn a_changed_byte_has_its_fault(rt: HostRuntime) {
+    for (changes, fault) in CHANGED {
+        check_faulty(&rt, rt.alloc(), &changed(changes), fault);
+    }
+}
+
+#[test]
+fn a_fault_is_printed_by_its_name(rt: HostRuntime) {
+    for (fault, name) in [
+        (ImageError::BadField(37), "BadField 37"),
+        (ImageError::Fault(Fault::Range), "Range"),
+    ] {
+        let text = fault.to_string(rt.alloc()).expect(&rt, "memory is left");
+        assert_eq!(rt; text.as_str(), name);
+    }
+}

@@ -1,0 +1,21 @@
+//! Tests of every layer, over tables of rows.
+#![tactic(auto)]
+
+#[cfg(test)]
+mod command_lines;
+#[cfg(test)]
+mod commands;
+#[cfg(test)]
+mod examples;
+#[cfg(test)]
+mod faults;
+#[cfg(test)]
+mod files;
+#[cfg(test)]
+mod images;
+#[cfg(test)]
+mod machines;
+#[cfg(test)]
+mod streams;
+#[cfg(test)]
+mod texts;

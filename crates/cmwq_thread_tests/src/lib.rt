@@ -1,0 +1,5 @@
+//! Tests that start threads or wait.
+#![tactic(auto)]
+
+#[cfg(test)]
+mod turns;
