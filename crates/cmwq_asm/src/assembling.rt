@@ -10,7 +10,6 @@ ghost use Rattle.cmwq_types.specs.Contents.{ScenarioContents};
 ghost use Rattle.cmwq_types.specs.Faults.{IsValid};
 ghost use Rattle.std.specs.Prelude.{◌≡◌, ◌≤◌, ◌⊎◌, ℕ, IfOk, MatchResult, length};
 
-use crate::cutting::next_line;
 use crate::fault::{AsmError, LineError};
 use crate::stage::Stage;
 use crate::steps::{at_end, judge};
@@ -20,6 +19,7 @@ use cmwq_grammar::laws::{
     spelled_text_reads_as_its_scenario,
 };
 use cmwq_list::list;
+use cmwq_scan::next_line;
 use cmwq_types::{MAX_TEXT, Scenario};
 use std::alloc::Global;
 

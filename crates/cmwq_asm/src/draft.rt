@@ -5,7 +5,7 @@ ghost use Rattle.std.specs.List.{list_any};
 ghost use Rattle.std.specs.Prelude.{◌≡◌, ◌<◌, ◌≤◌, ◌++◌, ◌∷◌, [], IfOk, false, length, map};
 ghost use Rattle.std.specs.Str.{bytes_eq};
 
-use crate::naming::{Named, Names};
+use cmwq_scan::{Named, Names};
 use cmwq_types::{
     Actor, Flags, Line, MAX_QUEUES, MAX_WORKS, NoMemory, QueueDecl, QueueId, Scenario, WorkDecl,
 };

@@ -4,17 +4,13 @@
 mod actors;
 mod assembling;
 mod bodies;
-mod cutting;
 mod declarations;
 mod draft;
 mod fault;
-mod fields;
 mod header;
 mod instructions;
 #[cfg(test)]
 mod limit_tests;
-mod misplaced;
-mod naming;
 mod open;
 mod operations;
 mod queues;
@@ -22,7 +18,6 @@ mod stage;
 mod steps;
 #[cfg(test)]
 mod tests;
-mod tokens;
 mod works;
 
 pub use assembling::{assemble, assemble_again};

@@ -3,24 +3,21 @@ ghost use Rattle.cmwq_asm.specs.Answers.{Gives};
 ghost use Rattle.cmwq_asm.specs.Stages.{stage_of};
 ghost use Rattle.cmwq_grammar.specs.Reasons.{at_end, judge, step};
 ghost use Rattle.cmwq_grammar.specs.Stages as stage;
-ghost use Rattle.std.specs.Prelude.{◌≡◌, ◌∷◌};
-ghost use Rattle.std.specs.Str.{is_utf8};
+ghost use Rattle.std.specs.Prelude.{◌∷◌};
 
 use crate::actors::{add_line, close_actor, open_actor};
 use crate::bodies::Bodies;
 use crate::draft::Draft;
 use crate::fault::LineError;
-use crate::fields::is_word;
 use crate::header::{read_cpus, read_flushes, read_steps, read_workers};
 use crate::instructions::read_line;
-use crate::misplaced::refusal;
 use crate::open::{OpenActor, OpenBody};
 use crate::operations::{add_op, open_body, read_op};
 use crate::queues::declare_queue;
 use crate::stage::Stage;
-use crate::tokens::{Token, tokens_of};
 use crate::works::declare_work;
 use cmwq_grammar::Why;
+use cmwq_scan::{Token, is_text, is_word, refusal, tokens_of};
 use cmwq_types::{Fault, Scenario};
 use std::alloc::Global;
 
@@ -38,13 +35,6 @@ pub(crate) fn judge<'t>(
     }
     let words = tokens_of(alloc, line)?;
     step(alloc, stage, &words)
-}
-
-/// Whether the bytes are UTF-8.
-fn is_text(bytes: &[u8]) -> bool
-    ensures { result ≡ is_utf8 bytes.now }
-{
-    str::from_utf8(bytes).is_ok()
 }
 
 /// The stage after a line of these words. A line without words tells nothing.
@@ -83,7 +73,7 @@ fn step_on<'t>(
 }
 
 /// A line behind the head, or behind a queue.
-#[tactic(auto, using(crate::proofs::LineSteps::line_steps), unfolding(cmwq_grammar::specs::Reasons::step))]
+#[tactic(auto, using(cmwq_scan::proofs::LineSteps::line_steps), unfolding(cmwq_grammar::specs::Reasons::step))]
 fn in_queues<'t>(
     alloc: Global,
     draft: Draft<'t>,
@@ -105,7 +95,7 @@ fn in_queues<'t>(
 }
 
 /// A line behind a work.
-#[tactic(auto, using(crate::proofs::LineSteps::line_steps), unfolding(cmwq_grammar::specs::Reasons::step))]
+#[tactic(auto, using(cmwq_scan::proofs::LineSteps::line_steps), unfolding(cmwq_grammar::specs::Reasons::step))]
 fn in_works<'t>(
     alloc: Global,
     draft: Draft<'t>,
@@ -124,7 +114,7 @@ fn in_works<'t>(
 }
 
 /// A line behind the `finish` of a body.
-#[tactic(auto, using(crate::proofs::LineSteps::line_steps), unfolding(cmwq_grammar::specs::Reasons::step))]
+#[tactic(auto, using(cmwq_scan::proofs::LineSteps::line_steps), unfolding(cmwq_grammar::specs::Reasons::step))]
 fn between_bodies<'t>(
     alloc: Global,
     bodies: Bodies<'t>,
