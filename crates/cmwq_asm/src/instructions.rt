@@ -6,7 +6,9 @@ ghost use Rattle.std.specs.Prelude.{◌∷◌};
 
 use crate::draft::Draft;
 use cmwq_grammar::Why;
-use cmwq_scan::{Field, Token, is_word, read_declared, read_last_number_within, read_number_within, refusal};
+use cmwq_scan::{
+    Field, Token, is_word, read_declared, read_last_number_within, read_number_within, refusal,
+};
 use cmwq_types::{Instr, Line, MAX_TIMES, QueueId, WorkId};
 
 /// The line that begins with this word.

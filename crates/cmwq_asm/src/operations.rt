@@ -12,7 +12,9 @@ use crate::fault::LineError;
 use crate::open::OpenBody;
 use crate::stage::Stage;
 use cmwq_grammar::Why;
-use cmwq_scan::{Token, ended, is_word, read_declared, read_last_number_below, read_last_number_within, refusal};
+use cmwq_scan::{
+    Token, ended, is_word, read_declared, read_last_number_below, read_last_number_within, refusal,
+};
 use cmwq_types::{Fault, MAX_OPS, MAX_TICKS, Op, WorkId};
 use std::alloc::Global;
 
