@@ -1,6 +1,7 @@
 //! What each line adds at the stage where it stands.
 ghost use Rattle.cmwq_asm.specs.Answers.{Gives};
 ghost use Rattle.cmwq_asm.specs.Stages.{stage_of};
+ghost use Rattle.cmwq_asm.specs.Steps.{text_words};
 ghost use Rattle.cmwq_grammar.specs.Reasons.{at_end, judge, step};
 ghost use Rattle.cmwq_grammar.specs.Stages as stage;
 ghost use Rattle.std.specs.Prelude.{◌∷◌};
@@ -19,6 +20,7 @@ use crate::works::declare_work;
 use cmwq_grammar::Why;
 use cmwq_scan::{Token, is_text, is_word, refusal, tokens_of};
 use cmwq_types::{Fault, Scenario};
+use smallvec::SmallVec;
 use std::alloc::Global;
 
 /// The stage after this line, or the first reason against it.
@@ -30,11 +32,19 @@ pub(crate) fn judge<'t>(
 ) -> Result<Stage<'t>, LineError>
     ensures { Gives stage_of result (judge (stage_of stage.entry) line.now) }
 {
+    let words = words_of(alloc, line)?;
+    step(alloc, stage, &words)
+}
+
+/// The words of the line, if it is text.
+fn words_of<'t>(alloc: Global, line: &'t [u8]) -> Result<SmallVec<Token<'t>, 8>, LineError>
+    ensures { Gives (λ words. words.items) result (text_words line.now) }
+{
     if !is_text(line) {
         return Err(LineError::Why(Why::BadUtf8));
     }
     let words = tokens_of(alloc, line)?;
-    step(alloc, stage, &words)
+    Ok(words)
 }
 
 /// The stage after a line of these words. A line without words tells nothing.
