@@ -12,7 +12,7 @@ ghost use Rattle.std.specs.Prelude.{◌≡◌, ◌≤◌, ◌⊎◌, ℕ, IfOk, 
 
 use crate::fault::{AsmError, LineError};
 use crate::stage::Stage;
-use crate::steps::{at_end, judge};
+use crate::steps::judge;
 use cmwq_grammar::Why;
 use cmwq_grammar::laws::{
     read_text_spells_its_scenario, reading_fails_at_the_first_fault,
@@ -69,7 +69,7 @@ fn read_text(alloc: Global, text: &[u8]) -> Result<Scenario, AsmError>
         });
     }
     let (stage, lines) = read_lines(alloc, text)?;
-    match at_end(stage) {
+    match stage.at_end() {
         Ok(scenario) => Ok(scenario),
         Err(error) => Err(at_line(lines + 1, error)),
     }

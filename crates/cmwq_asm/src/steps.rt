@@ -10,7 +10,6 @@ use crate::actors::{add_line, close_actor, open_actor};
 use crate::bodies::Bodies;
 use crate::draft::Draft;
 use crate::fault::LineError;
-use crate::header::{read_cpus, read_flushes, read_steps, read_workers};
 use crate::instructions::read_line;
 use crate::open::{OpenActor, OpenBody};
 use crate::operations::{add_op, open_body, read_op};
@@ -19,7 +18,7 @@ use crate::stage::Stage;
 use crate::works::declare_work;
 use cmwq_grammar::Why;
 use cmwq_scan::{Token, is_text, is_word, refusal, tokens_of};
-use cmwq_types::{Fault, Scenario};
+use cmwq_types::Scenario;
 use smallvec::SmallVec;
 use std::alloc::Global;
 
@@ -54,37 +53,13 @@ fn step<'t>(alloc: Global, stage: Stage<'t>, words: &[Token<'t>]) -> Result<Stag
 {
     match words {
         [] => Ok(stage),
-        [word, rest @ ..] => step_on(alloc, stage, word.bytes(), rest),
-    }
-}
-
-/// The stage after a line that begins with this word.
-fn step_on<'t>(
-    alloc: Global,
-    stage: Stage<'t>,
-    word: &[u8],
-    rest: &[Token<'t>],
-) -> Result<Stage<'t>, LineError>
-    ensures { Gives stage_of result (step (stage_of stage.entry) (word.now ∷ rest.now)) }
-{
-    match stage {
-        Stage::Start => read_cpus(word, rest),
-        Stage::Cpus(cpus) => read_workers(cpus, word, rest),
-        Stage::Workers(cpus, workers) => read_steps(cpus, workers, word, rest),
-        Stage::Steps(cpus, workers, steps) => {
-            read_flushes(alloc, cpus, workers, steps, word, rest)
-        }
-        Stage::Queues(draft) => in_queues(alloc, draft, word, rest),
-        Stage::Works(draft) => in_works(alloc, draft, word, rest),
-        Stage::Bodies(bodies) => between_bodies(alloc, bodies, word, rest),
-        Stage::Body(body) => in_body(body, word, rest),
-        Stage::Actor(actor) => in_actor(alloc, actor, word, rest),
+        [word, rest @ ..] => stage.after(alloc, word.bytes(), rest),
     }
 }
 
 /// A line behind the head, or behind a queue.
 #[tactic(auto, using(cmwq_scan::proofs::LineSteps::line_steps), unfolding(cmwq_grammar::specs::Reasons::step))]
-fn in_queues<'t>(
+pub(crate) fn in_queues<'t>(
     alloc: Global,
     draft: Draft<'t>,
     word: &[u8],
@@ -106,7 +81,7 @@ fn in_queues<'t>(
 
 /// A line behind a work.
 #[tactic(auto, using(cmwq_scan::proofs::LineSteps::line_steps), unfolding(cmwq_grammar::specs::Reasons::step))]
-fn in_works<'t>(
+pub(crate) fn in_works<'t>(
     alloc: Global,
     draft: Draft<'t>,
     word: &[u8],
@@ -125,7 +100,7 @@ fn in_works<'t>(
 
 /// A line behind the `finish` of a body.
 #[tactic(auto, using(cmwq_scan::proofs::LineSteps::line_steps), unfolding(cmwq_grammar::specs::Reasons::step))]
-fn between_bodies<'t>(
+pub(crate) fn between_bodies<'t>(
     alloc: Global,
     bodies: Bodies<'t>,
     word: &[u8],
@@ -145,7 +120,11 @@ fn between_bodies<'t>(
 
 /// A line in an open body.
 #[tactic(auto, unfolding(cmwq_grammar::specs::Reasons::step))]
-fn in_body<'t>(body: OpenBody<'t>, word: &[u8], rest: &[Token<'t>]) -> Result<Stage<'t>, LineError>
+pub(crate) fn in_body<'t>(
+    body: OpenBody<'t>,
+    word: &[u8],
+    rest: &[Token<'t>],
+) -> Result<Stage<'t>, LineError>
     ensures { Gives stage_of result (step (stage.Body body.entry.bodies.told body.entry.bodies.done body.entry.ops.items) (word.now ∷ rest.now)) }
 {
     let op = read_op(body.bodies.draft(), word, rest)?;
@@ -154,7 +133,7 @@ fn in_body<'t>(body: OpenBody<'t>, word: &[u8], rest: &[Token<'t>]) -> Result<St
 
 /// A line behind an actor's first line.
 #[tactic(auto, unfolding(cmwq_grammar::specs::Reasons::step))]
-fn in_actor<'t>(
+pub(crate) fn in_actor<'t>(
     alloc: Global,
     actor: OpenActor<'t>,
     word: &[u8],
@@ -169,23 +148,9 @@ fn in_actor<'t>(
     add_line(actor, line)
 }
 
-/// The scenario of a text that ends at this stage, or why it may not.
-#[tactic(auto, unfolding(cmwq_grammar::specs::Reasons::at_end))]
-pub(crate) fn at_end(stage: Stage) -> Result<Scenario, LineError>
-    ensures { Gives (λ scenario. scenario) result (at_end (stage_of stage.entry)) }
-{
-    match stage {
-        Stage::Queues(draft) => Ok(draft.into_scenario()),
-        Stage::Bodies(bodies) => end_between_bodies(bodies),
-        Stage::Body(_) => Err(LineError::Why(Why::Fault(Fault::BadBody))),
-        Stage::Actor(actor) => Ok(close_actor(actor)?.into_scenario()),
-        _ => Err(LineError::Why(Why::MissingWord)),
-    }
-}
-
 /// The scenario of a text that ends where no body is open.
 #[tactic(auto, unfolding(cmwq_grammar::specs::Reasons::at_end))]
-fn end_between_bodies(bodies: Bodies) -> Result<Scenario, LineError>
+pub(crate) fn end_between_bodies(bodies: Bodies) -> Result<Scenario, LineError>
     ensures { Gives (λ scenario. scenario) result (at_end (stage.Bodies bodies.entry.told bodies.entry.done)) }
 {
     if !bodies.are_complete() {
