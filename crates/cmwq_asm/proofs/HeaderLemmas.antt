@@ -7,10 +7,10 @@ use Rattle.cmwq_grammar.specs.Instructions.{cannot_stand}
 use Rattle.cmwq_grammar.specs.declared.why.Why.{Why}
 use Rattle.cmwq_grammar.specs.declared.why.Why.TheVariants as why
 use Rattle.cmwq_asm.specs.Header.{head_number}
-use Rattle.cmwq_asm.specs.LastFields.{last}
-use Rattle.cmwq_asm.specs.Refusals.{refusal}
-use Rattle.cmwq_asm.proofs.LastFields.{last_ok, last_err}
-use Rattle.cmwq_asm.proofs.LineSteps.{cannot_stand-is}
+use Rattle.cmwq_scan.specs.LastFields.{last}
+use Rattle.cmwq_scan.specs.Refusals.{refusal}
+use Rattle.cmwq_scan.proofs.LastFields.{last_ok, last_err}
+use Rattle.cmwq_scan.proofs.LineSteps.{cannot_stand-is}
 
 module _ {A : Type 0} (f : ℕ → A) where
   by_ok : (b : Bool) (field : Result (ℕ × List (List ℕ)) Why) (word : List ℕ) (n : ℕ) → cond b (last field) (cannot_stand why.Misplaced word) ≡ Ok n → cond b (field >>= made_last f) (cannot_stand why.Misplaced word) ≡ Ok (f n)

@@ -1,11 +1,5 @@
 mod AssembleLemmas
 mod BodyLemmas
-mod CuttingLemmas
 mod HeaderLemmas
-mod LastFields
-mod LineSteps
-mod NameLemmas
-mod NumberLemmas
 mod Refused
 mod TextLemmas
-mod TokenLemmas

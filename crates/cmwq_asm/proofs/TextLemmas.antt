@@ -1,9 +1,6 @@
 -- Reading a text line by line.
 use Rattle.std.proofs.Common.{◌≡◌, ℕ, ◌+◌, List, [], ◌∷◌, ap, ◌∙◌, refl, sym, subst}
-use Rattle.std.specs.Prelude.{Result, Ok, Err, MatchResult, Bool, true, false}
-use Rattle.std.specs.Result.{is_ok}
-use Rattle.std.specs.Str.{IsUtf8, is_utf8}
-use Rattle.std.proofs.lemmas.Str.{IsUtf8-from_is_utf8, is_utf8-from_IsUtf8}
+use Rattle.std.specs.Prelude.{Result, Ok, Err}
 use Rattle.cmwq_grammar.specs.Fields.{◌>>=◌}
 use Rattle.cmwq_grammar.specs.Meaning.{FaultAt, fault_at, at_line, stage_after}
 use Rattle.cmwq_grammar.specs.Reasons.{judge}
@@ -38,12 +35,3 @@ last_stage n lines stage none = ap (λ (all : List (List ℕ)). stage_after n al
 pub told_fails : {A B : Type 0} (answer : AsmError) (line : ℕ) (e : LineError) (said : Result A Why) (text : Result B FaultAt) → AsmErrorIs answer line e → Refuses e said → ((reason : Why) → said ≡ Err reason → text ≡ Err (fault_at line reason)) → Fails answer text
 told_fails answer line (error.Why why) said text told refuses at = subst (λ given. Fails given text) (sym told) (at why refuses)
 told_fails answer line error.NoMemory said text told refuses at = subst (λ given. Fails given text) (sym told) tt
-
--- what the test of the bytes tells
-pub utf8_test : {A E : Type 0} (bytes : List ℕ) (r : Result A E) (P : A → Type 0) (Q : E → Type 0) → MatchResult r (λ text. P text × IsUtf8 bytes) (λ e. (¬ (IsUtf8 bytes)) × Q e) → is_ok r ≡ is_utf8 bytes
-utf8_test bytes (Ok text) P Q h = sym (is_utf8-from_IsUtf8 bytes h.1)
-utf8_test bytes (Err e) P Q h = refused_by (is_utf8 bytes) (λ passes. h.0 (IsUtf8-from_is_utf8 bytes passes))
-  where
-    refused_by : (b : Bool) → (b ≡ true → ⊥) → false ≡ b
-    refused_by true never = absurd (never refl)
-    refused_by false never = refl

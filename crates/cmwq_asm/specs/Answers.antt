@@ -1,13 +1,8 @@
--- What reading answers: what a definition says, or want of memory.
+-- What reading a line answers: what a definition says, or want of memory.
 use Rattle.std.specs.Prelude.{◌≡◌, Result, Ok, Err}
 use Rattle.cmwq_grammar.specs.declared.why.Why.{Why}
 use Rattle.cmwq_asm.specs.declared.fault.LineError.{LineError}
 use Rattle.cmwq_asm.specs.declared.fault.LineError.TheVariants as error
-
--- the answer, seen by view, is what the definition says
-abbrev pub Tells : {A B E : Type 0} → (A → B) → Result A E → Result B E → Type 0
-Tells view (Ok found) said = said ≡ Ok (view found)
-Tells view (Err why) said = said ≡ Err why
 
 abbrev pub Refuses : {B : Type 0} → LineError → Result B Why → Type 0
 Refuses error.NoMemory said = Unit {0}

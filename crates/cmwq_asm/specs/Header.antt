@@ -5,7 +5,7 @@ use Rattle.cmwq_grammar.specs.Fields.{number_within}
 use Rattle.cmwq_grammar.specs.Instructions.{cannot_stand}
 use Rattle.cmwq_grammar.specs.declared.why.Why.{Why}
 use Rattle.cmwq_grammar.specs.declared.why.Why.TheVariants as why
-use Rattle.cmwq_asm.specs.LastFields.{last}
+use Rattle.cmwq_scan.specs.LastFields.{last}
 
 -- the number of a line that must be this word and a number from low to high
 abbrev pub head_number : List ℕ → ℕ → ℕ → List ℕ → List (List ℕ) → Result ℕ Why

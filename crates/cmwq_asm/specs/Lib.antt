@@ -2,10 +2,8 @@ pub mod Answers
 pub mod Declarations
 pub mod Header
 pub mod Instructions
-pub mod LastFields
 pub mod Operations
 pub mod Parts
-pub mod Refusals
 pub mod Stages
 pub mod Steps
 pub mod Texts

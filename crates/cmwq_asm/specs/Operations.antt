@@ -7,7 +7,7 @@ use Rattle.cmwq_grammar.specs.Fields.{◌>>=◌, declared_at, made_last, number_
 use Rattle.cmwq_grammar.specs.Instructions.{work_names}
 use Rattle.cmwq_grammar.specs.Reasons.{is_next, then_cpu}
 use Rattle.cmwq_grammar.specs.declared.why.Why.{Why}
-use Rattle.cmwq_asm.specs.LastFields.{last}
+use Rattle.cmwq_scan.specs.LastFields.{last}
 
 -- so many ticks
 abbrev pub ticks_at : (ℕ → Op) → List (List ℕ) → Result Op Why

@@ -7,11 +7,10 @@ ghost use Rattle.std.specs.Prelude.{◌≡◌, IfOk};
 
 use crate::draft::Draft;
 use crate::fault::LineError;
-use crate::fields::read_last_new_name;
 use crate::open::OpenActor;
 use crate::stage::Stage;
-use crate::tokens::Token;
 use cmwq_grammar::Why;
+use cmwq_scan::{Token, read_last_new_name};
 use cmwq_types::{Fault, Line, MAX_ACTORS, MAX_LINES, NoMemory};
 use std::alloc::Global;
 

@@ -10,16 +10,16 @@ ghost use Rattle.cmwq_types.specs.Contents.{ScenarioContents};
 ghost use Rattle.cmwq_types.specs.Faults.{IsValid};
 ghost use Rattle.std.specs.Prelude.{◌≡◌, ◌≤◌, ◌⊎◌, ℕ, IfOk, MatchResult, length};
 
-use crate::cutting::next_line;
 use crate::fault::{AsmError, LineError};
 use crate::stage::Stage;
-use crate::steps::{at_end, judge};
+use crate::steps::judge;
 use cmwq_grammar::Why;
 use cmwq_grammar::laws::{
     read_text_spells_its_scenario, reading_fails_at_the_first_fault,
     spelled_text_reads_as_its_scenario,
 };
 use cmwq_list::list;
+use cmwq_scan::next_line;
 use cmwq_types::{MAX_TEXT, Scenario};
 use std::alloc::Global;
 
@@ -69,7 +69,7 @@ fn read_text(alloc: Global, text: &[u8]) -> Result<Scenario, AsmError>
         });
     }
     let (stage, lines) = read_lines(alloc, text)?;
-    match at_end(stage) {
+    match stage.at_end() {
         Ok(scenario) => Ok(scenario),
         Err(error) => Err(at_line(lines + 1, error)),
     }

@@ -1,6 +1,6 @@
 //! What a line declares, before it is judged as a whole.
 
-use crate::naming::Named;
+use cmwq_scan::Named;
 use cmwq_types::{Flags, QueueId};
 
 /// A queue whose `max` and flags may not fit.

@@ -5,7 +5,7 @@ ghost use Rattle.std.specs.List.{list_any};
 ghost use Rattle.std.specs.Prelude.{◌≡◌, ◌<◌, ◌≤◌, ◌++◌, ◌∷◌, [], IfOk, false, length, map};
 ghost use Rattle.std.specs.Str.{bytes_eq};
 
-use crate::naming::{Named, Names};
+use cmwq_scan::{Named, Names};
 use cmwq_types::{
     Actor, Flags, Line, MAX_QUEUES, MAX_WORKS, NoMemory, QueueDecl, QueueId, Scenario, WorkDecl,
 };
@@ -13,7 +13,6 @@ use std::alloc::Global;
 use std::marker::Model;
 
 /// What is told so far, with the names by their numbers.
-#[derive(Drop)]
 struct Parts<'t> {
     cpus: u8,
     workers: u8,
@@ -25,6 +24,61 @@ struct Parts<'t> {
     queue_names: Names<'t>,
     work_names: Names<'t>,
     actor_names: Names<'t>,
+}
+
+/// Parts are dropped by one call, wherever that is.
+impl<'t> Drop for Parts<'t> {
+    fn drop(self) {
+        let Parts {
+            cpus: _,
+            workers: _,
+            steps: _,
+            flushes: _,
+            queues: _queues,
+            works: _works,
+            actors: _actors,
+            queue_names: _queue_names,
+            work_names: _work_names,
+            actor_names: _actor_names,
+        } = self;
+    }
+}
+
+impl<'t> Parts<'t> {
+    /// The scenario of these parts.
+    fn into_scenario(self) -> Scenario
+        ensures { result ≡ record {
+          cpus = self.entry.cpus;
+          workers = self.entry.workers;
+          steps = self.entry.steps;
+          flushes = self.entry.flushes;
+          queues = self.entry.queues.items;
+          works = self.entry.works.items;
+          actors = self.entry.actors.items;
+        } }
+    {
+        let Parts {
+            cpus,
+            workers,
+            steps,
+            flushes,
+            queues,
+            works,
+            actors,
+            queue_names: _queue_names,
+            work_names: _work_names,
+            actor_names: _actor_names,
+        } = self;
+        Scenario {
+            cpus,
+            workers,
+            steps,
+            flushes,
+            queues,
+            works,
+            actors,
+        }
+    }
 }
 
 /// The parts of a scenario that are told so far. Contracts see the scenario of these parts.
@@ -211,14 +265,6 @@ impl<'t> Draft<'t> {
         ensures { result ≡ self.entry }
     {
         let Draft { parts } = self;
-        Scenario {
-            cpus: parts.cpus,
-            workers: parts.workers,
-            steps: parts.steps,
-            flushes: parts.flushes,
-            queues: parts.queues,
-            works: parts.works,
-            actors: parts.actors,
-        }
+        parts.into_scenario()
     }
 }

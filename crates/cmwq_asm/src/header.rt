@@ -1,5 +1,6 @@
 //! The four lines at a text's head.
-ghost use Rattle.cmwq_asm.specs.Answers.{Gives, Tells};
+ghost use Rattle.cmwq_asm.specs.Answers.{Gives};
+ghost use Rattle.cmwq_scan.specs.Answers.{Tells};
 ghost use Rattle.cmwq_asm.specs.Header.{head_number};
 ghost use Rattle.cmwq_asm.specs.Stages.{stage_of};
 ghost use Rattle.cmwq_grammar.specs.Reasons.{step};
@@ -8,16 +9,14 @@ ghost use Rattle.std.specs.Prelude.{◌≤◌, ◌∷◌, IfOk};
 
 use crate::draft::Draft;
 use crate::fault::LineError;
-use crate::fields::{is_word, read_last_number_within};
-use crate::misplaced::refusal;
 use crate::stage::Stage;
-use crate::tokens::Token;
 use cmwq_grammar::Why;
+use cmwq_scan::{Token, is_word, read_last_number_within, refusal};
 use cmwq_types::{MAX_CPUS, MAX_FLUSHES, MAX_STEPS, MAX_WORKERS};
 use std::alloc::Global;
 
 /// The number of a line that must be this word and a number from `low` to `high`.
-#[tactic(auto, using(crate::proofs::LineSteps::line_steps))]
+#[tactic(auto, using(cmwq_scan::proofs::LineSteps::line_steps))]
 fn read_head_number(
     wanted: &[u8],
     low: u32,

@@ -1,14 +1,14 @@
 //! An actor's line: an instruction, and how often it stands.
-ghost use Rattle.cmwq_asm.specs.Answers.{Tells};
+ghost use Rattle.cmwq_scan.specs.Answers.{Tells};
 ghost use Rattle.cmwq_asm.specs.Instructions.{last_instr_at, later_instr_at};
 ghost use Rattle.cmwq_grammar.specs.Instructions.{instr_at, line_at, number_to, on_queue, on_queue_max, on_work, on_work_cpu, on_work_cpu_ticks, times_at};
 ghost use Rattle.std.specs.Prelude.{◌∷◌};
 
 use crate::draft::Draft;
-use crate::fields::{Field, is_word, read_declared, read_last_number_within, read_number_within};
-use crate::misplaced::refusal;
-use crate::tokens::Token;
 use cmwq_grammar::Why;
+use cmwq_scan::{
+    Field, Token, is_word, read_declared, read_last_number_within, read_number_within, refusal,
+};
 use cmwq_types::{Instr, Line, MAX_TIMES, QueueId, WorkId};
 
 /// The line that begins with this word.
@@ -31,7 +31,7 @@ fn read_times(instr: Instr, words: &[Token]) -> Result<Line, Why>
 }
 
 /// The line of this instruction behind which the word stands, which must be `*`.
-#[tactic(auto, using(crate::proofs::LineSteps::line_steps))]
+#[tactic(auto, using(cmwq_scan::proofs::LineSteps::line_steps))]
 fn read_repeated(instr: Instr, word: &[u8], rest: &[Token]) -> Result<Line, Why>
     ensures { Tells (λ line. line) result (times_at instr (word.now ∷ rest.now)) }
 {
@@ -101,7 +101,7 @@ fn read_later_instr<'a, 't>(
 }
 
 /// The instruction that begins with this word, which is none of the other two's.
-#[tactic(auto, using(crate::proofs::LineSteps::line_steps))]
+#[tactic(auto, using(cmwq_scan::proofs::LineSteps::line_steps))]
 fn read_last_instr<'a, 't>(
     draft: &Draft,
     word: &[u8],

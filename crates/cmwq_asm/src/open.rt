@@ -6,7 +6,7 @@ ghost use Rattle.std.specs.Str.{bytes_eq};
 
 use crate::bodies::Bodies;
 use crate::draft::Draft;
-use crate::naming::Named;
+use cmwq_scan::Named;
 use cmwq_types::{Line, Op};
 
 /// The next work's body, so far.

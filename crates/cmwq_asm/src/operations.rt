@@ -1,5 +1,6 @@
 //! The lines of a body: `body NAME`, its operations, and `finish`.
-ghost use Rattle.cmwq_asm.specs.Answers.{Gives, Tells};
+ghost use Rattle.cmwq_asm.specs.Answers.{Gives};
+ghost use Rattle.cmwq_scan.specs.Answers.{Tells};
 ghost use Rattle.cmwq_asm.specs.Operations.{next_at, queued_at, ticks_at};
 ghost use Rattle.cmwq_asm.specs.Stages.{stage_of};
 ghost use Rattle.cmwq_grammar.specs.Reasons.{add_op, not_in_body, op_at_line, open_body};
@@ -8,19 +9,17 @@ ghost use Rattle.std.specs.Prelude.{◌≡◌, ◌<◌, OnOk, length};
 use crate::bodies::Bodies;
 use crate::draft::Draft;
 use crate::fault::LineError;
-use crate::fields::{
-    ended, is_word, read_declared, read_last_number_below, read_last_number_within,
-};
-use crate::misplaced::refusal;
 use crate::open::OpenBody;
 use crate::stage::Stage;
-use crate::tokens::Token;
 use cmwq_grammar::Why;
+use cmwq_scan::{
+    Token, ended, is_word, read_declared, read_last_number_below, read_last_number_within, refusal,
+};
 use cmwq_types::{Fault, MAX_OPS, MAX_TICKS, Op, WorkId};
 use std::alloc::Global;
 
 /// Opens the body of the next work, which what is behind the word `body` must name.
-#[tactic(auto, using(crate::proofs::LineSteps::line_steps), unfolding(cmwq_grammar::specs::Reasons::open_body))]
+#[tactic(auto, using(cmwq_scan::proofs::LineSteps::line_steps), unfolding(cmwq_grammar::specs::Reasons::open_body))]
 pub(crate) fn open_body<'t>(
     alloc: Global,
     bodies: Bodies<'t>,
@@ -46,7 +45,7 @@ fn read_next(bodies: &Bodies, rest: &[Token]) -> Result<usize, Why>
 }
 
 /// The operation of a body's line.
-#[tactic(auto, using(crate::proofs::LineSteps::line_steps), unfolding(cmwq_grammar::specs::Reasons::op_at_line))]
+#[tactic(auto, using(cmwq_scan::proofs::LineSteps::line_steps), unfolding(cmwq_grammar::specs::Reasons::op_at_line))]
 pub(crate) fn read_op(draft: &Draft, word: &[u8], rest: &[Token]) -> Result<Op, Why>
     ensures { Tells (λ op. op) result (op_at_line draft.now word.now rest.now) }
 {
@@ -65,7 +64,7 @@ pub(crate) fn read_op(draft: &Draft, word: &[u8], rest: &[Token]) -> Result<Op, 
     Err(refusal(not_in_body(word), word))
 }
 
-#[tactic(auto, using(crate::proofs::LineSteps::line_steps))]
+#[tactic(auto, using(cmwq_scan::proofs::LineSteps::line_steps))]
 fn read_burn(rest: &[Token]) -> Result<Op, Why>
     ensures { Tells (λ op. op) result (ticks_at Op.Burn rest.now) }
 {
@@ -73,7 +72,7 @@ fn read_burn(rest: &[Token]) -> Result<Op, Why>
     Ok(Op::Burn(ticks))
 }
 
-#[tactic(auto, using(crate::proofs::LineSteps::line_steps))]
+#[tactic(auto, using(cmwq_scan::proofs::LineSteps::line_steps))]
 fn read_sleep(rest: &[Token]) -> Result<Op, Why>
     ensures { Tells (λ op. op) result (ticks_at Op.Sleep rest.now) }
 {
@@ -81,7 +80,7 @@ fn read_sleep(rest: &[Token]) -> Result<Op, Why>
     Ok(Op::Sleep(ticks))
 }
 
-#[tactic(auto, using(crate::proofs::LineSteps::line_steps))]
+#[tactic(auto, using(cmwq_scan::proofs::LineSteps::line_steps))]
 fn read_queued(draft: &Draft, rest: &[Token]) -> Result<Op, Why>
     ensures { Tells (λ op. op) result (queued_at draft.now rest.now) }
 {

@@ -1,5 +1,6 @@
 //! Lines that declare queues: `queue NAME max N FLAG..`.
-ghost use Rattle.cmwq_asm.specs.Answers.{Gives, Tells};
+ghost use Rattle.cmwq_asm.specs.Answers.{Gives};
+ghost use Rattle.cmwq_scan.specs.Answers.{Tells};
 ghost use Rattle.cmwq_asm.specs.Declarations.{queue_of};
 ghost use Rattle.cmwq_asm.specs.Stages.{stage_of};
 ghost use Rattle.cmwq_asm.specs.Steps.{declared_queue};
@@ -14,10 +15,9 @@ ghost use Rattle.std.specs.Str.{bytes_eq};
 use crate::declarations::QueueLine;
 use crate::draft::Draft;
 use crate::fault::LineError;
-use crate::fields::{is_word, read_keyword, read_new_name, read_number};
 use crate::stage::Stage;
-use crate::tokens::Token;
 use cmwq_grammar::Why;
+use cmwq_scan::{Token, is_word, read_keyword, read_new_name, read_number};
 use cmwq_types::{Fault, Flags, MAX_MAX_ACTIVE, MAX_QUEUES};
 
 /// Declares the queue that is behind the word `queue`.

@@ -1,27 +1,25 @@
 //! What each line adds at the stage where it stands.
 ghost use Rattle.cmwq_asm.specs.Answers.{Gives};
 ghost use Rattle.cmwq_asm.specs.Stages.{stage_of};
+ghost use Rattle.cmwq_asm.specs.Steps.{text_words};
 ghost use Rattle.cmwq_grammar.specs.Reasons.{at_end, judge, step};
 ghost use Rattle.cmwq_grammar.specs.Stages as stage;
-ghost use Rattle.std.specs.Prelude.{◌≡◌, ◌∷◌};
-ghost use Rattle.std.specs.Str.{is_utf8};
+ghost use Rattle.std.specs.Prelude.{◌∷◌};
 
 use crate::actors::{add_line, close_actor, open_actor};
 use crate::bodies::Bodies;
 use crate::draft::Draft;
 use crate::fault::LineError;
-use crate::fields::is_word;
-use crate::header::{read_cpus, read_flushes, read_steps, read_workers};
 use crate::instructions::read_line;
-use crate::misplaced::refusal;
 use crate::open::{OpenActor, OpenBody};
 use crate::operations::{add_op, open_body, read_op};
 use crate::queues::declare_queue;
 use crate::stage::Stage;
-use crate::tokens::{Token, tokens_of};
 use crate::works::declare_work;
 use cmwq_grammar::Why;
-use cmwq_types::{Fault, Scenario};
+use cmwq_scan::{Token, is_text, is_word, refusal, tokens_of};
+use cmwq_types::Scenario;
+use smallvec::SmallVec;
 use std::alloc::Global;
 
 /// The stage after this line, or the first reason against it.
@@ -33,18 +31,19 @@ pub(crate) fn judge<'t>(
 ) -> Result<Stage<'t>, LineError>
     ensures { Gives stage_of result (judge (stage_of stage.entry) line.now) }
 {
+    let words = words_of(alloc, line)?;
+    step(alloc, stage, &words)
+}
+
+/// The words of the line, if it is text.
+fn words_of<'t>(alloc: Global, line: &'t [u8]) -> Result<SmallVec<Token<'t>, 8>, LineError>
+    ensures { Gives (λ words. words.items) result (text_words line.now) }
+{
     if !is_text(line) {
         return Err(LineError::Why(Why::BadUtf8));
     }
     let words = tokens_of(alloc, line)?;
-    step(alloc, stage, &words)
-}
-
-/// Whether the bytes are UTF-8.
-fn is_text(bytes: &[u8]) -> bool
-    ensures { result ≡ is_utf8 bytes.now }
-{
-    str::from_utf8(bytes).is_ok()
+    Ok(words)
 }
 
 /// The stage after a line of these words. A line without words tells nothing.
@@ -54,37 +53,13 @@ fn step<'t>(alloc: Global, stage: Stage<'t>, words: &[Token<'t>]) -> Result<Stag
 {
     match words {
         [] => Ok(stage),
-        [word, rest @ ..] => step_on(alloc, stage, word.bytes(), rest),
-    }
-}
-
-/// The stage after a line that begins with this word.
-fn step_on<'t>(
-    alloc: Global,
-    stage: Stage<'t>,
-    word: &[u8],
-    rest: &[Token<'t>],
-) -> Result<Stage<'t>, LineError>
-    ensures { Gives stage_of result (step (stage_of stage.entry) (word.now ∷ rest.now)) }
-{
-    match stage {
-        Stage::Start => read_cpus(word, rest),
-        Stage::Cpus(cpus) => read_workers(cpus, word, rest),
-        Stage::Workers(cpus, workers) => read_steps(cpus, workers, word, rest),
-        Stage::Steps(cpus, workers, steps) => {
-            read_flushes(alloc, cpus, workers, steps, word, rest)
-        }
-        Stage::Queues(draft) => in_queues(alloc, draft, word, rest),
-        Stage::Works(draft) => in_works(alloc, draft, word, rest),
-        Stage::Bodies(bodies) => between_bodies(alloc, bodies, word, rest),
-        Stage::Body(body) => in_body(body, word, rest),
-        Stage::Actor(actor) => in_actor(alloc, actor, word, rest),
+        [word, rest @ ..] => stage.after(alloc, word.bytes(), rest),
     }
 }
 
 /// A line behind the head, or behind a queue.
-#[tactic(auto, using(crate::proofs::LineSteps::line_steps), unfolding(cmwq_grammar::specs::Reasons::step))]
-fn in_queues<'t>(
+#[tactic(auto, using(cmwq_scan::proofs::LineSteps::line_steps), unfolding(cmwq_grammar::specs::Reasons::step))]
+pub(crate) fn in_queues<'t>(
     alloc: Global,
     draft: Draft<'t>,
     word: &[u8],
@@ -105,8 +80,8 @@ fn in_queues<'t>(
 }
 
 /// A line behind a work.
-#[tactic(auto, using(crate::proofs::LineSteps::line_steps), unfolding(cmwq_grammar::specs::Reasons::step))]
-fn in_works<'t>(
+#[tactic(auto, using(cmwq_scan::proofs::LineSteps::line_steps), unfolding(cmwq_grammar::specs::Reasons::step))]
+pub(crate) fn in_works<'t>(
     alloc: Global,
     draft: Draft<'t>,
     word: &[u8],
@@ -124,8 +99,8 @@ fn in_works<'t>(
 }
 
 /// A line behind the `finish` of a body.
-#[tactic(auto, using(crate::proofs::LineSteps::line_steps), unfolding(cmwq_grammar::specs::Reasons::step))]
-fn between_bodies<'t>(
+#[tactic(auto, using(cmwq_scan::proofs::LineSteps::line_steps), unfolding(cmwq_grammar::specs::Reasons::step))]
+pub(crate) fn between_bodies<'t>(
     alloc: Global,
     bodies: Bodies<'t>,
     word: &[u8],
@@ -145,7 +120,11 @@ fn between_bodies<'t>(
 
 /// A line in an open body.
 #[tactic(auto, unfolding(cmwq_grammar::specs::Reasons::step))]
-fn in_body<'t>(body: OpenBody<'t>, word: &[u8], rest: &[Token<'t>]) -> Result<Stage<'t>, LineError>
+pub(crate) fn in_body<'t>(
+    body: OpenBody<'t>,
+    word: &[u8],
+    rest: &[Token<'t>],
+) -> Result<Stage<'t>, LineError>
     ensures { Gives stage_of result (step (stage.Body body.entry.bodies.told body.entry.bodies.done body.entry.ops.items) (word.now ∷ rest.now)) }
 {
     let op = read_op(body.bodies.draft(), word, rest)?;
@@ -154,7 +133,7 @@ fn in_body<'t>(body: OpenBody<'t>, word: &[u8], rest: &[Token<'t>]) -> Result<St
 
 /// A line behind an actor's first line.
 #[tactic(auto, unfolding(cmwq_grammar::specs::Reasons::step))]
-fn in_actor<'t>(
+pub(crate) fn in_actor<'t>(
     alloc: Global,
     actor: OpenActor<'t>,
     word: &[u8],
@@ -169,23 +148,9 @@ fn in_actor<'t>(
     add_line(actor, line)
 }
 
-/// The scenario of a text that ends at this stage, or why it may not.
-#[tactic(auto, unfolding(cmwq_grammar::specs::Reasons::at_end))]
-pub(crate) fn at_end(stage: Stage) -> Result<Scenario, LineError>
-    ensures { Gives (λ scenario. scenario) result (at_end (stage_of stage.entry)) }
-{
-    match stage {
-        Stage::Queues(draft) => Ok(draft.into_scenario()),
-        Stage::Bodies(bodies) => end_between_bodies(bodies),
-        Stage::Body(_) => Err(LineError::Why(Why::Fault(Fault::BadBody))),
-        Stage::Actor(actor) => Ok(close_actor(actor)?.into_scenario()),
-        _ => Err(LineError::Why(Why::MissingWord)),
-    }
-}
-
 /// The scenario of a text that ends where no body is open.
 #[tactic(auto, unfolding(cmwq_grammar::specs::Reasons::at_end))]
-fn end_between_bodies(bodies: Bodies) -> Result<Scenario, LineError>
+pub(crate) fn end_between_bodies(bodies: Bodies) -> Result<Scenario, LineError>
     ensures { Gives (λ scenario. scenario) result (at_end (stage.Bodies bodies.entry.told bodies.entry.done)) }
 {
     if !bodies.are_complete() {

@@ -1,5 +1,6 @@
 //! Lines that declare works: `work NAME QUEUE`.
-ghost use Rattle.cmwq_asm.specs.Answers.{Gives, Tells};
+ghost use Rattle.cmwq_asm.specs.Answers.{Gives};
+ghost use Rattle.cmwq_scan.specs.Answers.{Tells};
 ghost use Rattle.cmwq_asm.specs.Declarations.{work_of};
 ghost use Rattle.cmwq_asm.specs.Stages.{stage_of};
 ghost use Rattle.cmwq_asm.specs.Steps.{declared_work};
@@ -12,10 +13,9 @@ ghost use Rattle.std.specs.Str.{bytes_eq};
 use crate::declarations::WorkLine;
 use crate::draft::Draft;
 use crate::fault::LineError;
-use crate::fields::{read_last_declared, read_new_name};
 use crate::stage::Stage;
-use crate::tokens::Token;
 use cmwq_grammar::Why;
+use cmwq_scan::{Token, read_last_declared, read_new_name};
 use cmwq_types::{Fault, MAX_WORKS, QueueId};
 use std::alloc::Global;
 
@@ -32,7 +32,7 @@ pub(crate) fn declare_work<'t>(
 }
 
 /// What is behind the word `work`.
-#[tactic(auto, using(crate::proofs::LineSteps::line_steps), unfolding(cmwq_grammar::specs::Reasons::work_at_line))]
+#[tactic(auto, using(cmwq_scan::proofs::LineSteps::line_steps), unfolding(cmwq_grammar::specs::Reasons::work_at_line))]
 fn read_work<'t>(draft: &Draft<'t>, rest: &[Token<'t>]) -> Result<WorkLine<'t>, Why>
     ensures line { Tells work_of result (work_at_line draft.now rest.now) }
     ensures new { IfOk result (λ work. list_any (λ other. bytes_eq other work.name) (work_names draft.now) ≡ false) }

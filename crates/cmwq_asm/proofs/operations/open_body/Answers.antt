@@ -4,7 +4,7 @@ use Rattle.cmwq_grammar.specs.Instructions.{work_names}
 use Rattle.cmwq_grammar.specs.Reasons.{open_body, is_next}
 use Rattle.cmwq_grammar.specs.Stages.{Body}
 use Rattle.cmwq_asm.specs.Stages.{stage_of}
-use Rattle.cmwq_asm.proofs.LastFields.{last_ok, last_err}
+use Rattle.cmwq_scan.proofs.LastFields.{last_ok, last_err}
 use Rattle.cmwq_asm.proofs.Refused.{refused}
 use Rattle.cmwq_asm.proofs.operations.open_body.Goals as goal
 

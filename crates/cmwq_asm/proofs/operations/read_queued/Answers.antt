@@ -3,7 +3,7 @@ use Rattle.cmwq_types.specs.declared.scenario.Op.TheVariants as op
 use Rattle.cmwq_grammar.specs.Fields.{declared_at, number_below}
 use Rattle.cmwq_grammar.specs.Instructions.{work_id, work_names}
 use Rattle.cmwq_grammar.specs.Reasons.{then_cpu}
-use Rattle.cmwq_asm.proofs.LastFields.{last_ok, last_err}
+use Rattle.cmwq_scan.proofs.LastFields.{last_ok, last_err}
 use Rattle.cmwq_asm.proofs.Refused.{not_there, then_ok}
 use Rattle.cmwq_asm.proofs.operations.read_queued.Goals as goal
 

@@ -3,7 +3,7 @@ use Rattle.cmwq_grammar.specs.Fields.{declared_at, new_name_at}
 use Rattle.cmwq_grammar.specs.Instructions.{work_names, queue_names}
 use Rattle.cmwq_grammar.specs.Reasons.{work_at_line, work_of, then_queue}
 use Rattle.cmwq_asm.specs.Declarations.{work_of as told_work}
-use Rattle.cmwq_asm.proofs.LastFields.{last_err}
+use Rattle.cmwq_scan.proofs.LastFields.{last_err}
 use Rattle.cmwq_asm.proofs.Refused.{not_there, then_ok}
 use Rattle.cmwq_asm.proofs.works.read_work.Goals as goal
 

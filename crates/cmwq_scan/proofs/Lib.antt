@@ -1,0 +1,6 @@
+mod CuttingLemmas
+pub mod LastFields
+pub mod LineSteps
+mod NameLemmas
+mod NumberLemmas
+mod TokenLemmas

@@ -1,0 +1,14 @@
+use Rattle.std.proofs.Common.{◌∙◌, ap, ◌++◌, ◌∷◌, [], refl}
+use Rattle.std.specs.Prelude.{map}
+use Rattle.std.specs.List.{list_any}
+use Rattle.std.specs.Str.{bytes_eq}
+use Rattle.cmwq_scan.proofs.NameLemmas.{added}
+use Rattle.cmwq_scan.proofs.naming.Names.add.Goals as goal
+
+pub returns : goal.returns
+returns c =
+    ap (λ keys. map (λ key. key.now) keys) c.in_ok-insert.ensures.keys
+    ∙ added (λ key. key.now) c.bytes.result.now c.self.inside.names.keys c.bytes.result refl
+    (ap (λ names. list_any (λ other. bytes_eq other c.bytes.result.now) names) c.self.view_is ∙ ap (λ name. list_any (λ other. bytes_eq other name) c.args.self.now) c.bytes.ensures ∙ c.requires)
+    ∙ ap (λ names. names ++ c.bytes.result.now ∷ []) c.self.view_is
+    ∙ ap (λ name. c.args.self.now ++ name ∷ []) c.bytes.ensures

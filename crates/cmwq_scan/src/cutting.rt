@@ -1,0 +1,81 @@
+//! Cutting: a text into its lines, and a line into its pieces between blanks.
+ghost use Rattle.cmwq_grammar.specs.Cutting.{is_blank, is_hash, lines_of};
+ghost use Rattle.std.specs.List.{before_first, slice_split};
+ghost use Rattle.std.specs.Prelude.{◌≡◌, ◌+◌, ◌<◌, ◌≤◌, ◌∷◌, ◌==◌, [], IfSome, MatchOption, length, position};
+ghost use Rattle.std.specs.Str.Lines.{strip_carriage_return};
+
+/// The first line of the text and what comes after its line feed, or `None` where there is no line. An
+/// empty piece after the last line feed is no line.
+pub fn next_line(text: &[u8]) -> Option<(&[u8], &[u8])>
+    ensures lines { MatchOption result
+        (lines_of text.now ≡ [])
+        (λ line. lines_of text.now ≡ line.0.now ∷ lines_of line.1.now) }
+    ensures shorter { IfSome result (λ line. length line.0.now + length line.1.now ≤ length text.now) }
+    ensures ends { IfSome result (λ line. length line.1.now < length text.now) }
+{
+    if text.is_empty() {
+        return None;
+    }
+    match place_of(text, b'\n') {
+        Some(place) => Some((&text[..place], &text[place + 1..])),
+        None => Some((text, &[])),
+    }
+}
+
+/// The part of a line that has its words: what stands before a `#`, less one carriage return at the
+/// line's end.
+pub fn worded_part(line: &[u8]) -> &[u8]
+    ensures part { result.now ≡ before_first is_hash (strip_carriage_return line.now) }
+    ensures shorter { length result.now ≤ length line.now }
+{
+    let line = without_carriage_return(line);
+    match place_of(line, b'#') {
+        Some(place) => &line[..place],
+        None => line,
+    }
+}
+
+fn without_carriage_return(line: &[u8]) -> &[u8]
+    ensures { result.now ≡ strip_carriage_return line.now }
+{
+    match line {
+        [front @ .., b'\r'] => front,
+        _ => line,
+    }
+}
+
+/// What stands before the first blank, and what stands behind it, if there is a blank.
+pub(crate) fn cut_at_blank(bytes: &[u8]) -> (&[u8], Option<&[u8]>)
+    ensures pieces { MatchOption result.1
+        (slice_split is_blank bytes.now ≡ result.0.now ∷ [])
+        (λ rest. slice_split is_blank bytes.now ≡ result.0.now ∷ slice_split is_blank rest.now) }
+    ensures lengths { MatchOption result.1
+        (length result.0.now ≡ length bytes.now)
+        (λ rest. length result.0.now + length rest.now + 1 ≡ length bytes.now) }
+{
+    match place_of_blank(bytes) {
+        Some(place) => (&bytes[..place], Some(&bytes[place + 1..])),
+        None => (bytes, None),
+    }
+}
+
+/// The place of the first such byte.
+fn place_of(bytes: &[u8], wanted: u8) -> Option<usize>
+    ensures { result ≡ position (λ byte. byte == wanted) bytes.now }
+{
+    bytes.iter().position(|byte| *byte == wanted)
+}
+
+/// The place of the first blank.
+fn place_of_blank(bytes: &[u8]) -> Option<usize>
+    ensures { result ≡ position is_blank bytes.now }
+{
+    bytes.iter().position(|byte| is_blank(*byte))
+}
+
+/// Whether the byte is a space or a tab.
+fn is_blank(byte: u8) -> bool
+    ensures { result ≡ is_blank byte }
+{
+    byte == b' ' || byte == b'\t'
+}

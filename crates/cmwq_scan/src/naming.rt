@@ -1,0 +1,99 @@
+//! Names in a text, and the names of one kind in the order of their declarations.
+ghost use Rattle.std.specs.List.{list_any};
+ghost use Rattle.std.specs.Prelude.{◌≡◌, ◌++◌, ◌∷◌, [], OnOk, false, position};
+ghost use Rattle.std.specs.Str.{bytes_eq};
+
+use cmwq_types::{Name, NoMemory};
+use indexmap::IndexSet;
+use std::alloc::Global;
+use std::marker::Model;
+
+/// A name where it stands in the text. Contracts see its bytes.
+#[derive(Debug, Drop)]
+pub struct Named<'t> {
+    name: Name,
+    /// Where it stands.
+    bytes: &'t [u8],
+}
+
+impl<'t> Model for Named<'t> {
+    ghost use Rattle.std.specs.Prelude.{◌≡◌, List, ℕ};
+
+    ghost Value = { List ℕ };
+
+    ghost view = { λ n. n.name };
+
+    ghost invariant = { λ n. n.bytes.now ≡ n.name };
+}
+
+impl<'t> Named<'t> {
+    /// The name that stands there.
+    pub(crate) fn new(name: Name, bytes: &'t [u8]) -> Named<'t>
+        requires { name ≡ bytes.now }
+        ensures { result ≡ name }
+    {
+        Named { name, bytes }
+    }
+
+    pub fn name(&self) -> Name
+        ensures { result ≡ self.now }
+    {
+        self.name
+    }
+
+    /// Its bytes in the text.
+    fn bytes(&self) -> &'t [u8]
+        ensures { result.now ≡ self.now }
+    {
+        self.bytes
+    }
+}
+
+/// Distinct names of one kind (queues, works or actors), each with its bytes in the text. A name's place
+/// is its number.
+#[derive(Drop)]
+pub struct Names<'t> {
+    names: IndexSet<&'t [u8]>,
+}
+
+impl<'t> Model for Names<'t> {
+    ghost use Rattle.std.specs.Prelude.{List, ℕ, map};
+
+    ghost Value = { List (List ℕ) };
+
+    ghost view = { λ s. map (λ name. name.now) s.names.keys };
+}
+
+impl<'t> Names<'t> {
+    /// No names.
+    pub fn new(alloc: Global) -> Names<'t>
+        ensures { result ≡ [] }
+    {
+        Names {
+            names: IndexSet::new(alloc),
+        }
+    }
+
+    /// Whether the name is there.
+    pub fn contains(&self, name: &Named) -> bool
+        ensures { result ≡ list_any (λ other. bytes_eq other name.now) self.now }
+    {
+        self.names.contains(&name.bytes())
+    }
+
+    /// The number of the name, if it is there.
+    pub fn number_of(&self, name: &Named) -> Option<usize>
+        ensures { result ≡ position (λ other. bytes_eq other name.now) self.now }
+    {
+        self.names.get_index_of(&name.bytes())
+    }
+
+    /// Adds a name that isn't there yet.
+    pub fn add(&mut self, name: &Named<'t>) -> Result<(), NoMemory>
+        requires { list_any (λ other. bytes_eq other name.now) self.old ≡ false }
+        ensures { OnOk result (self.new ≡ self.old ++ name.now ∷ []) }
+    {
+        self.names.insert(name.bytes())?;
+        Ok(())
+    }
+}
