@@ -31,17 +31,23 @@ freezable = record plain_flags { freezable = true }
 abbrev pub ordered : Flags
 ordered = record plain_flags { ordered = true }
 
--- the operation `queue W 0`
+-- the operations `queue W C` and `queue W 0`
+abbrev pub queues_on : ℕ → ℕ → Op
+queues_on w cpu = op.Queue (record { 0 = w }) cpu
+
 abbrev pub queues : ℕ → Op
-queues w = op.Queue (record { 0 = w }) 0
+queues w = queues_on w 0
 
 -- `queue W C`
 abbrev pub enqueue : ℕ → ℕ → Line
 enqueue w cpu = record { instr = instr.Queue (record { 0 = w }) cpu; times = 1 }
 
--- `delay W 0 N` and `mod W 0 N`
+-- `delay W C N`, `delay W 0 N` and `mod W 0 N`
+abbrev pub delay_on : ℕ → ℕ → ℕ → Line
+delay_on w cpu ticks = record { instr = instr.Delay (record { 0 = w }) cpu ticks; times = 1 }
+
 abbrev pub delay : ℕ → ℕ → Line
-delay w ticks = record { instr = instr.Delay (record { 0 = w }) 0 ticks; times = 1 }
+delay w ticks = delay_on w 0 ticks
 
 abbrev pub modify : ℕ → ℕ → Line
 modify w ticks = record { instr = instr.Mod (record { 0 = w }) 0 ticks; times = 1 }

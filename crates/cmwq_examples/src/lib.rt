@@ -2,6 +2,7 @@
 //! prints, how one is listed, or that they are valid. No other crate stands on this one.
 #![tactic(auto)]
 
+pub mod finer_rules;
 pub mod premises;
 
 ghost use Rattle.cmwq_examples.specs.Rows.{activated_in_order, activated_in_order_lines, cancelled_while_running, cancelled_while_running_lines, cpu_intensive_beside_normal, cpu_intensive_lines, flushes, flushes_lines, freeze_and_thaw, freeze_and_thaw_lines, high_beside_normal, high_lines, max_active_1, max_active_2, max_active_3, max_down_and_up, max_down_and_up_lines, printed, queued_elsewhere, queued_elsewhere_lines, queued_twice, queued_twice_lines, queues_itself, queues_itself_lines, refused, refused_in_order, refused_in_order_lines, refused_lines, steps_run_out, steps_run_out_lines, three_works, timers, timers_lines, unbound_beside_ordered, unbound_lines, written_out};
