@@ -8,7 +8,7 @@ use Rattle.cmwq_types.specs.declared.scenario.Line.{Line}
 use Rattle.cmwq_types.specs.declared.scenario.Op.TheVariants as op
 use Rattle.cmwq_table.specs.State.{State}
 use Rattle.cmwq_table.specs.Table.{run}
-use Rattle.cmwq_examples.specs.Declare.{queue, work, freezable, ordered, unbound, enqueue, flush, flush_queue, times, scenario}
+use Rattle.cmwq_examples.specs.Declare.{queue, work, freezable, ordered, unbound, enqueue, flush, flush_queue, set_max, times, scenario}
 use Rattle.cmwq_examples.specs.Rows.{burning}
 
 -- the state that a scenario comes to by these lines
@@ -29,6 +29,18 @@ before_tick = enqueue 0 0 ∷ enqueue 1 0 ∷ enqueue 2 0 ∷ times instr.Next 4
 -- then the sleep of a is over, and b still burns
 abbrev pub before_wake : List Line
 before_wake = enqueue 0 0 ∷ enqueue 1 0 ∷ enqueue 2 0 ∷ times instr.Next 5 ∷ []
+
+-- beside the kernel document's CPU-intensive works: the first of them burns, and the second is listed
+abbrev pub before_start : List Line
+before_start = enqueue 0 0 ∷ enqueue 1 0 ∷ enqueue 2 0 ∷ times instr.Next 10 ∷ []
+
+-- c is listed, b and a wait; then max rises to 2
+abbrev pub max_raised : List Line
+max_raised = enqueue 2 0 ∷ enqueue 1 0 ∷ enqueue 0 0 ∷ set_max 0 2 ∷ []
+
+-- works of one queue on CPU 1, and then one on CPU 0
+abbrev pub queued_on_both : List Line
+queued_on_both = enqueue 0 0 ∷ enqueue 1 0 ∷ enqueue 5 1 ∷ enqueue 6 1 ∷ enqueue 2 0 ∷ []
 
 -- one worker a pool, and an unbound queue for two works at once
 abbrev pub one_worker : ScenarioContents

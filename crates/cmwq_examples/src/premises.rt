@@ -2,8 +2,9 @@
 //! case.
 #![tactic(auto, unfolding(cmwq_table::specs::Table::table))]
 
-ghost use Rattle.cmwq_examples.specs.Premises.{after_lines, before_tick, before_wake, both_queued, flushes_given, itself_deferred, itself_queued, one_flushed, one_freezable, one_worker, queued_once, sleeper, two_ordered, work_finished, work_queued_again, worker_taken};
-ghost use Rattle.cmwq_examples.specs.Rows.{queues_itself};
+ghost use Rattle.cmwq_examples.specs.Premises.{after_lines, before_start, before_tick, before_wake, both_queued, flushes_given, itself_deferred, itself_queued, max_raised, one_flushed, one_freezable, one_worker, queued_on_both, queued_once, sleeper, two_ordered, work_finished, work_queued_again, worker_taken};
+ghost use Rattle.cmwq_examples.specs.FinerRules.{fills};
+ghost use Rattle.cmwq_examples.specs.Rows.{activated_in_order, cpu_intensive_beside_normal, queues_itself};
 ghost use Rattle.cmwq_table.specs.Counts.{active, counted, is_busy, is_done, limit};
 ghost use Rattle.cmwq_table.specs.Laws.{active_anywhere, reply_to, state_after, tells_wake};
 ghost use Rattle.cmwq_table.specs.State.{idle_at, made_at, pending_at, running_at};
@@ -30,6 +31,16 @@ pub fn level_rises_above_one()
     ensures before { counted sleeper (after_lines sleeper before_wake) 0 ≡ 1 }
     ensures after { counted sleeper (state_after sleeper (after_lines sleeper before_wake) Instr.Next) 0 ≡ 2 }
     ensures wake { tells_wake (reply_to sleeper (after_lines sleeper before_wake) Instr.Next) ≡ true }
+{}
+
+/// A CPU-intensive work starts beside another one that is runnable, since the concurrency level is 0.
+pub fn work_starts_at_level_zero()
+    ensures idle { running_at (after_lines cpu_intensive_beside_normal before_start) 2 ≡ None }
+    ensures listed { place_of (pending_at (after_lines cpu_intensive_beside_normal before_start) 2) ≡ Some (Place.Listed 0) }
+    ensures beside { place_of (pending_at (after_lines cpu_intensive_beside_normal before_start) 1) ≡ None }
+    ensures runs { is_some (running_at (after_lines cpu_intensive_beside_normal before_start) 1) ≡ true }
+    ensures level { counted cpu_intensive_beside_normal (after_lines cpu_intensive_beside_normal before_start) 0 ≡ 0 }
+    ensures starts { is_some (running_at (state_after cpu_intensive_beside_normal (after_lines cpu_intensive_beside_normal before_start) Instr.Next) 2) ≡ true }
 {}
 
 /// Time passes while a work is listed behind a burning one.
@@ -64,6 +75,20 @@ pub fn ordered_work_waits()
     ensures anywhere { active_anywhere two_ordered (after_lines two_ordered both_queued) 0 ≡ 1 }
     ensures level { active two_ordered (after_lines two_ordered both_queued) 0 2 ≡ 1 }
     ensures limit { limit two_ordered (after_lines two_ordered both_queued) 0 ≡ 1 }
+{}
+
+/// Of three works of one queue, queued as c, b and a, two are listed, b with a later stamp than its birth, and the third
+/// waits.
+pub fn works_wait_in_order()
+    ensures first { pending_at (after_lines activated_in_order max_raised) 2 ≡ Some (record { born = 0; stamp = 0; place = Place.Listed 0 }) }
+    ensures second { pending_at (after_lines activated_in_order max_raised) 1 ≡ Some (record { born = 1; stamp = 3; place = Place.Listed 0 }) }
+    ensures waits { pending_at (after_lines activated_in_order max_raised) 0 ≡ Some (record { born = 2; stamp = 2; place = Place.Inactive 0 }) }
+{}
+
+/// The order is that of one pool: on another CPU a work is listed that was queued after one that waits.
+pub fn pools_activate_apart()
+    ensures waits { pending_at (after_lines fills queued_on_both) 6 ≡ Some (record { born = 3; stamp = 3; place = Place.Inactive 2 }) }
+    ensures listed { pending_at (after_lines fills queued_on_both) 2 ≡ Some (record { born = 4; stamp = 4; place = Place.Listed 0 }) }
 {}
 
 /// A freezable queue has an active work, and is busy; before, it is neither.
