@@ -13,9 +13,12 @@ pub mod Limits
 pub mod Makers
 pub mod Moving
 pub mod Order
+pub mod PoolOrder
 pub mod Refusals
 pub mod Room
 pub mod Runs
 pub mod Setting
 pub mod Sound
+pub mod Starts
 pub mod Steps
+pub mod Worklist

@@ -18,7 +18,7 @@ use Rattle.cmwq_table.specs.declared.state.FlushTarget.TheVariants.{Instance, Qu
 use Rattle.cmwq_table.specs.declared.state.Pending.{Pending}
 use Rattle.cmwq_table.specs.declared.state.Running.{Running}
 use Rattle.cmwq_table.specs.State.{State, pending_at, running_at, idle_at, made_at}
-use Rattle.cmwq_table.specs.Counts.{limit, active, counted, is_busy, is_inactive, is_listed, is_activated, is_deferred, is_placed, is_done, pends}
+use Rattle.cmwq_table.specs.Counts.{limit, active, counted, is_busy, is_active, is_inactive, is_listed, is_activated, is_deferred, is_placed, is_done, pends}
 use Rattle.cmwq_table.specs.Table.{table, run, after_all, is_question, target_at}
 
 -- Where a law holds.
@@ -97,6 +97,12 @@ CannotStart S s pool = (0 < counted S s pool) ⊎ (HasNoIdleWorker S s pool × (
 unfoldable pub TimeWaitsForStarts : ScenarioContents → State → Instr → Type 0
 TimeWaitsForStarts S s i = s.now < (state_after S s i).now → (pool w : ℕ) → IsListedIn s w pool → CannotStart S s pool
 
+-- Where a work begins to run that didn't, it was listed in the pool where it runs, and the pool's concurrency level was 0.
+unfoldable pub StartsAtLevelZero : ScenarioContents → State → Instr → Type 0
+StartsAtLevelZero S s i =
+    (w : ℕ) (r : Running) → running_at s w ≡ None → running_at (state_after S s i) w ≡ Some r
+    → IsListedIn s w r.pool × (counted S s r.pool ≡ 0)
+
 -- Limit.
 
 -- Where the active count of a queue in a pool rises, it is then at most the limit.
@@ -131,6 +137,28 @@ InactiveSince s w born = PendsSince is_waiting s w born
 -- inactive, listed, deferred or running
 abbrev pub HasInstance : State → ℕ → ℕ → Type 0
 HasInstance s w born = PendsSince is_placed s w born ⊎ RunsSince s w born
+
+-- Activation.
+
+-- listed or deferred in the pool, or running there
+abbrev pub ActiveInSince : State → ℕ → ℕ → ℕ → Type 0
+ActiveInSince s w pool born =
+    PendsSince (λ place. is_active place pool) s w born
+    ⊎ ((r : Running) × (running_at s w ≡ Some r) × (r.pool ≡ pool) × (r.born ≡ born))
+
+abbrev pub InactiveInSince : State → ℕ → ℕ → ℕ → Type 0
+InactiveInSince s w pool born = PendsSince (λ place. is_inactive place pool) s w born
+
+-- Of the instances of one queue in one pool, each active one was queued before each inactive one.
+unfoldable pub ActivatesInOrder : ScenarioContents → State → Type 0
+ActivatesInOrder S s =
+    (pool v w born later : ℕ) → queue_of S v ≡ queue_of S w → ActiveInSince s v pool born → InactiveInSince s w pool later → born < later
+
+-- The listed works of one queue stand on a pool's worklist in the order in which they were queued.
+unfoldable pub ListsInOrder : ScenarioContents → State → Type 0
+ListsInOrder S s =
+    (pool v w : ℕ) (p q : Pending) → queue_of S v ≡ queue_of S w → pending_at s v ≡ Some p → pending_at s w ≡ Some q
+    → is_listed p.place pool ≡ true → is_listed q.place pool ≡ true → p.born < q.born → p.stamp < q.stamp
 
 -- Ordered queues.
 

@@ -2,7 +2,7 @@
 //!
 //! Each function's contract is a law, over every valid scenario and every list of instructions. The functions
 //! do nothing: they carry the laws.
-ghost use Rattle.cmwq_table.specs.Laws.{AtEveryInstruction, ChangesNothingAsked, ChangesNothingRefused, GoesInOrder, InEveryState, LeavesNoRoom, TimeWaitsForStarts, RisesByWakes, RisesWithinLimit, IsNotReentrant, StayDone, TellsActive, WaitForInstances};
+ghost use Rattle.cmwq_table.specs.Laws.{ActivatesInOrder, AtEveryInstruction, ChangesNothingAsked, ChangesNothingRefused, GoesInOrder, InEveryState, LeavesNoRoom, ListsInOrder, StartsAtLevelZero, TimeWaitsForStarts, RisesByWakes, RisesWithinLimit, IsNotReentrant, StayDone, TellsActive, WaitForInstances};
 
 /// An instruction that is refused changes nothing: neither a work, a worker or a flush, nor the time, the stamps
 /// or what was spent. That is this project's own rule.
@@ -32,11 +32,32 @@ pub fn no_time_passes_while_a_work_can_start()
     ensures { AtEveryInstruction TimeWaitsForStarts }
 {}
 
+/// A worker takes a work off its pool's worklist only where the concurrency level is 0, be the work CPU-intensive or
+/// not: where a work begins to run that didn't, it was listed in that pool, and the level was 0. (A work that is queued
+/// while it runs begins again in place of the one that finished; an unbound pool's level is always 0.)
+#[tactic(auto, using(crate::proofs::LawLemmas::Starts::starts_at_level_zero))]
+pub fn works_start_at_level_zero()
+    ensures { AtEveryInstruction StartsAtLevelZero }
+{}
+
 /// `max_active` bounds how many works of a queue are active in a pool: where that count rises, it is then at
 /// most the queue's limit.
 #[tactic(auto, using(crate::proofs::LawLemmas::Conclusions::rises_within_limit))]
 pub fn active_works_rise_within_the_limit()
     ensures { AtEveryInstruction RisesWithinLimit }
+{}
+
+/// The works of a queue are activated in a pool in the order in which they were queued: each active instance of the
+/// queue there was queued before each inactive one.
+#[tactic(auto, using(crate::proofs::LawLemmas::Worklist::activates_in_order))]
+pub fn queues_activate_in_order()
+    ensures { InEveryState ActivatesInOrder }
+{}
+
+/// They stand on the pool's worklist in the same order, so a pool takes them off it as they were queued.
+#[tactic(auto, using(crate::proofs::LawLemmas::Worklist::lists_in_order))]
+pub fn worklists_keep_the_order_of_queueing()
+    ensures { InEveryState ListsInOrder }
 {}
 
 /// An ordered queue executes at most one work at any time, in the order of queueing: it has at most one active

@@ -1,0 +1,4 @@
+pub mod Declare
+pub mod FinerRules
+pub mod Premises
+pub mod Rows

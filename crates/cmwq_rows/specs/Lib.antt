@@ -1,3 +1,0 @@
-pub mod Declare
-pub mod Premises
-pub mod Rows
