@@ -6,7 +6,7 @@ use Rattle.cmwq_types.specs.Contents.{ScenarioContents}
 use Rattle.cmwq_types.specs.Faults.{IsValid}
 use Rattle.cmwq_table.specs.State.{pool_count, start}
 use Rattle.cmwq_plain.specs.Ready.{IsKept, IsPendingReady, IsRunningReady}
-use Rattle.cmwq_plain.proofs.SettingLemmas.{IsSetting-valid}
+use Rattle.cmwq_types.proofs.SettingLemmas.{IsSetting-valid}
 
 each-none : {A : Type 0} (P : Option A → Type 0) → P None → (n w : ℕ) → P (slice_index_or (replicate n None) w None)
 each-none P none zero w = none
@@ -26,6 +26,6 @@ IsKept-start S valid = record {
     running = each-none (IsRunningReady S) tt (length S.works);
   };
   spent = omega arith;
-  now = omega arith;
+  time = omega arith;
   next = omega arith;
 }

@@ -6,7 +6,7 @@ use Rattle.cmwq_types.specs.declared.reply.Place.TheVariants.{Timer, Inactive, L
 use Rattle.cmwq_table.specs.State.{State, pending_at, running_at, pool_count}
 use Rattle.cmwq_table.specs.declared.state.Pending.{Pending}
 use Rattle.cmwq_table.specs.declared.state.Running.{Running}
-use Rattle.cmwq_records.specs.Setting.{IsSetting}
+use Rattle.cmwq_types.specs.Setting.{IsSetting}
 
 abbrev pub IsPlaceReady : ScenarioContents → Place → Type 0
 IsPlaceReady S (Timer due cpu) = cpu < S.cpus
@@ -37,7 +37,7 @@ pub record IsReady (S : ScenarioContents) (s : State) : Type 0 where
 
 -- time and spent steps are as they were
 pub record HasSameClock (old new : State) : Type 0 where
-  pub now : new.now ≡ old.now
+  pub time : new.time ≡ old.time
   pub spent : new.spent ≡ old.spent
 
 -- What the machine keeps between two instructions: no counter can outgrow the scenario's steps. One
@@ -45,7 +45,7 @@ pub record HasSameClock (old new : State) : Type 0 where
 pub record IsKept (S : ScenarioContents) (s : State) : Type 0 where
   pub ready : IsReady S s
   pub spent : s.spent ≤ S.steps
-  pub now : s.now ≤ s.spent
+  pub time : s.time ≤ s.spent
   pub next : s.next ≤ 32 * 34 * 256 * s.spent
 
 -- a loaded scenario and the state that it has come to

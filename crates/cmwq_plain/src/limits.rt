@@ -4,7 +4,7 @@ ghost use Rattle.cmwq_table.specs.Moves.{fill_everywhere, fill_freezable, freeze
 ghost use Rattle.std.specs.Prelude.{◌≡◌, ◌<◌, ◌≤◌, ◌+◌, ◌*◌, ◌^◌, length};
 
 use crate::placing::fill;
-use cmwq_records::{Records, flags_of, pool_count};
+use cmwq_records::Records;
 use cmwq_types::Scenario;
 
 /// Sets the queue's `max`, and activates what has room now. Nothing that is active is thrown out.
@@ -52,7 +52,7 @@ fn fill_everywhere(scenario: &Scenario, records: &mut Records, queue: u8)
     ensures clock { HasSameClock records.old records.new }
     ensures stamps { records.new.next ≤ records.old.next + 34 * 256 }
 {
-    for pool in 0..pool_count(scenario) {
+    for pool in 0..scenario.pool_count() {
         fill(scenario, records, queue, pool);
     }
 }
@@ -67,7 +67,7 @@ fn fill_freezable(scenario: &Scenario, records: &mut Records)
     ensures stamps { records.new.next ≤ records.old.next + 32 * 34 * 256 }
 {
     for queue in 0..scenario.queues.len() as u8 {
-        if flags_of(scenario, queue).freezable {
+        if scenario.flags_of(queue).freezable {
             fill_everywhere(scenario, records, queue);
         }
     }

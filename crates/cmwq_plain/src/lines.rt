@@ -1,6 +1,6 @@
 //! The lines of the instruction table: refusals, effects and replies.
 ghost use Rattle.cmwq_plain.specs.Ready.{HasSameClock, IsKept, IsReady};
-ghost use Rattle.cmwq_records.specs.Setting.{IsSetting};
+ghost use Rattle.cmwq_types.specs.Setting.{IsSetting};
 ghost use Rattle.cmwq_table.specs.State.{pending_at, pool_count};
 ghost use Rattle.cmwq_table.specs.Counts.{first_due, is_busy, is_done, or_else};
 ghost use Rattle.cmwq_types.specs.Faults.{within};
@@ -14,7 +14,7 @@ use crate::limits::{freeze, set_max_active, thaw};
 use crate::moving::{carry_out_move, first_moving, next_move};
 use crate::placing::{fire, place, place_after, take_off};
 use crate::ticking::tick;
-use cmwq_records::{Records, flags_of, pool_count};
+use cmwq_records::Records;
 use cmwq_table::FlushTarget;
 use cmwq_types::{
     Cause, Event, Instr, MAX_MAX_ACTIVE, Move, QueueId, Refusal, Reply, Scenario, WorkId, WorkRun,
@@ -79,7 +79,7 @@ fn operands(scenario: &Scenario, records: &Records, instr: Instr) -> Option<Refu
             Some(Refusal::NoSuchQueue)
         }
         Instr::SetMax(q, max) => no_queue_or_count(scenario, q, max),
-        Instr::Step(pool) if pool >= pool_count(scenario) => Some(Refusal::NoSuchPool),
+        Instr::Step(pool) if pool >= scenario.pool_count() => Some(Refusal::NoSuchPool),
         Instr::Ask(flush) if flush as usize >= records.flush_count() => Some(Refusal::NoSuchFlush),
         _ => None,
     }
@@ -94,7 +94,7 @@ fn situation(scenario: &Scenario, records: &Records, instr: Instr) -> Option<Ref
             if records.flush_count() >= scenario.flushes as usize => {
             Some(Refusal::TooManyFlushes)
         }
-        Instr::SetMax(q, _) if flags_of(scenario, q.0).ordered => Some(Refusal::Ordered),
+        Instr::SetMax(q, _) if scenario.flags_of(q.0).ordered => Some(Refusal::Ordered),
         Instr::Freeze if records.is_frozen() => Some(Refusal::AlreadyFrozen),
         Instr::Thaw if !records.is_frozen() => Some(Refusal::NotFrozen),
         Instr::Fire if records.first_due(scenario).is_none() => Some(Refusal::NothingToDo),
@@ -125,12 +125,12 @@ fn effect(scenario: &Scenario, records: &mut Records, instr: Instr) -> Reply
     requires ready { IsReady scenario.now records.old }
     requires operands { operands scenario.now records.old instr ≡ None }
     requires situation { situation scenario.now records.old instr ≡ None }
-    requires time { records.old.now < 2 ^ 62 }
+    requires time { records.old.time < 2 ^ 62 }
     requires stamps { records.old.next + 32 * 34 * 256 < 2 ^ 63 }
     ensures state { records.new ≡ (effect scenario.now records.old instr).0 }
     ensures reply { result ≡ (effect scenario.now records.old instr).1 }
     ensures ready { IsReady scenario.now records.new }
-    ensures time { records.new.now ≤ records.old.now + (if is_question instr then 0 else 1) }
+    ensures time { records.new.time ≤ records.old.time + (if is_question instr then 0 else 1) }
     ensures spent { records.new.spent ≡ records.old.spent }
     ensures stamps { records.new.next ≤ records.old.next + (if is_question instr then 0 else 32 * 34 * 256) }
 {
@@ -195,7 +195,7 @@ fn delay(scenario: &Scenario, records: &mut Records, w: usize, cpu: u8, ticks: u
     requires ready { IsReady scenario.now records.old }
     requires work { w < length scenario.now.works }
     requires cpu { cpu < scenario.now.cpus }
-    requires time { records.old.now < 2 ^ 63 }
+    requires time { records.old.time < 2 ^ 63 }
     requires stamps { records.old.next + 600 < 2 ^ 63 }
     ensures state { records.new ≡ (delayed scenario.now records.old w cpu ticks (pending_at records.old w)).0 }
     ensures reply { result ≡ (delayed scenario.now records.old w cpu ticks (pending_at records.old w)).1 }
@@ -217,7 +217,7 @@ fn modify(scenario: &Scenario, records: &mut Records, w: usize, cpu: u8, ticks: 
     requires ready { IsReady scenario.now records.old }
     requires work { w < length scenario.now.works }
     requires cpu { cpu < scenario.now.cpus }
-    requires time { records.old.now < 2 ^ 62 }
+    requires time { records.old.time < 2 ^ 62 }
     requires stamps { records.old.next + 600 < 2 ^ 63 }
     ensures state { records.new ≡ (modified scenario.now records.old w cpu ticks (pending_at records.old w)).0 }
     ensures reply { result ≡ (modified scenario.now records.old w cpu ticks (pending_at records.old w)).1 }
@@ -373,7 +373,7 @@ fn found(records: &Records, w: usize) -> Reply
 fn step(scenario: &Scenario, records: &mut Records, pool: u8) -> Reply
     requires ready { IsReady scenario.now records.old }
     requires pool { pool < pool_count scenario.now }
-    requires time { records.old.now < 2 ^ 63 }
+    requires time { records.old.time < 2 ^ 63 }
     requires stamps { records.old.next + 600 < 2 ^ 63 }
     ensures state { records.new ≡ (stepped scenario.now records.old pool (next_move scenario.now records.old pool)).0 }
     ensures reply { result ≡ (stepped scenario.now records.old pool (next_move scenario.now records.old pool)).1 }
@@ -396,12 +396,12 @@ fn step(scenario: &Scenario, records: &mut Records, pool: u8) -> Reply
 /// Fires a due timer, else steps the least pool that has a move, else ticks.
 fn next(scenario: &Scenario, records: &mut Records) -> Reply
     requires ready { IsReady scenario.now records.old }
-    requires time { records.old.now < 2 ^ 62 }
+    requires time { records.old.time < 2 ^ 62 }
     requires stamps { records.old.next + 600 < 2 ^ 63 }
     ensures state { records.new ≡ (next scenario.now records.old (first_due scenario.now records.old)).0 }
     ensures reply { result ≡ (next scenario.now records.old (first_due scenario.now records.old)).1 }
     ensures ready { IsReady scenario.now records.new }
-    ensures time { records.new.now ≤ records.old.now + 1 }
+    ensures time { records.new.time ≤ records.old.time + 1 }
     ensures spent { records.new.spent ≡ records.old.spent }
     ensures stamps { records.new.next ≤ records.old.next + 600 }
 {
@@ -414,12 +414,12 @@ fn next(scenario: &Scenario, records: &mut Records) -> Reply
 /// Steps the least pool that has a move, else ticks.
 fn step_or_tick(scenario: &Scenario, records: &mut Records) -> Reply
     requires ready { IsReady scenario.now records.old }
-    requires time { records.old.now < 2 ^ 62 }
+    requires time { records.old.time < 2 ^ 62 }
     requires stamps { records.old.next + 600 < 2 ^ 63 }
     ensures state { records.new ≡ (step_or_tick scenario.now records.old (first_moving scenario.now records.old)).0 }
     ensures reply { result ≡ (step_or_tick scenario.now records.old (first_moving scenario.now records.old)).1 }
     ensures ready { IsReady scenario.now records.new }
-    ensures time { records.new.now ≤ records.old.now + 1 }
+    ensures time { records.new.time ≤ records.old.time + 1 }
     ensures spent { records.new.spent ≡ records.old.spent }
     ensures stamps { records.new.next ≤ records.old.next + 600 }
 {

@@ -1,7 +1,7 @@
 //! The moves of a worker pool: which one is next, and what each does.
 ghost use Rattle.cmwq_plain.specs.InRange.{IsMoveInRange};
 ghost use Rattle.cmwq_plain.specs.Ready.{HasSameClock, IsReady};
-ghost use Rattle.cmwq_records.specs.Setting.{IsSetting};
+ghost use Rattle.cmwq_types.specs.Setting.{IsSetting};
 ghost use Rattle.cmwq_table.specs.Moves.{advance, begun, carry_out, come_to_end, deferred, finish, first_moving, moved, next_move, queue_from_body, retire, start_move, started, started_on, taking, with_pending, with_running, woken};
 ghost use Rattle.cmwq_table.specs.Counts.{free_worker};
 ghost use Rattle.cmwq_types.specs.Scenario.{op_at};
@@ -9,7 +9,7 @@ ghost use Rattle.cmwq_table.specs.State.{pending_at, pool_count, running_at};
 ghost use Rattle.std.specs.Prelude.{◌≡◌, ◌<◌, ◌≤◌, ◌+◌, ◌^◌, IfSome, length};
 
 use crate::placing::{fill, place};
-use cmwq_records::{Records, op_of, pool_count, queue_of};
+use cmwq_records::Records;
 use cmwq_table::{Pending, Running};
 use cmwq_types::{Event, Mode, Move, Op, Place, Scenario, WorkId};
 
@@ -53,7 +53,7 @@ pub(crate) fn first_moving(scenario: &Scenario, records: &Records) -> Option<u8>
     ensures in_range { IfSome result (λ pool. pool < pool_count scenario.now) }
 {
     let mut first = None;
-    for pool in 0..pool_count(scenario) {
+    for pool in 0..scenario.pool_count() {
         if first.is_none() && next_move(scenario, records, pool).is_some() {
             first = Some(pool);
         }
@@ -71,7 +71,7 @@ pub(crate) fn carry_out_move(
     requires ready { IsReady scenario.now records.old }
     requires pool { pool < pool_count scenario.now }
     requires in_range { IsMoveInRange scenario.now next }
-    requires time { records.old.now < 2 ^ 63 }
+    requires time { records.old.time < 2 ^ 63 }
     requires stamps { records.old.next + 300 < 2 ^ 63 }
     ensures moved { records.new ≡ (moved scenario.now records.old pool next).0 }
     ensures event { result ≡ (moved scenario.now records.old pool next).1 }
@@ -100,7 +100,7 @@ pub(crate) fn carry_out_move(
 fn advance(scenario: &Scenario, records: &mut Records, w: usize) -> Event
     requires ready { IsReady scenario.now records.old }
     requires work { w < length scenario.now.works }
-    requires time { records.old.now < 2 ^ 63 }
+    requires time { records.old.time < 2 ^ 63 }
     requires stamps { records.old.next + 300 < 2 ^ 63 }
     ensures moved { records.new ≡ (advance scenario.now records.old w (running_at records.old w)).0 }
     ensures event { result ≡ (advance scenario.now records.old w (running_at records.old w)).1 }
@@ -118,7 +118,7 @@ fn carry_out(scenario: &Scenario, records: &mut Records, w: usize, r: Running) -
     requires ready { IsReady scenario.now records.old }
     requires work { w < length scenario.now.works }
     requires running { running_at records.old w ≡ Some r }
-    requires time { records.old.now < 2 ^ 63 }
+    requires time { records.old.time < 2 ^ 63 }
     requires stamps { records.old.next + 300 < 2 ^ 63 }
     ensures moved { records.new ≡ (carry_out scenario.now records.old w r (op_at scenario.now w r.pc)).0 }
     ensures event { result ≡ (carry_out scenario.now records.old w r (op_at scenario.now w r.pc)).1 }
@@ -126,7 +126,7 @@ fn carry_out(scenario: &Scenario, records: &mut Records, w: usize, r: Running) -
     ensures stamps { records.new.next ≤ records.old.next + 300 }
     ensures clock { HasSameClock records.old records.new }
 {
-    match op_of(scenario, w, r.pc) {
+    match scenario.op_of(w, r.pc) {
         Op::Burn(ticks) => {
             let burning = Running {
                 pc: r.pc + 1,
@@ -186,7 +186,7 @@ fn finish(scenario: &Scenario, records: &mut Records, w: usize, r: Running) -> E
     ensures clock { HasSameClock records.old records.new }
 {
     let event = come_to_end(scenario, records, w, r);
-    fill(scenario, records, queue_of(scenario, w), r.pool);
+    fill(scenario, records, scenario.queue_of(w), r.pool);
     event
 }
 

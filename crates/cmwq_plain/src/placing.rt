@@ -1,10 +1,10 @@
 //! Placing works in pools, and filling what has room.
 ghost use Rattle.cmwq_plain.specs.Ready.{HasSameClock, IsPlaceReady, IsReady};
-ghost use Rattle.cmwq_records.specs.Setting.{IsSetting};
+ghost use Rattle.cmwq_types.specs.Setting.{IsSetting};
 ghost use Rattle.cmwq_table.specs.Moves.{enlist, fill, fill_from, fill_one, fire, newborn, place, place_after, pool_for, set_timer, take_off, taking, with_pending};
 ghost use Rattle.std.specs.Prelude.{◌≡◌, ◌<◌, ◌≤◌, ◌+◌, ◌^◌, IsFalse, length};
 
-use cmwq_records::{Records, queue_of, target_of};
+use cmwq_records::Records;
 use cmwq_table::Pending;
 use cmwq_types::{Place, Scenario};
 
@@ -16,7 +16,7 @@ fn pool_for(scenario: &Scenario, records: &Records, w: usize, cpu: u8) -> u8
 {
     match records.running_of(w) {
         Some(r) => r.pool,
-        None => target_of(scenario, queue_of(scenario, w), cpu),
+        None => scenario.target_of(scenario.queue_of(w), cpu),
     }
 }
 
@@ -30,7 +30,7 @@ pub(crate) fn place(scenario: &Scenario, records: &mut Records, w: usize, cpu: u
     ensures ready { IsReady scenario.now records.new }
 {
     let pool = pool_for(scenario, records, w, cpu);
-    if records.has_room(scenario, queue_of(scenario, w), pool) {
+    if records.has_room(scenario, scenario.queue_of(w), pool) {
         bear(scenario, records, w, Place::Listed(pool));
     } else {
         bear(scenario, records, w, Place::Inactive(pool));
@@ -133,7 +133,7 @@ pub(crate) fn place_after(scenario: &Scenario, records: &mut Records, w: usize, 
     requires ready { IsReady scenario.now records.old }
     requires work { w < length scenario.now.works }
     requires cpu { cpu < scenario.now.cpus }
-    requires time { records.old.now < 2 ^ 63 }
+    requires time { records.old.time < 2 ^ 63 }
     requires stamps { records.old.next < 2 ^ 63 }
     ensures placed { records.new ≡ place_after scenario.now records.old w cpu ticks }
     ensures ready { IsReady scenario.now records.new }
@@ -161,7 +161,7 @@ pub(crate) fn take_off(scenario: &Scenario, records: &mut Records, w: usize)
 {
     if let Some(p) = records.pending_of(w) {
         records.set_pending(w, None);
-        fill_from(scenario, records, queue_of(scenario, w), p.place);
+        fill_from(scenario, records, scenario.queue_of(w), p.place);
     }
 }
 

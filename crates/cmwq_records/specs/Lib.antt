@@ -1,3 +1,2 @@
 pub mod Burning
-pub mod Setting
 pub mod Wanted

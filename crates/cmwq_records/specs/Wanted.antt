@@ -16,8 +16,8 @@ is_wanted S s (QueuedBefore queue bound) w = (queue_of S w == queue) && has_inst
 is_wanted S s Busy w = is_busy_work S s w
 is_wanted S s (Inactive queue pool) w = (queue_of S w == queue) && pends (λ place. is_inactive place pool) (pending_at s w)
 is_wanted S s (Listed pool) w = pends (λ place. is_listed place pool) (pending_at s w)
-is_wanted S s Due w = pends (λ place. is_due place s.now) (pending_at s w)
-is_wanted S s (Slept pool) w = runs (λ r. (r.pool == pool) && is_slept r.mode s.now) (running_at s w)
+is_wanted S s Due w = pends (λ place. is_due place s.time) (pending_at s w)
+is_wanted S s (Slept pool) w = runs (λ r. (r.pool == pool) && is_slept r.mode s.time) (running_at s w)
 is_wanted S s (Runnable pool) w = runs (λ r. (r.pool == pool) && is_runnable r.mode) (running_at s w)
 is_wanted S s (Ready pool) w = runs (λ r. (r.pool == pool) && is_runnable r.mode && (r.left == 0)) (running_at s w)
 

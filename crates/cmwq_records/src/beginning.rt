@@ -1,10 +1,9 @@
 //! The start state of a scenario.
-ghost use Rattle.cmwq_records.specs.Setting.{IsSetting};
+ghost use Rattle.cmwq_types.specs.Setting.{IsSetting};
 ghost use Rattle.cmwq_table.specs.State.{start};
 ghost use Rattle.std.specs.Prelude.{◌≡◌, IfOk, map, replicate};
 
 use crate::records::Records;
-use crate::setting::pool_count;
 use cmwq_types::{MAX_FLUSHES, NoMemory, QueueDecl, Scenario};
 use std::alloc::Global;
 
@@ -16,7 +15,7 @@ impl Records {
         ensures { IfOk result (λ records. records ≡ start scenario.now) }
     {
         let works = scenario.works.len();
-        let pools = pool_count(scenario) as usize;
+        let pools = scenario.pool_count() as usize;
         let max = declared_max(alloc, &scenario.queues)?;
         let pending = filled(alloc, None, works)?;
         let running = filled(alloc, None, works)?;

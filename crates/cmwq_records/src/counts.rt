@@ -1,12 +1,11 @@
 //! Limits, counts, and the first of the works and workers that a move asks for.
 ghost use Rattle.cmwq_types.specs.First.{by_greatest, first_with};
-ghost use Rattle.cmwq_records.specs.Setting.{IsSetting};
+ghost use Rattle.cmwq_types.specs.Setting.{IsSetting};
 ghost use Rattle.cmwq_table.specs.Counts.{active, counted, first_due, first_inactive, first_listed, first_runnable, first_slept, free_worker, has_room, idle_stamp, if_ready, is_busy, last_idle, limit, may_start, new_worker, ready_head, runs};
 ghost use Rattle.cmwq_table.specs.State.{idle_at};
 ghost use Rattle.std.specs.Prelude.{◌≡◌, ◌<◌, ◌==◌, IfSome, length, true};
 
 use crate::records::Records;
-use crate::setting::{flags_of, is_unbound};
 use crate::wanted::Wanted;
 use cmwq_table::Running;
 use cmwq_types::Scenario;
@@ -16,7 +15,7 @@ impl Records {
     fn limit(&self, scenario: &Scenario, queue: u8) -> u16
         ensures { result ≡ limit scenario.now self.now queue }
     {
-        if self.is_frozen() && flags_of(scenario, queue).freezable {
+        if self.is_frozen() && scenario.flags_of(queue).freezable {
             0
         } else {
             self.max_of(queue)
@@ -54,7 +53,7 @@ impl Records {
         requires { IsSetting scenario.now }
         ensures { result ≡ counted scenario.now self.now pool }
     {
-        if is_unbound(scenario, pool) {
+        if scenario.is_unbound(pool) {
             0
         } else {
             self.count(scenario, Wanted::Counted { pool })
@@ -67,7 +66,7 @@ impl Records {
         requires { IsSetting scenario.now }
         ensures { result ≡ may_start scenario.now self.now pool }
     {
-        is_unbound(scenario, pool) || self.counted(scenario, pool) == 0
+        scenario.is_unbound(pool) || self.counted(scenario, pool) == 0
     }
 
     /// The number of the queue's first inactive work in the pool: the one of least stamp.
@@ -119,7 +118,7 @@ impl Records {
         ensures first { result ≡ ready_head scenario.now self.now pool }
         ensures in_range { IfSome result (λ w. w < length scenario.now.works) }
     {
-        if is_unbound(scenario, pool) {
+        if scenario.is_unbound(pool) {
             self.first(scenario, Wanted::Ready { pool })
         } else {
             self.if_ready(scenario, self.first_runnable(scenario, pool))

@@ -9,8 +9,6 @@ mod flushes;
 mod looking;
 mod records;
 mod scans;
-mod setting;
 mod wanted;
 
 pub use records::Records;
-pub use setting::{flags_of, op_of, pool_count, queue_of, target_of};

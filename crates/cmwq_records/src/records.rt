@@ -35,7 +35,7 @@ impl Model for Records {
     ghost Value = { State };
 
     ghost view = { λ r. record {
-      now = r.time;
+      time = r.time;
       next = r.next;
       spent = r.spent;
       frozen = r.frozen;
@@ -64,7 +64,7 @@ impl Records {
         flushes: Vec<FlushTarget>,
     ) -> Records
         requires { MAX_FLUSHES ≤ vec_capacity flushes }
-        ensures { result ≡ record { now = 0; next = 0; spent = 0; frozen = false; max = max.items; pending = pending.items; running = running.items; idle = idle.items; made = made.items; flushes = flushes.items } }
+        ensures { result ≡ record { time = 0; next = 0; spent = 0; frozen = false; max = max.items; pending = pending.items; running = running.items; idle = idle.items; made = made.items; flushes = flushes.items } }
     {
         Records {
             time: 0,
@@ -82,7 +82,7 @@ impl Records {
 
     /// The time, in ticks since the start.
     pub fn time(&self) -> u64
-        ensures { result ≡ self.now.now }
+        ensures { result ≡ self.now.time }
     {
         self.time
     }
@@ -209,8 +209,8 @@ impl Records {
 
     /// Lets the time go on by one tick.
     pub fn pass_time(&mut self)
-        requires { self.old.now < 2 ^ 63 }
-        ensures { self.new ≡ record self.old { now = self.old.now + 1 } }
+        requires { self.old.time < 2 ^ 63 }
+        ensures { self.new ≡ record self.old { time = self.old.time + 1 } }
     {
         self.time += 1;
     }

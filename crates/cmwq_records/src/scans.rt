@@ -6,7 +6,6 @@ ghost use Rattle.cmwq_table.specs.Counts.{is_activated, is_active, is_due, is_in
 ghost use Rattle.std.specs.Prelude.{◌≡◌, ◌<◌, ◌≤◌, ◌==◌, ◌&&◌, ◌||◌, IfSome, length, nat_lt, true};
 
 use crate::records::Records;
-use crate::setting::{flags_of, queue_of};
 use crate::wanted::Wanted;
 use cmwq_table::{Pending, Running};
 use cmwq_types::{Mode, Place, Scenario};
@@ -18,23 +17,23 @@ impl Records {
     {
         match wanted {
             Wanted::ActivePending { queue, pool } => {
-                queue_of(scenario, w) == queue && is_active(self.pending_of(w), pool)
+                scenario.queue_of(w) == queue && is_active(self.pending_of(w), pool)
             }
             Wanted::ActiveRunning { queue, pool } => {
-                queue_of(scenario, w) == queue && runs_in(self.running_of(w), pool)
+                scenario.queue_of(w) == queue && runs_in(self.running_of(w), pool)
             }
             Wanted::Counted { pool } => {
                 is_runnable(self.running_of(w), pool) && !self.is_intensive(scenario, w)
             }
             Wanted::QueuedBefore { queue, bound } => {
-                queue_of(scenario, w) == queue && self.has_instance_before(w, bound)
+                scenario.queue_of(w) == queue && self.has_instance_before(w, bound)
             }
             Wanted::Busy => {
                 self.is_freezable(scenario, w)
                     && (is_activated(self.pending_of(w)) || self.running_of(w).is_some())
             }
             Wanted::Inactive { queue, pool } => {
-                queue_of(scenario, w) == queue && is_inactive(self.pending_of(w), pool)
+                scenario.queue_of(w) == queue && is_inactive(self.pending_of(w), pool)
             }
             Wanted::Listed { pool } => is_listed(self.pending_of(w), pool),
             Wanted::Due => is_due(self.pending_of(w), self.time()),
@@ -48,14 +47,14 @@ impl Records {
     fn is_intensive(&self, scenario: &Scenario, w: usize) -> bool
         ensures { result ≡ (flags_at scenario.now (queue_of scenario.now w)).cpu_intensive }
     {
-        flags_of(scenario, queue_of(scenario, w)).cpu_intensive
+        scenario.flags_of(scenario.queue_of(w)).cpu_intensive
     }
 
     /// Whether the work's queue is freezable.
     fn is_freezable(&self, scenario: &Scenario, w: usize) -> bool
         ensures { result ≡ (flags_at scenario.now (queue_of scenario.now w)).freezable }
     {
-        flags_of(scenario, queue_of(scenario, w)).freezable
+        scenario.flags_of(scenario.queue_of(w)).freezable
     }
 
     /// Whether the one work comes before the other, in the order of the scan.

@@ -1,1 +1,3 @@
+pub mod CounterLemmas
 mod LawLemmas
+pub mod ReadyLemmas

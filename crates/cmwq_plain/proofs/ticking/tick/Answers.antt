@@ -16,8 +16,8 @@ returns-clause-ready c =
     let cpus : c.scenario.inside.cpus ≡ S.cpus = ap (λ t. t.cpus) c.scenario.view_is in
     let ticked : c.pass_time.new.self ≡ tick S s =
     c.pass_time.ensures
-    ∙ ap (λ (t : State). record t { now = t.now + 1 }) burning
-    ∙ ap (λ (n : ℕ). record s { now = s.now + 1; running = burned (burns_beside heads (2 * n)) 0 s.running }) cpus
-    ∙ ap (λ (running : List (Option Running)). record s { now = s.now + 1; running = running }) (burned-by_heads S s heads c.heads-heads.ensures)
+    ∙ ap (λ (t : State). record t { time = t.time + 1 }) burning
+    ∙ ap (λ (n : ℕ). record s { time = s.time + 1; running = burned (burns_beside heads (2 * n)) 0 s.running }) cpus
+    ∙ ap (λ (running : List (Option Running)). record s { time = s.time + 1; running = running }) (burned-by_heads S s heads c.heads-heads.ensures)
     in
     subst (IsReady S) (sym ticked) (tick-ready S s c.requires.ready)

@@ -1,4 +1,4 @@
-use Rattle.cmwq_plain.proofs.SettingLemmas.{IsSetting-valid}
+use Rattle.cmwq_types.proofs.SettingLemmas.{IsSetting-valid}
 use Rattle.cmwq_plain.proofs.StartLemmas.{IsKept-start}
 use Rattle.cmwq_plain.proofs.machine.Plain.begin.Goals as goal
 

@@ -1,20 +1,21 @@
 -- What a valid scenario gives.
 use Rattle.std.proofs.Common.{◌≡◌, ℕ, zero, suc, ◌<◌, ◌≤◌, Bool, true, false, ◌&&◌, List, [], ◌∷◌, ◌++◌, length, Option, Some, None, arith, refl, sym, subst, inl, inr}
-use Rattle.std.specs.Prelude.{slice_index_or, nat_le, nat_lt}
+use Rattle.std.specs.Prelude.{slice_index_or, nat_le, nat_lt, if◌then◌else◌, ◌==◌}
 use Rattle.std.proofs.lemmas.Bool.{cases_lt, leb-true, ltb-true}
 use Rattle.std.proofs.lemmas.Bool.Decides.{nat_tests}
 use Rattle.std.proofs.lemmas.List.{get_or_past}
 use Rattle.std.specs.List.{list_any}
 use Rattle.std.specs.Str.{bytes_eq}
 use Rattle.cmwq_types.specs.Contents.{ScenarioContents, WorkContents}
-use Rattle.cmwq_types.specs.Faults.{IsValid, actor_fault, body_fault, counts_fault, fault_if, fault_unless, first_along, is_body, numbers_fault, op_fault, or_else, queue_fault, within, work_fault}
-use Rattle.cmwq_types.specs.Scenario.{work_at}
+use Rattle.cmwq_types.specs.Faults.{IsValid, actor_fault, body_fault, counts_fault, fault_if, fault_unless, first_along, fits_flags, is_body, numbers_fault, op_fault, or_else, queue_fault, within, work_fault}
+use Rattle.cmwq_types.specs.Scenario.{plain_flags, work_at}
 use Rattle.cmwq_types.specs.declared.check.Fault.{Fault}
-use Rattle.cmwq_types.specs.declared.check.Fault.TheVariants.{Range, TooMany, Duplicate, Unknown, BadBody}
-use Rattle.cmwq_types.specs.declared.limits.TheConstants.{MAX_ACTORS, MAX_CPUS, MAX_FLUSHES, MAX_OPS, MAX_QUEUES, MAX_STEPS, MAX_WORKERS, MAX_WORKS}
+use Rattle.cmwq_types.specs.declared.check.Fault.TheVariants.{Range, TooMany, Duplicate, Unknown, BadBody, BadFlags}
+use Rattle.cmwq_types.specs.declared.limits.TheConstants.{MAX_ACTORS, MAX_CPUS, MAX_FLUSHES, MAX_MAX_ACTIVE, MAX_OPS, MAX_QUEUES, MAX_STEPS, MAX_WORKERS, MAX_WORKS}
 use Rattle.cmwq_types.specs.declared.scenario.Op.{Op}
 use Rattle.cmwq_types.specs.declared.scenario.Op.TheVariants as op
-use Rattle.cmwq_records.specs.Setting.{IsOpInRange, IsPcInRange, IsSetting}
+use Rattle.cmwq_types.specs.declared.scenario.QueueDecl.{QueueDecl}
+use Rattle.cmwq_types.specs.Setting.{IsOneIfOrdered, IsOpInRange, IsPcInRange, IsSetting}
 
 -- no first fault of two: neither
 neither : (a b : Option Fault) → or_else a b ≡ None → (a ≡ None) × (b ≡ None)
@@ -32,6 +33,13 @@ along judge P d each at_d before (x ∷ xs) e zero = each before x (neither (jud
 along judge P d each at_d before (x ∷ xs) e (suc i) =
     along judge P d each at_d (before ++ x ∷ []) xs (neither (judge before x) (first_along judge (before ++ x ∷ []) xs) e).1 i
 
+-- what each judged element has, each element of a list without a fault has
+along_below : {A : Type 0} (judge : List A → A → Option Fault) (P : A → Type 0) (d : A) → ((before : List A) (x : A) → judge before x ≡ None → P x) → (before xs : List A) → first_along judge before xs ≡ None → (i : ℕ) → i < length xs → P (slice_index_or xs i d)
+along_below judge P d each before [] e i h = absurd (omega arith)
+along_below judge P d each before (x ∷ xs) e zero h = each before x (neither (judge before x) (first_along judge (before ++ x ∷ []) xs) e).0
+along_below judge P d each before (x ∷ xs) e (suc i) h =
+    along_below judge P d each (before ++ x ∷ []) xs (neither (judge before x) (first_along judge (before ++ x ∷ []) xs) e).1 i (omega arith)
+
 op-in_range : (S : ScenarioContents) (o : Op) → op_fault S o ≡ None → IsOpInRange S o
 op-in_range S (op.Burn ticks) e = tt
 op-in_range S (op.Sleep ticks) e = tt
@@ -42,14 +50,14 @@ op-in_range S (op.Queue work cpu) e =
     (ltb-true work.0 (length S.works) (passed known Unknown both.0), ltb-true cpu S.cpus (passed there Range both.1))
 op-in_range S op.Finish e = tt
 
-pc-in_range : (o : Op) (pc : ℕ) → pc < 64 → IsPcInRange o pc
+pc-in_range : (o : Op) (pc : ℕ) → pc < MAX_OPS → IsPcInRange o pc
 pc-in_range (op.Burn ticks) pc h = h
 pc-in_range (op.Sleep ticks) pc h = h
 pc-in_range (op.Queue work cpu) pc h = h
 pc-in_range op.Finish pc h = tt
 
--- of a body of at most 64 operations
-ends-in_range : (body : List Op) → length body ≤ 64 → (pc : ℕ) → IsPcInRange (slice_index_or body pc op.Finish) pc
+-- of a body that isn't too long
+ends-in_range : (body : List Op) → length body ≤ MAX_OPS → (pc : ℕ) → IsPcInRange (slice_index_or body pc op.Finish) pc
 ends-in_range body long pc =
     elim (cases_lt pc (length body)) [
       | inl lt ↦ pc-in_range (slice_index_or body pc op.Finish) pc (omega arith)
@@ -78,8 +86,25 @@ work-in_range S before work e =
     let rest = or_else declared (body_fault S work.body) in
     body-in_range S work.body (neither declared (body_fault S work.body) (neither taken rest e).1).1
 
+work-declared : (S : ScenarioContents) (before : List WorkContents) (work : WorkContents) → work_fault S before work ≡ None → work.queue.0 < length S.queues
+work-declared S before work e =
+    let taken = fault_if (list_any (λ other. bytes_eq other.name work.name) before) Duplicate in
+    let known = nat_lt work.queue.0 (length S.queues) in
+    let rest = or_else (fault_unless known Unknown) (body_fault S work.body) in
+    ltb-true work.queue.0 (length S.queues) (passed known Unknown (neither (fault_unless known Unknown) (body_fault S work.body) (neither taken rest e).1).0)
+
 no_body : (S : ScenarioContents) → IsBodyInRange S []
 no_body S = record { ops = λ pc. tt; ends = λ pc. tt }
+
+fits-ordered : (ordered : Bool) (max : ℕ) → (within 1 MAX_MAX_ACTIVE max && (if ordered then max == 1 else true)) ≡ true → ordered ≡ true → max ≤ 1
+fits-ordered true max e o = grind (arith, nat_tests)
+fits-ordered false max e o = cc
+
+queue-ordered : (before : List QueueDecl) (queue : QueueDecl) → queue_fault before queue ≡ None → IsOneIfOrdered queue
+queue-ordered before queue e =
+    let taken = fault_if (list_any (λ other. bytes_eq other.name queue.name) before) Duplicate in
+    fits-ordered queue.flags.ordered queue.max
+    (passed (fits_flags queue) BadFlags (neither taken (fault_unless (fits_flags queue) BadFlags) e).1)
 
 pub IsSetting-valid : (S : ScenarioContents) → IsValid S → IsSetting S
 IsSetting-valid S valid =
@@ -88,7 +113,8 @@ IsSetting-valid S valid =
     let queues = first_along queue_fault [] S.queues in
     let head = neither (numbers_fault S) (or_else (counts_fault S) (or_else queues (or_else works actors))) valid in
     let counts = neither (counts_fault S) (or_else queues (or_else works actors)) head.1 in
-    let parts = neither works actors (neither queues (or_else works actors) counts.1).1 in
+    let declared = neither queues (or_else works actors) counts.1 in
+    let parts = neither works actors declared.1 in
     let few_cpus = within 1 MAX_CPUS S.cpus in
     let few_workers = within 1 MAX_WORKERS S.workers in
     let few_steps = within 1 MAX_STEPS S.steps in
@@ -104,6 +130,8 @@ IsSetting-valid S valid =
       flushes = grind (arith, nat_tests);
       queues = grind (arith, nat_tests);
       works = grind (arith, nat_tests);
+      declared = along_below (work_fault S) (λ work. work.queue.0 < length S.queues) (record { name = []; queue = record { 0 = 0 }; body = [] }) (work-declared S) [] S.works parts.0;
       ops = λ w. (bodies w).ops;
       ends = λ w. (bodies w).ends;
+      ordered = along queue_fault IsOneIfOrdered (record { name = []; max = 0; flags = plain_flags }) queue-ordered (λ o. omega arith) [] S.queues declared.0;
     }
