@@ -1,0 +1,7 @@
+//! The instruction table as a program, once for every machine: `Driven` is a machine over whatever
+//! structure answers the questions of the table and makes its single changes, its `Parts`.
+#![tactic(auto)]
+
+mod parts;
+
+pub use parts::Parts;
