@@ -2,6 +2,7 @@
 //! structure answers the questions of the table and makes its single changes, its `Parts`.
 #![tactic(auto)]
 
+mod going;
 mod parts;
 
 pub use parts::Parts;

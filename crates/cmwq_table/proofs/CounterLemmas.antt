@@ -21,31 +21,25 @@ use Rattle.cmwq_types.specs.declared.scenario.Op.{Op}
 use Rattle.cmwq_types.specs.declared.scenario.Op.TheVariants as op
 use Rattle.cmwq_table.specs.Counts.{first_due, first_inactive, free_worker, has_room, is_deferred, or_else}
 use Rattle.cmwq_table.specs.Moves.{advance, begin_again, carry_out, come_to_end, deferred, enlist, fill, fill_everywhere, fill_freezable, fill_from, fill_one, fill_pools, fill_times, finish, fire, fired, fired_to, first_moving, moved, next_move, onward, place, place_after, queue_from_body, retire, set_max, started, take_off, taken_off, thaw, tick, with_pending, woken}
-use Rattle.cmwq_table.specs.Ready.{HasCounters, most_stamps}
+use Rattle.cmwq_table.specs.Ready.{HasCounters, Takes, most_stamps}
 use Rattle.cmwq_table.specs.State.{State, pending_at, running_at, start}
 use Rattle.cmwq_table.specs.Table.{answer, cancelled, cancelled_sync, delayed, effect, fired_first, is_question, modified, next, operands, queued, refuse_unless, situation, spent_all, step_or_tick, stepped, table}
 use Rattle.cmwq_table.specs.declared.state.Pending.{Pending}
 use Rattle.cmwq_table.specs.declared.state.Running.{Running}
 
--- at most n stamps were taken, and neither time nor steps
-pub record Takes (n : ℕ) (s t : State) : Type 0 where
-  pub next : t.next ≤ s.next + n
-  pub time : t.time ≡ s.time
-  pub spent : t.spent ≡ s.spent
-
 stays : (n : ℕ) (s : State) → Takes n s s
-stays n s = record { next = omega arith; time = refl; spent = refl }
+stays n s = record { next = omega arith; time = refl; spent = refl; flushes = refl }
 
 both : (m n k : ℕ) (s t u : State) → Takes m s t → Takes n t u → m + n ≤ k → Takes k s u
-both m n k s t u a b h = record { next = omega (arith, a.next, b.next); time = b.time ∙ a.time; spent = b.spent ∙ a.spent }
+both m n k s t u a b h = record { next = omega (arith, a.next, b.next); time = b.time ∙ a.time; spent = b.spent ∙ a.spent; flushes = b.flushes ∙ a.flushes }
 
 within : (m n : ℕ) (s t : State) → Takes m s t → m ≤ n → Takes n s t
-within m n s t a h = record { next = omega (arith, a.next); time = a.time; spent = a.spent }
+within m n s t a h = record { next = omega (arith, a.next); time = a.time; spent = a.spent; flushes = a.flushes }
 
 -- Filling.
 
 enlist-takes : (s : State) (pool : ℕ) (o : Option ℕ) → Takes 1 s (enlist s pool o)
-enlist-takes s pool (Some w) = record { next = omega arith; time = refl; spent = refl }
+enlist-takes s pool (Some w) = record { next = omega arith; time = refl; spent = refl; flushes = refl }
 enlist-takes s pool None = stays 1 s
 
 fill_one-takes : (S : ScenarioContents) (queue pool : ℕ) (s : State) → Takes 1 s (fill_one S queue pool s)
@@ -85,21 +79,21 @@ fill_freezable-takes S (suc n) s setting =
 pub set_max-takes : (S : ScenarioContents) (s : State) (queue max : ℕ) → IsSetting S → Takes most_everywhere s (set_max S s queue max)
 set_max-takes S s queue max setting =
     let filled = fill_everywhere-takes S queue (record s { max = slice_set s.max queue max }) setting in
-    record { next = filled.next; time = filled.time; spent = filled.spent }
+    record { next = filled.next; time = filled.time; spent = filled.spent; flushes = filled.flushes }
 
 pub thaw-takes : (S : ScenarioContents) (s : State) → IsSetting S → Takes most_stamps s (thaw S s)
 thaw-takes S s setting =
     let filled = fill_freezable-takes S (length S.queues) (record s { frozen = false }) setting in
-    record { next = omega (arith, filled.next, setting.queues); time = filled.time; spent = filled.spent }
+    record { next = omega (arith, filled.next, setting.queues); time = filled.time; spent = filled.spent; flushes = filled.flushes }
 
 -- Placing and taking off.
 
 place-takes : (S : ScenarioContents) (s : State) (w cpu : ℕ) → Takes 1 s (place S s w cpu)
-place-takes S s w cpu = record { next = omega arith; time = refl; spent = refl }
+place-takes S s w cpu = record { next = omega arith; time = refl; spent = refl; flushes = refl }
 
 place_after-takes : (S : ScenarioContents) (s : State) (w cpu ticks : ℕ) → Takes 1 s (place_after S s w cpu ticks)
 place_after-takes S s w cpu zero = place-takes S s w cpu
-place_after-takes S s w cpu (suc ticks) = record { next = omega arith; time = refl; spent = refl }
+place_after-takes S s w cpu (suc ticks) = record { next = omega arith; time = refl; spent = refl; flushes = refl }
 
 pub fill_from-takes : (S : ScenarioContents) (queue : ℕ) (at : Place) (s : State) → IsSetting S → Takes MAX_WORKS s (fill_from S queue at s)
 fill_from-takes S queue (Timer due cpu) s setting = stays MAX_WORKS s
@@ -110,11 +104,11 @@ fill_from-takes S queue (Deferred pool) s setting = fill-takes S queue pool s se
 pub taken_off-takes : (S : ScenarioContents) (s : State) (w : ℕ) (p : Option Pending) → IsSetting S → Takes MAX_WORKS s (taken_off S s w p)
 taken_off-takes S s w (Some p) setting =
     let filled = fill_from-takes S (queue_of S w) p.place (with_pending s w None) setting in
-    record { next = filled.next; time = filled.time; spent = filled.spent }
+    record { next = filled.next; time = filled.time; spent = filled.spent; flushes = filled.flushes }
 taken_off-takes S s w None setting = stays MAX_WORKS s
 
 fired_to-takes : (S : ScenarioContents) (s : State) (w : ℕ) (at : Place) → Takes 1 s (fired_to S s w at)
-fired_to-takes S s w (Timer due cpu) = record { next = omega arith; time = refl; spent = refl }
+fired_to-takes S s w (Timer due cpu) = record { next = omega arith; time = refl; spent = refl; flushes = refl }
 fired_to-takes S s w (Inactive pool) = stays 1 s
 fired_to-takes S s w (Listed pool) = stays 1 s
 fired_to-takes S s w (Deferred pool) = stays 1 s
@@ -131,8 +125,8 @@ either-takes n s false x y a c = c
 
 pub come_to_end-takes : (s : State) (w : ℕ) (r : Running) (p : Option Pending) → Takes 1 s (come_to_end s w r p).0
 come_to_end-takes s w r (Some p) =
-    either-takes 1 s (is_deferred p.place) (begin_again s w r p, event.FinishesAndStarts) (retire s w r, event.Finishes) (record { next = omega arith; time = refl; spent = refl }) (record { next = omega arith; time = refl; spent = refl })
-come_to_end-takes s w r None = record { next = omega arith; time = refl; spent = refl }
+    either-takes 1 s (is_deferred p.place) (begin_again s w r p, event.FinishesAndStarts) (retire s w r, event.Finishes) (record { next = omega arith; time = refl; spent = refl; flushes = refl }) (record { next = omega arith; time = refl; spent = refl; flushes = refl })
+come_to_end-takes s w r None = record { next = omega arith; time = refl; spent = refl; flushes = refl }
 
 -- what a move takes at most
 abbrev pub most_of_move : ℕ
@@ -145,14 +139,14 @@ finish-takes S s w r setting =
 
 queue_from_body-takes : (S : ScenarioContents) (s : State) (other : WorkId) (cpu : ℕ) (p : Option Pending) → Takes most_of_move s (queue_from_body S s other cpu p).0
 queue_from_body-takes S s other cpu (Some p) = stays most_of_move s
-queue_from_body-takes S s other cpu None = record { next = omega arith; time = refl; spent = refl }
+queue_from_body-takes S s other cpu None = record { next = omega arith; time = refl; spent = refl; flushes = refl }
 
 carry_out-takes : (S : ScenarioContents) (s : State) (w : ℕ) (r : Running) (o : Op) → IsSetting S → Takes most_of_move s (carry_out S s w r o).0
-carry_out-takes S s w r (op.Burn ticks) setting = record { next = omega arith; time = refl; spent = refl }
-carry_out-takes S s w r (op.Sleep ticks) setting = record { next = omega arith; time = refl; spent = refl }
+carry_out-takes S s w r (op.Burn ticks) setting = record { next = omega arith; time = refl; spent = refl; flushes = refl }
+carry_out-takes S s w r (op.Sleep ticks) setting = record { next = omega arith; time = refl; spent = refl; flushes = refl }
 carry_out-takes S s w r (op.Queue other cpu) setting =
     let placed = queue_from_body-takes S (onward s w r) other cpu (pending_at s other.0) in
-    record { next = placed.next; time = placed.time; spent = placed.spent }
+    record { next = placed.next; time = placed.time; spent = placed.spent; flushes = placed.flushes }
 carry_out-takes S s w r op.Finish setting = finish-takes S s w r setting
 
 advance-takes : (S : ScenarioContents) (s : State) (w : ℕ) (r : Option Running) → IsSetting S → Takes most_of_move s (advance S s w r).0
@@ -160,16 +154,16 @@ advance-takes S s w (Some r) setting = carry_out-takes S s w r (op_at S w r.pc) 
 advance-takes S s w None setting = stays most_of_move s
 
 woken-takes : (s : State) (w : ℕ) (r : Option Running) → Takes most_of_move s (woken s w r)
-woken-takes s w (Some r) = record { next = omega arith; time = refl; spent = refl }
+woken-takes s w (Some r) = record { next = omega arith; time = refl; spent = refl; flushes = refl }
 woken-takes s w None = stays most_of_move s
 
 started-takes : (s : State) (pool w : ℕ) (worker : Option ℕ) (p : Option Pending) → Takes most_of_move s (started s pool w worker p)
-started-takes s pool w (Some worker) (Some p) = record { next = omega arith; time = refl; spent = refl }
+started-takes s pool w (Some worker) (Some p) = record { next = omega arith; time = refl; spent = refl; flushes = refl }
 started-takes s pool w (Some worker) None = stays most_of_move s
 started-takes s pool w None p = stays most_of_move s
 
 deferred-takes : (s : State) (pool w : ℕ) (p : Option Pending) → Takes most_of_move s (deferred s pool w p)
-deferred-takes s pool w (Some p) = record { next = omega arith; time = refl; spent = refl }
+deferred-takes s pool w (Some p) = record { next = omega arith; time = refl; spent = refl; flushes = refl }
 deferred-takes s pool w None = stays most_of_move s
 
 moved-takes : (S : ScenarioContents) (s : State) (pool : ℕ) (move : Move) → IsSetting S → Takes most_of_move s (moved S s pool move).0

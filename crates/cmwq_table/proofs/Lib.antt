@@ -1,3 +1,4 @@
 pub mod CounterLemmas
+pub mod IdleLemmas
 mod LawLemmas
 pub mod ReadyLemmas

@@ -1,11 +1,11 @@
 -- Each change of the state keeps it ready.
-use Rattle.std.proofs.Common.{ℕ, suc, zero, ◌+◌, ◌-◌, ◌<◌, ◌≤◌, Bool, true, false, cond, List, [], ◌∷◌, Option, Some, None, length, replicate, arith}
+use Rattle.std.proofs.Common.{ℕ, suc, zero, ◌+◌, ◌-◌, ◌<◌, ◌≤◌, Bool, true, false, cond, List, [], ◌∷◌, Option, Some, None, length, replicate, arith, ◌≡◌, subst}
 use Rattle.std.specs.Prelude.{slice_set, slice_index_or}
 use Rattle.cmwq_types.specs.Contents.{ScenarioContents}
 use Rattle.cmwq_types.specs.Scenario.{pool_count}
 use Rattle.cmwq_types.specs.Setting.{IsSetting}
 use Rattle.cmwq_types.specs.declared.limits.TheConstants.{MAX_OPS, MAX_WORKERS}
-use Rattle.cmwq_types.specs.declared.reply.Mode.TheVariants.{Runnable}
+use Rattle.cmwq_types.specs.declared.reply.Mode.TheVariants.{Asleep, Runnable}
 use Rattle.cmwq_types.specs.declared.reply.Place.{Place}
 use Rattle.cmwq_types.specs.declared.reply.Place.TheVariants.{Deferred}
 use Rattle.cmwq_table.specs.Counts.{burns}
@@ -34,12 +34,28 @@ with_pending-ready S s w p ready here = record {
 pub unpend-ready : (S : ScenarioContents) (s : State) (w : ℕ) → IsReady S s → IsReady S (with_pending s w None)
 unpend-ready S s w ready = with_pending-ready S s w None ready tt
 
-pub with_running-ready : (S : ScenarioContents) (s : State) (w : ℕ) (r : Option Running) → IsReady S s → IsRunningReady S r → IsReady S (with_running s w r)
+with_running-ready : (S : ScenarioContents) (s : State) (w : ℕ) (r : Option Running) → IsReady S s → IsRunningReady S r → IsReady S (with_running s w r)
 with_running-ready S s w r ready here = record {
   setting = ready.setting;
   pending = ready.pending;
   running = each-set (IsRunningReady S) s.running w r ready.running here;
 }
+
+-- what runs can be gone on from
+pub running_at-ready : (S : ScenarioContents) (s : State) (w : ℕ) (r : Running) → IsReady S s → running_at s w ≡ Some r → IsRunningReady S (Some r)
+running_at-ready S s w r ready is = subst (IsRunningReady S) is (ready.running w)
+
+pub go_on-ready : (S : ScenarioContents) (s : State) (w left : ℕ) (r : Running) → IsReady S s → running_at s w ≡ Some r → r.pc < MAX_OPS
+    → IsReady S (with_running s w (Some (record r { pc = r.pc + 1; left = left })))
+go_on-ready S s w left r ready is more =
+    let here = running_at-ready S s w r ready is in
+    with_running-ready S s w (Some (record r { pc = r.pc + 1; left = left })) ready (here.0, here.1, omega arith)
+
+pub sleep-ready : (S : ScenarioContents) (s : State) (w until : ℕ) (r : Running) → IsReady S s → running_at s w ≡ Some r → r.pc < MAX_OPS
+    → IsReady S (with_running s w (Some (record r { pc = r.pc + 1; mode = Asleep until })))
+sleep-ready S s w until r ready is more =
+    let here = running_at-ready S s w r ready is in
+    with_running-ready S s w (Some (record r { pc = r.pc + 1; mode = Asleep until })) ready (here.0, here.1, omega arith)
 
 taking-ready : (S : ScenarioContents) (s : State) → IsReady S s → IsReady S (taking s)
 taking-ready S s ready = record { setting = ready.setting; pending = ready.pending; running = ready.running }
@@ -60,8 +76,8 @@ pub deferred-ready : (S : ScenarioContents) (s : State) (pool w : ℕ) (p : Opti
 deferred-ready S s pool w (Some p) ready h = with_pending-ready S s w (Some (record p { place = Deferred pool })) ready h
 deferred-ready S s pool w None ready h = ready
 
-pub begin_again-ready : (S : ScenarioContents) (s : State) (w : ℕ) (r : Running) (p : Pending) → IsReady S s → IsRunningReady S (Some r) → IsReady S (begin_again s w r p)
-begin_again-ready S s w r p ready here = record {
+pub begin_again-ready : (S : ScenarioContents) (s : State) (w : ℕ) (r : Running) (p : Pending) → IsReady S s → running_at s w ≡ Some r → IsReady S (begin_again s w r p)
+begin_again-ready S s w r p ready is = let here = running_at-ready S s w r ready is in record {
   setting = ready.setting;
   pending = each-set (IsPendingReady S) s.pending w None ready.pending tt;
   running = each-set (IsRunningReady S) s.running w (Some (begun p.born r.pool r.worker s.next)) ready.running (here.0, here.1, omega arith);
@@ -74,20 +90,23 @@ retire-ready S s w r ready = record {
   running = each-set (IsRunningReady S) s.running w None ready.running tt;
 }
 
-pub started_on-ready : (S : ScenarioContents) (s : State) (pool w worker : ℕ) (p : Pending) → IsReady S s → pool < pool_count S → worker < MAX_WORKERS → IsReady S (started_on s pool w worker p)
+pub started_on-ready : (S : ScenarioContents) (s : State) (pool w worker : ℕ) (p : Pending) → IsReady S s → pool < pool_count S → worker < S.workers → IsReady S (started_on s pool w worker p)
 started_on-ready S s pool w worker p ready pool_is_there worker_is_there = record {
   setting = ready.setting;
   pending = each-set (IsPendingReady S) s.pending w None ready.pending tt;
-  running = each-set (IsRunningReady S) s.running w (Some (begun p.born pool worker s.next)) ready.running (pool_is_there, worker_is_there, omega arith);
+  running = each-set (IsRunningReady S) s.running w (Some (begun p.born pool worker s.next)) ready.running (pool_is_there, omega (arith, ready.setting.workers), omega arith);
 }
 
-pub woken-ready : (S : ScenarioContents) (s : State) (w : ℕ) (r : Option Running) → IsReady S s → IsRunningReady S r → IsReady S (woken s w r)
-woken-ready S s w (Some r) ready here = record {
+woken_as-ready : (S : ScenarioContents) (s : State) (w : ℕ) (r : Option Running) → IsReady S s → IsRunningReady S r → IsReady S (woken s w r)
+woken_as-ready S s w (Some r) ready here = record {
   setting = ready.setting;
   pending = ready.pending;
   running = each-set (IsRunningReady S) s.running w (Some (record r { mode = Runnable; stamp = s.next })) ready.running here;
 }
-woken-ready S s w None ready here = ready
+woken_as-ready S s w None ready here = ready
+
+pub woken-ready : (S : ScenarioContents) (s : State) (w : ℕ) → IsReady S s → IsReady S (woken s w (running_at s w))
+woken-ready S s w ready = woken_as-ready S s w (running_at s w) ready (ready.running w)
 
 one_less-ready : (S : ScenarioContents) (r : Option Running) → IsRunningReady S r → IsRunningReady S (one_less r)
 one_less-ready S (Some r) ready = ready
@@ -132,3 +151,6 @@ start-ready S setting = record {
   pending = each-none (IsPendingReady S) tt (length S.works);
   running = each-none (IsRunningReady S) tt (length S.works);
 }
+
+pub ruleset keeps_ready =
+    (unpend-ready, bear-ready, enlist-ready, deferred-ready, started_on-ready, running_at-ready, go_on-ready, sleep-ready, woken-ready, begin_again-ready, retire-ready, tick-ready, max-ready, frozen-ready, flush-ready, spent-ready, start-ready)

@@ -1,5 +1,5 @@
 -- What holds whenever a machine can go on: of each pending and each running work, and of the counters.
-use Rattle.std.specs.Prelude.{ℕ, ◌+◌, ◌*◌, ◌<◌, ◌≤◌, Option, Some, None}
+use Rattle.std.specs.Prelude.{◌≡◌, ℕ, ◌+◌, ◌*◌, ◌<◌, ◌≤◌, Option, Some, None}
 use Rattle.cmwq_types.specs.Contents.{ScenarioContents}
 use Rattle.cmwq_types.specs.Scenario.{pool_count}
 use Rattle.cmwq_types.specs.Setting.{IsSetting}
@@ -36,6 +36,13 @@ pub record IsReady (S : ScenarioContents) (s : State) : Type 0 where
 -- work at most one.
 abbrev pub most_stamps : ℕ
 most_stamps = MAX_QUEUES * (2 * MAX_CPUS + 2) * MAX_WORKS
+
+-- a change that took at most n stamps, and left time, spent steps and flushes as they were
+pub record Takes (n : ℕ) (old new : State) : Type 0 where
+  pub next : new.next ≤ old.next + n
+  pub time : new.time ≡ old.time
+  pub spent : new.spent ≡ old.spent
+  pub flushes : new.flushes ≡ old.flushes
 
 -- What holds between instructions: no counter outgrows what was spent, nor that the scenario's steps.
 pub record HasCounters (S : ScenarioContents) (s : State) : Type 0 where
