@@ -4,5 +4,6 @@
 
 mod going;
 mod parts;
+mod placing;
 
 pub use parts::Parts;

@@ -42,7 +42,7 @@ enlist-takes : (s : State) (pool : ℕ) (o : Option ℕ) → Takes 1 s (enlist s
 enlist-takes s pool (Some w) = record { next = omega arith; time = refl; spent = refl; flushes = refl }
 enlist-takes s pool None = stays 1 s
 
-fill_one-takes : (S : ScenarioContents) (queue pool : ℕ) (s : State) → Takes 1 s (fill_one S queue pool s)
+pub fill_one-takes : (S : ScenarioContents) (queue pool : ℕ) (s : State) → Takes 1 s (fill_one S queue pool s)
 fill_one-takes S queue pool s = enlist-takes s pool (if has_room S s queue pool then first_inactive S s queue pool else None)
 
 fill_times-takes : (S : ScenarioContents) (queue pool n : ℕ) (s : State) → Takes n s (fill_times S queue pool n s)
@@ -281,3 +281,5 @@ table-counters S s i setting counters = answer-counters S s i setting counters (
 
 pub start-counters : (S : ScenarioContents) → HasCounters S (start S)
 start-counters S = record { spent = omega arith; time = omega arith; next = omega arith }
+
+pub ruleset takes = (fill_one-takes, fill-takes, fill_everywhere-takes, fill_freezable-takes, fill_from-takes, taken_off-takes, come_to_end-takes)

@@ -46,3 +46,5 @@ fill_from-idle S queue (Deferred pool) s w idle = fill_times-idle S queue pool (
 -- what was taken off isn't pending
 pub taken_off-idle : (S : ScenarioContents) (s : State) (w : ℕ) (p : Pending) → pending_at (taken_off S s w (Some p)) w ≡ None
 taken_off-idle S s w p = fill_from-idle S (queue_of S w) p.place (with_pending s w None) w (unpend-idle s w)
+
+pub ruleset unpended = (unpend-idle, taken_off-idle)
