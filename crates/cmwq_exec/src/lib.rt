@@ -3,6 +3,8 @@
 #![tactic(auto)]
 
 mod going;
+mod limits;
+mod moving;
 mod parts;
 mod placing;
 

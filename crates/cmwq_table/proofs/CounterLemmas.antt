@@ -21,7 +21,7 @@ use Rattle.cmwq_types.specs.declared.scenario.Op.{Op}
 use Rattle.cmwq_types.specs.declared.scenario.Op.TheVariants as op
 use Rattle.cmwq_table.specs.Counts.{first_due, first_inactive, free_worker, has_room, is_deferred, or_else}
 use Rattle.cmwq_table.specs.Moves.{advance, begin_again, carry_out, come_to_end, deferred, enlist, fill, fill_everywhere, fill_freezable, fill_from, fill_one, fill_pools, fill_times, finish, fire, fired, fired_to, first_moving, moved, next_move, onward, place, place_after, queue_from_body, retire, set_max, started, take_off, taken_off, thaw, tick, with_pending, woken}
-use Rattle.cmwq_table.specs.Ready.{HasCounters, Takes, most_stamps}
+use Rattle.cmwq_table.specs.Ready.{HasCounters, Takes, most_everywhere, most_stamps}
 use Rattle.cmwq_table.specs.State.{State, pending_at, running_at, start}
 use Rattle.cmwq_table.specs.Table.{answer, cancelled, cancelled_sync, delayed, effect, fired_first, is_question, modified, next, operands, queued, refuse_unless, situation, spent_all, step_or_tick, stepped, table}
 use Rattle.cmwq_table.specs.declared.state.Pending.{Pending}
@@ -58,10 +58,6 @@ pub fill_pools-takes : (S : ScenarioContents) (queue n : ℕ) (s : State) → Is
 fill_pools-takes S queue zero s setting = stays (MAX_WORKS * 0) s
 fill_pools-takes S queue (suc n) s setting =
     both (MAX_WORKS * n) MAX_WORKS (MAX_WORKS * suc n) s (fill_pools S queue n s) (fill_pools S queue (suc n) s) (fill_pools-takes S queue n s setting) (fill-takes S queue n (fill_pools S queue n s) setting) (omega arith)
-
--- what filling one queue in every pool takes at most
-abbrev pub most_everywhere : ℕ
-most_everywhere = (2 * MAX_CPUS + 2) * MAX_WORKS
 
 pub fill_everywhere-takes : (S : ScenarioContents) (queue : ℕ) (s : State) → IsSetting S → Takes most_everywhere s (fill_everywhere S queue s)
 fill_everywhere-takes S queue s setting =
@@ -245,6 +241,10 @@ effect-costs S s instr.Next setting = next-costs S s (first_due S s) setting
 effect-costs S s (instr.Ask flush) setting = asks s
 effect-costs S s instr.Busy setting = asks s
 effect-costs S s (instr.State w) setting = asks s
+
+-- no effect spends a step
+pub effect-spent : (S : ScenarioContents) (s : State) (i : Instr) → IsSetting S → (effect S s i).0.spent ≡ s.spent
+effect-spent S s i setting = (effect-costs S s i setting).spent
 
 -- what is accepted costs one step, which was there
 spent-counters : (S : ScenarioContents) (s t : State) (question : Bool) → HasCounters S s → Costs question s t → (question || nat_lt s.spent S.steps) ≡ true

@@ -32,10 +32,13 @@ pub record IsReady (S : ScenarioContents) (s : State) : Type 0 where
   pub pending : (w : ℕ) → IsPendingReady S (pending_at s w)
   pub running : (w : ℕ) → IsRunningReady S (running_at s w)
 
--- The most stamps that one instruction takes: a thaw fills each queue in each pool, and a fill gives each
--- work at most one.
+-- The most stamps that filling one queue in each pool takes: a fill gives each work at most one.
+abbrev pub most_everywhere : ℕ
+most_everywhere = (2 * MAX_CPUS + 2) * MAX_WORKS
+
+-- The most stamps that one instruction takes: a thaw fills each queue in each pool.
 abbrev pub most_stamps : ℕ
-most_stamps = MAX_QUEUES * (2 * MAX_CPUS + 2) * MAX_WORKS
+most_stamps = MAX_QUEUES * most_everywhere
 
 -- a change that took at most n stamps, and left time, spent steps and flushes as they were
 pub record Takes (n : ℕ) (old new : State) : Type 0 where
