@@ -7,5 +7,6 @@ mod limits;
 mod moving;
 mod parts;
 mod placing;
+mod refusing;
 
 pub use parts::Parts;
