@@ -3,6 +3,7 @@ ghost use Rattle.cmwq_table.specs.Counts.{first_inactive, first_listed, first_sl
 ghost use Rattle.cmwq_table.specs.Moves.{begin_again, deferred, enlist, newborn, retire, started_on, taking, tick, with_flush, with_pending, with_running, woken};
 ghost use Rattle.cmwq_table.specs.Ready.{IsPlaceReady};
 ghost use Rattle.cmwq_table.specs.State.{pending_at, running_at, start};
+ghost use Rattle.cmwq_table.specs.View.{view_of};
 ghost use Rattle.cmwq_types.specs.Scenario.{pool_count};
 ghost use Rattle.cmwq_types.specs.Setting.{IsSetting};
 ghost use Rattle.cmwq_types.specs.declared.limits.TheConstants.{MAX_OPS};
@@ -10,7 +11,7 @@ ghost use Rattle.cmwq_types.specs.declared.reply.Mode.TheVariants.{Asleep};
 ghost use Rattle.std.specs.Prelude.{◌≡◌, ◌<◌, ◌+◌, ◌^◌, IfOk, None, Some, is_some, length, slice_set, true};
 
 use crate::parts::Parts;
-use cmwq_table::{FlushTarget, Pending, Running};
+use cmwq_table::{FlushTarget, Pending, Running, View};
 use cmwq_types::{NoMemory, Place, Scenario};
 use std::alloc::Global;
 use std::marker::Model;
@@ -49,6 +50,20 @@ impl<P: Parts> Going<P> {
     {
         let parts = self.parts.copy()?;
         Ok(Going { parts })
+    }
+
+    /// Every part of the state.
+    pub(crate) fn look(&self) -> Result<View, NoMemory>
+        ensures { IfOk result (λ view. view ≡ view_of self.now.state) }
+    {
+        self.parts.look()
+    }
+
+    /// The time, in ticks since the start.
+    pub(crate) fn time(&self) -> u64
+        ensures { result ≡ self.now.state.time }
+    {
+        self.parts.time()
     }
 
     /// Makes a new instance of a work that isn't pending, and puts it at the place.

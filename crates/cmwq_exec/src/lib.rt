@@ -2,11 +2,15 @@
 //! structure answers the questions of the table and makes its single changes, its `Parts`.
 #![tactic(auto)]
 
+mod driven;
+mod flushing;
 mod going;
 mod limits;
 mod moving;
 mod parts;
+mod performing;
 mod placing;
 mod refusing;
 
+pub use driven::Driven;
 pub use parts::Parts;
