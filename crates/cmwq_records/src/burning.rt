@@ -1,8 +1,8 @@
 //! A tick of the works that have a CPU, once the head of each pool is known.
-ghost use Rattle.cmwq_records.specs.Heads.{AreHeads};
-ghost use Rattle.cmwq_types.specs.Scenario.{pool_count};
 ghost use Rattle.cmwq_records.specs.Burning.{burns_beside};
+ghost use Rattle.cmwq_records.specs.Heads.{AreHeads};
 ghost use Rattle.cmwq_table.specs.Moves.{burned, one_less};
+ghost use Rattle.cmwq_types.specs.Scenario.{pool_count};
 ghost use Rattle.std.specs.Prelude.{◌≡◌, slice_index_or};
 
 use crate::records::Records;

@@ -229,13 +229,12 @@ impl Parts for Records {
     }
 
     fn bear(&mut self, w: usize, place: Place) {
-        let stamp = self.next;
+        let stamp = self.take_stamp();
         self.pending[w] = Some(Pending {
             born: stamp,
             stamp,
             place,
         });
-        self.next += 1;
     }
 
     fn unpend(&mut self, w: usize, _p: Pending) {
@@ -243,13 +242,9 @@ impl Parts for Records {
     }
 
     fn enlist(&mut self, _queue: u8, pool: u8, w: usize) {
-        let stamp = self.next;
-        self.pending[w] = self.pending[w].map(|p| Pending {
-            born: p.born,
-            stamp,
-            place: Place::Listed(pool),
-        });
-        self.next += 1;
+        let stamp = self.take_stamp();
+        let place = Place::Listed(pool);
+        self.pending[w] = self.pending[w].map(|p| Pending { stamp, place, ..p });
     }
 
     fn defer(&mut self, pool: u8, w: usize) {
@@ -258,12 +253,12 @@ impl Parts for Records {
     }
 
     fn start_on(&mut self, pool: u8, w: usize, worker: u8, p: Pending) {
+        let stamp = self.take_stamp();
         self.pending[w] = None;
-        self.running[w] = Some(begun(p.born, pool, worker, self.next));
+        self.running[w] = Some(begun(p.born, pool, worker, stamp));
         self.idle[seat(pool, worker)] = None;
         let made = self.made[pool as usize];
         self.made[pool as usize] = if worker == made { worker + 1 } else { made };
-        self.next += 1;
     }
 
     fn go_on(&mut self, w: usize, r: Running, left: u32) {
@@ -278,24 +273,23 @@ impl Parts for Records {
     }
 
     fn wake(&mut self, _pool: u8, w: usize) {
-        if let Some(r) = self.running[w] {
+        if let Some(r) = self.running_of(w) {
+            let stamp = self.take_stamp();
             let mode = Mode::Runnable;
-            let stamp = self.next;
             self.running[w] = Some(Running { mode, stamp, ..r });
-            self.next += 1;
         }
     }
 
     fn begin_again(&mut self, w: usize, r: Running, p: Pending) {
+        let stamp = self.take_stamp();
         self.pending[w] = None;
-        self.running[w] = Some(begun(p.born, r.pool, r.worker, self.next));
-        self.next += 1;
+        self.running[w] = Some(begun(p.born, r.pool, r.worker, stamp));
     }
 
     fn retire(&mut self, w: usize, r: Running) {
+        let stamp = self.take_stamp();
         self.running[w] = None;
-        self.idle[seat(r.pool, r.worker)] = Some(self.next);
-        self.next += 1;
+        self.idle[seat(r.pool, r.worker)] = Some(stamp);
     }
 
     fn tick(&mut self) {
@@ -323,7 +317,20 @@ impl Parts for Records {
 }
 
 impl Records {
+    ghost use Rattle.cmwq_table.specs.Moves.{taking};
     ghost use Rattle.cmwq_table.specs.State.{idle_at, made_at, max_at};
+    ghost use Rattle.std.specs.Prelude.{◌≡◌, ◌<◌, ◌^◌};
+
+    /// The next stamp, which is taken: the one after it is next.
+    fn take_stamp(&mut self) -> u64
+        requires { self.old.state.next < 2 ^ 63 }
+        ensures stamp { result ≡ self.old.state.next }
+        ensures taken { self.new ≡ record self.old { state = taking self.old.state } }
+    {
+        let stamp = self.next;
+        self.next += 1;
+        stamp
+    }
 
     /// The `max_active` that the queue has now, and 0 where there is no such queue.
     pub(crate) fn max_of(&self, queue: u8) -> u16
