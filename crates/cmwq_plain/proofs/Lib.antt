@@ -1,4 +1,0 @@
-pub mod FillLemmas
-pub mod ReadyLemmas
-pub mod StartLemmas
-pub mod TickLemmas
