@@ -47,8 +47,8 @@ pub fn work_starts_at_level_zero()
 pub fn time_passes_beside_a_burning_work()
     ensures listed { place_of (pending_at (after_lines sleeper before_tick) 2) ≡ Some (Place.Listed 0) }
     ensures level { counted sleeper (after_lines sleeper before_tick) 0 ≡ 1 }
-    ensures before { (after_lines sleeper before_tick).now ≡ 0 }
-    ensures after { (state_after sleeper (after_lines sleeper before_tick) Instr.Tick).now ≡ 1 }
+    ensures before { (after_lines sleeper before_tick).time ≡ 0 }
+    ensures after { (state_after sleeper (after_lines sleeper before_tick) Instr.Tick).time ≡ 1 }
 {}
 
 /// Time passes while a work is listed in an unbound pool, all of whose workers run.
@@ -57,8 +57,8 @@ pub fn time_passes_while_all_workers_run()
     ensures level { counted one_worker (after_lines one_worker worker_taken) 2 ≡ 0 }
     ensures none_idle { idle_at (after_lines one_worker worker_taken) 2 0 ≡ None }
     ensures all_made { made_at (after_lines one_worker worker_taken) 2 ≡ 1 }
-    ensures before { (after_lines one_worker worker_taken).now ≡ 0 }
-    ensures after { (state_after one_worker (after_lines one_worker worker_taken) Instr.Tick).now ≡ 1 }
+    ensures before { (after_lines one_worker worker_taken).time ≡ 0 }
+    ensures after { (state_after one_worker (after_lines one_worker worker_taken) Instr.Tick).time ≡ 1 }
 {}
 
 /// The active count of a queue rises to its limit.

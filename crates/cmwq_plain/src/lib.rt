@@ -1,13 +1,9 @@
-//! `Plain`: the instruction table as a plain program over vectors that are scanned. It is slow on
-//! purpose, the yardstick for every other machine. Here stands what each instruction does; the
-//! vectors and what is read from them are `cmwq_records`.
+//! `Plain`: the instruction table over vectors that are scanned. It is slow on purpose, the yardstick for
+//! every other machine.
 #![tactic(auto)]
 
-mod limits;
-mod lines;
-mod machine;
-mod moving;
-mod placing;
-mod ticking;
+use cmwq_exec::Driven;
+use cmwq_records::Records;
 
-pub use machine::Plain;
+/// The machine that carries out the instruction table over vectors, made at `load` and scanned.
+pub type Plain = Driven<Records>;

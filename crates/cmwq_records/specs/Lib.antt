@@ -1,3 +1,5 @@
 pub mod Burning
-pub mod Setting
-pub mod Wanted
+pub mod Heads
+pub mod Layout
+pub mod Sought
+pub mod Tally

@@ -1,12 +1,32 @@
 //! A tick of the works that have a CPU, once the head of each pool is known.
 ghost use Rattle.cmwq_records.specs.Burning.{burns_beside};
+ghost use Rattle.cmwq_records.specs.Heads.{AreHeads};
 ghost use Rattle.cmwq_table.specs.Moves.{burned, one_less};
+ghost use Rattle.cmwq_types.specs.Scenario.{pool_count};
 ghost use Rattle.std.specs.Prelude.{◌≡◌, slice_index_or};
 
+use crate::records::Records;
 use cmwq_table::Running;
-use cmwq_types::Mode;
+use cmwq_types::{MAX_CPUS, Mode};
 
-/// Each running work that has a CPU burns one tick.
+/// A normal and a high pool for each CPU, and two unbound ones.
+const MAX_POOLS: usize = 2 * MAX_CPUS as usize + 2;
+
+impl Records {
+    /// The first runnable work of each pool.
+    pub(crate) fn heads(&self) -> [Option<usize>; MAX_POOLS]
+        ensures { AreHeads self.now.scenario self.now.state (pool_count self.now.scenario) result }
+    {
+        let mut heads = [None; MAX_POOLS];
+        for pool in 0..self.scenario.pool_count() {
+            heads[pool as usize] = self.first_runnable(pool);
+        }
+        heads
+    }
+}
+
+/// Each running work that has a CPU burns one tick. Pools are bound to a CPU below the number `unbound`, and
+/// `heads` has the first runnable work of each of them, by the pool's number.
 pub(crate) fn burn(running: &mut [Option<Running>], heads: &[Option<usize>], unbound: u8)
     ensures { running.new ≡ burned (burns_beside heads.now unbound) 0 running.old }
 {

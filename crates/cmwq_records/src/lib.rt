@@ -1,5 +1,5 @@
-//! `Records`: the state of the instruction table as vectors, and all that is read from it and from
-//! its scenario by number. What an instruction does to the state isn't known here.
+//! `Records`: a machine's own structure as plain vectors, with a record for each number. Whatever the
+//! instruction table asks of it is answered by a scan. What an instruction does isn't known here.
 #![tactic(auto)]
 
 mod beginning;
@@ -8,9 +8,9 @@ mod counts;
 mod flushes;
 mod looking;
 mod records;
-mod scans;
-mod setting;
-mod wanted;
+mod sought;
+mod tally;
+mod workers;
+mod works;
 
 pub use records::Records;
-pub use setting::{flags_of, op_of, pool_count, queue_of, target_of};

@@ -1,9 +1,10 @@
 //! What a view shows of the records' maps.
 ghost use Rattle.cmwq_table.specs.View.{entries_from, idle_from};
-ghost use Rattle.std.specs.Prelude.{◌≡◌, ◌≤◌, IfOk, length};
+ghost use Rattle.cmwq_types.specs.declared.limits.TheConstants.{MAX_CPUS, MAX_WORKERS, MAX_WORKS};
+ghost use Rattle.std.specs.Prelude.{◌≡◌, ◌≤◌, ◌+◌, ◌*◌, IfOk, length};
 
 use cmwq_table::IdleWorker;
-use cmwq_types::{NoMemory, WorkId};
+use cmwq_types::{MAX_WORKERS, NoMemory, WorkId};
 use std::alloc::Global;
 
 /// The entries of a map from works, by rising number.
@@ -11,7 +12,7 @@ pub(crate) fn entries<T: Copy>(
     alloc: Global,
     map: &[Option<T>],
 ) -> Result<Vec<(WorkId, T)>, NoMemory>
-    requires { length map.now ≤ 256 }
+    requires { length map.now ≤ MAX_WORKS }
     ensures { IfOk result (λ entries. entries.items ≡ entries_from 0 map.now) }
 {
     let mut entries = Vec::with_capacity(alloc, map.len())?;
@@ -25,15 +26,15 @@ pub(crate) fn entries<T: Copy>(
 
 /// The idle workers, by pool and worker.
 pub(crate) fn idle_workers(alloc: Global, idle: &[Option<u64>]) -> Result<Vec<IdleWorker>, NoMemory>
-    requires { length idle.now ≤ 2176 }
+    requires { length idle.now ≤ MAX_WORKERS * (2 * MAX_CPUS + 2) }
     ensures { IfOk result (λ workers. workers.items ≡ idle_from 0 idle.now) }
 {
     let mut workers = Vec::new(alloc);
     for (seat, entry) in idle.iter().enumerate() {
         if let Some(stamp) = entry {
             workers.push(IdleWorker {
-                pool: (seat / 64) as u8,
-                worker: (seat % 64) as u8,
+                pool: (seat / MAX_WORKERS as usize) as u8,
+                worker: (seat % MAX_WORKERS as usize) as u8,
                 stamp: *stamp,
             })?;
         }

@@ -1,22 +1,28 @@
 //! The state as vectors that are scanned, read and written by number.
-ghost use Rattle.cmwq_records.specs.Burning.{burns_beside};
-ghost use Rattle.cmwq_table.specs.Table.{target_at};
-ghost use Rattle.cmwq_table.specs.View.{view_of};
-ghost use Rattle.cmwq_table.specs.Moves.{burned, taking, with_flush, with_pending, with_running};
-ghost use Rattle.cmwq_table.specs.State.{idle_at, made_at, max_at, pending_at, running_at, seat};
-ghost use Rattle.std.specs.Prelude.{◌≡◌, ◌<◌, ◌≤◌, ◌+◌, ◌-◌, ◌^◌, IfOk, false, length, slice_set, vec_capacity};
+ghost use Rattle.cmwq_table.specs.Moves.{begun};
+ghost use Rattle.cmwq_table.specs.State.{seat};
+ghost use Rattle.std.specs.Prelude.{◌≡◌};
 
+use crate::beginning::{declared_max, filled};
 use crate::burning::burn;
 use crate::looking::{entries, idle_workers};
+use crate::sought::Sought;
+use crate::tally::Tally;
+use cmwq_exec::Parts;
 use cmwq_table::{FlushTarget, Pending, Running, View};
-use cmwq_types::{MAX_FLUSHES, NoMemory};
+use cmwq_types::{MAX_WORKERS, Mode, NoMemory, Place, Scenario};
+use std::alloc::Global;
 use std::marker::Model;
+use std::rc::Rc;
 
-/// The whole state of the instruction table, as vectors. There is one entry for each queue, work,
-/// pool and worker of a pool, by its number from 0, and a vector keeps its length; the flushes alone
-/// grow, up to the room that was taken for them.
+/// A loaded scenario and the whole state of the instruction table, as vectors. There is one entry for each
+/// queue, work, pool and worker of a pool, by its number from 0, and a vector keeps its length; the flushes
+/// alone grow, up to the room that was taken for them.
+///
+/// It is slow on purpose, the yardstick for every other structure.
 #[derive(Drop)]
 pub struct Records {
+    pub(crate) scenario: Rc<Scenario>,
     time: u64,
     next: u64,
     spent: u32,
@@ -30,43 +36,45 @@ pub struct Records {
 }
 
 impl Model for Records {
-    ghost use Rattle.cmwq_table.specs.State.{State};
+    ghost use Rattle.cmwq_records.specs.Layout.{IsLaidOut};
+    ghost use Rattle.cmwq_table.specs.Ready.{Loaded};
+    ghost use Rattle.std.specs.Prelude.{vec_capacity};
 
-    ghost Value = { State };
+    ghost Value = { Loaded };
 
     ghost view = { λ r. record {
-      now = r.time;
-      next = r.next;
-      spent = r.spent;
-      frozen = r.frozen;
-      max = r.max.items;
-      pending = r.pending.items;
-      running = r.running.items;
-      idle = r.idle.items;
-      made = r.made.items;
-      flushes = r.flushes.items;
+      scenario = r.scenario.value;
+      state = record {
+        time = r.time;
+        next = r.next;
+        spent = r.spent;
+        frozen = r.frozen;
+        max = r.max.items;
+        pending = r.pending.items;
+        running = r.running.items;
+        idle = r.idle.items;
+        made = r.made.items;
+        flushes = r.flushes.items;
+      };
     } };
 
-    ghost use Rattle.std.specs.Prelude.{◌≤◌, vec_capacity};
-    ghost use Rattle.cmwq_types.specs.declared.limits.TheConstants.{MAX_FLUSHES};
-
-    ghost invariant = { λ r. MAX_FLUSHES ≤ vec_capacity r.flushes };
+    ghost invariant = { λ r. IsLaidOut r.scenario.value r.max.items r.pending.items r.running.items r.idle.items r.made.items (vec_capacity r.flushes) };
 }
 
-impl Records {
-    /// A state before any instruction, with these vectors.
-    pub(crate) fn at_start(
-        max: Vec<u16>,
-        pending: Vec<Option<Pending>>,
-        running: Vec<Option<Running>>,
-        idle: Vec<Option<u64>>,
-        made: Vec<u8>,
-        flushes: Vec<FlushTarget>,
-    ) -> Records
-        requires { MAX_FLUSHES ≤ vec_capacity flushes }
-        ensures { result ≡ record { now = 0; next = 0; spent = 0; frozen = false; max = max.items; pending = pending.items; running = running.items; idle = idle.items; made = made.items; flushes = flushes.items } }
-    {
-        Records {
+impl Parts for Records {
+    ghost held = { λ r. r };
+
+    fn begin(alloc: Global, scenario: Rc<Scenario>) -> Result<Self, NoMemory> {
+        let works = scenario.works.len();
+        let pools = scenario.pool_count() as usize;
+        let max = declared_max(alloc, &scenario.queues)?;
+        let pending = filled(alloc, None, works)?;
+        let running = filled(alloc, None, works)?;
+        let idle = filled(alloc, None, MAX_WORKERS as usize * pools)?;
+        let made = filled(alloc, 0, pools)?;
+        let flushes = Vec::with_capacity(alloc, scenario.flushes as usize)?;
+        Ok(Records {
+            scenario,
             time: 0,
             next: 0,
             spent: 0,
@@ -77,157 +85,21 @@ impl Records {
             idle,
             made,
             flushes,
-        }
+        })
     }
 
-    /// The time, in ticks since the start.
-    pub fn time(&self) -> u64
-        ensures { result ≡ self.now.now }
-    {
-        self.time
-    }
-
-    /// The next stamp: how many were given out, from 0. Of two things the one of lesser stamp came first.
-    pub fn next_stamp(&self) -> u64
-        ensures { result ≡ self.now.next }
-    {
-        self.next
-    }
-
-    /// How many instructions were spent: accepted, questions aside.
-    pub fn spent(&self) -> u32
-        ensures { result ≡ self.now.spent }
-    {
-        self.spent
-    }
-
-    /// Whether there is a freeze.
-    pub fn is_frozen(&self) -> bool
-        ensures { result ≡ self.now.frozen }
-    {
-        self.frozen
-    }
-
-    /// The `max_active` that the queue has now, and 0 where there is no such queue.
-    pub(crate) fn max_of(&self, queue: u8) -> u16
-        ensures { result ≡ max_at self.now queue }
-    {
-        self.max.get(queue as usize).copied().unwrap_or(0)
-    }
-
-    /// The pending instance of the work, if it has one and there is such a work.
-    pub fn pending_of(&self, work: usize) -> Option<Pending>
-        ensures { result ≡ pending_at self.now work }
-    {
-        self.pending.get(work).copied().unwrap_or(None)
-    }
-
-    /// The running instance of the work, if it has one and there is such a work.
-    pub fn running_of(&self, work: usize) -> Option<Running>
-        ensures { result ≡ running_at self.now work }
-    {
-        self.running.get(work).copied().unwrap_or(None)
-    }
-
-    /// The stamp from which on the worker of the pool is idle, if it is.
-    pub(crate) fn idle_of(&self, pool: u8, worker: u8) -> Option<u64>
-        ensures { result ≡ idle_at self.now pool worker }
-    {
-        self.idle.get(seat(pool, worker)).copied().unwrap_or(None)
-    }
-
-    /// How many workers the pool has made: they are the numbers from 0 on. 0 where there is no such pool.
-    pub fn made_of(&self, pool: u8) -> u8
-        ensures { result ≡ made_at self.now pool }
-    {
-        self.made.get(pool as usize).copied().unwrap_or(0)
-    }
-
-    /// Writes the `max_active` of a queue that there is.
-    pub fn set_max(&mut self, queue: u8, max: u16)
-        requires { queue < length self.old.max }
-        ensures { self.new ≡ record self.old { max = slice_set self.old.max queue max } }
-    {
-        self.max[queue as usize] = max;
-    }
-
-    /// Writes whether there is a freeze.
-    pub fn set_frozen(&mut self, frozen: bool)
-        ensures { self.new ≡ record self.old { frozen = frozen } }
-    {
-        self.frozen = frozen;
-    }
-
-    /// Takes the next stamp, so that the one after it is next.
-    pub fn take_stamp(&mut self)
-        requires { self.old.next < 2 ^ 63 }
-        ensures { self.new ≡ taking self.old }
-    {
-        self.next += 1;
-    }
-
-    /// Writes the pending instance of a work that there is; `None` where it is pending no longer.
-    pub fn set_pending(&mut self, work: usize, pending: Option<Pending>)
-        requires { work < length self.old.pending }
-        ensures { self.new ≡ with_pending self.old work pending }
-    {
-        self.pending[work] = pending;
-    }
-
-    /// Writes the running instance of a work that there is; `None` where it runs no longer.
-    pub fn set_running(&mut self, work: usize, running: Option<Running>)
-        requires { work < length self.old.running }
-        ensures { self.new ≡ with_running self.old work running }
-    {
-        self.running[work] = running;
-    }
-
-    /// Writes the stamp from which on a worker of a pool is idle; `None` where it isn't idle.
-    pub fn set_idle(&mut self, pool: u8, worker: u8, stamp: Option<u64>)
-        requires { seat pool worker < length self.old.idle }
-        ensures { self.new ≡ record self.old { idle = slice_set self.old.idle (seat pool worker) stamp } }
-    {
-        self.idle[seat(pool, worker)] = stamp;
-    }
-
-    /// Writes how many workers a pool that there is has made.
-    pub fn set_made(&mut self, pool: u8, made: u8)
-        requires { pool < length self.old.made }
-        ensures { self.new ≡ record self.old { made = slice_set self.old.made pool made } }
-    {
-        self.made[pool as usize] = made;
-    }
-
-    /// Each running work that has a CPU burns one tick of what it has left. Pools are bound to a CPU
-    /// below the number `unbound`, and `heads` has the first runnable work of each of them, by the
-    /// pool's number.
-    pub fn burn(&mut self, heads: &[Option<usize>], unbound: u8)
-        ensures { self.new ≡ record self.old { running = burned (burns_beside heads.now unbound) 0 self.old.running } }
-    {
-        burn(&mut self.running, heads, unbound);
-    }
-
-    /// Lets the time go on by one tick.
-    pub fn pass_time(&mut self)
-        requires { self.old.now < 2 ^ 63 }
-        ensures { self.new ≡ record self.old { now = self.old.now + 1 } }
-    {
-        self.time += 1;
-    }
-
-    /// Records equal to these, with room for as many flushes.
-    pub fn copy(&self) -> Result<Records, NoMemory>
-        ensures { IfOk result (λ copy. copy ≡ self.now) }
-    {
+    fn copy(&self) -> Result<Self, NoMemory> {
         let alloc = *self.max.allocator();
+        let scenario = Rc::clone(&self.scenario)?;
         let max = Vec::from_slice(alloc, &self.max)?;
         let pending = Vec::from_slice(alloc, &self.pending)?;
         let running = Vec::from_slice(alloc, &self.running)?;
         let idle = Vec::from_slice(alloc, &self.idle)?;
         let made = Vec::from_slice(alloc, &self.made)?;
-        let mut flushes = Vec::with_capacity(alloc, MAX_FLUSHES as usize)?;
+        let mut flushes = Vec::with_capacity(alloc, self.scenario.flushes as usize)?;
         flushes.extend_from_slice(&self.flushes)?;
         Ok(Records {
+            scenario,
             time: self.time,
             next: self.next,
             spent: self.spent,
@@ -241,13 +113,7 @@ impl Records {
         })
     }
 
-    /// Every part of the state, to be shown: of the maps the entries that there are, by rising number.
-    pub fn look(&self) -> Result<View, NoMemory>
-        requires pending { length self.now.pending ≤ 256 }
-        requires running { length self.now.running ≤ 256 }
-        requires idle { length self.now.idle ≤ 2176 }
-        ensures { IfOk result (λ view. view ≡ view_of self.now) }
-    {
+    fn look(&self) -> Result<View, NoMemory> {
         let alloc = *self.max.allocator();
         let max = Vec::from_slice(alloc, &self.max)?;
         let pending = entries(alloc, &self.pending)?;
@@ -269,37 +135,222 @@ impl Records {
         })
     }
 
-    /// How many flushes were given: the number of the next one.
-    pub fn flush_count(&self) -> usize
-        ensures { result ≡ length self.now.flushes }
-    {
+    fn scenario(&self) -> &Scenario {
+        &self.scenario
+    }
+
+    fn time(&self) -> u64 {
+        self.time
+    }
+
+    fn next_stamp(&self) -> u64 {
+        self.next
+    }
+
+    fn spent(&self) -> u32 {
+        self.spent
+    }
+
+    fn is_frozen(&self) -> bool {
+        self.frozen
+    }
+
+    fn flush_count(&self) -> usize {
         self.flushes.len()
     }
 
-    /// What the flush of this number waits for: nothing where no such flush was given.
-    pub fn flush_target(&self, flush: u16) -> FlushTarget
-        ensures { result ≡ target_at self.now flush }
-    {
+    fn flush_target(&self, flush: u16) -> FlushTarget {
         self.flushes
             .get(flush as usize)
             .copied()
             .unwrap_or(FlushTarget::Nothing)
     }
 
-    /// Gives a flush on the target, under the next number. Its room was taken at the start.
-    pub fn push_flush(&mut self, target: FlushTarget)
-        requires { length self.old.flushes < MAX_FLUSHES }
-        ensures { self.new ≡ with_flush self.old target }
-    {
+    fn pending_of(&self, w: usize) -> Option<Pending> {
+        self.pending.get(w).copied().unwrap_or(None)
+    }
+
+    fn running_of(&self, w: usize) -> Option<Running> {
+        self.running.get(w).copied().unwrap_or(None)
+    }
+
+    fn has_room(&self, queue: u8, pool: u8) -> bool {
+        self.active(queue, pool) < self.limit(queue) as usize
+    }
+
+    fn is_busy(&self) -> bool {
+        self.count(Tally::Busy) != 0
+    }
+
+    fn is_done(&self, target: FlushTarget) -> bool {
+        match target {
+            FlushTarget::Instance { work, born } => !self.has_instance_born(work.0 as usize, born),
+            FlushTarget::Queue { queue, bound } => {
+                let queue = queue.0;
+                self.count(Tally::QueuedBefore { queue, bound }) == 0
+            }
+            FlushTarget::Nothing => true,
+        }
+    }
+
+    fn may_start(&self, pool: u8) -> bool {
+        self.scenario.is_unbound(pool) || self.count(Tally::Counted { pool }) == 0
+    }
+
+    fn first_inactive(&self, queue: u8, pool: u8) -> Option<usize> {
+        self.first(Sought::Inactive { queue, pool })
+    }
+
+    fn first_listed(&self, pool: u8) -> Option<usize> {
+        self.first(Sought::Listed { pool })
+    }
+
+    fn first_due(&self) -> Option<usize> {
+        self.first(Sought::Due)
+    }
+
+    fn first_slept(&self, pool: u8) -> Option<usize> {
+        self.first(Sought::Slept { pool })
+    }
+
+    fn ready_head(&self, pool: u8) -> Option<usize> {
+        if self.scenario.is_unbound(pool) {
+            self.first(Sought::Ready { pool })
+        } else {
+            self.if_ready(self.first_runnable(pool))
+        }
+    }
+
+    fn free_worker(&self, pool: u8) -> Option<u8> {
+        match self.last_idle(pool) {
+            Some(worker) => Some(worker),
+            None => self.new_worker(pool),
+        }
+    }
+
+    fn bear(&mut self, w: usize, place: Place) {
+        let stamp = self.take_stamp();
+        self.pending[w] = Some(Pending {
+            born: stamp,
+            stamp,
+            place,
+        });
+    }
+
+    fn unpend(&mut self, w: usize, _p: Pending) {
+        self.pending[w] = None;
+    }
+
+    fn enlist(&mut self, _queue: u8, pool: u8, w: usize) {
+        let stamp = self.take_stamp();
+        let place = Place::Listed(pool);
+        self.pending[w] = self.pending[w].map(|p| Pending { stamp, place, ..p });
+    }
+
+    fn defer(&mut self, pool: u8, w: usize) {
+        let place = Place::Deferred(pool);
+        self.pending[w] = self.pending[w].map(|p| Pending { place, ..p });
+    }
+
+    fn start_on(&mut self, pool: u8, w: usize, worker: u8, p: Pending) {
+        let stamp = self.take_stamp();
+        self.pending[w] = None;
+        self.running[w] = Some(begun(p.born, pool, worker, stamp));
+        self.idle[seat(pool, worker)] = None;
+        let made = self.made[pool as usize];
+        self.made[pool as usize] = if worker == made { worker + 1 } else { made };
+    }
+
+    fn go_on(&mut self, w: usize, r: Running, left: u32) {
+        let pc = r.pc + 1;
+        self.running[w] = Some(Running { pc, left, ..r });
+    }
+
+    fn sleep(&mut self, w: usize, r: Running, until: u64) {
+        let pc = r.pc + 1;
+        let mode = Mode::Asleep(until);
+        self.running[w] = Some(Running { pc, mode, ..r });
+    }
+
+    fn wake(&mut self, _pool: u8, w: usize) {
+        if let Some(r) = self.running_of(w) {
+            let stamp = self.take_stamp();
+            let mode = Mode::Runnable;
+            self.running[w] = Some(Running { mode, stamp, ..r });
+        }
+    }
+
+    fn begin_again(&mut self, w: usize, r: Running, p: Pending) {
+        let stamp = self.take_stamp();
+        self.pending[w] = None;
+        self.running[w] = Some(begun(p.born, r.pool, r.worker, stamp));
+    }
+
+    fn retire(&mut self, w: usize, r: Running) {
+        let stamp = self.take_stamp();
+        self.running[w] = None;
+        self.idle[seat(r.pool, r.worker)] = Some(stamp);
+    }
+
+    fn tick(&mut self) {
+        let heads = self.heads();
+        let unbound = 2 * self.scenario.cpus;
+        burn(&mut self.running, &heads, unbound);
+        self.time += 1;
+    }
+
+    fn set_max(&mut self, queue: u8, max: u16) {
+        self.max[queue as usize] = max;
+    }
+
+    fn set_frozen(&mut self, frozen: bool) {
+        self.frozen = frozen;
+    }
+
+    fn push_flush(&mut self, target: FlushTarget) {
         self.flushes.push(target).unwrap();
     }
 
-    /// Counts one more instruction as spent.
-    pub fn spend(&mut self)
-        requires { self.old.spent < 2 ^ 32 - 1 }
-        ensures { self.new ≡ record self.old { spent = self.old.spent + 1 } }
-    {
+    fn spend(&mut self) {
         self.spent += 1;
+    }
+}
+
+impl Records {
+    ghost use Rattle.cmwq_table.specs.Moves.{taking};
+    ghost use Rattle.cmwq_table.specs.State.{idle_at, made_at, max_at};
+    ghost use Rattle.std.specs.Prelude.{◌≡◌, ◌<◌, ◌^◌};
+
+    /// The next stamp, which is taken: the one after it is next.
+    fn take_stamp(&mut self) -> u64
+        requires { self.old.state.next < 2 ^ 63 }
+        ensures stamp { result ≡ self.old.state.next }
+        ensures taken { self.new ≡ record self.old { state = taking self.old.state } }
+    {
+        let stamp = self.next;
+        self.next += 1;
+        stamp
+    }
+
+    /// The `max_active` that the queue has now, and 0 where there is no such queue.
+    pub(crate) fn max_of(&self, queue: u8) -> u16
+        ensures { result ≡ max_at self.now.state queue }
+    {
+        self.max.get(queue as usize).copied().unwrap_or(0)
+    }
+
+    /// The stamp from which on the worker of the pool is idle, if it is.
+    pub(crate) fn idle_of(&self, pool: u8, worker: u8) -> Option<u64>
+        ensures { result ≡ idle_at self.now.state pool worker }
+    {
+        self.idle.get(seat(pool, worker)).copied().unwrap_or(None)
+    }
+
+    /// How many workers the pool has made: they are the numbers from 0 on. 0 where there is no such pool.
+    pub(crate) fn made_of(&self, pool: u8) -> u8
+        ensures { result ≡ made_at self.now.state pool }
+    {
+        self.made.get(pool as usize).copied().unwrap_or(0)
     }
 }
 
@@ -307,5 +358,20 @@ impl Records {
 fn seat(pool: u8, worker: u8) -> usize
     ensures { result ≡ seat pool worker }
 {
-    64 * pool as usize + worker as usize
+    MAX_WORKERS as usize * pool as usize + worker as usize
+}
+
+/// An instance born then, at the beginning of its body.
+fn begun(born: u64, pool: u8, worker: u8, stamp: u64) -> Running
+    ensures { result ≡ begun born pool worker stamp }
+{
+    Running {
+        born,
+        pool,
+        worker,
+        pc: 0,
+        left: 0,
+        mode: Mode::Runnable,
+        stamp,
+    }
 }

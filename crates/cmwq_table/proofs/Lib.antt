@@ -1,1 +1,5 @@
+pub mod CounterLemmas
+pub mod HeadLemmas
+pub mod IdleLemmas
 mod LawLemmas
+pub mod ReadyLemmas

@@ -171,13 +171,13 @@ first_listed S s pool =
 abbrev pub first_due : ScenarioContents → State → Option ℕ
 first_due S s =
     first_below (by_least_two (λ w. pending_due (pending_at s w)) (λ w. pending_stamp (pending_at s w)))
-    (λ w. pends (λ place. is_due place s.now) (pending_at s w)) (length S.works)
+    (λ w. pends (λ place. is_due place s.time) (pending_at s w)) (length S.works)
 
 -- the pool's first sleeper whose sleep is over, by (until, stamp)
 abbrev pub first_slept : ScenarioContents → State → ℕ → Option ℕ
 first_slept S s pool =
     first_below (by_least_two (λ w. running_until (running_at s w)) (λ w. running_stamp (running_at s w)))
-    (λ w. runs (λ r. (r.pool == pool) && is_slept r.mode s.now) (running_at s w)) (length S.works)
+    (λ w. runs (λ r. (r.pool == pool) && is_slept r.mode s.time) (running_at s w)) (length S.works)
 
 -- the pool's first runnable work
 abbrev pub first_runnable : ScenarioContents → State → ℕ → Option ℕ

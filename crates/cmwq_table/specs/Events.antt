@@ -124,7 +124,7 @@ reply_line S now asked (reply.Event work event) = line_at now (work_name S work 
 reply_line S now asked (reply.Refused why) = line_at now (codes "refused " ++ refusal_text why)
 
 abbrev pub told : ScenarioContents → Instr → State × Reply → List ℕ
-told S asked after = reply_line S after.0.now asked after.1
+told S asked after = reply_line S after.0.time asked after.1
 
 -- the lines of the instructions from a state on
 abbrev pub events_from : ScenarioContents → State → List Instr → List ℕ

@@ -95,7 +95,7 @@ CannotStart S s pool = (0 < counted S s pool) ⊎ (HasNoIdleWorker S s pool × (
 
 -- Where time passes, no pool with a listed work could have started it.
 unfoldable pub TimeWaitsForStarts : ScenarioContents → State → Instr → Type 0
-TimeWaitsForStarts S s i = s.now < (state_after S s i).now → (pool w : ℕ) → IsListedIn s w pool → CannotStart S s pool
+TimeWaitsForStarts S s i = s.time < (state_after S s i).time → (pool w : ℕ) → IsListedIn s w pool → CannotStart S s pool
 
 -- Where a work begins to run that didn't, it was listed in the pool where it runs, and the pool's concurrency level was 0.
 unfoldable pub StartsAtLevelZero : ScenarioContents → State → Instr → Type 0

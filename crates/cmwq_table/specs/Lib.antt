@@ -3,6 +3,7 @@ pub mod Events
 pub mod Laws
 pub mod Machine
 pub mod Moves
+pub mod Ready
 pub mod State
 pub mod Table
 pub mod View

@@ -58,7 +58,7 @@ set_timer s w cpu due = taking (with_pending s w (newborn s (Timer due cpu)))
 -- after no ticks it is placed at once
 abbrev pub place_after : ScenarioContents → State → ℕ → ℕ → ℕ → State
 place_after S s w cpu zero = place S s w cpu
-place_after S s w cpu (suc ticks) = set_timer s w cpu (s.now + suc ticks)
+place_after S s w cpu (suc ticks) = set_timer s w cpu (s.time + suc ticks)
 
 -- Filling: while the queue has room in the pool, its first inactive work there is listed.
 
@@ -169,7 +169,7 @@ abbrev pub carry_out : ScenarioContents → State → ℕ → Running → Op →
 carry_out S s w r (op.Burn ticks) =
     (with_running s w (Some (record r { pc = r.pc + 1; left = ticks })), event.Burns ticks)
 carry_out S s w r (op.Sleep ticks) =
-    (with_running s w (Some (record r { pc = r.pc + 1; mode = Asleep (s.now + ticks) })), event.Sleeps ticks)
+    (with_running s w (Some (record r { pc = r.pc + 1; mode = Asleep (s.time + ticks) })), event.Sleeps ticks)
 carry_out S s w r (op.Queue other cpu) = queue_from_body S (onward s w r) other cpu (pending_at s other.0)
 carry_out S s w r op.Finish = finish S s w r
 
@@ -269,7 +269,7 @@ burned test w [] = []
 burned test w (r ∷ rs) = (if test w r then one_less r else r) ∷ burned test (w + 1) rs
 
 abbrev pub tick : ScenarioContents → State → State
-tick S s = record s { now = s.now + 1; running = burned (burns S s) 0 s.running }
+tick S s = record s { time = s.time + 1; running = burned (burns S s) 0 s.running }
 
 -- Flushes. A flush has the number of flushes given before it.
 

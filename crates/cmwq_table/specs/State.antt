@@ -1,7 +1,7 @@
--- The state of a machine, and what a scenario says of its parts.
-use Rattle.std.specs.Prelude.{ℕ, ◌+◌, ◌*◌, ◌%◌, Bool, false, List, [], length, map, replicate, Option, None, if◌then◌else◌, nat_le, ◌==◌, ◌||◌, slice_index_or}
+-- The state of a machine.
+use Rattle.std.specs.Prelude.{ℕ, ◌+◌, ◌*◌, Bool, false, List, [], length, map, replicate, Option, None, slice_index_or}
 use Rattle.cmwq_types.specs.Contents.{ScenarioContents}
-use Rattle.cmwq_types.specs.Scenario.{flags_at}
+pub use Rattle.cmwq_types.specs.Scenario.{pool_count, is_unbound, is_high, priority, target}
 use Rattle.cmwq_types.specs.declared.limits.TheConstants.{MAX_WORKERS}
 use Rattle.cmwq_table.specs.declared.state.Pending.{Pending}
 use Rattle.cmwq_table.specs.declared.state.Running.{Running}
@@ -10,7 +10,7 @@ use Rattle.cmwq_table.specs.declared.state.FlushTarget.{FlushTarget}
 -- The state. A finite map is a list that has, at each number, Some of what the map has there, or None.
 pub record State : Type 0 where
   -- the time in ticks
-  pub now : ℕ
+  pub time : ℕ
   -- the next stamp
   pub next : ℕ
   -- how many instructions were accepted, questions aside
@@ -48,31 +48,10 @@ made_at s pool = slice_index_or s.made pool 0
 abbrev pub max_at : State → ℕ → ℕ
 max_at s queue = slice_index_or s.max queue 0
 
--- Pools. CPU c has the normal pool 2c and the high pool 2c + 1; behind those of all CPUs stand the
--- normal and the high unbound pool.
-
-abbrev pub pool_count : ScenarioContents → ℕ
-pool_count S = 2 * S.cpus + 2
-
-abbrev pub is_unbound : ScenarioContents → ℕ → Bool
-is_unbound S pool = nat_le (2 * S.cpus) pool
-
-abbrev pub is_high : ℕ → Bool
-is_high pool = pool % 2 == 1
-
--- 1 for a queue of high priority, else 0
-abbrev pub priority : ScenarioContents → ℕ → ℕ
-priority S queue = if (flags_at S queue).highpri then 1 else 0
-
--- the pool to which a queue's works go from a CPU
-abbrev pub target : ScenarioContents → ℕ → ℕ → ℕ
-target S queue cpu =
-    (if (flags_at S queue).unbound || (flags_at S queue).ordered then 2 * S.cpus else 2 * cpu) + priority S queue
-
 -- the state in which a scenario begins
 abbrev pub start : ScenarioContents → State
 start S = record {
-  now = 0;
+  time = 0;
   next = 0;
   spent = 0;
   frozen = false;

@@ -46,7 +46,7 @@ idle_from seat (x ∷ xs) = idle_before seat x (idle_from (seat + 1) xs)
 abbrev pub view_of : State → ViewContents
 view_of s =
     record {
-      time = s.now;
+      time = s.time;
       next = s.next;
       spent = s.spent;
       frozen = s.frozen;

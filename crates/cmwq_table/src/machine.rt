@@ -59,5 +59,5 @@ pub trait Machine: Drop {
 
     /// The time, in ticks since the scenario was loaded.
     fn now(&self) -> u64
-        ensures { result ≡ (state self.now).now };
+        ensures { result ≡ (state self.now).time };
 }

@@ -1,6 +1,7 @@
 -- What the words on counts and the first come to.
 use Rattle.std.proofs.Common.{◌≡◌, ℕ, zero, suc, ◌+◌, ◌<◌, Bool, true, false, Option, Some, None, cond, arith, refl, ap, ◌∙◌, inl, inr, subst}
 use Rattle.std.proofs.lemmas.Bool.Decides.{nat_tests}
+use Rattle.std.specs.Prelude.{nat_lt}
 use Rattle.std.proofs.lemmas.Bool.{cases_lt}
 use Rattle.cmwq_types.specs.First.{count_below, first_with, first_below, IsFirst, IsOrder, MatchFirst, by_least, by_least_two, by_greatest}
 
@@ -77,3 +78,25 @@ by_least_two-order key next_key = record {
   one_way = λ a b h. grind (arith, nat_tests);
   onward = λ a b c h k. grind (arith, nat_tests);
 }
+
+-- By their own numbers: a number that passes, below which none does, stays the first.
+
+with-kept : (n m : ℕ) (b : Bool) → m < n → first_with (by_least (λ k. k)) n b (Some m) ≡ Some m
+with-kept n m true h =
+    let later : nat_lt n m ≡ false = grind (arith, nat_tests) in
+    ap (λ (b : Bool). Some (cond b n m)) later
+with-kept n m false h = refl
+
+with-found : (n : ℕ) (b : Bool) (o : Option ℕ) → b ≡ true → o ≡ None → first_with (by_least (λ k. k)) n b o ≡ Some n
+with-found n true (Some m) passes none = cc
+with-found n true None passes none = refl
+with-found n false o passes none = cc
+
+pub first_below-from : (test : ℕ → Bool) (m : ℕ) → first_below (by_least (λ k. k)) test m ≡ None → test m ≡ true → (n : ℕ) → m < n → first_below (by_least (λ k. k)) test n ≡ Some m
+first_below-from test m none passes zero h = absurd (omega arith)
+first_below-from test m none passes (suc n) h =
+    elim (cases_lt m n) [
+      | inl lt ↦ ap (first_with (by_least (λ k. k)) n (test n)) (first_below-from test m none passes n lt) ∙ with-kept n m (test n) lt
+      | inr ge ↦ (let same : m ≡ n = omega arith in
+          subst (λ (k : ℕ). first_below (by_least (λ k. k)) test (suc k) ≡ Some m) same (with-found m (test m) (first_below (by_least (λ k. k)) test m) passes none))
+    ]

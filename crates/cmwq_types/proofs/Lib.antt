@@ -1,2 +1,3 @@
 pub mod FirstLemmas
 mod NameLemmas
+pub mod SettingLemmas

@@ -4,4 +4,5 @@ pub mod First
 pub mod Listing
 pub mod Name
 pub mod Scenario
+pub mod Setting
 pub mod StoredName

@@ -1,5 +1,5 @@
 -- The parts of a scenario by their numbers. A number that none has is read as the plainest one.
-use Rattle.std.specs.Prelude.{ℕ, false, List, [], replicate, slice_index_or}
+use Rattle.std.specs.Prelude.{ℕ, ◌+◌, ◌*◌, ◌%◌, Bool, false, ◌||◌, List, [], replicate, if◌then◌else◌, nat_le, ◌==◌, slice_index_or}
 use Rattle.std.specs.List.{flat_map}
 use Rattle.cmwq_types.specs.Contents.{ScenarioContents, WorkContents, ActorContents}
 use Rattle.cmwq_types.specs.declared.instr.Instr.{Instr}
@@ -28,6 +28,27 @@ queue_of S work = (work_at S work).queue.0
 -- the operation at a place of a work's body
 abbrev pub op_at : ScenarioContents → ℕ → ℕ → Op
 op_at S work pc = slice_index_or (work_at S work).body pc Finish
+
+-- Pools. CPU c has the normal pool 2c and the high pool 2c + 1; behind those of all CPUs stand the
+-- normal and the high unbound pool.
+
+abbrev pub pool_count : ScenarioContents → ℕ
+pool_count S = 2 * S.cpus + 2
+
+abbrev pub is_unbound : ScenarioContents → ℕ → Bool
+is_unbound S pool = nat_le (2 * S.cpus) pool
+
+abbrev pub is_high : ℕ → Bool
+is_high pool = pool % 2 == 1
+
+-- 1 for a queue of high priority, else 0
+abbrev pub priority : ScenarioContents → ℕ → ℕ
+priority S queue = if (flags_at S queue).highpri then 1 else 0
+
+-- the pool to which a queue's works go from a CPU
+abbrev pub target : ScenarioContents → ℕ → ℕ → ℕ
+target S queue cpu =
+    (if (flags_at S queue).unbound || (flags_at S queue).ordered then 2 * S.cpus else 2 * cpu) + priority S queue
 
 -- the instructions of these lines: each line's, as often as it stands
 abbrev pub expand_lines : List Line → List Instr

@@ -2,6 +2,7 @@
 //! machine answers.
 #![tactic(auto)]
 
+mod by_number;
 mod check;
 mod copying;
 mod instr;

@@ -34,7 +34,7 @@ pub record Alters (S : ScenarioContents) (s t : State) (w : ℕ) (p : Option Pen
   pub long : IsLong S t
   pub max : t.max ≡ s.max
   pub frozen : t.frozen ≡ s.frozen
-  pub now : t.now ≡ s.now
+  pub time : t.time ≡ s.time
   pub flushes : t.flushes ≡ s.flushes
   pub made : ((pool : ℕ) → made_at s pool ≤ S.workers) → (pool : ℕ) → made_at t pool ≤ S.workers
 

@@ -28,7 +28,7 @@ use Rattle.cmwq_table.proofs.LawLemmas.Concurrency.{Follows-counted}
 use Rattle.cmwq_table.proofs.LawLemmas.Counting.{count_below-all_fail, count_below-none, count_below-passes}
 use Rattle.cmwq_table.proofs.LawLemmas.Effects.{Effect, IsSettled, with_given}
 use Rattle.cmwq_table.proofs.LawLemmas.Fills.{waits-in_range}
-use Rattle.cmwq_table.proofs.LawLemmas.Instances.{BringsNoneBack, Follows-flushes, Follows-instances, Follows-now}
+use Rattle.cmwq_table.proofs.LawLemmas.Instances.{BringsNoneBack, Follows-flushes, Follows-instances, Follows-time}
 use Rattle.cmwq_table.proofs.LawLemmas.Levels.{Follows-active, Follows-limit, RisesWithin}
 use Rattle.cmwq_table.proofs.LawLemmas.Moving.{listed-is_first}
 use Rattle.cmwq_table.proofs.LawLemmas.Order.{HasActive, HasInactive, PendsActive, Ran, at-most-one}
@@ -70,15 +70,15 @@ rises_by_wakes S valid instrs i pool rises above =
 
 -- Time.
 
-given-now : (s : State) (given : Option FlushTarget) → (with_given s given).now ≡ s.now
-given-now s (Some target) = refl
-given-now s None = refl
+given-time : (s : State) (given : Option FlushTarget) → (with_given s given).time ≡ s.time
+given-time s (Some target) = refl
+given-time s None = refl
 
-outcome-settled : (S : ScenarioContents) (s t : State) (r : Reply) → Outcome S s t r → s.now < t.now → IsSettled S s
+outcome-settled : (S : ScenarioContents) (s t : State) (r : Reply) → Outcome S s t r → s.time < t.time → IsSettled S s
 outcome-settled S s t r (Outcome.refused why) later = absurd (omega arith)
 outcome-settled S s t r (Outcome.done u q spent effect) later =
-    let last : u.now ≡ effect.ended.now = ap (λ (x : State). x.now) effect.after ∙ given-now effect.ended effect.given in
-    let middle : effect.ended.now ≡ effect.begun.now = Follows-now S effect.places (tells_wake r) effect.begun effect.ended effect.follows in
+    let last : u.time ≡ effect.ended.time = ap (λ (x : State). x.time) effect.after ∙ given-time effect.ended effect.given in
+    let middle : effect.ended.time ≡ effect.begun.time = Follows-time S effect.places (tells_wake r) effect.begun effect.ended effect.follows in
     elim effect.time [
       | inl same ↦ absurd (omega arith)
       | inr settled ↦ settled

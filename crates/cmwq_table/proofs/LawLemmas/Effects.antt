@@ -47,7 +47,7 @@ pub record Effect (S : ScenarioContents) (wakes : Bool) (s t : State) : Type 0 w
   -- the state with another time, or other limits
   pub begun : State
   pub alike : IsAlike S s begun
-  pub time : (begun.now ≡ s.now) ⊎ IsSettled S s
+  pub time : (begun.time ≡ s.time) ⊎ IsSettled S s
   pub ordered : (queue : ℕ) → (flags_at S queue).ordered ≡ true → max_at begun queue ≤ 1
   -- what is placed, is placed while the queues are full
   pub places : Bool
@@ -209,7 +209,7 @@ due-there before test n None none w e = cc
 pub first_due-there : (S : ScenarioContents) (s : State) (w : ℕ) → first_due S s ≡ Some w → w < length S.works
 first_due-there S s w e =
     let before = λ (v w : ℕ). nat_lt (pending_due (pending_at s v)) (pending_due (pending_at s w)) || ((pending_due (pending_at s v) == pending_due (pending_at s w)) && nat_lt (pending_stamp (pending_at s v)) (pending_stamp (pending_at s w))) in
-    let test = λ (w : ℕ). pends (λ place. is_due place s.now) (pending_at s w) in
+    let test = λ (w : ℕ). pends (λ place. is_due place s.time) (pending_at s w) in
     due-there before test (length S.works) (first_due S s) (first_below-is_first before test (length S.works) (by_least_two-order (λ w. pending_due (pending_at s w)) (λ w. pending_stamp (pending_at s w)))) w e
 
 -- What an instruction that isn't refused tells.

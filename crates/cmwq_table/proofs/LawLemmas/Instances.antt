@@ -98,9 +98,9 @@ Follows-flushes S places wakes s t (Follows.leaves pl wk a b c w at change fille
     let after = fill S (queue_of S w) at b in
     Follows-flushes S places wakes after t rest ∙ (Follows-flushes S false wakes b after filled ∙ change.alters.flushes)
 
-pub Follows-now : (S : ScenarioContents) (places wakes : Bool) (s t : State) → Follows S places wakes s t → t.now ≡ s.now
-Follows-now S places wakes s t (Follows.stays pl wk a) = refl
-Follows-now S places wakes s t (Follows.changes pl wk a b c w change rest) = Follows-now S places wakes b t rest ∙ change.alters.now
-Follows-now S places wakes s t (Follows.leaves pl wk a b c w at change filled rest) =
+pub Follows-time : (S : ScenarioContents) (places wakes : Bool) (s t : State) → Follows S places wakes s t → t.time ≡ s.time
+Follows-time S places wakes s t (Follows.stays pl wk a) = refl
+Follows-time S places wakes s t (Follows.changes pl wk a b c w change rest) = Follows-time S places wakes b t rest ∙ change.alters.time
+Follows-time S places wakes s t (Follows.leaves pl wk a b c w at change filled rest) =
     let after = fill S (queue_of S w) at b in
-    Follows-now S places wakes after t rest ∙ (Follows-now S false wakes b after filled ∙ change.alters.now)
+    Follows-time S places wakes after t rest ∙ (Follows-time S false wakes b after filled ∙ change.alters.time)

@@ -21,7 +21,7 @@ alters-pending S s w p next long h = record {
   long = record { pending = length-set s.pending w p ∙ long.pending; running = long.running };
   max = refl;
   frozen = refl;
-  now = refl;
+  time = refl;
   flushes = refl;
   made = λ within. within;
 }
@@ -38,7 +38,7 @@ alters-running S s w r next idle long h = record {
   long = record { pending = long.pending; running = length-set s.running w r ∙ long.running };
   max = refl;
   frozen = refl;
-  now = refl;
+  time = refl;
   flushes = refl;
   made = λ within. within;
 }
@@ -56,7 +56,7 @@ alters-both S s w p r next idle made long h within = record {
   long = record { pending = length-set s.pending w p ∙ long.pending; running = length-set s.running w r ∙ long.running };
   max = refl;
   frozen = refl;
-  now = refl;
+  time = refl;
   flushes = refl;
   made = within;
 }

@@ -83,7 +83,7 @@ head-ready S s pool =
 
 slept-first : (S : ScenarioContents) (s : State) (pool : ℕ) → IfSome (λ w. w < length S.works) (first_slept S s pool)
 slept-first S s pool =
-    let test = λ (w : ℕ). runs (λ r. (r.pool == pool) && is_slept r.mode s.now) (running_at s w) in
+    let test = λ (w : ℕ). runs (λ r. (r.pool == pool) && is_slept r.mode s.time) (running_at s w) in
     found-first (λ v w. nat_lt (running_until (running_at s v)) (running_until (running_at s w)) || ((running_until (running_at s v) == running_until (running_at s w)) && nat_lt (running_stamp (running_at s v)) (running_stamp (running_at s w)))) test (length S.works) (λ w. w < length S.works)
     (λ w h e. h)
     (first_slept S s pool)
@@ -186,7 +186,7 @@ carries-out S wakes s w r (op.Burn ticks) sound h is runs in_range =
     let q = record r { pc = r.pc + 1; left = ticks } in
     one S true wakes s (with_running s w (Some q)) w (goes S wakes s w r q sound h is refl refl (λ e. e))
 carries-out S wakes s w r (op.Sleep ticks) sound h is runs in_range =
-    let q = record r { pc = r.pc + 1; mode = Asleep (s.now + ticks) } in
+    let q = record r { pc = r.pc + 1; mode = Asleep (s.time + ticks) } in
     one S true wakes s (with_running s w (Some q)) w (goes S wakes s w r q sound h is refl refl (λ e. runs))
 carries-out S wakes s w r (op.Queue other cpu) sound h is runs in_range =
     let change : Change S true wakes None s (onward s w r) w = goes S wakes s w r (record r { pc = r.pc + 1 }) sound h is refl refl (λ e. e) in

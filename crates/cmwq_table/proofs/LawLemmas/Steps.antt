@@ -83,7 +83,7 @@ timer-follows S wakes s w cpu due sound h cpu_below idle =
 pub place_after-follows : (S : ScenarioContents) (wakes : Bool) (s : State) (w cpu ticks : ℕ) → IsSound S s → w < length S.works → cpu < S.cpus
     → pending_at s w ≡ None → Follows S true wakes s (place_after S s w cpu ticks)
 place_after-follows S wakes s w cpu zero sound h cpu_below idle = place-follows S wakes s w cpu sound h cpu_below idle
-place_after-follows S wakes s w cpu (suc ticks) sound h cpu_below idle = timer-follows S wakes s w cpu (s.now + suc ticks) sound h cpu_below idle
+place_after-follows S wakes s w cpu (suc ticks) sound h cpu_below idle = timer-follows S wakes s w cpu (s.time + suc ticks) sound h cpu_below idle
 
 -- Taking off.
 

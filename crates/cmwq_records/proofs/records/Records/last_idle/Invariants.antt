@@ -7,6 +7,6 @@ use Rattle.cmwq_records.proofs.records.Records.last_idle.Given as goal
 
 abbrev pub invariant-loop-worker : goal.invariant-loop-worker
 invariant-loop-worker l = record {
-  last : l.last ≡ first_below (by_greatest (λ worker. idle_stamp (idle_at l.self l.pool worker))) (λ worker. is_some (idle_at l.self l.pool worker)) l.worker;
+  last : l.last ≡ first_below (by_greatest (λ worker. idle_stamp (idle_at l.self.state l.pool worker))) (λ worker. is_some (idle_at l.self.state l.pool worker)) l.worker;
   in_range : IfSome l.last (λ worker. worker < l.worker);
 }

@@ -1,0 +1,3 @@
+pub mod ExecLemmas
+pub mod FillLemmas
+pub mod StartLemmas

@@ -1,0 +1,76 @@
+//! A machine between instructions.
+ghost use Rattle.cmwq_table.specs.State.{start};
+ghost use Rattle.cmwq_types.specs.Faults.{IsValid};
+ghost use Rattle.std.specs.Prelude.{◌≡◌, IfOk};
+
+use crate::going::Going;
+use crate::parts::Parts;
+use cmwq_table::{LoadError, Machine, View};
+use cmwq_types::{Instr, NoMemory, Reply, Scenario};
+use std::alloc::Global;
+use std::marker::Model;
+use std::rc::Rc;
+
+/// The machine that carries out the instruction table over these parts.
+///
+/// Its copies share the scenario that was loaded.
+#[derive(Drop)]
+pub struct Driven<P: Parts> {
+    going: Going<P>,
+}
+
+impl<P: Parts> Model for Driven<P> {
+    ghost use Rattle.cmwq_table.specs.Ready.{IsKept, Loaded};
+
+    ghost Value = { Loaded };
+
+    ghost view = { λ m. m.going };
+
+    ghost invariant = { λ m. IsKept m.going };
+}
+
+impl<P: Parts> Machine for Driven<P> {
+    ghost loaded = { λ m. m.scenario };
+
+    ghost state = { λ m. m.state };
+
+    fn load(alloc: Global, scenario: &Scenario) -> Result<Self, LoadError> {
+        if let Err(fault) = scenario.check() {
+            return Err(LoadError::Fault(fault));
+        }
+        match Driven::begin(alloc, scenario) {
+            Ok(machine) => Ok(machine),
+            Err(NoMemory) => Err(LoadError::NoMemory),
+        }
+    }
+
+    fn exec(&mut self, instr: Instr) -> Reply {
+        self.going.exec(instr)
+    }
+
+    fn copy(&self) -> Result<Self, NoMemory> {
+        let going = self.going.copy()?;
+        Ok(Driven { going })
+    }
+
+    fn look(&self) -> Result<View, NoMemory> {
+        self.going.look()
+    }
+
+    fn now(&self) -> u64 {
+        self.going.time()
+    }
+}
+
+impl<P: Parts> Driven<P> {
+    /// A machine in the start state of a valid scenario.
+    #[tactic(auto, using(crate::proofs::StartLemmas::starts))]
+    fn begin(alloc: Global, scenario: &Scenario) -> Result<Driven<P>, NoMemory>
+        requires { IsValid scenario.now }
+        ensures { IfOk result (λ machine. machine ≡ record { scenario = scenario.now; state = start scenario.now }) }
+    {
+        let shared = Rc::new(alloc, scenario.copy()?)?;
+        let going = Going::begin(alloc, shared)?;
+        Ok(Driven { going })
+    }
+}

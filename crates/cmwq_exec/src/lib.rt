@@ -1,0 +1,16 @@
+//! The instruction table as a program, once for every machine: `Driven` is a machine over whatever
+//! structure answers the questions of the table and makes its single changes, its `Parts`.
+#![tactic(auto)]
+
+mod driven;
+mod flushing;
+mod going;
+mod limits;
+mod moving;
+mod parts;
+mod performing;
+mod placing;
+mod refusing;
+
+pub use driven::Driven;
+pub use parts::Parts;

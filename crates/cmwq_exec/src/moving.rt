@@ -1,0 +1,209 @@
+//! The moves of a worker pool: which one is next, and what each does.
+ghost use Rattle.cmwq_exec.specs.Moves.{IsFirstMove, IsMove};
+ghost use Rattle.cmwq_table.specs.Counts.{free_worker, ready_head};
+ghost use Rattle.cmwq_table.specs.Moves.{advance, carry_out, come_to_end, finish, moved, next_move, queue_from_body, start_move, started};
+ghost use Rattle.cmwq_table.specs.Counts.{first_listed};
+ghost use Rattle.cmwq_table.specs.Ready.{Takes};
+ghost use Rattle.cmwq_table.specs.State.{pending_at, running_at};
+ghost use Rattle.cmwq_types.specs.Scenario.{op_at, pool_count};
+ghost use Rattle.cmwq_types.specs.Setting.{IsOpInRange, IsPcInRange};
+ghost use Rattle.std.specs.Prelude.{◌≡◌, ◌<◌, ◌^◌, IfSome, None, Some, length};
+
+use crate::going::Going;
+use crate::parts::Parts;
+use cmwq_table::Running;
+use cmwq_types::{Event, Move, Op, Place, WorkId};
+
+impl<P: Parts> Going<P> {
+    /// The next move of the pool: advance, else wake, else start.
+    pub(crate) fn next_move(&self, pool: u8) -> Option<Move>
+        requires pool { pool < pool_count self.now.scenario }
+        ensures next { result ≡ next_move self.now.scenario self.now.state pool }
+        ensures fits { IfSome result (IsMove self.now.scenario self.now.state pool) }
+    {
+        if let Some(w) = self.parts.ready_head(pool) {
+            return Some(Move::Advance(WorkId(w as u16)));
+        }
+        if let Some(w) = self.parts.first_slept(pool) {
+            return Some(Move::Wake(WorkId(w as u16)));
+        }
+        self.start_move(pool)
+    }
+
+    /// The move that takes the first listed work, if the pool may start it. A work that runs is
+    /// deferred; any other wants a worker.
+    fn start_move(&self, pool: u8) -> Option<Move>
+        requires pool { pool < pool_count self.now.scenario }
+        ensures next { result ≡ start_move self.now.scenario self.now.state pool }
+        ensures fits { IfSome result (IsMove self.now.scenario self.now.state pool) }
+    {
+        if !self.parts.may_start(pool) {
+            return None;
+        }
+        let w = self.parts.first_listed(pool)?;
+        if self.parts.running_of(w).is_some() {
+            return Some(Move::Defer(WorkId(w as u16)));
+        }
+        self.parts.free_worker(pool)?;
+        Some(Move::Start(WorkId(w as u16)))
+    }
+
+    /// The least pool that has a move, and its move.
+    pub(crate) fn first_move(&self) -> Option<(u8, Move)>
+        ensures first { IsFirstMove self.now.scenario self.now.state result }
+        ensures pool { IfSome result (λ found. found.0 < pool_count self.now.scenario) }
+        ensures fits { IfSome result (λ found. IsMove self.now.scenario self.now.state found.0 found.1) }
+    {
+        for pool in 0..self.pool_count() {
+            if let Some(next) = self.next_move(pool) {
+                return Some((pool, next));
+            }
+        }
+        None
+    }
+
+    /// Makes the pool's move, and says what it did.
+    pub(crate) fn make_move(&mut self, pool: u8, next: Move) -> Event
+        requires pool { pool < pool_count self.old.scenario }
+        requires fits { IsMove self.old.scenario self.old.state pool next }
+        requires time { self.old.state.time < 2 ^ 60 }
+        requires stamps { self.old.state.next < 2 ^ 60 }
+        ensures state { self.new ≡ record self.old { state = (moved self.old.scenario self.old.state pool next).0 } }
+        ensures event { result ≡ (moved self.old.scenario self.old.state pool next).1 }
+    {
+        match next {
+            Move::Advance(w) => self.advance(pool, w.0 as usize),
+            Move::Wake(w) => {
+                self.wake(pool, w.0 as usize);
+                Event::Wakes
+            }
+            Move::Start(w) => {
+                self.start(pool, w.0 as usize);
+                Event::Starts
+            }
+            Move::Defer(w) => {
+                self.defer(pool, w.0 as usize);
+                Event::Defers
+            }
+        }
+    }
+
+    /// The ready head of the pool carries out the operation that it has come to.
+    #[tactic(auto, using(cmwq_table::proofs::HeadLemmas::heads))]
+    fn advance(&mut self, pool: u8, w: usize) -> Event
+        requires work { w < length self.old.scenario.works }
+        requires head { ready_head self.old.scenario self.old.state pool ≡ Some w }
+        requires time { self.old.state.time < 2 ^ 60 }
+        requires stamps { self.old.state.next < 2 ^ 60 }
+        ensures state { self.new ≡ record self.old { state = (advance self.old.scenario self.old.state w (running_at self.old.state w)).0 } }
+        ensures event { result ≡ (advance self.old.scenario self.old.state w (running_at self.old.state w)).1 }
+    {
+        match self.running_of(w) {
+            Some(r) => self.carry_out(w, r),
+            None => Event::Finishes,
+        }
+    }
+
+    /// The operation at the place of the work's body.
+    fn op_of(&self, w: usize, pc: u8) -> Op
+        ensures op { result ≡ op_at self.now.scenario w pc }
+        ensures in_range { IsOpInRange self.now.scenario result }
+        ensures pc { IsPcInRange result pc }
+    {
+        self.parts.scenario().op_of(w, pc)
+    }
+
+    fn carry_out(&mut self, w: usize, r: Running) -> Event
+        requires work { w < length self.old.scenario.works }
+        requires running { running_at self.old.state w ≡ Some r }
+        requires head { ready_head self.old.scenario self.old.state r.pool ≡ Some w }
+        requires pool { r.pool < pool_count self.old.scenario }
+        requires time { self.old.state.time < 2 ^ 60 }
+        requires stamps { self.old.state.next < 2 ^ 60 }
+        ensures state { self.new ≡ record self.old { state = (carry_out self.old.scenario self.old.state w r (op_at self.old.scenario w r.pc)).0 } }
+        ensures event { result ≡ (carry_out self.old.scenario self.old.state w r (op_at self.old.scenario w r.pc)).1 }
+    {
+        match self.op_of(w, r.pc) {
+            Op::Burn(ticks) => {
+                self.go_on(w, r, ticks);
+                Event::Burns(ticks)
+            }
+            Op::Sleep(ticks) => {
+                let until = self.parts.time() + u64::from(ticks);
+                self.sleep(w, r, until);
+                Event::Sleeps(ticks)
+            }
+            Op::Queue(other, cpu) => {
+                self.go_on(w, r, r.left);
+                self.queue_from_body(other, cpu)
+            }
+            Op::Finish => self.finish(w, r),
+        }
+    }
+
+    /// A body queues a work.
+    fn queue_from_body(&mut self, other: WorkId, cpu: u8) -> Event
+        requires work { other.0 < length self.old.scenario.works }
+        requires cpu { cpu < self.old.scenario.cpus }
+        requires stamps { self.old.state.next < 2 ^ 63 }
+        ensures state { self.new ≡ record self.old { state = (queue_from_body self.old.scenario self.old.state other cpu (pending_at self.old.state other.0)).0 } }
+        ensures event { result ≡ (queue_from_body self.old.scenario self.old.state other cpu (pending_at self.old.state other.0)).1 }
+    {
+        let already = self.pending_of(other.0 as usize).is_some();
+        if !already {
+            self.place(other.0 as usize, cpu);
+        }
+        Event::Queues { other, already }
+    }
+
+    /// The running work comes to the end of its body, and what it leaves is filled.
+    fn finish(&mut self, w: usize, r: Running) -> Event
+        requires work { w < length self.old.scenario.works }
+        requires running { running_at self.old.state w ≡ Some r }
+        requires pool { r.pool < pool_count self.old.scenario }
+        requires stamps { self.old.state.next < 2 ^ 61 }
+        ensures state { self.new ≡ record self.old { state = (finish self.old.scenario self.old.state w r).0 } }
+        ensures event { result ≡ (finish self.old.scenario self.old.state w r).1 }
+    {
+        let queue = self.queue_of(w);
+        let event = self.come_to_end(w, r);
+        self.fill(queue, r.pool);
+        event
+    }
+
+    /// A deferred instance starts at once on the same worker, else the worker becomes idle.
+    #[tactic(auto, using(cmwq_table::proofs::CounterLemmas::takes))]
+    fn come_to_end(&mut self, w: usize, r: Running) -> Event
+        requires work { w < length self.old.scenario.works }
+        requires running { running_at self.old.state w ≡ Some r }
+        requires stamps { self.old.state.next < 2 ^ 61 }
+        ensures state { self.new ≡ record self.old { state = (come_to_end self.old.state w r (pending_at self.old.state w)).0 } }
+        ensures event { result ≡ (come_to_end self.old.state w r (pending_at self.old.state w)).1 }
+        ensures takes { Takes 1 self.old.state self.new.state }
+    {
+        match self.pending_of(w) {
+            Some(p) if matches!(p.place, Place::Deferred(_)) => {
+                self.begin_again(w, r, p);
+                Event::FinishesAndStarts
+            }
+            _ => {
+                self.retire(w, r);
+                Event::Finishes
+            }
+        }
+    }
+
+    /// A free worker of the pool takes its first listed work.
+    fn start(&mut self, pool: u8, w: usize)
+        requires pool { pool < pool_count self.old.scenario }
+        requires work { w < length self.old.scenario.works }
+        requires first { first_listed self.old.scenario self.old.state pool ≡ Some w }
+        requires still { running_at self.old.state w ≡ None }
+        requires stamps { self.old.state.next < 2 ^ 63 }
+        ensures { self.new ≡ record self.old { state = started self.old.state pool w (free_worker self.old.scenario self.old.state pool) (pending_at self.old.state w) } }
+    {
+        if let (Some(worker), Some(p)) = (self.parts.free_worker(pool), self.parts.pending_of(w)) {
+            self.start_on(pool, w, worker, p);
+        }
+    }
+}

@@ -1,3 +1,0 @@
-pub mod Heads
-pub mod InRange
-pub mod Ready

@@ -1,0 +1,64 @@
+-- What holds whenever a machine can go on: of each pending and each running work, and of the counters.
+use Rattle.std.specs.Prelude.{◌≡◌, ℕ, ◌+◌, ◌*◌, ◌<◌, ◌≤◌, Option, Some, None}
+use Rattle.cmwq_types.specs.Contents.{ScenarioContents}
+use Rattle.cmwq_types.specs.Scenario.{pool_count}
+use Rattle.cmwq_types.specs.Setting.{IsSetting}
+use Rattle.cmwq_types.specs.declared.limits.TheConstants.{MAX_CPUS, MAX_OPS, MAX_QUEUES, MAX_WORKERS, MAX_WORKS}
+use Rattle.cmwq_types.specs.declared.reply.Place.{Place}
+use Rattle.cmwq_types.specs.declared.reply.Place.TheVariants.{Timer, Inactive, Listed, Deferred}
+use Rattle.cmwq_table.specs.State.{State, pending_at, running_at}
+use Rattle.cmwq_table.specs.declared.state.Pending.{Pending}
+use Rattle.cmwq_table.specs.declared.state.Running.{Running}
+
+-- a place's CPU or pool is there
+abbrev pub IsPlaceReady : ScenarioContents → Place → Type 0
+IsPlaceReady S (Timer due cpu) = cpu < S.cpus
+IsPlaceReady S (Inactive pool) = pool < pool_count S
+IsPlaceReady S (Listed pool) = pool < pool_count S
+IsPlaceReady S (Deferred pool) = pool < pool_count S
+
+abbrev pub IsPendingReady : ScenarioContents → Option Pending → Type 0
+IsPendingReady S (Some p) = IsPlaceReady S p.place
+IsPendingReady S None = Unit {0}
+
+-- a running work's pool and worker are there, and its place in the body is within a body or at its end
+abbrev pub IsRunningReady : ScenarioContents → Option Running → Type 0
+IsRunningReady S (Some r) = (r.pool < pool_count S) × (r.worker < MAX_WORKERS) × (r.pc ≤ MAX_OPS)
+IsRunningReady S None = Unit {0}
+
+-- What holds even amid an instruction: each pending and each running work can be gone on from.
+pub record IsReady (S : ScenarioContents) (s : State) : Type 0 where
+  pub setting : IsSetting S
+  pub pending : (w : ℕ) → IsPendingReady S (pending_at s w)
+  pub running : (w : ℕ) → IsRunningReady S (running_at s w)
+
+-- The most stamps that filling one queue in each pool takes: a fill gives each work at most one.
+abbrev pub most_everywhere : ℕ
+most_everywhere = (2 * MAX_CPUS + 2) * MAX_WORKS
+
+-- The most stamps that one instruction takes: a thaw fills each queue in each pool.
+abbrev pub most_stamps : ℕ
+most_stamps = MAX_QUEUES * most_everywhere
+
+-- a change that took at most n stamps, and left time, spent steps and flushes as they were
+pub record Takes (n : ℕ) (old new : State) : Type 0 where
+  pub next : new.next ≤ old.next + n
+  pub time : new.time ≡ old.time
+  pub spent : new.spent ≡ old.spent
+  pub flushes : new.flushes ≡ old.flushes
+
+-- What holds between instructions: no counter outgrows what was spent, nor that the scenario's steps.
+pub record HasCounters (S : ScenarioContents) (s : State) : Type 0 where
+  pub spent : s.spent ≤ S.steps
+  pub time : s.time ≤ s.spent
+  pub next : s.next ≤ most_stamps * s.spent
+
+-- a scenario and the state that it has come to
+pub record Loaded : Type 0 where
+  pub scenario : ScenarioContents
+  pub state : State
+
+-- what holds of every state that a valid scenario comes to
+pub record IsKept (m : Loaded) : Type 0 where
+  pub setting : IsSetting m.scenario
+  pub counters : HasCounters m.scenario m.state

@@ -1,0 +1,90 @@
+//! The parts of a scenario by their numbers.
+ghost use Rattle.cmwq_types.specs.Scenario.{flags_at, is_unbound, op_at, pool_count, queue_of, target};
+ghost use Rattle.cmwq_types.specs.Setting.{IsSetting};
+ghost use Rattle.cmwq_types.specs.declared.scenario.Op.TheVariants as op;
+ghost use Rattle.std.specs.Prelude.{◌≡◌, ◌<◌, slice_index_or};
+
+use crate::scenario::{Flags, Op, Scenario};
+
+const PLAIN: Flags = Flags {
+    highpri: false,
+    unbound: false,
+    cpu_intensive: false,
+    freezable: false,
+    ordered: false,
+};
+
+impl Scenario {
+    /// The flags of the queue of this number, from 0. Where there is no such queue, no flag is set.
+    pub fn flags_of(&self, queue: u8) -> Flags
+        ensures { result ≡ flags_at self.now queue }
+    {
+        match self.queues.get(queue as usize) {
+            Some(declared) => declared.flags,
+            None => PLAIN,
+        }
+    }
+
+    /// The number of the queue that the work of this number is declared on, both from 0. Where there
+    /// is no such work, it is 0.
+    pub fn queue_of(&self, work: usize) -> u8
+        ensures { result ≡ queue_of self.now work }
+    {
+        match self.works.get(work) {
+            Some(declared) => declared.queue.0,
+            None => 0,
+        }
+    }
+
+    /// The operation at the place `pc`, from 0, of the work's body. Past the body's end, and where
+    /// there is no such work, it is the finish.
+    pub fn op_of(&self, work: usize, pc: u8) -> Op
+        ensures { result ≡ op_at self.now work pc }
+    {
+        match self.works.get(work) {
+            Some(declared) => op_in(&declared.body, pc),
+            None => Op::Finish,
+        }
+    }
+
+    /// How many worker pools there are: a normal and a high one for each CPU, by rising number, and
+    /// then two unbound ones.
+    pub fn pool_count(&self) -> u8
+        requires { IsSetting self.now }
+        ensures { result ≡ pool_count self.now }
+    {
+        2 * self.cpus + 2
+    }
+
+    /// Whether the worker pool is one of the two unbound ones.
+    pub fn is_unbound(&self, pool: u8) -> bool
+        requires { IsSetting self.now }
+        ensures { result ≡ is_unbound self.now pool }
+    {
+        2 * self.cpus <= pool
+    }
+
+    /// The number of the worker pool to which the queue's works go from the CPU: one of the two
+    /// unbound pools where the queue is `unbound` or `ordered`, else one of the CPU's two; of these
+    /// the high one where the queue is `highpri`.
+    pub fn target_of(&self, queue: u8, cpu: u8) -> u8
+        requires setting { IsSetting self.now }
+        requires cpu { cpu < self.now.cpus }
+        ensures target { result ≡ target self.now queue cpu }
+        ensures in_range { result < pool_count self.now }
+    {
+        let flags = self.flags_of(queue);
+        let normal = if flags.unbound || flags.ordered {
+            2 * self.cpus
+        } else {
+            2 * cpu
+        };
+        if flags.highpri { normal + 1 } else { normal }
+    }
+}
+
+fn op_in(body: &[Op], pc: u8) -> Op
+    ensures { result ≡ slice_index_or body.now pc op.Finish }
+{
+    body.get(pc as usize).copied().unwrap_or(Op::Finish)
+}
