@@ -154,7 +154,7 @@ carry_out-none : (S : ScenarioContents) (s : State) (w : ℕ) (r : Running) (o :
 carry_out-none S s w r (op.Burn ticks) runs =
     set-none s (carry_out S s w r (op.Burn ticks)).0 w (Some (record r { pc = r.pc + 1; left = ticks })) r runs refl
 carry_out-none S s w r (op.Sleep ticks) runs =
-    set-none s (carry_out S s w r (op.Sleep ticks)).0 w (Some (record r { pc = r.pc + 1; mode = Asleep (s.now + ticks) })) r runs refl
+    set-none s (carry_out S s w r (op.Sleep ticks)).0 w (Some (record r { pc = r.pc + 1; mode = Asleep (s.time + ticks) })) r runs refl
 carry_out-none S s w r (op.Queue other cpu) runs =
     set-none s (carry_out S s w r (op.Queue other cpu)).0 w (Some (record r { pc = r.pc + 1 })) r runs
     (queue_from_body-same S (onward s w r) other cpu (pending_at (onward s w r) other.0))
