@@ -38,10 +38,16 @@ impl<P: Parts> Machine for Driven<P> {
         if let Err(fault) = scenario.check() {
             return Err(LoadError::Fault(fault));
         }
-        match Driven::begin(alloc, scenario) {
+        match Driven::of_copy(alloc, scenario) {
             Ok(machine) => Ok(machine),
             Err(NoMemory) => Err(LoadError::NoMemory),
         }
+    }
+
+    #[tactic(auto, using(crate::proofs::StartLemmas::starts))]
+    fn begin(alloc: Global, scenario: Rc<Scenario>) -> Result<Self, NoMemory> {
+        let going = Going::begin(alloc, scenario)?;
+        Ok(Driven { going })
     }
 
     fn exec(&mut self, instr: Instr) -> Reply {
@@ -63,14 +69,13 @@ impl<P: Parts> Machine for Driven<P> {
 }
 
 impl<P: Parts> Driven<P> {
-    /// A machine in the start state of a valid scenario.
-    #[tactic(auto, using(crate::proofs::StartLemmas::starts))]
-    fn begin(alloc: Global, scenario: &Scenario) -> Result<Driven<P>, NoMemory>
+    /// A machine in the start state of a valid scenario, which is copied.
+    fn of_copy(alloc: Global, scenario: &Scenario) -> Result<Self, NoMemory>
         requires { IsValid scenario.now }
-        ensures { IfOk result (λ machine. machine ≡ record { scenario = scenario.now; state = start scenario.now }) }
+        ensures scenario { IfOk result (λ machine. machine.scenario ≡ scenario.now) }
+        ensures state { IfOk result (λ machine. machine.state ≡ start scenario.now) }
     {
         let shared = Rc::new(alloc, scenario.copy()?)?;
-        let going = Going::begin(alloc, shared)?;
-        Ok(Driven { going })
+        Driven::begin(alloc, shared)
     }
 }

@@ -1,14 +1,16 @@
 //! What a machine is: a body that carries out the instruction table.
-ghost use Rattle.cmwq_table.specs.State.{State};
+ghost use Rattle.cmwq_table.specs.State.{State, start};
 ghost use Rattle.cmwq_table.specs.Machine.{Loads};
 ghost use Rattle.cmwq_table.specs.Table.{table};
 ghost use Rattle.cmwq_types.specs.Contents.{ScenarioContents};
+ghost use Rattle.cmwq_types.specs.Faults.{IsValid};
 ghost use Rattle.cmwq_table.specs.View.{view_of};
 ghost use Rattle.std.specs.Prelude.{◌≡◌, IfOk};
 
 use crate::view::View;
 use cmwq_types::{Fault, Instr, NoMemory, Reply, Scenario};
 use std::alloc::{AllocError, Global};
+use std::rc::Rc;
 use thiserror::Error;
 
 /// Why a scenario wasn't loaded.
@@ -39,6 +41,13 @@ pub trait Machine: Drop {
     fn load(alloc: Global, scenario: &Scenario) -> Result<Self, LoadError>
         ensures { Loads loaded state scenario.now result };
 
+    /// A machine in the start state of a scenario that is known to be valid, with room for all that can
+    /// come. The scenario is shared, and isn't judged again.
+    fn begin(alloc: Global, scenario: Rc<Scenario>) -> Result<Self, NoMemory>
+        requires { IsValid scenario.value }
+        ensures scenario { IfOk result (λ machine. loaded machine ≡ scenario.value) }
+        ensures state { IfOk result (λ machine. state machine ≡ start scenario.value) };
+
     /// Carries out one instruction, and answers it. It takes no memory.
     ///
     /// Where it answers `Refused` nothing has changed. Refusals are judged in this order: operands, from left
@@ -48,7 +57,8 @@ pub trait Machine: Drop {
         ensures exact { (state self.new, result) ≡ table (loaded self.old) (state self.old) instr }
         ensures scenario { loaded self.new ≡ loaded self.old };
 
-    /// A machine in the same state, with the same room, and independent of this one.
+    /// A machine in the same state, with the same room, and independent of this one but for the scenario,
+    /// which they share.
     fn copy(&self) -> Result<Self, NoMemory>
         ensures scenario { IfOk result (λ copy. loaded copy ≡ loaded self.now) }
         ensures state { IfOk result (λ copy. state copy ≡ state self.now) };
