@@ -1,4 +1,5 @@
 //! The exit status and the line of each kind of fault.
+use crate::checking::same;
 use cmwq_asm::AsmError;
 use cmwq_command::fault::{fault_line, status};
 use cmwq_grammar::Why;
@@ -57,7 +58,7 @@ fn each_fault_has_its_status_and_line(rt: HostRuntime) {
     for (fault, want, line) in TOLD {
         let mut told = Vec::new(rt.alloc());
         fault_line(&mut told, fault).expect(&rt, "memory is left");
-        assert_eq!(rt; status(fault), want, "{fault}");
-        assert_eq!(rt; told.as_slice(), line, "{fault}");
+        same(&rt, fault, status(fault), want);
+        same(&rt, fault, told.as_slice(), line);
     }
 }
