@@ -49,40 +49,59 @@ fn a_copy_goes_on_alone(rt: HostRuntime) {
     exec_all(&rt, &mut machine, &[cancelled]);
 }
 
-/// A text, two instructions, and what a look then shows: whether the machine is frozen, the first queue's
-/// `max_active`, and how many works are pending and flushes were given.
-type Looked = (&'static [u8], [Instr; 2], bool, u16, usize, usize);
+/// Two instructions at a scenario's start, and what a look then shows.
+#[derive(Clone, Copy)]
+struct Looked {
+    /// The scenario's text.
+    text: &'static [u8],
+    /// The instructions.
+    instrs: [Instr; 2],
+    /// Whether the machine is frozen.
+    frozen: bool,
+    /// The first queue's `max_active`.
+    max: u16,
+    /// How many works are pending.
+    pending: usize,
+    /// How many flushes were given.
+    flushes: usize,
+}
 
 const LOOKED: [Looked; 2] = [
-    (
-        TWO_WORKS,
-        [Instr::Delay(B, 0, 3), Instr::FlushQueue(QueueId(0))],
-        false,
-        1,
-        1,
-        1,
-    ),
-    (
-        FREEZABLE,
-        [Instr::SetMax(QueueId(0), 512), Instr::Freeze],
-        true,
-        512,
-        0,
-        0,
-    ),
+    Looked {
+        text: TWO_WORKS,
+        instrs: [Instr::Delay(B, 0, 3), Instr::FlushQueue(QueueId(0))],
+        frozen: false,
+        max: 1,
+        pending: 1,
+        flushes: 1,
+    },
+    Looked {
+        text: FREEZABLE,
+        instrs: [Instr::SetMax(QueueId(0), 512), Instr::Freeze],
+        frozen: true,
+        max: 512,
+        pending: 0,
+        flushes: 0,
+    },
 ];
+
+/// Compares what a look at the machine shows.
+fn check_look<M: Machine>(rt: &impl Abort, machine: &M, row: &Looked) {
+    let view = machine.look().expect(rt, "memory is left");
+    let limits = (view.frozen, view.max.first().copied());
+    same(rt, row.instrs, limits, (row.frozen, Some(row.max)));
+    let counts = (view.pending.len(), view.flushes.len());
+    same(rt, row.instrs, counts, (row.pending, row.flushes));
+}
 
 #[test]
 fn a_look_shows_the_state(rt: HostRuntime) {
-    for (text, [first, second], frozen, max, pending, flushes) in LOOKED {
-        let mut machine: Plain = loaded(&rt, rt.alloc(), text);
-        machine.exec(first);
-        machine.exec(second);
-        let view = machine.look().expect(&rt, "memory is left");
-        let seen = (view.frozen, view.max.first().copied());
-        same(&rt, (first, second), seen, (frozen, Some(max)));
-        let counts = (view.pending.len(), view.flushes.len());
-        same(&rt, (first, second), counts, (pending, flushes));
+    for row in LOOKED {
+        let mut machine: Plain = loaded(&rt, rt.alloc(), row.text);
+        for instr in row.instrs {
+            machine.exec(instr);
+        }
+        check_look(&rt, &machine, &row);
     }
 }
 
