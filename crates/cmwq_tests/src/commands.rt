@@ -95,16 +95,30 @@ fn with_failed_read(alloc: Global, command: Command, bytes: &[u8], fails: usize)
     carried_out(alloc, command, input, writing_to(alloc, 4096))
 }
 
+/// Lets each read fail in turn: it is told, and nothing was written. A read behind the last one doesn't count.
+fn check_failed_reads(rt: &impl Abort, alloc: Global, command: Command, bytes: &[u8]) {
+    let whole = written(rt, alloc, "sixteen bytes", command, bytes, (16, 4096));
+    let reads = with_failed_read(alloc, command, bytes, 0).reads;
+    same(rt, command, reads > bytes.len() / 16, true);
+    for fails in 1..=reads {
+        let outcome = with_failed_read(alloc, command, bytes, fails);
+        let answer = (outcome.result, outcome.writes);
+        same(rt, (command, fails), answer, (Err(PlayError::Read), 0));
+    }
+    let late = with_failed_read(alloc, command, bytes, reads.saturating_add(1));
+    same(rt, (command, reads), late.result, Ok(()));
+    same(
+        rt,
+        (command, reads),
+        late.written.as_slice(),
+        whole.as_slice(),
+    );
+}
+
 #[test]
 fn a_failed_read_is_told_and_nothing_was_written(rt: HostRuntime) {
     for (command, bytes) in inputs() {
-        let reads = with_failed_read(rt.alloc(), command, bytes, 0).reads;
-        same(&rt, command, reads > bytes.len() / 16, true);
-        for fails in 1..=reads {
-            let outcome = with_failed_read(rt.alloc(), command, bytes, fails);
-            let answer = (outcome.result, outcome.writes);
-            same(&rt, (command, fails), answer, (Err(PlayError::Read), 0));
-        }
+        check_failed_reads(&rt, rt.alloc(), command, bytes);
     }
 }
 
@@ -122,7 +136,8 @@ fn with_failed_write(
     carried_out(alloc, command, reading_of(bytes, 4096), output)
 }
 
-/// Lets each write fail in turn: it is told, and a front of what is written otherwise was written.
+/// Lets each write fail in turn: it is told, and a front of what is written otherwise was written. A write behind
+/// the last one doesn't count.
 fn check_failed_writes(
     rt: &impl Abort,
     alloc: Global,
@@ -130,11 +145,10 @@ fn check_failed_writes(
     bytes: &[u8],
     failure: Failure,
 ) {
-    let whole = with_failed_write(alloc, command, bytes, 0, failure);
-    same(rt, command, whole.writes, whole.written.len());
-    for fails in 1..=whole.writes {
+    let whole = written(rt, alloc, "at once", command, bytes, (4096, 4096));
+    for fails in 1..=whole.len() {
         let outcome = with_failed_write(alloc, command, bytes, fails, failure);
-        let front = whole.written.get(..fails - 1);
+        let front = whole.get(..fails - 1);
         same(rt, (command, fails), outcome.result, Err(PlayError::Write));
         same(
             rt,
@@ -143,6 +157,14 @@ fn check_failed_writes(
             front,
         );
     }
+    let late = with_failed_write(alloc, command, bytes, whole.len() + 1, failure);
+    same(rt, (command, failure), late.result, Ok(()));
+    same(
+        rt,
+        (command, failure),
+        late.written.as_slice(),
+        whole.as_slice(),
+    );
 }
 
 #[test]
