@@ -1,8 +1,8 @@
 //! The command line: which words ask for what.
 
-ghost use Rattle.clap.specs.Words.{Text, app_of, first_of, found_of, kind_of, rows_of, rule_of, subcommand_rows_of};
+ghost use Rattle.clap.specs.Words.{Text, app_of, first_of, found_of, kind_of, rows_of, rule_of, subcommand_rows_of, with_subcommand};
 ghost use Rattle.clap.specs.declared.builder.command.Command.TheViews.{out-Command as fields_of};
-ghost use Rattle.cmwq_command.specs.Request.{Asks, IsPlainWord, asked_in, asked_of, command_line, command_on, required_rule, words_of};
+ghost use Rattle.cmwq_command.specs.Request.{Asks, IsPlainWord, asked_in, asked_of, asm_command, command_line, command_on, list_command, program, required_rule, run_command, show_command, words_of};
 ghost use Rattle.std.specs.Prelude.{◌≡◌, ◌≢◌, ◌⊎◌, [], ◌∷◌, Err, IfOk, Ok, codes, false, map, option_map, string_bytes};
 
 use clap::error::ErrorKind;
@@ -152,33 +152,63 @@ fn value_of<'a>(given: &ArgMatches<'a>, id: &str) -> Option<&'a str>
 fn command<'a>(alloc: Global) -> Result<Command<'a>, AllocError>
     ensures { IfOk result (λ r. app_of r ≡ command_line) }
 {
+    let commands = text_commands(alloc)?;
+    let asm = asm_command(alloc)?;
+    let commands = commands.subcommand(asm)?;
+    let show = show_command(alloc)?;
+    commands.subcommand(show)
+}
+
+/// The program with the commands that print something of a text.
+fn text_commands<'a>(alloc: Global) -> Result<Command<'a>, AllocError>
+    ensures { IfOk result (λ r. app_of r ≡ with_subcommand (with_subcommand program run_command.top) list_command.top) }
+{
     let run = on_text(
         alloc,
         "run",
         "Runs a scenario and writes its events to standard output",
     )?;
+    let commands = bare_program(alloc).subcommand(run)?;
     let list = on_text(
         alloc,
         "list",
         "Writes a scenario's listing to standard output",
     )?;
-    let asm = on_text(alloc, "asm", "Makes the image of a scenario")?.arg(argument(
-        alloc,
-        "OUT",
-        "The image file to make; what it held is lost, even where FILE has a fault",
-    ))?;
-    let show = Command::new(alloc, "show")
-        .about("Writes the listing of an image's scenario to standard output")
-        .arg(argument(alloc, "IMAGE", "The scenario's image"))?;
+    commands.subcommand(list)
+}
+
+/// The program without its commands.
+fn bare_program<'a>(alloc: Global) -> Command<'a>
+    ensures { app_of result ≡ program }
+{
     Command::new(alloc, "cmwq")
         .about("Emulates the concurrency-managed workqueues of the Linux kernel")
         .after_help(AFTER_HELP)
         .subcommand_required(true)
         .arg_required_else_help(true)
-        .subcommand(run)?
-        .subcommand(list)?
-        .subcommand(asm)?
-        .subcommand(show)
+}
+
+/// The command that makes an image.
+fn asm_command<'a>(alloc: Global) -> Result<Command<'a>, AllocError>
+    ensures app { IfOk result (λ r. app_of r ≡ asm_command) }
+    ensures local { IfOk result (λ r. (fields_of r).has_globals ≡ false) }
+{
+    let asm = on_text(alloc, "asm", "Makes the image of a scenario")?;
+    asm.arg(argument(
+        alloc,
+        "OUT",
+        "The image file to make; what it held is lost, even where FILE has a fault",
+    ))
+}
+
+/// The command that lists an image.
+fn show_command<'a>(alloc: Global) -> Result<Command<'a>, AllocError>
+    ensures app { IfOk result (λ r. app_of r ≡ show_command) }
+    ensures local { IfOk result (λ r. (fields_of r).has_globals ≡ false) }
+{
+    Command::new(alloc, "show")
+        .about("Writes the listing of an image's scenario to standard output")
+        .arg(argument(alloc, "IMAGE", "The scenario's image"))
 }
 
 /// A command on the text of a scenario.

@@ -1,4 +1,5 @@
 //! Command lines: the requests that they are, and help and usage faults.
+use crate::checking::same;
 use clap::error::ErrorKind;
 use cmwq_command::request::{Request, parse};
 use std::alloc::Global;
@@ -30,7 +31,7 @@ fn each_command_has_its_words(rt: HostRuntime) {
     for (line, want) in REQUESTS {
         let given = words(&rt, rt.alloc(), line);
         let request = parse(rt.alloc(), given.as_slice()).expect(&rt, line);
-        assert!(rt; request == want, "{line}");
+        same(&rt, line, request, want);
     }
 }
 
@@ -59,8 +60,7 @@ fn other_words_are_help_or_usage_faults(rt: HostRuntime) {
     for (line, kind, status) in NO_REQUESTS {
         let given = words(&rt, rt.alloc(), line);
         let error = parse(rt.alloc(), given.as_slice()).expect_err(&rt, line);
-        assert!(rt; error.kind() == kind, "{line}");
-        assert!(rt; error.exit_code() == status, "{line}");
-        assert!(rt; error.use_stderr() == (status != 0), "{line}");
+        let told = (error.kind() == kind, error.exit_code(), error.use_stderr());
+        same(&rt, line, told, (true, status, status != 0));
     }
 }

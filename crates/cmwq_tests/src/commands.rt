@@ -1,4 +1,5 @@
 //! The commands over memory: what they write, reads and writes that fail, and input that is refused.
+use crate::checking::same;
 use crate::examples::{EXAMPLES, Example, IMAGE_OF_STEPS_RUN_OUT, MAX_ACTIVE_3, STEPS_RUN_OUT};
 use crate::streams::{
     Command, Failure, Input, Outcome, Output, carried_out, reading_of, writing_to,
@@ -23,7 +24,7 @@ fn written(
     let (read, write) = steps;
     let input = reading_of(bytes, read);
     let outcome = carried_out(alloc, command, input, writing_to(alloc, write));
-    assert_eq!(rt; outcome.result, Ok(()), "{name}: {command:?}");
+    same(rt, (name, command), outcome.result, Ok(()));
     outcome.written
 }
 
@@ -38,7 +39,7 @@ fn check_written(
     want: &[u8],
 ) {
     let written = written(rt, alloc, name, command, bytes, steps);
-    assert_eq!(rt; written.as_slice(), want, "{name}: {command:?}");
+    same(rt, (name, command), written.as_slice(), want);
 }
 
 #[test]
@@ -60,14 +61,18 @@ const OTHER_WAYS: &[u8] = b"# a lesson\r\ncpus 1\r\n\tworkers  1\n\nsteps 8 # fe
 fn a_text_in_other_ways_is_run_and_the_worked_image_is_written(rt: HostRuntime) {
     let rows: [(Command, &[u8], &[u8]); 2] = [
         (Command::Run, OTHER_WAYS, b"0 refused NoSuchPool\n"),
-        (
-            Command::Asm,
-            STEPS_RUN_OUT.text,
-            &IMAGE_OF_STEPS_RUN_OUT,
-        ),
+        (Command::Asm, STEPS_RUN_OUT.text, &IMAGE_OF_STEPS_RUN_OUT),
     ];
     for (command, bytes, want) in rows {
-        check_written(&rt, rt.alloc(), "worked", command, bytes, (4096, 4096), want);
+        check_written(
+            &rt,
+            rt.alloc(),
+            "worked",
+            command,
+            bytes,
+            (4096, 4096),
+            want,
+        );
     }
 }
 
@@ -90,16 +95,30 @@ fn with_failed_read(alloc: Global, command: Command, bytes: &[u8], fails: usize)
     carried_out(alloc, command, input, writing_to(alloc, 4096))
 }
 
+/// Lets each read fail in turn: it is told, and nothing was written. A read behind the last one doesn't count.
+fn check_failed_reads(rt: &impl Abort, alloc: Global, command: Command, bytes: &[u8]) {
+    let whole = written(rt, alloc, "sixteen bytes", command, bytes, (16, 4096));
+    let reads = with_failed_read(alloc, command, bytes, 0).reads;
+    same(rt, command, reads > bytes.len() / 16, true);
+    for fails in 1..=reads {
+        let outcome = with_failed_read(alloc, command, bytes, fails);
+        let answer = (outcome.result, outcome.writes);
+        same(rt, (command, fails), answer, (Err(PlayError::Read), 0));
+    }
+    let late = with_failed_read(alloc, command, bytes, reads.saturating_add(1));
+    same(rt, (command, reads), late.result, Ok(()));
+    same(
+        rt,
+        (command, reads),
+        late.written.as_slice(),
+        whole.as_slice(),
+    );
+}
+
 #[test]
 fn a_failed_read_is_told_and_nothing_was_written(rt: HostRuntime) {
     for (command, bytes) in inputs() {
-        let reads = with_failed_read(rt.alloc(), command, bytes, 0).reads;
-        assert!(rt; reads > bytes.len() / 16, "{command:?}: there were many calls");
-        for fails in 1..=reads {
-            let outcome = with_failed_read(rt.alloc(), command, bytes, fails);
-            assert_eq!(rt; outcome.result, Err(PlayError::Read), "{command:?}: read {fails}");
-            assert_eq!(rt; outcome.writes, 0, "{command:?}: read {fails}");
-        }
+        check_failed_reads(&rt, rt.alloc(), command, bytes);
     }
 }
 
@@ -117,7 +136,8 @@ fn with_failed_write(
     carried_out(alloc, command, reading_of(bytes, 4096), output)
 }
 
-/// Lets each write fail in turn: it is told, and a front of what is written otherwise was written.
+/// Lets each write fail in turn: it is told, and a front of what is written otherwise was written. A write behind
+/// the last one doesn't count.
 fn check_failed_writes(
     rt: &impl Abort,
     alloc: Global,
@@ -125,14 +145,26 @@ fn check_failed_writes(
     bytes: &[u8],
     failure: Failure,
 ) {
-    let whole = with_failed_write(alloc, command, bytes, 0, failure);
-    assert_eq!(rt; whole.writes, whole.written.len(), "{command:?}: one byte a call");
-    for fails in 1..=whole.writes {
+    let whole = written(rt, alloc, "at once", command, bytes, (4096, 4096));
+    for fails in 1..=whole.len() {
         let outcome = with_failed_write(alloc, command, bytes, fails, failure);
-        let front = whole.written.get(..fails - 1);
-        assert_eq!(rt; outcome.result, Err(PlayError::Write), "{command:?}: write {fails}");
-        assert!(rt; front == Some(outcome.written.as_slice()), "{command:?}: write {fails}");
+        let front = whole.get(..fails - 1);
+        same(rt, (command, fails), outcome.result, Err(PlayError::Write));
+        same(
+            rt,
+            (command, fails),
+            Some(outcome.written.as_slice()),
+            front,
+        );
     }
+    let late = with_failed_write(alloc, command, bytes, whole.len() + 1, failure);
+    same(rt, (command, failure), late.result, Ok(()));
+    same(
+        rt,
+        (command, failure),
+        late.written.as_slice(),
+        whole.as_slice(),
+    );
 }
 
 #[test]
@@ -151,10 +183,10 @@ const LONG: &[u8] =
 fn lines_go_out_before_all_are_made(rt: HostRuntime) {
     let output = writing_to(rt.alloc(), 1_000_000);
     let outcome = carried_out(rt.alloc(), Command::Run, reading_of(LONG, 4096), output);
-    assert_eq!(rt; outcome.result, Ok(()));
+    same(&rt, "the answer", outcome.result, Ok(()));
     let line = "0 refused NoSuchPool\n";
-    assert_eq!(rt; outcome.written.len(), 2 * 65535 * line.len());
-    assert!(rt; outcome.writes > 100, "a block at a time");
+    same(&rt, "bytes", outcome.written.len(), 2 * 65535 * line.len());
+    same(&rt, "a block at a time", outcome.writes > 100, true);
 }
 
 /// Texts that `run` refuses, at which line, and why.
@@ -211,8 +243,12 @@ pub(crate) fn check_refused(
     want: PlayError,
 ) -> usize {
     let outcome = carried_out(alloc, command, input, writing_to(alloc, 4096));
-    assert_eq!(rt; outcome.result, Err(want), "{command:?}");
-    assert_eq!(rt; outcome.writes, 0, "{command:?}: {want}");
+    same(
+        rt,
+        command,
+        (outcome.result, outcome.writes),
+        (Err(want), 0),
+    );
     outcome.reads
 }
 
@@ -240,7 +276,7 @@ fn input_without_end_is_refused(rt: HostRuntime) {
     let too_long = at(0, Why::TooLong);
     let reads = check_refused(&rt, rt.alloc(), Command::Run, endless(b""), too_long);
     // 4,194,305 bytes, 4,096 a call
-    assert_eq!(rt; reads, 1025);
+    same(&rt, "reads", reads, 1025);
     let input = endless(&IMAGE_OF_STEPS_RUN_OUT);
     let extra = PlayError::Image(ImageError::Extra);
     check_refused(&rt, rt.alloc(), Command::Show, input, extra);

@@ -1,10 +1,13 @@
 //! The exit status and the line of each kind of fault.
+use crate::checking::same;
 use cmwq_asm::AsmError;
 use cmwq_command::fault::{fault_line, status};
 use cmwq_grammar::Why;
 use cmwq_image::ImageError;
 use cmwq_play::PlayError;
 use cmwq_types::Fault;
+use std::alloc::Global;
+use std::process::Abort;
 
 /// A fault, its exit status and its line.
 type Told = (PlayError, u8, &'static [u8]);
@@ -52,12 +55,17 @@ const TOLD: [Told; 14] = [
     (PlayError::Image(ImageError::NoMemory), 4, b"no memory\n"),
 ];
 
+/// Compares the fault's exit status and its line.
+fn check_told(rt: &impl Abort, alloc: Global, fault: PlayError, want: u8, line: &[u8]) {
+    let mut told = Vec::new(alloc);
+    fault_line(&mut told, fault).expect(rt, "memory is left");
+    same(rt, fault, status(fault), want);
+    same(rt, fault, told.as_slice(), line);
+}
+
 #[test]
 fn each_fault_has_its_status_and_line(rt: HostRuntime) {
     for (fault, want, line) in TOLD {
-        let mut told = Vec::new(rt.alloc());
-        fault_line(&mut told, fault).expect(&rt, "memory is left");
-        assert_eq!(rt; status(fault), want, "{fault}");
-        assert_eq!(rt; told.as_slice(), line, "{fault}");
+        check_told(&rt, rt.alloc(), fault, want, line);
     }
 }

@@ -1,4 +1,5 @@
 //! Each command on real files, as the program carries it out.
+use crate::checking::same;
 use crate::examples::{IMAGE_OF_STEPS_RUN_OUT as IMAGE, STEPS_RUN_OUT};
 use cmwq_asm::AsmError;
 use cmwq_command::answer;
@@ -25,7 +26,7 @@ fn put_file<R: Files + AllocGlobal + Abort>(rt: &R, path: &str, bytes: &[u8]) {
 /// Compares what the file has.
 fn check_file<R: Files + AllocGlobal + Abort>(rt: &R, path: &str, want: &[u8]) {
     let bytes = fs::read(rt, path).expect(rt, "the file is read");
-    assert_eq!(rt; bytes.as_slice(), want, "{path}");
+    same(rt, path, bytes.as_slice(), want);
 }
 
 /// Compares the answer, and what was written to standard output.
@@ -37,8 +38,8 @@ fn check_answer<R: Files + AllocGlobal + Abort>(
 ) {
     let mut output = Vec::new(rt.alloc());
     let result = answer(rt, &mut output, request);
-    assert_eq!(rt; result, want, "{request:?}");
-    assert_eq!(rt; output.as_slice(), printed, "{request:?}");
+    same(rt, request, result, want);
+    same(rt, request, output.as_slice(), printed);
 }
 
 #[test]
@@ -51,7 +52,12 @@ fn each_command_reads_and_writes_files(rt: HostRuntime) {
     check_answer(&rt, Request::List { file }, Ok(()), STEPS_RUN_OUT.text);
     check_answer(&rt, Request::Asm { file, out }, Ok(()), b"");
     check_file(&rt, out, &IMAGE);
-    check_answer(&rt, Request::Show { image: out }, Ok(()), STEPS_RUN_OUT.text);
+    check_answer(
+        &rt,
+        Request::Show { image: out },
+        Ok(()),
+        STEPS_RUN_OUT.text,
+    );
     let _ = fs::remove_dir_all(&rt, "cmwq_commands");
 }
 
@@ -106,7 +112,12 @@ fn a_faulty_image_is_told(rt: HostRuntime) {
     ];
     for (bytes, fault) in rows {
         put_file(&rt, image, bytes);
-        check_answer(&rt, Request::Show { image }, Err(PlayError::Image(fault)), b"");
+        check_answer(
+            &rt,
+            Request::Show { image },
+            Err(PlayError::Image(fault)),
+            b"",
+        );
     }
     let _ = fs::remove_dir_all(&rt, "cmwq_show_faults");
 }

@@ -1,30 +1,39 @@
 //! The worked image cut short, made longer and changed. The expected answers are worked out by hand from the
 //! table of fields.
+ghost use Rattle.cmwq_types.specs.Faults.{IsValid};
+
+use crate::checking::same;
 use crate::commands::check_refused;
 use crate::examples::{IMAGE_OF_STEPS_RUN_OUT as IMAGE, STEPS_RUN_OUT};
 use crate::streams::{Command, reading_of};
 use cmwq_asm::assemble;
 use cmwq_image::{ImageError, read, write};
 use cmwq_play::PlayError;
-use cmwq_types::Fault;
+use cmwq_types::{Fault, Scenario};
 use std::alloc::Global;
 use std::process::Abort;
 
 /// The bytes are refused for this, read by themselves and by the command that lists images.
 fn check_faulty(rt: &impl Abort, alloc: Global, bytes: &[u8], want: ImageError) {
-    assert_eq!(rt; read(alloc, bytes).err(), Some(want));
+    same(rt, want, read(alloc, bytes).err(), Some(want));
     let input = reading_of(bytes, 4096);
     check_refused(rt, alloc, Command::Show, input, PlayError::Image(want));
+}
+
+/// The image of the scenario is the worked one.
+fn check_worked(rt: &impl Abort, alloc: Global, scenario: &Scenario)
+    requires { IsValid scenario.now }
+{
+    let bytes = write(alloc, scenario).expect(rt, "memory is left");
+    same(rt, "the worked image", bytes.as_slice(), IMAGE.as_slice());
 }
 
 #[test]
 fn the_worked_image_is_written_and_read(rt: HostRuntime) {
     let scenario = assemble(rt.alloc(), STEPS_RUN_OUT.text).expect(&rt, "a scenario's text");
-    let bytes = write(rt.alloc(), &scenario).expect(&rt, "memory is left");
-    assert_eq!(rt; bytes.as_slice(), IMAGE.as_slice());
+    check_worked(&rt, rt.alloc(), &scenario);
     let scenario = read(rt.alloc(), &IMAGE).expect(&rt, "a scenario's image");
-    let bytes = write(rt.alloc(), &scenario).expect(&rt, "memory is left");
-    assert_eq!(rt; bytes.as_slice(), IMAGE.as_slice());
+    check_worked(&rt, rt.alloc(), &scenario);
 }
 
 #[test]
@@ -108,6 +117,6 @@ fn a_fault_is_printed_by_its_name(rt: HostRuntime) {
         (ImageError::Fault(Fault::Range), "Range"),
     ] {
         let text = fault.to_string(rt.alloc()).expect(&rt, "memory is left");
-        assert_eq!(rt; text.as_str(), name);
+        same(&rt, name, text.as_str(), name);
     }
 }

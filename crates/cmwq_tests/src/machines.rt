@@ -1,16 +1,18 @@
 //! Machines by single instructions: what no text shows.
+use crate::checking::same;
 use crate::examples::MAX_ACTIVE_3;
 use cmwq_asm::assemble;
 use cmwq_plain::Plain;
 use cmwq_table::{LoadError, Machine};
 use cmwq_types::{Event, Fault, Instr, QueueId, Reply, Scenario, WorkId};
-use std::alloc::{AllocError, Global};
+use std::alloc::Global;
 use std::process::Abort;
 
 const B: WorkId = WorkId(1);
 
 /// Works `a` and `b`, each of which burns once, on a queue of `max_active` 1.
-const TWO_WORKS: &[u8] = b"cpus 1\nworkers 4\nsteps 1000\nflushes 2\nqueue q max 1\nwork a q\nwork b q\n\
+const TWO_WORKS: &[u8] =
+    b"cpus 1\nworkers 4\nsteps 1000\nflushes 2\nqueue q max 1\nwork a q\nwork b q\n\
     body a\nburn 1\nfinish\nbody b\nburn 1\nfinish\nactor t\n";
 
 /// Three works on a freezable queue of `max_active` 2.
@@ -32,7 +34,7 @@ fn loaded<M: Machine>(rt: &impl Abort, alloc: Global, text: &[u8]) -> M {
 fn exec_all<M: Machine>(rt: &impl Abort, machine: &mut M, rows: &[(Instr, Reply)]) {
     for (instr, want) in rows {
         let reply = machine.exec(*instr);
-        assert_eq!(rt; reply, *want, "{instr:?}");
+        same(rt, *instr, reply, *want);
     }
 }
 
@@ -47,82 +49,129 @@ fn a_copy_goes_on_alone(rt: HostRuntime) {
     exec_all(&rt, &mut machine, &[cancelled]);
 }
 
-/// A text, two instructions, and what a look then shows: whether the machine is frozen, the first queue's
-/// `max_active`, and how many works are pending and flushes were given.
-type Looked = (&'static [u8], [Instr; 2], bool, u16, usize, usize);
+/// Two instructions at a scenario's start, and what a look then shows.
+#[derive(Clone, Copy)]
+struct Looked {
+    /// The scenario's text.
+    text: &'static [u8],
+    /// The instructions.
+    instrs: [Instr; 2],
+    /// Whether the machine is frozen.
+    frozen: bool,
+    /// The first queue's `max_active`.
+    max: u16,
+    /// How many works are pending.
+    pending: usize,
+    /// How many flushes were given.
+    flushes: usize,
+}
 
 const LOOKED: [Looked; 2] = [
-    (
-        TWO_WORKS,
-        [Instr::Delay(B, 0, 3), Instr::FlushQueue(QueueId(0))],
-        false,
-        1,
-        1,
-        1,
-    ),
-    (
-        FREEZABLE,
-        [Instr::SetMax(QueueId(0), 512), Instr::Freeze],
-        true,
-        512,
-        0,
-        0,
-    ),
+    Looked {
+        text: TWO_WORKS,
+        instrs: [Instr::Delay(B, 0, 3), Instr::FlushQueue(QueueId(0))],
+        frozen: false,
+        max: 1,
+        pending: 1,
+        flushes: 1,
+    },
+    Looked {
+        text: FREEZABLE,
+        instrs: [Instr::SetMax(QueueId(0), 512), Instr::Freeze],
+        frozen: true,
+        max: 512,
+        pending: 0,
+        flushes: 0,
+    },
 ];
+
+/// Compares what a look at the machine shows.
+fn check_look<M: Machine>(rt: &impl Abort, machine: &M, row: &Looked) {
+    let view = machine.look().expect(rt, "memory is left");
+    let limits = (view.frozen, view.max.first().copied());
+    same(rt, row.instrs, limits, (row.frozen, Some(row.max)));
+    let counts = (view.pending.len(), view.flushes.len());
+    same(rt, row.instrs, counts, (row.pending, row.flushes));
+}
 
 #[test]
 fn a_look_shows_the_state(rt: HostRuntime) {
-    for (text, [first, second], frozen, max, pending, flushes) in LOOKED {
-        let mut machine: Plain = loaded(&rt, rt.alloc(), text);
-        machine.exec(first);
-        machine.exec(second);
-        let view = machine.look().expect(&rt, "memory is left");
-        let seen = (view.frozen, view.max.first().copied());
-        assert_eq!(rt; seen, (frozen, Some(max)));
-        let counts = (view.pending.len(), view.flushes.len());
-        assert_eq!(rt; counts, (pending, flushes));
+    for row in LOOKED {
+        let mut machine: Plain = loaded(&rt, rt.alloc(), row.text);
+        for instr in row.instrs {
+            machine.exec(instr);
+        }
+        check_look(&rt, &machine, &row);
     }
+}
+
+/// Appends a number between two words.
+fn push_number(
+    rt: &impl Abort,
+    alloc: Global,
+    text: &mut String,
+    before: &str,
+    number: u16,
+    behind: &str,
+) {
+    let words = format!(in alloc; "{before}{number}{behind}").expect(rt, "memory is left");
+    text.push_str(words.as_str()).expect(rt, "memory is left");
+}
+
+/// Appends a body of 64 operations.
+fn push_body(rt: &impl Abort, alloc: Global, text: &mut String, w: u16) {
+    push_number(rt, alloc, text, "body w", w, "\n");
+    for _ in 0..63 {
+        push_number(rt, alloc, text, "burn ", 1, "\n");
+    }
+    text.push_str("finish\n").expect(rt, "memory is left");
 }
 
 /// A text with 16 CPUs, 64 workers a pool, 32 queues, and 256 works of 64 operations.
-fn largest(alloc: Global) -> Result<String, AllocError> {
-    let mut text = String::from_str(alloc, "cpus 16\nworkers 64\nsteps 1000\nflushes 2\n")?;
-    for q in 0..32u8 {
-        text.push_str(format!(in alloc; "queue q{q} max 512\n")?.as_str())?;
+fn largest(rt: &impl Abort, alloc: Global) -> String {
+    let head = "cpus 16\nworkers 64\nsteps 1000\nflushes 2\n";
+    let mut text = String::from_str(alloc, head).expect(rt, "memory is left");
+    for q in 0..32u16 {
+        push_number(rt, alloc, &mut text, "queue q", q, " max 512\n");
     }
     for w in 0..256u16 {
-        let q = w % 32;
-        text.push_str(format!(in alloc; "work w{w} q{q}\n")?.as_str())?;
+        push_number(rt, alloc, &mut text, "work w", w, " q");
+        push_number(rt, alloc, &mut text, "", w % 32, "\n");
     }
     for w in 0..256u16 {
-        text.push_str(format!(in alloc; "body w{w}\n")?.as_str())?;
-        for _ in 0..63 {
-            text.push_str("burn 1\n")?;
-        }
-        text.push_str("finish\n")?;
+        push_body(rt, alloc, &mut text, w);
     }
-    text.push_str("actor t\n")?;
-    Ok(text)
+    text.push_str("actor t\n").expect(rt, "memory is left");
+    text
 }
 
-#[test]
-fn the_largest_scenario_runs(rt: HostRuntime) {
-    let text = largest(rt.alloc()).expect(&rt, "memory is left");
-    let mut machine: Plain = loaded(&rt, rt.alloc(), text.as_bytes());
+/// Queues each work, on the CPUs in turn.
+fn queue_all<M: Machine>(rt: &impl Abort, machine: &mut M) {
     for w in 0..256u16 {
         let reply = machine.exec(Instr::Queue(WorkId(w), (w % 16) as u8));
-        assert_eq!(rt; reply, Reply::Queued, "work {w}");
+        same(rt, w, reply, Reply::Queued);
     }
-    // Each CPU starts the first of its sixteen works, and the others wait for it.
+}
+
+/// Each CPU starts the first of its sixteen works, and the others wait for it.
+fn start_first<M: Machine>(rt: &impl Abort, machine: &mut M) {
     for w in 0..16u16 {
         let work = WorkId(w);
         for event in [Event::Starts, Event::Burns(1)] {
             let reply = machine.exec(Instr::Next);
-            assert_eq!(rt; reply, Reply::Event { work, event }, "work {w}");
+            same(rt, w, reply, Reply::Event { work, event });
         }
     }
+}
+
+#[test]
+fn the_largest_scenario_runs(rt: HostRuntime) {
+    let text = largest(&rt, rt.alloc());
+    let mut machine: Plain = loaded(&rt, rt.alloc(), text.as_bytes());
+    queue_all(&rt, &mut machine);
+    start_first(&rt, &mut machine);
     exec_all(&rt, &mut machine, &[(Instr::Next, Reply::Done)]);
-    assert_eq!(rt; machine.now(), 1);
+    same(&rt, "the time", machine.now(), 1);
 }
 
 #[test]
@@ -130,5 +179,5 @@ fn a_scenario_with_a_fault_is_not_loaded(rt: HostRuntime) {
     let mut scenario = scenario(&rt, rt.alloc(), MAX_ACTIVE_3.text);
     scenario.cpus = 17;
     let fault = Plain::load(rt.alloc(), &scenario).err();
-    assert_eq!(rt; fault, Some(LoadError::Fault(Fault::Range)));
+    same(&rt, "17 CPUs", fault, Some(LoadError::Fault(Fault::Range)));
 }

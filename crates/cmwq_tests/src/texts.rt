@@ -1,4 +1,5 @@
 //! Texts and their first faults, worked out by hand from the rules of texts, never from a run.
+use crate::checking::same;
 use crate::examples::STEPS_RUN_OUT;
 use cmwq_asm::{AsmError, assemble};
 use cmwq_grammar::Why;
@@ -26,7 +27,7 @@ fn first_fault(rt: &impl Abort, alloc: Global, text: &[u8]) -> Option<(u32, Why)
 fn check_faults(rt: &impl Abort, alloc: Global, rows: &[Faulty]) {
     for (text, line, why) in rows {
         let fault = first_fault(rt, alloc, text);
-        assert_eq!(rt; fault, Some((*line, *why)), "{text:?}");
+        same(rt, *text, fault, Some((*line, *why)));
     }
 }
 
@@ -36,7 +37,7 @@ fn check_behind(rt: &impl Abort, alloc: Global, first: &[u8], rows: &[Judged]) {
         let mut text = Vec::from_slice(alloc, first).expect(rt, "memory is left");
         text.extend_from_slice(last).expect(rt, "memory is left");
         let fault = first_fault(rt, alloc, &text);
-        assert_eq!(rt; fault, *want, "{last:?}");
+        same(rt, *last, fault, *want);
     }
 }
 
@@ -51,7 +52,6 @@ const ENDS_TOO_EARLY: [Faulty; 5] = [
         Why::MissingWord,
     ),
 ];
-
 
 const BAD_WORDS: [Faulty; 10] = [
     (b"# \xff\ncpus 1\n", 1, Why::BadUtf8),
@@ -81,7 +81,6 @@ const BAD_WORDS: [Faulty; 10] = [
         Why::ExtraWord,
     ),
 ];
-
 
 const FAULTS: [Faulty; 12] = [
     (b"workers 1\n", 1, Why::Misplaced),
@@ -138,7 +137,6 @@ const FAULTS: [Faulty; 12] = [
     ),
 ];
 
-
 const TOO_MANY: [Faulty; 2] = [
     // The 17th actor.
     (
@@ -163,7 +161,6 @@ const TOO_MANY: [Faulty; 2] = [
     ),
 ];
 
-
 #[test]
 fn a_faulty_text_has_its_first_fault(rt: HostRuntime) {
     check_faults(&rt, rt.alloc(), &ENDS_TOO_EARLY);
@@ -173,7 +170,6 @@ fn a_faulty_text_has_its_first_fault(rt: HostRuntime) {
 }
 
 const RANGE: Why = Why::Fault(Fault::Range);
-
 
 const LIMITS: [Judged; 9] = [
     (
@@ -199,11 +195,9 @@ const LIMITS: [Judged; 9] = [
     ),
 ];
 
-
 /// Nine lines: a head, two queues, and two works of which the first one's body is open.
 const OPEN_BODY: &[u8] = b"cpus 1\nworkers 1\nsteps 8\nflushes 0\n\
     queue q max 1\nqueue r max 1\nwork a q\nwork b r\nbody a\n";
-
 
 const IN_A_BODY: [Judged; 8] = [
     (b"burn 1000000\nfinish\nbody b\nfinish\n", None),
@@ -222,7 +216,6 @@ const IN_A_BODY: [Judged; 8] = [
     (b"finish\nactor t\n", Some((11, Why::Misplaced))),
 ];
 
-
 /// Thirty-six lines: a head and thirty-two queues.
 const QUEUES: &[u8] = b"cpus 1\nworkers 1\nsteps 8\nflushes 0\n\
     queue a max 1\nqueue b max 1\nqueue c max 1\nqueue d max 1\n\
@@ -235,7 +228,6 @@ const QUEUES: &[u8] = b"cpus 1\nworkers 1\nsteps 8\nflushes 0\n\
     queue ac max 1\nqueue ad max 1\nqueue ae max 1\nqueue af max 1\n\
     ";
 
-
 const BEHIND_QUEUES: [Judged; 5] = [
     (b"work a af\n", Some((38, Why::MissingWord))),
     (b"queue z9 max 1\n", Some((37, Why::Fault(Fault::TooMany)))),
@@ -244,13 +236,11 @@ const BEHIND_QUEUES: [Judged; 5] = [
     (b"body a\n", Some((37, Why::Misplaced))),
 ];
 
-
 /// Twenty lines: a head and sixteen actors.
 const ACTORS: &[u8] = b"cpus 1\nworkers 1\nsteps 8\nflushes 0\n\
     actor a\nactor b\nactor c\nactor d\nactor e\nactor f\nactor g\nactor h\n\
     actor i\nactor j\nactor k\nactor l\nactor m\nactor n\nactor o\nactor p\n\
     ";
-
 
 const BEHIND_ACTORS: [Judged; 6] = [
     (b"tick * 65535\n", None),
@@ -260,7 +250,6 @@ const BEHIND_ACTORS: [Judged; 6] = [
     (b"actor q x\n", Some((21, Why::ExtraWord))),
     (b"actor p x\n", Some((21, Why::Fault(Fault::Duplicate)))),
 ];
-
 
 #[test]
 fn each_limit_has_two_sides_and_the_first_of_two_faults_is_told(rt: HostRuntime) {
@@ -302,13 +291,12 @@ const CUTS: [Option<(u32, Why)>; 14] = [
     None,
 ];
 
-
 #[test]
 fn a_cut_listing_ends_well_or_not(rt: HostRuntime) {
     for (lines, want) in CUTS.iter().enumerate() {
         let text = cut_after(STEPS_RUN_OUT.text, lines);
         let fault = first_fault(&rt, rt.alloc(), text);
-        assert_eq!(rt; fault, *want, "{lines} lines");
+        same(&rt, lines, fault, *want);
     }
 }
 
@@ -316,19 +304,21 @@ fn a_cut_listing_ends_well_or_not(rt: HostRuntime) {
 const FREE: &[u8] = b"# a head\r\n\tcpus\t1\r\nworkers 1 # one\r\n\r\nsteps   8 \r\nflushes 0#\n\
     queue q max 1 ordered freezable cpu_intensive unbound highpri\nactor t\ntick * 1";
 
-
 /// The same as it is listed.
 const PLAIN: &[u8] = b"cpus 1\nworkers 1\nsteps 8\nflushes 0\n\
     queue q max 1 highpri unbound cpu_intensive freezable ordered\nactor t\ntick\n";
 
+/// Compares the listing of the text's scenario.
+fn check_listing(rt: &impl Abort, alloc: Global, text: &[u8], want: &[u8]) {
+    let scenario = assemble(alloc, text).expect(rt, "a scenario's text");
+    let listing = list(alloc, &scenario).expect(rt, "memory is left");
+    same(rt, text, listing.as_slice(), want);
+}
 
 #[test]
 fn a_text_is_listed(rt: HostRuntime) {
-    for (text, want) in [(STEPS_RUN_OUT.text, STEPS_RUN_OUT.text), (FREE, PLAIN)] {
-        let scenario = assemble(rt.alloc(), text).expect(&rt, "a scenario's text");
-        let listing = list(rt.alloc(), &scenario).expect(&rt, "memory is left");
-        assert_eq!(rt; listing.as_slice(), want);
-    }
+    check_listing(&rt, rt.alloc(), STEPS_RUN_OUT.text, STEPS_RUN_OUT.text);
+    check_listing(&rt, rt.alloc(), FREE, PLAIN);
 }
 
 #[test]
@@ -336,9 +326,9 @@ fn a_text_is_too_long_whatever_is_in_it(rt: HostRuntime) {
     for (byte, line, why) in [(b'#', 2, Why::MissingWord), (0xff, 1, Why::BadUtf8)] {
         let text = vec![in rt.alloc(); byte; 4_194_305].expect(&rt, "memory is left");
         let fault = first_fault(&rt, rt.alloc(), &text);
-        assert_eq!(rt; fault, Some((0, Why::TooLong)));
+        same(&rt, byte, fault, Some((0, Why::TooLong)));
         let fault = first_fault(&rt, rt.alloc(), &text[1..]);
-        assert_eq!(rt; fault, Some((line, why)));
+        same(&rt, byte, fault, Some((line, why)));
     }
 }
 
@@ -347,7 +337,8 @@ fn actor_of(rt: &impl Abort, alloc: Global, lines: usize) -> Vec<u8> {
     let head = b"cpus 1\nworkers 1\nsteps 8\nflushes 0\nactor t\n";
     let mut text = Vec::from_slice(alloc, head).expect(rt, "memory is left");
     for _ in 0..lines {
-        text.extend_from_slice(b"tick\n").expect(rt, "memory is left");
+        text.extend_from_slice(b"tick\n")
+            .expect(rt, "memory is left");
     }
     text
 }
@@ -357,6 +348,6 @@ fn an_actor_has_4096_lines(rt: HostRuntime) {
     let too_many = (4102, Why::Fault(Fault::TooMany));
     for (lines, want) in [(4096, None), (4097, Some(too_many))] {
         let text = actor_of(&rt, rt.alloc(), lines);
-        assert_eq!(rt; first_fault(&rt, rt.alloc(), &text), want, "{lines} lines");
+        same(&rt, lines, first_fault(&rt, rt.alloc(), &text), want);
     }
 }

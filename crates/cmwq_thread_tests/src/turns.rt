@@ -1,7 +1,7 @@
 //! What no clause says of the lock: that its calls succeed, for one thread and for two, and what a refused allocation leaves.
 ghost use Rattle.std.specs.Prelude.{◌≡◌, ◌<◌, ◌≤◌, ◌^◌, [], length, vec_capacity, IfOk};
 ghost use Rattle.std.proofs.Common.{lit≤};
-ghost use Rattle.cmwq_lock.specs.Tokens.{IsPassOf};
+ghost use Rattle.cmwq_lock.specs.Tokens.{IsDrawnOf, IsOpenerOf, IsPassOf};
 
 use cmwq_lock::{
     Call, Drawn, Kept, NoMemory, NotDrawn, NotYet, Opener, Pass, StillOut, TicketLock, TooMany,
@@ -65,58 +65,133 @@ fn empty(alloc: Global) -> Result<Pairs, NoMemory>
     Ok(Pairs { pairs })
 }
 
+/// A new lock, and its first two passes.
+fn with_two_passes(
+    rt: &impl Abort,
+    alloc: Global,
+) -> (TicketLock<Pairs>, Opener<Pairs>, Pass<Pairs>, Pass<Pairs>)
+    ensures opener { IsOpenerOf ⟦<Pairs as Kept>⟧ result.0 result.1 }
+    ensures first { IsPassOf ⟦<Pairs as Kept>⟧ result.0 result.2 }
+    ensures second { IsPassOf ⟦<Pairs as Kept>⟧ result.0 result.3 }
+{
+    let pairs = empty(alloc).expect(rt, "memory is left");
+    let (lock, mut opener) = TicketLock::open(alloc, pairs).expect(rt, "memory is left");
+    let first = lock.pass(&mut opener).expect(rt, "no pass is out");
+    let second = lock.pass(&mut opener).expect(rt, "one pass is out");
+    (lock, opener, first, second)
+}
+
+/// Draws a ticket, where no other thread draws.
+fn drawn_by(rt: &impl Abort, lock: &TicketLock<Pairs>, pass: Pass<Pairs>) -> Drawn<Pairs>
+    requires { IsPassOf ⟦<Pairs as Kept>⟧ lock.now pass }
+    ensures { IsDrawnOf ⟦<Pairs as Kept>⟧ lock.now result }
+{
+    match lock.draw(pass) {
+        Ok(drawn) => drawn,
+        Err(_) => panic!(rt; "one thread's draws all win"),
+    }
+}
+
+/// Takes the turn of this ticket, after which the log has this length.
+fn taken(
+    rt: &impl Abort,
+    lock: &TicketLock<Pairs>,
+    drawn: Drawn<Pairs>,
+    want: (u64, usize),
+) -> Pass<Pairs>
+    requires { IsDrawnOf ⟦<Pairs as Kept>⟧ lock.now drawn }
+    ensures { IsPassOf ⟦<Pairs as Kept>⟧ lock.now result }
+{
+    match lock.try_take(drawn, Enter) {
+        Ok((pass, ticket, length)) => {
+            assert_eq!(rt; (ticket, length), want);
+            pass
+        }
+        Err(_not_yet) => panic!(rt; "its turn has come"),
+    }
+}
+
+/// The turn of this ticket hasn't come: that of the other number has.
+fn not_yet_taken(
+    rt: &impl Abort,
+    lock: &TicketLock<Pairs>,
+    drawn: Drawn<Pairs>,
+    want: (u64, u64),
+) -> Drawn<Pairs>
+    requires { IsDrawnOf ⟦<Pairs as Kept>⟧ lock.now drawn }
+    ensures { IsDrawnOf ⟦<Pairs as Kept>⟧ lock.now result }
+{
+    match lock.try_take(drawn, Enter) {
+        Ok(_) => panic!(rt; "another ticket comes first"),
+        Err(
+            NotYet {
+                drawn,
+                ticket,
+                served,
+                call: Enter,
+            },
+        ) => {
+            assert_eq!(rt; (ticket, served), want);
+            drawn
+        }
+    }
+}
+
+/// The lock can't be closed while this many passes are out, and comes back.
+fn not_closed(
+    rt: &impl Abort,
+    lock: TicketLock<Pairs>,
+    opener: Opener<Pairs>,
+    want: u32,
+) -> (TicketLock<Pairs>, Opener<Pairs>)
+    requires { IsOpenerOf ⟦<Pairs as Kept>⟧ lock opener }
+    ensures lock { result.0 ≡ lock }
+    ensures opener { result.1 ≡ opener }
+{
+    match lock.close(opener) {
+        Ok(_) => panic!(rt; "passes are out"),
+        Err(StillOut { lock, opener, left }) => {
+            assert_eq!(rt; left, want);
+            (lock, opener)
+        }
+    }
+}
+
+/// Retires both passes, and closes the lock.
+fn closed(
+    rt: &impl Abort,
+    lock: TicketLock<Pairs>,
+    opener: Opener<Pairs>,
+    first: Pass<Pairs>,
+    second: Pass<Pairs>,
+) -> Pairs
+    requires opener { IsOpenerOf ⟦<Pairs as Kept>⟧ lock opener }
+    requires first { IsPassOf ⟦<Pairs as Kept>⟧ lock first }
+    requires second { IsPassOf ⟦<Pairs as Kept>⟧ lock second }
+{
+    let mut opener = opener;
+    lock.retire(&mut opener, first);
+    lock.retire(&mut opener, second);
+    match lock.close(opener) {
+        Ok(kept) => kept,
+        Err(_) => panic!(rt; "no pass is out"),
+    }
+}
+
 #[test]
-fn two_callers_take_their_turns_in_the_order_of_their_tickets(rt: HostRuntime) -> Result<(), Fail> {
-    let (lock, mut opener) = TicketLock::open(rt.alloc(), empty(rt.alloc())?)?;
-    let p0 = lock.pass(&mut opener)?;
-    let p1 = lock.pass(&mut opener)?;
-    let Ok(d0) = lock.draw(p0) else {
-        panic!(rt; "one thread's draws all win")
-    };
-    let Ok(d1) = lock.draw(p1) else {
-        panic!(rt; "one thread's draws all win")
-    };
-    let NotYet {
-        drawn: d1,
-        ticket,
-        served,
-        call: Enter,
-    } = match lock.try_take(d1, Enter) {
-        Ok(_) => panic!(rt; "ticket 0 comes first"),
-        Err(not_yet) => not_yet,
-    };
-    assert_eq!(rt; (ticket, served), (1, 0));
-    let (p0, ticket, length) = match lock.try_take(d0, Enter) {
-        Ok(taken) => taken,
-        Err(_not_yet) => panic!(rt; "its turn has come"),
-    };
-    assert_eq!(rt; (ticket, length), (0, 1));
-    let (p1, ticket, length) = match lock.try_take(d1, Enter) {
-        Ok(taken) => taken,
-        Err(_not_yet) => panic!(rt; "its turn has come"),
-    };
-    assert_eq!(rt; (ticket, length), (1, 2));
-    let Ok(d1) = lock.draw(p1) else {
-        panic!(rt; "one thread's draws all win")
-    };
+fn two_callers_take_their_turns_in_the_order_of_their_tickets(rt: HostRuntime) {
+    let (lock, opener, p0, p1) = with_two_passes(&rt, rt.alloc());
+    let d0 = drawn_by(&rt, &lock, p0);
+    let d1 = drawn_by(&rt, &lock, p1);
+    let d1 = not_yet_taken(&rt, &lock, d1, (1, 0));
+    let p0 = taken(&rt, &lock, d0, (0, 1));
+    let p1 = taken(&rt, &lock, d1, (1, 2));
+    let d1 = drawn_by(&rt, &lock, p1);
     let (p1, ticket, length) = lock.take(&rt, d1, Enter);
     assert_eq!(rt; (ticket, length), (2, 3));
-    let StillOut {
-        lock,
-        mut opener,
-        left,
-    } = match lock.close(opener) {
-        Ok(_) => panic!(rt; "two passes are out"),
-        Err(still_out) => still_out,
-    };
-    assert_eq!(rt; left, 2);
-    lock.retire(&mut opener, p0);
-    lock.retire(&mut opener, p1);
-    let Ok(kept) = lock.close(opener) else {
-        panic!(rt; "no pass is out")
-    };
+    let (lock, opener) = not_closed(&rt, lock, opener, 2);
+    let kept = closed(&rt, lock, opener, p0, p1);
     assert_eq!(rt; kept.pairs.as_slice(), [(0, 0), (1, 1), (2, 1)].as_slice());
-    Ok(())
 }
 
 // Three turns of one caller, which draws again where another was faster.
@@ -164,50 +239,39 @@ fn both<R: Threads + Wait + Sync>(
     )
 }
 
-#[test]
-fn two_threads_take_three_turns_each(rt: HostRuntime) -> Result<(), Fail> {
-    let (lock, mut opener) = TicketLock::open(rt.alloc(), empty(rt.alloc())?)?;
-    let p0 = lock.pass(&mut opener)?;
-    let p1 = lock.pass(&mut opener)?;
-    let (p0, p1) = both(&rt, &lock, p0, p1);
-    lock.retire(&mut opener, p0);
-    lock.retire(&mut opener, p1);
-    let Ok(kept) = lock.close(opener) else {
-        panic!(rt; "no pass is out")
-    };
-    let pairs = kept.pairs.as_slice();
-    assert_eq!(rt; pairs.len(), 6);
+/// The pairs have the tickets 0, 1, .., and this caller this often.
+fn check_pairs(rt: &impl Abort, pairs: &[(u64, u32)], caller: u32, times: usize) {
     for (place, (ticket, _)) in pairs.iter().enumerate() {
         assert_eq!(rt; *ticket, place as u64);
     }
-    assert_eq!(rt; pairs.iter().filter(|pair| pair.1 == 1).count(), 3);
-    Ok(())
+    let its = pairs.iter().filter(|pair| pair.1 == caller).count();
+    assert_eq!(rt; its, times);
 }
 
 #[test]
-fn refuses_a_pass_while_64_are_out(rt: HostRuntime) -> Result<(), Fail> {
-    let (lock, mut opener) = TicketLock::open(rt.alloc(), empty(rt.alloc())?)?;
-    let first = lock.pass(&mut opener)?;
+fn two_threads_take_three_turns_each(rt: HostRuntime) {
+    let (lock, opener, p0, p1) = with_two_passes(&rt, rt.alloc());
+    let (p0, p1) = both(&rt, &lock, p0, p1);
+    let kept = closed(&rt, lock, opener, p0, p1);
+    let pairs = kept.pairs.as_slice();
+    assert_eq!(rt; pairs.len(), 6);
+    check_pairs(&rt, pairs, 1, 3);
+}
+
+#[test]
+fn refuses_a_pass_while_64_are_out(rt: HostRuntime) {
+    let pairs = empty(rt.alloc()).expect(&rt, "memory is left");
+    let (lock, mut opener) = TicketLock::open(rt.alloc(), pairs).expect(&rt, "memory is left");
+    let first = lock.pass(&mut opener).expect(&rt, "no pass is out");
     for _ in 1u64..64 {
-        let _stays_out = lock.pass(&mut opener)?;
+        let _stays_out = lock.pass(&mut opener).expect(&rt, "fewer than 64 are out");
     }
     assert!(rt; lock.pass(&mut opener).is_err());
     lock.retire(&mut opener, first);
-    let last = lock.pass(&mut opener)?;
-    let (_last, _, _) = match lock.draw(last) {
-        Ok(drawn) => lock.take(&rt, drawn, Enter),
-        Err(_) => panic!(rt; "one thread's draws all win"),
-    };
-    let StillOut {
-        lock: _,
-        opener: _,
-        left,
-    } = match lock.close(opener) {
-        Ok(_) => panic!(rt; "64 passes are out"),
-        Err(still_out) => still_out,
-    };
-    assert_eq!(rt; left, 64);
-    Ok(())
+    let last = lock.pass(&mut opener).expect(&rt, "63 passes are out");
+    let drawn = drawn_by(&rt, &lock, last);
+    let (_last, _, _) = lock.take(&rt, drawn, Enter);
+    let (_lock, _opener) = not_closed(&rt, lock, opener, 64);
 }
 
 // It passes with any one allocation refused, and the second call answers as ever.
