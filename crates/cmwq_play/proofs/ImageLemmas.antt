@@ -1,5 +1,5 @@
 -- What was read of an input, as far as an image is read, tells as much as the whole input.
-use Rattle.std.proofs.Common.{◌≡◌, ℕ, ◌<◌, ◌≤◌, ◌⊎◌, inl, inr, List, ◌++◌, length, take, Option, Some, None, IfErr, IfSome, IfOk, Result, Ok, Err, sym, ap, ◌∙◌, arith}
+use Rattle.std.proofs.Common.{◌≡◌, ◌≢◌, ℕ, ◌<◌, ◌≤◌, ◌⊎◌, refl, length-append, inl, inr, List, ◌++◌, length, take, Option, Some, None, IfSome, IfOk, Result, Ok, Err, sym, ap, ◌∙◌, arith}
 use Rattle.std.proofs.Math.Seq.{take-length}
 use Rattle.std.proofs.lemmas.Bool.{cases_lt}
 use Rattle.std.proofs.lemmas.List.{take-append-le}
@@ -8,10 +8,13 @@ use Rattle.cmwq_types.specs.Contents.{ScenarioContents}
 use Rattle.cmwq_types.specs.Faults.{IsValid}
 use Rattle.cmwq_types.specs.declared.limits.TheConstants.{MAX_TEXT}
 use Rattle.cmwq_image.specs.Image.{image}
-use Rattle.cmwq_image.specs.ImageFault.{reading}
+use Rattle.cmwq_image.specs.ImageFault.{Fails, reading}
 use Rattle.cmwq_image.specs.Limits.{IsContents}
+use Rattle.cmwq_image.specs.declared.error.ImageError.{ImageError}
 use Rattle.cmwq_image.specs.declared.error.ImageError.TheVariants as errors
-use Rattle.cmwq_play.specs.Images.{IsImage, TellsImageFault}
+use Rattle.cmwq_play.specs.Commands.{Answers}
+use Rattle.cmwq_play.specs.Images.{IsImage, IsImageFault, told_as}
+use Rattle.cmwq_play.proofs.CommandLemmas.{answers_lifted, answers_outside}
 use Rattle.cmwq_play.specs.declared.error.PlayError.{PlayError}
 use Rattle.cmwq_play.specs.declared.error.PlayError.TheVariants.{Read, Write, Asm, Image, Actors, NoMemory}
 
@@ -34,35 +37,124 @@ text_reads far bytes text rest front whole = decide (cases_lt MAX_TEXT (length t
   decide (inr short) = ap reading (sym (whole short))
 
 -- a fault is told of bytes that read alike
-told_alike : (text bytes : List ℕ) (error : PlayError) → reading text ≡ reading bytes → TellsImageFault text error → TellsImageFault bytes error
-told_alike text bytes (Image errors.NoMemory) same told = told
-told_alike text bytes (Image errors.Magic) same told = sym same ∙ told
-told_alike text bytes (Image errors.Version) same told = sym same ∙ told
-told_alike text bytes (Image errors.Truncated) same told = sym same ∙ told
-told_alike text bytes (Image errors.Extra) same told = sym same ∙ told
-told_alike text bytes (Image (errors.BadField at)) same told = sym same ∙ told
-told_alike text bytes (Image (errors.Fault fault)) same told = sym same ∙ told
-told_alike text bytes (Asm fault) same told = told
-told_alike text bytes Actors same told = told
-told_alike text bytes Read same told = told
-told_alike text bytes Write same told = told
-told_alike text bytes NoMemory same told = told
+told_alike : (text : List ℕ) (input : Option (List ℕ)) (error : PlayError) → IfSome input (λ bytes. reading text ≡ reading bytes) → IsImageFault (Some text) error → IsImageFault input error
+told_alike text (Some bytes) (Image errors.NoMemory) same told = told
+told_alike text (Some bytes) (Image errors.Magic) same told = sym same ∙ told
+told_alike text (Some bytes) (Image errors.Version) same told = sym same ∙ told
+told_alike text (Some bytes) (Image errors.Truncated) same told = sym same ∙ told
+told_alike text (Some bytes) (Image errors.Extra) same told = sym same ∙ told
+told_alike text (Some bytes) (Image (errors.BadField at)) same told = sym same ∙ told
+told_alike text (Some bytes) (Image (errors.Fault fault)) same told = sym same ∙ told
+told_alike text None (Image errors.NoMemory) same told = told
+told_alike text None (Image errors.Magic) same told = tt
+told_alike text None (Image errors.Version) same told = tt
+told_alike text None (Image errors.Truncated) same told = tt
+told_alike text None (Image errors.Extra) same told = tt
+told_alike text None (Image (errors.BadField at)) same told = tt
+told_alike text None (Image (errors.Fault fault)) same told = tt
+told_alike text input (Asm fault) same told = told
+told_alike text input Actors same told = told
+told_alike text input Read same told = told
+told_alike text input Write same told = told
+told_alike text input NoMemory same told = told
 
--- the fault of what was read is the input's
-pub known_fault : {A : Type 0} → FarChangesNothing → (input now : Option (List ℕ)) (text : List ℕ) (r : Result A PlayError) → Consumes input now text
-    → (length text ≤ MAX_TEXT → IfSome input (λ bytes. bytes ≡ text)) → IfErr r (λ error. TellsImageFault text error)
-    → IfSome input (λ bytes. IfErr r (λ error. TellsImageFault bytes error))
-known_fault far (Some bytes) (Some rest) text (Err error) front whole told = told_alike text bytes error (text_reads far bytes text rest front whole) told
-known_fault far (Some bytes) (Some rest) text (Ok x) front whole told = tt
-known_fault far (Some bytes) None text r front whole told = elim front [ ]
-known_fault far None now text r front whole told = tt
+-- what was read of the input says what the input says
+pub image_answers : {A : Type 0} → FarChangesNothing → ImagesAreShort → (input now : Option (List ℕ)) (text : List ℕ) (r : Result A PlayError) → Consumes input now text
+    → (length text ≤ MAX_TEXT → IfSome input (λ bytes. bytes ≡ text)) → Answers IsImage IsImageFault (Some text) r → Answers IsImage IsImageFault input r
+image_answers far short (Some bytes) (Some rest) text r front whole h =
+    let same = text_reads far bytes text rest front whole in
+    answers_lifted IsImage IsImageFault (Some bytes) text r (λ fault told. told_alike text (Some bytes) fault same told)
+    (λ S is. record { contents = is.contents; valid = is.valid; image = sym (whole (omega (arith, short S is.contents is.valid, ap length is.image, ap length front, length-append text rest))) ∙ is.image })
+    (λ fault told. told_alike bytes (Some text) fault (sym same) told) h
+image_answers far short (Some bytes) None text r front whole h = elim front [ ]
+image_answers far short None now text r front whole h = answers_lifted IsImage IsImageFault None text r (λ fault told. told_alike text None fault tt told) tt tt h
 
 -- the image that was read is the input
 pub known_image : {A : Type 0} → ImagesAreShort → (input : Option (List ℕ)) (text : List ℕ) (r : Result A PlayError) (view : A → ScenarioContents)
-    → (length text ≤ MAX_TEXT → IfSome input (λ bytes. bytes ≡ text)) → IfOk r (λ s. IsContents (view s) × IsValid (view s) × (text ≡ image (view s)))
-    → IfOk r (λ s. IsImage input (view s))
-known_image short (Some bytes) text (Ok s) view whole (contents, valid, is) =
-    let few = short (view s) contents valid in
-    record { valid = valid; image = whole (omega (arith, few, ap length is)) ∙ is }
-known_image short None text (Ok s) view whole (contents, valid, is) = record { valid = valid; image = tt }
+    → (length text ≤ MAX_TEXT → IfSome input (λ bytes. bytes ≡ text)) → IfOk r (λ s. IsImage (Some text) (view s)) → IfOk r (λ s. IsImage input (view s))
+known_image short (Some bytes) text (Ok s) view whole is =
+    let few = short (view s) is.contents is.valid in
+    record { contents = is.contents; valid = is.valid; image = whole (omega (arith, few, ap length is.image)) ∙ is.image }
+known_image short None text (Ok s) view whole is = record { contents = is.contents; valid = is.valid; image = tt }
 known_image short input text (Err error) view whole found = tt
+
+-- a fault that the reader tells is what the bytes read as
+fails_is : (fault : ImageError) (r : Result ScenarioContents ImageError) → fault ≢ errors.NoMemory → Fails fault r → r ≡ Err fault
+fails_is errors.NoMemory r other fails = elim (other refl) [ ]
+fails_is errors.Magic r other fails = fails
+fails_is errors.Version r other fails = fails
+fails_is errors.Truncated r other fails = fails
+fails_is errors.Extra r other fails = fails
+fails_is (errors.BadField at) r other fails = fails
+fails_is (errors.Fault fault) r other fails = fails
+
+module _ (bytes : List ℕ) where
+  fault_of : (error : PlayError) → IsImageFault (Some bytes) error → (fault : ImageError) × (error ≡ Image fault) × (reading bytes ≡ Err fault)
+  fault_of (Image errors.NoMemory) told = elim told [ ]
+  fault_of (Image errors.Magic) told = (errors.Magic, refl, told)
+  fault_of (Image errors.Version) told = (errors.Version, refl, told)
+  fault_of (Image errors.Truncated) told = (errors.Truncated, refl, told)
+  fault_of (Image errors.Extra) told = (errors.Extra, refl, told)
+  fault_of (Image (errors.BadField at)) told = (errors.BadField at, refl, told)
+  fault_of (Image (errors.Fault fault)) told = (errors.Fault fault, refl, told)
+  fault_of (Asm fault) told = elim told [ ]
+  fault_of Actors told = elim told [ ]
+  fault_of Read told = elim told [ ]
+  fault_of Write told = elim told [ ]
+  fault_of NoMemory told = elim told [ ]
+
+  is_fault : (fault : ImageError) → fault ≢ errors.NoMemory → reading bytes ≡ Err fault → IsImageFault (Some bytes) (Image fault)
+  is_fault errors.NoMemory other read = elim (other refl) [ ]
+  is_fault errors.Magic other read = read
+  is_fault errors.Version other read = read
+  is_fault errors.Truncated other read = read
+  is_fault errors.Extra other read = read
+  is_fault (errors.BadField at) other read = read
+  is_fault (errors.Fault fault) other read = read
+
+  -- bytes that read as a scenario
+  pub answers_image : {A : Type 0} (x : A) (S : ScenarioContents) → reading bytes ≡ Ok S → Answers IsImage IsImageFault (Some bytes) (Ok x)
+  answers_image x S read = record { told = tt; given = λ T is. tt; tells = λ error told. let found = fault_of error told in let wrong = found.2 in cc }
+
+  -- bytes with a fault
+  pub answers_bad_image : {A : Type 0} (fault : ImageError) → fault ≢ errors.NoMemory → Fails fault (reading bytes) → ((S : ScenarioContents) → IsImage (Some bytes) S → Fails fault (Ok S))
+      → Answers {A = A} IsImage IsImageFault (Some bytes) (Err (Image fault))
+  answers_bad_image fault other fails unread =
+      let read = fails_is fault (reading bytes) other fails in
+      record {
+        told = inl (is_fault fault other read);
+        given = λ S is. let wrong = fails_is fault (Ok S) other (unread S is) in cc;
+        tells = λ error told. let found = fault_of error told in inl (same fault found.0 error read found.2 found.1);
+      } where
+        same : (f g : ImageError) (error : PlayError) → reading bytes ≡ Err f → reading bytes ≡ Err g → error ≡ Image g → Image f ≡ error
+        same f g error first second is = let equal : f ≡ g = cc in ap Image equal ∙ sym is
+
+  -- bytes that the reader refuses
+  pub answers_refused : {A : Type 0} (fault : ImageError) → Fails fault (reading bytes) → ((S : ScenarioContents) → IsImage (Some bytes) S → Fails fault (Ok S))
+      → Answers {A = A} IsImage IsImageFault (Some bytes) (Err (told_as fault))
+  answers_refused errors.NoMemory fails unread = answers_outside IsImage IsImageFault (Some bytes) NoMemory tt
+  answers_refused errors.Magic fails unread = answers_bad_image errors.Magic (λ is. cc) fails unread
+  answers_refused errors.Version fails unread = answers_bad_image errors.Version (λ is. cc) fails unread
+  answers_refused errors.Truncated fails unread = answers_bad_image errors.Truncated (λ is. cc) fails unread
+  answers_refused errors.Extra fails unread = answers_bad_image errors.Extra (λ is. cc) fails unread
+  answers_refused (errors.BadField at) fails unread = answers_bad_image (errors.BadField at) (λ is. cc) fails unread
+  answers_refused (errors.Fault fault) fails unread = answers_bad_image (errors.Fault fault) (λ is. cc) fails unread
+
+-- no refusal is a failed read or write
+pub told_no_read : (fault : ImageError) → told_as fault ≢ Read
+told_no_read errors.NoMemory is = cc
+told_no_read errors.Magic is = cc
+told_no_read errors.Version is = cc
+told_no_read errors.Truncated is = cc
+told_no_read errors.Extra is = cc
+told_no_read (errors.BadField at) is = cc
+told_no_read (errors.Fault fault) is = cc
+
+pub told_no_write : (fault : ImageError) → told_as fault ≢ Write
+told_no_write errors.NoMemory is = cc
+told_no_write errors.Magic is = cc
+told_no_write errors.Version is = cc
+told_no_write errors.Truncated is = cc
+told_no_write errors.Extra is = cc
+told_no_write (errors.BadField at) is = cc
+told_no_write (errors.Fault fault) is = cc

@@ -1,4 +1,6 @@
 pub mod RunLemmas
 pub mod SendingLemmas
+pub mod SessionLemmas
 pub mod TextLemmas
+pub mod CommandLemmas
 pub mod ImageLemmas

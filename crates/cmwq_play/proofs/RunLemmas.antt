@@ -54,8 +54,8 @@ module _ (S : ScenarioContents) (start now : State) (old mid new : Option (List 
       (front_more old new block (events_from S start xs) (events_from S (after_all S start xs) ys) front)
 
 -- one instruction prints its line
-pub events_from-one : (S : ScenarioContents) (s : State) (x : Instr) → events_from S s (x ∷ []) ≡ told S x (table S s x)
-events_from-one S s x = append-nil (told S x (table S s x))
+pub events_from_one : (S : ScenarioContents) (s : State) (x : Instr) → events_from S s (x ∷ []) ≡ told S x (table S s x)
+events_from_one S s x = append-nil (told S x (table S s x))
 
 -- so many of an instruction, and what is left of them
 pub replicate_rest : {A : Type 0} (k n : ℕ) (x : A) → k ≤ n → replicate n x ≡ replicate k x ++ replicate (n - k) x

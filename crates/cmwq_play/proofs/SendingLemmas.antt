@@ -1,6 +1,7 @@
 -- Bytes that go out one part after another.
-use Rattle.std.proofs.Common.{ℕ, List, [], ◌++◌, take, drop, Option, Some, None, sym, ap, ◌∙◌, subst, append_assoc, append-nil, refl}
+use Rattle.std.proofs.Common.{ℕ, ◌≡◌, List, [], ◌++◌, take, drop, IfSome, Option, Some, None, sym, ap, ◌∙◌, subst, append_assoc, append-nil, refl}
 use Rattle.std.proofs.lemmas.List.{take-append-drop}
+use Rattle.std.specs.Fmt.{AppendsText}
 use Rattle.std.specs.Io.KnownBytes.{Appends, Keeps}
 use Rattle.cmwq_play.specs.Sending.{HasSent, HasSentFront, Sends, SendsFront}
 
@@ -62,31 +63,49 @@ pub front_of_rest : (before now after : Option (List ℕ)) (rest lines : List �
 front_of_rest before now after rest lines h a =
     (h.0 ++ [], rest, appends_both before now after h.0 [] h.1 a, ap (λ (front : List ℕ). front ++ rest) (append-nil h.0) ∙ h.2)
 
+joined : (sent more rest left block first second : List ℕ) → sent ++ left ≡ block ++ first → more ++ rest ≡ left ++ second → (sent ++ more) ++ rest ≡ block ++ (first ++ second)
+joined sent more rest left block first second a b =
+    append_assoc sent more rest
+    ∙ ap (λ (l : List ℕ). sent ++ l) b
+    ∙ sym (append_assoc sent left second)
+    ∙ ap (λ (l : List ℕ). l ++ second) a
+    ∙ append_assoc block first second
+
 -- lines sent one after another
 pub sends_then : (old now after : Option (List ℕ)) (block left rest first second : List ℕ) → Sends old block now left first → Sends now left after rest second → Sends old block after rest (first ++ second)
 sends_then old now after block left rest first second a b =
-    λ before earlier h. subst (λ (lines : List ℕ). HasSent before after rest lines) (append_assoc earlier first second) (b before (earlier ++ first) (a before earlier h))
+    (a.0 ++ b.0, appends_both old now after a.0 b.0 a.1 b.1, joined a.0 b.0 rest left block first second a.2 b.2)
 
 -- lines that were sent, and then a front of more
 pub front_then : (old now after : Option (List ℕ)) (block left first second : List ℕ) → Sends old block now left first → SendsFront now left after second → SendsFront old block after (first ++ second)
 front_then old now after block left first second a b =
-    λ before earlier h. subst (λ (lines : List ℕ). HasSentFront before after lines) (append_assoc earlier first second) (b before (earlier ++ first) (a before earlier h))
+    (a.0 ++ b.0, b.1, appends_both old now after a.0 b.0 a.1 b.2, joined a.0 b.0 b.1 left block first second a.2 b.3)
 
 -- a front of lines is a front of more lines
 pub front_more : (old now : Option (List ℕ)) (block lines more : List ℕ) → SendsFront old block now lines → SendsFront old block now (lines ++ more)
-front_more old now block lines more a =
-    λ before earlier h. subst (λ (l : List ℕ). HasSentFront before now l) (append_assoc earlier lines more) (front_of_more before now (earlier ++ lines) more (a before earlier h))
+front_more old now block lines more a = subst (λ (l : List ℕ). HasSentFront old now l) (append_assoc block lines more) (front_of_more old now (block ++ lines) more a)
 
 -- with nothing sent, a front is out
 pub front_none : (old : Option (List ℕ)) (block lines : List ℕ) → SendsFront old block old lines
-front_none old block lines = λ before earlier h. front_of_more before old earlier lines (front_of_sent before old block earlier h)
+front_none old block lines = ([], block ++ lines, appends_none old, refl)
 
 pub sends_none : (old : Option (List ℕ)) (block : List ℕ) → Sends old block old block []
-sends_none old block = λ before earlier h. subst (λ (lines : List ℕ). HasSent before old block lines) (sym (append-nil earlier)) h
+sends_none old block = ([], appends_none old, sym (append-nil block))
 
--- lines sent with nothing before them
-pub sends_all : (old now : Option (List ℕ)) (left lines : List ℕ) → Sends old [] now left lines → HasSent old now left lines
-sends_all old now left lines sends = sends old [] (none_sent old)
+-- with nothing kept back at the end, all of the lines are out
+pub sends_all : (old now : Option (List ℕ)) (lines : List ℕ) → Sends old [] now [] lines → Appends old now lines
+sends_all old now lines h = subst (λ (sent : List ℕ). Appends old now sent) (sym (append-nil h.0) ∙ h.2) h.1
 
-pub sends_front_all : (old now : Option (List ℕ)) (lines : List ℕ) → SendsFront old [] now lines → HasSentFront old now lines
-sends_front_all old now lines sends = sends old [] (none_sent old)
+-- the block is out behind what was sent
+pub block_out : (old now after : Option (List ℕ)) (block left lines : List ℕ) → Sends old block now left lines → HasSent now after [] left → Sends old block after [] lines
+block_out old now after block left lines a b =
+    (a.0 ++ b.0, appends_both old now after a.0 b.0 a.1 b.1, append_assoc a.0 b.0 [] ∙ ap (λ (rest : List ℕ). a.0 ++ rest) b.2 ∙ a.2)
+
+-- or a front of it
+pub block_front : (old now after : Option (List ℕ)) (block left lines : List ℕ) → Sends old block now left lines → HasSentFront now after left → SendsFront old block after lines
+block_front old now after block left lines a b = front_of_block old now after left (block ++ lines) a b
+
+-- a front of the block with a text behind it, where the text is known
+pub front_known : (text : Option (List ℕ)) (old now : Option (List ℕ)) (block more : List ℕ) → AppendsText block more text → HasSentFront old now more → IfSome text (λ bytes. SendsFront old block now bytes)
+front_known (Some bytes) old now block more appended front = subst (λ (lines : List ℕ). HasSentFront old now lines) appended front
+front_known None old now block more appended front = tt

@@ -1,16 +1,18 @@
 -- What the text that was read says is what the input says: it is all of the input, or it is too long, as
 -- the input is then.
-use Rattle.std.proofs.Common.{◌≡◌, ℕ, ◌+◌, ◌<◌, ◌≤◌, ◌⊎◌, inl, inr, List, ◌++◌, length, Option, Some, None, IfSome, sym, ap, ◌∙◌, subst, length-append, arith, IfErr, IfOk, Result, Ok, Err}
+use Rattle.std.proofs.Common.{◌≡◌, ℕ, ◌<◌, ◌≤◌, ◌⊎◌, inl, inr, List, [], ◌∷◌, length, refl, Option, Some, None, IfSome, sym, ap, ◌∙◌, subst, length-append, arith, IfErr, IfOk, Result, Ok, Err}
 use Rattle.std.proofs.Math.Nat.{lt_of_not-le}
 use Rattle.std.specs.Io.KnownBytes.{Consumes}
-use Rattle.cmwq_types.specs.Contents.{ScenarioContents}
+use Rattle.cmwq_types.specs.Contents.{ActorContents, ScenarioContents}
 use Rattle.cmwq_types.specs.declared.limits.TheConstants.{MAX_TEXT}
 use Rattle.cmwq_grammar.specs.FaultLaw.{IsFault}
 use Rattle.cmwq_grammar.specs.Grammar.{Spells}
 use Rattle.cmwq_grammar.specs.Meaning.{FaultAt, fault_at}
 use Rattle.cmwq_asm.specs.declared.fault.AsmError.{AsmError}
 use Rattle.cmwq_asm.specs.declared.fault.AsmError.TheVariants.{At, NoMemory as asm_no_memory}
-use Rattle.cmwq_play.specs.Texts.{IsOutside, IsSpelled, TellsFault}
+use Rattle.cmwq_play.specs.Commands.{Answers, IsOutside}
+use Rattle.cmwq_play.specs.Texts.{IsRun, IsRunFault, IsSpelled, IsTextFault}
+use Rattle.cmwq_play.proofs.CommandLemmas.{answers_lifted, outside_told}
 use Rattle.cmwq_grammar.specs.declared.why.Why.{Why}
 use Rattle.cmwq_play.specs.declared.error.PlayError.{PlayError}
 use Rattle.cmwq_play.specs.declared.error.PlayError.TheVariants.{Read, Write, Asm, Image, Actors, NoMemory}
@@ -58,49 +60,158 @@ module _ (now : Option (List ℕ)) (text : List ℕ) where
       record { valid = spelled.is_text.valid; spelled = spelled_again bytes text (read_within bytes text now front) whole S spelled }
   known_spelled None front whole S spelled = record { valid = spelled.is_text.valid; spelled = tt }
 
+  pub known_all_spelled : {A : Type 0} (view : A → ScenarioContents) (input : Option (List ℕ)) (r : Result A PlayError) → Consumes input now text
+      → (length text ≤ MAX_TEXT → IfSome input (λ bytes. bytes ≡ text)) → IfOk r (λ s. Spells text (view s)) → IfOk r (λ s. IsSpelled input (view s))
+  known_all_spelled view input (Ok s) front whole spelled = known_spelled input front whole (view s) spelled
+  known_all_spelled view input (Err error) front whole spelled = tt
+
   pub when_spelled : (input : Option (List ℕ)) (goal : ScenarioContents → Type 0) → Consumes input now text → (length text ≤ MAX_TEXT → IfSome input (λ bytes. bytes ≡ text))
       → ((S : ScenarioContents) → Spells text S → goal S) → IfSome input (λ bytes. (S : ScenarioContents) → Spells bytes S → goal S)
   when_spelled (Some bytes) goal front whole then =
       λ S spelled. then S (spelled_before bytes text (read_within bytes text now front) whole S spelled)
   when_spelled None goal front whole then = tt
 
-  pub when_faulty : (input : Option (List ℕ)) (goal : FaultAt → Type 0) → Consumes input now text → (length text ≤ MAX_TEXT → IfSome input (λ bytes. bytes ≡ text))
-      → ((fault : FaultAt) → IsFault text fault → goal fault) → IfSome input (λ bytes. (fault : FaultAt) → IsFault bytes fault → goal fault)
-  when_faulty (Some bytes) goal front whole then =
-      λ fault faulty. then fault (faulty_before bytes text (read_within bytes text now front) whole fault faulty)
-  when_faulty None goal front whole then = tt
+  fault_again : (input : Option (List ℕ)) → Consumes input now text → (length text ≤ MAX_TEXT → IfSome input (λ bytes. bytes ≡ text))
+      → (error : PlayError) → IsTextFault (Some text) error → IsTextFault input error
+  fault_again (Some bytes) front whole (Asm (At line why)) told = faulty_again bytes text (read_within bytes text now front) whole (fault_at line why) told
+  fault_again None front whole (Asm (At line why)) told = tt
+  fault_again input front whole (Asm asm_no_memory) told = elim told [ ]
+  fault_again input front whole (Image fault) told = elim told [ ]
+  fault_again input front whole Read told = elim told [ ]
+  fault_again input front whole Write told = elim told [ ]
+  fault_again input front whole Actors told = elim told [ ]
+  fault_again input front whole NoMemory told = elim told [ ]
 
-  pub known_told : (input : Option (List ℕ)) (error : PlayError) → Consumes input now text → (length text ≤ MAX_TEXT → IfSome input (λ bytes. bytes ≡ text))
-      → TellsFault text error → IfSome input (λ bytes. TellsFault bytes error)
-  known_told (Some bytes) (Asm (At line why)) front whole told =
-      faulty_again bytes text (read_within bytes text now front) whole (fault_at line why) told
-  known_told (Some bytes) (Asm asm_no_memory) front whole told = told
-  known_told (Some bytes) (Image fault) front whole told = elim told [ ]
-  known_told (Some bytes) Read front whole told = told
-  known_told (Some bytes) Write front whole told = told
-  known_told (Some bytes) Actors front whole told = told
-  known_told (Some bytes) NoMemory front whole told = told
-  known_told None error front whole told = tt
+  fault_before : (bytes : List ℕ) → Consumes (Some bytes) now text → (length text ≤ MAX_TEXT → bytes ≡ text)
+      → (error : PlayError) → IsTextFault (Some bytes) error → IsTextFault (Some text) error
+  fault_before bytes front whole (Asm (At line why)) told = faulty_before bytes text (read_within bytes text now front) whole (fault_at line why) told
+  fault_before bytes front whole (Asm asm_no_memory) told = elim told [ ]
+  fault_before bytes front whole (Image fault) told = elim told [ ]
+  fault_before bytes front whole Read told = elim told [ ]
+  fault_before bytes front whole Write told = elim told [ ]
+  fault_before bytes front whole Actors told = elim told [ ]
+  fault_before bytes front whole NoMemory told = elim told [ ]
 
-  pub known_all_told : (A : Type 0) (input : Option (List ℕ)) (r : Result A PlayError) → Consumes input now text → (length text ≤ MAX_TEXT → IfSome input (λ bytes. bytes ≡ text))
-      → IfErr r (λ error. TellsFault text error) → IfSome input (λ bytes. IfErr r (λ error. TellsFault bytes error))
-  known_all_told A (Some bytes) (Err error) front whole told = known_told (Some bytes) error front whole told
-  known_all_told A (Some bytes) (Ok value) front whole told = told
-  known_all_told A None r front whole told = tt
+  -- what was read of the input says what the input says
+  pub text_answers : {A : Type 0} (input : Option (List ℕ)) (r : Result A PlayError) → Consumes input now text → (length text ≤ MAX_TEXT → IfSome input (λ bytes. bytes ≡ text))
+      → Answers IsSpelled IsTextFault (Some text) r → Answers IsSpelled IsTextFault input r
+  text_answers (Some bytes) r front whole h =
+      answers_lifted IsSpelled IsTextFault (Some bytes) text r (fault_again (Some bytes) front whole)
+      (λ S is. record { valid = is.valid; spelled = spelled_before bytes text (read_within bytes text now front) whole S is.spelled })
+      (fault_before bytes front whole) h
+  text_answers None r front whole h = answers_lifted IsSpelled IsTextFault None text r (fault_again None front whole) tt tt h
 
-  pub known_all_spelled : {A : Type 0} (view : A → ScenarioContents) (input : Option (List ℕ)) (r : Result A PlayError) → Consumes input now text
-      → (length text ≤ MAX_TEXT → IfSome input (λ bytes. bytes ≡ text)) → IfOk r (λ s. Spells text (view s)) → IfOk r (λ s. IsSpelled input (view s))
-  known_all_spelled view input (Ok s) front whole spelled = known_spelled input front whole (view s) spelled
-  known_all_spelled view input (Err error) front whole spelled = tt
+-- The assembler's answers as those of a command.
+module _ (text : List ℕ) where
+  no_fault : ((fault : FaultAt) → IsFault text fault → ⊥) → (error : PlayError) → IsTextFault (Some text) error → ⊥
+  no_fault sound (Asm (At line why)) told = sound (fault_at line why) told
+  no_fault sound (Asm asm_no_memory) told = told
+  no_fault sound (Image fault) told = told
+  no_fault sound Read told = told
+  no_fault sound Write told = told
+  no_fault sound Actors told = told
+  no_fault sound NoMemory told = told
 
--- the assembler's fault is told as it is
-pub told_as_it_is : (error : AsmError) (line : ℕ) (why : Why) (fault : FaultAt) → error ≡ At line why
-    → (error ≡ At fault.line fault.why) ⊎ (error ≡ asm_no_memory) → (Asm (At line why) ≡ Asm (At fault.line fault.why)) ⊎ IsOutside (Asm (At line why))
-told_as_it_is error line why fault is (inl told) = inl (ap Asm (sym is ∙ told))
-told_as_it_is error line why fault is (inr outside) = cc
+  -- a text that spells a scenario
+  pub answers_spelled : {A : Type 0} (x : A) → ((fault : FaultAt) → IsFault text fault → ⊥) → Answers IsSpelled IsTextFault (Some text) (Ok x)
+  answers_spelled x sound = record { told = tt; given = λ S is. tt; tells = no_fault sound }
 
--- a text that spells a scenario has no fault
-pub never_faulty : (input : Option (List ℕ)) (goal : FaultAt → Type 0) → IfSome input (λ text. (fault : FaultAt) → IsFault text fault → ⊥)
-    → IfSome input (λ text. (fault : FaultAt) → IsFault text fault → goal fault)
-never_faulty (Some text) goal sound = λ fault faulty. elim (sound fault faulty) [ ]
-never_faulty None goal sound = tt
+  one_fault : (line : ℕ) (why : Why) → ((fault : FaultAt) → IsFault text fault → fault ≡ fault_at line why) → (error : PlayError) → IsTextFault (Some text) error → Asm (At line why) ≡ error
+  one_fault line why one (Asm (At l w)) told = let same = one (fault_at l w) told in ap (λ (f : FaultAt). Asm (At f.line f.why)) (sym same)
+  one_fault line why one (Asm asm_no_memory) told = elim told [ ]
+  one_fault line why one (Image fault) told = elim told [ ]
+  one_fault line why one Read told = elim told [ ]
+  one_fault line why one Write told = elim told [ ]
+  one_fault line why one Actors told = elim told [ ]
+  one_fault line why one NoMemory told = elim told [ ]
+
+  -- a text with a fault
+  pub answers_faulty : {A : Type 0} (line : ℕ) (why : Why) → IsFault text (fault_at line why) → ((S : ScenarioContents) → Spells text S → ⊥)
+      → ((fault : FaultAt) → IsFault text fault → fault ≡ fault_at line why) → Answers {A = A} IsSpelled IsTextFault (Some text) (Err (Asm (At line why)))
+  answers_faulty line why told unspelled one = record {
+    told = inl told;
+    given = λ S is. unspelled S is.spelled;
+    tells = λ fault is. inl (one_fault line why one fault is);
+  }
+
+-- the assembler's fault is the one that the law names
+pub one_told : (error : AsmError) (line : ℕ) (why : Why) (fault : FaultAt) → error ≡ At line why → (error ≡ At fault.line fault.why) ⊎ (error ≡ asm_no_memory) → fault ≡ fault_at line why
+one_told error line why fault is (inl told) =
+    let same : At fault.line fault.why ≡ At line why = sym told ∙ is in
+    let lines : fault.line ≡ line = cc in
+    let reasons : fault.why ≡ why = cc in
+    ap (λ (n : ℕ). fault_at n fault.why) lines ∙ ap (λ (w : Why). fault_at line w) reasons
+one_told error line why fault is (inr outside) = cc
+
+-- A run's answers from those of its text.
+
+run_fault : (input : Option (List ℕ)) (error : PlayError) → IsTextFault input error → IsRunFault input error
+run_fault input (Asm fault) told = told
+run_fault input (Image fault) told = elim told [ ]
+run_fault input Read told = elim told [ ]
+run_fault input Write told = elim told [ ]
+run_fault input Actors told = elim told [ ]
+run_fault input NoMemory told = elim told [ ]
+
+-- the text has a fault, or it couldn't be read
+pub run_err : {A B : Type 0} (input : Option (List ℕ)) (error : PlayError) → Answers {A = A} IsSpelled IsTextFault input (Err error) → Answers {A = B} IsRun IsRunFault input (Err error)
+run_err {A} {B} input error h = whole input h.told h.given h.tells where
+  told_so : (known : Option (List ℕ)) → IsTextFault known error ⊎ IsOutside error → IsRunFault known error ⊎ IsOutside error
+  told_so known (inl fault) = inl (run_fault known error fault)
+  told_so known (inr outside) = inr outside
+
+  run_tells : (bytes : List ℕ) → ((S : ScenarioContents) → IsSpelled (Some bytes) S → IsOutside error) → ((fault : PlayError) → IsTextFault (Some bytes) fault → (error ≡ fault) ⊎ IsOutside error)
+      → (fault : PlayError) → IsRunFault (Some bytes) fault → (error ≡ fault) ⊎ IsOutside error
+  run_tells bytes given tells Actors others = inr (given others.0 others.1)
+  run_tells bytes given tells (Asm fault) told = tells (Asm fault) told
+  run_tells bytes given tells (Image fault) told = elim told [ ]
+  run_tells bytes given tells Read told = elim told [ ]
+  run_tells bytes given tells Write told = elim told [ ]
+  run_tells bytes given tells NoMemory told = elim told [ ]
+
+  whole : (known : Option (List ℕ)) → IsTextFault known error ⊎ IsOutside error → IfSome known (λ bytes. (S : ScenarioContents) → IsSpelled (Some bytes) S → IsOutside error)
+      → IfSome known (λ bytes. (fault : PlayError) → IsTextFault (Some bytes) fault → (error ≡ fault) ⊎ IsOutside error) → Answers {A = B} IsRun IsRunFault known (Err error)
+  whole (Some bytes) told given tells = record { told = told_so (Some bytes) told; given = λ output is. given is.0 is.1; tells = run_tells bytes given tells }
+  whole None told given tells = record { told = told_so None told; given = tt; tells = tt }
+
+alone_one : (S : ScenarioContents) (actor : ActorContents) → S.actors ≡ actor ∷ [] → length S.actors ≡ 1
+alone_one S actor alone = ap length alone
+
+-- The text spells this scenario and no other.
+module _ (S : ScenarioContents) where
+  run_told : (bytes : List ℕ) → ((T : ScenarioContents) → Spells bytes T → S ≡ T) → length S.actors ≡ 1 → ((fault : PlayError) → IsTextFault (Some bytes) fault → ⊥)
+      → (fault : PlayError) → IsRunFault (Some bytes) fault → ⊥
+  run_told bytes only one sound Actors others = others.2 (ap (λ (T : ScenarioContents). length T.actors) (sym (only others.0 others.1.spelled)) ∙ one)
+  run_told bytes only one sound (Asm fault) told = sound (Asm fault) told
+  run_told bytes only one sound (Image fault) told = told
+  run_told bytes only one sound Read told = told
+  run_told bytes only one sound Write told = told
+  run_told bytes only one sound NoMemory told = told
+
+  -- it has one actor, and what follows fails for nothing in the text
+  pub run_ok : {A B : Type 0} (x : A) (input : Option (List ℕ)) (r : Result B PlayError) → length S.actors ≡ 1 → IfErr r (λ error. IsOutside error)
+      → IfSome input (λ text. (T : ScenarioContents) → Spells text T → S ≡ T) → Answers {A = A} IsSpelled IsTextFault input (Ok x) → Answers {A = B} IsRun IsRunFault input r
+  run_ok x (Some bytes) r one outside only h = record {
+    told = outside_told r (IsRunFault (Some bytes)) outside;
+    given = λ output is. outside;
+    tells = λ fault told. elim (run_told bytes only one h.tells fault told) [ ];
+  }
+  run_ok x None r one outside only h = record { told = outside_told r (IsRunFault None) outside; given = tt; tells = tt }
+
+  actors_told : (bytes : List ℕ) → ((fault : PlayError) → IsTextFault (Some bytes) fault → ⊥) → (fault : PlayError) → IsRunFault (Some bytes) fault → Actors ≡ fault
+  actors_told bytes sound Actors others = refl
+  actors_told bytes sound (Asm fault) told = elim (sound (Asm fault) told) [ ]
+  actors_told bytes sound (Image fault) told = elim told [ ]
+  actors_told bytes sound Read told = elim told [ ]
+  actors_told bytes sound Write told = elim told [ ]
+  actors_told bytes sound NoMemory told = elim told [ ]
+
+  -- it hasn't one actor
+  pub run_actors : {A B : Type 0} (x : A) (input : Option (List ℕ)) → (length S.actors ≡ 1 → ⊥) → IsSpelled input S → IfSome input (λ text. (T : ScenarioContents) → Spells text T → S ≡ T)
+      → Answers {A = A} IsSpelled IsTextFault input (Ok x) → Answers {A = B} IsRun IsRunFault input (Err Actors)
+  run_actors x (Some bytes) other found only h = record {
+    told = inl (S, found, other);
+    given = λ output is. other (ap (λ (T : ScenarioContents). length T.actors) (only is.0 is.1.spelled) ∙ alone_one is.0 is.2.0 is.2.1);
+    tells = λ fault told. inl (actors_told bytes h.tells fault told);
+  }
+  run_actors x None other found only h = record { told = inl (S, found, other); given = tt; tells = tt }

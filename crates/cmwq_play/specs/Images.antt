@@ -1,24 +1,42 @@
--- What a command on a scenario's image answers, where the bytes are known.
+-- What the image of an input comes to, and which faults it has.
 use Rattle.std.specs.Prelude.{◌≡◌, ℕ, List, Option, IfSome, Err}
 use Rattle.cmwq_types.specs.Contents.{ScenarioContents}
 use Rattle.cmwq_types.specs.Faults.{IsValid}
+use Rattle.cmwq_types.specs.Listing.{listing}
 use Rattle.cmwq_image.specs.Image.{image}
 use Rattle.cmwq_image.specs.ImageFault.{reading}
-use Rattle.cmwq_image.specs.declared.error.ImageError.TheVariants.{NoMemory as image_no_memory}
+use Rattle.cmwq_image.specs.Limits.{IsContents}
+use Rattle.cmwq_image.specs.declared.error.ImageError.{ImageError}
+use Rattle.cmwq_image.specs.declared.error.ImageError.TheVariants as errors
 use Rattle.cmwq_play.specs.declared.error.PlayError.{PlayError}
 use Rattle.cmwq_play.specs.declared.error.PlayError.TheVariants.{Read, Write, Asm, Image, Actors, NoMemory}
 
 -- The input, where it is known, is the image of this scenario, which is valid.
 pub record IsImage (input : Option (List ℕ)) (S : ScenarioContents) : Type 0 where
+  pub contents : IsContents S
   pub valid : IsValid S
   pub image : IfSome input (λ bytes. bytes ≡ image S)
 
--- the error is the first fault of these bytes, or it says nothing of them
-abbrev pub TellsImageFault : List ℕ → PlayError → Type 0
-TellsImageFault bytes (Image image_no_memory) = ⊥
-TellsImageFault bytes (Image fault) = reading bytes ≡ Err fault
-TellsImageFault bytes (Asm fault) = ⊥
-TellsImageFault bytes Actors = ⊥
-TellsImageFault bytes Read = Unit {0}
-TellsImageFault bytes Write = Unit {0}
-TellsImageFault bytes NoMemory = Unit {0}
+-- the error is the first fault of the image
+abbrev pub IsImageFault : Option (List ℕ) → PlayError → Type 0
+IsImageFault input (Image errors.NoMemory) = ⊥
+IsImageFault input (Image fault) = IfSome input (λ bytes. reading bytes ≡ Err fault)
+IsImageFault input (Asm fault) = ⊥
+IsImageFault input Actors = ⊥
+IsImageFault input Read = ⊥
+IsImageFault input Write = ⊥
+IsImageFault input NoMemory = ⊥
+
+-- the input is a scenario's image, and this is its listing
+abbrev pub IsShown : Option (List ℕ) → List ℕ → Type 0
+IsShown input output = (S : ScenarioContents) × IsImage input S × (output ≡ listing S)
+
+-- how a command tells what the reader of images answers
+abbrev pub told_as : ImageError → PlayError
+told_as errors.NoMemory = NoMemory
+told_as errors.Magic = Image errors.Magic
+told_as errors.Version = Image errors.Version
+told_as errors.Truncated = Image errors.Truncated
+told_as errors.Extra = Image errors.Extra
+told_as (errors.BadField at) = Image (errors.BadField at)
+told_as (errors.Fault fault) = Image (errors.Fault fault)

@@ -1,4 +1,6 @@
+pub mod Commands
 pub mod Images
 pub mod Sending
+pub mod Session
 pub mod Stream
 pub mod Texts

@@ -61,3 +61,18 @@ impl From<NoMemory> for PlayError {
         PlayError::NoMemory
     }
 }
+
+/// A fault of the bytes is told as it is.
+impl From<ImageError> for PlayError {
+    ghost use Rattle.cmwq_play.specs.Images.{told_as};
+    ghost use Rattle.std.specs.Prelude.{◌≡◌};
+
+    ghost from_gives = { λ fault e. e ≡ told_as fault };
+
+    fn from(fault: ImageError) -> PlayError {
+        match fault {
+            ImageError::NoMemory => PlayError::NoMemory,
+            fault => PlayError::Image(fault),
+        }
+    }
+}

@@ -1,25 +1,20 @@
 //! `to_image` and `from_image`: from a scenario's text to its image, and from an image to the listing.
-ghost use Rattle.cmwq_grammar.specs.FaultLaw.{IsFault};
-ghost use Rattle.cmwq_grammar.specs.Grammar.{Spells};
-ghost use Rattle.cmwq_grammar.specs.Meaning.{FaultAt};
 ghost use Rattle.cmwq_image.specs.Image.{image};
-ghost use Rattle.cmwq_image.specs.Limits.{IsContents};
-ghost use Rattle.cmwq_play.specs.Images.{IsImage, TellsImageFault};
-ghost use Rattle.cmwq_play.specs.Sending.{ListsImage, ListsImageFront, WritesImage, WritesImageFront};
-ghost use Rattle.cmwq_play.specs.Texts.{IsOutside, TellsFault};
-ghost use Rattle.cmwq_types.specs.Contents.{ScenarioContents};
+ghost use Rattle.cmwq_play.specs.Commands.{Answers, Reads, Writes};
+ghost use Rattle.cmwq_play.specs.Images.{IsImage, IsImageFault, IsShown};
+ghost use Rattle.cmwq_play.specs.Sending.{IsSendError};
+ghost use Rattle.cmwq_play.specs.Texts.{IsOutput, IsTextFault};
 ghost use Rattle.cmwq_types.specs.Faults.{IsValid};
-ghost use Rattle.cmwq_types.specs.declared.limits.TheConstants.{MAX_TEXT};
 ghost use Rattle.std.specs.Io.KnownBytes.{Keeps};
-ghost use Rattle.std.specs.Prelude.{◌≡◌, ◌≢◌, ◌≤◌, ◌+◌, ◌↔◌, ◌⊎◌, Err, IfErr, IfOk, IfSome, MatchResult, Ok, OnErr, OnOk, false, length, true};
+ghost use Rattle.std.specs.Prelude.{◌≡◌, ◌≢◌, Err, IfErr, IfOk, Some, false};
 
 use crate::error::PlayError;
+use crate::listing::write_listing;
 use crate::reading::{read_text, read_whole};
 use crate::sending::put_all;
 use crate::stream::{Sink, Source};
-use cmwq_asm::{AsmError, list};
 use cmwq_image::laws::{far_bytes_change_no_reading, image_is_at_most_923058_bytes};
-use cmwq_image::{ImageError, read, write};
+use cmwq_image::{read, write};
 use cmwq_types::Scenario;
 use std::alloc::Global;
 
@@ -35,29 +30,24 @@ pub fn to_image<R: Source, W: Sink>(
 ) -> Result<(), PlayError>
     requires reader { R.failed reader.old ≡ false }
     requires writer { W.failed writer.old ≡ false }
-
-    // The bytes read spell a scenario, and its image was written.
-    ensures ok { OnOk result (WritesImage (R.remaining reader.old) (W.contents writer.old) (W.contents writer.new)) }
-
-    // What the text is decides the answer, unless a read or write fails or memory runs out.
-    ensures writes { IfSome (R.remaining reader.old) (λ text. (S : ScenarioContents) → Spells text S
-        → IfErr result (λ error. IsOutside error)) }
-    ensures fault { IfSome (R.remaining reader.old) (λ text. (fault : FaultAt) → IsFault text fault
-        → MatchResult result (λ _. ⊥) (λ error. (error ≡ PlayError.Asm (AsmError.At fault.line fault.why)) ⊎ IsOutside error)) }
-    ensures told { IfSome (R.remaining reader.old) (λ text. IfErr result (λ error. TellsFault text error)) }
-    ensures no_actors { result ≢ Err PlayError.Actors }
-
-    // A failed read or write is told as such, and nothing else is.
-    ensures read { (result ≡ Err PlayError.Read) ↔ (R.failed reader.new ≡ true) }
-    ensures write { (result ≡ Err PlayError.Write) ↔ (W.failed writer.new ≡ true) }
-
-    ensures unwritten { result ≡ Err PlayError.Write → WritesImageFront (R.remaining reader.old) (W.contents writer.old) (W.contents writer.new) }
-    ensures silent { OnErr result (result ≢ Err PlayError.Write → Keeps (W.contents writer.old) (W.contents writer.new)) }
-
-    ensures few { IfSome (R.remaining reader.old) (λ input. IfSome (R.remaining reader.new) (λ left. length input ≤ length left + MAX_TEXT + 1)) }
+    ensures reads { Reads (R.remaining reader.old) (R.remaining reader.new) (R.failed reader.new) result }
+    ensures answers { Answers (IsOutput image) IsTextFault (R.remaining reader.old) result }
+    ensures writes { Writes (IsOutput image (R.remaining reader.old)) (W.contents writer.old) (W.contents writer.new) (W.failed writer.new) result }
+    ensures no_memory { result ≡ Err PlayError.NoMemory → Keeps (W.contents writer.old) (W.contents writer.new) }
 {
     let scenario = read_text(alloc, reader)?;
-    let image = write(alloc, &scenario)?;
+    write_image(alloc, &scenario, writer)
+}
+
+/// Writes the scenario's image.
+fn write_image<W: Sink>(alloc: Global, scenario: &Scenario, writer: &mut W) -> Result<(), PlayError>
+    requires valid { IsValid scenario.now }
+    requires sound { W.failed writer.old ≡ false }
+    ensures writes { Writes (λ output. output ≡ image scenario.now) (W.contents writer.old) (W.contents writer.new) (W.failed writer.new) result }
+    ensures why { IfErr result (λ error. IsSendError error) }
+    ensures no_memory { result ≡ Err PlayError.NoMemory → Keeps (W.contents writer.old) (W.contents writer.new) }
+{
+    let image = write(alloc, scenario)?;
     put_all(writer, &image)
 }
 
@@ -73,33 +63,22 @@ pub fn from_image<R: Source, W: Sink>(
 ) -> Result<(), PlayError>
     requires reader { R.failed reader.old ≡ false }
     requires writer { W.failed writer.old ≡ false }
-
-    // The input is a scenario's image, and its listing was written; else it tells the input's first fault.
-    ensures ok { OnOk result (ListsImage (R.remaining reader.old) (W.contents writer.old) (W.contents writer.new)) }
-    ensures told { IfSome (R.remaining reader.old) (λ bytes. IfErr result (λ error. TellsImageFault bytes error)) }
-
-    // A failed read or write is told as such, and nothing else is.
-    ensures read { (result ≡ Err PlayError.Read) ↔ (R.failed reader.new ≡ true) }
-    ensures write { (result ≡ Err PlayError.Write) ↔ (W.failed writer.new ≡ true) }
-
-    ensures unwritten { result ≡ Err PlayError.Write → ListsImageFront (R.remaining reader.old) (W.contents writer.old) (W.contents writer.new) }
-    ensures silent { OnErr result (result ≢ Err PlayError.Write → Keeps (W.contents writer.old) (W.contents writer.new)) }
-
-    ensures few { IfSome (R.remaining reader.old) (λ input. IfSome (R.remaining reader.new) (λ left. length input ≤ length left + MAX_TEXT + 1)) }
+    ensures reads { Reads (R.remaining reader.old) (R.remaining reader.new) (R.failed reader.new) result }
+    ensures answers { Answers IsShown IsImageFault (R.remaining reader.old) result }
+    ensures writes { Writes (IsShown (R.remaining reader.old)) (W.contents writer.old) (W.contents writer.new) (W.failed writer.new) result }
+    ensures no_memory { result ≡ Err PlayError.NoMemory → Keeps (W.contents writer.old) (W.contents writer.new) }
 {
     let scenario = read_image(alloc, reader)?;
-    let text = list(alloc, &scenario)?;
-    put_all(writer, &text)
+    write_listing(alloc, &scenario, writer)
 }
 
 /// Reads a scenario's image, and gives the scenario.
 fn read_image<R: Source>(alloc: Global, reader: &mut R) -> Result<Scenario, PlayError>
     requires { R.failed reader.old ≡ false }
+    ensures reads { Reads (R.remaining reader.old) (R.remaining reader.new) (R.failed reader.new) result }
+    ensures answers { Answers IsImage IsImageFault (R.remaining reader.old) result }
     ensures found { IfOk result (λ scenario. IsImage (R.remaining reader.old) scenario) }
-    ensures told { IfSome (R.remaining reader.old) (λ bytes. IfErr result (λ error. TellsImageFault bytes error)) }
-    ensures read { (result ≡ Err PlayError.Read) ↔ (R.failed reader.new ≡ true) }
     ensures no_write { result ≢ Err PlayError.Write }
-    ensures few { IfSome (R.remaining reader.old) (λ input. IfSome (R.remaining reader.new) (λ left. length input ≤ length left + MAX_TEXT + 1)) }
 {
     far_bytes_change_no_reading();
     image_is_at_most_923058_bytes();
@@ -109,14 +88,10 @@ fn read_image<R: Source>(alloc: Global, reader: &mut R) -> Result<Scenario, Play
 
 /// The scenario of which the bytes are the image, or their first fault.
 fn imaged(alloc: Global, bytes: &[u8]) -> Result<Scenario, PlayError>
-    ensures found { IfOk result (λ scenario. IsContents scenario × IsValid scenario × (bytes.now ≡ image scenario)) }
-    ensures told { IfErr result (λ error. TellsImageFault bytes.now error) }
+    ensures answers { Answers IsImage IsImageFault (Some bytes.now) result }
+    ensures found { IfOk result (λ scenario. IsImage (Some bytes.now) scenario) }
     ensures no_read { result ≢ Err PlayError.Read }
     ensures no_write { result ≢ Err PlayError.Write }
 {
-    match read(alloc, bytes) {
-        Ok(scenario) => Ok(scenario),
-        Err(ImageError::NoMemory) => Err(PlayError::NoMemory),
-        Err(fault) => Err(PlayError::Image(fault)),
-    }
+    Ok(read(alloc, bytes)?)
 }

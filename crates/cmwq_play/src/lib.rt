@@ -1,15 +1,17 @@
 //! The commands of the program as functions over readers and writers.
 #![tactic(auto)]
 
+mod block_writer;
 mod error;
 mod images;
-mod issuing;
 mod listing;
 mod reading;
 mod running;
 mod sending;
+mod session;
 mod stream;
 
+pub use block_writer::BlockWriter;
 pub use error::PlayError;
 pub use images::{from_image, to_image};
 pub use listing::list_text;

@@ -1,12 +1,11 @@
 //! Reading a whole input, and the scenario that it spells.
-ghost use Rattle.cmwq_grammar.specs.FaultLaw.{IsFault};
 ghost use Rattle.cmwq_grammar.specs.Grammar.{Spells};
-ghost use Rattle.cmwq_grammar.specs.Meaning.{FaultAt};
-ghost use Rattle.cmwq_play.specs.Texts.{IsAboutText, IsOutside, IsSpelled, TellsFault};
+ghost use Rattle.cmwq_play.specs.Commands.{Answers, Reads};
+ghost use Rattle.cmwq_play.specs.Texts.{IsSpelled, IsTextFault};
 ghost use Rattle.cmwq_types.specs.Contents.{ScenarioContents};
 ghost use Rattle.cmwq_types.specs.declared.limits.TheConstants.{MAX_TEXT};
 ghost use Rattle.std.specs.Io.KnownBytes.{Consumes};
-ghost use Rattle.std.specs.Prelude.{◌≡◌, ◌<◌, ◌≤◌, ◌+◌, ◌↔◌, ◌⊎◌, ◌≢◌, Err, IfErr, IfOk, IfSome, MatchResult, false, length, true};
+ghost use Rattle.std.specs.Prelude.{◌≡◌, ◌≤◌, ◌+◌, ◌⊎◌, ◌≢◌, Err, IfErr, IfOk, IfSome, Some, false, length};
 
 use crate::error::PlayError;
 use crate::stream::Source;
@@ -20,18 +19,12 @@ use std::alloc::Global;
 /// is read than the 4,194,304 that a text may have.
 pub fn read_text<R: Source>(alloc: Global, reader: &mut R) -> Result<Scenario, PlayError>
     requires { R.failed reader.old ≡ false }
-
+    ensures reads { Reads (R.remaining reader.old) (R.remaining reader.new) (R.failed reader.new) result }
+    ensures answers { Answers IsSpelled IsTextFault (R.remaining reader.old) result }
+    // The scenario is the one that the text spells.
     ensures found { IfOk result (λ scenario. IsSpelled (R.remaining reader.old) scenario) }
-    ensures spelled { IfSome (R.remaining reader.old) (λ text. (S : ScenarioContents) → Spells text S
-        → MatchResult result (λ scenario. scenario ≡ S) (λ error. IsOutside error)) }
-    ensures told { IfSome (R.remaining reader.old) (λ text. IfErr result (λ error. TellsFault text error)) }
-    ensures fault { IfSome (R.remaining reader.old) (λ text. (fault : FaultAt) → IsFault text fault
-        → MatchResult result (λ _. ⊥) (λ error. (error ≡ PlayError.Asm (AsmError.At fault.line fault.why)) ⊎ IsOutside error)) }
-
-    ensures read { (result ≡ Err PlayError.Read) ↔ (R.failed reader.new ≡ true) }
+    ensures only { IfSome (R.remaining reader.old) (λ text. (S : ScenarioContents) → Spells text S → IfOk result (λ scenario. scenario ≡ S)) }
     ensures no_write { result ≢ Err PlayError.Write }
-    ensures no_actors { result ≢ Err PlayError.Actors }
-    ensures few { IfSome (R.remaining reader.old) (λ input. IfSome (R.remaining reader.new) (λ left. length input ≤ length left + MAX_TEXT + 1)) }
 {
     let text = read_whole(alloc, reader)?;
     assembled(alloc, &text)
@@ -39,12 +32,11 @@ pub fn read_text<R: Source>(alloc: Global, reader: &mut R) -> Result<Scenario, P
 
 /// The scenario that the text spells, or the text's fault.
 fn assembled(alloc: Global, text: &[u8]) -> Result<Scenario, PlayError>
+    ensures answers { Answers IsSpelled IsTextFault (Some text.now) result }
     ensures found { IfOk result (λ scenario. Spells text.now scenario) }
-    ensures spelled { (S : ScenarioContents) → Spells text.now S → MatchResult result (λ scenario. scenario ≡ S) (λ error. IsOutside error) }
-    ensures told { IfErr result (λ error. TellsFault text.now error) }
-    ensures fault { (fault : FaultAt) → IsFault text.now fault
-        → MatchResult result (λ _. ⊥) (λ error. (error ≡ PlayError.Asm (AsmError.At fault.line fault.why)) ⊎ IsOutside error) }
-    ensures other { IfErr result (λ error. IsAboutText error) }
+    ensures only { (S : ScenarioContents) → Spells text.now S → IfOk result (λ scenario. scenario ≡ S) }
+    ensures no_read { result ≢ Err PlayError.Read }
+    ensures no_write { result ≢ Err PlayError.Write }
 {
     match assemble(alloc, text) {
         Ok(scenario) => Ok(scenario),
@@ -59,9 +51,8 @@ pub(crate) fn read_whole<R: Source>(alloc: Global, reader: &mut R) -> Result<Vec
     ensures whole { IfOk result (λ text. length text.items ≤ MAX_TEXT → IfSome (R.remaining reader.old) (λ input. input ≡ text.items)) }
     ensures bounded { IfOk result (λ text. length text.items ≤ MAX_TEXT + 1) }
     ensures front { IfOk result (λ text. Consumes (R.remaining reader.old) (R.remaining reader.new) text.items) }
-    ensures read { (result ≡ Err PlayError.Read) ↔ (R.failed reader.new ≡ true) }
+    ensures reads { Reads (R.remaining reader.old) (R.remaining reader.new) (R.failed reader.new) result }
     ensures other { IfErr result (λ error. (error ≡ PlayError.Read) ⊎ (error ≡ PlayError.NoMemory)) }
-    ensures few { IfSome (R.remaining reader.old) (λ input. IfSome (R.remaining reader.new) (λ left. length input ≤ length left + MAX_TEXT + 1)) }
 {
     let mut text = Vec::new(alloc);
     let mut chunk = [0u8; 4096];

@@ -1,0 +1,95 @@
+-- Instructions that a session issues one part after another.
+use Rattle.std.proofs.Common.{◌≡◌, ℕ, List, [], ◌∷◌, ◌++◌, Bool, Option, Result, ap, sym, ◌∙◌, subst, string_bytes, refl}
+use Rattle.cmwq_types.specs.Contents.{ActorContents, ScenarioContents}
+use Rattle.cmwq_types.specs.Scenario.{expand}
+use Rattle.cmwq_types.specs.declared.instr.Instr.{Instr}
+use Rattle.cmwq_table.specs.Events.{events_from}
+use Rattle.cmwq_table.specs.State.{State, start}
+use Rattle.cmwq_table.specs.Table.{after_all}
+use Rattle.cmwq_play.specs.Sending.{Sends, SendsFront}
+use Rattle.cmwq_play.specs.Session.{IsReady, Issued, Stopped, prints}
+use Rattle.cmwq_play.specs.Commands.{Writes}
+use Rattle.cmwq_play.specs.Texts.{IsPrinted}
+use Rattle.cmwq_play.proofs.CommandLemmas.{writes_more}
+use Rattle.cmwq_play.specs.declared.error.PlayError.{PlayError}
+use Rattle.cmwq_play.specs.declared.session.Session.{Session}
+use Rattle.cmwq_play.proofs.RunLemmas.{after_all-append, events_from-append}
+use Rattle.cmwq_play.proofs.SendingLemmas.{front_more, front_then, sends_none, sends_then}
+
+module _ {M W : Type 0} (loaded : M → ScenarioContents) (state : M → State) (contents : W → Option (List ℕ)) (failed : W → Bool) where
+  -- before any instruction
+  pub issued_none : (a : Session M W) → IsReady loaded state contents failed a → Issued loaded state contents failed a a []
+  issued_none a ready = record {
+    ready = ready;
+    scenario = refl;
+    same = refl;
+    reached = refl;
+    sent = sends_none (contents a.lines.writer.now) (string_bytes a.lines.block);
+  }
+
+  -- what is printed from where a session came to
+  prints_then : (a b : Session M W) (xs ys : List Instr) → Issued loaded state contents failed a b xs → prints loaded state contents failed a (xs ++ ys) ≡ prints loaded state contents failed a xs ++ prints loaded state contents failed b ys
+  prints_then a b xs ys first =
+      let S = a.scenario.now in
+      let start = state a.machine in
+      events_from-append S start xs ys
+      ∙ ap (λ (s : State). events_from S start xs ++ events_from S s ys) (sym first.reached)
+      ∙ ap (λ (T : ScenarioContents). events_from S start xs ++ events_from T (state b.machine) ys) (sym first.scenario)
+
+  pub issued_then : (a b c : Session M W) (xs ys : List Instr) → Issued loaded state contents failed a b xs → Issued loaded state contents failed b c ys → Issued loaded state contents failed a c (xs ++ ys)
+  issued_then a b c xs ys first second =
+      let S = a.scenario.now in
+      let start = state a.machine in
+      let sent = sends_then (contents a.lines.writer.now) (contents b.lines.writer.now) (contents c.lines.writer.now) (string_bytes a.lines.block) (string_bytes b.lines.block) (string_bytes c.lines.block)
+      (prints loaded state contents failed a xs) (prints loaded state contents failed b ys) first.sent second.sent
+      in
+      record {
+        ready = second.ready;
+        scenario = second.scenario ∙ first.scenario;
+        same = second.same ∙ first.same;
+        reached =
+            second.reached
+            ∙ ap (λ (T : ScenarioContents). after_all T (state b.machine) ys) first.scenario
+            ∙ ap (λ (s : State). after_all S s ys) first.reached
+            ∙ sym (after_all-append S start xs ys);
+        sent =
+            subst (λ (lines : List ℕ). Sends (contents a.lines.writer.now) (string_bytes a.lines.block) (contents c.lines.writer.now) (string_bytes c.lines.block) lines)
+            (sym (prints_then a b xs ys first)) sent;
+      }
+
+  -- the writing stopped at the second part
+  pub stopped_then : (a b c : Session M W) (xs ys : List Instr) (error : PlayError) → Issued loaded state contents failed a b xs → Stopped loaded state contents failed b c ys error → Stopped loaded state contents failed a c (xs ++ ys) error
+  stopped_then a b c xs ys error first second =
+      let sent = front_then (contents a.lines.writer.now) (contents b.lines.writer.now) (contents c.lines.writer.now) (string_bytes a.lines.block) (string_bytes b.lines.block)
+      (prints loaded state contents failed a xs) (prints loaded state contents failed b ys) first.sent second.sent
+      in
+      record {
+        same = second.same ∙ first.same;
+        sent =
+            subst (λ (lines : List ℕ). SendsFront (contents a.lines.writer.now) (string_bytes a.lines.block) (contents c.lines.writer.now) lines)
+            (sym (prints_then a b xs ys first)) sent;
+        write = second.write;
+        why = second.why;
+      }
+
+  -- and there were more to come
+  pub stopped_more : (a c : Session M W) (xs more : List Instr) (error : PlayError) → Stopped loaded state contents failed a c xs error → Stopped loaded state contents failed a c (xs ++ more) error
+  stopped_more a c xs more error stopped =
+      let S = a.scenario.now in
+      let start = state a.machine in
+      record {
+        same = stopped.same;
+        sent =
+            subst (λ (lines : List ℕ). SendsFront (contents a.lines.writer.now) (string_bytes a.lines.block) (contents c.lines.writer.now) lines)
+            (sym (events_from-append S start xs more))
+            (front_more (contents a.lines.writer.now) (contents c.lines.writer.now) (string_bytes a.lines.block) (events_from S start xs) (events_from S (after_all S start xs) more) stopped.sent);
+        write = stopped.write;
+        why = stopped.why;
+      }
+
+-- what a session writes from the start on is what the one actor prints
+pub writes_printed : (S : ScenarioContents) (actor : ActorContents) (s : State) (before after : Option (List ℕ)) (failed : Bool) (r : Result (Unit {0}) PlayError) → S.actors ≡ actor ∷ [] → s ≡ start S
+    → Writes (λ output. output ≡ events_from S s (expand actor)) before after failed r → Writes (IsPrinted S) before after failed r
+writes_printed S actor s before after failed r alone begins h =
+    writes_more (λ output. output ≡ events_from S s (expand actor)) (IsPrinted S) before after failed r
+    (λ output is. (actor, alone, is ∙ ap (λ (t : State). events_from S t (expand actor)) begins)) h

@@ -1,0 +1,40 @@
+-- What a session issues and writes.
+use Rattle.std.specs.Prelude.{◌≡◌, ◌↔◌, ℕ, List, Option, Bool, false, true, Result, MatchResult, string_bytes}
+use Rattle.cmwq_types.specs.Contents.{ScenarioContents}
+use Rattle.cmwq_types.specs.declared.instr.Instr.{Instr}
+use Rattle.cmwq_table.specs.Events.{events_from}
+use Rattle.cmwq_table.specs.State.{State}
+use Rattle.cmwq_table.specs.Table.{after_all}
+use Rattle.cmwq_play.specs.Sending.{IsSendError, Sends, SendsFront}
+use Rattle.cmwq_play.specs.declared.error.PlayError.{PlayError}
+use Rattle.cmwq_play.specs.declared.error.PlayError.TheVariants.{Write}
+use Rattle.cmwq_play.specs.declared.session.Session.{Session}
+
+module _ {M W : Type 0} (loaded : M → ScenarioContents) (state : M → State) (contents : W → Option (List ℕ)) (failed : W → Bool) where
+  -- the machine has the scenario, and no write failed yet
+  pub record IsReady (session : Session M W) : Type 0 where
+    pub has_scenario : loaded session.machine ≡ session.scenario.now
+    pub is_sound : failed session.lines.writer.now ≡ false
+
+  -- what these instructions print from here on
+  abbrev pub prints : Session M W → List Instr → List ℕ
+  prints session instrs = events_from session.scenario.now (state session.machine) instrs
+
+  -- these instructions were issued, and what they print was written
+  pub record Issued (old new : Session M W) (instrs : List Instr) : Type 0 where
+    pub ready : IsReady new
+    pub scenario : new.scenario.now ≡ old.scenario.now
+    pub same : new.lines.writer.ghost_name ≡ old.lines.writer.ghost_name
+    pub reached : state new.machine ≡ after_all old.scenario.now (state old.machine) instrs
+    pub sent : Sends (contents old.lines.writer.now) (string_bytes old.lines.block) (contents new.lines.writer.now) (string_bytes new.lines.block) (prints old instrs)
+
+  -- a front of what these instructions print was written
+  pub record Stopped (old new : Session M W) (instrs : List Instr) (error : PlayError) : Type 0 where
+    pub same : new.lines.writer.ghost_name ≡ old.lines.writer.ghost_name
+    pub sent : SendsFront (contents old.lines.writer.now) (string_bytes old.lines.block) (contents new.lines.writer.now) (prints old instrs)
+    pub write : (error ≡ Write) ↔ (failed new.lines.writer.now ≡ true)
+    pub why : IsSendError error
+
+  -- these instructions were issued, unless the writing failed
+  abbrev pub Issues : Session M W → Session M W → List Instr → Result (Unit {0}) PlayError → Type 0
+  Issues old new instrs result = MatchResult result (λ _. Issued old new instrs) (λ error. Stopped old new instrs error)

@@ -1,0 +1,86 @@
+//! A scenario's run on a machine, whose lines go to a writer.
+ghost use Rattle.cmwq_play.specs.Commands.{Writes};
+ghost use Rattle.cmwq_play.specs.Sending.{IsSendError};
+ghost use Rattle.cmwq_play.specs.Session.{IsReady, Issues, prints};
+ghost use Rattle.cmwq_types.specs.Scenario.{expand, expand_lines};
+ghost use Rattle.std.specs.Prelude.{◌≡◌, [], ◌∷◌, IfErr, replicate, string_bytes};
+
+use crate::block_writer::BlockWriter;
+use crate::error::PlayError;
+use crate::stream::Sink;
+use cmwq_table::{Machine, ReplyLine};
+use cmwq_types::{Actor, Instr, Line, Scenario};
+
+/// A scenario's run on a machine, whose lines go to a writer.
+#[derive(Drop)]
+pub(crate) struct Session<'s, 'w, M: Drop, W> {
+    pub(crate) scenario: &'s Scenario,
+    pub(crate) machine: M,
+    pub(crate) lines: BlockWriter<'w, W>,
+}
+
+impl<'w, M: Machine, W: Sink> Session<'_, 'w, M, W> {
+    /// Issues one instruction, and writes the line of its reply.
+    #[tactic(auto, using(crate::proofs::RunLemmas::events_from_one))]
+    fn issue(&mut self, instr: Instr) -> Result<(), PlayError>
+        requires { IsReady M.loaded M.state W.contents W.failed self.old }
+        ensures { Issues M.loaded M.state W.contents W.failed self.old self.new (instr ∷ []) result }
+    {
+        let reply = self.machine.exec(instr);
+        let line = ReplyLine {
+            scenario: self.scenario,
+            time: self.machine.now(),
+            instr,
+            reply,
+        };
+        write!(self.lines, "{line}")
+    }
+
+    /// Issues the instruction as often as the line says, and writes the lines of its replies.
+    fn issue_line(&mut self, line: Line) -> Result<(), PlayError>
+        requires { IsReady M.loaded M.state W.contents W.failed self.old }
+        ensures { Issues M.loaded M.state W.contents W.failed self.old self.new (replicate line.times line.instr) result }
+    {
+        for _turn in 0..line.times {
+            self.issue(line.instr)?;
+        }
+        Ok(())
+    }
+
+    /// Issues the lines one after another, and writes the lines of the replies.
+    pub(crate) fn issue_lines(&mut self, lines: &[Line]) -> Result<(), PlayError>
+        requires { IsReady M.loaded M.state W.contents W.failed self.old }
+        ensures { Issues M.loaded M.state W.contents W.failed self.old self.new (expand_lines lines.now) result }
+    {
+        for line in lines {
+            self.issue_line(*line)?;
+        }
+        Ok(())
+    }
+
+    /// Issues the actor's instructions, and sends all that they print.
+    pub(crate) fn play(&mut self, actor: &Actor) -> Result<(), PlayError>
+        requires ready { IsReady M.loaded M.state W.contents W.failed self.old }
+        requires empty { string_bytes self.old.lines.block ≡ [] }
+        ensures same { self.new.lines.writer.ghost_name ≡ self.old.lines.writer.ghost_name }
+        ensures writes { Writes (λ output. output ≡ prints M.loaded M.state W.contents W.failed self.old (expand actor.now))
+            (W.contents self.old.lines.writer.now) (W.contents self.new.lines.writer.now) (W.failed self.new.lines.writer.now) result }
+        ensures why { IfErr result (λ error. IsSendError error) }
+    {
+        self.issue_lines(&actor.lines)?;
+        self.lines.finish()
+    }
+
+    /// The writer. What is kept back is dropped.
+    pub(crate) fn into_writer(self) -> &'w mut W
+        ensures same { result.ghost_name ≡ self.entry.lines.writer.ghost_name }
+        ensures writer { result.now ≡ self.entry.lines.writer.now }
+    {
+        let Session {
+            scenario: _,
+            machine: _,
+            lines,
+        } = self;
+        lines.into_inner()
+    }
+}
