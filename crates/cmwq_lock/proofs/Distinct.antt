@@ -7,7 +7,7 @@ use Rattle.cmwq_lock.specs.declared.kept.Kept.{Ghosts}
 use Rattle.cmwq_lock.specs.declared.views.Held.{Held}
 use Rattle.cmwq_lock.specs.declared.views.Phase.TheVariants.{Out, Waiting, Inside}
 use Rattle.cmwq_lock.specs.declared.views.View.{View}
-use Rattle.cmwq_lock.specs.declared.views.View.TheVariants.{Opener, Pass, Spent}
+use Rattle.cmwq_lock.specs.declared.views.View.TheVariants.{Opener, Pass, Both, Spent}
 use Rattle.cmwq_lock.specs.Views.{has_ticket, ticket_of}
 use Rattle.cmwq_lock.specs.Rule.{IsRuled}
 
@@ -19,6 +19,7 @@ module _ {T O E : Type 0} (K : Ghosts T O E) (o : O) where
   held_ticket s r seat (Pass who (Inside t log)) here has = let known = (r.each_view seat (Pass who (Inside t log)) here).phase_is in let same = known.is_served in (omega arith, known.was_drawn, known.is_holder)
   held_ticket s r seat (Pass who (Out t)) here has = cc
   held_ticket s r seat (Opener d) here has = cc
+  held_ticket s r seat (Both p q) here has = cc
   held_ticket s r seat Spent here has = cc
 
   -- two seats with one ticket are one seat
