@@ -283,26 +283,19 @@ impl<T: Kept + Drop> TicketLock<T> {
             × (pass_view result.1 ≡ having_seen (pass_view second) log) }
     {
         let words = &self.table.shared;
+        let Pass { mut seat, caller } = first;
         let Pass {
-            mut seat,
-            caller: first,
-        } = first;
-        let Pass {
-            seat: other,
-            caller: second,
+            seat: second_seat,
+            caller: second_caller,
         } = second;
-        steps::join(words, &mut seat, other);
+        steps::join(words, &mut seat, second_seat);
         steps::compare(words, &mut seat);
-        let other = steps::part(words, &mut seat);
-        let first = Pass {
-            seat,
-            caller: first,
-        };
+        let second_seat = steps::part(words, &mut seat);
         let second = Pass {
-            seat: other,
-            caller: second,
+            seat: second_seat,
+            caller: second_caller,
         };
-        (first, second)
+        (Pass { seat, caller }, second)
     }
 
     /// Takes a pass back, and records what it knew. Its caller's number is not used again.
