@@ -274,6 +274,8 @@ impl<T: Kept + Drop> TicketLock<T> {
         ensures one_history { OneBegins (seen_of (pass_view first)) (seen_of (pass_view second)) }
         ensures seen { let log = longer (seen_of (pass_view first)) (seen_of (pass_view second)) in
             (seen_of (pass_view result.0) ≡ log) × (seen_of (pass_view result.1) ≡ log) }
+        ensures begins { BeginsWith (seen_of (pass_view result.0)) (seen_of (pass_view first))
+            × BeginsWith (seen_of (pass_view result.1)) (seen_of (pass_view second)) }
         ensures callers { (caller_of (pass_view result.0) ≡ caller_of (pass_view first))
             × (caller_of (pass_view result.1) ≡ caller_of (pass_view second)) }
         ensures mine { (mine_of (pass_view result.0) ≡ mine_of (pass_view first))

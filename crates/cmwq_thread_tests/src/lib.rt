@@ -1,0 +1,7 @@
+//! Tests that start threads or wait.
+#![tactic(auto)]
+
+#[cfg(test)]
+mod meeting;
+#[cfg(test)]
+mod turns;
