@@ -1,12 +1,11 @@
 -- The steps on `drawn` keep the rule: its load, and the exchange that is won or lost.
-use Rattle.std.proofs.Common.{◌≡◌, ◌≢◌, ℕ, ◌+◌, ◌^◌, ◌<◌, true, false, eqb, List, [], ◌∷◌, get_or, set, sym, refl, ap, ◌∙◌, subst, arith, Option, eq-eqb, ne_eqb, All}
+use Rattle.std.proofs.Common.{◌≡◌, ℕ, ◌+◌, ◌^◌, ◌<◌, true, eqb, List, [], ◌∷◌, get_or, set, sym, refl, ap, ◌∙◌, subst, arith, Option, eq-eqb, ne_eqb, All}
 use mathlib.Core.Logic.{dite}
-use mathlib.Core.Option.{some, some-injective}
+use mathlib.Core.Option.{some}
 use native.Mathlib.Decide.{ℕ_discrete}
 use lib.ListN.{get_elem?}
 use prog.Atomic.{either}
 use Rattle.atomic_table.specs.Table.{State, Me, keeps, stepped, Allows}
-use Rattle.atomic_table.proofs.Lists.{set_else}
 use Rattle.cmwq_lock.specs.declared.kept.Kept.{Ghosts}
 use Rattle.cmwq_lock.specs.declared.views.Identity.{Identity}
 use Rattle.cmwq_lock.specs.declared.views.Tries.{Tries}
@@ -15,8 +14,8 @@ use Rattle.cmwq_lock.specs.declared.views.Phase.{Phase}
 use Rattle.cmwq_lock.specs.declared.views.Phase.TheVariants.{Out, Waiting, Inside}
 use Rattle.cmwq_lock.specs.declared.views.View.{View}
 use Rattle.cmwq_lock.specs.declared.views.View.TheVariants.{Pass}
-use Rattle.cmwq_lock.specs.Views.{is_out, is_inside, loaded_of, loaded, lost, waiting, queued}
-use Rattle.cmwq_lock.specs.Rule.{Standing, Homes, SlotIs, at_home, with_seat, IsRuled}
+use Rattle.cmwq_lock.specs.Views.{is_out, loaded_of, loaded, lost, waiting, queued}
+use Rattle.cmwq_lock.specs.Rule.{Standing, Homes, IsRuled}
 use Rattle.cmwq_lock.specs.Steps.{load_drawn, exchange_drawn}
 use Rattle.cmwq_lock.proofs.Puts.{put, put_here, put_else, all_of}
 use Rattle.cmwq_lock.proofs.Places.{slot_stays}

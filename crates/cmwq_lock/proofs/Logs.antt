@@ -1,8 +1,6 @@
 -- What a turn's entry does to what is known of a log.
-use Rattle.std.proofs.Common.{◌≡◌, ◌≢◌, ◌==◌, ℕ, suc, ◌+◌, ◌<◌, ◌≤◌, Bool, true, false, cond, nat_le, if◌then◌else◌, List, [], ◌∷◌, ◌++◌, length, drop, get_or, All, sym, refl, ap, ◌∙◌, subst, inl, inr, arith, append_assoc, eq-eqb, ne_eqb}
+use Rattle.std.proofs.Common.{◌≡◌, ◌≢◌, ◌==◌, ℕ, suc, ◌<◌, Bool, true, false, cond, nat_le, if◌then◌else◌, List, [], ◌∷◌, ◌++◌, length, drop, get_or, All, sym, refl, ap, ◌∙◌, subst, inl, inr, arith, append_assoc, eq-eqb, ne_eqb}
 use Rattle.std.proofs.Math.Seq.{drop-append_seam, drop-length}
-use Rattle.std.proofs.lemmas.Bool.Decides.{leb_tells}
-use Rattle.std.proofs.lemmas.List.{nil_from_length, length-append}
 use Rattle.std.proofs.lemmas.List.Elements.{All-cons, filter-append}
 use mathlib.Core.List.{append-nil}
 use Rattle.cmwq_lock.specs.Log.{BeginsWith, OneBegins, longer, calls_of, Grows, BothGrow}

@@ -13,7 +13,6 @@ use Rattle.cmwq_lock.specs.declared.views.View.{View}
 use Rattle.cmwq_lock.specs.declared.views.View.TheVariants.{Pass}
 use Rattle.cmwq_lock.specs.Log.{BeginsWith, calls_of}
 use Rattle.cmwq_lock.specs.Rule.{Side, first, second, at_seat, in_record, Standing, Homes, pass_count, passes, caller_at, IsKnown, SlotIs, IsCurrent, PhaseIs, IsPass, ViewIs, IsRuled}
-use Rattle.cmwq_lock.proofs.Puts.{set_there}
 use Rattle.cmwq_lock.proofs.Places.{two_callers, seats_apart, record_apart, stands_changed, view_stays, opener_elsewhere}
 
 module _ {O E : Type 0} where

@@ -1,6 +1,6 @@
 -- What the rule says of the seats and the places of callers, where one seat's view changes or a seat is new.
-use Rattle.std.proofs.Common.{◌≡◌, ◌≢◌, ℕ, ◌≤◌, true, false, List, set, sym, refl, ap, ◌∙◌, ◌++◌, arith, Option}
-use mathlib.Core.Option.{some, some-injective, some-ne-none}
+use Rattle.std.proofs.Common.{◌≡◌, ◌≢◌, ℕ, ◌≤◌, true, false, List, set, sym, ap, ◌∙◌, ◌++◌, arith, Option}
+use mathlib.Core.Option.{some, some-injective}
 use mathlib.Core.Logic.{dite}
 use native.Mathlib.Decide.{ℕ_discrete}
 use lib.ListN.{get_elem?}
