@@ -16,9 +16,9 @@ use Rattle.cmwq_lock.specs.declared.views.Phase.TheVariants.{Out, Waiting, Insid
 use Rattle.cmwq_lock.specs.declared.views.View.{View}
 use Rattle.cmwq_lock.specs.declared.views.View.TheVariants.{Opener, Pass, Both, Spent}
 use Rattle.cmwq_lock.specs.Log.{BeginsWith}
-use Rattle.cmwq_lock.specs.Views.{is_out, is_both, joined, longer_seen, first_met, second_met}
+use Rattle.cmwq_lock.specs.Views.{is_out, is_both, seeing, joined, longer_seen, first_met, second_met}
 use Rattle.cmwq_lock.specs.Steps.{compare_seen}
-use Rattle.cmwq_lock.specs.Rule.{Side, first, second, Standing, caller_at, ViewIs, IsPass, IsRuled, Whereabouts, at_seat, in_record, StandsAt}
+use Rattle.cmwq_lock.specs.Rule.{Side, first, second, Standing, Homes, caller_at, ViewIs, IsPass, IsRuled, Whereabouts, at_seat, in_record, StandsAt}
 use Rattle.cmwq_lock.proofs.Puts.{put, put_here, put_else, at_end, set_there}
 use Rattle.cmwq_lock.proofs.Places.{two_callers, seats_apart, sides_apart, record_apart, spent_stands, recast, stands_changed, stands_longer, view_stays, pass_recast, opener_elsewhere, slot_stays, slot_longer}
 use Rattle.cmwq_lock.proofs.Moves.{passes-set}
@@ -111,17 +111,16 @@ module _ {T O E : Type 0} (K : Ghosts T O E) (o : O) where
       )
   compares_seen slots id (v, carried) two s r deep here small = cc
 
-  -- a pass that met another, with the place of its caller
-  pass_met : (s : St) (r : IsRuled K o s) (at' : Standing O E) (seat seat' : ℕ) (side : Side) (p : OutPass O E) (log : List E) → BeginsWith r.at.current log → at' ≡ recast r.at r.at.opener_knows at'.where_is
-      → at'.where_is p.who.knows.caller ≡ at_seat first seat' → IsPass K o r.at s.homes seat side p.who (Out p.tries) → IsPass K o at' s.homes seat' first (record p.who { knows = record p.who.knows { seen = log } }) (Out p.tries)
-  pass_met s r at' seat seat' side p log begins numbers place known = subst (λ (z : Standing O E). at'.where_is p.who.knows.caller ≡ at_seat first seat' → IsPass K o z s.homes seat' first (record p.who { knows = record p.who.knows { seen = log } }) (Out p.tries)) (sym numbers)
-      (λ there. record {
-        same_origin = known.same_origin;
-        was_given = known.was_given;
-        stands_there = there;
-        knows = record { begins = begins; own_calls = known.knows.own_calls };
-        phase_is = record { loaded_below = known.phase_is.loaded_below; found_below = known.phase_is.found_below };
-      }) place
+  -- a pass that met another, at the seat that it has then
+  pass_met : (at : Standing O E) (places : ℕ → Whereabouts) (homes : Homes T) (seat seat' : ℕ) (side : Side) (p : OutPass O E) (log : List E) → BeginsWith at.current log → places p.who.knows.caller ≡ at_seat first seat'
+      → IsPass K o at homes seat side p.who (Out p.tries) → IsPass K o (recast at at.opener_knows places) homes seat' first (seeing p.who log) (Out p.tries)
+  pass_met at places homes seat seat' side p log begins there known = record {
+    same_origin = known.same_origin;
+    was_given = known.was_given;
+    stands_there = there;
+    knows = record { begins = begins; own_calls = known.knows.own_calls };
+    phase_is = record { loaded_below = known.phase_is.loaded_below; found_below = known.phase_is.found_below };
+  }
 
   pub parts_passes : (id : ℕ) (v : View O E) → is_both v ≡ true → Splits (IsRuled K o) id v (first_met v) (second_met v)
   parts_passes id (Both p q) two s r here = let v : View O E = Both p q in let left : View O E = first_met v in let right : View O E = second_met v in let changed : List (View O E) = set s.views id left in
@@ -149,12 +148,12 @@ module _ {T O E : Type 0} (K : Ghosts T O E) (o : O) where
         };
         each_view = λ seat w there. ⊎_elim
             (λ (old : get_elem? changed seat ≡ some w). ⊎_elim
-            (λ (e : (seat ≡ id) × (left ≡ w)). subst (λ (z : ℕ × View O E). ViewIs K o at' s.homes z.0 z.1) (λ i. (sym e.0 i, e.1 i)) (pass_met s r at' id id first p log begins refl
+            (λ (e : (seat ≡ id) × (left ≡ w)). subst (λ (z : ℕ × View O E). ViewIs K o at' s.homes z.0 z.1) (λ i. (sym e.0 i, e.1 i)) (pass_met r.at at'.where_is s.homes id id first p log begins
             (put_else r.at.where_is caller place p.who.knows.caller (two_callers r.at.where_is p.who.knows.caller caller (at_seat first id) from known.0.stands_there known.1.stands_there (sides_apart id id)) ∙ known.0.stands_there) known.0))
             (λ (e : (seat ≢ id) × (get_elem? s.views seat ≡ some w)). view_stays K o r.at at' s.homes s.homes seat w (λ d was. record { is_seat = was.is_seat; knows_is = was.knows_is })
             (λ side who phase its. pass_stays s r caller place from known.1.stands_there seat side who phase (seats_apart side second seat id e.0) its) (r.each_view seat w e.1)) (at_set s.views id seat left w old))
             (λ (e : (seat ≡ length changed) × (right ≡ w)). subst (λ (z : ℕ × View O E). ViewIs K o at' s.homes z.0 z.1) (λ i. (sym (e.0 ∙ length-set s.views id left) i, e.1 i))
-            (pass_met s r at' id new second q log begins refl (put_here r.at.where_is caller place) known.1)) (at_end changed right w seat there);
+            (pass_met r.at at'.where_is s.homes id new second q log begins (put_here r.at.where_is caller place) known.1)) (at_end changed right w seat there);
       }
   parts_passes id (Pass who phase) two s r here = cc
   parts_passes id (Opener d) two s r here = cc

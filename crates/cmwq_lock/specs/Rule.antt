@@ -50,11 +50,12 @@ home h = some (Some h) ∷ []
 abbrev pub away : {T : Type 0} → Homes T
 away = none ∷ []
 
--- how many of the views are those of passes
+-- how many passes a view is of, and the views are of
 abbrev pub pass_count : {O E : Type 0} → View O E → ℕ
 pass_count (Pass who phase) = 1
 pass_count (Both p q) = 2
-pass_count v = 0
+pass_count (Opener d) = 0
+pass_count Spent = 0
 
 abbrev pub passes : {O E : Type 0} → List (View O E) → ℕ
 passes [] = 0

@@ -127,7 +127,7 @@ module _ {O E : Type 0} where
   caller_of (Pass who phase) = who.knows.caller
   caller_of v = 0
 
-  -- the log as it was last seen
+  -- the log as a pass or the opener last saw it
   abbrev pub seen_of : View O E → List E
   seen_of (Pass who phase) = who.knows.seen
   seen_of (Opener d) = d.seen

@@ -265,12 +265,13 @@ impl<T: Kept + Drop> TicketLock<T> {
     }
 
     /// Two callers tell each other what they have seen: of the two logs one begins with the other, and both passes have then seen
-    /// the longer. Else each is as before. It takes no memory and does not wait.
+    /// the longer. Each comes back in its place, with its caller, the entries of its own calls and its tries as before. It takes no
+    /// memory and does not wait.
     pub fn meet(&self, first: Pass<T>, second: Pass<T>) -> (Pass<T>, Pass<T>)
         requires first { IsPassOf T.Kept self.now first }
         requires second { IsPassOf T.Kept self.now second }
-        ensures first { IsPassOf T.Kept self.now result.0 }
-        ensures second { IsPassOf T.Kept self.now result.1 }
+        ensures first_token { IsPassOf T.Kept self.now result.0 }
+        ensures second_token { IsPassOf T.Kept self.now result.1 }
         ensures one_history { OneBegins (seen_of (pass_view first)) (seen_of (pass_view second)) }
         ensures seen { let log = longer (seen_of (pass_view first)) (seen_of (pass_view second)) in
             (seen_of (pass_view result.0) ≡ log) × (seen_of (pass_view result.1) ≡ log) }
