@@ -1,12 +1,11 @@
 -- The steps on `drawn` keep the rule: its load, and the exchange that is won or lost.
-use Rattle.std.proofs.Common.{◌≡◌, ◌≢◌, ℕ, ◌+◌, ◌^◌, ◌<◌, true, false, eqb, List, [], ◌∷◌, get_or, set, sym, refl, ap, ◌∙◌, subst, arith, Option, eq-eqb, ne_eqb, All}
+use Rattle.std.proofs.Common.{◌≡◌, ℕ, ◌+◌, ◌^◌, ◌<◌, true, eqb, List, [], ◌∷◌, get_or, set, sym, refl, ap, ◌∙◌, subst, arith, Option, eq-eqb, ne_eqb, All}
 use mathlib.Core.Logic.{dite}
-use mathlib.Core.Option.{some, some-injective}
+use mathlib.Core.Option.{some}
 use native.Mathlib.Decide.{ℕ_discrete}
 use lib.ListN.{get_elem?}
 use prog.Atomic.{either}
 use Rattle.atomic_table.specs.Table.{State, Me, keeps, stepped, Allows}
-use Rattle.atomic_table.proofs.Lists.{set_else}
 use Rattle.cmwq_lock.specs.declared.kept.Kept.{Ghosts}
 use Rattle.cmwq_lock.specs.declared.views.Identity.{Identity}
 use Rattle.cmwq_lock.specs.declared.views.Tries.{Tries}
@@ -15,28 +14,15 @@ use Rattle.cmwq_lock.specs.declared.views.Phase.{Phase}
 use Rattle.cmwq_lock.specs.declared.views.Phase.TheVariants.{Out, Waiting, Inside}
 use Rattle.cmwq_lock.specs.declared.views.View.{View}
 use Rattle.cmwq_lock.specs.declared.views.View.TheVariants.{Pass}
-use Rattle.cmwq_lock.specs.Views.{is_out, is_inside, loaded_of, loaded, lost, waiting, queued}
-use Rattle.cmwq_lock.specs.Rule.{Standing, Homes, SlotIs, at_home, with_seat, IsRuled}
+use Rattle.cmwq_lock.specs.Views.{is_out, loaded_of, loaded, lost, waiting, queued}
+use Rattle.cmwq_lock.specs.Rule.{Standing, Homes, IsRuled}
 use Rattle.cmwq_lock.specs.Steps.{load_drawn, exchange_drawn}
 use Rattle.cmwq_lock.proofs.Puts.{put, put_here, put_else, all_of}
+use Rattle.cmwq_lock.proofs.Places.{slot_stays}
 use Rattle.cmwq_lock.proofs.Moves.{stood, OthersStay, stepped_on}
 use Rattle.cmwq_lock.proofs.Logs.{all_seen}
 
 module _ {T O E : Type 0} (K : Ghosts T O E) (o : O) where
-  -- a pass that is not inside does not have the slot
-  pub slot_stays : (at at' : Standing O E) (homes : Homes T) (views : List (View O E)) (id : ℕ) (v w : View O E) → at'.served ≡ at.served → at'.current ≡ at.current → get_elem? views id ≡ some v → is_inside v ≡ false
-      → SlotIs K o at homes views → SlotIs K o at' homes (set views id w)
-  slot_stays at at' homes views id v w same_served same_current here outside (at_home h e kept) = at_home h e (record {
-    turns_ended = kept.turns_ended ∙ sym same_served;
-    is_sound = kept.is_sound;
-    origin_stays = kept.origin_stays;
-    log_is = kept.log_is ∙ sym same_current;
-  })
-  slot_stays at at' homes views id v w same_served same_current here outside (with_seat seat who e there) = let apart : seat ≢ id = λ same.
-      (let both : some (Pass who (Inside at.served at.current)) ≡ some v = sym there ∙ (ap (get_elem? views) same ∙ here) in
-      let it : true ≡ false = ap is_inside (some-injective _ _ both) ∙ outside in cc) in
-      with_seat seat who e (set_else views id seat w apart ∙ (there ∙ (λ i. some (Pass who (Inside (sym same_served i) (sym same_current i))))))
-
   pub loads_drawn : (slots id : ℕ) (me : Me (Option (Held T)) (View O E)) → is_out me.0 ≡ true → Allows (IsRuled K o) slots id me 0 (λ n. n) (load_drawn me)
   loads_drawn slots id (Pass who (Out t), carried) out s r deep here small = let n : ℕ = get_or s.words 0 0 in let is : n ≡ r.at.drawn = ap (λ ws. get_or ws 0 0) r.words_are in
       let known = (r.each_view id (Pass who (Out t)) here).phase_is in let tried : Tries = record t { loads = t.loads + 1; loaded = n } in let bound = r.bounded in (
@@ -44,21 +30,21 @@ module _ {T O E : Type 0} (K : Ghosts T O E) (o : O) where
         keeps,
         tt,
         stepped_on K o s r r.at.drawn r.at.holder id who (Out t) (Out tried) (set s.words 0 n) s.homes here (ap (λ ws. set ws 0 (get_or ws 0 0)) r.words_are) r.in_order r.bounded
-            (slot_stays r.at r.at s.homes s.views id (Pass who (Out t)) (Pass who (Out tried)) refl refl here refl r.slot_is)
-            (record { loaded_below = omega arith; found_below = known.found_below }) (λ seat who' phase apart there known'. known'),
+            (slot_stays K o r.at r.at s.homes s.views id (Pass who (Out t)) (Pass who (Out tried)) refl refl here refl r.slot_is)
+            (record { loaded_below = omega arith; found_below = known.found_below }) (λ seat phase apart known'. known'),
         (refl, omega arith),
       )
   loads_drawn slots id (v, carried) out s r deep here small = cc
 
-  others_draw : (at : Standing O E) (homes : Homes T) (views : List (View O E)) (id : ℕ) → OthersStay K o at (stood at (at.drawn + 1) at.served at.current (put at.holder at.drawn id)) homes homes views id
-  others_draw at homes views id seat who (Out t) apart there known = let loaded_below = known.loaded_below in let found_below = known.found_below in record { loaded_below = omega arith; found_below = omega arith }
-  others_draw at homes views id seat who (Waiting q) apart there known = let below = known.was_drawn in record {
+  others_draw : (at : Standing O E) (homes : Homes T) (id : ℕ) → OthersStay K o at (stood at (at.drawn + 1) at.served at.current (put at.holder at.drawn id)) homes homes id
+  others_draw at homes id seat (Out t) apart known = let loaded_below = known.loaded_below in let found_below = known.found_below in record { loaded_below = omega arith; found_below = omega arith }
+  others_draw at homes id seat (Waiting q) apart known = let below = known.was_drawn in record {
     not_ended = known.not_ended;
     was_drawn = omega arith;
     is_holder = put_else at.holder at.drawn id q.ticket (λ e. omega arith) ∙ known.is_holder;
     last_below = known.last_below;
   }
-  others_draw at homes views id seat who (Inside ticket found) apart there known = let below = known.was_drawn in record {
+  others_draw at homes id seat (Inside ticket found) apart known = let below = known.was_drawn in record {
     is_served = known.is_served;
     was_drawn = omega arith;
     is_holder = put_else at.holder at.drawn id ticket (λ e. omega arith) ∙ known.is_holder;
@@ -72,17 +58,17 @@ module _ {T O E : Type 0} (K : Ghosts T O E) (o : O) where
       let same : old ≡ r.at.drawn = sym hit ∙ is in
       stepped_on K o s r (r.at.drawn + 1) (put r.at.holder r.at.drawn id) id who (Out t) (Waiting (queued n)) (set s.words 0 (old + 1)) s.homes here
       (ap (λ ws. set ws 0 (old + 1)) r.words_are ∙ ap (λ d. (d + 1) ∷ r.at.served ∷ []) same) (omega arith) (omega arith)
-      (slot_stays r.at _ s.homes s.views id (Pass who (Out t)) (Pass who (Waiting (queued n))) refl refl here refl r.slot_is)
+      (slot_stays K o r.at _ s.homes s.views id (Pass who (Out t)) (Pass who (Waiting (queued n))) refl refl here refl r.slot_is)
       (record { not_ended = omega arith; was_drawn = omega arith; is_holder = ap (put r.at.holder r.at.drawn id) is ∙ put_here r.at.holder r.at.drawn id; last_below = omega arith })
-      (others_draw r.at s.homes s.views id)
+      (others_draw r.at s.homes id)
 
   exchange_lost : (slots id : ℕ) (who : Identity O E) (t : Tries) (carried : List (ℕ × Option (Held T))) (s : State (Option (Held T)) (View O E)) (r : IsRuled K o s) → get_elem? s.views id ≡ some (Pass who (Out t))
       → IsRuled K o (stepped s 0 (get_or s.words 0 0) id carried (lost (Pass who (Out t)) (get_or s.words 0 0)) keeps)
   exchange_lost slots id who t carried s r here = let n : ℕ = get_or s.words 0 0 in let is : n ≡ r.at.drawn = ap (λ ws. get_or ws 0 0) r.words_are in
       let known = (r.each_view id (Pass who (Out t)) here).phase_is in let tried : Tries = record t { losses = t.losses + 1; found = n } in
       stepped_on K o s r r.at.drawn r.at.holder id who (Out t) (Out tried) (set s.words 0 n) s.homes here (ap (λ ws. set ws 0 (get_or ws 0 0)) r.words_are) r.in_order r.bounded
-      (slot_stays r.at r.at s.homes s.views id (Pass who (Out t)) (Pass who (Out tried)) refl refl here refl r.slot_is)
-      (record { loaded_below = known.loaded_below; found_below = omega arith }) (λ seat who' phase apart there known'. known')
+      (slot_stays K o r.at r.at s.homes s.views id (Pass who (Out t)) (Pass who (Out tried)) refl refl here refl r.slot_is)
+      (record { loaded_below = known.loaded_below; found_below = omega arith }) (λ seat phase apart known'. known')
 
   -- all tickets that a pass has seen are below `drawn`
   tickets_seen : (id : ℕ) (who : Identity O E) (phase : Phase E) (s : State (Option (Held T)) (View O E)) (r : IsRuled K o s) → get_elem? s.views id ≡ some (Pass who phase) → (n : ℕ) → n ≡ r.at.drawn

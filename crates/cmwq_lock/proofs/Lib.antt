@@ -1,8 +1,10 @@
 pub mod Puts
 pub mod Logs
+pub mod Places
 pub mod Moves
 pub mod Drawing
 pub mod Turning
 pub mod Turns
 pub mod Opening
+pub mod Meeting
 pub mod Distinct

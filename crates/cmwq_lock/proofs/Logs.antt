@@ -1,9 +1,9 @@
 -- What a turn's entry does to what is known of a log.
-use Rattle.std.proofs.Common.{◌≡◌, ◌≢◌, ◌==◌, ℕ, suc, ◌<◌, Bool, true, false, cond, nat_le, if◌then◌else◌, List, [], ◌∷◌, ◌++◌, length, drop, All, sym, refl, ap, ◌∙◌, subst, inl, inr, arith, append_assoc, eq-eqb, ne_eqb}
+use Rattle.std.proofs.Common.{◌≡◌, ◌≢◌, ◌==◌, ℕ, suc, ◌<◌, Bool, true, false, cond, nat_le, if◌then◌else◌, List, [], ◌∷◌, ◌++◌, length, drop, get_or, All, sym, refl, ap, ◌∙◌, subst, inl, inr, arith, append_assoc, eq-eqb, ne_eqb}
 use Rattle.std.proofs.Math.Seq.{drop-append_seam, drop-length}
 use Rattle.std.proofs.lemmas.List.Elements.{All-cons, filter-append}
 use mathlib.Core.List.{append-nil}
-use Rattle.cmwq_lock.specs.Log.{BeginsWith, longer, calls_of, Grows, BothGrow}
+use Rattle.cmwq_lock.specs.Log.{BeginsWith, OneBegins, longer, calls_of, Grows, BothGrow}
 
 module _ {E : Type 0} where
   begins_either : (log one other : List E) (b : Bool) → BeginsWith log one → BeginsWith log other → BeginsWith log (if b then other else one)
@@ -13,6 +13,18 @@ module _ {E : Type 0} where
   -- a log that begins with each of two begins with the longer one
   pub begins_longer : (log one other : List E) → BeginsWith log one → BeginsWith log other → BeginsWith log (longer one other)
   begins_longer log one other first second = begins_either log one other (nat_le (length one) (length other)) first second
+
+  ends_alike : (one other rest rest' : List E) → one ++ rest ≡ other ++ rest' → OneBegins one other
+  ends_alike [] other rest rest' same = inr (other, refl)
+  ends_alike (x ∷ xs) [] rest rest' same = inl (x ∷ xs, refl)
+  ends_alike (x ∷ xs) (y ∷ ys) rest rest' same = let head : x ≡ y = ap (λ (l : List E). get_or l 0 x) same in elim (ends_alike xs ys rest rest' (ap (drop 1) same)) [
+    | inl more ↦ inl (more.0, λ i. head i ∷ more.1 i)
+    | inr more ↦ inr (more.0, λ i. sym head i ∷ more.1 i)
+  ]
+
+  -- of two beginnings of one log one begins with the other
+  pub begin_one_log : (log one other : List E) → BeginsWith log one → BeginsWith log other → OneBegins one other
+  begin_one_log log one other first second = ends_alike one other first.0 second.0 (sym first.1 ∙ second.1)
 
   pub begins_more : (log more seen : List E) → BeginsWith log seen → BeginsWith (log ++ more) seen
   begins_more log more seen begins = (begins.0 ++ more, ap (λ (l : List E). l ++ more) begins.1 ∙ append_assoc seen begins.0 more)

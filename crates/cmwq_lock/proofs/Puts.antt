@@ -32,10 +32,6 @@ module _ {A : Type 0} where
   set_there (x ∷ xs) zero a b e = refl
   set_there (x ∷ xs) (suc i) a b e = set_there xs i a b e
 
-  pub none_in : (l : List A) → length l ≡ 0 → l ≡ []
-  none_in [] none = refl
-  none_in (x ∷ xs) none = absurd (omega arith)
-
   -- where something stands is within the list, and is what is read there
   pub there_within : (l : List A) (i : ℕ) (a : A) → get_elem? l i ≡ some a → i < length l
   there_within [] i a e = absurd (some-ne-none a (sym e))

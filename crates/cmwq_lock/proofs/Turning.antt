@@ -19,21 +19,21 @@ use Rattle.cmwq_lock.specs.Views.{is_waiting, is_inside, inside, looked, came_ou
 use Rattle.cmwq_lock.specs.Rule.{Standing, Homes, home, away, SlotIs, at_home, with_seat, IsKept, IsCurrent, IsRuled, IsLeft}
 use Rattle.cmwq_lock.specs.Steps.{look_served, end_turn, log_carried}
 use Rattle.cmwq_lock.proofs.Puts.{all_of, set_there}
+use Rattle.cmwq_lock.proofs.Places.{slot_stays}
 use Rattle.cmwq_lock.proofs.Moves.{stood, OthersStay, log_stays, moved, stepped_on}
 use Rattle.cmwq_lock.proofs.Logs.{begins_itself, begins_after, others_after, own_after}
-use Rattle.cmwq_lock.proofs.Drawing.{slot_stays}
 
 module _ {T O E : Type 0} (K : Ghosts T O E) (o : O) where
   -- where the slot is home no seat is inside
-  others_begin : (at : Standing O E) (homes homes' : Homes T) (views : List (View O E)) (id : ℕ) (h : Held T) → homes ≡ home h → OthersStay K o at at homes homes' views id
-  others_begin at homes homes' views id h full seat who (Out t) apart there known = record { loaded_below = known.loaded_below; found_below = known.found_below }
-  others_begin at homes homes' views id h full seat who (Waiting q) apart there known = record {
+  others_begin : (at : Standing O E) (homes homes' : Homes T) (id : ℕ) (h : Held T) → homes ≡ home h → OthersStay K o at at homes homes' id
+  others_begin at homes homes' id h full seat (Out t) apart known = record { loaded_below = known.loaded_below; found_below = known.found_below }
+  others_begin at homes homes' id h full seat (Waiting q) apart known = record {
     not_ended = known.not_ended;
     was_drawn = known.was_drawn;
     is_holder = known.is_holder;
     last_below = known.last_below;
   }
-  others_begin at homes homes' views id h full seat who (Inside ticket found) apart there known = let clash : home h ≡ away = sym full ∙ known.slot_away in cc
+  others_begin at homes homes' id h full seat (Inside ticket found) apart known = let clash : home h ≡ away = sym full ∙ known.slot_away in cc
 
   -- a look that gives the ticket of a seat finds the value at home
   begins : (slots id : ℕ) (who : Identity O E) (q : Queued) (s : State (Option (Held T)) (View O E)) (r : IsRuled K o s) → get_elem? s.views id ≡ some (Pass who (Waiting q)) → get_or s.words 1 0 ≡ q.ticket
@@ -50,7 +50,7 @@ module _ {T O E : Type 0} (K : Ghosts T O E) (o : O) where
             (with_seat id (seeing who (K.log h.value)) (ap (λ hs. set hs 0 none) full) (set_there s.views id (Pass who (Waiting q)) (Pass (seeing who (K.log h.value)) begun) here ∙ (λ i. some (Pass (seeing who (K.log h.value)) (Inside (same i) (kept.log_is i)))))) r.log_is (log_stays K o who.knows.caller r.at.current)
             (record { begins = subst (BeginsWith r.at.current) (sym kept.log_is) (begins_itself r.at.current); own_calls = (r.each_view id (Pass who (Waiting q)) here).knows.own_calls })
             (record { is_served = same; was_drawn = known.was_drawn; is_holder = known.is_holder; found_current = kept.log_is; slot_away = ap (λ hs. set hs 0 none) full })
-            (others_begin r.at s.homes (set s.homes 0 none) s.views id h full),
+            (others_begin r.at s.homes (set s.homes 0 none) id h full),
       )
   begins slots id who q s r here hit (with_seat seat other gone there) = let is : get_or s.words 1 0 ≡ r.at.served = ap (λ ws. get_or ws 1 0) r.words_are in
       let mine = (r.each_view id (Pass who (Waiting q)) here).phase_is.is_holder in
@@ -65,7 +65,7 @@ module _ {T O E : Type 0} (K : Ghosts T O E) (o : O) where
       let known = (r.each_view id (Pass who (Waiting q)) here).phase_is in let once_more : Queued = record q { looks = q.looks + 1; last = n } in
       stepped_on K o s r r.at.drawn r.at.holder id who (Waiting q) (Waiting once_more) (set s.words 1 n) s.homes here (ap (λ ws. set ws 1 (get_or ws 1 0)) r.words_are) r.in_order r.bounded
       (slot_stays K o r.at r.at s.homes s.views id (Pass who (Waiting q)) (Pass who (Waiting once_more)) refl refl here refl r.slot_is)
-      (record { not_ended = known.not_ended; was_drawn = known.was_drawn; is_holder = known.is_holder; last_below = omega arith }) (λ seat who' phase apart there known'. known')
+      (record { not_ended = known.not_ended; was_drawn = known.was_drawn; is_holder = known.is_holder; last_below = omega arith }) (λ seat phase apart known'. known')
 
   pub looks_served : (slots id : ℕ) (me : Me (Option (Held T)) (View O E)) → is_waiting me.0 ≡ true → length me.1 ≡ 0
       → Allows (IsRuled K o) slots id me 1 (λ n. n) (look_served K me)
@@ -103,17 +103,17 @@ module _ {T O E : Type 0} (K : Ghosts T O E) (o : O) where
   looks_served slots id (Pass who (Waiting q), x ∷ xs) waits bare s r deep here small = absurd (omega arith)
   looks_served slots id (v, carried) waits bare s r deep here small = cc
 
-  others_end : (at : Standing O E) (homes homes' : Homes T) (views : List (View O E)) (id : ℕ) (current : List E) → at.holder at.served ≡ id
-      → OthersStay K o at (stood at at.drawn (at.served + 1) current at.holder) homes homes' views id
-  others_end at homes homes' views id current holder seat who (Out t) apart there known = record { loaded_below = known.loaded_below; found_below = known.found_below }
-  others_end at homes homes' views id current holder seat who (Waiting q) apart there known = let least = known.not_ended in let below = known.last_below in
+  others_end : (at : Standing O E) (homes homes' : Homes T) (id : ℕ) (current : List E) → at.holder at.served ≡ id
+      → OthersStay K o at (stood at at.drawn (at.served + 1) current at.holder) homes homes' id
+  others_end at homes homes' id current holder seat (Out t) apart known = record { loaded_below = known.loaded_below; found_below = known.found_below }
+  others_end at homes homes' id current holder seat (Waiting q) apart known = let least = known.not_ended in let below = known.last_below in
       let later : q.ticket ≢ at.served = (λ same. apart (sym known.is_holder ∙ (ap at.holder same ∙ holder))) in record {
         not_ended = omega arith;
         was_drawn = known.was_drawn;
         is_holder = known.is_holder;
         last_below = omega arith;
       }
-  others_end at homes homes' views id current holder seat who (Inside ticket found) apart there known = absurd (apart (sym known.is_holder ∙ (ap at.holder known.is_served ∙ holder)))
+  others_end at homes homes' id current holder seat (Inside ticket found) apart known = absurd (apart (sym known.is_holder ∙ (ap at.holder known.is_served ∙ holder)))
 
   -- the log after a turn stands after one more ended turn
   log_after : (served next : ℕ) (before after : List E) (caller : ℕ) (h : Held T) → IsCurrent K o served next before → caller < next → K.log h.value ≡ after → K.sound h.value → K.origin h.value ≡ o
@@ -150,7 +150,7 @@ module _ {T O E : Type 0} (K : Ghosts T O E) (o : O) where
       (record { begins = begins_after K.ticket K.caller r.at.current log r.at.served caller grows; others = others_after K.ticket K.caller r.at.current log r.at.served caller grows })
       (record { begins = begins_itself log; own_calls = own })
       (record { loaded_below = omega arith; found_below = omega arith })
-      (others_end r.at s.homes (set s.homes 0 (some (Some h))) s.views id log (ap r.at.holder (sym same) ∙ phase.is_holder)) in (
+      (others_end r.at s.homes (set s.homes 0 (some (Some h))) id log (ap r.at.holder (sym same) ∙ phase.is_holder)) in (
         came_out (Pass who (Inside ticket found)) log,
         gives,
         tt,

@@ -5,7 +5,7 @@ use Rattle.cmwq_lock.specs.declared.kept.Kept.{Ghosts}
 use Rattle.cmwq_lock.specs.declared.views.Held.{Held}
 use Rattle.cmwq_lock.specs.declared.views.Phase.TheVariants.{Waiting, Inside}
 use Rattle.cmwq_lock.specs.declared.views.View.{View}
-use Rattle.cmwq_lock.specs.declared.views.View.TheVariants.{Opener, Pass, Spent}
+use Rattle.cmwq_lock.specs.declared.views.View.TheVariants.{Opener, Pass, Both, Spent}
 use Rattle.cmwq_lock.specs.Log.{BeginsWith, calls_of, Grows, BothGrow}
 use Rattle.cmwq_lock.specs.Views.{inside, came_out, is_waiting, is_inside, ticket_of, caller_of, found_of, seen_of, mine_of, HasOrigin, SameKnowledge}
 use Rattle.cmwq_lock.specs.Rule.{IsLeft}
@@ -83,6 +83,7 @@ module _ {T O E : Type 0} (K : Ghosts T O E) where
   one_origin : (v : View O E) (one other : O) → HasOrigin v one → HasOrigin v other → one ≡ other
   one_origin (Opener d) one other first second = sym first ∙ second
   one_origin (Pass who phase) one other first second = sym first ∙ second
+  one_origin (Both p q) one other first second = sym first.0 ∙ second.0
   one_origin Spent one other first second = absurd first
 
   -- the value found has the lock's origin

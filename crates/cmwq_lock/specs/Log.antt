@@ -6,6 +6,10 @@ module _ {E : Type 0} where
   abbrev pub BeginsWith : List E → List E → Type 0
   BeginsWith log seen = (rest : List E) × (log ≡ seen ++ rest)
 
+  -- of two logs one begins with the other
+  abbrev pub OneBegins : List E → List E → Type 0
+  OneBegins one other = BeginsWith one other ⊎ BeginsWith other one
+
   -- the longer of two logs
   abbrev pub longer : List E → List E → List E
   longer one other = if nat_le (length one) (length other) then other else one

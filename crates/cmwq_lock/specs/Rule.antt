@@ -15,13 +15,18 @@ use Rattle.cmwq_lock.specs.declared.views.Held.{Held}
 use Rattle.cmwq_lock.specs.declared.views.Phase.{Phase}
 use Rattle.cmwq_lock.specs.declared.views.Phase.TheVariants.{Out, Waiting, Inside}
 use Rattle.cmwq_lock.specs.declared.views.View.{View}
-use Rattle.cmwq_lock.specs.declared.views.View.TheVariants.{Opener, Pass, Spent}
+use Rattle.cmwq_lock.specs.declared.views.View.TheVariants.{Opener, Pass, Both, Spent}
 use Rattle.cmwq_lock.specs.Log.{BeginsWith, calls_of, Grows}
 use Rattle.cmwq_lock.specs.Views.{ticket_of, caller_of, found_of, HasOrigin}
 
--- where what a caller knows stands: with the pass at this seat, or in the opener's record with this number
+-- which of two passes that have one seat; a pass that has its seat alone is the first
+pub data Side : Type 0 where
+  first : Side
+  second : Side
+
+-- where what a caller knows stands: with the pass at this side of this seat, or in the opener's record with this number
 pub data Whereabouts : Type 0 where
-  at_seat : ℕ → Whereabouts
+  at_seat : Side → ℕ → Whereabouts
   in_record : ℕ → Whereabouts
 
 -- the numbers and the log between two steps, who opened the lock, which seat has each ticket, and where each caller stands
@@ -45,14 +50,23 @@ home h = some (Some h) ∷ []
 abbrev pub away : {T : Type 0} → Homes T
 away = none ∷ []
 
--- how many of the views are those of passes
+-- how many passes a view is of, and the views are of
 abbrev pub pass_count : {O E : Type 0} → View O E → ℕ
 pass_count (Pass who phase) = 1
-pass_count v = 0
+pass_count (Both p q) = 2
+pass_count (Opener d) = 0
+pass_count Spent = 0
 
 abbrev pub passes : {O E : Type 0} → List (View O E) → ℕ
 passes [] = 0
 passes (v ∷ vs) = pass_count v + passes vs
+
+-- the caller of the pass at this side of a seat with this view
+abbrev pub caller_at : {O E : Type 0} → Side → View O E → maybe.Option ℕ
+caller_at first (Pass who phase) = some who.knows.caller
+caller_at first (Both p q) = some p.who.knows.caller
+caller_at second (Both p q) = some q.who.knows.caller
+caller_at side v = none
 
 module _ {T O E : Type 0} (K : Ghosts T O E) (o : O) where
   -- the value after this many turns, with the lock's origin and this log
@@ -76,7 +90,7 @@ module _ {T O E : Type 0} (K : Ghosts T O E) (o : O) where
   module _ (at : Standing O E) where
     -- the caller stands there
     abbrev pub StandsAt : List (View O E) → Whereabouts → ℕ → Type 0
-    StandsAt views (at_seat seat) c = (who : Identity O E) × (phase : Phase E) × (get_elem? views seat ≡ some (Pass who phase)) × (who.knows.caller ≡ c)
+    StandsAt views (at_seat side seat) c = (v : View O E) × (get_elem? views seat ≡ some v) × (caller_at side v ≡ some c)
     StandsAt views (in_record i) c = (k : Knowledge E) × (get_elem? at.opener_knows.records i ≡ some k) × (k.caller ≡ c)
 
     -- a retired caller stands in its record, and its number was given out
@@ -117,10 +131,10 @@ module _ {T O E : Type 0} (K : Ghosts T O E) (o : O) where
       PhaseIs (Inside t found) = IsInside t found
 
       -- a pass is where its caller stands, whose number was given out
-      pub record IsPass (who : Identity O E) (phase : Phase E) : Type 0 where
+      pub record IsPass (side : Side) (who : Identity O E) (phase : Phase E) : Type 0 where
         pub same_origin : who.origin.value ≡ o
         pub was_given : who.knows.caller < at.opener_knows.next
-        pub stands_there : at.where_is who.knows.caller ≡ at_seat seat
+        pub stands_there : at.where_is who.knows.caller ≡ at_seat side seat
         pub knows : IsKnown at.current who.knows
         pub phase_is : PhaseIs phase
 
@@ -130,7 +144,8 @@ module _ {T O E : Type 0} (K : Ghosts T O E) (o : O) where
 
       abbrev pub ViewIs : View O E → Type 0
       ViewIs (Opener d) = IsOpener d
-      ViewIs (Pass who phase) = IsPass who phase
+      ViewIs (Pass who phase) = IsPass first who phase
+      ViewIs (Both p q) = IsPass first p.who (Out p.tries) × IsPass second q.who (Out q.tries)
       ViewIs Spent = Unit {0}
 
   -- the rule of the lock

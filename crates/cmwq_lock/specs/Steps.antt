@@ -4,13 +4,23 @@ use Rattle.atomic_table.specs.Table.{Me}
 use Rattle.cmwq_lock.specs.declared.kept.Kept.{Ghosts}
 use Rattle.cmwq_lock.specs.declared.views.Held.{Held}
 use Rattle.cmwq_lock.specs.declared.views.View.{View}
-use Rattle.cmwq_lock.specs.Log.{BeginsWith, calls_of}
+use Rattle.cmwq_lock.specs.declared.views.View.TheVariants.{Both}
+use Rattle.cmwq_lock.specs.Log.{BeginsWith, OneBegins, calls_of}
 use Rattle.cmwq_lock.specs.Views.{loaded, lost, waiting, looked, inside, came_out, is_inside, ticket_of, caller_of, found_of, seen_of, mine_of, HasOrigin}
+
+-- of the logs that two passes at one seat have seen one begins with the other
+abbrev pub SeenAgree : {O E : Type 0} → View O E → Type 0
+SeenAgree (Both p q) = OneBegins p.who.knows.seen q.who.knows.seen
+SeenAgree v = Unit {0}
 
 module _ {T O E : Type 0} where
   -- a load of `drawn` gives at most 2 ^ 62
   abbrev pub load_drawn : Me (Option (Held T)) (View O E) → ℕ → Me (Option (Held T)) (View O E) → Type 0
   load_drawn m n m' = (m' ≡ (loaded m.0 n, m.1)) × (n ≤ 2 ^ 62)
+
+  -- a look at `served` by two passes at one seat changes nothing
+  abbrev pub compare_seen : Me (Option (Held T)) (View O E) → Me (Option (Held T)) (View O E) → Type 0
+  compare_seen m m' = (m' ≡ m) × SeenAgree m.0
 
 -- the log of the value in the slot that was taken last
 abbrev pub log_carried : {T E : Type 0} → (T → List E) → List (ℕ × Option (Held T)) → List E

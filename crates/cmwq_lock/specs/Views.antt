@@ -4,9 +4,10 @@ use Rattle.cmwq_lock.specs.declared.views.Knowledge.{Knowledge}
 use Rattle.cmwq_lock.specs.declared.views.Identity.{Identity}
 use Rattle.cmwq_lock.specs.declared.views.Tries.{Tries}
 use Rattle.cmwq_lock.specs.declared.views.Queued.{Queued}
+use Rattle.cmwq_lock.specs.declared.views.OutPass.{OutPass}
 use Rattle.cmwq_lock.specs.declared.views.Phase.TheVariants.{Out, Waiting, Inside}
 use Rattle.cmwq_lock.specs.declared.views.View.{View}
-use Rattle.cmwq_lock.specs.declared.views.View.TheVariants.{Opener, Pass, Spent}
+use Rattle.cmwq_lock.specs.declared.views.View.TheVariants.{Opener, Pass, Both, Spent}
 use Rattle.cmwq_lock.specs.Log.{longer}
 
 -- what a pass has tried when it comes out: nothing yet
@@ -71,6 +72,29 @@ module _ {O E : Type 0} where
   taken_back (Opener d) (Pass who phase) = Opener (record d { out = d.out - 1; seen = longer d.seen who.knows.seen; records = d.records ++ who.knows ∷ [] })
   taken_back v w = v
 
+  -- the pass has seen this log, and is else as before
+  abbrev pub having_seen : View O E → List E → View O E
+  having_seen (Pass who phase) log = Pass (seeing who log) phase
+  having_seen v log = v
+
+  -- two passes with no ticket have one seat
+  abbrev pub joined : View O E → View O E → View O E
+  joined (Pass one (Out t)) (Pass other (Out u)) = Both (record { who = one; tries = t }) (record { who = other; tries = u })
+  joined v w = v
+
+  -- the longer of the logs that two passes have seen
+  abbrev pub longer_seen : OutPass O E → OutPass O E → List E
+  longer_seen p q = longer p.who.knows.seen q.who.knows.seen
+
+  -- each has a seat of its own again, and both have seen the longer log
+  abbrev pub first_met : View O E → View O E
+  first_met (Both p q) = Pass (seeing p.who (longer_seen p q)) (Out p.tries)
+  first_met v = v
+
+  abbrev pub second_met : View O E → View O E
+  second_met (Both p q) = Pass (seeing q.who (longer_seen p q)) (Out q.tries)
+  second_met v = v
+
   -- whose view it is
   abbrev pub is_opener : View O E → Bool
   is_opener (Opener d) = true
@@ -88,6 +112,10 @@ module _ {O E : Type 0} where
   is_inside (Pass who (Inside t log)) = true
   is_inside v = false
 
+  abbrev pub is_both : View O E → Bool
+  is_both (Both p q) = true
+  is_both v = false
+
   -- whether the pass holds a ticket
   abbrev pub has_ticket : View O E → Bool
   has_ticket (Pass who (Waiting q)) = true
@@ -99,11 +127,11 @@ module _ {O E : Type 0} where
   caller_of (Pass who phase) = who.knows.caller
   caller_of v = 0
 
-  -- the log as it was last seen
+  -- the log as a pass or the opener last saw it
   abbrev pub seen_of : View O E → List E
   seen_of (Pass who phase) = who.knows.seen
   seen_of (Opener d) = d.seen
-  seen_of Spent = []
+  seen_of v = []
 
   -- the entries of a caller's own calls
   abbrev pub mine_of : View O E → List E
@@ -153,6 +181,7 @@ module _ {O E : Type 0} where
   abbrev pub HasOrigin : View O E → O → Type 0
   HasOrigin (Opener d) o = d.origin.value ≡ o
   HasOrigin (Pass who phase) o = who.origin.value ≡ o
+  HasOrigin (Both p q) o = (p.who.origin.value ≡ o) × (q.who.origin.value ≡ o)
   HasOrigin Spent o = ⊥
 
   -- a pass's caller, what it saw and its own entries are as before

@@ -1,7 +1,7 @@
 //! The lock, as callers use it. A clause speaks of what a token knows, its view, in the words of `specs/Views.antt`.
 ghost use Rattle.std.specs.Prelude.{◌≡◌, ◌+◌, ◌-◌, ◌^◌, ◌<◌, [], ◌∷◌, ◌++◌, All, IfOk, IfErr};
-ghost use Rattle.cmwq_lock.specs.Log.{BeginsWith, longer};
-ghost use Rattle.cmwq_lock.specs.Views.{loaded, lost, waiting, looked, came_out, given, fresh, taken_back, caller_of, ticket_of, next_of, out_of, seen_of, mine_of, records_of, knowledge_of, HasOrigin, SameKnowledge};
+ghost use Rattle.cmwq_lock.specs.Log.{BeginsWith, OneBegins, longer};
+ghost use Rattle.cmwq_lock.specs.Views.{loaded, lost, waiting, looked, came_out, given, fresh, taken_back, having_seen, caller_of, ticket_of, next_of, out_of, seen_of, mine_of, records_of, knowledge_of, HasOrigin, SameKnowledge};
 ghost use Rattle.cmwq_lock.specs.Promises.{IsTurn, IsLastLog};
 ghost use Rattle.cmwq_lock.specs.Steps.{HasTurn};
 ghost use Rattle.cmwq_lock.specs.Rule.{opening_view};
@@ -262,6 +262,43 @@ impl<T: Kept + Drop> TicketLock<T> {
         steps::put_value(words, &mut seat, held);
         steps::end(words, &mut seat);
         (Pass { seat, caller }, ticket, out)
+    }
+
+    /// Two callers tell each other what they have seen: of the two logs one begins with the other, and both passes have then seen
+    /// the longer. Each comes back in its place, with its caller, the entries of its own calls and its tries as before. It takes no
+    /// memory and does not wait.
+    pub fn meet(&self, first: Pass<T>, second: Pass<T>) -> (Pass<T>, Pass<T>)
+        requires first { IsPassOf T.Kept self.now first }
+        requires second { IsPassOf T.Kept self.now second }
+        ensures first_token { IsPassOf T.Kept self.now result.0 }
+        ensures second_token { IsPassOf T.Kept self.now result.1 }
+        ensures one_history { OneBegins (seen_of (pass_view first)) (seen_of (pass_view second)) }
+        ensures seen { let log = longer (seen_of (pass_view first)) (seen_of (pass_view second)) in
+            (seen_of (pass_view result.0) ≡ log) × (seen_of (pass_view result.1) ≡ log) }
+        ensures begins { BeginsWith (seen_of (pass_view result.0)) (seen_of (pass_view first))
+            × BeginsWith (seen_of (pass_view result.1)) (seen_of (pass_view second)) }
+        ensures callers { (caller_of (pass_view result.0) ≡ caller_of (pass_view first))
+            × (caller_of (pass_view result.1) ≡ caller_of (pass_view second)) }
+        ensures mine { (mine_of (pass_view result.0) ≡ mine_of (pass_view first))
+            × (mine_of (pass_view result.1) ≡ mine_of (pass_view second)) }
+        ensures views { let log = longer (seen_of (pass_view first)) (seen_of (pass_view second)) in
+            (pass_view result.0 ≡ having_seen (pass_view first) log)
+            × (pass_view result.1 ≡ having_seen (pass_view second) log) }
+    {
+        let words = &self.table.shared;
+        let Pass { mut seat, caller } = first;
+        let Pass {
+            seat: second_seat,
+            caller: second_caller,
+        } = second;
+        steps::join(words, &mut seat, second_seat);
+        steps::compare(words, &mut seat);
+        let second_seat = steps::part(words, &mut seat);
+        let second = Pass {
+            seat: second_seat,
+            caller: second_caller,
+        };
+        (Pass { seat, caller }, second)
     }
 
     /// Takes a pass back, and records what it knew. Its caller's number is not used again.

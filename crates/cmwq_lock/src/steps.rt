@@ -1,7 +1,7 @@
 //! The atomic steps of the lock, one function each, over the two words and the slot of its table.
 ghost use Rattle.std.specs.Prelude.{◌≡◌, ◌≢◌, ◌+◌, ◌^◌, ◌<◌, [], ◌∷◌, true, length, Some, None};
-ghost use Rattle.cmwq_lock.specs.Views.{is_opener, is_out, is_waiting, is_inside, loaded_of, given, fresh, taken_back};
-ghost use Rattle.cmwq_lock.specs.Steps.{load_drawn, exchange_drawn, look_served, end_turn};
+ghost use Rattle.cmwq_lock.specs.Views.{is_opener, is_out, is_waiting, is_inside, is_both, loaded_of, given, fresh, taken_back, joined, first_met, second_met};
+ghost use Rattle.cmwq_lock.specs.Steps.{load_drawn, exchange_drawn, look_served, end_turn, compare_seen};
 ghost use Rattle.cmwq_lock.specs.Rule.{IsLeft};
 ghost use Rattle.cmwq_lock.specs.Seats.{IsSeatOf};
 
@@ -83,6 +83,30 @@ impl<O, E> Join<View<O, E>> for TakePass {
     ghost both = { taken_back };
 
     ghost spent = { Spent };
+}
+
+struct CompareSeen;
+
+impl<T: Kept> Play<Option<Held<T>>, View<T::Origin, T::Entry>> for CompareSeen {
+    ghost then = { λ st m n after. compare_seen m after };
+}
+
+struct JoinPasses;
+
+impl<O, E> Join<View<O, E>> for JoinPasses {
+    ghost use Rattle.cmwq_lock.specs.declared.views.View.TheVariants.{Spent};
+
+    ghost both = { joined };
+
+    ghost spent = { Spent };
+}
+
+struct PartPasses;
+
+impl<O, E> Split<View<O, E>> for PartPasses {
+    ghost left = { first_met };
+
+    ghost right = { second_met };
 }
 
 /// Loads `drawn` once.
@@ -172,4 +196,37 @@ pub(crate) fn take_back<T: Kept>(words: &Words<T>, opener: &mut LockSeat<T>, pas
     ensures opener { opener.new.me ≡ (taken_back opener.old.me.0 pass.me.0, opener.old.me.1) }
 {
     words.join_seat::<TakePass>(opener, pass)
+}
+
+/// Takes a second pass in at the seat of a first, and ends its own seat.
+pub(crate) fn join<T: Kept>(words: &Words<T>, first: &mut LockSeat<T>, second: LockSeat<T>)
+    requires seats { IsSeatOf words.now first.old × IsSeatOf words.now second }
+    requires first_out { is_out first.old.me.0 ≡ true }
+    requires second_out { is_out second.me.0 ≡ true }
+    requires bare { length second.me.1 ≡ 0 }
+    ensures place { first.new.table_id ≡ first.old.table_id }
+    ensures both { first.new.me ≡ (joined first.old.me.0 second.me.0, first.old.me.1) }
+{
+    words.join_seat::<JoinPasses>(first, second)
+}
+
+/// Loads `served` once at the seat of two passes, which tells how the logs that they have seen go together.
+pub(crate) fn compare<T: Kept>(words: &Words<T>, both: &mut LockSeat<T>)
+    requires place { IsSeatOf words.now both.old }
+    requires both { is_both both.old.me.0 ≡ true }
+    ensures place { both.new.table_id ≡ both.old.table_id }
+    ensures tells { compare_seen both.old.me both.new.me }
+{
+    words.load::<CompareSeen>(both, SERVED);
+}
+
+/// Gives the second of two passes a seat of its own. Both have then seen the longer of their logs.
+pub(crate) fn part<T: Kept>(words: &Words<T>, both: &mut LockSeat<T>) -> LockSeat<T>
+    requires place { IsSeatOf words.now both.old }
+    requires both { is_both both.old.me.0 ≡ true }
+    ensures place { (both.new.table_id ≡ both.old.table_id) × (result.table_id ≡ both.old.table_id) }
+    ensures first { both.new.me ≡ (first_met both.old.me.0, both.old.me.1) }
+    ensures second { result.me ≡ (second_met both.old.me.0, []) }
+{
+    words.split_seat::<PartPasses>(both)
 }

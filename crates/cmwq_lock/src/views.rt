@@ -40,6 +40,12 @@ pub enum Phase<E> {
     Inside(u64, LinkedList<E>),
 }
 
+/// A pass that has no ticket: whose it is, and what it has tried.
+pub struct OutPass<O, E> {
+    pub who: Identity<O, E>,
+    pub tries: Tries,
+}
+
 /// What the opener knows: the next caller's number, how many passes are out, the log as it last saw it, and what each retired
 /// caller knew.
 pub struct OpenerView<O, E> {
@@ -54,6 +60,8 @@ pub struct OpenerView<O, E> {
 pub enum View<O, E> {
     Opener(OpenerView<O, E>),
     Pass(Identity<O, E>, Phase<E>),
+    /// Of a seat that two passes with no ticket have while they meet: the first and the second.
+    Both(OutPass<O, E>, OutPass<O, E>),
     /// Of a seat that was joined.
     Spent,
 }

@@ -2,4 +2,6 @@
 #![tactic(auto)]
 
 #[cfg(test)]
+mod meeting;
+#[cfg(test)]
 mod turns;

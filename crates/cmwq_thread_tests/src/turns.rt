@@ -14,8 +14,8 @@ use std::thread::{Threads, join};
 
 /// A log of at most eight pairs of ticket and caller.
 #[derive(Drop)]
-struct Pairs {
-    pairs: Vec<(u64, u32)>,
+pub(crate) struct Pairs {
+    pub(crate) pairs: Vec<(u64, u32)>,
 }
 
 impl Kept for Pairs {
@@ -42,7 +42,7 @@ impl Kept for Pairs {
 
 /// Enters its pair, unless the log is full, and answers the log's length.
 #[derive(Drop)]
-struct Enter;
+pub(crate) struct Enter;
 
 impl Call<Pairs> for Enter {
     type Out = usize;
@@ -66,7 +66,7 @@ fn empty(alloc: Global) -> Result<Pairs, NoMemory>
 }
 
 /// A new lock, and its first two passes.
-fn with_two_passes(
+pub(crate) fn with_two_passes(
     rt: &impl Abort,
     alloc: Global,
 ) -> (TicketLock<Pairs>, Opener<Pairs>, Pass<Pairs>, Pass<Pairs>)
@@ -82,7 +82,7 @@ fn with_two_passes(
 }
 
 /// Draws a ticket, where no other thread draws.
-fn drawn_by(rt: &impl Abort, lock: &TicketLock<Pairs>, pass: Pass<Pairs>) -> Drawn<Pairs>
+pub(crate) fn drawn_by(rt: &impl Abort, lock: &TicketLock<Pairs>, pass: Pass<Pairs>) -> Drawn<Pairs>
     requires { IsPassOf ⟦<Pairs as Kept>⟧ lock.now pass }
     ensures { IsDrawnOf ⟦<Pairs as Kept>⟧ lock.now result }
 {
@@ -93,7 +93,7 @@ fn drawn_by(rt: &impl Abort, lock: &TicketLock<Pairs>, pass: Pass<Pairs>) -> Dra
 }
 
 /// Takes the turn of this ticket, after which the log has this length.
-fn taken(
+pub(crate) fn taken(
     rt: &impl Abort,
     lock: &TicketLock<Pairs>,
     drawn: Drawn<Pairs>,
@@ -158,7 +158,7 @@ fn not_closed(
 }
 
 /// Retires both passes, and closes the lock.
-fn closed(
+pub(crate) fn closed(
     rt: &impl Abort,
     lock: TicketLock<Pairs>,
     opener: Opener<Pairs>,
@@ -221,7 +221,7 @@ fn three_turns<R: Wait>(rt: &R, lock: &TicketLock<Pairs>, pass: Pass<Pairs>) -> 
     pass
 }
 
-fn both<R: Threads + Wait + Sync>(
+pub(crate) fn both<R: Threads + Wait + Sync>(
     rt: &R,
     lock: &TicketLock<Pairs>,
     one: Pass<Pairs>,
