@@ -104,3 +104,18 @@ pub never_faulty : (input : Option (List ℕ)) (goal : FaultAt → Type 0) → I
     → IfSome input (λ text. (fault : FaultAt) → IsFault text fault → goal fault)
 never_faulty (Some text) goal sound = λ fault faulty. elim (sound fault faulty) [ ]
 never_faulty None goal sound = tt
+
+-- of an input of which so many bytes were read, few are gone
+pub few_read : (old now : Option (List ℕ)) (text : List ℕ) → Consumes old now text → length text ≤ MAX_TEXT + 1
+    → IfSome old (λ input. IfSome now (λ left. length input ≤ length left + MAX_TEXT + 1))
+few_read None now text front bounded = tt
+few_read (Some bytes) None text front bounded = tt
+few_read (Some bytes) (Some rest) text front bounded = let count = ap length front ∙ length-append text rest in omega arith
+
+-- nor where some more were read, which may be lost
+pub few_more : (old mid now : Option (List ℕ)) (text : List ℕ) (more : ℕ) → Consumes old mid text → IfSome mid (λ input. IfSome now (λ left. length input ≤ length left + more))
+    → length text + more ≤ MAX_TEXT + 1 → IfSome old (λ input. IfSome now (λ left. length input ≤ length left + MAX_TEXT + 1))
+few_more None mid now text more front few bounded = tt
+few_more (Some bytes) mid None text more front few bounded = tt
+few_more (Some bytes) None (Some rest) text more front few bounded = absurd front
+few_more (Some bytes) (Some input) (Some rest) text more front few bounded = let count = ap length front ∙ length-append text input in omega arith

@@ -5,8 +5,8 @@ ghost use Rattle.cmwq_grammar.specs.Meaning.{FaultAt};
 ghost use Rattle.cmwq_play.specs.Texts.{IsAboutText, IsOutside, IsSpelled, TellsFault};
 ghost use Rattle.cmwq_types.specs.Contents.{ScenarioContents};
 ghost use Rattle.cmwq_types.specs.declared.limits.TheConstants.{MAX_TEXT};
-ghost use Rattle.std.specs.Io.KnownBytes.{Consumes};
-ghost use Rattle.std.specs.Prelude.{◌≡◌, ◌<◌, ◌≤◌, ◌+◌, ◌↔◌, ◌⊎◌, ◌≢◌, Err, IfErr, IfOk, IfSome, MatchResult, false, length, true};
+ghost use Rattle.std.specs.Io.KnownBytes.{Consumes, IsAtEnd, Keeps};
+ghost use Rattle.std.specs.Prelude.{◌≡◌, ◌<◌, ◌≤◌, ◌+◌, ◌↔◌, ◌⊎◌, ◌≢◌, Err, IfErr, IfOk, IfSome, List, MatchResult, Ok, OnErr, OnOk, Option, false, length, take, true, ℕ};
 
 use crate::error::PlayError;
 use crate::stream::Source;
@@ -67,14 +67,51 @@ pub(crate) fn read_whole<R: Source>(alloc: Global, reader: &mut R) -> Result<Vec
     let mut chunk = [0u8; 4096];
     for _turn in 0..MAX_TEXT + 1 {
         let room = (MAX_TEXT + 1 - text.len()).min(4096);
-        match reader.pull(&mut chunk[..room]) {
-            Err(_) => return Err(PlayError::Read),
-            Ok(0) => return Ok(text),
-            Ok(n) => text.extend_from_slice(&chunk[..n])?,
+        if !read_more(reader, &mut text, &mut chunk[..room])? {
+            return Ok(text);
         }
         if text.len() > MAX_TEXT {
             return Ok(text);
         }
     }
     unreachable!()
+}
+
+/// Reads once behind the text, by way of the chunk, and says whether anything came.
+fn read_more<R: Source>(
+    reader: &mut R,
+    text: &mut Vec<u8>,
+    chunk: &mut [u8],
+) -> Result<bool, PlayError>
+    requires sound { R.failed reader.old ≡ false }
+    requires some { 0 < length chunk.old }
+    ensures front { OnOk result ((before : Option (List ℕ)) → Consumes before (R.remaining reader.old) text.old.items
+        → Consumes before (R.remaining reader.new) text.new.items) }
+    ensures more { result ≡ Ok true → length text.old.items < length text.new.items }
+    ensures end { result ≡ Ok false → IsAtEnd (R.remaining reader.new) × (text.new.items ≡ text.old.items) }
+    ensures within { OnOk result (length text.new.items ≤ length text.old.items + length chunk.old) }
+    ensures read { (result ≡ Err PlayError.Read) ↔ (R.failed reader.new ≡ true) }
+    ensures other { IfErr result (λ error. (error ≡ PlayError.Read) ⊎ (error ≡ PlayError.NoMemory)) }
+    ensures few { IfSome (R.remaining reader.old) (λ input. IfSome (R.remaining reader.new) (λ left. length input ≤ length left + length chunk.old)) }
+{
+    let count = pull_some(reader, chunk)?;
+    text.extend_from_slice(&chunk[..count])?;
+    Ok(count > 0)
+}
+
+/// Reads once into the chunk, and says how many bytes came: none only at the end.
+fn pull_some<R: Source>(reader: &mut R, chunk: &mut [u8]) -> Result<usize, PlayError>
+    requires sound { R.failed reader.old ≡ false }
+    requires some { 0 < length chunk.old }
+    ensures within { IfOk result (λ count. count ≤ length chunk.old) }
+    ensures front { IfOk result (λ count. Consumes (R.remaining reader.old) (R.remaining reader.new) (take count chunk.new)) }
+    ensures end { result ≡ Ok 0 → IsAtEnd (R.remaining reader.new) }
+    ensures kept { OnErr result (Keeps (R.remaining reader.old) (R.remaining reader.new)) }
+    ensures read { (result ≡ Err PlayError.Read) ↔ (R.failed reader.new ≡ true) }
+    ensures why { IfErr result (λ error. error ≡ PlayError.Read) }
+{
+    match reader.pull(chunk) {
+        Ok(count) => Ok(count),
+        Err(_) => Err(PlayError::Read),
+    }
 }
