@@ -15,11 +15,11 @@ ghost use Rattle.std.specs.Prelude.{◌≡◌, ◌≢◌, ◌≤◌, ◌+◌, �
 
 use crate::error::PlayError;
 use crate::reading::{read_text, read_whole};
-use crate::sending::put_all;
 use crate::stream::{Sink, Source};
-use cmwq_asm::{AsmError, list};
+use crate::writing::{write_image, write_listing};
+use cmwq_asm::AsmError;
 use cmwq_image::laws::{far_bytes_change_no_reading, image_is_at_most_923058_bytes};
-use cmwq_image::{ImageError, read, write};
+use cmwq_image::{ImageError, read};
 use cmwq_types::Scenario;
 use std::alloc::Global;
 
@@ -57,8 +57,7 @@ pub fn to_image<R: Source, W: Sink>(
     ensures few { IfSome (R.remaining reader.old) (λ input. IfSome (R.remaining reader.new) (λ left. length input ≤ length left + MAX_TEXT + 1)) }
 {
     let scenario = read_text(alloc, reader)?;
-    let image = write(alloc, &scenario)?;
-    put_all(writer, &image)
+    write_image(alloc, &scenario, writer)
 }
 
 /// Reads a scenario's image, and writes the scenario's listing.
@@ -88,8 +87,7 @@ pub fn from_image<R: Source, W: Sink>(
     ensures few { IfSome (R.remaining reader.old) (λ input. IfSome (R.remaining reader.new) (λ left. length input ≤ length left + MAX_TEXT + 1)) }
 {
     let scenario = read_image(alloc, reader)?;
-    let text = list(alloc, &scenario)?;
-    put_all(writer, &text)
+    write_listing(alloc, &scenario, writer)
 }
 
 /// Reads a scenario's image, and gives the scenario.

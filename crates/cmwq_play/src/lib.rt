@@ -9,6 +9,7 @@ mod reading;
 mod running;
 mod sending;
 mod stream;
+mod writing;
 
 pub use error::PlayError;
 pub use images::{from_image, to_image};

@@ -11,9 +11,9 @@ ghost use Rattle.std.specs.Prelude.{◌≡◌, ◌≢◌, ◌≤◌, ◌+◌, �
 
 use crate::error::PlayError;
 use crate::reading::read_text;
-use crate::sending::put_all;
 use crate::stream::{Sink, Source};
-use cmwq_asm::{AsmError, list};
+use crate::writing::write_listing;
+use cmwq_asm::AsmError;
 use std::alloc::Global;
 
 /// Reads a scenario's text, and writes its listing.
@@ -50,6 +50,5 @@ pub fn list_text<R: Source, W: Sink>(
     ensures few { IfSome (R.remaining reader.old) (λ input. IfSome (R.remaining reader.new) (λ left. length input ≤ length left + MAX_TEXT + 1)) }
 {
     let scenario = read_text(alloc, reader)?;
-    let text = list(alloc, &scenario)?;
-    put_all(writer, &text)
+    write_listing(alloc, &scenario, writer)
 }

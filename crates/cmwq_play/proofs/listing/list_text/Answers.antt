@@ -14,5 +14,5 @@ returns-in_err-scenario-clause-fault g c =
 pub returns-clause-fault : goal.returns-clause-fault
 returns-clause-fault g c =
     never_faulty (g.R.Read.remaining c.args.reader.now)
-    (λ fault. MatchResult c.put_all.result (λ _. ⊥) (λ error. (error ≡ Asm (At fault.line fault.why)) ⊎ IsOutside error))
+    (λ fault. MatchResult c.write_listing.result (λ _. ⊥) (λ error. (error ≡ Asm (At fault.line fault.why)) ⊎ IsOutside error))
     c.in_ok-scenario.ensures.fault
