@@ -1,6 +1,6 @@
 //! `run`: from a scenario's text to the lines that it prints.
 ghost use Rattle.cmwq_play.specs.Sending.{IsSendError, Prints, PrintsFront, PrintsFrontOfRun, PrintsRun, Sends, SendsFront};
-ghost use Rattle.cmwq_play.specs.Texts.{HasOtherActors, IsBeforeWriting, IsOutside, TellsFault};
+ghost use Rattle.cmwq_play.specs.Texts.{HasOtherActors, IsBeforeWriting, IsOutside, IsSpelled, TellsFault};
 ghost use Rattle.cmwq_grammar.specs.FaultLaw.{IsFault};
 ghost use Rattle.cmwq_grammar.specs.Grammar.{Spells};
 ghost use Rattle.cmwq_grammar.specs.Meaning.{FaultAt};
@@ -11,7 +11,7 @@ ghost use Rattle.cmwq_types.specs.Faults.{IsValid};
 ghost use Rattle.cmwq_types.specs.declared.limits.TheConstants.{MAX_TEXT};
 ghost use Rattle.cmwq_table.specs.State.{start};
 ghost use Rattle.std.specs.Io.KnownBytes.{Keeps};
-ghost use Rattle.std.specs.Prelude.{◌≡◌, ◌≢◌, ◌≤◌, ◌+◌, ◌↔◌, ◌⊎◌, ◌==◌, ◌∷◌, [], Err, IfErr, IfSome, MatchResult, OnErr, OnOk, false, length, true};
+ghost use Rattle.std.specs.Prelude.{◌≡◌, ◌≢◌, ◌≤◌, ◌+◌, ◌↔◌, ◌⊎◌, ◌==◌, ◌∷◌, [], Err, IfErr, IfOk, IfSome, MatchResult, OnErr, OnOk, false, length, true};
 
 use crate::error::PlayError;
 use crate::issuing::issue_lines;
@@ -64,11 +64,32 @@ pub fn run<R: Source, W: Sink>(
 
     ensures few { IfSome (R.remaining reader.old) (λ input. IfSome (R.remaining reader.new) (λ left. length input ≤ length left + MAX_TEXT + 1)) }
 {
+    let scenario = read_runnable(alloc, reader)?;
+    load_and_play(alloc, &scenario, writer)
+}
+
+/// Reads a scenario's text, and gives the scenario that it spells, which has one actor.
+fn read_runnable<R: Source>(alloc: Global, reader: &mut R) -> Result<Scenario, PlayError>
+    requires { R.failed reader.old ≡ false }
+    ensures found { IfOk result (λ scenario. IsSpelled (R.remaining reader.old) scenario) }
+    ensures alone { IfOk result (λ scenario. length scenario.actors ≡ 1) }
+    ensures runs { IfSome (R.remaining reader.old) (λ text. (S : ScenarioContents) → Spells text S → length S.actors ≡ 1
+        → IfErr result (λ error. IsOutside error)) }
+    ensures actors { IfSome (R.remaining reader.old) (λ text. (S : ScenarioContents) → Spells text S → length S.actors ≢ 1
+        → MatchResult result (λ _. ⊥) (λ error. (error ≡ PlayError.Actors) ⊎ IsOutside error)) }
+    ensures fault { IfSome (R.remaining reader.old) (λ text. (fault : FaultAt) → IsFault text fault
+        → MatchResult result (λ _. ⊥) (λ error. (error ≡ PlayError.Asm (AsmError.At fault.line fault.why)) ⊎ IsOutside error)) }
+    ensures told { IfSome (R.remaining reader.old) (λ text. IfErr result (λ error. TellsFault text error)) }
+    ensures told_actors { result ≡ Err PlayError.Actors → HasOtherActors (R.remaining reader.old) }
+    ensures read { (result ≡ Err PlayError.Read) ↔ (R.failed reader.new ≡ true) }
+    ensures no_write { result ≢ Err PlayError.Write }
+    ensures few { IfSome (R.remaining reader.old) (λ input. IfSome (R.remaining reader.new) (λ left. length input ≤ length left + MAX_TEXT + 1)) }
+{
     let scenario = read_text(alloc, reader)?;
     if !has_one_actor(&scenario) {
         return Err(PlayError::Actors);
     }
-    load_and_play(alloc, &scenario, writer)
+    Ok(scenario)
 }
 
 fn has_one_actor(scenario: &Scenario) -> bool
