@@ -1,4 +1,4 @@
-use Rattle.std.proofs.Common.{◌≡◌, ◌⊎◌, MatchResult}
+use Rattle.std.proofs.Common.{◌≡◌, ◌⊎◌}
 use Rattle.std.proofs.lemmas.Result.{err_from_is_err_and}
 use Rattle.cmwq_asm.specs.declared.fault.AsmError.TheVariants.{At}
 use Rattle.cmwq_play.specs.Texts.{IsOutside}
