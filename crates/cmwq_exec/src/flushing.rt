@@ -1,6 +1,5 @@
 //! The instructions that give a flush, and what each one is on.
 ghost use Rattle.cmwq_exec.specs.Performing.{performed};
-ghost use Rattle.cmwq_table.specs.Counts.{is_placed};
 ghost use Rattle.cmwq_table.specs.Moves.{last_instance, running_instance};
 ghost use Rattle.cmwq_table.specs.State.{pending_at, running_at};
 ghost use Rattle.cmwq_table.specs.Table.{flushed, no_more_flushes};
@@ -10,7 +9,7 @@ ghost use Rattle.std.specs.Prelude.{◌≡◌, ◌<◌, ◌^◌, length};
 use crate::going::Going;
 use crate::parts::Parts;
 use cmwq_table::FlushTarget;
-use cmwq_types::{Place, QueueId, Refusal, Reply, WorkId};
+use cmwq_types::{QueueId, Refusal, Reply, WorkId};
 
 impl<P: Parts> Going<P> {
     /// What a flush is refused for where no further one can be given.
@@ -120,18 +119,11 @@ impl<P: Parts> Going<P> {
         ensures { result ≡ last_instance w.0 (pending_at self.now.state w.0) (running_at self.now.state w.0) }
     {
         match self.pending_of(w.0 as usize) {
-            Some(p) if is_placed(p.place) => FlushTarget::Instance {
+            Some(p) if p.place.is_placed() => FlushTarget::Instance {
                 work: w,
                 born: p.born,
             },
             _ => self.running_instance(w),
         }
     }
-}
-
-/// Whether the place is in a pool.
-fn is_placed(place: Place) -> bool
-    ensures { result ≡ is_placed place }
-{
-    !matches!(place, Place::Timer { .. })
 }

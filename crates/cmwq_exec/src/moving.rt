@@ -12,7 +12,7 @@ ghost use Rattle.std.specs.Prelude.{◌≡◌, ◌<◌, ◌^◌, IfSome, None, S
 use crate::going::Going;
 use crate::parts::Parts;
 use cmwq_table::Running;
-use cmwq_types::{Event, Move, Op, Place, WorkId};
+use cmwq_types::{Event, Move, Op, WorkId};
 
 impl<P: Parts> Going<P> {
     /// The next move of the pool: advance, else wake, else start.
@@ -182,7 +182,7 @@ impl<P: Parts> Going<P> {
         ensures takes { Takes 1 self.old.state self.new.state }
     {
         match self.pending_of(w) {
-            Some(p) if matches!(p.place, Place::Deferred(_)) => {
+            Some(p) if p.place.is_deferred() => {
                 self.begin_again(w, r, p);
                 Event::FinishesAndStarts
             }

@@ -5,7 +5,6 @@ ghost use Rattle.std.specs.Prelude.{◌≡◌, ◌<◌, IfSome, length};
 use crate::records::Records;
 use crate::sought::Sought;
 use crate::tally::Tally;
-use crate::works::burned_out;
 use cmwq_exec::Parts;
 
 impl Records {
@@ -43,7 +42,7 @@ impl Records {
         ensures in_range { IfSome result (λ w. w < length self.now.scenario.works) }
     {
         match work {
-            Some(w) if burned_out(self.running_of(w)) => Some(w),
+            Some(w) if matches!(self.running_of(w), Some(r) if r.left == 0) => Some(w),
             _ => None,
         }
     }

@@ -5,10 +5,7 @@ ghost use Rattle.cmwq_types.specs.Scenario.{queue_of};
 ghost use Rattle.std.specs.Prelude.{◌≡◌, ◌<◌, ◌==◌, ◌&&◌, ◌||◌, IfSome, length, nat_lt, true};
 
 use crate::records::Records;
-use crate::works::{
-    due, is_due, is_inactive, is_listed, is_ready, is_runnable, is_slept, stamp_pending,
-    stamp_running, until,
-};
+use crate::works::{due, stamp_pending, stamp_running, until};
 use cmwq_exec::Parts;
 
 /// What a scan of the works looks for.
@@ -59,13 +56,22 @@ impl Records {
     {
         match sought {
             Sought::Inactive { queue, pool } => {
-                self.scenario().queue_of(w) == queue && is_inactive(self.pending_of(w), pool)
+                self.scenario().queue_of(w) == queue
+                    && matches!(self.pending_of(w), Some(p) if p.place.is_inactive(pool))
             }
-            Sought::Listed { pool } => is_listed(self.pending_of(w), pool),
-            Sought::Due => is_due(self.pending_of(w), self.time()),
-            Sought::Slept { pool } => is_slept(self.running_of(w), pool, self.time()),
-            Sought::Runnable { pool } => is_runnable(self.running_of(w), pool),
-            Sought::Ready { pool } => is_ready(self.running_of(w), pool),
+            Sought::Listed { pool } => {
+                matches!(self.pending_of(w), Some(p) if p.place.is_listed(pool))
+            }
+            Sought::Due => matches!(self.pending_of(w), Some(p) if p.place.is_due(self.time())),
+            Sought::Slept { pool } => {
+                matches!(self.running_of(w), Some(r) if r.pool == pool && r.mode.is_slept(self.time()))
+            }
+            Sought::Runnable { pool } => {
+                matches!(self.running_of(w), Some(r) if r.pool == pool && r.mode.is_runnable())
+            }
+            Sought::Ready { pool } => {
+                matches!(self.running_of(w), Some(r) if r.pool == pool && r.mode.is_runnable() && r.left == 0)
+            }
         }
     }
 

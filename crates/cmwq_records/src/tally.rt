@@ -6,7 +6,6 @@ ghost use Rattle.cmwq_types.specs.declared.limits.TheConstants.{MAX_WORKS};
 ghost use Rattle.std.specs.Prelude.{◌≡◌, ◌≤◌, length};
 
 use crate::records::Records;
-use crate::works::{is_activated, is_active, is_runnable, runs_in};
 use cmwq_exec::Parts;
 
 /// What a scan of the works counts.
@@ -46,20 +45,24 @@ impl Records {
         let scenario = self.scenario();
         match tally {
             Tally::ActivePending { queue, pool } => {
-                scenario.queue_of(w) == queue && is_active(self.pending_of(w), pool)
+                scenario.queue_of(w) == queue
+                    && matches!(self.pending_of(w), Some(p) if p.place.is_active(pool))
             }
             Tally::ActiveRunning { queue, pool } => {
-                scenario.queue_of(w) == queue && runs_in(self.running_of(w), pool)
+                scenario.queue_of(w) == queue
+                    && matches!(self.running_of(w), Some(r) if r.pool == pool)
             }
             Tally::Counted { pool } => {
-                is_runnable(self.running_of(w), pool) && !self.is_intensive(w)
+                matches!(self.running_of(w), Some(r) if r.pool == pool && r.mode.is_runnable())
+                    && !self.is_intensive(w)
             }
             Tally::QueuedBefore { queue, bound } => {
                 scenario.queue_of(w) == queue && self.has_instance_before(w, bound)
             }
             Tally::Busy => {
                 self.is_freezable(w)
-                    && (is_activated(self.pending_of(w)) || self.running_of(w).is_some())
+                    && (matches!(self.pending_of(w), Some(p) if p.place.is_activated())
+                        || self.running_of(w).is_some())
             }
         }
     }

@@ -2,85 +2,17 @@
 use Rattle.std.specs.Prelude.{ℕ, ◌+◌, Bool, true, false, not, ◌&&◌, ◌||◌, length, Option, Some, None, if◌then◌else◌, nat_lt, nat_le, ◌==◌, is_some, is_none}
 use Rattle.cmwq_types.specs.Contents.{ScenarioContents}
 use Rattle.cmwq_types.specs.Scenario.{flags_at, queue_of}
+pub use Rattle.cmwq_types.specs.Places.{is_inactive, is_listed, is_active, is_activated, is_deferred, is_placed, is_due, due_of, is_runnable, is_slept, until_of}
+pub use Rattle.cmwq_types.specs.First.{or_else}
 use Rattle.cmwq_types.specs.First.{count_below, first_below, by_least, by_least_two, by_greatest}
 use Rattle.cmwq_types.specs.declared.reply.Place.{Place}
-use Rattle.cmwq_types.specs.declared.reply.Place.TheVariants.{Timer, Inactive, Listed, Deferred}
-use Rattle.cmwq_types.specs.declared.reply.Mode.{Mode}
-use Rattle.cmwq_types.specs.declared.reply.Mode.TheVariants.{Runnable, Asleep}
 use Rattle.cmwq_table.specs.declared.state.FlushTarget.{FlushTarget}
 use Rattle.cmwq_table.specs.declared.state.FlushTarget.TheVariants.{Instance, Queue, Nothing}
 use Rattle.cmwq_table.specs.declared.state.Pending.{Pending}
 use Rattle.cmwq_table.specs.declared.state.Running.{Running}
 use Rattle.cmwq_table.specs.State.{State, pending_at, running_at, idle_at, made_at, max_at, is_unbound, is_high}
 
--- What a place and a mode tell.
-
-abbrev pub is_inactive : Place → ℕ → Bool
-is_inactive (Inactive at) pool = at == pool
-is_inactive (Timer due cpu) pool = false
-is_inactive (Listed at) pool = false
-is_inactive (Deferred at) pool = false
-
-abbrev pub is_listed : Place → ℕ → Bool
-is_listed (Listed at) pool = at == pool
-is_listed (Timer due cpu) pool = false
-is_listed (Inactive at) pool = false
-is_listed (Deferred at) pool = false
-
--- listed or deferred: it counts against max_active
-abbrev pub is_active : Place → ℕ → Bool
-is_active (Listed at) pool = at == pool
-is_active (Deferred at) pool = at == pool
-is_active (Timer due cpu) pool = false
-is_active (Inactive at) pool = false
-
--- the same, in whatever pool
-abbrev pub is_activated : Place → Bool
-is_activated (Listed at) = true
-is_activated (Deferred at) = true
-is_activated (Timer due cpu) = false
-is_activated (Inactive at) = false
-
-abbrev pub is_deferred : Place → Bool
-is_deferred (Deferred at) = true
-is_deferred (Timer due cpu) = false
-is_deferred (Inactive at) = false
-is_deferred (Listed at) = false
-
--- inactive, listed or deferred: it stands in a pool
-abbrev pub is_placed : Place → Bool
-is_placed (Inactive at) = true
-is_placed (Listed at) = true
-is_placed (Deferred at) = true
-is_placed (Timer due cpu) = false
-
--- a timer that has run out
-abbrev pub is_due : Place → ℕ → Bool
-is_due (Timer due cpu) now = nat_le due now
-is_due (Inactive at) now = false
-is_due (Listed at) now = false
-is_due (Deferred at) now = false
-
-abbrev pub due_of : Place → ℕ
-due_of (Timer due cpu) = due
-due_of (Inactive at) = 0
-due_of (Listed at) = 0
-due_of (Deferred at) = 0
-
-abbrev pub is_runnable : Mode → Bool
-is_runnable Runnable = true
-is_runnable (Asleep until) = false
-
--- a sleep that is over
-abbrev pub is_slept : Mode → ℕ → Bool
-is_slept Runnable now = false
-is_slept (Asleep until) now = nat_le until now
-
-abbrev pub until_of : Mode → ℕ
-until_of Runnable = 0
-until_of (Asleep until) = until
-
--- The same of a work that may not be pending, or not run.
+-- What a place and a mode tell of a work that may not be pending, or not run.
 
 abbrev pub pends : (Place → Bool) → Option Pending → Bool
 pends test (Some p) = test p.place
@@ -207,11 +139,6 @@ last_idle S s pool =
 -- the number of a new worker, if one can be made
 abbrev pub new_worker : ScenarioContents → State → ℕ → Option ℕ
 new_worker S s pool = if nat_lt (made_at s pool) S.workers then Some (made_at s pool) else None
-
--- one or else the other
-abbrev pub or_else : {A : Type 0} → Option A → Option A → Option A
-or_else (Some x) other = Some x
-or_else None other = other
 
 -- the worker of the pool that takes the next work: an idle one, else a new one
 abbrev pub free_worker : ScenarioContents → State → ℕ → Option ℕ

@@ -3,6 +3,7 @@ use Rattle.std.specs.Prelude.{◌≡◌, ℕ, ◌-◌, Bool, true, false, ◌&&�
 use Rattle.std.specs.List.{list_any}
 use Rattle.std.specs.Str.{bytes_eq}
 use Rattle.cmwq_types.specs.Contents.{ScenarioContents, WorkContents, ActorContents}
+pub use Rattle.cmwq_types.specs.First.{or_else}
 use Rattle.cmwq_types.specs.declared.check.Fault.{Fault}
 use Rattle.cmwq_types.specs.declared.check.Fault.TheVariants.{Range, TooMany, Duplicate, Unknown, BadBody, BadFlags}
 use Rattle.cmwq_types.specs.declared.instr.Instr.{Instr}
@@ -12,11 +13,6 @@ use Rattle.cmwq_types.specs.declared.scenario.Op.{Op}
 use Rattle.cmwq_types.specs.declared.scenario.Op.TheVariants as op
 use Rattle.cmwq_types.specs.declared.scenario.QueueDecl.{QueueDecl}
 use Rattle.cmwq_types.specs.declared.limits.TheConstants.{MAX_ACTORS, MAX_CPUS, MAX_FLUSHES, MAX_LINES, MAX_MAX_ACTIVE, MAX_OPS, MAX_QUEUES, MAX_STEPS, MAX_TICKS, MAX_TIMES, MAX_WORKERS, MAX_WORKS}
-
--- the first of two faults
-abbrev pub or_else : Option Fault → Option Fault → Option Fault
-or_else (Some fault) later = Some fault
-or_else None later = later
 
 -- a fault where the test fails
 abbrev pub fault_unless : Bool → Fault → Option Fault

@@ -46,3 +46,8 @@ by_least_two key next_key v w = nat_lt (key v) (key w) || ((key v == key w) && n
 -- by one number each: the greater comes first
 abbrev pub by_greatest : (ℕ → ℕ) → ℕ → ℕ → Bool
 by_greatest key v w = nat_lt (key w) (key v)
+
+-- one or else the other
+abbrev pub or_else : {A : Type 0} → Option A → Option A → Option A
+or_else (Some x) other = Some x
+or_else None other = other

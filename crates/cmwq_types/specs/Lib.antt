@@ -3,6 +3,7 @@ pub mod Faults
 pub mod First
 pub mod Listing
 pub mod Name
+pub mod Places
 pub mod Scenario
 pub mod Setting
 pub mod StoredName

@@ -1,4 +1,6 @@
 //! What the machine answers, and the words that its answers and its state share.
+ghost use Rattle.cmwq_types.specs.Places.{due_of, is_activated, is_active, is_deferred, is_due, is_inactive, is_listed, is_placed, is_runnable, is_slept, until_of};
+ghost use Rattle.std.specs.Prelude.{◌≡◌};
 
 use crate::instr::WorkId;
 
@@ -15,6 +17,67 @@ pub enum Place {
     Deferred(u8),
 }
 
+impl Place {
+    /// Whether the work waits in the pool for its queue's `max_active`.
+    pub fn is_inactive(self, pool: u8) -> bool
+        ensures { result ≡ is_inactive self pool }
+    {
+        matches!(self, Place::Inactive(at) if at == pool)
+    }
+
+    /// Whether the work is on the pool's worklist.
+    pub fn is_listed(self, pool: u8) -> bool
+        ensures { result ≡ is_listed self pool }
+    {
+        matches!(self, Place::Listed(at) if at == pool)
+    }
+
+    /// Whether the work counts in the pool against its queue's `max_active`: it is listed or deferred there.
+    pub fn is_active(self, pool: u8) -> bool
+        ensures { result ≡ is_active self pool }
+    {
+        matches!(self, Place::Listed(at) | Place::Deferred(at) if at == pool)
+    }
+
+    /// Whether the work is listed or deferred, in whatever pool.
+    pub fn is_activated(self) -> bool
+        ensures { result ≡ is_activated self }
+    {
+        matches!(self, Place::Listed(_) | Place::Deferred(_))
+    }
+
+    /// Whether the work is deferred, in whatever pool.
+    pub fn is_deferred(self) -> bool
+        ensures { result ≡ is_deferred self }
+    {
+        matches!(self, Place::Deferred(_))
+    }
+
+    /// Whether the work stands in a pool: it doesn't wait for a timer.
+    pub fn is_placed(self) -> bool
+        ensures { result ≡ is_placed self }
+    {
+        !matches!(self, Place::Timer { .. })
+    }
+
+    /// Whether the work's timer has run out by this tick.
+    pub fn is_due(self, time: u64) -> bool
+        ensures { result ≡ is_due self time }
+    {
+        matches!(self, Place::Timer { due, .. } if due <= time)
+    }
+
+    /// The tick at which the work's timer runs out; 0 where it waits for none.
+    pub fn due(self) -> u64
+        ensures { result ≡ due_of self }
+    {
+        match self {
+            Place::Timer { due, .. } => due,
+            _ => 0,
+        }
+    }
+}
+
 /// What a worker that runs a work does.
 #[derive(Clone, Copy, Debug, PartialEq, Eq)]
 pub enum Mode {
@@ -22,6 +85,32 @@ pub enum Mode {
     Runnable,
     /// It sleeps until this tick.
     Asleep(u64),
+}
+
+impl Mode {
+    /// Whether the worker has the CPU, or waits for it.
+    pub fn is_runnable(self) -> bool
+        ensures { result ≡ is_runnable self }
+    {
+        matches!(self, Mode::Runnable)
+    }
+
+    /// Whether the worker sleeps, and its sleep is over by this tick.
+    pub fn is_slept(self, time: u64) -> bool
+        ensures { result ≡ is_slept self time }
+    {
+        matches!(self, Mode::Asleep(until) if until <= time)
+    }
+
+    /// The tick until which the worker sleeps; 0 where it doesn't.
+    pub fn until(self) -> u64
+        ensures { result ≡ until_of self }
+    {
+        match self {
+            Mode::Runnable => 0,
+            Mode::Asleep(until) => until,
+        }
+    }
 }
 
 /// What a move of the machine did to the work that it moved.
