@@ -140,6 +140,24 @@ writes_all before after failed (Err error) output all front write why = record {
   late Actors is early = cc
   late NoMemory is early = early
 
+-- a front of an output was given to the writer, and then the sending failed
+pub writes_front : (before after : Option (List ℕ)) (failed : Bool) (error : PlayError) (output : List ℕ) → HasSentFront before after output → (error ≡ Write) ↔ (failed ≡ true) → IsSendError error
+    → Writes (λ o. o ≡ output) before after failed (Err error)
+writes_front before after failed error output front write why = record {
+  wrote = tt;
+  write = (λ is. write.0 (err_is {A = Unit {0}} error Write (Err error) refl is), λ is. ap Err (write.1 is));
+  front = λ is. (output, refl, front);
+  no_memory = λ is. inr (output, refl, front);
+  silent = λ early. elim (late error why early) [ ];
+} where
+  late : (e : PlayError) → IsSendError e → IsBeforeWriting e → ⊥
+  late Write why early = early
+  late Read why early = why
+  late (Asm fault) why early = why
+  late (Image fault) why early = why
+  late Actors why early = why
+  late NoMemory why early = early
+
 -- of an output all but a block was given to the writer, and then the block, or a front of it
 pub writes_block : (old mid new : Option (List ℕ)) (left output : List ℕ) (failed : Bool) (r : Result (Unit {0}) PlayError) → HasSent old mid left output
     → OnOk r (HasSent mid new [] left) → OnErr r (HasSentFront mid new left) → (r ≡ Err Write) ↔ (failed ≡ true) → IfErr r (λ error. error ≡ Write)
