@@ -3,8 +3,8 @@ use Rattle.std.proofs.Common.{◌≡◌, ◌≢◌, ◌↔◌, ◌⊎◌, inl, i
 use Rattle.std.proofs.lemmas.Result.{on_err_weaker, on_ok_weaker}
 use Rattle.std.specs.Io.KnownBytes.{Appends, Keeps}
 use Rattle.cmwq_play.specs.Commands.{Answers, IsBeforeWriting, IsOutside, Reads, Writes, WroteFront}
-use Rattle.cmwq_play.specs.Sending.{HasSent, HasSentFront, IsSendError, Sends}
-use Rattle.cmwq_play.proofs.SendingLemmas.{block_front, block_out, sends_all}
+use Rattle.cmwq_play.specs.Sending.{HasSent, HasSentFront, IsSendError}
+use Rattle.cmwq_play.proofs.SendingLemmas.{block_out, front_of_block, sends_all}
 use Rattle.cmwq_play.specs.declared.error.PlayError.{PlayError}
 use Rattle.cmwq_play.specs.declared.error.PlayError.TheVariants.{Read, Write, Asm, Image, Actors, NoMemory}
 
@@ -140,14 +140,32 @@ writes_all before after failed (Err error) output all front write why = record {
   late Actors is early = cc
   late NoMemory is early = early
 
+-- a front of an output was given to the writer, and then the sending failed
+pub writes_front : (before after : Option (List ℕ)) (failed : Bool) (error : PlayError) (output : List ℕ) → HasSentFront before after output → (error ≡ Write) ↔ (failed ≡ true) → IsSendError error
+    → Writes (λ o. o ≡ output) before after failed (Err error)
+writes_front before after failed error output front write why = record {
+  wrote = tt;
+  write = (λ is. write.0 (err_is {A = Unit {0}} error Write (Err error) refl is), λ is. ap Err (write.1 is));
+  front = λ is. (output, refl, front);
+  no_memory = λ is. inr (output, refl, front);
+  silent = λ early. elim (late error why early) [ ];
+} where
+  late : (e : PlayError) → IsSendError e → IsBeforeWriting e → ⊥
+  late Write why early = early
+  late Read why early = why
+  late (Asm fault) why early = why
+  late (Image fault) why early = why
+  late Actors why early = why
+  late NoMemory why early = early
+
 -- of an output all but a block was given to the writer, and then the block, or a front of it
-pub writes_block : (old mid new : Option (List ℕ)) (left output : List ℕ) (failed : Bool) (r : Result (Unit {0}) PlayError) → Sends old [] mid left output
+pub writes_block : (old mid new : Option (List ℕ)) (left output : List ℕ) (failed : Bool) (r : Result (Unit {0}) PlayError) → HasSent old mid left output
     → OnOk r (HasSent mid new [] left) → OnErr r (HasSentFront mid new left) → (r ≡ Err Write) ↔ (failed ≡ true) → IfErr r (λ error. error ≡ Write)
     → Writes (λ o. o ≡ output) old new failed r
 writes_block old mid new left output failed r sent all front write why =
     writes_all old new failed r output
-    (on_ok_weaker r (λ out. sends_all old new output (block_out old mid new [] left output sent out)) all)
-    (on_err_weaker r (λ out. block_front old mid new [] left output sent out) front)
+    (on_ok_weaker r (λ out. sends_all old new output (block_out old mid new left output sent out)) all)
+    (on_err_weaker r (λ out. front_of_block old mid new left output sent out) front)
     write why
 
 -- what sending fails for says nothing of the input, and is no failed read

@@ -1,9 +1,9 @@
 -- Bytes that go out one part after another.
-use Rattle.std.proofs.Common.{ℕ, ◌≡◌, List, [], ◌++◌, take, drop, IfSome, Option, Some, None, sym, ap, ◌∙◌, subst, append_assoc, append-nil, refl}
+use Rattle.std.proofs.Common.{ℕ, ◌≡◌, List, [], ◌++◌, take, drop, IfSome, Option, Some, None, sym, ap, ◌∙◌, subst, append_assoc, append-nil}
 use Rattle.std.proofs.lemmas.List.{take-append-drop}
 use Rattle.std.specs.Fmt.{AppendsText}
 use Rattle.std.specs.Io.KnownBytes.{Appends, Keeps}
-use Rattle.cmwq_play.specs.Sending.{HasSent, HasSentFront, Sends, SendsFront}
+use Rattle.cmwq_play.specs.Sending.{HasSent, HasSentFront}
 
 -- what is appended twice is appended as one
 pub appends_both : (before now after : Option (List ℕ)) (xs ys : List ℕ) → Appends before now xs → Appends now after ys → Appends before after (xs ++ ys)
@@ -26,27 +26,6 @@ front_of_more before now lines more h =
 pub front_of_block : (before now after : Option (List ℕ)) (block lines : List ℕ) → HasSent before now block lines → HasSentFront now after block → HasSentFront before after lines
 front_of_block before now after block lines h f =
     (h.0 ++ f.0, f.1, appends_both before now after h.0 f.0 h.1 f.2, append_assoc h.0 f.0 f.1 ∙ ap (λ (rest : List ℕ). h.0 ++ rest) f.3 ∙ h.2)
-
--- what is sent but for a block is a front
-pub front_of_sent : (before now : Option (List ℕ)) (block lines : List ℕ) → HasSent before now block lines → HasSentFront before now lines
-front_of_sent before now block lines h = (h.0, block, h.1, h.2)
-
--- once the block is out, all is sent
-pub sent_block : (before now after : Option (List ℕ)) (block lines : List ℕ) → HasSent before now block lines → Appends now after block → HasSent before after [] lines
-sent_block before now after block lines h a = (h.0 ++ block, appends_both before now after h.0 block h.1 a, append-nil (h.0 ++ block) ∙ h.2)
-
--- a block may grow
-pub sent_more : (before now : Option (List ℕ)) (block lines line : List ℕ) → HasSent before now block lines → HasSent before now (block ++ line) (lines ++ line)
-sent_more before now block lines line h =
-    (h.0, h.1, sym (append_assoc h.0 block line) ∙ ap (λ (front : List ℕ). front ++ line) h.2)
-
--- with an empty block all of the lines are out
-pub all_sent : (before now : Option (List ℕ)) (lines : List ℕ) → HasSent before now [] lines → Appends before now lines
-all_sent before now lines h = subst (λ (sent : List ℕ). Appends before now sent) (sym (append-nil h.0) ∙ h.2) h.1
-
--- before anything, nothing is sent
-pub none_sent : (now : Option (List ℕ)) → HasSent now now [] []
-none_sent now = ([], appends_none now, refl)
 
 pub keeps_nothing : (before after : Option (List ℕ)) → Keeps before after → Appends before after []
 keeps_nothing None after h = tt
@@ -71,41 +50,33 @@ joined sent more rest left block first second a b =
     ∙ ap (λ (l : List ℕ). l ++ second) a
     ∙ append_assoc block first second
 
--- lines sent one after another
-pub sends_then : (old now after : Option (List ℕ)) (block left rest first second : List ℕ) → Sends old block now left first → Sends now left after rest second → Sends old block after rest (first ++ second)
+-- text sent one part after another
+pub sends_then : (old now after : Option (List ℕ)) (block left rest first second : List ℕ) → HasSent old now left (block ++ first) → HasSent now after rest (left ++ second) → HasSent old after rest (block ++ (first ++ second))
 sends_then old now after block left rest first second a b =
     (a.0 ++ b.0, appends_both old now after a.0 b.0 a.1 b.1, joined a.0 b.0 rest left block first second a.2 b.2)
 
 -- lines that were sent, and then a front of more
-pub front_then : (old now after : Option (List ℕ)) (block left first second : List ℕ) → Sends old block now left first → SendsFront now left after second → SendsFront old block after (first ++ second)
+pub front_then : (old now after : Option (List ℕ)) (block left first second : List ℕ) → HasSent old now left (block ++ first) → HasSentFront now after (left ++ second) → HasSentFront old after (block ++ (first ++ second))
 front_then old now after block left first second a b =
     (a.0 ++ b.0, b.1, appends_both old now after a.0 b.0 a.1 b.2, joined a.0 b.0 b.1 left block first second a.2 b.3)
 
 -- a front of lines is a front of more lines
-pub front_more : (old now : Option (List ℕ)) (block lines more : List ℕ) → SendsFront old block now lines → SendsFront old block now (lines ++ more)
+pub front_more : (old now : Option (List ℕ)) (block lines more : List ℕ) → HasSentFront old now (block ++ lines) → HasSentFront old now (block ++ (lines ++ more))
 front_more old now block lines more a = subst (λ (l : List ℕ). HasSentFront old now l) (append_assoc block lines more) (front_of_more old now (block ++ lines) more a)
 
--- with nothing sent, a front is out
-pub front_none : (old : Option (List ℕ)) (block lines : List ℕ) → SendsFront old block old lines
-front_none old block lines = ([], block ++ lines, appends_none old, refl)
-
-pub sends_none : (old : Option (List ℕ)) (block : List ℕ) → Sends old block old block []
+pub sends_none : (old : Option (List ℕ)) (block : List ℕ) → HasSent old old block (block ++ [])
 sends_none old block = ([], appends_none old, sym (append-nil block))
 
 -- with nothing kept back at the end, all of the lines are out
-pub sends_all : (old now : Option (List ℕ)) (lines : List ℕ) → Sends old [] now [] lines → Appends old now lines
+pub sends_all : (old now : Option (List ℕ)) (lines : List ℕ) → HasSent old now [] lines → Appends old now lines
 sends_all old now lines h = subst (λ (sent : List ℕ). Appends old now sent) (sym (append-nil h.0) ∙ h.2) h.1
 
 -- the block is out behind what was sent
-pub block_out : (old now after : Option (List ℕ)) (block left lines : List ℕ) → Sends old block now left lines → HasSent now after [] left → Sends old block after [] lines
-block_out old now after block left lines a b =
+pub block_out : (old now after : Option (List ℕ)) (left lines : List ℕ) → HasSent old now left lines → HasSent now after [] left → HasSent old after [] lines
+block_out old now after left lines a b =
     (a.0 ++ b.0, appends_both old now after a.0 b.0 a.1 b.1, append_assoc a.0 b.0 [] ∙ ap (λ (rest : List ℕ). a.0 ++ rest) b.2 ∙ a.2)
 
--- or a front of it
-pub block_front : (old now after : Option (List ℕ)) (block left lines : List ℕ) → Sends old block now left lines → HasSentFront now after left → SendsFront old block after lines
-block_front old now after block left lines a b = front_of_block old now after left (block ++ lines) a b
-
 -- a front of the block with a text behind it, where the text is known
-pub front_known : (text : Option (List ℕ)) (old now : Option (List ℕ)) (block more : List ℕ) → AppendsText block more text → HasSentFront old now more → IfSome text (λ bytes. SendsFront old block now bytes)
+pub front_known : (text : Option (List ℕ)) (old now : Option (List ℕ)) (block more : List ℕ) → AppendsText block more text → HasSentFront old now more → IfSome text (λ bytes. HasSentFront old now (block ++ bytes))
 front_known (Some bytes) old now block more appended front = subst (λ (lines : List ℕ). HasSentFront old now lines) appended front
 front_known None old now block more appended front = tt

@@ -1,12 +1,12 @@
 -- Instructions that a session issues one part after another.
-use Rattle.std.proofs.Common.{◌≡◌, ℕ, List, [], ◌∷◌, ◌++◌, Bool, Option, Result, ap, sym, ◌∙◌, subst, string_bytes, refl}
+use Rattle.std.proofs.Common.{◌≡◌, ℕ, List, [], ◌∷◌, ◌++◌, Bool, Option, Result, ap, sym, ◌∙◌, subst, refl}
 use Rattle.cmwq_types.specs.Contents.{ActorContents, ScenarioContents}
 use Rattle.cmwq_types.specs.Scenario.{expand}
 use Rattle.cmwq_types.specs.declared.instr.Instr.{Instr}
 use Rattle.cmwq_table.specs.Events.{events_from}
 use Rattle.cmwq_table.specs.State.{State, start}
 use Rattle.cmwq_table.specs.Table.{after_all}
-use Rattle.cmwq_play.specs.Sending.{Sends, SendsFront}
+use Rattle.cmwq_play.specs.Blocks.{Sends, SendsFront, kept, sink}
 use Rattle.cmwq_play.specs.Session.{IsReady, Issued, Stopped, prints}
 use Rattle.cmwq_play.specs.Commands.{Writes}
 use Rattle.cmwq_play.specs.Texts.{IsPrinted}
@@ -24,7 +24,7 @@ module _ {M W : Type 0} (loaded : M → ScenarioContents) (state : M → State) 
     scenario = refl;
     same = refl;
     reached = refl;
-    sent = sends_none (contents a.lines.writer.now) (string_bytes a.lines.block);
+    sent = sends_none (contents (sink a.lines)) (kept a.lines);
   }
 
   -- what is printed from where a session came to
@@ -40,7 +40,7 @@ module _ {M W : Type 0} (loaded : M → ScenarioContents) (state : M → State) 
   issued_then a b c xs ys first second =
       let S = a.scenario.now in
       let start = state a.machine in
-      let sent = sends_then (contents a.lines.writer.now) (contents b.lines.writer.now) (contents c.lines.writer.now) (string_bytes a.lines.block) (string_bytes b.lines.block) (string_bytes c.lines.block)
+      let sent = sends_then (contents (sink a.lines)) (contents (sink b.lines)) (contents (sink c.lines)) (kept a.lines) (kept b.lines) (kept c.lines)
       (prints loaded state contents failed a xs) (prints loaded state contents failed b ys) first.sent second.sent
       in
       record {
@@ -53,20 +53,20 @@ module _ {M W : Type 0} (loaded : M → ScenarioContents) (state : M → State) 
             ∙ ap (λ (s : State). after_all S s ys) first.reached
             ∙ sym (after_all-append S start xs ys);
         sent =
-            subst (λ (lines : List ℕ). Sends (contents a.lines.writer.now) (string_bytes a.lines.block) (contents c.lines.writer.now) (string_bytes c.lines.block) lines)
+            subst (λ (lines : List ℕ). Sends contents a.lines c.lines lines)
             (sym (prints_then a b xs ys first)) sent;
       }
 
   -- the writing stopped at the second part
   pub stopped_then : (a b c : Session M W) (xs ys : List Instr) (error : PlayError) → Issued loaded state contents failed a b xs → Stopped loaded state contents failed b c ys error → Stopped loaded state contents failed a c (xs ++ ys) error
   stopped_then a b c xs ys error first second =
-      let sent = front_then (contents a.lines.writer.now) (contents b.lines.writer.now) (contents c.lines.writer.now) (string_bytes a.lines.block) (string_bytes b.lines.block)
+      let sent = front_then (contents (sink a.lines)) (contents (sink b.lines)) (contents (sink c.lines)) (kept a.lines) (kept b.lines)
       (prints loaded state contents failed a xs) (prints loaded state contents failed b ys) first.sent second.sent
       in
       record {
         same = second.same ∙ first.same;
         sent =
-            subst (λ (lines : List ℕ). SendsFront (contents a.lines.writer.now) (string_bytes a.lines.block) (contents c.lines.writer.now) lines)
+            subst (λ (lines : List ℕ). SendsFront contents a.lines c.lines lines)
             (sym (prints_then a b xs ys first)) sent;
         write = second.write;
         why = second.why;
@@ -80,9 +80,9 @@ module _ {M W : Type 0} (loaded : M → ScenarioContents) (state : M → State) 
       record {
         same = stopped.same;
         sent =
-            subst (λ (lines : List ℕ). SendsFront (contents a.lines.writer.now) (string_bytes a.lines.block) (contents c.lines.writer.now) lines)
+            subst (λ (lines : List ℕ). SendsFront contents a.lines c.lines lines)
             (sym (events_from-append S start xs more))
-            (front_more (contents a.lines.writer.now) (contents c.lines.writer.now) (string_bytes a.lines.block) (events_from S start xs) (events_from S (after_all S start xs) more) stopped.sent);
+            (front_more (contents (sink a.lines)) (contents (sink c.lines)) (kept a.lines) (events_from S start xs) (events_from S (after_all S start xs) more) stopped.sent);
         write = stopped.write;
         why = stopped.why;
       }

@@ -1,3 +1,4 @@
+pub mod Blocks
 pub mod Commands
 pub mod Images
 pub mod Sending

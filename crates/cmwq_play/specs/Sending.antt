@@ -12,14 +12,6 @@ HasSent before now block text = (sent : List ℕ) × Appends before now sent × 
 abbrev pub HasSentFront : Option (List ℕ) → Option (List ℕ) → List ℕ → Type 0
 HasSentFront before now text = (sent : List ℕ) × (rest : List ℕ) × Appends before now sent × (sent ++ rest ≡ text)
 
--- from these contents and this block on, the text was sent, but for a new block
-abbrev pub Sends : Option (List ℕ) → List ℕ → Option (List ℕ) → List ℕ → List ℕ → Type 0
-Sends old block now left text = HasSent old now left (block ++ text)
-
--- the same of a front of the text, with nothing kept back
-abbrev pub SendsFront : Option (List ℕ) → List ℕ → Option (List ℕ) → List ℕ → Type 0
-SendsFront old block now text = HasSentFront old now (block ++ text)
-
 -- what sending may fail for
 abbrev pub IsSendError : PlayError → Type 0
 IsSendError errors.Write = Unit {0}

@@ -1,11 +1,12 @@
 -- What a session issues and writes.
-use Rattle.std.specs.Prelude.{◌≡◌, ◌↔◌, ℕ, List, Option, Bool, false, true, Result, MatchResult, string_bytes}
+use Rattle.std.specs.Prelude.{◌≡◌, ◌↔◌, ℕ, List, Option, Bool, false, true, Result, MatchResult}
 use Rattle.cmwq_types.specs.Contents.{ScenarioContents}
 use Rattle.cmwq_types.specs.declared.instr.Instr.{Instr}
 use Rattle.cmwq_table.specs.Events.{events_from}
 use Rattle.cmwq_table.specs.State.{State}
 use Rattle.cmwq_table.specs.Table.{after_all}
-use Rattle.cmwq_play.specs.Sending.{IsSendError, Sends, SendsFront}
+use Rattle.cmwq_play.specs.Blocks.{Sends, SendsFront, SharesSink, sink}
+use Rattle.cmwq_play.specs.Sending.{IsSendError}
 use Rattle.cmwq_play.specs.declared.error.PlayError.{PlayError}
 use Rattle.cmwq_play.specs.declared.error.PlayError.TheVariants.{Write}
 use Rattle.cmwq_play.specs.declared.session.Session.{Session}
@@ -14,7 +15,7 @@ module _ {M W : Type 0} (loaded : M → ScenarioContents) (state : M → State) 
   -- the machine has the scenario, and no write failed yet
   pub record IsReady (session : Session M W) : Type 0 where
     pub has_scenario : loaded session.machine ≡ session.scenario.now
-    pub is_sound : failed session.lines.writer.now ≡ false
+    pub is_sound : failed (sink session.lines) ≡ false
 
   -- what these instructions print from here on
   abbrev pub prints : Session M W → List Instr → List ℕ
@@ -24,15 +25,15 @@ module _ {M W : Type 0} (loaded : M → ScenarioContents) (state : M → State) 
   pub record Issued (old new : Session M W) (instrs : List Instr) : Type 0 where
     pub ready : IsReady new
     pub scenario : new.scenario.now ≡ old.scenario.now
-    pub same : new.lines.writer.ghost_name ≡ old.lines.writer.ghost_name
+    pub same : SharesSink old.lines new.lines
     pub reached : state new.machine ≡ after_all old.scenario.now (state old.machine) instrs
-    pub sent : Sends (contents old.lines.writer.now) (string_bytes old.lines.block) (contents new.lines.writer.now) (string_bytes new.lines.block) (prints old instrs)
+    pub sent : Sends contents old.lines new.lines (prints old instrs)
 
   -- a front of what these instructions print was written
   pub record Stopped (old new : Session M W) (instrs : List Instr) (error : PlayError) : Type 0 where
-    pub same : new.lines.writer.ghost_name ≡ old.lines.writer.ghost_name
-    pub sent : SendsFront (contents old.lines.writer.now) (string_bytes old.lines.block) (contents new.lines.writer.now) (prints old instrs)
-    pub write : (error ≡ Write) ↔ (failed new.lines.writer.now ≡ true)
+    pub same : SharesSink old.lines new.lines
+    pub sent : SendsFront contents old.lines new.lines (prints old instrs)
+    pub write : (error ≡ Write) ↔ (failed (sink new.lines) ≡ true)
     pub why : IsSendError error
 
   -- these instructions were issued, unless the writing failed

@@ -1,6 +1,6 @@
 //! A writer of text that goes out a block at a time.
-ghost use Rattle.cmwq_play.specs.Sending.{HasSent, HasSentFront, IsSendError, Sends, SendsFront};
-ghost use Rattle.std.specs.Prelude.{◌≡◌, ◌≢◌, ◌≤◌, ◌↔◌, [], IfErr, IfSome, OnErr, OnOk, false, length, string_bytes, true};
+ghost use Rattle.cmwq_play.specs.Sending.{HasSent, HasSentFront, IsSendError};
+ghost use Rattle.std.specs.Prelude.{◌≡◌, ◌≤◌, ◌↔◌, [], Err, IfErr, IfSome, OnErr, OnOk, false, length, true};
 
 use crate::error::PlayError;
 use crate::sending::put_all;
@@ -11,7 +11,10 @@ use std::fmt::Display;
 /// How many bytes of text are kept back at most.
 const BLOCK: usize = 8192;
 
-/// A writer of text over a `Sink`, which is given a block of about 8,192 bytes at a time.
+/// A writer of text over a `Sink`, which is given the text a block of about 8,192 bytes at a time.
+///
+/// `write!` writes to it, and `finish` sends what it keeps back. In the contracts `sink` is the `Sink`,
+/// `kept` is what is kept back, and `Sends` says that a text went behind both.
 #[derive(Drop)]
 pub struct BlockWriter<'w, W> {
     writer: &'w mut W,
@@ -19,11 +22,13 @@ pub struct BlockWriter<'w, W> {
 }
 
 impl<'w, W: Sink> BlockWriter<'w, W> {
-    /// A writer that keeps nothing back yet. It takes no memory before the first text.
+    ghost use Rattle.cmwq_play.specs.Blocks.{Sends, SendsFront, SharesSink, kept, sink};
+
+    /// A writer that keeps nothing back yet.
     pub fn new(alloc: Global, writer: &'w mut W) -> BlockWriter<'w, W>
         ensures same { result.writer.ghost_name ≡ writer.entry.ghost_name }
-        ensures writer { result.writer.now ≡ writer.old }
-        ensures empty { string_bytes result.block ≡ [] }
+        ensures writer { sink result ≡ writer.old }
+        ensures empty { kept result ≡ [] }
     {
         BlockWriter {
             writer,
@@ -31,16 +36,29 @@ impl<'w, W: Sink> BlockWriter<'w, W> {
         }
     }
 
-    /// Writes the text behind what is kept back, as `write!` does, and sends the block where it is full.
+    /// Makes room for a block, so that what is written later takes no memory, unless a text has more
+    /// than 8,192 bytes. The only error is `NoMemory`.
+    pub fn reserve(&mut self) -> Result<(), PlayError>
+        ensures same { SharesSink self.old self.new }
+        ensures writer { sink self.new ≡ sink self.old }
+        ensures kept { kept self.new ≡ kept self.old }
+        ensures why { IfErr result (λ error. error ≡ PlayError.NoMemory) }
+    {
+        self.block.reserve(2 * BLOCK)?;
+        Ok(())
+    }
+
+    /// Writes the text behind what is kept back, and sends it all where it is more than a block.
+    ///
+    /// The errors are `Write`, exactly where the `Sink` failed, and `NoMemory`, also where the text's own
+    /// `fmt` fails, as for a `String`. Then what is kept back is lost.
     pub fn write_fmt<D: Display + Drop>(&mut self, text: D) -> Result<(), PlayError>
-        requires sound { W.failed self.old.writer.now ≡ false }
-        ensures same { self.new.writer.ghost_name ≡ self.old.writer.ghost_name }
-        ensures ok { OnOk result (IfSome (D.output text) (λ bytes.
-            Sends (W.contents self.old.writer.now) (string_bytes self.old.block) (W.contents self.new.writer.now) (string_bytes self.new.block) bytes)) }
-        ensures err { OnErr result (IfSome (D.output text) (λ bytes.
-            SendsFront (W.contents self.old.writer.now) (string_bytes self.old.block) (W.contents self.new.writer.now) bytes)) }
-        ensures kept { OnOk result (length (string_bytes self.new.block) ≤ 8192) }
-        ensures failed { (result ≡ Err PlayError.Write) ↔ (W.failed self.new.writer.now ≡ true) }
+        requires sound { W.failed (sink self.old) ≡ false }
+        ensures same { SharesSink self.old self.new }
+        ensures ok { OnOk result (IfSome (D.output text) (λ bytes. Sends W.contents self.old self.new bytes)) }
+        ensures kept { OnOk result (length (kept self.new) ≤ 8192) }
+        ensures err { OnErr result (IfSome (D.output text) (λ bytes. SendsFront W.contents self.old self.new bytes)) }
+        ensures failed { (result ≡ Err PlayError.Write) ↔ (W.failed (sink self.new) ≡ true) }
         ensures why { IfErr result (λ error. IsSendError error) }
     {
         self.block.write_fmt(text)?;
@@ -50,14 +68,14 @@ impl<'w, W: Sink> BlockWriter<'w, W> {
         Ok(())
     }
 
-    /// Sends what is kept back.
+    /// Sends what is kept back. The only error is `Write`, exactly where the `Sink` failed.
     pub fn finish(&mut self) -> Result<(), PlayError>
-        requires sound { W.failed self.old.writer.now ≡ false }
-        ensures same { self.new.writer.ghost_name ≡ self.old.writer.ghost_name }
-        ensures empty { OnOk result (string_bytes self.new.block ≡ []) }
-        ensures ok { OnOk result (HasSent (W.contents self.old.writer.now) (W.contents self.new.writer.now) [] (string_bytes self.old.block)) }
-        ensures err { OnErr result (HasSentFront (W.contents self.old.writer.now) (W.contents self.new.writer.now) (string_bytes self.old.block)) }
-        ensures failed { (result ≡ Err PlayError.Write) ↔ (W.failed self.new.writer.now ≡ true) }
+        requires sound { W.failed (sink self.old) ≡ false }
+        ensures same { SharesSink self.old self.new }
+        ensures ok { OnOk result (HasSent (W.contents (sink self.old)) (W.contents (sink self.new)) [] (kept self.old)) }
+        ensures empty { OnOk result (kept self.new ≡ []) }
+        ensures err { OnErr result (HasSentFront (W.contents (sink self.old)) (W.contents (sink self.new)) (kept self.old)) }
+        ensures failed { (result ≡ Err PlayError.Write) ↔ (W.failed (sink self.new) ≡ true) }
         ensures write { IfErr result (λ error. error ≡ PlayError.Write) }
     {
         put_all(self.writer, self.block.as_bytes())?;
@@ -65,10 +83,10 @@ impl<'w, W: Sink> BlockWriter<'w, W> {
         Ok(())
     }
 
-    /// The writer. What is kept back is dropped.
+    /// The `Sink`. What is kept back is dropped.
     pub fn into_inner(self) -> &'w mut W
         ensures same { result.ghost_name ≡ self.entry.writer.ghost_name }
-        ensures writer { result.now ≡ self.entry.writer.now }
+        ensures writer { result.now ≡ sink self.entry }
     {
         let BlockWriter { writer, block: _ } = self;
         writer

@@ -1,9 +1,10 @@
 //! A scenario's run on a machine, whose lines go to a writer.
+ghost use Rattle.cmwq_play.specs.Blocks.{SharesSink, kept, sink};
 ghost use Rattle.cmwq_play.specs.Commands.{Writes};
 ghost use Rattle.cmwq_play.specs.Sending.{IsSendError};
 ghost use Rattle.cmwq_play.specs.Session.{IsReady, Issues, prints};
 ghost use Rattle.cmwq_types.specs.Scenario.{expand, expand_lines};
-ghost use Rattle.std.specs.Prelude.{◌≡◌, [], ◌∷◌, IfErr, replicate, string_bytes};
+ghost use Rattle.std.specs.Prelude.{◌≡◌, [], ◌∷◌, IfErr, replicate};
 
 use crate::block_writer::BlockWriter;
 use crate::error::PlayError;
@@ -59,14 +60,17 @@ impl<'w, M: Machine, W: Sink> Session<'_, 'w, M, W> {
     }
 
     /// Issues the actor's instructions, and sends all that they print.
+    ///
+    /// A block is made first, so that no line of a reply takes memory.
     pub(crate) fn play(&mut self, actor: &Actor) -> Result<(), PlayError>
         requires ready { IsReady M.loaded M.state W.contents W.failed self.old }
-        requires empty { string_bytes self.old.lines.block ≡ [] }
-        ensures same { self.new.lines.writer.ghost_name ≡ self.old.lines.writer.ghost_name }
+        requires empty { kept self.old.lines ≡ [] }
+        ensures same { SharesSink self.old.lines self.new.lines }
         ensures writes { Writes (λ output. output ≡ prints M.loaded M.state W.contents W.failed self.old (expand actor.now))
-            (W.contents self.old.lines.writer.now) (W.contents self.new.lines.writer.now) (W.failed self.new.lines.writer.now) result }
+            (W.contents (sink self.old.lines)) (W.contents (sink self.new.lines)) (W.failed (sink self.new.lines)) result }
         ensures why { IfErr result (λ error. IsSendError error) }
     {
+        self.lines.reserve()?;
         self.issue_lines(&actor.lines)?;
         self.lines.finish()
     }
@@ -74,7 +78,7 @@ impl<'w, M: Machine, W: Sink> Session<'_, 'w, M, W> {
     /// The writer. What is kept back is dropped.
     pub(crate) fn into_writer(self) -> &'w mut W
         ensures same { result.ghost_name ≡ self.entry.lines.writer.ghost_name }
-        ensures writer { result.now ≡ self.entry.lines.writer.now }
+        ensures writer { result.now ≡ sink self.entry.lines }
     {
         let Session {
             scenario: _,
