@@ -23,16 +23,16 @@ use Rattle.cmwq_table.specs.Counts as counts
 use Rattle.cmwq_table.specs.Laws.{ActivatesInOrder, ActiveInSince, AtEveryInstruction, CannotStart, GoesInOrder, HasInstance, HasNoIdleWorker, InEveryState, IsListedIn, LeavesNoRoom, ListsInOrder, TimeWaitsForStarts, RisesByWakes, RisesWithinLimit, IsNotReentrant, StayDone, WaitForInstances, placed_in, reply_to, state_after, tells_wake}
 use Rattle.cmwq_table.specs.Moves.{as_move, first_moving, next_move, start_first, start_move, take_listed}
 use Rattle.cmwq_table.specs.Table.{after_all, run, target_at}
-use Rattle.cmwq_table.proofs.LawLemmas.Alike.{alike-active, alike-counted, alike-instances}
+use Rattle.cmwq_table.proofs.LawLemmas.Alike.{alike-active, alike-counted, alike-instances, alike-order, alike-sound}
 use Rattle.cmwq_table.proofs.LawLemmas.Concurrency.{Follows-counted}
 use Rattle.cmwq_table.proofs.LawLemmas.Counting.{count_below-all_fail, count_below-none, count_below-passes}
 use Rattle.cmwq_table.proofs.LawLemmas.Effects.{Effect, IsSettled, with_given}
 use Rattle.cmwq_table.proofs.LawLemmas.Fills.{waits-in_range}
-use Rattle.cmwq_table.proofs.LawLemmas.Instances.{BringsNoneBack, Follows-flushes, Follows-instances, Follows-now}
+use Rattle.cmwq_table.proofs.LawLemmas.Instances.{BringsNoneBack, Follows-flushes, Follows-instances, Follows-next, Follows-now}
 use Rattle.cmwq_table.proofs.LawLemmas.Levels.{Follows-active, Follows-limit, RisesWithin}
 use Rattle.cmwq_table.proofs.LawLemmas.Moving.{listed-is_first}
 use Rattle.cmwq_table.proofs.LawLemmas.Order.{active-there, at-most-one, inactive-there}
-use Rattle.cmwq_table.proofs.LawLemmas.PoolOrder.{HasActiveAt, HasInactiveAt, PendsActiveAt, RanAt}
+use Rattle.cmwq_table.proofs.LawLemmas.PoolOrder.{Follows-waits, HasActiveAt, HasInactiveAt, IsInPoolOrder, PendsActiveAt, RanAt, WaitsSince, active-below, waits-then}
 use Rattle.cmwq_table.proofs.LawLemmas.Runs.{IsReached, Outcome, outcome-is, run-reached, table-reached}
 use Rattle.cmwq_table.proofs.LawLemmas.Setting.{IsSetting, IsSetting-valid}
 use Rattle.cmwq_table.proofs.LawLemmas.Sound.{Fits, FitsPlace, FitsTarget, IsSound}
@@ -219,12 +219,60 @@ active-in : (s : State) (w pool born : ℕ) → ActiveInSince s w pool born → 
 active-in s w pool born (inl pending) = inl (subst (λ (o : Option Pending). PendsActiveAt pool o born) (sym pending.1) (pending.2, pending.3))
 active-in s w pool born (inr running) = inr (subst (λ (o : Option Running). RanAt pool o born) (sym running.1) (running.2, running.3))
 
+given-waits : (s : State) (given : Option FlushTarget) → WaitsSince s (with_given s given)
+given-waits s (Some target) = λ w pool born inactive. inl inactive
+given-waits s None = λ w pool born inactive. inl inactive
+
+given-next : (s : State) (given : Option FlushTarget) → (with_given s given).next ≡ s.next
+given-next s (Some target) = refl
+given-next s None = refl
+
+-- what waits after an instruction waited before it or was born in it, and stamps rise
+record Waits (s t : State) : Type 0 where
+  since : WaitsSince s t
+  later : s.next ≤ t.next
+
+effect-waits : (S : ScenarioContents) (wakes : Bool) (s t : State) → IsReached S s → Effect S wakes s t → Waits s t
+effect-waits S wakes s t reached effect =
+    let sound : IsSound S effect.begun = alike-sound S s effect.begun effect.alike reached.sound effect.ordered in
+    let order : IsInPoolOrder S effect.begun = alike-order S s effect.begun effect.alike reached.in_order in
+    let follows : WaitsSince effect.begun effect.ended = Follows-waits S effect.places wakes effect.begun effect.ended effect.follows sound effect.begun_full order in
+    let rises : effect.begun.next ≤ effect.ended.next = Follows-next S effect.places wakes effect.begun effect.ended effect.follows in
+    let last : t.next ≡ effect.ended.next = ap (λ (u : State). u.next) effect.after ∙ given-next effect.ended effect.given in
+    record {
+      since = λ w pool born inactive.
+          let ended : HasInactiveAt pool (pending_at (with_given effect.ended effect.given) w) born = subst (λ (u : State). HasInactiveAt pool (pending_at u w) born) effect.after inactive in
+          elim (waits-then effect.begun effect.ended (with_given effect.ended effect.given) rises follows (given-waits effect.ended effect.given) w pool born ended) [
+            | inl begun ↦ inl (rw (effect.alike.pending w) at begun)
+            | inr above ↦ inr (omega (arith, effect.alike.next))
+          ];
+      later = omega (arith, effect.alike.next);
+    }
+
+outcome-waits : (S : ScenarioContents) (s t : State) (r : Reply) → IsReached S s → Outcome S s t r → Waits s t
+outcome-waits S s t r reached (Outcome.refused why) = record { since = λ w pool born inactive. inl inactive; later = omega arith }
+outcome-waits S s t r reached (Outcome.done u q spent effect) =
+    let waits : Waits s u = effect-waits S (tells_wake r) s u reached effect in
+    record { since = waits.since; later = waits.later }
+
+all-wait : (S : ScenarioContents) (s : State) (instrs : List Instr) → IsSetting S → IsReached S s → WaitsSince s (after_all S s instrs)
+all-wait S s [] setting reached = λ w pool born inactive. inl inactive
+all-wait S s (i ∷ instrs) setting reached =
+    let t = state_after S s i in
+    let waits : Waits s t = outcome-waits S s t (reply_to S s i) reached (outcome-is S s i setting reached) in
+    waits-then s t (after_all S t instrs) waits.later waits.since (all-wait S t instrs setting (table-reached S s i setting reached))
+
 pub activates_in_order : InEveryState ActivatesInOrder
 unfolding ActivatesInOrder
-activates_in_order S valid instrs pool v w born later of_queue act inactive =
+activates_in_order S valid instrs pool v w born later more of_queue act inactive =
     let s = run S instrs in
-    (run-reached S instrs valid).in_order v w pool born later (sym of_queue) (active-in s v pool born act)
-    (subst (λ (o : Option Pending). HasInactiveAt pool o later) (sym inactive.1) (inactive.2, inactive.3))
+    let reached : IsReached S s = run-reached S instrs valid in
+    let active : HasActiveAt pool (pending_at s v) (running_at s v) born = active-in s v pool born act in
+    let waits : HasInactiveAt pool (pending_at (after_all S s more) w) later = subst (λ (o : Option Pending). HasInactiveAt pool o later) (sym inactive.1) (inactive.2, inactive.3) in
+    elim (all-wait S s more (IsSetting-valid S valid) reached w pool later waits) [
+      | inl before ↦ reached.in_order v w pool born later (sym of_queue) active before
+      | inr above ↦ (let below : born < s.next = active-below S s.next v pool born (pending_at s v) (running_at s v) (reached.sound.works v) active in omega arith)
+    ]
 
 pub lists_in_order : InEveryState ListsInOrder
 unfolding ListsInOrder

@@ -15,6 +15,7 @@ use Rattle.cmwq_table.specs.Laws.{is_waiting}
 use Rattle.cmwq_table.specs.Moves.{fill}
 use Rattle.cmwq_table.proofs.LawLemmas.Changes.{Kind, Change, Follows}
 use Rattle.cmwq_table.proofs.LawLemmas.Fills.{first-is_first, waits, waits-in_range}
+use Rattle.cmwq_table.proofs.LawLemmas.Instances.{Change-next, Follows-next}
 use Rattle.cmwq_table.proofs.LawLemmas.Levels.{room-below}
 use Rattle.cmwq_table.proofs.LawLemmas.Room.{AreFull, Change-full, Follows-full}
 use Rattle.cmwq_table.proofs.LawLemmas.Sound.{IsSound, Fits, FitsIfPending, Change-sound, Follows-sound}
@@ -41,6 +42,17 @@ abbrev pub IsInPoolOrder : ScenarioContents → State → Type 0
 IsInPoolOrder S s =
     (v w pool born later : ℕ) → queue_of S w ≡ queue_of S v → HasActiveAt pool (pending_at s v) (running_at s v) born
     → HasInactiveAt pool (pending_at s w) later → born < later
+
+-- what waits in a pool waited there before, or was born since
+abbrev pub WaitsSince : State → State → Type 0
+WaitsSince s t = (w pool born : ℕ) → HasInactiveAt pool (pending_at t w) born → HasInactiveAt pool (pending_at s w) born ⊎ (s.next ≤ born)
+
+pub waits-then : (s t u : State) → s.next ≤ t.next → WaitsSince s t → WaitsSince t u → WaitsSince s u
+waits-then s t u later first second w pool born inactive =
+    elim (second w pool born inactive) [
+      | inl before ↦ first w pool born before
+      | inr above ↦ inr (omega arith)
+    ]
 
 -- what a change makes of the active and the inactive instances of its work in a pool
 data Orders (S : ScenarioContents) (s : State) (w pool : ℕ) (a : Option Pending) (b : Option Running) (c : Option Pending) (d : Option Running) : Type 0 where
@@ -146,7 +158,7 @@ Kind-order S places wakes s w left a b c d n pool sound are_full is fits (Kind.r
     Orders.quiet (λ birth h. elim h [ inl pends ↦ inl pends | inr ran ↦ absurd ran ]) (λ later h. inl h)
 
 -- births lie below the next stamp
-active-below : (S : ScenarioContents) (next w pool born : ℕ) (p : Option Pending) (r : Option Running) → Fits S next w p r → HasActiveAt pool p r born → born < next
+pub active-below : (S : ScenarioContents) (next w pool born : ℕ) (p : Option Pending) (r : Option Running) → Fits S next w p r → HasActiveAt pool p r born → born < next
 active-below S next w pool born (Some p) r fits (inl pends) = omega (arith, fits.pending.born, pends.1)
 active-below S next w pool born None r fits (inl pends) = absurd pends
 active-below S next w pool born p (Some r) fits (inr ran) = omega (arith, fits.running.born, ran.1)
@@ -196,6 +208,21 @@ module _ (S : ScenarioContents) (places wakes : Bool) (left : Option ℕ) (s t :
       let there : HasInactiveAt pool (pending_at t w) later = subst (λ (k : ℕ). HasInactiveAt pool (pending_at t k) later) e h in
       rw (change.alters.pending_here) at there
 
+  waits-now : (pool later : ℕ) → Orders S s w pool (pending_at s w) (running_at s w) change.p change.r → HasInactiveAt pool change.p later
+      → HasInactiveAt pool (pending_at s w) later ⊎ (s.next ≤ later)
+  waits-now pool later (quiet actives inactives) inactive = elim (inactives later inactive) [ inl before ↦ inl before | inr fresh ↦ inr (omega arith) ]
+  waits-now pool later (opens no_inactive actives) inactive = absurd (no_inactive later inactive)
+
+  pub Change-waits : WaitsSince s t
+  Change-waits x pool later inactive =
+      elim (cases_eq x w) [
+        | inl x_is ↦ elim (waits-now pool later (orders pool) (inactive-now x pool later x_is inactive)) [
+          | inl before ↦ inl (subst (λ (k : ℕ). HasInactiveAt pool (pending_at s k) later) (sym x_is) before)
+          | inr above ↦ inr above
+        ]
+        | inr x_ne ↦ inl (inactive-else x pool later x_ne inactive)
+      ]
+
   pub Change-pool_order : IsInPoolOrder S t
   Change-pool_order v x pool born later of_queue act inactive =
       elim (cases_eq v w) [
@@ -224,3 +251,21 @@ Follows-pool_order S places wakes s t (Follows.leaves pl wk a b c w at change fi
     Follows-pool_order S places wakes after t rest (Follows-sound S false wakes b after filled sound_then)
     (λ e queue pool. Follows-full S places wakes s after queue pool (Follows.leaves places wakes s b after w at change filled (Follows.stays places wakes after)) sound (are_full e queue pool))
     (Follows-pool_order S false wakes b after filled sound_then (λ e. cc) order_then)
+
+pub Follows-waits : (S : ScenarioContents) (places wakes : Bool) (s t : State) → Follows S places wakes s t → IsSound S s
+    → (places ≡ true → AreFull S s) → IsInPoolOrder S s → WaitsSince s t
+Follows-waits S places wakes s t (Follows.stays pl wk a) sound are_full in_order = λ w pool born inactive. inl inactive
+Follows-waits S places wakes s t (Follows.changes pl wk a b c w change rest) sound are_full in_order =
+    waits-then s b t (Change-next S places wakes None s b w change) (Change-waits S places wakes None s b w sound are_full in_order change)
+    (Follows-waits S places wakes b t rest (Change-sound S places wakes None s b w change sound)
+    (λ e queue pool. Change-full S places wakes None s b w queue pool sound (λ none of_queue. cc) change (are_full e queue pool))
+    (Change-pool_order S places wakes None s b w sound are_full in_order change))
+Follows-waits S places wakes s t (Follows.leaves pl wk a b c w at change filled rest) sound are_full in_order =
+    let after = fill S (queue_of S w) at b in
+    let sound_then : IsSound S b = Change-sound S places wakes (Some at) s b w change sound in
+    let order_then : IsInPoolOrder S b = Change-pool_order S places wakes (Some at) s b w sound are_full in_order change in
+    waits-then s b t (Change-next S places wakes (Some at) s b w change) (Change-waits S places wakes (Some at) s b w sound are_full in_order change)
+    (waits-then b after t (Follows-next S false wakes b after filled) (Follows-waits S false wakes b after filled sound_then (λ e. cc) order_then)
+    (Follows-waits S places wakes after t rest (Follows-sound S false wakes b after filled sound_then)
+    (λ e queue pool. Follows-full S places wakes s after queue pool (Follows.leaves places wakes s b after w at change filled (Follows.stays places wakes after)) sound (are_full e queue pool))
+    (Follows-pool_order S false wakes b after filled sound_then (λ e. cc) order_then)))
