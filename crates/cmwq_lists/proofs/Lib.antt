@@ -1,0 +1,4 @@
+pub mod LinkLemmas
+pub mod LinkingLemmas
+pub mod KeptLemmas
+pub mod FindingLemmas

@@ -1,0 +1,2 @@
+//! Timers.
+#![tactic(auto)]
