@@ -18,7 +18,7 @@ set_next-requires c =
     record { held = if_held_kept (get c.args.cells.now) _ c.args.after c.insert_reserved-key.result added.was_vacant added.updates.others held }
 
 pub set_prev-requires : goal.set_prev-requires
-set_prev-requires c = 
+set_prev-requires c =
     let cut = c.requires.at in
     let next_is = next_of_cut (get c.args.cells.now) c.args.list c.args.ends.now cut.0 cut.1 c.args.after c.next_of-next.result cut.2 c.next_of-next.ensures in
     let added = c.insert_reserved-key.ensures in
