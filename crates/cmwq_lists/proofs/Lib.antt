@@ -2,3 +2,4 @@ pub mod LinkLemmas
 pub mod LinkingLemmas
 pub mod KeptLemmas
 pub mod FindingLemmas
+pub mod RankLemmas

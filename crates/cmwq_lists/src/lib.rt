@@ -6,6 +6,7 @@ mod cell;
 mod linking;
 mod lists;
 mod node;
+pub mod ranks;
 
 pub use lists::Lists;
 pub use node::Node;
