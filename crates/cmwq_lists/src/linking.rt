@@ -2,7 +2,7 @@
 ghost use Rattle.cmwq_lists.specs.Cells.{back_moved, Changes, entry, front_moved, IsChain, IsCut, IsNext, IsTakenOut, OthersKept, with_next, with_prev};
 ghost use Rattle.cmwq_lists.specs.Contents.{Entry};
 ghost use Rattle.slab.specs.Slab.{ContainsKey, get, HasRoomFor, slab_len};
-ghost use Rattle.std.specs.Prelude.{◌≡◌, ℕ, ◌+◌, ◌<◌, ◌^◌, List, ◌∷◌, ◌++◌, IfSome, None, Some};
+ghost use Rattle.std.specs.Prelude.{◌≡◌, ◌≢◌, ◌⊎◌, ℕ, ◌+◌, ◌<◌, ◌^◌, List, ◌∷◌, ◌++◌, IfSome, IsSome, None, Some};
 
 use crate::cell::{Cell, Ends};
 use crate::node::Node;
@@ -61,6 +61,7 @@ pub(crate) fn link(
     ensures fresh { get cells.old result ≡ None }
     ensures chain { (before behind : List Entry) → IsCut (get cells.old) list ends.old before after behind → IsChain (get cells.new) list ends.new (before ++ entry result node ∷ behind) }
     ensures others { OthersKept list (get cells.old) (get cells.new) }
+    ensures no_more { (key : ℕ) → IsSome (get cells.new key) → (key ≡ result) ⊎ IsSome (get cells.old key) }
     ensures len { slab_len cells.new ≡ slab_len cells.old + 1 }
     ensures capacity { cells.new.capacity ≡ cells.old.capacity }
 {
@@ -76,6 +77,7 @@ pub(crate) fn link(
 pub(crate) fn take_out(cells: &mut Slab<Cell>, ends: &mut Ends, key: usize) -> Node
     requires at { (list : ℕ) × (before : List Entry) × (e : Entry) × (behind : List Entry) × IsChain (get cells.old) list ends.old (before ++ e ∷ behind) × (e.key ≡ key) }
     ensures taken { (list : ℕ) (before : List Entry) (e : Entry) (behind : List Entry) → IsChain (get cells.old) list ends.old (before ++ e ∷ behind) → e.key ≡ key → IsTakenOut (get cells.old) (get cells.new) list ends.new before e behind result }
+    ensures no_more { (other : ℕ) → IsSome (get cells.new other) → (other ≢ key) × IsSome (get cells.old other) }
     ensures len { slab_len cells.new + 1 ≡ slab_len cells.old }
     ensures capacity { cells.new.capacity ≡ cells.old.capacity }
 {
