@@ -3,3 +3,4 @@ pub mod LinkingLemmas
 pub mod KeptLemmas
 pub mod FindingLemmas
 pub mod RankLemmas
+pub mod CallerLemmas
