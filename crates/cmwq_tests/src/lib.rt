@@ -1,0 +1,7 @@
+//! Tests that cross crates.
+#![tactic(auto)]
+
+#[cfg(test)]
+mod lists;
+#[cfg(test)]
+mod timers;
