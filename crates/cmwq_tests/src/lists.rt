@@ -32,4 +32,3 @@ fn the_lesser_order_stands_in_front(rt: HostRuntime) -> Result<(), Fail> {
     assert_eq!(rt; lists.front(1), None);
     Ok(())
 }
-
