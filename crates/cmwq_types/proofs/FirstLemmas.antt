@@ -98,6 +98,7 @@ first_below-unique before test (suc n) m order within passes above least =
         let same : k ≡ m = cc in
         let later : before n m ≡ false = least n (omega arith) e in
         rw (same, later) refl
+
     taken : (found : Option ℕ) → MatchFirst before test n found → m ≡ n → first_with before n (test n) found ≡ Some m
     taken None none same = (let passes_n : test n ≡ true = ap test (sym same) ∙ passes in rw (passes_n, same) refl)
     taken (Some k) first same =
