@@ -1,5 +1,5 @@
 //! A scenario's run on a machine, whose lines go to a writer.
-ghost use Rattle.cmwq_play.specs.Blocks.{SharesSink, kept, sink};
+ghost use Rattle.cmwq_play.specs.Blocks.{SharesSink, WritesTo, kept, sink};
 ghost use Rattle.cmwq_play.specs.Commands.{Writes};
 ghost use Rattle.cmwq_play.specs.Sending.{IsSendError};
 ghost use Rattle.cmwq_play.specs.Session.{IsReady, Issues, prints};
@@ -77,7 +77,7 @@ impl<'w, M: Machine, W: Sink> Session<'_, 'w, M, W> {
 
     /// The writer. What is kept back is dropped.
     pub(crate) fn into_writer(self) -> &'w mut W
-        ensures same { result.ghost_name ≡ self.entry.lines.writer.ghost_name }
+        ensures same { WritesTo self.entry.lines result }
         ensures writer { result.now ≡ sink self.entry.lines }
     {
         let Session {
