@@ -71,6 +71,18 @@ impl<'w, M: Machine, W: Sink> Session<'_, 'w, M, W> {
         ensures why { IfErr result (λ error. IsSendError error) }
     {
         self.lines.reserve()?;
+        self.issue_all(actor)
+    }
+
+    /// Issues the actor's instructions, and sends all that they print.
+    fn issue_all(&mut self, actor: &Actor) -> Result<(), PlayError>
+        requires ready { IsReady M.loaded M.state W.contents W.failed self.old }
+        requires empty { kept self.old.lines ≡ [] }
+        ensures same { SharesSink self.old.lines self.new.lines }
+        ensures writes { Writes (λ output. output ≡ prints M.loaded M.state W.contents W.failed self.old (expand actor.now))
+            (W.contents (sink self.old.lines)) (W.contents (sink self.new.lines)) (W.failed (sink self.new.lines)) result }
+        ensures why { IfErr result (λ error. IsSendError error) }
+    {
         self.issue_lines(&actor.lines)?;
         self.lines.finish()
     }
