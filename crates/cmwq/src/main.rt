@@ -1,8 +1,9 @@
 //! The program `cmwq`: words in, status out.
 #![tactic(auto)]
 
-use cmwq_command::{carry_out, fault, request, tell};
+use cmwq_command::{carry_out, fault, tell};
 use cmwq_play::{Marked, PlayError};
+use cmwq_words::request;
 use std::process::ExitCode;
 use std::{env, io};
 

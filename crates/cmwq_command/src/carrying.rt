@@ -1,9 +1,9 @@
 //! What the words ask for, carried out on files.
 ghost use Rattle.std.specs.Prelude.{◌≡◌, IfOk, false};
 
-use crate::request::{Request, parse};
 use crate::telling::{GOOD, tell};
 use cmwq_play::{Marked, PlayError};
+use cmwq_words::request::{Request, parse};
 use std::fs::File;
 use std::io::Write;
 use std::rt::Files;

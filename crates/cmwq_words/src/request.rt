@@ -2,7 +2,7 @@
 
 ghost use Rattle.clap.specs.Words.{Text, app_of, first_of, found_of, kind_of, rows_of, rule_of, subcommand_rows_of, with_subcommand};
 ghost use Rattle.clap.specs.declared.builder.command.Command.TheViews.{out-Command as fields_of};
-ghost use Rattle.cmwq_command.specs.Request.{Asks, IsPlainWord, asked_in, asked_of, asm_command, command_line, command_on, list_command, program, required_rule, run_command, show_command, words_of};
+ghost use Rattle.cmwq_words.specs.Request.{Asks, IsPlainWord, asked_in, asked_of, asm_command, command_line, command_on, list_command, program, required_rule, run_command, show_command, words_of};
 ghost use Rattle.std.specs.Prelude.{◌≡◌, [], ◌∷◌, IfOk, codes, false, map, option_map, string_bytes};
 
 use clap::error::ErrorKind;
