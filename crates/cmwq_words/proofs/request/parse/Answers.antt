@@ -1,8 +1,8 @@
 use Rattle.std.proofs.Common.{rules, ap, ◌≡◌, ◌∙◌, List, map, string_bytes}
 use Rattle.clap.specs.Words.{Text, takes}
-use Rattle.cmwq_command.specs.Request.{Asks, words_of}
-use Rattle.cmwq_command.proofs.RequestLemmas.{IsRead, asm_read, list_read, read_met, run_read, show_read}
-use Rattle.cmwq_command.proofs.request.parse.Goals as goal
+use Rattle.cmwq_words.specs.Request.{Asks, words_of}
+use Rattle.cmwq_words.proofs.RequestLemmas.{IsRead, asm_read, list_read, read_met, run_read, show_read}
+use Rattle.cmwq_words.proofs.request.parse.Goals as goal
 
 pub returns-in_err-matches : goal.returns-in_err-matches
 returns-in_err-matches c =

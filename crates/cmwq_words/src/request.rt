@@ -2,19 +2,12 @@
 
 ghost use Rattle.clap.specs.Words.{Text, app_of, first_of, found_of, kind_of, rows_of, rule_of, subcommand_rows_of, with_subcommand};
 ghost use Rattle.clap.specs.declared.builder.command.Command.TheViews.{out-Command as fields_of};
-ghost use Rattle.cmwq_command.specs.Request.{Asks, IsPlainWord, asked_in, asked_of, asm_command, command_line, command_on, list_command, program, required_rule, run_command, show_command, words_of};
-ghost use Rattle.std.specs.Prelude.{◌≡◌, ◌≢◌, ◌⊎◌, [], ◌∷◌, Err, IfOk, Ok, codes, false, map, option_map, string_bytes};
+ghost use Rattle.cmwq_words.specs.Request.{Asks, IsPlainWord, asked_in, asked_of, asm_command, command_line, command_on, list_command, program, required_rule, run_command, show_command, words_of};
+ghost use Rattle.std.specs.Prelude.{◌≡◌, [], ◌∷◌, IfOk, codes, false, map, option_map, string_bytes};
 
 use clap::error::ErrorKind;
 use clap::{Arg, ArgMatches, Command, Error};
-use cmwq_play::PlayError;
 use std::alloc::{AllocError, Global};
-
-/// The exit status of a command that did what it was asked, help included.
-pub const GOOD: u8 = 0;
-
-/// The exit status of words that aren't a command line of the program.
-pub const USAGE: u8 = 2;
 
 /// What the words ask for. The paths are as they were given.
 #[derive(Clone, Copy, Debug, PartialEq, Eq)]
@@ -86,25 +79,15 @@ pub fn parse<'a>(alloc: Global, words: &'a [String]) -> Result<Request<'a>, Erro
     }
 }
 
-/// Prints help to standard output, or a usage fault to standard error, and gives the exit status.
-/// A usage fault that can't be printed has its status all the same.
-pub fn tell<R: Print + Eprint>(rt: &R, error: &Error) -> Result<u8, PlayError>
-    ensures help { kind_of error.now ≡ ErrorKind.DisplayHelp → (result ≡ Ok 0) ⊎ (result ≡ Err PlayError.Write) }
-    ensures memory { kind_of error.now ≡ ErrorKind.OutOfMemory → result ≡ Err PlayError.NoMemory }
-    ensures usage { kind_of error.now ≢ ErrorKind.DisplayHelp → kind_of error.now ≢ ErrorKind.DisplayVersion
-        → kind_of error.now ≢ ErrorKind.OutOfMemory → result ≡ Ok 2 }
+/// The usage fault of words that aren't all text.
+pub fn not_text(alloc: Global) -> Result<Error, AllocError>
+    ensures { IfOk result (λ error. kind_of error ≡ ErrorKind.ValueValidation) }
 {
-    if error.kind() == ErrorKind::OutOfMemory {
-        return Err(PlayError::NoMemory);
-    }
-    let printed = error.print(rt);
-    if error.use_stderr() {
-        return Ok(USAGE);
-    }
-    match printed {
-        Ok(()) => Ok(GOOD),
-        Err(_) => Err(PlayError::Write),
-    }
+    let mut command = command(alloc)?;
+    command.error(
+        ErrorKind::ValueValidation,
+        "a word of the command line isn't UTF-8",
+    )
 }
 
 /// What the command that was met asks for.
@@ -197,7 +180,7 @@ fn asm_command<'a>(alloc: Global) -> Result<Command<'a>, AllocError>
     asm.arg(argument(
         alloc,
         "OUT",
-        "The image file to make; what it held is lost, even where FILE has a fault",
+        "The image file to make. What it held is lost, even where FILE has a fault: asm FILE FILE destroys its input",
     ))
 }
 

@@ -4,8 +4,8 @@ use Rattle.std.specs.Str.{bytes_eq}
 use Rattle.clap.specs.Words.{App, Row, Rule, Text, first_of, kind_of, new_app, new_rule, with_rule, with_subcommand}
 use Rattle.clap.specs.declared.error.Error.{Error}
 use Rattle.clap.specs.declared.error.kind.ErrorKind.TheVariants.{OutOfMemory}
-use Rattle.cmwq_command.specs.declared.request.Request.{Request}
-use Rattle.cmwq_command.specs.declared.request.Request.TheVariants.{Run, List as list, Asm, Show}
+use Rattle.cmwq_words.specs.declared.request.Request.{Request}
+use Rattle.cmwq_words.specs.declared.request.Request.TheVariants.{Run, List as list, Asm, Show}
 
 -- an argument that has to be given
 abbrev pub required_rule : Text → Rule

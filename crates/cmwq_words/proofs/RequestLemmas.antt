@@ -3,7 +3,7 @@ use Rattle.std.proofs.Common.{rules, ap, ℕ, ◌≡◌, ◌∙◌, ◌≢◌, �
 use Rattle.clap.specs.Words.{App, HasMatchesOf, Text, is_simple, subcommand_of, subcommand_rows_of, takes}
 use Rattle.clap.specs.declared.parser.matches.ArgMatches.{ArgMatches}
 use Rattle.clap.proofs.OnLiterals.{clap_on_literals}
-use Rattle.cmwq_command.specs.Request.{IsPlainWord, asked_of, command_line}
+use Rattle.cmwq_words.specs.Request.{IsPlainWord, asked_of, command_line}
 
 -- clap takes the words, and the request read of them has these words
 abbrev pub IsRead : List Text → List Text → Type 0
