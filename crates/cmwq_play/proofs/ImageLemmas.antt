@@ -112,10 +112,6 @@ module _ (bytes : List ℕ) where
   is_fault (errors.BadField at) other read = read
   is_fault (errors.Fault fault) other read = read
 
-  -- bytes that read as a scenario
-  pub answers_image : {A : Type 0} (x : A) (S : ScenarioContents) → reading bytes ≡ Ok S → Answers IsImage IsImageFault (Some bytes) (Ok x)
-  answers_image x S read = record { told = tt; given = λ T is. tt; tells = λ error told. let found = fault_of error told in let wrong = found.2 in cc }
-
   -- bytes with a fault
   pub answers_bad_image : {A : Type 0} (fault : ImageError) → fault ≢ errors.NoMemory → Fails fault (reading bytes) → ((S : ScenarioContents) → IsImage (Some bytes) S → Fails fault (Ok S))
       → Answers {A = A} IsImage IsImageFault (Some bytes) (Err (Image fault))
@@ -139,22 +135,3 @@ module _ (bytes : List ℕ) where
   answers_refused errors.Extra fails unread = answers_bad_image errors.Extra (λ is. cc) fails unread
   answers_refused (errors.BadField at) fails unread = answers_bad_image (errors.BadField at) (λ is. cc) fails unread
   answers_refused (errors.Fault fault) fails unread = answers_bad_image (errors.Fault fault) (λ is. cc) fails unread
-
--- no refusal is a failed read or write
-pub told_no_read : (fault : ImageError) → told_as fault ≢ Read
-told_no_read errors.NoMemory is = cc
-told_no_read errors.Magic is = cc
-told_no_read errors.Version is = cc
-told_no_read errors.Truncated is = cc
-told_no_read errors.Extra is = cc
-told_no_read (errors.BadField at) is = cc
-told_no_read (errors.Fault fault) is = cc
-
-pub told_no_write : (fault : ImageError) → told_as fault ≢ Write
-told_no_write errors.NoMemory is = cc
-told_no_write errors.Magic is = cc
-told_no_write errors.Version is = cc
-told_no_write errors.Truncated is = cc
-told_no_write errors.Extra is = cc
-told_no_write (errors.BadField at) is = cc
-told_no_write (errors.Fault fault) is = cc
