@@ -1,5 +1,6 @@
 -- Results that go on, tests, and words that are equal.
-use Rattle.std.proofs.Common.{◌≡◌, ℕ, ◌+◌, Bool, true, false, not, ◌&&◌, ◌||◌, ◌⊎◌, List, [], ◌∷◌, ◌++◌, length, cond, Result, Ok, Err, arith, refl, ap, ◌∙◌, inl, inr}
+use Rattle.std.proofs.Common.{◌≡◌, ℕ, ◌+◌, ◌<◌, ◌≤◌, Bool, true, false, not, ◌&&◌, ◌||◌, ◌⊎◌, List, [], ◌∷◌, ◌++◌, length, cond, leb, ltb, Result, Ok, Err, arith, refl, ap, ◌∙◌, inl, inr}
+use Rattle.std.proofs.lemmas.Bool.Decides.{nat_tests}
 use Rattle.std.specs.Cmp.Lexicographic.{bytes_decides}
 use Rattle.std.specs.List.{list_any, position_or_len}
 use Rattle.std.specs.Str.{bytes_eq}
@@ -87,3 +88,14 @@ position_at p (y ∷ before) x after none passes =
     let later : position_or_len p (before ++ x ∷ after) ≡ length before = position_at p before x after parts.1 passes in
     let here : not (p y) ≡ true = ap not parts.0 in
     cond_yes (not (p y)) (1 + position_or_len p (before ++ x ∷ after)) 0 here ∙ omega arith
+
+-- tests of numbers
+
+pub at_most : (n limit : ℕ) → leb n limit ≡ true → n ≤ limit
+at_most n limit e = grind (arith, nat_tests)
+
+pub at_most_is : (n limit : ℕ) → n ≤ limit → leb n limit ≡ true
+at_most_is n limit e = grind (arith, nat_tests)
+
+pub below : (n limit : ℕ) → ltb n limit ≡ true → n < limit
+below n limit e = grind (arith, nat_tests)

@@ -117,13 +117,13 @@ read_begins lines stage none e =
         utf8 = text_utf8 text (subst AllUtf8 (sym cut) utf8);
         lines = subst (λ (ws : List (List (List ℕ))). SayAll (written S) ws) (sym words) says_written;
         valid = valid.0;
-        fits = valid.1;
+        scenario = valid.1;
       },
     )
 
 pub begins_read : (lines : List (List ℕ)) → Begins lines → (stage : Stage) × (stage_after 1 lines Start ≡ Ok stage)
 begins_read lines (text, more, S, cut, is) =
-    let good : Good S = good_from_valid S is.valid is.fits in
+    let good : Good S = good_from_valid S is.valid is.scenario in
     let utf8 : AllUtf8 (lines ++ more) = subst AllUtf8 cut (lines_utf8 text is.utf8) in
     let says : SayAll (written S) (worded (lines ++ more)) = subst (λ (ls : List (List ℕ)). SayAll (written S) (worded ls)) cut is.lines in
     let on : Reached 1 lines more Start S = all_said 1 lines more S good (utf8_front lines more utf8) Start (written S) tt refl says in
@@ -283,7 +283,7 @@ fault_at_end text stage fault before e =
     let told : (reason : Why) × (at_end stage ≡ Err reason) × (fault_at (length lines + 1) reason ≡ fault) = fault_of (length lines + 1) (at_end stage) fault e in
     record {
       begins = read_begins lines stage (lines_no_feeds text) before;
-      ends = λ S is. not_read S (sym (text_reads lines S (lines_utf8 text is.utf8) (good_from_valid S is.valid is.fits) is.lines) ∙ whole);
+      ends = λ S is. not_read S (sym (text_reads lines S (lines_utf8 text is.utf8) (good_from_valid S is.valid is.scenario) is.lines) ∙ whole);
       line = ap (λ (f : FaultAt). f.line) (sym told.2);
       why = (stage, before, told.1 ∙ ap (λ (f : FaultAt). refused f.why) told.2);
     }

@@ -10,6 +10,7 @@ use Rattle.std.specs.Str.{bytes_eq}
 use Rattle.cmwq_types.specs.Contents.{ScenarioContents, WorkContents, ActorContents}
 use Rattle.cmwq_types.specs.Faults.{IsValid, actor_fault, body_fault, counts_fault, fault_if, fault_unless, first_along, fits_flags, is_body, is_finish, is_some_finish, line_fault, names_declared, numbers_fault, op_fault, or_else, queue_fault, within, work_fault}
 use Rattle.cmwq_types.specs.Name.{is_name}
+use Rattle.cmwq_types.specs.Values.{IsActor, IsLine, IsOp, IsScenario, IsWorkDecl}
 use Rattle.cmwq_types.specs.declared.check.Fault.{Fault}
 use Rattle.cmwq_types.specs.declared.check.Fault.TheVariants as fault
 use Rattle.cmwq_types.specs.declared.limits.TheConstants.{MAX_ACTORS, MAX_CPUS, MAX_FLUSHES, MAX_LINES, MAX_OPS, MAX_QUEUES, MAX_STEPS, MAX_TICKS, MAX_TIMES, MAX_WORKERS, MAX_WORKS}
@@ -17,10 +18,10 @@ use Rattle.cmwq_types.specs.declared.scenario.Line.{Line}
 use Rattle.cmwq_types.specs.declared.scenario.Op.{Op}
 use Rattle.cmwq_types.specs.declared.scenario.Op.TheVariants as op
 use Rattle.cmwq_types.specs.declared.scenario.QueueDecl.{QueueDecl}
-use Rattle.cmwq_grammar.specs.Grammar.{Fits, instr_fits}
 use Rattle.cmwq_grammar.specs.Instructions.{actor_names, queue_names, work_names}
-use Rattle.cmwq_grammar.proofs.Basics.{and_true, true_and}
-use Rattle.cmwq_grammar.proofs.FieldLemmas.{IsNew}
+use Rattle.cmwq_grammar.proofs.Basics.{and_true, at_most, at_most_is, below, true_and}
+use Rattle.cmwq_grammar.proofs.FieldLemmas.{IsNew, within_fits}
+use Rattle.cmwq_grammar.proofs.Fitting.{body_is, instr_fits, line_is, lines_fitting, queues_are, queues_named, works_named}
 use Rattle.cmwq_grammar.proofs.InstrLemmas.{good_line}
 use Rattle.cmwq_grammar.proofs.LineLemmas.{good_op}
 use Rattle.cmwq_grammar.proofs.NameLists.{GoodNames}
@@ -147,12 +148,6 @@ eqb_one n e = grind (arith, nat_tests)
 
 is_one : (n : ℕ) → n ≡ 1 → eqb n 1 ≡ true
 is_one n e = grind (arith, nat_tests)
-
-at_most : (n limit : ℕ) → leb n limit ≡ true → n ≤ limit
-at_most n limit e = grind (arith, nat_tests)
-
-at_most_is : (n limit : ℕ) → n ≤ limit → leb n limit ≡ true
-at_most_is n limit e = grind (arith, nat_tests)
 
 pub body_good : (S : ScenarioContents) (body : List Op) → body_fault S body ≡ None → GoodBody S.cpus (length S.works) body
 body_good S body e =
@@ -297,6 +292,24 @@ works_valid S before (w ∷ works) names queued bodies =
       true_and (is_name w.name) (list_all (λ work. is_name work.name) works) names.1 later.1,
     )
 
+works_are : (cpus few queues : ℕ) (works : List WorkContents) → cpus ≤ MAX_CPUS → few ≤ MAX_WORKS → queues ≤ MAX_QUEUES
+    → list_all (λ work. is_name work.name) works ≡ true → list_all (on_queue_of queues) works ≡ true → AllByRecursion (GoodBodyOf cpus few) works → AllByRecursion IsWorkDecl works
+works_are cpus few queues [] c w q names queued bodies = tt
+works_are cpus few queues (work ∷ works) c w q names queued bodies =
+    let named : (is_name work.name ≡ true) × (list_all (λ work. is_name work.name) works ≡ true) =
+    and_true (is_name work.name) (list_all (λ work. is_name work.name) works) names in
+    let both : (ltb work.queue.0 queues ≡ true) × (list_all (on_queue_of queues) works ≡ true) =
+    and_true (ltb work.queue.0 queues) (list_all (on_queue_of queues) works) queued in
+    let under : work.queue.0 < queues = below work.queue.0 queues both.0 in
+    let good : GoodBody cpus few work.body = bodies.0 in (
+      record {
+        name = named.0;
+        queue = omega arith;
+        body = subst (AllByRecursion IsOp) (sym good.whole) (body_is cpus few good.ops c w good.good);
+      },
+      works_are cpus few queues works c w q named.1 both.1 bodies.1,
+    )
+
 -- Actors.
 
 abbrev pub good_lines : ScenarioContents → List Line → Bool
@@ -393,6 +406,33 @@ actors_valid S before (a ∷ actors) names good =
       true_and (fits_actor a) (list_all fits_actor actors) (true_and (is_name a.name) (list_all (λ line. instr_fits line.instr) a.lines) names.1 lines.1) later.1,
     )
 
+lines_are : (S : ScenarioContents) (lines : List Line) → length S.works ≤ MAX_WORKS → length S.queues ≤ MAX_QUEUES → good_lines S lines ≡ true → AllByRecursion IsLine lines
+lines_are S [] works queues good = tt
+lines_are S (l ∷ lines) works queues good =
+    let both : (good_line S l ≡ true) × (good_lines S lines ≡ true) = and_true (good_line S l) (good_lines S lines) good in
+    let parts : ((names_declared S l.instr && within 1 MAX_TIMES l.times) ≡ true) × (instr_fits l.instr ≡ true) =
+    and_true (names_declared S l.instr && within 1 MAX_TIMES l.times) (instr_fits l.instr) both.0 in
+    let tests : (names_declared S l.instr ≡ true) × (within 1 MAX_TIMES l.times ≡ true) =
+    and_true (names_declared S l.instr) (within 1 MAX_TIMES l.times) parts.0 in
+    (line_is S l works queues tests.0 tests.1 parts.1, lines_are S lines works queues both.1)
+
+actors_are : (S : ScenarioContents) (actors : List ActorContents) → length S.works ≤ MAX_WORKS → length S.queues ≤ MAX_QUEUES
+    → list_all fits_actor actors ≡ true → list_all (good_actor S) actors ≡ true → AllByRecursion IsActor actors
+actors_are S [] works queues fits good = tt
+actors_are S (a ∷ actors) works queues fits good =
+    let told : (fits_actor a ≡ true) × (list_all fits_actor actors ≡ true) = and_true (fits_actor a) (list_all fits_actor actors) fits in
+    let named : (is_name a.name ≡ true) × (list_all (λ line. instr_fits line.instr) a.lines ≡ true) =
+    and_true (is_name a.name) (list_all (λ line. instr_fits line.instr) a.lines) told.0 in
+    let both : (good_actor S a ≡ true) × (list_all (good_actor S) actors ≡ true) = and_true (good_actor S a) (list_all (good_actor S) actors) good in
+    let here : (leb (length a.lines) MAX_LINES ≡ true) × (good_lines S a.lines ≡ true) = and_true (leb (length a.lines) MAX_LINES) (good_lines S a.lines) both.0 in
+    (record { name = named.0; lines = lines_are S a.lines works queues here.1 }, actors_are S actors works queues told.1 both.1)
+
+actors_fitting : (actors : List ActorContents) → AllByRecursion IsActor actors → list_all fits_actor actors ≡ true
+actors_fitting [] are = refl
+actors_fitting (a ∷ actors) are =
+    true_and (fits_actor a) (list_all fits_actor actors)
+    (true_and (is_name a.name) (list_all (λ line. instr_fits line.instr) a.lines) are.0.name (lines_fitting a.lines are.0.lines)) (actors_fitting actors are.1)
+
 -- The whole scenario.
 
 pub record Good (S : ScenarioContents) : Type 0 where
@@ -411,8 +451,8 @@ pub record Good (S : ScenarioContents) : Type 0 where
   pub actor_names : GoodNames [] (actor_names S)
   pub actors : list_all (good_actor S) S.actors ≡ true
 
-pub good_from_valid : (S : ScenarioContents) → IsValid S → Fits S → Good S
-good_from_valid S valid fits =
+pub good_from_valid : (S : ScenarioContents) → IsValid S → IsScenario S → Good S
+good_from_valid S valid is =
     let after_queues = or_else (first_along (work_fault S) [] S.works) (first_along (actor_fault S) [] S.actors) in
     let after_counts = or_else (first_along queue_fault [] S.queues) after_queues in
     let a : (numbers_fault S ≡ None) × (or_else (counts_fault S) after_counts ≡ None) = no_first (numbers_fault S) (or_else (counts_fault S) after_counts) valid in
@@ -433,9 +473,9 @@ good_from_valid S valid fits =
     let actors_few = leb (length S.actors) MAX_ACTORS in
     let m2 : ((qs && ws) ≡ true) × (actors_few ≡ true) = and_true (qs && ws) actors_few (no_unless (qs && ws && actors_few) fault.TooMany b.0) in
     let m1 : (qs ≡ true) × (ws ≡ true) = and_true qs ws m2.0 in
-    let queues = queues_good [] S.queues c.0 fits.queues in
-    let works = works_good S [] S.works d.0 fits.works in
-    let actors = actors_good S [] S.actors d.1 fits.actors in
+    let queues = queues_good [] S.queues c.0 (queues_named S.queues is.queues) in
+    let works = works_good S [] S.works d.0 (works_named S.works is.works) in
+    let actors = actors_good S [] S.actors d.1 (actors_fitting S.actors is.actors) in
     record {
       cpus = n1.0;
       workers = n1.1;
@@ -453,7 +493,7 @@ good_from_valid S valid fits =
       actors = actors.1;
     }
 
-pub valid_from_good : (S : ScenarioContents) → Good S → IsValid S × Fits S
+pub valid_from_good : (S : ScenarioContents) → Good S → IsValid S × IsScenario S
 valid_from_good S good =
     let after_queues = or_else (first_along (work_fault S) [] S.works) (first_along (actor_fault S) [] S.actors) in
     let after_counts = or_else (first_along queue_fault [] S.queues) after_queues in
@@ -467,6 +507,10 @@ valid_from_good S good =
     let queues = queues_valid [] S.queues good.queue_names good.queues in
     let works = works_valid S [] S.works good.work_names good.works good.bodies in
     let actors = actors_valid S [] S.actors good.actor_names good.actors in
+    let cpu : (1 ≤ S.cpus) × (S.cpus ≤ MAX_CPUS) = within_fits 1 MAX_CPUS S.cpus good.cpus in
+    let worker : (1 ≤ S.workers) × (S.workers ≤ MAX_WORKERS) = within_fits 1 MAX_WORKERS S.workers good.workers in
+    let step : (1 ≤ S.steps) × (S.steps ≤ MAX_STEPS) = within_fits 1 MAX_STEPS S.steps good.steps in
+    let flush : S.flushes ≤ MAX_FLUSHES = at_most S.flushes MAX_FLUSHES good.flushes in
     let numbers : numbers_fault S ≡ None =
     unless_none (cpus && workers && steps && flushes) fault.Range (true_and (cpus && workers && steps) flushes (true_and (cpus && workers) steps (true_and cpus workers good.cpus good.workers) good.steps) good.flushes) in
     let counts : counts_fault S ≡ None =
@@ -475,5 +519,13 @@ valid_from_good S good =
           (none_first (counts_fault S) after_counts counts
           (none_first (first_along queue_fault [] S.queues) after_queues queues.0
           (none_first (first_along (work_fault S) [] S.works) (first_along (actor_fault S) [] S.actors) works.0 actors.0))),
-      record { queues = queues.1; works = works.1; actors = actors.1 },
+      record {
+        cpus = omega (arith, cpu.1);
+        workers = omega (arith, worker.1);
+        steps = omega (arith, step.1);
+        flushes = omega (arith, flush);
+        queues = queues_are S.queues queues.1 good.queues;
+        works = works_are S.cpus (length S.works) (length S.queues) S.works cpu.1 good.few_works good.few_queues works.1 good.works good.bodies;
+        actors = actors_are S S.actors good.few_works good.few_queues actors.1 good.actors;
+      },
     )

@@ -14,12 +14,13 @@ use Rattle.cmwq_types.specs.declared.instr.WorkId.{WorkId}
 use Rattle.cmwq_types.specs.declared.limits.TheConstants.{MAX_TIMES}
 use Rattle.cmwq_types.specs.declared.scenario.Line.{Line}
 use Rattle.cmwq_grammar.specs.Fields.{◌>>=◌, declared_at, made, made_last, number_where, number_within}
-use Rattle.cmwq_grammar.specs.Grammar.{Says, instr_fits}
+use Rattle.cmwq_grammar.specs.Grammar.{Says}
 use Rattle.cmwq_grammar.specs.Instructions.{instr_at, line_at, line_of, number_to, on_queue, on_queue_max, on_work, on_work_cpu, on_work_cpu_ticks, queue_id, queue_names, then_cpu, then_cpu_ticks, then_max, then_ticks, then_times, times_at, work_id, work_names}
 use Rattle.cmwq_grammar.specs.declared.why.Why.{Why}
 use Rattle.cmwq_grammar.specs.declared.why.Why.TheVariants as why
 use Rattle.cmwq_grammar.proofs.Basics.{ok_same, bind_ok, bind_at, and_true, true_and, chosen, same_word}
 use Rattle.cmwq_grammar.proofs.FieldLemmas.{declared_read, ended_again, last_read, where_read, where_again, within_fits, fits_within}
+use Rattle.cmwq_grammar.proofs.Fitting.{instr_fits}
 use Rattle.cmwq_grammar.proofs.LineLemmas.{not_standing}
 use Rattle.cmwq_grammar.proofs.NameLists.{GoodNames, name_of_queue, name_of_work, queue_below, queue_declared, work_below, work_declared}
 

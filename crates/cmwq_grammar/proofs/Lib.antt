@@ -6,6 +6,7 @@ mod Continuations
 mod Events
 mod FaultLemmas
 mod FieldLemmas
+mod Fitting
 mod FlagLemmas
 mod GoodScenario
 mod InstrLemmas

@@ -15,6 +15,7 @@ use Rattle.cmwq_types.specs.Faults.{IsValid, fits_flags, names_declared, within}
 use Rattle.cmwq_types.specs.Listing.{WrittenLine, Words, Flagged, Repeated, actor_line, actor_lines, body_lines, flag_words, instr_words, listing, numbered, op_line, queue_line, times_words, word_if, work_line, written, written_text}
 use Rattle.cmwq_types.specs.Name.{is_lowercase, is_name, is_name_byte}
 use Rattle.cmwq_types.specs.Scenario.{queue_at, work_at}
+use Rattle.cmwq_types.specs.Values.{IsScenario}
 use Rattle.cmwq_types.specs.declared.instr.Instr.{Instr}
 use Rattle.cmwq_types.specs.declared.instr.Instr.TheVariants as instr
 use Rattle.cmwq_types.specs.declared.limits.TheConstants.{MAX_ACTORS, MAX_CPUS, MAX_FLUSHES, MAX_LINES, MAX_MAX_ACTIVE, MAX_OPS, MAX_QUEUES, MAX_STEPS, MAX_TEXT, MAX_TICKS, MAX_TIMES, MAX_WORKERS, MAX_WORKS}
@@ -24,11 +25,12 @@ use Rattle.cmwq_types.specs.declared.scenario.Op.{Op}
 use Rattle.cmwq_types.specs.declared.scenario.Op.TheVariants as op
 use Rattle.cmwq_types.specs.declared.scenario.QueueDecl.{QueueDecl}
 use Rattle.cmwq_grammar.specs.Cutting.{is_empty, lines_of, worded}
-use Rattle.cmwq_grammar.specs.Grammar.{Fits, SayAll, Says, Spells, instr_fits}
+use Rattle.cmwq_grammar.specs.Grammar.{SayAll, Says, Spells}
 use Rattle.cmwq_grammar.specs.Instructions.{queue_names, work_names}
-use Rattle.cmwq_grammar.proofs.Basics.{and_true, true_and, either, cond_no, cond_yes}
+use Rattle.cmwq_grammar.proofs.Basics.{and_true, at_most, true_and, either, cond_no, cond_yes}
 use Rattle.cmwq_grammar.proofs.CanonicalLines.{all_plain, fed, fed_lines, joined, plain_byte, plain_no_feeds, plain_utf8, plain_word, plain_worded, plain_words}
 use Rattle.cmwq_grammar.proofs.FieldLemmas.{numerals, within_fits}
+use Rattle.cmwq_grammar.proofs.Fitting.{instr_fits}
 use Rattle.cmwq_grammar.proofs.GoodScenario.{Good, GoodBody, GoodBodyOf, good_actor, good_from_valid, good_lines, on_queue_of}
 use Rattle.cmwq_grammar.proofs.InstrLemmas.{good_line}
 use Rattle.cmwq_grammar.proofs.LineLemmas.{good_op}
@@ -127,9 +129,6 @@ digits_plain (x ∷ xs) h =
 
 not_empty : (n : ℕ) → 1 ≤ n → not (eqb n 0) ≡ true
 not_empty n h = grind (arith, nat_tests)
-
-at_most : (n limit : ℕ) → leb n limit ≡ true → n ≤ limit
-at_most n limit h = grind (arith, nat_tests)
 
 below : (n limit : ℕ) → ltb n limit ≡ true → n < limit
 below n limit h = grind (arith, nat_tests)
@@ -469,9 +468,9 @@ pub listing_lines : (S : ScenarioContents) → Good S → lines_of (listing S) �
 listing_lines S good =
     ap lines_of (listing_is (written S)) ∙ fed_lines (map joined (map canonical (written S))) (plain_no_feeds (map canonical (written S)) (written_fits S good).plain)
 
-pub listing_spells : (S : ScenarioContents) → IsValid S → Fits S → Spells (listing S) S
-listing_spells S valid fits =
-    let good : Good S = good_from_valid S valid fits in
+pub listing_spells : (S : ScenarioContents) → IsValid S → IsScenario S → Spells (listing S) S
+listing_spells S valid is =
+    let good : Good S = good_from_valid S valid is in
     let fit : LinesFit MAX_TEXT (written S) = written_fits S good in
     let lines : lines_of (listing S) ≡ map joined (map canonical (written S)) = listing_lines S good in
     let said : worded (lines_of (listing S)) ≡ map canonical (written S) = ap worded lines ∙ plain_worded (map canonical (written S)) fit.plain in
@@ -481,6 +480,6 @@ listing_spells S valid fits =
         utf8 = text_utf8 (listing S) (subst AllUtf8 (sym lines) (plain_utf8 (map canonical (written S)) fit.plain));
         lines = subst (λ (ws : List (List (List ℕ))). SayAll (written S) ws) (sym said) (canonical_say (written S));
         valid = valid;
-        fits = fits;
+        scenario = is;
       };
     }

@@ -189,7 +189,7 @@ read_spells text S e =
           let valid = valid_from_good S read.1 in
           record {
             short = not_above (length text) it.0;
-            is_text = record { utf8 = text_utf8 text read.2; lines = read.0; valid = valid.0; fits = valid.1 };
+            is_text = record { utf8 = text_utf8 text read.2; lines = read.0; valid = valid.0; scenario = valid.1 };
           })
     ]
   where

@@ -199,7 +199,7 @@ pub spelled_reads : (text : List ℕ) (S : ScenarioContents) → Spells text S �
 unfolding reads
 spelled_reads text S spells =
     let is = spells.is_text in
-    let good : Good S = good_from_valid S is.valid is.fits in
+    let good : Good S = good_from_valid S is.valid is.scenario in
     cond_no (ltb MAX_TEXT (length text)) (Err (fault_at 0 why.TooLong)) (reads_lines (lines_of text)) (not_above (length text) spells.short)
     ∙ text_reads (lines_of text) S (lines_utf8 text is.utf8) good is.lines
   where

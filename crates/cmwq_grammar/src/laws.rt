@@ -1,10 +1,11 @@
 //! The laws of texts, each the contract of a function with an empty body.
 ghost use Rattle.cmwq_grammar.specs.FaultLaw.{IsFault};
-ghost use Rattle.cmwq_grammar.specs.Grammar.{Fits, Spells};
+ghost use Rattle.cmwq_grammar.specs.Grammar.{Spells};
 ghost use Rattle.cmwq_grammar.specs.Meaning.{FaultAt, reads};
 ghost use Rattle.cmwq_types.specs.Contents.{ScenarioContents};
 ghost use Rattle.cmwq_types.specs.Faults.{IsValid};
 ghost use Rattle.cmwq_types.specs.Listing.{listing};
+ghost use Rattle.cmwq_types.specs.Values.{IsScenario};
 ghost use Rattle.std.specs.Prelude.{◌≡◌, ◌↔◌, ℕ, Err, List, Ok};
 
 /// What is read is spelled so: a text that reads as a scenario spells it.
@@ -22,11 +23,10 @@ pub fn text_spells_one_scenario()
     ensures { (text : List ℕ) (S T : ScenarioContents) → Spells text S → Spells text T → S ≡ T }
 {}
 
-/// The listing of a valid scenario whose names are names and whose numbers an instruction can hold spells it, and
-/// so reads as it. So each such listing has room in a text.
+/// The listing of a valid scenario spells it, and so reads as it. So each such listing has room in a text.
 pub fn listing_spells_its_scenario()
-    ensures spelled { (S : ScenarioContents) → IsValid S → Fits S → Spells (listing S) S }
-    ensures read { (S : ScenarioContents) → IsValid S → Fits S → reads (listing S) ≡ Ok S }
+    ensures spelled { (S : ScenarioContents) → IsValid S → IsScenario S → Spells (listing S) S }
+    ensures read { (S : ScenarioContents) → IsValid S → IsScenario S → reads (listing S) ≡ Ok S }
 {}
 
 /// Where reading fails is the first fault of the text: the first line such that no scenario's text begins with

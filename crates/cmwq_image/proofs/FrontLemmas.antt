@@ -9,7 +9,8 @@ use Rattle.cmwq_types.specs.Contents.{ScenarioContents}
 use Rattle.cmwq_types.specs.Faults.{first_fault, IsValid}
 use Rattle.cmwq_image.specs.Image.{image, magic}
 use Rattle.cmwq_image.specs.ImageFault.{Place, Reader, ◌>>=◌, hand_on, done, many, field, accepted, behind, if_within, number_at, version_at, name_at, name_of, queue_at, op_tag_at, op_tag_of, op_room, op_at, instr_tag_at, instr_tag_of, instr_room, instr_at, work_at, line_at, actor_at, head_at, scenario_at, judged, unless_faulty, from_there, reading}
-use Rattle.cmwq_image.specs.Limits.{IsContents, HasSize}
+use Rattle.cmwq_image.specs.Limits.{HasSize}
+use Rattle.cmwq_types.specs.Values.{IsScenario}
 use Rattle.cmwq_image.specs.declared.error.ImageError.{ImageError}
 use Rattle.cmwq_image.specs.declared.error.ImageError.TheVariants as errors
 use Rattle.cmwq_image.specs.declared.head.Head.{Head}
@@ -247,7 +248,7 @@ far_bytes n bytes far =
     ]
 
 -- the image of a scenario is read up to its end
-pub image_size : (S : ScenarioContents) → IsContents S → HasSize S → length (image S) ≤ 923058
+pub image_size : (S : ScenarioContents) → IsScenario S → HasSize S → length (image S) ≤ 923058
 image_size S contents sizes =
     elim (cases_lt 923054 (length (rest_image S))) [
       | inl longer ↦
@@ -257,5 +258,5 @@ image_size S contents sizes =
       | inr short ↦ omega (arith, short, length-append magic (rest_image S))
     ]
 
-pub valid_image_size : (S : ScenarioContents) → IsContents S → IsValid S → length (image S) ≤ 923058
+pub valid_image_size : (S : ScenarioContents) → IsScenario S → IsValid S → length (image S) ≤ 923058
 valid_image_size S contents valid = image_size S contents (sized S valid)

@@ -7,7 +7,7 @@ use Rattle.cmwq_types.specs.declared.scenario.Flags.{Flags}
 use Rattle.cmwq_types.specs.declared.scenario.QueueDecl.{QueueDecl}
 use Rattle.cmwq_image.specs.Image.{in_order, number, name_field, worth, flag_bits, queue_image}
 use Rattle.cmwq_image.specs.ImageFault.{◌>>=◌, done, number_at, short_at, name_at, flags_of, queue_at}
-use Rattle.cmwq_image.specs.Limits.{IsQueue}
+use Rattle.cmwq_types.specs.Values.{IsQueueDecl}
 use Rattle.cmwq_image.proofs.Codec.{Codec, nothing, one_then}
 use Rattle.cmwq_image.proofs.FieldCodecs.{InRange, numbers, names, wide8, wide16, wide32}
 
@@ -157,11 +157,11 @@ queues_max name =
       written = λ q h. refl;
     })
 
-pub queues : Codec queue_at queue_image IsQueue
+pub queues : Codec queue_at queue_image IsQueueDecl
 unfolding queue_at
 queues =
     one_then name_at (λ name. short_at >>= λ max. number_at w8 0 31 >>= λ bits. number_at w8 0 0 >>= λ nothing. done (made_queue name max bits)) (λ q. q.name) name_field (λ name. IsTrue (is_name name))
-    (λ q. in_order (number w16 q.max ∷ number w8 (flag_bits q.flags) ∷ number w8 0 ∷ [])) (λ name q. (q.name ≡ name) × (q.max ≤ 65535)) queue_image IsQueue
+    (λ q. in_order (number w16 q.max ∷ number w8 (flag_bits q.flags) ∷ number w8 0 ∷ [])) (λ name q. (q.name ≡ name) × (q.max ≤ 65535)) queue_image IsQueueDecl
     names (λ name fits. queues_max name) (record {
       join = λ name q fits h. (h.0, record { name = ap is_name h.0 ∙ fits; max = omega (arith, h.1) });
       cut = λ q h. (h.name, (refl, omega (arith, h.max)));

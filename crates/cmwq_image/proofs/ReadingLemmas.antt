@@ -11,7 +11,8 @@ use Rattle.cmwq_types.specs.declared.check.Fault.{Fault}
 use Rattle.cmwq_image.specs.FaultMeaning.{IsImage, Begins, BeginsNone, IsBadAt, EndsAt, Means}
 use Rattle.cmwq_image.specs.Image.{image, magic}
 use Rattle.cmwq_image.specs.ImageFault.{Place, done, scenario_at, judged, unless_faulty, from_there, reading, Fails, Gives}
-use Rattle.cmwq_image.specs.Limits.{AreBytes, IsContents, HasSize}
+use Rattle.cmwq_image.specs.Limits.{AreBytes, HasSize}
+use Rattle.cmwq_types.specs.Values.{IsScenario}
 use Rattle.cmwq_image.specs.declared.error.ImageError.{ImageError}
 use Rattle.cmwq_image.specs.declared.error.ImageError.TheVariants as errors
 use Rattle.cmwq_image.proofs.Codec.{Stops, Never, place, AreBytes-drop}
@@ -67,7 +68,7 @@ judged_found (Ok found) S e = go (eqb (length found.1.rest) 0) refl e
     go false t h = absurd cc
 judged_found (Err fault) S e = absurd cc
 
-pub reading_takes : (bytes : List ℕ) (S : ScenarioContents) → AreBytes bytes → reading bytes ≡ Ok S → IsContents S × IsValid S × (bytes ≡ image S)
+pub reading_takes : (bytes : List ℕ) (S : ScenarioContents) → AreBytes bytes → reading bytes ≡ Ok S → IsScenario S × IsValid S × (bytes ≡ image S)
 reading_takes bytes S fine e =
     elim (start bytes) [
       | Behind parts gives ↦
@@ -87,13 +88,13 @@ behind_image S rest fits = scenarios.again 4 S rest fits
 pub whole_image : (S : ScenarioContents) → HasImage S → scenario_at (place 4 (rest_image S)) ≡ Ok (S, place (4 + length (rest_image S)) [])
 whole_image S fits = ap (λ (b : List ℕ). scenario_at (place 4 b)) (sym (append-nil (rest_image S))) ∙ behind_image S [] fits
 
-pub reading_again : (S : ScenarioContents) → IsContents S → IsValid S → reading (image S) ≡ Ok S
+pub reading_again : (S : ScenarioContents) → IsScenario S → IsValid S → reading (image S) ≡ Ok S
 unfolding reading
 reading_again S contents valid =
     ap judged (whole_image S (record { contents = contents; sized = sized S valid }))
     ∙ ap (unless_faulty S) valid
 
-pub one_image : (S T : ScenarioContents) → IsContents S → HasSize S → IsContents T → HasSize T → image S ≡ image T → S ≡ T
+pub one_image : (S T : ScenarioContents) → IsScenario S → HasSize S → IsScenario T → HasSize T → image S ≡ image T → S ≡ T
 one_image S T cs ss ct st e =
     let first = whole_image S (record { contents = cs; sized = ss }) in
     let second = whole_image T (record { contents = ct; sized = st }) in
@@ -106,12 +107,12 @@ one_image S T cs ss ct st e =
 -- ---- what `read` says
 
 pub is_found : (bytes : List ℕ) (r : Result ScenarioContents ImageError) → AreBytes bytes → Gives (λ (S : ScenarioContents). S) r (reading bytes)
-    → IfOk r (λ S. IsContents S × IsValid S × (bytes ≡ image S))
+    → IfOk r (λ S. IsScenario S × IsValid S × (bytes ≡ image S))
 is_found bytes (Ok S) fine given = reading_takes bytes S fine given
 is_found bytes (Err e) fine given = tt
 
 pub is_only : (bytes : List ℕ) (r : Result ScenarioContents ImageError) → Gives (λ (S : ScenarioContents). S) r (reading bytes)
-    → (S : ScenarioContents) → IsContents S → IsValid S → bytes ≡ image S → Gives (λ (T : ScenarioContents). T) r (Ok S)
+    → (S : ScenarioContents) → IsScenario S → IsValid S → bytes ≡ image S → Gives (λ (T : ScenarioContents). T) r (Ok S)
 is_only bytes r given S contents valid e = subst (Gives (λ (T : ScenarioContents). T) r) (ap reading e ∙ reading_again S contents valid) given
 
 -- ---- what a fault means
@@ -253,5 +254,5 @@ is_meant bytes (Err e) fine given = go e given
     go (errors.Fault fault) h = means bytes (errors.Fault fault) fine h
 
 -- bytes are read as a scenario exactly where they are its image
-pub read_exactly : (bytes : List ℕ) (S : ScenarioContents) → AreBytes bytes → (reading bytes ≡ Ok S) ↔ (IsContents S × IsValid S × (bytes ≡ image S))
+pub read_exactly : (bytes : List ℕ) (S : ScenarioContents) → AreBytes bytes → (reading bytes ≡ Ok S) ↔ (IsScenario S × IsValid S × (bytes ≡ image S))
 read_exactly bytes S fine = (reading_takes bytes S fine, λ h. ap reading h.2 ∙ reading_again S h.0 h.1)

@@ -11,7 +11,8 @@ use Rattle.cmwq_types.specs.declared.scenario.Op.{Op}
 use Rattle.cmwq_types.specs.declared.scenario.QueueDecl.{QueueDecl}
 use Rattle.cmwq_image.specs.Image.{in_order, number, name_field, queue_image, op_image, work_image, word_image, instr_word, line_image, actor_image, image, magic}
 use Rattle.cmwq_image.specs.ImageFault.{◌>>=◌, done, many, number_at, byte_at, short_at, long_at, version_at, name_at, queue_at, op_at, work_at, instr_at, line_at, actor_at, head_at, scenario_at}
-use Rattle.cmwq_image.specs.Limits.{IsQueue, IsOp, IsWork, IsInstr, IsLine, IsActor, IsContents, HasBodySize, HasLinesSize, HasSize}
+use Rattle.cmwq_image.specs.Limits.{HasBodySize, HasLinesSize, HasSize}
+use Rattle.cmwq_types.specs.Values.{IsQueueDecl, IsOp, IsWorkDecl, IsInstr, IsLine, IsActor, IsScenario}
 use Rattle.cmwq_image.specs.declared.head.Head.{Head}
 use Rattle.cmwq_image.proofs.Codec.{Codec, nothing, one_then}
 use Rattle.cmwq_image.proofs.FieldCodecs.{InRange, Each, names, versions, many_of}
@@ -70,12 +71,12 @@ works_queue name =
       written = λ w h. refl;
     })
 
-pub works : Codec work_at work_image (λ w. IsWork w × HasBodySize w)
+pub works : Codec work_at work_image (λ w. IsWorkDecl w × HasBodySize w)
 unfolding work_at
 works =
     one_then name_at (λ name. byte_at >>= λ queue. number_at w8 1 64 >>= λ count. many op_at count >>= λ body. done (work_with name queue body)) (λ w. w.name) name_field (λ name. IsTrue (is_name name))
     (λ w. in_order (number w8 w.queue.0 ∷ number w8 (length w.body) ∷ flat_map op_image w.body ∷ [])) (λ name w. (w.name ≡ name) × (w.queue.0 ≤ 255) × HasBodySize w × AllByRecursion IsOp w.body)
-    work_image (λ w. IsWork w × HasBodySize w)
+    work_image (λ w. IsWorkDecl w × HasBodySize w)
     names (λ name fits. works_queue name) (record {
       join = λ name w fits h. (h.0, (record { name = ap is_name h.0 ∙ fits; queue = omega (arith, h.1); body = h.3 }, h.2));
       cut = λ w h. (h.0.name, (refl, omega (arith, h.0.queue), h.1, h.0.body));
@@ -293,7 +294,7 @@ scenario_with head queues works actors =
     record { cpus = head.cpus; workers = head.workers; steps = head.steps; flushes = head.flushes; queues = queues; works = works; actors = actors }
 
 abbrev WorkFits : WorkContents → Type 0
-WorkFits w = IsWork w × HasBodySize w
+WorkFits w = IsWorkDecl w × HasBodySize w
 
 abbrev ActorFits : ActorContents → Type 0
 ActorFits a = IsActor a × HasLinesSize a
@@ -356,22 +357,22 @@ scenarios_works head queues =
 scenarios_queues : (head : Head)
     → Codec (many queue_at head.queues >>= λ queues. many work_at head.works >>= λ works. many actor_at head.actors >>= λ actors. done (scenario_with head queues works actors))
     (λ S. in_order (flat_map queue_image S.queues ∷ flat_map work_image S.works ∷ flat_map actor_image S.actors ∷ []))
-    (λ S. NumbersAre head S × Each IsQueue head.queues S.queues × Each WorkFits head.works S.works × Each ActorFits head.actors S.actors)
+    (λ S. NumbersAre head S × Each IsQueueDecl head.queues S.queues × Each WorkFits head.works S.works × Each ActorFits head.actors S.actors)
 scenarios_queues head =
-    one_then (many queue_at head.queues) (λ queues. many work_at head.works >>= λ works. many actor_at head.actors >>= λ actors. done (scenario_with head queues works actors)) (λ S. S.queues) (flat_map queue_image) (Each IsQueue head.queues)
+    one_then (many queue_at head.queues) (λ queues. many work_at head.works >>= λ works. many actor_at head.actors >>= λ actors. done (scenario_with head queues works actors)) (λ S. S.queues) (flat_map queue_image) (Each IsQueueDecl head.queues)
     (λ S. in_order (flat_map work_image S.works ∷ flat_map actor_image S.actors ∷ []))
     (λ queues S. NumbersAre head S × (S.queues ≡ queues) × Each WorkFits head.works S.works × Each ActorFits head.actors S.actors)
     (λ S. in_order (flat_map queue_image S.queues ∷ flat_map work_image S.works ∷ flat_map actor_image S.actors ∷ []))
-    (λ S. NumbersAre head S × Each IsQueue head.queues S.queues × Each WorkFits head.works S.works × Each ActorFits head.actors S.actors)
-    (many_of queue_at queue_image IsQueue queues head.queues) (λ queues fits. scenarios_works head queues) (record {
-      join = λ queues S fits h. (h.1, (h.0, subst (Each IsQueue head.queues) (sym h.1) fits, h.2, h.3));
+    (λ S. NumbersAre head S × Each IsQueueDecl head.queues S.queues × Each WorkFits head.works S.works × Each ActorFits head.actors S.actors)
+    (many_of queue_at queue_image IsQueueDecl queues head.queues) (λ queues fits. scenarios_works head queues) (record {
+      join = λ queues S fits h. (h.1, (h.0, subst (Each IsQueueDecl head.queues) (sym h.1) fits, h.2, h.3));
       cut = λ S h. (h.1, (h.0, refl, h.2, h.3));
       written = λ S h. refl;
     })
 
 -- what has an image
 pub record HasImage (S : ScenarioContents) : Type 0 where
-  pub contents : IsContents S
+  pub contents : IsScenario S
   pub sized : HasSize S
 
 -- the image, behind the magic bytes
@@ -379,7 +380,7 @@ abbrev pub rest_image : ScenarioContents → List ℕ
 rest_image S = head_bytes (head_of S) ++ in_order (flat_map queue_image S.queues ∷ flat_map work_image S.works ∷ flat_map actor_image S.actors ∷ [])
 
 scenario_join : (head : Head) (S : ScenarioContents) → HeadFits head
-    → NumbersAre head S × Each IsQueue head.queues S.queues × Each WorkFits head.works S.works × Each ActorFits head.actors S.actors → (head_of S ≡ head) × HasImage S
+    → NumbersAre head S × Each IsQueueDecl head.queues S.queues × Each WorkFits head.works S.works × Each ActorFits head.actors S.actors → (head_of S ≡ head) × HasImage S
 scenario_join head S fits h =
     let head_is : head_of S ≡ head =
     ap (λ x. head_with x S.workers S.steps S.flushes (length S.queues) (length S.works) (length S.actors)) h.0.0
@@ -397,21 +398,21 @@ scenario_join head S fits h =
           steps = omega (arith, h.0.2, fits.2);
           flushes = omega (arith, h.0.3, fits.3);
           queues = h.1.1;
-          works = first_all IsWork HasBodySize S.works h.2.1;
+          works = first_all IsWorkDecl HasBodySize S.works h.2.1;
           actors = first_all IsActor HasLinesSize S.actors h.3.1;
         };
         sized = record {
           queues = omega (arith, h.1.0, fits.4);
           works = omega (arith, h.2.0, fits.5);
           actors = omega (arith, h.3.0, fits.6);
-          bodies = second_all IsWork HasBodySize S.works h.2.1;
+          bodies = second_all IsWorkDecl HasBodySize S.works h.2.1;
           lines = second_all IsActor HasLinesSize S.actors h.3.1;
         };
       },
     )
 
 scenario_cut : (S : ScenarioContents) → HasImage S
-    → HeadFits (head_of S) × (NumbersAre (head_of S) S × Each IsQueue (length S.queues) S.queues × Each WorkFits (length S.works) S.works × Each ActorFits (length S.actors) S.actors)
+    → HeadFits (head_of S) × (NumbersAre (head_of S) S × Each IsQueueDecl (length S.queues) S.queues × Each WorkFits (length S.works) S.works × Each ActorFits (length S.actors) S.actors)
 scenario_cut S h = (
   (
     omega (arith, h.contents.cpus),
@@ -425,7 +426,7 @@ scenario_cut S h = (
   (
     (refl, refl, refl, refl),
     (refl, h.contents.queues),
-    (refl, both_all IsWork HasBodySize S.works h.contents.works h.sized.bodies),
+    (refl, both_all IsWorkDecl HasBodySize S.works h.contents.works h.sized.bodies),
     (refl, both_all IsActor HasLinesSize S.actors h.contents.actors h.sized.lines),
   ),
 )
@@ -435,7 +436,7 @@ unfolding scenario_at
 scenarios =
     one_then head_at (λ head. many queue_at head.queues >>= λ queues. many work_at head.works >>= λ works. many actor_at head.actors >>= λ actors. done (scenario_with head queues works actors)) head_of head_bytes HeadFits
     (λ S. in_order (flat_map queue_image S.queues ∷ flat_map work_image S.works ∷ flat_map actor_image S.actors ∷ []))
-    (λ head S. NumbersAre head S × Each IsQueue head.queues S.queues × Each WorkFits head.works S.works × Each ActorFits head.actors S.actors)
+    (λ head S. NumbersAre head S × Each IsQueueDecl head.queues S.queues × Each WorkFits head.works S.works × Each ActorFits head.actors S.actors)
     rest_image HasImage
     heads (λ head fits. scenarios_queues head) (record {
       join = λ head S fits h. scenario_join head S fits h;

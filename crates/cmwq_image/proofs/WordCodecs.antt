@@ -8,7 +8,7 @@ use Rattle.cmwq_types.specs.declared.scenario.Op.{Op}
 use Rattle.cmwq_types.specs.declared.scenario.Op.TheVariants as op
 use Rattle.cmwq_image.specs.Image.{in_order, number, word, word_image, op_word, instr_word}
 use Rattle.cmwq_image.specs.ImageFault.{◌>>=◌, done, field, number_at, op_tag_of, op_room, op_of, op_at, instr_tag_of, instr_room, instr_of, instr_at}
-use Rattle.cmwq_image.specs.Limits.{IsOp, IsInstr}
+use Rattle.cmwq_types.specs.Values.{IsOp, IsInstr}
 use Rattle.cmwq_image.specs.declared.error.ImageError.TheVariants as errors
 use Rattle.cmwq_image.specs.declared.tags.InstrTag.{InstrTag}
 use Rattle.cmwq_image.specs.declared.tags.InstrTag.TheVariants as instr_tag

@@ -2,7 +2,8 @@
 ghost use Rattle.cmwq_image.specs.FaultMeaning.{Means};
 ghost use Rattle.cmwq_image.specs.Image.{image};
 ghost use Rattle.cmwq_image.specs.ImageFault.{Gives, reading};
-ghost use Rattle.cmwq_image.specs.Limits.{AreBytes, HasSize, IsContents};
+ghost use Rattle.cmwq_image.specs.Limits.{AreBytes, HasSize};
+ghost use Rattle.cmwq_types.specs.Values.{IsScenario};
 ghost use Rattle.cmwq_image.specs.Worked.{worked_image, worked_scenario};
 ghost use Rattle.cmwq_image.specs.declared.error.ImageError.{ImageError};
 ghost use Rattle.cmwq_image.specs.declared.error.ImageError.TheVariants as errors;
@@ -19,13 +20,13 @@ use std::alloc::Global;
 
 /// Bytes are read as a scenario exactly where they are its image and it is valid.
 pub fn images_are_read()
-    ensures { (bytes : List ℕ) (S : ScenarioContents) → AreBytes bytes → (reading bytes ≡ Ok S) ↔ (IsContents S × IsValid S × (bytes ≡ image S)) }
+    ensures { (bytes : List ℕ) (S : ScenarioContents) → AreBytes bytes → (reading bytes ≡ Ok S) ↔ (IsScenario S × IsValid S × (bytes ≡ image S)) }
 {}
 
 /// What is written is read again.
 #[tactic(auto, using(crate::proofs::ReadingLemmas::reading_again))]
 pub fn written_is_read()
-    ensures { (S : ScenarioContents) → IsContents S → IsValid S → reading (image S) ≡ Ok S }
+    ensures { (S : ScenarioContents) → IsScenario S → IsValid S → reading (image S) ≡ Ok S }
 {}
 
 /// Writes the scenario and reads it again: it comes back, unless memory runs out. This stands on what `write`
@@ -42,7 +43,7 @@ pub fn read_back(alloc: Global, scenario: &Scenario) -> Result<Scenario, ImageEr
 /// have, and no empty body.
 #[tactic(auto, using(crate::proofs::ReadingLemmas::one_image))]
 pub fn image_has_one_scenario()
-    ensures { (S T : ScenarioContents) → IsContents S → HasSize S → IsContents T → HasSize T → image S ≡ image T → S ≡ T }
+    ensures { (S T : ScenarioContents) → IsScenario S → HasSize S → IsScenario T → HasSize T → image S ≡ image T → S ≡ T }
 {}
 
 /// What each fault says of the bytes, in words of images alone.
@@ -55,8 +56,8 @@ pub fn faults_have_meanings()
 /// have, and no empty body; a valid one is so.
 #[tactic(auto, using(crate::proofs::FrontLemmas::image_size, crate::proofs::FrontLemmas::valid_image_size))]
 pub fn image_is_at_most_923058_bytes()
-    ensures sized { (S : ScenarioContents) → IsContents S → HasSize S → length (image S) ≤ 923058 }
-    ensures valid { (S : ScenarioContents) → IsContents S → IsValid S → length (image S) ≤ 923058 }
+    ensures sized { (S : ScenarioContents) → IsScenario S → HasSize S → length (image S) ≤ 923058 }
+    ensures valid { (S : ScenarioContents) → IsScenario S → IsValid S → length (image S) ≤ 923058 }
 {}
 
 /// No image is longer than 923,058 bytes, so what stands behind the first 923,059 bytes changes nothing: these, or

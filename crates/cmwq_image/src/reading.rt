@@ -2,7 +2,7 @@
 ghost use Rattle.cmwq_image.specs.FaultMeaning.{Means};
 ghost use Rattle.cmwq_image.specs.Image.{image};
 ghost use Rattle.cmwq_image.specs.ImageFault.{Gives, reading, scenario_at};
-ghost use Rattle.cmwq_image.specs.Limits.{IsContents};
+ghost use Rattle.cmwq_types.specs.Values.{IsScenario};
 ghost use Rattle.cmwq_types.specs.Contents.{ScenarioContents};
 ghost use Rattle.cmwq_types.specs.Faults.{IsValid};
 ghost use Rattle.std.specs.Prelude.{◌≡◌, IfErr, IfOk, Ok};
@@ -19,9 +19,9 @@ use std::alloc::Global;
 /// there may be `NoMemory`, which says nothing of the bytes.
 pub fn read(alloc: Global, bytes: &[u8]) -> Result<Scenario, ImageError>
     // What is read has the bytes as its image.
-    ensures found { IfOk result (λ scenario. IsContents scenario × IsValid scenario × (bytes.now ≡ image scenario)) }
+    ensures found { IfOk result (λ scenario. IsScenario scenario × IsValid scenario × (bytes.now ≡ image scenario)) }
     // The image of a valid scenario is read, unless memory runs out.
-    ensures only { (S : ScenarioContents) → IsContents S → IsValid S → bytes.now ≡ image S → Gives (λ scenario. scenario) result (Ok S) }
+    ensures only { (S : ScenarioContents) → IsScenario S → IsValid S → bytes.now ≡ image S → Gives (λ scenario. scenario) result (Ok S) }
     // Which fault it is: the first one from the left.
     ensures fault { Gives (λ scenario. scenario) result (reading bytes.now) }
     // What the fault says of the bytes.

@@ -1,6 +1,7 @@
 //! Writing an image.
 ghost use Rattle.cmwq_image.specs.Image.{actor_image, flag_bits, head_image, image, in_order, instr_word, line_image, name_field, number, op_image, op_word, queue_image, word_image, work_image, worth};
-ghost use Rattle.cmwq_image.specs.Limits.{BodiesFit, IsActor, IsContents, IsInstr, IsLine, IsOp, IsQueue, IsWork, LinesFit};
+ghost use Rattle.cmwq_image.specs.Limits.{BodiesFit, LinesFit};
+ghost use Rattle.cmwq_types.specs.Values.{IsActor, IsScenario, IsInstr, IsLine, IsOp, IsQueueDecl, IsWorkDecl};
 ghost use Rattle.cmwq_types.specs.Faults.{IsValid};
 ghost use Rattle.cmwq_types.specs.Name.{is_name};
 ghost use Rattle.cmwq_types.specs.declared.limits.TheConstants.{MAX_ACTORS, MAX_LINES, MAX_OPS, MAX_QUEUES, MAX_WORKS};
@@ -19,7 +20,7 @@ use std::alloc::Global;
 pub fn write(alloc: Global, scenario: &Scenario) -> Result<Vec<u8>, NoMemory>
     requires { IsValid scenario.now }
     ensures image { IfOk result (λ bytes. bytes.items ≡ image scenario.now) }
-    ensures contents { OnOk result (IsContents scenario.now) }
+    ensures contents { OnOk result (IsScenario scenario.now) }
 {
     let mut bytes = Vec::new(alloc);
     push_head(&mut bytes, scenario)?;
@@ -110,7 +111,7 @@ fn push_counts(bytes: &mut Vec<u8>, scenario: &Scenario) -> Result<(), NoMemory>
 
 fn push_queues(bytes: &mut Vec<u8>, queues: &[QueueDecl]) -> Result<(), NoMemory>
     ensures image { OnOk result (bytes.new.items ≡ bytes.old.items ++ flat_map queue_image queues.now) }
-    ensures queues { OnOk result (All IsQueue queues.now) }
+    ensures queues { OnOk result (All IsQueueDecl queues.now) }
 {
     for queue in queues {
         push_queue(bytes, queue)?;
@@ -120,7 +121,7 @@ fn push_queues(bytes: &mut Vec<u8>, queues: &[QueueDecl]) -> Result<(), NoMemory
 
 fn push_queue(bytes: &mut Vec<u8>, queue: &QueueDecl) -> Result<(), NoMemory>
     ensures image { OnOk result (bytes.new.items ≡ bytes.old.items ++ queue_image queue.now) }
-    ensures queue { OnOk result (IsQueue queue.now) }
+    ensures queue { OnOk result (IsQueueDecl queue.now) }
 {
     push_name(bytes, &queue.name)?;
     push_short(bytes, queue.max)?;
@@ -148,7 +149,7 @@ fn worth(flag: bool, bit: u8) -> u8
 fn push_works(bytes: &mut Vec<u8>, works: &[WorkDecl]) -> Result<(), NoMemory>
     requires { BodiesFit works.now }
     ensures image { OnOk result (bytes.new.items ≡ bytes.old.items ++ flat_map work_image works.now) }
-    ensures works { OnOk result (All IsWork works.now) }
+    ensures works { OnOk result (All IsWorkDecl works.now) }
 {
     for work in works {
         push_work(bytes, work)?;
@@ -159,7 +160,7 @@ fn push_works(bytes: &mut Vec<u8>, works: &[WorkDecl]) -> Result<(), NoMemory>
 fn push_work(bytes: &mut Vec<u8>, work: &WorkDecl) -> Result<(), NoMemory>
     requires { length work.now.body ≤ MAX_OPS }
     ensures image { OnOk result (bytes.new.items ≡ bytes.old.items ++ work_image work.now) }
-    ensures work { OnOk result (IsWork work.now) }
+    ensures work { OnOk result (IsWorkDecl work.now) }
 {
     push_name(bytes, &work.name)?;
     push_byte(bytes, work.queue.0)?;

@@ -1,12 +1,13 @@
 //! The listing of a scenario: its canonical text.
-ghost use Rattle.cmwq_grammar.specs.Grammar.{Fits, Spells, instr_fits};
+ghost use Rattle.cmwq_grammar.specs.Grammar.{Spells};
 ghost use Rattle.cmwq_types.specs.Faults.{IsValid};
 ghost use Rattle.cmwq_types.specs.Listing.{Flagged, actor_line, actor_lines, body_lines, flag_words, instr_words, line_text, listing, op_line, queue_line, times_words, word_if, work_line, written_text};
 ghost use Rattle.cmwq_types.specs.Name.{is_name};
 ghost use Rattle.cmwq_types.specs.Scenario.{queue_at, work_at};
+ghost use Rattle.cmwq_types.specs.Values.{IsActor, IsInstr, IsLine, IsOp, IsQueueDecl, IsScenario};
 ghost use Rattle.std.specs.Fmt.{decimal};
-ghost use Rattle.std.specs.List.{flat_map, join_with_byte, list_all};
-ghost use Rattle.std.specs.Prelude.{◌≡◌, ◌&&◌, ◌++◌, ◌∷◌, [], IfOk, IsTrue, OnOk, map};
+ghost use Rattle.std.specs.List.{All, AllByRecursion, flat_map, join_with_byte};
+ghost use Rattle.std.specs.Prelude.{◌≡◌, ◌++◌, ◌∷◌, ◌<◌, ◌^◌, [], IfOk, IsTrue, OnOk, map};
 
 use crate::lines::{push_line, push_others, push_words};
 use cmwq_grammar::laws::listing_spells_its_scenario;
@@ -28,16 +29,23 @@ pub fn list(alloc: Global, scenario: &Scenario) -> Result<Vec<u8>, NoMemory>
     listing_of(alloc, scenario)
 }
 
-/// The listing, of a scenario whose names are names and whose numbers fit, as those of each are.
+/// The listing; and the contents are those of a scenario.
 fn listing_of(alloc: Global, scenario: &Scenario) -> Result<Vec<u8>, NoMemory>
     ensures listing { IfOk result (λ text. text.items ≡ listing scenario.now) }
-    ensures fits { OnOk result (Fits scenario.now) }
+    ensures scenario { OnOk result (IsScenario scenario.now) }
 {
+    let Scenario {
+        cpus,
+        workers,
+        steps,
+        flushes,
+        ..
+    } = *scenario;
     let mut text = Vec::new(alloc);
-    push_number(alloc, &mut text, b"cpus", u32::from(scenario.cpus))?;
-    push_number(alloc, &mut text, b"workers", u32::from(scenario.workers))?;
-    push_number(alloc, &mut text, b"steps", scenario.steps)?;
-    push_number(alloc, &mut text, b"flushes", u32::from(scenario.flushes))?;
+    push_number(alloc, &mut text, b"cpus", u32::from(cpus))?;
+    push_number(alloc, &mut text, b"workers", u32::from(workers))?;
+    push_number(alloc, &mut text, b"steps", steps)?;
+    push_number(alloc, &mut text, b"flushes", u32::from(flushes))?;
     push_queues(alloc, &mut text, &scenario.queues)?;
     push_works(&mut text, scenario)?;
     push_bodies(alloc, &mut text, scenario)?;
@@ -55,17 +63,17 @@ fn push_number(alloc: Global, text: &mut Vec<u8>, word: &[u8], n: u32) -> Result
 
 fn push_queues(alloc: Global, text: &mut Vec<u8>, queues: &[QueueDecl]) -> Result<(), NoMemory>
     ensures text { OnOk result (text.new.items ≡ text.old.items ++ flat_map written_text (map queue_line queues.now)) }
-    ensures names { OnOk result (IsTrue (list_all (λ queue. is_name queue.name) queues.now)) }
+    ensures queues { OnOk result (All IsQueueDecl queues.now) }
 {
     for queue in queues {
-        push_queue(alloc, text, queue)?;
+        push_queue(alloc, text, *queue)?;
     }
     Ok(())
 }
 
-fn push_queue(alloc: Global, text: &mut Vec<u8>, queue: &QueueDecl) -> Result<(), NoMemory>
-    ensures text { OnOk result (text.new.items ≡ text.old.items ++ written_text (queue_line queue.now)) }
-    ensures name { OnOk result (IsTrue (is_name queue.now.name)) }
+fn push_queue(alloc: Global, text: &mut Vec<u8>, queue: QueueDecl) -> Result<(), NoMemory>
+    ensures text { OnOk result (text.new.items ≡ text.old.items ++ written_text (queue_line queue)) }
+    ensures queue { OnOk result (IsQueueDecl queue) }
 {
     let max = queue.max.to_string(alloc)?;
     let words: &[&[u8]] = &[queue.name.as_bytes(), b"max", max.as_bytes()];
@@ -112,7 +120,8 @@ fn push_word_if(text: &mut Vec<u8>, holds: bool, word: &[u8]) -> Result<(), NoMe
 
 fn push_works(text: &mut Vec<u8>, scenario: &Scenario) -> Result<(), NoMemory>
     ensures text { OnOk result (text.new.items ≡ text.old.items ++ flat_map written_text (map (work_line scenario.now) scenario.now.works)) }
-    ensures names { OnOk result (IsTrue (list_all (λ work. is_name work.name) scenario.now.works)) }
+    ensures names { OnOk result (All (λ work. IsTrue (is_name work.name)) scenario.now.works) }
+    ensures queues { OnOk result (All (λ work. work.queue.0 < 2 ^ 8) scenario.now.works) }
 {
     for work in &scenario.works {
         let queue = queue_name(scenario, work.queue);
@@ -122,7 +131,8 @@ fn push_works(text: &mut Vec<u8>, scenario: &Scenario) -> Result<(), NoMemory>
 }
 
 fn push_bodies(alloc: Global, text: &mut Vec<u8>, scenario: &Scenario) -> Result<(), NoMemory>
-    ensures { OnOk result (text.new.items ≡ text.old.items ++ flat_map written_text (flat_map (body_lines scenario.now) scenario.now.works)) }
+    ensures text { OnOk result (text.new.items ≡ text.old.items ++ flat_map written_text (flat_map (body_lines scenario.now) scenario.now.works)) }
+    ensures bodies { OnOk result (All (λ work. AllByRecursion IsOp work.body) scenario.now.works) }
 {
     for work in &scenario.works {
         push_line(text, b"body", &[work.name.as_bytes()])?;
@@ -137,7 +147,8 @@ fn push_ops(
     scenario: &Scenario,
     body: &[Op],
 ) -> Result<(), NoMemory>
-    ensures { OnOk result (text.new.items ≡ text.old.items ++ flat_map written_text (map (op_line scenario.now) body.now)) }
+    ensures text { OnOk result (text.new.items ≡ text.old.items ++ flat_map written_text (map (op_line scenario.now) body.now)) }
+    ensures ops { OnOk result (All IsOp body.now) }
 {
     for op in body {
         push_op(alloc, text, scenario, *op)?;
@@ -146,7 +157,8 @@ fn push_ops(
 }
 
 fn push_op(alloc: Global, text: &mut Vec<u8>, scenario: &Scenario, op: Op) -> Result<(), NoMemory>
-    ensures { OnOk result (text.new.items ≡ text.old.items ++ written_text (op_line scenario.now op)) }
+    ensures text { OnOk result (text.new.items ≡ text.old.items ++ written_text (op_line scenario.now op)) }
+    ensures op { IsOp op }
 {
     match op {
         Op::Burn(ticks) => push_number(alloc, text, b"burn", ticks),
@@ -161,7 +173,7 @@ fn push_op(alloc: Global, text: &mut Vec<u8>, scenario: &Scenario, op: Op) -> Re
 
 fn push_actors(alloc: Global, text: &mut Vec<u8>, scenario: &Scenario) -> Result<(), NoMemory>
     ensures text { OnOk result (text.new.items ≡ text.old.items ++ flat_map written_text (flat_map (actor_lines scenario.now) scenario.now.actors)) }
-    ensures fits { OnOk result (IsTrue (list_all (λ actor. is_name actor.name && list_all (λ line. instr_fits line.instr) actor.lines) scenario.now.actors)) }
+    ensures actors { OnOk result (All IsActor scenario.now.actors) }
 {
     for actor in &scenario.actors {
         push_line(text, b"actor", &[actor.name.as_bytes()])?;
@@ -177,7 +189,7 @@ fn push_lines(
     lines: &[Line],
 ) -> Result<(), NoMemory>
     ensures text { OnOk result (text.new.items ≡ text.old.items ++ flat_map written_text (map (actor_line scenario.now) lines.now)) }
-    ensures fits { OnOk result (IsTrue (list_all (λ line. instr_fits line.instr) lines.now)) }
+    ensures lines { OnOk result (All IsLine lines.now) }
 {
     for line in lines {
         push_actor_line(alloc, text, scenario, *line)?;
@@ -192,7 +204,7 @@ fn push_actor_line(
     line: Line,
 ) -> Result<(), NoMemory>
     ensures text { OnOk result (text.new.items ≡ text.old.items ++ written_text (actor_line scenario.now line)) }
-    ensures fits { OnOk result (IsTrue (instr_fits line.instr)) }
+    ensures line { IsLine line }
 {
     push_instr(alloc, text, scenario, line.instr)?;
     push_times(alloc, text, line.times)?;
@@ -207,7 +219,7 @@ fn push_instr(
     instr: Instr,
 ) -> Result<(), NoMemory>
     ensures text { OnOk result (text.new.items ≡ text.old.items ++ join_with_byte 32 (instr_words scenario.now instr)) }
-    ensures fits { OnOk result (IsTrue (instr_fits instr)) }
+    ensures instr { IsInstr instr }
 {
     match instr {
         Instr::Queue(work, cpu) => {
@@ -287,7 +299,8 @@ fn push_times(alloc: Global, text: &mut Vec<u8>, times: u32) -> Result<(), NoMem
 
 /// The name of a queue, or no bytes where no queue has the number.
 fn queue_name(scenario: &Scenario, queue: QueueId) -> &[u8]
-    ensures { result.now ≡ (queue_at scenario.now queue.0).name }
+    ensures name { result.now ≡ (queue_at scenario.now queue.0).name }
+    ensures number { queue.0 < 2 ^ 8 }
 {
     match scenario.queues.get(queue.0 as usize) {
         Some(declared) => declared.name.as_bytes(),

@@ -4,11 +4,6 @@ use crate::lock::TicketLock;
 use crate::tokens::{Drawn, Opener, Pass};
 use thiserror::Error;
 
-/// The allocator gave no memory.
-#[derive(Debug, Drop, PartialEq, Eq, Error)]
-#[error("there is no memory for the lock")]
-pub struct NoMemory;
-
 /// 64 passes are out.
 #[derive(Debug, Drop, PartialEq, Eq, Error)]
 #[error("64 passes are out")]

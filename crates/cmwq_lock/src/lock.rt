@@ -7,22 +7,17 @@ ghost use Rattle.cmwq_lock.specs.Steps.{HasTurn};
 ghost use Rattle.cmwq_lock.specs.Rule.{opening_view};
 ghost use Rattle.cmwq_lock.specs.Seats.{IsSeatOf};
 
-use crate::fault::{NoMemory, NotDrawn, NotYet, StillOut, TooMany, Why};
+use crate::fault::{NotDrawn, NotYet, StillOut, TooMany, Why};
 use crate::kept::{Call, Kept};
 use crate::steps::{self, LockSeat, TicketRule};
 use crate::tokens::{Drawn, Opener, Pass};
 use crate::views::{Held, View};
 use atomic_table::{Refused, Table};
+use cmwq_types::{MAX_PASSES, MAX_TICKETS, NoMemory};
 use crossbeam_utils::Backoff;
 use std::alloc::Global;
 use std::snapshot::Snapshot;
 use std::sync::Wait;
-
-/// How many passes may be out at once.
-const MOST_PASSES: u32 = 64;
-
-/// How many tickets a lock has.
-const MOST_TICKETS: u64 = 1 << 62;
 
 /// A value that callers take turns at, in the order of the tickets that they draw. Each call has as condition that its token is
 /// this lock's.
@@ -53,7 +48,7 @@ impl<T: Kept + Drop> TicketLock<T> {
         ensures view { IfOk result (λ r. opener_view r.1 ≡ opening_view (T.origin value)) }
     {
         let about = Snapshot::of(&value);
-        let mut slots = Vec::with_capacity(alloc, 1).map_err(|_| NoMemory)?;
+        let mut slots = Vec::with_capacity(alloc, 1)?;
         slots.push_reserved(Some(Held { value, turns: 0 }));
         match Table::new(alloc, &[0, 0], slots, &about) {
             Ok((table, seat)) => Ok((
@@ -93,7 +88,7 @@ impl<T: Kept + Drop> TicketLock<T> {
         ensures many { IfErr result (λ _. out_of (opener_view opener.old) ≡ 64) }
         ensures same { IfErr result (λ _. opener.new ≡ opener.old) }
     {
-        if opener.out >= MOST_PASSES {
+        if opener.out >= MAX_PASSES {
             return Err(TooMany);
         }
         let caller = opener.next as u32;
@@ -128,7 +123,7 @@ impl<T: Kept + Drop> TicketLock<T> {
     {
         let Pass { mut seat, caller } = pass;
         let loaded = steps::load(&self.table.shared, &mut seat);
-        if loaded >= MOST_TICKETS {
+        if loaded >= MAX_TICKETS {
             return Err(NotDrawn {
                 pass: Pass { seat, caller },
                 why: Why::Exhausted,

@@ -9,7 +9,7 @@ use Rattle.cmwq_types.specs.Faults.{IsValid}
 use Rattle.cmwq_types.specs.declared.limits.TheConstants.{MAX_TEXT}
 use Rattle.cmwq_image.specs.Image.{image}
 use Rattle.cmwq_image.specs.ImageFault.{reading}
-use Rattle.cmwq_image.specs.Limits.{IsContents}
+use Rattle.cmwq_types.specs.Values.{IsScenario}
 use Rattle.cmwq_image.specs.declared.error.ImageError.TheVariants as errors
 use Rattle.cmwq_play.specs.Commands.{Answers}
 use Rattle.cmwq_play.specs.Images.{IsImage, IsImageFault}
@@ -19,7 +19,7 @@ use Rattle.cmwq_play.specs.declared.error.PlayError.TheVariants.{Read, Write, As
 
 -- no image is longer than so many bytes
 abbrev pub ImagesAreShort : Type 0
-ImagesAreShort = (S : ScenarioContents) → IsContents S → IsValid S → length (image S) ≤ 923058
+ImagesAreShort = (S : ScenarioContents) → IsScenario S → IsValid S → length (image S) ≤ 923058
 
 -- what stands behind so many bytes and one more changes no reading
 abbrev pub FarChangesNothing : Type 0

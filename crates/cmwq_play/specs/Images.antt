@@ -5,7 +5,7 @@ use Rattle.cmwq_types.specs.Faults.{IsValid}
 use Rattle.cmwq_types.specs.Listing.{listing}
 use Rattle.cmwq_image.specs.Image.{image}
 use Rattle.cmwq_image.specs.ImageFault.{reading}
-use Rattle.cmwq_image.specs.Limits.{IsContents}
+use Rattle.cmwq_types.specs.Values.{IsScenario}
 use Rattle.cmwq_image.specs.declared.error.ImageError.{ImageError}
 use Rattle.cmwq_image.specs.declared.error.ImageError.TheVariants as errors
 use Rattle.cmwq_play.specs.declared.error.PlayError.{PlayError}
@@ -13,7 +13,7 @@ use Rattle.cmwq_play.specs.declared.error.PlayError.TheVariants.{Read, Write, As
 
 -- The input, where it is known, is the image of this scenario, which is valid.
 pub record IsImage (input : Option (List ℕ)) (S : ScenarioContents) : Type 0 where
-  pub contents : IsContents S
+  pub contents : IsScenario S
   pub valid : IsValid S
   pub image : IfSome input (λ bytes. bytes ≡ image S)
 

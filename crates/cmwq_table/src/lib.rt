@@ -4,12 +4,10 @@
 pub mod laws;
 mod machine;
 mod reply_line;
-mod runs;
 mod state;
 mod view;
 
 pub use machine::{LoadError, Machine};
 pub use reply_line::ReplyLine;
-pub use runs::run;
 pub use state::{FlushTarget, Pending, Running};
 pub use view::{IdleWorker, View};

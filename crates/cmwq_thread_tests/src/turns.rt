@@ -4,8 +4,9 @@ ghost use Rattle.std.proofs.Common.{lit≤};
 ghost use Rattle.cmwq_lock.specs.Tokens.{IsDrawnOf, IsOpenerOf, IsPassOf};
 
 use cmwq_lock::{
-    Call, Drawn, Kept, NoMemory, NotDrawn, NotYet, Opener, Pass, StillOut, TicketLock, TooMany,
+    Call, Drawn, Kept, NotDrawn, NotYet, Opener, Pass, StillOut, TicketLock, TooMany,
 };
+use cmwq_types::NoMemory;
 use std::alloc::Global;
 use std::process::Abort;
 use std::sync::Wait;
@@ -61,7 +62,7 @@ fn empty(alloc: Global) -> Result<Pairs, NoMemory>
     ensures log { IfOk result (λ p. p.pairs.items ≡ []) }
     ensures room { IfOk result (λ p. 8 ≤ vec_capacity p.pairs) }
 {
-    let pairs = Vec::with_capacity(alloc, 8).map_err(|_| NoMemory)?;
+    let pairs = Vec::with_capacity(alloc, 8)?;
     Ok(Pairs { pairs })
 }
 

@@ -7,3 +7,4 @@ pub mod Places
 pub mod Scenario
 pub mod Setting
 pub mod StoredName
+pub mod Values

@@ -1,5 +1,5 @@
-//! The limits of a scenario, and of the lock, the histories and the debugger over its machine. They are this
-//! project's own; the kernel has `WQ_MAX_ACTIVE` (512) alone.
+//! The limits of a scenario and of the ticket lock. They are this project's own; the kernel has `WQ_MAX_ACTIVE`
+//! (512) alone.
 
 /// The most bytes of a name.
 pub const MAX_NAME: usize = 15;
@@ -40,20 +40,11 @@ pub const MAX_TICKS: u32 = 1_000_000;
 /// The most bytes of a scenario's text.
 pub const MAX_TEXT: usize = 4_194_304;
 
-/// The most instructions of one run.
-pub const MAX_HISTORY: usize = 1_048_576;
-
 /// The most instructions that a scenario can have accepted, questions aside.
 pub const MAX_STEPS: u32 = 4_294_967_295;
-
-/// The most instructions of one run with threads.
-pub const MAX_PLAY_HISTORY: usize = 4096;
 
 /// The most passes of one lock that are out at once.
 pub const MAX_PASSES: u32 = 64;
 
 /// The most tickets that one lock can give, 2^62.
 pub const MAX_TICKETS: u64 = 4_611_686_018_427_387_904;
-
-/// The most breaks of one debugger.
-pub const MAX_BREAKS: usize = 16;

@@ -1,7 +1,7 @@
 use Rattle.cmwq_image.proofs.WritingLemmas.{all_more, image_more}
 use Rattle.cmwq_image.proofs.writing.push_actors.Goals as goal
 use Rattle.cmwq_image.specs.Image.{actor_image}
-use Rattle.cmwq_image.specs.Limits.{IsActor}
+use Rattle.cmwq_types.specs.Values.{IsActor}
 
 pub loop-actor-preserved : goal.loop-actor-preserved
 loop-actor-preserved c =

@@ -3,7 +3,7 @@ use Rattle.cmwq_types.specs.declared.instr.Instr.TheVariants as instr
 use Rattle.cmwq_image.proofs.WritingLemmas.{image_at}
 use Rattle.cmwq_image.proofs.writing.push_lines.Goals as goal
 use Rattle.cmwq_image.specs.Image.{line_image}
-use Rattle.cmwq_image.specs.Limits.{IsLine}
+use Rattle.cmwq_types.specs.Values.{IsLine}
 
 pub loop-line-preserved : goal.loop-line-preserved
 loop-line-preserved c =

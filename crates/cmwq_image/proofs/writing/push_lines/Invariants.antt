@@ -2,7 +2,7 @@ use Rattle.std.proofs.Common.{◌≡◌, ◌++◌, take}
 use Rattle.std.specs.List.{All, flat_map}
 use Rattle.cmwq_image.proofs.writing.push_lines.Given as goal
 use Rattle.cmwq_image.specs.Image.{line_image}
-use Rattle.cmwq_image.specs.Limits.{IsLine}
+use Rattle.cmwq_types.specs.Values.{IsLine}
 
 abbrev pub invariant-loop-line : goal.invariant-loop-line
 invariant-loop-line l = record {

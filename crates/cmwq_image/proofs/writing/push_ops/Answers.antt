@@ -5,7 +5,7 @@ use Rattle.cmwq_image.proofs.WritingLemmas.{image_at}
 use Rattle.cmwq_image.proofs.writing.push_ops.Goals as goal
 use Rattle.cmwq_image.specs.Image.{op_image, word_image}
 use Rattle.cmwq_image.specs.declared.word.Word.{Word}
-use Rattle.cmwq_image.specs.Limits.{IsOp}
+use Rattle.cmwq_types.specs.Values.{IsOp}
 
 pub loop-op-preserved : goal.loop-op-preserved
 loop-op-preserved c =
