@@ -12,7 +12,9 @@ TOP = os.path.dirname(os.path.dirname(os.path.realpath(__file__)))
 
 
 def said(*words):
-    return subprocess.run(words, stdout=subprocess.PIPE, stderr=subprocess.STDOUT, timeout=120).stdout
+    """What the program prints, on standard error too; None where it doesn't end with status 0."""
+    ran = subprocess.run(words, stdout=subprocess.PIPE, stderr=subprocess.STDOUT, timeout=120)
+    return None if ran.returncode else ran.stdout
 
 
 def bytes_of(path):
@@ -25,8 +27,9 @@ def faults_of(program, text, room):
     wanted, listing, image = bytes_of(f"{text.removesuffix('.cmwq')}.out"), f"{room}/listing.cmwq", f"{room}/image"
     listed = said(program, "list", text)
     with open(listing, "wb") as it:
-        it.write(listed)
+        it.write(listed or b"")
     checks = {
+        "its listing": listed is not None,
         "its run": said(program, "run", text) == wanted,
         "the run of its listing": said(program, "run", listing) == wanted,
         "the listing of its listing": said(program, "list", listing) == listed,
