@@ -3,9 +3,7 @@ ghost use Rattle.std.specs.Prelude.{◌≡◌, ◌<◌, ◌≤◌, ◌^◌, [], 
 ghost use Rattle.std.proofs.Common.{lit≤};
 ghost use Rattle.cmwq_lock.specs.Tokens.{IsDrawnOf, IsOpenerOf, IsPassOf};
 
-use cmwq_lock::{
-    Call, Drawn, Kept, NotDrawn, NotYet, Opener, Pass, StillOut, TicketLock, TooMany,
-};
+use cmwq_lock::{Call, Drawn, Kept, NotDrawn, NotYet, Opener, Pass, StillOut, TicketLock, TooMany};
 use cmwq_types::NoMemory;
 use std::alloc::Global;
 use std::process::Abort;
