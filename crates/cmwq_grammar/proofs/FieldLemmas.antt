@@ -11,7 +11,7 @@ use Rattle.std.specs.Str.Parse.{digits_value}
 use Rattle.cmwq_types.specs.Faults.{within}
 use Rattle.cmwq_types.specs.Name.{is_name}
 use Rattle.cmwq_types.specs.declared.check.Fault.TheVariants as fault
-use Rattle.cmwq_grammar.specs.Fields.{after_word, among, declared_at, ended, in_range, is_number, made_last, name_at, named, new_name_at, not_among, number_at, number_or_unknown, number_where, numbered, rest_if, word_at}
+use Rattle.cmwq_grammar.specs.Fields.{after_word, among, declared_at, ended, in_range, is_number, made_last, name_at, named, new_name_at, not_among, number_at, number_or_unknown, number_where, as_number, rest_if, word_at}
 use Rattle.cmwq_grammar.specs.declared.why.Why.TheVariants as why
 use Rattle.cmwq_grammar.proofs.Basics.{bind_ok, bind_at, value_if_ok, value_if_at, and_true, true_and, not_true, same_word, word_is, position_at, cond_yes}
 
@@ -166,7 +166,7 @@ word_of_number n small =
 pub number_read : (words : List (List ℕ)) (found : ℕ × List (List ℕ)) → number_at words ≡ Ok found → (words ≡ decimal found.0 ∷ found.1) × (found.0 < 10 ^ 10)
 unfolding number_at
 number_read words found e =
-    let there : (x : List ℕ × List (List ℕ)) × (word_at words ≡ Ok x) × (numbered x ≡ Ok found) = bind_ok (word_at words) numbered found e in
+    let there : (x : List ℕ × List (List ℕ)) × (word_at words ≡ Ok x) × (as_number x ≡ Ok found) = bind_ok (word_at words) as_number found e in
     let word = (there.0).0 in
     let tested : (is_number word ≡ true) × ((digits_value 10 word, (there.0).1) ≡ found) =
     value_if_ok (is_number word) (digits_value 10 word, (there.0).1) why.BadNumber found there.2 in
@@ -178,7 +178,7 @@ pub number_again : (n : ℕ) (rest : List (List ℕ)) → n < 10 ^ 10 → number
 unfolding number_at
 number_again n rest small =
     let is : (is_number (decimal n) ≡ true) × (digits_value 10 (decimal n) ≡ n) = word_of_number n small in
-    bind_at (word_at (decimal n ∷ rest)) numbered (decimal n, rest) (word_again (decimal n) rest)
+    bind_at (word_at (decimal n ∷ rest)) as_number (decimal n, rest) (word_again (decimal n) rest)
     ∙ value_if_at (is_number (decimal n)) (digits_value 10 (decimal n), rest) why.BadNumber is.0
     ∙ ap (λ (m : ℕ). Ok (m, rest)) is.1
 

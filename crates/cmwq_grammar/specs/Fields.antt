@@ -70,11 +70,11 @@ declared_at names words = name_at words >>= among names
 abbrev pub is_number : List ℕ → Bool
 is_number word = all_ascii_digits word && within 1 10 (length word) && (not (slice_index word 0 == 48) || (length word == 1))
 
-abbrev pub numbered : List ℕ × List (List ℕ) → Result (ℕ × List (List ℕ)) Why
-numbered found = value_if (is_number found.0) (digits_value 10 found.0, found.1) why.BadNumber
+abbrev pub as_number : List ℕ × List (List ℕ) → Result (ℕ × List (List ℕ)) Why
+as_number found = value_if (is_number found.0) (digits_value 10 found.0, found.1) why.BadNumber
 
 unfoldable pub number_at : List (List ℕ) → Result (ℕ × List (List ℕ)) Why
-number_at words = word_at words >>= numbered
+number_at words = word_at words >>= as_number
 
 abbrev pub in_range : (ℕ → Bool) → ℕ × List (List ℕ) → Result (ℕ × List (List ℕ)) Why
 in_range test found = value_if (test found.0) found (why.Fault fault.Range)

@@ -2,7 +2,7 @@
 use Rattle.std.proofs.Common.{◌≡◌, ℕ, suc, ◌-◌, ◌+◌, ◌≤◌, ◌<◌, List, [], ◌∷◌, ◌++◌, Result, Ok, Err, refl, sym, ap, ◌∙◌, append_assoc, append-nil, arith}
 use Rattle.cmwq_image.specs.declared.error.ImageError.{ImageError}
 use Rattle.cmwq_image.specs.declared.error.ImageError.TheVariants as errors
-use Rattle.cmwq_image.specs.ImageFault.{Place, Reader, hand_on, done, many, Fails}
+use Rattle.cmwq_image.specs.ImageFault.{Place, Reader, hand_on, done, many, FailsRead}
 
 -- what was read before, and what is still read
 abbrev pub with_front : {A : Type 0} → List A → Result (List A × Place) ImageError → Result (List A × Place) ImageError
@@ -31,8 +31,8 @@ stops e one front count i place total less failed so_far =
     sym so_far ∙ step
 
 pub ends : {A : Type 0} (e : ImageError) (one : Reader A) (front : List A) (count i : ℕ) (place : Place) (total : Result (List A × Place) ImageError)
-    → i < count → Fails e (one place)
-    → with_front front (many one (count - i) place) ≡ total → Fails e total
+    → i < count → FailsRead e (one place)
+    → with_front front (many one (count - i) place) ≡ total → FailsRead e total
 ends errors.NoMemory one front count i place total less failed so_far = tt
 ends errors.Magic one front count i place total less failed so_far = stops errors.Magic one front count i place total less failed so_far
 ends errors.Version one front count i place total less failed so_far = stops errors.Version one front count i place total less failed so_far

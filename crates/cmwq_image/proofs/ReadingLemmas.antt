@@ -8,9 +8,9 @@ use Rattle.std.proofs.lemmas.Slice.Eq.{bytes_eq-Decides}
 use Rattle.cmwq_types.specs.Contents.{ScenarioContents}
 use Rattle.cmwq_types.specs.Faults.{first_fault, IsValid}
 use Rattle.cmwq_types.specs.declared.check.Fault.{Fault}
-use Rattle.cmwq_image.specs.FaultMeaning.{IsImage, Begins, BeginsNone, IsBadAt, EndsAt, Means}
+use Rattle.cmwq_image.specs.FaultMeaning.{IsImageInTwo, BeginsImage, BeginsNoImage, IsBadAt, EndsAt, Means}
 use Rattle.cmwq_image.specs.Image.{image, magic}
-use Rattle.cmwq_image.specs.ImageFault.{Place, done, scenario_at, judged, unless_faulty, from_there, reading, Fails, Gives}
+use Rattle.cmwq_image.specs.ImageFault.{Place, done, scenario_at, judged, unless_faulty, from_there, reading, FailsRead, GivesRead}
 use Rattle.cmwq_image.specs.Limits.{AreBytes, HasSize}
 use Rattle.cmwq_types.specs.Values.{IsScenario}
 use Rattle.cmwq_image.specs.declared.error.ImageError.{ImageError}
@@ -106,14 +106,14 @@ one_image S T cs ss ct st e =
 
 -- ---- what `read` says
 
-pub is_found : (bytes : List ℕ) (r : Result ScenarioContents ImageError) → AreBytes bytes → Gives (λ (S : ScenarioContents). S) r (reading bytes)
+pub is_found : (bytes : List ℕ) (r : Result ScenarioContents ImageError) → AreBytes bytes → GivesRead (λ (S : ScenarioContents). S) r (reading bytes)
     → IfOk r (λ S. IsScenario S × IsValid S × (bytes ≡ image S))
 is_found bytes (Ok S) fine given = reading_takes bytes S fine given
 is_found bytes (Err e) fine given = tt
 
-pub is_only : (bytes : List ℕ) (r : Result ScenarioContents ImageError) → Gives (λ (S : ScenarioContents). S) r (reading bytes)
-    → (S : ScenarioContents) → IsScenario S → IsValid S → bytes ≡ image S → Gives (λ (T : ScenarioContents). T) r (Ok S)
-is_only bytes r given S contents valid e = subst (Gives (λ (T : ScenarioContents). T) r) (ap reading e ∙ reading_again S contents valid) given
+pub is_only : (bytes : List ℕ) (r : Result ScenarioContents ImageError) → GivesRead (λ (S : ScenarioContents). S) r (reading bytes)
+    → (S : ScenarioContents) → IsScenario S → IsValid S → bytes ≡ image S → GivesRead (λ (T : ScenarioContents). T) r (Ok S)
+is_only bytes r given S contents valid e = subst (GivesRead (λ (T : ScenarioContents). T) r) (ap reading e ∙ reading_again S contents valid) given
 
 -- ---- what a fault means
 
@@ -147,7 +147,7 @@ no_image_read S bytes rest e fits is stopped =
     let read = ap (λ (b : List ℕ). scenario_at (place 4 b)) behind ∙ behind_image S rest fits in
     cc
 
-begins : (front more : List ℕ) (S : ScenarioContents) → HasImage S → rest_image S ≡ front ++ more → IsImage (magic ++ front) more
+begins : (front more : List ℕ) (S : ScenarioContents) → HasImage S → rest_image S ≡ front ++ more → IsImageInTwo (magic ++ front) more
 begins front more S fits e = record {
   scenario = S;
   contents = fits.contents;
@@ -169,7 +169,7 @@ bad_at bytes e s parts never =
     ap (take (n + length never.bad)) (whole ∙ sym (append_assoc first never.bad never.rest)) ∙ take_at (first ++ never.bad) never.rest (n + length never.bad) upto in
     let room : n + length never.bad ≤ length bytes =
     omega (arith, ap length whole, length-append first (never.bad ++ never.rest), length-append never.bad never.rest, size) in
-    let no : BeginsNone (first ++ never.bad) = λ more i.
+    let no : BeginsNoImage (first ++ never.bad) = λ more i.
     let behind : rest_image i.scenario ≡ s.front ++ (never.bad ++ more) =
     ap (drop 4) (i.bytes ∙ append_assoc first never.bad more ∙ append_assoc magic s.front (never.bad ++ more)) in
     let read = whole_image i.scenario (record { contents = i.contents; sized = i.sized }) in
@@ -179,8 +179,8 @@ bad_at bytes e s parts never =
       length never.bad,
       never.short,
       room,
-      subst Begins (sym front_is) (s.more, begins s.front s.more s.value s.fits s.begins),
-      subst BeginsNone (sym field_is) no,
+      subst BeginsImage (sym front_is) (s.more, begins s.front s.more s.value s.fits s.begins),
+      subst BeginsNoImage (sym field_is) no,
     )
 
 ends_at : (bytes : List ℕ) (s : Stops scenario_at rest_image HasImage 4 (drop 4 bytes) errors.Truncated) → bytes ≡ magic ++ drop 4 bytes
@@ -196,7 +196,7 @@ ends_at bytes s parts stopped short longer =
       omega arith,
       omega arith,
       omega arith,
-      subst (λ (b : List ℕ). IsImage b s.more) (sym front_is) (begins s.front s.more s.value s.fits s.begins),
+      subst (λ (b : List ℕ). IsImageInTwo b s.more) (sym front_is) (begins s.front s.more s.value s.fits s.begins),
       λ S rest contents sizes e. no_image_read S bytes rest errors.Truncated (record { contents = contents; sized = sizes }) e stopped,
     )
 
@@ -240,11 +240,11 @@ means bytes e fine read =
     ]
 
 -- a fault that a function returned
-pub is_meant : (bytes : List ℕ) (r : Result ScenarioContents ImageError) → AreBytes bytes → Gives (λ (S : ScenarioContents). S) r (reading bytes) → IfErr r (λ e. Means bytes e)
+pub is_meant : (bytes : List ℕ) (r : Result ScenarioContents ImageError) → AreBytes bytes → GivesRead (λ (S : ScenarioContents). S) r (reading bytes) → IfErr r (λ e. Means bytes e)
 is_meant bytes (Ok S) fine given = tt
 is_meant bytes (Err e) fine given = go e given
   where
-    go : (e : ImageError) → Fails e (reading bytes) → Means bytes e
+    go : (e : ImageError) → FailsRead e (reading bytes) → Means bytes e
     go errors.NoMemory h = tt
     go errors.Magic h = means bytes errors.Magic fine h
     go errors.Version h = means bytes errors.Version fine h

@@ -9,30 +9,30 @@ use Rattle.cmwq_image.specs.declared.error.ImageError.{ImageError}
 use Rattle.cmwq_image.specs.declared.error.ImageError.TheVariants as errors
 
 -- the image of a scenario, which may not be valid, has these bytes and then these
-pub record IsImage (front more : List ℕ) : Type 0 where
+pub record IsImageInTwo (front more : List ℕ) : Type 0 where
   pub scenario : ScenarioContents
   pub contents : IsScenario scenario
   pub sized : HasSize scenario
   pub bytes : image scenario ≡ front ++ more
 
 -- some image begins with these bytes
-abbrev pub Begins : List ℕ → Type 0
-Begins front = (more : List ℕ) × IsImage front more
+abbrev pub BeginsImage : List ℕ → Type 0
+BeginsImage front = (more : List ℕ) × IsImageInTwo front more
 
 -- no image begins with these bytes
-abbrev pub BeginsNone : List ℕ → Type 0
-BeginsNone front = (more : List ℕ) → IsImage front more → ⊥
+abbrev pub BeginsNoImage : List ℕ → Type 0
+BeginsNoImage front = (more : List ℕ) → IsImageInTwo front more → ⊥
 
 -- An image begins with the bytes before offset n, but none with those up to the end of the field there,
 -- which has at most 16 bytes.
 abbrev pub IsBadAt : List ℕ → ℕ → Type 0
-IsBadAt bytes n = (size : ℕ) × (size ≤ 16) × (n + size ≤ length bytes) × Begins (take n bytes) × BeginsNone (take (n + size) bytes)
+IsBadAt bytes n = (size : ℕ) × (size ≤ 16) × (n + size ≤ length bytes) × BeginsImage (take n bytes) × BeginsNoImage (take (n + size) bytes)
 
 -- An image begins with the bytes before offset n, and is longer than the bytes, of which fewer than 16 are
 -- left there; and no image is a beginning of the bytes.
 abbrev pub EndsAt : List ℕ → ℕ → Type 0
 EndsAt bytes n =
-    (more : List ℕ) × (n ≤ length bytes) × (length bytes < n + 16) × (length bytes < n + length more) × IsImage (take n bytes) more
+    (more : List ℕ) × (n ≤ length bytes) × (length bytes < n + 16) × (length bytes < n + length more) × IsImageInTwo (take n bytes) more
     × ((S : ScenarioContents) (rest : List ℕ) → IsScenario S → HasSize S → bytes ≡ image S ++ rest → ⊥)
 
 abbrev pub Means : List ℕ → ImageError → Type 0

@@ -312,15 +312,15 @@ reading bytes = from_there (behind_magic bytes)
 
 -- What a function returned, seen by view, is what reading gives, unless memory ran out.
 
-abbrev pub Fails : {Y : Type 0} → ImageError → Result Y ImageError → Type 0
-Fails errors.NoMemory read = Unit {0}
-Fails errors.Magic read = read ≡ Err errors.Magic
-Fails errors.Version read = read ≡ Err errors.Version
-Fails errors.Truncated read = read ≡ Err errors.Truncated
-Fails errors.Extra read = read ≡ Err errors.Extra
-Fails (errors.BadField at) read = read ≡ Err (errors.BadField at)
-Fails (errors.Fault fault) read = read ≡ Err (errors.Fault fault)
+abbrev pub FailsRead : {Y : Type 0} → ImageError → Result Y ImageError → Type 0
+FailsRead errors.NoMemory read = Unit {0}
+FailsRead errors.Magic read = read ≡ Err errors.Magic
+FailsRead errors.Version read = read ≡ Err errors.Version
+FailsRead errors.Truncated read = read ≡ Err errors.Truncated
+FailsRead errors.Extra read = read ≡ Err errors.Extra
+FailsRead (errors.BadField at) read = read ≡ Err (errors.BadField at)
+FailsRead (errors.Fault fault) read = read ≡ Err (errors.Fault fault)
 
-abbrev pub Gives : {X Y : Type 0} → (X → Y) → Result X ImageError → Result Y ImageError → Type 0
-Gives view (Ok x) read = read ≡ Ok (view x)
-Gives view (Err e) read = Fails e read
+abbrev pub GivesRead : {X Y : Type 0} → (X → Y) → Result X ImageError → Result Y ImageError → Type 0
+GivesRead view (Ok x) read = read ≡ Ok (view x)
+GivesRead view (Err e) read = FailsRead e read

@@ -1,7 +1,7 @@
 //! Laws of images, each the contract of a function with an empty body.
 ghost use Rattle.cmwq_image.specs.FaultMeaning.{Means};
 ghost use Rattle.cmwq_image.specs.Image.{image};
-ghost use Rattle.cmwq_image.specs.ImageFault.{Gives, reading};
+ghost use Rattle.cmwq_image.specs.ImageFault.{GivesRead, reading};
 ghost use Rattle.cmwq_image.specs.Limits.{AreBytes, HasSize};
 ghost use Rattle.cmwq_types.specs.Values.{IsScenario};
 ghost use Rattle.cmwq_image.specs.Worked.{worked_image, worked_scenario};
@@ -33,7 +33,7 @@ pub fn written_is_read()
 /// and `read` say and on nothing else of them.
 pub fn read_back(alloc: Global, scenario: &Scenario) -> Result<Scenario, ImageError>
     requires { IsValid scenario.now }
-    ensures { Gives (λ again. again) result (Ok scenario.now) }
+    ensures { GivesRead (λ again. again) result (Ok scenario.now) }
 {
     let bytes = write(alloc, scenario)?;
     read(alloc, &bytes)

@@ -1,7 +1,7 @@
 //! Reading an image.
 ghost use Rattle.cmwq_image.specs.FaultMeaning.{Means};
 ghost use Rattle.cmwq_image.specs.Image.{image};
-ghost use Rattle.cmwq_image.specs.ImageFault.{Gives, reading, scenario_at};
+ghost use Rattle.cmwq_image.specs.ImageFault.{GivesRead, reading, scenario_at};
 ghost use Rattle.cmwq_types.specs.Values.{IsScenario};
 ghost use Rattle.cmwq_types.specs.Contents.{ScenarioContents};
 ghost use Rattle.cmwq_types.specs.Faults.{IsValid};
@@ -21,9 +21,9 @@ pub fn read(alloc: Global, bytes: &[u8]) -> Result<Scenario, ImageError>
     // What is read has the bytes as its image.
     ensures found { IfOk result (λ scenario. IsScenario scenario × IsValid scenario × (bytes.now ≡ image scenario)) }
     // The image of a valid scenario is read, unless memory runs out.
-    ensures only { (S : ScenarioContents) → IsScenario S → IsValid S → bytes.now ≡ image S → Gives (λ scenario. scenario) result (Ok S) }
+    ensures only { (S : ScenarioContents) → IsScenario S → IsValid S → bytes.now ≡ image S → GivesRead (λ scenario. scenario) result (Ok S) }
     // Which fault it is: the first one from the left.
-    ensures fault { Gives (λ scenario. scenario) result (reading bytes.now) }
+    ensures fault { GivesRead (λ scenario. scenario) result (reading bytes.now) }
     // What the fault says of the bytes.
     ensures meaning { IfErr result (λ fault. Means bytes.now fault) }
 {
@@ -32,7 +32,7 @@ pub fn read(alloc: Global, bytes: &[u8]) -> Result<Scenario, ImageError>
 
 #[tactic(auto, unfolding(crate::specs::ImageFault::reading))]
 fn read_all(alloc: Global, bytes: &[u8]) -> Result<Scenario, ImageError>
-    ensures { Gives (λ scenario. scenario) result (reading bytes.now) }
+    ensures { GivesRead (λ scenario. scenario) result (reading bytes.now) }
 {
     let mut fields = Fields::behind_magic(bytes)?;
     let scenario = read_scenario(alloc, &mut fields)?;
@@ -48,7 +48,7 @@ fn read_all(alloc: Global, bytes: &[u8]) -> Result<Scenario, ImageError>
 #[tactic(auto, unfolding(crate::specs::ImageFault::scenario_at))]
 fn read_scenario(alloc: Global, fields: &mut Fields) -> Result<Scenario, ImageError>
     requires { fields.old.at ≡ 4 }
-    ensures { Gives (λ scenario. (scenario, fields.new)) result (scenario_at fields.old) }
+    ensures { GivesRead (λ scenario. (scenario, fields.new)) result (scenario_at fields.old) }
 {
     let head = fields.head()?;
     let queues = fields.queues(alloc, head.queues)?;
