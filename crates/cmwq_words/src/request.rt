@@ -146,18 +146,25 @@ fn command<'a>(alloc: Global) -> Result<Command<'a>, AllocError>
 fn text_commands<'a>(alloc: Global) -> Result<Command<'a>, AllocError>
     ensures { IfOk result (λ r. app_of r ≡ with_subcommand (with_subcommand program run_command.top) list_command.top) }
 {
-    let run = on_text(
-        alloc,
-        "run",
-        "Runs a scenario and writes its events to standard output",
-    )?;
-    let commands = bare_program(alloc).subcommand(run)?;
+    let commands = program_that_runs(alloc)?;
     let list = on_text(
         alloc,
         "list",
         "Writes a scenario's listing to standard output",
     )?;
     commands.subcommand(list)
+}
+
+/// The program with the command that runs a scenario.
+fn program_that_runs<'a>(alloc: Global) -> Result<Command<'a>, AllocError>
+    ensures { IfOk result (λ r. app_of r ≡ with_subcommand program run_command.top) }
+{
+    let run = on_text(
+        alloc,
+        "run",
+        "Runs a scenario and writes its events to standard output",
+    )?;
+    bare_program(alloc).subcommand(run)
 }
 
 /// The program without its commands.
