@@ -1,5 +1,5 @@
 """Runs each scenario of scenarios/ through a built program: what it prints is NAME.out; its listing prints the same; its image is
-shown as the listing. The program's own stored run is one of them.
+shown as the listing. The program's own stored run is one of them. Then faulty input: the status, and what each stream is given.
 
     python3 gate/lessons.py PROGRAM"""
 import glob
@@ -39,10 +39,25 @@ def faults_of(program, text, room):
     return [f"{os.path.relpath(text, TOP)}: {what} is not as it should be" for what, is_well in checks.items() if not is_well]
 
 
+def failed(*words):
+    """What the program ends with: its status, its standard output and its standard error."""
+    ran = subprocess.run(words, stdout=subprocess.PIPE, stderr=subprocess.PIPE, timeout=120)
+    return ran.returncode, ran.stdout, ran.stderr
+
+
 def main(program):
     texts = sorted(glob.glob(f"{TOP}/scenarios/*.cmwq"))
     with tempfile.TemporaryDirectory(prefix="lessons-") as room:
         faults = [fault for text in texts for fault in faults_of(program, text, room)]
+        with open(f"{room}/faulty.cmwq", "w", encoding="utf-8") as it:
+            it.write("cpus 17\n")
+        if failed(program, "run", f"{room}/faulty.cmwq") != (1, b"", b"line 1: Range\n"):
+            faults.append("a text with a fault isn't told as it should be")
+        if failed(program, "list", f"{room}/nothing.cmwq") != (3, b"", b"read\n"):
+            faults.append("a file that isn't there isn't told as it should be")
+        status, output, errors = failed(program, "walk", f"{room}/faulty.cmwq")
+        if (status, output) != (2, b"") or not errors.startswith(b"error: "):
+            faults.append("wrong words aren't told as they should be")
     for stored in glob.glob(f"{TOP}/crates/cmwq/data/*.cmwq"):
         lesson = f"{TOP}/scenarios/{os.path.basename(stored)}"
         if bytes_of(stored) != bytes_of(lesson) or bytes_of(f"{TOP}/crates/cmwq/stdout") != bytes_of(f"{lesson.removesuffix('.cmwq')}.out"):
