@@ -8,7 +8,7 @@ use Rattle.cmwq_types.specs.Contents.{ScenarioContents}
 use Rattle.cmwq_types.specs.Faults.{IsValid}
 use Rattle.cmwq_types.specs.declared.limits.TheConstants.{MAX_TEXT}
 use Rattle.cmwq_image.specs.Image.{image}
-use Rattle.cmwq_image.specs.ImageFault.{Fails, reading}
+use Rattle.cmwq_image.specs.ImageFault.{FailsRead, reading}
 use Rattle.cmwq_types.specs.Values.{IsScenario}
 use Rattle.cmwq_image.specs.declared.error.ImageError.{ImageError}
 use Rattle.cmwq_image.specs.declared.error.ImageError.TheVariants as errors
@@ -79,7 +79,7 @@ known_image short None text (Ok s) view whole is = record { contents = is.conten
 known_image short input text (Err error) view whole found = tt
 
 -- a fault that the reader tells is what the bytes read as
-fails_is : (fault : ImageError) (r : Result ScenarioContents ImageError) → fault ≢ errors.NoMemory → Fails fault r → r ≡ Err fault
+fails_is : (fault : ImageError) (r : Result ScenarioContents ImageError) → fault ≢ errors.NoMemory → FailsRead fault r → r ≡ Err fault
 fails_is errors.NoMemory r other fails = elim (other refl) [ ]
 fails_is errors.Magic r other fails = fails
 fails_is errors.Version r other fails = fails
@@ -117,7 +117,7 @@ module _ (bytes : List ℕ) where
   answers_image x S read = record { told = tt; given = λ T is. tt; tells = λ error told. let found = fault_of error told in let wrong = found.2 in cc }
 
   -- bytes with a fault
-  pub answers_bad_image : {A : Type 0} (fault : ImageError) → fault ≢ errors.NoMemory → Fails fault (reading bytes) → ((S : ScenarioContents) → IsImage (Some bytes) S → Fails fault (Ok S))
+  pub answers_bad_image : {A : Type 0} (fault : ImageError) → fault ≢ errors.NoMemory → FailsRead fault (reading bytes) → ((S : ScenarioContents) → IsImage (Some bytes) S → FailsRead fault (Ok S))
       → Answers {A = A} IsImage IsImageFault (Some bytes) (Err (Image fault))
   answers_bad_image fault other fails unread =
       let read = fails_is fault (reading bytes) other fails in
@@ -130,7 +130,7 @@ module _ (bytes : List ℕ) where
         same f g error first second is = let equal : f ≡ g = cc in ap Image equal ∙ sym is
 
   -- bytes that the reader refuses
-  pub answers_refused : {A : Type 0} (fault : ImageError) → Fails fault (reading bytes) → ((S : ScenarioContents) → IsImage (Some bytes) S → Fails fault (Ok S))
+  pub answers_refused : {A : Type 0} (fault : ImageError) → FailsRead fault (reading bytes) → ((S : ScenarioContents) → IsImage (Some bytes) S → FailsRead fault (Ok S))
       → Answers {A = A} IsImage IsImageFault (Some bytes) (Err (told_as fault))
   answers_refused errors.NoMemory fails unread = answers_outside IsImage IsImageFault (Some bytes) NoMemory tt
   answers_refused errors.Magic fails unread = answers_bad_image errors.Magic (λ is. cc) fails unread
