@@ -1,11 +1,33 @@
-//! A request, carried out on files.
+//! What the words ask for, carried out on files.
 ghost use Rattle.std.specs.Prelude.{◌≡◌, IfOk, false};
 
-use crate::request::Request;
+use crate::telling::{GOOD, tell};
 use cmwq_play::{Marked, PlayError};
+use cmwq_words::request::{Request, parse};
 use std::fs::File;
 use std::io::Write;
 use std::rt::Files;
+
+/// Does what the words ask, of which the first is the program's name, and gives the exit status. Events,
+/// listings and help go to `output`, and usage faults to `errors`.
+pub fn carry_out<R: Files + AllocGlobal, O: Write + Drop, E: Write + Drop>(
+    rt: &R,
+    words: &[String],
+    output: O,
+    errors: E,
+) -> Result<u8, PlayError> {
+    match parse(rt.alloc(), words) {
+        Ok(request) => {
+            answer(rt, output, request)?;
+            Ok(GOOD)
+        }
+        Err(error) => {
+            let mut output = Marked::new(output);
+            let mut errors = Marked::new(errors);
+            tell(rt.alloc(), &mut output, &mut errors, error.kind(), &error)
+        }
+    }
+}
 
 /// Does what is asked. Events and listings go to the writer.
 pub fn answer<R: Files + AllocGlobal, W: Write + Drop>(

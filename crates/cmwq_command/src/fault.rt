@@ -1,16 +1,20 @@
-//! How the program tells a fault: its exit status, and its line on standard error.
+//! How the program ends: its exit status, and the line that tells a fault on standard error.
 
-ghost use Rattle.cmwq_command.specs.Fault.{fault_name, line_of, status_of, why_name};
+ghost use Rattle.cmwq_command.specs.Fault.{fault_name, line_of, status_of, told, why_name};
+ghost use Rattle.cmwq_play.specs.Sending.{HasSentFront};
+ghost use Rattle.std.specs.Fmt.{decimal};
 ghost use Rattle.std.specs.Io.KnownBytes.{Appends};
-ghost use Rattle.std.specs.Prelude.{◌≡◌, OnOk, Some};
+ghost use Rattle.std.specs.Prelude.{◌≡◌, ◌≤◌, ◌↔◌, ◌++◌, Err, IfErr, IfOk, OnErr, OnOk, codes, false, length, true};
+ghost use Rattle.std.specs.Process.{exit_status};
 
+use arrayvec::ArrayString;
 use cmwq_asm::AsmError;
 use cmwq_grammar::Why;
 use cmwq_image::ImageError;
-use cmwq_play::PlayError;
+use cmwq_play::{PlayError, Sink, put_all};
 use cmwq_types::Fault;
-use std::io::Write;
-use std::{fmt, io};
+use itoa::Buffer;
+use std::process::ExitCode;
 
 /// The exit status of a fault. A file that can't be opened is a failed read, and one that can't be
 /// made a failed write.
@@ -26,50 +30,113 @@ pub fn status(fault: PlayError) -> u8
     }
 }
 
-/// Writes the line that tells a fault. It fails only where the writer does.
-pub fn fault_line<W: Write>(writer: &mut W, fault: PlayError) -> io::Result<()>
-    ensures { OnOk result (Appends (W.contents writer.old) (W.contents writer.new) (line_of fault)) }
+/// Tells the fault that the program ends with, if there is one, and gives the exit status.
+/// A fault has its status also where it can't be told.
+pub fn end<W: Sink>(errors: &mut W, outcome: Result<u8, PlayError>) -> ExitCode
+    requires sound { OnErr outcome (W.failed errors.old ≡ false) }
+    ensures good { IfOk outcome (λ status. exit_status result ≡ status) }
+    ensures silent { OnOk outcome (errors.new ≡ errors.old) }
+    ensures status { IfErr outcome (λ fault. exit_status result ≡ status_of fault) }
+    ensures told { IfErr outcome (λ fault. W.failed errors.new ≡ false
+        → Appends (W.contents errors.old) (W.contents errors.new) (line_of fault)) }
+    ensures front { IfErr outcome (λ fault. HasSentFront (W.contents errors.old) (W.contents errors.new) (line_of fault)) }
 {
-    write!(writer, "{}", FaultLine(fault))
-}
-
-/// The line itself.
-#[derive(Clone, Copy)]
-struct FaultLine(PlayError);
-
-impl fmt::Display for FaultLine {
-    ghost output = { λ line. Some (line_of line.0) };
-
-    fn fmt<W: fmt::Write>(&self, f: &mut fmt::Formatter<W>) -> fmt::Result {
-        match self.0 {
-            PlayError::Asm(AsmError::At { line, why }) => {
-                let why = why_name(why);
-                write!(f, "line {line}: {why}\n")
-            }
-            PlayError::Image(ImageError::Magic) => write!(f, "image: Magic\n"),
-            PlayError::Image(ImageError::Version) => write!(f, "image: Version\n"),
-            PlayError::Image(ImageError::Truncated) => write!(f, "image: Truncated\n"),
-            PlayError::Image(ImageError::Extra) => write!(f, "image: Extra\n"),
-            PlayError::Image(ImageError::BadField(offset)) => {
-                write!(f, "image: BadField {offset}\n")
-            }
-            PlayError::Image(ImageError::Fault(fault)) => {
-                let name = fault_name(fault);
-                write!(f, "image: {name}\n")
-            }
-            PlayError::Actors => write!(f, "actors\n"),
-            PlayError::Read => write!(f, "read\n"),
-            PlayError::Write => write!(f, "write\n"),
-            PlayError::NoMemory
-            | PlayError::Asm(AsmError::NoMemory)
-            | PlayError::Image(ImageError::NoMemory) => write!(f, "no memory\n"),
+    match outcome {
+        Ok(status) => ExitCode::from(status),
+        Err(fault) => {
+            // There is nobody left to tell where standard error fails too.
+            let _ = fault_line(errors, fault);
+            ExitCode::from(status(fault))
         }
     }
 }
 
+/// Writes the line that tells a fault, by one call of a writer that takes all of it. It fails only
+/// where the writer does.
+pub fn fault_line<W: Sink>(writer: &mut W, fault: PlayError) -> Result<(), PlayError>
+    requires sound { W.failed writer.old ≡ false }
+    ensures ok { OnOk result (Appends (W.contents writer.old) (W.contents writer.new) (line_of fault)) }
+    ensures err { OnErr result (HasSentFront (W.contents writer.old) (W.contents writer.new) (line_of fault)) }
+    ensures write { IfErr result (λ error. error ≡ PlayError.Write) }
+    ensures failed { (result ≡ Err PlayError.Write) ↔ (W.failed writer.new ≡ true) }
+{
+    put_all(writer, line_of(fault).as_bytes())
+}
+
+/// A line, with room for the longest one.
+type Line = ArrayString<64>;
+
+/// The line that tells a fault.
+fn line_of(fault: PlayError) -> Line
+    ensures { result.bytes ≡ line_of fault }
+{
+    match fault {
+        PlayError::Asm(AsmError::At { line, why }) => line_of_text(line, why),
+        PlayError::Image(ImageError::Magic) => told("image: Magic"),
+        PlayError::Image(ImageError::Version) => told("image: Version"),
+        PlayError::Image(ImageError::Truncated) => told("image: Truncated"),
+        PlayError::Image(ImageError::Extra) => told("image: Extra"),
+        PlayError::Image(ImageError::BadField(offset)) => line_of_field(offset),
+        PlayError::Image(ImageError::Fault(fault)) => line_of_image(fault),
+        PlayError::Actors => told("actors"),
+        PlayError::Read => told("read"),
+        PlayError::Write => told("write"),
+        PlayError::NoMemory
+        | PlayError::Asm(AsmError::NoMemory)
+        | PlayError::Image(ImageError::NoMemory) => told("no memory"),
+    }
+}
+
+/// The line that tells why a line of a text is refused.
+fn line_of_text(line: u32, why: Why) -> Line
+    ensures { result.bytes ≡ told (codes "line " ++ decimal line ++ codes ": " ++ why_name why) }
+{
+    let mut text = Line::new();
+    text.push_str("line ");
+    text.push_str(Buffer::new().format(line));
+    text.push_str(": ");
+    text.push_str(why_name(why));
+    text.push_str("\n");
+    text
+}
+
+/// The line that tells which field of an image is bad.
+fn line_of_field(offset: u32) -> Line
+    ensures { result.bytes ≡ told (codes "image: BadField " ++ decimal offset) }
+{
+    let mut text = Line::new();
+    text.push_str("image: BadField ");
+    text.push_str(Buffer::new().format(offset));
+    text.push_str("\n");
+    text
+}
+
+/// The line that tells the fault of an image's scenario.
+fn line_of_image(fault: Fault) -> Line
+    ensures { result.bytes ≡ told (codes "image: " ++ fault_name fault) }
+{
+    let mut text = Line::new();
+    text.push_str("image: ");
+    text.push_str(fault_name(fault));
+    text.push_str("\n");
+    text
+}
+
+/// The line of this text.
+fn told(text: &str) -> Line
+    requires { length text.now ≤ 63 }
+    ensures { result.bytes ≡ told text.now }
+{
+    let mut line = Line::new();
+    line.push_str(text);
+    line.push_str("\n");
+    line
+}
+
 /// Why a line is refused, as one word.
 fn why_name(why: Why) -> &'static str
-    ensures { result.now ≡ why_name why }
+    ensures name { result.now ≡ why_name why }
+    ensures short { length result.now ≤ 20 }
 {
     match why {
         Why::BadUtf8 => "BadUtf8",
@@ -86,7 +153,8 @@ fn why_name(why: Why) -> &'static str
 
 /// The name of a scenario's fault.
 fn fault_name(fault: Fault) -> &'static str
-    ensures { result.now ≡ fault_name fault }
+    ensures name { result.now ≡ fault_name fault }
+    ensures short { length result.now ≤ 20 }
 {
     match fault {
         Fault::Range => "Range",

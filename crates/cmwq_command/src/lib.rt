@@ -1,8 +1,9 @@
-//! What the words of the program ask for, how that is carried out on files, and how a fault is told.
+//! How what the words ask is carried out on files, and how the program ends.
 #![tactic(auto)]
 
 mod carrying;
 pub mod fault;
-pub mod request;
+mod telling;
 
-pub use carrying::answer;
+pub use carrying::{answer, carry_out};
+pub use telling::tell;

@@ -277,15 +277,16 @@ abbrev pub later_times : ScenarioContents
 later_times =
     scenario 1000 (queue (codes "q") 2 plain_flags ∷ [])
     (work (codes "a") 0 (op.Finish ∷ []) ∷ work (codes "b") 0 (op.Finish ∷ []) ∷ [])
-    (times instr.Tick 2 ∷ delay 0 3 ∷ state 0 ∷ modify 0 1 ∷ state 0 ∷ modify 1 0 ∷ modify 0 0 ∷ modify 1 0
-    ∷ times instr.Next 4 ∷ [])
+    (times instr.Tick 2 ∷ delay 0 3 ∷ enqueue 0 0 ∷ state 0 ∷ modify 0 1 ∷ state 0 ∷ modify 1 0 ∷ modify 0 0
+    ∷ modify 1 0 ∷ times instr.Next 4 ∷ [])
 
 -- a starts before b
 abbrev pub later_times_lines : List ℕ
 later_times_lines =
     text (
-    codes "2 a timer 5 still" ∷ codes "2 changed" ∷ codes "2 a timer 3 still" ∷ codes "2 changed" ∷
-    codes "2 changed" ∷ codes "2 a starts" ∷ codes "2 a finishes" ∷ codes "2 b starts" ∷ codes "2 b finishes" ∷ [])
+    codes "2 already" ∷ codes "2 a timer 5 still" ∷ codes "2 changed" ∷ codes "2 a timer 3 still" ∷
+    codes "2 changed" ∷ codes "2 changed" ∷ codes "2 a starts" ∷ codes "2 a finishes" ∷ codes "2 b starts" ∷
+    codes "2 b finishes" ∷ [])
 
 -- one worker a pool: a queues itself and sleeps, and b is queued
 abbrev pub one_worker : ScenarioContents
@@ -351,6 +352,87 @@ operands_lines =
     codes "0 refused NoSuchCpu" ∷ codes "0 refused BadCount" ∷ codes "0 refused BadCount" ∷
     codes "0 refused Ordered" ∷ codes "0 refused NothingToDo" ∷ codes "0 refused NoSuchPool" ∷ codes "0 flush 0" ∷
     codes "0 yes" ∷ codes "0 refused NoSuchFlush" ∷ [])
+
+-- a is listed and b waits; then a is put on the worklist anew
+abbrev pub mod_goes_behind : ScenarioContents
+mod_goes_behind =
+    scenario 1000 (queue (codes "q") 1 plain_flags ∷ [])
+    (work (codes "a") 0 (op.Finish ∷ []) ∷ work (codes "b") 0 (op.Finish ∷ []) ∷ [])
+    (enqueue 0 0 ∷ enqueue 1 0 ∷ modify 0 0 ∷ state 0 ∷ state 1 ∷ [])
+
+-- b has the room, and a waits
+abbrev pub mod_goes_behind_lines : List ℕ
+mod_goes_behind_lines =
+    text (
+    codes "0 changed" ∷ codes "0 a inactive 0 still" ∷ codes "0 b listed 0 still" ∷ [])
+
+-- a runs on the second worker, and queues itself
+abbrev pub same_worker : ScenarioContents
+same_worker =
+    scenario 1000 (queue (codes "q") 3 plain_flags ∷ [])
+    (work (codes "a") 0 (queues 0 ∷ op.Sleep 1 ∷ op.Finish ∷ [])
+    ∷ work (codes "b") 0 (op.Sleep 5 ∷ op.Finish ∷ []) ∷ [])
+    (enqueue 1 0 ∷ enqueue 0 0 ∷ times instr.Next 9 ∷ state 0 ∷ [])
+
+-- it is still on worker 1
+abbrev pub same_worker_lines : List ℕ
+same_worker_lines =
+    text (
+    codes "0 b starts" ∷ codes "0 b sleeps 5" ∷ codes "0 a starts" ∷ codes "0 a queues a" ∷ codes "0 a sleeps 1" ∷
+    codes "0 a defers" ∷ codes "1 a wakes" ∷ codes "1 a finishes and starts" ∷ codes "1 a idle runs 0/1" ∷ [])
+
+-- frozen, works of two freezable queues wait in three pools; after the thaw one is cancelled, and one ends
+abbrev pub thaw_fills : ScenarioContents
+thaw_fills =
+    record
+    (scenario 1000 (queue (codes "q") 1 plain_flags ∷ queue (codes "f") 1 freezable ∷ queue (codes "g") 1 (record unbound { freezable = true }) ∷ [])
+    (work (codes "a") 1 (op.Finish ∷ []) ∷ work (codes "c") 2 (op.Finish ∷ [])
+    ∷ work (codes "d") 1 (op.Finish ∷ []) ∷ work (codes "e") 1 (op.Finish ∷ [])
+    ∷ work (codes "h") 1 (op.Finish ∷ []) ∷ [])
+    (times instr.Freeze 1 ∷ enqueue 0 0 ∷ enqueue 1 0 ∷ enqueue 2 1 ∷ enqueue 3 1 ∷ enqueue 4 1 ∷ state 1
+    ∷ times instr.Thaw 1 ∷ state 0 ∷ state 1 ∷ state 2 ∷ state 3 ∷ cancel 2 ∷ state 3 ∷ times instr.Next 4
+    ∷ state 4 ∷ []))
+    { cpus = 2 }
+
+-- a, c and d are let in, then e for d, and h for e
+abbrev pub thaw_fills_lines : List ℕ
+thaw_fills_lines =
+    text (
+    codes "0 c inactive 4 still" ∷ codes "0 a listed 0 still" ∷ codes "0 c listed 4 still" ∷
+    codes "0 d listed 2 still" ∷ codes "0 e inactive 2 still" ∷ codes "0 cancelled" ∷ codes "0 e listed 2 still" ∷
+    codes "0 a starts" ∷ codes "0 a finishes" ∷ codes "0 e starts" ∷ codes "0 e finishes" ∷
+    codes "0 h listed 2 still" ∷ [])
+
+-- a burns, and gets a timer
+abbrev pub flush_beside_timer : ScenarioContents
+flush_beside_timer =
+    scenario 1000 (queue (codes "q") 1 plain_flags ∷ [])
+    (work (codes "a") 0 (op.Burn 1 ∷ op.Finish ∷ []) ∷ [])
+    (enqueue 0 0 ∷ times instr.Next 2 ∷ delay 0 9 ∷ flush 0 ∷ ask 0 ∷ times instr.Next 2 ∷ ask 0 ∷ state 0 ∷ [])
+
+-- the flush is done when a has finished, though its timer still runs
+abbrev pub flush_beside_timer_lines : List ℕ
+flush_beside_timer_lines =
+    text (
+    codes "0 a starts" ∷ codes "0 a burns 1" ∷ codes "0 flush 0" ∷ codes "0 no" ∷ codes "1 a finishes" ∷
+    codes "1 yes" ∷ codes "1 a timer 9 still" ∷ [])
+
+-- a work on CPU 1, and steps of other pools
+abbrev pub pools_apart : ScenarioContents
+pools_apart =
+    record
+    (scenario 1000 (queue (codes "q") 1 plain_flags ∷ [])
+    (work (codes "a") 0 (op.Sleep 1 ∷ op.Finish ∷ []) ∷ [])
+    (enqueue 0 1 ∷ times (instr.Step 0) 1 ∷ times (instr.Step 2) 2 ∷ times instr.Tick 1 ∷ times (instr.Step 0) 1
+    ∷ times (instr.Step 2) 1 ∷ times (instr.Step 1) 1 ∷ times (instr.Step 2) 1 ∷ []))
+    { cpus = 2 }
+
+-- pools 0 and 1 have nothing to do
+abbrev pub pools_apart_lines : List ℕ
+pools_apart_lines =
+    text (
+    codes "0 refused NothingToDo" ∷ codes "0 a starts" ∷ codes "0 a sleeps 1" ∷ codes "1 refused NothingToDo" ∷
+    codes "1 a wakes" ∷ codes "1 refused NothingToDo" ∷ codes "1 a finishes" ∷ [])
 
 -- a on a normal queue, and b on one of high priority
 abbrev pub unsettled : ScenarioContents

@@ -2,7 +2,7 @@
 //! counts, and which refusal is told.
 #![tactic(auto, unfolding(cmwq_table::specs::Table::table))]
 
-ghost use Rattle.cmwq_examples.specs.FinerRules.{busy, busy_lines, cancel_lets_in, cancel_lets_in_lines, deferred, deferred_lines, equal_times, equal_times_lines, fills, fills_lines, flush_targets, flush_targets_lines, high_and_unbound, high_and_unbound_lines, idle_workers, idle_workers_lines, later_times, later_times_lines, mod_and_delay, mod_and_delay_lines, no_flushes, no_flushes_lines, one_worker, one_worker_lines, operands, operands_lines, queues_others, queues_others_lines, starts_again_behind, starts_again_behind_lines, starts_behind, starts_behind_lines, timer_cpu, timer_cpu_lines, two_cpus, two_cpus_lines, unbound_workers, unbound_workers_lines, undeclared_instrs, unsettled, unsettled_instrs, wakes_behind, wakes_behind_lines, what_is_spent, what_is_spent_lines};
+ghost use Rattle.cmwq_examples.specs.FinerRules.{busy, busy_lines, cancel_lets_in, cancel_lets_in_lines, deferred, deferred_lines, equal_times, equal_times_lines, fills, fills_lines, flush_beside_timer, flush_beside_timer_lines, flush_targets, flush_targets_lines, high_and_unbound, high_and_unbound_lines, idle_workers, idle_workers_lines, later_times, later_times_lines, mod_and_delay, mod_and_delay_lines, mod_goes_behind, mod_goes_behind_lines, no_flushes, no_flushes_lines, one_worker, one_worker_lines, operands, operands_lines, pools_apart, pools_apart_lines, queues_others, queues_others_lines, same_worker, same_worker_lines, starts_again_behind, starts_again_behind_lines, starts_behind, starts_behind_lines, thaw_fills, thaw_fills_lines, timer_cpu, timer_cpu_lines, two_cpus, two_cpus_lines, unbound_workers, unbound_workers_lines, undeclared_instrs, unsettled, unsettled_instrs, wakes_behind, wakes_behind_lines, what_is_spent, what_is_spent_lines};
 ghost use Rattle.cmwq_examples.specs.Rows.{printed};
 ghost use Rattle.cmwq_table.specs.Table.{replies};
 ghost use Rattle.cmwq_types.specs.Faults.{IsValid};
@@ -97,8 +97,8 @@ pub fn body_queues_on_its_cpu_unless_pending()
     ensures { printed queues_others ≡ queues_others_lines }
 {}
 
-/// A delay counts from the time at which it is asked for, and a `mod` of no ticks puts a work at the end of the
-/// worklist.
+/// A delay counts from the time at which it is asked for; a work on a timer can't be queued; and a `mod` of no
+/// ticks puts a work at the end of the worklist.
 pub fn delays_count_from_the_time()
     ensures { printed later_times ≡ later_times_lines }
 {}
@@ -123,6 +123,32 @@ pub fn flush_that_is_refused_changes_nothing()
 /// the queue is ordered; pools and flushes have their numbers.
 pub fn operands_have_their_limits()
     ensures { printed operands ≡ operands_lines }
+{}
+
+/// A `mod` of no ticks gives its room to the first that waits, and then waits behind it.
+pub fn mod_gives_up_its_room()
+    ensures { printed mod_goes_behind ≡ mod_goes_behind_lines }
+{}
+
+/// A work that starts again does so on the worker that ran it.
+pub fn work_starts_again_on_its_worker()
+    ensures { printed same_worker ≡ same_worker_lines }
+{}
+
+/// A thaw lets in what has room, of each freezable queue and in each pool; what leaves a pool lets in the next one
+/// there.
+pub fn thaw_fills_each_freezable_queue_in_each_pool()
+    ensures { printed thaw_fills ≡ thaw_fills_lines }
+{}
+
+/// A flush of a work that runs and is on a timer again waits for the instance that runs.
+pub fn flush_is_on_what_runs_beside_a_timer()
+    ensures { printed flush_beside_timer ≡ flush_beside_timer_lines }
+{}
+
+/// A pool starts, wakes and advances its own works alone.
+pub fn pools_move_their_own_works()
+    ensures { printed pools_apart ≡ pools_apart_lines }
 {}
 
 /// Operands are judged from left to right: a queue before its count, a work before its CPU.
@@ -158,5 +184,10 @@ pub fn finer_examples_are_valid()
     ensures what_is_spent { IsValid what_is_spent }
     ensures no_flushes { IsValid no_flushes }
     ensures operands { IsValid operands }
+    ensures mod_goes_behind { IsValid mod_goes_behind }
+    ensures same_worker { IsValid same_worker }
+    ensures thaw_fills { IsValid thaw_fills }
+    ensures flush_beside_timer { IsValid flush_beside_timer }
+    ensures pools_apart { IsValid pools_apart }
     ensures unsettled { IsValid unsettled }
 {}

@@ -18,6 +18,10 @@ use std::marker::Model;
 use std::rc::Rc;
 
 /// A machine amid an instruction. Each of its works can be gone on from, whatever is done next.
+///
+/// What its methods ask of the counters goes by powers of two, so that what they call can be called: a single
+/// change wants stamps below 2^63, a fill below 2^62, a fill of each pool below 2^61, and an instruction below
+/// 2^60. No run comes near that.
 #[derive(Drop)]
 pub(crate) struct Going<P: Parts> {
     pub(crate) parts: P,

@@ -1,8 +1,7 @@
 //! The moves of a worker pool: which one is next, and what each does.
 ghost use Rattle.cmwq_exec.specs.Moves.{IsFirstMove, IsMove};
-ghost use Rattle.cmwq_table.specs.Counts.{free_worker, ready_head};
+ghost use Rattle.cmwq_table.specs.Counts.{first_listed, free_worker, ready_head};
 ghost use Rattle.cmwq_table.specs.Moves.{advance, carry_out, come_to_end, finish, moved, next_move, queue_from_body, start_move, started};
-ghost use Rattle.cmwq_table.specs.Counts.{first_listed};
 ghost use Rattle.cmwq_table.specs.Ready.{Takes};
 ghost use Rattle.cmwq_table.specs.State.{pending_at, running_at};
 ghost use Rattle.cmwq_types.specs.Scenario.{op_at, pool_count};

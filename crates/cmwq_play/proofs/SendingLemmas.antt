@@ -37,11 +37,6 @@ pub sent_some : (before now after : Option (List ℕ)) (rest lines : List ℕ) (
 sent_some before now after rest lines n h a =
     (h.0 ++ take n rest, appends_both before now after h.0 (take n rest) h.1 a, append_assoc h.0 (take n rest) (drop n rest) ∙ ap (λ (more : List ℕ). h.0 ++ more) (take-append-drop n rest) ∙ h.2)
 
--- nothing more is out, and what is out is a front
-pub front_of_rest : (before now after : Option (List ℕ)) (rest lines : List ℕ) → HasSent before now rest lines → Appends now after [] → HasSentFront before after lines
-front_of_rest before now after rest lines h a =
-    (h.0 ++ [], rest, appends_both before now after h.0 [] h.1 a, ap (λ (front : List ℕ). front ++ rest) (append-nil h.0) ∙ h.2)
-
 joined : (sent more rest left block first second : List ℕ) → sent ++ left ≡ block ++ first → more ++ rest ≡ left ++ second → (sent ++ more) ++ rest ≡ block ++ (first ++ second)
 joined sent more rest left block first second a b =
     append_assoc sent more rest
@@ -63,9 +58,6 @@ front_then old now after block left first second a b =
 -- a front of lines is a front of more lines
 pub front_more : (old now : Option (List ℕ)) (block lines more : List ℕ) → HasSentFront old now (block ++ lines) → HasSentFront old now (block ++ (lines ++ more))
 front_more old now block lines more a = subst (λ (l : List ℕ). HasSentFront old now l) (append_assoc block lines more) (front_of_more old now (block ++ lines) more a)
-
-pub sends_none : (old : Option (List ℕ)) (block : List ℕ) → HasSent old old block (block ++ [])
-sends_none old block = ([], appends_none old, sym (append-nil block))
 
 -- with nothing kept back at the end, all of the lines are out
 pub sends_all : (old now : Option (List ℕ)) (lines : List ℕ) → HasSent old now [] lines → Appends old now lines

@@ -1,5 +1,5 @@
 -- Instructions that a session issues one part after another.
-use Rattle.std.proofs.Common.{◌≡◌, ℕ, List, [], ◌∷◌, ◌++◌, Bool, Option, Result, ap, sym, ◌∙◌, subst, refl}
+use Rattle.std.proofs.Common.{◌≡◌, ℕ, List, [], ◌∷◌, ◌++◌, Bool, Option, Result, ap, sym, ◌∙◌, subst}
 use Rattle.cmwq_types.specs.Contents.{ActorContents, ScenarioContents}
 use Rattle.cmwq_types.specs.Scenario.{expand}
 use Rattle.cmwq_types.specs.declared.instr.Instr.{Instr}
@@ -7,26 +7,16 @@ use Rattle.cmwq_table.specs.Events.{events_from}
 use Rattle.cmwq_table.specs.State.{State, start}
 use Rattle.cmwq_table.specs.Table.{after_all}
 use Rattle.cmwq_play.specs.Blocks.{Sends, SendsFront, kept, sink}
-use Rattle.cmwq_play.specs.Session.{IsReady, Issued, Stopped, prints}
+use Rattle.cmwq_play.specs.Session.{Issued, Stopped, prints}
 use Rattle.cmwq_play.specs.Commands.{Writes}
 use Rattle.cmwq_play.specs.Texts.{IsPrinted}
 use Rattle.cmwq_play.proofs.CommandLemmas.{writes_more}
 use Rattle.cmwq_play.specs.declared.error.PlayError.{PlayError}
 use Rattle.cmwq_play.specs.declared.session.Session.{Session}
 use Rattle.cmwq_play.proofs.RunLemmas.{after_all-append, events_from-append}
-use Rattle.cmwq_play.proofs.SendingLemmas.{front_more, front_then, sends_none, sends_then}
+use Rattle.cmwq_play.proofs.SendingLemmas.{front_more, front_then, sends_then}
 
 module _ {M W : Type 0} (loaded : M → ScenarioContents) (state : M → State) (contents : W → Option (List ℕ)) (failed : W → Bool) where
-  -- before any instruction
-  pub issued_none : (a : Session M W) → IsReady loaded state contents failed a → Issued loaded state contents failed a a []
-  issued_none a ready = record {
-    ready = ready;
-    scenario = refl;
-    same = refl;
-    reached = refl;
-    sent = sends_none (contents (sink a.lines)) (kept a.lines);
-  }
-
   -- what is printed from where a session came to
   prints_then : (a b : Session M W) (xs ys : List Instr) → Issued loaded state contents failed a b xs → prints loaded state contents failed a (xs ++ ys) ≡ prints loaded state contents failed a xs ++ prints loaded state contents failed b ys
   prints_then a b xs ys first =

@@ -1,6 +1,6 @@
 -- What the text that was read says is what the input says: it is all of the input, or it is too long, as
 -- the input is then.
-use Rattle.std.proofs.Common.{◌≡◌, ℕ, ◌<◌, ◌≤◌, ◌⊎◌, inl, inr, List, [], ◌∷◌, length, refl, Option, Some, None, IfSome, sym, ap, ◌∙◌, subst, length-append, arith, IfErr, IfOk, Result, Ok, Err}
+use Rattle.std.proofs.Common.{◌≡◌, ℕ, ◌<◌, ◌≤◌, ◌⊎◌, inl, inr, List, [], ◌∷◌, length, refl, Option, Some, None, IfSome, sym, ap, ◌∙◌, subst, length-append, arith, IfErr, Result, Ok, Err}
 use Rattle.std.proofs.Math.Nat.{lt_of_not-le}
 use Rattle.std.specs.Io.KnownBytes.{Consumes}
 use Rattle.cmwq_types.specs.Contents.{ActorContents, ScenarioContents}
@@ -59,17 +59,6 @@ module _ (now : Option (List ℕ)) (text : List ℕ) where
   known_spelled (Some bytes) front whole S spelled =
       record { valid = spelled.is_text.valid; spelled = spelled_again bytes text (read_within bytes text now front) whole S spelled }
   known_spelled None front whole S spelled = record { valid = spelled.is_text.valid; spelled = tt }
-
-  pub known_all_spelled : {A : Type 0} (view : A → ScenarioContents) (input : Option (List ℕ)) (r : Result A PlayError) → Consumes input now text
-      → (length text ≤ MAX_TEXT → IfSome input (λ bytes. bytes ≡ text)) → IfOk r (λ s. Spells text (view s)) → IfOk r (λ s. IsSpelled input (view s))
-  known_all_spelled view input (Ok s) front whole spelled = known_spelled input front whole (view s) spelled
-  known_all_spelled view input (Err error) front whole spelled = tt
-
-  pub when_spelled : (input : Option (List ℕ)) (goal : ScenarioContents → Type 0) → Consumes input now text → (length text ≤ MAX_TEXT → IfSome input (λ bytes. bytes ≡ text))
-      → ((S : ScenarioContents) → Spells text S → goal S) → IfSome input (λ bytes. (S : ScenarioContents) → Spells bytes S → goal S)
-  when_spelled (Some bytes) goal front whole then =
-      λ S spelled. then S (spelled_before bytes text (read_within bytes text now front) whole S spelled)
-  when_spelled None goal front whole then = tt
 
   fault_again : (input : Option (List ℕ)) → Consumes input now text → (length text ≤ MAX_TEXT → IfSome input (λ bytes. bytes ≡ text))
       → (error : PlayError) → IsTextFault (Some text) error → IsTextFault input error

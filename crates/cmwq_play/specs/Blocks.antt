@@ -1,5 +1,6 @@
 -- A writer of text in blocks: the writer below it, what it keeps back, and what it sends.
 use Rattle.std.specs.Prelude.{◌≡◌, ℕ, List, Option, string_bytes, ◌++◌}
+use Rattle.std.specs.Borrow.{MutBor}
 use Rattle.cmwq_play.specs.Sending.{HasSent, HasSentFront}
 use Rattle.cmwq_play.specs.declared.block_writer.BlockWriter.{BlockWriter}
 
@@ -12,7 +13,11 @@ module _ {W : Type 0} where
   abbrev pub kept : BlockWriter W → List ℕ
   kept lines = string_bytes lines.block
 
-  -- both write to the same place
+  -- the writer below stands behind this reference
+  abbrev pub WritesTo : BlockWriter W → MutBor W → Type 0
+  WritesTo lines writer = lines.writer.ghost_name ≡ writer.ghost_name
+
+  -- both write to the same writer
   abbrev pub SharesSink : BlockWriter W → BlockWriter W → Type 0
   SharesSink old new = new.writer.ghost_name ≡ old.writer.ghost_name
 

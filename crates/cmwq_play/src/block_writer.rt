@@ -22,11 +22,11 @@ pub struct BlockWriter<'w, W> {
 }
 
 impl<'w, W: Sink> BlockWriter<'w, W> {
-    ghost use Rattle.cmwq_play.specs.Blocks.{Sends, SendsFront, SharesSink, kept, sink};
+    ghost use Rattle.cmwq_play.specs.Blocks.{Sends, SendsFront, SharesSink, WritesTo, kept, sink};
 
     /// A writer that keeps nothing back yet.
     pub fn new(alloc: Global, writer: &'w mut W) -> BlockWriter<'w, W>
-        ensures same { result.writer.ghost_name ≡ writer.entry.ghost_name }
+        ensures same { WritesTo result writer.entry }
         ensures writer { sink result ≡ writer.old }
         ensures empty { kept result ≡ [] }
     {
@@ -85,7 +85,7 @@ impl<'w, W: Sink> BlockWriter<'w, W> {
 
     /// The `Sink`. What is kept back is dropped.
     pub fn into_inner(self) -> &'w mut W
-        ensures same { result.ghost_name ≡ self.entry.writer.ghost_name }
+        ensures same { WritesTo self.entry result }
         ensures writer { result.now ≡ sink self.entry }
     {
         let BlockWriter { writer, block: _ } = self;

@@ -17,4 +17,5 @@ pub use images::{from_image, to_image};
 pub use listing::list_text;
 pub use reading::read_text;
 pub use running::run;
+pub use sending::put_all;
 pub use stream::{Marked, Sink, Source};

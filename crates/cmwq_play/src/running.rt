@@ -15,6 +15,7 @@ use cmwq_plain::Plain;
 use cmwq_table::Machine;
 use cmwq_types::{Actor, Scenario};
 use std::alloc::Global;
+use std::rc::Rc;
 
 /// Reads a scenario's text, issues its one actor's instructions on a machine, and writes the lines
 /// of the replies as they come, a block at a time.
@@ -38,7 +39,7 @@ pub fn run<R: Source, W: Sink>(
     if !has_one_actor(&scenario) {
         return Err(PlayError::Actors);
     }
-    load_and_play(alloc, &scenario, writer)
+    load_and_play(alloc, scenario, writer)
 }
 
 fn has_one_actor(scenario: &Scenario) -> bool
@@ -47,22 +48,22 @@ fn has_one_actor(scenario: &Scenario) -> bool
     scenario.actors.len() == 1
 }
 
-/// Issues the one actor's instructions on a new machine, and writes the lines of the replies.
+/// Issues the one actor's instructions on a new machine, and writes the lines of the replies. The text's
+/// reader has judged the scenario already.
 fn load_and_play<W: Sink>(
     alloc: Global,
-    scenario: &Scenario,
+    scenario: Scenario,
     writer: &mut W,
 ) -> Result<(), PlayError>
-    requires valid { IsValid scenario.now }
-    requires alone { length scenario.now.actors ≡ 1 }
+    requires valid { IsValid scenario }
+    requires alone { length scenario.actors ≡ 1 }
     requires sound { W.failed writer.old ≡ false }
-    ensures writes { Writes (IsPrinted scenario.now) (W.contents writer.old) (W.contents writer.new) (W.failed writer.new) result }
+    ensures writes { Writes (IsPrinted scenario) (W.contents writer.old) (W.contents writer.new) (W.failed writer.new) result }
     ensures why { IfErr result (λ error. IsSendError error) }
 {
-    match Plain::load(alloc, scenario) {
-        Ok(machine) => play(alloc, scenario, &scenario.actors[0], machine, writer),
-        Err(_) => Err(PlayError::NoMemory),
-    }
+    let scenario = Rc::new(alloc, scenario)?;
+    let machine = Plain::begin(alloc, Rc::clone(&scenario)?)?;
+    play(alloc, &scenario, &scenario.actors[0], machine, writer)
 }
 
 /// Issues the one actor's instructions on a machine at its start, and writes the lines of the replies.

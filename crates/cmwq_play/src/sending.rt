@@ -7,7 +7,7 @@ use crate::error::PlayError;
 use crate::stream::Sink;
 
 /// Gives the writer all the bytes.
-pub(crate) fn put_all<W: Sink>(writer: &mut W, bytes: &[u8]) -> Result<(), PlayError>
+pub fn put_all<W: Sink>(writer: &mut W, bytes: &[u8]) -> Result<(), PlayError>
     requires { W.failed writer.old ≡ false }
     ensures ok { OnOk result (Appends (W.contents writer.old) (W.contents writer.new) bytes.now) }
     ensures err { OnErr result (HasSentFront (W.contents writer.old) (W.contents writer.new) bytes.now) }

@@ -1,5 +1,5 @@
 //! A scenario's run on a machine, whose lines go to a writer.
-ghost use Rattle.cmwq_play.specs.Blocks.{SharesSink, kept, sink};
+ghost use Rattle.cmwq_play.specs.Blocks.{SharesSink, WritesTo, kept, sink};
 ghost use Rattle.cmwq_play.specs.Commands.{Writes};
 ghost use Rattle.cmwq_play.specs.Sending.{IsSendError};
 ghost use Rattle.cmwq_play.specs.Session.{IsReady, Issues, prints};
@@ -71,13 +71,25 @@ impl<'w, M: Machine, W: Sink> Session<'_, 'w, M, W> {
         ensures why { IfErr result (λ error. IsSendError error) }
     {
         self.lines.reserve()?;
+        self.issue_all(actor)
+    }
+
+    /// Issues the actor's instructions, and sends all that they print.
+    fn issue_all(&mut self, actor: &Actor) -> Result<(), PlayError>
+        requires ready { IsReady M.loaded M.state W.contents W.failed self.old }
+        requires empty { kept self.old.lines ≡ [] }
+        ensures same { SharesSink self.old.lines self.new.lines }
+        ensures writes { Writes (λ output. output ≡ prints M.loaded M.state W.contents W.failed self.old (expand actor.now))
+            (W.contents (sink self.old.lines)) (W.contents (sink self.new.lines)) (W.failed (sink self.new.lines)) result }
+        ensures why { IfErr result (λ error. IsSendError error) }
+    {
         self.issue_lines(&actor.lines)?;
         self.lines.finish()
     }
 
     /// The writer. What is kept back is dropped.
     pub(crate) fn into_writer(self) -> &'w mut W
-        ensures same { result.ghost_name ≡ self.entry.lines.writer.ghost_name }
+        ensures same { WritesTo self.entry.lines result }
         ensures writer { result.now ≡ sink self.entry.lines }
     {
         let Session {

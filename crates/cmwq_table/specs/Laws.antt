@@ -149,10 +149,11 @@ ActiveInSince s w pool born =
 abbrev pub InactiveInSince : State → ℕ → ℕ → ℕ → Type 0
 InactiveInSince s w pool born = PendsSince (λ place. is_inactive place pool) s w born
 
--- Of the instances of one queue in one pool, each active one was queued before each inactive one.
+-- Of the instances of one queue in one pool, each that is active was queued before each that is inactive then or later.
 unfoldable pub ActivatesInOrder : ScenarioContents → State → Type 0
 ActivatesInOrder S s =
-    (pool v w born later : ℕ) → queue_of S v ≡ queue_of S w → ActiveInSince s v pool born → InactiveInSince s w pool later → born < later
+    (pool v w born later : ℕ) (instrs : List Instr) → queue_of S v ≡ queue_of S w → ActiveInSince s v pool born
+    → InactiveInSince (after_all S s instrs) w pool later → born < later
 
 -- The listed works of one queue stand on a pool's worklist in the order in which they were queued.
 unfoldable pub ListsInOrder : ScenarioContents → State → Type 0

@@ -47,15 +47,15 @@ pub fn active_works_rise_within_the_limit()
     ensures { AtEveryInstruction RisesWithinLimit }
 {}
 
-/// The works of a queue are activated in a pool in the order in which they were queued: each active instance of the
-/// queue there was queued before each inactive one.
-#[tactic(auto, using(crate::proofs::LawLemmas::Worklist::activates_in_order))]
+/// The works of a queue are activated in a pool in the order in which they were queued: an instance that is active there
+/// was queued before each one of the queue that waits there then, or after any further instructions.
+#[tactic(auto, using(crate::proofs::LawLemmas::Conclusions::activates_in_order))]
 pub fn queues_activate_in_order()
     ensures { InEveryState ActivatesInOrder }
 {}
 
 /// They stand on the pool's worklist in the same order, so a pool takes them off it as they were queued.
-#[tactic(auto, using(crate::proofs::LawLemmas::Worklist::lists_in_order))]
+#[tactic(auto, using(crate::proofs::LawLemmas::Conclusions::lists_in_order))]
 pub fn worklists_keep_the_order_of_queueing()
     ensures { InEveryState ListsInOrder }
 {}

@@ -93,9 +93,10 @@ impl fmt::Display for EventWords<'_> {
     }
 }
 
-/// Where a work waits.
-#[derive(Clone, Copy)]
-struct PlaceWords(Option<Place>);
+/// The words of where a work waits: `idle`, `timer DUE`, `inactive P`, `listed P` or `deferred P`, as the
+/// answer to `State` has them. DUE is a tick, P a pool's number.
+#[derive(Clone, Copy, Debug)]
+pub struct PlaceWords(pub Option<Place>);
 
 impl fmt::Display for PlaceWords {
     ghost output = { λ words. Some (place_text words.0) };
@@ -111,9 +112,10 @@ impl fmt::Display for PlaceWords {
     }
 }
 
-/// Where a work runs.
-#[derive(Clone, Copy)]
-struct RunWords(Option<WorkRun>);
+/// The words of where a work runs: `still`, `runs P/WORKER` or `asleep P/WORKER UNTIL`, as the answer to
+/// `State` has them. P is a pool's number, UNTIL a tick.
+#[derive(Clone, Copy, Debug)]
+pub struct RunWords(pub Option<WorkRun>);
 
 impl fmt::Display for RunWords {
     ghost output = { λ words. Some (run_text words.0) };
@@ -148,8 +150,8 @@ fn asked_name(scenario: &Scenario, instr: Instr) -> &str
     }
 }
 
-/// The refusal's name.
-fn refusal_name(why: Refusal) -> &'static str
+/// The refusal's name, as its line has it, without the cause of `Unsettled`.
+pub fn refusal_name(why: Refusal) -> &'static str
     ensures { result.now ≡ refusal_text why }
 {
     match why {

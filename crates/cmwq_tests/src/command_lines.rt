@@ -1,9 +1,13 @@
 //! Command lines: the requests that they are, and help and usage faults.
 use crate::checking::same;
+use crate::streams::{Output, writing_to};
 use clap::error::ErrorKind;
-use cmwq_command::request::{Request, parse};
+use cmwq_command::{carry_out, tell};
+use cmwq_play::Marked;
+use cmwq_words::request::{Request, not_text, parse};
 use std::alloc::Global;
 use std::process::Abort;
+use std::rt::Files;
 
 /// The words of the line.
 fn words(rt: &impl Abort, alloc: Global, line: &str) -> Vec<String> {
@@ -63,4 +67,91 @@ fn other_words_are_help_or_usage_faults(rt: HostRuntime) {
         let told = (error.kind() == kind, error.exit_code(), error.use_stderr());
         same(&rt, line, told, (true, status, status != 0));
     }
+}
+
+/// Command lines, the exit status, and what goes to standard output and to standard error.
+const TOLD: [(&str, u8, &[u8], &[u8]); 4] = [
+    (
+        "cmwq walk a",
+        2,
+        b"",
+        b"error: unrecognized subcommand 'walk'\n\n\
+          Usage: cmwq <COMMAND>\n\n\
+          For more information, try '--help'.\n",
+    ),
+    (
+        "cmwq run",
+        2,
+        b"",
+        b"error: the following required arguments were not provided:\n  <FILE>\n\n\
+          Usage: cmwq run <FILE>\n\n\
+          For more information, try '--help'.\n",
+    ),
+    (
+        "cmwq list a b",
+        2,
+        b"",
+        b"error: unexpected argument 'b' found\n\n\
+          Usage: cmwq list <FILE>\n\n\
+          For more information, try '--help'.\n",
+    ),
+    (
+        "cmwq asm --help",
+        0,
+        b"Makes the image of a scenario\n\n\
+          Usage: cmwq asm <FILE> <OUT>\n\n\
+          Arguments:\n  \
+          <FILE>  The scenario's text\n  \
+          <OUT>   The image file to make. What it held is lost, even where FILE has a fault: \
+          asm FILE FILE destroys its input\n\n\
+          Options:\n  \
+          -h, --help  Print help\n",
+        b"",
+    ),
+];
+
+/// Compares what goes to standard output and to standard error, in one write.
+fn check_streams(rt: &impl Abort, line: &str, got: (Output, Output), want: (&[u8], &[u8])) {
+    let (output, errors) = got;
+    same(rt, line, output.taken.as_slice(), want.0);
+    same(rt, line, errors.taken.as_slice(), want.1);
+    same(rt, line, output.calls.wrapping_add(errors.calls), 1);
+}
+
+/// Carries the command line out, and compares what is told.
+fn check_told<R: Files + AllocGlobal + Abort>(
+    rt: &R,
+    line: &str,
+    status: u8,
+    want: (&[u8], &[u8]),
+) {
+    let given = words(rt, rt.alloc(), line);
+    let mut output = writing_to(rt.alloc(), 4096);
+    let mut errors = writing_to(rt.alloc(), 4096);
+    let result = carry_out(rt, given.as_slice(), &mut output, &mut errors);
+    same(rt, line, result, Ok(status));
+    check_streams(rt, line, (output, errors), want);
+}
+
+#[test]
+fn help_and_usage_faults_go_to_their_streams(rt: HostRuntime) {
+    for (line, status, output, errors) in TOLD {
+        check_told(&rt, line, status, (output, errors));
+    }
+}
+
+const NOT_TEXT: &[u8] = b"error: a word of the command line isn't UTF-8\n\n\
+    Usage: cmwq <COMMAND>\n\n\
+    For more information, try '--help'.\n";
+
+#[test]
+fn words_that_are_not_text_are_a_usage_fault(rt: HostRuntime) {
+    let alloc = rt.alloc();
+    let mut output = Marked::new(writing_to(alloc, 4096));
+    let mut errors = Marked::new(writing_to(alloc, 4096));
+    let error = not_text(alloc).expect(&rt, "memory is left");
+    let result = tell(alloc, &mut output, &mut errors, error.kind(), &error);
+    same(&rt, "not text", result, Ok(2));
+    let streams = (output.into_inner(), errors.into_inner());
+    check_streams(&rt, "not text", streams, (b"", NOT_TEXT));
 }

@@ -1,13 +1,14 @@
 //! The exit status and the line of each kind of fault.
 use crate::checking::same;
+use crate::streams::{Output, writing_to};
 use cmwq_asm::AsmError;
-use cmwq_command::fault::{fault_line, status};
+use cmwq_command::fault::end;
 use cmwq_grammar::Why;
 use cmwq_image::ImageError;
-use cmwq_play::PlayError;
+use cmwq_play::{Marked, PlayError};
 use cmwq_types::Fault;
 use std::alloc::Global;
-use std::process::Abort;
+use std::process::{Abort, ExitCode};
 
 /// A fault, its exit status and its line.
 type Told = (PlayError, u8, &'static [u8]);
@@ -22,7 +23,18 @@ const MISSING_WORD: AsmError = AsmError::At {
     why: Why::MissingWord,
 };
 
-const TOLD: [Told; 14] = [
+/// The longest line.
+const LONGEST: AsmError = AsmError::At {
+    line: u32::MAX,
+    why: Why::MissingWord,
+};
+
+const TOLD: [Told; 15] = [
+    (
+        PlayError::Asm(LONGEST),
+        1,
+        b"line 4294967295: MissingWord\n",
+    ),
     (PlayError::Asm(DUPLICATE), 1, b"line 6: Duplicate\n"),
     (PlayError::Asm(MISSING_WORD), 1, b"line 1: MissingWord\n"),
     (
@@ -55,12 +67,19 @@ const TOLD: [Told; 14] = [
     (PlayError::Image(ImageError::NoMemory), 4, b"no memory\n"),
 ];
 
-/// Compares the fault's exit status and its line.
+/// Ends with the fault, and compares the exit status and the line, which goes out in one write: lines of
+/// programs that share their standard error aren't mixed.
 fn check_told(rt: &impl Abort, alloc: Global, fault: PlayError, want: u8, line: &[u8]) {
-    let mut told = Vec::new(alloc);
-    fault_line(&mut told, fault).expect(rt, "memory is left");
-    same(rt, fault, status(fault), want);
-    same(rt, fault, told.as_slice(), line);
+    let mut errors = Marked::new(writing_to(alloc, 4096));
+    same(
+        rt,
+        fault,
+        end(&mut errors, Err(fault)),
+        ExitCode::from(want),
+    );
+    let Output { taken, calls, .. } = errors.into_inner();
+    same(rt, fault, taken.as_slice(), line);
+    same(rt, fault, calls, 1);
 }
 
 #[test]

@@ -16,8 +16,12 @@ mod files;
 #[cfg(test)]
 mod images;
 #[cfg(test)]
+mod lists;
+#[cfg(test)]
 mod machines;
 #[cfg(test)]
 mod streams;
 #[cfg(test)]
 mod texts;
+#[cfg(test)]
+mod timers;

@@ -1,5 +1,5 @@
 -- What the words on counts and the first come to.
-use Rattle.std.proofs.Common.{◌≡◌, ℕ, zero, suc, ◌+◌, ◌<◌, Bool, true, false, Option, Some, None, cond, arith, refl, ap, ◌∙◌, inl, inr, subst}
+use Rattle.std.proofs.Common.{◌≡◌, ℕ, zero, suc, ◌+◌, ◌<◌, Bool, true, false, Option, Some, None, cond, arith, refl, sym, ap, ◌∙◌, inl, inr, subst}
 use Rattle.std.proofs.lemmas.Bool.Decides.{nat_tests}
 use Rattle.std.specs.Prelude.{nat_lt}
 use Rattle.std.proofs.lemmas.Bool.{cases_lt}
@@ -100,3 +100,39 @@ first_below-from test m none passes (suc n) h =
       | inr ge ↦ (let same : m ≡ n = omega arith in
           subst (λ (k : ℕ). first_below (by_least (λ k. k)) test (suc k) ≡ Some m) same (with-found m (test m) (first_below (by_least (λ k. k)) test m) passes none))
     ]
+
+-- a number that passes, that each passing one below comes after, and that none above comes before, is the first
+pub first_below-unique : (before : ℕ → ℕ → Bool) (test : ℕ → Bool) (n m : ℕ) → IsOrder before → m < n → test m ≡ true → ((k : ℕ) → k < m → test k ≡ true → before m k ≡ true) → ((k : ℕ) → k < n → test k ≡ true → before k m ≡ false) → first_below before test n ≡ Some m
+first_below-unique before test zero m order within passes above least = absurd (omega arith)
+first_below-unique before test (suc n) m order within passes above least =
+    elim (cases_lt m n) [
+      | inl lower ↦
+          let rest : first_below before test n ≡ Some m = first_below-unique before test n m order lower passes above (λ k lt p. least k (omega arith) p) in
+          kept (test n) refl (first_below before test n) rest
+      | inr here ↦
+          let same : m ≡ n = omega arith in
+          taken (first_below before test n) (first_below-is_first before test n order) same
+    ]
+  where
+    kept : (b : Bool) → test n ≡ b → (found : Option ℕ) → found ≡ Some m → first_with before n b found ≡ Some m
+    kept false e found is = is
+    kept true e None is = absurd (cc)
+    kept true e (Some k) is =
+        let same : k ≡ m = cc in
+        let later : before n m ≡ false = least n (omega arith) e in
+        rw (same, later) refl
+
+    taken : (found : Option ℕ) → MatchFirst before test n found → m ≡ n → first_with before n (test n) found ≡ Some m
+    taken None none same = (let passes_n : test n ≡ true = ap test (sym same) ∙ passes in rw (passes_n, same) refl)
+    taken (Some k) first same =
+        let passes_n : test n ≡ true = ap test (sym same) ∙ passes in
+        let sooner : before n k ≡ true = ap (λ (x : ℕ). before x k) (sym same) ∙ above k (omega (arith, first.in_range, same)) first.passes in
+        rw (passes_n, sooner, same) refl
+
+-- there is no first where nothing passes
+pub first_below-none : (before : ℕ → ℕ → Bool) (test : ℕ → Bool) (n : ℕ) → IsOrder before → ((k : ℕ) → k < n → test k ≡ false) → first_below before test n ≡ None
+first_below-none before test n order none = by_cases (first_below before test n) refl (first_below-is_first before test n order)
+  where
+    by_cases : (found : Option ℕ) → first_below before test n ≡ found → MatchFirst before test n found → first_below before test n ≡ None
+    by_cases None is first = is
+    by_cases (Some m) is first = (let fails : test m ≡ false = none m first.in_range in absurd (let passes = first.passes in cc))

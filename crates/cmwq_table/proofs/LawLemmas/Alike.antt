@@ -1,5 +1,5 @@
 -- States that differ in time, limits or what is left to burn alone.
-use Rattle.std.proofs.Common.{◌≡◌, ℕ, zero, suc, ◌+◌, ◌≤◌, Bool, true, false, not, cond, ◌&&◌, ◌||◌, List, [], ◌∷◌, length, Option, Some, None, arith, refl, sym, ap, ◌∙◌, subst, inl, inr}
+use Rattle.std.proofs.Common.{◌≡◌, ℕ, zero, suc, ◌+◌, ◌<◌, ◌≤◌, Bool, true, false, not, cond, ◌&&◌, ◌||◌, List, [], ◌∷◌, length, Option, Some, None, arith, refl, sym, ap, ◌∙◌, subst, inl, inr}
 use Rattle.std.specs.Prelude.{slice_index_or, is_some, ◌==◌}
 use Rattle.cmwq_types.specs.Contents.{ScenarioContents}
 use Rattle.cmwq_types.specs.First.{count_below}
@@ -14,8 +14,9 @@ use Rattle.cmwq_table.specs.Moves.{burned, one_less, tick}
 use Rattle.cmwq_table.proofs.LawLemmas.Changes.{IsLong, IsPoolOf, RunsIn}
 use Rattle.cmwq_table.proofs.LawLemmas.Counting.{count_below-same}
 use Rattle.cmwq_table.proofs.LawLemmas.Concurrency.{runnable}
-use Rattle.cmwq_table.proofs.LawLemmas.Order.{HasActive, HasInactive, IsInOrder, Ran}
+use Rattle.cmwq_table.proofs.LawLemmas.PoolOrder.{HasActiveAt, HasInactiveAt, IsInPoolOrder, RanAt}
 use Rattle.cmwq_table.proofs.LawLemmas.Sound.{IsSound, Fits, FitsIfPending, FitsIfRunning, FitsPlace}
+use Rattle.cmwq_table.proofs.LawLemmas.Worklist.{IsInListOrder}
 
 -- two works run alike, but for what they have left to burn, or neither runs
 abbrev pub RunsAlike : Option Running → Option Running → Type 0
@@ -111,21 +112,28 @@ alike-instances S s t w test alike =
     ap (λ (o : Option Pending). placed_born test o || runs (λ r. test r.born) (running_at t w)) (alike.pending w)
     ∙ ap (λ (b : Bool). placed_born test (pending_at s w) || b) (runs-alike (λ r. test r.born) (λ r q born in_pool mode. ap test born) (running_at s w) (running_at t w) (alike.running w))
 
-ran-alike : (a b : Option Running) (born : ℕ) → RunsAlike a b → Ran b born → Ran a born
-ran-alike (Some r) (Some q) born alike ran = sym alike.0 ∙ ran
-ran-alike (Some r) None born alike ran = absurd ran
-ran-alike None (Some q) born alike ran = absurd alike
-ran-alike None None born alike ran = ran
+ran-alike : (pool born : ℕ) (a b : Option Running) → RunsAlike a b → RanAt pool b born → RanAt pool a born
+ran-alike pool born (Some r) (Some q) alike ran = (sym alike.1 ∙ ran.0, sym alike.0 ∙ ran.1)
+ran-alike pool born (Some r) None alike ran = absurd ran
+ran-alike pool born None (Some q) alike ran = absurd alike
+ran-alike pool born None None alike ran = ran
 
-pub alike-order : (S : ScenarioContents) (s t : State) → IsAlike S s t → IsInOrder S s → IsInOrder S t
-alike-order S s t alike in_order v w born later ordered of_queue act inactive =
-    let inactive_before : HasInactive (pending_at s w) later = rw (alike.pending w) at inactive in
-    let active_before : HasActive (pending_at s v) (running_at s v) born =
+pub alike-order : (S : ScenarioContents) (s t : State) → IsAlike S s t → IsInPoolOrder S s → IsInPoolOrder S t
+alike-order S s t alike in_order v w pool born later of_queue act inactive =
+    let inactive_before : HasInactiveAt pool (pending_at s w) later = rw (alike.pending w) at inactive in
+    let active_before : HasActiveAt pool (pending_at s v) (running_at s v) born =
     elim act [
       | inl pending ↦ inl (rw (alike.pending v) at pending)
-      | inr ran ↦ inr (ran-alike (running_at s v) (running_at t v) born (alike.running v) ran)
+      | inr ran ↦ inr (ran-alike pool born (running_at s v) (running_at t v) (alike.running v) ran)
     ] in
-    in_order v w born later ordered of_queue active_before inactive_before
+    in_order v w pool born later of_queue active_before inactive_before
+
+pub alike-listed : (S : ScenarioContents) (s t : State) → IsAlike S s t → IsInListOrder S s → IsInListOrder S t
+alike-listed S s t alike listed = record {
+  below = λ w pool born stamp h. let below : stamp < s.next = listed.below w pool born stamp (rw (alike.pending w) at h) in omega (arith, alike.next);
+  rises = λ v w pool born stamp later last of_queue one other less.
+      listed.rises v w pool born stamp later last of_queue (rw (alike.pending v) at one) (rw (alike.pending w) at other) less;
+}
 
 in-alike : (a b : Option Running) (pool : ℕ) → RunsAlike a b → RunsIn a pool → RunsIn b pool
 in-alike (Some r) (Some q) pool alike at = alike.1 ∙ at

@@ -5,7 +5,7 @@ use Rattle.std.proofs.lemmas.List.{get_or_append_left, get_or_past, length-appen
 use Rattle.std.specs.Prelude.{is_some, nat_lt, slice_index_or, ◌==◌}
 use Rattle.cmwq_types.specs.Contents.{ScenarioContents}
 use Rattle.cmwq_types.specs.First.{MatchFirst}
-use Rattle.cmwq_types.specs.Scenario.{flags_at, queue_of}
+use Rattle.cmwq_types.specs.Scenario.{queue_of}
 use Rattle.cmwq_types.specs.declared.instr.Instr.{Instr}
 use Rattle.cmwq_types.specs.declared.moves.Move.{Move}
 use Rattle.cmwq_types.specs.declared.moves.Move.TheVariants.{Advance, Wake}
@@ -17,24 +17,26 @@ use Rattle.cmwq_table.specs.declared.state.FlushTarget.{FlushTarget}
 use Rattle.cmwq_table.specs.declared.state.FlushTarget.TheVariants.{Instance, Queue, Nothing}
 use Rattle.cmwq_table.specs.declared.state.Pending.{Pending}
 use Rattle.cmwq_table.specs.declared.state.Running.{Running}
-use Rattle.cmwq_table.specs.State.{State, idle_at, is_unbound, made_at, pending_at, pool_count, running_at}
+use Rattle.cmwq_table.specs.State.{State, idle_at, is_unbound, made_at, pending_at, pool_count, running_at, target}
 use Rattle.cmwq_table.specs.Counts.{active, counted, first_listed, first_slept, free_worker, has_instance, idle_stamp, is_deferred, is_done, is_inactive, is_listed, is_placed, last_idle, limit, may_start, new_worker, pends, placed_born, pending_before, queued_before, ready_head, runs}
 use Rattle.cmwq_table.specs.Counts as counts
-use Rattle.cmwq_table.specs.Laws.{ActiveSince, AtEveryInstruction, CannotStart, GoesInOrder, HasInstance, HasNoIdleWorker, InEveryState, InactiveSince, IsListedIn, LeavesNoRoom, TimeWaitsForStarts, RisesByWakes, RisesWithinLimit, IsNotReentrant, StayDone, WaitForInstances, placed_in, reply_to, state_after, tells_wake}
+use Rattle.cmwq_table.specs.Laws.{ActivatesInOrder, ActiveInSince, AtEveryInstruction, CannotStart, GoesInOrder, HasInstance, HasNoIdleWorker, InEveryState, IsListedIn, LeavesNoRoom, ListsInOrder, TimeWaitsForStarts, RisesByWakes, RisesWithinLimit, IsNotReentrant, StayDone, WaitForInstances, placed_in, reply_to, state_after, tells_wake}
 use Rattle.cmwq_table.specs.Moves.{as_move, first_moving, next_move, start_first, start_move, take_listed}
 use Rattle.cmwq_table.specs.Table.{after_all, run, target_at}
-use Rattle.cmwq_table.proofs.LawLemmas.Alike.{alike-active, alike-counted, alike-instances}
+use Rattle.cmwq_table.proofs.LawLemmas.Alike.{alike-active, alike-counted, alike-instances, alike-order, alike-sound}
 use Rattle.cmwq_table.proofs.LawLemmas.Concurrency.{Follows-counted}
 use Rattle.cmwq_table.proofs.LawLemmas.Counting.{count_below-all_fail, count_below-none, count_below-passes}
 use Rattle.cmwq_table.proofs.LawLemmas.Effects.{Effect, IsSettled, with_given}
 use Rattle.cmwq_table.proofs.LawLemmas.Fills.{waits-in_range}
-use Rattle.cmwq_table.proofs.LawLemmas.Instances.{BringsNoneBack, Follows-flushes, Follows-instances, Follows-time}
+use Rattle.cmwq_table.proofs.LawLemmas.Instances.{BringsNoneBack, Follows-flushes, Follows-instances, Follows-next, Follows-time}
 use Rattle.cmwq_table.proofs.LawLemmas.Levels.{Follows-active, Follows-limit, RisesWithin}
 use Rattle.cmwq_table.proofs.LawLemmas.Moving.{listed-is_first}
-use Rattle.cmwq_table.proofs.LawLemmas.Order.{HasActive, HasInactive, PendsActive, Ran, at-most-one}
+use Rattle.cmwq_table.proofs.LawLemmas.Order.{active-there, at-most-one, inactive-there}
+use Rattle.cmwq_table.proofs.LawLemmas.PoolOrder.{Follows-waits, HasActiveAt, HasInactiveAt, IsInPoolOrder, PendsActiveAt, RanAt, WaitsSince, active-below, waits-then}
 use Rattle.cmwq_table.proofs.LawLemmas.Runs.{IsReached, Outcome, outcome-is, run-reached, table-reached}
 use Rattle.cmwq_table.proofs.LawLemmas.Setting.{IsSetting, IsSetting-valid}
 use Rattle.cmwq_table.proofs.LawLemmas.Sound.{Fits, FitsPlace, FitsTarget, IsSound}
+use Rattle.cmwq_table.proofs.LawLemmas.Worklist.{ListedAs}
 
 -- Concurrency level.
 
@@ -200,21 +202,84 @@ rises_within_limit S valid instrs i queue pool rises =
 
 -- Ordered queues.
 
-active-since : (s : State) (w born : ℕ) → ActiveSince s w born → HasActive (pending_at s w) (running_at s w) born
-active-since s w born (inl pending) = inl (subst (λ (o : Option Pending). PendsActive o born) (sym pending.1) (pending.2, pending.3))
-active-since s w born (inr running) = inr (subst (λ (o : Option Running). Ran o born) (sym running.1) running.2)
-
-inactive-since : (s : State) (w born : ℕ) → InactiveSince s w born → HasInactive (pending_at s w) born
-inactive-since s w born pending = subst (λ (o : Option Pending). HasInactive o born) (sym pending.1) (pending.2, pending.3)
-
 pub goes_in_order : InEveryState GoesInOrder
 unfolding GoesInOrder
 goes_in_order S valid instrs queue ordered =
     let s = run S instrs in
     let reached : IsReached S s = run-reached S instrs valid in (
       at-most-one S s queue reached.sound reached.one_by_one ordered,
-      λ v w born later v_is w_is act inactive. reached.in_order v w born later (ap (λ (q : ℕ). (flags_at S q).ordered) v_is ∙ ordered) (w_is ∙ sym v_is) (active-since s v born act) (inactive-since s w later inactive),
+      λ v w born later v_is w_is act inactive.
+          reached.in_order v w (target S queue 0) born later (w_is ∙ sym v_is) (active-there S s v queue born reached.sound ordered v_is act)
+          (inactive-there S s w queue later reached.sound ordered w_is inactive),
     )
+
+-- Activation.
+
+active-in : (s : State) (w pool born : ℕ) → ActiveInSince s w pool born → HasActiveAt pool (pending_at s w) (running_at s w) born
+active-in s w pool born (inl pending) = inl (subst (λ (o : Option Pending). PendsActiveAt pool o born) (sym pending.1) (pending.2, pending.3))
+active-in s w pool born (inr running) = inr (subst (λ (o : Option Running). RanAt pool o born) (sym running.1) (running.2, running.3))
+
+given-waits : (s : State) (given : Option FlushTarget) → WaitsSince s (with_given s given)
+given-waits s (Some target) = λ w pool born inactive. inl inactive
+given-waits s None = λ w pool born inactive. inl inactive
+
+given-next : (s : State) (given : Option FlushTarget) → (with_given s given).next ≡ s.next
+given-next s (Some target) = refl
+given-next s None = refl
+
+-- what waits after an instruction waited before it or was born in it, and stamps rise
+record Waits (s t : State) : Type 0 where
+  since : WaitsSince s t
+  later : s.next ≤ t.next
+
+effect-waits : (S : ScenarioContents) (wakes : Bool) (s t : State) → IsReached S s → Effect S wakes s t → Waits s t
+effect-waits S wakes s t reached effect =
+    let sound : IsSound S effect.begun = alike-sound S s effect.begun effect.alike reached.sound effect.ordered in
+    let order : IsInPoolOrder S effect.begun = alike-order S s effect.begun effect.alike reached.in_order in
+    let follows : WaitsSince effect.begun effect.ended = Follows-waits S effect.places wakes effect.begun effect.ended effect.follows sound effect.begun_full order in
+    let rises : effect.begun.next ≤ effect.ended.next = Follows-next S effect.places wakes effect.begun effect.ended effect.follows in
+    let last : t.next ≡ effect.ended.next = ap (λ (u : State). u.next) effect.after ∙ given-next effect.ended effect.given in
+    record {
+      since = λ w pool born inactive.
+          let ended : HasInactiveAt pool (pending_at (with_given effect.ended effect.given) w) born = subst (λ (u : State). HasInactiveAt pool (pending_at u w) born) effect.after inactive in
+          elim (waits-then effect.begun effect.ended (with_given effect.ended effect.given) rises follows (given-waits effect.ended effect.given) w pool born ended) [
+            | inl begun ↦ inl (rw (effect.alike.pending w) at begun)
+            | inr above ↦ inr (omega (arith, effect.alike.next))
+          ];
+      later = omega (arith, effect.alike.next);
+    }
+
+outcome-waits : (S : ScenarioContents) (s t : State) (r : Reply) → IsReached S s → Outcome S s t r → Waits s t
+outcome-waits S s t r reached (Outcome.refused why) = record { since = λ w pool born inactive. inl inactive; later = omega arith }
+outcome-waits S s t r reached (Outcome.done u q spent effect) =
+    let waits : Waits s u = effect-waits S (tells_wake r) s u reached effect in
+    record { since = waits.since; later = waits.later }
+
+all-wait : (S : ScenarioContents) (s : State) (instrs : List Instr) → IsSetting S → IsReached S s → WaitsSince s (after_all S s instrs)
+all-wait S s [] setting reached = λ w pool born inactive. inl inactive
+all-wait S s (i ∷ instrs) setting reached =
+    let t = state_after S s i in
+    let waits : Waits s t = outcome-waits S s t (reply_to S s i) reached (outcome-is S s i setting reached) in
+    waits-then s t (after_all S t instrs) waits.later waits.since (all-wait S t instrs setting (table-reached S s i setting reached))
+
+pub activates_in_order : InEveryState ActivatesInOrder
+unfolding ActivatesInOrder
+activates_in_order S valid instrs pool v w born later more of_queue act inactive =
+    let s = run S instrs in
+    let reached : IsReached S s = run-reached S instrs valid in
+    let active : HasActiveAt pool (pending_at s v) (running_at s v) born = active-in s v pool born act in
+    let waits : HasInactiveAt pool (pending_at (after_all S s more) w) later = subst (λ (o : Option Pending). HasInactiveAt pool o later) (sym inactive.1) (inactive.2, inactive.3) in
+    elim (all-wait S s more (IsSetting-valid S valid) reached w pool later waits) [
+      | inl before ↦ reached.in_order v w pool born later (sym of_queue) active before
+      | inr above ↦ (let below : born < s.next = active-below S s.next v pool born (pending_at s v) (running_at s v) (reached.sound.works v) active in omega arith)
+    ]
+
+pub lists_in_order : InEveryState ListsInOrder
+unfolding ListsInOrder
+lists_in_order S valid instrs pool v w p q of_queue is_p is_q here there less =
+    (run-reached S instrs valid).listed.rises v w pool p.born p.stamp q.born q.stamp (sym of_queue)
+    (subst (λ (o : Option Pending). ListedAs pool o p.born p.stamp) (sym is_p) (here, refl, refl))
+    (subst (λ (o : Option Pending). ListedAs pool o q.born q.stamp) (sym is_q) (there, refl, refl)) less
 
 -- No idle room.
 

@@ -1,5 +1,5 @@
 -- What holds of every state that a run comes to.
-use Rattle.std.proofs.Common.{◌≡◌, ℕ, zero, suc, Bool, true, false, ◌&&◌, List, [], ◌∷◌, ◌++◌, length, replicate, Option, Some, None, arith, refl, sym, ap, ◌∙◌, subst, inl, inr}
+use Rattle.std.proofs.Common.{◌≡◌, ℕ, zero, suc, Bool, true, false, ◌&&◌, List, [], ◌∷◌, ◌++◌, length, replicate, Option, Some, None, arith, refl, sym, ap, ◌∙◌, subst}
 use Rattle.std.proofs.lemmas.List.{length-replicate}
 use Rattle.std.specs.Prelude.{slice_index_or, ◌==◌}
 use Rattle.cmwq_types.specs.Contents.{ScenarioContents}
@@ -19,18 +19,21 @@ use Rattle.cmwq_table.specs.Counts.{active, is_active, is_inactive, limit, pends
 use Rattle.cmwq_table.specs.Counts as counts
 use Rattle.cmwq_table.specs.Laws.{tells_wake}
 use Rattle.cmwq_table.specs.Table.{after_all, answer, effect, operands, run, situation, spent_all, table}
-use Rattle.cmwq_table.proofs.LawLemmas.Alike.{alike-active, alike-order, alike-sound}
+use Rattle.cmwq_table.proofs.LawLemmas.Alike.{alike-active, alike-listed, alike-order, alike-sound}
 use Rattle.cmwq_table.proofs.LawLemmas.Counting.{count_below-all_fail}
 use Rattle.cmwq_table.proofs.LawLemmas.Effects.{Effect, GivenFits, effect-is, with_given}
-use Rattle.cmwq_table.proofs.LawLemmas.Order.{Follows-one_by_one, Follows-order, HasActive, IsInOrder, IsOneByOne}
+use Rattle.cmwq_table.proofs.LawLemmas.Order.{Follows-one_by_one, IsOneByOne}
+use Rattle.cmwq_table.proofs.LawLemmas.PoolOrder.{Follows-pool_order, HasInactiveAt, IsInPoolOrder}
 use Rattle.cmwq_table.proofs.LawLemmas.Room.{AreFull}
 use Rattle.cmwq_table.proofs.LawLemmas.Setting.{IsSetting, IsSetting-valid, max-declared}
 use Rattle.cmwq_table.proofs.LawLemmas.Sound.{Fits, FitsTarget, Follows-sound, IsSound}
+use Rattle.cmwq_table.proofs.LawLemmas.Worklist.{Follows-list_order, IsInListOrder, ListedAs}
 
 pub record IsReached (S : ScenarioContents) (s : State) : Type 0 where
   pub sound : IsSound S s
   pub are_full : AreFull S s
-  pub in_order : IsInOrder S s
+  pub in_order : IsInPoolOrder S s
+  pub listed : IsInListOrder S s
   pub one_by_one : IsOneByOne S s
 
 -- neither flushes nor what was spent matter to the works
@@ -47,6 +50,7 @@ counted-on S s flushes spent reached fits = record {
   };
   are_full = reached.are_full;
   in_order = reached.in_order;
+  listed = record { below = reached.listed.below; rises = reached.listed.rises };
   one_by_one = reached.one_by_one;
 }
 
@@ -65,10 +69,12 @@ given-reached S s None spent reached fits = counted-on S s s.flushes spent reach
 pub effect-reached : (S : ScenarioContents) (wakes : Bool) (s t : State) (spent : ℕ) → IsReached S s → Effect S wakes s t → IsReached S (record t { spent = spent })
 effect-reached S wakes s t spent reached effect =
     let begun_sound : IsSound S effect.begun = alike-sound S s effect.begun effect.alike reached.sound effect.ordered in
+    let begun_order : IsInPoolOrder S effect.begun = alike-order S s effect.begun effect.alike reached.in_order in
     let ended : IsReached S effect.ended = record {
       sound = Follows-sound S effect.places wakes effect.begun effect.ended effect.follows begun_sound;
       are_full = effect.ended_full;
-      in_order = Follows-order S effect.places wakes effect.begun effect.ended effect.follows begun_sound effect.begun_full (alike-order S s effect.begun effect.alike reached.in_order);
+      in_order = Follows-pool_order S effect.places wakes effect.begun effect.ended effect.follows begun_sound effect.begun_full begun_order;
+      listed = Follows-list_order S effect.places wakes effect.begun effect.ended effect.follows begun_sound effect.begun_full begun_order (alike-listed S s effect.begun effect.alike reached.listed);
       one_by_one = Follows-one_by_one S effect.places wakes effect.begun effect.ended effect.follows begun_sound
           (λ queue pool ordered. rw (alike-active S s effect.begun queue pool effect.alike) (reached.one_by_one queue pool ordered));
     } in
@@ -121,11 +127,13 @@ fits-none S next w (Some p) r is_p is_r = cc
 fits-none S next w None (Some r) is_p is_r = cc
 fits-none S next w None None is_p is_r = record { pending = tt; running = tt }
 
-none-active : (p : Option Pending) (r : Option Running) (born : ℕ) → p ≡ None → r ≡ None → HasActive p r born → ⊥
-none-active (Some p) r born is_p is_r act = cc
-none-active None (Some r) born is_p is_r act = cc
-none-active None None born is_p is_r (inl pending) = pending
-none-active None None born is_p is_r (inr running) = running
+none-inactive : (pool later : ℕ) (o : Option Pending) → o ≡ None → HasInactiveAt pool o later → ⊥
+none-inactive pool later (Some p) e inactive = cc
+none-inactive pool later None e inactive = inactive
+
+none-listed : (pool born stamp : ℕ) (o : Option Pending) → o ≡ None → ListedAs pool o born stamp → ⊥
+none-listed pool born stamp (Some p) e listed = cc
+none-listed pool born stamp None e listed = listed
 
 start-sound : (S : ScenarioContents) → IsSetting S → IsSound S (start S)
 start-sound S setting = record {
@@ -155,7 +163,11 @@ pub start-reached : (S : ScenarioContents) → IsSetting S → IsReached S (star
 start-reached S setting = record {
   sound = start-sound S setting;
   are_full = λ queue pool w of_queue is_waiting. absurd (cc (ap (pends (λ place. is_inactive place pool)) (start-pending S w), is_waiting));
-  in_order = λ v w born later ordered of_queue act inactive. absurd (none-active (pending_at (start S) v) (running_at (start S) v) born (start-pending S v) (start-running S v) act);
+  in_order = λ v w pool born later of_queue act inactive. absurd (none-inactive pool later (pending_at (start S) w) (start-pending S w) inactive);
+  listed = record {
+    below = λ w pool born stamp h. absurd (none-listed pool born stamp (pending_at (start S) w) (start-pending S w) h);
+    rises = λ v w pool born stamp later last of_queue one other less. absurd (none-listed pool born stamp (pending_at (start S) v) (start-pending S v) one);
+  };
   one_by_one = λ queue pool ordered. let none : active S (start S) queue pool ≡ 0 = start-idle S queue pool in omega arith;
 }
 

@@ -1,40 +1,29 @@
 -- A pool's worklist has the works of one queue in the order in which they were queued.
-use Rattle.std.proofs.Common.{◌≡◌, ℕ, zero, suc, ◌+◌, ◌<◌, ◌≤◌, Bool, true, false, List, [], ◌∷◌, length, replicate, Option, Some, None, arith, refl, sym, ap, ◌∙◌, subst, inl, inr, ◌⊎◌}
+use Rattle.std.proofs.Common.{◌≡◌, ℕ, ◌<◌, ◌≤◌, Bool, true, false, Option, Some, None, arith, refl, sym, ap, ◌∙◌, subst, inl, inr}
 use Rattle.std.proofs.lemmas.Bool.{cases_eq}
-use Rattle.std.specs.Prelude.{slice_index_or}
 use Rattle.cmwq_types.specs.Contents.{ScenarioContents}
-use Rattle.cmwq_types.specs.Faults.{IsValid}
 use Rattle.cmwq_types.specs.Scenario.{queue_of}
-use Rattle.cmwq_types.specs.declared.instr.Instr.{Instr}
 use Rattle.cmwq_types.specs.declared.reply.Place.{Place}
 use Rattle.cmwq_types.specs.declared.reply.Place.TheVariants.{Timer, Inactive, Listed, Deferred}
-use Rattle.cmwq_types.specs.declared.reply.Reply.{Reply}
-use Rattle.cmwq_table.specs.declared.state.FlushTarget.{FlushTarget}
 use Rattle.cmwq_table.specs.declared.state.Pending.{Pending}
 use Rattle.cmwq_table.specs.declared.state.Running.{Running}
-use Rattle.cmwq_table.specs.State.{State, pending_at, running_at, start}
+use Rattle.cmwq_table.specs.State.{State, pending_at, running_at}
 use Rattle.cmwq_table.specs.Counts.{is_active, is_listed}
-use Rattle.cmwq_table.specs.Laws.{ActivatesInOrder, ActiveInSince, InEveryState, InactiveInSince, ListsInOrder, tells_wake}
 use Rattle.cmwq_table.specs.Moves.{fill}
-use Rattle.cmwq_table.specs.Table.{after_all, run, table}
-use Rattle.cmwq_table.proofs.LawLemmas.Alike.{IsAlike, RunsAlike, alike-sound}
 use Rattle.cmwq_table.proofs.LawLemmas.Changes.{Kind, Change, Follows}
-use Rattle.cmwq_table.proofs.LawLemmas.Effects.{Effect, with_given}
-use Rattle.cmwq_table.proofs.LawLemmas.PoolOrder.{Change-pool_order, Follows-pool_order, HasActiveIn, HasInactiveIn, IsInPoolOrder, PendsActiveIn, RanIn}
+use Rattle.cmwq_table.proofs.LawLemmas.PoolOrder.{Change-pool_order, Follows-pool_order, HasActiveAt, HasInactiveAt, IsInPoolOrder}
 use Rattle.cmwq_table.proofs.LawLemmas.Room.{AreFull, Change-full, Follows-full}
-use Rattle.cmwq_table.proofs.LawLemmas.Runs.{IsReached, Outcome, outcome-is, start-reached, table-reached}
-use Rattle.cmwq_table.proofs.LawLemmas.Setting.{IsSetting, IsSetting-valid}
 use Rattle.cmwq_table.proofs.LawLemmas.Sound.{IsSound, FitsIfPending, Change-sound, Follows-sound, Kind-next}
 
 -- what a work pends as is listed in the pool, with this birth and this stamp
-abbrev ListedAs : ℕ → Option Pending → ℕ → ℕ → Type 0
+abbrev pub ListedAs : ℕ → Option Pending → ℕ → ℕ → Type 0
 ListedAs pool (Some p) born stamp = (is_listed p.place pool ≡ true) × (p.born ≡ born) × (p.stamp ≡ stamp)
 ListedAs pool None born stamp = ⊥
 
 -- stamps lie below the next one, and rise with the births of one queue's works in one pool
-record IsInListOrder (S : ScenarioContents) (s : State) : Type 0 where
-  below : (w pool born stamp : ℕ) → ListedAs pool (pending_at s w) born stamp → stamp < s.next
-  rises : (v w pool born stamp later last : ℕ) → queue_of S w ≡ queue_of S v → ListedAs pool (pending_at s v) born stamp
+pub record IsInListOrder (S : ScenarioContents) (s : State) : Type 0 where
+  pub below : (w pool born stamp : ℕ) → ListedAs pool (pending_at s w) born stamp → stamp < s.next
+  pub rises : (v w pool born stamp later last : ℕ) → queue_of S w ≡ queue_of S v → ListedAs pool (pending_at s v) born stamp
       → ListedAs pool (pending_at s w) later last → born < later → stamp < last
 
 -- A change lists its work anew with the next stamp, behind all others of its queue; or it doesn't.
@@ -55,7 +44,7 @@ place-active (Timer due cpu) pool e = cc
 place-active (Inactive at) pool e = cc
 place-active (Deferred at) pool e = cc
 
-listed-active : (pool born stamp : ℕ) (r : Option Running) (o : Option Pending) → ListedAs pool o born stamp → HasActiveIn pool o r born
+listed-active : (pool born stamp : ℕ) (r : Option Running) (o : Option Pending) → ListedAs pool o born stamp → HasActiveAt pool o r born
 listed-active pool born stamp r (Some p) listed = inl (place-active p.place pool listed.0, listed.1)
 listed-active pool born stamp r None listed = absurd listed
 
@@ -78,7 +67,7 @@ Kind-lists S places wakes s w left a b c d n pool sound in_order is (Kind.activa
     Lists.lists (omega arith) (λ birth last h. (
       sym h.2,
       λ x early before ne of_queue listed.
-          let waits : HasInactiveIn pool (pending_at s w) birth = subst (λ (o : Option Pending). HasInactiveIn pool o birth) (sym is) (h.0, h.1) in
+          let waits : HasInactiveAt pool (pending_at s w) birth = subst (λ (o : Option Pending). HasInactiveAt pool o birth) (sym is) (h.0, h.1) in
           in_order x w pool early birth (sym of_queue) (listed-active pool early before (running_at s x) (pending_at s x) listed) waits,
     ))
 Kind-lists S places wakes s w left a b c d n pool sound in_order is (Kind.started born stamp at worker may) = Lists.keeps (λ birth last h. absurd h)
@@ -143,7 +132,7 @@ module _ (S : ScenarioContents) (places wakes : Bool) (left : Option ℕ) (s t :
     ];
   }
 
-Follows-list_order : (S : ScenarioContents) (places wakes : Bool) (s t : State) → Follows S places wakes s t → IsSound S s
+pub Follows-list_order : (S : ScenarioContents) (places wakes : Bool) (s t : State) → Follows S places wakes s t → IsSound S s
     → (places ≡ true → AreFull S s) → IsInPoolOrder S s → IsInListOrder S s → IsInListOrder S t
 Follows-list_order S places wakes s t (Follows.stays pl wk a) sound are_full in_order listed = listed
 Follows-list_order S places wakes s t (Follows.changes pl wk a b c w change rest) sound are_full in_order listed =
@@ -160,106 +149,3 @@ Follows-list_order S places wakes s t (Follows.leaves pl wk a b c w at change fi
     (λ e queue pool. Follows-full S places wakes s after queue pool (Follows.leaves places wakes s b after w at change filled (Follows.stays places wakes after)) sound (are_full e queue pool))
     (Follows-pool_order S false wakes b after filled sound_then (λ e. cc) order_then)
     (Follows-list_order S false wakes b after filled sound_then (λ e. cc) order_then listed_then)
-
--- Runs.
-
-record IsQueued (S : ScenarioContents) (s : State) : Type 0 where
-  in_order : IsInPoolOrder S s
-  listed : IsInListOrder S s
-
-ran-alike : (pool born : ℕ) (a b : Option Running) → RunsAlike a b → RanIn pool b born → RanIn pool a born
-ran-alike pool born (Some r) (Some q) alike ran = (sym alike.1 ∙ ran.0, sym alike.0 ∙ ran.1)
-ran-alike pool born (Some r) None alike ran = absurd ran
-ran-alike pool born None (Some q) alike ran = absurd alike
-ran-alike pool born None None alike ran = ran
-
-alike-queued : (S : ScenarioContents) (s t : State) → IsAlike S s t → IsQueued S s → IsQueued S t
-alike-queued S s t alike queued = record {
-  in_order = λ v w pool born later of_queue act inactive.
-      let before : HasActiveIn pool (pending_at s v) (running_at s v) born = elim act [
-        | inl pending ↦ inl (rw (alike.pending v) at pending)
-        | inr ran ↦ inr (ran-alike pool born (running_at s v) (running_at t v) (alike.running v) ran)
-      ] in
-      queued.in_order v w pool born later of_queue before (rw (alike.pending w) at inactive);
-  listed = record {
-    below = λ w pool born stamp h. let below : stamp < s.next = queued.listed.below w pool born stamp (rw (alike.pending w) at h) in omega (arith, alike.next);
-    rises = λ v w pool born stamp later last of_queue one other less.
-        queued.listed.rises v w pool born stamp later last of_queue (rw (alike.pending v) at one) (rw (alike.pending w) at other) less;
-  };
-}
-
--- neither flushes nor what was spent matter
-given-queued : (S : ScenarioContents) (s : State) (given : Option FlushTarget) (spent : ℕ) → IsQueued S s → IsQueued S (record (with_given s given) { spent = spent })
-given-queued S s (Some target) spent queued = record { in_order = queued.in_order; listed = record { below = queued.listed.below; rises = queued.listed.rises } }
-given-queued S s None spent queued = record { in_order = queued.in_order; listed = record { below = queued.listed.below; rises = queued.listed.rises } }
-
-effect-queued : (S : ScenarioContents) (wakes : Bool) (s t : State) (spent : ℕ) → IsReached S s → IsQueued S s → Effect S wakes s t → IsQueued S (record t { spent = spent })
-effect-queued S wakes s t spent reached queued effect =
-    let sound : IsSound S effect.begun = alike-sound S s effect.begun effect.alike reached.sound effect.ordered in
-    let begun : IsQueued S effect.begun = alike-queued S s effect.begun effect.alike queued in
-    let ended : IsQueued S effect.ended = record {
-      in_order = Follows-pool_order S effect.places wakes effect.begun effect.ended effect.follows sound effect.begun_full begun.in_order;
-      listed = Follows-list_order S effect.places wakes effect.begun effect.ended effect.follows sound effect.begun_full begun.in_order begun.listed;
-    } in
-    subst (λ (u : State). IsQueued S (record u { spent = spent })) (sym effect.after) (given-queued S effect.ended effect.given spent ended)
-
-outcome-queued : (S : ScenarioContents) (s t : State) (r : Reply) → IsReached S s → IsQueued S s → Outcome S s t r → IsQueued S t
-outcome-queued S s t r reached queued (Outcome.refused why) = queued
-outcome-queued S s t r reached queued (Outcome.done u q spent effect) = effect-queued S (tells_wake r) s u spent reached queued effect
-
-all-queued : (S : ScenarioContents) (s : State) (instrs : List Instr) → IsSetting S → IsReached S s → IsQueued S s → IsQueued S (after_all S s instrs)
-all-queued S s [] setting reached queued = queued
-all-queued S s (i ∷ instrs) setting reached queued =
-    all-queued S (table S s i).0 instrs setting (table-reached S s i setting reached)
-    (outcome-queued S s (table S s i).0 (table S s i).1 reached queued (outcome-is S s i setting reached))
-
--- Nothing is pending at the start.
-
-same-there : {A : Type 0} (d : A) (n i : ℕ) → slice_index_or (replicate n d) i d ≡ d
-same-there d zero i = refl
-same-there d (suc n) zero = refl
-same-there d (suc n) (suc i) = same-there d n i
-
-none-listed : (pool born stamp : ℕ) (o : Option Pending) → o ≡ None → ListedAs pool o born stamp → ⊥
-none-listed pool born stamp (Some p) e listed = cc
-none-listed pool born stamp None e listed = listed
-
-none-inactive : (pool later : ℕ) (o : Option Pending) → o ≡ None → HasInactiveIn pool o later → ⊥
-none-inactive pool later (Some p) e inactive = cc
-none-inactive pool later None e inactive = inactive
-
-start-queued : (S : ScenarioContents) → IsQueued S (start S)
-start-queued S = record {
-  in_order = λ v w pool born later of_queue act inactive. absurd (none-inactive pool later (pending_at (start S) w) (same-there None (length S.works) w) inactive);
-  listed = record {
-    below = λ w pool born stamp h. absurd (none-listed pool born stamp (pending_at (start S) w) (same-there None (length S.works) w) h);
-    rises = λ v w pool born stamp later last of_queue one other less. absurd (none-listed pool born stamp (pending_at (start S) v) (same-there None (length S.works) v) one);
-  };
-}
-
-run-queued : (S : ScenarioContents) (instrs : List Instr) → IsValid S → IsQueued S (run S instrs)
-run-queued S instrs valid =
-    let setting : IsSetting S = IsSetting-valid S valid in
-    all-queued S (start S) instrs setting (start-reached S setting) (start-queued S)
-
--- The laws.
-
-active-in : (s : State) (w pool born : ℕ) → ActiveInSince s w pool born → HasActiveIn pool (pending_at s w) (running_at s w) born
-active-in s w pool born (inl pending) = inl (subst (λ (o : Option Pending). PendsActiveIn pool o born) (sym pending.1) (pending.2, pending.3))
-active-in s w pool born (inr running) = inr (subst (λ (o : Option Running). RanIn pool o born) (sym running.1) (running.2, running.3))
-
-inactive-in : (s : State) (w pool born : ℕ) → InactiveInSince s w pool born → HasInactiveIn pool (pending_at s w) born
-inactive-in s w pool born pending = subst (λ (o : Option Pending). HasInactiveIn pool o born) (sym pending.1) (pending.2, pending.3)
-
-pub activates_in_order : InEveryState ActivatesInOrder
-unfolding ActivatesInOrder
-activates_in_order S valid instrs pool v w born later of_queue act inactive =
-    let s = run S instrs in
-    (run-queued S instrs valid).in_order v w pool born later (sym of_queue) (active-in s v pool born act) (inactive-in s w pool later inactive)
-
-pub lists_in_order : InEveryState ListsInOrder
-unfolding ListsInOrder
-lists_in_order S valid instrs pool v w p q of_queue is_p is_q here there less =
-    (run-queued S instrs valid).listed.rises v w pool p.born p.stamp q.born q.stamp (sym of_queue)
-    (subst (λ (o : Option Pending). ListedAs pool o p.born p.stamp) (sym is_p) (here, refl, refl))
-    (subst (λ (o : Option Pending). ListedAs pool o q.born q.stamp) (sym is_q) (there, refl, refl)) less

@@ -1,6 +1,5 @@
 use Rattle.std.proofs.Common.{◌≡◌, ◌-◌, ◌<◌, ◌≤◌, length, sym, ◌∙◌, ap, arith, subst}
 use Rattle.cmwq_table.specs.Ready.{Loaded}
-use Rattle.cmwq_table.specs.State.{State}
 use Rattle.cmwq_types.specs.Setting.{IsSetting}
 use Rattle.cmwq_table.specs.Moves.{fill, fill_one}
 use Rattle.cmwq_table.proofs.CounterLemmas.{fill-takes}

@@ -1,0 +1,6 @@
+pub mod LinkLemmas
+pub mod LinkingLemmas
+pub mod KeptLemmas
+pub mod FindingLemmas
+pub mod RankLemmas
+pub mod CallerLemmas

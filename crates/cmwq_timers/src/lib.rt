@@ -1,0 +1,8 @@
+//! The timers of delayed works, in the order in which they fire.
+#![tactic(auto)]
+
+mod timer;
+mod timers;
+
+pub use timer::Timer;
+pub use timers::Timers;

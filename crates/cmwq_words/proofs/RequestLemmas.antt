@@ -1,0 +1,61 @@
+-- What clap makes of the words of each command.
+use Rattle.std.proofs.Common.{rules, ap, ℕ, ◌≡◌, ◌∙◌, ◌≢◌, ◌==◌, List, [], ◌∷◌, true, false, Some, codes, refl}
+use Rattle.clap.specs.Words.{App, HasMatchesOf, Text, is_simple, subcommand_of, subcommand_rows_of, takes}
+use Rattle.clap.specs.declared.parser.matches.ArgMatches.{ArgMatches}
+use Rattle.clap.proofs.OnLiterals.{clap_on_literals}
+use Rattle.cmwq_words.specs.Request.{IsPlainWord, asked_of, command_line}
+
+-- clap takes the words, and the request read of them has these words
+abbrev pub IsRead : List Text → List Text → Type 0
+IsRead words asked = (takes command_line words ≡ true) × (asked_of (subcommand_of command_line words) ≡ Some asked)
+
+simple_line : is_simple command_line ≡ true
+unfolding clap_on_literals
+simple_line = refl
+
+plain_run : (name : Text) (first : ℕ) (rest : Text) → (first == 45) ≡ false
+    → IsRead (name ∷ codes "run" ∷ (first ∷ rest) ∷ []) (codes "run" ∷ (first ∷ rest) ∷ [])
+unfolding clap_on_literals
+plain_run name first rest e = (rw e (rw e refl), rw e (rw e refl))
+
+plain_list : (name : Text) (first : ℕ) (rest : Text) → (first == 45) ≡ false
+    → IsRead (name ∷ codes "list" ∷ (first ∷ rest) ∷ []) (codes "list" ∷ (first ∷ rest) ∷ [])
+unfolding clap_on_literals
+plain_list name first rest e = (rw e (rw e refl), rw e (rw e refl))
+
+plain_show : (name : Text) (first : ℕ) (rest : Text) → (first == 45) ≡ false
+    → IsRead (name ∷ codes "show" ∷ (first ∷ rest) ∷ []) (codes "show" ∷ (first ∷ rest) ∷ [])
+unfolding clap_on_literals
+plain_show name first rest e = (rw e (rw e refl), rw e (rw e refl))
+
+plain_asm : (name : Text) (first : ℕ) (rest : Text) (head : ℕ) (tail : Text) → (first == 45) ≡ false → (head == 45) ≡ false
+    → IsRead (name ∷ codes "asm" ∷ (first ∷ rest) ∷ (head ∷ tail) ∷ []) (codes "asm" ∷ (first ∷ rest) ∷ (head ∷ tail) ∷ [])
+unfolding clap_on_literals
+plain_asm name first rest head tail e f = (rw e (rw e (rw f (rw f refl))), rw e (rw e (rw f (rw f refl))))
+
+no_hyphen : (first : ℕ) → first ≢ 45 → (first == 45) ≡ false
+no_hyphen first plain = search rules
+
+pub run_read : (words : List Text) (name file : Text) → words ≡ name ∷ codes "run" ∷ file ∷ [] → IsPlainWord file
+    → IsRead words (codes "run" ∷ file ∷ [])
+run_read words name file are (first, rest, is, plain) = rw (are, is) (plain_run name first rest (no_hyphen first plain))
+
+pub list_read : (words : List Text) (name file : Text) → words ≡ name ∷ codes "list" ∷ file ∷ [] → IsPlainWord file
+    → IsRead words (codes "list" ∷ file ∷ [])
+list_read words name file are (first, rest, is, plain) = rw (are, is) (plain_list name first rest (no_hyphen first plain))
+
+pub show_read : (words : List Text) (name image : Text) → words ≡ name ∷ codes "show" ∷ image ∷ [] → IsPlainWord image
+    → IsRead words (codes "show" ∷ image ∷ [])
+show_read words name image are (first, rest, is, plain) = rw (are, is) (plain_show name first rest (no_hyphen first plain))
+
+pub asm_read : (words : List Text) (name file out : Text) → words ≡ name ∷ codes "asm" ∷ file ∷ out ∷ [] → IsPlainWord file
+    → IsPlainWord out → IsRead words (codes "asm" ∷ file ∷ out ∷ [])
+asm_read words name file out are (first, rest, is, plain) (head, tail, is_out, plain_out) =
+    rw (are, is, is_out) (plain_asm name first rest head tail (no_hyphen first plain) (no_hyphen head plain_out))
+
+-- the matches have what was read
+pub read_met : (line : App) (words asked : List Text) (m : ArgMatches) → line ≡ command_line → HasMatchesOf line words m
+    → IsRead words asked → asked_of (subcommand_rows_of m) ≡ Some asked
+read_met line words asked m line_is matches read =
+    let same = (matches (ap is_simple line_is ∙ simple_line)).1 ∙ ap (λ a. subcommand_of a words) line_is in
+    ap asked_of same ∙ read.1

@@ -1,0 +1,76 @@
+-- The command line.
+use Rattle.std.specs.Prelude.{◌≡◌, ◌≢◌, ℕ, List, [], ◌∷◌, true, codes, if◌then◌else◌, Option, None, option_and_then, option_map, Result, MatchResult}
+use Rattle.std.specs.Str.{bytes_eq}
+use Rattle.clap.specs.Words.{App, Row, Rule, Text, first_of, kind_of, new_app, new_rule, with_rule, with_subcommand}
+use Rattle.clap.specs.declared.error.Error.{Error}
+use Rattle.clap.specs.declared.error.kind.ErrorKind.TheVariants.{OutOfMemory}
+use Rattle.cmwq_words.specs.declared.request.Request.{Request}
+use Rattle.cmwq_words.specs.declared.request.Request.TheVariants.{Run, List as list, Asm, Show}
+
+-- an argument that has to be given
+abbrev pub required_rule : Text → Rule
+required_rule id = record (new_rule id) { required = true }
+
+-- a command that takes one argument
+abbrev pub command_on : Text → Text → App
+command_on name id = with_rule (new_app name) (required_rule id)
+
+-- the program, before its commands
+abbrev pub program : App
+program =
+    record (new_app (codes "cmwq")) {
+      top = record (new_app (codes "cmwq")).top { arg_required_else_help = true; subcommand_required = true };
+    }
+
+-- `run FILE`, `list FILE`, `asm FILE OUT` and `show IMAGE`
+abbrev pub run_command : App
+run_command = command_on (codes "run") (codes "FILE")
+
+abbrev pub list_command : App
+list_command = command_on (codes "list") (codes "FILE")
+
+abbrev pub asm_command : App
+asm_command = with_rule (command_on (codes "asm") (codes "FILE")) (required_rule (codes "OUT"))
+
+abbrev pub show_command : App
+show_command = command_on (codes "show") (codes "IMAGE")
+
+-- the program with its commands
+abbrev pub command_line : App
+command_line =
+    with_subcommand (with_subcommand (with_subcommand (with_subcommand program run_command.top) list_command.top) asm_command.top)
+    show_command.top
+
+-- the words that ask for it
+abbrev pub words_of : Request → List Text
+words_of (Run file) = codes "run" ∷ file.now ∷ []
+words_of (list file) = codes "list" ∷ file.now ∷ []
+words_of (Asm file out) = codes "asm" ∷ file.now ∷ out.now ∷ []
+words_of (Show image) = codes "show" ∷ image.now ∷ []
+
+-- the words of the request, where clap met this command with these values
+abbrev pub one_value : Text → Text → List Row → Option (List Text)
+one_value command id rows = option_map (λ value. command ∷ value ∷ []) (first_of id rows)
+
+abbrev pub two_values : Text → Text → Text → List Row → Option (List Text)
+two_values command first second rows =
+    option_and_then (λ value. option_map (λ other. command ∷ value ∷ other ∷ []) (first_of second rows)) (first_of first rows)
+
+abbrev pub asked_in : Text × List Row → Option (List Text)
+asked_in met =
+    if bytes_eq met.0 (codes "run") then one_value (codes "run") (codes "FILE") met.1
+    else if bytes_eq met.0 (codes "list") then one_value (codes "list") (codes "FILE") met.1
+    else if bytes_eq met.0 (codes "asm") then two_values (codes "asm") (codes "FILE") (codes "OUT") met.1
+    else if bytes_eq met.0 (codes "show") then one_value (codes "show") (codes "IMAGE") met.1
+    else None
+
+abbrev pub asked_of : Option (Text × List Row) → Option (List Text)
+asked_of met = option_and_then asked_in met
+
+-- the word is no option: it isn't empty and doesn't begin with a hyphen (45)
+abbrev pub IsPlainWord : Text → Type 0
+IsPlainWord word = (first : ℕ) × (rest : Text) × (word ≡ first ∷ rest) × (first ≢ 45)
+
+-- the answer is the request of these words, unless memory ran out
+abbrev pub Asks : List Text → Result Request Error → Type 0
+Asks words r = MatchResult r (λ request. words_of request ≡ words) (λ e. kind_of e ≡ OutOfMemory)

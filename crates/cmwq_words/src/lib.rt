@@ -1,0 +1,4 @@
+//! The command line: which words ask for what.
+#![tactic(auto)]
+
+pub mod request;

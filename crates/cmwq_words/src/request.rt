@@ -1,0 +1,213 @@
+//! The command line: which words ask for what.
+
+ghost use Rattle.clap.specs.Words.{Text, app_of, first_of, found_of, kind_of, rows_of, rule_of, subcommand_rows_of, with_subcommand};
+ghost use Rattle.clap.specs.declared.builder.command.Command.TheViews.{out-Command as fields_of};
+ghost use Rattle.cmwq_words.specs.Request.{Asks, IsPlainWord, asked_in, asked_of, asm_command, command_line, command_on, list_command, program, required_rule, run_command, show_command, words_of};
+ghost use Rattle.std.specs.Prelude.{◌≡◌, [], ◌∷◌, IfOk, codes, false, map, option_map, string_bytes};
+
+use clap::error::ErrorKind;
+use clap::{Arg, ArgMatches, Command, Error};
+use std::alloc::{AllocError, Global};
+
+/// What the words ask for. The paths are as they were given.
+#[derive(Clone, Copy, Debug, PartialEq, Eq)]
+pub enum Request<'a> {
+    /// Run the scenario whose text is in this file.
+    Run {
+        /// The text's path.
+        file: &'a str,
+    },
+    /// List the scenario whose text is in this file.
+    List {
+        /// The text's path.
+        file: &'a str,
+    },
+    /// Make an image of the scenario whose text is in a file.
+    Asm {
+        /// The text's path.
+        file: &'a str,
+        /// The image's path.
+        out: &'a str,
+    },
+    /// List the scenario whose image is in this file.
+    Show {
+        /// The image's path.
+        image: &'a str,
+    },
+}
+
+/// What follows the help.
+const AFTER_HELP: &str = "\
+Examples:
+  cmwq run scenarios/max_active_3.cmwq
+  cmwq list scenarios/max_active_3.cmwq
+  cmwq asm scenarios/max_active_3.cmwq max_active_3.image
+  cmwq show max_active_3.image
+
+The formats of scenarios and images, and what each fault means, are in docs/FORMATS.md.
+
+Exit status:
+  0  the command did what it was asked
+  1  the file isn't a scenario's text or image, or the scenario hasn't one actor
+  2  the command line is wrong
+  3  a file can't be opened, made, read or written
+  4  memory ran out";
+
+/// Reads the words, of which the first is the program's name. The error is a usage fault, help that
+/// was asked for, or want of memory; it holds the text for the user.
+///
+/// Each command's words ask for it, where no FILE, OUT or IMAGE is empty or begins with a hyphen;
+/// the call then fails only for want of memory.
+pub fn parse<'a>(alloc: Global, words: &'a [String]) -> Result<Request<'a>, Error>
+    ensures run { (name file : Text) → map string_bytes words.entry.now ≡ name ∷ codes "run" ∷ file ∷ []
+        → IsPlainWord file → Asks (codes "run" ∷ file ∷ []) result }
+    ensures list { (name file : Text) → map string_bytes words.entry.now ≡ name ∷ codes "list" ∷ file ∷ []
+        → IsPlainWord file → Asks (codes "list" ∷ file ∷ []) result }
+    ensures asm { (name file out : Text) → map string_bytes words.entry.now ≡ name ∷ codes "asm" ∷ file ∷ out ∷ []
+        → IsPlainWord file → IsPlainWord out → Asks (codes "asm" ∷ file ∷ out ∷ []) result }
+    ensures show { (name image : Text) → map string_bytes words.entry.now ≡ name ∷ codes "show" ∷ image ∷ []
+        → IsPlainWord image → Asks (codes "show" ∷ image ∷ []) result }
+{
+    let mut command = command(alloc)?;
+    let matches = command.try_get_matches_from_mut(words)?;
+    match request_of(&matches) {
+        Some(request) => Ok(request),
+        None => Err(command.error(
+            ErrorKind::MissingSubcommand,
+            "a command and its files are required",
+        )?),
+    }
+}
+
+/// The usage fault of words that aren't all text.
+pub fn not_text(alloc: Global) -> Result<Error, AllocError>
+    ensures { IfOk result (λ error. kind_of error ≡ ErrorKind.ValueValidation) }
+{
+    let mut command = command(alloc)?;
+    command.error(
+        ErrorKind::ValueValidation,
+        "a word of the command line isn't UTF-8",
+    )
+}
+
+/// What the command that was met asks for.
+fn request_of<'a>(matches: &ArgMatches<'a>) -> Option<Request<'a>>
+    ensures { option_map (λ request. words_of request) result ≡ asked_of (subcommand_rows_of matches.now) }
+{
+    let (name, given) = matches.subcommand()?;
+    request_by(name, given)
+}
+
+/// What the command of this name asks for, given these values.
+fn request_by<'a>(name: &str, given: &ArgMatches<'a>) -> Option<Request<'a>>
+    ensures { option_map (λ request. words_of request) result ≡ asked_in (name.now, rows_of (found_of given.now)) }
+{
+    match name {
+        "run" => {
+            let file = value_of(given, "FILE")?;
+            Some(Request::Run { file })
+        }
+        "list" => {
+            let file = value_of(given, "FILE")?;
+            Some(Request::List { file })
+        }
+        "asm" => {
+            let file = value_of(given, "FILE")?;
+            let out = value_of(given, "OUT")?;
+            Some(Request::Asm { file, out })
+        }
+        "show" => {
+            let image = value_of(given, "IMAGE")?;
+            Some(Request::Show { image })
+        }
+        _ => None,
+    }
+}
+
+/// The value of the argument.
+fn value_of<'a>(given: &ArgMatches<'a>, id: &str) -> Option<&'a str>
+    ensures { option_map (λ value. value.now) result ≡ first_of id.now (rows_of (found_of given.now)) }
+{
+    given.get_str(id)
+}
+
+/// The command line of the program.
+fn command<'a>(alloc: Global) -> Result<Command<'a>, AllocError>
+    ensures { IfOk result (λ r. app_of r ≡ command_line) }
+{
+    let commands = text_commands(alloc)?;
+    let asm = asm_command(alloc)?;
+    let commands = commands.subcommand(asm)?;
+    let show = show_command(alloc)?;
+    commands.subcommand(show)
+}
+
+/// The program with the commands that print something of a text.
+fn text_commands<'a>(alloc: Global) -> Result<Command<'a>, AllocError>
+    ensures { IfOk result (λ r. app_of r ≡ with_subcommand (with_subcommand program run_command.top) list_command.top) }
+{
+    let run = on_text(
+        alloc,
+        "run",
+        "Runs a scenario and writes its events to standard output",
+    )?;
+    let commands = bare_program(alloc).subcommand(run)?;
+    let list = on_text(
+        alloc,
+        "list",
+        "Writes a scenario's listing to standard output",
+    )?;
+    commands.subcommand(list)
+}
+
+/// The program without its commands.
+fn bare_program<'a>(alloc: Global) -> Command<'a>
+    ensures { app_of result ≡ program }
+{
+    Command::new(alloc, "cmwq")
+        .about("Emulates the concurrency-managed workqueues of the Linux kernel")
+        .after_help(AFTER_HELP)
+        .subcommand_required(true)
+        .arg_required_else_help(true)
+}
+
+/// The command that makes an image.
+fn asm_command<'a>(alloc: Global) -> Result<Command<'a>, AllocError>
+    ensures app { IfOk result (λ r. app_of r ≡ asm_command) }
+    ensures local { IfOk result (λ r. (fields_of r).has_globals ≡ false) }
+{
+    let asm = on_text(alloc, "asm", "Makes the image of a scenario")?;
+    asm.arg(argument(
+        alloc,
+        "OUT",
+        "The image file to make. What it held is lost, even where FILE has a fault: asm FILE FILE destroys its input",
+    ))
+}
+
+/// The command that lists an image.
+fn show_command<'a>(alloc: Global) -> Result<Command<'a>, AllocError>
+    ensures app { IfOk result (λ r. app_of r ≡ show_command) }
+    ensures local { IfOk result (λ r. (fields_of r).has_globals ≡ false) }
+{
+    Command::new(alloc, "show")
+        .about("Writes the listing of an image's scenario to standard output")
+        .arg(argument(alloc, "IMAGE", "The scenario's image"))
+}
+
+/// A command on the text of a scenario.
+fn on_text<'a>(alloc: Global, name: &'a str, about: &'a str) -> Result<Command<'a>, AllocError>
+    ensures app { IfOk result (λ r. app_of r ≡ command_on name.entry.now (codes "FILE")) }
+    ensures local { IfOk result (λ r. (fields_of r).has_globals ≡ false) }
+{
+    Command::new(alloc, name)
+        .about(about)
+        .arg(argument(alloc, "FILE", "The scenario's text"))
+}
+
+/// An argument that has to be given.
+fn argument<'a>(alloc: Global, id: &'a str, help: &'a str) -> Arg<'a>
+    ensures rule { rule_of result ≡ required_rule id.entry.now }
+    ensures local { result.global ≡ false }
+{
+    Arg::new(alloc, id).required(true).help(help)
+}

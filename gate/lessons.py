@@ -1,0 +1,57 @@
+"""Runs each scenario of scenarios/ through a built program: what it prints is NAME.out; its listing prints the same; its image is
+shown as the listing. The program's own stored run is one of them.
+
+    python3 gate/lessons.py PROGRAM"""
+import glob
+import os
+import subprocess
+import sys
+import tempfile
+
+TOP = os.path.dirname(os.path.dirname(os.path.realpath(__file__)))
+
+
+def said(*words):
+    """What the program prints, on standard error too; None where it doesn't end with status 0."""
+    ran = subprocess.run(words, stdout=subprocess.PIPE, stderr=subprocess.STDOUT, timeout=120)
+    return None if ran.returncode else ran.stdout
+
+
+def bytes_of(path):
+    with open(path, "rb") as it:
+        return it.read()
+
+
+def faults_of(program, text, room):
+    """What is wrong with a scenario's run, with its listing and with its image."""
+    wanted, listing, image = bytes_of(f"{text.removesuffix('.cmwq')}.out"), f"{room}/listing.cmwq", f"{room}/image"
+    listed = said(program, "list", text)
+    with open(listing, "wb") as it:
+        it.write(listed or b"")
+    checks = {
+        "its listing": listed is not None,
+        "its run": said(program, "run", text) == wanted,
+        "the run of its listing": said(program, "run", listing) == wanted,
+        "the listing of its listing": said(program, "list", listing) == listed,
+        "making its image": said(program, "asm", text, image) == b"",
+        "its image shown": said(program, "show", image) == listed,
+    }
+    return [f"{os.path.relpath(text, TOP)}: {what} is not as it should be" for what, is_well in checks.items() if not is_well]
+
+
+def main(program):
+    texts = sorted(glob.glob(f"{TOP}/scenarios/*.cmwq"))
+    with tempfile.TemporaryDirectory(prefix="lessons-") as room:
+        faults = [fault for text in texts for fault in faults_of(program, text, room)]
+    for stored in glob.glob(f"{TOP}/crates/cmwq/data/*.cmwq"):
+        lesson = f"{TOP}/scenarios/{os.path.basename(stored)}"
+        if bytes_of(stored) != bytes_of(lesson) or bytes_of(f"{TOP}/crates/cmwq/stdout") != bytes_of(f"{lesson.removesuffix('.cmwq')}.out"):
+            faults.append(f"{os.path.relpath(stored, TOP)}: it isn't the lesson of this name")
+    faults += [] if texts else ["scenarios/: there is nothing to compare"]
+    print("".join(f"lessons: {fault}\n" for fault in faults), end="")
+    print(f"lessons: {len(texts)} scenarios compared, {len(faults)} faults")
+    return 1 if faults else 0
+
+
+if __name__ == "__main__":
+    sys.exit(main(*sys.argv[1:]))
