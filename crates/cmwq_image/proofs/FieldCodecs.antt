@@ -13,7 +13,7 @@ use Rattle.std.proofs.lemmas.Slice.Eq.{bytes_eq-Decides}
 use Rattle.cmwq_types.specs.Faults.{within}
 use Rattle.cmwq_types.specs.Name.{is_name, padded}
 use Rattle.cmwq_image.specs.Image.{number, name_field}
-use Rattle.cmwq_image.specs.ImageFault.{Reader, ◌>>=◌, done, many, number_at, if_within, version_at, name_at, name_of}
+use Rattle.cmwq_image.specs.ImageFault.{Reader, ◌>>=◌, done, many, read_number, if_within, read_version, read_name, name_of}
 use Rattle.cmwq_image.specs.Limits.{AreBytes}
 use Rattle.cmwq_image.specs.declared.error.ImageError.TheVariants as errors
 use Rattle.cmwq_image.proofs.Codec.{Codec, Meaning, of_field, bad_field, bad_version, convert, nothing, one_then}
@@ -89,12 +89,12 @@ number_meaning width limit low high wide some below = record {
   some_fits = (omega arith, some);
 }
 
-pub numbers : (width : Width) (limit low high : ℕ) → IsWide width limit → low ≤ high → high < limit → Codec (number_at width low high) (number width) (InRange low high)
+pub numbers : (width : Width) (limit low high : ℕ) → IsWide width limit → low ≤ high → high < limit → Codec (read_number width low high) (number width) (InRange low high)
 numbers width limit low high wide some below =
     of_field errors.BadField bad_field (byte_len width) (λ bytes. if_within low high (from_be_bytes width bytes)) (number width) (InRange low high)
     (number_meaning width limit low high wide some below)
 
-pub versions : Codec version_at (number w16) (InRange 1 1)
+pub versions : Codec read_version (number w16) (InRange 1 1)
 versions =
     of_field (λ at. errors.Version) bad_version 2 (λ bytes. if_within 1 1 (from_be_bytes w16 bytes)) (number w16) (InRange 1 1)
     (number_meaning w16 65536 1 1 wide16 (omega arith) (omega arith))
@@ -130,7 +130,7 @@ name_again name named =
 name_long : (name : List ℕ) → IsTrue (is_name name) → length (name_field name) ≡ 16
 name_long name named = omega (arith, name_size name named, length-append name (replicate (15 - length name) 0), length-replicate {A = ℕ} (15 - length name) 0)
 
-pub names : Codec name_at name_field (λ name. IsTrue (is_name name))
+pub names : Codec read_name name_field (λ name. IsTrue (is_name name))
 names = of_field errors.BadField bad_field 16 name_of name_field (λ name. IsTrue (is_name name)) (record {
   small = omega arith;
   takes = λ bytes name fine size meant. name_meant bytes name meant;

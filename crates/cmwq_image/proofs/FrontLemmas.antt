@@ -8,7 +8,7 @@ use Rattle.std.specs.Str.{bytes_eq}
 use Rattle.cmwq_types.specs.Contents.{ScenarioContents}
 use Rattle.cmwq_types.specs.Faults.{first_fault, IsValid}
 use Rattle.cmwq_image.specs.Image.{image, magic}
-use Rattle.cmwq_image.specs.ImageFault.{Place, Reader, ◌>>=◌, hand_on, done, many, field, accepted, behind, if_within, number_at, version_at, name_at, name_of, queue_at, op_tag_at, op_tag_of, op_room, op_at, instr_tag_at, instr_tag_of, instr_room, instr_at, work_at, line_at, actor_at, head_at, scenario_at, judged, unless_faulty, from_there, reading}
+use Rattle.cmwq_image.specs.ImageFault.{Place, Reader, ◌>>=◌, hand_on, done, many, field, accepted, behind, if_within, read_number, read_version, read_name, name_of, read_queue, read_op_tag, op_tag_of, op_room, read_op, read_instr_tag, instr_tag_of, instr_room, read_instr, read_work, read_line, read_actor, read_head, scenario_at, judged, unless_faulty, from_there, reading}
 use Rattle.cmwq_image.specs.Limits.{HasSize}
 use Rattle.cmwq_types.specs.Values.{IsScenario}
 use Rattle.cmwq_image.specs.declared.error.ImageError.{ImageError}
@@ -113,30 +113,30 @@ near_many {A} one size near (suc n) =
 -- ---- the fields of an image
 
 -- a number looks at its bytes, and is within its limits
-near_number : (width : Width) (low high : ℕ) → Near (number_at width low high) (byte_len width) (InRange low high)
+near_number : (width : Width) (low high : ℕ) → Near (read_number width low high) (byte_len width) (InRange low high)
 near_number width low high =
     near_field errors.BadField (byte_len width) (λ bytes. if_within low high (from_be_bytes width bytes)) (InRange low high)
     (λ bytes n e. (within_is low high (from_be_bytes width bytes) n e).1)
 
 -- each kind of field, and what follows it
-version_then : {B : Type 0} {Goal : B → Type 0} (next : ℕ → Reader B) (rest : ℕ) → ((n : ℕ) → Near (next n) rest Goal) → Near (version_at >>= next) (2 + rest) Goal
+version_then : {B : Type 0} {Goal : B → Type 0} (next : ℕ → Reader B) (rest : ℕ) → ((n : ℕ) → Near (next n) rest Goal) → Near (read_version >>= next) (2 + rest) Goal
 version_then {Goal} next rest others =
-    near_then version_at next 2 rest Any Goal (near_field (λ at. errors.Version) 2 (λ bytes. if_within 1 1 (from_be_bytes w16 bytes)) Any (λ bytes x e. tt)) (λ n fits. others n)
+    near_then read_version next 2 rest Any Goal (near_field (λ at. errors.Version) 2 (λ bytes. if_within 1 1 (from_be_bytes w16 bytes)) Any (λ bytes x e. tt)) (λ n fits. others n)
 
 byte_then : {B : Type 0} {Goal : B → Type 0} (low high : ℕ) (next : ℕ → Reader B) (rest : ℕ) → ((n : ℕ) → InRange low high n → Near (next n) rest Goal)
-    → Near (number_at w8 low high >>= next) (1 + rest) Goal
-byte_then {Goal} low high next rest others = near_then (number_at w8 low high) next 1 rest (InRange low high) Goal (near_number w8 low high) others
+    → Near (read_number w8 low high >>= next) (1 + rest) Goal
+byte_then {Goal} low high next rest others = near_then (read_number w8 low high) next 1 rest (InRange low high) Goal (near_number w8 low high) others
 
 short_then : {B : Type 0} {Goal : B → Type 0} (low high : ℕ) (next : ℕ → Reader B) (rest : ℕ) → ((n : ℕ) → InRange low high n → Near (next n) rest Goal)
-    → Near (number_at w16 low high >>= next) (2 + rest) Goal
-short_then {Goal} low high next rest others = near_then (number_at w16 low high) next 2 rest (InRange low high) Goal (near_number w16 low high) others
+    → Near (read_number w16 low high >>= next) (2 + rest) Goal
+short_then {Goal} low high next rest others = near_then (read_number w16 low high) next 2 rest (InRange low high) Goal (near_number w16 low high) others
 
 long_then : {B : Type 0} {Goal : B → Type 0} (low high : ℕ) (next : ℕ → Reader B) (rest : ℕ) → ((n : ℕ) → InRange low high n → Near (next n) rest Goal)
-    → Near (number_at w32 low high >>= next) (4 + rest) Goal
-long_then {Goal} low high next rest others = near_then (number_at w32 low high) next 4 rest (InRange low high) Goal (near_number w32 low high) others
+    → Near (read_number w32 low high >>= next) (4 + rest) Goal
+long_then {Goal} low high next rest others = near_then (read_number w32 low high) next 4 rest (InRange low high) Goal (near_number w32 low high) others
 
-name_then : {B : Type 0} {Goal : B → Type 0} (next : List ℕ → Reader B) (rest : ℕ) → ((name : List ℕ) → Near (next name) rest Goal) → Near (name_at >>= next) (16 + rest) Goal
-name_then {Goal} next rest others = near_then name_at next 16 rest Any Goal (near_field errors.BadField 16 name_of Any (λ bytes x e. tt)) (λ name fits. others name)
+name_then : {B : Type 0} {Goal : B → Type 0} (next : List ℕ → Reader B) (rest : ℕ) → ((name : List ℕ) → Near (next name) rest Goal) → Near (read_name >>= next) (16 + rest) Goal
+name_then {Goal} next rest others = near_then read_name next 16 rest Any Goal (near_field errors.BadField 16 name_of Any (λ bytes x e. tt)) (λ name fits. others name)
 
 -- so many parts of one kind
 many_then : {A B : Type 0} {Goal : B → Type 0} (one : Reader A) (size : ℕ) → Near one size Any → (count : ℕ) (next : List A → Reader B) (rest : ℕ) → ((xs : List A) → Near (next xs) rest Goal)
@@ -145,40 +145,40 @@ many_then {Goal} one size near count next rest others = near_then (many one coun
 
 -- ---- the parts of an image
 
-near_queue : Near queue_at 20 Any
-unfolding queue_at
+near_queue : Near read_queue 20 Any
+unfolding read_queue
 near_queue =
     name_then _ 4 (λ name. short_then 0 65535 _ 2 (λ max m. byte_then 0 31 _ 1 (λ bits b. byte_then 0 0 _ 0 (λ nothing n. near_done _ Any tt))))
 
-near_op : Near op_at 8 Any
-unfolding op_at
+near_op : Near read_op 8 Any
+unfolding read_op
 near_op =
-    near_then op_tag_at _ 1 7 Any Any (near_field errors.BadField 1 (λ bytes. op_tag_of (from_be_bytes w8 bytes)) Any (λ bytes x e. tt))
+    near_then read_op_tag _ 1 7 Any Any (near_field errors.BadField 1 (λ bytes. op_tag_of (from_be_bytes w8 bytes)) Any (λ bytes x e. tt))
     (λ tag fits. byte_then 0 (op_room tag).cpu _ 6 (λ cpu c. short_then 0 (op_room tag).a _ 4 (λ a b. long_then 0 (op_room tag).n _ 0 (λ n m. near_done _ Any tt))))
 
-near_instr : Near instr_at 8 Any
-unfolding instr_at
+near_instr : Near read_instr 8 Any
+unfolding read_instr
 near_instr =
-    near_then instr_tag_at _ 1 7 Any Any (near_field errors.BadField 1 (λ bytes. instr_tag_of (from_be_bytes w8 bytes)) Any (λ bytes x e. tt))
+    near_then read_instr_tag _ 1 7 Any Any (near_field errors.BadField 1 (λ bytes. instr_tag_of (from_be_bytes w8 bytes)) Any (λ bytes x e. tt))
     (λ tag fits. byte_then 0 (instr_room tag).cpu _ 6 (λ cpu c. short_then 0 (instr_room tag).a _ 4 (λ a b. long_then 0 (instr_room tag).n _ 0 (λ n m. near_done _ Any tt))))
 
 -- a name, two bytes, and at most 64 operations of 8 bytes
-near_work : Near work_at 530 Any
-unfolding work_at
+near_work : Near read_work 530 Any
+unfolding read_work
 near_work =
     name_then _ 514 (λ name. byte_then 0 255 _ 513 (λ queue q. byte_then 1 64 _ 512 (λ count few.
-    wider _ (count * 8 + 0) 512 Any (omega (arith, few.1)) (many_then op_at 8 near_op count _ 0 (λ body. near_done _ Any tt)))))
+    wider _ (count * 8 + 0) 512 Any (omega (arith, few.1)) (many_then read_op 8 near_op count _ 0 (λ body. near_done _ Any tt)))))
 
-near_line : Near line_at 12 Any
-unfolding line_at
-near_line = near_then instr_at _ 8 4 Any Any near_instr (λ instr fits. long_then 0 4294967295 _ 0 (λ times t. near_done _ Any tt))
+near_line : Near read_line 12 Any
+unfolding read_line
+near_line = near_then read_instr _ 8 4 Any Any near_instr (λ instr fits. long_then 0 4294967295 _ 0 (λ times t. near_done _ Any tt))
 
 -- a name, two bytes, and at most 4096 lines of 12 bytes
-near_actor : Near actor_at 49170 Any
-unfolding actor_at
+near_actor : Near read_actor 49170 Any
+unfolding read_actor
 near_actor =
     name_then _ 49154 (λ name. short_then 0 4096 _ 49152 (λ count few.
-    wider _ (count * 12 + 0) 49152 Any (omega (arith, few.1)) (many_then line_at 12 near_line count _ 0 (λ lines. near_done _ Any tt))))
+    wider _ (count * 12 + 0) 49152 Any (omega (arith, few.1)) (many_then read_line 12 near_line count _ 0 (λ lines. near_done _ Any tt))))
 
 -- ---- the whole
 
@@ -186,8 +186,8 @@ near_actor =
 abbrev FewParts : Head → Type 0
 FewParts head = (head.queues ≤ 32) × (head.works ≤ 256) × (head.actors ≤ 16)
 
-near_head : Near head_at 14 FewParts
-unfolding head_at
+near_head : Near read_head 14 FewParts
+unfolding read_head
 near_head =
     version_then _ 12 (λ version. byte_then 0 255 _ 11 (λ cpus c. byte_then 0 255 _ 10 (λ workers w. long_then 0 4294967295 _ 6 (λ steps s. short_then 0 65535 _ 4 (λ flushes f.
     byte_then 0 32 _ 3 (λ queues few_queues. short_then 0 256 _ 1 (λ works few_works. byte_then 0 16 _ 0 (λ actors few_actors.
@@ -197,12 +197,12 @@ near_head =
 near_scenario : Near scenario_at 923054 Any
 unfolding scenario_at
 near_scenario =
-    near_then head_at _ 14 923040 FewParts Any near_head
+    near_then read_head _ 14 923040 FewParts Any near_head
     (λ head few.
     wider _ (head.queues * 20 + (head.works * 530 + (head.actors * 49170 + 0))) 923040 Any (omega (arith, few.0, few.1, few.2))
-    (many_then queue_at 20 near_queue head.queues _ (head.works * 530 + (head.actors * 49170 + 0)) (λ queues.
-    many_then work_at 530 near_work head.works _ (head.actors * 49170 + 0) (λ works.
-    many_then actor_at 49170 near_actor head.actors _ 0 (λ actors. near_done _ Any tt)))))
+    (many_then read_queue 20 near_queue head.queues _ (head.works * 530 + (head.actors * 49170 + 0)) (λ queues.
+    many_then read_work 530 near_work head.works _ (head.actors * 49170 + 0) (λ works.
+    many_then read_actor 49170 near_actor head.actors _ 0 (λ actors. near_done _ Any tt)))))
 
 -- a byte that is left is the fault Extra
 left_over : (S : ScenarioContents) (at : ℕ) (rest : List ℕ) → 0 < length rest → judged (done S (place at rest)) ≡ Err errors.Extra

@@ -6,18 +6,18 @@ use Rattle.cmwq_types.specs.Name.{is_name}
 use Rattle.cmwq_types.specs.declared.scenario.Flags.{Flags}
 use Rattle.cmwq_types.specs.declared.scenario.QueueDecl.{QueueDecl}
 use Rattle.cmwq_image.specs.Image.{in_order, number, name_field, worth, flag_bits, queue_image}
-use Rattle.cmwq_image.specs.ImageFault.{◌>>=◌, done, number_at, short_at, name_at, flags_of, queue_at}
+use Rattle.cmwq_image.specs.ImageFault.{◌>>=◌, done, read_number, read_short, read_name, flags_of, read_queue}
 use Rattle.cmwq_types.specs.Values.{IsQueueDecl}
 use Rattle.cmwq_image.proofs.Codec.{Codec, nothing, one_then}
 use Rattle.cmwq_image.proofs.FieldCodecs.{InRange, numbers, names, wide8, wide16, wide32}
 
-pub bytes_of : (low high : ℕ) → low ≤ high → high < 256 → Codec (number_at w8 low high) (number w8) (InRange low high)
+pub bytes_of : (low high : ℕ) → low ≤ high → high < 256 → Codec (read_number w8 low high) (number w8) (InRange low high)
 bytes_of low high some below = numbers w8 256 low high wide8 some below
 
-pub shorts : (low high : ℕ) → low ≤ high → high < 65536 → Codec (number_at w16 low high) (number w16) (InRange low high)
+pub shorts : (low high : ℕ) → low ≤ high → high < 65536 → Codec (read_number w16 low high) (number w16) (InRange low high)
 shorts low high some below = numbers w16 65536 low high wide16 some below
 
-pub longs : (low high : ℕ) → low ≤ high → high < 4294967296 → Codec (number_at w32 low high) (number w32) (InRange low high)
+pub longs : (low high : ℕ) → low ≤ high → high < 4294967296 → Codec (read_number w32 low high) (number w32) (InRange low high)
 longs low high some below = numbers w32 4294967296 low high wide32 some below
 
 -- ---- flags
@@ -119,9 +119,9 @@ abbrev made_queue : List ℕ → ℕ → ℕ → QueueDecl
 made_queue name max bits = record { name = name; max = max; flags = flags_of bits }
 
 queues_zero : (name : List ℕ) (max bits : ℕ) → bits ≤ 31
-    → Codec (number_at w8 0 0 >>= λ nothing. done (made_queue name max bits)) (λ q. in_order (number w8 0 ∷ [])) (λ q. (q.name ≡ name) × (q.max ≡ max) × (flag_bits q.flags ≡ bits))
+    → Codec (read_number w8 0 0 >>= λ nothing. done (made_queue name max bits)) (λ q. in_order (number w8 0 ∷ [])) (λ q. (q.name ≡ name) × (q.max ≡ max) × (flag_bits q.flags ≡ bits))
 queues_zero name max bits small =
-    one_then (number_at w8 0 0) (λ nothing. done (made_queue name max bits)) (λ q. 0) (number w8) (InRange 0 0)
+    one_then (read_number w8 0 0) (λ nothing. done (made_queue name max bits)) (λ q. 0) (number w8) (InRange 0 0)
     (λ q. []) (λ zero q. q ≡ made_queue name max bits) (λ q. in_order (number w8 0 ∷ [])) (λ q. (q.name ≡ name) × (q.max ≡ max) × (flag_bits q.flags ≡ bits))
     (bytes_of 0 0 (omega arith) (omega arith)) (λ zero fits. nothing (made_queue name max bits)) (record {
       join = λ z q fits e.
@@ -136,9 +136,9 @@ queues_zero name max bits small =
     made_alike n n' m m' f f' a b c = ap (λ (x : List ℕ). queue_with x m f) a ∙ ap (λ x. queue_with n' x f) b ∙ ap (λ (x : Flags). queue_with n' m' x) c
 
 queues_bits : (name : List ℕ) (max : ℕ)
-    → Codec (number_at w8 0 31 >>= λ bits. number_at w8 0 0 >>= λ nothing. done (made_queue name max bits)) (λ q. in_order (number w8 (flag_bits q.flags) ∷ number w8 0 ∷ [])) (λ q. (q.name ≡ name) × (q.max ≡ max))
+    → Codec (read_number w8 0 31 >>= λ bits. read_number w8 0 0 >>= λ nothing. done (made_queue name max bits)) (λ q. in_order (number w8 (flag_bits q.flags) ∷ number w8 0 ∷ [])) (λ q. (q.name ≡ name) × (q.max ≡ max))
 queues_bits name max =
-    one_then (number_at w8 0 31) (λ bits. number_at w8 0 0 >>= λ nothing. done (made_queue name max bits)) (λ q. flag_bits q.flags) (number w8) (InRange 0 31)
+    one_then (read_number w8 0 31) (λ bits. read_number w8 0 0 >>= λ nothing. done (made_queue name max bits)) (λ q. flag_bits q.flags) (number w8) (InRange 0 31)
     (λ q. in_order (number w8 0 ∷ [])) (λ bits q. (q.name ≡ name) × (q.max ≡ max) × (flag_bits q.flags ≡ bits)) (λ q. in_order (number w8 (flag_bits q.flags) ∷ number w8 0 ∷ [])) (λ q. (q.name ≡ name) × (q.max ≡ max))
     (bytes_of 0 31 (omega arith) (omega arith)) (λ bits fits. queues_zero name max bits fits.1) (record {
       join = λ bits q fits h. (h.2, (h.0, h.1));
@@ -147,9 +147,9 @@ queues_bits name max =
     })
 
 queues_max : (name : List ℕ)
-    → Codec (short_at >>= λ max. number_at w8 0 31 >>= λ bits. number_at w8 0 0 >>= λ nothing. done (made_queue name max bits)) (λ q. in_order (number w16 q.max ∷ number w8 (flag_bits q.flags) ∷ number w8 0 ∷ [])) (λ q. (q.name ≡ name) × (q.max ≤ 65535))
+    → Codec (read_short >>= λ max. read_number w8 0 31 >>= λ bits. read_number w8 0 0 >>= λ nothing. done (made_queue name max bits)) (λ q. in_order (number w16 q.max ∷ number w8 (flag_bits q.flags) ∷ number w8 0 ∷ [])) (λ q. (q.name ≡ name) × (q.max ≤ 65535))
 queues_max name =
-    one_then short_at (λ max. number_at w8 0 31 >>= λ bits. number_at w8 0 0 >>= λ nothing. done (made_queue name max bits)) (λ q. q.max) (number w16) (InRange 0 65535)
+    one_then read_short (λ max. read_number w8 0 31 >>= λ bits. read_number w8 0 0 >>= λ nothing. done (made_queue name max bits)) (λ q. q.max) (number w16) (InRange 0 65535)
     (λ q. in_order (number w8 (flag_bits q.flags) ∷ number w8 0 ∷ [])) (λ max q. (q.name ≡ name) × (q.max ≡ max)) (λ q. in_order (number w16 q.max ∷ number w8 (flag_bits q.flags) ∷ number w8 0 ∷ [])) (λ q. (q.name ≡ name) × (q.max ≤ 65535))
     (shorts 0 65535 (omega arith) (omega arith)) (λ max fits. queues_bits name max) (record {
       join = λ max q fits h. (h.1, (h.0, omega (arith, h.1, fits.1)));
@@ -157,10 +157,10 @@ queues_max name =
       written = λ q h. refl;
     })
 
-pub queues : Codec queue_at queue_image IsQueueDecl
-unfolding queue_at
+pub queues : Codec read_queue queue_image IsQueueDecl
+unfolding read_queue
 queues =
-    one_then name_at (λ name. short_at >>= λ max. number_at w8 0 31 >>= λ bits. number_at w8 0 0 >>= λ nothing. done (made_queue name max bits)) (λ q. q.name) name_field (λ name. IsTrue (is_name name))
+    one_then read_name (λ name. read_short >>= λ max. read_number w8 0 31 >>= λ bits. read_number w8 0 0 >>= λ nothing. done (made_queue name max bits)) (λ q. q.name) name_field (λ name. IsTrue (is_name name))
     (λ q. in_order (number w16 q.max ∷ number w8 (flag_bits q.flags) ∷ number w8 0 ∷ [])) (λ name q. (q.name ≡ name) × (q.max ≤ 65535)) queue_image IsQueueDecl
     names (λ name fits. queues_max name) (record {
       join = λ name q fits h. (h.0, record { name = ap is_name h.0 ∙ fits; max = omega (arith, h.1) });

@@ -10,7 +10,7 @@ use Rattle.cmwq_types.specs.declared.scenario.Line.{Line}
 use Rattle.cmwq_types.specs.declared.scenario.Op.{Op}
 use Rattle.cmwq_types.specs.declared.scenario.QueueDecl.{QueueDecl}
 use Rattle.cmwq_image.specs.Image.{in_order, number, name_field, queue_image, op_image, work_image, word_image, instr_word, line_image, actor_image, image, magic}
-use Rattle.cmwq_image.specs.ImageFault.{◌>>=◌, done, many, number_at, byte_at, short_at, long_at, version_at, name_at, queue_at, op_at, work_at, instr_at, line_at, actor_at, head_at, scenario_at}
+use Rattle.cmwq_image.specs.ImageFault.{◌>>=◌, done, many, read_number, read_byte, read_short, read_long, read_version, read_name, read_queue, read_op, read_work, read_instr, read_line, read_actor, read_head, scenario_at}
 use Rattle.cmwq_image.specs.Limits.{HasBodySize, HasLinesSize, HasSize}
 use Rattle.cmwq_types.specs.Values.{IsQueueDecl, IsOp, IsWorkDecl, IsInstr, IsLine, IsActor, IsScenario}
 use Rattle.cmwq_image.specs.declared.head.Head.{Head}
@@ -28,13 +28,13 @@ same_work : (n n' : List ℕ) (q q' : ℕ) (b : List Op) → n ≡ n' → q ≡ 
 same_work n n' q q' b e f = ap (λ (x : List ℕ). work_with x q b) e ∙ ap (λ x. work_with n' x b) f
 
 works_body : (name : List ℕ) (queue count : ℕ)
-    → Codec (many op_at count >>= λ body. done (work_with name queue body)) (λ w. in_order (flat_map op_image w.body ∷ []))
+    → Codec (many read_op count >>= λ body. done (work_with name queue body)) (λ w. in_order (flat_map op_image w.body ∷ []))
     (λ w. (w.name ≡ name) × (w.queue.0 ≡ queue) × Each IsOp count w.body)
 works_body name queue count =
-    one_then (many op_at count) (λ body. done (work_with name queue body)) (λ w. w.body) (flat_map op_image) (Each IsOp count)
+    one_then (many read_op count) (λ body. done (work_with name queue body)) (λ w. w.body) (flat_map op_image) (Each IsOp count)
     (λ w. []) (λ body w. w ≡ work_with name queue body) (λ w. in_order (flat_map op_image w.body ∷ []))
     (λ w. (w.name ≡ name) × (w.queue.0 ≡ queue) × Each IsOp count w.body)
-    (many_of op_at op_image IsOp ops count) (λ body fits. nothing (work_with name queue body)) (record {
+    (many_of read_op op_image IsOp ops count) (λ body fits. nothing (work_with name queue body)) (record {
       join = λ body w fits e.
           let body_is : w.body ≡ body = ap (λ (x : WorkContents). x.body) e in
           (body_is, (ap (λ (x : WorkContents). x.name) e, ap (λ (x : WorkContents). x.queue.0) e, subst (Each IsOp count) (sym body_is) fits));
@@ -43,10 +43,10 @@ works_body name queue count =
     })
 
 works_count : (name : List ℕ) (queue : ℕ)
-    → Codec (number_at w8 1 64 >>= λ count. many op_at count >>= λ body. done (work_with name queue body)) (λ w. in_order (number w8 (length w.body) ∷ flat_map op_image w.body ∷ []))
+    → Codec (read_number w8 1 64 >>= λ count. many read_op count >>= λ body. done (work_with name queue body)) (λ w. in_order (number w8 (length w.body) ∷ flat_map op_image w.body ∷ []))
     (λ w. (w.name ≡ name) × (w.queue.0 ≡ queue) × HasBodySize w × AllByRecursion IsOp w.body)
 works_count name queue =
-    one_then (number_at w8 1 64) (λ count. many op_at count >>= λ body. done (work_with name queue body)) (λ w. length w.body) (number w8) (InRange 1 64)
+    one_then (read_number w8 1 64) (λ count. many read_op count >>= λ body. done (work_with name queue body)) (λ w. length w.body) (number w8) (InRange 1 64)
     (λ w. in_order (flat_map op_image w.body ∷ [])) (λ count w. (w.name ≡ name) × (w.queue.0 ≡ queue) × Each IsOp count w.body)
     (λ w. in_order (number w8 (length w.body) ∷ flat_map op_image w.body ∷ []))
     (λ w. (w.name ≡ name) × (w.queue.0 ≡ queue) × HasBodySize w × AllByRecursion IsOp w.body)
@@ -57,11 +57,11 @@ works_count name queue =
     })
 
 works_queue : (name : List ℕ)
-    → Codec (byte_at >>= λ queue. number_at w8 1 64 >>= λ count. many op_at count >>= λ body. done (work_with name queue body))
+    → Codec (read_byte >>= λ queue. read_number w8 1 64 >>= λ count. many read_op count >>= λ body. done (work_with name queue body))
     (λ w. in_order (number w8 w.queue.0 ∷ number w8 (length w.body) ∷ flat_map op_image w.body ∷ []))
     (λ w. (w.name ≡ name) × (w.queue.0 ≤ 255) × HasBodySize w × AllByRecursion IsOp w.body)
 works_queue name =
-    one_then byte_at (λ queue. number_at w8 1 64 >>= λ count. many op_at count >>= λ body. done (work_with name queue body)) (λ w. w.queue.0) (number w8) (InRange 0 255)
+    one_then read_byte (λ queue. read_number w8 1 64 >>= λ count. many read_op count >>= λ body. done (work_with name queue body)) (λ w. w.queue.0) (number w8) (InRange 0 255)
     (λ w. in_order (number w8 (length w.body) ∷ flat_map op_image w.body ∷ [])) (λ queue w. (w.name ≡ name) × (w.queue.0 ≡ queue) × HasBodySize w × AllByRecursion IsOp w.body)
     (λ w. in_order (number w8 w.queue.0 ∷ number w8 (length w.body) ∷ flat_map op_image w.body ∷ []))
     (λ w. (w.name ≡ name) × (w.queue.0 ≤ 255) × HasBodySize w × AllByRecursion IsOp w.body)
@@ -71,10 +71,10 @@ works_queue name =
       written = λ w h. refl;
     })
 
-pub works : Codec work_at work_image (λ w. IsWorkDecl w × HasBodySize w)
-unfolding work_at
+pub works : Codec read_work work_image (λ w. IsWorkDecl w × HasBodySize w)
+unfolding read_work
 works =
-    one_then name_at (λ name. byte_at >>= λ queue. number_at w8 1 64 >>= λ count. many op_at count >>= λ body. done (work_with name queue body)) (λ w. w.name) name_field (λ name. IsTrue (is_name name))
+    one_then read_name (λ name. read_byte >>= λ queue. read_number w8 1 64 >>= λ count. many read_op count >>= λ body. done (work_with name queue body)) (λ w. w.name) name_field (λ name. IsTrue (is_name name))
     (λ w. in_order (number w8 w.queue.0 ∷ number w8 (length w.body) ∷ flat_map op_image w.body ∷ [])) (λ name w. (w.name ≡ name) × (w.queue.0 ≤ 255) × HasBodySize w × AllByRecursion IsOp w.body)
     work_image (λ w. IsWorkDecl w × HasBodySize w)
     names (λ name fits. works_queue name) (record {
@@ -88,9 +88,9 @@ works =
 abbrev line_with : Instr → ℕ → Line
 line_with instr times = record { instr = instr; times = times }
 
-lines_times : (instr : Instr) → Codec (long_at >>= λ times. done (line_with instr times)) (λ l. in_order (number w32 l.times ∷ [])) (λ l. (l.instr ≡ instr) × (l.times ≤ 4294967295))
+lines_times : (instr : Instr) → Codec (read_long >>= λ times. done (line_with instr times)) (λ l. in_order (number w32 l.times ∷ [])) (λ l. (l.instr ≡ instr) × (l.times ≤ 4294967295))
 lines_times instr =
-    one_then long_at (λ times. done (line_with instr times)) (λ l. l.times) (number w32) (InRange 0 4294967295)
+    one_then read_long (λ times. done (line_with instr times)) (λ l. l.times) (number w32) (InRange 0 4294967295)
     (λ l. []) (λ times l. l ≡ line_with instr times) (λ l. in_order (number w32 l.times ∷ [])) (λ l. (l.instr ≡ instr) × (l.times ≤ 4294967295))
     (longs 0 4294967295 (omega arith) (omega arith)) (λ times fits. nothing (line_with instr times)) (record {
       join = λ times l fits e.
@@ -100,10 +100,10 @@ lines_times instr =
       written = λ l h. refl;
     })
 
-pub lines : Codec line_at line_image IsLine
-unfolding line_at
+pub lines : Codec read_line line_image IsLine
+unfolding read_line
 lines =
-    one_then instr_at (λ instr. long_at >>= λ times. done (line_with instr times)) (λ l. l.instr) (λ i. word_image (instr_word i)) IsInstr
+    one_then read_instr (λ instr. read_long >>= λ times. done (line_with instr times)) (λ l. l.instr) (λ i. word_image (instr_word i)) IsInstr
     (λ l. in_order (number w32 l.times ∷ [])) (λ instr l. (l.instr ≡ instr) × (l.times ≤ 4294967295)) line_image IsLine
     instrs (λ instr fits. lines_times instr) (record {
       join = λ instr l fits h. (h.0, record { instr = subst IsInstr (sym h.0) fits; times = omega (arith, h.1) });
@@ -115,11 +115,11 @@ abbrev actor_with : List ℕ → List Line → ActorContents
 actor_with name lines = record { name = name; lines = lines }
 
 actors_lines : (name : List ℕ) (count : ℕ)
-    → Codec (many line_at count >>= λ lines. done (actor_with name lines)) (λ a. in_order (flat_map line_image a.lines ∷ [])) (λ a. (a.name ≡ name) × Each IsLine count a.lines)
+    → Codec (many read_line count >>= λ lines. done (actor_with name lines)) (λ a. in_order (flat_map line_image a.lines ∷ [])) (λ a. (a.name ≡ name) × Each IsLine count a.lines)
 actors_lines name count =
-    one_then (many line_at count) (λ lines. done (actor_with name lines)) (λ a. a.lines) (flat_map line_image) (Each IsLine count)
+    one_then (many read_line count) (λ lines. done (actor_with name lines)) (λ a. a.lines) (flat_map line_image) (Each IsLine count)
     (λ a. []) (λ lines a. a ≡ actor_with name lines) (λ a. in_order (flat_map line_image a.lines ∷ [])) (λ a. (a.name ≡ name) × Each IsLine count a.lines)
-    (many_of line_at line_image IsLine lines count) (λ lines fits. nothing (actor_with name lines)) (record {
+    (many_of read_line line_image IsLine lines count) (λ lines fits. nothing (actor_with name lines)) (record {
       join = λ lines a fits e.
           let lines_are : a.lines ≡ lines = ap (λ (x : ActorContents). x.lines) e in
           (lines_are, (ap (λ (x : ActorContents). x.name) e, subst (Each IsLine count) (sym lines_are) fits));
@@ -128,10 +128,10 @@ actors_lines name count =
     })
 
 actors_count : (name : List ℕ)
-    → Codec (number_at w16 0 4096 >>= λ count. many line_at count >>= λ lines. done (actor_with name lines)) (λ a. in_order (number w16 (length a.lines) ∷ flat_map line_image a.lines ∷ []))
+    → Codec (read_number w16 0 4096 >>= λ count. many read_line count >>= λ lines. done (actor_with name lines)) (λ a. in_order (number w16 (length a.lines) ∷ flat_map line_image a.lines ∷ []))
     (λ a. (a.name ≡ name) × HasLinesSize a × AllByRecursion IsLine a.lines)
 actors_count name =
-    one_then (number_at w16 0 4096) (λ count. many line_at count >>= λ lines. done (actor_with name lines)) (λ a. length a.lines) (number w16) (InRange 0 4096)
+    one_then (read_number w16 0 4096) (λ count. many read_line count >>= λ lines. done (actor_with name lines)) (λ a. length a.lines) (number w16) (InRange 0 4096)
     (λ a. in_order (flat_map line_image a.lines ∷ [])) (λ count a. (a.name ≡ name) × Each IsLine count a.lines)
     (λ a. in_order (number w16 (length a.lines) ∷ flat_map line_image a.lines ∷ [])) (λ a. (a.name ≡ name) × HasLinesSize a × AllByRecursion IsLine a.lines)
     (shorts 0 4096 (omega arith) (omega arith)) (λ count fits. actors_lines name count) (record {
@@ -140,10 +140,10 @@ actors_count name =
       written = λ a h. refl;
     })
 
-pub actors : Codec actor_at actor_image (λ a. IsActor a × HasLinesSize a)
-unfolding actor_at
+pub actors : Codec read_actor actor_image (λ a. IsActor a × HasLinesSize a)
+unfolding read_actor
 actors =
-    one_then name_at (λ name. number_at w16 0 4096 >>= λ count. many line_at count >>= λ lines. done (actor_with name lines)) (λ a. a.name) name_field (λ name. IsTrue (is_name name))
+    one_then read_name (λ name. read_number w16 0 4096 >>= λ count. many read_line count >>= λ lines. done (actor_with name lines)) (λ a. a.name) name_field (λ name. IsTrue (is_name name))
     (λ a. in_order (number w16 (length a.lines) ∷ flat_map line_image a.lines ∷ [])) (λ name a. (a.name ≡ name) × HasLinesSize a × AllByRecursion IsLine a.lines)
     actor_image (λ a. IsActor a × HasLinesSize a)
     names (λ name fits. actors_count name) (record {
@@ -164,10 +164,10 @@ same_head a b c d e f g a' b' c' d' e' f' p q r s t u =
     ∙ ap (λ x. head_with a' b' c' x e f g) s ∙ ap (λ x. head_with a' b' c' d' x f g) t ∙ ap (λ x. head_with a' b' c' d' e' x g) u
 
 heads_actors : (cpus workers steps flushes queues works : ℕ)
-    → Codec (number_at w8 0 16 >>= λ actors. done (head_with cpus workers steps flushes queues works actors))
+    → Codec (read_number w8 0 16 >>= λ actors. done (head_with cpus workers steps flushes queues works actors))
     (λ h. in_order (number w8 h.actors ∷ [])) (λ h. (h.cpus ≡ cpus) × (h.workers ≡ workers) × (h.steps ≡ steps) × (h.flushes ≡ flushes) × (h.queues ≡ queues) × (h.works ≡ works) × (h.actors ≤ 16))
 heads_actors cpus workers steps flushes queues works =
-    one_then (number_at w8 0 16) (λ actors. done (head_with cpus workers steps flushes queues works actors)) (λ h. h.actors) (number w8) (InRange 0 16)
+    one_then (read_number w8 0 16) (λ actors. done (head_with cpus workers steps flushes queues works actors)) (λ h. h.actors) (number w8) (InRange 0 16)
     (λ h. []) (λ actors h. h ≡ head_with cpus workers steps flushes queues works actors)
     (λ h. in_order (number w8 h.actors ∷ [])) (λ h. (h.cpus ≡ cpus) × (h.workers ≡ workers) × (h.steps ≡ steps) × (h.flushes ≡ flushes) × (h.queues ≡ queues) × (h.works ≡ works) × (h.actors ≤ 16))
     (bytes_of 0 16 (omega arith) (omega arith)) (λ actors fits. nothing (head_with cpus workers steps flushes queues works actors)) (record {
@@ -179,10 +179,10 @@ heads_actors cpus workers steps flushes queues works =
     })
 
 heads_works : (cpus workers steps flushes queues : ℕ)
-    → Codec (number_at w16 0 256 >>= λ works. number_at w8 0 16 >>= λ actors. done (head_with cpus workers steps flushes queues works actors))
+    → Codec (read_number w16 0 256 >>= λ works. read_number w8 0 16 >>= λ actors. done (head_with cpus workers steps flushes queues works actors))
     (λ h. in_order (number w16 h.works ∷ number w8 h.actors ∷ [])) (λ h. (h.cpus ≡ cpus) × (h.workers ≡ workers) × (h.steps ≡ steps) × (h.flushes ≡ flushes) × (h.queues ≡ queues) × (h.works ≤ 256) × (h.actors ≤ 16))
 heads_works cpus workers steps flushes queues =
-    one_then (number_at w16 0 256) (λ works. number_at w8 0 16 >>= λ actors. done (head_with cpus workers steps flushes queues works actors)) (λ h. h.works) (number w16) (InRange 0 256)
+    one_then (read_number w16 0 256) (λ works. read_number w8 0 16 >>= λ actors. done (head_with cpus workers steps flushes queues works actors)) (λ h. h.works) (number w16) (InRange 0 256)
     (λ h. in_order (number w8 h.actors ∷ [])) (λ works h. (h.cpus ≡ cpus) × (h.workers ≡ workers) × (h.steps ≡ steps) × (h.flushes ≡ flushes) × (h.queues ≡ queues) × (h.works ≡ works) × (h.actors ≤ 16))
     (λ h. in_order (number w16 h.works ∷ number w8 h.actors ∷ [])) (λ h. (h.cpus ≡ cpus) × (h.workers ≡ workers) × (h.steps ≡ steps) × (h.flushes ≡ flushes) × (h.queues ≡ queues) × (h.works ≤ 256) × (h.actors ≤ 16))
     (shorts 0 256 (omega arith) (omega arith)) (λ works fits. heads_actors cpus workers steps flushes queues works) (record {
@@ -192,10 +192,10 @@ heads_works cpus workers steps flushes queues =
     })
 
 heads_queues : (cpus workers steps flushes : ℕ)
-    → Codec (number_at w8 0 32 >>= λ queues. number_at w16 0 256 >>= λ works. number_at w8 0 16 >>= λ actors. done (head_with cpus workers steps flushes queues works actors))
+    → Codec (read_number w8 0 32 >>= λ queues. read_number w16 0 256 >>= λ works. read_number w8 0 16 >>= λ actors. done (head_with cpus workers steps flushes queues works actors))
     (λ h. in_order (number w8 h.queues ∷ number w16 h.works ∷ number w8 h.actors ∷ [])) (λ h. (h.cpus ≡ cpus) × (h.workers ≡ workers) × (h.steps ≡ steps) × (h.flushes ≡ flushes) × (h.queues ≤ 32) × (h.works ≤ 256) × (h.actors ≤ 16))
 heads_queues cpus workers steps flushes =
-    one_then (number_at w8 0 32) (λ queues. number_at w16 0 256 >>= λ works. number_at w8 0 16 >>= λ actors. done (head_with cpus workers steps flushes queues works actors)) (λ h. h.queues) (number w8) (InRange 0 32)
+    one_then (read_number w8 0 32) (λ queues. read_number w16 0 256 >>= λ works. read_number w8 0 16 >>= λ actors. done (head_with cpus workers steps flushes queues works actors)) (λ h. h.queues) (number w8) (InRange 0 32)
     (λ h. in_order (number w16 h.works ∷ number w8 h.actors ∷ [])) (λ queues h. (h.cpus ≡ cpus) × (h.workers ≡ workers) × (h.steps ≡ steps) × (h.flushes ≡ flushes) × (h.queues ≡ queues) × (h.works ≤ 256) × (h.actors ≤ 16))
     (λ h. in_order (number w8 h.queues ∷ number w16 h.works ∷ number w8 h.actors ∷ [])) (λ h. (h.cpus ≡ cpus) × (h.workers ≡ workers) × (h.steps ≡ steps) × (h.flushes ≡ flushes) × (h.queues ≤ 32) × (h.works ≤ 256) × (h.actors ≤ 16))
     (bytes_of 0 32 (omega arith) (omega arith)) (λ queues fits. heads_works cpus workers steps flushes queues) (record {
@@ -205,10 +205,10 @@ heads_queues cpus workers steps flushes =
     })
 
 heads_flushes : (cpus workers steps : ℕ)
-    → Codec (short_at >>= λ flushes. number_at w8 0 32 >>= λ queues. number_at w16 0 256 >>= λ works. number_at w8 0 16 >>= λ actors. done (head_with cpus workers steps flushes queues works actors))
+    → Codec (read_short >>= λ flushes. read_number w8 0 32 >>= λ queues. read_number w16 0 256 >>= λ works. read_number w8 0 16 >>= λ actors. done (head_with cpus workers steps flushes queues works actors))
     (λ h. in_order (number w16 h.flushes ∷ number w8 h.queues ∷ number w16 h.works ∷ number w8 h.actors ∷ [])) (λ h. (h.cpus ≡ cpus) × (h.workers ≡ workers) × (h.steps ≡ steps) × (h.flushes ≤ 65535) × (h.queues ≤ 32) × (h.works ≤ 256) × (h.actors ≤ 16))
 heads_flushes cpus workers steps =
-    one_then short_at (λ flushes. number_at w8 0 32 >>= λ queues. number_at w16 0 256 >>= λ works. number_at w8 0 16 >>= λ actors. done (head_with cpus workers steps flushes queues works actors)) (λ h. h.flushes) (number w16) (InRange 0 65535)
+    one_then read_short (λ flushes. read_number w8 0 32 >>= λ queues. read_number w16 0 256 >>= λ works. read_number w8 0 16 >>= λ actors. done (head_with cpus workers steps flushes queues works actors)) (λ h. h.flushes) (number w16) (InRange 0 65535)
     (λ h. in_order (number w8 h.queues ∷ number w16 h.works ∷ number w8 h.actors ∷ [])) (λ flushes h. (h.cpus ≡ cpus) × (h.workers ≡ workers) × (h.steps ≡ steps) × (h.flushes ≡ flushes) × (h.queues ≤ 32) × (h.works ≤ 256) × (h.actors ≤ 16))
     (λ h. in_order (number w16 h.flushes ∷ number w8 h.queues ∷ number w16 h.works ∷ number w8 h.actors ∷ [])) (λ h. (h.cpus ≡ cpus) × (h.workers ≡ workers) × (h.steps ≡ steps) × (h.flushes ≤ 65535) × (h.queues ≤ 32) × (h.works ≤ 256) × (h.actors ≤ 16))
     (shorts 0 65535 (omega arith) (omega arith)) (λ flushes fits. heads_queues cpus workers steps flushes) (record {
@@ -218,10 +218,10 @@ heads_flushes cpus workers steps =
     })
 
 heads_steps : (cpus workers : ℕ)
-    → Codec (long_at >>= λ steps. short_at >>= λ flushes. number_at w8 0 32 >>= λ queues. number_at w16 0 256 >>= λ works. number_at w8 0 16 >>= λ actors. done (head_with cpus workers steps flushes queues works actors))
+    → Codec (read_long >>= λ steps. read_short >>= λ flushes. read_number w8 0 32 >>= λ queues. read_number w16 0 256 >>= λ works. read_number w8 0 16 >>= λ actors. done (head_with cpus workers steps flushes queues works actors))
     (λ h. in_order (number w32 h.steps ∷ number w16 h.flushes ∷ number w8 h.queues ∷ number w16 h.works ∷ number w8 h.actors ∷ [])) (λ h. (h.cpus ≡ cpus) × (h.workers ≡ workers) × (h.steps ≤ 4294967295) × (h.flushes ≤ 65535) × (h.queues ≤ 32) × (h.works ≤ 256) × (h.actors ≤ 16))
 heads_steps cpus workers =
-    one_then long_at (λ steps. short_at >>= λ flushes. number_at w8 0 32 >>= λ queues. number_at w16 0 256 >>= λ works. number_at w8 0 16 >>= λ actors. done (head_with cpus workers steps flushes queues works actors)) (λ h. h.steps) (number w32) (InRange 0 4294967295)
+    one_then read_long (λ steps. read_short >>= λ flushes. read_number w8 0 32 >>= λ queues. read_number w16 0 256 >>= λ works. read_number w8 0 16 >>= λ actors. done (head_with cpus workers steps flushes queues works actors)) (λ h. h.steps) (number w32) (InRange 0 4294967295)
     (λ h. in_order (number w16 h.flushes ∷ number w8 h.queues ∷ number w16 h.works ∷ number w8 h.actors ∷ [])) (λ steps h. (h.cpus ≡ cpus) × (h.workers ≡ workers) × (h.steps ≡ steps) × (h.flushes ≤ 65535) × (h.queues ≤ 32) × (h.works ≤ 256) × (h.actors ≤ 16))
     (λ h. in_order (number w32 h.steps ∷ number w16 h.flushes ∷ number w8 h.queues ∷ number w16 h.works ∷ number w8 h.actors ∷ [])) (λ h. (h.cpus ≡ cpus) × (h.workers ≡ workers) × (h.steps ≤ 4294967295) × (h.flushes ≤ 65535) × (h.queues ≤ 32) × (h.works ≤ 256) × (h.actors ≤ 16))
     (longs 0 4294967295 (omega arith) (omega arith)) (λ steps fits. heads_flushes cpus workers steps) (record {
@@ -231,10 +231,10 @@ heads_steps cpus workers =
     })
 
 heads_workers : (cpus : ℕ)
-    → Codec (byte_at >>= λ workers. long_at >>= λ steps. short_at >>= λ flushes. number_at w8 0 32 >>= λ queues. number_at w16 0 256 >>= λ works. number_at w8 0 16 >>= λ actors. done (head_with cpus workers steps flushes queues works actors))
+    → Codec (read_byte >>= λ workers. read_long >>= λ steps. read_short >>= λ flushes. read_number w8 0 32 >>= λ queues. read_number w16 0 256 >>= λ works. read_number w8 0 16 >>= λ actors. done (head_with cpus workers steps flushes queues works actors))
     (λ h. in_order (number w8 h.workers ∷ number w32 h.steps ∷ number w16 h.flushes ∷ number w8 h.queues ∷ number w16 h.works ∷ number w8 h.actors ∷ [])) (λ h. (h.cpus ≡ cpus) × (h.workers ≤ 255) × (h.steps ≤ 4294967295) × (h.flushes ≤ 65535) × (h.queues ≤ 32) × (h.works ≤ 256) × (h.actors ≤ 16))
 heads_workers cpus =
-    one_then byte_at (λ workers. long_at >>= λ steps. short_at >>= λ flushes. number_at w8 0 32 >>= λ queues. number_at w16 0 256 >>= λ works. number_at w8 0 16 >>= λ actors. done (head_with cpus workers steps flushes queues works actors)) (λ h. h.workers) (number w8) (InRange 0 255)
+    one_then read_byte (λ workers. read_long >>= λ steps. read_short >>= λ flushes. read_number w8 0 32 >>= λ queues. read_number w16 0 256 >>= λ works. read_number w8 0 16 >>= λ actors. done (head_with cpus workers steps flushes queues works actors)) (λ h. h.workers) (number w8) (InRange 0 255)
     (λ h. in_order (number w32 h.steps ∷ number w16 h.flushes ∷ number w8 h.queues ∷ number w16 h.works ∷ number w8 h.actors ∷ [])) (λ workers h. (h.cpus ≡ cpus) × (h.workers ≡ workers) × (h.steps ≤ 4294967295) × (h.flushes ≤ 65535) × (h.queues ≤ 32) × (h.works ≤ 256) × (h.actors ≤ 16))
     (λ h. in_order (number w8 h.workers ∷ number w32 h.steps ∷ number w16 h.flushes ∷ number w8 h.queues ∷ number w16 h.works ∷ number w8 h.actors ∷ [])) (λ h. (h.cpus ≡ cpus) × (h.workers ≤ 255) × (h.steps ≤ 4294967295) × (h.flushes ≤ 65535) × (h.queues ≤ 32) × (h.works ≤ 256) × (h.actors ≤ 16))
     (bytes_of 0 255 (omega arith) (omega arith)) (λ workers fits. heads_steps cpus workers) (record {
@@ -243,10 +243,10 @@ heads_workers cpus =
       written = λ h i. refl;
     })
 
-heads_cpus : Codec (byte_at >>= λ cpus. byte_at >>= λ workers. long_at >>= λ steps. short_at >>= λ flushes. number_at w8 0 32 >>= λ queues. number_at w16 0 256 >>= λ works. number_at w8 0 16 >>= λ actors. done (head_with cpus workers steps flushes queues works actors))
+heads_cpus : Codec (read_byte >>= λ cpus. read_byte >>= λ workers. read_long >>= λ steps. read_short >>= λ flushes. read_number w8 0 32 >>= λ queues. read_number w16 0 256 >>= λ works. read_number w8 0 16 >>= λ actors. done (head_with cpus workers steps flushes queues works actors))
     (λ h. in_order (number w8 h.cpus ∷ number w8 h.workers ∷ number w32 h.steps ∷ number w16 h.flushes ∷ number w8 h.queues ∷ number w16 h.works ∷ number w8 h.actors ∷ [])) (λ h. (h.cpus ≤ 255) × (h.workers ≤ 255) × (h.steps ≤ 4294967295) × (h.flushes ≤ 65535) × (h.queues ≤ 32) × (h.works ≤ 256) × (h.actors ≤ 16))
 heads_cpus =
-    one_then byte_at (λ cpus. byte_at >>= λ workers. long_at >>= λ steps. short_at >>= λ flushes. number_at w8 0 32 >>= λ queues. number_at w16 0 256 >>= λ works. number_at w8 0 16 >>= λ actors. done (head_with cpus workers steps flushes queues works actors)) (λ h. h.cpus) (number w8) (InRange 0 255)
+    one_then read_byte (λ cpus. read_byte >>= λ workers. read_long >>= λ steps. read_short >>= λ flushes. read_number w8 0 32 >>= λ queues. read_number w16 0 256 >>= λ works. read_number w8 0 16 >>= λ actors. done (head_with cpus workers steps flushes queues works actors)) (λ h. h.cpus) (number w8) (InRange 0 255)
     (λ h. in_order (number w8 h.workers ∷ number w32 h.steps ∷ number w16 h.flushes ∷ number w8 h.queues ∷ number w16 h.works ∷ number w8 h.actors ∷ [])) (λ cpus h. (h.cpus ≡ cpus) × (h.workers ≤ 255) × (h.steps ≤ 4294967295) × (h.flushes ≤ 65535) × (h.queues ≤ 32) × (h.works ≤ 256) × (h.actors ≤ 16))
     (λ h. in_order (number w8 h.cpus ∷ number w8 h.workers ∷ number w32 h.steps ∷ number w16 h.flushes ∷ number w8 h.queues ∷ number w16 h.works ∷ number w8 h.actors ∷ [])) (λ h. (h.cpus ≤ 255) × (h.workers ≤ 255) × (h.steps ≤ 4294967295) × (h.flushes ≤ 65535) × (h.queues ≤ 32) × (h.works ≤ 256) × (h.actors ≤ 16))
     (bytes_of 0 255 (omega arith) (omega arith)) (λ cpus fits. heads_workers cpus) (record {
@@ -261,10 +261,10 @@ HeadFits h = (h.cpus ≤ 255) × (h.workers ≤ 255) × (h.steps ≤ 4294967295)
 abbrev head_bytes : Head → List ℕ
 head_bytes h = in_order (number w16 1 ∷ number w8 h.cpus ∷ number w8 h.workers ∷ number w32 h.steps ∷ number w16 h.flushes ∷ number w8 h.queues ∷ number w16 h.works ∷ number w8 h.actors ∷ [])
 
-pub heads : Codec head_at head_bytes HeadFits
-unfolding head_at
+pub heads : Codec read_head head_bytes HeadFits
+unfolding read_head
 heads =
-    one_then version_at (λ version. byte_at >>= λ cpus. byte_at >>= λ workers. long_at >>= λ steps. short_at >>= λ flushes. number_at w8 0 32 >>= λ queues. number_at w16 0 256 >>= λ works. number_at w8 0 16 >>= λ actors. done (head_with cpus workers steps flushes queues works actors)) (λ h. 1) (number w16) (InRange 1 1)
+    one_then read_version (λ version. read_byte >>= λ cpus. read_byte >>= λ workers. read_long >>= λ steps. read_short >>= λ flushes. read_number w8 0 32 >>= λ queues. read_number w16 0 256 >>= λ works. read_number w8 0 16 >>= λ actors. done (head_with cpus workers steps flushes queues works actors)) (λ h. 1) (number w16) (InRange 1 1)
     (λ h. in_order (number w8 h.cpus ∷ number w8 h.workers ∷ number w32 h.steps ∷ number w16 h.flushes ∷ number w8 h.queues ∷ number w16 h.works ∷ number w8 h.actors ∷ [])) (λ version h. HeadFits h) head_bytes HeadFits
     versions (λ version fits. heads_cpus) (record {
       join = λ version h fits i. (omega (arith, fits.0, fits.1), i);
@@ -314,13 +314,13 @@ same_numbers a b c d a' b' c' d' queues works actors p q r s =
     ∙ ap (λ x. numbered a' b' x d queues works actors) r ∙ ap (λ x. numbered a' b' c' x queues works actors) s
 
 scenarios_actors : (head : Head) (queues : List QueueDecl) (works : List WorkContents)
-    → Codec (many actor_at head.actors >>= λ actors. done (scenario_with head queues works actors)) (λ S. in_order (flat_map actor_image S.actors ∷ []))
+    → Codec (many read_actor head.actors >>= λ actors. done (scenario_with head queues works actors)) (λ S. in_order (flat_map actor_image S.actors ∷ []))
     (λ S. NumbersAre head S × (S.queues ≡ queues) × (S.works ≡ works) × Each ActorFits head.actors S.actors)
 scenarios_actors head queues works =
-    one_then (many actor_at head.actors) (λ actors. done (scenario_with head queues works actors)) (λ S. S.actors) (flat_map actor_image) (Each ActorFits head.actors)
+    one_then (many read_actor head.actors) (λ actors. done (scenario_with head queues works actors)) (λ S. S.actors) (flat_map actor_image) (Each ActorFits head.actors)
     (λ S. []) (λ actors S. S ≡ scenario_with head queues works actors) (λ S. in_order (flat_map actor_image S.actors ∷ []))
     (λ S. NumbersAre head S × (S.queues ≡ queues) × (S.works ≡ works) × Each ActorFits head.actors S.actors)
-    (many_of actor_at actor_image ActorFits actors head.actors) (λ actors fits. nothing (scenario_with head queues works actors)) (record {
+    (many_of read_actor actor_image ActorFits actors head.actors) (λ actors fits. nothing (scenario_with head queues works actors)) (record {
       join = λ actors S fits e.
           let actors_are : S.actors ≡ actors = ap (λ (x : ScenarioContents). x.actors) e in (
             actors_are,
@@ -340,31 +340,31 @@ scenarios_actors head queues works =
     })
 
 scenarios_works : (head : Head) (queues : List QueueDecl)
-    → Codec (many work_at head.works >>= λ works. many actor_at head.actors >>= λ actors. done (scenario_with head queues works actors))
+    → Codec (many read_work head.works >>= λ works. many read_actor head.actors >>= λ actors. done (scenario_with head queues works actors))
     (λ S. in_order (flat_map work_image S.works ∷ flat_map actor_image S.actors ∷ []))
     (λ S. NumbersAre head S × (S.queues ≡ queues) × Each WorkFits head.works S.works × Each ActorFits head.actors S.actors)
 scenarios_works head queues =
-    one_then (many work_at head.works) (λ works. many actor_at head.actors >>= λ actors. done (scenario_with head queues works actors)) (λ S. S.works) (flat_map work_image) (Each WorkFits head.works)
+    one_then (many read_work head.works) (λ works. many read_actor head.actors >>= λ actors. done (scenario_with head queues works actors)) (λ S. S.works) (flat_map work_image) (Each WorkFits head.works)
     (λ S. in_order (flat_map actor_image S.actors ∷ [])) (λ works S. NumbersAre head S × (S.queues ≡ queues) × (S.works ≡ works) × Each ActorFits head.actors S.actors)
     (λ S. in_order (flat_map work_image S.works ∷ flat_map actor_image S.actors ∷ []))
     (λ S. NumbersAre head S × (S.queues ≡ queues) × Each WorkFits head.works S.works × Each ActorFits head.actors S.actors)
-    (many_of work_at work_image WorkFits works head.works) (λ works fits. scenarios_actors head queues works) (record {
+    (many_of read_work work_image WorkFits works head.works) (λ works fits. scenarios_actors head queues works) (record {
       join = λ works S fits h. (h.2, (h.0, h.1, subst (Each WorkFits head.works) (sym h.2) fits, h.3));
       cut = λ S h. (h.2, (h.0, h.1, refl, h.3));
       written = λ S h. refl;
     })
 
 scenarios_queues : (head : Head)
-    → Codec (many queue_at head.queues >>= λ queues. many work_at head.works >>= λ works. many actor_at head.actors >>= λ actors. done (scenario_with head queues works actors))
+    → Codec (many read_queue head.queues >>= λ queues. many read_work head.works >>= λ works. many read_actor head.actors >>= λ actors. done (scenario_with head queues works actors))
     (λ S. in_order (flat_map queue_image S.queues ∷ flat_map work_image S.works ∷ flat_map actor_image S.actors ∷ []))
     (λ S. NumbersAre head S × Each IsQueueDecl head.queues S.queues × Each WorkFits head.works S.works × Each ActorFits head.actors S.actors)
 scenarios_queues head =
-    one_then (many queue_at head.queues) (λ queues. many work_at head.works >>= λ works. many actor_at head.actors >>= λ actors. done (scenario_with head queues works actors)) (λ S. S.queues) (flat_map queue_image) (Each IsQueueDecl head.queues)
+    one_then (many read_queue head.queues) (λ queues. many read_work head.works >>= λ works. many read_actor head.actors >>= λ actors. done (scenario_with head queues works actors)) (λ S. S.queues) (flat_map queue_image) (Each IsQueueDecl head.queues)
     (λ S. in_order (flat_map work_image S.works ∷ flat_map actor_image S.actors ∷ []))
     (λ queues S. NumbersAre head S × (S.queues ≡ queues) × Each WorkFits head.works S.works × Each ActorFits head.actors S.actors)
     (λ S. in_order (flat_map queue_image S.queues ∷ flat_map work_image S.works ∷ flat_map actor_image S.actors ∷ []))
     (λ S. NumbersAre head S × Each IsQueueDecl head.queues S.queues × Each WorkFits head.works S.works × Each ActorFits head.actors S.actors)
-    (many_of queue_at queue_image IsQueueDecl queues head.queues) (λ queues fits. scenarios_works head queues) (record {
+    (many_of read_queue queue_image IsQueueDecl queues head.queues) (λ queues fits. scenarios_works head queues) (record {
       join = λ queues S fits h. (h.1, (h.0, subst (Each IsQueueDecl head.queues) (sym h.1) fits, h.2, h.3));
       cut = λ S h. (h.1, (h.0, refl, h.2, h.3));
       written = λ S h. refl;
@@ -434,7 +434,7 @@ scenario_cut S h = (
 pub scenarios : Codec scenario_at rest_image HasImage
 unfolding scenario_at
 scenarios =
-    one_then head_at (λ head. many queue_at head.queues >>= λ queues. many work_at head.works >>= λ works. many actor_at head.actors >>= λ actors. done (scenario_with head queues works actors)) head_of head_bytes HeadFits
+    one_then read_head (λ head. many read_queue head.queues >>= λ queues. many read_work head.works >>= λ works. many read_actor head.actors >>= λ actors. done (scenario_with head queues works actors)) head_of head_bytes HeadFits
     (λ S. in_order (flat_map queue_image S.queues ∷ flat_map work_image S.works ∷ flat_map actor_image S.actors ∷ []))
     (λ head S. NumbersAre head S × Each IsQueueDecl head.queues S.queues × Each WorkFits head.works S.works × Each ActorFits head.actors S.actors)
     rest_image HasImage

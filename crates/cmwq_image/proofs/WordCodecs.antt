@@ -7,7 +7,7 @@ use Rattle.cmwq_types.specs.declared.instr.Instr.TheVariants as instr
 use Rattle.cmwq_types.specs.declared.scenario.Op.{Op}
 use Rattle.cmwq_types.specs.declared.scenario.Op.TheVariants as op
 use Rattle.cmwq_image.specs.Image.{in_order, number, word, word_image, op_word, instr_word}
-use Rattle.cmwq_image.specs.ImageFault.{◌>>=◌, done, field, number_at, op_tag_of, op_room, op_of, op_at, instr_tag_of, instr_room, instr_of, instr_at}
+use Rattle.cmwq_image.specs.ImageFault.{◌>>=◌, done, field, read_number, op_tag_of, op_room, op_of, read_op, instr_tag_of, instr_room, instr_of, read_instr}
 use Rattle.cmwq_types.specs.Values.{IsOp, IsInstr}
 use Rattle.cmwq_image.specs.declared.error.ImageError.TheVariants as errors
 use Rattle.cmwq_image.specs.declared.tags.InstrTag.{InstrTag}
@@ -62,10 +62,10 @@ Tagged room tag as_word t x = (tag x ≡ t) × Within (room t) (as_word x).cpu (
 
 words_n : {T B : Type 0} (code : T → ℕ) (tag_of : ℕ → Option T) (room : T → Room) (made : T → (cpu a n : ℕ) → B) (tag : B → T) (as_word : B → Word) (Fits : B → Type 0)
     → WordLaws code tag_of room made tag as_word Fits → (t : T) (cpu a : ℕ) → cpu ≤ (room t).cpu → a ≤ (room t).a
-    → Codec (number_at w32 0 (room t).n >>= λ n. done (made t cpu a n)) (λ x. in_order (number w32 (as_word x).n ∷ []))
+    → Codec (read_number w32 0 (room t).n >>= λ n. done (made t cpu a n)) (λ x. in_order (number w32 (as_word x).n ∷ []))
     (λ x. Tagged room tag as_word t x × ((as_word x).cpu ≡ cpu) × ((as_word x).a ≡ a))
 words_n {T} {B} code tag_of room made tag as_word Fits laws t cpu a cpu_fits a_fits =
-    one_then (number_at w32 0 (room t).n) (λ n. done (made t cpu a n)) (λ x. (as_word x).n) (number w32) (InRange 0 (room t).n)
+    one_then (read_number w32 0 (room t).n) (λ n. done (made t cpu a n)) (λ x. (as_word x).n) (number w32) (InRange 0 (room t).n)
     (λ x. []) (λ n x. x ≡ made t cpu a n) (λ x. in_order (number w32 (as_word x).n ∷ []))
     (λ x. Tagged room tag as_word t x × ((as_word x).cpu ≡ cpu) × ((as_word x).a ≡ a))
     (numbers w32 4294967296 0 (room t).n wide32 (omega arith) (laws.is_room t).n_fits)
@@ -90,10 +90,10 @@ words_n {T} {B} code tag_of room made tag as_word Fits laws t cpu a cpu_fits a_f
 
 words_a : {T B : Type 0} (code : T → ℕ) (tag_of : ℕ → Option T) (room : T → Room) (made : T → (cpu a n : ℕ) → B) (tag : B → T) (as_word : B → Word) (Fits : B → Type 0)
     → WordLaws code tag_of room made tag as_word Fits → (t : T) (cpu : ℕ) → cpu ≤ (room t).cpu
-    → Codec (number_at w16 0 (room t).a >>= λ a. number_at w32 0 (room t).n >>= λ n. done (made t cpu a n)) (λ x. in_order (number w16 (as_word x).a ∷ number w32 (as_word x).n ∷ []))
+    → Codec (read_number w16 0 (room t).a >>= λ a. read_number w32 0 (room t).n >>= λ n. done (made t cpu a n)) (λ x. in_order (number w16 (as_word x).a ∷ number w32 (as_word x).n ∷ []))
     (λ x. Tagged room tag as_word t x × ((as_word x).cpu ≡ cpu))
 words_a {T} {B} code tag_of room made tag as_word Fits laws t cpu cpu_fits =
-    one_then (number_at w16 0 (room t).a) (λ a. number_at w32 0 (room t).n >>= λ n. done (made t cpu a n)) (λ x. (as_word x).a) (number w16) (InRange 0 (room t).a)
+    one_then (read_number w16 0 (room t).a) (λ a. read_number w32 0 (room t).n >>= λ n. done (made t cpu a n)) (λ x. (as_word x).a) (number w16) (InRange 0 (room t).a)
     (λ x. in_order (number w32 (as_word x).n ∷ [])) (λ a x. Tagged room tag as_word t x × ((as_word x).cpu ≡ cpu) × ((as_word x).a ≡ a))
     (λ x. in_order (number w16 (as_word x).a ∷ number w32 (as_word x).n ∷ []))
     (λ x. Tagged room tag as_word t x × ((as_word x).cpu ≡ cpu))
@@ -107,10 +107,10 @@ words_a {T} {B} code tag_of room made tag as_word Fits laws t cpu cpu_fits =
 
 words_cpu : {T B : Type 0} (code : T → ℕ) (tag_of : ℕ → Option T) (room : T → Room) (made : T → (cpu a n : ℕ) → B) (tag : B → T) (as_word : B → Word) (Fits : B → Type 0)
     → WordLaws code tag_of room made tag as_word Fits → (t : T)
-    → Codec (number_at w8 0 (room t).cpu >>= λ cpu. number_at w16 0 (room t).a >>= λ a. number_at w32 0 (room t).n >>= λ n. done (made t cpu a n))
+    → Codec (read_number w8 0 (room t).cpu >>= λ cpu. read_number w16 0 (room t).a >>= λ a. read_number w32 0 (room t).n >>= λ n. done (made t cpu a n))
     (λ x. in_order (number w8 (as_word x).cpu ∷ number w16 (as_word x).a ∷ number w32 (as_word x).n ∷ [])) (Tagged room tag as_word t)
 words_cpu {T} {B} code tag_of room made tag as_word Fits laws t =
-    one_then (number_at w8 0 (room t).cpu) (λ cpu. number_at w16 0 (room t).a >>= λ a. number_at w32 0 (room t).n >>= λ n. done (made t cpu a n)) (λ x. (as_word x).cpu) (number w8) (InRange 0 (room t).cpu)
+    one_then (read_number w8 0 (room t).cpu) (λ cpu. read_number w16 0 (room t).a >>= λ a. read_number w32 0 (room t).n >>= λ n. done (made t cpu a n)) (λ x. (as_word x).cpu) (number w8) (InRange 0 (room t).cpu)
     (λ x. in_order (number w16 (as_word x).a ∷ number w32 (as_word x).n ∷ [])) (λ cpu x. Tagged room tag as_word t x × ((as_word x).cpu ≡ cpu))
     (λ x. in_order (number w8 (as_word x).cpu ∷ number w16 (as_word x).a ∷ number w32 (as_word x).n ∷ []))
     (Tagged room tag as_word t)
@@ -124,11 +124,11 @@ words_cpu {T} {B} code tag_of room made tag as_word Fits laws t =
 
 words : {T B : Type 0} (code : T → ℕ) (tag_of : ℕ → Option T) (room : T → Room) (made : T → (cpu a n : ℕ) → B) (tag : B → T) (as_word : B → Word) (Fits : B → Type 0)
     → WordLaws code tag_of room made tag as_word Fits
-    → Codec (field errors.BadField 1 (λ bytes. tag_of (from_be_bytes w8 bytes)) >>= λ t. number_at w8 0 (room t).cpu >>= λ cpu. number_at w16 0 (room t).a >>= λ a. number_at w32 0 (room t).n >>= λ n. done (made t cpu a n))
+    → Codec (field errors.BadField 1 (λ bytes. tag_of (from_be_bytes w8 bytes)) >>= λ t. read_number w8 0 (room t).cpu >>= λ cpu. read_number w16 0 (room t).a >>= λ a. read_number w32 0 (room t).n >>= λ n. done (made t cpu a n))
     (λ x. word_image (as_word x)) Fits
 words {T} {B} code tag_of room made tag as_word Fits laws =
     one_then (field errors.BadField 1 (λ bytes. tag_of (from_be_bytes w8 bytes)))
-    (λ t. number_at w8 0 (room t).cpu >>= λ cpu. number_at w16 0 (room t).a >>= λ a. number_at w32 0 (room t).n >>= λ n. done (made t cpu a n))
+    (λ t. read_number w8 0 (room t).cpu >>= λ cpu. read_number w16 0 (room t).a >>= λ a. read_number w32 0 (room t).n >>= λ n. done (made t cpu a n))
     tag (λ t. number w8 (code t)) (λ t. Unit {0})
     (λ x. in_order (number w8 (as_word x).cpu ∷ number w16 (as_word x).a ∷ number w32 (as_word x).n ∷ [])) (Tagged room tag as_word)
     (λ x. word_image (as_word x)) Fits
@@ -244,8 +244,8 @@ op_laws = record {
   again = op_again;
 }
 
-pub ops : Codec op_at (λ x. word_image (op_word x)) IsOp
-unfolding op_at
+pub ops : Codec read_op (λ x. word_image (op_word x)) IsOp
+unfolding read_op
 ops = words op_code op_tag_of op_room op_of op_tag_is op_word IsOp op_laws
 
 -- ---- instructions
@@ -507,6 +507,6 @@ instr_laws = record {
   again = instr_again;
 }
 
-pub instrs : Codec instr_at (λ x. word_image (instr_word x)) IsInstr
-unfolding instr_at
+pub instrs : Codec read_instr (λ x. word_image (instr_word x)) IsInstr
+unfolding read_instr
 instrs = words instr_code instr_tag_of instr_room instr_of instr_tag_is instr_word IsInstr instr_laws

@@ -71,22 +71,22 @@ abbrev pub if_within : ℕ → ℕ → ℕ → Option ℕ
 if_within low high n = if within low high n then Some n else None
 
 -- a number from low to high
-abbrev pub number_at : Width → (low high : ℕ) → Reader ℕ
-number_at width low high = field errors.BadField (byte_len width) (λ bytes. if_within low high (from_be_bytes width bytes))
+abbrev pub read_number : Width → (low high : ℕ) → Reader ℕ
+read_number width low high = field errors.BadField (byte_len width) (λ bytes. if_within low high (from_be_bytes width bytes))
 
 -- a number that may be any
-abbrev pub byte_at : Reader ℕ
-byte_at = number_at w8 0 255
+abbrev pub read_byte : Reader ℕ
+read_byte = read_number w8 0 255
 
-abbrev pub short_at : Reader ℕ
-short_at = number_at w16 0 65535
+abbrev pub read_short : Reader ℕ
+read_short = read_number w16 0 65535
 
-abbrev pub long_at : Reader ℕ
-long_at = number_at w32 0 4294967295
+abbrev pub read_long : Reader ℕ
+read_long = read_number w32 0 4294967295
 
 -- the one version that there is
-abbrev pub version_at : Reader ℕ
-version_at = field (λ at. errors.Version) 2 (λ bytes. if_within 1 1 (from_be_bytes w16 bytes))
+abbrev pub read_version : Reader ℕ
+read_version = field (λ at. errors.Version) 2 (λ bytes. if_within 1 1 (from_be_bytes w16 bytes))
 
 -- the name of which these bytes are the field
 abbrev pub name_of : List ℕ → Option (List ℕ)
@@ -95,8 +95,8 @@ name_of (len ∷ bytes) =
     let name = take len bytes in
     if bytes_eq (len ∷ bytes) (name_field name) && is_name name then Some name else None
 
-abbrev pub name_at : Reader (List ℕ)
-name_at = field errors.BadField 16 name_of
+abbrev pub read_name : Reader (List ℕ)
+read_name = field errors.BadField 16 name_of
 
 -- Queues.
 
@@ -112,12 +112,12 @@ flags_of bits = record {
   ordered = is_set bits 16;
 }
 
-unfoldable pub queue_at : Reader QueueDecl
-queue_at = do
-  name ← name_at
-  max ← short_at
-  bits ← number_at w8 0 31
-  nothing ← number_at w8 0 0
+unfoldable pub read_queue : Reader QueueDecl
+read_queue = do
+  name ← read_name
+  max ← read_short
+  bits ← read_number w8 0 31
+  nothing ← read_number w8 0 0
   done (record { name = name; max = max; flags = flags_of bits })
 
 -- Words.
@@ -147,15 +147,15 @@ op_of op_tag.Sleep cpu a n = op.Sleep n
 op_of op_tag.Queue cpu a n = op.Queue (record { 0 = a }) cpu
 op_of op_tag.Finish cpu a n = op.Finish
 
-abbrev pub op_tag_at : Reader OpTag
-op_tag_at = field errors.BadField 1 (λ bytes. op_tag_of (from_be_bytes w8 bytes))
+abbrev pub read_op_tag : Reader OpTag
+read_op_tag = field errors.BadField 1 (λ bytes. op_tag_of (from_be_bytes w8 bytes))
 
-unfoldable pub op_at : Reader Op
-op_at = do
-  tag ← op_tag_at
-  cpu ← number_at w8 0 (op_room tag).cpu
-  a ← number_at w16 0 (op_room tag).a
-  n ← number_at w32 0 (op_room tag).n
+unfoldable pub read_op : Reader Op
+read_op = do
+  tag ← read_op_tag
+  cpu ← read_number w8 0 (op_room tag).cpu
+  a ← read_number w16 0 (op_room tag).a
+  n ← read_number w32 0 (op_room tag).n
   done (op_of tag cpu a n)
 
 abbrev pub instr_tag_of : ℕ → Option InstrTag
@@ -222,61 +222,61 @@ instr_of instr_tag.Ask cpu a n = instr.Ask a
 instr_of instr_tag.Busy cpu a n = instr.Busy
 instr_of instr_tag.State cpu a n = instr.State (record { 0 = a })
 
-abbrev pub instr_tag_at : Reader InstrTag
-instr_tag_at = field errors.BadField 1 (λ bytes. instr_tag_of (from_be_bytes w8 bytes))
+abbrev pub read_instr_tag : Reader InstrTag
+read_instr_tag = field errors.BadField 1 (λ bytes. instr_tag_of (from_be_bytes w8 bytes))
 
-unfoldable pub instr_at : Reader Instr
-instr_at = do
-  tag ← instr_tag_at
-  cpu ← number_at w8 0 (instr_room tag).cpu
-  a ← number_at w16 0 (instr_room tag).a
-  n ← number_at w32 0 (instr_room tag).n
+unfoldable pub read_instr : Reader Instr
+read_instr = do
+  tag ← read_instr_tag
+  cpu ← read_number w8 0 (instr_room tag).cpu
+  a ← read_number w16 0 (instr_room tag).a
+  n ← read_number w32 0 (instr_room tag).n
   done (instr_of tag cpu a n)
 
 -- Works and actors.
 
-unfoldable pub work_at : Reader WorkContents
-work_at = do
-  name ← name_at
-  queue ← byte_at
-  ops ← number_at w8 1 MAX_OPS
-  body ← many op_at ops
+unfoldable pub read_work : Reader WorkContents
+read_work = do
+  name ← read_name
+  queue ← read_byte
+  ops ← read_number w8 1 MAX_OPS
+  body ← many read_op ops
   done (record { name = name; queue = record { 0 = queue }; body = body })
 
-unfoldable pub line_at : Reader Line
-line_at = do
-  instr ← instr_at
-  times ← long_at
+unfoldable pub read_line : Reader Line
+read_line = do
+  instr ← read_instr
+  times ← read_long
   done (record { instr = instr; times = times })
 
-unfoldable pub actor_at : Reader ActorContents
-actor_at = do
-  name ← name_at
-  count ← number_at w16 0 MAX_LINES
-  lines ← many line_at count
+unfoldable pub read_actor : Reader ActorContents
+read_actor = do
+  name ← read_name
+  count ← read_number w16 0 MAX_LINES
+  lines ← many read_line count
   done (record { name = name; lines = lines })
 
 -- The whole image.
 
 -- what stands behind the four bytes that tell what it is
-unfoldable pub head_at : Reader Head
-head_at = do
-  version ← version_at
-  cpus ← byte_at
-  workers ← byte_at
-  steps ← long_at
-  flushes ← short_at
-  queues ← number_at w8 0 MAX_QUEUES
-  works ← number_at w16 0 MAX_WORKS
-  actors ← number_at w8 0 MAX_ACTORS
+unfoldable pub read_head : Reader Head
+read_head = do
+  version ← read_version
+  cpus ← read_byte
+  workers ← read_byte
+  steps ← read_long
+  flushes ← read_short
+  queues ← read_number w8 0 MAX_QUEUES
+  works ← read_number w16 0 MAX_WORKS
+  actors ← read_number w8 0 MAX_ACTORS
   done (record { cpus = cpus; workers = workers; steps = steps; flushes = flushes; queues = queues; works = works; actors = actors })
 
 unfoldable pub scenario_at : Reader ScenarioContents
 scenario_at = do
-  head ← head_at
-  queues ← many queue_at head.queues
-  works ← many work_at head.works
-  actors ← many actor_at head.actors
+  head ← read_head
+  queues ← many read_queue head.queues
+  works ← many read_work head.works
+  actors ← many read_actor head.actors
   done (record {
     cpus = head.cpus;
     workers = head.workers;

@@ -1,5 +1,5 @@
 //! The fields of an image, one after the other.
-ghost use Rattle.cmwq_image.specs.ImageFault.{GivesRead, behind_magic, field, instr_tag_at, name_at, name_of, number_at, op_tag_at, version_at};
+ghost use Rattle.cmwq_image.specs.ImageFault.{GivesRead, behind_magic, field, read_instr_tag, read_name, name_of, read_number, read_op_tag, read_version};
 ghost use Rattle.std.specs.List.{list_all};
 ghost use Rattle.std.specs.Int.{w8, w16, w32};
 ghost use Rattle.std.specs.Prelude.{◌≡◌, ◌+◌, ◌≤◌, ◌==◌, IfOk, OnOk, Some, length};
@@ -63,7 +63,7 @@ impl<'a> Fields<'a> {
     /// A number of one byte, from `low` to `high`.
     pub(crate) fn byte(&mut self, low: u8, high: u8) -> Result<u8, ImageError>
         requires { self.old.at + 1 ≤ u32.MAX }
-        ensures read { GivesRead (λ n. (n, self.new)) result (number_at w8 low high self.old) }
+        ensures read { GivesRead (λ n. (n, self.new)) result (read_number w8 low high self.old) }
         ensures within { IfOk result (λ n. (low ≤ n) × (n ≤ high)) }
         ensures ahead { OnOk result (self.new.at ≡ self.old.at + 1) }
     {
@@ -79,7 +79,7 @@ impl<'a> Fields<'a> {
     /// A number of two bytes, from `low` to `high`.
     pub(crate) fn short(&mut self, low: u16, high: u16) -> Result<u16, ImageError>
         requires { self.old.at + 2 ≤ u32.MAX }
-        ensures read { GivesRead (λ n. (n, self.new)) result (number_at w16 low high self.old) }
+        ensures read { GivesRead (λ n. (n, self.new)) result (read_number w16 low high self.old) }
         ensures within { IfOk result (λ n. (low ≤ n) × (n ≤ high)) }
         ensures ahead { OnOk result (self.new.at ≡ self.old.at + 2) }
     {
@@ -95,7 +95,7 @@ impl<'a> Fields<'a> {
     /// A number of four bytes, from `low` to `high`.
     pub(crate) fn long(&mut self, low: u32, high: u32) -> Result<u32, ImageError>
         requires { self.old.at + 4 ≤ u32.MAX }
-        ensures read { GivesRead (λ n. (n, self.new)) result (number_at w32 low high self.old) }
+        ensures read { GivesRead (λ n. (n, self.new)) result (read_number w32 low high self.old) }
         ensures within { IfOk result (λ n. (low ≤ n) × (n ≤ high)) }
         ensures ahead { OnOk result (self.new.at ≡ self.old.at + 4) }
     {
@@ -111,7 +111,7 @@ impl<'a> Fields<'a> {
     /// The version, which is 1.
     pub(crate) fn version(&mut self) -> Result<(), ImageError>
         requires { self.old.at + 2 ≤ u32.MAX }
-        ensures read { GivesRead (λ nothing. (1, self.new)) result (version_at self.old) }
+        ensures read { GivesRead (λ nothing. (1, self.new)) result (read_version self.old) }
         ensures ahead { OnOk result (self.new.at ≡ self.old.at + 2) }
     {
         let bytes = self.take(2)?;
@@ -124,7 +124,7 @@ impl<'a> Fields<'a> {
     /// A name: its length, its bytes, and zeros.
     pub(crate) fn name(&mut self) -> Result<Name, ImageError>
         requires { self.old.at + 16 ≤ u32.MAX }
-        ensures read { GivesRead (λ name. (name, self.new)) result (name_at self.old) }
+        ensures read { GivesRead (λ name. (name, self.new)) result (read_name self.old) }
         ensures ahead { OnOk result (self.new.at ≡ self.old.at + 16) }
     {
         let at = self.at;
@@ -135,7 +135,7 @@ impl<'a> Fields<'a> {
     /// The tag of an operation.
     pub(crate) fn op_tag(&mut self) -> Result<OpTag, ImageError>
         requires { self.old.at + 1 ≤ u32.MAX }
-        ensures read { GivesRead (λ tag. (tag, self.new)) result (op_tag_at self.old) }
+        ensures read { GivesRead (λ tag. (tag, self.new)) result (read_op_tag self.old) }
         ensures ahead { OnOk result (self.new.at ≡ self.old.at + 1) }
     {
         let at = self.at;
@@ -146,7 +146,7 @@ impl<'a> Fields<'a> {
     /// The tag of an instruction.
     pub(crate) fn instr_tag(&mut self) -> Result<InstrTag, ImageError>
         requires { self.old.at + 1 ≤ u32.MAX }
-        ensures read { GivesRead (λ tag. (tag, self.new)) result (instr_tag_at self.old) }
+        ensures read { GivesRead (λ tag. (tag, self.new)) result (read_instr_tag self.old) }
         ensures ahead { OnOk result (self.new.at ≡ self.old.at + 1) }
     {
         let at = self.at;

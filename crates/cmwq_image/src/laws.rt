@@ -75,7 +75,7 @@ pub fn worked_image_is_written()
 {}
 
 /// It reads as that scenario; changed in one place, it has the fault of that place.
-#[tactic(auto, unfolding(crate::specs::ImageFault::reading, crate::specs::ImageFault::scenario_at, crate::specs::ImageFault::head_at, crate::specs::ImageFault::queue_at, crate::specs::ImageFault::work_at, crate::specs::ImageFault::op_at, crate::specs::ImageFault::actor_at, crate::specs::ImageFault::line_at, crate::specs::ImageFault::instr_at))]
+#[tactic(auto, unfolding(crate::specs::ImageFault::reading, crate::specs::ImageFault::scenario_at, crate::specs::ImageFault::read_head, crate::specs::ImageFault::read_queue, crate::specs::ImageFault::read_work, crate::specs::ImageFault::read_op, crate::specs::ImageFault::read_actor, crate::specs::ImageFault::read_line, crate::specs::ImageFault::read_instr))]
 pub fn worked_image_is_read()
     ensures read { reading worked_image ≡ Ok worked_scenario }
     ensures empty { reading [] ≡ Err errors.Magic }

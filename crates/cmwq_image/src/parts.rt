@@ -1,5 +1,5 @@
 //! The parts of an image: its head, queues, works and actors.
-ghost use Rattle.cmwq_image.specs.ImageFault.{GivesRead, actor_at, flags_of, head_at, instr_at, is_set, line_at, many, op_at, queue_at, work_at};
+ghost use Rattle.cmwq_image.specs.ImageFault.{GivesRead, read_actor, flags_of, read_head, read_instr, is_set, read_line, many, read_op, read_queue, read_work};
 ghost use Rattle.cmwq_types.specs.declared.limits.TheConstants.{MAX_ACTORS, MAX_LINES, MAX_OPS, MAX_QUEUES, MAX_WORKS};
 ghost use Rattle.std.specs.Prelude.{◌≡◌, ◌+◌, ◌*◌, ◌≤◌, ◌<◌, IfOk, OnOk};
 
@@ -14,10 +14,10 @@ use std::alloc::Global;
 
 impl<'a> Fields<'a> {
     /// What stands behind the magic bytes, up to the queues.
-    #[tactic(auto, unfolding(crate::specs::ImageFault::head_at))]
+    #[tactic(auto, unfolding(crate::specs::ImageFault::read_head))]
     pub(crate) fn head(&mut self) -> Result<Head, ImageError>
         requires { self.old.at + 14 ≤ u32.MAX }
-        ensures read { GivesRead (λ head. (head, self.new)) result (head_at self.old) }
+        ensures read { GivesRead (λ head. (head, self.new)) result (read_head self.old) }
         ensures queues { IfOk result (λ head. head.queues ≤ MAX_QUEUES) }
         ensures works { IfOk result (λ head. head.works ≤ MAX_WORKS) }
         ensures actors { IfOk result (λ head. head.actors ≤ MAX_ACTORS) }
@@ -45,7 +45,7 @@ impl<'a> Fields<'a> {
     /// So many queues.
     pub(crate) fn queues(&mut self, alloc: Global, count: u8) -> Result<Vec<QueueDecl>, ImageError>
         requires { self.old.at + 20 * count ≤ u32.MAX }
-        ensures read { GivesRead (λ queues. (queues.items, self.new)) result (many queue_at count self.old) }
+        ensures read { GivesRead (λ queues. (queues.items, self.new)) result (many read_queue count self.old) }
         ensures ahead { OnOk result (self.new.at ≤ self.old.at + 20 * count) }
     {
         let mut queues = Vec::new(alloc);
@@ -55,10 +55,10 @@ impl<'a> Fields<'a> {
         Ok(queues)
     }
 
-    #[tactic(auto, unfolding(crate::specs::ImageFault::queue_at))]
+    #[tactic(auto, unfolding(crate::specs::ImageFault::read_queue))]
     fn queue(&mut self) -> Result<QueueDecl, ImageError>
         requires { self.old.at + 20 ≤ u32.MAX }
-        ensures read { GivesRead (λ queue. (queue, self.new)) result (queue_at self.old) }
+        ensures read { GivesRead (λ queue. (queue, self.new)) result (read_queue self.old) }
         ensures ahead { OnOk result (self.new.at ≡ self.old.at + 20) }
     {
         let name = self.name()?;
@@ -72,7 +72,7 @@ impl<'a> Fields<'a> {
     /// So many works.
     pub(crate) fn works(&mut self, alloc: Global, count: u16) -> Result<Vec<WorkDecl>, ImageError>
         requires { self.old.at + 530 * count ≤ u32.MAX }
-        ensures read { GivesRead (λ works. (works.items, self.new)) result (many work_at count self.old) }
+        ensures read { GivesRead (λ works. (works.items, self.new)) result (many read_work count self.old) }
         ensures ahead { OnOk result (self.new.at ≤ self.old.at + 530 * count) }
     {
         let mut works = Vec::new(alloc);
@@ -82,10 +82,10 @@ impl<'a> Fields<'a> {
         Ok(works)
     }
 
-    #[tactic(auto, unfolding(crate::specs::ImageFault::work_at))]
+    #[tactic(auto, unfolding(crate::specs::ImageFault::read_work))]
     fn work(&mut self, alloc: Global) -> Result<WorkDecl, ImageError>
         requires { self.old.at + 530 ≤ u32.MAX }
-        ensures read { GivesRead (λ work. (work, self.new)) result (work_at self.old) }
+        ensures read { GivesRead (λ work. (work, self.new)) result (read_work self.old) }
         ensures ahead { OnOk result (self.new.at ≤ self.old.at + 530) }
     {
         let name = self.name()?;
@@ -98,7 +98,7 @@ impl<'a> Fields<'a> {
     /// So many operations.
     fn ops(&mut self, alloc: Global, count: u8) -> Result<Vec<Op>, ImageError>
         requires { self.old.at + 8 * count ≤ u32.MAX }
-        ensures read { GivesRead (λ ops. (ops.items, self.new)) result (many op_at count self.old) }
+        ensures read { GivesRead (λ ops. (ops.items, self.new)) result (many read_op count self.old) }
         ensures ahead { OnOk result (self.new.at ≤ self.old.at + 8 * count) }
     {
         let mut ops = Vec::new(alloc);
@@ -108,10 +108,10 @@ impl<'a> Fields<'a> {
         Ok(ops)
     }
 
-    #[tactic(auto, unfolding(crate::specs::ImageFault::op_at))]
+    #[tactic(auto, unfolding(crate::specs::ImageFault::read_op))]
     fn op(&mut self) -> Result<Op, ImageError>
         requires { self.old.at + 8 ≤ u32.MAX }
-        ensures read { GivesRead (λ op. (op, self.new)) result (op_at self.old) }
+        ensures read { GivesRead (λ op. (op, self.new)) result (read_op self.old) }
         ensures ahead { OnOk result (self.new.at ≡ self.old.at + 8) }
     {
         let tag = self.op_tag()?;
@@ -125,7 +125,7 @@ impl<'a> Fields<'a> {
     /// So many actors.
     pub(crate) fn actors(&mut self, alloc: Global, count: u8) -> Result<Vec<Actor>, ImageError>
         requires { self.old.at + 49170 * count ≤ u32.MAX }
-        ensures read { GivesRead (λ actors. (actors.items, self.new)) result (many actor_at count self.old) }
+        ensures read { GivesRead (λ actors. (actors.items, self.new)) result (many read_actor count self.old) }
         ensures ahead { OnOk result (self.new.at ≤ self.old.at + 49170 * count) }
     {
         let mut actors = Vec::new(alloc);
@@ -135,10 +135,10 @@ impl<'a> Fields<'a> {
         Ok(actors)
     }
 
-    #[tactic(auto, unfolding(crate::specs::ImageFault::actor_at))]
+    #[tactic(auto, unfolding(crate::specs::ImageFault::read_actor))]
     fn actor(&mut self, alloc: Global) -> Result<Actor, ImageError>
         requires { self.old.at + 49170 ≤ u32.MAX }
-        ensures read { GivesRead (λ actor. (actor, self.new)) result (actor_at self.old) }
+        ensures read { GivesRead (λ actor. (actor, self.new)) result (read_actor self.old) }
         ensures ahead { OnOk result (self.new.at ≤ self.old.at + 49170) }
     {
         let name = self.name()?;
@@ -150,7 +150,7 @@ impl<'a> Fields<'a> {
     /// So many lines.
     fn lines(&mut self, alloc: Global, count: u16) -> Result<Vec<Line>, ImageError>
         requires { self.old.at + 12 * count ≤ u32.MAX }
-        ensures read { GivesRead (λ lines. (lines.items, self.new)) result (many line_at count self.old) }
+        ensures read { GivesRead (λ lines. (lines.items, self.new)) result (many read_line count self.old) }
         ensures ahead { OnOk result (self.new.at ≤ self.old.at + 12 * count) }
     {
         let mut lines = Vec::new(alloc);
@@ -160,10 +160,10 @@ impl<'a> Fields<'a> {
         Ok(lines)
     }
 
-    #[tactic(auto, unfolding(crate::specs::ImageFault::line_at))]
+    #[tactic(auto, unfolding(crate::specs::ImageFault::read_line))]
     fn line(&mut self) -> Result<Line, ImageError>
         requires { self.old.at + 12 ≤ u32.MAX }
-        ensures read { GivesRead (λ line. (line, self.new)) result (line_at self.old) }
+        ensures read { GivesRead (λ line. (line, self.new)) result (read_line self.old) }
         ensures ahead { OnOk result (self.new.at ≡ self.old.at + 12) }
     {
         let instr = self.instr()?;
@@ -171,10 +171,10 @@ impl<'a> Fields<'a> {
         Ok(Line { instr, times })
     }
 
-    #[tactic(auto, unfolding(crate::specs::ImageFault::instr_at))]
+    #[tactic(auto, unfolding(crate::specs::ImageFault::read_instr))]
     fn instr(&mut self) -> Result<Instr, ImageError>
         requires { self.old.at + 8 ≤ u32.MAX }
-        ensures read { GivesRead (λ instr. (instr, self.new)) result (instr_at self.old) }
+        ensures read { GivesRead (λ instr. (instr, self.new)) result (read_instr self.old) }
         ensures ahead { OnOk result (self.new.at ≡ self.old.at + 8) }
     {
         let tag = self.instr_tag()?;

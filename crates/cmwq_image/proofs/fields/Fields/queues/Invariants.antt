@@ -1,10 +1,10 @@
 use Rattle.std.proofs.Common.{◌≡◌, ◌+◌, ◌-◌, ◌*◌, ◌≤◌}
 use Rattle.cmwq_image.proofs.LoopLemmas.{with_front}
 use Rattle.cmwq_image.proofs.fields.Fields.queues.Given as goal
-use Rattle.cmwq_image.specs.ImageFault.{queue_at, many}
+use Rattle.cmwq_image.specs.ImageFault.{read_queue, many}
 
 abbrev pub invariant-loop : goal.invariant-loop
 invariant-loop l = record {
-  read : with_front l.queues.items (many queue_at (l.count - l.counter) l.self) ≡ many queue_at l.count l.fn.self;
+  read : with_front l.queues.items (many read_queue (l.count - l.counter) l.self) ≡ many read_queue l.count l.fn.self;
   ahead : l.self.at ≤ l.fn.self.at + 20 * l.counter;
 }
