@@ -1,9 +1,9 @@
 -- What a caller cites of lists: what stays sorted, and how many nodes are held.
-use Rattle.std.proofs.Common.{◌≡◌, refl, ℕ, ◌+◌, ◌<◌, ◌≤◌, Bool, true, false, List, [], ◌∷◌, length, cond, nat_lt, arith}
+use Rattle.std.proofs.Common.{◌≡◌, refl, ℕ, ◌+◌, ◌<◌, ◌≤◌, Bool, ◌==◌, true, false, List, [], ◌∷◌, length, cond, nat_lt, arith}
 use Rattle.std.specs.List.{sum_by}
 use Rattle.std.proofs.lemmas.Bool.Decides.{nat_tests}
 use Rattle.std.proofs.lemmas.List.Sums.{sum_by-set}
-use Rattle.cmwq_lists.specs.Contents.{AllAfter, Contents, Entry, IsSorted, NoneBelow, behind_front, held, list_at, placed, with_list}
+use Rattle.cmwq_lists.specs.Contents.{AllAfter, Contents, Entry, IsSorted, NoneBelow, behind_front, held, list_at, placed, with_list, without}
 use Rattle.cmwq_lists.specs.Ranks.{Rises}
 
 -- orders that rise don't fall
@@ -40,6 +40,23 @@ sorted_placed new (e ∷ rest) sorted = by_test (nat_lt new.node.order e.node.or
 pub sorted_behind_front : (entries : List Entry) → IsSorted entries → IsSorted (behind_front entries)
 sorted_behind_front [] sorted = tt
 sorted_behind_front (e ∷ rest) sorted = sorted.1
+
+-- and what `unlink` leaves
+below_without : (low key : ℕ) (entries : List Entry) → NoneBelow low entries → NoneBelow low (without key entries)
+below_without low key [] above = tt
+below_without low key (e ∷ rest) above = by_test (e.key == key) (below_without low key rest above.1)
+  where
+    by_test : (b : Bool) → NoneBelow low (without key rest) → NoneBelow low (cond b rest (e ∷ without key rest))
+    by_test true later = above.1
+    by_test false later = (above.0, later)
+
+pub sorted_without : (key : ℕ) (entries : List Entry) → IsSorted entries → IsSorted (without key entries)
+sorted_without key [] sorted = tt
+sorted_without key (e ∷ rest) sorted = by_test (e.key == key) (sorted_without key rest sorted.1)
+  where
+    by_test : (b : Bool) → IsSorted (without key rest) → IsSorted (cond b rest (e ∷ without key rest))
+    by_test true later = sorted.1
+    by_test false later = (below_without e.node.order key rest sorted.0, later)
 
 -- how many nodes are held, once one list is another
 pub held-with_list : (c : Contents) (list : ℕ) (entries : List Entry) → list < length c.lists → held (with_list c list entries) + length (list_at c list) ≡ held c + length entries

@@ -1,17 +1,43 @@
 -- Laws on the tree of timers: a step on the way up, and what stands at the root.
-use Rattle.std.proofs.Common.{◌≡◌, ◌≢◌, ◌⊎◌, ℕ, zero, suc, ◌+◌, ◌-◌, ◌*◌, ◌/◌, ◌^◌, ◌<◌, ◌≤◌, Bool, true, false, ◌||◌, ◌&&◌, ◌==◌, nat_lt, List, length, drop, get_or, set, Option, Some, None, is_some, IfSome, cond, arith, refl, sym, ap, subst, ◌∙◌, inl, inr}
+use Rattle.std.proofs.Common.{◌≡◌, ◌≢◌, ◌⊎◌, ℕ, zero, suc, ◌+◌, ◌-◌, ◌*◌, ◌/◌, ◌%◌, ◌<◌, ◌≤◌, Bool, true, false, ◌||◌, ◌&&◌, ◌==◌, nat_lt, List, length, drop, get_or, set, Option, Some, None, is_some, IfSome, cond, arith, refl, sym, ap, subst, ◌∙◌, inl, inr}
 use Rattle.std.proofs.lemmas.Bool.{cases_eq, cases_lt}
 use Rattle.std.proofs.lemmas.Bool.Decides.{nat_tests}
 use Rattle.std.proofs.lemmas.List.{get_or-set_same, get_or-set_other, get_or-drop, length-drop, get_or_past}
-use Rattle.cmwq_types.specs.First.{first_below, by_least_two}
 use Rattle.cmwq_types.proofs.FirstLemmas.{by_least_two-order, first_below-unique, first_below-none}
 use Rattle.cmwq_timers.specs.declared.timer.Timer.{Timer}
-use Rattle.cmwq_timers.specs.Timers.{timer_at, due_of, stamp_of, fires_before, first_to_fire, timer_found, least_timer}
-use Rattle.cmwq_timers.specs.Tree.{comes_before, earlier, node, IsOwn, IsSettledBut, IsKept}
+use Rattle.std.specs.Option.{option_eq}
+use Rattle.cmwq_timers.specs.contracts.timer.TimerPartialEq.TheImpl.{eq-value}
+use Rattle.cmwq_timers.specs.Timers.{timer_at, due_of, stamp_of, fires_before, first_to_fire, least_timer}
+use Rattle.cmwq_timers.specs.Tree.{comes_before, earlier, node, IsEarlier, IsOwn, IsSettledBut, IsKept}
+
+-- the earlier one of a node's timer and of the node's beside it is the earlier one of their parent's children
+pub earlier_beside : (nodes : List (Option Timer)) (at : ℕ) (timer : Option Timer) → timer ≡ earlier (node nodes at) (node nodes (at + 1 - 2 * (at % 2))) → IsEarlier timer (node nodes (2 * (at / 2))) (node nodes (2 * (at / 2) + 1))
+earlier_beside nodes at timer is = elim (cases_eq at (2 * (at / 2))) [
+  | inl even ↦
+      let right : at + 1 - 2 * (at % 2) ≡ 2 * (at / 2) + 1 = omega (arith, even) in
+      inl (is ∙ ap (λ (k : ℕ). earlier (node nodes at) (node nodes k)) right ∙ ap (λ (k : ℕ). earlier (node nodes k) (node nodes (2 * (at / 2) + 1))) even)
+  | inr odd ↦
+      let here : at ≡ 2 * (at / 2) + 1 = omega (arith, odd) in
+      let left : at + 1 - 2 * (at % 2) ≡ 2 * (at / 2) = omega (arith, here) in
+      inr (is ∙ ap (λ (k : ℕ). earlier (node nodes at) (node nodes k)) left ∙ ap (λ (k : ℕ). earlier (node nodes k) (node nodes (2 * (at / 2)))) here)
+]
+
+pub same_timers : (a b : Option Timer) → option_eq (eq-value).it a b ≡ true → a ≡ b
+same_timers None None same = refl
+same_timers None (Some b) same = absurd (cc)
+same_timers (Some a) None same = absurd (cc)
+same_timers (Some a) (Some b) same = grind (arith, nat_tests, same)
+
+-- where the parent has its timer already, nothing changes further up
+pub settled_stop : (nodes : List (Option Timer)) (leaves at : ℕ) (timer : Option Timer) → IsSettledBut nodes leaves (at / 2) → node nodes (at / 2) ≡ timer → IsEarlier timer (node nodes (2 * (at / 2))) (node nodes (2 * (at / 2) + 1)) → IsSettledBut nodes leaves 0
+settled_stop nodes leaves at timer settled stands is i above inside differs = elim (cases_eq i (at / 2)) [
+  | inl same ↦ rw (same, stands) is
+  | inr other ↦ settled i above inside other
+]
 
 -- one step up: the node above the changed one is settled again
 pub settled_step : (nodes : List (Option Timer)) (leaves at : ℕ) (timer : Option Timer) → IsSettledBut nodes leaves (at / 2) → 1 < at → at < 2 * leaves → length nodes ≡ 2 * leaves
-    → timer ≡ earlier (node nodes (2 * (at / 2))) (node nodes (2 * (at / 2) + 1)) → IsSettledBut (set nodes (at / 2) timer) leaves (at / 2 / 2)
+    → IsEarlier timer (node nodes (2 * (at / 2))) (node nodes (2 * (at / 2) + 1)) → IsSettledBut (set nodes (at / 2) timer) leaves (at / 2 / 2)
 settled_step nodes leaves at timer settled low high nodes_are is i above inside differs =
     let within : at / 2 < length nodes = omega arith in
     let left_other : 2 * i ≢ at / 2 = λ same. differs (omega arith) in
@@ -67,14 +93,28 @@ earlier_is_one (Some a) (Some b) t is = by_test (comes_before b a) is
     by_test true e = inr e
     by_test false e = inl e
 
+-- neither of a node's children comes before it, and its timer is one of theirs
+pub above_child : (timer left right : Option Timer) (t : Timer) → IsEarlier timer left right → (left ≡ Some t) ⊎ (right ≡ Some t) → HasEarlier t timer
+above_child timer left right t (inl is) (inl here) = rw (is, here) (earlier_left t right)
+above_child timer left right t (inl is) (inr here) = rw (is, here) (earlier_right left t)
+above_child timer left right t (inr is) (inl here) = rw (is, here) (earlier_right right t)
+above_child timer left right t (inr is) (inr here) = rw (is, here) (earlier_left t left)
+
+pub is_of_child : (timer left right : Option Timer) (t : Timer) → IsEarlier timer left right → timer ≡ Some t → (left ≡ Some t) ⊎ (right ≡ Some t)
+is_of_child timer left right t (inl is) some = earlier_is_one left right t (sym is ∙ some)
+is_of_child timer left right t (inr is) some = elim (earlier_is_one right left t (sym is ∙ some)) [
+  | inl on_right ↦ inr on_right
+  | inr on_left ↦ inl on_left
+]
+
 -- no timer of the tree comes before the root's
 pub root_least : (nodes : List (Option Timer)) (leaves : ℕ) → IsSettledBut nodes leaves 0 → (fuel i : ℕ) (t : Timer) → i ≤ fuel → 0 < i → i < 2 * leaves → node nodes i ≡ Some t → HasEarlier t (node nodes 1)
 root_least nodes leaves settled zero i t bound above inside is = absurd (omega arith)
 root_least nodes leaves settled (suc fuel) i t bound above inside is =
     elim (cases_lt 1 i) [
       | inl lower ↦
-          let parent : node nodes (i / 2) ≡ earlier (node nodes (2 * (i / 2))) (node nodes (2 * (i / 2) + 1)) = settled (i / 2) (omega arith) (omega arith) (λ same. omega arith) in
-          let near : HasEarlier t (node nodes (i / 2)) = rw parent (child (cases_eq i (2 * (i / 2)))) in
+          let parent = settled (i / 2) (omega arith) (omega arith) (λ same. omega arith) in
+          let near = above_child (node nodes (i / 2)) (node nodes (2 * (i / 2))) (node nodes (2 * (i / 2) + 1)) t parent (child (cases_eq i (2 * (i / 2)))) in
           let far = root_least nodes leaves settled fuel (i / 2) near.least (omega arith) (omega arith) (omega arith) near.is in
           record { least = far.least; is = far.is; not_before = not_before_onward t near.least far.least near.not_before far.not_before }
       | inr here ↦
@@ -82,12 +122,11 @@ root_least nodes leaves settled (suc fuel) i t bound above inside is =
           record { least = t; is = ap (node nodes) (sym same) ∙ is; not_before = not_before_itself t }
     ]
   where
-    child : (i ≡ 2 * (i / 2)) ⊎ (i ≢ 2 * (i / 2)) → HasEarlier t (earlier (node nodes (2 * (i / 2))) (node nodes (2 * (i / 2) + 1)))
-    child (inl even) = (let there : node nodes (2 * (i / 2)) ≡ Some t = ap (node nodes) (sym even) ∙ is in rw there (earlier_left t (node nodes (2 * (i / 2) + 1))))
+    child : (i ≡ 2 * (i / 2)) ⊎ (i ≢ 2 * (i / 2)) → (node nodes (2 * (i / 2)) ≡ Some t) ⊎ (node nodes (2 * (i / 2) + 1) ≡ Some t)
+    child (inl even) = inl (ap (node nodes) (sym even) ∙ is)
     child (inr odd) =
-        let even_or : i ≡ 2 * (i / 2) + 1 = omega (arith, odd) in
-        let there : node nodes (2 * (i / 2) + 1) ≡ Some t = ap (node nodes) (sym even_or) ∙ is in
-        rw there (earlier_right (node nodes (2 * (i / 2))) t)
+        let right : i ≡ 2 * (i / 2) + 1 = omega (arith, odd) in
+        inr (ap (node nodes) (sym right) ∙ is)
 
 -- each timer of the tree stands at a leaf
 pub record StandsAtLeaf (nodes : List (Option Timer)) (leaves : ℕ) (t : Timer) : Type 0 where
@@ -100,7 +139,7 @@ leaf_of nodes leaves settled zero i t bound above inside is = absurd (omega arit
 leaf_of nodes leaves settled (suc fuel) i t bound above inside is =
     elim (cases_lt i leaves) [
       | inl inner ↦
-          elim (earlier_is_one (node nodes (2 * i)) (node nodes (2 * i + 1)) t (sym (settled i above inner (λ same. omega arith)) ∙ is)) [
+          elim (is_of_child (node nodes i) (node nodes (2 * i)) (node nodes (2 * i + 1)) t (settled i above inner (λ same. omega arith)) is) [
             | inl left ↦ leaf_of nodes leaves settled fuel (2 * i) t (omega arith) (omega arith) (omega arith) left
             | inr right ↦ leaf_of nodes leaves settled fuel (2 * i + 1) t (omega arith) (omega arith) (omega arith) right
           ]

@@ -131,7 +131,7 @@ fn write(nodes: &mut [Option<Timer>], leaves: usize, leaf: usize, timer: Option<
     settle(nodes, leaves, leaves + leaf);
 }
 
-/// Carries a change at a leaf up to the root.
+/// Carries a change at a leaf up, until a node has the timer that it is to have.
 fn settle(nodes: &mut [Option<Timer>], leaves: usize, changed: usize)
     requires nodes { length nodes.old ≡ 2 * leaves }
     requires fits { leaves < 2 ^ 16 }
@@ -143,8 +143,14 @@ fn settle(nodes: &mut [Option<Timer>], leaves: usize, changed: usize)
     ensures nodes { length nodes.new ≡ length nodes.old }
 {
     let mut at = changed;
+    let mut timer = nodes[at];
     while at > 1 {
+        let beside = nodes[at + 1 - 2 * (at % 2)];
         at /= 2;
-        nodes[at] = earlier(nodes[2 * at], nodes[2 * at + 1]);
+        timer = earlier(timer, beside);
+        if nodes[at] == timer {
+            break;
+        }
+        nodes[at] = timer;
     }
 }

@@ -1,4 +1,4 @@
-use Rattle.std.proofs.Common.{◌≡◌, List, Option, None, arith, sym, ap, ◌∙◌}
+use Rattle.std.proofs.Common.{List, Option, None, ap, ◌∙◌}
 use Rattle.cmwq_timers.specs.declared.timer.Timer.{Timer}
 use Rattle.cmwq_timers.specs.Tree.{node}
 use Rattle.cmwq_timers.specs.Timers.{least_timer}
