@@ -1,5 +1,6 @@
 mod AssembleLemmas
 mod BodyLemmas
+mod DraftLemmas
 mod HeaderLemmas
 mod Refused
 mod TextLemmas

@@ -82,12 +82,13 @@ fn read_lines<'t>(alloc: Global, text: &'t [u8]) -> Result<(Stage<'t>, u32), Asm
     ensures count { IfOk result (λ read. read.1 ≡ length (lines_of text.now)) }
     ensures few { IfOk result (λ read. read.1 ≤ MAX_TEXT) }
 {
+    let mut words = Vec::new(alloc);
     let mut stage = Stage::Start;
     let mut lines = 0;
     let mut rest = text;
     while let Some((line, behind)) = next_line(rest) {
         lines += 1;
-        stage = match judge(alloc, stage, line) {
+        stage = match judge(alloc, &mut words, stage, line) {
             Ok(next) => next,
             Err(error) => return Err(at_line(lines, error)),
         };

@@ -82,8 +82,10 @@ impl<'t> Parts<'t> {
 }
 
 /// The parts of a scenario that are told so far. Contracts see the scenario of these parts.
+///
+/// The parts lie in a box, so that a draft is moved at small cost.
 pub(crate) struct Draft<'t> {
-    parts: Parts<'t>,
+    parts: Box<Parts<'t>>,
 }
 
 impl<'t> Model for Draft<'t> {
@@ -93,23 +95,23 @@ impl<'t> Model for Draft<'t> {
     ghost Value = { ScenarioContents };
 
     ghost view = { λ d. record {
-      cpus = d.parts.cpus;
-      workers = d.parts.workers;
-      steps = d.parts.steps;
-      flushes = d.parts.flushes;
-      queues = d.parts.queues.items;
-      works = d.parts.works.items;
-      actors = d.parts.actors.items;
+      cpus = d.parts.value.cpus;
+      workers = d.parts.value.workers;
+      steps = d.parts.value.steps;
+      flushes = d.parts.value.flushes;
+      queues = d.parts.value.queues.items;
+      works = d.parts.value.works.items;
+      actors = d.parts.value.actors.items;
     } };
 
     ghost use Rattle.cmwq_types.specs.declared.limits.TheConstants.{MAX_QUEUES, MAX_WORKS};
     ghost use Rattle.std.specs.Prelude.{◌≤◌, length};
 
     ghost invariant = { λ d.
-        (length d.parts.queues.items ≤ MAX_QUEUES) × (length d.parts.works.items ≤ MAX_WORKS)
-        × (d.parts.queue_names ≡ map (λ queue. queue.name) d.parts.queues.items)
-        × (d.parts.work_names ≡ map (λ work. work.name) d.parts.works.items)
-        × (d.parts.actor_names ≡ map (λ actor. actor.name) d.parts.actors.items) };
+        (length d.parts.value.queues.items ≤ MAX_QUEUES) × (length d.parts.value.works.items ≤ MAX_WORKS)
+        × (d.parts.value.queue_names ≡ map (λ queue. queue.name) d.parts.value.queues.items)
+        × (d.parts.value.work_names ≡ map (λ work. work.name) d.parts.value.works.items)
+        × (d.parts.value.actor_names ≡ map (λ actor. actor.name) d.parts.value.actors.items) };
 }
 
 /// A draft is dropped as one: whoever drops it needs to know nothing of its parts.
@@ -121,8 +123,14 @@ impl<'t> Drop for Draft<'t> {
 
 impl<'t> Draft<'t> {
     /// A scenario of these numbers alone.
-    pub(crate) fn new(alloc: Global, cpus: u8, workers: u8, steps: u32, flushes: u16) -> Draft<'t>
-        ensures { result ≡ head_of cpus workers steps flushes }
+    pub(crate) fn new(
+        alloc: Global,
+        cpus: u8,
+        workers: u8,
+        steps: u32,
+        flushes: u16,
+    ) -> Result<Draft<'t>, NoMemory>
+        ensures { IfOk result (λ draft. draft ≡ head_of cpus workers steps flushes) }
     {
         let parts = Parts {
             cpus,
@@ -136,7 +144,8 @@ impl<'t> Draft<'t> {
             work_names: Names::new(alloc),
             actor_names: Names::new(alloc),
         };
-        Draft { parts }
+        let parts = Box::new(alloc, parts)?;
+        Ok(Draft { parts })
     }
 
     pub(crate) fn cpus(&self) -> u8
@@ -265,6 +274,6 @@ impl<'t> Draft<'t> {
         ensures { result ≡ self.entry }
     {
         let Draft { parts } = self;
-        parts.into_scenario()
+        Box::into_inner(parts).into_scenario()
     }
 }

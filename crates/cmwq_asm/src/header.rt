@@ -82,6 +82,6 @@ pub(crate) fn read_flushes<'t>(
     ensures { Gives stage_of result (step (stage.Steps cpus workers steps) (word.now ∷ rest.now)) }
 {
     let flushes = read_head_number(b"flushes", 0, u32::from(MAX_FLUSHES), word, rest)?;
-    let draft = Draft::new(alloc, cpus, workers, steps, flushes as u16);
+    let draft = Draft::new(alloc, cpus, workers, steps, flushes as u16)?;
     Ok(Stage::Queues(draft))
 }

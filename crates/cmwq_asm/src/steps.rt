@@ -17,33 +17,33 @@ use crate::queues::declare_queue;
 use crate::stage::Stage;
 use crate::works::declare_work;
 use cmwq_grammar::Why;
-use cmwq_scan::{Token, is_text, is_word, refusal, tokens_of};
+use cmwq_scan::{Token, is_text, is_word, read_tokens, refusal};
 use cmwq_types::Scenario;
-use smallvec::SmallVec;
 use std::alloc::Global;
 
-/// The stage after this line, or the first reason against it.
+/// The stage after this line, or the first reason against it. The line's words are left in `words`.
 #[tactic(auto, unfolding(cmwq_grammar::specs::Reasons::judge))]
 pub(crate) fn judge<'t>(
     alloc: Global,
+    words: &mut Vec<Token<'t>>,
     stage: Stage<'t>,
     line: &'t [u8],
 ) -> Result<Stage<'t>, LineError>
     ensures { Gives stage_of result (judge (stage_of stage.entry) line.now) }
 {
-    let words = words_of(alloc, line)?;
-    step(alloc, stage, &words)
+    read_words(words, line)?;
+    step(alloc, stage, words)
 }
 
-/// The words of the line, if it is text.
-fn words_of<'t>(alloc: Global, line: &'t [u8]) -> Result<SmallVec<Token<'t>, 8>, LineError>
-    ensures { Gives (λ words. words.items) result (text_words line.now) }
+/// Leaves the words of the line in the vector, if it is text.
+fn read_words<'t>(words: &mut Vec<Token<'t>>, line: &'t [u8]) -> Result<(), LineError>
+    ensures { Gives (λ _. words.new.items) result (text_words line.now) }
 {
     if !is_text(line) {
         return Err(LineError::Why(Why::BadUtf8));
     }
-    let words = tokens_of(alloc, line)?;
-    Ok(words)
+    read_tokens(words, line)?;
+    Ok(())
 }
 
 /// The stage after a line of these words. A line without words tells nothing.

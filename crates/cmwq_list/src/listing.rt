@@ -14,6 +14,7 @@ use cmwq_grammar::laws::listing_spells_its_scenario;
 use cmwq_types::{
     Actor, Flags, Instr, Line, NoMemory, Op, QueueDecl, QueueId, Scenario, WorkDecl, WorkId,
 };
+use itoa::Buffer;
 use std::alloc::Global;
 
 /// The listing of the scenario, as bytes: its lines in order, each with one space between words and a line
@@ -42,41 +43,45 @@ fn listing_of(alloc: Global, scenario: &Scenario) -> Result<Vec<u8>, NoMemory>
         ..
     } = *scenario;
     let mut text = Vec::new(alloc);
-    push_number(alloc, &mut text, b"cpus", u32::from(cpus))?;
-    push_number(alloc, &mut text, b"workers", u32::from(workers))?;
-    push_number(alloc, &mut text, b"steps", steps)?;
-    push_number(alloc, &mut text, b"flushes", u32::from(flushes))?;
-    push_queues(alloc, &mut text, &scenario.queues)?;
+    push_number(&mut text, b"cpus", u32::from(cpus))?;
+    push_number(&mut text, b"workers", u32::from(workers))?;
+    push_number(&mut text, b"steps", steps)?;
+    push_number(&mut text, b"flushes", u32::from(flushes))?;
+    push_queues(&mut text, &scenario.queues)?;
     push_works(&mut text, scenario)?;
-    push_bodies(alloc, &mut text, scenario)?;
-    push_actors(alloc, &mut text, scenario)?;
+    push_bodies(&mut text, scenario)?;
+    push_actors(&mut text, scenario)?;
     Ok(text)
 }
 
 /// Writes a line of a word and a number.
-fn push_number(alloc: Global, text: &mut Vec<u8>, word: &[u8], n: u32) -> Result<(), NoMemory>
+fn push_number(text: &mut Vec<u8>, word: &[u8], n: u32) -> Result<(), NoMemory>
     ensures { OnOk result (text.new.items ≡ text.old.items ++ line_text (word.now ∷ decimal n ∷ [])) }
 {
-    let digits = n.to_string(alloc)?;
-    push_line(text, word, &[digits.as_bytes()])
+    let mut digits = Buffer::new();
+    push_line(text, word, &[digits.format(n).as_bytes()])
 }
 
-fn push_queues(alloc: Global, text: &mut Vec<u8>, queues: &[QueueDecl]) -> Result<(), NoMemory>
+fn push_queues(text: &mut Vec<u8>, queues: &[QueueDecl]) -> Result<(), NoMemory>
     ensures text { OnOk result (text.new.items ≡ text.old.items ++ flat_map written_text (map queue_line queues.now)) }
     ensures queues { OnOk result (All IsQueueDecl queues.now) }
 {
     for queue in queues {
-        push_queue(alloc, text, *queue)?;
+        push_queue(text, *queue)?;
     }
     Ok(())
 }
 
-fn push_queue(alloc: Global, text: &mut Vec<u8>, queue: QueueDecl) -> Result<(), NoMemory>
+fn push_queue(text: &mut Vec<u8>, queue: QueueDecl) -> Result<(), NoMemory>
     ensures text { OnOk result (text.new.items ≡ text.old.items ++ written_text (queue_line queue)) }
     ensures queue { OnOk result (IsQueueDecl queue) }
 {
-    let max = queue.max.to_string(alloc)?;
-    let words: &[&[u8]] = &[queue.name.as_bytes(), b"max", max.as_bytes()];
+    let mut digits = Buffer::new();
+    let words: &[&[u8]] = &[
+        queue.name.as_bytes(),
+        b"max",
+        digits.format(queue.max).as_bytes(),
+    ];
     push_flagged(text, b"queue", words, queue.flags)
 }
 
@@ -130,107 +135,87 @@ fn push_works(text: &mut Vec<u8>, scenario: &Scenario) -> Result<(), NoMemory>
     Ok(())
 }
 
-fn push_bodies(alloc: Global, text: &mut Vec<u8>, scenario: &Scenario) -> Result<(), NoMemory>
+fn push_bodies(text: &mut Vec<u8>, scenario: &Scenario) -> Result<(), NoMemory>
     ensures text { OnOk result (text.new.items ≡ text.old.items ++ flat_map written_text (flat_map (body_lines scenario.now) scenario.now.works)) }
     ensures bodies { OnOk result (All (λ work. AllByRecursion IsOp work.body) scenario.now.works) }
 {
     for work in &scenario.works {
         push_line(text, b"body", &[work.name.as_bytes()])?;
-        push_ops(alloc, text, scenario, &work.body)?;
+        push_ops(text, scenario, &work.body)?;
     }
     Ok(())
 }
 
-fn push_ops(
-    alloc: Global,
-    text: &mut Vec<u8>,
-    scenario: &Scenario,
-    body: &[Op],
-) -> Result<(), NoMemory>
+fn push_ops(text: &mut Vec<u8>, scenario: &Scenario, body: &[Op]) -> Result<(), NoMemory>
     ensures text { OnOk result (text.new.items ≡ text.old.items ++ flat_map written_text (map (op_line scenario.now) body.now)) }
     ensures ops { OnOk result (All IsOp body.now) }
 {
     for op in body {
-        push_op(alloc, text, scenario, *op)?;
+        push_op(text, scenario, *op)?;
     }
     Ok(())
 }
 
-fn push_op(alloc: Global, text: &mut Vec<u8>, scenario: &Scenario, op: Op) -> Result<(), NoMemory>
+fn push_op(text: &mut Vec<u8>, scenario: &Scenario, op: Op) -> Result<(), NoMemory>
     ensures text { OnOk result (text.new.items ≡ text.old.items ++ written_text (op_line scenario.now op)) }
     ensures op { IsOp op }
 {
     match op {
-        Op::Burn(ticks) => push_number(alloc, text, b"burn", ticks),
-        Op::Sleep(ticks) => push_number(alloc, text, b"sleep", ticks),
+        Op::Burn(ticks) => push_number(text, b"burn", ticks),
+        Op::Sleep(ticks) => push_number(text, b"sleep", ticks),
         Op::Queue(work, cpu) => {
-            let cpu = cpu.to_string(alloc)?;
-            push_line(text, b"queue", &[work_name(scenario, work), cpu.as_bytes()])
+            let mut digits = Buffer::new();
+            let cpu = digits.format(cpu).as_bytes();
+            push_line(text, b"queue", &[work_name(scenario, work), cpu])
         }
         Op::Finish => push_line(text, b"finish", &[]),
     }
 }
 
-fn push_actors(alloc: Global, text: &mut Vec<u8>, scenario: &Scenario) -> Result<(), NoMemory>
+fn push_actors(text: &mut Vec<u8>, scenario: &Scenario) -> Result<(), NoMemory>
     ensures text { OnOk result (text.new.items ≡ text.old.items ++ flat_map written_text (flat_map (actor_lines scenario.now) scenario.now.actors)) }
     ensures actors { OnOk result (All IsActor scenario.now.actors) }
 {
     for actor in &scenario.actors {
         push_line(text, b"actor", &[actor.name.as_bytes()])?;
-        push_lines(alloc, text, scenario, &actor.lines)?;
+        push_lines(text, scenario, &actor.lines)?;
     }
     Ok(())
 }
 
-fn push_lines(
-    alloc: Global,
-    text: &mut Vec<u8>,
-    scenario: &Scenario,
-    lines: &[Line],
-) -> Result<(), NoMemory>
+fn push_lines(text: &mut Vec<u8>, scenario: &Scenario, lines: &[Line]) -> Result<(), NoMemory>
     ensures text { OnOk result (text.new.items ≡ text.old.items ++ flat_map written_text (map (actor_line scenario.now) lines.now)) }
     ensures lines { OnOk result (All IsLine lines.now) }
 {
     for line in lines {
-        push_actor_line(alloc, text, scenario, *line)?;
+        push_actor_line(text, scenario, *line)?;
     }
     Ok(())
 }
 
-fn push_actor_line(
-    alloc: Global,
-    text: &mut Vec<u8>,
-    scenario: &Scenario,
-    line: Line,
-) -> Result<(), NoMemory>
+fn push_actor_line(text: &mut Vec<u8>, scenario: &Scenario, line: Line) -> Result<(), NoMemory>
     ensures text { OnOk result (text.new.items ≡ text.old.items ++ written_text (actor_line scenario.now line)) }
     ensures line { IsLine line }
 {
-    push_instr(alloc, text, scenario, line.instr)?;
-    push_times(alloc, text, line.times)?;
+    push_instr(text, scenario, line.instr)?;
+    push_times(text, line.times)?;
     text.push(b'\n')?;
     Ok(())
 }
 
-fn push_instr(
-    alloc: Global,
-    text: &mut Vec<u8>,
-    scenario: &Scenario,
-    instr: Instr,
-) -> Result<(), NoMemory>
+fn push_instr(text: &mut Vec<u8>, scenario: &Scenario, instr: Instr) -> Result<(), NoMemory>
     ensures text { OnOk result (text.new.items ≡ text.old.items ++ join_with_byte 32 (instr_words scenario.now instr)) }
     ensures instr { IsInstr instr }
 {
     match instr {
         Instr::Queue(work, cpu) => {
-            let cpu = cpu.to_string(alloc)?;
-            push_words(text, b"queue", &[work_name(scenario, work), cpu.as_bytes()])
+            push_of_name(text, b"queue", work_name(scenario, work), u32::from(cpu))
         }
         Instr::Delay(work, cpu, ticks) => {
-            push_delayed(alloc, text, b"delay", work_name(scenario, work), cpu, ticks)
+            push_delayed(text, b"delay", work_name(scenario, work), cpu, ticks)
         }
         Instr::Mod(work, cpu, ticks) => {
-            push_delayed(alloc, text, b"mod", work_name(scenario, work), cpu, ticks)
+            push_delayed(text, b"mod", work_name(scenario, work), cpu, ticks)
         }
         Instr::Cancel(work) => push_named(text, b"cancel", work_name(scenario, work)),
         Instr::CancelSync(work) => push_named(text, b"cancel_sync", work_name(scenario, work)),
@@ -238,17 +223,15 @@ fn push_instr(
         Instr::FlushDelayed(work) => push_named(text, b"flush_delayed", work_name(scenario, work)),
         Instr::FlushQueue(queue) => push_named(text, b"flush_queue", queue_name(scenario, queue)),
         Instr::SetMax(queue, max) => {
-            let max = max.to_string(alloc)?;
-            let name = queue_name(scenario, queue);
-            push_words(text, b"set_max", &[name, max.as_bytes()])
+            push_of_name(text, b"set_max", queue_name(scenario, queue), max)
         }
         Instr::Freeze => push_words(text, b"freeze", &[]),
         Instr::Thaw => push_words(text, b"thaw", &[]),
         Instr::Fire => push_words(text, b"fire", &[]),
-        Instr::Step(pool) => push_counted(alloc, text, b"step", u32::from(pool)),
+        Instr::Step(pool) => push_counted(text, b"step", u32::from(pool)),
         Instr::Tick => push_words(text, b"tick", &[]),
         Instr::Next => push_words(text, b"next", &[]),
-        Instr::Ask(flush) => push_counted(alloc, text, b"ask", u32::from(flush)),
+        Instr::Ask(flush) => push_counted(text, b"ask", u32::from(flush)),
         Instr::Busy => push_words(text, b"busy", &[]),
         Instr::State(work) => push_named(text, b"state", work_name(scenario, work)),
     }
@@ -261,17 +244,24 @@ fn push_named(text: &mut Vec<u8>, word: &[u8], name: &[u8]) -> Result<(), NoMemo
     push_words(text, word, &[name])
 }
 
+/// Writes a word, the name of a work or queue, and a number.
+fn push_of_name(text: &mut Vec<u8>, word: &[u8], name: &[u8], n: u32) -> Result<(), NoMemory>
+    ensures { OnOk result (text.new.items ≡ text.old.items ++ join_with_byte 32 (word.now ∷ name.now ∷ decimal n ∷ [])) }
+{
+    let mut digits = Buffer::new();
+    push_words(text, word, &[name, digits.format(n).as_bytes()])
+}
+
 /// Writes a word and a number.
-fn push_counted(alloc: Global, text: &mut Vec<u8>, word: &[u8], n: u32) -> Result<(), NoMemory>
+fn push_counted(text: &mut Vec<u8>, word: &[u8], n: u32) -> Result<(), NoMemory>
     ensures { OnOk result (text.new.items ≡ text.old.items ++ join_with_byte 32 (word.now ∷ decimal n ∷ [])) }
 {
-    let digits = n.to_string(alloc)?;
-    push_words(text, word, &[digits.as_bytes()])
+    let mut digits = Buffer::new();
+    push_words(text, word, &[digits.format(n).as_bytes()])
 }
 
 /// Writes a word, the name of a work, a CPU and how many ticks.
 fn push_delayed(
-    alloc: Global,
     text: &mut Vec<u8>,
     word: &[u8],
     work: &[u8],
@@ -281,18 +271,20 @@ fn push_delayed(
     ensures { OnOk result (text.new.items ≡ text.old.items
         ++ join_with_byte 32 (word.now ∷ work.now ∷ decimal cpu ∷ decimal ticks ∷ [])) }
 {
-    let cpu = cpu.to_string(alloc)?;
-    let ticks = ticks.to_string(alloc)?;
-    push_words(text, word, &[work, cpu.as_bytes(), ticks.as_bytes()])
+    let mut cpu_digits = Buffer::new();
+    let mut tick_digits = Buffer::new();
+    let cpu = cpu_digits.format(cpu).as_bytes();
+    let ticks = tick_digits.format(ticks).as_bytes();
+    push_words(text, word, &[work, cpu, ticks])
 }
 
 /// Writes `* N` behind a space, unless the line stands once.
-fn push_times(alloc: Global, text: &mut Vec<u8>, times: u32) -> Result<(), NoMemory>
+fn push_times(text: &mut Vec<u8>, times: u32) -> Result<(), NoMemory>
     ensures { OnOk result (text.new.items ≡ text.old.items ++ flat_map (λ word. 32 ∷ word) (times_words times)) }
 {
     if times != 1 {
-        let times = times.to_string(alloc)?;
-        push_others(text, &[b"*", times.as_bytes()])?;
+        let mut digits = Buffer::new();
+        push_others(text, &[b"*", digits.format(times).as_bytes()])?;
     }
     Ok(())
 }

@@ -1,11 +1,12 @@
 -- The parts between cuts, by the place of the first cut.
-use Rattle.std.proofs.Common.{◌≡◌, ℕ, suc, ◌+◌, ◌-◌, ◌<◌, Bool, true, false, cond, List, [], ◌∷◌, length, take, drop, None, Some, ap, ◌∙◌, refl, arith, position, nat_lt, ◌==◌}
+use Rattle.std.proofs.Common.{◌≡◌, ℕ, suc, ◌+◌, ◌-◌, ◌<◌, Bool, true, false, cond, List, [], ◌∷◌, length, take, drop, None, Some, ap, ◌∙◌, refl, arith, position, nat_lt, ◌==◌, Option}
 use Rattle.std.specs.List.{slice_split, position_or_len}
 use Rattle.std.proofs.lemmas.Bool.Decides.{nat_tests}
 use Rattle.std.proofs.lemmas.Grind.{common_steps}
 use Rattle.std.proofs.lemmas.List.Splits.{slice_split_none, slice_split_first, length-slice_split}
-use Rattle.std.proofs.lemmas.List.Sums.{fails_before_first}
+use Rattle.std.proofs.lemmas.List.Sums.{fails_before_first, position_or_len_is}
 use Rattle.cmwq_grammar.specs.Cutting.{without_empty_last, lines_of}
+use Rattle.memchr.specs.Find.{IsFirstByte}
 
 module _ (p : ℕ → Bool) where
   -- which place, by whether it is below the length
@@ -57,3 +58,17 @@ rest n xs = grind (arith, common_steps)
 
 pub rest_is : (lines : List ℕ → List (List ℕ)) (first : List ℕ) (n : ℕ) (xs : List ℕ) → first ∷ lines (drop n xs) ≡ first ∷ lines (take (length xs - n) (drop n xs))
 rest_is lines first n xs = ap (λ (bytes : List ℕ). first ∷ lines bytes) (rest n xs)
+
+-- the first byte that passes a test, as a place
+fails : (b : Bool) → ¬ (b ≡ true) → b ≡ false
+fails true never = absurd (never refl)
+fails false never = refl
+
+pub first_byte-position : (test : ℕ → Bool) (bytes : List ℕ) (r : Option ℕ) → IsFirstByte test bytes r → r ≡ position test bytes
+first_byte-position test bytes None nowhere =
+    let past : position_or_len test bytes ≡ length bytes = position_or_len_is test bytes (length bytes) 0 (omega arith) (λ k below. fails _ (nowhere k (omega arith) below)) (λ inside. absurd (omega (arith, inside))) in
+    grind (arith, common_steps)
+first_byte-position test bytes (Some place) found =
+    let at : position_or_len test bytes ≡ place = position_or_len_is test bytes place 0 (omega (arith, found.0.high)) (λ k below. fails _ (found.0.before k (omega arith) below)) (λ inside. found.1) in
+    let inside : place < length bytes = found.0.high in
+    grind (arith, common_steps)

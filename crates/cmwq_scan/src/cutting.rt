@@ -4,6 +4,8 @@ ghost use Rattle.std.specs.List.{before_first, slice_split};
 ghost use Rattle.std.specs.Prelude.{◌≡◌, ◌+◌, ◌<◌, ◌≤◌, ◌∷◌, ◌==◌, [], IfSome, MatchOption, length, position};
 ghost use Rattle.std.specs.Str.Lines.{strip_carriage_return};
 
+use memchr::memchr;
+
 /// The first line of the text and what comes after its line feed, or `None` where there is no line. An
 /// empty piece after the last line feed is no line.
 pub fn next_line(text: &[u8]) -> Option<(&[u8], &[u8])>
@@ -63,7 +65,7 @@ pub(crate) fn cut_at_blank(bytes: &[u8]) -> (&[u8], Option<&[u8]>)
 fn place_of(bytes: &[u8], wanted: u8) -> Option<usize>
     ensures { result ≡ position (λ byte. byte == wanted) bytes.now }
 {
-    bytes.iter().position(|byte| *byte == wanted)
+    memchr(wanted, bytes)
 }
 
 /// The place of the first blank.

@@ -179,7 +179,19 @@ fn number_of(word: &[u8]) -> Option<u64>
     if !is_number(word) {
         return None;
     }
-    str::from_utf8(word).ok()?.parse().ok()
+    Some(value_of(word))
+}
+
+/// The number that at most ten digits write.
+fn value_of(digits: &[u8]) -> u64
+    requires { IsTrue (is_number digits.now) }
+    ensures { result ≡ digits_value 10 digits.now }
+{
+    let mut value = 0;
+    for byte in digits {
+        value = value * 10 + u64::from(*byte - b'0');
+    }
+    value
 }
 
 /// Whether the word is `0`, or 1 to 10 digits of which the first isn't `0`.

@@ -17,4 +17,4 @@ pub use fields::{
 pub use misplaced::refusal;
 pub use naming::{Named, Names};
 pub use text::is_text;
-pub use tokens::{Token, tokens_of};
+pub use tokens::{Token, read_tokens};

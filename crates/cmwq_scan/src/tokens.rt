@@ -1,15 +1,13 @@
 //! The words of a line, each with the columns that it takes.
 ghost use Rattle.cmwq_grammar.specs.Cutting.{words_of};
-ghost use Rattle.std.specs.Prelude.{◌≡◌, IfOk};
+ghost use Rattle.std.specs.Prelude.{◌≡◌, OnOk};
 
 use crate::cutting::{cut_at_blank, worded_part};
 use cmwq_types::NoMemory;
-use smallvec::SmallVec;
-use std::alloc::Global;
 use std::marker::Model;
 
 /// A word of a line. Contracts see its bytes.
-#[derive(Debug, Default, Drop)]
+#[derive(Debug, Drop)]
 pub struct Token<'t> {
     bytes: &'t [u8],
     /// The column of its first byte, from 0.
@@ -33,11 +31,11 @@ impl<'t> Token<'t> {
     }
 }
 
-/// The words of the line. Most lines have at most eight, which take no memory.
-pub fn tokens_of<'t>(alloc: Global, line: &'t [u8]) -> Result<SmallVec<Token<'t>, 8>, NoMemory>
-    ensures { IfOk result (λ tokens. tokens.items ≡ words_of line.now) }
+/// Leaves the words of the line in the vector, and nothing else. Its room serves each line.
+pub fn read_tokens<'t>(tokens: &mut Vec<Token<'t>>, line: &'t [u8]) -> Result<(), NoMemory>
+    ensures { OnOk result (tokens.new.items ≡ words_of line.now) }
 {
-    let mut tokens = SmallVec::new(alloc);
+    tokens.clear();
     let mut column = 0;
     let mut rest = Some(worded_part(line));
     while let Some(part) = rest {
@@ -48,5 +46,5 @@ pub fn tokens_of<'t>(alloc: Global, line: &'t [u8]) -> Result<SmallVec<Token<'t>
         column += bytes.len() + 1;
         rest = behind;
     }
-    Ok(tokens)
+    Ok(())
 }

@@ -18,4 +18,4 @@ pub returns : goal.returns
 unfolding step
 returns c =
     head_ok (λ (flushes : ℕ). stage.Queues (head_of c.args.cpus c.args.workers c.args.steps flushes)) _ 0 _ c.args.word.now c.args.rest.now _ (rw c.from.ensures at c.in_ok-flushes.ensures.number)
-    ∙ ap (λ draft. Ok (stage.Queues draft)) (sym c.new-draft.ensures)
+    ∙ ap (λ draft. Ok (stage.Queues draft)) (sym c.in_ok-draft.ensures)

@@ -1,7 +1,7 @@
 use Rattle.std.proofs.Common.{◌≡◌, ◌++◌}
 use Rattle.cmwq_grammar.specs.Cutting.{words_of}
 use Rattle.cmwq_scan.proofs.TokenLemmas.{words_left, steps_left, IsBehind}
-use Rattle.cmwq_scan.proofs.tokens.tokens_of.Given as goal
+use Rattle.cmwq_scan.proofs.tokens.read_tokens.Given as goal
 
 -- the words so far and those that are left are the line's
 abbrev pub invariant-loop-rest : goal.invariant-loop-rest
