@@ -15,6 +15,10 @@ use Rattle.cmwq_types.specs.declared.instr.QueueId.{QueueId}
 use Rattle.cmwq_types.specs.declared.instr.WorkId.{WorkId}
 use Rattle.cmwq_types.specs.declared.instr.Instr.{Instr}
 use Rattle.cmwq_types.specs.declared.instr.Instr.TheVariants as instr
+use Rattle.cmwq_types.specs.declared.reply.Mode.{Mode}
+use Rattle.cmwq_types.specs.declared.reply.Mode.TheVariants.{Asleep, Runnable}
+use Rattle.cmwq_types.specs.declared.reply.Place.{Place}
+use Rattle.cmwq_types.specs.declared.reply.Place.TheVariants.{Deferred, Inactive, Listed, Timer}
 use Rattle.cmwq_types.specs.declared.scenario.Flags.{Flags}
 use Rattle.cmwq_types.specs.declared.scenario.Line.{Line}
 use Rattle.cmwq_types.specs.declared.scenario.QueueDecl.{QueueDecl}
@@ -24,6 +28,8 @@ use Rattle.cmwq_types.specs.contracts.instr.InstrPartialEq.TheImpl as instr_eq
 use Rattle.cmwq_types.specs.contracts.instr.QueueIdPartialEq.TheImpl as queue_id
 use Rattle.cmwq_types.specs.contracts.instr.WorkIdPartialEq.TheImpl as work_id
 use Rattle.cmwq_types.specs.contracts.name.NamePartialEq.TheImpl as name
+use Rattle.cmwq_types.specs.contracts.reply.ModePartialEq.TheImpl as mode
+use Rattle.cmwq_types.specs.contracts.reply.PlacePartialEq.TheImpl as place
 use Rattle.cmwq_types.specs.contracts.scenario.FlagsPartialEq.TheImpl as flags
 use Rattle.cmwq_types.specs.contracts.scenario.LinePartialEq.TheImpl as line
 use Rattle.cmwq_types.specs.contracts.scenario.OpPartialEq.TheImpl as op
@@ -36,6 +42,7 @@ use Rattle.cmwq_types.specs.contracts.scenario.QueueDeclEq.TheImpl.Laws as queue
 use Rattle.cmwq_types.specs.Contents.{WorkContents, ActorContents, ScenarioContents}
 use Rattle.cmwq_types.specs.Equality.{work_eq, actor_eq, scenario_eq}
 use Rattle.std.specs.Cmp.{IsEquivalence}
+use Rattle.std.specs.Cmp.Derive.{both_true}
 use Rattle.std.specs.Cmp.Lexicographic.{pointwise, pointwise_decides}
 
 pub same_work_id : (x y : WorkId) → work_id.ghosts.eq x y ≡ true → x ≡ y
@@ -52,6 +59,20 @@ same_op (Queue w c) (Queue v d) h =
     ap₂ Queue (same_work_id w v both.0) (eqb-true c d both.1)
 same_op Finish Finish h = refl
 same_op x y h = absurd (true≢false (sym h))
+
+pub same_place : (x y : Place) → place.ghosts.eq x y ≡ true → x ≡ y
+same_place (Timer due cpu) (Timer late at) h =
+    let both = and_parts (due == late) (cpu == at) h in
+    ap₂ Timer (eqb-true due late both.0) (eqb-true cpu at both.1)
+same_place (Inactive p) (Inactive q) h = ap Inactive (eqb-true p q h)
+same_place (Listed p) (Listed q) h = ap Listed (eqb-true p q h)
+same_place (Deferred p) (Deferred q) h = ap Deferred (eqb-true p q h)
+same_place x y h = absurd (true≢false (sym h))
+
+pub same_mode : (x y : Mode) → mode.ghosts.eq x y ≡ true → x ≡ y
+same_mode Runnable Runnable h = refl
+same_mode (Asleep t) (Asleep u) h = ap Asleep (eqb-true t u h)
+same_mode x y h = absurd (true≢false (sym h))
 
 pub same_name : (x y : List ℕ) → name.ghosts.eq x y ≡ true → x ≡ y
 same_name x y h =
@@ -125,10 +146,6 @@ same_line x y h =
 -- a reflexive test that holds of equal values alone is exact
 pub exact : {A : Type 0} {E : A → A → Bool} → IsEquivalence E → ((x y : A) → E x y ≡ true → x ≡ y) → (x y : A) → Decides (E x y) (x ≡ y)
 exact {A} {E} laws same x y = (same x y, λ e. subst (λ z. E x z ≡ true) e (laws.refl x))
-
--- what two tests hold of
-both_true : {b c : Bool} → b ≡ true → c ≡ true → (b && c) ≡ true
-both_true p q = λ i. p i && q i
 
 pub equal_numbers : (x y : ℕ) → x ≡ y → (x == y) ≡ true
 equal_numbers x y = (Decides-eqb x y).1
@@ -212,7 +229,7 @@ scenario_eq_is_exact x y =
 
 -- what an answer of each test says
 module _ (r : Bool) where
-  told : {b : Bool} {P : Type 0} → Decides b P → r ≡ b → Decides r P
+  pub told : {b : Bool} {P : Type 0} → Decides b P → r ≡ b → Decides r P
   told {b} {P} decides e = subst (λ t. Decides t P) (sym e) decides
 
   pub work_told : (x y : WorkContents) → r ≡ work_eq x y → Decides r (x ≡ y)

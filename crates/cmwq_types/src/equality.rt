@@ -1,4 +1,4 @@
-//! Equality of works, actors and scenarios: by their contents.
+//! Equality of works, actors and scenarios: by their contents, whatever the capacities of their lists.
 ghost use Rattle.std.specs.Cmp.{decided, partial_equiv_from_equiv};
 ghost use Rattle.std.specs.Prelude.{◌≡◌, ◌↔◌, IsTrue};
 ghost use Rattle.cmwq_types.specs.ExactEquality.{actor_eq_is_exact, scenario_eq_is_exact, work_eq_is_exact};
@@ -6,7 +6,7 @@ ghost use Rattle.cmwq_types.specs.Equality.{actor_eq, scenario_eq, work_eq};
 
 use crate::scenario::{Actor, Scenario, WorkDecl};
 
-/// Two works are equal exactly where their contents are: where their bodies lie in memory is nothing.
+/// Two works are equal exactly where their contents are.
 impl PartialEq for WorkDecl {
     ghost eq = { work_eq };
 
