@@ -1,4 +1,6 @@
 pub mod Contents
+pub mod Equality
+pub mod ExactEquality
 pub mod Faults
 pub mod First
 pub mod Listing

@@ -5,6 +5,7 @@
 mod by_number;
 mod check;
 mod copying;
+mod equality;
 mod instr;
 mod limits;
 mod memory;
