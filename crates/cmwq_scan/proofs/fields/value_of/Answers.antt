@@ -1,5 +1,4 @@
-use Rattle.std.proofs.Common.{◌∙◌, ◌+◌, ◌*◌, ap, arith}
-use Rattle.std.specs.Str.Parse.{digits_value}
+use Rattle.std.proofs.Common.{◌+◌, arith}
 use Rattle.cmwq_scan.proofs.NumberLemmas.{digit-from, front-small, value-more}
 use Rattle.cmwq_scan.proofs.fields.value_of.Goals as goal
 
