@@ -11,8 +11,8 @@ use std::marker::Model;
 /// A timer for each of some works, the works numbered from 0.
 ///
 /// Inside it is a tree: each work has a leaf, and each node above has the earlier one of its two children's
-/// timers, so the root has the least. A change of one timer is carried from its leaf to the root. All room is
-/// taken by `new` and `copy`.
+/// timers, so the root has the least. A change of one timer is carried from its leaf towards the root, as far
+/// as it changes anything. All room is taken by `new` and `copy`.
 #[derive(Drop)]
 pub struct Timers {
     nodes: Vec<Option<Timer>>,
