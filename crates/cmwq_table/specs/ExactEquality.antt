@@ -1,5 +1,5 @@
 -- Equality of the parts of a machine's state, and of views of it, is exact.
-use Rattle.std.proofs.Common.{◌≡◌, ℕ, List, Bool, true, true≢false, refl, sym, ap, ap₂, ◌&&◌}
+use Rattle.std.proofs.Common.{◌≡◌, List, Bool, true, true≢false, refl, sym, ap, ap₂, ◌&&◌}
 use Rattle.std.proofs.lemmas.Bool.{and_parts, eqb-true}
 use Rattle.std.specs.Bool.{Decides}
 use Rattle.std.specs.Cmp.{booleans_Decides}
