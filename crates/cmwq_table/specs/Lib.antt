@@ -1,5 +1,7 @@
 pub mod Counts
+pub mod Equality
 pub mod Events
+pub mod ExactEquality
 pub mod Laws
 pub mod Machine
 pub mod Moves

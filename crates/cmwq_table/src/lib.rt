@@ -1,6 +1,7 @@
 //! The instruction table of the workqueue emulator, and what a machine is.
 #![tactic(auto)]
 
+mod equality;
 pub mod laws;
 mod machine;
 mod reply_line;
