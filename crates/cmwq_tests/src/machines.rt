@@ -3,7 +3,7 @@ use crate::checking::same;
 use crate::examples::MAX_ACTIVE_3;
 use cmwq_asm::assemble;
 use cmwq_plain::Plain;
-use cmwq_table::{LoadError, Machine};
+use cmwq_table::{LoadError, Machine, View};
 use cmwq_types::{Event, Fault, Instr, QueueId, Reply, Scenario, WorkId};
 use std::alloc::Global;
 use std::process::Abort;
@@ -38,15 +38,47 @@ fn exec_all<M: Machine>(rt: &impl Abort, machine: &mut M, rows: &[(Instr, Reply)
     }
 }
 
+/// The whole state of the machine.
+fn looked<M: Machine>(rt: &impl Abort, machine: &M) -> View {
+    machine.look().expect(rt, "memory is left")
+}
+
+#[test]
+fn a_copied_scenario_equals_its_source(rt: HostRuntime) {
+    for text in [TWO_WORKS, FREEZABLE, MAX_ACTIVE_3.text] {
+        let source = scenario(&rt, rt.alloc(), text);
+        let mut copy = source.copy().expect(&rt, "memory is left");
+        same(&rt, text, &copy, &source);
+        copy.works.pop();
+        same(&rt, text, copy == source, false);
+    }
+}
+
 #[test]
 fn a_copy_goes_on_alone(rt: HostRuntime) {
     let mut machine: Plain = loaded(&rt, rt.alloc(), TWO_WORKS);
     machine.exec(Instr::Delay(B, 0, 3));
+    let before = whole_view(&rt, &machine);
     let mut copy = machine.copy().expect(&rt, "memory is left");
+    same(&rt, "a copy", &whole_view(&rt, &copy), &before);
     let cancelled = (Instr::Cancel(B), Reply::Cancelled);
     let rows = [cancelled, (Instr::Cancel(B), Reply::NotPending)];
     exec_all(&rt, &mut copy, &rows);
-    exec_all(&rt, &mut machine, &[cancelled]);
+    same(
+        &rt,
+        "the copy went on",
+        whole_view(&rt, &copy) == before,
+        false,
+    );
+    same(
+        &rt,
+        "the source stayed",
+        &whole_view(&rt, &machine),
+        &before,
+    );
+    exec_all(&rt, &mut machine, &rows);
+    let views = (whole_view(&rt, &machine), whole_view(&rt, &copy));
+    same(&rt, "both went on", &views.0, &views.1);
 }
 
 /// Two instructions at a scenario's start, and what a look then shows.
@@ -87,7 +119,7 @@ const LOOKED: [Looked; 2] = [
 
 /// Compares what a look at the machine shows.
 fn check_look<M: Machine>(rt: &impl Abort, machine: &M, row: &Looked) {
-    let view = machine.look().expect(rt, "memory is left");
+    let view = whole_view(rt, machine);
     let limits = (view.frozen, view.max.first().copied());
     same(rt, row.instrs, limits, (row.frozen, Some(row.max)));
     let counts = (view.pending.len(), view.flushes.len());
