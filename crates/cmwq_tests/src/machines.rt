@@ -39,7 +39,7 @@ fn exec_all<M: Machine>(rt: &impl Abort, machine: &mut M, rows: &[(Instr, Reply)
 }
 
 /// The whole state of the machine.
-fn looked<M: Machine>(rt: &impl Abort, machine: &M) -> View {
+fn whole_view<M: Machine>(rt: &impl Abort, machine: &M) -> View {
     machine.look().expect(rt, "memory is left")
 }
 
@@ -64,18 +64,10 @@ fn a_copy_goes_on_alone(rt: HostRuntime) {
     let cancelled = (Instr::Cancel(B), Reply::Cancelled);
     let rows = [cancelled, (Instr::Cancel(B), Reply::NotPending)];
     exec_all(&rt, &mut copy, &rows);
-    same(
-        &rt,
-        "the copy went on",
-        whole_view(&rt, &copy) == before,
-        false,
-    );
-    same(
-        &rt,
-        "the source stayed",
-        &whole_view(&rt, &machine),
-        &before,
-    );
+    let stayed = whole_view(&rt, &copy) == before;
+    same(&rt, "the copy went on", stayed, false);
+    let stayed = whole_view(&rt, &machine) == before;
+    same(&rt, "the source stayed", stayed, true);
     exec_all(&rt, &mut machine, &rows);
     let views = (whole_view(&rt, &machine), whole_view(&rt, &copy));
     same(&rt, "both went on", &views.0, &views.1);
