@@ -1,49 +1,49 @@
 -- Equality of a scenario's parts, of a work, of an actor and of a scenario is exact.
 use Rattle.std.proofs.Common.{◌≡◌, ℕ, List, Bool, true, true≢false, length, take, refl, sym, subst, ap, ap₂, ◌∙◌, ◌&&◌}
-use Rattle.std.proofs.lemmas.Bool.{and_parts, eqb-true}
-use Rattle.std.proofs.lemmas.Bool.Decides.{Decides-eqb}
-use Rattle.std.proofs.lemmas.Slice.Eq.{bytes_eq-Decides}
 use Rattle.std.proofs.Math.Seq.{take-append_seam}
+use Rattle.std.proofs.lemmas.Bool.Decides.{Decides-eqb}
+use Rattle.std.proofs.lemmas.Bool.{and_parts, eqb-true}
+use Rattle.std.proofs.lemmas.Slice.Eq.{bytes_eq-Decides}
 use Rattle.std.specs.Bool.{Decides}
-use Rattle.std.specs.Prelude.{◌==◌, ◌-◌, replicate}
-use Rattle.cmwq_types.specs.Name.{padded}
-use Rattle.cmwq_types.specs.declared.limits.TheConstants.{MAX_NAME}
-use mathlib.Core.Bool.{beq}
-use Rattle.std.specs.Str.{bytes_eq}
+use Rattle.std.specs.Cmp.Derive.{both_true}
+use Rattle.std.specs.Cmp.Lexicographic.{pointwise, pointwise_decides}
+use Rattle.std.specs.Cmp.{IsEquivalence}
 use Rattle.std.specs.Cmp.{booleans_Decides}
-use Rattle.cmwq_types.specs.declared.instr.QueueId.{QueueId}
-use Rattle.cmwq_types.specs.declared.instr.WorkId.{WorkId}
-use Rattle.cmwq_types.specs.declared.instr.Instr.{Instr}
-use Rattle.cmwq_types.specs.declared.instr.Instr.TheVariants as instr
-use Rattle.cmwq_types.specs.declared.reply.Mode.{Mode}
-use Rattle.cmwq_types.specs.declared.reply.Mode.TheVariants.{Asleep, Runnable}
-use Rattle.cmwq_types.specs.declared.reply.Place.{Place}
-use Rattle.cmwq_types.specs.declared.reply.Place.TheVariants.{Deferred, Inactive, Listed, Timer}
-use Rattle.cmwq_types.specs.declared.scenario.Flags.{Flags}
-use Rattle.cmwq_types.specs.declared.scenario.Line.{Line}
-use Rattle.cmwq_types.specs.declared.scenario.QueueDecl.{QueueDecl}
-use Rattle.cmwq_types.specs.declared.scenario.Op.{Op}
-use Rattle.cmwq_types.specs.declared.scenario.Op.TheVariants.{Burn, Sleep, Queue, Finish}
+use Rattle.std.specs.Prelude.{◌==◌, ◌-◌, replicate}
+use Rattle.std.specs.Str.{bytes_eq}
+use mathlib.Core.Bool.{beq}
+use Rattle.cmwq_types.specs.Contents.{WorkContents, ActorContents, ScenarioContents}
+use Rattle.cmwq_types.specs.Equality.{work_eq, actor_eq, scenario_eq}
+use Rattle.cmwq_types.specs.Name.{padded}
 use Rattle.cmwq_types.specs.contracts.instr.InstrPartialEq.TheImpl as instr_eq
+use Rattle.cmwq_types.specs.contracts.instr.QueueIdEq.TheImpl.Laws as queue_id_laws
 use Rattle.cmwq_types.specs.contracts.instr.QueueIdPartialEq.TheImpl as queue_id
 use Rattle.cmwq_types.specs.contracts.instr.WorkIdPartialEq.TheImpl as work_id
+use Rattle.cmwq_types.specs.contracts.name.NameEq.TheImpl.Laws as name_laws
 use Rattle.cmwq_types.specs.contracts.name.NamePartialEq.TheImpl as name
 use Rattle.cmwq_types.specs.contracts.reply.ModePartialEq.TheImpl as mode
 use Rattle.cmwq_types.specs.contracts.reply.PlacePartialEq.TheImpl as place
 use Rattle.cmwq_types.specs.contracts.scenario.FlagsPartialEq.TheImpl as flags
-use Rattle.cmwq_types.specs.contracts.scenario.LinePartialEq.TheImpl as line
-use Rattle.cmwq_types.specs.contracts.scenario.OpPartialEq.TheImpl as op
-use Rattle.cmwq_types.specs.contracts.scenario.QueueDeclPartialEq.TheImpl as queue
-use Rattle.cmwq_types.specs.contracts.instr.QueueIdEq.TheImpl.Laws as queue_id_laws
-use Rattle.cmwq_types.specs.contracts.name.NameEq.TheImpl.Laws as name_laws
 use Rattle.cmwq_types.specs.contracts.scenario.LineEq.TheImpl.Laws as line_laws
+use Rattle.cmwq_types.specs.contracts.scenario.LinePartialEq.TheImpl as line
 use Rattle.cmwq_types.specs.contracts.scenario.OpEq.TheImpl.Laws as op_laws
+use Rattle.cmwq_types.specs.contracts.scenario.OpPartialEq.TheImpl as op
 use Rattle.cmwq_types.specs.contracts.scenario.QueueDeclEq.TheImpl.Laws as queue_laws
-use Rattle.cmwq_types.specs.Contents.{WorkContents, ActorContents, ScenarioContents}
-use Rattle.cmwq_types.specs.Equality.{work_eq, actor_eq, scenario_eq}
-use Rattle.std.specs.Cmp.{IsEquivalence}
-use Rattle.std.specs.Cmp.Derive.{both_true}
-use Rattle.std.specs.Cmp.Lexicographic.{pointwise, pointwise_decides}
+use Rattle.cmwq_types.specs.contracts.scenario.QueueDeclPartialEq.TheImpl as queue
+use Rattle.cmwq_types.specs.declared.instr.Instr.TheVariants as instr
+use Rattle.cmwq_types.specs.declared.instr.Instr.{Instr}
+use Rattle.cmwq_types.specs.declared.instr.QueueId.{QueueId}
+use Rattle.cmwq_types.specs.declared.instr.WorkId.{WorkId}
+use Rattle.cmwq_types.specs.declared.limits.TheConstants.{MAX_NAME}
+use Rattle.cmwq_types.specs.declared.reply.Mode.TheVariants.{Asleep, Runnable}
+use Rattle.cmwq_types.specs.declared.reply.Mode.{Mode}
+use Rattle.cmwq_types.specs.declared.reply.Place.TheVariants.{Deferred, Inactive, Listed, Timer}
+use Rattle.cmwq_types.specs.declared.reply.Place.{Place}
+use Rattle.cmwq_types.specs.declared.scenario.Flags.{Flags}
+use Rattle.cmwq_types.specs.declared.scenario.Line.{Line}
+use Rattle.cmwq_types.specs.declared.scenario.Op.TheVariants.{Burn, Sleep, Queue, Finish}
+use Rattle.cmwq_types.specs.declared.scenario.Op.{Op}
+use Rattle.cmwq_types.specs.declared.scenario.QueueDecl.{QueueDecl}
 
 pub same_work_id : (x y : WorkId) → work_id.ghosts.eq x y ≡ true → x ≡ y
 same_work_id x y h = ap (λ n. record { 0 = n }) (eqb-true x.0 y.0 h)
