@@ -1,13 +1,9 @@
 -- What clap makes of the words of each command.
 use Rattle.std.proofs.Common.{rules, ap, ℕ, ◌≡◌, ◌∙◌, ◌≢◌, ◌==◌, List, [], ◌∷◌, true, false, Some, codes, refl}
-use Rattle.clap.specs.Words.{App, HasMatchesOf, Text, is_simple, subcommand_of, subcommand_rows_of, takes}
+use Rattle.clap.specs.Words.{App, HasMatchesOf, Text, is_simple, subcommand_of, subcommand_rows_of}
 use Rattle.clap.specs.declared.parser.matches.ArgMatches.{ArgMatches}
 use Rattle.clap.proofs.OnLiterals.{clap_on_literals}
-use Rattle.cmwq_words.specs.Request.{IsPlainWord, asked_of, command_line}
-
--- clap takes the words, and the request read of them has these words
-abbrev pub IsRead : List Text → List Text → Type 0
-IsRead words asked = (takes command_line words ≡ true) × (asked_of (subcommand_of command_line words) ≡ Some asked)
+use Rattle.cmwq_words.specs.Request.{IsPlainWord, IsRead, asked_of, command_line}
 
 simple_line : is_simple command_line ≡ true
 unfolding clap_on_literals

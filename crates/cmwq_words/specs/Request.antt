@@ -1,7 +1,7 @@
 -- The command line.
-use Rattle.std.specs.Prelude.{◌≡◌, ◌≢◌, ℕ, List, [], ◌∷◌, true, codes, if◌then◌else◌, Option, None, option_and_then, option_map, Result, MatchResult}
+use Rattle.std.specs.Prelude.{◌≡◌, ◌≢◌, ℕ, List, [], ◌∷◌, true, codes, if◌then◌else◌, Option, None, Some, option_and_then, option_map, Result, MatchResult}
 use Rattle.std.specs.Str.{bytes_eq}
-use Rattle.clap.specs.Words.{App, Row, Rule, Text, first_of, kind_of, new_app, new_rule, with_rule, with_subcommand}
+use Rattle.clap.specs.Words.{App, Row, Rule, Text, first_of, kind_of, new_app, new_rule, subcommand_of, takes, with_rule, with_subcommand}
 use Rattle.clap.specs.declared.error.Error.{Error}
 use Rattle.clap.specs.declared.error.kind.ErrorKind.TheVariants.{OutOfMemory}
 use Rattle.cmwq_words.specs.declared.request.Request.{Request}
@@ -66,6 +66,10 @@ asked_in met =
 
 abbrev pub asked_of : Option (Text × List Row) → Option (List Text)
 asked_of met = option_and_then asked_in met
+
+-- clap takes the words, and the request that is read of them has these words
+abbrev pub IsRead : List Text → List Text → Type 0
+IsRead words asked = (takes command_line words ≡ true) × (asked_of (subcommand_of command_line words) ≡ Some asked)
 
 -- the word is no option: it isn't empty and doesn't begin with a hyphen (45)
 abbrev pub IsPlainWord : Text → Type 0

@@ -2,8 +2,8 @@
 
 ghost use Rattle.clap.specs.Words.{Text, app_of, first_of, found_of, kind_of, rows_of, rule_of, subcommand_rows_of, with_subcommand};
 ghost use Rattle.clap.specs.declared.builder.command.Command.TheViews.{out-Command as fields_of};
-ghost use Rattle.cmwq_words.specs.Request.{Asks, IsPlainWord, asked_in, asked_of, asm_command, command_line, command_on, list_command, program, required_rule, run_command, show_command, words_of};
-ghost use Rattle.std.specs.Prelude.{◌≡◌, [], ◌∷◌, IfOk, codes, false, map, option_map, string_bytes};
+ghost use Rattle.cmwq_words.specs.Request.{Asks, IsPlainWord, IsRead, asked_in, asked_of, asm_command, command_line, command_on, list_command, program, required_rule, run_command, show_command, words_of};
+ghost use Rattle.std.specs.Prelude.{◌≡◌, List, [], ◌∷◌, IfOk, codes, false, map, option_map, string_bytes};
 
 use clap::error::ErrorKind;
 use clap::{Arg, ArgMatches, Command, Error};
@@ -69,6 +69,14 @@ pub fn parse<'a>(alloc: Global, words: &'a [String]) -> Result<Request<'a>, Erro
         → IsPlainWord image → Asks (codes "show" ∷ image ∷ []) result }
 {
     let mut command = command(alloc)?;
+    request_met(&mut command, words)
+}
+
+/// What the words ask for, by the program's command line.
+fn request_met<'a>(command: &mut Command<'a>, words: &'a [String]) -> Result<Request<'a>, Error>
+    requires { app_of command.now ≡ command_line }
+    ensures { (asked : List Text) → IsRead (map string_bytes words.entry.now) asked → Asks asked result }
+{
     let matches = command.try_get_matches_from_mut(words)?;
     match request_of(&matches) {
         Some(request) => Ok(request),
@@ -135,15 +143,22 @@ fn value_of<'a>(given: &ArgMatches<'a>, id: &str) -> Option<&'a str>
 fn command<'a>(alloc: Global) -> Result<Command<'a>, AllocError>
     ensures { IfOk result (λ r. app_of r ≡ command_line) }
 {
-    let commands = text_commands(alloc)?;
-    let asm = asm_command(alloc)?;
-    let commands = commands.subcommand(asm)?;
+    let commands = commands_on_texts(alloc)?;
     let show = show_command(alloc)?;
     commands.subcommand(show)
 }
 
+/// The program with the commands that read a text.
+fn commands_on_texts<'a>(alloc: Global) -> Result<Command<'a>, AllocError>
+    ensures { IfOk result (λ r. app_of r ≡ with_subcommand (with_subcommand (with_subcommand program run_command.top) list_command.top) asm_command.top) }
+{
+    let commands = printing_commands(alloc)?;
+    let asm = asm_command(alloc)?;
+    commands.subcommand(asm)
+}
+
 /// The program with the commands that print something of a text.
-fn text_commands<'a>(alloc: Global) -> Result<Command<'a>, AllocError>
+fn printing_commands<'a>(alloc: Global) -> Result<Command<'a>, AllocError>
     ensures { IfOk result (λ r. app_of r ≡ with_subcommand (with_subcommand program run_command.top) list_command.top) }
 {
     let commands = program_that_runs(alloc)?;
