@@ -1,5 +1,4 @@
 //! The commands over memory: what they write, reads and writes that fail, and input that is refused.
-use crate::checking::same;
 use crate::examples::{EXAMPLES, Example, IMAGE_OF_STEPS_RUN_OUT, MAX_ACTIVE_3, STEPS_RUN_OUT};
 use crate::streams::{
     Command, Failure, Input, Outcome, Output, carried_out, reading_of, writing_to,
@@ -7,6 +6,7 @@ use crate::streams::{
 use cmwq_asm::AsmError;
 use cmwq_grammar::Why;
 use cmwq_image::ImageError;
+use cmwq_machine_tests::checking::same;
 use cmwq_play::PlayError;
 use cmwq_types::Fault;
 use std::alloc::Global;

@@ -1,8 +1,6 @@
-//! Tests of every layer, over tables of rows.
+//! Tests of texts, images and commands, over tables of rows.
 #![tactic(auto)]
 
-#[cfg(test)]
-mod checking;
 #[cfg(test)]
 mod command_lines;
 #[cfg(test)]
@@ -16,12 +14,6 @@ mod files;
 #[cfg(test)]
 mod images;
 #[cfg(test)]
-mod lists;
-#[cfg(test)]
-mod machines;
-#[cfg(test)]
 mod streams;
 #[cfg(test)]
 mod texts;
-#[cfg(test)]
-mod timers;

@@ -1,8 +1,8 @@
 use Rattle.std.proofs.Common.{ℕ, sym, ap, subst}
 use Rattle.cmwq_lists.specs.Contents.{Contents, IsHeld, IsSorted, list_at, without}
 use Rattle.cmwq_lists.proofs.CallerLemmas.{sorted_without}
-use Rattle.cmwq_tests.proofs.ListsLemmas.{stays_sorted}
-use Rattle.cmwq_tests.proofs.lists.unlink.Goals as goal
+use Rattle.cmwq_machine_tests.proofs.ListsLemmas.{stays_sorted}
+use Rattle.cmwq_machine_tests.proofs.lists.unlink.Goals as goal
 
 pub returns-clause-sorted : goal.returns-clause-sorted
 returns-clause-sorted g c =

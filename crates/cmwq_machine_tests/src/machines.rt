@@ -1,6 +1,5 @@
 //! Machines by single instructions: what no text shows.
 use crate::checking::same;
-use crate::examples::MAX_ACTIVE_3;
 use cmwq_asm::assemble;
 use cmwq_plain::Plain;
 use cmwq_table::{LoadError, Machine, View};
@@ -45,7 +44,7 @@ fn whole_view<M: Machine>(rt: &impl Abort, machine: &M) -> View {
 
 #[test]
 fn a_copied_scenario_equals_its_source(rt: HostRuntime) {
-    for text in [TWO_WORKS, FREEZABLE, MAX_ACTIVE_3.text] {
+    for text in [TWO_WORKS, FREEZABLE] {
         let source = scenario(&rt, rt.alloc(), text);
         let mut copy = source.copy().expect(&rt, "memory is left");
         same(&rt, text, &copy, &source);
@@ -200,7 +199,7 @@ fn the_largest_scenario_runs(rt: HostRuntime) {
 
 #[test]
 fn a_scenario_with_a_fault_is_not_loaded(rt: HostRuntime) {
-    let mut scenario = scenario(&rt, rt.alloc(), MAX_ACTIVE_3.text);
+    let mut scenario = scenario(&rt, rt.alloc(), TWO_WORKS);
     scenario.cpus = 17;
     let fault = Plain::load(rt.alloc(), &scenario).err();
     same(&rt, "17 CPUs", fault, Some(LoadError::Fault(Fault::Range)));

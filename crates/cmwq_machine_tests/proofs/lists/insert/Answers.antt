@@ -1,8 +1,8 @@
 use Rattle.std.proofs.Common.{◌<◌, List, [], arith}
 use Rattle.cmwq_lists.specs.Contents.{Contents, Entry, IsSorted, list_at, placed}
 use Rattle.cmwq_lists.proofs.CallerLemmas.{sorted_placed}
-use Rattle.cmwq_tests.proofs.ListsLemmas.{stays_sorted}
-use Rattle.cmwq_tests.proofs.lists.insert.Goals as goal
+use Rattle.cmwq_machine_tests.proofs.ListsLemmas.{stays_sorted}
+use Rattle.cmwq_machine_tests.proofs.lists.insert.Goals as goal
 
 pub returns-in_err-insert-clause-sorted : goal.returns-in_err-insert-clause-sorted
 returns-in_err-insert-clause-sorted c =
