@@ -1,5 +1,5 @@
 -- The steps on `drawn` keep the rule: its load, and the exchange that is won or lost.
-use Rattle.std.proofs.Common.{◌≡◌, ℕ, ◌+◌, ◌^◌, ◌<◌, true, eqb, List, [], ◌∷◌, get_or, set, sym, refl, ap, ◌∙◌, subst, arith, Option, eq-eqb, ne_eqb, All}
+use Rattle.std.proofs.Common.{◌≡◌, ◌≢◌, ◌≤◌, ℕ, ◌+◌, ◌^◌, ◌<◌, true, eqb, List, [], ◌∷◌, get_or, set, sym, refl, ap, ◌∙◌, subst, arith, Option, eq-eqb, ne_eqb, All}
 use mathlib.Core.Logic.{dite}
 use mathlib.Core.Option.{some}
 use native.Mathlib.Decide.{ℕ_discrete}
@@ -15,14 +15,28 @@ use Rattle.cmwq_lock.specs.declared.views.Phase.TheVariants.{Out, Waiting, Insid
 use Rattle.cmwq_lock.specs.declared.views.View.{View}
 use Rattle.cmwq_lock.specs.declared.views.View.TheVariants.{Pass}
 use Rattle.cmwq_lock.specs.Views.{is_out, loaded_of, loaded, lost, waiting, queued}
-use Rattle.cmwq_lock.specs.Rule.{Standing, Homes, IsRuled}
+use Rattle.cmwq_lock.specs.Rule.{Standing, Homes, HasHolder, IsRuled}
 use Rattle.cmwq_lock.specs.Steps.{load_drawn, exchange_drawn}
-use Rattle.cmwq_lock.proofs.Puts.{put, put_here, put_else, all_of}
-use Rattle.cmwq_lock.proofs.Places.{slot_stays}
+use Rattle.cmwq_lock.proofs.Puts.{put, put_here, put_else, all_of, set_there}
+use Rattle.cmwq_lock.proofs.Places.{holder_stays, slot_stays}
 use Rattle.cmwq_lock.proofs.Moves.{stood, OthersStay, stepped_on}
 use Rattle.cmwq_lock.proofs.Logs.{all_seen}
 
 module _ {T O E : Type 0} (K : Ghosts T O E) (o : O) where
+  -- a pass that tries holds no ticket
+  tried_on : (s : State (Option (Held T)) (View O E)) (r : IsRuled K o s) (id : ℕ) (who : Identity O E) (t tried : Tries) → get_elem? s.views id ≡ some (Pass who (Out t)) → (ticket : ℕ) → r.at.served ≤ ticket → ticket < r.at.drawn
+      → HasHolder K o r.at (set s.views id (Pass who (Out tried))) ticket
+  tried_on s r id who t tried here ticket least below = holder_stays K o r.at r.at s.views id (Pass who (Out t)) (Pass who (Out tried)) ticket refl here (λ has is. cc) (r.each_ticket ticket least below)
+
+  -- the ticket drawn is held by the seat that draws it, and all others as before
+  drawn_on : (s : State (Option (Held T)) (View O E)) (r : IsRuled K o s) (id n : ℕ) (who : Identity O E) (t : Tries) → get_elem? s.views id ≡ some (Pass who (Out t)) → n ≡ r.at.drawn
+      → (ticket : ℕ) → r.at.served ≤ ticket → ticket < r.at.drawn + 1
+      → HasHolder K o (stood r.at (r.at.drawn + 1) r.at.served r.at.current (put r.at.holder r.at.drawn id)) (set s.views id (Pass who (Waiting (queued n)))) ticket
+  drawn_on s r id n who t here is ticket least below = let after : View O E = Pass who (Waiting (queued n)) in let holder' : ℕ → ℕ = put r.at.holder r.at.drawn id in
+      let at' : Standing O E = stood r.at (r.at.drawn + 1) r.at.served r.at.current holder' in dite (ℕ_discrete ticket r.at.drawn)
+      (λ e. (after, ap (get_elem? (set s.views id after)) (ap holder' e ∙ put_here r.at.holder r.at.drawn id) ∙ set_there s.views id (Pass who (Out t)) after here, refl, is ∙ sym e))
+      (λ (apart : ticket ≢ r.at.drawn). holder_stays K o r.at at' s.views id (Pass who (Out t)) after ticket (put_else r.at.holder r.at.drawn id ticket apart) here (λ has is'. cc) (r.each_ticket ticket least (omega arith)))
+
   pub loads_drawn : (slots id : ℕ) (me : Me (Option (Held T)) (View O E)) → is_out me.0 ≡ true → Allows (IsRuled K o) slots id me 0 (λ n. n) (load_drawn me)
   loads_drawn slots id (Pass who (Out t), carried) out s r deep here small = let n : ℕ = get_or s.words 0 0 in let is : n ≡ r.at.drawn = ap (λ ws. get_or ws 0 0) r.words_are in
       let known = (r.each_view id (Pass who (Out t)) here).phase_is in let tried : Tries = record t { loads = t.loads + 1; loaded = n } in let bound = r.bounded in (
@@ -31,6 +45,7 @@ module _ {T O E : Type 0} (K : Ghosts T O E) (o : O) where
         tt,
         stepped_on K o s r r.at.drawn r.at.holder id who (Out t) (Out tried) (set s.words 0 n) s.homes here (ap (λ ws. set ws 0 (get_or ws 0 0)) r.words_are) r.in_order r.bounded
             (slot_stays K o r.at r.at s.homes s.views id (Pass who (Out t)) (Pass who (Out tried)) refl refl here refl r.slot_is)
+            (tried_on s r id who t tried here)
             (record { loaded_below = omega arith; found_below = known.found_below }) (λ seat phase apart known'. known'),
         (refl, omega arith),
       )
@@ -59,6 +74,7 @@ module _ {T O E : Type 0} (K : Ghosts T O E) (o : O) where
       stepped_on K o s r (r.at.drawn + 1) (put r.at.holder r.at.drawn id) id who (Out t) (Waiting (queued n)) (set s.words 0 (old + 1)) s.homes here
       (ap (λ ws. set ws 0 (old + 1)) r.words_are ∙ ap (λ d. (d + 1) ∷ r.at.served ∷ []) same) (omega arith) (omega arith)
       (slot_stays K o r.at _ s.homes s.views id (Pass who (Out t)) (Pass who (Waiting (queued n))) refl refl here refl r.slot_is)
+      (drawn_on s r id n who t here is)
       (record { not_ended = omega arith; was_drawn = omega arith; is_holder = ap (put r.at.holder r.at.drawn id) is ∙ put_here r.at.holder r.at.drawn id; last_below = omega arith })
       (others_draw r.at s.homes id)
 
@@ -68,6 +84,7 @@ module _ {T O E : Type 0} (K : Ghosts T O E) (o : O) where
       let known = (r.each_view id (Pass who (Out t)) here).phase_is in let tried : Tries = record t { losses = t.losses + 1; found = n } in
       stepped_on K o s r r.at.drawn r.at.holder id who (Out t) (Out tried) (set s.words 0 n) s.homes here (ap (λ ws. set ws 0 (get_or ws 0 0)) r.words_are) r.in_order r.bounded
       (slot_stays K o r.at r.at s.homes s.views id (Pass who (Out t)) (Pass who (Out tried)) refl refl here refl r.slot_is)
+      (tried_on s r id who t tried here)
       (record { loaded_below = known.loaded_below; found_below = omega arith }) (λ seat phase apart known'. known')
 
   -- all tickets that a pass has seen are below `drawn`

@@ -20,7 +20,7 @@ use Rattle.cmwq_lock.specs.Views.{is_out, is_both, seeing, joined, longer_seen, 
 use Rattle.cmwq_lock.specs.Steps.{compare_seen}
 use Rattle.cmwq_lock.specs.Rule.{Side, first, second, Standing, Homes, caller_at, ViewIs, IsPass, IsRuled, Whereabouts, at_seat, in_record, StandsAt}
 use Rattle.cmwq_lock.proofs.Puts.{put, put_here, put_else, at_end, set_there}
-use Rattle.cmwq_lock.proofs.Places.{two_callers, seats_apart, sides_apart, record_apart, spent_stands, recast, stands_changed, stands_longer, view_stays, pass_recast, opener_elsewhere, slot_stays, slot_longer}
+use Rattle.cmwq_lock.proofs.Places.{two_callers, seats_apart, sides_apart, record_apart, spent_stands, recast, stands_changed, stands_longer, holder_stays, holder_longer, view_stays, pass_recast, opener_elsewhere, slot_stays, slot_longer}
 use Rattle.cmwq_lock.proofs.Moves.{passes-set}
 use Rattle.cmwq_lock.proofs.Opening.{passes-end}
 use Rattle.cmwq_lock.proofs.Logs.{begins_longer, begin_one_log}
@@ -62,6 +62,8 @@ module _ {T O E : Type 0} (K : Ghosts T O E) (o : O) where
         opener_origin = r.opener_origin;
         passes_out = let count = passes-set s.views id v both here in let less = passes-set views' other w Spent there in let was = r.passes_out in omega arith;
         opener_seen = r.opener_seen;
+        each_ticket = λ ticket least below. holder_stays K o at' at' views' other w Spent ticket refl there (λ has is. cc)
+            (holder_stays K o r.at at' s.views id v both ticket refl here (λ has is. cc) (r.each_ticket ticket least below));
         each_caller = λ c below. dite (ℕ_discrete c caller)
             (λ (e : c ≡ caller). subst (λ (p : Whereabouts). StandsAt K o at' (set views' other Spent) p c) (sym (ap (put r.at.where_is caller place) e ∙ put_here r.at.where_is caller place))
             (both, set_else views' other id Spent (λ same. apart (sym same)) ∙ set_there s.views id v both here, ap some (sym e)))
@@ -136,6 +138,7 @@ module _ {T O E : Type 0} (K : Ghosts T O E) (o : O) where
         opener_origin = r.opener_origin;
         passes_out = let one = passes-end changed right in let count = passes-set s.views id v left here in let was = r.passes_out in omega arith;
         opener_seen = r.opener_seen;
+        each_ticket = λ ticket least below. holder_longer K o at' changed (right ∷ []) ticket (holder_stays K o r.at at' s.views id v left ticket refl here (λ has is. cc) (r.each_ticket ticket least below));
         each_caller = λ c below. dite (ℕ_discrete c caller)
             (λ (e : c ≡ caller). subst (λ (z : Whereabouts). StandsAt K o at' (changed ++ right ∷ []) z c) (sym (ap (put r.at.where_is caller place) e ∙ put_here r.at.where_is caller place))
             (right, at_last changed right new (length-set s.views id left), ap some (sym e)))

@@ -12,7 +12,7 @@ use Rattle.cmwq_lock.specs.declared.views.Phase.{Phase}
 use Rattle.cmwq_lock.specs.declared.views.View.{View}
 use Rattle.cmwq_lock.specs.declared.views.View.TheVariants.{Pass}
 use Rattle.cmwq_lock.specs.Log.{BeginsWith, calls_of}
-use Rattle.cmwq_lock.specs.Rule.{Side, first, second, at_seat, in_record, Standing, Homes, pass_count, passes, caller_at, IsKnown, SlotIs, IsCurrent, PhaseIs, IsPass, ViewIs, IsRuled}
+use Rattle.cmwq_lock.specs.Rule.{Side, first, second, at_seat, in_record, Standing, Homes, pass_count, passes, caller_at, IsKnown, HasHolder, SlotIs, IsCurrent, PhaseIs, IsPass, ViewIs, IsRuled}
 use Rattle.cmwq_lock.proofs.Places.{two_callers, seats_apart, record_apart, stands_changed, view_stays, opener_elsewhere}
 
 module _ {O E : Type 0} where
@@ -66,9 +66,10 @@ module _ {T O E : Type 0} (K : Ghosts T O E) (o : O) where
       → get_elem? s.views id ≡ some (Pass who phase) → who'.origin ≡ who.origin → who'.knows.caller ≡ who.knows.caller → words' ≡ drawn ∷ served ∷ [] → served ≤ drawn → drawn ≤ 2 ^ 62
       → SlotIs K o (stood r.at drawn served current holder) homes' (set s.views id (Pass who' phase')) → IsCurrent K o served r.at.opener_knows.next current
       → LogGoesOn who.knows.caller r.at.current current → IsKnown K o current who'.knows
+      → ((t : ℕ) → served ≤ t → t < drawn → HasHolder K o (stood r.at drawn served current holder) (set s.views id (Pass who' phase')) t)
       → PhaseIs K o (stood r.at drawn served current holder) homes' id phase' → OthersStay r.at (stood r.at drawn served current holder) s.homes homes' id
       → IsRuled K o record { words = words'; homes = homes'; views = set s.views id (Pass who' phase') }
-  moved s r drawn served current holder id who who' phase phase' words' homes' here same_origin same_caller words order bound slot log goes knows mine others =
+  moved s r drawn served current holder id who who' phase phase' words' homes' here same_origin same_caller words order bound slot log goes knows tickets mine others =
       let at' = stood r.at drawn served current holder in let known = r.each_view id (Pass who phase) here in record {
         at = at';
         words_are = words;
@@ -80,6 +81,7 @@ module _ {T O E : Type 0} (K : Ghosts T O E) (o : O) where
         opener_origin = r.opener_origin;
         passes_out = let count = passes-set s.views id (Pass who phase) (Pass who' phase') here in let was = r.passes_out in omega arith;
         opener_seen = goes.begins r.at.opener_knows.seen r.opener_seen;
+        each_ticket = tickets;
         each_caller = λ c below. stands_changed K o r.at at' s.views id (Pass who phase) (Pass who' phase') c (λ i k there. there) here (pass_stands who who' phase phase' c same_caller) (r.at.where_is c) (r.each_caller c below);
         each_record = λ i k there. let was = r.each_record i k there in record {
           was_given = was.was_given;
@@ -104,8 +106,9 @@ module _ {T O E : Type 0} (K : Ghosts T O E) (o : O) where
   pub stepped_on : (s : St) (r : IsRuled K o s) (drawn : ℕ) (holder : ℕ → ℕ) (id : ℕ) (who : Identity O E) (phase phase' : Phase E) (words' : List ℕ) (homes' : Homes T)
       → get_elem? s.views id ≡ some (Pass who phase) → words' ≡ drawn ∷ r.at.served ∷ [] → r.at.served ≤ drawn → drawn ≤ 2 ^ 62
       → SlotIs K o (stood r.at drawn r.at.served r.at.current holder) homes' (set s.views id (Pass who phase'))
+      → ((t : ℕ) → r.at.served ≤ t → t < drawn → HasHolder K o (stood r.at drawn r.at.served r.at.current holder) (set s.views id (Pass who phase')) t)
       → PhaseIs K o (stood r.at drawn r.at.served r.at.current holder) homes' id phase' → OthersStay r.at (stood r.at drawn r.at.served r.at.current holder) s.homes homes' id
       → IsRuled K o record { words = words'; homes = homes'; views = set s.views id (Pass who phase') }
-  stepped_on s r drawn holder id who phase phase' words' homes' here words order bound slot mine others =
+  stepped_on s r drawn holder id who phase phase' words' homes' here words order bound slot tickets mine others =
       moved s r drawn r.at.served r.at.current holder id who who phase phase' words' homes' here refl refl words order bound slot r.log_is (log_stays who.knows.caller r.at.current)
-      (r.each_view id (Pass who phase) here).knows mine others
+      (r.each_view id (Pass who phase) here).knows tickets mine others

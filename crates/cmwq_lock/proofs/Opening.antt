@@ -20,7 +20,7 @@ use Rattle.cmwq_lock.specs.Promises.{IsLastLog}
 use Rattle.cmwq_lock.specs.Views.{is_opener, is_out, given, fresh, taken_back, out_of, records_of}
 use Rattle.cmwq_lock.specs.Rule.{Side, first, second, Standing, Homes, home, pass_count, passes, caller_at, at_home, with_seat, ViewIs, IsPass, IsRuled, opening_view, Whereabouts, at_seat, in_record, StandsAt, IsKnown, IsRecord}
 use Rattle.cmwq_lock.proofs.Puts.{put, put_here, put_else, at_end, all_of, set_there, all_there, any_there, all_read}
-use Rattle.cmwq_lock.proofs.Places.{two_callers, seats_apart, record_apart, opener_stands, spent_stands, recast, stands_changed, stands_longer, view_stays, pass_recast, slot_stays, slot_longer}
+use Rattle.cmwq_lock.proofs.Places.{two_callers, seats_apart, record_apart, opener_stands, spent_stands, recast, stands_changed, stands_longer, holder_stays, holder_longer, view_stays, pass_recast, slot_stays, slot_longer}
 use Rattle.cmwq_lock.proofs.Moves.{passes-set}
 use Rattle.cmwq_lock.proofs.Logs.{begins_longer, begins_itself, calls_none}
 
@@ -83,6 +83,7 @@ module _ {T O E : Type 0} (K : Ghosts T O E) (o : O) where
         opener_origin = r.opener_origin;
         passes_out = let one = passes-end (set s.views id changed) new in let count = passes-set s.views id (Opener d) changed here in let was = r.passes_out in omega arith;
         opener_seen = r.opener_seen;
+        each_ticket = λ t least below. holder_longer K o at' (set s.views id changed) (new ∷ []) t (holder_stays K o r.at at' s.views id (Opener d) changed t refl here (λ has is. cc) (r.each_ticket t least below));
         each_caller = λ c below. dite (ℕ_discrete c r.at.opener_knows.next)
             (λ (e : c ≡ r.at.opener_knows.next). subst (λ (p : Whereabouts). StandsAt K o at' (set s.views id changed ++ new ∷ []) p c)
             (sym (ap (put r.at.where_is r.at.opener_knows.next (at_seat first (length s.views))) e ∙ put_here r.at.where_is r.at.opener_knows.next (at_seat first (length s.views))))
@@ -126,6 +127,8 @@ module _ {T O E : Type 0} (K : Ghosts T O E) (o : O) where
         opener_origin = r.opener_origin;
         passes_out = let count = passes-set s.views id (Opener d) changed here in let less = passes-set views' other w Spent there in let was = r.passes_out in omega arith;
         opener_seen = begins_longer r.at.current r.at.opener_knows.seen k.seen r.opener_seen (r.each_view other w was_there).knows.begins;
+        each_ticket = λ ticket least below. holder_stays K o at' at' views' other w Spent ticket refl there (λ has is. cc)
+            (holder_stays K o r.at at' s.views id (Opener d) changed ticket refl here (λ has is. cc) (r.each_ticket ticket least below));
         each_caller = λ c below. dite (ℕ_discrete c k.caller)
             (λ (e : c ≡ k.caller). subst (λ (p : Whereabouts). StandsAt K o at' (set views' other Spent) p c)
             (sym (ap (put r.at.where_is k.caller (in_record (length r.at.opener_knows.records))) e ∙ put_here r.at.where_is k.caller (in_record (length r.at.opener_knows.records))))
@@ -179,6 +182,7 @@ module _ {T O E : Type 0} (K : Ghosts T O E) (o : O) where
     opener_origin = refl;
     passes_out = refl;
     opener_seen = begins_itself [];
+    each_ticket = λ ticket least below. absurd (omega arith);
     each_caller = λ c below. absurd (omega arith);
     each_record = λ i k there. absurd (some-ne-none k (sym there));
     each_view = first_view (home h);

@@ -15,8 +15,8 @@ use Rattle.cmwq_lock.specs.declared.views.Phase.{Phase}
 use Rattle.cmwq_lock.specs.declared.views.Phase.TheVariants.{Out, Waiting, Inside}
 use Rattle.cmwq_lock.specs.declared.views.View.{View}
 use Rattle.cmwq_lock.specs.declared.views.View.TheVariants.{Opener, Pass, Both, Spent}
-use Rattle.cmwq_lock.specs.Views.{is_opener, is_inside}
-use Rattle.cmwq_lock.specs.Rule.{Side, first, second, Whereabouts, at_seat, in_record, Standing, Homes, caller_at, StandsAt, SlotIs, at_home, with_seat, PhaseIs, IsPass, IsOpener, ViewIs, IsRuled}
+use Rattle.cmwq_lock.specs.Views.{has_ticket, is_opener, is_inside, ticket_of}
+use Rattle.cmwq_lock.specs.Rule.{Side, first, second, Whereabouts, at_seat, in_record, Standing, Homes, caller_at, StandsAt, HasHolder, SlotIs, at_home, with_seat, PhaseIs, IsPass, IsOpener, ViewIs, IsRuled}
 use Rattle.cmwq_lock.proofs.Puts.{set_there}
 
 -- callers that stand at two places are two callers
@@ -60,6 +60,18 @@ module _ {T O E : Type 0} (K : Ghosts T O E) (o : O) where
   pub stands_longer : (at : Standing O E) (views more : List (View O E)) (c : ℕ) (p : Whereabouts) → StandsAt K o at views p c → StandsAt K o at (views ++ more) p c
   stands_longer at views more c (at_seat side seat) (v, there, is) = (v, at_longer views more seat v there, is)
   stands_longer at views more c (in_record i) known = known
+
+  -- a ticket keeps its holder, where the changed view still has it
+  pub holder_stays : (at at' : Standing O E) (views : List (View O E)) (id : ℕ) (v w : View O E) (t : ℕ) → at'.holder t ≡ at.holder t → get_elem? views id ≡ some v
+      → (has_ticket v ≡ true → ticket_of v ≡ t → (has_ticket w ≡ true) × (ticket_of w ≡ t)) → HasHolder K o at views t → HasHolder K o at' (set views id w) t
+  holder_stays at at' views id v w t same here still (u, there, has, is) = dite (ℕ_discrete (at.holder t) id)
+      (λ e. let one : u ≡ v = some-injective _ _ (sym there ∙ (ap (get_elem? views) e ∙ here)) in
+      let kept = still (ap has_ticket (sym one) ∙ has) (ap ticket_of (sym one) ∙ is) in
+      (w, ap (get_elem? (set views id w)) (same ∙ e) ∙ set_there views id v w here, kept.0, kept.1))
+      (λ apart. (u, ap (get_elem? (set views id w)) same ∙ (set_else views id (at.holder t) w apart ∙ there), has, is))
+
+  pub holder_longer : (at : Standing O E) (views more : List (View O E)) (t : ℕ) → HasHolder K o at views t → HasHolder K o at (views ++ more) t
+  holder_longer at views more t (u, there, has, is) = (u, at_longer views more (at.holder t) u there, has, is)
 
   -- what stays true of the opener and of each pass of a view stays true of the view
   pub view_stays : (at at' : Standing O E) (homes homes' : Homes T) (seat : ℕ) (v : View O E) → ((d : OpenerView O E) → IsOpener K o at homes seat d → IsOpener K o at' homes' seat d)

@@ -19,7 +19,7 @@ use Rattle.cmwq_lock.specs.Views.{is_waiting, is_inside, inside, looked, came_ou
 use Rattle.cmwq_lock.specs.Rule.{Standing, Homes, home, away, SlotIs, at_home, with_seat, IsKept, IsCurrent, IsRuled, IsLeft}
 use Rattle.cmwq_lock.specs.Steps.{look_served, end_turn, log_carried}
 use Rattle.cmwq_lock.proofs.Puts.{all_of, set_there}
-use Rattle.cmwq_lock.proofs.Places.{slot_stays}
+use Rattle.cmwq_lock.proofs.Places.{holder_stays, slot_stays}
 use Rattle.cmwq_lock.proofs.Moves.{stood, OthersStay, log_stays, moved, stepped_on}
 use Rattle.cmwq_lock.proofs.Logs.{begins_itself, begins_after, others_after, own_after}
 
@@ -49,6 +49,7 @@ module _ {T O E : Type 0} (K : Ghosts T O E) (o : O) where
         moved K o s r r.at.drawn r.at.served r.at.current r.at.holder id who (seeing who (K.log h.value)) (Waiting q) begun (set s.words 1 n) (set s.homes 0 none) here refl refl (ap (λ ws. set ws 1 (get_or ws 1 0)) r.words_are) r.in_order r.bounded
             (with_seat id (seeing who (K.log h.value)) (ap (λ hs. set hs 0 none) full) (set_there s.views id (Pass who (Waiting q)) (Pass (seeing who (K.log h.value)) begun) here ∙ (λ i. some (Pass (seeing who (K.log h.value)) (Inside (same i) (kept.log_is i)))))) r.log_is (log_stays K o who.knows.caller r.at.current)
             (record { begins = subst (BeginsWith r.at.current) (sym kept.log_is) (begins_itself r.at.current); own_calls = (r.each_view id (Pass who (Waiting q)) here).knows.own_calls })
+            (λ t least below. holder_stays K o r.at r.at s.views id (Pass who (Waiting q)) (Pass (seeing who (K.log h.value)) begun) t refl here (λ has is. (refl, is)) (r.each_ticket t least below))
             (record { is_served = same; was_drawn = known.was_drawn; is_holder = known.is_holder; found_current = kept.log_is; slot_away = ap (λ hs. set hs 0 none) full })
             (others_begin r.at s.homes (set s.homes 0 none) id h full),
       )
@@ -65,6 +66,7 @@ module _ {T O E : Type 0} (K : Ghosts T O E) (o : O) where
       let known = (r.each_view id (Pass who (Waiting q)) here).phase_is in let once_more : Queued = record q { looks = q.looks + 1; last = n } in
       stepped_on K o s r r.at.drawn r.at.holder id who (Waiting q) (Waiting once_more) (set s.words 1 n) s.homes here (ap (λ ws. set ws 1 (get_or ws 1 0)) r.words_are) r.in_order r.bounded
       (slot_stays K o r.at r.at s.homes s.views id (Pass who (Waiting q)) (Pass who (Waiting once_more)) refl refl here refl r.slot_is)
+      (λ t least below. holder_stays K o r.at r.at s.views id (Pass who (Waiting q)) (Pass who (Waiting once_more)) t refl here (λ has is. (refl, is)) (r.each_ticket t least below))
       (record { not_ended = known.not_ended; was_drawn = known.was_drawn; is_holder = known.is_holder; last_below = omega arith }) (λ seat phase apart known'. known')
 
   pub looks_served : (slots id : ℕ) (me : Me (Option (Held T)) (View O E)) → is_waiting me.0 ≡ true → length me.1 ≡ 0
@@ -149,6 +151,7 @@ module _ {T O E : Type 0} (K : Ghosts T O E) (o : O) where
       (log_after r.at.served r.at.opener_knows.next r.at.current log caller h r.log_is known.was_given refl left.is_sound origin grows)
       (record { begins = begins_after K.ticket K.caller r.at.current log r.at.served caller grows; others = others_after K.ticket K.caller r.at.current log r.at.served caller grows })
       (record { begins = begins_itself log; own_calls = own })
+      (λ t least below'. holder_stays K o r.at at' s.views id (Pass who (Inside ticket found)) (Pass who' (Out untried)) t refl here (λ has is. absurd (omega arith)) (r.each_ticket t (omega arith) below'))
       (record { loaded_below = omega arith; found_below = omega arith })
       (others_end r.at s.homes (set s.homes 0 (some (Some h))) id log (ap r.at.holder (sym same) ∙ phase.is_holder)) in (
         came_out (Pass who (Inside ticket found)) log,

@@ -1,6 +1,6 @@
 -- What holds of the lock's table between any two steps.
 -- Word 0 is `drawn`, the number of tickets drawn, and word 1 is `served`, the number of turns ended. The one slot has the value.
-use Rattle.std.specs.Prelude.{◌≡◌, ℕ, ◌+◌, ◌^◌, ◌<◌, ◌≤◌, List, [], ◌∷◌, All, Option, Some}
+use Rattle.std.specs.Prelude.{◌≡◌, ℕ, ◌+◌, ◌^◌, ◌<◌, ◌≤◌, List, [], ◌∷◌, All, Option, Some, true}
 use mathlib.Core.Option.{none, some}
 use mathlib.Core.Option as maybe
 use lib.ListN.{get_elem?}
@@ -17,7 +17,7 @@ use Rattle.cmwq_lock.specs.declared.views.Phase.TheVariants.{Out, Waiting, Insid
 use Rattle.cmwq_lock.specs.declared.views.View.{View}
 use Rattle.cmwq_lock.specs.declared.views.View.TheVariants.{Opener, Pass, Both, Spent}
 use Rattle.cmwq_lock.specs.Log.{BeginsWith, calls_of, Grows}
-use Rattle.cmwq_lock.specs.Views.{ticket_of, caller_of, found_of, HasOrigin}
+use Rattle.cmwq_lock.specs.Views.{has_ticket, ticket_of, caller_of, found_of, HasOrigin}
 
 -- which of two passes that have one seat; a pass that has its seat alone is the first
 pub data Side : Type 0 where
@@ -93,6 +93,10 @@ module _ {T O E : Type 0} (K : Ghosts T O E) (o : O) where
     StandsAt views (at_seat side seat) c = (v : View O E) × (get_elem? views seat ≡ some v) × (caller_at side v ≡ some c)
     StandsAt views (in_record i) c = (k : Knowledge E) × (get_elem? at.opener_knows.records i ≡ some k) × (k.caller ≡ c)
 
+    -- the ticket's holder waits for its turn with it, or has its turn
+    abbrev pub HasHolder : List (View O E) → ℕ → Type 0
+    HasHolder views ticket = (v : View O E) × (get_elem? views (at.holder ticket) ≡ some v) × (has_ticket v ≡ true) × (ticket_of v ≡ ticket)
+
     -- a retired caller stands in its record, and its number was given out
     pub record IsRecord (i : ℕ) (k : Knowledge E) : Type 0 where
       pub was_given : k.caller < at.opener_knows.next
@@ -160,6 +164,7 @@ module _ {T O E : Type 0} (K : Ghosts T O E) (o : O) where
     pub opener_origin : at.opener_knows.origin.value ≡ o
     pub passes_out : passes s.views ≡ at.opener_knows.out
     pub opener_seen : BeginsWith at.current at.opener_knows.seen
+    pub each_ticket : (ticket : ℕ) → at.served ≤ ticket → ticket < at.drawn → HasHolder at s.views ticket
     pub each_caller : (c : ℕ) → c < at.opener_knows.next → StandsAt at s.views (at.where_is c) c
     pub each_record : (i : ℕ) (k : Knowledge E) → get_elem? at.opener_knows.records i ≡ some k → IsRecord at i k
     pub each_view : (seat : ℕ) (v : View O E) → get_elem? s.views seat ≡ some v → ViewIs at s.homes seat v
