@@ -1,5 +1,6 @@
 //! The lock, as callers use it. A clause speaks of what a token knows, its view, in the words of `specs/Views.antt`.
 ghost use Rattle.std.specs.Prelude.{◌≡◌, ◌+◌, ◌-◌, ◌^◌, ◌<◌, [], ◌∷◌, ◌++◌, All, IfOk, IfErr};
+ghost use Rattle.cmwq_types.specs.declared.limits.TheConstants.{MAX_PASSES};
 ghost use Rattle.cmwq_lock.specs.Log.{BeginsWith, OneBegins, longer};
 ghost use Rattle.cmwq_lock.specs.Views.{loaded, lost, waiting, looked, came_out, given, fresh, taken_back, having_seen, caller_of, ticket_of, next_of, out_of, seen_of, mine_of, records_of, knowledge_of, HasOrigin, SameKnowledge};
 ghost use Rattle.cmwq_lock.specs.Promises.{IsTurn, IsLastLog};
@@ -84,8 +85,8 @@ impl<T: Kept + Drop> TicketLock<T> {
             (λ _. next_of (opener_view opener.new) ≡ next_of (opener_view opener.old) + 1) }
         ensures one_more { IfOk result
             (λ _. out_of (opener_view opener.new) ≡ out_of (opener_view opener.old) + 1) }
-        ensures few { IfOk result (λ _. out_of (opener_view opener.old) < 64) }
-        ensures many { IfErr result (λ _. out_of (opener_view opener.old) ≡ 64) }
+        ensures few { IfOk result (λ _. out_of (opener_view opener.old) < MAX_PASSES) }
+        ensures many { IfErr result (λ _. out_of (opener_view opener.old) ≡ MAX_PASSES) }
         ensures same { IfErr result (λ _. opener.new ≡ opener.old) }
     {
         if opener.out >= MAX_PASSES {

@@ -1,5 +1,6 @@
 //! The tokens of a lock. Each has a seat at the lock's table.
 ghost use Rattle.std.specs.Prelude.{◌≡◌, ◌^◌, ◌<◌, ◌≤◌, true, length};
+ghost use Rattle.cmwq_types.specs.declared.limits.TheConstants.{MAX_PASSES};
 ghost use Rattle.cmwq_lock.specs.Views.{is_opener, is_out, is_waiting, caller_of, ticket_of, next_of, out_of};
 
 use crate::kept::Kept;
@@ -14,7 +15,7 @@ pub struct Opener<T: Kept> {
     ghost opens: { is_opener seat.me.0 ≡ true },
     ghost numbered: { next_of seat.me.0 ≡ next },
     ghost counted: { out_of seat.me.0 ≡ out },
-    ghost few: { out ≤ 64 },
+    ghost few: { out ≤ MAX_PASSES },
 }
 
 /// A caller's leave to draw tickets. A pass that is dropped stays out.

@@ -11,6 +11,5 @@ mod records;
 mod sought;
 mod tally;
 mod workers;
-mod works;
 
 pub use records::Records;

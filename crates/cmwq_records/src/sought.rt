@@ -1,11 +1,12 @@
 //! What a scan of the works looks for, and the first that it finds.
 ghost use Rattle.cmwq_records.specs.Sought.{comes_before, is_sought};
+ghost use Rattle.cmwq_table.specs.Counts.{pending_due, pending_stamp, running_stamp, running_until};
+ghost use Rattle.cmwq_table.specs.State.{pending_at, running_at};
 ghost use Rattle.cmwq_types.specs.First.{first_below, first_with};
 ghost use Rattle.cmwq_types.specs.Scenario.{queue_of};
 ghost use Rattle.std.specs.Prelude.{◌≡◌, ◌<◌, ◌==◌, ◌&&◌, ◌||◌, IfSome, length, nat_lt, true};
 
 use crate::records::Records;
-use crate::works::{due, stamp_pending, stamp_running, until};
 use cmwq_exec::Parts;
 
 /// What a scan of the works looks for.
@@ -81,20 +82,42 @@ impl Records {
     {
         match sought {
             Sought::Inactive { .. } | Sought::Listed { .. } => {
-                stamp_pending(self.pending_of(v)) < stamp_pending(self.pending_of(w))
+                self.pending_stamp(v) < self.pending_stamp(w)
             }
-            Sought::Due => is_less(
-                (due(self.pending_of(v)), stamp_pending(self.pending_of(v))),
-                (due(self.pending_of(w)), stamp_pending(self.pending_of(w))),
-            ),
-            Sought::Slept { .. } => is_less(
-                (until(self.running_of(v)), stamp_running(self.running_of(v))),
-                (until(self.running_of(w)), stamp_running(self.running_of(w))),
-            ),
+            Sought::Due => is_less(self.firing_key(v), self.firing_key(w)),
+            Sought::Slept { .. } => is_less(self.waking_key(v), self.waking_key(w)),
             Sought::Runnable { .. } | Sought::Ready { .. } => {
-                stamp_running(self.running_of(v)) < stamp_running(self.running_of(w))
+                self.running_stamp(v) < self.running_stamp(w)
             }
         }
+    }
+
+    /// The stamp of the place of a pending work, and 0 of any other.
+    fn pending_stamp(&self, w: usize) -> u64
+        ensures { result ≡ pending_stamp (pending_at self.now.state w) }
+    {
+        self.pending_of(w).map_or(0, |p| p.stamp)
+    }
+
+    /// The firing key of a pending work, and zeros of any other.
+    fn firing_key(&self, w: usize) -> (u64, u64)
+        ensures { result ≡ (pending_due (pending_at self.now.state w), pending_stamp (pending_at self.now.state w)) }
+    {
+        self.pending_of(w).map_or((0, 0), |p| p.firing_key())
+    }
+
+    /// The stamp of a running work, and 0 of any other.
+    fn running_stamp(&self, w: usize) -> u64
+        ensures { result ≡ running_stamp (running_at self.now.state w) }
+    {
+        self.running_of(w).map_or(0, |r| r.stamp)
+    }
+
+    /// The waking key of a running work, and zeros of any other.
+    fn waking_key(&self, w: usize) -> (u64, u64)
+        ensures { result ≡ (running_until (running_at self.now.state w), running_stamp (running_at self.now.state w)) }
+    {
+        self.running_of(w).map_or((0, 0), |r| r.waking_key())
     }
 }
 

@@ -37,10 +37,7 @@ impl Records {
     fn idle_since(&self, pool: u8, worker: u8) -> u64
         ensures { result ≡ idle_stamp (idle_at self.now.state pool worker) }
     {
-        match self.idle_of(pool, worker) {
-            Some(stamp) => stamp,
-            None => 0,
-        }
+        self.idle_of(pool, worker).unwrap_or(0)
     }
 
     /// The number of a new worker, if one can be made.

@@ -1,6 +1,6 @@
 -- How far the changes take the counters, and that no instruction takes one too far.
-use Rattle.std.proofs.Common.{◌≡◌, ℕ, zero, suc, ◌+◌, ◌*◌, ◌<◌, ◌≤◌, Bool, true, false, cond, ◌||◌, Option, Some, None, length, arith, refl, ◌∙◌}
-use Rattle.std.specs.Prelude.{if◌then◌else◌, nat_lt, slice_set, is_some}
+use Rattle.std.proofs.Common.{◌≡◌, ℕ, zero, suc, ◌+◌, ◌*◌, ◌<◌, ◌≤◌, Bool, true, false, cond, ◌||◌, List, [], ◌∷◌, Option, Some, None, length, arith, refl, ◌∙◌}
+use Rattle.std.specs.Prelude.{if◌then◌else◌, nat_lt, slice_set}
 use Rattle.std.proofs.lemmas.Bool.{ltb-true}
 use Rattle.cmwq_types.specs.Contents.{ScenarioContents}
 use Rattle.cmwq_types.specs.Scenario.{flags_at, op_at, pool_count, queue_of}
@@ -8,7 +8,7 @@ use Rattle.cmwq_types.specs.Setting.{IsSetting}
 use Rattle.cmwq_types.specs.declared.instr.Instr.{Instr}
 use Rattle.cmwq_types.specs.declared.instr.Instr.TheVariants as instr
 use Rattle.cmwq_types.specs.declared.instr.WorkId.{WorkId}
-use Rattle.cmwq_types.specs.declared.limits.TheConstants.{MAX_CPUS, MAX_QUEUES, MAX_WORKS}
+use Rattle.cmwq_types.specs.declared.limits.TheConstants.{MAX_WORKS}
 use Rattle.cmwq_types.specs.declared.moves.Move.{Move}
 use Rattle.cmwq_types.specs.declared.moves.Move.TheVariants.{Advance, Wake, Start, Defer}
 use Rattle.cmwq_types.specs.declared.reply.Event.{Event}
@@ -19,11 +19,13 @@ use Rattle.cmwq_types.specs.declared.reply.Refusal.{Refusal}
 use Rattle.cmwq_types.specs.declared.reply.Refusal.TheVariants.{Spent}
 use Rattle.cmwq_types.specs.declared.scenario.Op.{Op}
 use Rattle.cmwq_types.specs.declared.scenario.Op.TheVariants as op
+use Rattle.cmwq_types.proofs.SettingLemmas.{IsSetting-valid}
 use Rattle.cmwq_table.specs.Counts.{first_due, first_inactive, free_worker, has_room, is_deferred, or_else}
-use Rattle.cmwq_table.specs.Moves.{advance, begin_again, carry_out, come_to_end, deferred, enlist, fill, fill_everywhere, fill_freezable, fill_from, fill_one, fill_pools, fill_times, finish, fire, fired, fired_to, first_moving, moved, next_move, onward, place, place_after, queue_from_body, retire, set_max, started, take_off, taken_off, thaw, tick, with_pending, woken}
+use Rattle.cmwq_table.specs.Laws.{InEveryState}
+use Rattle.cmwq_table.specs.Moves.{advance, begin_again, carry_out, come_to_end, deferred, enlist, fill, fill_everywhere, fill_freezable, fill_from, fill_one, fill_pools, fill_times, finish, fire, fired, fired_to, first_moving, moved, next_move, onward, place, place_after, queue_from_body, retire, set_max, started, taken_off, thaw, tick, with_pending, woken}
 use Rattle.cmwq_table.specs.Ready.{HasCounters, Takes, most_everywhere, most_stamps}
 use Rattle.cmwq_table.specs.State.{State, pending_at, running_at, start}
-use Rattle.cmwq_table.specs.Table.{answer, cancelled, cancelled_sync, delayed, effect, fired_first, is_question, modified, next, operands, queued, refuse_unless, situation, spent_all, step_or_tick, stepped, table}
+use Rattle.cmwq_table.specs.Table.{after_all, answer, cancelled, delayed, effect, fired_first, is_question, modified, next, operands, queued, refuse_unless, situation, spent_all, step_or_tick, stepped, table}
 use Rattle.cmwq_table.specs.declared.state.Pending.{Pending}
 use Rattle.cmwq_table.specs.declared.state.Running.{Running}
 
@@ -281,5 +283,12 @@ table-counters S s i setting counters = answer-counters S s i setting counters (
 
 pub start-counters : (S : ScenarioContents) → HasCounters S (start S)
 start-counters S = record { spent = omega arith; time = omega arith; next = omega arith }
+
+all-counters : (S : ScenarioContents) (s : State) (instrs : List Instr) → IsSetting S → HasCounters S s → HasCounters S (after_all S s instrs)
+all-counters S s [] setting counters = counters
+all-counters S s (i ∷ instrs) setting counters = all-counters S (table S s i).0 instrs setting (table-counters S s i setting counters)
+
+pub has_counters : InEveryState HasCounters
+has_counters S valid instrs = all-counters S (start S) instrs (IsSetting-valid S valid) (start-counters S)
 
 pub ruleset takes = (fill_one-takes, fill-takes, fill_everywhere-takes, fill_freezable-takes, fill_from-takes, taken_off-takes, come_to_end-takes)

@@ -6,7 +6,7 @@ use Rattle.cmwq_types.specs.Scenario.{queue_of}
 use Rattle.cmwq_types.specs.declared.reply.Place.{Place}
 use Rattle.cmwq_types.specs.declared.reply.Place.TheVariants.{Timer, Inactive, Listed, Deferred}
 use Rattle.cmwq_table.specs.Counts.{first_inactive, has_room}
-use Rattle.cmwq_table.specs.Moves.{enlist, fill, fill_from, fill_one, fill_times, listed_at, taken_off, with_pending}
+use Rattle.cmwq_table.specs.Moves.{enlist, fill_from, fill_one, fill_times, listed_at, taken_off, with_pending}
 use Rattle.cmwq_table.specs.State.{State, pending_at}
 use Rattle.cmwq_table.specs.declared.state.Pending.{Pending}
 

@@ -1,10 +1,10 @@
 -- Each change of the state keeps it ready.
-use Rattle.std.proofs.Common.{ℕ, suc, zero, ◌+◌, ◌-◌, ◌<◌, ◌≤◌, Bool, true, false, cond, List, [], ◌∷◌, Option, Some, None, length, replicate, arith, ◌≡◌, subst}
+use Rattle.std.proofs.Common.{ℕ, suc, zero, ◌+◌, ◌<◌, Bool, true, false, cond, List, [], ◌∷◌, Option, Some, None, length, replicate, arith, ◌≡◌, subst}
 use Rattle.std.specs.Prelude.{slice_set, slice_index_or}
 use Rattle.cmwq_types.specs.Contents.{ScenarioContents}
 use Rattle.cmwq_types.specs.Scenario.{pool_count}
 use Rattle.cmwq_types.specs.Setting.{IsSetting}
-use Rattle.cmwq_types.specs.declared.limits.TheConstants.{MAX_OPS, MAX_WORKERS}
+use Rattle.cmwq_types.specs.declared.limits.TheConstants.{MAX_OPS}
 use Rattle.cmwq_types.specs.declared.reply.Mode.TheVariants.{Asleep, Runnable}
 use Rattle.cmwq_types.specs.declared.reply.Place.{Place}
 use Rattle.cmwq_types.specs.declared.reply.Place.TheVariants.{Deferred}

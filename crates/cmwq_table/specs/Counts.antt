@@ -1,5 +1,5 @@
 -- Limits, counts, and the first of the works and workers that one asks for. "First" is the least stamp.
-use Rattle.std.specs.Prelude.{ℕ, ◌+◌, Bool, true, false, not, ◌&&◌, ◌||◌, length, Option, Some, None, if◌then◌else◌, nat_lt, nat_le, ◌==◌, is_some, is_none}
+use Rattle.std.specs.Prelude.{ℕ, ◌+◌, Bool, true, false, not, ◌&&◌, ◌||◌, length, Option, Some, None, if◌then◌else◌, nat_lt, ◌==◌, is_some, is_none}
 use Rattle.cmwq_types.specs.Contents.{ScenarioContents}
 use Rattle.cmwq_types.specs.Scenario.{flags_at, queue_of}
 pub use Rattle.cmwq_types.specs.Places.{is_inactive, is_listed, is_active, is_activated, is_deferred, is_placed, is_due, due_of, is_runnable, is_slept, until_of}

@@ -1,5 +1,5 @@
 -- The lines that a run prints, as bytes.
-use Rattle.std.specs.Prelude.{ℕ, Bool, true, false, List, [], ◌∷◌, ◌++◌, Option, Some, None, codes}
+use Rattle.std.specs.Prelude.{ℕ, Bool, true, false, List, [], ◌∷◌, ◌++◌, Option, Some, None, codes, if◌then◌else◌}
 use Rattle.std.specs.Fmt.{decimal}
 use Rattle.cmwq_types.specs.Contents.{ScenarioContents}
 use Rattle.cmwq_types.specs.Scenario.{work_at}
@@ -27,17 +27,32 @@ abbrev pub already_text : Bool → List ℕ
 already_text true = codes " already"
 already_text false = []
 
--- what an event's line says of its work
+-- what an event's line says that its work does
+abbrev pub event_verb : Event → List ℕ
+event_verb event.Starts = codes "starts"
+event_verb (event.Burns ticks) = codes "burns"
+event_verb (event.Sleeps ticks) = codes "sleeps"
+event_verb event.Wakes = codes "wakes"
+event_verb event.Finishes = codes "finishes"
+event_verb event.FinishesAndStarts = codes "finishes and starts"
+event_verb event.Defers = codes "defers"
+event_verb event.Fires = codes "fires"
+event_verb (event.Queues other already) = codes "queues"
+
+-- and how long, or which work
+abbrev pub event_object : ScenarioContents → Event → List ℕ
+event_object S (event.Burns ticks) = codes " " ++ decimal ticks
+event_object S (event.Sleeps ticks) = codes " " ++ decimal ticks
+event_object S (event.Queues other already) = codes " " ++ work_name S other ++ already_text already
+event_object S event.Starts = []
+event_object S event.Wakes = []
+event_object S event.Finishes = []
+event_object S event.FinishesAndStarts = []
+event_object S event.Defers = []
+event_object S event.Fires = []
+
 abbrev pub event_text : ScenarioContents → Event → List ℕ
-event_text S event.Starts = codes "starts"
-event_text S (event.Burns ticks) = codes "burns " ++ decimal ticks
-event_text S (event.Sleeps ticks) = codes "sleeps " ++ decimal ticks
-event_text S event.Wakes = codes "wakes"
-event_text S event.Finishes = codes "finishes"
-event_text S event.FinishesAndStarts = codes "finishes and starts"
-event_text S event.Defers = codes "defers"
-event_text S event.Fires = codes "fires"
-event_text S (event.Queues other already) = codes "queues " ++ work_name S other ++ already_text already
+event_text S event = event_verb event ++ event_object S event
 
 -- a refusal's name
 abbrev pub refusal_text : Refusal → List ℕ
@@ -106,22 +121,41 @@ asked_name S instr.Next = []
 asked_name S (instr.Ask flush) = []
 asked_name S instr.Busy = []
 
--- the line of a reply at a time, to an instruction; what was queued or done without a word has none
+-- what was queued or done without a word has no line
+abbrev pub is_silent : Reply → Bool
+is_silent reply.Queued = true
+is_silent reply.Done = true
+is_silent reply.Already = false
+is_silent reply.Changed = false
+is_silent reply.Cancelled = false
+is_silent reply.NotPending = false
+is_silent (reply.Sync was flush) = false
+is_silent (reply.Flush flush) = false
+is_silent reply.Yes = false
+is_silent reply.No = false
+is_silent (reply.Found state) = false
+is_silent (reply.Event work event) = false
+is_silent (reply.Refused why) = false
+
+-- what a reply's line says behind the time
+abbrev pub reply_words : ScenarioContents → Instr → Reply → List ℕ
+reply_words S asked reply.Queued = []
+reply_words S asked reply.Done = []
+reply_words S asked reply.Already = codes "already"
+reply_words S asked reply.Changed = codes "changed"
+reply_words S asked reply.Cancelled = codes "cancelled"
+reply_words S asked reply.NotPending = codes "not pending"
+reply_words S asked (reply.Sync was flush) = was_text was ++ codes " flush " ++ decimal flush
+reply_words S asked (reply.Flush flush) = codes "flush " ++ decimal flush
+reply_words S asked reply.Yes = codes "yes"
+reply_words S asked reply.No = codes "no"
+reply_words S asked (reply.Found state) = asked_name S asked ++ codes " " ++ place_text state.place ++ codes " " ++ run_text state.run
+reply_words S asked (reply.Event work event) = work_name S work ++ codes " " ++ event_text S event
+reply_words S asked (reply.Refused why) = codes "refused " ++ refusal_text why
+
+-- the line of a reply at a time, to an instruction
 abbrev pub reply_line : ScenarioContents → ℕ → Instr → Reply → List ℕ
-reply_line S now asked reply.Queued = []
-reply_line S now asked reply.Done = []
-reply_line S now asked reply.Already = line_at now (codes "already")
-reply_line S now asked reply.Changed = line_at now (codes "changed")
-reply_line S now asked reply.Cancelled = line_at now (codes "cancelled")
-reply_line S now asked reply.NotPending = line_at now (codes "not pending")
-reply_line S now asked (reply.Sync was flush) = line_at now (was_text was ++ codes " flush " ++ decimal flush)
-reply_line S now asked (reply.Flush flush) = line_at now (codes "flush " ++ decimal flush)
-reply_line S now asked reply.Yes = line_at now (codes "yes")
-reply_line S now asked reply.No = line_at now (codes "no")
-reply_line S now asked (reply.Found state) =
-    line_at now (asked_name S asked ++ codes " " ++ place_text state.place ++ codes " " ++ run_text state.run)
-reply_line S now asked (reply.Event work event) = line_at now (work_name S work ++ codes " " ++ event_text S event)
-reply_line S now asked (reply.Refused why) = line_at now (codes "refused " ++ refusal_text why)
+reply_line S now asked reply = if is_silent reply then [] else line_at now (reply_words S asked reply)
 
 abbrev pub told : ScenarioContents → Instr → State × Reply → List ℕ
 told S asked after = reply_line S after.0.time asked after.1

@@ -47,6 +47,8 @@ ChangesNothingRefused S s i = (why : Refusal) → reply_to S s i ≡ reply.Refus
 unfoldable pub ChangesNothingAsked : ScenarioContents → State → Instr → Type 0
 ChangesNothingAsked S s i = is_question i ≡ true → state_after S s i ≡ s
 
+-- Counters: `HasCounters` of `Ready.antt`, which each machine keeps between instructions.
+
 -- Concurrency level.
 
 abbrev pub is_wake : Event → Bool

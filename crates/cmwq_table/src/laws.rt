@@ -3,6 +3,7 @@
 //! Each function's contract is a law, over every valid scenario and every list of instructions. The functions
 //! do nothing: they carry the laws.
 ghost use Rattle.cmwq_table.specs.Laws.{ActivatesInOrder, AtEveryInstruction, ChangesNothingAsked, ChangesNothingRefused, GoesInOrder, InEveryState, LeavesNoRoom, ListsInOrder, StartsAtLevelZero, TimeWaitsForStarts, RisesByWakes, RisesWithinLimit, IsNotReentrant, StayDone, TellsActive, WaitForInstances};
+ghost use Rattle.cmwq_table.specs.Ready.{HasCounters};
 
 /// An instruction that is refused changes nothing: neither a work, a worker or a flush, nor the time, the stamps
 /// or what was spent. That is this project's own rule.
@@ -15,6 +16,14 @@ pub fn refused_instructions_change_nothing()
 #[tactic(auto, using(crate::proofs::LawLemmas::Refusals::changes_nothing_asked))]
 pub fn questions_change_nothing()
     ensures { AtEveryInstruction ChangesNothingAsked }
+{}
+
+/// A run comes to its end: no more instructions are accepted than the scenario's `steps`, questions aside, and at most
+/// one tick passes for each of them. Nor does it run out of stamps: each takes at most 278,528. That is this project's
+/// own rule.
+#[tactic(auto, using(crate::proofs::CounterLemmas::has_counters))]
+pub fn counters_keep_within_the_steps()
+    ensures { InEveryState HasCounters }
 {}
 
 /// A bound worker pool takes no counted work off its worklist beside a counted runnable worker: where its

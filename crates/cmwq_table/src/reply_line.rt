@@ -1,5 +1,5 @@
 //! The line that a reply prints.
-ghost use Rattle.cmwq_table.specs.Events.{asked_name, event_text, place_text, refusal_text, reply_line, run_text, was_text, work_name};
+ghost use Rattle.cmwq_table.specs.Events.{already_text, asked_name, event_text, event_verb, is_silent, place_text, refusal_text, reply_line, reply_words, run_text, was_text, work_name};
 ghost use Rattle.std.specs.Prelude.{◌≡◌, Some};
 
 use cmwq_types::{Event, Instr, Mode, Place, Refusal, Reply, Scenario, WorkId, WorkRun};
@@ -25,25 +25,56 @@ impl fmt::Display for ReplyLine<'_> {
     ghost output = { λ line. Some (reply_line line.scenario.now line.time line.instr line.reply) };
 
     fn fmt<W: fmt::Write>(&self, f: &mut fmt::Formatter<W>) -> fmt::Result {
+        if is_silent(self.reply) {
+            return Ok(());
+        }
         let time = self.time;
+        let words = ReplyWords {
+            scenario: self.scenario,
+            instr: self.instr,
+            reply: self.reply,
+        };
+        write!(f, "{time} {words}\n")
+    }
+}
+
+/// Whether the reply has no line.
+fn is_silent(reply: Reply) -> bool
+    ensures { result ≡ is_silent reply }
+{
+    matches!(reply, Reply::Queued | Reply::Done)
+}
+
+/// What a reply's line says behind the time.
+#[derive(Clone, Copy)]
+struct ReplyWords<'a> {
+    scenario: &'a Scenario,
+    instr: Instr,
+    reply: Reply,
+}
+
+impl fmt::Display for ReplyWords<'_> {
+    ghost output = { λ words. Some (reply_words words.scenario.now words.instr words.reply) };
+
+    fn fmt<W: fmt::Write>(&self, f: &mut fmt::Formatter<W>) -> fmt::Result {
         match self.reply {
             Reply::Queued | Reply::Done => Ok(()),
-            Reply::Already => write!(f, "{time} already\n"),
-            Reply::Changed => write!(f, "{time} changed\n"),
-            Reply::Cancelled => write!(f, "{time} cancelled\n"),
-            Reply::NotPending => write!(f, "{time} not pending\n"),
+            Reply::Already => f.write_str("already"),
+            Reply::Changed => f.write_str("changed"),
+            Reply::Cancelled => f.write_str("cancelled"),
+            Reply::NotPending => f.write_str("not pending"),
             Reply::Sync { was, flush } => {
                 let was = was_text(was);
-                write!(f, "{time} {was} flush {flush}\n")
+                write!(f, "{was} flush {flush}")
             }
-            Reply::Flush(flush) => write!(f, "{time} flush {flush}\n"),
-            Reply::Yes => write!(f, "{time} yes\n"),
-            Reply::No => write!(f, "{time} no\n"),
+            Reply::Flush(flush) => write!(f, "flush {flush}"),
+            Reply::Yes => f.write_str("yes"),
+            Reply::No => f.write_str("no"),
             Reply::Found(state) => {
                 let work = asked_name(self.scenario, self.instr);
                 let place = PlaceWords(state.place);
                 let run = RunWords(state.run);
-                write!(f, "{time} {work} {place} {run}\n")
+                write!(f, "{work} {place} {run}")
             }
             Reply::Event { work, event } => {
                 let work = work_name(self.scenario, work);
@@ -51,11 +82,11 @@ impl fmt::Display for ReplyLine<'_> {
                     scenario: self.scenario,
                     event,
                 };
-                write!(f, "{time} {work} {words}\n")
+                write!(f, "{work} {words}")
             }
             Reply::Refused(why) => {
                 let name = refusal_name(why);
-                write!(f, "{time} refused {name}\n")
+                write!(f, "refused {name}")
             }
         }
     }
@@ -72,25 +103,41 @@ impl fmt::Display for EventWords<'_> {
     ghost output = { λ words. Some (event_text words.scenario.now words.event) };
 
     fn fmt<W: fmt::Write>(&self, f: &mut fmt::Formatter<W>) -> fmt::Result {
+        f.write_str(event_verb(self.event))?;
         match self.event {
-            Event::Starts => write!(f, "starts"),
-            Event::Burns(ticks) => write!(f, "burns {ticks}"),
-            Event::Sleeps(ticks) => write!(f, "sleeps {ticks}"),
-            Event::Wakes => write!(f, "wakes"),
-            Event::Finishes => write!(f, "finishes"),
-            Event::FinishesAndStarts => write!(f, "finishes and starts"),
-            Event::Defers => write!(f, "defers"),
-            Event::Fires => write!(f, "fires"),
+            Event::Burns(ticks) | Event::Sleeps(ticks) => write!(f, " {ticks}"),
             Event::Queues { other, already } => {
                 let other = work_name(self.scenario, other);
-                if already {
-                    write!(f, "queues {other} already")
-                } else {
-                    write!(f, "queues {other}")
-                }
+                let already = already_text(already);
+                write!(f, " {other}{already}")
             }
+            _ => Ok(()),
         }
     }
+}
+
+/// What an event's line says that its work does.
+fn event_verb(event: Event) -> &'static str
+    ensures { result.now ≡ event_verb event }
+{
+    match event {
+        Event::Starts => "starts",
+        Event::Burns(_) => "burns",
+        Event::Sleeps(_) => "sleeps",
+        Event::Wakes => "wakes",
+        Event::Finishes => "finishes",
+        Event::FinishesAndStarts => "finishes and starts",
+        Event::Defers => "defers",
+        Event::Fires => "fires",
+        Event::Queues { .. } => "queues",
+    }
+}
+
+/// Whether the work that was queued was pending already.
+fn already_text(already: bool) -> &'static str
+    ensures { result.now ≡ already_text already }
+{
+    if already { " already" } else { "" }
 }
 
 /// The words of where a work waits: `idle`, `timer DUE`, `inactive P`, `listed P` or `deferred P`, as the

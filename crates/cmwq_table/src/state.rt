@@ -2,6 +2,9 @@
 //!
 //! A stamp is a number from a counter that only rises: a lower one is older.
 
+ghost use Rattle.cmwq_types.specs.Places.{due_of, until_of};
+ghost use Rattle.std.specs.Prelude.{◌≡◌};
+
 use cmwq_types::{Mode, Place, QueueId, WorkId};
 
 /// What is known of a pending work.
@@ -13,6 +16,16 @@ pub struct Pending {
     pub stamp: u64,
     /// Where it is: with a timer, inactive, listed or deferred.
     pub place: Place,
+}
+
+impl Pending {
+    /// What timers fire in the order of: the tick at which it runs out, 0 where it waits for none, and
+    /// then its stamp.
+    pub fn firing_key(self) -> (u64, u64)
+        ensures { result ≡ (due_of self.place, self.stamp) }
+    {
+        (self.place.due(), self.stamp)
+    }
 }
 
 /// What is known of a running work.
@@ -32,6 +45,16 @@ pub struct Running {
     pub mode: Mode,
     /// The stamp of its start or its last wake.
     pub stamp: u64,
+}
+
+impl Running {
+    /// What sleepers wake in the order of: the tick until which it sleeps, 0 where it doesn't, and then
+    /// its stamp.
+    pub fn waking_key(self) -> (u64, u64)
+        ensures { result ≡ (until_of self.mode, self.stamp) }
+    {
+        (self.mode.until(), self.stamp)
+    }
 }
 
 /// What a flush waits for.

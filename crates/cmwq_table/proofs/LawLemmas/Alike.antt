@@ -15,7 +15,7 @@ use Rattle.cmwq_table.proofs.LawLemmas.Changes.{IsLong, IsPoolOf, RunsIn}
 use Rattle.cmwq_table.proofs.LawLemmas.Counting.{count_below-same}
 use Rattle.cmwq_table.proofs.LawLemmas.Concurrency.{runnable}
 use Rattle.cmwq_table.proofs.LawLemmas.PoolOrder.{HasActiveAt, HasInactiveAt, IsInPoolOrder, RanAt}
-use Rattle.cmwq_table.proofs.LawLemmas.Sound.{IsSound, Fits, FitsIfPending, FitsIfRunning, FitsPlace}
+use Rattle.cmwq_table.proofs.LawLemmas.Sound.{IsSound, Fits, FitsIfPending, FitsIfRunning, StandsWithRun}
 use Rattle.cmwq_table.proofs.LawLemmas.Worklist.{IsInListOrder}
 
 -- two works run alike, but for what they have left to burn, or neither runs
@@ -147,14 +147,14 @@ some-alike (Some r) None alike e = absurd alike
 some-alike None (Some q) alike e = absurd alike
 some-alike None None alike e = e
 
-place-alike : (S : ScenarioContents) (w : ℕ) (a b : Option Running) (place : Place) → RunsAlike a b → FitsPlace S w a place → FitsPlace S w b place
-place-alike S w a b (Timer due cpu) alike fits = fits
-place-alike S w a b (Inactive pool) alike fits = (fits.0, in-alike a b pool alike fits.1)
-place-alike S w a b (Listed pool) alike fits = (fits.0, in-alike a b pool alike fits.1)
-place-alike S w a b (Deferred pool) alike fits = (fits.0, in-alike a b pool alike fits.1, some-alike a b alike fits.2)
+stands-alike : (S : ScenarioContents) (w : ℕ) (a b : Option Running) (place : Place) → RunsAlike a b → StandsWithRun S w a place → StandsWithRun S w b place
+stands-alike S w a b (Timer due cpu) alike stands = tt
+stands-alike S w a b (Inactive pool) alike stands = (stands.0, in-alike a b pool alike stands.1)
+stands-alike S w a b (Listed pool) alike stands = (stands.0, in-alike a b pool alike stands.1)
+stands-alike S w a b (Deferred pool) alike stands = (stands.0, in-alike a b pool alike stands.1, some-alike a b alike stands.2)
 
 pending-alike : (S : ScenarioContents) (next w : ℕ) (a b : Option Running) (p : Option Pending) → RunsAlike a b → FitsIfPending S next w a p → FitsIfPending S next w b p
-pending-alike S next w a b (Some p) alike fits = record { born = fits.born; stamp = fits.stamp; place = place-alike S w a b p.place alike fits.place }
+pending-alike S next w a b (Some p) alike fits = record { born = fits.born; stamp = fits.stamp; place = fits.place; stands = stands-alike S w a b p.place alike fits.stands }
 pending-alike S next w a b None alike fits = tt
 
 running-alike : (S : ScenarioContents) (next w : ℕ) (a b : Option Running) → RunsAlike a b → FitsIfRunning S next w a → FitsIfRunning S next w b

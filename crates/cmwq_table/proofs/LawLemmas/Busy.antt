@@ -1,5 +1,5 @@
 -- That a freezable queue is busy, said of works, is what its active counts say.
-use Rattle.std.proofs.Common.{◌≡◌, ℕ, zero, suc, ◌+◌, ◌<◌, Bool, true, false, not, ◌&&◌, ◌||◌, length, Option, Some, None, arith, refl, ap, ◌∙◌, ◌⊎◌, inl, inr}
+use Rattle.std.proofs.Common.{◌≡◌, ℕ, zero, suc, ◌+◌, ◌<◌, Bool, true, not, ◌&&◌, ◌||◌, length, Option, Some, None, arith, refl, ap, ◌∙◌, ◌⊎◌, inl, inr}
 use Rattle.std.proofs.lemmas.Bool.{and_from, and_parts, cases_Bool, eq-eqb, eqb-true, ne_eqb, or_cases, or_left, or_right}
 use Rattle.std.specs.Prelude.{is_some, ◌==◌}
 use Rattle.cmwq_types.specs.Contents.{ScenarioContents}

@@ -14,10 +14,14 @@ pub record IsLong (S : ScenarioContents) (s : State) : Type 0 where
   pub pending : length s.pending ≡ length S.works
   pub running : length s.running ≡ length S.works
 
--- the pool is one to which the work may go; of an unbound queue there is one
+-- of an unbound queue there is one pool to which the work may go
+abbrev pub IsOwnPool : ScenarioContents → ℕ → ℕ → Type 0
+IsOwnPool S w pool = ((flags_at S (queue_of S w)).unbound || (flags_at S (queue_of S w)).ordered) ≡ true → pool ≡ target S (queue_of S w) 0
+
+-- the pool is one to which the work may go
 pub record IsPoolOf (S : ScenarioContents) (w pool : ℕ) : Type 0 where
   pub in_range : pool < pool_count S
-  pub unbound : ((flags_at S (queue_of S w)).unbound || (flags_at S (queue_of S w)).ordered) ≡ true → pool ≡ target S (queue_of S w) 0
+  pub own : IsOwnPool S w pool
 
 -- where the work runs, it runs in this pool
 abbrev pub RunsIn : Option Running → ℕ → Type 0

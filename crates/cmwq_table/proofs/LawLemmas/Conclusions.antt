@@ -22,6 +22,7 @@ use Rattle.cmwq_table.specs.Counts.{active, counted, first_listed, first_slept, 
 use Rattle.cmwq_table.specs.Counts as counts
 use Rattle.cmwq_table.specs.Laws.{ActivatesInOrder, ActiveInSince, AtEveryInstruction, CannotStart, GoesInOrder, HasInstance, HasNoIdleWorker, InEveryState, IsListedIn, LeavesNoRoom, ListsInOrder, TimeWaitsForStarts, RisesByWakes, RisesWithinLimit, IsNotReentrant, StayDone, WaitForInstances, placed_in, reply_to, state_after, tells_wake}
 use Rattle.cmwq_table.specs.Moves.{as_move, first_moving, next_move, start_first, start_move, take_listed}
+use Rattle.cmwq_table.specs.Ready.{IsPlaceReady}
 use Rattle.cmwq_table.specs.Table.{after_all, run, target_at}
 use Rattle.cmwq_table.proofs.LawLemmas.Alike.{alike-active, alike-counted, alike-instances, alike-order, alike-sound}
 use Rattle.cmwq_table.proofs.LawLemmas.Concurrency.{Follows-counted}
@@ -35,7 +36,7 @@ use Rattle.cmwq_table.proofs.LawLemmas.Order.{active-there, at-most-one, inactiv
 use Rattle.cmwq_table.proofs.LawLemmas.PoolOrder.{Follows-waits, HasActiveAt, HasInactiveAt, IsInPoolOrder, PendsActiveAt, RanAt, WaitsSince, active-below, waits-then}
 use Rattle.cmwq_table.proofs.LawLemmas.Runs.{IsReached, Outcome, outcome-is, run-reached, table-reached}
 use Rattle.cmwq_table.proofs.LawLemmas.Setting.{IsSetting, IsSetting-valid}
-use Rattle.cmwq_table.proofs.LawLemmas.Sound.{Fits, FitsPlace, FitsTarget, IsSound}
+use Rattle.cmwq_table.proofs.LawLemmas.Sound.{Fits, FitsTarget, IsSound, StandsWithRun}
 use Rattle.cmwq_table.proofs.LawLemmas.Worklist.{ListedAs}
 
 -- Concurrency level.
@@ -150,18 +151,18 @@ cannot-start S s pool w sound h listed true may e =
     inr (no-worker S s pool sound (not-first S s pool w (free_worker S s pool) (first_listed S s pool) h listed (listed-is_first S s pool) e))
 cannot-start S s pool w sound h listed false may e = inl (not-zero (counted S s pool) (or_parts (is_unbound S pool) (counted S s pool == 0) may).1)
 
-listed-in_range : (S : ScenarioContents) (w pool : ℕ) (r : Option Running) (place : Place) → FitsPlace S w r place → is_listed place pool ≡ true → pool < pool_count S
-listed-in_range S w pool r (Listed at) fits is = let same : at ≡ pool = eqb-true at pool is in let there : at < pool_count S = fits.0.in_range in omega arith
-listed-in_range S w pool r (Timer due cpu) fits is = cc
-listed-in_range S w pool r (Inactive at) fits is = cc
-listed-in_range S w pool r (Deferred at) fits is = cc
+listed-in_range : (S : ScenarioContents) (pool : ℕ) (place : Place) → IsPlaceReady S place → is_listed place pool ≡ true → pool < pool_count S
+listed-in_range S pool (Listed at) there is = let same : at ≡ pool = eqb-true at pool is in omega arith
+listed-in_range S pool (Timer due cpu) there is = cc
+listed-in_range S pool (Inactive at) there is = cc
+listed-in_range S pool (Deferred at) there is = cc
 
 settled-listed : (S : ScenarioContents) (s : State) (pool w : ℕ) → IsSound S s → IsSettled S s → IsListedIn s w pool → CannotStart S s pool
 settled-listed S s pool w sound settled listed =
     let is : pends (λ place. is_listed place pool) (pending_at s w) ≡ true = ap (pends (λ place. is_listed place pool)) listed.1 ∙ listed.2 in
     let there : w < length S.works = waits-in_range S s w (λ place. is_listed place pool) sound.long is in
     let fits : Fits S s.next w (Some listed.0) (running_at s w) = subst (λ (o : Option Pending). Fits S s.next w o (running_at s w)) listed.1 (sound.works w) in
-    let pool_there : pool < pool_count S = listed-in_range S w pool (running_at s w) listed.0.place fits.pending.place listed.2 in
+    let pool_there : pool < pool_count S = listed-in_range S pool listed.0.place fits.pending.place listed.2 in
     let still : start_move S s pool ≡ None = no-start (ready_head S s pool) (first_slept S s pool) (start_move S s pool) (settled-still S s pool settled pool_there) in
     cannot-start S s pool w sound there is (may_start S s pool) refl still
 
@@ -290,13 +291,13 @@ leaves_no_room S valid instrs pool w waiting =
 
 -- Non-reentrance.
 
-place-once : (S : ScenarioContents) (w : ℕ) (r : Running) (place : Place) → FitsPlace S w (Some r) place → is_placed place ≡ true → placed_in place ≡ Some r.pool
+place-once : (S : ScenarioContents) (w : ℕ) (r : Running) (place : Place) → StandsWithRun S w (Some r) place → is_placed place ≡ true → placed_in place ≡ Some r.pool
 place-once S w r (Timer due cpu) fits is = cc
 place-once S w r (Inactive at) fits is = ap Some (sym fits.1)
 place-once S w r (Listed at) fits is = ap Some (sym fits.1)
 place-once S w r (Deferred at) fits is = ap Some (sym fits.1)
 
-place-deferred : (S : ScenarioContents) (w : ℕ) (r : Option Running) (place : Place) → FitsPlace S w r place → is_deferred place ≡ true → is_some r ≡ true
+place-deferred : (S : ScenarioContents) (w : ℕ) (r : Option Running) (place : Place) → StandsWithRun S w r place → is_deferred place ≡ true → is_some r ≡ true
 place-deferred S w r (Timer due cpu) fits is = cc
 place-deferred S w r (Inactive at) fits is = cc
 place-deferred S w r (Listed at) fits is = cc
@@ -307,8 +308,8 @@ unfolding IsNotReentrant
 is_not_reentrant S valid instrs w p is =
     let s = run S instrs in
     let fits : Fits S s.next w (Some p) (running_at s w) = subst (λ (o : Option Pending). Fits S s.next w o (running_at s w)) is ((run-reached S instrs valid).sound.works w) in (
-      λ r runs placed. place-once S w r p.place (subst (λ (o : Option Running). FitsPlace S w o p.place) runs fits.pending.place) placed,
-      λ deferred. place-deferred S w (running_at s w) p.place fits.pending.place deferred,
+      λ r runs placed. place-once S w r p.place (subst (λ (o : Option Running). StandsWithRun S w o p.place) runs fits.pending.stands) placed,
+      λ deferred. place-deferred S w (running_at s w) p.place fits.pending.stands deferred,
     )
 
 -- Flushes.

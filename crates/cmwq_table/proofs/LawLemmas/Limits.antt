@@ -13,10 +13,11 @@ use Rattle.cmwq_table.specs.declared.state.Running.{Running}
 use Rattle.cmwq_table.specs.State.{State, max_at, pending_at, pool_count, running_at}
 use Rattle.cmwq_table.specs.Counts.{active, is_inactive, limit, pends}
 use Rattle.cmwq_table.specs.Moves.{fill_everywhere, fill_freezable, fill_pools, freeze, set_max, thaw}
+use Rattle.cmwq_table.specs.Ready.{IsPlaceReady}
 use Rattle.cmwq_table.proofs.LawLemmas.Alike.{IsAlike, alike-active, alike-limits, alike-sound}
 use Rattle.cmwq_table.proofs.LawLemmas.Fills.{IsFull, fill-fills}
 use Rattle.cmwq_table.proofs.LawLemmas.Room.{AreFull, Follows-full}
-use Rattle.cmwq_table.proofs.LawLemmas.Sound.{FitsIfPending, FitsPlace, Follows-sound, IsSound}
+use Rattle.cmwq_table.proofs.LawLemmas.Sound.{FitsIfPending, Follows-sound, IsSound}
 use Rattle.cmwq_table.proofs.LawLemmas.Steps.{fill_freezable-follows, fill_pools-follows}
 
 -- alike states with limits that didn't rise are full alike
@@ -28,15 +29,15 @@ alike-full S s t queue pool alike less is_full w of_queue is_waiting =
 
 -- no work waits in a pool that isn't there
 
-place-in_range : (S : ScenarioContents) (w pool : ℕ) (r : Option Running) (place : Place) → FitsPlace S w r place → is_inactive place pool ≡ true → pool < pool_count S
-place-in_range S w pool r (Inactive at) fits is = let same : at ≡ pool = eqb-true at pool is in let there : at < pool_count S = fits.0.in_range in omega arith
-place-in_range S w pool r (Timer due cpu) fits is = cc
-place-in_range S w pool r (Listed at) fits is = cc
-place-in_range S w pool r (Deferred at) fits is = cc
+place-in_range : (S : ScenarioContents) (pool : ℕ) (place : Place) → IsPlaceReady S place → is_inactive place pool ≡ true → pool < pool_count S
+place-in_range S pool (Inactive at) there is = let same : at ≡ pool = eqb-true at pool is in omega arith
+place-in_range S pool (Timer due cpu) there is = cc
+place-in_range S pool (Listed at) there is = cc
+place-in_range S pool (Deferred at) there is = cc
 
 waits-in_pools : (S : ScenarioContents) (next w pool : ℕ) (r : Option Running) (o : Option Pending) → FitsIfPending S next w r o
     → pends (λ place. is_inactive place pool) o ≡ true → pool < pool_count S
-waits-in_pools S next w pool r (Some p) fits is = place-in_range S w pool r p.place fits.place is
+waits-in_pools S next w pool r (Some p) fits is = place-in_range S pool p.place fits.place is
 waits-in_pools S next w pool r None fits is = cc
 
 full-past : (S : ScenarioContents) (s : State) (queue pool : ℕ) → IsSound S s → pool_count S ≤ pool → IsFull S s queue pool

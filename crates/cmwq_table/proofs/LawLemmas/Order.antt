@@ -12,11 +12,11 @@ use Rattle.cmwq_table.specs.declared.state.Running.{Running}
 use Rattle.cmwq_table.specs.State.{State, pending_at, running_at, max_at, target}
 use Rattle.cmwq_table.specs.Counts.{active, limit, is_activated, is_active, is_inactive, pends, runs}
 use Rattle.cmwq_table.specs.Laws.{ActiveSince, InactiveSince, active_anywhere, is_waiting}
-use Rattle.cmwq_table.proofs.LawLemmas.Changes.{IsPoolOf, Follows}
+use Rattle.cmwq_table.proofs.LawLemmas.Changes.{IsOwnPool, Follows}
 use Rattle.cmwq_table.proofs.LawLemmas.Counting.{count_below-same}
 use Rattle.cmwq_table.proofs.LawLemmas.Levels.{Follows-active}
 use Rattle.cmwq_table.proofs.LawLemmas.PoolOrder.{HasActiveAt, HasInactiveAt, PendsActiveAt, RanAt}
-use Rattle.cmwq_table.proofs.LawLemmas.Sound.{IsSound, FitsIfPending, FitsIfRunning, FitsPlace}
+use Rattle.cmwq_table.proofs.LawLemmas.Sound.{IsSound, FitsIfPending, FitsIfRunning, StandsWithRun}
 
 -- the limit of an ordered queue is at most one
 pub limit-one : (S : ScenarioContents) (s : State) (queue : ℕ) → IsSound S s → (flags_at S queue).ordered ≡ true → limit S s queue ≤ 1
@@ -51,22 +51,22 @@ activated-there (Deferred at) pool listed deferred = sym (eq-eqb at pool (deferr
 activated-there (Timer due cpu) pool listed deferred = refl
 activated-there (Inactive at) pool listed deferred = refl
 
-ordered-pool : (S : ScenarioContents) (v queue at : ℕ) → (flags_at S queue).ordered ≡ true → queue_of S v ≡ queue → IsPoolOf S v at → at ≡ target S queue 0
-ordered-pool S v queue at ordered of_queue fits =
+ordered-pool : (S : ScenarioContents) (v queue at : ℕ) → (flags_at S queue).ordered ≡ true → queue_of S v ≡ queue → IsOwnPool S v at → at ≡ target S queue 0
+ordered-pool S v queue at ordered of_queue own =
     let ordered_there : (flags_at S (queue_of S v)).ordered ≡ true = ap (λ (q : ℕ). (flags_at S q).ordered) of_queue ∙ ordered in
-    fits.unbound (unbound-if-ordered (flags_at S (queue_of S v)).unbound (flags_at S (queue_of S v)).ordered ordered_there) ∙ ap (λ (q : ℕ). target S q 0) of_queue
+    own (unbound-if-ordered (flags_at S (queue_of S v)).unbound (flags_at S (queue_of S v)).ordered ordered_there) ∙ ap (λ (q : ℕ). target S q 0) of_queue
 
 pends-there : (S : ScenarioContents) (next v queue : ℕ) (r : Option Running) (o : Option Pending) → (flags_at S queue).ordered ≡ true
     → queue_of S v ≡ queue → FitsIfPending S next v r o → pends is_activated o ≡ pends (λ place. is_active place (target S queue 0)) o
 pends-there S next v queue r (Some p) ordered of_queue fits =
     activated-there p.place (target S queue 0)
-    (λ at e. ordered-pool S v queue at ordered of_queue (subst (λ (y : Place). FitsPlace S v r y) e fits.place).0)
-    (λ at e. ordered-pool S v queue at ordered of_queue (subst (λ (y : Place). FitsPlace S v r y) e fits.place).0)
+    (λ at e. ordered-pool S v queue at ordered of_queue (subst (λ (y : Place). StandsWithRun S v r y) e fits.stands).0)
+    (λ at e. ordered-pool S v queue at ordered of_queue (subst (λ (y : Place). StandsWithRun S v r y) e fits.stands).0)
 pends-there S next v queue r None ordered of_queue fits = refl
 
 runs-there : (S : ScenarioContents) (next v queue : ℕ) (r : Option Running) → (flags_at S queue).ordered ≡ true → queue_of S v ≡ queue
     → FitsIfRunning S next v r → is_some r ≡ runs (λ q. q.pool == target S queue 0) r
-runs-there S next v queue (Some r) ordered of_queue fits = sym (eq-eqb r.pool (target S queue 0) (ordered-pool S v queue r.pool ordered of_queue fits.pool))
+runs-there S next v queue (Some r) ordered of_queue fits = sym (eq-eqb r.pool (target S queue 0) (ordered-pool S v queue r.pool ordered of_queue fits.pool.own))
 runs-there S next v queue None ordered of_queue fits = refl
 
 same-if : (x a b : Bool) → (x ≡ true → a ≡ b) → (x && a) ≡ (x && b)
@@ -105,12 +105,12 @@ module _ (S : ScenarioContents) (s : State) (v queue born : ℕ) (sound : IsSoun
       inl (subst (λ (o : Option Pending). PendsActiveAt (target S queue 0) o born) (sym pending.1) (there, pending.3))
   active-there (inr running) =
       let fits : FitsIfRunning S s.next v (Some running.0) = subst (λ (o : Option Running). FitsIfRunning S s.next v o) running.1 (sound.works v).running in
-      inr (subst (λ (o : Option Running). RanAt (target S queue 0) o born) (sym running.1) (ordered-pool S v queue running.0.pool ordered of_queue fits.pool, running.2))
+      inr (subst (λ (o : Option Running). RanAt (target S queue 0) o born) (sym running.1) (ordered-pool S v queue running.0.pool ordered of_queue fits.pool.own, running.2))
 
   pub inactive-there : InactiveSince s v born → HasInactiveAt (target S queue 0) (pending_at s v) born
   inactive-there pending =
       let fits = pending-fits pending.0 pending.1 in
       let same : is_waiting pending.0.place ≡ is_inactive pending.0.place (target S queue 0) =
       waiting-there pending.0.place (target S queue 0)
-      (λ at e. ordered-pool S v queue at ordered of_queue (subst (λ (y : Place). FitsPlace S v (running_at s v) y) e fits.place).0) in
+      (λ at e. ordered-pool S v queue at ordered of_queue (subst (λ (y : Place). StandsWithRun S v (running_at s v) y) e fits.stands).0) in
       subst (λ (o : Option Pending). HasInactiveAt (target S queue 0) o born) (sym pending.1) (sym same ∙ pending.2, pending.3)

@@ -153,7 +153,7 @@ Kind-order S places wakes s w left a b c d n pool sound are_full is fits (Kind.g
 Kind-order S places wakes s w left a b c d n pool sound are_full is fits (Kind.woken p r q wake same_born same_pool) =
     Orders.quiet (moves-on pool p r q same_born same_pool) (λ later h. inl h)
 Kind-order S places wakes s w left a b c d n pool sound are_full is fits (Kind.again born stamp at r run) =
-    Orders.quiet (λ birth h. elim h [ inl pends ↦ absurd pends | inr ran ↦ inl (eq-eqb at pool (sym fits.pending.place.1 ∙ ran.0), ran.1) ]) (λ later h. absurd h)
+    Orders.quiet (λ birth h. elim h [ inl pends ↦ absurd pends | inr ran ↦ inl (eq-eqb at pool (sym fits.pending.stands.1 ∙ ran.0), ran.1) ]) (λ later h. absurd h)
 Kind-order S places wakes s w left a b c d n pool sound are_full is fits (Kind.retired p r e) =
     Orders.quiet (λ birth h. elim h [ inl pends ↦ inl pends | inr ran ↦ absurd ran ]) (λ later h. inl h)
 

@@ -69,7 +69,7 @@ Kind-full S places wakes s w left a b c d n queue pool elsewhere fits (Kind.defe
 Kind-full S places wakes s w left a b c d n queue pool elsewhere fits (Kind.goes_on p r q same_born same_pool mode) = goes S s w queue pool p r q same_pool
 Kind-full S places wakes s w left a b c d n queue pool elsewhere fits (Kind.woken p r q wake same_born same_pool) = goes S s w queue pool p r q same_pool
 Kind-full S places wakes s w left a b c d n queue pool elsewhere fits (Kind.again born stamp at r run) =
-    let same : at ≡ r.pool = sym fits.pending.place.1 in
+    let same : at ≡ r.pool = sym fits.pending.stands.1 in
     let less : bit ((queue_of S w == queue) && (r.pool == pool)) + bit ((queue_of S w == queue) && (r.pool == pool)) ≤ bit ((queue_of S w == queue) && false) + bit ((queue_of S w == queue) && (r.pool == pool)) =
     not-both S w queue r.pool pool (bit ((queue_of S w == queue) && (r.pool == pool))) elsewhere (queue_of S w == queue) (r.pool == pool) refl refl in
     let here : bit ((queue_of S w == queue) && (at == pool)) ≡ bit ((queue_of S w == queue) && (r.pool == pool)) = ap (λ (x : ℕ). bit ((queue_of S w == queue) && (x == pool))) same in

@@ -15,20 +15,22 @@ use Rattle.cmwq_table.specs.Counts.{is_deferred, pends}
 use Rattle.cmwq_table.specs.Moves.{fill}
 use Rattle.cmwq_table.specs.Table.{target_at}
 use Rattle.cmwq_table.specs.Laws.{is_waiting}
-use Rattle.cmwq_table.proofs.LawLemmas.Changes.{IsLong, IsPoolOf, RunsIn, Kind, Change, Follows}
+use Rattle.cmwq_table.specs.Ready.{IsPlaceReady}
+use Rattle.cmwq_table.proofs.LawLemmas.Changes.{IsLong, IsOwnPool, IsPoolOf, RunsIn, Kind, Change, Follows}
 
--- where a work that may run waits
-abbrev pub FitsPlace : ScenarioContents → ℕ → Option Running → Place → Type 0
-FitsPlace S w r (Timer due cpu) = cpu < S.cpus
-FitsPlace S w r (Inactive pool) = IsPoolOf S w pool × RunsIn r pool
-FitsPlace S w r (Listed pool) = IsPoolOf S w pool × RunsIn r pool
-FitsPlace S w r (Deferred pool) = IsPoolOf S w pool × RunsIn r pool × (is_some r ≡ true)
+-- a work waits in a pool of its own, in which it runs if it runs; a deferred one runs
+abbrev pub StandsWithRun : ScenarioContents → ℕ → Option Running → Place → Type 0
+StandsWithRun S w r (Timer due cpu) = Unit {0}
+StandsWithRun S w r (Inactive pool) = IsOwnPool S w pool × RunsIn r pool
+StandsWithRun S w r (Listed pool) = IsOwnPool S w pool × RunsIn r pool
+StandsWithRun S w r (Deferred pool) = IsOwnPool S w pool × RunsIn r pool × (is_some r ≡ true)
 
 -- births lie below the next stamp, and an inactive work's stamp is its birth
 pub record FitsPending (S : ScenarioContents) (next w : ℕ) (r : Option Running) (p : Pending) : Type 0 where
   pub born : p.born < next
   pub stamp : is_waiting p.place ≡ true → p.stamp ≡ p.born
-  pub place : FitsPlace S w r p.place
+  pub place : IsPlaceReady S p.place
+  pub stands : StandsWithRun S w r p.place
 
 pub record FitsRunning (S : ScenarioContents) (next w : ℕ) (r : Running) : Type 0 where
   pub born : r.born < next
@@ -66,7 +68,7 @@ running-later S a b w (Some r) h fits = record { born = omega arith; pool = fits
 running-later S a b w None h fits = tt
 
 pending-later : (S : ScenarioContents) (a b w : ℕ) (r : Option Running) (p : Option Pending) → a ≤ b → FitsIfPending S a w r p → FitsIfPending S b w r p
-pending-later S a b w r (Some p) h fits = record { born = omega arith; stamp = fits.stamp; place = fits.place }
+pending-later S a b w r (Some p) h fits = record { born = omega arith; stamp = fits.stamp; place = fits.place; stands = fits.stands }
 pending-later S a b w r None h fits = tt
 
 pub Fits-later : (S : ScenarioContents) (a b w : ℕ) (p : Option Pending) (r : Option Running) → a ≤ b → Fits S a w p r → Fits S b w p r
@@ -79,29 +81,31 @@ FitsTarget-later a b Nothing h fits = tt
 
 -- What a kind of change makes of one work.
 
-place-moved : (S : ScenarioContents) (w : ℕ) (r q : Running) (place : Place) → q.pool ≡ r.pool → FitsPlace S w (Some r) place → FitsPlace S w (Some q) place
-place-moved S w r q (Timer due cpu) e fits = fits
-place-moved S w r q (Inactive pool) e fits = (fits.0, e ∙ fits.1)
-place-moved S w r q (Listed pool) e fits = (fits.0, e ∙ fits.1)
-place-moved S w r q (Deferred pool) e fits = (fits.0, e ∙ fits.1, refl)
+stands-moved : (S : ScenarioContents) (w : ℕ) (r q : Running) (place : Place) → q.pool ≡ r.pool → StandsWithRun S w (Some r) place
+    → StandsWithRun S w (Some q) place
+stands-moved S w r q (Timer due cpu) e stands = tt
+stands-moved S w r q (Inactive pool) e stands = (stands.0, e ∙ stands.1)
+stands-moved S w r q (Listed pool) e stands = (stands.0, e ∙ stands.1)
+stands-moved S w r q (Deferred pool) e stands = (stands.0, e ∙ stands.1, refl)
 
 pending-moved : (S : ScenarioContents) (next w : ℕ) (r q : Running) (p : Option Pending) → q.pool ≡ r.pool → FitsIfPending S next w (Some r) p
     → FitsIfPending S next w (Some q) p
-pending-moved S next w r q (Some p) e fits = record { born = fits.born; stamp = fits.stamp; place = place-moved S w r q p.place e fits.place }
+pending-moved S next w r q (Some p) e fits = record { born = fits.born; stamp = fits.stamp; place = fits.place; stands = stands-moved S w r q p.place e fits.stands }
 pending-moved S next w r q None e fits = tt
 
 running-moved : (S : ScenarioContents) (next w : ℕ) (r q : Running) → q.born ≡ r.born → q.pool ≡ r.pool → FitsRunning S next w r → FitsRunning S next w q
 running-moved S next w r q b e fits = record { born = omega (arith, fits.born); pool = subst (λ (pool : ℕ). IsPoolOf S w pool) (sym e) fits.pool }
 
-place-still : (S : ScenarioContents) (w : ℕ) (r : Running) (place : Place) → is_deferred place ≡ false → FitsPlace S w (Some r) place → FitsPlace S w None place
-place-still S w r (Timer due cpu) e fits = fits
-place-still S w r (Inactive pool) e fits = (fits.0, tt)
-place-still S w r (Listed pool) e fits = (fits.0, tt)
-place-still S w r (Deferred pool) e fits = cc
+stands-still : (S : ScenarioContents) (w : ℕ) (r : Running) (place : Place) → is_deferred place ≡ false → StandsWithRun S w (Some r) place
+    → StandsWithRun S w None place
+stands-still S w r (Timer due cpu) e stands = tt
+stands-still S w r (Inactive pool) e stands = (stands.0, tt)
+stands-still S w r (Listed pool) e stands = (stands.0, tt)
+stands-still S w r (Deferred pool) e stands = cc
 
 pending-still : (S : ScenarioContents) (next w : ℕ) (r : Running) (p : Option Pending) → pends is_deferred p ≡ false
     → FitsIfPending S next w (Some r) p → FitsIfPending S next w None p
-pending-still S next w r (Some p) e fits = record { born = fits.born; stamp = fits.stamp; place = place-still S w r p.place e fits.place }
+pending-still S next w r (Some p) e fits = record { born = fits.born; stamp = fits.stamp; place = fits.place; stands = stands-still S w r p.place e fits.stands }
 pending-still S next w r None e fits = tt
 
 pub Kind-next : (S : ScenarioContents) (places wakes : Bool) (s : State) (w : ℕ) (left : Option ℕ) (a : Option Pending) (b : Option Running) (c : Option Pending) (d : Option Running) (n : ℕ)
@@ -125,21 +129,21 @@ Kind-next S places wakes s w left a b c d n (Kind.retired p r e) = omega arith
 Kind-fits : (S : ScenarioContents) (places wakes : Bool) (s : State) (w : ℕ) (left : Option ℕ) (a : Option Pending) (b : Option Running) (c : Option Pending) (d : Option Running) (n : ℕ)
     → Kind S places wakes s w left a b c d n → Fits S s.next w a b → Fits S n w c d
 Kind-fits S places wakes s w left a b c d n (Kind.placed r pool e fits with_run room) was =
-    record { pending = record { born = omega arith; stamp = λ still. refl; place = (fits, with_run) }; running = running-later S s.next (s.next + 1) w r (omega arith) was.running }
+    record { pending = record { born = omega arith; stamp = λ still. refl; place = fits.in_range; stands = (fits.own, with_run) }; running = running-later S s.next (s.next + 1) w r (omega arith) was.running }
 Kind-fits S places wakes s w left a b c d n (Kind.put_off r pool may_place fits with_run room) was =
-    record { pending = record { born = omega arith; stamp = λ still. refl; place = (fits, with_run) }; running = running-later S s.next (s.next + 1) w r (omega arith) was.running }
+    record { pending = record { born = omega arith; stamp = λ still. refl; place = fits.in_range; stands = (fits.own, with_run) }; running = running-later S s.next (s.next + 1) w r (omega arith) was.running }
 Kind-fits S places wakes s w left a b c d n (Kind.timed r due cpu may_place h) was =
-    record { pending = record { born = omega arith; stamp = λ still. refl; place = h }; running = running-later S s.next (s.next + 1) w r (omega arith) was.running }
+    record { pending = record { born = omega arith; stamp = λ still. refl; place = h; stands = tt }; running = running-later S s.next (s.next + 1) w r (omega arith) was.running }
 Kind-fits S places wakes s w left a b c d n (Kind.untimed born stamp r due cpu) was = record { pending = tt; running = was.running }
 Kind-fits S places wakes s w left a b c d n (Kind.taken_inactive born stamp r pool) was = record { pending = tt; running = was.running }
 Kind-fits S places wakes s w left a b c d n (Kind.taken_listed born stamp r pool) was = record { pending = tt; running = was.running }
 Kind-fits S places wakes s w left a b c d n (Kind.taken_deferred born stamp r pool) was = record { pending = tt; running = was.running }
 Kind-fits S places wakes s w left a b c d n (Kind.activated born stamp r pool room first) was =
-    record { pending = record { born = omega (arith, was.pending.born); stamp = λ still. cc; place = was.pending.place }; running = running-later S s.next (s.next + 1) w r (omega arith) was.running }
+    record { pending = record { born = omega (arith, was.pending.born); stamp = λ still. cc; place = was.pending.place; stands = was.pending.stands }; running = running-later S s.next (s.next + 1) w r (omega arith) was.running }
 Kind-fits S places wakes s w left a b c d n (Kind.started born stamp pool worker may) was =
-    record { pending = tt; running = record { born = omega (arith, was.pending.born); pool = was.pending.place.0 } }
+    record { pending = tt; running = record { born = omega (arith, was.pending.born); pool = record { in_range = was.pending.place; own = was.pending.stands.0 } } }
 Kind-fits S places wakes s w left a b c d n (Kind.deferred born stamp pool r) was =
-    record { pending = record { born = was.pending.born; stamp = λ still. cc; place = (was.pending.place.0, was.pending.place.1, refl) }; running = was.running }
+    record { pending = record { born = was.pending.born; stamp = λ still. cc; place = was.pending.place; stands = (was.pending.stands.0, was.pending.stands.1, refl) }; running = was.running }
 Kind-fits S places wakes s w left a b c d n (Kind.goes_on p r q same_born same_pool mode) was =
     record { pending = pending-moved S s.next w r q p same_pool was.pending; running = running-moved S s.next w r q same_born same_pool was.running }
 Kind-fits S places wakes s w left a b c d n (Kind.woken p r q wake same_born same_pool) was =

@@ -49,7 +49,7 @@ priority-low false = omega arith
 target-is_pool : (S : ScenarioContents) (w cpu : ℕ) → cpu < S.cpus → IsPoolOf S w (target S (queue_of S w) cpu)
 target-is_pool S w cpu h =
     let fits = target-fits ((flags_at S (queue_of S w)).unbound || (flags_at S (queue_of S w)).ordered) S.cpus cpu (priority S (queue_of S w)) h (priority-low (flags_at S (queue_of S w)).highpri) in
-    record { in_range = fits.0; unbound = fits.1 }
+    record { in_range = fits.0; own = fits.1 }
 
 pool-fits : (S : ScenarioContents) (next w cpu : ℕ) (r : Option Running) → cpu < S.cpus → FitsIfRunning S next w r
     → IsPoolOf S w (pool_or r (target S (queue_of S w) cpu)) × RunsIn r (pool_or r (target S (queue_of S w) cpu))
