@@ -6,7 +6,7 @@ pub mod finer_rules;
 pub mod premises;
 
 ghost use Rattle.cmwq_examples.specs.Rows.{activated_in_order, activated_in_order_lines, cancelled_while_running, cancelled_while_running_lines, cpu_intensive_beside_normal, cpu_intensive_lines, flushes, flushes_lines, freeze_and_thaw, freeze_and_thaw_lines, high_beside_normal, high_lines, max_active_1, max_active_2, max_active_3, max_down_and_up, max_down_and_up_lines, printed, queued_elsewhere, queued_elsewhere_lines, queued_twice, queued_twice_lines, queues_itself, queues_itself_lines, refused, refused_in_order, refused_in_order_lines, refused_lines, steps_run_out, steps_run_out_lines, three_works, timers, timers_lines, unbound_beside_ordered, unbound_lines, written_out};
-ghost use Rattle.cmwq_types.specs.declared.limits.TheConstants.{MAX_ACTORS, MAX_CPUS, MAX_FLUSHES, MAX_LINES, MAX_MAX_ACTIVE, MAX_NAME, MAX_OPS, MAX_PASSES, MAX_QUEUES, MAX_STEPS, MAX_TEXT, MAX_TICKETS, MAX_TICKS, MAX_TIMES, MAX_WORKERS, MAX_WORKS};
+ghost use Rattle.cmwq_types.specs.declared.limits.TheConstants.{MAX_ACTORS, MAX_CPUS, MAX_FLUSHES, MAX_HISTORY, MAX_LINES, MAX_MAX_ACTIVE, MAX_NAME, MAX_OPS, MAX_PASSES, MAX_QUEUES, MAX_STEPS, MAX_TEXT, MAX_TICKETS, MAX_TICKS, MAX_TIMES, MAX_WORKERS, MAX_WORKS};
 ghost use Rattle.cmwq_types.specs.Faults.{IsValid};
 ghost use Rattle.cmwq_types.specs.Listing.{listing};
 ghost use Rattle.std.specs.Prelude.{◌≡◌};
@@ -131,7 +131,7 @@ pub fn scenario_is_written_out()
     ensures { listing unbound_beside_ordered ≡ written_out }
 {}
 
-/// The limits, by number: of a scenario, of its text and of a lock.
+/// The limits, by number: of a scenario, of its text, of a history and of a lock.
 pub fn limits_by_number()
     ensures cpus { MAX_CPUS ≡ 16 }
     ensures workers { MAX_WORKERS ≡ 64 }
@@ -147,6 +147,7 @@ pub fn limits_by_number()
     ensures times { MAX_TIMES ≡ 65535 }
     ensures ticks { MAX_TICKS ≡ 1000000 }
     ensures text { MAX_TEXT ≡ 4194304 }
+    ensures history { MAX_HISTORY ≡ 1048576 }
     ensures passes { MAX_PASSES ≡ 64 }
     ensures tickets { MAX_TICKETS ≡ 4611686018427387904 }
 {}

@@ -3,3 +3,4 @@ pub mod HeadLemmas
 pub mod IdleLemmas
 mod LawLemmas
 pub mod ReadyLemmas
+pub mod RunLemmas

@@ -1,4 +1,4 @@
-//! The limits of a scenario and of the ticket lock. They are this project's own; the kernel has `WQ_MAX_ACTIVE`
+//! The limits of a scenario, of a history and of the ticket lock. They are this project's own; the kernel has `WQ_MAX_ACTIVE`
 //! (512) alone.
 
 /// The most bytes of a name.
@@ -42,6 +42,9 @@ pub const MAX_TEXT: usize = 4_194_304;
 
 /// The most instructions that a scenario can have accepted, questions aside.
 pub const MAX_STEPS: u32 = 4_294_967_295;
+
+/// The most entries of a history, and the most instructions that one run issues.
+pub const MAX_HISTORY: u32 = 1_048_576;
 
 /// The most passes of one lock that are out at once.
 pub const MAX_PASSES: u32 = 64;
