@@ -1,5 +1,5 @@
 -- The listing of a scenario is its text, and fits.
-use Rattle.std.proofs.Common.{◌≡◌, ℕ, zero, suc, ◌+◌, ◌*◌, ◌^◌, ◌<◌, ◌≤◌, Bool, true, false, not, ◌&&◌, List, [], ◌∷◌, ◌++◌, map, length, get_or, cond, eqb, ltb, leb, arith, refl, sym, ap, ◌∙◌, inl, inr, subst, append-nil, append_assoc, length-append, codes}
+use Rattle.std.proofs.Common.{◌≡◌, ℕ, zero, suc, ◌+◌, ◌-◌, ◌*◌, ◌^◌, ◌<◌, ◌≤◌, Bool, true, false, not, ◌&&◌, List, [], ◌∷◌, ◌++◌, map, length, get_or, cond, eqb, ltb, leb, arith, refl, sym, ap, ◌∙◌, inl, inr, subst, append-nil, append_assoc, length-append, codes}
 use Rattle.std.proofs.lemmas.Bool.Decides.{nat_tests}
 use Rattle.std.proofs.lemmas.Fmt.{decimal_nonempty, digits_decimal, length-decimal-le}
 use Rattle.std.proofs.lemmas.Grind.{flat_map-append}
@@ -15,7 +15,7 @@ use Rattle.cmwq_types.specs.Faults.{IsValid, fits_flags, names_declared, within}
 use Rattle.cmwq_types.specs.Listing.{WrittenLine, Words, Flagged, Repeated, actor_line, actor_lines, body_lines, flag_words, instr_words, listing, numbered, op_line, queue_line, times_words, word_if, work_line, written, written_text}
 use Rattle.cmwq_types.specs.Name.{is_lowercase, is_name, is_name_byte}
 use Rattle.cmwq_types.specs.Scenario.{queue_at, work_at}
-use Rattle.cmwq_types.specs.Values.{IsScenario}
+use Rattle.cmwq_types.specs.Values.{IsActor, IsInstr, IsLine, IsScenario}
 use Rattle.cmwq_types.specs.declared.instr.Instr.{Instr}
 use Rattle.cmwq_types.specs.declared.instr.Instr.TheVariants as instr
 use Rattle.cmwq_types.specs.declared.limits.TheConstants.{MAX_ACTORS, MAX_CPUS, MAX_FLUSHES, MAX_LINES, MAX_MAX_ACTIVE, MAX_OPS, MAX_QUEUES, MAX_STEPS, MAX_TEXT, MAX_TICKS, MAX_TIMES, MAX_WORKERS, MAX_WORKS}
@@ -30,7 +30,6 @@ use Rattle.cmwq_grammar.specs.Instructions.{queue_names, work_names}
 use Rattle.cmwq_grammar.proofs.Basics.{and_true, at_most, true_and, either, cond_no, cond_yes}
 use Rattle.cmwq_grammar.proofs.CanonicalLines.{all_plain, fed, fed_lines, joined, plain_byte, plain_no_feeds, plain_utf8, plain_word, plain_worded, plain_words}
 use Rattle.cmwq_grammar.proofs.FieldLemmas.{numerals, within_fits}
-use Rattle.cmwq_grammar.proofs.Fitting.{instr_fits}
 use Rattle.cmwq_grammar.proofs.GoodScenario.{Good, GoodBody, GoodBodyOf, good_actor, good_from_valid, good_lines, on_queue_of}
 use Rattle.cmwq_grammar.proofs.InstrLemmas.{good_line}
 use Rattle.cmwq_grammar.proofs.LineLemmas.{good_op}
@@ -339,96 +338,67 @@ record InstrFits (words : List (List ℕ)) : Type 0 where
   first : List ℕ
   others : List (List ℕ)
   whole : words ≡ first ∷ others
-  fits : WordsFit 37 (first ∷ others)
+  fits : WordsFit 44 (first ∷ others)
 
-instr_of : {m : ℕ} {first : List ℕ} {others : List (List ℕ)} → WordsFit m (first ∷ others) → m ≤ 37 → InstrFits (first ∷ others)
-instr_of {first = first} {others = others} fits h = record { first = first; others = others; whole = refl; fits = words_within 37 fits h }
+none_left : (room : ℕ) → WordsFit room []
+none_left room = words_within room no_words (omega arith)
 
-instr_fits_line : (S : ScenarioContents) (i : Instr) → GoodNames [] (work_names S) → GoodNames [] (queue_names S) → names_declared S i ≡ true → instr_fits i ≡ true
+-- a word of so many bytes at most, where there is room for it
+one_on : (k room : ℕ) (word : List ℕ) (words : List (List ℕ)) → WordFits k word → k + 1 ≤ room → WordsFit (room - (k + 1)) words → WordsFit room (word ∷ words)
+one_on k room word words fits h others = words_within room (word_on fits others) (omega arith)
+
+first_on : (word : List ℕ) (words : List (List ℕ)) → plain_word word ≡ true → leb (length word + 1) 44 ≡ true → WordsFit (44 - (length word + 1)) words
+    → WordsFit 44 (word ∷ words)
+first_on word words plain h others = one_on (length word) 44 word words (literal (length word) word plain (omega arith)) (at_most (length word + 1) 44 h) others
+
+work_on : (S : ScenarioContents) (room work : ℕ) (words : List (List ℕ)) → GoodNames [] (work_names S) → ltb work (length S.works) ≡ true → leb 16 room ≡ true
+    → WordsFit (room - 16) words → WordsFit room ((work_at S work).name ∷ words)
+work_on S room work words names declared h others = one_on 15 room (work_at S work).name words (work_name S work names declared) (at_most 16 room h) others
+
+queue_on : (S : ScenarioContents) (room queue : ℕ) (words : List (List ℕ)) → GoodNames [] (queue_names S) → ltb queue (length S.queues) ≡ true → leb 16 room ≡ true
+    → WordsFit (room - 16) words → WordsFit room ((queue_at S queue).name ∷ words)
+queue_on S room queue words names declared h others = one_on 15 room (queue_at S queue).name words (queue_name S queue names declared) (at_most 16 room h) others
+
+number_on : (room n : ℕ) (words : List (List ℕ)) → n < 2 ^ 32 → leb 11 room ≡ true → WordsFit (room - 11) words → WordsFit room (decimal n ∷ words)
+number_on room n words small h others =
+    one_on 10 room (decimal n) words (number_fits 10 n (omega arith) (omega arith) (omega arith)) (at_most 11 room h) others
+
+wider_8 : (n : ℕ) → n < 2 ^ 8 → n < 2 ^ 32
+wider_8 n h = omega arith
+
+wider_16 : (n : ℕ) → n < 2 ^ 16 → n < 2 ^ 32
+wider_16 n h = omega arith
+
+-- each line of the table by the same steps
+instr_fits : (S : ScenarioContents) (i : Instr) → GoodNames [] (work_names S) → GoodNames [] (queue_names S) → names_declared S i ≡ true → IsInstr i
     → InstrFits (instr_words S i)
-instr_fits_line S (instr.Queue work cpu) works queues named fits =
-    let small : cpu ≤ 255 = at_most cpu 255 fits in
-    instr_of (word_on (literal 5 (codes "queue") refl (omega arith))
-    (word_on (work_name S work.0 works named)
-    (word_on (number_fits 3 cpu (omega arith) (omega arith) (omega arith)) no_words))) (omega arith)
-instr_fits_line S (instr.Delay work cpu ticks) works queues named fits =
-    let both : (leb cpu 255 ≡ true) × (leb ticks 4294967295 ≡ true) = and_true (leb cpu 255) (leb ticks 4294967295) fits in
-    let small : cpu ≤ 255 = at_most cpu 255 both.0 in
-    let wide : ticks ≤ 4294967295 = at_most ticks 4294967295 both.1 in
-    instr_of (word_on (literal 5 (codes "delay") refl (omega arith))
-    (word_on (work_name S work.0 works named)
-    (word_on (number_fits 3 cpu (omega arith) (omega arith) (omega arith))
-    (word_on (number_fits 10 ticks (omega arith) (omega arith) (omega arith)) no_words)))) (omega arith)
-instr_fits_line S (instr.Mod work cpu ticks) works queues named fits =
-    let both : (leb cpu 255 ≡ true) × (leb ticks 4294967295 ≡ true) = and_true (leb cpu 255) (leb ticks 4294967295) fits in
-    let small : cpu ≤ 255 = at_most cpu 255 both.0 in
-    let wide : ticks ≤ 4294967295 = at_most ticks 4294967295 both.1 in
-    instr_of (word_on (literal 3 (codes "mod") refl (omega arith))
-    (word_on (work_name S work.0 works named)
-    (word_on (number_fits 3 cpu (omega arith) (omega arith) (omega arith))
-    (word_on (number_fits 10 ticks (omega arith) (omega arith) (omega arith)) no_words)))) (omega arith)
-instr_fits_line S (instr.Cancel work) works queues named fits =
-    instr_of (word_on (literal 6 (codes "cancel") refl (omega arith)) (word_on (work_name S work.0 works named) no_words)) (omega arith)
-instr_fits_line S (instr.CancelSync work) works queues named fits =
-    instr_of (word_on (literal 11 (codes "cancel_sync") refl (omega arith)) (word_on (work_name S work.0 works named) no_words)) (omega arith)
-instr_fits_line S (instr.Flush work) works queues named fits =
-    instr_of (word_on (literal 5 (codes "flush") refl (omega arith)) (word_on (work_name S work.0 works named) no_words)) (omega arith)
-instr_fits_line S (instr.FlushDelayed work) works queues named fits =
-    instr_of (word_on (literal 13 (codes "flush_delayed") refl (omega arith)) (word_on (work_name S work.0 works named) no_words)) (omega arith)
-instr_fits_line S (instr.FlushQueue queue) works queues named fits =
-    instr_of (word_on (literal 11 (codes "flush_queue") refl (omega arith)) (word_on (queue_name S queue.0 queues named) no_words)) (omega arith)
-instr_fits_line S (instr.SetMax queue max) works queues named fits =
-    let wide : max ≤ 4294967295 = at_most max 4294967295 fits in
-    instr_of (word_on (literal 7 (codes "set_max") refl (omega arith))
-    (word_on (queue_name S queue.0 queues named)
-    (word_on (number_fits 10 max (omega arith) (omega arith) (omega arith)) no_words))) (omega arith)
-instr_fits_line S instr.Freeze works queues named fits =
-    instr_of (word_on (literal 6 (codes "freeze") refl (omega arith)) no_words) (omega arith)
-instr_fits_line S instr.Thaw works queues named fits =
-    instr_of (word_on (literal 4 (codes "thaw") refl (omega arith)) no_words) (omega arith)
-instr_fits_line S instr.Fire works queues named fits =
-    instr_of (word_on (literal 4 (codes "fire") refl (omega arith)) no_words) (omega arith)
-instr_fits_line S (instr.Step n) works queues named fits =
-    let small : n ≤ 255 = at_most n 255 fits in
-    instr_of (word_on (literal 4 (codes "step") refl (omega arith)) (word_on (number_fits 3 n (omega arith) (omega arith) (omega arith)) no_words)) (omega arith)
-instr_fits_line S instr.Tick works queues named fits =
-    instr_of (word_on (literal 4 (codes "tick") refl (omega arith)) no_words) (omega arith)
-instr_fits_line S instr.Next works queues named fits =
-    instr_of (word_on (literal 4 (codes "next") refl (omega arith)) no_words) (omega arith)
-instr_fits_line S (instr.Ask n) works queues named fits =
-    let small : n ≤ 65535 = at_most n 65535 fits in
-    instr_of (word_on (literal 3 (codes "ask") refl (omega arith)) (word_on (number_fits 5 n (omega arith) (omega arith) (omega arith)) no_words)) (omega arith)
-instr_fits_line S instr.Busy works queues named fits =
-    instr_of (word_on (literal 4 (codes "busy") refl (omega arith)) no_words) (omega arith)
-instr_fits_line S (instr.State work) works queues named fits =
-    instr_of (word_on (literal 5 (codes "state") refl (omega arith)) (word_on (work_name S work.0 works named) no_words)) (omega arith)
+instr_fits S (instr.Queue work cpu) works queues named is = record { first = _; others = _; whole = refl; fits = search (first_on, work_on S, queue_on S, number_on, none_left, wider_8, wider_16) depth 8 }
+instr_fits S _ works queues named is = record { first = _; others = _; whole = refl; fits = search (first_on, work_on S, queue_on S, number_on, none_left, wider_8, wider_16) depth 8 }
 
-line_of_actor_fits : (S : ScenarioContents) (line : Line) → GoodNames [] (work_names S) → GoodNames [] (queue_names S) → good_line S line ≡ true
-    → LineFits 45 (actor_line S line)
-line_of_actor_fits S line works queues good =
-    let parts : ((names_declared S line.instr && within 1 MAX_TIMES line.times) ≡ true) × (instr_fits line.instr ≡ true) =
-    and_true (names_declared S line.instr && within 1 MAX_TIMES line.times) (instr_fits line.instr) good in
+line_of_actor_fits : (S : ScenarioContents) (line : Line) → GoodNames [] (work_names S) → GoodNames [] (queue_names S) → good_line S line ≡ true → IsLine line
+    → LineFits 52 (actor_line S line)
+line_of_actor_fits S line works queues good is =
     let tests : (names_declared S line.instr ≡ true) × (within 1 MAX_TIMES line.times ≡ true) =
-    and_true (names_declared S line.instr) (within 1 MAX_TIMES line.times) parts.0 in
-    let i : InstrFits (instr_words S line.instr) = instr_fits_line S line.instr works queues tests.0 parts.1 in
-    line_fits 45 (actor_line S line) (ap (λ (ws : List (List ℕ)). ws ++ times_words line.times) i.whole) (words_on i.fits (times_fit line.times tests.1)) (omega arith)
+    and_true (names_declared S line.instr) (within 1 MAX_TIMES line.times) good in
+    let i : InstrFits (instr_words S line.instr) = instr_fits S line.instr works queues tests.0 is.instr in
+    line_fits 52 (actor_line S line) (ap (λ (ws : List (List ℕ)). ws ++ times_words line.times) i.whole) (words_on i.fits (times_fit line.times tests.1)) (omega arith)
 
 lines_of_actor_fit : (S : ScenarioContents) (lines : List Line) → GoodNames [] (work_names S) → GoodNames [] (queue_names S) → good_lines S lines ≡ true
-    → LinesFit (length lines * 45) (map (actor_line S) lines)
-lines_of_actor_fit S [] works queues good = no_lines
-lines_of_actor_fit S (line ∷ lines) works queues good =
+    → AllByRecursion IsLine lines → LinesFit (length lines * 52) (map (actor_line S) lines)
+lines_of_actor_fit S [] works queues good are = no_lines
+lines_of_actor_fit S (line ∷ lines) works queues good are =
     let both : (good_line S line ≡ true) × (good_lines S lines ≡ true) = and_true (good_line S line) (good_lines S lines) good in
-    lines_within (suc (length lines) * 45) (line_on (line_of_actor_fits S line works queues both.0) (lines_of_actor_fit S lines works queues both.1)) (omega arith)
+    lines_within (suc (length lines) * 52) (line_on (line_of_actor_fits S line works queues both.0 are.0) (lines_of_actor_fit S lines works queues both.1 are.1)) (omega arith)
 
 actors_fit : (S : ScenarioContents) (before : List (List ℕ)) (actors : List ActorContents) → GoodNames [] (work_names S) → GoodNames [] (queue_names S)
-    → GoodNames before (map (λ (a : ActorContents). a.name) actors) → list_all (good_actor S) actors ≡ true
-    → LinesFit (length actors * 184342) (flat_map (actor_lines S) actors)
-actors_fit S before [] works queues names good = no_lines
-actors_fit S before (a ∷ actors) works queues names good =
+    → GoodNames before (map (λ (a : ActorContents). a.name) actors) → list_all (good_actor S) actors ≡ true → AllByRecursion IsActor actors
+    → LinesFit (length actors * 213014) (flat_map (actor_lines S) actors)
+actors_fit S before [] works queues names good are = no_lines
+actors_fit S before (a ∷ actors) works queues names good are =
     let both : (good_actor S a ≡ true) × (list_all (good_actor S) actors ≡ true) = and_true (good_actor S a) (list_all (good_actor S) actors) good in
     let here : (leb (length a.lines) MAX_LINES ≡ true) × (good_lines S a.lines ≡ true) = and_true (leb (length a.lines) MAX_LINES) (good_lines S a.lines) both.0 in
     let few : length a.lines ≤ MAX_LINES = at_most (length a.lines) MAX_LINES here.0 in
-    lines_within (suc (length actors) * 184342) (lines_on (lines_within 184342 (line_on (actor_line_fits a.name names.1) (lines_of_actor_fit S a.lines works queues here.1)) (omega arith)) (actors_fit S (before ++ a.name ∷ []) actors works queues names.2 both.1)) (omega arith)
+    lines_within (suc (length actors) * 213014) (lines_on (lines_within 213014 (line_on (actor_line_fits a.name names.1) (lines_of_actor_fit S a.lines works queues here.1 (are.0).lines)) (omega arith)) (actors_fit S (before ++ a.name ∷ []) actors works queues names.2 both.1 are.1)) (omega arith)
 
 -- The whole listing.
 
@@ -444,11 +414,11 @@ written_fits S good =
     let a : ℕ = length S.queues * 78 in
     let b : ℕ = length S.works * 37 in
     let c : ℕ = length S.works * 1621 in
-    let d : ℕ = length S.actors * 184342 in
+    let d : ℕ = length S.actors * 213014 in
     let queues : LinesFit a (map queue_line S.queues) = queues_fit [] S.queues good.queue_names good.queues in
     let works : LinesFit b (map (work_line S) S.works) = works_fit S [] S.works good.queue_names good.work_names good.works in
     let bodies : LinesFit c (flat_map (body_lines S) S.works) = bodies_fit S [] S.works good.work_names cpus.1 good.work_names good.bodies in
-    let actors : LinesFit d (flat_map (actor_lines S) S.actors) = actors_fit S [] S.actors good.work_names good.queue_names good.actor_names good.actors in
+    let actors : LinesFit d (flat_map (actor_lines S) S.actors) = actors_fit S [] S.actors good.work_names good.queue_names good.actor_names good.actors good.actors_are in
     let declared : LinesFit (a + b) (map queue_line S.queues ++ map (work_line S) S.works) = lines_on queues works in
     let with_bodies : LinesFit (a + b + c) (map queue_line S.queues ++ map (work_line S) S.works ++ flat_map (body_lines S) S.works) =
     lines_on declared bodies in

@@ -10,6 +10,7 @@ use Rattle.cmwq_types.specs.Contents.{ScenarioContents, WorkContents, ActorConte
 use Rattle.cmwq_types.specs.Faults.{fits_flags, is_finish, within}
 use Rattle.cmwq_types.specs.Listing.{WrittenLine, Words, actor_line, actor_lines, body_lines, numbered, op_line, queue_line, work_line}
 use Rattle.cmwq_types.specs.Name.{is_name}
+use Rattle.cmwq_types.specs.Values.{IsActor, IsLine}
 use Rattle.cmwq_types.specs.declared.limits.TheConstants.{MAX_ACTORS, MAX_CPUS, MAX_FLUSHES, MAX_LINES, MAX_MAX_ACTIVE, MAX_OPS, MAX_QUEUES, MAX_STEPS, MAX_WORKERS, MAX_WORKS}
 use Rattle.cmwq_types.specs.declared.scenario.Line.{Line}
 use Rattle.cmwq_types.specs.declared.scenario.Op.{Op}
@@ -30,7 +31,7 @@ use Rattle.cmwq_grammar.proofs.InstrLemmas.{good_line, line_again}
 use Rattle.cmwq_grammar.proofs.LineLemmas.{good_op, op_again, queue_again, work_again}
 use Rattle.cmwq_grammar.proofs.NameLists.{GoodNames, good_at}
 use Rattle.cmwq_grammar.proofs.SameLines.{same_actor_line, same_op_line, same_work_line, same_work_names}
-use Rattle.cmwq_grammar.proofs.Soundness.{all_parts, bodies_at, names_of_bare, with_open_body}
+use Rattle.cmwq_grammar.proofs.Soundness.{all_parts, all_at, names_of_bare, with_open_body}
 use Rattle.cmwq_grammar.proofs.StepRead.{next_name}
 
 -- the stage takes these words, and goes on to the scenario with these lines
@@ -380,7 +381,7 @@ ends_there (x ∷ xs) rest (y ∷ ys) none e =
 pub body_of : (S : ScenarioContents) (done : List WorkContents) (x : WorkContents) (more : List WorkContents) → Good S → S.works ≡ done ++ x ∷ more
     → GoodBody S.cpus (length S.works) x.body
 body_of S done x more good works =
-    bodies_at (GoodBodyOf S.cpus (length S.works)) done more x (subst (λ (ws : List WorkContents). AllByRecursion (GoodBodyOf S.cpus (length S.works)) ws) works good.bodies)
+    all_at (GoodBodyOf S.cpus (length S.works)) done more x (subst (λ (ws : List WorkContents). AllByRecursion (GoodBodyOf S.cpus (length S.works)) ws) works good.bodies)
 
 finish_op : (o : Op) → is_finish o ≡ true → o ≡ op.Finish
 finish_op (op.Burn ticks) e = cc
@@ -575,8 +576,9 @@ line_taken D name given l lines S said good says head queues works line left mor
     let is_good : good_line S line ≡ true = test_at (good_line S) (given ++ line ∷ left) given line left refl both.1 in
     let good_here : good_line D line ≡ true = sym (same_good_line D S line queues works) ∙ is_good in
     let names : GoodNames [] (work_names D) = subst (λ (ws : List WorkContents). GoodNames [] (map (λ (w : WorkContents). w.name) ws)) works good.work_names in
+    let are : IsActor a = all_at IsActor D.actors more a (subst (AllByRecursion IsActor) actors good.actors_are) in
     let read =
-    line_again D line said names (queue_names_of D S good queues) good_here (says_as l (actor_line D line) said (here ∙ sym (same_actor_line D S line queues works)) says) in
+    line_again D line said names (queue_names_of D S good queues) good_here (all_at IsLine given left line are.lines) (says_as l (actor_line D line) said (here ∙ sym (same_actor_line D S line queues works)) says) in
     let parts : length (given ++ line ∷ left) ≡ length given + suc (length left) = length-append given (line ∷ left) in
     let few : length (given ++ line ∷ left) ≤ MAX_LINES = at_most (length (given ++ line ∷ left)) MAX_LINES both.0 in
     record {
