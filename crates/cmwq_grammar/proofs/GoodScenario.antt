@@ -19,7 +19,7 @@ use Rattle.cmwq_types.specs.declared.scenario.Op.{Op}
 use Rattle.cmwq_types.specs.declared.scenario.Op.TheVariants as op
 use Rattle.cmwq_types.specs.declared.scenario.QueueDecl.{QueueDecl}
 use Rattle.cmwq_grammar.specs.Instructions.{actor_names, queue_names, work_names}
-use Rattle.cmwq_grammar.proofs.Basics.{and_true, at_most, at_most_is, below, true_and}
+use Rattle.cmwq_grammar.proofs.Basics.{one_if, and_true, at_most, at_most_is, below, true_and}
 use Rattle.cmwq_grammar.proofs.FieldLemmas.{IsNew, within_fits}
 use Rattle.cmwq_grammar.proofs.Fitting.{body_is, queues_are, queues_named, works_named}
 use Rattle.cmwq_grammar.proofs.InstrLemmas.{good_line}
@@ -116,9 +116,6 @@ last_finish (o ∷ ops) e =
     let more : take (n + 1) body ≡ take n body ++ get_or body n op.Finish ∷ [] = take_more body n op.Finish (omega arith) in
     let all : take (n + 1) body ≡ body = take_all (n + 1) body (omega arith) in
     sym all ∙ more ∙ ap (λ (x : Op). take n body ++ x ∷ []) is
-
-abbrev one_if : Bool → ℕ
-one_if b = cond b 1 0
 
 none_counted : (ops : List Op) → count_by is_finish ops ≡ 0 → list_all (λ o. not (is_finish o)) ops ≡ true
 none_counted [] e = refl

@@ -14,7 +14,7 @@ use Rattle.cmwq_types.specs.declared.limits.TheConstants.{MAX_QUEUES, MAX_TIMES,
 use Rattle.cmwq_types.specs.declared.scenario.Line.{Line}
 use Rattle.cmwq_grammar.specs.Fields.{◌>>=◌, declared_at, made_last, number_where, number_within}
 use Rattle.cmwq_grammar.specs.Grammar.{Says}
-use Rattle.cmwq_grammar.specs.Instructions.{Operands, Done, Work, Queue, Number, instr_among, instr_at, instructions, line_at, line_of, operands_at, queue_id, queue_names, then_times, times_at, work_id, work_names}
+use Rattle.cmwq_grammar.specs.Instructions.{Operands, Makes, OfWork, OfQueue, OfNumber, instr_among, instr_at, instructions, line_at, line_of, operands_at, queue_id, queue_names, then_times, times_at, work_id, work_names}
 use Rattle.cmwq_grammar.specs.declared.why.Why.TheVariants as why
 use Rattle.cmwq_grammar.proofs.Basics.{ok_same, bind_ok, bind_at, and_true, below, true_and, chosen, same_word}
 use Rattle.cmwq_grammar.proofs.FieldLemmas.{declared_read, ended_again, last_read, where_read, where_again, within_fits, fits_within}
@@ -27,17 +27,17 @@ put_first : (word first : List ℕ) (rest words : List (List ℕ)) → word ≡ 
 put_first word first rest words is e = ap (λ (w : List ℕ). w ∷ rest) is ∙ ap (λ (ws : List (List ℕ)). first ∷ ws) e
 
 -- the instruction that these operands make is said by the words so far and then by theirs
-Listed : ScenarioContents → List (List ℕ) → Operands → Type 0
-Listed S words (Done i) = (instr_words S i ≡ words) × (names_declared S i ≡ true) × IsInstr i
-Listed S words (Work next) =
-    (work : ℕ) → ltb work (length S.works) ≡ true → work < 2 ^ 16 → Listed S (words ++ (work_at S work).name ∷ []) (next (work_id work))
-Listed S words (Queue next) =
-    (queue : ℕ) → ltb queue (length S.queues) ≡ true → queue < 2 ^ 8 → Listed S (words ++ (queue_at S queue).name ∷ []) (next (queue_id queue))
-Listed S words (Number high next) = (n : ℕ) → n < suc high → Listed S (words ++ decimal n ∷ []) (next n)
+SaidBehind : ScenarioContents → List (List ℕ) → Operands → Type 0
+SaidBehind S words (Makes i) = (instr_words S i ≡ words) × (names_declared S i ≡ true) × IsInstr i
+SaidBehind S words (OfWork next) =
+    (work : ℕ) → ltb work (length S.works) ≡ true → work < 2 ^ 16 → SaidBehind S (words ++ (work_at S work).name ∷ []) (next (work_id work))
+SaidBehind S words (OfQueue next) =
+    (queue : ℕ) → ltb queue (length S.queues) ≡ true → queue < 2 ^ 8 → SaidBehind S (words ++ (queue_at S queue).name ∷ []) (next (queue_id queue))
+SaidBehind S words (OfNumber high next) = (n : ℕ) → n < suc high → SaidBehind S (words ++ decimal n ∷ []) (next n)
 
-all_listed : (S : ScenarioContents) → AllByRecursion (λ line. Listed S (line.0 ∷ []) line.1) instructions
-unfolding Listed
-all_listed S = assumption
+table_said : (S : ScenarioContents) → AllByRecursion (λ line. SaidBehind S (line.0 ∷ []) line.1) instructions
+unfolding SaidBehind
+table_said S = assumption
 
 -- the words are the instruction's and then these
 abbrev pub InstrRead : ScenarioContents → List (List ℕ) → Instr × List (List ℕ) → Type 0
@@ -49,16 +49,16 @@ pub record FewNames (D : ScenarioContents) : Type 0 where
   pub queues : length D.queues ≤ MAX_QUEUES
 
 -- an operand's word stands behind the words so far
-behind : (words rest after : List (List ℕ)) (word : List ℕ) → rest ≡ word ∷ after → (words ++ word ∷ []) ++ after ≡ words ++ rest
-behind words rest after word e = append_assoc words (word ∷ []) after ∙ ap (λ (ws : List (List ℕ)). words ++ ws) (sym e)
+operand_behind : (words rest after : List (List ℕ)) (word : List ℕ) → rest ≡ word ∷ after → (words ++ word ∷ []) ++ after ≡ words ++ rest
+operand_behind words rest after word e = append_assoc words (word ∷ []) after ∙ ap (λ (ws : List (List ℕ)). words ++ ws) (sym e)
 
-operands_read : (D : ScenarioContents) (operands : Operands) (words rest : List (List ℕ)) (found : Instr × List (List ℕ)) → FewNames D → Listed D words operands
+operands_read : (D : ScenarioContents) (operands : Operands) (words rest : List (List ℕ)) (found : Instr × List (List ℕ)) → FewNames D → SaidBehind D words operands
     → operands_at D operands rest ≡ Ok found → InstrRead D (words ++ rest) found
-unfolding Listed
-operands_read D (Done i) words rest found few listed e =
+unfolding SaidBehind
+operands_read D (Makes i) words rest found few said e =
     let same : (i, rest) ≡ found = ok_same (i, rest) found e in
-    subst (λ (f : Instr × List (List ℕ)). InstrRead D (words ++ rest) f) same (ap (λ (ws : List (List ℕ)). ws ++ rest) (sym listed.0), listed.1, listed.2)
-operands_read D (Work next) words rest found few listed e =
+    subst (λ (f : Instr × List (List ℕ)). InstrRead D (words ++ rest) f) same (ap (λ (ws : List (List ℕ)). ws ++ rest) (sym said.0), said.1, said.2)
+operands_read D (OfWork next) words rest found few said e =
     let work = bind_ok (declared_at (work_names D) rest) (λ work. operands_at D (next (work_id work.0)) work.1) found e in
     let n : ℕ = (work.0).0 in
     let after : List (List ℕ) = (work.0).1 in
@@ -66,9 +66,9 @@ operands_read D (Work next) words rest found few listed e =
     let declared : ltb n (length D.works) ≡ true = work_below D n there.1 in
     let small : n < length D.works = below n (length D.works) declared in
     let name : List ℕ = (work_at D n).name in
-    subst (λ (ws : List (List ℕ)). InstrRead D ws found) (behind words rest after name (there.0 ∙ ap (λ (w : List ℕ). w ∷ after) (name_of_work D n)))
-    (operands_read D (next (work_id n)) (words ++ name ∷ []) after found few (listed n declared (omega (arith, few.works))) work.2)
-operands_read D (Queue next) words rest found few listed e =
+    subst (λ (ws : List (List ℕ)). InstrRead D ws found) (operand_behind words rest after name (there.0 ∙ ap (λ (w : List ℕ). w ∷ after) (name_of_work D n)))
+    (operands_read D (next (work_id n)) (words ++ name ∷ []) after found few (said n declared (omega (arith, few.works))) work.2)
+operands_read D (OfQueue next) words rest found few said e =
     let queue = bind_ok (declared_at (queue_names D) rest) (λ queue. operands_at D (next (queue_id queue.0)) queue.1) found e in
     let n : ℕ = (queue.0).0 in
     let after : List (List ℕ) = (queue.0).1 in
@@ -76,30 +76,30 @@ operands_read D (Queue next) words rest found few listed e =
     let declared : ltb n (length D.queues) ≡ true = queue_below D n there.1 in
     let small : n < length D.queues = below n (length D.queues) declared in
     let name : List ℕ = (queue_at D n).name in
-    subst (λ (ws : List (List ℕ)). InstrRead D ws found) (behind words rest after name (there.0 ∙ ap (λ (w : List ℕ). w ∷ after) (name_of_queue D n)))
-    (operands_read D (next (queue_id n)) (words ++ name ∷ []) after found few (listed n declared (omega (arith, few.queues))) queue.2)
-operands_read D (Number high next) words rest found few listed e =
+    subst (λ (ws : List (List ℕ)). InstrRead D ws found) (operand_behind words rest after name (there.0 ∙ ap (λ (w : List ℕ). w ∷ after) (name_of_queue D n)))
+    (operands_read D (next (queue_id n)) (words ++ name ∷ []) after found few (said n declared (omega (arith, few.queues))) queue.2)
+operands_read D (OfNumber high next) words rest found few said e =
     let number = bind_ok (number_where (within 0 high) rest) (λ n. operands_at D (next n.0) n.1) found e in
     let n : ℕ = (number.0).0 in
     let after : List (List ℕ) = (number.0).1 in
     let there : (rest ≡ decimal n ∷ after) × (within 0 high n ≡ true) = where_read (within 0 high) rest number.0 number.1 in
     let fits : (0 ≤ n) × (n ≤ high) = within_fits 0 high n there.1 in
-    subst (λ (ws : List (List ℕ)). InstrRead D ws found) (behind words rest after (decimal n) there.0)
-    (operands_read D (next n) (words ++ decimal n ∷ []) after found few (listed n (omega (arith, fits.1))) number.2)
+    subst (λ (ws : List (List ℕ)). InstrRead D ws found) (operand_behind words rest after (decimal n) there.0)
+    (operands_read D (next n) (words ++ decimal n ∷ []) after found few (said n (omega (arith, fits.1))) number.2)
 
 among_read : (D : ScenarioContents) (lines : List (List ℕ × Operands)) (word : List ℕ) (rest : List (List ℕ)) (found : Instr × List (List ℕ)) → FewNames D
-    → AllByRecursion (λ line. Listed D (line.0 ∷ []) line.1) lines → instr_among lines D word rest ≡ Ok found → InstrRead D (word ∷ rest) found
-among_read D [] word rest found few listed e = not_standing why.Misplaced word found e
-among_read D (line ∷ more) word rest found few listed e =
+    → AllByRecursion (λ line. SaidBehind D (line.0 ∷ []) line.1) lines → instr_among lines D word rest ≡ Ok found → InstrRead D (word ∷ rest) found
+among_read D [] word rest found few said e = not_standing why.Misplaced word found e
+among_read D (line ∷ more) word rest found few said e =
     elim (chosen (bytes_eq word line.0) (operands_at D line.1 rest) (instr_among more D word rest) (Ok found) e) [
-      | inl it ↦ subst (λ (w : List ℕ). InstrRead D (w ∷ rest) found) (sym (same_word word line.0 it.0)) (operands_read D line.1 (line.0 ∷ []) rest found few listed.0 it.1)
-      | inr other ↦ among_read D more word rest found few listed.1 other.1
+      | inl it ↦ subst (λ (w : List ℕ). InstrRead D (w ∷ rest) found) (sym (same_word word line.0 it.0)) (operands_read D line.1 (line.0 ∷ []) rest found few said.0 it.1)
+      | inr other ↦ among_read D more word rest found few said.1 other.1
     ]
 
 pub instr_read : (D : ScenarioContents) (word : List ℕ) (rest : List (List ℕ)) (found : Instr × List (List ℕ)) → FewNames D → instr_at D word rest ≡ Ok found
     → InstrRead D (word ∷ rest) found
 unfolding instr_at
-instr_read D word rest found few e = among_read D instructions word rest found few (all_listed D) e
+instr_read D word rest found few e = among_read D instructions word rest found few (table_said D) e
 
 -- Again: an instruction's words are read as it.
 

@@ -55,9 +55,9 @@ all_swap : {A : Type 0} (P : A → Type 0) (front back : List A) (x y : A) → A
 all_swap P [] back x y all here = (here, all.1)
 all_swap P (w ∷ front) back x y all here = (all.0, all_swap P front back x y all.1 here)
 
-all_more : {A : Type 0} (P : A → Type 0) (xs : List A) (x : A) → AllByRecursion P xs → P x → AllByRecursion P (xs ++ x ∷ [])
-all_more P [] x all here = (here, tt)
-all_more P (w ∷ xs) x all here = (all.0, all_more P xs x all.1 here)
+all_and_last : {A : Type 0} (P : A → Type 0) (xs : List A) (x : A) → AllByRecursion P xs → P x → AllByRecursion P (xs ++ x ∷ [])
+all_and_last P [] x all here = (here, tt)
+all_and_last P (w ∷ xs) x all here = (all.0, all_and_last P xs x all.1 here)
 
 -- Queues.
 
@@ -315,7 +315,7 @@ sound_actor D rest next good opened =
       bodies = good.bodies;
       actor_names = names_and_one (λ (actor : ActorContents). actor.name) D.actors a good.actor_names opened.new opened.is;
       actors = all_and_one (good_actor D) D.actors a good.actors refl;
-      actors_are = all_more IsActor D.actors a good.actors_are (record { name = opened.is; lines = tt });
+      actors_are = all_and_last IsActor D.actors a good.actors_are (record { name = opened.is; lines = tt });
     }
 
 pub sound_all : (D : ScenarioContents) (done : List WorkContents) → SoundBodies D done → all_have_bodies D done ≡ true → Good (with_works D done)
@@ -360,7 +360,7 @@ sound_line D name lines line good good_one is room =
       actor_names = subst (λ (ns : List (List ℕ)). GoodNames [] ns) (same_names (λ (actor : ActorContents). actor.name) D.actors [] a b refl) good.actor_names;
       actors = all_and_one (good_actor D) D.actors b parts.0
           (true_and (leb (length (lines ++ line ∷ [])) MAX_LINES) (good_lines D (lines ++ line ∷ [])) (room_test (length (lines ++ line ∷ [])) (omega arith)) (all_and_one (good_line D) lines line here.1 good_one));
-      actors_are = all_swap IsActor D.actors [] a b good.actors_are (record { name = are.name; lines = all_more IsLine lines line are.lines is });
+      actors_are = all_swap IsActor D.actors [] a b good.actors_are (record { name = are.name; lines = all_and_last IsLine lines line are.lines is });
     }
   where
     room_test : (n : ℕ) → n ≤ MAX_LINES → leb n MAX_LINES ≡ true

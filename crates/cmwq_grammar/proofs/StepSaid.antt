@@ -154,9 +154,9 @@ queue_small queue fits =
     omega arith
 
 -- the name of an element is none of those before it
-name_at : {A : Type 0} (name : A → List ℕ) (whole front : List A) (x : A) (more : List A) → whole ≡ front ++ x ∷ more → GoodNames [] (map name whole)
+named_there : {A : Type 0} (name : A → List ℕ) (whole front : List A) (x : A) (more : List A) → whole ≡ front ++ x ∷ more → GoodNames [] (map name whole)
     → IsNew (map name front) (name x) × (is_name (name x) ≡ true)
-name_at name whole front x more e good =
+named_there name whole front x more e good =
     good_at [] (map name front) (name x) (map name more) (subst (λ (ns : List (List ℕ)). GoodNames [] ns) (ap (map name) e ∙ map-append name front (x ∷ more)) good)
 
 -- a test holds of an element
@@ -178,7 +178,7 @@ queue_taken : (D : ScenarioContents) (l : WrittenLine) (lines : List WrittenLine
 unfolding step
 queue_taken D l lines S said good says head q more queues e =
     let here : l ≡ queue_line q = same_head l (queue_line q) lines (rest_lines S more S.works S.works S.actors) e in
-    let named : IsNew (queue_names D) q.name × (is_name q.name ≡ true) = name_at (λ (x : QueueDecl). x.name) S.queues D.queues q more queues good.queue_names in
+    let named : IsNew (queue_names D) q.name × (is_name q.name ≡ true) = named_there (λ (x : QueueDecl). x.name) S.queues D.queues q more queues good.queue_names in
     let fits : fits_flags q ≡ true = test_at fits_flags S.queues D.queues q more queues good.queues in
     let below : length D.queues < length S.queues = place_below S.queues D.queues q more queues in
     let few : length S.queues ≤ MAX_QUEUES = good.few_queues in
@@ -209,7 +209,7 @@ work_taken : (D S : ScenarioContents) (front : List WorkContents) (x : WorkConte
     → S.works ≡ front ++ x ∷ more → D.works ≡ map bare front → Says (work_line S x) said → WorkTaken D x said
 work_taken D S front x more said good queues works declared says =
     let named : IsNew (map (λ (w : WorkContents). w.name) front) x.name × (is_name x.name ≡ true) =
-    name_at (λ (w : WorkContents). w.name) S.works front x more works good.work_names in
+    named_there (λ (w : WorkContents). w.name) S.works front x more works good.work_names in
     let names : map (λ (w : WorkContents). w.name) front ≡ work_names D = sym (names_of_bare front) ∙ ap (map (λ (w : WorkContents). w.name)) (sym declared) in
     let new : IsNew (work_names D) x.name = subst (λ (ns : List (List ℕ)). IsNew ns x.name) names named.0 in
     let on : on_queue_of (length S.queues) x ≡ true = test_at (on_queue_of (length S.queues)) S.works front x more works good.works in
@@ -475,7 +475,7 @@ actor_at : (D S : ScenarioContents) (name : List ℕ) (lines : List Line) (more 
     → S.actors ≡ D.actors ++ record { name = name; lines = lines } ∷ more → open_actor D (name ∷ []) ≡ Ok (Actor D name [])
 actor_at D S name lines more good actors =
     let a : ActorContents = record { name = name; lines = lines } in
-    let named : IsNew (actor_names D) name × (is_name name ≡ true) = name_at (λ (x : ActorContents). x.name) S.actors D.actors a more actors good.actor_names in
+    let named : IsNew (actor_names D) name × (is_name name ≡ true) = named_there (λ (x : ActorContents). x.name) S.actors D.actors a more actors good.actor_names in
     let below : length D.actors < length S.actors = place_below S.actors D.actors a more actors in
     let few : length S.actors ≤ MAX_ACTORS = good.few_actors in
     actor_opens D name named.1 named.0 (omega arith)

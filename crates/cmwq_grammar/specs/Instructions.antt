@@ -31,51 +31,51 @@ queue_id queue = record { 0 = queue }
 -- What stands behind the word of an instruction.
 pub data Operands : Type 0 where
   -- nothing more: this is the instruction
-  Done : (instr : Instr) → Operands
+  Makes : (instr : Instr) → Operands
   -- a work, a queue, or a number up to this one, and then what its value tells
-  Work : (next : WorkId → Operands) → Operands
-  Queue : (next : QueueId → Operands) → Operands
-  Number : (high : ℕ) (next : ℕ → Operands) → Operands
+  OfWork : (next : WorkId → Operands) → Operands
+  OfQueue : (next : QueueId → Operands) → Operands
+  OfNumber : (high : ℕ) (next : ℕ → Operands) → Operands
 
-abbrev pub work : (WorkId → Instr) → Operands
-work instr = Work (λ work. Done (instr work))
+abbrev pub of_work : (WorkId → Instr) → Operands
+of_work instr = OfWork (λ work. Makes (instr work))
 
-abbrev pub queue : (QueueId → Instr) → Operands
-queue instr = Queue (λ queue. Done (instr queue))
+abbrev pub of_queue : (QueueId → Instr) → Operands
+of_queue instr = OfQueue (λ queue. Makes (instr queue))
 
-abbrev pub number : ℕ → (ℕ → Instr) → Operands
-number high instr = Number high (λ n. Done (instr n))
+abbrev pub of_number : ℕ → (ℕ → Instr) → Operands
+of_number high instr = OfNumber high (λ n. Makes (instr n))
 
-abbrev pub work_cpu : (WorkId → ℕ → Instr) → Operands
-work_cpu instr = Work (λ work. number 255 (instr work))
+abbrev pub of_work_cpu : (WorkId → ℕ → Instr) → Operands
+of_work_cpu instr = OfWork (λ work. of_number 255 (instr work))
 
-abbrev pub work_cpu_ticks : (WorkId → ℕ → ℕ → Instr) → Operands
-work_cpu_ticks instr = Work (λ work. Number 255 (λ cpu. number 4294967295 (instr work cpu)))
+abbrev pub of_work_cpu_ticks : (WorkId → ℕ → ℕ → Instr) → Operands
+of_work_cpu_ticks instr = OfWork (λ work. OfNumber 255 (λ cpu. of_number 4294967295 (instr work cpu)))
 
-abbrev pub queue_max : (QueueId → ℕ → Instr) → Operands
-queue_max instr = Queue (λ queue. number 4294967295 (instr queue))
+abbrev pub of_queue_max : (QueueId → ℕ → Instr) → Operands
+of_queue_max instr = OfQueue (λ queue. of_number 4294967295 (instr queue))
 
 -- The instructions: the word of each, and its operands.
 abbrev pub instructions : List (List ℕ × Operands)
 instructions =
-    (codes "queue", work_cpu instr.Queue)
-    ∷ (codes "delay", work_cpu_ticks instr.Delay)
-    ∷ (codes "mod", work_cpu_ticks instr.Mod)
-    ∷ (codes "cancel", work instr.Cancel)
-    ∷ (codes "cancel_sync", work instr.CancelSync)
-    ∷ (codes "flush", work instr.Flush)
-    ∷ (codes "flush_delayed", work instr.FlushDelayed)
-    ∷ (codes "flush_queue", queue instr.FlushQueue)
-    ∷ (codes "set_max", queue_max instr.SetMax)
-    ∷ (codes "freeze", Done instr.Freeze)
-    ∷ (codes "thaw", Done instr.Thaw)
-    ∷ (codes "fire", Done instr.Fire)
-    ∷ (codes "step", number 255 instr.Step)
-    ∷ (codes "tick", Done instr.Tick)
-    ∷ (codes "next", Done instr.Next)
-    ∷ (codes "ask", number 65535 instr.Ask)
-    ∷ (codes "busy", Done instr.Busy)
-    ∷ (codes "state", work instr.State)
+    (codes "queue", of_work_cpu instr.Queue)
+    ∷ (codes "delay", of_work_cpu_ticks instr.Delay)
+    ∷ (codes "mod", of_work_cpu_ticks instr.Mod)
+    ∷ (codes "cancel", of_work instr.Cancel)
+    ∷ (codes "cancel_sync", of_work instr.CancelSync)
+    ∷ (codes "flush", of_work instr.Flush)
+    ∷ (codes "flush_delayed", of_work instr.FlushDelayed)
+    ∷ (codes "flush_queue", of_queue instr.FlushQueue)
+    ∷ (codes "set_max", of_queue_max instr.SetMax)
+    ∷ (codes "freeze", Makes instr.Freeze)
+    ∷ (codes "thaw", Makes instr.Thaw)
+    ∷ (codes "fire", Makes instr.Fire)
+    ∷ (codes "step", of_number 255 instr.Step)
+    ∷ (codes "tick", Makes instr.Tick)
+    ∷ (codes "next", Makes instr.Next)
+    ∷ (codes "ask", of_number 65535 instr.Ask)
+    ∷ (codes "busy", Makes instr.Busy)
+    ∷ (codes "state", of_work instr.State)
     ∷ []
 
 -- the first words of lines; an operation and a queue's line begin with `queue` too
@@ -91,10 +91,10 @@ cannot_stand reason word = if list_any (bytes_eq word) first_words then Err reas
 -- Reading. What was read is the instruction, and the words after it.
 
 abbrev pub operands_at : ScenarioContents → Operands → List (List ℕ) → Result (Instr × List (List ℕ)) Why
-operands_at S (Done instr) words = Ok (instr, words)
-operands_at S (Work next) words = declared_at (work_names S) words >>= (λ work. operands_at S (next (work_id work.0)) work.1)
-operands_at S (Queue next) words = declared_at (queue_names S) words >>= (λ queue. operands_at S (next (queue_id queue.0)) queue.1)
-operands_at S (Number high next) words = number_within 0 high words >>= (λ n. operands_at S (next n.0) n.1)
+operands_at S (Makes instr) words = Ok (instr, words)
+operands_at S (OfWork next) words = declared_at (work_names S) words >>= (λ work. operands_at S (next (work_id work.0)) work.1)
+operands_at S (OfQueue next) words = declared_at (queue_names S) words >>= (λ queue. operands_at S (next (queue_id queue.0)) queue.1)
+operands_at S (OfNumber high next) words = number_within 0 high words >>= (λ n. operands_at S (next n.0) n.1)
 
 -- of these instructions the one that begins with this word
 abbrev pub instr_among : List (List ℕ × Operands) → ScenarioContents → List ℕ → List (List ℕ) → Result (Instr × List (List ℕ)) Why
@@ -108,22 +108,22 @@ instr_at = instr_among instructions
 -- The operands of one shape, read for an instruction.
 
 abbrev pub on_work : ScenarioContents → (WorkId → Instr) → List (List ℕ) → Result (Instr × List (List ℕ)) Why
-on_work S instr = operands_at S (work instr)
+on_work S instr = operands_at S (of_work instr)
 
 abbrev pub on_queue : ScenarioContents → (QueueId → Instr) → List (List ℕ) → Result (Instr × List (List ℕ)) Why
-on_queue S instr = operands_at S (queue instr)
+on_queue S instr = operands_at S (of_queue instr)
 
 abbrev pub number_to : ℕ → (ℕ → Instr) → List (List ℕ) → Result (Instr × List (List ℕ)) Why
 number_to high instr words = number_within 0 high words >>= made instr
 
 abbrev pub on_work_cpu : ScenarioContents → (WorkId → ℕ → Instr) → List (List ℕ) → Result (Instr × List (List ℕ)) Why
-on_work_cpu S instr = operands_at S (work_cpu instr)
+on_work_cpu S instr = operands_at S (of_work_cpu instr)
 
 abbrev pub on_work_cpu_ticks : ScenarioContents → (WorkId → ℕ → ℕ → Instr) → List (List ℕ) → Result (Instr × List (List ℕ)) Why
-on_work_cpu_ticks S instr = operands_at S (work_cpu_ticks instr)
+on_work_cpu_ticks S instr = operands_at S (of_work_cpu_ticks instr)
 
 abbrev pub on_queue_max : ScenarioContents → (QueueId → ℕ → Instr) → List (List ℕ) → Result (Instr × List (List ℕ)) Why
-on_queue_max S instr = operands_at S (queue_max instr)
+on_queue_max S instr = operands_at S (of_queue_max instr)
 
 -- How often the instruction stands: once, or as often as `* N` says.
 

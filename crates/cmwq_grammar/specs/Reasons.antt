@@ -23,17 +23,17 @@ use Rattle.cmwq_grammar.specs.declared.why.Why.TheVariants as why
 -- a flag: its word, whether it is set, and the flags with it set
 pub record FlagWord : Type 0 where
   pub word : List ℕ
-  pub is_set : Flags → Bool
+  pub has : Flags → Bool
   pub set : Flags → Flags
 
 -- The flags.
 abbrev pub flag_table : List FlagWord
 flag_table =
-    record { word = codes "highpri"; is_set = λ flags. flags.highpri; set = λ flags. record flags { highpri = true } }
-    ∷ record { word = codes "unbound"; is_set = λ flags. flags.unbound; set = λ flags. record flags { unbound = true } }
-    ∷ record { word = codes "cpu_intensive"; is_set = λ flags. flags.cpu_intensive; set = λ flags. record flags { cpu_intensive = true } }
-    ∷ record { word = codes "freezable"; is_set = λ flags. flags.freezable; set = λ flags. record flags { freezable = true } }
-    ∷ record { word = codes "ordered"; is_set = λ flags. flags.ordered; set = λ flags. record flags { ordered = true } }
+    record { word = codes "highpri"; has = λ flags. flags.highpri; set = λ flags. record flags { highpri = true } }
+    ∷ record { word = codes "unbound"; has = λ flags. flags.unbound; set = λ flags. record flags { unbound = true } }
+    ∷ record { word = codes "cpu_intensive"; has = λ flags. flags.cpu_intensive; set = λ flags. record flags { cpu_intensive = true } }
+    ∷ record { word = codes "freezable"; has = λ flags. flags.freezable; set = λ flags. record flags { freezable = true } }
+    ∷ record { word = codes "ordered"; has = λ flags. flags.ordered; set = λ flags. record flags { ordered = true } }
     ∷ []
 
 -- the flag, if it isn't set yet
@@ -44,7 +44,7 @@ set_once is_set flags = value_if (not is_set) flags (why.Fault fault.Duplicate)
 abbrev pub add_among : List FlagWord → Flags → List ℕ → Result Flags Why
 add_among [] flags word = Err why.BadWord
 add_among (flag ∷ more) flags word =
-    if bytes_eq word flag.word then set_once (flag.is_set flags) (flag.set flags) else add_among more flags word
+    if bytes_eq word flag.word then set_once (flag.has flags) (flag.set flags) else add_among more flags word
 
 unfoldable pub add_flag : Flags → List ℕ → Result Flags Why
 add_flag = add_among flag_table
