@@ -38,6 +38,7 @@ head_good cpus workers steps a b c = record {
   bodies = tt;
   actor_names = tt;
   actors = refl;
+  actors_are = tt;
 }
 
 same_head : (D : ScenarioContents) (works : List WorkContents) → SameHead D (record D { works = works })

@@ -6,6 +6,7 @@ use Rattle.cmwq_types.specs.Contents.{ScenarioContents, WorkContents}
 use Rattle.cmwq_types.specs.Faults.{fits_flags, is_finish}
 use Rattle.cmwq_types.specs.Listing.{actor_line, queue_line, work_line}
 use Rattle.cmwq_types.specs.Name.{is_name}
+use Rattle.cmwq_types.specs.Values.{IsLine}
 use Rattle.cmwq_types.specs.declared.check.Fault.TheVariants as fault
 use Rattle.cmwq_types.specs.declared.limits.TheConstants.{MAX_ACTORS, MAX_LINES, MAX_OPS, MAX_QUEUES, MAX_WORKS}
 use Rattle.cmwq_types.specs.declared.scenario.Line.{Line}
@@ -20,7 +21,7 @@ use Rattle.cmwq_grammar.specs.declared.why.Why.TheVariants as why
 use Rattle.cmwq_grammar.proofs.Basics.{ok_same, fine, bind_ok, bind_at, value_if_ok, value_if_at, chosen, either, cond_yes, cond_no, not_false, same_word}
 use Rattle.cmwq_grammar.proofs.FieldLemmas.{IsNew, declared_read, ended_again, last_read, new_name_read, new_name_again}
 use Rattle.cmwq_grammar.proofs.LineLemmas.{OpRead, op_read, queue_read, work_read}
-use Rattle.cmwq_grammar.proofs.InstrLemmas.{good_line, line_read}
+use Rattle.cmwq_grammar.proofs.InstrLemmas.{FewNames, LineRead, good_line, line_read}
 use Rattle.cmwq_grammar.proofs.NameLists.{GoodNames, declared_good}
 
 below_test : (n m : ℕ) → ltb n m ≡ true → n < m
@@ -223,17 +224,18 @@ pub record LineAdded (D : ScenarioContents) (name : List ℕ) (lines : List Line
   pub stage : Actor D name (lines ++ line ∷ []) ≡ next
   pub says : Says (actor_line D line) said
   pub good : good_line D line ≡ true
+  pub is : IsLine line
   pub room : length lines < MAX_LINES
 
-pub line_added : (D : ScenarioContents) (name : List ℕ) (lines : List Line) (word : List ℕ) (rest : List (List ℕ)) (next : Stage)
+pub line_added : (D : ScenarioContents) (name : List ℕ) (lines : List Line) (word : List ℕ) (rest : List (List ℕ)) (next : Stage) → FewNames D
     → (line_at D word rest >>= add_line D name lines) ≡ Ok next → LineAdded D name lines (word ∷ rest) next
 unfolding add_line
-line_added D name lines word rest next e =
+line_added D name lines word rest next few e =
     let there : (l : Line) × (line_at D word rest ≡ Ok l) × (add_line D name lines l ≡ Ok next) = bind_ok (line_at D word rest) (add_line D name lines) next e in
-    let read : Says (actor_line D there.0) (word ∷ rest) × (good_line D there.0 ≡ true) = line_read D word rest there.0 there.1 in
+    let read : LineRead D (word ∷ rest) there.0 = line_read D word rest there.0 few there.1 in
     let room : (ltb (length lines) MAX_LINES ≡ true) × (Actor D name (lines ++ there.0 ∷ []) ≡ next) =
     value_if_ok (ltb (length lines) MAX_LINES) (Actor D name (lines ++ there.0 ∷ [])) (why.Fault fault.TooMany) next there.2 in
-    record { line = there.0; stage = room.1; says = read.0; good = read.1; room = below_test (length lines) MAX_LINES room.0 }
+    record { line = there.0; stage = room.1; says = read.0; good = read.1; is = read.2; room = below_test (length lines) MAX_LINES room.0 }
 
 pub line_adds : (D : ScenarioContents) (name : List ℕ) (lines : List Line) (line : Line) → length lines < MAX_LINES
     → add_line D name lines line ≡ Ok (Actor D name (lines ++ line ∷ []))

@@ -21,7 +21,7 @@ use Rattle.cmwq_grammar.proofs.Basics.{and_true, true_and, bind_at, bind_ok, cho
 use Rattle.cmwq_grammar.proofs.CanonicalLines.{all_plain, fed, fed_lines, is_feed, joined, no_feeds, plain_no_feeds, plain_utf8, plain_worded, plain_words}
 use Rattle.cmwq_grammar.proofs.Completions.{Completion, complete}
 use Rattle.cmwq_grammar.proofs.GoodScenario.{Good, good_from_valid, valid_from_good}
-use Rattle.cmwq_grammar.proofs.ListingLemmas.{LinesFit, canonical, canonical_say, written_fits}
+use Rattle.cmwq_grammar.proofs.ListingLemmas.{LinesFitIn, canonical, canonical_say, written_fits}
 use Rattle.cmwq_grammar.proofs.ReadingLemmas.{LinesRead, all_read, line_ok}
 use Rattle.cmwq_grammar.proofs.SpellingLemmas.{Reached, all_said, text_reads}
 use Rattle.cmwq_grammar.proofs.Utf8Lemmas.{AllUtf8, lines_utf8, text_utf8}
@@ -93,7 +93,7 @@ read_begins lines stage none e =
     let whole : Completion stage = complete stage (read.0).sound in
     let S = whole.scenario in
     let told = (read.0).front whole.lines S whole.continues in
-    let fit : LinesFit MAX_TEXT (written S) = written_fits S whole.good in
+    let fit : LinesFitIn MAX_TEXT (written S) = written_fits S whole.good in
     let said : List (List (List ℕ)) = map canonical whole.lines in
     let parts : all_plain (map canonical told.0 ++ said) ≡ true =
     sym (ap all_plain (map-append canonical told.0 whole.lines)) ∙ ap (λ (ls : List WrittenLine). all_plain (map canonical ls)) told.2 ∙ fit.plain in

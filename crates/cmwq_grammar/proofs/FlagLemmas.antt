@@ -1,512 +1,258 @@
 -- The flags of a queue, in any order.
-use Rattle.std.proofs.Common.{◌≡◌, ℕ, suc, ◌+◌, ◌≤◌, Bool, true, false, not, ◌||◌, List, [], ◌∷◌, ◌++◌, cond, Result, Ok, Err, arith, refl, sym, ap, ◌∙◌, inl, inr, subst, append_assoc, append-nil, codes}
+use Rattle.std.proofs.Common.{◌≡◌, ℕ, ◌+◌, Bool, true, false, not, List, [], ◌∷◌, ◌++◌, cond, Ok, arith, refl, sym, ap, ◌∙◌, inl, inr, subst, append_assoc, append-nil}
 use Rattle.std.proofs.lemmas.List.Sorted.{IsPermutation-refl, IsPermutation-sym, IsPermutation-trans, IsPermutation-append_left, IsPermutation-middle, IsPermutation-to_front, sum_by-IsPermutation}
-use Rattle.std.proofs.lemmas.List.Sums.{sum_by-cons}
-use Rattle.std.specs.List.{sum_by}
+use Rattle.std.proofs.lemmas.List.Sums.{sum_by-append, sum_by-cons}
+use Rattle.std.specs.List.{AllByRecursion, sum_by}
 use Rattle.std.specs.List.Sorted.{IsPermutation}
 use Rattle.std.specs.Str.{bytes_eq}
 use Rattle.cmwq_types.specs.Listing.{flag_words, word_if}
 use Rattle.cmwq_types.specs.Scenario.{plain_flags}
 use Rattle.cmwq_types.specs.declared.check.Fault.TheVariants as fault
 use Rattle.cmwq_types.specs.declared.scenario.Flags.{Flags}
-use Rattle.cmwq_grammar.specs.Reasons.{add_flag, flags_at, set_once}
-use Rattle.cmwq_grammar.specs.declared.why.Why.{Why}
+use Rattle.cmwq_grammar.specs.Reasons.{FlagWord, add_among, add_flag, flag_table, flags_at, set_once}
 use Rattle.cmwq_grammar.specs.declared.why.Why.TheVariants as why
-use Rattle.cmwq_grammar.proofs.Basics.{bind_ok, bind_at, value_if_ok, value_if_at, either, not_true, same_word, chosen}
+use Rattle.cmwq_grammar.proofs.Basics.{one_if, bind_ok, bind_at, value_if_ok, value_if_at, either, not_true, same_word, word_is, chosen, cond_yes, cond_no}
 
--- Read: the flags that are set are the words, in some order.
+-- The words of the flags that are set.
 
--- the whole is the front and then the word, but for the order
-record Ends (whole front : List (List ℕ)) (x : List ℕ) : Type 0 where
-  order : IsPermutation whole (front ++ x ∷ [])
+abbrev words_set : List FlagWord → Flags → List (List ℕ)
+words_set [] f = []
+words_set (flag ∷ more) f = word_if (flag.has f) flag.word ++ words_set more f
+
+-- behind these words
+abbrev words_behind : List (List ℕ) → List FlagWord → Flags → List (List ℕ)
+words_behind words [] f = words
+words_behind words (flag ∷ more) f = words_behind (words ++ word_if (flag.has f) flag.word) more f
+
+words_are : (words : List (List ℕ)) (flags : List FlagWord) (f : Flags) → words_behind words flags f ≡ words ++ words_set flags f
+words_are words [] f = sym (append-nil words)
+words_are words (flag ∷ more) f =
+    words_are (words ++ word_if (flag.has f) flag.word) more f ∙ append_assoc words (word_if (flag.has f) flag.word) (words_set more f)
+
+flag_words_are : (f : Flags) → flag_words f ≡ words_set flag_table f
+flag_words_are f = words_are [] flag_table f
+
+words_both : (front back : List FlagWord) (f : Flags) → words_set (front ++ back) f ≡ words_set front f ++ words_set back f
+words_both [] back f = refl
+words_both (flag ∷ front) back f =
+    ap (λ (ws : List (List ℕ)). word_if (flag.has f) flag.word ++ ws) (words_both front back f)
+    ∙ sym (append_assoc (word_if (flag.has f) flag.word) (words_set front f) (words_set back f))
+
+-- No two flags are one.
+
+-- setting the one leaves the other, and their words differ
+abbrev Apart : FlagWord → FlagWord → Type 0
+Apart one other = ((f : Flags) → other.has (one.set f) ≡ other.has f) × (bytes_eq one.word other.word ≡ false)
+
+-- each is set by setting it, and is apart from those before and behind it
+abbrev AllApart : List FlagWord → List FlagWord → Type 0
+AllApart before [] = Unit {0}
+AllApart before (flag ∷ more) =
+    ((f : Flags) → flag.has (flag.set f) ≡ true) × AllByRecursion (Apart flag) before × AllByRecursion (Apart flag) more × AllApart (before ++ flag ∷ []) more
+
+flags_apart : AllApart [] flag_table
+flags_apart = assumption
+
+others_same : (flag : FlagWord) (others : List FlagWord) (f : Flags) → AllByRecursion (Apart flag) others → words_set others (flag.set f) ≡ words_set others f
+others_same flag [] f apart = refl
+others_same flag (other ∷ others) f apart =
+    ap (λ (b : Bool). word_if b other.word ++ words_set others (flag.set f)) (apart.0.0 f)
+    ∙ ap (λ (ws : List (List ℕ)). word_if (other.has f) other.word ++ ws) (others_same flag others f apart.1)
+
+-- A flag that is read is one more word, but for the order.
 
 -- a word in the middle moves to the end
-to_end : (front back : List (List ℕ)) (x : List ℕ) → IsPermutation ((front ++ x ∷ []) ++ back) ((front ++ back) ++ x ∷ [])
+to_end : (front back : List (List ℕ)) (x : List ℕ) → IsPermutation (front ++ x ∷ back) ((front ++ back) ++ x ∷ [])
 to_end front back x =
-    subst (λ (whole : List (List ℕ)). IsPermutation whole ((front ++ back) ++ x ∷ [])) (sym (append_assoc front (x ∷ []) back))
-    (IsPermutation-trans (front ++ x ∷ back) (x ∷ (front ++ back)) ((front ++ back) ++ x ∷ []) (IsPermutation-middle front x back)
-    (IsPermutation-sym ((front ++ back) ++ x ∷ []) (x ∷ (front ++ back)) (IsPermutation-to_front (front ++ back) x)))
+    IsPermutation-trans (front ++ x ∷ back) (x ∷ (front ++ back)) ((front ++ back) ++ x ∷ []) (IsPermutation-middle front x back)
+    (IsPermutation-sym ((front ++ back) ++ x ∷ []) (x ∷ (front ++ back)) (IsPermutation-to_front (front ++ back) x))
 
--- the word stands after the front
-placed : (front : List (List ℕ)) (x : List ℕ) → Ends (front ++ x ∷ []) (front ++ []) x
-placed front x = record {
-  order =
-      subst (λ (f : List (List ℕ)). IsPermutation (front ++ x ∷ []) (f ++ x ∷ [])) (sym (append-nil front))
-      (IsPermutation-refl (front ++ x ∷ []));
-}
+AddsWord : List FlagWord → Flags → List ℕ → Flags → Type 0
+AddsWord flags f word g = IsPermutation (words_set flags g) (words_set flags f ++ word ∷ [])
 
--- and words after it don't matter
-further : {whole front : List (List ℕ)} {x : List ℕ} → Ends whole front x → (back : List (List ℕ)) → Ends (whole ++ back) (front ++ back) x
-further {whole} {front} {x} h back = record {
-  order =
-      IsPermutation-trans (whole ++ back) ((front ++ x ∷ []) ++ back) ((front ++ back) ++ x ∷ [])
-      (IsPermutation-append_left back whole (front ++ x ∷ []) h.order) (to_end front back x);
-}
-
-abbrev highpri_word : Flags → List (List ℕ)
-highpri_word f = word_if f.highpri (codes "highpri")
-
-abbrev unbound_word : Flags → List (List ℕ)
-unbound_word f = word_if f.unbound (codes "unbound")
-
-abbrev cpu_intensive_word : Flags → List (List ℕ)
-cpu_intensive_word f = word_if f.cpu_intensive (codes "cpu_intensive")
-
-abbrev freezable_word : Flags → List (List ℕ)
-freezable_word f = word_if f.freezable (codes "freezable")
-
-abbrev ordered_word : Flags → List (List ℕ)
-ordered_word f = word_if f.ordered (codes "ordered")
-
-highpri_moved : (f : Flags) → Ends (flag_words (record f { highpri = true })) (flag_words (record f { highpri = false })) (codes "highpri")
-highpri_moved f =
-    further (further (further (further (placed [] (codes "highpri")) (unbound_word f)) (cpu_intensive_word f)) (freezable_word f)) (ordered_word f)
-
-unbound_moved : (f : Flags) → Ends (flag_words (record f { unbound = true })) (flag_words (record f { unbound = false })) (codes "unbound")
-unbound_moved f =
-    further (further (further (placed (highpri_word f) (codes "unbound")) (cpu_intensive_word f)) (freezable_word f)) (ordered_word f)
-
-cpu_intensive_moved : (f : Flags) → Ends (flag_words (record f { cpu_intensive = true })) (flag_words (record f { cpu_intensive = false })) (codes "cpu_intensive")
-cpu_intensive_moved f =
-    further (further (placed (highpri_word f ++ unbound_word f) (codes "cpu_intensive")) (freezable_word f)) (ordered_word f)
-
-freezable_moved : (f : Flags) → Ends (flag_words (record f { freezable = true })) (flag_words (record f { freezable = false })) (codes "freezable")
-freezable_moved f =
-    further (placed (highpri_word f ++ unbound_word f ++ cpu_intensive_word f) (codes "freezable")) (ordered_word f)
-
-ordered_moved : (f : Flags) → Ends (flag_words (record f { ordered = true })) (flag_words (record f { ordered = false })) (codes "ordered")
-ordered_moved f =
-    placed (highpri_word f ++ unbound_word f ++ cpu_intensive_word f ++ freezable_word f) (codes "ordered")
-
--- the flags with one more
-AddsWord : Flags → List ℕ → Flags → Type 0
-AddsWord f word g = IsPermutation (flag_words g) (flag_words f ++ word ∷ [])
-
-set_highpri : (f g : Flags) (word : List ℕ) → bytes_eq word (codes "highpri") ≡ true → set_once f.highpri (record f { highpri = true }) ≡ Ok g → AddsWord f word g
+set_adds : (front back : List FlagWord) (flag : FlagWord) (f : Flags) → ((h : Flags) → flag.has (flag.set h) ≡ true) → AllByRecursion (Apart flag) front
+    → AllByRecursion (Apart flag) back → flag.has f ≡ false → AddsWord (front ++ flag ∷ back) f flag.word (flag.set f)
 unfolding AddsWord
-set_highpri f g word is e =
-    let set : (not f.highpri ≡ true) × (record f { highpri = true } ≡ g) = value_if_ok (not f.highpri) (record f { highpri = true }) (why.Fault fault.Duplicate) g e in
-    let was : f.highpri ≡ false = not_true f.highpri set.0 in
-    let same : word ≡ codes "highpri" = same_word word (codes "highpri") is in
-    let before : flag_words (record f { highpri = false }) ≡ flag_words f = ap (λ (b : Bool). flag_words (record f { highpri = b })) (sym was) in
-    subst (λ (h : Flags). IsPermutation (flag_words h) (flag_words f ++ word ∷ [])) set.1
-    (subst (λ (w : List ℕ). IsPermutation (flag_words (record f { highpri = true })) (flag_words f ++ w ∷ [])) (sym same)
-    (subst (λ (ws : List (List ℕ)). IsPermutation (flag_words (record f { highpri = true })) (ws ++ codes "highpri" ∷ [])) before (highpri_moved f).order))
+set_adds front back flag f sets before behind was =
+    let a : List (List ℕ) = words_set front f in
+    let b : List (List ℕ) = words_set back f in
+    let old : words_set (front ++ flag ∷ back) f ≡ a ++ b =
+    words_both front (flag ∷ back) f ∙ ap (λ (x : Bool). a ++ (word_if x flag.word ++ b)) was in
+    let new : words_set (front ++ flag ∷ back) (flag.set f) ≡ a ++ flag.word ∷ b =
+    words_both front (flag ∷ back) (flag.set f)
+    ∙ ap (λ (ws : List (List ℕ)). ws ++ (word_if (flag.has (flag.set f)) flag.word ++ words_set back (flag.set f))) (others_same flag front f before)
+    ∙ ap (λ (x : Bool). a ++ (word_if x flag.word ++ words_set back (flag.set f))) (sets f)
+    ∙ ap (λ (ws : List (List ℕ)). a ++ flag.word ∷ ws) (others_same flag back f behind) in
+    subst (λ (ws : List (List ℕ)). IsPermutation ws (words_set (front ++ flag ∷ back) f ++ flag.word ∷ [])) (sym new)
+    (subst (λ (ws : List (List ℕ)). IsPermutation (a ++ flag.word ∷ b) (ws ++ flag.word ∷ [])) (sym old) (to_end a b flag.word))
 
-set_unbound : (f g : Flags) (word : List ℕ) → bytes_eq word (codes "unbound") ≡ true → set_once f.unbound (record f { unbound = true }) ≡ Ok g → AddsWord f word g
-unfolding AddsWord
-set_unbound f g word is e =
-    let set : (not f.unbound ≡ true) × (record f { unbound = true } ≡ g) = value_if_ok (not f.unbound) (record f { unbound = true }) (why.Fault fault.Duplicate) g e in
-    let was : f.unbound ≡ false = not_true f.unbound set.0 in
-    let same : word ≡ codes "unbound" = same_word word (codes "unbound") is in
-    let before : flag_words (record f { unbound = false }) ≡ flag_words f = ap (λ (b : Bool). flag_words (record f { unbound = b })) (sym was) in
-    subst (λ (h : Flags). IsPermutation (flag_words h) (flag_words f ++ word ∷ [])) set.1
-    (subst (λ (w : List ℕ). IsPermutation (flag_words (record f { unbound = true })) (flag_words f ++ w ∷ [])) (sym same)
-    (subst (λ (ws : List (List ℕ)). IsPermutation (flag_words (record f { unbound = true })) (ws ++ codes "unbound" ∷ [])) before (unbound_moved f).order))
-
-set_cpu_intensive : (f g : Flags) (word : List ℕ) → bytes_eq word (codes "cpu_intensive") ≡ true → set_once f.cpu_intensive (record f { cpu_intensive = true }) ≡ Ok g
-    → AddsWord f word g
-unfolding AddsWord
-set_cpu_intensive f g word is e =
-    let set : (not f.cpu_intensive ≡ true) × (record f { cpu_intensive = true } ≡ g) =
-    value_if_ok (not f.cpu_intensive) (record f { cpu_intensive = true }) (why.Fault fault.Duplicate) g e in
-    let was : f.cpu_intensive ≡ false = not_true f.cpu_intensive set.0 in
-    let same : word ≡ codes "cpu_intensive" = same_word word (codes "cpu_intensive") is in
-    let before : flag_words (record f { cpu_intensive = false }) ≡ flag_words f = ap (λ (b : Bool). flag_words (record f { cpu_intensive = b })) (sym was) in
-    subst (λ (h : Flags). IsPermutation (flag_words h) (flag_words f ++ word ∷ [])) set.1
-    (subst (λ (w : List ℕ). IsPermutation (flag_words (record f { cpu_intensive = true })) (flag_words f ++ w ∷ [])) (sym same)
-    (subst (λ (ws : List (List ℕ)). IsPermutation (flag_words (record f { cpu_intensive = true })) (ws ++ codes "cpu_intensive" ∷ [])) before (cpu_intensive_moved f).order))
-
-set_freezable : (f g : Flags) (word : List ℕ) → bytes_eq word (codes "freezable") ≡ true → set_once f.freezable (record f { freezable = true }) ≡ Ok g → AddsWord f word g
-unfolding AddsWord
-set_freezable f g word is e =
-    let set : (not f.freezable ≡ true) × (record f { freezable = true } ≡ g) =
-    value_if_ok (not f.freezable) (record f { freezable = true }) (why.Fault fault.Duplicate) g e in
-    let was : f.freezable ≡ false = not_true f.freezable set.0 in
-    let same : word ≡ codes "freezable" = same_word word (codes "freezable") is in
-    let before : flag_words (record f { freezable = false }) ≡ flag_words f = ap (λ (b : Bool). flag_words (record f { freezable = b })) (sym was) in
-    subst (λ (h : Flags). IsPermutation (flag_words h) (flag_words f ++ word ∷ [])) set.1
-    (subst (λ (w : List ℕ). IsPermutation (flag_words (record f { freezable = true })) (flag_words f ++ w ∷ [])) (sym same)
-    (subst (λ (ws : List (List ℕ)). IsPermutation (flag_words (record f { freezable = true })) (ws ++ codes "freezable" ∷ [])) before (freezable_moved f).order))
-
-set_ordered : (f g : Flags) (word : List ℕ) → bytes_eq word (codes "ordered") ≡ true → set_once f.ordered (record f { ordered = true }) ≡ Ok g → AddsWord f word g
-unfolding AddsWord
-set_ordered f g word is e =
-    let set : (not f.ordered ≡ true) × (record f { ordered = true } ≡ g) = value_if_ok (not f.ordered) (record f { ordered = true }) (why.Fault fault.Duplicate) g e in
-    let was : f.ordered ≡ false = not_true f.ordered set.0 in
-    let same : word ≡ codes "ordered" = same_word word (codes "ordered") is in
-    let before : flag_words (record f { ordered = false }) ≡ flag_words f = ap (λ (b : Bool). flag_words (record f { ordered = b })) (sym was) in
-    subst (λ (h : Flags). IsPermutation (flag_words h) (flag_words f ++ word ∷ [])) set.1
-    (subst (λ (w : List ℕ). IsPermutation (flag_words (record f { ordered = true })) (flag_words f ++ w ∷ [])) (sym same)
-    (subst (λ (ws : List (List ℕ)). IsPermutation (flag_words (record f { ordered = true })) (ws ++ codes "ordered" ∷ [])) before (ordered_moved f).order))
-
-abbrev no_flag : Result Flags Why
-no_flag = Err why.BadWord
-
-absurd_flag : (g : Flags) {A : Type 0} → no_flag ≡ Ok g → A
-absurd_flag g e = cc
-
-flag_read : (f g : Flags) (word : List ℕ) → add_flag f word ≡ Ok g → AddsWord f word g
-unfolding add_flag
-flag_read f g word e =
-    elim (chosen (bytes_eq word (codes "highpri")) (set_once f.highpri (record f { highpri = true })) _ (Ok g) e) [
-      | inl it ↦ set_highpri f g word it.0 it.1
-      | inr no0 ↦ elim (chosen (bytes_eq word (codes "unbound")) (set_once f.unbound (record f { unbound = true })) _ (Ok g) no0.1) [
-        | inl it ↦ set_unbound f g word it.0 it.1
-        | inr no1 ↦ elim (chosen (bytes_eq word (codes "cpu_intensive")) (set_once f.cpu_intensive (record f { cpu_intensive = true })) _ (Ok g) no1.1) [
-          | inl it ↦ set_cpu_intensive f g word it.0 it.1
-          | inr no2 ↦ elim (chosen (bytes_eq word (codes "freezable")) (set_once f.freezable (record f { freezable = true })) _ (Ok g) no2.1) [
-            | inl it ↦ set_freezable f g word it.0 it.1
-            | inr no3 ↦ elim (chosen (bytes_eq word (codes "ordered")) (set_once f.ordered (record f { ordered = true })) _ (Ok g) no3.1) [
-              | inl it ↦ set_ordered f g word it.0 it.1
-              | inr no4 ↦ absurd_flag g no4.1
-            ]
-          ]
-        ]
-      ]
+among_adds : (before more : List FlagWord) (f g : Flags) (word : List ℕ) → AllApart before more → add_among more f word ≡ Ok g → AddsWord (before ++ more) f word g
+among_adds before [] f g word apart e = cc
+among_adds before (flag ∷ more) f g word apart e =
+    elim (chosen (bytes_eq word flag.word) (set_once (flag.has f) (flag.set f)) (add_among more f word) (Ok g) e) [
+      | inl it ↦ (let set : (not (flag.has f) ≡ true) × (flag.set f ≡ g) = value_if_ok (not (flag.has f)) (flag.set f) (why.Fault fault.Duplicate) g it.1 in
+          subst (λ (h : Flags). AddsWord (before ++ flag ∷ more) f word h) set.1
+          (subst (λ (w : List ℕ). AddsWord (before ++ flag ∷ more) f w (flag.set f)) (sym (same_word word flag.word it.0))
+          (set_adds before more flag f apart.0 apart.1 apart.2 (not_true (flag.has f) set.0))))
+      | inr other ↦ subst (λ (flags : List FlagWord). AddsWord flags f word g) (append_assoc before (flag ∷ []) more)
+          (among_adds (before ++ flag ∷ []) more f g word apart.3 other.1)
     ]
 
-pub flags_read_from : (words : List (List ℕ)) (f g : Flags) → flags_at words f ≡ Ok g → IsPermutation (flag_words g) (flag_words f ++ words)
+flag_adds : (f g : Flags) (word : List ℕ) → add_flag f word ≡ Ok g → AddsWord flag_table f word g
+unfolding add_flag
+flag_adds f g word e = among_adds [] flag_table f g word flags_apart e
+
+-- the flags with these words too are those, but for the order
+abbrev Added : Flags → List (List ℕ) → Flags → Type 0
+Added f words g = IsPermutation (words_set flag_table g) (words_set flag_table f ++ words)
+
+added_read : (words : List (List ℕ)) (f g : Flags) → flags_at words f ≡ Ok g → Added f words g
 unfolding flags_at AddsWord
-flags_read_from [] f g e =
+added_read [] f g e =
     let same : f ≡ g = cc in
-    subst (λ (h : Flags). IsPermutation (flag_words h) (flag_words f ++ [])) same
-    (subst (λ (ws : List (List ℕ)). IsPermutation (flag_words f) ws) (sym (append-nil (flag_words f))) (IsPermutation-refl (flag_words f)))
-flags_read_from (word ∷ rest) f g e =
+    subst (λ (h : Flags). Added f [] h) same
+    (subst (λ (ws : List (List ℕ)). IsPermutation (words_set flag_table f) ws) (sym (append-nil (words_set flag_table f))) (IsPermutation-refl (words_set flag_table f)))
+added_read (word ∷ rest) f g e =
+    let old : List (List ℕ) = words_set flag_table f in
     let there : (h : Flags) × (add_flag f word ≡ Ok h) × (flags_at rest h ≡ Ok g) = bind_ok (add_flag f word) (flags_at rest) g e in
-    let here : IsPermutation (flag_words there.0) (flag_words f ++ word ∷ []) = flag_read f there.0 word there.1 in
-    let later : IsPermutation (flag_words g) (flag_words there.0 ++ rest) = flags_read_from rest there.0 g there.2 in
-    let joined : IsPermutation (flag_words there.0 ++ rest) ((flag_words f ++ word ∷ []) ++ rest) =
-    IsPermutation-append_left rest (flag_words there.0) (flag_words f ++ word ∷ []) here in
-    subst (λ (ws : List (List ℕ)). IsPermutation (flag_words g) ws) (append_assoc (flag_words f) (word ∷ []) rest)
-    (IsPermutation-trans (flag_words g) (flag_words there.0 ++ rest) ((flag_words f ++ word ∷ []) ++ rest) later joined)
+    let between : List (List ℕ) = words_set flag_table there.0 in
+    subst (λ (ws : List (List ℕ)). IsPermutation (words_set flag_table g) ws) (append_assoc old (word ∷ []) rest)
+    (IsPermutation-trans (words_set flag_table g) (between ++ rest) ((old ++ word ∷ []) ++ rest) (added_read rest there.0 g there.2)
+    (IsPermutation-append_left rest between (old ++ word ∷ []) (flag_adds f there.0 word there.1)))
 
 pub flags_read : (words : List (List ℕ)) (g : Flags) → flags_at words plain_flags ≡ Ok g → IsPermutation (flag_words g) words
-flags_read words g e = flags_read_from words plain_flags g e
+flags_read words g e = subst (λ (ws : List (List ℕ)). IsPermutation ws words) (sym (flag_words_are g)) (added_read words plain_flags g e)
 
--- Again: each flag stands as often in the words as in the flags.
+-- Again: a flag's word stands once among the words of flags where it is set, and else not.
 
-bit : Bool → ℕ
-bit b = cond b 1 0
+-- how often the word stands there
+abbrev how_often : List ℕ → List (List ℕ) → ℕ
+how_often word words = sum_by (λ other. one_if (bytes_eq word other)) words
 
-weight : List ℕ → List ℕ → ℕ
-weight x word = cond (bytes_eq word x) 1 0
+-- a number that counts where the test holds
+abbrev number_if : Bool → ℕ → ℕ
+number_if b n = cond b n 0
 
-abbrev is_flag : List ℕ → Bool
-is_flag word =
-    bytes_eq word (codes "highpri") || bytes_eq word (codes "unbound") || bytes_eq word (codes "cpu_intensive") || bytes_eq word (codes "freezable") || bytes_eq word (codes "ordered")
+often_if : (word other : List ℕ) (b : Bool) → how_often word (word_if b other) ≡ number_if b (one_if (bytes_eq word other))
+often_if word other true = sum_by-cons (λ x. one_if (bytes_eq word x)) other [] ∙ omega arith
+often_if word other false = refl
 
-other : List ℕ → ℕ
-other word = cond (is_flag word) 0 1
+none_if : (b : Bool) → number_if b 0 ≡ 0
+none_if true = refl
+none_if false = refl
 
-count : (List ℕ → ℕ) → List (List ℕ) → ℕ
-count of [] = 0
-count of (word ∷ words) = of word + count of words
+none_of : (word : List ℕ) (flags : List FlagWord) (f : Flags) → AllByRecursion (λ flag. bytes_eq word flag.word ≡ false) flags → how_often word (words_set flags f) ≡ 0
+none_of word [] f differ = refl
+none_of word (flag ∷ more) f differ =
+    let b : Bool = flag.has f in
+    let both : how_often word (word_if b flag.word ++ words_set more f) ≡ how_often word (word_if b flag.word) + how_often word (words_set more f) =
+    sum_by-append (λ other. one_if (bytes_eq word other)) (word_if b flag.word) (words_set more f) in
+    let here : how_often word (word_if b flag.word) ≡ 0 = often_if word flag.word b ∙ ap (λ (c : Bool). number_if b (one_if c)) differ.0 ∙ none_if b in
+    let later : how_often word (words_set more f) ≡ 0 = none_of word more f differ.1 in
+    omega arith
 
-count_is : (of : List ℕ → ℕ) (words : List (List ℕ)) → count of words ≡ sum_by of words
-unfolding count
-count_is of [] = refl
-count_is of (word ∷ words) = ap (λ (n : ℕ). of word + n) (count_is of words) ∙ sym (sum_by-cons of word words)
+differ_of : (flag : FlagWord) (others : List FlagWord) → AllByRecursion (Apart flag) others → AllByRecursion (λ other. bytes_eq flag.word other.word ≡ false) others
+differ_of flag [] apart = tt
+differ_of flag (other ∷ others) apart = (apart.0.1, differ_of flag others apart.1)
 
-count_permuted : (of : List ℕ → ℕ) (words other_words : List (List ℕ)) → IsPermutation words other_words → count of other_words ≡ count of words
-count_permuted of words other_words h = count_is of other_words ∙ sum_by-IsPermutation of words other_words h ∙ sym (count_is of words)
+often_of : (front back : List FlagWord) (flag : FlagWord) (f : Flags) → AllByRecursion (Apart flag) front → AllByRecursion (Apart flag) back
+    → how_often flag.word (words_set (front ++ flag ∷ back) f) ≡ one_if (flag.has f)
+often_of front back flag f before behind =
+    let b : Bool = flag.has f in
+    let whole : how_often flag.word (words_set (front ++ flag ∷ back) f) ≡ how_often flag.word (words_set front f ++ (word_if b flag.word ++ words_set back f)) =
+    ap (how_often flag.word) (words_both front (flag ∷ back) f) in
+    let first : how_often flag.word (words_set front f ++ (word_if b flag.word ++ words_set back f))
+            ≡ how_often flag.word (words_set front f) + how_often flag.word (word_if b flag.word ++ words_set back f) =
+    sum_by-append (λ other. one_if (bytes_eq flag.word other)) (words_set front f) (word_if b flag.word ++ words_set back f) in
+    let second : how_often flag.word (word_if b flag.word ++ words_set back f) ≡ how_often flag.word (word_if b flag.word) + how_often flag.word (words_set back f) =
+    sum_by-append (λ other. one_if (bytes_eq flag.word other)) (word_if b flag.word) (words_set back f) in
+    let none_before : how_often flag.word (words_set front f) ≡ 0 = none_of flag.word front f (differ_of flag front before) in
+    let none_behind : how_often flag.word (words_set back f) ≡ 0 = none_of flag.word back f (differ_of flag back behind) in
+    let here : how_often flag.word (word_if b flag.word) ≡ one_if b = often_if flag.word flag.word b ∙ ap (λ (c : Bool). number_if b (one_if c)) (word_is flag.word flag.word refl) in
+    omega arith
 
-record Tally (words : List (List ℕ)) (f g : Flags) : Type 0 where
-  highpri : bit f.highpri + count (weight (codes "highpri")) words ≡ bit g.highpri
-  unbound : bit f.unbound + count (weight (codes "unbound")) words ≡ bit g.unbound
-  cpu_intensive : bit f.cpu_intensive + count (weight (codes "cpu_intensive")) words ≡ bit g.cpu_intensive
-  freezable : bit f.freezable + count (weight (codes "freezable")) words ≡ bit g.freezable
-  ordered : bit f.ordered + count (weight (codes "ordered")) words ≡ bit g.ordered
-  others : count other words ≡ 0
+-- what is added counts
+added_often : (flags : List FlagWord) (x word : List ℕ) (rest : List (List ℕ)) (f g : Flags) → IsPermutation (words_set flags g) (words_set flags f ++ word ∷ rest)
+    → how_often x (words_set flags g) ≡ how_often x (words_set flags f) + (one_if (bytes_eq x word) + how_often x rest)
+added_often flags x word rest f g added =
+    sym (sum_by-IsPermutation (λ other. one_if (bytes_eq x other)) (words_set flags g) (words_set flags f ++ word ∷ rest) added)
+    ∙ sum_by-append (λ other. one_if (bytes_eq x other)) (words_set flags f) (word ∷ rest)
+    ∙ ap (λ (n : ℕ). how_often x (words_set flags f) + n) (sum_by-cons (λ other. one_if (bytes_eq x other)) word rest)
 
-bit_at_most_one : (b : Bool) → bit b ≤ 1
-unfolding bit
-bit_at_most_one true = omega arith
-bit_at_most_one false = omega arith
+unset : (b c : Bool) (n : ℕ) → one_if c ≡ one_if b + (1 + n) → b ≡ false
+unset false c n e = refl
+unset true true n e = absurd (omega arith)
+unset true false n e = absurd (omega arith)
 
-same_bit : (a b : Bool) → bit a ≡ bit b → a ≡ b
-unfolding bit
+same_bit : (a b : Bool) → one_if a ≡ one_if b → a ≡ b
 same_bit true true e = refl
 same_bit true false e = absurd (omega arith)
 same_bit false true e = absurd (omega arith)
 same_bit false false e = refl
 
-unset : (b : Bool) (n m : ℕ) → bit b + suc n ≡ m → m ≤ 1 → b ≡ false
-unfolding bit
-unset true n m e small = absurd (omega arith)
-unset false n m e small = refl
-
-abbrev flags_of : Bool → Bool → Bool → Bool → Bool → Flags
-flags_of a b c d e = record { highpri = a; unbound = b; cpu_intensive = c; freezable = d; ordered = e }
-
-same_flags : (f g : Flags) → f.highpri ≡ g.highpri → f.unbound ≡ g.unbound → f.cpu_intensive ≡ g.cpu_intensive → f.freezable ≡ g.freezable → f.ordered ≡ g.ordered → f ≡ g
-same_flags f g highpri unbound cpu_intensive freezable ordered =
-    ap (λ (x : Bool). (flags_of x f.unbound f.cpu_intensive f.freezable f.ordered)) highpri
-    ∙ ap (λ (x : Bool). (flags_of g.highpri x f.cpu_intensive f.freezable f.ordered)) unbound
-    ∙ ap (λ (x : Bool). (flags_of g.highpri g.unbound x f.freezable f.ordered)) cpu_intensive
-    ∙ ap (λ (x : Bool). (flags_of g.highpri g.unbound g.cpu_intensive x f.ordered)) freezable
-    ∙ ap (λ (x : Bool). (flags_of g.highpri g.unbound g.cpu_intensive g.freezable x)) ordered
-
-add_highpri : (f : Flags) (word : List ℕ) → word ≡ codes "highpri" → f.highpri ≡ false → add_flag f word ≡ Ok (record f { highpri = true })
-unfolding add_flag
-add_highpri f word is was = ap (add_flag f) is ∙ value_if_at (not f.highpri) (record f { highpri = true }) (why.Fault fault.Duplicate) (ap not was)
-
-tally_highpri : (word : List ℕ) (words : List (List ℕ)) (f g : Flags) → word ≡ codes "highpri" → Tally (word ∷ words) f g
-    → (f.highpri ≡ false) × Tally words (record f { highpri = true }) g
-unfolding count bit weight other
-tally_highpri word words f g is t =
-    let at_highpri : weight (codes "highpri") word ≡ 1 = ap (weight (codes "highpri")) is in
-    let at_unbound : weight (codes "unbound") word ≡ 0 = ap (weight (codes "unbound")) is in
-    let at_cpu_intensive : weight (codes "cpu_intensive") word ≡ 0 = ap (weight (codes "cpu_intensive")) is in
-    let at_freezable : weight (codes "freezable") word ≡ 0 = ap (weight (codes "freezable")) is in
-    let at_ordered : weight (codes "ordered") word ≡ 0 = ap (weight (codes "ordered")) is in
-    let at_other : other word ≡ 0 = ap other is in
-    let was : f.highpri ≡ false = unset f.highpri (count (weight (codes "highpri")) words) (bit g.highpri) (omega (arith, t.highpri)) (bit_at_most_one g.highpri) in
-    let was_bit : bit f.highpri ≡ 0 = ap bit was in (
-      was,
-      record {
-        highpri = omega (arith, t.highpri);
-        unbound = omega (arith, t.unbound);
-        cpu_intensive = omega (arith, t.cpu_intensive);
-        freezable = omega (arith, t.freezable);
-        ordered = omega (arith, t.ordered);
-        others = omega (arith, t.others);
-      },
-    )
-
-add_unbound : (f : Flags) (word : List ℕ) → word ≡ codes "unbound" → f.unbound ≡ false → add_flag f word ≡ Ok (record f { unbound = true })
-unfolding add_flag
-add_unbound f word is was = ap (add_flag f) is ∙ value_if_at (not f.unbound) (record f { unbound = true }) (why.Fault fault.Duplicate) (ap not was)
-
-tally_unbound : (word : List ℕ) (words : List (List ℕ)) (f g : Flags) → word ≡ codes "unbound" → Tally (word ∷ words) f g
-    → (f.unbound ≡ false) × Tally words (record f { unbound = true }) g
-unfolding count bit weight other
-tally_unbound word words f g is t =
-    let at_highpri : weight (codes "highpri") word ≡ 0 = ap (weight (codes "highpri")) is in
-    let at_unbound : weight (codes "unbound") word ≡ 1 = ap (weight (codes "unbound")) is in
-    let at_cpu_intensive : weight (codes "cpu_intensive") word ≡ 0 = ap (weight (codes "cpu_intensive")) is in
-    let at_freezable : weight (codes "freezable") word ≡ 0 = ap (weight (codes "freezable")) is in
-    let at_ordered : weight (codes "ordered") word ≡ 0 = ap (weight (codes "ordered")) is in
-    let at_other : other word ≡ 0 = ap other is in
-    let was : f.unbound ≡ false = unset f.unbound (count (weight (codes "unbound")) words) (bit g.unbound) (omega (arith, t.unbound)) (bit_at_most_one g.unbound) in
-    let was_bit : bit f.unbound ≡ 0 = ap bit was in (
-      was,
-      record {
-        highpri = omega (arith, t.highpri);
-        unbound = omega (arith, t.unbound);
-        cpu_intensive = omega (arith, t.cpu_intensive);
-        freezable = omega (arith, t.freezable);
-        ordered = omega (arith, t.ordered);
-        others = omega (arith, t.others);
-      },
-    )
-
-add_cpu_intensive : (f : Flags) (word : List ℕ) → word ≡ codes "cpu_intensive" → f.cpu_intensive ≡ false → add_flag f word ≡ Ok (record f { cpu_intensive = true })
-unfolding add_flag
-add_cpu_intensive f word is was = ap (add_flag f) is ∙ value_if_at (not f.cpu_intensive) (record f { cpu_intensive = true }) (why.Fault fault.Duplicate) (ap not was)
-
-tally_cpu_intensive : (word : List ℕ) (words : List (List ℕ)) (f g : Flags) → word ≡ codes "cpu_intensive" → Tally (word ∷ words) f g
-    → (f.cpu_intensive ≡ false) × Tally words (record f { cpu_intensive = true }) g
-unfolding count bit weight other
-tally_cpu_intensive word words f g is t =
-    let at_highpri : weight (codes "highpri") word ≡ 0 = ap (weight (codes "highpri")) is in
-    let at_unbound : weight (codes "unbound") word ≡ 0 = ap (weight (codes "unbound")) is in
-    let at_cpu_intensive : weight (codes "cpu_intensive") word ≡ 1 = ap (weight (codes "cpu_intensive")) is in
-    let at_freezable : weight (codes "freezable") word ≡ 0 = ap (weight (codes "freezable")) is in
-    let at_ordered : weight (codes "ordered") word ≡ 0 = ap (weight (codes "ordered")) is in
-    let at_other : other word ≡ 0 = ap other is in
-    let was : f.cpu_intensive ≡ false =
-    unset f.cpu_intensive (count (weight (codes "cpu_intensive")) words) (bit g.cpu_intensive) (omega (arith, t.cpu_intensive)) (bit_at_most_one g.cpu_intensive) in
-    let was_bit : bit f.cpu_intensive ≡ 0 = ap bit was in (
-      was,
-      record {
-        highpri = omega (arith, t.highpri);
-        unbound = omega (arith, t.unbound);
-        cpu_intensive = omega (arith, t.cpu_intensive);
-        freezable = omega (arith, t.freezable);
-        ordered = omega (arith, t.ordered);
-        others = omega (arith, t.others);
-      },
-    )
-
-add_freezable : (f : Flags) (word : List ℕ) → word ≡ codes "freezable" → f.freezable ≡ false → add_flag f word ≡ Ok (record f { freezable = true })
-unfolding add_flag
-add_freezable f word is was = ap (add_flag f) is ∙ value_if_at (not f.freezable) (record f { freezable = true }) (why.Fault fault.Duplicate) (ap not was)
-
-tally_freezable : (word : List ℕ) (words : List (List ℕ)) (f g : Flags) → word ≡ codes "freezable" → Tally (word ∷ words) f g
-    → (f.freezable ≡ false) × Tally words (record f { freezable = true }) g
-unfolding count bit weight other
-tally_freezable word words f g is t =
-    let at_highpri : weight (codes "highpri") word ≡ 0 = ap (weight (codes "highpri")) is in
-    let at_unbound : weight (codes "unbound") word ≡ 0 = ap (weight (codes "unbound")) is in
-    let at_cpu_intensive : weight (codes "cpu_intensive") word ≡ 0 = ap (weight (codes "cpu_intensive")) is in
-    let at_freezable : weight (codes "freezable") word ≡ 1 = ap (weight (codes "freezable")) is in
-    let at_ordered : weight (codes "ordered") word ≡ 0 = ap (weight (codes "ordered")) is in
-    let at_other : other word ≡ 0 = ap other is in
-    let was : f.freezable ≡ false =
-    unset f.freezable (count (weight (codes "freezable")) words) (bit g.freezable) (omega (arith, t.freezable)) (bit_at_most_one g.freezable) in
-    let was_bit : bit f.freezable ≡ 0 = ap bit was in (
-      was,
-      record {
-        highpri = omega (arith, t.highpri);
-        unbound = omega (arith, t.unbound);
-        cpu_intensive = omega (arith, t.cpu_intensive);
-        freezable = omega (arith, t.freezable);
-        ordered = omega (arith, t.ordered);
-        others = omega (arith, t.others);
-      },
-    )
-
-add_ordered : (f : Flags) (word : List ℕ) → word ≡ codes "ordered" → f.ordered ≡ false → add_flag f word ≡ Ok (record f { ordered = true })
-unfolding add_flag
-add_ordered f word is was = ap (add_flag f) is ∙ value_if_at (not f.ordered) (record f { ordered = true }) (why.Fault fault.Duplicate) (ap not was)
-
-tally_ordered : (word : List ℕ) (words : List (List ℕ)) (f g : Flags) → word ≡ codes "ordered" → Tally (word ∷ words) f g
-    → (f.ordered ≡ false) × Tally words (record f { ordered = true }) g
-unfolding count bit weight other
-tally_ordered word words f g is t =
-    let at_highpri : weight (codes "highpri") word ≡ 0 = ap (weight (codes "highpri")) is in
-    let at_unbound : weight (codes "unbound") word ≡ 0 = ap (weight (codes "unbound")) is in
-    let at_cpu_intensive : weight (codes "cpu_intensive") word ≡ 0 = ap (weight (codes "cpu_intensive")) is in
-    let at_freezable : weight (codes "freezable") word ≡ 0 = ap (weight (codes "freezable")) is in
-    let at_ordered : weight (codes "ordered") word ≡ 1 = ap (weight (codes "ordered")) is in
-    let at_other : other word ≡ 0 = ap other is in
-    let was : f.ordered ≡ false = unset f.ordered (count (weight (codes "ordered")) words) (bit g.ordered) (omega (arith, t.ordered)) (bit_at_most_one g.ordered) in
-    let was_bit : bit f.ordered ≡ 0 = ap bit was in (
-      was,
-      record {
-        highpri = omega (arith, t.highpri);
-        unbound = omega (arith, t.unbound);
-        cpu_intensive = omega (arith, t.cpu_intensive);
-        freezable = omega (arith, t.freezable);
-        ordered = omega (arith, t.ordered);
-        others = omega (arith, t.others);
-      },
-    )
-
-not_other : (word : List ℕ) (words : List (List ℕ)) (f g : Flags) → bytes_eq word (codes "highpri") ≡ false → bytes_eq word (codes "unbound") ≡ false
-    → bytes_eq word (codes "cpu_intensive") ≡ false → bytes_eq word (codes "freezable") ≡ false → bytes_eq word (codes "ordered") ≡ false → Tally (word ∷ words) f g → ⊥
-unfolding count other
-not_other word words f g no0 no1 no2 no3 no4 t =
-    let none : is_flag word ≡ false =
-    all_no (bytes_eq word (codes "highpri")) (bytes_eq word (codes "unbound")) (bytes_eq word (codes "cpu_intensive")) (bytes_eq word (codes "freezable")) (bytes_eq word (codes "ordered")) no0 no1 no2 no3 no4 in
-    let one : other word ≡ 1 = ap (λ (b : Bool). cond b 0 1) none in
-    omega (arith, t.others)
-  where
-    all_no : (a b c d e : Bool) → a ≡ false → b ≡ false → c ≡ false → d ≡ false → e ≡ false → (a || b || c || d || e) ≡ false
-    all_no a b c d e p q r s t = cc
-
-flags_again_from : (words : List (List ℕ)) (f g : Flags) → Tally words f g → flags_at words f ≡ Ok g
-unfolding flags_at count
-flags_again_from [] f g t =
-    ap Ok (same_flags f g (same_bit f.highpri g.highpri (omega (arith, t.highpri))) (same_bit f.unbound g.unbound (omega (arith, t.unbound))) (same_bit f.cpu_intensive g.cpu_intensive (omega (arith, t.cpu_intensive))) (same_bit f.freezable g.freezable (omega (arith, t.freezable))) (same_bit f.ordered g.ordered (omega (arith, t.ordered))))
-flags_again_from (word ∷ words) f g t =
-    elim (either (bytes_eq word (codes "highpri"))) [
-      | inl it ↦ (let is : word ≡ codes "highpri" = same_word word (codes "highpri") it in
-          let told : (f.highpri ≡ false) × Tally words (record f { highpri = true }) g = tally_highpri word words f g is t in
-          bind_at (add_flag f word) (flags_at words) (record f { highpri = true }) (add_highpri f word is told.0)
-          ∙ flags_again_from words (record f { highpri = true }) g told.1)
-      | inr no0 ↦ elim (either (bytes_eq word (codes "unbound"))) [
-        | inl it ↦ (let is : word ≡ codes "unbound" = same_word word (codes "unbound") it in
-            let told : (f.unbound ≡ false) × Tally words (record f { unbound = true }) g = tally_unbound word words f g is t in
-            bind_at (add_flag f word) (flags_at words) (record f { unbound = true }) (add_unbound f word is told.0)
-            ∙ flags_again_from words (record f { unbound = true }) g told.1)
-        | inr no1 ↦ elim (either (bytes_eq word (codes "cpu_intensive"))) [
-          | inl it ↦ (let is : word ≡ codes "cpu_intensive" = same_word word (codes "cpu_intensive") it in
-              let told : (f.cpu_intensive ≡ false) × Tally words (record f { cpu_intensive = true }) g = tally_cpu_intensive word words f g is t in
-              bind_at (add_flag f word) (flags_at words) (record f { cpu_intensive = true }) (add_cpu_intensive f word is told.0)
-              ∙ flags_again_from words (record f { cpu_intensive = true }) g told.1)
-          | inr no2 ↦ elim (either (bytes_eq word (codes "freezable"))) [
-            | inl it ↦ (let is : word ≡ codes "freezable" = same_word word (codes "freezable") it in
-                let told : (f.freezable ≡ false) × Tally words (record f { freezable = true }) g = tally_freezable word words f g is t in
-                bind_at (add_flag f word) (flags_at words) (record f { freezable = true }) (add_freezable f word is told.0)
-                ∙ flags_again_from words (record f { freezable = true }) g told.1)
-            | inr no3 ↦ elim (either (bytes_eq word (codes "ordered"))) [
-              | inl it ↦ (let is : word ≡ codes "ordered" = same_word word (codes "ordered") it in
-                  let told : (f.ordered ≡ false) × Tally words (record f { ordered = true }) g = tally_ordered word words f g is t in
-                  bind_at (add_flag f word) (flags_at words) (record f { ordered = true }) (add_ordered f word is told.0)
-                  ∙ flags_again_from words (record f { ordered = true }) g told.1)
-              | inr no4 ↦ absurd (not_other word words f g no0 no1 no2 no3 no4 t)
-            ]
-          ]
-        ]
-      ]
+-- the word of a flag that is still to be added is one, and the flag isn't set
+among_again : (before more : List FlagWord) (f g : Flags) (word : List ℕ) (rest : List (List ℕ)) → AllApart before more
+    → AllByRecursion (λ flag. bytes_eq word flag.word ≡ false) before → IsPermutation (words_set (before ++ more) g) (words_set (before ++ more) f ++ word ∷ rest)
+    → (h : Flags) × (add_among more f word ≡ Ok h)
+among_again before [] f g word rest apart differ added =
+    let flags : List FlagWord = before ++ [] in
+    let all : AllByRecursion (λ flag. bytes_eq word flag.word ≡ false) flags = subst (AllByRecursion (λ flag. bytes_eq word flag.word ≡ false)) (sym (append-nil before)) differ in
+    let none : how_often word (words_set flags g) ≡ 0 = none_of word flags g all in
+    let count = added_often flags word word rest f g added in
+    let one : one_if (bytes_eq word word) ≡ 1 = ap one_if (word_is word word refl) in
+    absurd (omega arith)
+among_again before (flag ∷ more) f g word rest apart differ added =
+    elim (either (bytes_eq word flag.word)) [
+      | inl it ↦ (
+        let flags : List FlagWord = before ++ flag ∷ more in
+        let count = added_often flags flag.word word rest f g added in
+        let one : one_if (bytes_eq flag.word word) ≡ 1 = ap one_if (word_is flag.word word (sym (same_word word flag.word it))) in
+        let new : how_often flag.word (words_set flags g) ≡ one_if (flag.has g) = often_of before more flag g apart.1 apart.2 in
+        let old : how_often flag.word (words_set flags f) ≡ one_if (flag.has f) = often_of before more flag f apart.1 apart.2 in
+        let was : flag.has f ≡ false = unset (flag.has f) (flag.has g) (how_often flag.word rest) (omega arith) in
+        (flag.set f, cond_yes (bytes_eq word flag.word) (set_once (flag.has f) (flag.set f)) (add_among more f word) it ∙ value_if_at (not (flag.has f)) (flag.set f) (why.Fault fault.Duplicate) (ap not was)))
+      | inr other ↦ (
+        let later = among_again (before ++ flag ∷ []) more f g word rest apart.3 (differ_more before differ other)
+            (subst (λ (flags : List FlagWord). IsPermutation (words_set flags g) (words_set flags f ++ word ∷ rest)) (sym (append_assoc before (flag ∷ []) more)) added) in
+        (later.0, cond_no (bytes_eq word flag.word) (set_once (flag.has f) (flag.set f)) (add_among more f word) other ∙ later.1))
     ]
+  where
+    differ_more : (flags : List FlagWord) → AllByRecursion (λ x. bytes_eq word x.word ≡ false) flags → bytes_eq word flag.word ≡ false → AllByRecursion (λ x. bytes_eq word x.word ≡ false) (flags ++ flag ∷ [])
+    differ_more [] all here = (here, tt)
+    differ_more (x ∷ flags) all here = (all.0, differ_more flags all.1 here)
 
-count_both : (of : List ℕ → ℕ) (xs ys : List (List ℕ)) → count of (xs ++ ys) ≡ count of xs + count of ys
-unfolding count
-count_both of [] ys = omega arith
-count_both of (x ∷ xs) ys = (let later : count of (xs ++ ys) ≡ count of xs + count of ys = count_both of xs ys in omega arith)
+-- flags of the same words are the same
+all_same : (before more : List FlagWord) (f g : Flags) → AllApart before more → IsPermutation (words_set (before ++ more) g) (words_set (before ++ more) f)
+    → AllByRecursion (λ flag. flag.has f ≡ flag.has g) more
+all_same before [] f g apart same = tt
+all_same before (flag ∷ more) f g apart same =
+    let flags : List FlagWord = before ++ flag ∷ more in
+    let count : how_often flag.word (words_set flags f) ≡ how_often flag.word (words_set flags g) =
+    sum_by-IsPermutation (λ other. one_if (bytes_eq flag.word other)) (words_set flags g) (words_set flags f) same in
+    let here : one_if (flag.has f) ≡ one_if (flag.has g) =
+    sym (often_of before more flag f apart.1 apart.2) ∙ count ∙ often_of before more flag g apart.1 apart.2 in (
+      same_bit (flag.has f) (flag.has g) here,
+      all_same (before ++ flag ∷ []) more f g apart.3
+          (subst (λ (all : List FlagWord). IsPermutation (words_set all g) (words_set all f)) (sym (append_assoc before (flag ∷ []) more)) same),
+    )
 
--- a number that counts where the test holds
-number_if : Bool → ℕ → ℕ
-number_if b n = cond b n 0
+same_flags : (f g : Flags) → AllByRecursion (λ flag. flag.has f ≡ flag.has g) flag_table → f ≡ g
+same_flags f g same = grind arith
 
-count_if : (of : List ℕ → ℕ) (b : Bool) (word : List ℕ) → count of (word_if b word) ≡ number_if b (of word)
-unfolding count number_if
-count_if of true word = omega arith
-count_if of false word = refl
-
-none_if : (b : Bool) → number_if b 0 ≡ 0
-unfolding number_if
-none_if true = refl
-none_if false = refl
-
--- what the words of the flags count
-counted : (of : List ℕ → ℕ) (g : Flags) → count of (flag_words g)
-    ≡ number_if g.highpri (of (codes "highpri")) + number_if g.unbound (of (codes "unbound")) + number_if g.cpu_intensive (of (codes "cpu_intensive"))
-    + number_if g.freezable (of (codes "freezable")) + number_if g.ordered (of (codes "ordered"))
-counted of g =
-    let h = highpri_word g in
-    let u = unbound_word g in
-    let i = cpu_intensive_word g in
-    let z = freezable_word g in
-    let o = ordered_word g in
-    let first : count of (h ++ u) ≡ count of h + count of u = count_both of h u in
-    let second : count of (h ++ u ++ i) ≡ count of (h ++ u) + count of i = count_both of (h ++ u) i in
-    let third : count of (h ++ u ++ i ++ z) ≡ count of (h ++ u ++ i) + count of z = count_both of (h ++ u ++ i) z in
-    let fourth : count of (h ++ u ++ i ++ z ++ o) ≡ count of (h ++ u ++ i ++ z) + count of o = count_both of (h ++ u ++ i ++ z) o in
-    let at_h : count of h ≡ number_if g.highpri (of (codes "highpri")) = count_if of g.highpri (codes "highpri") in
-    let at_u : count of u ≡ number_if g.unbound (of (codes "unbound")) = count_if of g.unbound (codes "unbound") in
-    let at_i : count of i ≡ number_if g.cpu_intensive (of (codes "cpu_intensive")) = count_if of g.cpu_intensive (codes "cpu_intensive") in
-    let at_z : count of z ≡ number_if g.freezable (of (codes "freezable")) = count_if of g.freezable (codes "freezable") in
-    let at_o : count of o ≡ number_if g.ordered (of (codes "ordered")) = count_if of g.ordered (codes "ordered") in
-    omega arith
-
-tally_of : (g : Flags) (words : List (List ℕ)) → IsPermutation (flag_words g) words → Tally words plain_flags g
-unfolding bit weight other number_if
-tally_of g words h =
-    let no_highpri : number_if g.highpri 0 ≡ 0 = none_if g.highpri in
-    let no_unbound : number_if g.unbound 0 ≡ 0 = none_if g.unbound in
-    let no_cpu_intensive : number_if g.cpu_intensive 0 ≡ 0 = none_if g.cpu_intensive in
-    let no_freezable : number_if g.freezable 0 ≡ 0 = none_if g.freezable in
-    let no_ordered : number_if g.ordered 0 ≡ 0 = none_if g.ordered in
-    record {
-      highpri =
-          (let same : count (weight (codes "highpri")) words ≡ count (weight (codes "highpri")) (flag_words g) = count_permuted (weight (codes "highpri")) (flag_words g) words h in
-          let each = counted (weight (codes "highpri")) g in
-          omega arith);
-      unbound =
-          (let same : count (weight (codes "unbound")) words ≡ count (weight (codes "unbound")) (flag_words g) = count_permuted (weight (codes "unbound")) (flag_words g) words h in
-          let each = counted (weight (codes "unbound")) g in
-          omega arith);
-      cpu_intensive =
-          (let same : count (weight (codes "cpu_intensive")) words ≡ count (weight (codes "cpu_intensive")) (flag_words g) = count_permuted (weight (codes "cpu_intensive")) (flag_words g) words h in
-          let each = counted (weight (codes "cpu_intensive")) g in
-          omega arith);
-      freezable =
-          (let same : count (weight (codes "freezable")) words ≡ count (weight (codes "freezable")) (flag_words g) = count_permuted (weight (codes "freezable")) (flag_words g) words h in
-          let each = counted (weight (codes "freezable")) g in
-          omega arith);
-      ordered =
-          (let same : count (weight (codes "ordered")) words ≡ count (weight (codes "ordered")) (flag_words g) = count_permuted (weight (codes "ordered")) (flag_words g) words h in
-          let each = counted (weight (codes "ordered")) g in
-          omega arith);
-      others =
-          (let same : count other words ≡ count other (flag_words g) = count_permuted other (flag_words g) words h in
-          let each = counted other g in
-          omega arith);
-    }
+added_again : (words : List (List ℕ)) (f g : Flags) → Added f words g → flags_at words f ≡ Ok g
+unfolding flags_at add_flag AddsWord
+added_again [] f g added =
+    ap Ok (same_flags f g (all_same [] flag_table f g flags_apart (subst (IsPermutation (words_set flag_table g)) (append-nil (words_set flag_table f)) added)))
+added_again (word ∷ rest) f g added =
+    let old : List (List ℕ) = words_set flag_table f in
+    let there = among_again [] flag_table f g word rest flags_apart tt added in
+    let between : List (List ℕ) = words_set flag_table there.0 in
+    let one : IsPermutation between (old ++ word ∷ []) = flag_adds f there.0 word there.1 in
+    let joined : IsPermutation (words_set flag_table g) ((old ++ word ∷ []) ++ rest) =
+    subst (IsPermutation (words_set flag_table g)) (sym (append_assoc old (word ∷ []) rest)) added in
+    bind_at (add_flag f word) (flags_at rest) there.0 there.1
+    ∙ added_again rest there.0 g (IsPermutation-trans (words_set flag_table g) ((old ++ word ∷ []) ++ rest) (between ++ rest) joined
+    (IsPermutation-append_left rest (old ++ word ∷ []) between (IsPermutation-sym between (old ++ word ∷ []) one)))
 
 pub flags_again : (g : Flags) (words : List (List ℕ)) → IsPermutation (flag_words g) words → flags_at words plain_flags ≡ Ok g
-flags_again g words h = flags_again_from words plain_flags g (tally_of g words h)
+flags_again g words h = added_again words plain_flags g (subst (λ (ws : List (List ℕ)). IsPermutation ws words) (flag_words_are g) h)

@@ -10,7 +10,7 @@ use Rattle.std.specs.Str.{bytes_eq}
 use Rattle.cmwq_types.specs.Contents.{ScenarioContents, WorkContents, ActorContents}
 use Rattle.cmwq_types.specs.Faults.{IsValid, actor_fault, body_fault, counts_fault, fault_if, fault_unless, first_along, fits_flags, is_body, is_finish, is_some_finish, line_fault, names_declared, numbers_fault, op_fault, or_else, queue_fault, within, work_fault}
 use Rattle.cmwq_types.specs.Name.{is_name}
-use Rattle.cmwq_types.specs.Values.{IsActor, IsLine, IsOp, IsScenario, IsWorkDecl}
+use Rattle.cmwq_types.specs.Values.{IsActor, IsOp, IsScenario, IsWorkDecl}
 use Rattle.cmwq_types.specs.declared.check.Fault.{Fault}
 use Rattle.cmwq_types.specs.declared.check.Fault.TheVariants as fault
 use Rattle.cmwq_types.specs.declared.limits.TheConstants.{MAX_ACTORS, MAX_CPUS, MAX_FLUSHES, MAX_LINES, MAX_OPS, MAX_QUEUES, MAX_STEPS, MAX_TICKS, MAX_TIMES, MAX_WORKERS, MAX_WORKS}
@@ -19,9 +19,9 @@ use Rattle.cmwq_types.specs.declared.scenario.Op.{Op}
 use Rattle.cmwq_types.specs.declared.scenario.Op.TheVariants as op
 use Rattle.cmwq_types.specs.declared.scenario.QueueDecl.{QueueDecl}
 use Rattle.cmwq_grammar.specs.Instructions.{actor_names, queue_names, work_names}
-use Rattle.cmwq_grammar.proofs.Basics.{and_true, at_most, at_most_is, below, true_and}
+use Rattle.cmwq_grammar.proofs.Basics.{one_if, and_true, at_most, at_most_is, below, true_and}
 use Rattle.cmwq_grammar.proofs.FieldLemmas.{IsNew, within_fits}
-use Rattle.cmwq_grammar.proofs.Fitting.{body_is, instr_fits, line_is, lines_fitting, queues_are, queues_named, works_named}
+use Rattle.cmwq_grammar.proofs.Fitting.{body_is, queues_are, queues_named, works_named}
 use Rattle.cmwq_grammar.proofs.InstrLemmas.{good_line}
 use Rattle.cmwq_grammar.proofs.LineLemmas.{good_op}
 use Rattle.cmwq_grammar.proofs.NameLists.{GoodNames}
@@ -116,9 +116,6 @@ last_finish (o ∷ ops) e =
     let more : take (n + 1) body ≡ take n body ++ get_or body n op.Finish ∷ [] = take_more body n op.Finish (omega arith) in
     let all : take (n + 1) body ≡ body = take_all (n + 1) body (omega arith) in
     sym all ∙ more ∙ ap (λ (x : Op). take n body ++ x ∷ []) is
-
-abbrev one_if : Bool → ℕ
-one_if b = cond b 1 0
 
 none_counted : (ops : List Op) → count_by is_finish ops ≡ 0 → list_all (λ o. not (is_finish o)) ops ≡ true
 none_counted [] e = refl
@@ -318,51 +315,36 @@ good_lines S lines = list_all (good_line S) lines
 abbrev pub good_actor : ScenarioContents → ActorContents → Bool
 good_actor S actor = leb (length actor.lines) MAX_LINES && good_lines S actor.lines
 
-line_is_good : (S : ScenarioContents) (line : Line) → line_fault S line ≡ None → instr_fits line.instr ≡ true → good_line S line ≡ true
-line_is_good S line e fits =
+line_is_good : (S : ScenarioContents) (line : Line) → line_fault S line ≡ None → good_line S line ≡ true
+line_is_good S line e =
     let both : (fault_unless (names_declared S line.instr) fault.Unknown ≡ None) × (fault_unless (within 1 MAX_TIMES line.times) fault.Range ≡ None) =
     no_first (fault_unless (names_declared S line.instr) fault.Unknown) (fault_unless (within 1 MAX_TIMES line.times) fault.Range) e in
-    true_and (names_declared S line.instr && within 1 MAX_TIMES line.times) (instr_fits line.instr)
-    (true_and (names_declared S line.instr) (within 1 MAX_TIMES line.times) (no_unless (names_declared S line.instr) fault.Unknown both.0) (no_unless (within 1 MAX_TIMES line.times) fault.Range both.1)) fits
+    true_and (names_declared S line.instr) (within 1 MAX_TIMES line.times) (no_unless (names_declared S line.instr) fault.Unknown both.0) (no_unless (within 1 MAX_TIMES line.times) fault.Range both.1)
 
-line_is_valid : (S : ScenarioContents) (line : Line) → good_line S line ≡ true → (line_fault S line ≡ None) × (instr_fits line.instr ≡ true)
+line_is_valid : (S : ScenarioContents) (line : Line) → good_line S line ≡ true → line_fault S line ≡ None
 line_is_valid S line good =
-    let parts : ((names_declared S line.instr && within 1 MAX_TIMES line.times) ≡ true) × (instr_fits line.instr ≡ true) =
-    and_true (names_declared S line.instr && within 1 MAX_TIMES line.times) (instr_fits line.instr) good in
     let tests : (names_declared S line.instr ≡ true) × (within 1 MAX_TIMES line.times ≡ true) =
-    and_true (names_declared S line.instr) (within 1 MAX_TIMES line.times) parts.0 in (
-      none_first (fault_unless (names_declared S line.instr) fault.Unknown) (fault_unless (within 1 MAX_TIMES line.times) fault.Range)
-          (unless_none (names_declared S line.instr) fault.Unknown tests.0) (unless_none (within 1 MAX_TIMES line.times) fault.Range tests.1),
-      parts.1,
-    )
+    and_true (names_declared S line.instr) (within 1 MAX_TIMES line.times) good in
+    none_first (fault_unless (names_declared S line.instr) fault.Unknown) (fault_unless (within 1 MAX_TIMES line.times) fault.Range)
+    (unless_none (names_declared S line.instr) fault.Unknown tests.0) (unless_none (within 1 MAX_TIMES line.times) fault.Range tests.1)
 
-lines_good : (S : ScenarioContents) (before lines : List Line) → first_along (λ before line. line_fault S line) before lines ≡ None
-    → list_all (λ line. instr_fits line.instr) lines ≡ true → good_lines S lines ≡ true
-lines_good S before [] e fits = refl
-lines_good S before (l ∷ lines) e fits =
+lines_good : (S : ScenarioContents) (before lines : List Line) → first_along (λ before line. line_fault S line) before lines ≡ None → good_lines S lines ≡ true
+lines_good S before [] e = refl
+lines_good S before (l ∷ lines) e =
     let first : (line_fault S l ≡ None) × (first_along (λ before line. line_fault S line) (before ++ l ∷ []) lines ≡ None) =
     no_first (line_fault S l) (first_along (λ before line. line_fault S line) (before ++ l ∷ []) lines) e in
-    let both : (instr_fits l.instr ≡ true) × (list_all (λ line. instr_fits line.instr) lines ≡ true) =
-    and_true (instr_fits l.instr) (list_all (λ line. instr_fits line.instr) lines) fits in
-    true_and (good_line S l) (good_lines S lines) (line_is_good S l first.0 both.0) (lines_good S (before ++ l ∷ []) lines first.1 both.1)
+    true_and (good_line S l) (good_lines S lines) (line_is_good S l first.0) (lines_good S (before ++ l ∷ []) lines first.1)
 
-lines_valid : (S : ScenarioContents) (before lines : List Line) → good_lines S lines ≡ true
-    → (first_along (λ before line. line_fault S line) before lines ≡ None) × (list_all (λ line. instr_fits line.instr) lines ≡ true)
-lines_valid S before [] good = (refl, refl)
+lines_valid : (S : ScenarioContents) (before lines : List Line) → good_lines S lines ≡ true → first_along (λ before line. line_fault S line) before lines ≡ None
+lines_valid S before [] good = refl
 lines_valid S before (l ∷ lines) good =
     let both : (good_line S l ≡ true) × (good_lines S lines ≡ true) = and_true (good_line S l) (good_lines S lines) good in
-    let here : (line_fault S l ≡ None) × (instr_fits l.instr ≡ true) = line_is_valid S l both.0 in
-    let later : (first_along (λ before line. line_fault S line) (before ++ l ∷ []) lines ≡ None) × (list_all (λ line. instr_fits line.instr) lines ≡ true) =
-    lines_valid S (before ++ l ∷ []) lines both.1 in
-    (none_first (line_fault S l) (first_along (λ before line. line_fault S line) (before ++ l ∷ []) lines) here.0 later.0, true_and (instr_fits l.instr) (list_all (λ line. instr_fits line.instr) lines) here.1 later.1)
+    none_first (line_fault S l) (first_along (λ before line. line_fault S line) (before ++ l ∷ []) lines) (line_is_valid S l both.0) (lines_valid S (before ++ l ∷ []) lines both.1)
 
-abbrev fits_actor : ActorContents → Bool
-fits_actor actor = is_name actor.name && list_all (λ line. instr_fits line.instr) actor.lines
-
-actors_good : (S : ScenarioContents) (before actors : List ActorContents) → first_along (actor_fault S) before actors ≡ None → list_all fits_actor actors ≡ true
+actors_good : (S : ScenarioContents) (before actors : List ActorContents) → first_along (actor_fault S) before actors ≡ None → AllByRecursion IsActor actors
     → GoodNames (map (λ actor. actor.name) before) (map (λ actor. actor.name) actors) × (list_all (good_actor S) actors ≡ true)
-actors_good S before [] e fits = (tt, refl)
-actors_good S before (a ∷ actors) e fits =
+actors_good S before [] e are = (tt, refl)
+actors_good S before (a ∷ actors) e are =
     let along = first_along (λ before line. line_fault S line) [] a.lines in
     let first : (actor_fault S before a ≡ None) × (first_along (actor_fault S) (before ++ a ∷ []) actors ≡ None) =
     no_first (actor_fault S before a) (first_along (actor_fault S) (before ++ a ∷ []) actors) e in
@@ -370,68 +352,34 @@ actors_good S before (a ∷ actors) e fits =
     no_first (fault_if (list_any (λ other. bytes_eq other.name a.name) before) fault.Duplicate) (or_else (fault_unless (leb (length a.lines) MAX_LINES) fault.TooMany) along) first.0 in
     let few : (fault_unless (leb (length a.lines) MAX_LINES) fault.TooMany ≡ None) × (along ≡ None) =
     no_first (fault_unless (leb (length a.lines) MAX_LINES) fault.TooMany) along here.1 in
-    let both : (fits_actor a ≡ true) × (list_all fits_actor actors ≡ true) = and_true (fits_actor a) (list_all fits_actor actors) fits in
-    let named : (is_name a.name ≡ true) × (list_all (λ line. instr_fits line.instr) a.lines ≡ true) =
-    and_true (is_name a.name) (list_all (λ line. instr_fits line.instr) a.lines) both.0 in
-    let later = actors_good S (before ++ a ∷ []) actors first.1 both.1 in
+    let later = actors_good S (before ++ a ∷ []) actors first.1 are.1 in
     let new : IsNew (map (λ actor. actor.name) before) a.name =
     any_of_map (λ (actor : ActorContents). actor.name) (λ other. bytes_eq other a.name) before
     ∙ no_if (list_any (λ other. bytes_eq other.name a.name) before) fault.Duplicate here.0 in
     let joined : map (λ (actor : ActorContents). actor.name) (before ++ a ∷ []) ≡ map (λ actor. actor.name) before ++ a.name ∷ [] =
     map-append (λ actor. actor.name) before (a ∷ []) in (
-      (new, named.0, subst (λ (ns : List (List ℕ)). GoodNames ns (map (λ actor. actor.name) actors)) joined later.0),
+      (new, are.0.name, subst (λ (ns : List (List ℕ)). GoodNames ns (map (λ actor. actor.name) actors)) joined later.0),
       true_and (good_actor S a) (list_all (good_actor S) actors)
-          (true_and (leb (length a.lines) MAX_LINES) (good_lines S a.lines) (no_unless (leb (length a.lines) MAX_LINES) fault.TooMany few.0) (lines_good S [] a.lines few.1 named.1)) later.1,
+          (true_and (leb (length a.lines) MAX_LINES) (good_lines S a.lines) (no_unless (leb (length a.lines) MAX_LINES) fault.TooMany few.0) (lines_good S [] a.lines few.1)) later.1,
     )
 
 actors_valid : (S : ScenarioContents) (before actors : List ActorContents) → GoodNames (map (λ actor. actor.name) before) (map (λ actor. actor.name) actors)
-    → list_all (good_actor S) actors ≡ true
-    → (first_along (actor_fault S) before actors ≡ None) × (list_all fits_actor actors ≡ true)
-actors_valid S before [] names good = (refl, refl)
+    → list_all (good_actor S) actors ≡ true → first_along (actor_fault S) before actors ≡ None
+actors_valid S before [] names good = refl
 actors_valid S before (a ∷ actors) names good =
     let along = first_along (λ before line. line_fault S line) [] a.lines in
     let both : (good_actor S a ≡ true) × (list_all (good_actor S) actors ≡ true) = and_true (good_actor S a) (list_all (good_actor S) actors) good in
     let here : (leb (length a.lines) MAX_LINES ≡ true) × (good_lines S a.lines ≡ true) = and_true (leb (length a.lines) MAX_LINES) (good_lines S a.lines) both.0 in
     let joined : map (λ (actor : ActorContents). actor.name) (before ++ a ∷ []) ≡ map (λ actor. actor.name) before ++ a.name ∷ [] =
     map-append (λ actor. actor.name) before (a ∷ []) in
-    let later : (first_along (actor_fault S) (before ++ a ∷ []) actors ≡ None) × (list_all fits_actor actors ≡ true) =
+    let later : first_along (actor_fault S) (before ++ a ∷ []) actors ≡ None =
     actors_valid S (before ++ a ∷ []) actors (subst (λ (ns : List (List ℕ)). GoodNames ns (map (λ actor. actor.name) actors)) (sym joined) names.2) both.1 in
     let new : list_any (λ other. bytes_eq other.name a.name) before ≡ false =
     sym (any_of_map (λ (actor : ActorContents). actor.name) (λ other. bytes_eq other a.name) before) ∙ names.0 in
-    let lines : (along ≡ None) × (list_all (λ line. instr_fits line.instr) a.lines ≡ true) = lines_valid S [] a.lines here.1 in (
-      none_first (actor_fault S before a) (first_along (actor_fault S) (before ++ a ∷ []) actors)
-          (none_first (fault_if (list_any (λ other. bytes_eq other.name a.name) before) fault.Duplicate) (or_else (fault_unless (leb (length a.lines) MAX_LINES) fault.TooMany) along)
-          (if_none (list_any (λ other. bytes_eq other.name a.name) before) fault.Duplicate new)
-          (none_first (fault_unless (leb (length a.lines) MAX_LINES) fault.TooMany) along (unless_none (leb (length a.lines) MAX_LINES) fault.TooMany here.0) lines.0)) later.0,
-      true_and (fits_actor a) (list_all fits_actor actors) (true_and (is_name a.name) (list_all (λ line. instr_fits line.instr) a.lines) names.1 lines.1) later.1,
-    )
-
-lines_are : (S : ScenarioContents) (lines : List Line) → length S.works ≤ MAX_WORKS → length S.queues ≤ MAX_QUEUES → good_lines S lines ≡ true → AllByRecursion IsLine lines
-lines_are S [] works queues good = tt
-lines_are S (l ∷ lines) works queues good =
-    let both : (good_line S l ≡ true) × (good_lines S lines ≡ true) = and_true (good_line S l) (good_lines S lines) good in
-    let parts : ((names_declared S l.instr && within 1 MAX_TIMES l.times) ≡ true) × (instr_fits l.instr ≡ true) =
-    and_true (names_declared S l.instr && within 1 MAX_TIMES l.times) (instr_fits l.instr) both.0 in
-    let tests : (names_declared S l.instr ≡ true) × (within 1 MAX_TIMES l.times ≡ true) =
-    and_true (names_declared S l.instr) (within 1 MAX_TIMES l.times) parts.0 in
-    (line_is S l works queues tests.0 tests.1 parts.1, lines_are S lines works queues both.1)
-
-actors_are : (S : ScenarioContents) (actors : List ActorContents) → length S.works ≤ MAX_WORKS → length S.queues ≤ MAX_QUEUES
-    → list_all fits_actor actors ≡ true → list_all (good_actor S) actors ≡ true → AllByRecursion IsActor actors
-actors_are S [] works queues fits good = tt
-actors_are S (a ∷ actors) works queues fits good =
-    let told : (fits_actor a ≡ true) × (list_all fits_actor actors ≡ true) = and_true (fits_actor a) (list_all fits_actor actors) fits in
-    let named : (is_name a.name ≡ true) × (list_all (λ line. instr_fits line.instr) a.lines ≡ true) =
-    and_true (is_name a.name) (list_all (λ line. instr_fits line.instr) a.lines) told.0 in
-    let both : (good_actor S a ≡ true) × (list_all (good_actor S) actors ≡ true) = and_true (good_actor S a) (list_all (good_actor S) actors) good in
-    let here : (leb (length a.lines) MAX_LINES ≡ true) × (good_lines S a.lines ≡ true) = and_true (leb (length a.lines) MAX_LINES) (good_lines S a.lines) both.0 in
-    (record { name = named.0; lines = lines_are S a.lines works queues here.1 }, actors_are S actors works queues told.1 both.1)
-
-actors_fitting : (actors : List ActorContents) → AllByRecursion IsActor actors → list_all fits_actor actors ≡ true
-actors_fitting [] are = refl
-actors_fitting (a ∷ actors) are =
-    true_and (fits_actor a) (list_all fits_actor actors)
-    (true_and (is_name a.name) (list_all (λ line. instr_fits line.instr) a.lines) are.0.name (lines_fitting a.lines are.0.lines)) (actors_fitting actors are.1)
+    none_first (actor_fault S before a) (first_along (actor_fault S) (before ++ a ∷ []) actors)
+    (none_first (fault_if (list_any (λ other. bytes_eq other.name a.name) before) fault.Duplicate) (or_else (fault_unless (leb (length a.lines) MAX_LINES) fault.TooMany) along)
+    (if_none (list_any (λ other. bytes_eq other.name a.name) before) fault.Duplicate new)
+    (none_first (fault_unless (leb (length a.lines) MAX_LINES) fault.TooMany) along (unless_none (leb (length a.lines) MAX_LINES) fault.TooMany here.0) (lines_valid S [] a.lines here.1))) later
 
 -- The whole scenario.
 
@@ -450,6 +398,8 @@ pub record Good (S : ScenarioContents) : Type 0 where
   pub bodies : AllByRecursion (GoodBodyOf S.cpus (length S.works)) S.works
   pub actor_names : GoodNames [] (actor_names S)
   pub actors : list_all (good_actor S) S.actors ≡ true
+  -- with numbers that fit their types
+  pub actors_are : AllByRecursion IsActor S.actors
 
 pub good_from_valid : (S : ScenarioContents) → IsValid S → IsScenario S → Good S
 good_from_valid S valid is =
@@ -475,7 +425,7 @@ good_from_valid S valid is =
     let m1 : (qs ≡ true) × (ws ≡ true) = and_true qs ws m2.0 in
     let queues = queues_good [] S.queues c.0 (queues_named S.queues is.queues) in
     let works = works_good S [] S.works d.0 (works_named S.works is.works) in
-    let actors = actors_good S [] S.actors d.1 (actors_fitting S.actors is.actors) in
+    let actors = actors_good S [] S.actors d.1 is.actors in
     record {
       cpus = n1.0;
       workers = n1.1;
@@ -491,6 +441,7 @@ good_from_valid S valid is =
       bodies = works.2;
       actor_names = actors.0;
       actors = actors.1;
+      actors_are = is.actors;
     }
 
 pub valid_from_good : (S : ScenarioContents) → Good S → IsValid S × IsScenario S
@@ -518,7 +469,7 @@ valid_from_good S good =
       none_first (numbers_fault S) (or_else (counts_fault S) after_counts) numbers
           (none_first (counts_fault S) after_counts counts
           (none_first (first_along queue_fault [] S.queues) after_queues queues.0
-          (none_first (first_along (work_fault S) [] S.works) (first_along (actor_fault S) [] S.actors) works.0 actors.0))),
+          (none_first (first_along (work_fault S) [] S.works) (first_along (actor_fault S) [] S.actors) works.0 actors))),
       record {
         cpus = omega (arith, cpu.1);
         workers = omega (arith, worker.1);
@@ -526,6 +477,6 @@ valid_from_good S good =
         flushes = omega (arith, flush);
         queues = queues_are S.queues queues.1 good.queues;
         works = works_are S.cpus (length S.works) (length S.queues) S.works cpu.1 good.few_works good.few_queues works.1 good.works good.bodies;
-        actors = actors_are S S.actors good.few_works good.few_queues actors.1 good.actors;
+        actors = good.actors_are;
       },
     )

@@ -1,5 +1,5 @@
 -- The listing of a scenario is its text, and fits.
-use Rattle.std.proofs.Common.{◌≡◌, ℕ, zero, suc, ◌+◌, ◌*◌, ◌^◌, ◌<◌, ◌≤◌, Bool, true, false, not, ◌&&◌, List, [], ◌∷◌, ◌++◌, map, length, get_or, cond, eqb, ltb, leb, arith, refl, sym, ap, ◌∙◌, inl, inr, subst, append-nil, append_assoc, length-append, codes}
+use Rattle.std.proofs.Common.{◌≡◌, ℕ, zero, suc, ◌+◌, ◌-◌, ◌*◌, ◌^◌, ◌<◌, ◌≤◌, Bool, true, false, not, ◌&&◌, List, [], ◌∷◌, ◌++◌, map, length, get_or, cond, eqb, ltb, leb, arith, refl, sym, ap, ◌∙◌, inl, inr, subst, append-nil, append_assoc, length-append, codes}
 use Rattle.std.proofs.lemmas.Bool.Decides.{nat_tests}
 use Rattle.std.proofs.lemmas.Fmt.{decimal_nonempty, digits_decimal, length-decimal-le}
 use Rattle.std.proofs.lemmas.Grind.{flat_map-append}
@@ -15,7 +15,7 @@ use Rattle.cmwq_types.specs.Faults.{IsValid, fits_flags, names_declared, within}
 use Rattle.cmwq_types.specs.Listing.{WrittenLine, Words, Flagged, Repeated, actor_line, actor_lines, body_lines, flag_words, instr_words, listing, numbered, op_line, queue_line, times_words, word_if, work_line, written, written_text}
 use Rattle.cmwq_types.specs.Name.{is_lowercase, is_name, is_name_byte}
 use Rattle.cmwq_types.specs.Scenario.{queue_at, work_at}
-use Rattle.cmwq_types.specs.Values.{IsScenario}
+use Rattle.cmwq_types.specs.Values.{IsActor, IsInstr, IsLine, IsScenario}
 use Rattle.cmwq_types.specs.declared.instr.Instr.{Instr}
 use Rattle.cmwq_types.specs.declared.instr.Instr.TheVariants as instr
 use Rattle.cmwq_types.specs.declared.limits.TheConstants.{MAX_ACTORS, MAX_CPUS, MAX_FLUSHES, MAX_LINES, MAX_MAX_ACTIVE, MAX_OPS, MAX_QUEUES, MAX_STEPS, MAX_TEXT, MAX_TICKS, MAX_TIMES, MAX_WORKERS, MAX_WORKS}
@@ -30,7 +30,6 @@ use Rattle.cmwq_grammar.specs.Instructions.{queue_names, work_names}
 use Rattle.cmwq_grammar.proofs.Basics.{and_true, at_most, true_and, either, cond_no, cond_yes}
 use Rattle.cmwq_grammar.proofs.CanonicalLines.{all_plain, fed, fed_lines, joined, plain_byte, plain_no_feeds, plain_utf8, plain_word, plain_worded, plain_words}
 use Rattle.cmwq_grammar.proofs.FieldLemmas.{numerals, within_fits}
-use Rattle.cmwq_grammar.proofs.Fitting.{instr_fits}
 use Rattle.cmwq_grammar.proofs.GoodScenario.{Good, GoodBody, GoodBodyOf, good_actor, good_from_valid, good_lines, on_queue_of}
 use Rattle.cmwq_grammar.proofs.InstrLemmas.{good_line}
 use Rattle.cmwq_grammar.proofs.LineLemmas.{good_op}
@@ -151,7 +150,7 @@ number_fits k n some small wide = record {
 
 -- Lines.
 
-record LineFits (k : ℕ) (l : WrittenLine) : Type 0 where
+record LineFitsIn (k : ℕ) (l : WrittenLine) : Type 0 where
   plain : plain_words (canonical l) ≡ true
   short : length (written_text l) ≤ k
 
@@ -162,7 +161,7 @@ joined_size word (next ∷ more) =
     let later : length (joined (next ∷ more) ++ 10 ∷ []) ≡ total (next ∷ more) = joined_size next more in
     ap length (append_assoc word (32 ∷ joined (next ∷ more)) (10 ∷ [])) ∙ length-append word (32 ∷ (joined (next ∷ more) ++ 10 ∷ [])) ∙ omega arith
 
-line_fits : {m : ℕ} {word : List ℕ} {words : List (List ℕ)} (k : ℕ) (l : WrittenLine) → canonical l ≡ word ∷ words → WordsFit m (word ∷ words) → m ≤ k → LineFits k l
+line_fits : {m : ℕ} {word : List ℕ} {words : List (List ℕ)} (k : ℕ) (l : WrittenLine) → canonical l ≡ word ∷ words → WordsFit m (word ∷ words) → m ≤ k → LineFitsIn k l
 line_fits {word = word} {words = words} k l e fits h = record {
   plain = ap plain_words e ∙ true_and (not (is_empty (word ∷ words))) (list_all plain_word (word ∷ words)) (not_empty (suc (length words)) (omega arith)) fits.plain;
   short =
@@ -170,20 +169,20 @@ line_fits {word = word} {words = words} k l e fits h = record {
       omega (arith, fits.short));
 }
 
-pub record LinesFit (k : ℕ) (lines : List WrittenLine) : Type 0 where
+pub record LinesFitIn (k : ℕ) (lines : List WrittenLine) : Type 0 where
   pub plain : all_plain (map canonical lines) ≡ true
   pub short : length (flat_map written_text lines) ≤ k
 
-no_lines : LinesFit 0 []
+no_lines : LinesFitIn 0 []
 no_lines = record { plain = refl; short = omega arith }
 
-line_on : {a b : ℕ} {l : WrittenLine} {lines : List WrittenLine} → LineFits a l → LinesFit b lines → LinesFit (a + b) (l ∷ lines)
+line_on : {a b : ℕ} {l : WrittenLine} {lines : List WrittenLine} → LineFitsIn a l → LinesFitIn b lines → LinesFitIn (a + b) (l ∷ lines)
 line_on {l = l} {lines = lines} x y = record {
   plain = true_and (plain_words (canonical l)) (all_plain (map canonical lines)) x.plain y.plain;
   short = (let sum : length (written_text l ++ flat_map written_text lines) ≡ length (written_text l) + length (flat_map written_text lines) = length-append (written_text l) (flat_map written_text lines) in omega (arith, x.short, y.short));
 }
 
-lines_on : {a b : ℕ} {xs ys : List WrittenLine} → LinesFit a xs → LinesFit b ys → LinesFit (a + b) (xs ++ ys)
+lines_on : {a b : ℕ} {xs ys : List WrittenLine} → LinesFitIn a xs → LinesFitIn b ys → LinesFitIn (a + b) (xs ++ ys)
 lines_on {xs = xs} {ys = ys} x y = record {
   plain = ap all_plain (map-append canonical xs ys) ∙ list_all-append plain_words (map canonical xs) (map canonical ys)
       ∙ true_and (all_plain (map canonical xs)) (all_plain (map canonical ys)) x.plain y.plain;
@@ -194,11 +193,11 @@ lines_on {xs = xs} {ys = ys} x y = record {
       omega (arith, x.short, y.short));
 }
 
-lines_within : {a : ℕ} {lines : List WrittenLine} (b : ℕ) → LinesFit a lines → a ≤ b → LinesFit b lines
+lines_within : {a : ℕ} {lines : List WrittenLine} (b : ℕ) → LinesFitIn a lines → a ≤ b → LinesFitIn b lines
 lines_within b x h = record { plain = x.plain; short = omega (arith, x.short) }
 
 -- a line of literal words, names and numbers
-numbered_fits : (k : ℕ) (word : List ℕ) (n : ℕ) → WordFits k word → n < 10 ^ 10 → LineFits (k + 12) (numbered word n)
+numbered_fits : (k : ℕ) (word : List ℕ) (n : ℕ) → WordFits k word → n < 10 ^ 10 → LineFitsIn (k + 12) (numbered word n)
 numbered_fits k word n w small =
     line_fits (k + 12) (numbered word n) refl (word_on w (word_on (number_fits 10 n (omega arith) small (omega arith)) no_words)) (omega arith)
 
@@ -217,7 +216,7 @@ flags_fit f =
     let ordered = word_if_fits f.ordered 7 (codes "ordered") (literal 7 (codes "ordered") refl (omega arith)) in
     words_within 48 (words_on (words_on (words_on (words_on highpri unbound) intensive) freezable) ordered) (omega arith)
 
-queue_fits : (q : QueueDecl) → is_name q.name ≡ true → fits_flags q ≡ true → LineFits 78 (queue_line q)
+queue_fits : (q : QueueDecl) → is_name q.name ≡ true → fits_flags q ≡ true → LineFitsIn 78 (queue_line q)
 queue_fits q named fits =
     let parts : (within 1 MAX_MAX_ACTIVE q.max ≡ true) × (cond q.flags.ordered (eqb q.max 1) true ≡ true) =
     and_true (within 1 MAX_MAX_ACTIVE q.max) (cond q.flags.ordered (eqb q.max 1) true) fits in
@@ -228,7 +227,7 @@ queue_fits q named fits =
     (word_on (number_fits 3 q.max (omega arith) (omega arith) (omega arith)) (flags_fit q.flags))))) (omega arith)
 
 queues_fit : (before : List (List ℕ)) (queues : List QueueDecl) → GoodNames before (map (λ (q : QueueDecl). q.name) queues) → list_all fits_flags queues ≡ true
-    → LinesFit (length queues * 78) (map queue_line queues)
+    → LinesFitIn (length queues * 78) (map queue_line queues)
 queues_fit before [] names fits = no_lines
 queues_fit before (q ∷ queues) names fits =
     let both : (fits_flags q ≡ true) × (list_all fits_flags queues ≡ true) = and_true (fits_flags q) (list_all fits_flags queues) fits in
@@ -254,7 +253,7 @@ work_name S i good h =
     subst (λ (n : List ℕ). WordFits 15 n) (name_of_work S i) (name_fits (get_or (work_names S) i []) (is_name_at [] (work_names S) i good (omega arith)))
 
 work_fits : (S : ScenarioContents) (w : WorkContents) → GoodNames [] (queue_names S) → is_name w.name ≡ true → ltb w.queue.0 (length S.queues) ≡ true
-    → LineFits 37 (work_line S w)
+    → LineFitsIn 37 (work_line S w)
 work_fits S w queues named on =
     line_fits 37 (work_line S w) refl (word_on (literal 4 (codes "work") refl (omega arith))
     (word_on (name_fits w.name named)
@@ -262,7 +261,7 @@ work_fits S w queues named on =
 
 works_fit : (S : ScenarioContents) (before : List (List ℕ)) (works : List WorkContents) → GoodNames [] (queue_names S)
     → GoodNames before (map (λ (w : WorkContents). w.name) works) → list_all (on_queue_of (length S.queues)) works ≡ true
-    → LinesFit (length works * 37) (map (work_line S) works)
+    → LinesFitIn (length works * 37) (map (work_line S) works)
 works_fit S before [] queues names on = no_lines
 works_fit S before (w ∷ works) queues names on =
     let both : (ltb w.queue.0 (length S.queues) ≡ true) × (list_all (on_queue_of (length S.queues)) works ≡ true) =
@@ -271,7 +270,7 @@ works_fit S before (w ∷ works) queues names on =
 
 -- Bodies.
 
-op_fits : (S : ScenarioContents) (o : Op) → GoodNames [] (work_names S) → S.cpus ≤ 16 → good_op S.cpus (length S.works) o ≡ true → LineFits 25 (op_line S o)
+op_fits : (S : ScenarioContents) (o : Op) → GoodNames [] (work_names S) → S.cpus ≤ 16 → good_op S.cpus (length S.works) o ≡ true → LineFitsIn 25 (op_line S o)
 op_fits S (op.Burn ticks) names few good =
     let bounds : (1 ≤ ticks) × (ticks ≤ MAX_TICKS) = within_fits 1 MAX_TICKS ticks good in
     line_fits 25 (op_line S (op.Burn ticks)) refl (word_on (literal 4 (codes "burn") refl (omega arith))
@@ -290,23 +289,23 @@ op_fits S op.Finish names few good =
     line_fits 25 (op_line S op.Finish) refl (word_on (literal 6 (codes "finish") refl (omega arith)) no_words) (omega arith)
 
 ops_fit : (S : ScenarioContents) (ops : List Op) → GoodNames [] (work_names S) → S.cpus ≤ 16 → list_all (good_op S.cpus (length S.works)) ops ≡ true
-    → LinesFit (length ops * 25) (map (op_line S) ops)
+    → LinesFitIn (length ops * 25) (map (op_line S) ops)
 ops_fit S [] names few good = no_lines
 ops_fit S (o ∷ ops) names few good =
     let test = good_op S.cpus (length S.works) in
     let both : (test o ≡ true) × (list_all test ops ≡ true) = and_true (test o) (list_all test ops) good in
     lines_within (suc (length ops) * 25) (line_on (op_fits S o names few both.0) (ops_fit S ops names few both.1)) (omega arith)
 
-body_line_fits : (name : List ℕ) → is_name name ≡ true → LineFits 21 (Words (codes "body" ∷ name ∷ []))
+body_line_fits : (name : List ℕ) → is_name name ≡ true → LineFitsIn 21 (Words (codes "body" ∷ name ∷ []))
 body_line_fits name named =
     line_fits 21 (Words (codes "body" ∷ name ∷ [])) refl (word_on (literal 4 (codes "body") refl (omega arith)) (word_on (name_fits name named) no_words)) (omega arith)
 
-actor_line_fits : (name : List ℕ) → is_name name ≡ true → LineFits 22 (Words (codes "actor" ∷ name ∷ []))
+actor_line_fits : (name : List ℕ) → is_name name ≡ true → LineFitsIn 22 (Words (codes "actor" ∷ name ∷ []))
 actor_line_fits name named =
     line_fits 22 (Words (codes "actor" ∷ name ∷ [])) refl (word_on (literal 5 (codes "actor") refl (omega arith)) (word_on (name_fits name named) no_words)) (omega arith)
 
 body_fits : (S : ScenarioContents) (w : WorkContents) → GoodNames [] (work_names S) → S.cpus ≤ 16 → is_name w.name ≡ true → GoodBody S.cpus (length S.works) w.body
-    → LinesFit 1621 (body_lines S w)
+    → LinesFitIn 1621 (body_lines S w)
 body_fits S w names few named body =
     let test = good_op S.cpus (length S.works) in
     let all : list_all test w.body ≡ true =
@@ -318,7 +317,7 @@ body_fits S w names few named body =
 
 bodies_fit : (S : ScenarioContents) (before : List (List ℕ)) (works : List WorkContents) → GoodNames [] (work_names S) → S.cpus ≤ 16
     → GoodNames before (map (λ (w : WorkContents). w.name) works) → AllByRecursion (GoodBodyOf S.cpus (length S.works)) works
-    → LinesFit (length works * 1621) (flat_map (body_lines S) works)
+    → LinesFitIn (length works * 1621) (flat_map (body_lines S) works)
 bodies_fit S before [] names few named bodies = no_lines
 bodies_fit S before (w ∷ works) names few named bodies =
     lines_within (suc (length works) * 1621) (lines_on (body_fits S w names few named.1 bodies.0) (bodies_fit S (before ++ w.name ∷ []) works names few named.2 bodies.1)) (omega arith)
@@ -339,100 +338,71 @@ record InstrFits (words : List (List ℕ)) : Type 0 where
   first : List ℕ
   others : List (List ℕ)
   whole : words ≡ first ∷ others
-  fits : WordsFit 37 (first ∷ others)
+  fits : WordsFit 44 (first ∷ others)
 
-instr_of : {m : ℕ} {first : List ℕ} {others : List (List ℕ)} → WordsFit m (first ∷ others) → m ≤ 37 → InstrFits (first ∷ others)
-instr_of {first = first} {others = others} fits h = record { first = first; others = others; whole = refl; fits = words_within 37 fits h }
+none_left : (room : ℕ) → WordsFit room []
+none_left room = words_within room no_words (omega arith)
 
-instr_fits_line : (S : ScenarioContents) (i : Instr) → GoodNames [] (work_names S) → GoodNames [] (queue_names S) → names_declared S i ≡ true → instr_fits i ≡ true
+-- a word of so many bytes at most, where there is room for it
+one_on : (k room : ℕ) (word : List ℕ) (words : List (List ℕ)) → WordFits k word → k + 1 ≤ room → WordsFit (room - (k + 1)) words → WordsFit room (word ∷ words)
+one_on k room word words fits h others = words_within room (word_on fits others) (omega arith)
+
+first_on : (word : List ℕ) (words : List (List ℕ)) → plain_word word ≡ true → leb (length word + 1) 44 ≡ true → WordsFit (44 - (length word + 1)) words
+    → WordsFit 44 (word ∷ words)
+first_on word words plain h others = one_on (length word) 44 word words (literal (length word) word plain (omega arith)) (at_most (length word + 1) 44 h) others
+
+work_on : (S : ScenarioContents) (room work : ℕ) (words : List (List ℕ)) → GoodNames [] (work_names S) → ltb work (length S.works) ≡ true → leb 16 room ≡ true
+    → WordsFit (room - 16) words → WordsFit room ((work_at S work).name ∷ words)
+work_on S room work words names declared h others = one_on 15 room (work_at S work).name words (work_name S work names declared) (at_most 16 room h) others
+
+queue_on : (S : ScenarioContents) (room queue : ℕ) (words : List (List ℕ)) → GoodNames [] (queue_names S) → ltb queue (length S.queues) ≡ true → leb 16 room ≡ true
+    → WordsFit (room - 16) words → WordsFit room ((queue_at S queue).name ∷ words)
+queue_on S room queue words names declared h others = one_on 15 room (queue_at S queue).name words (queue_name S queue names declared) (at_most 16 room h) others
+
+number_on : (room n : ℕ) (words : List (List ℕ)) → n < 2 ^ 32 → leb 11 room ≡ true → WordsFit (room - 11) words → WordsFit room (decimal n ∷ words)
+number_on room n words small h others =
+    one_on 10 room (decimal n) words (number_fits 10 n (omega arith) (omega arith) (omega arith)) (at_most 11 room h) others
+
+wider_8 : (n : ℕ) → n < 2 ^ 8 → n < 2 ^ 32
+wider_8 n h = omega arith
+
+wider_16 : (n : ℕ) → n < 2 ^ 16 → n < 2 ^ 32
+wider_16 n h = omega arith
+
+-- each line of the table by the same steps
+instr_words_fit : (S : ScenarioContents) (i : Instr) → GoodNames [] (work_names S) → GoodNames [] (queue_names S) → names_declared S i ≡ true → IsInstr i
     → InstrFits (instr_words S i)
-instr_fits_line S (instr.Queue work cpu) works queues named fits =
-    let small : cpu ≤ 255 = at_most cpu 255 fits in
-    instr_of (word_on (literal 5 (codes "queue") refl (omega arith))
-    (word_on (work_name S work.0 works named)
-    (word_on (number_fits 3 cpu (omega arith) (omega arith) (omega arith)) no_words))) (omega arith)
-instr_fits_line S (instr.Delay work cpu ticks) works queues named fits =
-    let both : (leb cpu 255 ≡ true) × (leb ticks 4294967295 ≡ true) = and_true (leb cpu 255) (leb ticks 4294967295) fits in
-    let small : cpu ≤ 255 = at_most cpu 255 both.0 in
-    let wide : ticks ≤ 4294967295 = at_most ticks 4294967295 both.1 in
-    instr_of (word_on (literal 5 (codes "delay") refl (omega arith))
-    (word_on (work_name S work.0 works named)
-    (word_on (number_fits 3 cpu (omega arith) (omega arith) (omega arith))
-    (word_on (number_fits 10 ticks (omega arith) (omega arith) (omega arith)) no_words)))) (omega arith)
-instr_fits_line S (instr.Mod work cpu ticks) works queues named fits =
-    let both : (leb cpu 255 ≡ true) × (leb ticks 4294967295 ≡ true) = and_true (leb cpu 255) (leb ticks 4294967295) fits in
-    let small : cpu ≤ 255 = at_most cpu 255 both.0 in
-    let wide : ticks ≤ 4294967295 = at_most ticks 4294967295 both.1 in
-    instr_of (word_on (literal 3 (codes "mod") refl (omega arith))
-    (word_on (work_name S work.0 works named)
-    (word_on (number_fits 3 cpu (omega arith) (omega arith) (omega arith))
-    (word_on (number_fits 10 ticks (omega arith) (omega arith) (omega arith)) no_words)))) (omega arith)
-instr_fits_line S (instr.Cancel work) works queues named fits =
-    instr_of (word_on (literal 6 (codes "cancel") refl (omega arith)) (word_on (work_name S work.0 works named) no_words)) (omega arith)
-instr_fits_line S (instr.CancelSync work) works queues named fits =
-    instr_of (word_on (literal 11 (codes "cancel_sync") refl (omega arith)) (word_on (work_name S work.0 works named) no_words)) (omega arith)
-instr_fits_line S (instr.Flush work) works queues named fits =
-    instr_of (word_on (literal 5 (codes "flush") refl (omega arith)) (word_on (work_name S work.0 works named) no_words)) (omega arith)
-instr_fits_line S (instr.FlushDelayed work) works queues named fits =
-    instr_of (word_on (literal 13 (codes "flush_delayed") refl (omega arith)) (word_on (work_name S work.0 works named) no_words)) (omega arith)
-instr_fits_line S (instr.FlushQueue queue) works queues named fits =
-    instr_of (word_on (literal 11 (codes "flush_queue") refl (omega arith)) (word_on (queue_name S queue.0 queues named) no_words)) (omega arith)
-instr_fits_line S (instr.SetMax queue max) works queues named fits =
-    let wide : max ≤ 4294967295 = at_most max 4294967295 fits in
-    instr_of (word_on (literal 7 (codes "set_max") refl (omega arith))
-    (word_on (queue_name S queue.0 queues named)
-    (word_on (number_fits 10 max (omega arith) (omega arith) (omega arith)) no_words))) (omega arith)
-instr_fits_line S instr.Freeze works queues named fits =
-    instr_of (word_on (literal 6 (codes "freeze") refl (omega arith)) no_words) (omega arith)
-instr_fits_line S instr.Thaw works queues named fits =
-    instr_of (word_on (literal 4 (codes "thaw") refl (omega arith)) no_words) (omega arith)
-instr_fits_line S instr.Fire works queues named fits =
-    instr_of (word_on (literal 4 (codes "fire") refl (omega arith)) no_words) (omega arith)
-instr_fits_line S (instr.Step n) works queues named fits =
-    let small : n ≤ 255 = at_most n 255 fits in
-    instr_of (word_on (literal 4 (codes "step") refl (omega arith)) (word_on (number_fits 3 n (omega arith) (omega arith) (omega arith)) no_words)) (omega arith)
-instr_fits_line S instr.Tick works queues named fits =
-    instr_of (word_on (literal 4 (codes "tick") refl (omega arith)) no_words) (omega arith)
-instr_fits_line S instr.Next works queues named fits =
-    instr_of (word_on (literal 4 (codes "next") refl (omega arith)) no_words) (omega arith)
-instr_fits_line S (instr.Ask n) works queues named fits =
-    let small : n ≤ 65535 = at_most n 65535 fits in
-    instr_of (word_on (literal 3 (codes "ask") refl (omega arith)) (word_on (number_fits 5 n (omega arith) (omega arith) (omega arith)) no_words)) (omega arith)
-instr_fits_line S instr.Busy works queues named fits =
-    instr_of (word_on (literal 4 (codes "busy") refl (omega arith)) no_words) (omega arith)
-instr_fits_line S (instr.State work) works queues named fits =
-    instr_of (word_on (literal 5 (codes "state") refl (omega arith)) (word_on (work_name S work.0 works named) no_words)) (omega arith)
+instr_words_fit S (instr.Queue work cpu) works queues named is = record { first = _; others = _; whole = refl; fits = search (first_on, work_on S, queue_on S, number_on, none_left, wider_8, wider_16) depth 8 }
+instr_words_fit S _ works queues named is = record { first = _; others = _; whole = refl; fits = search (first_on, work_on S, queue_on S, number_on, none_left, wider_8, wider_16) depth 8 }
 
-line_of_actor_fits : (S : ScenarioContents) (line : Line) → GoodNames [] (work_names S) → GoodNames [] (queue_names S) → good_line S line ≡ true
-    → LineFits 45 (actor_line S line)
-line_of_actor_fits S line works queues good =
-    let parts : ((names_declared S line.instr && within 1 MAX_TIMES line.times) ≡ true) × (instr_fits line.instr ≡ true) =
-    and_true (names_declared S line.instr && within 1 MAX_TIMES line.times) (instr_fits line.instr) good in
+line_of_actor_fits : (S : ScenarioContents) (line : Line) → GoodNames [] (work_names S) → GoodNames [] (queue_names S) → good_line S line ≡ true → IsLine line
+    → LineFitsIn 52 (actor_line S line)
+line_of_actor_fits S line works queues good is =
     let tests : (names_declared S line.instr ≡ true) × (within 1 MAX_TIMES line.times ≡ true) =
-    and_true (names_declared S line.instr) (within 1 MAX_TIMES line.times) parts.0 in
-    let i : InstrFits (instr_words S line.instr) = instr_fits_line S line.instr works queues tests.0 parts.1 in
-    line_fits 45 (actor_line S line) (ap (λ (ws : List (List ℕ)). ws ++ times_words line.times) i.whole) (words_on i.fits (times_fit line.times tests.1)) (omega arith)
+    and_true (names_declared S line.instr) (within 1 MAX_TIMES line.times) good in
+    let i : InstrFits (instr_words S line.instr) = instr_words_fit S line.instr works queues tests.0 is.instr in
+    line_fits 52 (actor_line S line) (ap (λ (ws : List (List ℕ)). ws ++ times_words line.times) i.whole) (words_on i.fits (times_fit line.times tests.1)) (omega arith)
 
 lines_of_actor_fit : (S : ScenarioContents) (lines : List Line) → GoodNames [] (work_names S) → GoodNames [] (queue_names S) → good_lines S lines ≡ true
-    → LinesFit (length lines * 45) (map (actor_line S) lines)
-lines_of_actor_fit S [] works queues good = no_lines
-lines_of_actor_fit S (line ∷ lines) works queues good =
+    → AllByRecursion IsLine lines → LinesFitIn (length lines * 52) (map (actor_line S) lines)
+lines_of_actor_fit S [] works queues good are = no_lines
+lines_of_actor_fit S (line ∷ lines) works queues good are =
     let both : (good_line S line ≡ true) × (good_lines S lines ≡ true) = and_true (good_line S line) (good_lines S lines) good in
-    lines_within (suc (length lines) * 45) (line_on (line_of_actor_fits S line works queues both.0) (lines_of_actor_fit S lines works queues both.1)) (omega arith)
+    lines_within (suc (length lines) * 52) (line_on (line_of_actor_fits S line works queues both.0 are.0) (lines_of_actor_fit S lines works queues both.1 are.1)) (omega arith)
 
 actors_fit : (S : ScenarioContents) (before : List (List ℕ)) (actors : List ActorContents) → GoodNames [] (work_names S) → GoodNames [] (queue_names S)
-    → GoodNames before (map (λ (a : ActorContents). a.name) actors) → list_all (good_actor S) actors ≡ true
-    → LinesFit (length actors * 184342) (flat_map (actor_lines S) actors)
-actors_fit S before [] works queues names good = no_lines
-actors_fit S before (a ∷ actors) works queues names good =
+    → GoodNames before (map (λ (a : ActorContents). a.name) actors) → list_all (good_actor S) actors ≡ true → AllByRecursion IsActor actors
+    → LinesFitIn (length actors * 213014) (flat_map (actor_lines S) actors)
+actors_fit S before [] works queues names good are = no_lines
+actors_fit S before (a ∷ actors) works queues names good are =
     let both : (good_actor S a ≡ true) × (list_all (good_actor S) actors ≡ true) = and_true (good_actor S a) (list_all (good_actor S) actors) good in
     let here : (leb (length a.lines) MAX_LINES ≡ true) × (good_lines S a.lines ≡ true) = and_true (leb (length a.lines) MAX_LINES) (good_lines S a.lines) both.0 in
     let few : length a.lines ≤ MAX_LINES = at_most (length a.lines) MAX_LINES here.0 in
-    lines_within (suc (length actors) * 184342) (lines_on (lines_within 184342 (line_on (actor_line_fits a.name names.1) (lines_of_actor_fit S a.lines works queues here.1)) (omega arith)) (actors_fit S (before ++ a.name ∷ []) actors works queues names.2 both.1)) (omega arith)
+    lines_within (suc (length actors) * 213014) (lines_on (lines_within 213014 (line_on (actor_line_fits a.name names.1) (lines_of_actor_fit S a.lines works queues here.1 (are.0).lines)) (omega arith)) (actors_fit S (before ++ a.name ∷ []) actors works queues names.2 both.1 are.1)) (omega arith)
 
 -- The whole listing.
 
-pub written_fits : (S : ScenarioContents) → Good S → LinesFit MAX_TEXT (written S)
+pub written_fits : (S : ScenarioContents) → Good S → LinesFitIn MAX_TEXT (written S)
 written_fits S good =
     let cpus : (1 ≤ S.cpus) × (S.cpus ≤ MAX_CPUS) = within_fits 1 MAX_CPUS S.cpus good.cpus in
     let workers : (1 ≤ S.workers) × (S.workers ≤ MAX_WORKERS) = within_fits 1 MAX_WORKERS S.workers good.workers in
@@ -444,23 +414,23 @@ written_fits S good =
     let a : ℕ = length S.queues * 78 in
     let b : ℕ = length S.works * 37 in
     let c : ℕ = length S.works * 1621 in
-    let d : ℕ = length S.actors * 184342 in
-    let queues : LinesFit a (map queue_line S.queues) = queues_fit [] S.queues good.queue_names good.queues in
-    let works : LinesFit b (map (work_line S) S.works) = works_fit S [] S.works good.queue_names good.work_names good.works in
-    let bodies : LinesFit c (flat_map (body_lines S) S.works) = bodies_fit S [] S.works good.work_names cpus.1 good.work_names good.bodies in
-    let actors : LinesFit d (flat_map (actor_lines S) S.actors) = actors_fit S [] S.actors good.work_names good.queue_names good.actor_names good.actors in
-    let declared : LinesFit (a + b) (map queue_line S.queues ++ map (work_line S) S.works) = lines_on queues works in
-    let with_bodies : LinesFit (a + b + c) (map queue_line S.queues ++ map (work_line S) S.works ++ flat_map (body_lines S) S.works) =
+    let d : ℕ = length S.actors * 213014 in
+    let queues : LinesFitIn a (map queue_line S.queues) = queues_fit [] S.queues good.queue_names good.queues in
+    let works : LinesFitIn b (map (work_line S) S.works) = works_fit S [] S.works good.queue_names good.work_names good.works in
+    let bodies : LinesFitIn c (flat_map (body_lines S) S.works) = bodies_fit S [] S.works good.work_names cpus.1 good.work_names good.bodies in
+    let actors : LinesFitIn d (flat_map (actor_lines S) S.actors) = actors_fit S [] S.actors good.work_names good.queue_names good.actor_names good.actors good.actors_are in
+    let declared : LinesFitIn (a + b) (map queue_line S.queues ++ map (work_line S) S.works) = lines_on queues works in
+    let with_bodies : LinesFitIn (a + b + c) (map queue_line S.queues ++ map (work_line S) S.works ++ flat_map (body_lines S) S.works) =
     lines_on declared bodies in
     let rest : List WrittenLine = map queue_line S.queues ++ map (work_line S) S.works ++ flat_map (body_lines S) S.works ++ flat_map (actor_lines S) S.actors in
-    let all : LinesFit (a + b + c + d) rest =
+    let all : LinesFitIn (a + b + c + d) rest =
     lines_on with_bodies actors in
-    let cpus_line : LineFits 16 (numbered (codes "cpus") S.cpus) = numbered_fits 4 (codes "cpus") S.cpus (literal 4 (codes "cpus") refl (omega arith)) (omega arith) in
-    let workers_line : LineFits 19 (numbered (codes "workers") S.workers) =
+    let cpus_line : LineFitsIn 16 (numbered (codes "cpus") S.cpus) = numbered_fits 4 (codes "cpus") S.cpus (literal 4 (codes "cpus") refl (omega arith)) (omega arith) in
+    let workers_line : LineFitsIn 19 (numbered (codes "workers") S.workers) =
     numbered_fits 7 (codes "workers") S.workers (literal 7 (codes "workers") refl (omega arith)) (omega arith) in
-    let steps_line : LineFits 17 (numbered (codes "steps") S.steps) =
+    let steps_line : LineFitsIn 17 (numbered (codes "steps") S.steps) =
     numbered_fits 5 (codes "steps") S.steps (literal 5 (codes "steps") refl (omega arith)) (omega arith) in
-    let flushes_line : LineFits 19 (numbered (codes "flushes") S.flushes) =
+    let flushes_line : LineFitsIn 19 (numbered (codes "flushes") S.flushes) =
     numbered_fits 7 (codes "flushes") S.flushes (literal 7 (codes "flushes") refl (omega arith)) (omega arith) in
     lines_within MAX_TEXT (line_on cpus_line (line_on workers_line (line_on steps_line (line_on flushes_line all)))) (omega arith)
 
@@ -471,7 +441,7 @@ listing_lines S good =
 pub listing_spells : (S : ScenarioContents) → IsValid S → IsScenario S → Spells (listing S) S
 listing_spells S valid is =
     let good : Good S = good_from_valid S valid is in
-    let fit : LinesFit MAX_TEXT (written S) = written_fits S good in
+    let fit : LinesFitIn MAX_TEXT (written S) = written_fits S good in
     let lines : lines_of (listing S) ≡ map joined (map canonical (written S)) = listing_lines S good in
     let said : worded (lines_of (listing S)) ≡ map canonical (written S) = ap worded lines ∙ plain_worded (map canonical (written S)) fit.plain in
     record {

@@ -8,6 +8,7 @@ use Rattle.cmwq_types.specs.Contents.{ScenarioContents, WorkContents, ActorConte
 use Rattle.cmwq_types.specs.Faults.{fits_flags, is_finish}
 use Rattle.cmwq_types.specs.Name.{is_name}
 use Rattle.cmwq_types.specs.Scenario.{work_at}
+use Rattle.cmwq_types.specs.Values.{IsActor, IsLine}
 use Rattle.cmwq_types.specs.declared.limits.TheConstants.{MAX_ACTORS, MAX_LINES, MAX_OPS, MAX_QUEUES, MAX_WORKS}
 use Rattle.cmwq_types.specs.declared.scenario.Line.{Line}
 use Rattle.cmwq_types.specs.declared.scenario.Op.{Op}
@@ -46,14 +47,17 @@ same_names name front back x y e =
 same_length : {A : Type 0} (front back : List A) (x y : A) → length (front ++ x ∷ back) ≡ length (front ++ y ∷ back)
 same_length front back x y = length-append front (x ∷ back) ∙ sym (length-append front (y ∷ back))
 
-pub bodies_at : (P : WorkContents → Type 0) (front back : List WorkContents) (x : WorkContents) → AllByRecursion P (front ++ x ∷ back) → P x
-bodies_at P [] back x all = all.0
-bodies_at P (w ∷ front) back x all = bodies_at P front back x all.1
+pub all_at : {A : Type 0} (P : A → Type 0) (front back : List A) (x : A) → AllByRecursion P (front ++ x ∷ back) → P x
+all_at P [] back x all = all.0
+all_at P (w ∷ front) back x all = all_at P front back x all.1
 
-bodies_swap : (P : WorkContents → Type 0) (front back : List WorkContents) (x y : WorkContents) → AllByRecursion P (front ++ x ∷ back) → P y
-    → AllByRecursion P (front ++ y ∷ back)
-bodies_swap P [] back x y all here = (here, all.1)
-bodies_swap P (w ∷ front) back x y all here = (all.0, bodies_swap P front back x y all.1 here)
+all_swap : {A : Type 0} (P : A → Type 0) (front back : List A) (x y : A) → AllByRecursion P (front ++ x ∷ back) → P y → AllByRecursion P (front ++ y ∷ back)
+all_swap P [] back x y all here = (here, all.1)
+all_swap P (w ∷ front) back x y all here = (all.0, all_swap P front back x y all.1 here)
+
+all_and_last : {A : Type 0} (P : A → Type 0) (xs : List A) (x : A) → AllByRecursion P xs → P x → AllByRecursion P (xs ++ x ∷ [])
+all_and_last P [] x all here = (here, tt)
+all_and_last P (w ∷ xs) x all here = (all.0, all_and_last P xs x all.1 here)
 
 -- Queues.
 
@@ -78,6 +82,7 @@ sound_queue D said next sound added =
         bodies = good.bodies;
         actor_names = good.actor_names;
         actors = ap (λ (as_ : List ActorContents). list_all (good_actor (with_queue D q)) as_) sound.no_actors;
+        actors_are = good.actors_are;
       };
       no_works = sound.no_works;
       no_actors = sound.no_actors;
@@ -154,6 +159,7 @@ good_least D sound =
       bodies = least_bodies D.cpus (length (map at_least D.works)) D.works;
       actor_names = good.actor_names;
       actors = ap (λ (as_ : List ActorContents). list_all (good_actor (record D { works = map at_least D.works })) as_) sound.no_actors;
+      actors_are = good.actors_are;
     }
 
 pub sound_first_body : (D : ScenarioContents) → SoundWorks D → SoundBody D [] []
@@ -248,9 +254,10 @@ body_swap D front back work a b no_actors good body =
       work_names = subst (λ (ns : List (List ℕ)). GoodNames [] ns) (same_names (λ (w : WorkContents). w.name) front back x y refl) good.work_names;
       works = list_all-append on front (y ∷ back) ∙ sym (list_all-append on front (x ∷ back)) ∙ good.works;
       bodies = subst (λ (n : ℕ). AllByRecursion (GoodBodyOf D.cpus n) (front ++ y ∷ back)) long
-          (bodies_swap (GoodBodyOf D.cpus (length (front ++ x ∷ back))) front back x y good.bodies body);
+          (all_swap (GoodBodyOf D.cpus (length (front ++ x ∷ back))) front back x y good.bodies body);
       actor_names = good.actor_names;
       actors = ap (λ (as_ : List ActorContents). list_all (good_actor (record D { works = front ++ y ∷ back })) as_) no_actors;
+      actors_are = good.actors_are;
     }
 
 pub sound_op : (D : ScenarioContents) (done : List WorkContents) (ops : List Op) (last : Op) → SoundBody D done ops → is_finish last ≡ false → length ops + 1 < MAX_OPS
@@ -260,7 +267,7 @@ sound_op D done ops last sound going room good_last =
     let back : List WorkContents = map at_least sound.more in
     let x : WorkContents = record sound.work { body = ops ++ op.Finish ∷ [] } in
     let size : ℕ = length (front ++ x ∷ back) in
-    let body : GoodBody D.cpus size (ops ++ op.Finish ∷ []) = bodies_at (GoodBodyOf D.cpus size) front back x (sound.good).bodies in
+    let body : GoodBody D.cpus size (ops ++ op.Finish ∷ []) = all_at (GoodBodyOf D.cpus size) front back x (sound.good).bodies in
     let same : (ops ≡ body.ops) × (op.Finish ≡ op.Finish) = same_from_push ops body.ops op.Finish op.Finish body.whole in
     let test = good_op D.cpus size in
     let good_ops : list_all test ops ≡ true = ap (list_all test) same.0 ∙ body.good in
@@ -308,6 +315,7 @@ sound_actor D rest next good opened =
       bodies = good.bodies;
       actor_names = names_and_one (λ (actor : ActorContents). actor.name) D.actors a good.actor_names opened.new opened.is;
       actors = all_and_one (good_actor D) D.actors a good.actors refl;
+      actors_are = all_and_last IsActor D.actors a good.actors_are (record { name = opened.is; lines = tt });
     }
 
 pub sound_all : (D : ScenarioContents) (done : List WorkContents) → SoundBodies D done → all_have_bodies D done ≡ true → Good (with_works D done)
@@ -325,13 +333,14 @@ sound_all D done sound all = closed sound.more sound.declared sound.good
         absurd (omega arith)
 
 pub sound_line : (D : ScenarioContents) (name : List ℕ) (lines : List Line) (line : Line) → Good (with_actor D name lines) → good_line D line ≡ true
-    → length lines < MAX_LINES → Good (with_actor D name (lines ++ line ∷ []))
-sound_line D name lines line good good_one room =
+    → IsLine line → length lines < MAX_LINES → Good (with_actor D name (lines ++ line ∷ []))
+sound_line D name lines line good good_one is room =
     let a : ActorContents = record { name = name; lines = lines } in
     let b : ActorContents = record { name = name; lines = lines ++ line ∷ [] } in
     let parts : (list_all (good_actor D) D.actors ≡ true) × (list_all (good_actor D) (a ∷ []) ≡ true) = all_parts (good_actor D) D.actors (a ∷ []) good.actors in
     let last : (good_actor D a ≡ true) × (true ≡ true) = and_true (good_actor D a) true parts.1 in
     let here : (leb (length lines) MAX_LINES ≡ true) × (good_lines D lines ≡ true) = and_true (leb (length lines) MAX_LINES) (good_lines D lines) last.0 in
+    let are : IsActor a = all_at IsActor D.actors [] a good.actors_are in
     let long : length (lines ++ line ∷ []) ≡ length lines + 1 = length-append lines (line ∷ []) in
     let few : length (D.actors ++ a ∷ []) ≤ MAX_ACTORS = good.few_actors in
     let count : length (D.actors ++ a ∷ []) ≡ length (D.actors ++ b ∷ []) = same_length D.actors [] a b in
@@ -351,6 +360,7 @@ sound_line D name lines line good good_one room =
       actor_names = subst (λ (ns : List (List ℕ)). GoodNames [] ns) (same_names (λ (actor : ActorContents). actor.name) D.actors [] a b refl) good.actor_names;
       actors = all_and_one (good_actor D) D.actors b parts.0
           (true_and (leb (length (lines ++ line ∷ [])) MAX_LINES) (good_lines D (lines ++ line ∷ [])) (room_test (length (lines ++ line ∷ [])) (omega arith)) (all_and_one (good_line D) lines line here.1 good_one));
+      actors_are = all_swap IsActor D.actors [] a b good.actors_are (record { name = are.name; lines = all_and_last IsLine lines line are.lines is });
     }
   where
     room_test : (n : ℕ) → n ≤ MAX_LINES → leb n MAX_LINES ≡ true

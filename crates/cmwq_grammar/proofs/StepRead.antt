@@ -112,6 +112,7 @@ flushes_read cpus workers steps word rest next sound is e =
           bodies = tt;
           actor_names = tt;
           actors = refl;
+          actors_are = tt;
         };
         no_works = refl;
         no_actors = refl;
@@ -413,7 +414,7 @@ line_said : (D : ScenarioContents) (name : List ℕ) (given : List Line) (word :
 line_said D name given word rest next good added =
     let line = added.line in
     subst (λ (σ : Stage). ReadOn (Actor D name given) (word ∷ rest) σ) added.stage (record {
-      sound = sound_line D name given line good added.good added.room;
+      sound = sound_line D name given line good added.good added.is added.room;
       line = λ lines S left. (
         actor_line S line,
         subst (λ (l : WrittenLine). Says l (word ∷ rest)) (same_actor_line D S line left.queues left.works) added.says,
@@ -490,5 +491,5 @@ step_read (Body D done ops) word rest next sound e = op_said D done ops word res
 step_read (Actor D name given) word rest next sound e =
     elim (chosen (bytes_eq word (codes "actor")) (open_actor (with_actor D name given) rest) (line_at D word rest >>= add_line D name given) (Ok next) e) [
       | inl it ↦ with_word (Actor D name given) word (codes "actor") rest next it.0 (next_actor_said D name given rest next sound it.1)
-      | inr it ↦ line_said D name given word rest next sound (line_added D name given word rest next it.1)
+      | inr it ↦ line_said D name given word rest next sound (line_added D name given word rest next (record { works = sound.few_works; queues = sound.few_queues }) it.1)
     ]

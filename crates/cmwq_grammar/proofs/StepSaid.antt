@@ -10,6 +10,7 @@ use Rattle.cmwq_types.specs.Contents.{ScenarioContents, WorkContents, ActorConte
 use Rattle.cmwq_types.specs.Faults.{fits_flags, is_finish, within}
 use Rattle.cmwq_types.specs.Listing.{WrittenLine, Words, actor_line, actor_lines, body_lines, numbered, op_line, queue_line, work_line}
 use Rattle.cmwq_types.specs.Name.{is_name}
+use Rattle.cmwq_types.specs.Values.{IsActor, IsLine}
 use Rattle.cmwq_types.specs.declared.limits.TheConstants.{MAX_ACTORS, MAX_CPUS, MAX_FLUSHES, MAX_LINES, MAX_MAX_ACTIVE, MAX_OPS, MAX_QUEUES, MAX_STEPS, MAX_WORKERS, MAX_WORKS}
 use Rattle.cmwq_types.specs.declared.scenario.Line.{Line}
 use Rattle.cmwq_types.specs.declared.scenario.Op.{Op}
@@ -30,7 +31,7 @@ use Rattle.cmwq_grammar.proofs.InstrLemmas.{good_line, line_again}
 use Rattle.cmwq_grammar.proofs.LineLemmas.{good_op, op_again, queue_again, work_again}
 use Rattle.cmwq_grammar.proofs.NameLists.{GoodNames, good_at}
 use Rattle.cmwq_grammar.proofs.SameLines.{same_actor_line, same_op_line, same_work_line, same_work_names}
-use Rattle.cmwq_grammar.proofs.Soundness.{all_parts, bodies_at, names_of_bare, with_open_body}
+use Rattle.cmwq_grammar.proofs.Soundness.{all_parts, all_at, names_of_bare, with_open_body}
 use Rattle.cmwq_grammar.proofs.StepRead.{next_name}
 
 -- the stage takes these words, and goes on to the scenario with these lines
@@ -153,9 +154,9 @@ queue_small queue fits =
     omega arith
 
 -- the name of an element is none of those before it
-name_at : {A : Type 0} (name : A → List ℕ) (whole front : List A) (x : A) (more : List A) → whole ≡ front ++ x ∷ more → GoodNames [] (map name whole)
+named_there : {A : Type 0} (name : A → List ℕ) (whole front : List A) (x : A) (more : List A) → whole ≡ front ++ x ∷ more → GoodNames [] (map name whole)
     → IsNew (map name front) (name x) × (is_name (name x) ≡ true)
-name_at name whole front x more e good =
+named_there name whole front x more e good =
     good_at [] (map name front) (name x) (map name more) (subst (λ (ns : List (List ℕ)). GoodNames [] ns) (ap (map name) e ∙ map-append name front (x ∷ more)) good)
 
 -- a test holds of an element
@@ -177,7 +178,7 @@ queue_taken : (D : ScenarioContents) (l : WrittenLine) (lines : List WrittenLine
 unfolding step
 queue_taken D l lines S said good says head q more queues e =
     let here : l ≡ queue_line q = same_head l (queue_line q) lines (rest_lines S more S.works S.works S.actors) e in
-    let named : IsNew (queue_names D) q.name × (is_name q.name ≡ true) = name_at (λ (x : QueueDecl). x.name) S.queues D.queues q more queues good.queue_names in
+    let named : IsNew (queue_names D) q.name × (is_name q.name ≡ true) = named_there (λ (x : QueueDecl). x.name) S.queues D.queues q more queues good.queue_names in
     let fits : fits_flags q ≡ true = test_at fits_flags S.queues D.queues q more queues good.queues in
     let below : length D.queues < length S.queues = place_below S.queues D.queues q more queues in
     let few : length S.queues ≤ MAX_QUEUES = good.few_queues in
@@ -208,7 +209,7 @@ work_taken : (D S : ScenarioContents) (front : List WorkContents) (x : WorkConte
     → S.works ≡ front ++ x ∷ more → D.works ≡ map bare front → Says (work_line S x) said → WorkTaken D x said
 work_taken D S front x more said good queues works declared says =
     let named : IsNew (map (λ (w : WorkContents). w.name) front) x.name × (is_name x.name ≡ true) =
-    name_at (λ (w : WorkContents). w.name) S.works front x more works good.work_names in
+    named_there (λ (w : WorkContents). w.name) S.works front x more works good.work_names in
     let names : map (λ (w : WorkContents). w.name) front ≡ work_names D = sym (names_of_bare front) ∙ ap (map (λ (w : WorkContents). w.name)) (sym declared) in
     let new : IsNew (work_names D) x.name = subst (λ (ns : List (List ℕ)). IsNew ns x.name) names named.0 in
     let on : on_queue_of (length S.queues) x ≡ true = test_at (on_queue_of (length S.queues)) S.works front x more works good.works in
@@ -380,7 +381,7 @@ ends_there (x ∷ xs) rest (y ∷ ys) none e =
 pub body_of : (S : ScenarioContents) (done : List WorkContents) (x : WorkContents) (more : List WorkContents) → Good S → S.works ≡ done ++ x ∷ more
     → GoodBody S.cpus (length S.works) x.body
 body_of S done x more good works =
-    bodies_at (GoodBodyOf S.cpus (length S.works)) done more x (subst (λ (ws : List WorkContents). AllByRecursion (GoodBodyOf S.cpus (length S.works)) ws) works good.bodies)
+    all_at (GoodBodyOf S.cpus (length S.works)) done more x (subst (λ (ws : List WorkContents). AllByRecursion (GoodBodyOf S.cpus (length S.works)) ws) works good.bodies)
 
 finish_op : (o : Op) → is_finish o ≡ true → o ≡ op.Finish
 finish_op (op.Burn ticks) e = cc
@@ -474,7 +475,7 @@ actor_at : (D S : ScenarioContents) (name : List ℕ) (lines : List Line) (more 
     → S.actors ≡ D.actors ++ record { name = name; lines = lines } ∷ more → open_actor D (name ∷ []) ≡ Ok (Actor D name [])
 actor_at D S name lines more good actors =
     let a : ActorContents = record { name = name; lines = lines } in
-    let named : IsNew (actor_names D) name × (is_name name ≡ true) = name_at (λ (x : ActorContents). x.name) S.actors D.actors a more actors good.actor_names in
+    let named : IsNew (actor_names D) name × (is_name name ≡ true) = named_there (λ (x : ActorContents). x.name) S.actors D.actors a more actors good.actor_names in
     let below : length D.actors < length S.actors = place_below S.actors D.actors a more actors in
     let few : length S.actors ≤ MAX_ACTORS = good.few_actors in
     actor_opens D name named.1 named.0 (omega arith)
@@ -575,8 +576,9 @@ line_taken D name given l lines S said good says head queues works line left mor
     let is_good : good_line S line ≡ true = test_at (good_line S) (given ++ line ∷ left) given line left refl both.1 in
     let good_here : good_line D line ≡ true = sym (same_good_line D S line queues works) ∙ is_good in
     let names : GoodNames [] (work_names D) = subst (λ (ws : List WorkContents). GoodNames [] (map (λ (w : WorkContents). w.name) ws)) works good.work_names in
+    let are : IsActor a = all_at IsActor D.actors more a (subst (AllByRecursion IsActor) actors good.actors_are) in
     let read =
-    line_again D line said names (queue_names_of D S good queues) good_here (says_as l (actor_line D line) said (here ∙ sym (same_actor_line D S line queues works)) says) in
+    line_again D line said names (queue_names_of D S good queues) good_here (all_at IsLine given left line are.lines) (says_as l (actor_line D line) said (here ∙ sym (same_actor_line D S line queues works)) says) in
     let parts : length (given ++ line ∷ left) ≡ length given + suc (length left) = length-append given (line ∷ left) in
     let few : length (given ++ line ∷ left) ≤ MAX_LINES = at_most (length (given ++ line ∷ left)) MAX_LINES both.0 in
     record {

@@ -22,85 +22,108 @@ work_names S = map (λ work. work.name) S.works
 abbrev pub actor_names : ScenarioContents → List (List ℕ)
 actor_names S = map (λ actor. actor.name) S.actors
 
--- the first words of lines
-abbrev pub first_words : List (List ℕ)
-first_words =
-    codes "cpus" ∷ codes "workers" ∷ codes "steps" ∷ codes "flushes" ∷ codes "queue" ∷ codes "work" ∷ codes "body"
-    ∷ codes "burn" ∷ codes "sleep" ∷ codes "finish" ∷ codes "actor" ∷ codes "delay" ∷ codes "mod" ∷ codes "cancel"
-    ∷ codes "cancel_sync" ∷ codes "flush" ∷ codes "flush_delayed" ∷ codes "flush_queue" ∷ codes "set_max"
-    ∷ codes "freeze" ∷ codes "thaw" ∷ codes "fire" ∷ codes "step" ∷ codes "tick" ∷ codes "next" ∷ codes "ask"
-    ∷ codes "busy" ∷ codes "state" ∷ []
-
--- the first word can't stand here: for this reason if some line begins with it
-unfoldable pub cannot_stand : {A : Type 0} → Why → List ℕ → Result A Why
-cannot_stand reason word = if list_any (bytes_eq word) first_words then Err reason else Err why.BadWord
-
--- Operands.
-
 abbrev pub work_id : ℕ → WorkId
 work_id work = record { 0 = work }
 
 abbrev pub queue_id : ℕ → QueueId
 queue_id queue = record { 0 = queue }
 
--- a work
+-- What stands behind the word of an instruction.
+pub data Operands : Type 0 where
+  -- nothing more: this is the instruction
+  Makes : (instr : Instr) → Operands
+  -- a work, a queue, or a number up to this one, and then what its value tells
+  OfWork : (next : WorkId → Operands) → Operands
+  OfQueue : (next : QueueId → Operands) → Operands
+  OfNumber : (high : ℕ) (next : ℕ → Operands) → Operands
+
+abbrev pub of_work : (WorkId → Instr) → Operands
+of_work instr = OfWork (λ work. Makes (instr work))
+
+abbrev pub of_queue : (QueueId → Instr) → Operands
+of_queue instr = OfQueue (λ queue. Makes (instr queue))
+
+abbrev pub of_number : ℕ → (ℕ → Instr) → Operands
+of_number high instr = OfNumber high (λ n. Makes (instr n))
+
+abbrev pub of_work_cpu : (WorkId → ℕ → Instr) → Operands
+of_work_cpu instr = OfWork (λ work. of_number 255 (instr work))
+
+abbrev pub of_work_cpu_ticks : (WorkId → ℕ → ℕ → Instr) → Operands
+of_work_cpu_ticks instr = OfWork (λ work. OfNumber 255 (λ cpu. of_number 4294967295 (instr work cpu)))
+
+abbrev pub of_queue_max : (QueueId → ℕ → Instr) → Operands
+of_queue_max instr = OfQueue (λ queue. of_number 4294967295 (instr queue))
+
+-- The instructions: the word of each, and its operands.
+abbrev pub instructions : List (List ℕ × Operands)
+instructions =
+    (codes "queue", of_work_cpu instr.Queue)
+    ∷ (codes "delay", of_work_cpu_ticks instr.Delay)
+    ∷ (codes "mod", of_work_cpu_ticks instr.Mod)
+    ∷ (codes "cancel", of_work instr.Cancel)
+    ∷ (codes "cancel_sync", of_work instr.CancelSync)
+    ∷ (codes "flush", of_work instr.Flush)
+    ∷ (codes "flush_delayed", of_work instr.FlushDelayed)
+    ∷ (codes "flush_queue", of_queue instr.FlushQueue)
+    ∷ (codes "set_max", of_queue_max instr.SetMax)
+    ∷ (codes "freeze", Makes instr.Freeze)
+    ∷ (codes "thaw", Makes instr.Thaw)
+    ∷ (codes "fire", Makes instr.Fire)
+    ∷ (codes "step", of_number 255 instr.Step)
+    ∷ (codes "tick", Makes instr.Tick)
+    ∷ (codes "next", Makes instr.Next)
+    ∷ (codes "ask", of_number 65535 instr.Ask)
+    ∷ (codes "busy", Makes instr.Busy)
+    ∷ (codes "state", of_work instr.State)
+    ∷ []
+
+-- the first words of lines; an operation and a queue's line begin with `queue` too
+abbrev pub first_words : List (List ℕ)
+first_words =
+    codes "cpus" ∷ codes "workers" ∷ codes "steps" ∷ codes "flushes" ∷ codes "work" ∷ codes "body" ∷ codes "burn"
+    ∷ codes "sleep" ∷ codes "finish" ∷ codes "actor" ∷ map (λ line. line.0) instructions
+
+-- the first word can't stand here: for this reason if some line begins with it
+unfoldable pub cannot_stand : {A : Type 0} → Why → List ℕ → Result A Why
+cannot_stand reason word = if list_any (bytes_eq word) first_words then Err reason else Err why.BadWord
+
+-- Reading. What was read is the instruction, and the words after it.
+
+abbrev pub operands_at : ScenarioContents → Operands → List (List ℕ) → Result (Instr × List (List ℕ)) Why
+operands_at S (Makes instr) words = Ok (instr, words)
+operands_at S (OfWork next) words = declared_at (work_names S) words >>= (λ work. operands_at S (next (work_id work.0)) work.1)
+operands_at S (OfQueue next) words = declared_at (queue_names S) words >>= (λ queue. operands_at S (next (queue_id queue.0)) queue.1)
+operands_at S (OfNumber high next) words = number_within 0 high words >>= (λ n. operands_at S (next n.0) n.1)
+
+-- of these instructions the one that begins with this word
+abbrev pub instr_among : List (List ℕ × Operands) → ScenarioContents → List ℕ → List (List ℕ) → Result (Instr × List (List ℕ)) Why
+instr_among [] S word rest = cannot_stand why.Misplaced word
+instr_among (line ∷ more) S word rest =
+    if bytes_eq word line.0 then operands_at S line.1 rest else instr_among more S word rest
+
+unfoldable pub instr_at : ScenarioContents → List ℕ → List (List ℕ) → Result (Instr × List (List ℕ)) Why
+instr_at = instr_among instructions
+
+-- The operands of one shape, read for an instruction.
+
 abbrev pub on_work : ScenarioContents → (WorkId → Instr) → List (List ℕ) → Result (Instr × List (List ℕ)) Why
-on_work S instr words = declared_at (work_names S) words >>= made (λ work. instr (work_id work))
+on_work S instr = operands_at S (of_work instr)
 
--- a queue
 abbrev pub on_queue : ScenarioContents → (QueueId → Instr) → List (List ℕ) → Result (Instr × List (List ℕ)) Why
-on_queue S instr words = declared_at (queue_names S) words >>= made (λ queue. instr (queue_id queue))
+on_queue S instr = operands_at S (of_queue instr)
 
--- a number up to this one
 abbrev pub number_to : ℕ → (ℕ → Instr) → List (List ℕ) → Result (Instr × List (List ℕ)) Why
 number_to high instr words = number_within 0 high words >>= made instr
 
--- a work and a CPU
-abbrev pub then_cpu : (WorkId → ℕ → Instr) → ℕ × List (List ℕ) → Result (Instr × List (List ℕ)) Why
-then_cpu instr work = number_to 255 (instr (work_id work.0)) work.1
-
 abbrev pub on_work_cpu : ScenarioContents → (WorkId → ℕ → Instr) → List (List ℕ) → Result (Instr × List (List ℕ)) Why
-on_work_cpu S instr words = declared_at (work_names S) words >>= then_cpu instr
-
--- a work, a CPU and ticks
-abbrev pub then_ticks : (ℕ → ℕ → Instr) → ℕ × List (List ℕ) → Result (Instr × List (List ℕ)) Why
-then_ticks instr cpu = number_to 4294967295 (instr cpu.0) cpu.1
-
-abbrev pub then_cpu_ticks : (WorkId → ℕ → ℕ → Instr) → ℕ × List (List ℕ) → Result (Instr × List (List ℕ)) Why
-then_cpu_ticks instr work = number_within 0 255 work.1 >>= then_ticks (instr (work_id work.0))
+on_work_cpu S instr = operands_at S (of_work_cpu instr)
 
 abbrev pub on_work_cpu_ticks : ScenarioContents → (WorkId → ℕ → ℕ → Instr) → List (List ℕ) → Result (Instr × List (List ℕ)) Why
-on_work_cpu_ticks S instr words = declared_at (work_names S) words >>= then_cpu_ticks instr
-
--- a queue and a count
-abbrev pub then_max : (QueueId → ℕ → Instr) → ℕ × List (List ℕ) → Result (Instr × List (List ℕ)) Why
-then_max instr queue = number_to 4294967295 (instr (queue_id queue.0)) queue.1
+on_work_cpu_ticks S instr = operands_at S (of_work_cpu_ticks instr)
 
 abbrev pub on_queue_max : ScenarioContents → (QueueId → ℕ → Instr) → List (List ℕ) → Result (Instr × List (List ℕ)) Why
-on_queue_max S instr words = declared_at (queue_names S) words >>= then_max instr
-
--- The instruction that begins with this word, and the words after it.
-unfoldable pub instr_at : ScenarioContents → List ℕ → List (List ℕ) → Result (Instr × List (List ℕ)) Why
-instr_at S word rest =
-    if bytes_eq word (codes "queue") then on_work_cpu S instr.Queue rest
-    else if bytes_eq word (codes "delay") then on_work_cpu_ticks S instr.Delay rest
-    else if bytes_eq word (codes "mod") then on_work_cpu_ticks S instr.Mod rest
-    else if bytes_eq word (codes "cancel") then on_work S instr.Cancel rest
-    else if bytes_eq word (codes "cancel_sync") then on_work S instr.CancelSync rest
-    else if bytes_eq word (codes "flush") then on_work S instr.Flush rest
-    else if bytes_eq word (codes "flush_delayed") then on_work S instr.FlushDelayed rest
-    else if bytes_eq word (codes "flush_queue") then on_queue S instr.FlushQueue rest
-    else if bytes_eq word (codes "set_max") then on_queue_max S instr.SetMax rest
-    else if bytes_eq word (codes "freeze") then Ok (instr.Freeze, rest)
-    else if bytes_eq word (codes "thaw") then Ok (instr.Thaw, rest)
-    else if bytes_eq word (codes "fire") then Ok (instr.Fire, rest)
-    else if bytes_eq word (codes "step") then number_to 255 instr.Step rest
-    else if bytes_eq word (codes "tick") then Ok (instr.Tick, rest)
-    else if bytes_eq word (codes "next") then Ok (instr.Next, rest)
-    else if bytes_eq word (codes "ask") then number_to 65535 instr.Ask rest
-    else if bytes_eq word (codes "busy") then Ok (instr.Busy, rest)
-    else if bytes_eq word (codes "state") then on_work S instr.State rest
-    else cannot_stand why.Misplaced word
+on_queue_max S instr = operands_at S (of_queue_max instr)
 
 -- How often the instruction stands: once, or as often as `* N` says.
 

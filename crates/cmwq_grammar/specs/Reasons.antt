@@ -20,18 +20,34 @@ use Rattle.cmwq_grammar.specs.declared.why.Why.TheVariants as why
 
 -- `queue NAME max N FLAG..`
 
+-- a flag: its word, whether it is set, and the flags with it set
+pub record FlagWord : Type 0 where
+  pub word : List ℕ
+  pub has : Flags → Bool
+  pub set : Flags → Flags
+
+-- The flags.
+abbrev pub flag_table : List FlagWord
+flag_table =
+    record { word = codes "highpri"; has = λ flags. flags.highpri; set = λ flags. record flags { highpri = true } }
+    ∷ record { word = codes "unbound"; has = λ flags. flags.unbound; set = λ flags. record flags { unbound = true } }
+    ∷ record { word = codes "cpu_intensive"; has = λ flags. flags.cpu_intensive; set = λ flags. record flags { cpu_intensive = true } }
+    ∷ record { word = codes "freezable"; has = λ flags. flags.freezable; set = λ flags. record flags { freezable = true } }
+    ∷ record { word = codes "ordered"; has = λ flags. flags.ordered; set = λ flags. record flags { ordered = true } }
+    ∷ []
+
 -- the flag, if it isn't set yet
 abbrev pub set_once : Bool → Flags → Result Flags Why
 set_once is_set flags = value_if (not is_set) flags (why.Fault fault.Duplicate)
 
+-- the flags, and of these the one that the word names
+abbrev pub add_among : List FlagWord → Flags → List ℕ → Result Flags Why
+add_among [] flags word = Err why.BadWord
+add_among (flag ∷ more) flags word =
+    if bytes_eq word flag.word then set_once (flag.has flags) (flag.set flags) else add_among more flags word
+
 unfoldable pub add_flag : Flags → List ℕ → Result Flags Why
-add_flag flags word =
-    if bytes_eq word (codes "highpri") then set_once flags.highpri (record flags { highpri = true })
-    else if bytes_eq word (codes "unbound") then set_once flags.unbound (record flags { unbound = true })
-    else if bytes_eq word (codes "cpu_intensive") then set_once flags.cpu_intensive (record flags { cpu_intensive = true })
-    else if bytes_eq word (codes "freezable") then set_once flags.freezable (record flags { freezable = true })
-    else if bytes_eq word (codes "ordered") then set_once flags.ordered (record flags { ordered = true })
-    else Err why.BadWord
+add_flag = add_among flag_table
 
 -- each word that is left is a flag
 unfoldable pub flags_at : List (List ℕ) → Flags → Result Flags Why

@@ -299,8 +299,8 @@ WorkFits w = IsWorkDecl w × HasBodySize w
 abbrev ActorFits : ActorContents → Type 0
 ActorFits a = IsActor a × HasLinesSize a
 
-abbrev numbered : (cpus workers steps flushes : ℕ) → List QueueDecl → List WorkContents → List ActorContents → ScenarioContents
-numbered cpus workers steps flushes queues works actors =
+abbrev with_numbers : (cpus workers steps flushes : ℕ) → List QueueDecl → List WorkContents → List ActorContents → ScenarioContents
+with_numbers cpus workers steps flushes queues works actors =
     record { cpus = cpus; workers = workers; steps = steps; flushes = flushes; queues = queues; works = works; actors = actors }
 
 -- the numbers of a scenario are these
@@ -308,10 +308,10 @@ abbrev NumbersAre : Head → ScenarioContents → Type 0
 NumbersAre head S = (S.cpus ≡ head.cpus) × (S.workers ≡ head.workers) × (S.steps ≡ head.steps) × (S.flushes ≡ head.flushes)
 
 same_numbers : (a b c d a' b' c' d' : ℕ) (queues : List QueueDecl) (works : List WorkContents) (actors : List ActorContents)
-    → a ≡ a' → b ≡ b' → c ≡ c' → d ≡ d' → numbered a b c d queues works actors ≡ numbered a' b' c' d' queues works actors
+    → a ≡ a' → b ≡ b' → c ≡ c' → d ≡ d' → with_numbers a b c d queues works actors ≡ with_numbers a' b' c' d' queues works actors
 same_numbers a b c d a' b' c' d' queues works actors p q r s =
-    ap (λ x. numbered x b c d queues works actors) p ∙ ap (λ x. numbered a' x c d queues works actors) q
-    ∙ ap (λ x. numbered a' b' x d queues works actors) r ∙ ap (λ x. numbered a' b' c' x queues works actors) s
+    ap (λ x. with_numbers x b c d queues works actors) p ∙ ap (λ x. with_numbers a' x c d queues works actors) q
+    ∙ ap (λ x. with_numbers a' b' x d queues works actors) r ∙ ap (λ x. with_numbers a' b' c' x queues works actors) s
 
 scenarios_actors : (head : Head) (queues : List QueueDecl) (works : List WorkContents)
     → Codec (many read_actor head.actors >>= λ actors. done (scenario_with head queues works actors)) (λ S. in_order (flat_map actor_image S.actors ∷ []))

@@ -13,7 +13,7 @@ use Rattle.cmwq_play.specs.declared.session.Session.{Session}
 
 module _ {M W : Type 0} (loaded : M → ScenarioContents) (state : M → State) (contents : W → Option (List ℕ)) (failed : W → Bool) where
   -- the machine has the scenario, and no write failed yet
-  pub record IsReady (session : Session M W) : Type 0 where
+  pub record CanIssue (session : Session M W) : Type 0 where
     pub has_scenario : loaded session.machine ≡ session.scenario.now
     pub is_sound : failed (sink session.lines) ≡ false
 
@@ -23,7 +23,7 @@ module _ {M W : Type 0} (loaded : M → ScenarioContents) (state : M → State) 
 
   -- these instructions were issued, and what they print was written
   pub record Issued (old new : Session M W) (instrs : List Instr) : Type 0 where
-    pub ready : IsReady new
+    pub ready : CanIssue new
     pub scenario : new.scenario.now ≡ old.scenario.now
     pub same : SharesSink old.lines new.lines
     pub reached : state new.machine ≡ after_all old.scenario.now (state old.machine) instrs

@@ -2,7 +2,7 @@
 ghost use Rattle.cmwq_play.specs.Blocks.{SharesSink, WritesTo, kept, sink};
 ghost use Rattle.cmwq_play.specs.Commands.{Writes};
 ghost use Rattle.cmwq_play.specs.Sending.{IsSendError};
-ghost use Rattle.cmwq_play.specs.Session.{IsReady, Issues, prints};
+ghost use Rattle.cmwq_play.specs.Session.{CanIssue, Issues, prints};
 ghost use Rattle.cmwq_types.specs.Scenario.{expand, expand_lines};
 ghost use Rattle.std.specs.Prelude.{◌≡◌, [], ◌∷◌, IfErr, replicate};
 
@@ -24,7 +24,7 @@ impl<'w, M: Machine, W: Sink> Session<'_, 'w, M, W> {
     /// Issues one instruction, and writes the line of its reply.
     #[tactic(auto, using(crate::proofs::RunLemmas::events_from_one))]
     fn issue(&mut self, instr: Instr) -> Result<(), PlayError>
-        requires { IsReady M.loaded M.state W.contents W.failed self.old }
+        requires { CanIssue M.loaded M.state W.contents W.failed self.old }
         ensures { Issues M.loaded M.state W.contents W.failed self.old self.new (instr ∷ []) result }
     {
         let reply = self.machine.exec(instr);
@@ -39,7 +39,7 @@ impl<'w, M: Machine, W: Sink> Session<'_, 'w, M, W> {
 
     /// Issues the instruction as often as the line says, and writes the lines of its replies.
     fn issue_line(&mut self, line: Line) -> Result<(), PlayError>
-        requires { IsReady M.loaded M.state W.contents W.failed self.old }
+        requires { CanIssue M.loaded M.state W.contents W.failed self.old }
         ensures { Issues M.loaded M.state W.contents W.failed self.old self.new (replicate line.times line.instr) result }
     {
         for _turn in 0..line.times {
@@ -50,7 +50,7 @@ impl<'w, M: Machine, W: Sink> Session<'_, 'w, M, W> {
 
     /// Issues the lines one after another, and writes the lines of the replies.
     pub(crate) fn issue_lines(&mut self, lines: &[Line]) -> Result<(), PlayError>
-        requires { IsReady M.loaded M.state W.contents W.failed self.old }
+        requires { CanIssue M.loaded M.state W.contents W.failed self.old }
         ensures { Issues M.loaded M.state W.contents W.failed self.old self.new (expand_lines lines.now) result }
     {
         for line in lines {
@@ -63,7 +63,7 @@ impl<'w, M: Machine, W: Sink> Session<'_, 'w, M, W> {
     ///
     /// A block is made first, so that no line of a reply takes memory.
     pub(crate) fn play(&mut self, actor: &Actor) -> Result<(), PlayError>
-        requires ready { IsReady M.loaded M.state W.contents W.failed self.old }
+        requires ready { CanIssue M.loaded M.state W.contents W.failed self.old }
         requires empty { kept self.old.lines ≡ [] }
         ensures same { SharesSink self.old.lines self.new.lines }
         ensures writes { Writes (λ output. output ≡ prints M.loaded M.state W.contents W.failed self.old (expand actor.now))
@@ -76,7 +76,7 @@ impl<'w, M: Machine, W: Sink> Session<'_, 'w, M, W> {
 
     /// Issues the actor's instructions, and sends all that they print.
     fn issue_all(&mut self, actor: &Actor) -> Result<(), PlayError>
-        requires ready { IsReady M.loaded M.state W.contents W.failed self.old }
+        requires ready { CanIssue M.loaded M.state W.contents W.failed self.old }
         requires empty { kept self.old.lines ≡ [] }
         ensures same { SharesSink self.old.lines self.new.lines }
         ensures writes { Writes (λ output. output ≡ prints M.loaded M.state W.contents W.failed self.old (expand actor.now))
