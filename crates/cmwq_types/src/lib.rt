@@ -9,6 +9,7 @@ mod equality;
 mod instr;
 mod limits;
 mod memory;
+mod mnemonic;
 mod moves;
 mod name;
 mod reply;
@@ -21,6 +22,7 @@ pub use limits::{
     MAX_QUEUES, MAX_STEPS, MAX_TEXT, MAX_TICKETS, MAX_TICKS, MAX_TIMES, MAX_WORKERS, MAX_WORKS,
 };
 pub use memory::NoMemory;
+pub use mnemonic::Mnemonic;
 pub use moves::Move;
 pub use name::Name;
 pub use reply::{Cause, Event, Mode, Place, Refusal, Reply, WorkRun, WorkState};
