@@ -2,6 +2,7 @@
 ghost use Rattle.cmwq_grammar.specs.Grammar.{Spells};
 ghost use Rattle.cmwq_types.specs.Faults.{IsValid};
 ghost use Rattle.cmwq_types.specs.Listing.{Flagged, actor_line, actor_lines, body_lines, flag_words, instr_words, line_text, listing, op_line, queue_line, times_words, word_if, work_line, written_text};
+ghost use Rattle.cmwq_types.specs.Mnemonics.{spelling};
 ghost use Rattle.cmwq_types.specs.Name.{is_name};
 ghost use Rattle.cmwq_types.specs.Scenario.{queue_at, work_at};
 ghost use Rattle.cmwq_types.specs.Values.{IsActor, IsInstr, IsLine, IsOp, IsQueueDecl, IsScenario};
@@ -12,7 +13,7 @@ ghost use Rattle.std.specs.Prelude.{◌≡◌, ◌++◌, ◌∷◌, ◌<◌, ◌
 use crate::lines::{push_line, push_others, push_words};
 use cmwq_grammar::laws::listing_spells_its_scenario;
 use cmwq_types::{
-    Actor, Flags, Instr, Line, NoMemory, Op, QueueDecl, QueueId, Scenario, WorkDecl, WorkId,
+    Actor, Flags, Instr, Line, Mnemonic, NoMemory, Op, QueueDecl, QueueId, Scenario, WorkDecl, WorkId,
 };
 use itoa::Buffer;
 use std::alloc::Global;
@@ -209,73 +210,94 @@ fn push_instr(text: &mut Vec<u8>, scenario: &Scenario, instr: Instr) -> Result<(
 {
     match instr {
         Instr::Queue(work, cpu) => {
-            push_of_name(text, b"queue", work_name(scenario, work), u32::from(cpu))
+            let work = work_name(scenario, work);
+            push_of_name(text, Mnemonic::Queue, work, u32::from(cpu))
         }
         Instr::Delay(work, cpu, ticks) => {
-            push_delayed(text, b"delay", work_name(scenario, work), cpu, ticks)
+            push_delayed(text, Mnemonic::Delay, work_name(scenario, work), cpu, ticks)
         }
         Instr::Mod(work, cpu, ticks) => {
-            push_delayed(text, b"mod", work_name(scenario, work), cpu, ticks)
+            push_delayed(text, Mnemonic::Mod, work_name(scenario, work), cpu, ticks)
         }
-        Instr::Cancel(work) => push_named(text, b"cancel", work_name(scenario, work)),
-        Instr::CancelSync(work) => push_named(text, b"cancel_sync", work_name(scenario, work)),
-        Instr::Flush(work) => push_named(text, b"flush", work_name(scenario, work)),
-        Instr::FlushDelayed(work) => push_named(text, b"flush_delayed", work_name(scenario, work)),
-        Instr::FlushQueue(queue) => push_named(text, b"flush_queue", queue_name(scenario, queue)),
+        Instr::Cancel(work) => push_named(text, Mnemonic::Cancel, work_name(scenario, work)),
+        Instr::CancelSync(work) => {
+            push_named(text, Mnemonic::CancelSync, work_name(scenario, work))
+        }
+        Instr::Flush(work) => push_named(text, Mnemonic::Flush, work_name(scenario, work)),
+        Instr::FlushDelayed(work) => {
+            push_named(text, Mnemonic::FlushDelayed, work_name(scenario, work))
+        }
+        Instr::FlushQueue(queue) => {
+            push_named(text, Mnemonic::FlushQueue, queue_name(scenario, queue))
+        }
         Instr::SetMax(queue, max) => {
-            push_of_name(text, b"set_max", queue_name(scenario, queue), max)
+            push_of_name(text, Mnemonic::SetMax, queue_name(scenario, queue), max)
         }
-        Instr::Freeze => push_words(text, b"freeze", &[]),
-        Instr::Thaw => push_words(text, b"thaw", &[]),
-        Instr::Fire => push_words(text, b"fire", &[]),
-        Instr::Step(pool) => push_counted(text, b"step", u32::from(pool)),
-        Instr::Tick => push_words(text, b"tick", &[]),
-        Instr::Next => push_words(text, b"next", &[]),
-        Instr::Ask(flush) => push_counted(text, b"ask", u32::from(flush)),
-        Instr::Busy => push_words(text, b"busy", &[]),
-        Instr::State(work) => push_named(text, b"state", work_name(scenario, work)),
+        Instr::Freeze => push_alone(text, Mnemonic::Freeze),
+        Instr::Thaw => push_alone(text, Mnemonic::Thaw),
+        Instr::Fire => push_alone(text, Mnemonic::Fire),
+        Instr::Step(pool) => push_counted(text, Mnemonic::Step, u32::from(pool)),
+        Instr::Tick => push_alone(text, Mnemonic::Tick),
+        Instr::Next => push_alone(text, Mnemonic::Next),
+        Instr::Ask(flush) => push_counted(text, Mnemonic::Ask, u32::from(flush)),
+        Instr::Busy => push_alone(text, Mnemonic::Busy),
+        Instr::State(work) => push_named(text, Mnemonic::State, work_name(scenario, work)),
     }
 }
 
-/// Writes a word and the name of a work or queue.
-fn push_named(text: &mut Vec<u8>, word: &[u8], name: &[u8]) -> Result<(), NoMemory>
-    ensures { OnOk result (text.new.items ≡ text.old.items ++ join_with_byte 32 (word.now ∷ name.now ∷ [])) }
+/// Writes the word of an instruction that has no operands.
+fn push_alone(text: &mut Vec<u8>, mnemonic: Mnemonic) -> Result<(), NoMemory>
+    ensures { OnOk result (text.new.items ≡ text.old.items ++ spelling mnemonic) }
 {
-    push_words(text, word, &[name])
+    text.extend_from_slice(mnemonic.as_bytes())?;
+    Ok(())
 }
 
-/// Writes a word, the name of a work or queue, and a number.
-fn push_of_name(text: &mut Vec<u8>, word: &[u8], name: &[u8], n: u32) -> Result<(), NoMemory>
-    ensures { OnOk result (text.new.items ≡ text.old.items ++ join_with_byte 32 (word.now ∷ name.now ∷ decimal n ∷ [])) }
+/// Writes an instruction on a work or queue of this name.
+fn push_named(text: &mut Vec<u8>, mnemonic: Mnemonic, name: &[u8]) -> Result<(), NoMemory>
+    ensures { OnOk result (text.new.items ≡ text.old.items ++ join_with_byte 32 (spelling mnemonic ∷ name.now ∷ [])) }
+{
+    push_words(text, mnemonic.as_bytes(), &[name])
+}
+
+/// Writes an instruction on a work or queue of this name, and a number.
+fn push_of_name(
+    text: &mut Vec<u8>,
+    mnemonic: Mnemonic,
+    name: &[u8],
+    n: u32,
+) -> Result<(), NoMemory>
+    ensures { OnOk result (text.new.items ≡ text.old.items
+        ++ join_with_byte 32 (spelling mnemonic ∷ name.now ∷ decimal n ∷ [])) }
 {
     let mut digits = Buffer::new();
-    push_words(text, word, &[name, digits.format(n).as_bytes()])
+    push_words(text, mnemonic.as_bytes(), &[name, digits.format(n).as_bytes()])
 }
 
-/// Writes a word and a number.
-fn push_counted(text: &mut Vec<u8>, word: &[u8], n: u32) -> Result<(), NoMemory>
-    ensures { OnOk result (text.new.items ≡ text.old.items ++ join_with_byte 32 (word.now ∷ decimal n ∷ [])) }
+/// Writes an instruction on a number.
+fn push_counted(text: &mut Vec<u8>, mnemonic: Mnemonic, n: u32) -> Result<(), NoMemory>
+    ensures { OnOk result (text.new.items ≡ text.old.items ++ join_with_byte 32 (spelling mnemonic ∷ decimal n ∷ [])) }
 {
     let mut digits = Buffer::new();
-    push_words(text, word, &[digits.format(n).as_bytes()])
+    push_words(text, mnemonic.as_bytes(), &[digits.format(n).as_bytes()])
 }
 
-/// Writes a word, the name of a work, a CPU and how many ticks.
+/// Writes an instruction on a work of this name, a CPU and how many ticks.
 fn push_delayed(
     text: &mut Vec<u8>,
-    word: &[u8],
+    mnemonic: Mnemonic,
     work: &[u8],
     cpu: u8,
     ticks: u32,
 ) -> Result<(), NoMemory>
     ensures { OnOk result (text.new.items ≡ text.old.items
-        ++ join_with_byte 32 (word.now ∷ work.now ∷ decimal cpu ∷ decimal ticks ∷ [])) }
+        ++ join_with_byte 32 (spelling mnemonic ∷ work.now ∷ decimal cpu ∷ decimal ticks ∷ [])) }
 {
     let mut cpu_digits = Buffer::new();
     let mut tick_digits = Buffer::new();
     let cpu = cpu_digits.format(cpu).as_bytes();
     let ticks = tick_digits.format(ticks).as_bytes();
-    push_words(text, word, &[work, cpu, ticks])
+    push_words(text, mnemonic.as_bytes(), &[work, cpu, ticks])
 }
 
 /// Writes `* N` behind a space, unless the line stands once.

@@ -1,5 +1,5 @@
 -- The parts between cuts, by the place of the first cut.
-use Rattle.std.proofs.Common.{◌≡◌, ℕ, suc, ◌+◌, ◌-◌, ◌<◌, Bool, true, false, cond, List, [], ◌∷◌, length, take, drop, None, Some, ap, ◌∙◌, refl, arith, position, nat_lt, ◌==◌, Option}
+use Rattle.std.proofs.Common.{◌≡◌, ℕ, suc, ◌+◌, ◌-◌, ◌<◌, Bool, true, false, cond, List, [], ◌∷◌, length, take, drop, get_or, ◌++◌, add-one, drop-cons, None, Some, ap, sym, ◌∙◌, refl, arith, position, nat_lt, ◌==◌, Option}
 use Rattle.std.specs.List.{slice_split, position_or_len}
 use Rattle.std.proofs.lemmas.Bool.Decides.{nat_tests}
 use Rattle.std.proofs.lemmas.Grind.{common_steps}
@@ -30,6 +30,25 @@ module _ (p : ℕ → Bool) where
       slice_split_first p xs 0 (grind (arith, nat_tests))
       ∙ ap (λ (n : ℕ). take n xs ∷ slice_split p (drop (n + 1) xs)) at.1
 
+  pub position_within : (xs : List ℕ) (i : ℕ) → position p xs ≡ Some i → i < length xs
+  position_within xs i some =
+      let at = chosen _ _ _ some in
+      let below : nat_lt (position_or_len p xs) (length xs) ≡ true = at.0 in
+      let same = at.1 in
+      grind (arith, nat_tests)
+
+-- the rest of a list, with the length that it has
+rest : (n : ℕ) (xs : List ℕ) → drop n xs ≡ take (length xs - n) (drop n xs)
+rest n xs = grind (arith, common_steps)
+
+-- a list cut at a place
+pub cut_at : (xs : List ℕ) (i : ℕ) → i < length xs → xs ≡ take i xs ++ get_or xs i 0 ∷ take (length xs - (i + 1)) (drop (i + 1) xs)
+cut_at xs i inside =
+    let parts : xs ≡ take i xs ++ drop i xs = grind (arith, common_steps) in
+    parts
+    ∙ ap (λ (tail : List ℕ). take i xs ++ tail) (sym (rw (add-one, drop-cons xs i 0) refl))
+    ∙ ap (λ (tail : List ℕ). take i xs ++ get_or xs i 0 ∷ tail) (rest (i + 1) xs)
+
 -- a piece before other pieces is a line
 without_empty_last-more : (piece : List ℕ) (pieces : List (List ℕ)) → 0 < length pieces → without_empty_last (piece ∷ pieces) ≡ piece ∷ without_empty_last pieces
 without_empty_last-more piece [] more = absurd (omega arith)
@@ -51,10 +70,6 @@ lines_of-none [] none some_bytes = absurd (omega arith)
 lines_of-none (byte ∷ bytes) none some_bytes =
     ap without_empty_last (slice_split-position_none (λ byte. byte == 10) (byte ∷ bytes) none)
     ∙ without_empty_last-one byte bytes
-
--- the rest of a list, with the length that it has
-rest : (n : ℕ) (xs : List ℕ) → drop n xs ≡ take (length xs - n) (drop n xs)
-rest n xs = grind (arith, common_steps)
 
 pub rest_is : (lines : List ℕ → List (List ℕ)) (first : List ℕ) (n : ℕ) (xs : List ℕ) → first ∷ lines (drop n xs) ≡ first ∷ lines (take (length xs - n) (drop n xs))
 rest_is lines first n xs = ap (λ (bytes : List ℕ). first ∷ lines bytes) (rest n xs)

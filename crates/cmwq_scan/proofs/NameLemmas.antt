@@ -1,9 +1,12 @@
 -- Names as keys of a set: a test of a name, over the keys.
-use Rattle.std.proofs.Common.{◌≡◌, ℕ, suc, ◌+◌, Bool, false, not, cond, ◌||◌, List, [], ◌∷◌, ◌++◌, length, None, Some, ap, ◌∙◌, refl, position, nat_lt}
+use Rattle.std.proofs.Common.{◌≡◌, ℕ, suc, ◌+◌, Bool, true, false, not, cond, ◌||◌, List, [], ◌∷◌, ◌++◌, length, None, Some, ap, ◌∙◌, refl, position, nat_lt}
 use Rattle.std.specs.Prelude.{map}
-use Rattle.std.specs.List.{list_any, position_or_len}
+use Rattle.std.specs.List.{All, AllByRecursion, list_any, position_or_len}
+use Rattle.std.proofs.lemmas.List.Elements.{recursion_from_All}
 use Rattle.std.specs.Str.{bytes_eq}
 use Rattle.std.proofs.lemmas.Cmp.{nat_list_eq_equiv}
+use Rattle.cmwq_types.specs.Name.{is_name}
+use Rattle.std.specs.Cmp.Lexicographic.{bytes_decides}
 
 pub bytes_eq-sym : (a b : List ℕ) → bytes_eq a b ≡ bytes_eq b a
 bytes_eq-sym a b = nat_list_eq_equiv.symm a b
@@ -40,3 +43,15 @@ module _ {K : Type 0} (bytes : K → List ℕ) (name : List ℕ) where
       ap (λ (b : Bool). map bytes (cond b keys (keys ++ key ∷ []))) (list_any-keys keys ∙ absent)
       ∙ more keys key
       ∙ ap (λ (last : List ℕ). map bytes keys ++ last ∷ []) same
+
+  -- a name that is among the keys is a name, since each of them is
+  pub key_is_name : (keys : List K) → All (λ key. is_name (bytes key) ≡ true) keys → list_any (λ key. bytes_eq name (bytes key)) keys ≡ true → is_name name ≡ true
+  key_is_name keys names there = by keys (recursion_from_All (λ key. is_name (bytes key) ≡ true) keys names) there
+    where
+      by_first : (same : Bool) (key : K) (others : List K) → bytes_eq name (bytes key) ≡ same → is_name (bytes key) ≡ true → (list_any (λ key. bytes_eq name (bytes key)) others ≡ true → is_name name ≡ true) → (same || list_any (λ key. bytes_eq name (bytes key)) others) ≡ true → is_name name ≡ true
+      by_first true key others same named later there = ap is_name ((bytes_decides name (bytes key)).0 same) ∙ named
+      by_first false key others same named later there = later there
+
+      by : (keys : List K) → AllByRecursion (λ key. is_name (bytes key) ≡ true) keys → list_any (λ key. bytes_eq name (bytes key)) keys ≡ true → is_name name ≡ true
+      by [] names there = cc
+      by (key ∷ keys) names there = by_first (bytes_eq name (bytes key)) key keys refl names.0 (by keys names.1) there

@@ -1,3 +1,4 @@
 pub mod Answers
 pub mod LastFields
 pub mod Refusals
+pub mod Words

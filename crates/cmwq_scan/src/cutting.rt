@@ -1,7 +1,8 @@
 //! Cutting: a text into its lines, and a line into its pieces between blanks.
-ghost use Rattle.cmwq_grammar.specs.Cutting.{is_blank, is_hash, lines_of};
-ghost use Rattle.std.specs.List.{before_first, slice_split};
-ghost use Rattle.std.specs.Prelude.{◌≡◌, ◌+◌, ◌<◌, ◌≤◌, ◌∷◌, ◌==◌, [], IfSome, MatchOption, length, position};
+ghost use Rattle.cmwq_grammar.specs.Cutting.{is_blank, lines_of};
+ghost use Rattle.cmwq_scan.specs.Words.{worded_part};
+ghost use Rattle.std.specs.List.{slice_split};
+ghost use Rattle.std.specs.Prelude.{◌≡◌, ◌+◌, ◌<◌, ◌≤◌, ◌∷◌, ◌++◌, ◌==◌, ℕ, [], IfSome, MatchOption, length, position};
 ghost use Rattle.std.specs.Str.Lines.{strip_carriage_return};
 
 use memchr::memchr;
@@ -27,7 +28,7 @@ pub fn next_line(text: &[u8]) -> Option<(&[u8], &[u8])>
 /// The part of a line that has its words: what stands before a `#`, less one carriage return at the
 /// line's end.
 pub fn worded_part(line: &[u8]) -> &[u8]
-    ensures part { result.now ≡ before_first is_hash (strip_carriage_return line.now) }
+    ensures part { result.now ≡ worded_part line.now }
     ensures shorter { length result.now ≤ length line.now }
 {
     let line = without_carriage_return(line);
@@ -51,9 +52,9 @@ pub(crate) fn cut_at_blank(bytes: &[u8]) -> (&[u8], Option<&[u8]>)
     ensures pieces { MatchOption result.1
         (slice_split is_blank bytes.now ≡ result.0.now ∷ [])
         (λ rest. slice_split is_blank bytes.now ≡ result.0.now ∷ slice_split is_blank rest.now) }
-    ensures lengths { MatchOption result.1
-        (length result.0.now ≡ length bytes.now)
-        (λ rest. length result.0.now + length rest.now + 1 ≡ length bytes.now) }
+    ensures parts { MatchOption result.1
+        (bytes.now ≡ result.0.now)
+        (λ rest. (blank : ℕ) × (bytes.now ≡ result.0.now ++ blank ∷ rest.now)) }
 {
     match place_of_blank(bytes) {
         Some(place) => (&bytes[..place], Some(&bytes[place + 1..])),

@@ -1,6 +1,7 @@
 //! Names in a text, and the names of one kind in the order of their declarations.
+ghost use Rattle.cmwq_types.specs.Name.{is_name};
 ghost use Rattle.std.specs.List.{list_any};
-ghost use Rattle.std.specs.Prelude.{◌≡◌, ◌++◌, ◌∷◌, [], OnOk, false, position};
+ghost use Rattle.std.specs.Prelude.{◌≡◌, ◌++◌, ◌∷◌, [], IfSome, IsTrue, OnOk, false, position};
 ghost use Rattle.std.specs.Str.{bytes_eq};
 
 use cmwq_types::{Name, NoMemory};
@@ -17,19 +18,21 @@ pub struct Named<'t> {
 }
 
 impl<'t> Model for Named<'t> {
-    ghost use Rattle.std.specs.Prelude.{◌≡◌, List, ℕ};
+    ghost use Rattle.cmwq_types.specs.Name.{is_name};
+    ghost use Rattle.std.specs.Prelude.{◌≡◌, IsTrue, List, ℕ};
 
     ghost Value = { List ℕ };
 
     ghost view = { λ n. n.name };
 
-    ghost invariant = { λ n. n.bytes.now ≡ n.name };
+    ghost invariant = { λ n. (n.bytes.now ≡ n.name) × IsTrue (is_name n.bytes.now) };
 }
 
 impl<'t> Named<'t> {
     /// The name that stands there.
     pub(crate) fn new(name: Name, bytes: &'t [u8]) -> Named<'t>
-        requires { name ≡ bytes.now }
+        requires same { name ≡ bytes.now }
+        requires name { IsTrue (is_name bytes.now) }
         ensures { result ≡ name }
     {
         Named { name, bytes }
@@ -43,7 +46,8 @@ impl<'t> Named<'t> {
 
     /// Its bytes in the text.
     fn bytes(&self) -> &'t [u8]
-        ensures { result.now ≡ self.now }
+        ensures same { result.now ≡ self.now }
+        ensures name { IsTrue (is_name result.now) }
     {
         self.bytes
     }
@@ -57,11 +61,15 @@ pub struct Names<'t> {
 }
 
 impl<'t> Model for Names<'t> {
-    ghost use Rattle.std.specs.Prelude.{List, ℕ, map};
+    ghost use Rattle.cmwq_types.specs.Name.{is_name};
+    ghost use Rattle.std.specs.List.{All};
+    ghost use Rattle.std.specs.Prelude.{IsTrue, List, ℕ, map};
 
     ghost Value = { List (List ℕ) };
 
     ghost view = { λ s. map (λ name. name.now) s.names.keys };
+
+    ghost invariant = { λ s. All (λ name. IsTrue (is_name name.now)) s.names.keys };
 }
 
 impl<'t> Names<'t> {
@@ -81,11 +89,12 @@ impl<'t> Names<'t> {
         self.names.contains(&name.bytes())
     }
 
-    /// The number of the name, if it is there.
-    pub fn number_of(&self, name: &Named) -> Option<usize>
-        ensures { result ≡ position (λ other. bytes_eq other name.now) self.now }
+    /// The number of the name that is these bytes, if it is there.
+    pub fn number_of(&self, bytes: &[u8]) -> Option<usize>
+        ensures number { result ≡ position (λ other. bytes_eq other bytes.now) self.now }
+        ensures name { IfSome result (λ number. IsTrue (is_name bytes.now)) }
     {
-        self.names.get_index_of(&name.bytes())
+        self.names.get_index_of(&bytes)
     }
 
     /// Adds a name that isn't there yet.

@@ -4,6 +4,7 @@ pub mod ExactEquality
 pub mod Faults
 pub mod First
 pub mod Listing
+pub mod Mnemonics
 pub mod Name
 pub mod Places
 pub mod Scenario

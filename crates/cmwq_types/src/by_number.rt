@@ -6,14 +6,6 @@ ghost use Rattle.std.specs.Prelude.{◌≡◌, ◌<◌, slice_index_or};
 
 use crate::scenario::{Flags, Op, Scenario};
 
-const PLAIN: Flags = Flags {
-    highpri: false,
-    unbound: false,
-    cpu_intensive: false,
-    freezable: false,
-    ordered: false,
-};
-
 impl Scenario {
     /// The flags of the queue of this number, from 0. Where there is no such queue, no flag is set.
     pub fn flags_of(&self, queue: u8) -> Flags
@@ -21,7 +13,7 @@ impl Scenario {
     {
         match self.queues.get(queue as usize) {
             Some(declared) => declared.flags,
-            None => PLAIN,
+            None => Flags::PLAIN,
         }
     }
 

@@ -9,6 +9,7 @@ mod equality;
 mod instr;
 mod limits;
 mod memory;
+mod mnemonic;
 mod moves;
 mod name;
 mod reply;
@@ -22,6 +23,7 @@ pub use limits::{
     MAX_WORKS,
 };
 pub use memory::NoMemory;
+pub use mnemonic::Mnemonic;
 pub use moves::Move;
 pub use name::Name;
 pub use reply::{Cause, Event, Mode, Place, Refusal, Reply, WorkRun, WorkState};

@@ -21,6 +21,17 @@ pub struct Flags {
     pub ordered: bool,
 }
 
+impl Flags {
+    /// No flag is set.
+    pub const PLAIN: Flags = Flags {
+        highpri: false,
+        unbound: false,
+        cpu_intensive: false,
+        freezable: false,
+        ordered: false,
+    };
+}
+
 /// A queue as it is declared.
 #[derive(Clone, Copy, Debug, PartialEq, Eq)]
 pub struct QueueDecl {

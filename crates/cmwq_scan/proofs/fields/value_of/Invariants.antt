@@ -1,7 +1,12 @@
-use Rattle.std.proofs.Common.{◌≡◌, take}
+use Rattle.std.proofs.Common.{◌≡◌, take, true}
+use Rattle.std.specs.Char.{is_ascii_digit}
+use Rattle.std.specs.List.{list_all}
 use Rattle.std.specs.Str.Parse.{digits_value}
 use Rattle.cmwq_scan.proofs.fields.value_of.Given as goal
 
 -- the number that the digits so far write
 abbrev pub invariant-loop-byte : goal.invariant-loop-byte
-invariant-loop-byte l = l.value ≡ digits_value 10 (take l.byte-index l.digits)
+invariant-loop-byte l = record {
+  digits : list_all is_ascii_digit (take l.byte-index l.digits) ≡ true;
+  value : l.value ≡ digits_value 10 (take l.byte-index l.digits);
+}

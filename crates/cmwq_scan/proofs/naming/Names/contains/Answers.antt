@@ -9,4 +9,4 @@ returns c =
     c.contains.ensures
     ∙ list_any-keys (λ key. key.now) c.bytes.result.now c.self.inside.names.keys
     ∙ ap (λ names. list_any (λ other. bytes_eq other c.bytes.result.now) names) c.self.view_is
-    ∙ ap (λ name. list_any (λ other. bytes_eq other name) c.args.self.now) c.bytes.ensures
+    ∙ ap (λ name. list_any (λ other. bytes_eq other name) c.args.self.now) c.bytes.ensures.same
