@@ -3,11 +3,13 @@ use Rattle.std.specs.Prelude.{ℕ, List, [], ◌∷◌, Result, Ok, Err, if◌th
 use Rattle.std.specs.List.{list_any}
 use Rattle.std.specs.Str.{bytes_eq}
 use Rattle.cmwq_types.specs.Contents.{ScenarioContents}
+use Rattle.cmwq_types.specs.Mnemonics.{spelling}
 use Rattle.cmwq_types.specs.declared.instr.Instr.{Instr}
 use Rattle.cmwq_types.specs.declared.instr.Instr.TheVariants as instr
 use Rattle.cmwq_types.specs.declared.instr.QueueId.{QueueId}
 use Rattle.cmwq_types.specs.declared.instr.WorkId.{WorkId}
 use Rattle.cmwq_types.specs.declared.limits.TheConstants.{MAX_TIMES}
+use Rattle.cmwq_types.specs.declared.mnemonic.Mnemonic.TheVariants as mnemonic
 use Rattle.cmwq_types.specs.declared.scenario.Line.{Line}
 use Rattle.cmwq_grammar.specs.Fields.{◌>>=◌, declared_at, made, made_last, number_within}
 use Rattle.cmwq_grammar.specs.declared.why.Why.{Why}
@@ -58,24 +60,24 @@ of_queue_max instr = OfQueue (λ queue. of_number 4294967295 (instr queue))
 -- The instructions: the word of each, and its operands.
 abbrev pub instructions : List (List ℕ × Operands)
 instructions =
-    (codes "queue", of_work_cpu instr.Queue)
-    ∷ (codes "delay", of_work_cpu_ticks instr.Delay)
-    ∷ (codes "mod", of_work_cpu_ticks instr.Mod)
-    ∷ (codes "cancel", of_work instr.Cancel)
-    ∷ (codes "cancel_sync", of_work instr.CancelSync)
-    ∷ (codes "flush", of_work instr.Flush)
-    ∷ (codes "flush_delayed", of_work instr.FlushDelayed)
-    ∷ (codes "flush_queue", of_queue instr.FlushQueue)
-    ∷ (codes "set_max", of_queue_max instr.SetMax)
-    ∷ (codes "freeze", Makes instr.Freeze)
-    ∷ (codes "thaw", Makes instr.Thaw)
-    ∷ (codes "fire", Makes instr.Fire)
-    ∷ (codes "step", of_number 255 instr.Step)
-    ∷ (codes "tick", Makes instr.Tick)
-    ∷ (codes "next", Makes instr.Next)
-    ∷ (codes "ask", of_number 65535 instr.Ask)
-    ∷ (codes "busy", Makes instr.Busy)
-    ∷ (codes "state", of_work instr.State)
+    (spelling mnemonic.Queue, of_work_cpu instr.Queue)
+    ∷ (spelling mnemonic.Delay, of_work_cpu_ticks instr.Delay)
+    ∷ (spelling mnemonic.Mod, of_work_cpu_ticks instr.Mod)
+    ∷ (spelling mnemonic.Cancel, of_work instr.Cancel)
+    ∷ (spelling mnemonic.CancelSync, of_work instr.CancelSync)
+    ∷ (spelling mnemonic.Flush, of_work instr.Flush)
+    ∷ (spelling mnemonic.FlushDelayed, of_work instr.FlushDelayed)
+    ∷ (spelling mnemonic.FlushQueue, of_queue instr.FlushQueue)
+    ∷ (spelling mnemonic.SetMax, of_queue_max instr.SetMax)
+    ∷ (spelling mnemonic.Freeze, Makes instr.Freeze)
+    ∷ (spelling mnemonic.Thaw, Makes instr.Thaw)
+    ∷ (spelling mnemonic.Fire, Makes instr.Fire)
+    ∷ (spelling mnemonic.Step, of_number 255 instr.Step)
+    ∷ (spelling mnemonic.Tick, Makes instr.Tick)
+    ∷ (spelling mnemonic.Next, Makes instr.Next)
+    ∷ (spelling mnemonic.Ask, of_number 65535 instr.Ask)
+    ∷ (spelling mnemonic.Busy, Makes instr.Busy)
+    ∷ (spelling mnemonic.State, of_work instr.State)
     ∷ []
 
 -- the first words of lines; an operation and a queue's line begin with `queue` too

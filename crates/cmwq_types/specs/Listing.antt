@@ -3,9 +3,11 @@ use Rattle.std.specs.Prelude.{ℕ, Bool, List, [], ◌∷◌, ◌++◌, map, cod
 use Rattle.std.specs.Fmt.{decimal}
 use Rattle.std.specs.List.{flat_map, join_with_byte}
 use Rattle.cmwq_types.specs.Contents.{ScenarioContents, WorkContents, ActorContents}
+use Rattle.cmwq_types.specs.Mnemonics.{spelling}
 use Rattle.cmwq_types.specs.Scenario.{queue_at, work_at}
 use Rattle.cmwq_types.specs.declared.instr.Instr.{Instr}
 use Rattle.cmwq_types.specs.declared.instr.Instr.TheVariants as instr
+use Rattle.cmwq_types.specs.declared.mnemonic.Mnemonic.TheVariants as mnemonic
 use Rattle.cmwq_types.specs.declared.scenario.Flags.{Flags}
 use Rattle.cmwq_types.specs.declared.scenario.Line.{Line}
 use Rattle.cmwq_types.specs.declared.scenario.Op.{Op}
@@ -52,24 +54,24 @@ abbrev pub body_lines : ScenarioContents → WorkContents → List WrittenLine
 body_lines S work = Words (codes "body" ∷ work.name ∷ []) ∷ map (op_line S) work.body
 
 abbrev pub instr_words : ScenarioContents → Instr → List (List ℕ)
-instr_words S (instr.Queue work cpu) = codes "queue" ∷ (work_at S work.0).name ∷ decimal cpu ∷ []
-instr_words S (instr.Delay work cpu ticks) = codes "delay" ∷ (work_at S work.0).name ∷ decimal cpu ∷ decimal ticks ∷ []
-instr_words S (instr.Mod work cpu ticks) = codes "mod" ∷ (work_at S work.0).name ∷ decimal cpu ∷ decimal ticks ∷ []
-instr_words S (instr.Cancel work) = codes "cancel" ∷ (work_at S work.0).name ∷ []
-instr_words S (instr.CancelSync work) = codes "cancel_sync" ∷ (work_at S work.0).name ∷ []
-instr_words S (instr.Flush work) = codes "flush" ∷ (work_at S work.0).name ∷ []
-instr_words S (instr.FlushDelayed work) = codes "flush_delayed" ∷ (work_at S work.0).name ∷ []
-instr_words S (instr.FlushQueue queue) = codes "flush_queue" ∷ (queue_at S queue.0).name ∷ []
-instr_words S (instr.SetMax queue max) = codes "set_max" ∷ (queue_at S queue.0).name ∷ decimal max ∷ []
-instr_words S instr.Freeze = codes "freeze" ∷ []
-instr_words S instr.Thaw = codes "thaw" ∷ []
-instr_words S instr.Fire = codes "fire" ∷ []
-instr_words S (instr.Step pool) = codes "step" ∷ decimal pool ∷ []
-instr_words S instr.Tick = codes "tick" ∷ []
-instr_words S instr.Next = codes "next" ∷ []
-instr_words S (instr.Ask flush) = codes "ask" ∷ decimal flush ∷ []
-instr_words S instr.Busy = codes "busy" ∷ []
-instr_words S (instr.State work) = codes "state" ∷ (work_at S work.0).name ∷ []
+instr_words S (instr.Queue work cpu) = spelling mnemonic.Queue ∷ (work_at S work.0).name ∷ decimal cpu ∷ []
+instr_words S (instr.Delay work cpu ticks) = spelling mnemonic.Delay ∷ (work_at S work.0).name ∷ decimal cpu ∷ decimal ticks ∷ []
+instr_words S (instr.Mod work cpu ticks) = spelling mnemonic.Mod ∷ (work_at S work.0).name ∷ decimal cpu ∷ decimal ticks ∷ []
+instr_words S (instr.Cancel work) = spelling mnemonic.Cancel ∷ (work_at S work.0).name ∷ []
+instr_words S (instr.CancelSync work) = spelling mnemonic.CancelSync ∷ (work_at S work.0).name ∷ []
+instr_words S (instr.Flush work) = spelling mnemonic.Flush ∷ (work_at S work.0).name ∷ []
+instr_words S (instr.FlushDelayed work) = spelling mnemonic.FlushDelayed ∷ (work_at S work.0).name ∷ []
+instr_words S (instr.FlushQueue queue) = spelling mnemonic.FlushQueue ∷ (queue_at S queue.0).name ∷ []
+instr_words S (instr.SetMax queue max) = spelling mnemonic.SetMax ∷ (queue_at S queue.0).name ∷ decimal max ∷ []
+instr_words S instr.Freeze = spelling mnemonic.Freeze ∷ []
+instr_words S instr.Thaw = spelling mnemonic.Thaw ∷ []
+instr_words S instr.Fire = spelling mnemonic.Fire ∷ []
+instr_words S (instr.Step pool) = spelling mnemonic.Step ∷ decimal pool ∷ []
+instr_words S instr.Tick = spelling mnemonic.Tick ∷ []
+instr_words S instr.Next = spelling mnemonic.Next ∷ []
+instr_words S (instr.Ask flush) = spelling mnemonic.Ask ∷ decimal flush ∷ []
+instr_words S instr.Busy = spelling mnemonic.Busy ∷ []
+instr_words S (instr.State work) = spelling mnemonic.State ∷ (work_at S work.0).name ∷ []
 
 abbrev pub actor_line : ScenarioContents → Line → WrittenLine
 actor_line S line = Repeated (instr_words S line.instr) line.times
