@@ -1,4 +1,5 @@
 -- Limits, counts, and the first of the works and workers that one asks for. "First" is the least stamp.
+-- Where a rule is the kernel's, the names in brackets are those of its source, or of its document.
 use Rattle.std.specs.Prelude.{ℕ, ◌+◌, Bool, true, false, not, ◌&&◌, ◌||◌, length, Option, Some, None, if◌then◌else◌, nat_lt, ◌==◌, is_some, is_none}
 use Rattle.cmwq_types.specs.Contents.{ScenarioContents}
 use Rattle.cmwq_types.specs.Scenario.{flags_at, queue_of}
@@ -45,10 +46,11 @@ idle_stamp None = 0
 -- Limits.
 
 -- how many works of the queue may be active in a pool; none of a freezable queue while the machine is frozen
+-- (`pwq_adjust_max_active`)
 abbrev pub limit : ScenarioContents → State → ℕ → ℕ
 limit S s queue = if s.frozen && (flags_at S queue).freezable then 0 else max_at s queue
 
--- the works of the queue that are listed or deferred in the pool, and those that run there
+-- the works of the queue that are listed or deferred in the pool, and those that run there (`nr_active` of `__queue_work`)
 abbrev pub active : ScenarioContents → State → ℕ → ℕ → ℕ
 active S s queue pool =
     count_below (λ w. (queue_of S w == queue) && pends (λ place. is_active place pool) (pending_at s w)) (length S.works)
@@ -62,13 +64,13 @@ abbrev pub is_busy_work : ScenarioContents → State → ℕ → Bool
 is_busy_work S s w =
     (flags_at S (queue_of S w)).freezable && (pends is_activated (pending_at s w) || is_some (running_at s w))
 
--- some freezable queue has an active work
+-- some freezable queue has an active work (`freeze_workqueues_busy`)
 abbrev pub is_busy : ScenarioContents → State → Bool
 is_busy S s = not (count_below (is_busy_work S s) (length S.works) == 0)
 
 -- Concurrency.
 
--- a runnable work of the pool that counts towards its concurrency level
+-- a runnable work of the pool that counts towards its concurrency level (document: The Design; CPU-intensive works: flags)
 abbrev pub is_counted : ScenarioContents → State → ℕ → ℕ → Bool
 is_counted S s pool w =
     runs (λ r. (r.pool == pool) && is_runnable r.mode) (running_at s w) && not (flags_at S (queue_of S w)).cpu_intensive
@@ -77,7 +79,7 @@ is_counted S s pool w =
 abbrev pub counted : ScenarioContents → State → ℕ → ℕ
 counted S s pool = if is_unbound S pool then 0 else count_below (λ w. is_counted S s pool w) (length S.works)
 
--- whether a pool may start a work
+-- whether a pool may start a work (document: The Design)
 abbrev pub may_start : ScenarioContents → State → ℕ → Bool
 may_start S s pool = is_unbound S pool || (counted S s pool == 0)
 
@@ -89,7 +91,7 @@ pending_before s = by_least (λ w. pending_stamp (pending_at s w))
 abbrev pub running_before : State → ℕ → ℕ → Bool
 running_before s = by_least (λ w. running_stamp (running_at s w))
 
--- the queue's first inactive work in the pool
+-- the queue's first inactive work in the pool (`pwq_activate_first_inactive`)
 abbrev pub first_inactive : ScenarioContents → State → ℕ → ℕ → Option ℕ
 first_inactive S s queue pool =
     first_below (pending_before s) (λ w. (queue_of S w == queue) && pends (λ place. is_inactive place pool) (pending_at s w)) (length S.works)
@@ -127,11 +129,12 @@ if_ready s (Some w) = if runs (λ r. r.left == 0) (running_at s w) then Some w e
 if_ready s None = None
 
 -- Of the heads with nothing left to burn, the first. The head of a bound pool is its first runnable
--- work, as on one CPU; in an unbound pool each runnable work is a head.
+-- work, as on one CPU (document: Example Execution Scenarios, "simple FIFO scheduling"); in an unbound pool
+-- each runnable work is a head.
 abbrev pub ready_head : ScenarioContents → State → ℕ → Option ℕ
 ready_head S s pool = if is_unbound S pool then first_ready S s pool else if_ready s (first_runnable S s pool)
 
--- the pool's idle worker of greatest stamp, the last one that became idle
+-- the pool's idle worker of greatest stamp, the last one that became idle (`first_idle_worker`, `worker_enter_idle`)
 abbrev pub last_idle : ScenarioContents → State → ℕ → Option ℕ
 last_idle S s pool =
     first_below (by_greatest (λ worker. idle_stamp (idle_at s pool worker))) (λ worker. is_some (idle_at s pool worker)) S.workers

@@ -1,4 +1,5 @@
 -- What changes the state: placing and filling, the moves of a pool, firing and ticking.
+-- Where a rule is the kernel's, the names in brackets are those of its source, or of its document.
 use Rattle.std.specs.Prelude.{ℕ, zero, suc, ◌+◌, ◌-◌, Bool, true, false, List, [], ◌∷◌, ◌++◌, length, Option, Some, None, if◌then◌else◌, ◌==◌, is_some, slice_set}
 use Rattle.cmwq_types.specs.Contents.{ScenarioContents}
 use Rattle.cmwq_types.specs.Scenario.{flags_at, queue_of, op_at}
@@ -31,7 +32,7 @@ with_pending s w p = record s { pending = slice_set s.pending w p }
 abbrev pub with_running : State → ℕ → Option Running → State
 with_running s w r = record s { running = slice_set s.running w r }
 
--- Placing. One fresh stamp is the birth of the instance, and the stamp of its place.
+-- Placing (`__queue_work`). One fresh stamp is the birth of the instance, and the stamp of its place.
 
 -- where a work is placed: in the pool where it runs, else in its target pool
 abbrev pub pool_or : Option Running → ℕ → ℕ
@@ -51,7 +52,7 @@ place_in S s w pool =
 abbrev pub place : ScenarioContents → State → ℕ → ℕ → State
 place S s w cpu = place_in S s w (pool_for S s w cpu)
 
--- the work waits for a timer that runs until `due`, and will be placed on the CPU
+-- the work waits for a timer that runs until `due`, and will be placed on the CPU (`__queue_delayed_work`)
 abbrev pub set_timer : State → ℕ → ℕ → ℕ → State
 set_timer s w cpu due = taking (with_pending s w (newborn s (Timer due cpu)))
 
@@ -60,7 +61,7 @@ abbrev pub place_after : ScenarioContents → State → ℕ → ℕ → ℕ → 
 place_after S s w cpu zero = place S s w cpu
 place_after S s w cpu (suc ticks) = set_timer s w cpu (s.time + suc ticks)
 
--- Filling: while the queue has room in the pool, its first inactive work there is listed.
+-- Filling: while the queue has room in the pool, its first inactive work there is listed (`pwq_dec_nr_in_flight`).
 
 -- the pending work, listed under this stamp
 abbrev pub listed_at : ℕ → ℕ → Option Pending → Option Pending
@@ -98,18 +99,19 @@ fill_freezable S (suc n) s =
 
 -- Limits and the freeze.
 
--- the queue's max is set, and what has room now is activated
+-- the queue's max is set, and what has room now is activated (`workqueue_set_max_active`)
 abbrev pub set_max : ScenarioContents → State → ℕ → ℕ → State
 set_max S s queue max = fill_everywhere S queue (record s { max = slice_set s.max queue max })
 
+-- (`freeze_workqueues_begin`)
 abbrev pub freeze : State → State
 freeze s = record s { frozen = true }
 
--- the freeze ends, and what has room now is activated
+-- the freeze ends, and what has room now is activated (`thaw_workqueues`)
 abbrev pub thaw : ScenarioContents → State → State
 thaw S s = fill_freezable S (length S.queues) (record s { frozen = false })
 
--- Taking off: the work isn't pending any more, and what it leaves in a pool is filled.
+-- Taking off (`try_to_grab_pending`): the work isn't pending any more, and what it leaves in a pool is filled.
 
 abbrev pub fill_from : ScenarioContents → ℕ → Place → State → State
 fill_from S queue (Timer due cpu) s = s
@@ -124,7 +126,8 @@ taken_off S s w None = s
 abbrev pub take_off : ScenarioContents → State → ℕ → State
 take_off S s w = taken_off S s w (pending_at s w)
 
--- Finishing: a deferred instance starts at once on the same worker, else the worker becomes idle;
+-- Finishing: a deferred instance starts at once on the same worker (the worker's `scheduled` list in
+-- `process_one_work`; document: Non-reentrance Conditions), else the worker becomes idle;
 -- then the queue is filled in the pool.
 
 -- an instance born then, at the beginning of its body
@@ -197,7 +200,7 @@ started s pool w (Some worker) (Some p) = started_on s pool w worker p
 started s pool w (Some worker) None = s
 started s pool w None p = s
 
--- The listed work waits where it runs. Its stamp stays.
+-- The listed work waits where it runs (`process_one_work`). Its stamp stays.
 abbrev pub deferred : State → ℕ → ℕ → Option Pending → State
 deferred s pool w (Some p) = with_pending s w (Some (record p { place = Deferred pool }))
 deferred s pool w None = s
@@ -241,7 +244,7 @@ moved_work (Defer w) = w
 abbrev pub first_moving : ScenarioContents → State → Option ℕ
 first_moving S s = first_below (by_least (λ pool. pool)) (λ pool. is_some (next_move S s pool)) (pool_count S)
 
--- Timers: the work isn't pending any more, and is placed on the timer's CPU.
+-- Timers (`delayed_work_timer_fn`): the work isn't pending any more, and is placed on the timer's CPU.
 
 abbrev pub fired_to : ScenarioContents → State → ℕ → Place → State
 fired_to S s w (Timer due cpu) = place S (with_pending s w None) w cpu
@@ -281,7 +284,7 @@ abbrev pub running_instance : ℕ → Option Running → FlushTarget
 running_instance w (Some r) = Instance (record { 0 = w }) r.born
 running_instance w None = Nothing
 
--- the placed instance of the work, else the running one, else nothing
+-- the placed instance of the work, else the running one, else nothing (`start_flush_work`)
 abbrev pub last_instance : ℕ → Option Pending → Option Running → FlushTarget
 last_instance w (Some p) running = if is_placed p.place then Instance (record { 0 = w }) p.born else running_instance w running
 last_instance w None running = running_instance w running

@@ -131,7 +131,7 @@ abbrev pub delayed : ScenarioContents → State → ℕ → ℕ → ℕ → Opti
 delayed S s w cpu ticks (Some p) = (s, reply.Already)
 delayed S s w cpu ticks None = (place_after S s w cpu ticks, reply.Queued)
 
--- a pending work is taken off, which fills what it leaves, and queued anew
+-- a pending work is taken off, which fills what it leaves, and queued anew (the kernel's `mod_delayed_work_on`)
 abbrev pub modified : ScenarioContents → State → ℕ → ℕ → ℕ → Option Pending → State × Reply
 modified S s w cpu ticks (Some p) = (place_after S (taken_off S s w (Some p)) w cpu ticks, reply.Changed)
 modified S s w cpu ticks None = (place_after S s w cpu ticks, reply.Queued)
