@@ -17,7 +17,7 @@ loop-at-preserved c =
       first = omega arith;
       inside = omega (arith, before.inside);
       rank = sym (get_or-set_same ranks (c.loop-at.at / 2) c.lesser-rank.result past_rank within);
-      settled = settled_step ranks c.args.leaves c.loop-at.at c.lesser-rank.result before.settled c.loop-at-test.true before.inside (before.ranks_are ∙ c.requires.ranks) (lesser_beside ranks c.loop-at.at c.lesser-rank.result chosen);
+      settled = settled_step ranks c.args.leaves c.loop-at.at c.lesser-rank.result before.settled (omega (arith, c.loop-at-test.true)) before.inside (before.ranks_are ∙ c.requires.ranks) (lesser_beside ranks c.loop-at.at c.lesser-rank.result chosen);
       leaves_kept = λ i past. get_or-set_other ranks (c.loop-at.at / 2) i c.lesser-rank.result past_rank (λ same. omega arith) ∙ before.leaves_kept i past;
       ranks_are = length-set ranks (c.loop-at.at / 2) c.lesser-rank.result ∙ before.ranks_are;
     }
