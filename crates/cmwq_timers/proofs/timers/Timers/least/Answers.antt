@@ -1,4 +1,4 @@
-use Rattle.std.proofs.Common.{◌≡◌, ◌<◌, List, length, Option, None, arith, sym, ap, ◌∙◌}
+use Rattle.std.proofs.Common.{◌≡◌, ◌<◌, List, length, Option, arith, sym, ap, ◌∙◌}
 use Rattle.cmwq_timers.specs.declared.rank.Rank.{Rank}
 use Rattle.cmwq_timers.specs.declared.timer.Timer.{Timer}
 use Rattle.cmwq_timers.specs.Timers.{least_timer, timer_at}
