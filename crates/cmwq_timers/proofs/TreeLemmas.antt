@@ -204,9 +204,3 @@ root_is_least timers ranks kept some_room =
         let own : IsOwn w r = subst (λ (o : Option Timer). IfSome o (IsOwn w)) is (kept.own w inside) in
         let at : rank_at ranks 1 ≡ rank_of (Some r) = root ∙ ap rank_of is in
         rw (first_is timers ranks w r kept inside is at) (ap (λ (r : Rank). timer_at timers r.work) at ∙ ap (timer_at timers) own.work_is)
-
--- without works there is no timer
-pub no_least : (timers : List (Option Timer)) → length timers ≡ 0 → least_timer timers ≡ None
-no_least timers none =
-    let first : first_to_fire timers ≡ None = first_below-none (fires_before timers) (λ w. is_some (timer_at timers w)) (length timers) (by_least_two-order (λ w. due_of (timer_at timers w)) (λ w. stamp_of (timer_at timers w))) (λ k inside. absurd (omega arith)) in
-    rw first refl
