@@ -8,6 +8,8 @@ mod command_lines;
 #[cfg(test)]
 mod commands;
 #[cfg(test)]
+mod engines;
+#[cfg(test)]
 mod examples;
 #[cfg(test)]
 mod faults;
