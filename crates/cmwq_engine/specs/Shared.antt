@@ -1,18 +1,18 @@
 -- What clauses read of a shared engine, and what an issue promises. Contracts see a shared engine as its lock.
-use Rattle.std.specs.Prelude.{◌≡◌, ℕ, List, [], ◌∷◌, ◌++◌, length, Result, Ok, Err}
-use Rattle.cmwq_types.specs.Contents.{ScenarioContents}
-use Rattle.cmwq_types.specs.declared.instr.Instr.{Instr}
+use Rattle.std.specs.Prelude.{◌≡◌, ℕ, List, [], ◌∷◌, ◌++◌, All, Any, length, Result, Ok, Err}
 use Rattle.cmwq_lock.specs.declared.kept.Kept.{Ghosts}
 use Rattle.cmwq_lock.specs.declared.lock.TicketLock.{TicketLock}
 use Rattle.cmwq_lock.specs.declared.tokens.Opener.{Opener}
 use Rattle.cmwq_lock.specs.declared.tokens.Pass.{Pass}
 use Rattle.cmwq_lock.specs.declared.tokens.Drawn.{Drawn}
+use Rattle.cmwq_lock.specs.declared.views.Knowledge.{Knowledge}
 use Rattle.cmwq_lock.specs.declared.views.View.{View}
 use Rattle.cmwq_lock.specs.Log.{BeginsWith, calls_of}
 use Rattle.cmwq_lock.specs.Tokens as Token
-use Rattle.cmwq_lock.specs.Views.{caller_of, seen_of, mine_of}
+use Rattle.cmwq_lock.specs.Views.{caller_of, seen_of, mine_of, tries_of, untried}
 use Rattle.cmwq_engine.specs.Engine.{Contents}
 use Rattle.cmwq_engine.specs.History.{IsLegal}
+use Rattle.cmwq_engine.specs.Issuing.{reply_after}
 use Rattle.cmwq_engine.specs.declared.history.Entry.{Entry}
 use Rattle.cmwq_engine.specs.declared.history.Setting.{Setting}
 use Rattle.cmwq_engine.specs.declared.kept.Receipt.{Receipt}
@@ -47,19 +47,29 @@ pub record HasHadTurn (from : Setting) (before after : EngineView) : Type 0 wher
   pub begins : BeginsWith (seen_of after) (seen_of before)
   pub legal : IsLegal from (seen_of after)
   pub own_calls : calls_of (λ (e : Entry). e.caller) (caller_of before) (seen_of after) ≡ mine_of after
+  -- it has tried nothing since
+  pub tries_anew : tries_of after ≡ untried
 
--- the turn has entered this: it stands behind the history that the turn found, at this place, and behind the caller's own
-pub record HasEntered (before after : EngineView) (new : Entry) (place : ℕ) : Type 0 where
+-- the turn has entered this: it stands behind the history that the turn found, at this place, and behind the caller's own entries; its reply is
+-- the table's, on what the instructions of that history leave
+pub record HasEntered (from : Setting) (before after : EngineView) (new : Entry) (place : ℕ) : Type 0 where
   pub found : List Entry
   pub begins : BeginsWith found (seen_of before)
   pub last : seen_of after ≡ found ++ new ∷ []
   pub place_is : place ≡ length found
   pub mine : mine_of after ≡ mine_of before ++ new ∷ []
+  pub reply : new.reply ≡ reply_after from.scenario found new.instr
 
 -- the turn has found a full history, and has entered nothing
 pub record HasFoundFull (from : Setting) (before after : EngineView) : Type 0 where
   pub full : length (seen_of after) ≡ from.capacity
   pub mine : mine_of after ≡ mine_of before
+
+-- the history once each caller is retired: it begins with all that each had seen, the entries of each are its own, and it has no other callers
+pub record IsLastHistory (records : List (Knowledge Entry)) (history : List Entry) : Type 0 where
+  pub each_seen : All (λ k. BeginsWith history k.seen) records
+  pub each_own : All (λ k. calls_of (λ (e : Entry). e.caller) k.caller history ≡ k.mine) records
+  pub no_others : All (λ e. Any (λ k. k.caller ≡ e.caller) records) history
 
 -- a fact where an issue has had its turn: it has a receipt, or the history is full
 abbrev pub IfTurn : Result Receipt IssueError → Type 0 → Type 0

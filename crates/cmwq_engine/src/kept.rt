@@ -40,9 +40,9 @@ impl<M: Machine> Kept for Engine<M> {
     ghost sound = { λ engine. IsSound engine };
 
     ghost empty_is_legal = { λ from. record {
-        bounded = Prim.omega arith;
-        rising = λ i j entry before within. absurd (Prim.omega arith);
-        answered = refl;
+      bounded = Prim.omega arith;
+      rising = λ i j entry before within. absurd (Prim.omega arith);
+      answered = refl;
     } };
 
     ghost sound_is_legal = { λ engine sound. sound.legal };
