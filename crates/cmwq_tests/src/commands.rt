@@ -6,7 +6,9 @@ use cmwq_asm::AsmError;
 use cmwq_grammar::Why;
 use cmwq_image::ImageError;
 use cmwq_machine_tests::checking::same;
-use cmwq_machine_tests::examples::{EXAMPLES, Example, IMAGE_OF_STEPS_RUN_OUT, MAX_ACTIVE_3, STEPS_RUN_OUT};
+use cmwq_machine_tests::examples::{
+    EXAMPLES, Example, IMAGE_OF_STEPS_RUN_OUT, MAX_ACTIVE_3, STEPS_RUN_OUT,
+};
 use cmwq_play::{Marked, PlayError, read_text};
 use cmwq_types::Fault;
 use std::alloc::Global;
