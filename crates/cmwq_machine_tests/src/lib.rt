@@ -13,6 +13,8 @@ mod machines;
 #[cfg(test)]
 mod meeting;
 #[cfg(test)]
+mod shared;
+#[cfg(test)]
 mod timers;
 #[cfg(test)]
 mod turns;

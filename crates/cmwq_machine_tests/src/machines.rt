@@ -10,7 +10,7 @@ use std::process::Abort;
 const B: WorkId = WorkId(1);
 
 /// Works `a` and `b`, each of which burns once, on a queue of `max_active` 1.
-const TWO_WORKS: &[u8] =
+pub(crate) const TWO_WORKS: &[u8] =
     b"cpus 1\nworkers 4\nsteps 1000\nflushes 2\nqueue q max 1\nwork a q\nwork b q\n\
     body a\nburn 1\nfinish\nbody b\nburn 1\nfinish\nactor t\n";
 
@@ -20,7 +20,7 @@ const FREEZABLE: &[u8] = b"cpus 1\nworkers 4\nsteps 1000\nflushes 2\nqueue f max
     actor t\n";
 
 /// The scenario that the text spells.
-fn scenario(rt: &impl Abort, alloc: Global, text: &[u8]) -> Scenario {
+pub(crate) fn scenario(rt: &impl Abort, alloc: Global, text: &[u8]) -> Scenario {
     assemble(alloc, text).expect(rt, "a scenario's text")
 }
 

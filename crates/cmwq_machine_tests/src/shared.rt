@@ -1,0 +1,292 @@
+//! Shared engines over `Plain`: what no clause says of them, that their calls succeed, for one thread and for two.
+ghost use Rattle.std.specs.Prelude.{◌≡◌, ◌≤◌};
+ghost use Rattle.cmwq_types.specs.declared.limits.TheConstants.{MAX_HISTORY};
+ghost use Rattle.cmwq_engine.specs.Shared.{IsDrawnOf, IsOpenerOf, IsPassOf};
+
+use crate::checking::same;
+use crate::machines::{TWO_WORKS, scenario};
+use cmwq_engine::{Engine, Full, IssueError, Receipt, Shared, StillOut};
+use cmwq_lock::{Drawn, NotYet, Opener, Pass};
+use cmwq_plain::Plain;
+use cmwq_types::{Instr, Place, Reply, WorkId, WorkState};
+use std::alloc::Global;
+use std::process::Abort;
+use std::sync::{Barrier, Wait};
+use std::thread::{self, Threads, join};
+use std::time::{Clock, Duration};
+
+/// A work that burns once, on a queue of `max_active` 1.
+const ONE_WORK: &[u8] = b"cpus 1\nworkers 4\nsteps 1000\nflushes 2\nqueue q max 1\nwork a q\n\
+    body a\nburn 1\nfinish\nactor t\n";
+
+const A: WorkId = WorkId(0);
+
+const B: WorkId = WorkId(1);
+
+const QUEUE_A: Instr = Instr::Queue(A, 0);
+
+/// A work that waits on pool 0's worklist, and doesn't run.
+const LISTED: Reply = Reply::Found(
+    WorkState {
+        place: Some(Place::Listed(0)),
+        run: None,
+    },
+);
+
+fn receipt(ticket: u64, place: u32, reply: Reply) -> Receipt {
+    Receipt {
+        ticket,
+        place,
+        reply,
+    }
+}
+
+/// A shared engine with room for so many entries, and its first two passes.
+fn with_two_passes(
+    rt: &impl Abort,
+    alloc: Global,
+    text: &[u8],
+    capacity: u32,
+) -> (Shared<Plain>, Opener<Engine<Plain>>, Pass<Engine<Plain>>, Pass<Engine<Plain>>)
+    requires { capacity ≤ MAX_HISTORY }
+    ensures opener { IsOpenerOf result.0 result.1 }
+    ensures first { IsPassOf result.0 result.2 }
+    ensures second { IsPassOf result.0 result.3 }
+{
+    let scenario = scenario(rt, alloc, text);
+    let (shared, mut opener) = Shared::open(alloc, &scenario, capacity).expect(rt, "memory is left");
+    let first = shared.pass(&mut opener).expect(rt, "no pass is out");
+    let second = shared.pass(&mut opener).expect(rt, "one pass is out");
+    (shared, opener, first, second)
+}
+
+/// Draws a ticket, where no other thread draws.
+fn drawn_by(
+    rt: &impl Abort,
+    shared: &Shared<Plain>,
+    pass: Pass<Engine<Plain>>,
+) -> Drawn<Engine<Plain>>
+    requires { IsPassOf shared.now pass }
+    ensures { IsDrawnOf shared.now result }
+{
+    match shared.draw(pass) {
+        Ok(drawn) => drawn,
+        Err(_) => panic!(rt; "one thread's draws all win"),
+    }
+}
+
+/// Issues the instruction in the turn of the ticket, which has come, and compares what it comes to.
+fn issued(
+    rt: &impl Abort,
+    shared: &Shared<Plain>,
+    drawn: Drawn<Engine<Plain>>,
+    instr: Instr,
+    want: Result<Receipt, Full>,
+) -> Pass<Engine<Plain>>
+    requires { IsDrawnOf shared.now drawn }
+    ensures { IsPassOf shared.now result }
+{
+    match shared.try_issue(drawn, instr) {
+        Ok((pass, got)) => {
+            same(rt, instr, got, want);
+            pass
+        }
+        Err(_not_yet) => panic!(rt; "its turn has come"),
+    }
+}
+
+/// The turn of the ticket hasn't come: that of the other number has.
+fn not_yet_issued(
+    rt: &impl Abort,
+    shared: &Shared<Plain>,
+    drawn: Drawn<Engine<Plain>>,
+    instr: Instr,
+    want: (u64, u64),
+) -> Drawn<Engine<Plain>>
+    requires { IsDrawnOf shared.now drawn }
+    ensures { IsDrawnOf shared.now result }
+{
+    match shared.try_issue(drawn, instr) {
+        Ok(_) => panic!(rt; "another ticket comes first"),
+        Err(
+            NotYet {
+                drawn,
+                ticket,
+                served,
+                call,
+            },
+        ) => {
+            same(rt, call, (ticket, served), want);
+            drawn
+        }
+    }
+}
+
+/// The shared engine can't be closed while this many passes are out, and comes back.
+fn not_closed(
+    rt: &impl Abort,
+    shared: Shared<Plain>,
+    opener: Opener<Engine<Plain>>,
+    want: u32,
+) -> (Shared<Plain>, Opener<Engine<Plain>>)
+    requires { IsOpenerOf shared opener }
+    ensures shared { result.0 ≡ shared }
+    ensures opener { result.1 ≡ opener }
+{
+    match shared.close(opener) {
+        Ok(_) => panic!(rt; "passes are out"),
+        Err(
+            StillOut {
+                shared,
+                opener,
+                left,
+            },
+        ) => {
+            same(rt, "passes out", left, want);
+            (shared, opener)
+        }
+    }
+}
+
+/// Retires both passes, and closes the shared engine.
+fn closed(
+    rt: &impl Abort,
+    shared: Shared<Plain>,
+    opener: Opener<Engine<Plain>>,
+    first: Pass<Engine<Plain>>,
+    second: Pass<Engine<Plain>>,
+) -> Engine<Plain>
+    requires opener { IsOpenerOf shared opener }
+    requires first { IsPassOf shared first }
+    requires second { IsPassOf shared second }
+{
+    let mut opener = opener;
+    shared.retire(&mut opener, first);
+    shared.retire(&mut opener, second);
+    match shared.close(opener) {
+        Ok(engine) => engine,
+        Err(_) => panic!(rt; "no pass is out"),
+    }
+}
+
+#[test]
+fn two_callers_issue_in_the_order_of_their_tickets(rt: HostRuntime) {
+    let (shared, opener, p0, p1) = with_two_passes(&rt, rt.alloc(), ONE_WORK, 3);
+    let d0 = drawn_by(&rt, &shared, p0);
+    let d1 = drawn_by(&rt, &shared, p1);
+    let d1 = not_yet_issued(&rt, &shared, d1, QUEUE_A, (1, 0));
+    let p0 = issued(&rt, &shared, d0, Instr::Tick, Ok(receipt(0, 0, Reply::Done)));
+    let p1 = issued(&rt, &shared, d1, QUEUE_A, Ok(receipt(1, 1, Reply::Queued)));
+    let d0 = drawn_by(&rt, &shared, p0);
+    let p0 = issued(&rt, &shared, d0, Instr::State(A), Ok(receipt(2, 2, LISTED)));
+    let d1 = drawn_by(&rt, &shared, p1);
+    let p1 = issued(&rt, &shared, d1, Instr::Tick, Err(Full));
+    let (shared, opener) = not_closed(&rt, shared, opener, 2);
+    let engine = closed(&rt, shared, opener, p0, p1);
+    same(&rt, "entries", engine.history().len(), 3);
+}
+
+#[test]
+fn a_caller_issues_on_after_a_meeting(rt: HostRuntime) {
+    let (shared, _opener, p0, p1) = with_two_passes(&rt, rt.alloc(), ONE_WORK, 4);
+    let d0 = drawn_by(&rt, &shared, p0);
+    let p0 = issued(&rt, &shared, d0, Instr::Tick, Ok(receipt(0, 0, Reply::Done)));
+    let d1 = drawn_by(&rt, &shared, p1);
+    let p1 = issued(&rt, &shared, d1, QUEUE_A, Ok(receipt(1, 1, Reply::Queued)));
+    let (p0, _p1) = shared.meet(p0, p1);
+    let d0 = drawn_by(&rt, &shared, p0);
+    let _p0 = issued(&rt, &shared, d0, Instr::State(A), Ok(receipt(2, 2, LISTED)));
+}
+
+#[test]
+fn refuses_a_pass_while_64_callers_are_out(rt: HostRuntime) {
+    let (shared, mut opener, _p0, _p1) = with_two_passes(&rt, rt.alloc(), ONE_WORK, 3);
+    for _ in 2u64..64 {
+        let _stays_out = shared.pass(&mut opener).expect(&rt, "fewer than 64 are out");
+    }
+    same(&rt, "64 passes out", shared.pass(&mut opener).is_err(), true);
+}
+
+/// Whether the work that was asked for is pending.
+fn is_pending(outcome: Result<Receipt, IssueError>) -> bool {
+    match outcome {
+        Ok(receipt) => matches!(receipt.reply, Reply::Found(state) if state.place.is_some()),
+        Err(_) => false,
+    }
+}
+
+/// Asks for the work until it is pending, at most 10,000 times, with a millisecond's sleep after each. Whether it
+/// came to be.
+fn sees_pending<R: Wait + Clock>(
+    rt: &R,
+    shared: &Shared<Plain>,
+    pass: Pass<Engine<Plain>>,
+    work: WorkId,
+) -> (Pass<Engine<Plain>>, bool)
+    requires { IsPassOf shared.now pass }
+    ensures { IsPassOf shared.now result.0 }
+{
+    let mut pass = pass;
+    for _ in 0..10_000 {
+        let (back, outcome) = shared.issue(rt, pass, Instr::State(work));
+        pass = back;
+        if is_pending(outcome) {
+            return (pass, true);
+        }
+        thread::sleep(rt, Duration::from_millis(1));
+    }
+    (pass, false)
+}
+
+/// Queues its own work once both threads are there, and waits for the other's to be pending.
+fn queue_and_see<R: Wait + Clock>(
+    rt: &R,
+    start: &Barrier,
+    shared: &Shared<Plain>,
+    pass: Pass<Engine<Plain>>,
+    own: WorkId,
+    other: WorkId,
+) -> (Pass<Engine<Plain>>, bool)
+    requires { IsPassOf shared.now pass }
+    ensures { IsPassOf shared.now result.0 }
+{
+    start.wait(rt);
+    let (pass, _) = shared.issue(rt, pass, Instr::Queue(own, 0));
+    sees_pending(rt, shared, pass, other)
+}
+
+/// Two threads, each with a work of its own, each of which sees the other's.
+fn both_see<R: Threads + Wait + Clock + Abort + Sync>(
+    rt: &R,
+    shared: &Shared<Plain>,
+    one: Pass<Engine<Plain>>,
+    other: Pass<Engine<Plain>>,
+) -> (Pass<Engine<Plain>>, Pass<Engine<Plain>>)
+    requires one { IsPassOf shared.now one }
+    requires other { IsPassOf shared.now other }
+    ensures one { IsPassOf shared.now result.0 }
+    ensures other { IsPassOf shared.now result.1 }
+{
+    let start = Barrier::new(2);
+    let start = &start;
+    let ((one, first), (other, second)) = join(
+        rt,
+        move || queue_and_see(rt, start, shared, one, A, B),
+        move || queue_and_see(rt, start, shared, other, B, A),
+    );
+    same(rt, "each sees the other's work", (first, second), (true, true));
+    (one, other)
+}
+
+#[test]
+fn two_threads_see_each_others_work_pending_and_meet(rt: HostRuntime) {
+    let (shared, opener, p0, p1) = with_two_passes(&rt, rt.alloc(), TWO_WORKS, 20_004);
+    let (p0, p1) = both_see(&rt, &shared, p0, p1);
+    let (p0, p1) = shared.meet(p0, p1);
+    let (p0, first) = shared.issue(&rt, p0, Instr::State(B));
+    let (p1, second) = shared.issue(&rt, p1, Instr::State(A));
+    same(&rt, "both serve on", (is_pending(first), is_pending(second)), (true, true));
+    let engine = closed(&rt, shared, opener, p0, p1);
+    let last = engine.history().iter().rev().take(2);
+    assert!(rt; last.map(|entry| entry.caller).eq([1, 0].iter().copied()));
+}
