@@ -15,7 +15,7 @@ use Rattle.cmwq_grammar.proofs.Basics.{one_if, bind_ok, bind_at, value_if_ok, va
 
 -- The words of the flags that are set.
 
-abbrev words_set : List FlagWord → Flags → List (List ℕ)
+abbrev pub words_set : List FlagWord → Flags → List (List ℕ)
 words_set [] f = []
 words_set (flag ∷ more) f = word_if (flag.has f) flag.word ++ words_set more f
 
@@ -29,7 +29,7 @@ words_are words [] f = sym (append-nil words)
 words_are words (flag ∷ more) f =
     words_are (words ++ word_if (flag.has f) flag.word) more f ∙ append_assoc words (word_if (flag.has f) flag.word) (words_set more f)
 
-flag_words_are : (f : Flags) → flag_words f ≡ words_set flag_table f
+pub flag_words_are : (f : Flags) → flag_words f ≡ words_set flag_table f
 flag_words_are f = words_are [] flag_table f
 
 words_both : (front back : List FlagWord) (f : Flags) → words_set (front ++ back) f ≡ words_set front f ++ words_set back f
