@@ -1,5 +1,5 @@
 -- An actor's line: an instruction, and how often it stands.
-use Rattle.std.specs.Prelude.{ℕ, List, [], ◌∷◌, Result, Ok, Err, if◌then◌else◌, codes, map}
+use Rattle.std.specs.Prelude.{ℕ, List, [], ◌∷◌, ◌++◌, Result, Ok, Err, if◌then◌else◌, codes, map}
 use Rattle.std.specs.List.{list_any}
 use Rattle.std.specs.Str.{bytes_eq}
 use Rattle.cmwq_types.specs.Contents.{ScenarioContents}
@@ -79,11 +79,15 @@ operands_of mnemonic.Ask = of_number 65535 instr.Ask
 operands_of mnemonic.Busy = Makes instr.Busy
 operands_of mnemonic.State = of_work instr.State
 
--- the first words of lines; an operation and a queue's line begin with `queue` too
-abbrev pub first_words : List (List ℕ)
-first_words =
+-- the words that other lines begin with; an operation and a queue's line begin with an instruction's word, `queue`
+abbrev pub other_words : List (List ℕ)
+other_words =
     codes "cpus" ∷ codes "workers" ∷ codes "steps" ∷ codes "flushes" ∷ codes "work" ∷ codes "body" ∷ codes "burn"
-    ∷ codes "sleep" ∷ codes "finish" ∷ codes "actor" ∷ map spelling mnemonics
+    ∷ codes "sleep" ∷ codes "finish" ∷ codes "actor" ∷ []
+
+-- the first words of lines
+abbrev pub first_words : List (List ℕ)
+first_words = other_words ++ map spelling mnemonics
 
 -- the first word can't stand here: for this reason if some line begins with it
 unfoldable pub cannot_stand : {A : Type 0} → Why → List ℕ → Result A Why
