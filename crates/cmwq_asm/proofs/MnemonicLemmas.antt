@@ -7,27 +7,21 @@ use Rattle.cmwq_types.specs.Mnemonics.{first_spelled, mnemonic_of, mnemonics, sp
 use Rattle.cmwq_types.specs.declared.instr.Instr.{Instr}
 use Rattle.cmwq_types.specs.declared.instr.WorkId.{WorkId}
 use Rattle.cmwq_types.specs.declared.mnemonic.Mnemonic.{Mnemonic}
-use Rattle.cmwq_grammar.specs.Instructions.{cannot_stand, instr_at, on_work_cpu_ticks, work_names}
+use Rattle.cmwq_grammar.specs.Instructions.{instr_among, instr_at, on_work_cpu_ticks, operands_at, operands_of, work_names}
 use Rattle.cmwq_grammar.specs.Fields.{declared_at, number_within}
 use Rattle.cmwq_grammar.specs.declared.why.Why.{Why}
-use Rattle.cmwq_grammar.specs.declared.why.Why.TheVariants as why
-use Rattle.cmwq_asm.specs.Instructions.{instr_behind, instr_of, with_cpu_ticks, with_ticks, work_cpu_ticks_at}
+use Rattle.cmwq_asm.specs.Instructions.{instr_of, with_cpu_ticks, with_ticks, work_cpu_ticks_at}
 use Rattle.cmwq_asm.proofs.Refused.{fails_alike}
 
 module _ (S : ScenarioContents) (word : List ℕ) (rest : List (List ℕ)) where
   -- one word, or one of the others
-  this_or : (m : Mnemonic) (b : Bool) (others : Option Mnemonic) (said : Result (Instr × List (List ℕ)) Why) → said ≡ instr_of S word others rest → cond b (instr_behind S m rest) said ≡ instr_of S word (cond b (Some m) others) rest
+  this_or : (m : Mnemonic) (b : Bool) (others : Option Mnemonic) (said : Result (Instr × List (List ℕ)) Why) → said ≡ instr_of S word others rest → cond b (operands_at S (operands_of m) rest) said ≡ instr_of S word (cond b (Some m) others) rest
   this_or m true others said e = refl
   this_or m false others said e = e
 
-  -- the first of these words, or none
-  abbrev among : List Mnemonic → Result (Instr × List (List ℕ)) Why
-  among [] = cannot_stand why.Misplaced word
-  among (first ∷ others) = cond (bytes_eq word (spelling first)) (instr_behind S first rest) (among others)
-
-  among_is : (mnemonics : List Mnemonic) → among mnemonics ≡ instr_of S word (first_spelled mnemonics word) rest
+  among_is : (mnemonics : List Mnemonic) → instr_among mnemonics S word rest ≡ instr_of S word (first_spelled mnemonics word) rest
   among_is [] = refl
-  among_is (first ∷ others) = this_or first (bytes_eq word (spelling first)) (first_spelled others word) (among others) (among_is others)
+  among_is (first ∷ others) = this_or first (bytes_eq word (spelling first)) (first_spelled others word) (instr_among others S word rest) (among_is others)
 
   pub by_mnemonic : instr_at S word rest ≡ instr_of S word (mnemonic_of word) rest
   unfolding instr_at

@@ -1,9 +1,9 @@
 //! An actor's line: an instruction, and how often it stands.
 ghost use Rattle.cmwq_scan.specs.Answers.{Tells};
 ghost use Rattle.cmwq_scan.specs.Words.{words_in};
-ghost use Rattle.cmwq_asm.specs.Instructions.{instr_behind, work_cpu_ticks_at};
+ghost use Rattle.cmwq_asm.specs.Instructions.{work_cpu_ticks_at};
 ghost use Rattle.cmwq_grammar.specs.Fields.{declared_at};
-ghost use Rattle.cmwq_grammar.specs.Instructions.{instr_at, line_at, queue_names, times_at, work_names};
+ghost use Rattle.cmwq_grammar.specs.Instructions.{instr_at, line_at, operands_at, operands_of, queue_names, times_at, work_names};
 ghost use Rattle.std.specs.Prelude.{◌∷◌};
 
 use crate::draft::Draft;
@@ -49,18 +49,18 @@ fn read_instr<'a, 't>(draft: &Draft, word: &[u8], rest: &'a [Token<'t>]) -> Fiel
     ensures { Tells (λ field. (field.0, words_in field.1.now)) result (instr_at draft.now word.now (words_in rest.now)) }
 {
     match Mnemonic::read(word) {
-        Some(mnemonic) => read_behind(draft, mnemonic, rest),
+        Some(mnemonic) => read_operands(draft, mnemonic, rest),
         None => Err(refusal(Why::Misplaced, word)),
     }
 }
 
-/// The instruction of this word, whose operands are behind it.
-fn read_behind<'a, 't>(
+/// The instruction of this word, and the words after its operands.
+fn read_operands<'a, 't>(
     draft: &Draft,
     mnemonic: Mnemonic,
     rest: &'a [Token<'t>],
 ) -> Field<'a, 't, Instr>
-    ensures { Tells (λ field. (field.0, words_in field.1.now)) result (instr_behind draft.now mnemonic (words_in rest.now)) }
+    ensures { Tells (λ field. (field.0, words_in field.1.now)) result (operands_at draft.now (operands_of mnemonic) (words_in rest.now)) }
 {
     match mnemonic {
         Mnemonic::Queue => {

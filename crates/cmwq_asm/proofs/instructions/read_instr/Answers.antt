@@ -14,9 +14,9 @@ returns-in-Some c =
     let S = c.args.draft.now in
     let word = c.args.word.now in
     let rest = words_in c.args.rest.now in
-    subst (λ said. Tells (λ field. (field.0, words_in field.1.now)) c.read_behind.result said)
+    subst (λ said. Tells (λ field. (field.0, words_in field.1.now)) c.read_operands.result said)
     (sym (by_mnemonic S word rest ∙ ap (λ (m : Option Mnemonic). instr_of S word m rest) (sym c.read.ensures ∙ c.in-Some.is)))
-    c.read_behind.ensures
+    c.read_operands.ensures
 
 pub returns-in-None : goal.returns-in-None
 returns-in-None c =

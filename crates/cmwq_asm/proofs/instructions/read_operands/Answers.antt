@@ -2,7 +2,7 @@ use Rattle.cmwq_scan.specs.Words.{words_in}
 use Rattle.cmwq_asm.proofs.Refused.{not_there}
 use Rattle.cmwq_asm.proofs.MnemonicLemmas.{timed_fails}
 use Rattle.cmwq_types.specs.declared.instr.Instr.TheVariants as instr
-use Rattle.cmwq_asm.proofs.instructions.read_behind.Goals as goal
+use Rattle.cmwq_asm.proofs.instructions.read_operands.Goals as goal
 
 pub returns-in_err-work-in-Delay : goal.returns-in_err-work-in-Delay
 returns-in_err-work-in-Delay c =
