@@ -15,7 +15,7 @@ use Rattle.cmwq_grammar.proofs.Basics.{one_if, bind_ok, bind_at, value_if_ok, va
 
 -- The words of the flags that are set.
 
-abbrev words_set : List FlagWord → Flags → List (List ℕ)
+abbrev pub words_set : List FlagWord → Flags → List (List ℕ)
 words_set [] f = []
 words_set (flag ∷ more) f = word_if (flag.has f) flag.word ++ words_set more f
 
@@ -29,7 +29,7 @@ words_are words [] f = sym (append-nil words)
 words_are words (flag ∷ more) f =
     words_are (words ++ word_if (flag.has f) flag.word) more f ∙ append_assoc words (word_if (flag.has f) flag.word) (words_set more f)
 
-flag_words_are : (f : Flags) → flag_words f ≡ words_set flag_table f
+pub flag_words_are : (f : Flags) → flag_words f ≡ words_set flag_table f
 flag_words_are f = words_are [] flag_table f
 
 words_both : (front back : List FlagWord) (f : Flags) → words_set (front ++ back) f ≡ words_set front f ++ words_set back f
@@ -162,7 +162,7 @@ often_of front back flag f before behind =
     let whole : how_often flag.word (words_set (front ++ flag ∷ back) f) ≡ how_often flag.word (words_set front f ++ (word_if b flag.word ++ words_set back f)) =
     ap (how_often flag.word) (words_both front (flag ∷ back) f) in
     let first : how_often flag.word (words_set front f ++ (word_if b flag.word ++ words_set back f))
-            ≡ how_often flag.word (words_set front f) + how_often flag.word (word_if b flag.word ++ words_set back f) =
+    ≡ how_often flag.word (words_set front f) + how_often flag.word (word_if b flag.word ++ words_set back f) =
     sum_by-append (λ other. one_if (bytes_eq flag.word other)) (words_set front f) (word_if b flag.word ++ words_set back f) in
     let second : how_often flag.word (word_if b flag.word ++ words_set back f) ≡ how_often flag.word (word_if b flag.word) + how_often flag.word (words_set back f) =
     sum_by-append (λ other. one_if (bytes_eq flag.word other)) (word_if b flag.word) (words_set back f) in
@@ -204,17 +204,17 @@ among_again before [] f g word rest apart differ added =
 among_again before (flag ∷ more) f g word rest apart differ added =
     elim (either (bytes_eq word flag.word)) [
       | inl it ↦ (
-        let flags : List FlagWord = before ++ flag ∷ more in
-        let count = added_often flags flag.word word rest f g added in
-        let one : one_if (bytes_eq flag.word word) ≡ 1 = ap one_if (word_is flag.word word (sym (same_word word flag.word it))) in
-        let new : how_often flag.word (words_set flags g) ≡ one_if (flag.has g) = often_of before more flag g apart.1 apart.2 in
-        let old : how_often flag.word (words_set flags f) ≡ one_if (flag.has f) = often_of before more flag f apart.1 apart.2 in
-        let was : flag.has f ≡ false = unset (flag.has f) (flag.has g) (how_often flag.word rest) (omega arith) in
-        (flag.set f, cond_yes (bytes_eq word flag.word) (set_once (flag.has f) (flag.set f)) (add_among more f word) it ∙ value_if_at (not (flag.has f)) (flag.set f) (why.Fault fault.Duplicate) (ap not was)))
+          let flags : List FlagWord = before ++ flag ∷ more in
+          let count = added_often flags flag.word word rest f g added in
+          let one : one_if (bytes_eq flag.word word) ≡ 1 = ap one_if (word_is flag.word word (sym (same_word word flag.word it))) in
+          let new : how_often flag.word (words_set flags g) ≡ one_if (flag.has g) = often_of before more flag g apart.1 apart.2 in
+          let old : how_often flag.word (words_set flags f) ≡ one_if (flag.has f) = often_of before more flag f apart.1 apart.2 in
+          let was : flag.has f ≡ false = unset (flag.has f) (flag.has g) (how_often flag.word rest) (omega arith) in
+          (flag.set f, cond_yes (bytes_eq word flag.word) (set_once (flag.has f) (flag.set f)) (add_among more f word) it ∙ value_if_at (not (flag.has f)) (flag.set f) (why.Fault fault.Duplicate) (ap not was)))
       | inr other ↦ (
-        let later = among_again (before ++ flag ∷ []) more f g word rest apart.3 (differ_more before differ other)
-            (subst (λ (flags : List FlagWord). IsPermutation (words_set flags g) (words_set flags f ++ word ∷ rest)) (sym (append_assoc before (flag ∷ []) more)) added) in
-        (later.0, cond_no (bytes_eq word flag.word) (set_once (flag.has f) (flag.set f)) (add_among more f word) other ∙ later.1))
+          let later = among_again (before ++ flag ∷ []) more f g word rest apart.3 (differ_more before differ other)
+          (subst (λ (flags : List FlagWord). IsPermutation (words_set flags g) (words_set flags f ++ word ∷ rest)) (sym (append_assoc before (flag ∷ []) more)) added) in
+          (later.0, cond_no (bytes_eq word flag.word) (set_once (flag.has f) (flag.set f)) (add_among more f word) other ∙ later.1))
     ]
   where
     differ_more : (flags : List FlagWord) → AllByRecursion (λ x. bytes_eq word x.word ≡ false) flags → bytes_eq word flag.word ≡ false → AllByRecursion (λ x. bytes_eq word x.word ≡ false) (flags ++ flag ∷ [])

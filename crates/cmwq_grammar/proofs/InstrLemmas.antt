@@ -1,20 +1,22 @@
 -- An actor's line: what is read is said so, and what is said so is read.
 use Rattle.std.proofs.Common.{◌≡◌, ℕ, suc, ◌<◌, ◌≤◌, ◌^◌, Bool, true, ◌&&◌, ◌⊎◌, List, [], ◌∷◌, ◌++◌, length, get_or, ltb, Ok, Err, arith, refl, sym, ap, ◌∙◌, inl, inr, subst, codes, append_assoc, append-nil}
 use Rattle.std.specs.Fmt.{decimal}
-use Rattle.std.specs.List.{AllByRecursion}
 use Rattle.std.specs.Str.{bytes_eq}
 use Rattle.cmwq_types.specs.Contents.{ScenarioContents}
 use Rattle.cmwq_types.specs.Faults.{names_declared, within}
 use Rattle.cmwq_types.specs.Listing.{actor_line, instr_words}
+use Rattle.cmwq_types.specs.Mnemonics.{mnemonics, spelling}
 use Rattle.cmwq_types.specs.Scenario.{queue_at, work_at}
 use Rattle.cmwq_types.specs.Values.{IsInstr, IsLine}
 use Rattle.cmwq_types.specs.declared.instr.Instr.{Instr}
 use Rattle.cmwq_types.specs.declared.instr.Instr.TheVariants as instr
 use Rattle.cmwq_types.specs.declared.limits.TheConstants.{MAX_QUEUES, MAX_TIMES, MAX_WORKS}
+use Rattle.cmwq_types.specs.declared.mnemonic.Mnemonic.{Mnemonic}
+use Rattle.cmwq_types.specs.declared.mnemonic.Mnemonic.TheVariants as mnemonic
 use Rattle.cmwq_types.specs.declared.scenario.Line.{Line}
 use Rattle.cmwq_grammar.specs.Fields.{◌>>=◌, declared_at, made_last, number_where, number_within}
 use Rattle.cmwq_grammar.specs.Grammar.{Says}
-use Rattle.cmwq_grammar.specs.Instructions.{Operands, Makes, OfWork, OfQueue, OfNumber, instr_among, instr_at, instructions, line_at, line_of, operands_at, queue_id, queue_names, then_times, times_at, work_id, work_names}
+use Rattle.cmwq_grammar.specs.Instructions.{Operands, Makes, OfWork, OfQueue, OfNumber, instr_among, instr_at, line_at, line_of, operands_at, operands_of, queue_id, queue_names, then_times, times_at, work_id, work_names}
 use Rattle.cmwq_grammar.specs.declared.why.Why.TheVariants as why
 use Rattle.cmwq_grammar.proofs.Basics.{ok_same, bind_ok, bind_at, and_true, below, true_and, chosen, same_word}
 use Rattle.cmwq_grammar.proofs.FieldLemmas.{declared_read, ended_again, last_read, where_read, where_again, within_fits, fits_within}
@@ -35,9 +37,11 @@ SaidBehind S words (OfQueue next) =
     (queue : ℕ) → ltb queue (length S.queues) ≡ true → queue < 2 ^ 8 → SaidBehind S (words ++ (queue_at S queue).name ∷ []) (next (queue_id queue))
 SaidBehind S words (OfNumber high next) = (n : ℕ) → n < suc high → SaidBehind S (words ++ decimal n ∷ []) (next n)
 
-table_said : (S : ScenarioContents) → AllByRecursion (λ line. SaidBehind S (line.0 ∷ []) line.1) instructions
+-- each line of the table by the same steps
+table_said : (S : ScenarioContents) (mnemonic : Mnemonic) → SaidBehind S (spelling mnemonic ∷ []) (operands_of mnemonic)
 unfolding SaidBehind
-table_said S = assumption
+table_said S mnemonic.Queue = assumption
+table_said S _ = assumption
 
 -- the words are the instruction's and then these
 abbrev pub InstrRead : ScenarioContents → List (List ℕ) → Instr × List (List ℕ) → Type 0
@@ -87,19 +91,19 @@ operands_read D (OfNumber high next) words rest found few said e =
     subst (λ (ws : List (List ℕ)). InstrRead D ws found) (operand_behind words rest after (decimal n) there.0)
     (operands_read D (next n) (words ++ decimal n ∷ []) after found few (said n (omega (arith, fits.1))) number.2)
 
-among_read : (D : ScenarioContents) (lines : List (List ℕ × Operands)) (word : List ℕ) (rest : List (List ℕ)) (found : Instr × List (List ℕ)) → FewNames D
-    → AllByRecursion (λ line. SaidBehind D (line.0 ∷ []) line.1) lines → instr_among lines D word rest ≡ Ok found → InstrRead D (word ∷ rest) found
-among_read D [] word rest found few said e = not_standing why.Misplaced word found e
-among_read D (line ∷ more) word rest found few said e =
-    elim (chosen (bytes_eq word line.0) (operands_at D line.1 rest) (instr_among more D word rest) (Ok found) e) [
-      | inl it ↦ subst (λ (w : List ℕ). InstrRead D (w ∷ rest) found) (sym (same_word word line.0 it.0)) (operands_read D line.1 (line.0 ∷ []) rest found few said.0 it.1)
-      | inr other ↦ among_read D more word rest found few said.1 other.1
+among_read : (D : ScenarioContents) (mnemonics : List Mnemonic) (word : List ℕ) (rest : List (List ℕ)) (found : Instr × List (List ℕ)) → FewNames D
+    → instr_among mnemonics D word rest ≡ Ok found → InstrRead D (word ∷ rest) found
+among_read D [] word rest found few e = not_standing why.Misplaced word found e
+among_read D (m ∷ more) word rest found few e =
+    elim (chosen (bytes_eq word (spelling m)) (operands_at D (operands_of m) rest) (instr_among more D word rest) (Ok found) e) [
+      | inl it ↦ subst (λ (w : List ℕ). InstrRead D (w ∷ rest) found) (sym (same_word word (spelling m) it.0)) (operands_read D (operands_of m) (spelling m ∷ []) rest found few (table_said D m) it.1)
+      | inr other ↦ among_read D more word rest found few other.1
     ]
 
 pub instr_read : (D : ScenarioContents) (word : List ℕ) (rest : List (List ℕ)) (found : Instr × List (List ℕ)) → FewNames D → instr_at D word rest ≡ Ok found
     → InstrRead D (word ∷ rest) found
 unfolding instr_at
-instr_read D word rest found few e = among_read D instructions word rest found few (table_said D) e
+instr_read D word rest found few e = among_read D mnemonics word rest found few e
 
 -- Again: an instruction's words are read as it.
 

@@ -29,7 +29,9 @@ use Rattle.cmwq_grammar.specs.Grammar.{SayAll, Says, Spells}
 use Rattle.cmwq_grammar.specs.Instructions.{queue_names, work_names}
 use Rattle.cmwq_grammar.proofs.Basics.{and_true, at_most, true_and, either, cond_no, cond_yes}
 use Rattle.cmwq_grammar.proofs.CanonicalLines.{all_plain, fed, fed_lines, joined, plain_byte, plain_no_feeds, plain_utf8, plain_word, plain_worded, plain_words}
+use Rattle.cmwq_grammar.specs.Reasons.{FlagWord, flag_table}
 use Rattle.cmwq_grammar.proofs.FieldLemmas.{numerals, within_fits}
+use Rattle.cmwq_grammar.proofs.FlagLemmas.{flag_words_are, words_set}
 use Rattle.cmwq_grammar.proofs.GoodScenario.{Good, GoodBody, GoodBodyOf, good_actor, good_from_valid, good_lines, on_queue_of}
 use Rattle.cmwq_grammar.proofs.InstrLemmas.{good_line}
 use Rattle.cmwq_grammar.proofs.LineLemmas.{good_op}
@@ -207,31 +209,34 @@ word_if_fits : (b : Bool) (k : ℕ) (word : List ℕ) → WordFits k word → Wo
 word_if_fits true k word w = words_within (k + 1) (word_on w no_words) (omega arith)
 word_if_fits false k word w = words_within (k + 1) no_words (omega arith)
 
-flags_fit : (f : Flags) → WordsFit 48 (flag_words f)
-flags_fit f =
-    let highpri = word_if_fits f.highpri 7 (codes "highpri") (literal 7 (codes "highpri") refl (omega arith)) in
-    let unbound = word_if_fits f.unbound 7 (codes "unbound") (literal 7 (codes "unbound") refl (omega arith)) in
-    let intensive = word_if_fits f.cpu_intensive 13 (codes "cpu_intensive") (literal 13 (codes "cpu_intensive") refl (omega arith)) in
-    let freezable = word_if_fits f.freezable 9 (codes "freezable") (literal 9 (codes "freezable") refl (omega arith)) in
-    let ordered = word_if_fits f.ordered 7 (codes "ordered") (literal 7 (codes "ordered") refl (omega arith)) in
-    words_within 48 (words_on (words_on (words_on (words_on highpri unbound) intensive) freezable) ordered) (omega arith)
+-- the words of the flags that are set take no more than all of them do
+set_fit : (flags : List FlagWord) (f : Flags) → AllByRecursion (λ flag. plain_word flag.word ≡ true) flags
+    → WordsFit (total (map (λ (flag : FlagWord). flag.word) flags)) (words_set flags f)
+unfolding total
+set_fit [] f plain = no_words
+set_fit (flag ∷ more) f plain =
+    words_on (word_if_fits (flag.has f) (length flag.word) flag.word (literal (length flag.word) flag.word plain.0 (omega arith))) (set_fit more f plain.1)
 
-queue_fits : (q : QueueDecl) → is_name q.name ≡ true → fits_flags q ≡ true → LineFitsIn 78 (queue_line q)
+flags_fit : (f : Flags) → WordsFit 100 (flag_words f)
+unfolding total
+flags_fit f = subst (WordsFit 100) (sym (flag_words_are f)) (words_within 100 (set_fit flag_table f assumption) (omega arith))
+
+queue_fits : (q : QueueDecl) → is_name q.name ≡ true → fits_flags q ≡ true → LineFitsIn 130 (queue_line q)
 queue_fits q named fits =
     let parts : (within 1 MAX_MAX_ACTIVE q.max ≡ true) × (cond q.flags.ordered (eqb q.max 1) true ≡ true) =
     and_true (within 1 MAX_MAX_ACTIVE q.max) (cond q.flags.ordered (eqb q.max 1) true) fits in
     let bounds : (1 ≤ q.max) × (q.max ≤ MAX_MAX_ACTIVE) = within_fits 1 MAX_MAX_ACTIVE q.max parts.0 in
-    line_fits 78 (queue_line q) refl (word_on (literal 5 (codes "queue") refl (omega arith))
+    line_fits 130 (queue_line q) refl (word_on (literal 5 (codes "queue") refl (omega arith))
     (word_on (name_fits q.name named)
     (word_on (literal 3 (codes "max") refl (omega arith))
     (word_on (number_fits 3 q.max (omega arith) (omega arith) (omega arith)) (flags_fit q.flags))))) (omega arith)
 
 queues_fit : (before : List (List ℕ)) (queues : List QueueDecl) → GoodNames before (map (λ (q : QueueDecl). q.name) queues) → list_all fits_flags queues ≡ true
-    → LinesFitIn (length queues * 78) (map queue_line queues)
+    → LinesFitIn (length queues * 130) (map queue_line queues)
 queues_fit before [] names fits = no_lines
 queues_fit before (q ∷ queues) names fits =
     let both : (fits_flags q ≡ true) × (list_all fits_flags queues ≡ true) = and_true (fits_flags q) (list_all fits_flags queues) fits in
-    lines_within (suc (length queues) * 78) (line_on (queue_fits q names.1 both.0) (queues_fit (before ++ q.name ∷ []) queues names.2 both.1)) (omega arith)
+    lines_within (suc (length queues) * 130) (line_on (queue_fits q names.1 both.0) (queues_fit (before ++ q.name ∷ []) queues names.2 both.1)) (omega arith)
 
 -- Works.
 
@@ -411,7 +416,7 @@ written_fits S good =
     let few_queues : length S.queues ≤ MAX_QUEUES = good.few_queues in
     let few_works : length S.works ≤ MAX_WORKS = good.few_works in
     let few_actors : length S.actors ≤ MAX_ACTORS = good.few_actors in
-    let a : ℕ = length S.queues * 78 in
+    let a : ℕ = length S.queues * 130 in
     let b : ℕ = length S.works * 37 in
     let c : ℕ = length S.works * 1621 in
     let d : ℕ = length S.actors * 213014 in

@@ -1,14 +1,15 @@
 -- An actor's line: an instruction, and how often it stands.
-use Rattle.std.specs.Prelude.{ℕ, List, [], ◌∷◌, Result, Ok, Err, if◌then◌else◌, codes, map}
+use Rattle.std.specs.Prelude.{ℕ, List, [], ◌∷◌, ◌++◌, Result, Ok, Err, if◌then◌else◌, codes, map}
 use Rattle.std.specs.List.{list_any}
 use Rattle.std.specs.Str.{bytes_eq}
 use Rattle.cmwq_types.specs.Contents.{ScenarioContents}
-use Rattle.cmwq_types.specs.Mnemonics.{spelling}
+use Rattle.cmwq_types.specs.Mnemonics.{mnemonics, spelling}
 use Rattle.cmwq_types.specs.declared.instr.Instr.{Instr}
 use Rattle.cmwq_types.specs.declared.instr.Instr.TheVariants as instr
 use Rattle.cmwq_types.specs.declared.instr.QueueId.{QueueId}
 use Rattle.cmwq_types.specs.declared.instr.WorkId.{WorkId}
 use Rattle.cmwq_types.specs.declared.limits.TheConstants.{MAX_TIMES}
+use Rattle.cmwq_types.specs.declared.mnemonic.Mnemonic.{Mnemonic}
 use Rattle.cmwq_types.specs.declared.mnemonic.Mnemonic.TheVariants as mnemonic
 use Rattle.cmwq_types.specs.declared.scenario.Line.{Line}
 use Rattle.cmwq_grammar.specs.Fields.{◌>>=◌, declared_at, made, made_last, number_within}
@@ -57,34 +58,36 @@ of_work_cpu_ticks instr = OfWork (λ work. OfNumber 255 (λ cpu. of_number 42949
 abbrev pub of_queue_max : (QueueId → ℕ → Instr) → Operands
 of_queue_max instr = OfQueue (λ queue. of_number 4294967295 (instr queue))
 
--- The instructions: the word of each, and its operands.
-abbrev pub instructions : List (List ℕ × Operands)
-instructions =
-    (spelling mnemonic.Queue, of_work_cpu instr.Queue)
-    ∷ (spelling mnemonic.Delay, of_work_cpu_ticks instr.Delay)
-    ∷ (spelling mnemonic.Mod, of_work_cpu_ticks instr.Mod)
-    ∷ (spelling mnemonic.Cancel, of_work instr.Cancel)
-    ∷ (spelling mnemonic.CancelSync, of_work instr.CancelSync)
-    ∷ (spelling mnemonic.Flush, of_work instr.Flush)
-    ∷ (spelling mnemonic.FlushDelayed, of_work instr.FlushDelayed)
-    ∷ (spelling mnemonic.FlushQueue, of_queue instr.FlushQueue)
-    ∷ (spelling mnemonic.SetMax, of_queue_max instr.SetMax)
-    ∷ (spelling mnemonic.Freeze, Makes instr.Freeze)
-    ∷ (spelling mnemonic.Thaw, Makes instr.Thaw)
-    ∷ (spelling mnemonic.Fire, Makes instr.Fire)
-    ∷ (spelling mnemonic.Step, of_number 255 instr.Step)
-    ∷ (spelling mnemonic.Tick, Makes instr.Tick)
-    ∷ (spelling mnemonic.Next, Makes instr.Next)
-    ∷ (spelling mnemonic.Ask, of_number 65535 instr.Ask)
-    ∷ (spelling mnemonic.Busy, Makes instr.Busy)
-    ∷ (spelling mnemonic.State, of_work instr.State)
-    ∷ []
+-- The instructions, by their words: what stands behind each.
+abbrev pub operands_of : Mnemonic → Operands
+operands_of mnemonic.Queue = of_work_cpu instr.Queue
+operands_of mnemonic.Delay = of_work_cpu_ticks instr.Delay
+operands_of mnemonic.Mod = of_work_cpu_ticks instr.Mod
+operands_of mnemonic.Cancel = of_work instr.Cancel
+operands_of mnemonic.CancelSync = of_work instr.CancelSync
+operands_of mnemonic.Flush = of_work instr.Flush
+operands_of mnemonic.FlushDelayed = of_work instr.FlushDelayed
+operands_of mnemonic.FlushQueue = of_queue instr.FlushQueue
+operands_of mnemonic.SetMax = of_queue_max instr.SetMax
+operands_of mnemonic.Freeze = Makes instr.Freeze
+operands_of mnemonic.Thaw = Makes instr.Thaw
+operands_of mnemonic.Fire = Makes instr.Fire
+operands_of mnemonic.Step = of_number 255 instr.Step
+operands_of mnemonic.Tick = Makes instr.Tick
+operands_of mnemonic.Next = Makes instr.Next
+operands_of mnemonic.Ask = of_number 65535 instr.Ask
+operands_of mnemonic.Busy = Makes instr.Busy
+operands_of mnemonic.State = of_work instr.State
 
--- the first words of lines; an operation and a queue's line begin with `queue` too
-abbrev pub first_words : List (List ℕ)
-first_words =
+-- the words that other lines begin with; an operation and a queue's line begin with an instruction's word, `queue`
+abbrev pub other_words : List (List ℕ)
+other_words =
     codes "cpus" ∷ codes "workers" ∷ codes "steps" ∷ codes "flushes" ∷ codes "work" ∷ codes "body" ∷ codes "burn"
-    ∷ codes "sleep" ∷ codes "finish" ∷ codes "actor" ∷ map (λ line. line.0) instructions
+    ∷ codes "sleep" ∷ codes "finish" ∷ codes "actor" ∷ []
+
+-- the first words of lines
+abbrev pub first_words : List (List ℕ)
+first_words = other_words ++ map spelling mnemonics
 
 -- the first word can't stand here: for this reason if some line begins with it
 unfoldable pub cannot_stand : {A : Type 0} → Why → List ℕ → Result A Why
@@ -98,14 +101,14 @@ operands_at S (OfWork next) words = declared_at (work_names S) words >>= (λ wor
 operands_at S (OfQueue next) words = declared_at (queue_names S) words >>= (λ queue. operands_at S (next (queue_id queue.0)) queue.1)
 operands_at S (OfNumber high next) words = number_within 0 high words >>= (λ n. operands_at S (next n.0) n.1)
 
--- of these instructions the one that begins with this word
-abbrev pub instr_among : List (List ℕ × Operands) → ScenarioContents → List ℕ → List (List ℕ) → Result (Instr × List (List ℕ)) Why
+-- the instruction that begins with this word, if it is one of these
+abbrev pub instr_among : List Mnemonic → ScenarioContents → List ℕ → List (List ℕ) → Result (Instr × List (List ℕ)) Why
 instr_among [] S word rest = cannot_stand why.Misplaced word
-instr_among (line ∷ more) S word rest =
-    if bytes_eq word line.0 then operands_at S line.1 rest else instr_among more S word rest
+instr_among (mnemonic ∷ more) S word rest =
+    if bytes_eq word (spelling mnemonic) then operands_at S (operands_of mnemonic) rest else instr_among more S word rest
 
 unfoldable pub instr_at : ScenarioContents → List ℕ → List (List ℕ) → Result (Instr × List (List ℕ)) Why
-instr_at = instr_among instructions
+instr_at = instr_among mnemonics
 
 -- The operands of one shape, read for an instruction.
 

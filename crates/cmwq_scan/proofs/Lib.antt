@@ -1,4 +1,5 @@
 mod CuttingLemmas
+mod FirstWords
 pub mod LastFields
 pub mod LineSteps
 mod NameLemmas

@@ -1,43 +1,19 @@
 //! The reason against a line whose first word can't stand where it is.
 ghost use Rattle.cmwq_scan.specs.Refusals.{refusal};
 ghost use Rattle.cmwq_grammar.specs.Instructions.{first_words};
+ghost use Rattle.cmwq_types.specs.Mnemonics.{mnemonics, spelling};
 ghost use Rattle.std.specs.List.{list_any};
-ghost use Rattle.std.specs.Prelude.{◌≡◌};
+ghost use Rattle.std.specs.Prelude.{◌≡◌, map};
 ghost use Rattle.std.specs.Str.{bytes_eq};
 
 use crate::fields::is_word;
 use cmwq_grammar::Why;
+use cmwq_types::Mnemonic;
 
-/// The words that lines begin with.
-const FIRST_WORDS: [&[u8]; 28] = [
-    b"cpus",
-    b"workers",
-    b"steps",
-    b"flushes",
-    b"work",
-    b"body",
-    b"burn",
-    b"sleep",
-    b"finish",
+/// The words that lines begin with, but for those of instructions.
+const OTHER_WORDS: [&[u8]; 10] = [
+    b"cpus", b"workers", b"steps", b"flushes", b"work", b"body", b"burn", b"sleep", b"finish",
     b"actor",
-    b"queue",
-    b"delay",
-    b"mod",
-    b"cancel",
-    b"cancel_sync",
-    b"flush",
-    b"flush_delayed",
-    b"flush_queue",
-    b"set_max",
-    b"freeze",
-    b"thaw",
-    b"fire",
-    b"step",
-    b"tick",
-    b"next",
-    b"ask",
-    b"busy",
-    b"state",
 ];
 
 /// The reason, if some line begins with the word; else that none does.
@@ -52,10 +28,18 @@ pub fn refusal(reason: Why, word: &[u8]) -> Why
     }
 }
 
+#[tactic(auto, using(crate::proofs::FirstWords::first_words_are))]
 fn begins_lines(word: &[u8]) -> bool
     ensures { result ≡ list_any (bytes_eq word.now) first_words }
 {
-    is_among(word, &FIRST_WORDS)
+    is_among(word, &OTHER_WORDS) || names_instr(word)
+}
+
+#[tactic(auto, using(crate::proofs::FirstWords::spelled_by_one))]
+fn names_instr(word: &[u8]) -> bool
+    ensures { result ≡ list_any (bytes_eq word.now) (map spelling mnemonics) }
+{
+    Mnemonic::read(word).is_some()
 }
 
 fn is_among(word: &[u8], words: &[&[u8]]) -> bool
