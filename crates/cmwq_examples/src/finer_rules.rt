@@ -1,6 +1,6 @@
 //! Worked examples of the finer rules, as theorems over the definitions: who comes first, where a work goes, what
 //! counts, and which refusal is told.
-#![tactic(auto, unfolding(cmwq_table::specs::Table::table))]
+#![tactic(auto, unfolding(cmwq_table::specs::Events::reply_line, cmwq_table::specs::Table::table))]
 
 ghost use Rattle.cmwq_examples.specs.FinerRules.{busy, busy_lines, cancel_lets_in, cancel_lets_in_lines, deferred, deferred_lines, equal_times, equal_times_lines, fills, fills_lines, flush_beside_timer, flush_beside_timer_lines, flush_targets, flush_targets_lines, high_and_unbound, high_and_unbound_lines, idle_workers, idle_workers_lines, later_times, later_times_lines, mod_and_delay, mod_and_delay_lines, mod_goes_behind, mod_goes_behind_lines, no_flushes, no_flushes_lines, one_worker, one_worker_lines, operands, operands_lines, pools_apart, pools_apart_lines, queues_others, queues_others_lines, same_worker, same_worker_lines, starts_again_behind, starts_again_behind_lines, starts_behind, starts_behind_lines, thaw_fills, thaw_fills_lines, timer_cpu, timer_cpu_lines, two_cpus, two_cpus_lines, unbound_workers, unbound_workers_lines, undeclared_instrs, unsettled, unsettled_instrs, wakes_behind, wakes_behind_lines, what_is_spent, what_is_spent_lines};
 ghost use Rattle.cmwq_examples.specs.Rows.{printed};

@@ -1,5 +1,5 @@
 //! The moves of a worker pool: which one is next, and what each does.
-ghost use Rattle.cmwq_exec.specs.Moves.{IsFirstMove, IsMove};
+ghost use Rattle.cmwq_exec.specs.Moves.{IsFirstMove, IsFound, if_found, move_of};
 ghost use Rattle.cmwq_table.specs.Counts.{first_listed, free_worker, ready_head};
 ghost use Rattle.cmwq_table.specs.Moves.{advance, carry_out, come_to_end, finish, moved, next_move, queue_from_body, start_move, started};
 ghost use Rattle.cmwq_table.specs.Ready.{Takes};
@@ -11,47 +11,60 @@ ghost use Rattle.std.specs.Prelude.{◌≡◌, ◌<◌, ◌^◌, IfSome, None, S
 use crate::going::Going;
 use crate::parts::Parts;
 use cmwq_table::Running;
-use cmwq_types::{Event, Move, Op, WorkId};
+use cmwq_types::{Event, Op, WorkId};
+
+/// The next move of a worker pool, as it was found.
+#[derive(Clone, Copy)]
+pub(crate) enum Found {
+    /// The work carries out the operation that it has come to.
+    Advance(WorkId),
+    /// The work's sleep is over.
+    Wake(WorkId),
+    /// The worker of this number takes the work from the worklist.
+    Start(WorkId, u8),
+    /// The work's turn came while it still runs.
+    Defer(WorkId),
+}
 
 impl<P: Parts> Going<P> {
     /// The next move of the pool: advance, else wake, else start.
-    pub(crate) fn next_move(&self, pool: u8) -> Option<Move>
+    pub(crate) fn next_move(&self, pool: u8) -> Option<Found>
         requires pool { pool < pool_count self.now.scenario }
-        ensures next { result ≡ next_move self.now.scenario self.now.state pool }
-        ensures fits { IfSome result (IsMove self.now.scenario self.now.state pool) }
+        ensures next { if_found result ≡ next_move self.now.scenario self.now.state pool }
+        ensures fits { IfSome result (IsFound self.now.scenario self.now.state pool) }
     {
         if let Some(w) = self.parts.ready_head(pool) {
-            return Some(Move::Advance(WorkId(w as u16)));
+            return Some(Found::Advance(WorkId(w as u16)));
         }
         if let Some(w) = self.parts.first_slept(pool) {
-            return Some(Move::Wake(WorkId(w as u16)));
+            return Some(Found::Wake(WorkId(w as u16)));
         }
         self.start_move(pool)
     }
 
     /// The move that takes the first listed work, if the pool may start it. A work that runs is
     /// deferred; any other wants a worker.
-    fn start_move(&self, pool: u8) -> Option<Move>
+    fn start_move(&self, pool: u8) -> Option<Found>
         requires pool { pool < pool_count self.now.scenario }
-        ensures next { result ≡ start_move self.now.scenario self.now.state pool }
-        ensures fits { IfSome result (IsMove self.now.scenario self.now.state pool) }
+        ensures next { if_found result ≡ start_move self.now.scenario self.now.state pool }
+        ensures fits { IfSome result (IsFound self.now.scenario self.now.state pool) }
     {
         if !self.parts.may_start(pool) {
             return None;
         }
         let w = self.parts.first_listed(pool)?;
         if self.parts.running_of(w).is_some() {
-            return Some(Move::Defer(WorkId(w as u16)));
+            return Some(Found::Defer(WorkId(w as u16)));
         }
-        self.parts.free_worker(pool)?;
-        Some(Move::Start(WorkId(w as u16)))
+        let worker = self.parts.free_worker(pool)?;
+        Some(Found::Start(WorkId(w as u16), worker))
     }
 
     /// The least pool that has a move, and its move.
-    pub(crate) fn first_move(&self) -> Option<(u8, Move)>
+    pub(crate) fn first_move(&self) -> Option<(u8, Found)>
         ensures first { IsFirstMove self.now.scenario self.now.state result }
         ensures pool { IfSome result (λ found. found.0 < pool_count self.now.scenario) }
-        ensures fits { IfSome result (λ found. IsMove self.now.scenario self.now.state found.0 found.1) }
+        ensures fits { IfSome result (λ first. IsFound self.now.scenario self.now.state first.0 first.1) }
     {
         for pool in 0..self.pool_count() {
             if let Some(next) = self.next_move(pool) {
@@ -62,25 +75,25 @@ impl<P: Parts> Going<P> {
     }
 
     /// Makes the pool's move, and says what it did.
-    pub(crate) fn make_move(&mut self, pool: u8, next: Move) -> Event
+    pub(crate) fn make_move(&mut self, pool: u8, next: Found) -> Event
         requires pool { pool < pool_count self.old.scenario }
-        requires fits { IsMove self.old.scenario self.old.state pool next }
+        requires fits { IsFound self.old.scenario self.old.state pool next }
         requires time { self.old.state.time < 2 ^ 60 }
         requires stamps { self.old.state.next < 2 ^ 60 }
-        ensures state { self.new ≡ record self.old { state = (moved self.old.scenario self.old.state pool next).0 } }
-        ensures event { result ≡ (moved self.old.scenario self.old.state pool next).1 }
+        ensures state { self.new ≡ record self.old { state = (moved self.old.scenario self.old.state pool (move_of next)).0 } }
+        ensures event { result ≡ (moved self.old.scenario self.old.state pool (move_of next)).1 }
     {
         match next {
-            Move::Advance(w) => self.advance(pool, w.0 as usize),
-            Move::Wake(w) => {
+            Found::Advance(w) => self.advance(pool, w.0 as usize),
+            Found::Wake(w) => {
                 self.wake(pool, w.0 as usize);
                 Event::Wakes
             }
-            Move::Start(w) => {
-                self.start(pool, w.0 as usize);
+            Found::Start(w, worker) => {
+                self.start(pool, w.0 as usize, worker);
                 Event::Starts
             }
-            Move::Defer(w) => {
+            Found::Defer(w) => {
                 self.defer(pool, w.0 as usize);
                 Event::Defers
             }
@@ -192,16 +205,18 @@ impl<P: Parts> Going<P> {
         }
     }
 
-    /// A free worker of the pool takes its first listed work.
-    fn start(&mut self, pool: u8, w: usize)
+    /// The free worker of the pool takes its first listed work.
+    fn start(&mut self, pool: u8, w: usize, worker: u8)
         requires pool { pool < pool_count self.old.scenario }
         requires work { w < length self.old.scenario.works }
+        requires worker { worker < self.old.scenario.workers }
+        requires free { free_worker self.old.scenario self.old.state pool ≡ Some worker }
         requires first { first_listed self.old.scenario self.old.state pool ≡ Some w }
         requires still { running_at self.old.state w ≡ None }
         requires stamps { self.old.state.next < 2 ^ 63 }
         ensures { self.new ≡ record self.old { state = started self.old.state pool w (free_worker self.old.scenario self.old.state pool) (pending_at self.old.state w) } }
     {
-        if let (Some(worker), Some(p)) = (self.parts.free_worker(pool), self.parts.pending_of(w)) {
+        if let Some(p) = self.parts.pending_of(w) {
             self.start_on(pool, w, worker, p);
         }
     }

@@ -1,6 +1,6 @@
 //! The instructions: each one's situation is judged and its effect carried out together, so that what was
 //! found for the one serves the other.
-ghost use Rattle.cmwq_exec.specs.Moves.{IsMove};
+ghost use Rattle.cmwq_exec.specs.Moves.{IsFound, move_of};
 ghost use Rattle.cmwq_exec.specs.Performing.{performed};
 ghost use Rattle.cmwq_table.specs.Counts.{first_due, is_busy, is_done};
 ghost use Rattle.cmwq_table.specs.Moves.{first_moving, moved_work};
@@ -13,9 +13,10 @@ ghost use Rattle.cmwq_types.specs.declared.limits.TheConstants.{MAX_MAX_ACTIVE};
 ghost use Rattle.std.specs.Prelude.{◌≡◌, ◌<◌, ◌≤◌, ◌^◌, None, Some, length};
 
 use crate::going::Going;
+use crate::moving::Found;
 use crate::parts::Parts;
 use crate::refusing::is_question;
-use cmwq_types::{Cause, Event, Instr, Move, QueueId, Refusal, Reply, WorkId, WorkRun, WorkState};
+use cmwq_types::{Cause, Event, Instr, QueueId, Refusal, Reply, WorkId, WorkRun, WorkState};
 
 impl<P: Parts> Going<P> {
     /// The line of an instruction: a refusal changes nothing, and what is accepted is spent, questions
@@ -202,13 +203,13 @@ impl<P: Parts> Going<P> {
     }
 
     /// Lets the pool make this move, its next one.
-    fn step_by(&mut self, pool: u8, next: Move) -> Reply
+    fn step_by(&mut self, pool: u8, next: Found) -> Reply
         requires pool { pool < pool_count self.old.scenario }
-        requires fits { IsMove self.old.scenario self.old.state pool next }
+        requires fits { IsFound self.old.scenario self.old.state pool next }
         requires time { self.old.state.time < 2 ^ 60 }
         requires stamps { self.old.state.next < 2 ^ 60 }
-        ensures state { self.new ≡ record self.old { state = (stepped self.old.scenario self.old.state pool (Some next)).0 } }
-        ensures reply { result ≡ (stepped self.old.scenario self.old.state pool (Some next)).1 }
+        ensures state { self.new ≡ record self.old { state = (stepped self.old.scenario self.old.state pool (Some (move_of next))).0 } }
+        ensures reply { result ≡ (stepped self.old.scenario self.old.state pool (Some (move_of next))).1 }
     {
         let event = self.make_move(pool, next);
         Reply::Event {
@@ -315,10 +316,10 @@ impl<P: Parts> Going<P> {
 }
 
 /// The work that a move is of.
-fn moved_work(next: Move) -> WorkId
-    ensures { result ≡ moved_work next }
+fn moved_work(next: Found) -> WorkId
+    ensures { result ≡ moved_work (move_of next) }
 {
     match next {
-        Move::Advance(w) | Move::Wake(w) | Move::Start(w) | Move::Defer(w) => w,
+        Found::Advance(w) | Found::Wake(w) | Found::Start(w, _) | Found::Defer(w) => w,
     }
 }

@@ -1,6 +1,5 @@
 -- What a caller cites of lists: what stays sorted, and how many nodes are held.
 use Rattle.std.proofs.Common.{◌≡◌, refl, ℕ, ◌+◌, ◌<◌, ◌≤◌, Bool, ◌==◌, true, false, List, [], ◌∷◌, length, cond, nat_lt, arith}
-use Rattle.std.specs.List.{sum_by}
 use Rattle.std.proofs.lemmas.Bool.Decides.{nat_tests}
 use Rattle.std.proofs.lemmas.List.Sums.{sum_by-set}
 use Rattle.cmwq_lists.specs.Contents.{AllAfter, Contents, Entry, IsSorted, NoneBelow, behind_front, held, list_at, placed, with_list, without}

@@ -1,12 +1,12 @@
 -- The laws of `Ranks`.
-use Rattle.std.proofs.Common.{◌≡◌, ◌≢◌, ◌⊎◌, ℕ, zero, suc, ◌+◌, ◌*◌, ◌^◌, ◌<◌, ◌≤◌, Bool, true, false, ◌||◌, ◌&&◌, ◌==◌, not, nat_lt, List, [], ◌∷◌, ◌++◌, Option, Some, None, option_map, cond, arith, refl, sym, ap, ◌∙◌, inl, inr}
-use Rattle.std.proofs.lemmas.Bool.{cases_eq, cases_lt}
+use Rattle.std.proofs.Common.{◌≡◌, ◌≢◌, ◌⊎◌, ℕ, zero, suc, ◌+◌, ◌*◌, ◌^◌, ◌<◌, ◌≤◌, Bool, true, false, ◌||◌, ◌==◌, nat_lt, List, [], ◌∷◌, ◌++◌, Option, Some, None, cond, arith, refl, sym, ap, ◌∙◌, inl, inr}
+use Rattle.std.proofs.lemmas.Bool.{cases_eq}
 use Rattle.std.proofs.lemmas.Bool.Decides.{nat_tests}
 use Rattle.cmwq_types.specs.First.{first_below, first_with, by_least, by_least_two, IsOrder, MatchFirst}
 use Rattle.cmwq_types.proofs.FirstLemmas.{by_least-order, by_least_two-order, first_below-is_first, first_below-unique, first_below-none}
 use Rattle.cmwq_lists.specs.declared.node.Node.{Node}
-use Rattle.cmwq_lists.specs.Contents.{AllAfter, Entry, behind_front, front_node, node_at, placed, without}
-use Rattle.cmwq_lists.specs.Ranks.{has_work, Rises, Belongs, AllBelong, Ranks, with_work, without_work, front_work, FrontIsFirst, InsertedRanks, PushedRanks, UnlinkedRanks, PoppedRanks, AgreeingRanks, TwoKeysAreOne}
+use Rattle.cmwq_lists.specs.Contents.{AllAfter, Entry, node_at, placed, without}
+use Rattle.cmwq_lists.specs.Ranks.{has_work, Rises, Belongs, AllBelong, with_work, without_work, FrontIsFirst, InsertedRanks, PushedRanks, UnlinkedRanks, PoppedRanks, AgreeingRanks, TwoKeysAreOne}
 
 -- a work of a list in which all come after an order
 above_of_work : (order : ℕ → ℕ) (test : ℕ → Bool) (n low w : ℕ) (entries : List Entry) → AllAfter low entries → AllBelong order test n entries → has_work w entries ≡ true → low < order w

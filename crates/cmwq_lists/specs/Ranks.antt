@@ -1,6 +1,6 @@
 -- Sorted lists, said in the words of the table: a list that holds just the works that pass a test, in the
 -- order of a number each. It serves worklists, sleepers and inactive works alike.
-use Rattle.std.specs.Prelude.{◌≡◌, ◌≢◌, ℕ, ◌+◌, ◌*◌, ◌^◌, ◌<◌, Bool, true, false, ◌||◌, ◌&&◌, ◌==◌, not, List, [], ◌∷◌, ◌++◌, Option, Some, None, option_map}
+use Rattle.std.specs.Prelude.{◌≡◌, ◌≢◌, ℕ, ◌+◌, ◌*◌, ◌^◌, ◌<◌, Bool, true, false, ◌||◌, ◌&&◌, ◌==◌, not, List, [], ◌∷◌, ◌++◌, Option, Some, option_map}
 use Rattle.cmwq_types.specs.First.{first_below, by_least, by_least_two}
 use Rattle.cmwq_lists.specs.declared.node.Node.{Node}
 use Rattle.cmwq_lists.specs.Contents.{AllAfter, Entry, behind_front, front_node, node_at, placed, without}

@@ -154,7 +154,7 @@ reply_words S asked (reply.Event work event) = work_name S work ++ codes " " ++ 
 reply_words S asked (reply.Refused why) = codes "refused " ++ refusal_text why
 
 -- the line of a reply at a time, to an instruction
-abbrev pub reply_line : ScenarioContents → ℕ → Instr → Reply → List ℕ
+unfoldable pub reply_line : ScenarioContents → ℕ → Instr → Reply → List ℕ
 reply_line S now asked reply = if is_silent reply then [] else line_at now (reply_words S asked reply)
 
 abbrev pub told : ScenarioContents → Instr → State × Reply → List ℕ

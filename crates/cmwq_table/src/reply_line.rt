@@ -24,6 +24,7 @@ pub struct ReplyLine<'a> {
 impl fmt::Display for ReplyLine<'_> {
     ghost output = { λ line. Some (reply_line line.scenario.now line.time line.instr line.reply) };
 
+    #[tactic(auto, unfolding(crate::specs::Events::reply_line))]
     fn fmt<W: fmt::Write>(&self, f: &mut fmt::Formatter<W>) -> fmt::Result {
         if is_silent(self.reply) {
             return Ok(());

@@ -1,253 +1,206 @@
--- Laws on the tree of timers: a step on the way up, and what stands at the root.
-use Rattle.std.proofs.Common.{◌≡◌, ◌≢◌, ◌⊎◌, ℕ, zero, suc, ◌+◌, ◌-◌, ◌*◌, ◌/◌, ◌%◌, ◌<◌, ◌≤◌, Bool, true, false, ◌||◌, ◌&&◌, ◌==◌, nat_lt, List, length, drop, get_or, set, Option, Some, None, is_some, IfSome, cond, arith, refl, sym, ap, subst, ◌∙◌, inl, inr}
+-- Laws on the tree of ranks: a step on the way up, and what stands at the root.
+use Rattle.std.proofs.Common.{◌≡◌, ◌≢◌, ℕ, zero, suc, ◌+◌, ◌-◌, ◌*◌, ◌/◌, ◌%◌, ◌<◌, ◌≤◌, Bool, true, false, ◌||◌, ◌&&◌, ◌==◌, nat_lt, List, length, set, Option, Some, None, is_some, IfSome, cond, arith, refl, sym, ap, subst, ◌∙◌, inl, inr}
 use Rattle.std.proofs.lemmas.Bool.{cases_eq, cases_lt}
 use Rattle.std.proofs.lemmas.Bool.Decides.{nat_tests}
-use Rattle.std.proofs.lemmas.List.{get_or-set_same, get_or-set_other, get_or-drop, length-drop, get_or_past}
+use Rattle.std.proofs.lemmas.List.{get_or-set_same, get_or-set_other, get_or_past}
 use Rattle.cmwq_types.proofs.FirstLemmas.{by_least_two-order, first_below-unique, first_below-none}
+use Rattle.cmwq_timers.specs.declared.rank.Rank.{Rank}
 use Rattle.cmwq_timers.specs.declared.timer.Timer.{Timer}
-use Rattle.std.specs.Option.{option_eq}
-use Rattle.cmwq_timers.specs.contracts.timer.TimerPartialEq.TheImpl.{eq-value}
 use Rattle.cmwq_timers.specs.Timers.{timer_at, due_of, stamp_of, fires_before, first_to_fire, least_timer}
-use Rattle.cmwq_timers.specs.Tree.{comes_before, earlier, node, IsEarlier, IsOwn, IsSettledBut, IsKept}
+use Rattle.cmwq_timers.specs.Tree.{comes_before, lesser, no_rank, past_rank, rank_at, rank_of, IsLesserOf, IsOwn, IsSettledBut, IsKept}
 
--- the earlier one of a node's timer and of the node's beside it is the earlier one of their parent's children
-pub earlier_beside : (nodes : List (Option Timer)) (at : ℕ) (timer : Option Timer) → timer ≡ earlier (node nodes at) (node nodes (at + 1 - 2 * (at % 2))) → IsEarlier timer (node nodes (2 * (at / 2))) (node nodes (2 * (at / 2) + 1))
-earlier_beside nodes at timer is = elim (cases_eq at (2 * (at / 2))) [
+-- ranks are ordered
+pub not_before_itself : (a : Rank) → comes_before a a ≡ false
+not_before_itself a = grind (arith, nat_tests)
+
+pub one_way : (a b : Rank) → comes_before a b ≡ true → comes_before b a ≡ false
+one_way a b before = grind (arith, nat_tests)
+
+pub onward : (a b c : Rank) → comes_before a b ≡ false → comes_before b c ≡ false → comes_before a c ≡ false
+onward a b c first second = grind (arith, nat_tests)
+
+pub lesser_is : (a b : Rank) → IsLesserOf (lesser a b) a b
+lesser_is a b = by_test (comes_before b a) refl
+  where
+    by_test : (test : Bool) → comes_before b a ≡ test → IsLesserOf (cond test b a) a b
+    by_test true e = record { is_one = inr refl; not_after_left = one_way b a e; not_after_right = not_before_itself b }
+    by_test false e = record { is_one = inl refl; not_after_left = not_before_itself a; not_after_right = e }
+
+pub lesser_swapped : (rank a b : Rank) → IsLesserOf rank a b → IsLesserOf rank b a
+lesser_swapped rank a b is = record {
+  is_one = elim is.is_one [ inl left ↦ inr left | inr right ↦ inl right ];
+  not_after_left = is.not_after_right;
+  not_after_right = is.not_after_left;
+}
+
+-- the lesser of a node's rank and of the node's beside it is the lesser of their parent's children
+pub lesser_beside : (ranks : List Rank) (at : ℕ) (rank : Rank) → rank ≡ lesser (rank_at ranks at) (rank_at ranks (at + 1 - 2 * (at % 2)))
+    → IsLesserOf rank (rank_at ranks (2 * (at / 2))) (rank_at ranks (2 * (at / 2) + 1))
+lesser_beside ranks at rank is = elim (cases_eq at (2 * (at / 2))) [
   | inl even ↦
       let right : at + 1 - 2 * (at % 2) ≡ 2 * (at / 2) + 1 = omega (arith, even) in
-      inl (is ∙ ap (λ (k : ℕ). earlier (node nodes at) (node nodes k)) right ∙ ap (λ (k : ℕ). earlier (node nodes k) (node nodes (2 * (at / 2) + 1))) even)
+      let both = subst (λ (k : ℕ). IsLesserOf rank (rank_at ranks at) (rank_at ranks k)) right chosen in
+      subst (λ (k : ℕ). IsLesserOf rank (rank_at ranks k) (rank_at ranks (2 * (at / 2) + 1))) even both
   | inr odd ↦
       let here : at ≡ 2 * (at / 2) + 1 = omega (arith, odd) in
       let left : at + 1 - 2 * (at % 2) ≡ 2 * (at / 2) = omega (arith, here) in
-      inr (is ∙ ap (λ (k : ℕ). earlier (node nodes at) (node nodes k)) left ∙ ap (λ (k : ℕ). earlier (node nodes k) (node nodes (2 * (at / 2)))) here)
+      let both = subst (λ (k : ℕ). IsLesserOf rank (rank_at ranks at) (rank_at ranks k)) left chosen in
+      lesser_swapped rank (rank_at ranks (2 * (at / 2) + 1)) (rank_at ranks (2 * (at / 2)))
+      (subst (λ (k : ℕ). IsLesserOf rank (rank_at ranks k) (rank_at ranks (2 * (at / 2)))) here both)
 ]
-
-pub same_timers : (a b : Option Timer) → option_eq (eq-value).it a b ≡ true → a ≡ b
-same_timers None None same = refl
-same_timers None (Some b) same = absurd (cc)
-same_timers (Some a) None same = absurd (cc)
-same_timers (Some a) (Some b) same = grind (arith, nat_tests, same)
-
--- where the parent has its timer already, nothing changes further up
-pub settled_stop : (nodes : List (Option Timer)) (leaves at : ℕ) (timer : Option Timer) → IsSettledBut nodes leaves (at / 2) → node nodes (at / 2) ≡ timer → IsEarlier timer (node nodes (2 * (at / 2))) (node nodes (2 * (at / 2) + 1)) → IsSettledBut nodes leaves 0
-settled_stop nodes leaves at timer settled stands is i above inside differs = elim (cases_eq i (at / 2)) [
-  | inl same ↦ rw (same, stands) is
-  | inr other ↦ settled i above inside other
-]
+  where
+    chosen : IsLesserOf rank (rank_at ranks at) (rank_at ranks (at + 1 - 2 * (at % 2)))
+    chosen = subst (λ (r : Rank). IsLesserOf r (rank_at ranks at) (rank_at ranks (at + 1 - 2 * (at % 2)))) (sym is) (lesser_is (rank_at ranks at) (rank_at ranks (at + 1 - 2 * (at % 2))))
 
 -- one step up: the node above the changed one is settled again
-pub settled_step : (nodes : List (Option Timer)) (leaves at : ℕ) (timer : Option Timer) → IsSettledBut nodes leaves (at / 2) → 1 < at → at < 2 * leaves → length nodes ≡ 2 * leaves
-    → IsEarlier timer (node nodes (2 * (at / 2))) (node nodes (2 * (at / 2) + 1)) → IsSettledBut (set nodes (at / 2) timer) leaves (at / 2 / 2)
-settled_step nodes leaves at timer settled low high nodes_are is i above inside differs =
-    let within : at / 2 < length nodes = omega arith in
+pub settled_step : (ranks : List Rank) (leaves at : ℕ) (rank : Rank) → IsSettledBut ranks leaves (at / 2) → 1 < at → at < 2 * leaves → length ranks ≡ 2 * leaves
+    → IsLesserOf rank (rank_at ranks (2 * (at / 2))) (rank_at ranks (2 * (at / 2) + 1)) → IsSettledBut (set ranks (at / 2) rank) leaves (at / 2 / 2)
+settled_step ranks leaves at rank settled low high ranks_are is i above inside differs =
+    let within : at / 2 < length ranks = omega arith in
     let left_other : 2 * i ≢ at / 2 = λ same. differs (omega arith) in
     let right_other : 2 * i + 1 ≢ at / 2 = λ same. differs (omega arith) in
-    let left = get_or-set_other nodes (at / 2) (2 * i) timer None left_other in
-    let right = get_or-set_other nodes (at / 2) (2 * i + 1) timer None right_other in
+    let left = get_or-set_other ranks (at / 2) (2 * i) rank past_rank left_other in
+    let right = get_or-set_other ranks (at / 2) (2 * i + 1) rank past_rank right_other in
     elim (cases_eq i (at / 2)) [
       | inl same ↦
-          let here : get_or (set nodes (at / 2) timer) i None ≡ timer = ap (λ (k : ℕ). get_or (set nodes (at / 2) timer) k None) same ∙ get_or-set_same nodes (at / 2) timer None within in
+          let here : rank_at (set ranks (at / 2) rank) i ≡ rank = ap (rank_at (set ranks (at / 2) rank)) same ∙ get_or-set_same ranks (at / 2) rank past_rank within in
           rw (here, left, right, same) is
-      | inr other ↦ rw (get_or-set_other nodes (at / 2) i timer None other, left, right) (settled i above inside other)
+      | inr other ↦ rw (get_or-set_other ranks (at / 2) i rank past_rank other, left, right) (settled i above inside other)
     ]
 
--- what comes before nothing here
-pub not_before_itself : (t : Timer) → comes_before t t ≡ false
-not_before_itself t = grind (arith, nat_tests)
-
-pub not_before_onward : (a b c : Timer) → comes_before a b ≡ false → comes_before b c ≡ false → comes_before a c ≡ false
-not_before_onward a b c one two = grind (arith, nat_tests)
-
-pub one_way : (a b : Timer) → comes_before a b ≡ true → comes_before b a ≡ false
-one_way a b one = grind (arith, nat_tests)
-
--- one of two timers that doesn't come before the earlier one
-pub record HasEarlier (timer : Timer) (found : Option Timer) : Type 0 where
-  pub least : Timer
-  pub is : found ≡ Some least
-  pub not_before : comes_before timer least ≡ false
-
-pub earlier_left : (a : Timer) (right : Option Timer) → HasEarlier a (earlier (Some a) right)
-earlier_left a None = record { least = a; is = refl; not_before = not_before_itself a }
-earlier_left a (Some b) = by_test (comes_before b a) refl
-  where
-    by_test : (test : Bool) → comes_before b a ≡ test → HasEarlier a (cond test (Some b) (Some a))
-    by_test true e = record { least = b; is = refl; not_before = one_way b a e }
-    by_test false e = record { least = a; is = refl; not_before = not_before_itself a }
-
-pub earlier_right : (left : Option Timer) (b : Timer) → HasEarlier b (earlier left (Some b))
-earlier_right None b = record { least = b; is = refl; not_before = not_before_itself b }
-earlier_right (Some a) b = by_test (comes_before b a) refl
-  where
-    by_test : (test : Bool) → comes_before b a ≡ test → HasEarlier b (cond test (Some b) (Some a))
-    by_test true e = record { least = b; is = refl; not_before = not_before_itself b }
-    by_test false e = record { least = a; is = refl; not_before = e }
-
--- the earlier one is one of the two
-pub earlier_is_one : (left right : Option Timer) (t : Timer) → earlier left right ≡ Some t → (left ≡ Some t) ⊎ (right ≡ Some t)
-earlier_is_one left None t is = inl is
-earlier_is_one None (Some b) t is = inr is
-earlier_is_one (Some a) (Some b) t is = by_test (comes_before b a) is
-  where
-    by_test : (test : Bool) → cond test (Some b) (Some a) ≡ Some t → (Some a ≡ Some t) ⊎ (Some b ≡ Some t)
-    by_test true e = inr e
-    by_test false e = inl e
-
--- neither of a node's children comes before it, and its timer is one of theirs
-pub above_child : (timer left right : Option Timer) (t : Timer) → IsEarlier timer left right → (left ≡ Some t) ⊎ (right ≡ Some t) → HasEarlier t timer
-above_child timer left right t (inl is) (inl here) = rw (is, here) (earlier_left t right)
-above_child timer left right t (inl is) (inr here) = rw (is, here) (earlier_right left t)
-above_child timer left right t (inr is) (inl here) = rw (is, here) (earlier_right right t)
-above_child timer left right t (inr is) (inr here) = rw (is, here) (earlier_left t left)
-
-pub is_of_child : (timer left right : Option Timer) (t : Timer) → IsEarlier timer left right → timer ≡ Some t → (left ≡ Some t) ⊎ (right ≡ Some t)
-is_of_child timer left right t (inl is) some = earlier_is_one left right t (sym is ∙ some)
-is_of_child timer left right t (inr is) some = elim (earlier_is_one right left t (sym is ∙ some)) [
-  | inl on_right ↦ inr on_right
-  | inr on_left ↦ inl on_left
-]
-
--- no timer of the tree comes before the root's
-pub root_least : (nodes : List (Option Timer)) (leaves : ℕ) → IsSettledBut nodes leaves 0 → (fuel i : ℕ) (t : Timer) → i ≤ fuel → 0 < i → i < 2 * leaves → node nodes i ≡ Some t → HasEarlier t (node nodes 1)
-root_least nodes leaves settled zero i t bound above inside is = absurd (omega arith)
-root_least nodes leaves settled (suc fuel) i t bound above inside is =
+-- no rank of the tree comes before the root's
+pub root_least : (ranks : List Rank) (leaves : ℕ) → IsSettledBut ranks leaves 0 → (fuel i : ℕ) → i ≤ fuel → 0 < i → i < 2 * leaves → comes_before (rank_at ranks i) (rank_at ranks 1) ≡ false
+root_least ranks leaves settled zero i bound above inside = absurd (omega arith)
+root_least ranks leaves settled (suc fuel) i bound above inside =
     elim (cases_lt 1 i) [
       | inl lower ↦
           let parent = settled (i / 2) (omega arith) (omega arith) (λ same. omega arith) in
-          let near = above_child (node nodes (i / 2)) (node nodes (2 * (i / 2))) (node nodes (2 * (i / 2) + 1)) t parent (child (cases_eq i (2 * (i / 2)))) in
-          let far = root_least nodes leaves settled fuel (i / 2) near.least (omega arith) (omega arith) (omega arith) near.is in
-          record { least = far.least; is = far.is; not_before = not_before_onward t near.least far.least near.not_before far.not_before }
+          let far = root_least ranks leaves settled fuel (i / 2) (omega arith) (omega arith) (omega arith) in
+          elim (cases_eq i (2 * (i / 2))) [
+            | inl even ↦ onward (rank_at ranks i) (rank_at ranks (i / 2)) (rank_at ranks 1) (ap (λ (k : ℕ). comes_before (rank_at ranks k) (rank_at ranks (i / 2))) even ∙ parent.not_after_left) far
+            | inr odd ↦
+                let here : i ≡ 2 * (i / 2) + 1 = omega (arith, odd) in
+                onward (rank_at ranks i) (rank_at ranks (i / 2)) (rank_at ranks 1) (ap (λ (k : ℕ). comes_before (rank_at ranks k) (rank_at ranks (i / 2))) here ∙ parent.not_after_right) far
+          ]
       | inr here ↦
           let same : i ≡ 1 = omega arith in
-          record { least = t; is = ap (node nodes) (sym same) ∙ is; not_before = not_before_itself t }
+          ap (λ (k : ℕ). comes_before (rank_at ranks k) (rank_at ranks 1)) same ∙ not_before_itself (rank_at ranks 1)
     ]
-  where
-    child : (i ≡ 2 * (i / 2)) ⊎ (i ≢ 2 * (i / 2)) → (node nodes (2 * (i / 2)) ≡ Some t) ⊎ (node nodes (2 * (i / 2) + 1) ≡ Some t)
-    child (inl even) = inl (ap (node nodes) (sym even) ∙ is)
-    child (inr odd) =
-        let right : i ≡ 2 * (i / 2) + 1 = omega (arith, odd) in
-        inr (ap (node nodes) (sym right) ∙ is)
 
--- each timer of the tree stands at a leaf
-pub record StandsAtLeaf (nodes : List (Option Timer)) (leaves : ℕ) (t : Timer) : Type 0 where
+-- each rank of the tree is a leaf's
+pub record IsOfLeaf (ranks : List Rank) (leaves i : ℕ) : Type 0 where
   pub work : ℕ
   pub inside : work < leaves
-  pub is : node nodes (leaves + work) ≡ Some t
+  pub is : rank_at ranks i ≡ rank_at ranks (leaves + work)
 
-pub leaf_of : (nodes : List (Option Timer)) (leaves : ℕ) → IsSettledBut nodes leaves 0 → (fuel i : ℕ) (t : Timer) → 2 * leaves ≤ fuel + i → 0 < i → i < 2 * leaves → node nodes i ≡ Some t → StandsAtLeaf nodes leaves t
-leaf_of nodes leaves settled zero i t bound above inside is = absurd (omega arith)
-leaf_of nodes leaves settled (suc fuel) i t bound above inside is =
+pub leaf_of : (ranks : List Rank) (leaves : ℕ) → IsSettledBut ranks leaves 0 → (fuel i : ℕ) → 2 * leaves ≤ fuel + i → 0 < i → i < 2 * leaves → IsOfLeaf ranks leaves i
+leaf_of ranks leaves settled zero i bound above inside = absurd (omega arith)
+leaf_of ranks leaves settled (suc fuel) i bound above inside =
     elim (cases_lt i leaves) [
       | inl inner ↦
-          elim (is_of_child (node nodes i) (node nodes (2 * i)) (node nodes (2 * i + 1)) t (settled i above inner (λ same. omega arith)) is) [
-            | inl left ↦ leaf_of nodes leaves settled fuel (2 * i) t (omega arith) (omega arith) (omega arith) left
-            | inr right ↦ leaf_of nodes leaves settled fuel (2 * i + 1) t (omega arith) (omega arith) (omega arith) right
+          elim (settled i above inner (λ same. omega arith)).is_one [
+            | inl left ↦
+                let later = leaf_of ranks leaves settled fuel (2 * i) (omega arith) (omega arith) (omega arith) in
+                record { work = later.work; inside = later.inside; is = left ∙ later.is }
+            | inr right ↦
+                let later = leaf_of ranks leaves settled fuel (2 * i + 1) (omega arith) (omega arith) (omega arith) in
+                record { work = later.work; inside = later.inside; is = right ∙ later.is }
           ]
       | inr leaf ↦
-          let at : leaves + (i - leaves) ≡ i = omega arith in
-          record { work = i - leaves; inside = omega arith; is = ap (node nodes) at ∙ is }
+          let at : i ≡ leaves + (i - leaves) = omega arith in
+          record { work = i - leaves; inside = omega arith; is = ap (rank_at ranks) at }
     ]
 
--- from the order of the tree to the order in which timers fire
+-- From the order of ranks to the order in which timers fire.
 abbrev pub fires : Timer → Timer → Bool
 fires a b = nat_lt a.due b.due || ((a.due == b.due) && nat_lt a.stamp b.stamp)
 
-pub fires_after_lower : (r t : Timer) → comes_before t r ≡ false → t.work.0 < r.work.0 → fires r t ≡ true
-fires_after_lower r t later lower = grind (arith, nat_tests)
+pub fires_after_lower : (r t : Timer) (v w : ℕ) → IsOwn w r → IsOwn v t → comes_before (rank_of (Some t)) (rank_of (Some r)) ≡ false → v < w → fires r t ≡ true
+fires_after_lower r t v w own_r own_t later lower =
+    let r_is = own_r.work_is in
+    let t_is = own_t.work_is in
+    let r_small = own_r.stamp in
+    let t_small = own_t.stamp in
+    grind (arith, nat_tests)
 
-pub fires_not_before : (r t : Timer) → comes_before t r ≡ false → fires t r ≡ false
-fires_not_before r t later = grind (arith, nat_tests)
+pub fires_not_before : (r t : Timer) (v w : ℕ) → IsOwn w r → IsOwn v t → comes_before (rank_of (Some t)) (rank_of (Some r)) ≡ false → fires t r ≡ false
+fires_not_before r t v w own_r own_t later =
+    let r_small = own_r.stamp in
+    let t_small = own_t.stamp in
+    grind (arith, nat_tests)
 
-pub leaf_is : (nodes : List (Option Timer)) (leaves w : ℕ) → timer_at (drop leaves nodes) w ≡ node nodes (leaves + w)
-leaf_is nodes leaves w = get_or-drop leaves nodes w None
-
-pub leaves_are : (nodes : List (Option Timer)) (leaves : ℕ) → IsKept nodes leaves → length (drop leaves nodes) ≡ leaves
-leaves_are nodes leaves kept = omega (arith, length-drop leaves nodes, kept.nodes_are)
+-- each timer's rank comes before that of no timer
+pub before_none : (t : Timer) (w : ℕ) → IsOwn w t → w < 65535 → comes_before (rank_of (Some t)) no_rank ≡ true
+before_none t w own inside =
+    let is = own.work_is in
+    let due_small = own.due in
+    let stamp_small = own.stamp in
+    grind (arith, nat_tests)
 
 -- a work that has a timer
-pub record HasOwn (nodes : List (Option Timer)) (leaves w : ℕ) : Type 0 where
+pub record HasOwn (timers : List (Option Timer)) (w : ℕ) : Type 0 where
   pub timer : Timer
-  pub here : node nodes (leaves + w) ≡ Some timer
-  pub own : timer.work.0 ≡ w
+  pub is : timer_at timers w ≡ Some timer
+  pub own : IsOwn w timer
 
-pub has_own : (nodes : List (Option Timer)) (leaves w : ℕ) → IsKept nodes leaves → w < leaves → is_some (timer_at (drop leaves nodes) w) ≡ true → HasOwn nodes leaves w
-has_own nodes leaves w kept inside has = by_cases (node nodes (leaves + w)) refl (ap (λ (o : Option Timer). is_some o) (sym (leaf_is nodes leaves w)) ∙ has) (kept.own w inside)
+pub has_own : (timers : List (Option Timer)) (w : ℕ) → IfSome (timer_at timers w) (IsOwn w) → is_some (timer_at timers w) ≡ true → HasOwn timers w
+has_own timers w own has = by_cases (timer_at timers w) refl own has
   where
-    by_cases : (o : Option Timer) → node nodes (leaves + w) ≡ o → is_some o ≡ true → IsOwn w o → HasOwn nodes leaves w
-    by_cases None is has own = absurd (cc)
-    by_cases (Some t) is has own = record { timer = t; here = is; own = own }
+    by_cases : (o : Option Timer) → timer_at timers w ≡ o → IfSome o (IsOwn w) → is_some o ≡ true → HasOwn timers w
+    by_cases None is own has = absurd (cc)
+    by_cases (Some t) is own has = record { timer = t; is = is; own = own }
 
-pub root_earlier : (nodes : List (Option Timer)) (leaves w : ℕ) (t : Timer) → IsKept nodes leaves → w < leaves → node nodes (leaves + w) ≡ Some t → HasEarlier t (node nodes 1)
-root_earlier nodes leaves w t kept inside is = root_least nodes leaves kept.settled (leaves + w) (leaves + w) t (omega arith) (omega arith) (omega arith) is
+-- no work's rank comes before the root's
+pub root_before : (timers : List (Option Timer)) (ranks : List Rank) (w : ℕ) (o : Option Timer) → IsKept timers ranks → w < length timers → timer_at timers w ≡ o → comes_before (rank_of o) (rank_at ranks 1) ≡ false
+root_before timers ranks w o kept inside is =
+    let n = length timers in
+    let leaf : rank_of o ≡ rank_at ranks (n + w) = sym (kept.leaves w inside ∙ ap rank_of is) in
+    ap (λ (r : Rank). comes_before r (rank_at ranks 1)) leaf ∙ root_least ranks n kept.settled (n + w) (n + w) (omega arith) (omega arith) (omega arith)
 
--- the root has the timer that fires first
-pub first_is : (nodes : List (Option Timer)) (leaves : ℕ) (r : Timer) → IsKept nodes leaves → node nodes 1 ≡ Some r → StandsAtLeaf nodes leaves r → first_to_fire (drop leaves nodes) ≡ Some r.work.0
-first_is nodes leaves r kept root leaf =
-    let timers : List (Option Timer) = drop leaves nodes in
-    let count : length timers ≡ leaves = leaves_are nodes leaves kept in
-    let at_leaf : timer_at timers leaf.work ≡ Some r = leaf_is nodes leaves leaf.work ∙ leaf.is in
-    let own : IsOwn leaf.work (Some r) = subst (IsOwn leaf.work) leaf.is (kept.own leaf.work leaf.inside) in
-    let found : first_to_fire timers ≡ Some leaf.work = first_below-unique (fires_before timers) (λ w. is_some (timer_at timers w)) (length timers) leaf.work (by_least_two-order (λ w. due_of (timer_at timers w)) (λ w. stamp_of (timer_at timers w))) (omega (arith, count, leaf.inside)) (rw at_leaf refl)
+-- the work of the root's rank, where it has a timer, fires first
+pub first_is : (timers : List (Option Timer)) (ranks : List Rank) (w : ℕ) (r : Timer) → IsKept timers ranks → w < length timers → timer_at timers w ≡ Some r → rank_at ranks 1 ≡ rank_of (Some r) → first_to_fire timers ≡ Some w
+first_is timers ranks w r kept inside is root =
+    first_below-unique (fires_before timers) (λ w. is_some (timer_at timers w)) (length timers) w (by_least_two-order (λ w. due_of (timer_at timers w)) (λ w. stamp_of (timer_at timers w))) inside (rw is refl)
     (λ k lower has.
-    let own_k = has_own nodes leaves k kept (omega (arith, lower, leaf.inside)) has in
-    let later = root_earlier nodes leaves k own_k.timer kept (omega (arith, lower, leaf.inside)) own_k.here in
-    let both : Some later.least ≡ Some r = sym later.is ∙ root in
-    let same : later.least ≡ r = cc in
-    let not_before : comes_before own_k.timer r ≡ false = ap (comes_before own_k.timer) (sym same) ∙ later.not_before in
-    rw (at_leaf, leaf_is nodes leaves k, own_k.here) (fires_after_lower r own_k.timer not_before (omega (arith, lower, own, own_k.own))))
-    (λ k inside has.
-    let own_k = has_own nodes leaves k kept (omega (arith, inside, count)) has in
-    let later = root_earlier nodes leaves k own_k.timer kept (omega (arith, inside, count)) own_k.here in
-    let both : Some later.least ≡ Some r = sym later.is ∙ root in
-    let same : later.least ≡ r = cc in
-    let not_before : comes_before own_k.timer r ≡ false = ap (comes_before own_k.timer) (sym same) ∙ later.not_before in
-    rw (at_leaf, leaf_is nodes leaves k, own_k.here) (fires_not_before r own_k.timer not_before))
-    in
-    found ∙ ap (λ (w : ℕ). Some w) (sym own)
-
--- the root's timer stands at its own work's leaf
-pub record IsRootOwn (nodes : List (Option Timer)) (leaves : ℕ) (r : Timer) : Type 0 where
-  pub inside : r.work.0 < leaves
-  pub own : timer_at (drop leaves nodes) r.work.0 ≡ Some r
-  pub first : first_to_fire (drop leaves nodes) ≡ Some r.work.0
-
-pub root_own : (nodes : List (Option Timer)) (leaves : ℕ) (r : Timer) → IsKept nodes leaves → node nodes 1 ≡ Some r → IsRootOwn nodes leaves r
-root_own nodes leaves r kept root =
-    let some_leaf : 1 < 2 * leaves = elim (cases_lt 1 (2 * leaves)) [
-      | inl lower ↦ lower
-      | inr past ↦ (let none : node nodes 1 ≡ None = get_or_past nodes 1 None (omega (arith, past, kept.nodes_are)) in absurd (cc))
-    ] in
-    let leaf = leaf_of nodes leaves kept.settled (2 * leaves) 1 r (omega arith) (omega arith) some_leaf root in
-    let own : r.work.0 ≡ leaf.work = subst (IsOwn leaf.work) leaf.is (kept.own leaf.work leaf.inside) in
-    record {
-      inside = omega (arith, own, leaf.inside);
-      own = leaf_is nodes leaves r.work.0 ∙ ap (λ (w : ℕ). node nodes (leaves + w)) own ∙ leaf.is;
-      first = first_is nodes leaves r kept root leaf;
-    }
-
-pub root_is_least : (nodes : List (Option Timer)) (leaves : ℕ) → IsKept nodes leaves → node nodes 1 ≡ least_timer (drop leaves nodes)
-root_is_least nodes leaves kept = by_cases (node nodes 1) refl
+    let k_inside : k < length timers = omega (arith, lower, inside) in
+    let other = has_own timers k (kept.own k k_inside) has in
+    rw (is, other.is) (fires_after_lower r other.timer k w own other.own (later k other.timer k_inside other.is) lower))
+    (λ k k_inside has.
+    let other = has_own timers k (kept.own k k_inside) has in
+    rw (is, other.is) (fires_not_before r other.timer k w own other.own (later k other.timer k_inside other.is)))
   where
-    by_cases : (o : Option Timer) → node nodes 1 ≡ o → o ≡ least_timer (drop leaves nodes)
-    by_cases (Some r) root = (let at = root_own nodes leaves r kept root in rw at.first (sym at.own))
-    by_cases None root =
-        let timers : List (Option Timer) = drop leaves nodes in
-        let count : length timers ≡ leaves = leaves_are nodes leaves kept in
-        let none : first_to_fire timers ≡ None = first_below-none (fires_before timers) (λ w. is_some (timer_at timers w)) (length timers) (by_least_two-order (λ w. due_of (timer_at timers w)) (λ w. stamp_of (timer_at timers w)))
-        (λ k inside. no_timer k (omega (arith, inside, count)) (is_some (timer_at timers k)) refl) in
-        rw none refl
-      where
-        no_timer : (k : ℕ) → k < leaves → (b : Bool) → is_some (timer_at (drop leaves nodes) k) ≡ b → is_some (timer_at (drop leaves nodes) k) ≡ false
-        no_timer k inside false e = e
-        no_timer k inside true e =
-            let own_k = has_own nodes leaves k kept inside e in
-            let later = root_earlier nodes leaves k own_k.timer kept inside own_k.here in
-            let both : None ≡ Some later.least = sym root ∙ later.is in
-            absurd (cc)
+    own : IsOwn w r
+    own = subst (λ (o : Option Timer). IfSome o (IsOwn w)) is (kept.own w inside)
 
-pub root_timer_own : (nodes : List (Option Timer)) (leaves : ℕ) → IsKept nodes leaves → IfSome (node nodes 1) (λ r. timer_at (drop leaves nodes) r.work.0 ≡ Some r)
-root_timer_own nodes leaves kept = by_cases (node nodes 1) refl
+    later : (k : ℕ) (t : Timer) → k < length timers → timer_at timers k ≡ Some t → comes_before (rank_of (Some t)) (rank_of (Some r)) ≡ false
+    later k t k_inside t_is = ap (comes_before (rank_of (Some t))) (sym root) ∙ root_before timers ranks k (Some t) kept k_inside t_is
+
+-- where the root has the rank of no timer, there is none
+pub none_is : (timers : List (Option Timer)) (ranks : List Rank) → IsKept timers ranks → rank_at ranks 1 ≡ no_rank → first_to_fire timers ≡ None
+none_is timers ranks kept root =
+    first_below-none (fires_before timers) (λ w. is_some (timer_at timers w)) (length timers) (by_least_two-order (λ w. due_of (timer_at timers w)) (λ w. stamp_of (timer_at timers w)))
+    (λ k inside. no_timer k inside (is_some (timer_at timers k)) refl)
   where
-    by_cases : (o : Option Timer) → node nodes 1 ≡ o → IfSome o (λ r. timer_at (drop leaves nodes) r.work.0 ≡ Some r)
-    by_cases None root = tt
-    by_cases (Some r) root = (root_own nodes leaves r kept root).own
+    no_timer : (k : ℕ) → k < length timers → (b : Bool) → is_some (timer_at timers k) ≡ b → is_some (timer_at timers k) ≡ false
+    no_timer k inside false e = e
+    no_timer k inside true e =
+        let other = has_own timers k (kept.own k inside) e in
+        let before = before_none other.timer k other.own (omega (arith, inside, kept.fits)) in
+        let not_before = ap (comes_before (rank_of (Some other.timer))) (sym root) ∙ root_before timers ranks k (Some other.timer) kept inside other.is in
+        absurd (cc)
+
+-- the timer of the root's work fires first, and there is none where that work has none
+pub root_is_least : (timers : List (Option Timer)) (ranks : List Rank) → IsKept timers ranks → 0 < length timers → timer_at timers (rank_at ranks 1).work ≡ least_timer timers
+root_is_least timers ranks kept some_room =
+    let leaf = leaf_of ranks (length timers) kept.settled (2 * length timers) 1 (omega arith) (omega arith) (omega (arith, some_room)) in
+    by_cases leaf.work leaf.inside (timer_at timers leaf.work) refl (leaf.is ∙ kept.leaves leaf.work leaf.inside)
+  where
+    by_cases : (w : ℕ) → w < length timers → (o : Option Timer) → timer_at timers w ≡ o → rank_at ranks 1 ≡ rank_of (timer_at timers w) → timer_at timers (rank_at ranks 1).work ≡ least_timer timers
+    by_cases w inside None is root =
+        let none : rank_at ranks 1 ≡ no_rank = root ∙ ap rank_of is in
+        let past : timer_at timers 65535 ≡ None = get_or_past timers 65535 None (omega (arith, kept.fits)) in
+        rw (none_is timers ranks kept none) (ap (λ (r : Rank). timer_at timers r.work) none ∙ past)
+    by_cases w inside (Some r) is root =
+        let own : IsOwn w r = subst (λ (o : Option Timer). IfSome o (IsOwn w)) is (kept.own w inside) in
+        let at : rank_at ranks 1 ≡ rank_of (Some r) = root ∙ ap rank_of is in
+        rw (first_is timers ranks w r kept inside is at) (ap (λ (r : Rank). timer_at timers r.work) at ∙ ap (timer_at timers) own.work_is)

@@ -1,35 +1,53 @@
--- How the timers lie in a tree. No public clause cites this module.
-use Rattle.std.specs.Prelude.{◌≡◌, ◌≢◌, ◌⊎◌, ℕ, ◌+◌, ◌*◌, ◌^◌, ◌<◌, Bool, ◌&&◌, ◌||◌, ◌==◌, if◌then◌else◌, nat_lt, List, length, Option, Some, None, IfSome, slice_index_or}
+-- How the timers are ranked in a tree. No public clause cites this module.
+use Rattle.std.specs.Prelude.{◌≡◌, ◌≢◌, ◌⊎◌, ℕ, ◌+◌, ◌-◌, ◌*◌, ◌^◌, ◌<◌, Bool, false, ◌&&◌, ◌||◌, ◌==◌, if◌then◌else◌, nat_lt, List, length, Option, Some, None, IfSome, slice_index_or}
+use Rattle.cmwq_timers.specs.declared.rank.Rank.{Rank}
 use Rattle.cmwq_timers.specs.declared.timer.Timer.{Timer}
+use Rattle.cmwq_timers.specs.Timers.{timer_at}
 
--- by due, then by stamp, then by the work's number
-abbrev pub comes_before : Timer → Timer → Bool
-comes_before a b = nat_lt a.due b.due || ((a.due == b.due) && (nat_lt a.stamp b.stamp || ((a.stamp == b.stamp) && nat_lt a.work.0 b.work.0)))
+-- by order, then by work
+abbrev pub comes_before : Rank → Rank → Bool
+comes_before a b = nat_lt a.order b.order || ((a.order == b.order) && nat_lt a.work b.work)
 
--- the earlier one of two
-abbrev pub earlier : Option Timer → Option Timer → Option Timer
-earlier a None = a
-earlier None (Some b) = Some b
-earlier (Some a) (Some b) = if comes_before b a then Some b else Some a
+abbrev pub lesser : Rank → Rank → Rank
+lesser a b = if comes_before b a then b else a
 
-abbrev pub node : List (Option Timer) → ℕ → Option Timer
-node nodes i = slice_index_or nodes i None
+-- the rank of a work without a timer
+abbrev pub no_rank : Rank
+no_rank = record { order = 2 ^ 128 - 1; work = 65535 }
 
--- a timer at the leaf of its own work
-abbrev pub IsOwn : ℕ → Option Timer → Type 0
-IsOwn leaf timer = IfSome timer (λ t. t.work.0 ≡ leaf)
+-- by due, then by stamp, then by work
+abbrev pub rank_of : Option Timer → Rank
+rank_of None = no_rank
+rank_of (Some timer) = record { order = timer.due * 2 ^ 64 + timer.stamp; work = timer.work.0 }
 
--- a timer is the earlier one of two, whichever of them is named first
-abbrev pub IsEarlier : Option Timer → Option Timer → Option Timer → Type 0
-IsEarlier timer a b = (timer ≡ earlier a b) ⊎ (timer ≡ earlier b a)
+-- what is read past the last node
+abbrev pub past_rank : Rank
+past_rank = record { order = 0; work = 0 }
 
--- each node above the leaves, but perhaps this one, has the earlier one of its children's timers
-abbrev pub IsSettledBut : List (Option Timer) → ℕ → ℕ → Type 0
-IsSettledBut nodes leaves but =
-    (i : ℕ) → 0 < i → i < leaves → i ≢ but → IsEarlier (node nodes i) (node nodes (2 * i)) (node nodes (2 * i + 1))
+abbrev pub rank_at : List Rank → ℕ → Rank
+rank_at ranks i = slice_index_or ranks i past_rank
 
-pub record IsKept (nodes : List (Option Timer)) (leaves : ℕ) : Type 0 where
-  pub nodes_are : length nodes ≡ 2 * leaves
-  pub fits : leaves < 2 ^ 16
-  pub settled : IsSettledBut nodes leaves 0
-  pub own : (w : ℕ) → w < leaves → IsOwn w (node nodes (leaves + w))
+-- a timer of this work, in range
+pub record IsOwn (work : ℕ) (timer : Timer) : Type 0 where
+  pub work_is : timer.work.0 ≡ work
+  pub due : timer.due < 2 ^ 64
+  pub stamp : timer.stamp < 2 ^ 64
+
+-- a rank is the lesser of two
+pub record IsLesserOf (rank a b : Rank) : Type 0 where
+  pub is_one : (rank ≡ a) ⊎ (rank ≡ b)
+  pub not_after_left : comes_before a rank ≡ false
+  pub not_after_right : comes_before b rank ≡ false
+
+-- each node above the leaves, but perhaps this one, has the lesser of its children's ranks
+abbrev pub IsSettledBut : List Rank → ℕ → ℕ → Type 0
+IsSettledBut ranks leaves but =
+    (i : ℕ) → 0 < i → i < leaves → i ≢ but → IsLesserOf (rank_at ranks i) (rank_at ranks (2 * i)) (rank_at ranks (2 * i + 1))
+
+-- each work has its own timer or none, and the tree has their ranks
+pub record IsKept (timers : List (Option Timer)) (ranks : List Rank) : Type 0 where
+  pub ranks_are : length ranks ≡ 2 * length timers
+  pub fits : length timers < 2 ^ 16
+  pub own : (w : ℕ) → w < length timers → IfSome (timer_at timers w) (IsOwn w)
+  pub leaves : (w : ℕ) → w < length timers → rank_at ranks (length timers + w) ≡ rank_of (timer_at timers w)
+  pub settled : IsSettledBut ranks (length timers) 0

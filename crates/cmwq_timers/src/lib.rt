@@ -1,6 +1,7 @@
 //! The timers of delayed works, in the order in which they fire.
 #![tactic(auto)]
 
+mod rank;
 mod timer;
 mod timers;
 

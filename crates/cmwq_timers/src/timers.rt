@@ -1,35 +1,36 @@
 //! The timers.
 ghost use Rattle.cmwq_timers.specs.Timers.{due_by, least_timer, timer_at, without_timer};
-ghost use Rattle.cmwq_timers.specs.Tree.{IsKept, IsOwn, IsSettledBut};
-ghost use Rattle.std.specs.Prelude.{◌≡◌, ◌+◌, ◌*◌, ◌<◌, ◌≤◌, ◌/◌, ◌^◌, drop, IfOk, IfSome, length, None, replicate, slice_set, Some};
+ghost use Rattle.cmwq_timers.specs.Tree.{IsKept, IsOwn, IsSettledBut, no_rank, rank_at};
+ghost use Rattle.std.specs.Prelude.{◌≡◌, ℕ, ◌+◌, ◌*◌, ◌<◌, ◌≤◌, ◌/◌, ◌^◌, IfOk, IfSome, length, None, replicate, slice_set, Some};
 
-use crate::timer::{Timer, earlier};
+use crate::rank::Rank;
+use crate::timer::Timer;
 use cmwq_types::{NoMemory, WorkId};
 use std::alloc::Global;
 use std::marker::Model;
 
 /// A timer for each of some works, the works numbered from 0.
 ///
-/// Inside it is a tree: each work has a leaf, and each node above has the earlier one of its two children's
-/// timers, so the root has the least. A change of one timer is carried from its leaf towards the root, as far
-/// as it changes anything. All room is taken by `new` and `copy`.
+/// Above the timers is a tree of their ranks: each work has a leaf, and each node above has the lesser of its two
+/// children's, so the root, node 1, has the least. A change of one timer is carried from its leaf to the root. All
+/// room is taken by `new` and `copy`.
 #[derive(Drop)]
 pub struct Timers {
-    nodes: Vec<Option<Timer>>,
-    leaves: usize,
+    timers: Vec<Option<Timer>>,
+    ranks: Vec<Rank>,
 }
 
 impl Model for Timers {
-    ghost use Rattle.std.specs.Prelude.{List, Option, drop};
+    ghost use Rattle.std.specs.Prelude.{List, Option};
     ghost use Rattle.cmwq_timers.specs.declared.timer.Timer.{Timer};
 
     ghost Value = { List (Option Timer) };
 
     ghost use Rattle.cmwq_timers.specs.Tree.{IsKept};
 
-    ghost view = { λ t. drop t.leaves t.nodes.items };
+    ghost view = { λ t. t.timers.items };
 
-    ghost invariant = { λ t. IsKept t.nodes.items t.leaves };
+    ghost invariant = { λ t. IsKept t.timers.items t.ranks.items };
 }
 
 impl Timers {
@@ -38,21 +39,20 @@ impl Timers {
     pub fn new(alloc: Global, capacity: u16) -> Result<Timers, NoMemory>
         ensures empty { IfOk result (λ made. made ≡ replicate capacity None) }
     {
-        let leaves = usize::from(capacity);
-        let nodes = no_timers(alloc, 2 * leaves)?;
-        Ok(Timers { nodes, leaves })
+        let works = usize::from(capacity);
+        let timers = filled(alloc, None, works)?;
+        let ranks = filled(alloc, Rank::none(), 2 * works)?;
+        Ok(Timers { timers, ranks })
     }
 
     /// Timers equal to these, with the same room. The only error is want of memory.
     pub fn copy(&self) -> Result<Timers, NoMemory>
         ensures { IfOk result (λ copy. copy ≡ self.now) }
     {
-        let alloc = *self.nodes.allocator();
-        let nodes = Vec::from_slice(alloc, &self.nodes)?;
-        Ok(Timers {
-            nodes,
-            leaves: self.leaves,
-        })
+        let alloc = *self.timers.allocator();
+        let timers = Vec::from_slice(alloc, &self.timers)?;
+        let ranks = Vec::from_slice(alloc, &self.ranks)?;
+        Ok(Timers { timers, ranks })
     }
 
     /// Starts a work's timer.
@@ -61,8 +61,8 @@ impl Timers {
         requires absent { timer_at self.old timer.work.0 ≡ None }
         ensures put { self.new ≡ slice_set self.old timer.work.0 (Some timer) }
     {
-        let Timers { nodes, leaves } = self;
-        write(nodes, *leaves, usize::from(timer.work.0), Some(timer));
+        let Timers { timers, ranks } = self;
+        write(timers, ranks, usize::from(timer.work.0), Some(timer));
     }
 
     /// Takes a work's timer away, if it has one.
@@ -71,8 +71,8 @@ impl Timers {
         ensures rest { self.new ≡ slice_set self.old work.0 None }
     {
         let timer = self.get(work)?;
-        let Timers { nodes, leaves } = self;
-        write(nodes, *leaves, usize::from(work.0), None);
+        let Timers { timers, ranks } = self;
+        write(timers, ranks, usize::from(work.0), None);
         Some(timer)
     }
 
@@ -82,7 +82,8 @@ impl Timers {
         ensures least { result ≡ least_timer self.now }
         ensures own { IfSome result (λ timer. timer_at self.now timer.work.0 ≡ Some timer) }
     {
-        *self.nodes.get(1)?
+        let least = self.ranks.get(1)?;
+        self.get(WorkId(least.work))
     }
 
     /// Takes away the timer that fires next, if it is due by this tick.
@@ -94,8 +95,8 @@ impl Timers {
         if timer.due > now {
             return None;
         }
-        let Timers { nodes, leaves } = self;
-        write(nodes, *leaves, usize::from(timer.work.0), None);
+        let Timers { timers, ranks } = self;
+        write(timers, ranks, usize::from(timer.work.0), None);
         Some(timer)
     }
 
@@ -104,53 +105,52 @@ impl Timers {
         ensures timer { result ≡ timer_at self.now work.0 }
         ensures own { IfSome result (λ timer. timer.work ≡ work) }
     {
-        *self.nodes.get(self.leaves + usize::from(work.0))?
+        *self.timers.get(usize::from(work.0))?
     }
 }
 
-/// So many places without a timer.
-fn no_timers(alloc: Global, places: usize) -> Result<Vec<Option<Timer>>, NoMemory>
-    ensures { IfOk result (λ v. v.items ≡ replicate places None) }
+/// A vector with one value at each of so many places.
+fn filled<T: Copy>(alloc: Global, value: T, len: usize) -> Result<Vec<T>, NoMemory>
+    ensures { IfOk result (λ v. v.items ≡ replicate len value) }
 {
-    let mut v = Vec::with_capacity(alloc, places)?;
-    for _place in 0..places {
-        v.push(None)?;
+    let mut v = Vec::with_capacity(alloc, len)?;
+    for _place in 0..len {
+        v.push(value)?;
     }
     Ok(v)
 }
 
-/// Gives a leaf another timer, or none.
-fn write(nodes: &mut [Option<Timer>], leaves: usize, leaf: usize, timer: Option<Timer>)
-    requires kept { IsKept nodes.old leaves }
-    requires leaf { leaf < leaves }
-    requires own { IsOwn leaf timer }
-    ensures kept { IsKept nodes.new leaves }
-    ensures leaves { drop leaves nodes.new ≡ slice_set (drop leaves nodes.old) leaf timer }
+/// Gives a work another timer, or none.
+fn write(timers: &mut [Option<Timer>], ranks: &mut [Rank], work: usize, timer: Option<Timer>)
+    requires kept { IsKept timers.old ranks.old }
+    requires work { work < length timers.old }
+    requires own { IfSome timer (IsOwn work) }
+    ensures kept { IsKept timers.new ranks.new }
+    ensures timers { timers.new ≡ slice_set timers.old work timer }
 {
-    nodes[leaves + leaf] = timer;
-    settle(nodes, leaves, leaves + leaf);
+    timers[work] = timer;
+    let leaf = timers.len() + work;
+    ranks[leaf] = Rank::of(timer);
+    settle(ranks, timers.len(), leaf);
 }
 
-/// Carries a change at a leaf up, until a node has the timer that it is to have.
-fn settle(nodes: &mut [Option<Timer>], leaves: usize, changed: usize)
-    requires nodes { length nodes.old ≡ 2 * leaves }
+/// Carries a change at a leaf up to the root.
+fn settle(ranks: &mut [Rank], leaves: usize, leaf: usize)
+    requires ranks { length ranks.old ≡ 2 * leaves }
     requires fits { leaves < 2 ^ 16 }
-    requires first { 0 < changed }
-    requires changed { changed < 2 * leaves }
-    requires settled { IsSettledBut nodes.old leaves (changed / 2) }
-    ensures settled { IsSettledBut nodes.new leaves 0 }
-    ensures leaves { drop leaves nodes.new ≡ drop leaves nodes.old }
-    ensures nodes { length nodes.new ≡ length nodes.old }
+    requires first { 0 < leaf }
+    requires leaf { leaf < 2 * leaves }
+    requires settled { IsSettledBut ranks.old leaves (leaf / 2) }
+    ensures settled { IsSettledBut ranks.new leaves 0 }
+    ensures leaves { (i : ℕ) → leaves ≤ i → rank_at ranks.new i ≡ rank_at ranks.old i }
+    ensures ranks { length ranks.new ≡ length ranks.old }
 {
-    let mut at = changed;
-    let mut timer = nodes[at];
+    let mut at = leaf;
+    let mut rank = ranks[at];
     while at > 1 {
-        let beside = nodes[at + 1 - 2 * (at % 2)];
+        let beside = ranks[at + 1 - 2 * (at % 2)];
         at /= 2;
-        timer = earlier(timer, beside);
-        if nodes[at] == timer {
-            break;
-        }
-        nodes[at] = timer;
+        rank = rank.lesser(beside);
+        ranks[at] = rank;
     }
 }

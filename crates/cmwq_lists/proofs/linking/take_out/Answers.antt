@@ -1,4 +1,4 @@
-use Rattle.std.proofs.Common.{◌≡◌, ◌≢◌, ℕ, List, Option, Some, IsSome, refl, sym, ap, subst, ◌∙◌}
+use Rattle.std.proofs.Common.{◌≢◌, IsSome, refl, sym, ap, subst, ◌∙◌}
 use Rattle.slab.specs.Slab.{get}
 use Rattle.cmwq_lists.specs.Cells.{with_next, with_prev}
 use Rattle.cmwq_lists.proofs.LinkingLemmas.{cell_in_chain, held_before, unlinked_prev_held, unlinked_next_held, chain_taken_out}
