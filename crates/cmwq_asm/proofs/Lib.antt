@@ -2,5 +2,6 @@ mod AssembleLemmas
 mod BodyLemmas
 mod DraftLemmas
 mod HeaderLemmas
+mod MnemonicLemmas
 mod Refused
 mod TextLemmas

@@ -1,5 +1,5 @@
 -- Reading a text line by line.
-use Rattle.std.proofs.Common.{◌≡◌, ℕ, ◌+◌, List, [], ◌∷◌, ap, ◌∙◌, refl, sym, subst}
+use Rattle.std.proofs.Common.{◌≡◌, ℕ, ◌+◌, List, [], ◌∷◌, ap, ◌∙◌, sym, subst}
 use Rattle.std.specs.Prelude.{Result, Ok, Err}
 use Rattle.cmwq_grammar.specs.Fields.{◌>>=◌}
 use Rattle.cmwq_grammar.specs.Meaning.{FaultAt, fault_at, at_line, stage_after}

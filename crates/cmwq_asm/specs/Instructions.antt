@@ -1,30 +1,26 @@
--- The table of instructions by their first words, from its middle on: `instr_at` computes to these.
-use Rattle.std.specs.Prelude.{ℕ, List, Result, Ok, if◌then◌else◌, codes}
-use Rattle.std.specs.Str.{bytes_eq}
+-- An instruction by its first word.
+use Rattle.std.specs.Prelude.{ℕ, List, Option, Some, None, Result}
 use Rattle.cmwq_types.specs.Contents.{ScenarioContents}
 use Rattle.cmwq_types.specs.declared.instr.Instr.{Instr}
-use Rattle.cmwq_types.specs.declared.instr.Instr.TheVariants as instr
-use Rattle.cmwq_grammar.specs.Instructions.{cannot_stand, number_to, on_queue, on_queue_max, on_work}
+use Rattle.cmwq_types.specs.declared.instr.WorkId.{WorkId}
+use Rattle.cmwq_types.specs.declared.mnemonic.Mnemonic.{Mnemonic}
+use Rattle.cmwq_grammar.specs.Fields.{◌>>=◌, declared_at, made, number_within}
+use Rattle.cmwq_grammar.specs.Instructions.{cannot_stand, operands_at, operands_of, work_id, work_names}
 use Rattle.cmwq_grammar.specs.declared.why.Why.{Why}
 use Rattle.cmwq_grammar.specs.declared.why.Why.TheVariants as why
 
--- from `tick` on
-abbrev pub last_instr_at : ScenarioContents → List ℕ → List (List ℕ) → Result (Instr × List (List ℕ)) Why
-last_instr_at S word rest =
-    if bytes_eq word (codes "tick") then Ok (instr.Tick, rest)
-    else if bytes_eq word (codes "next") then Ok (instr.Next, rest)
-    else if bytes_eq word (codes "ask") then number_to 65535 instr.Ask rest
-    else if bytes_eq word (codes "busy") then Ok (instr.Busy, rest)
-    else if bytes_eq word (codes "state") then on_work S instr.State rest
-    else cannot_stand why.Misplaced word
+-- a work, a CPU and ticks
 
--- from `flush_queue` on
-abbrev pub later_instr_at : ScenarioContents → List ℕ → List (List ℕ) → Result (Instr × List (List ℕ)) Why
-later_instr_at S word rest =
-    if bytes_eq word (codes "flush_queue") then on_queue S instr.FlushQueue rest
-    else if bytes_eq word (codes "set_max") then on_queue_max S instr.SetMax rest
-    else if bytes_eq word (codes "freeze") then Ok (instr.Freeze, rest)
-    else if bytes_eq word (codes "thaw") then Ok (instr.Thaw, rest)
-    else if bytes_eq word (codes "fire") then Ok (instr.Fire, rest)
-    else if bytes_eq word (codes "step") then number_to 255 instr.Step rest
-    else last_instr_at S word rest
+abbrev pub with_ticks : ℕ → ℕ × List (List ℕ) → Result ((WorkId × ℕ × ℕ) × List (List ℕ)) Why
+with_ticks work cpu = number_within 0 4294967295 cpu.1 >>= made (λ ticks. (work_id work, cpu.0, ticks))
+
+abbrev pub with_cpu_ticks : ℕ × List (List ℕ) → Result ((WorkId × ℕ × ℕ) × List (List ℕ)) Why
+with_cpu_ticks work = number_within 0 255 work.1 >>= with_ticks work.0
+
+abbrev pub work_cpu_ticks_at : ScenarioContents → List (List ℕ) → Result ((WorkId × ℕ × ℕ) × List (List ℕ)) Why
+work_cpu_ticks_at S words = declared_at (work_names S) words >>= with_cpu_ticks
+
+-- the instruction of this word, if it is one's
+abbrev pub instr_of : ScenarioContents → List ℕ → Option Mnemonic → List (List ℕ) → Result (Instr × List (List ℕ)) Why
+instr_of S word (Some mnemonic) rest = operands_at S (operands_of mnemonic) rest
+instr_of S word None rest = cannot_stand why.Misplaced word

@@ -1,17 +1,12 @@
 -- The lines of a body, behind their first words.
 use Rattle.std.specs.Prelude.{ℕ, List, Result, length}
 use Rattle.cmwq_types.specs.Contents.{ScenarioContents, WorkContents}
-use Rattle.cmwq_types.specs.declared.limits.TheConstants.{MAX_TICKS}
 use Rattle.cmwq_types.specs.declared.scenario.Op.{Op}
-use Rattle.cmwq_grammar.specs.Fields.{◌>>=◌, declared_at, made_last, number_within}
+use Rattle.cmwq_grammar.specs.Fields.{◌>>=◌, declared_at}
 use Rattle.cmwq_grammar.specs.Instructions.{work_names}
 use Rattle.cmwq_grammar.specs.Reasons.{is_next, then_cpu}
 use Rattle.cmwq_grammar.specs.declared.why.Why.{Why}
 use Rattle.cmwq_scan.specs.LastFields.{last}
-
--- so many ticks
-abbrev pub ticks_at : (ℕ → Op) → List (List ℕ) → Result Op Why
-ticks_at op rest = number_within 1 MAX_TICKS rest >>= made_last op
 
 -- a work and a CPU
 abbrev pub queued_at : ScenarioContents → List (List ℕ) → Result Op Why

@@ -1,5 +1,6 @@
 //! The lines of an actor: `actor NAME`, and its instructions.
 ghost use Rattle.cmwq_asm.specs.Answers.{Gives};
+ghost use Rattle.cmwq_scan.specs.Words.{words_in};
 ghost use Rattle.cmwq_asm.specs.Stages.{stage_of};
 ghost use Rattle.cmwq_grammar.specs.Reasons.{add_line, open_actor};
 ghost use Rattle.cmwq_grammar.specs.Stages.{with_actor};
@@ -21,7 +22,7 @@ pub(crate) fn open_actor<'t>(
     draft: Draft<'t>,
     rest: &[Token<'t>],
 ) -> Result<Stage<'t>, LineError>
-    ensures { Gives stage_of result (open_actor draft.entry rest.now) }
+    ensures { Gives stage_of result (open_actor draft.entry (words_in rest.now)) }
 {
     let name = read_last_new_name(draft.actor_names(), rest)?;
     if draft.actors().len() >= MAX_ACTORS {

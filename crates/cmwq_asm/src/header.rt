@@ -1,6 +1,7 @@
 //! The four lines at a text's head.
 ghost use Rattle.cmwq_asm.specs.Answers.{Gives};
 ghost use Rattle.cmwq_scan.specs.Answers.{Tells};
+ghost use Rattle.cmwq_scan.specs.Words.{words_in};
 ghost use Rattle.cmwq_asm.specs.Header.{head_number};
 ghost use Rattle.cmwq_asm.specs.Stages.{stage_of};
 ghost use Rattle.cmwq_grammar.specs.Reasons.{step};
@@ -24,7 +25,7 @@ fn read_head_number(
     word: &[u8],
     rest: &[Token],
 ) -> Result<u32, Why>
-    ensures number { Tells (λ n. n) result (head_number wanted.now low high word.now rest.now) }
+    ensures number { Tells (λ n. n) result (head_number wanted.now low high word.now (words_in rest.now)) }
     ensures within { IfOk result (λ n. n ≤ high) }
 {
     if !is_word(word, wanted) {
@@ -36,7 +37,7 @@ fn read_head_number(
 /// `cpus N`.
 #[tactic(auto, using(crate::proofs::HeaderLemmas::head_steps), unfolding(cmwq_grammar::specs::Reasons::step))]
 pub(crate) fn read_cpus<'t>(word: &[u8], rest: &[Token]) -> Result<Stage<'t>, LineError>
-    ensures { Gives stage_of result (step stage.Start (word.now ∷ rest.now)) }
+    ensures { Gives stage_of result (step stage.Start (word.now ∷ words_in rest.now)) }
 {
     let cpus = read_head_number(b"cpus", 1, u32::from(MAX_CPUS), word, rest)?;
     Ok(Stage::Cpus(cpus as u8))
@@ -49,7 +50,7 @@ pub(crate) fn read_workers<'t>(
     word: &[u8],
     rest: &[Token],
 ) -> Result<Stage<'t>, LineError>
-    ensures { Gives stage_of result (step (stage.Cpus cpus) (word.now ∷ rest.now)) }
+    ensures { Gives stage_of result (step (stage.Cpus cpus) (word.now ∷ words_in rest.now)) }
 {
     let workers = read_head_number(b"workers", 1, u32::from(MAX_WORKERS), word, rest)?;
     Ok(Stage::Workers(cpus, workers as u8))
@@ -63,7 +64,7 @@ pub(crate) fn read_steps<'t>(
     word: &[u8],
     rest: &[Token],
 ) -> Result<Stage<'t>, LineError>
-    ensures { Gives stage_of result (step (stage.Workers cpus workers) (word.now ∷ rest.now)) }
+    ensures { Gives stage_of result (step (stage.Workers cpus workers) (word.now ∷ words_in rest.now)) }
 {
     let steps = read_head_number(b"steps", 1, MAX_STEPS, word, rest)?;
     Ok(Stage::Steps(cpus, workers, steps))
@@ -79,7 +80,7 @@ pub(crate) fn read_flushes<'t>(
     word: &[u8],
     rest: &[Token],
 ) -> Result<Stage<'t>, LineError>
-    ensures { Gives stage_of result (step (stage.Steps cpus workers steps) (word.now ∷ rest.now)) }
+    ensures { Gives stage_of result (step (stage.Steps cpus workers steps) (word.now ∷ words_in rest.now)) }
 {
     let flushes = read_head_number(b"flushes", 0, u32::from(MAX_FLUSHES), word, rest)?;
     let draft = Draft::new(alloc, cpus, workers, steps, flushes as u16)?;

@@ -1,10 +1,14 @@
 //! The lines of a body: `body NAME`, its operations, and `finish`.
 ghost use Rattle.cmwq_asm.specs.Answers.{Gives};
 ghost use Rattle.cmwq_scan.specs.Answers.{Tells};
-ghost use Rattle.cmwq_asm.specs.Operations.{next_at, queued_at, ticks_at};
+ghost use Rattle.cmwq_scan.specs.Words.{words_in};
+ghost use Rattle.cmwq_asm.specs.Operations.{next_at, queued_at};
+ghost use Rattle.cmwq_scan.specs.LastFields.{last};
+ghost use Rattle.cmwq_grammar.specs.Fields.{number_within};
 ghost use Rattle.cmwq_asm.specs.Stages.{stage_of};
 ghost use Rattle.cmwq_grammar.specs.Reasons.{add_op, not_in_body, op_at_line, open_body};
 ghost use Rattle.std.specs.Prelude.{◌≡◌, ◌<◌, OnOk, length};
+ghost use Rattle.cmwq_types.specs.declared.limits.TheConstants.{MAX_TICKS};
 
 use crate::bodies::Bodies;
 use crate::draft::Draft;
@@ -25,7 +29,7 @@ pub(crate) fn open_body<'t>(
     bodies: Bodies<'t>,
     rest: &[Token],
 ) -> Result<Stage<'t>, LineError>
-    ensures { Gives stage_of result (open_body bodies.entry.told bodies.entry.done rest.now) }
+    ensures { Gives stage_of result (open_body bodies.entry.told bodies.entry.done (words_in rest.now)) }
 {
     read_next(&bodies, rest)?;
     let ops = Vec::new(alloc);
@@ -34,7 +38,7 @@ pub(crate) fn open_body<'t>(
 
 /// The number of the next work, which must be named in the line's last word.
 fn read_next(bodies: &Bodies, rest: &[Token]) -> Result<usize, Why>
-    ensures next { Tells (λ n. n) result (next_at bodies.now.told bodies.now.done rest.now) }
+    ensures next { Tells (λ n. n) result (next_at bodies.now.told bodies.now.done (words_in rest.now)) }
     ensures there { OnOk result (length bodies.now.done < length bodies.now.told.works) }
 {
     let (work, rest) = read_declared(bodies.draft().work_names(), rest)?;
@@ -47,13 +51,13 @@ fn read_next(bodies: &Bodies, rest: &[Token]) -> Result<usize, Why>
 /// The operation of a body's line.
 #[tactic(auto, using(cmwq_scan::proofs::LineSteps::line_steps), unfolding(cmwq_grammar::specs::Reasons::op_at_line))]
 pub(crate) fn read_op(draft: &Draft, word: &[u8], rest: &[Token]) -> Result<Op, Why>
-    ensures { Tells (λ op. op) result (op_at_line draft.now word.now rest.now) }
+    ensures { Tells (λ op. op) result (op_at_line draft.now word.now (words_in rest.now)) }
 {
     if is_word(word, b"burn") {
-        return read_burn(rest);
+        return Ok(Op::Burn(read_ticks(rest)?));
     }
     if is_word(word, b"sleep") {
-        return read_sleep(rest);
+        return Ok(Op::Sleep(read_ticks(rest)?));
     }
     if is_word(word, b"queue") {
         return read_queued(draft, rest);
@@ -64,25 +68,16 @@ pub(crate) fn read_op(draft: &Draft, word: &[u8], rest: &[Token]) -> Result<Op, 
     Err(refusal(not_in_body(word), word))
 }
 
-#[tactic(auto, using(cmwq_scan::proofs::LineSteps::line_steps))]
-fn read_burn(rest: &[Token]) -> Result<Op, Why>
-    ensures { Tells (λ op. op) result (ticks_at Op.Burn rest.now) }
+/// So many ticks, in a line's last word.
+fn read_ticks(rest: &[Token]) -> Result<u32, Why>
+    ensures { Tells (λ n. n) result (last (number_within 1 MAX_TICKS (words_in rest.now))) }
 {
-    let ticks = read_last_number_within(1, MAX_TICKS, rest)?;
-    Ok(Op::Burn(ticks))
-}
-
-#[tactic(auto, using(cmwq_scan::proofs::LineSteps::line_steps))]
-fn read_sleep(rest: &[Token]) -> Result<Op, Why>
-    ensures { Tells (λ op. op) result (ticks_at Op.Sleep rest.now) }
-{
-    let ticks = read_last_number_within(1, MAX_TICKS, rest)?;
-    Ok(Op::Sleep(ticks))
+    read_last_number_within(1, MAX_TICKS, rest)
 }
 
 #[tactic(auto, using(cmwq_scan::proofs::LineSteps::line_steps))]
 fn read_queued(draft: &Draft, rest: &[Token]) -> Result<Op, Why>
-    ensures { Tells (λ op. op) result (queued_at draft.now rest.now) }
+    ensures { Tells (λ op. op) result (queued_at draft.now (words_in rest.now)) }
 {
     let (work, rest) = read_declared(draft.work_names(), rest)?;
     let cpu = read_last_number_below(draft.cpus(), rest)?;

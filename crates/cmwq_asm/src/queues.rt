@@ -1,6 +1,7 @@
 //! Lines that declare queues: `queue NAME max N FLAG..`.
 ghost use Rattle.cmwq_asm.specs.Answers.{Gives};
 ghost use Rattle.cmwq_scan.specs.Answers.{Tells};
+ghost use Rattle.cmwq_scan.specs.Words.{words_in};
 ghost use Rattle.cmwq_asm.specs.Declarations.{queue_of};
 ghost use Rattle.cmwq_asm.specs.Stages.{stage_of};
 ghost use Rattle.cmwq_asm.specs.Steps.{declared_queue};
@@ -25,7 +26,7 @@ pub(crate) fn declare_queue<'t>(
     draft: Draft<'t>,
     rest: &[Token<'t>],
 ) -> Result<Stage<'t>, LineError>
-    ensures { Gives stage_of result (declared_queue draft.entry rest.now) }
+    ensures { Gives stage_of result (declared_queue draft.entry (words_in rest.now)) }
 {
     let queue = read_queue(&draft, rest)?;
     add_queue(draft, queue)
@@ -34,7 +35,7 @@ pub(crate) fn declare_queue<'t>(
 /// What is behind the word `queue`.
 #[tactic(auto, unfolding(cmwq_grammar::specs::Reasons::queue_at_line))]
 fn read_queue<'t>(draft: &Draft<'t>, rest: &[Token<'t>]) -> Result<QueueLine<'t>, Why>
-    ensures line { Tells queue_of result (queue_at_line draft.now rest.now) }
+    ensures line { Tells queue_of result (queue_at_line draft.now (words_in rest.now)) }
     ensures new { IfOk result (λ queue. list_any (λ other. bytes_eq other queue.name) (queue_names draft.now) ≡ false) }
 {
     let (name, rest) = read_new_name(draft.queue_names(), rest)?;
@@ -47,15 +48,9 @@ fn read_queue<'t>(draft: &Draft<'t>, rest: &[Token<'t>]) -> Result<QueueLine<'t>
 /// The flags of a queue; each word is one.
 #[tactic(auto, unfolding(cmwq_grammar::specs::Reasons::flags_at))]
 fn read_flags(words: &[Token]) -> Result<Flags, Why>
-    ensures { Tells (λ flags. flags) result (flags_at words.now plain_flags) }
+    ensures { Tells (λ flags. flags) result (flags_at (words_in words.now) plain_flags) }
 {
-    let mut flags = Flags {
-        highpri: false,
-        unbound: false,
-        cpu_intensive: false,
-        freezable: false,
-        ordered: false,
-    };
+    let mut flags = Flags::PLAIN;
     for word in words {
         flags = add_flag(flags, word.bytes())?;
     }

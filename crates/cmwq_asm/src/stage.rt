@@ -1,5 +1,6 @@
 //! How far a text has come.
 ghost use Rattle.cmwq_asm.specs.Answers.{Gives};
+ghost use Rattle.cmwq_scan.specs.Words.{words_in};
 ghost use Rattle.cmwq_asm.specs.Stages.{stage_of};
 ghost use Rattle.cmwq_grammar.specs.Reasons.{at_end, step};
 ghost use Rattle.std.specs.Prelude.{◌∷◌};
@@ -59,7 +60,7 @@ impl<'t> Stage<'t> {
         word: &[u8],
         rest: &[Token<'t>],
     ) -> Result<Stage<'t>, LineError>
-        ensures { Gives stage_of result (step (stage_of self.entry) (word.now ∷ rest.now)) }
+        ensures { Gives stage_of result (step (stage_of self.entry) (word.now ∷ words_in rest.now)) }
     {
         match self {
             Stage::Start => read_cpus(word, rest),

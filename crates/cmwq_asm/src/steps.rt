@@ -1,5 +1,6 @@
 //! What each line adds at the stage where it stands.
 ghost use Rattle.cmwq_asm.specs.Answers.{Gives};
+ghost use Rattle.cmwq_scan.specs.Words.{words_in};
 ghost use Rattle.cmwq_asm.specs.Stages.{stage_of};
 ghost use Rattle.cmwq_asm.specs.Steps.{text_words};
 ghost use Rattle.cmwq_grammar.specs.Reasons.{at_end, judge, step};
@@ -37,7 +38,7 @@ pub(crate) fn judge<'t>(
 
 /// Leaves the words of the line in the vector, if it is text.
 fn read_words<'t>(words: &mut Vec<Token<'t>>, line: &'t [u8]) -> Result<(), LineError>
-    ensures { Gives (λ _. words.new.items) result (text_words line.now) }
+    ensures { Gives (λ _. words_in words.new.items) result (text_words line.now) }
 {
     if !is_text(line) {
         return Err(LineError::Why(Why::BadUtf8));
@@ -49,7 +50,7 @@ fn read_words<'t>(words: &mut Vec<Token<'t>>, line: &'t [u8]) -> Result<(), Line
 /// The stage after a line of these words. A line without words tells nothing.
 #[tactic(auto, unfolding(cmwq_grammar::specs::Reasons::step))]
 fn step<'t>(alloc: Global, stage: Stage<'t>, words: &[Token<'t>]) -> Result<Stage<'t>, LineError>
-    ensures { Gives stage_of result (step (stage_of stage.entry) words.now) }
+    ensures { Gives stage_of result (step (stage_of stage.entry) (words_in words.now)) }
 {
     match words {
         [] => Ok(stage),
@@ -65,7 +66,7 @@ pub(crate) fn in_queues<'t>(
     word: &[u8],
     rest: &[Token<'t>],
 ) -> Result<Stage<'t>, LineError>
-    ensures { Gives stage_of result (step (stage.Queues draft.entry) (word.now ∷ rest.now)) }
+    ensures { Gives stage_of result (step (stage.Queues draft.entry) (word.now ∷ words_in rest.now)) }
 {
     if is_word(word, b"queue") {
         return declare_queue(draft, rest);
@@ -87,7 +88,7 @@ pub(crate) fn in_works<'t>(
     word: &[u8],
     rest: &[Token<'t>],
 ) -> Result<Stage<'t>, LineError>
-    ensures { Gives stage_of result (step (stage.Works draft.entry) (word.now ∷ rest.now)) }
+    ensures { Gives stage_of result (step (stage.Works draft.entry) (word.now ∷ words_in rest.now)) }
 {
     if is_word(word, b"work") {
         return declare_work(alloc, draft, rest);
@@ -106,7 +107,7 @@ pub(crate) fn between_bodies<'t>(
     word: &[u8],
     rest: &[Token<'t>],
 ) -> Result<Stage<'t>, LineError>
-    ensures { Gives stage_of result (step (stage.Bodies bodies.entry.told bodies.entry.done) (word.now ∷ rest.now)) }
+    ensures { Gives stage_of result (step (stage.Bodies bodies.entry.told bodies.entry.done) (word.now ∷ words_in rest.now)) }
 {
     let are_complete = bodies.are_complete();
     if is_word(word, b"body") && !are_complete {
@@ -125,7 +126,7 @@ pub(crate) fn in_body<'t>(
     word: &[u8],
     rest: &[Token<'t>],
 ) -> Result<Stage<'t>, LineError>
-    ensures { Gives stage_of result (step (stage.Body body.entry.bodies.told body.entry.bodies.done body.entry.ops.items) (word.now ∷ rest.now)) }
+    ensures { Gives stage_of result (step (stage.Body body.entry.bodies.told body.entry.bodies.done body.entry.ops.items) (word.now ∷ words_in rest.now)) }
 {
     let op = read_op(body.bodies.draft(), word, rest)?;
     add_op(body, op)
@@ -139,7 +140,7 @@ pub(crate) fn in_actor<'t>(
     word: &[u8],
     rest: &[Token<'t>],
 ) -> Result<Stage<'t>, LineError>
-    ensures { Gives stage_of result (step (stage.Actor actor.entry.draft actor.entry.name actor.entry.lines.items) (word.now ∷ rest.now)) }
+    ensures { Gives stage_of result (step (stage.Actor actor.entry.draft actor.entry.name actor.entry.lines.items) (word.now ∷ words_in rest.now)) }
 {
     if is_word(word, b"actor") {
         return open_actor(alloc, close_actor(actor)?, rest);

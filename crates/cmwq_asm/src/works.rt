@@ -1,6 +1,7 @@
 //! Lines that declare works: `work NAME QUEUE`.
 ghost use Rattle.cmwq_asm.specs.Answers.{Gives};
 ghost use Rattle.cmwq_scan.specs.Answers.{Tells};
+ghost use Rattle.cmwq_scan.specs.Words.{words_in};
 ghost use Rattle.cmwq_asm.specs.Declarations.{work_of};
 ghost use Rattle.cmwq_asm.specs.Stages.{stage_of};
 ghost use Rattle.cmwq_asm.specs.Steps.{declared_work};
@@ -25,7 +26,7 @@ pub(crate) fn declare_work<'t>(
     draft: Draft<'t>,
     rest: &[Token<'t>],
 ) -> Result<Stage<'t>, LineError>
-    ensures { Gives stage_of result (declared_work draft.entry rest.now) }
+    ensures { Gives stage_of result (declared_work draft.entry (words_in rest.now)) }
 {
     let work = read_work(&draft, rest)?;
     add_work(alloc, draft, work)
@@ -34,7 +35,7 @@ pub(crate) fn declare_work<'t>(
 /// What is behind the word `work`.
 #[tactic(auto, using(cmwq_scan::proofs::LineSteps::line_steps), unfolding(cmwq_grammar::specs::Reasons::work_at_line))]
 fn read_work<'t>(draft: &Draft<'t>, rest: &[Token<'t>]) -> Result<WorkLine<'t>, Why>
-    ensures line { Tells work_of result (work_at_line draft.now rest.now) }
+    ensures line { Tells work_of result (work_at_line draft.now (words_in rest.now)) }
     ensures new { IfOk result (λ work. list_any (λ other. bytes_eq other work.name) (work_names draft.now) ≡ false) }
 {
     let (name, rest) = read_new_name(draft.work_names(), rest)?;
