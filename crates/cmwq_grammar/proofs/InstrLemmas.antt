@@ -1,11 +1,11 @@
 -- An actor's line: what is read is said so, and what is said so is read.
-use Rattle.std.proofs.Common.{◌≡◌, ℕ, suc, ◌<◌, ◌≤◌, ◌^◌, Bool, true, ◌&&◌, ◌⊎◌, List, [], ◌∷◌, ◌++◌, length, get_or, ltb, Ok, Err, arith, refl, sym, ap, ◌∙◌, inl, inr, subst, codes, append_assoc, append-nil}
+use Rattle.std.proofs.Common.{◌≡◌, ℕ, suc, ◌<◌, ◌≤◌, ◌^◌, Bool, true, ◌&&◌, ◌⊎◌, List, [], ◌∷◌, ◌++◌, length, get_or, ltb, Option, Some, None, Ok, Err, arith, refl, sym, ap, ◌∙◌, inl, inr, subst, codes, append_assoc, append-nil}
 use Rattle.std.specs.Fmt.{decimal}
 use Rattle.std.specs.Str.{bytes_eq}
 use Rattle.cmwq_types.specs.Contents.{ScenarioContents}
 use Rattle.cmwq_types.specs.Faults.{names_declared, within}
 use Rattle.cmwq_types.specs.Listing.{actor_line, instr_words}
-use Rattle.cmwq_types.specs.Mnemonics.{mnemonics, spelling}
+use Rattle.cmwq_types.specs.Mnemonics.{first_spelled, mnemonic_of, mnemonics, spelling}
 use Rattle.cmwq_types.specs.Scenario.{queue_at, work_at}
 use Rattle.cmwq_types.specs.Values.{IsInstr, IsLine}
 use Rattle.cmwq_types.specs.declared.instr.Instr.{Instr}
@@ -16,7 +16,7 @@ use Rattle.cmwq_types.specs.declared.mnemonic.Mnemonic.TheVariants as mnemonic
 use Rattle.cmwq_types.specs.declared.scenario.Line.{Line}
 use Rattle.cmwq_grammar.specs.Fields.{◌>>=◌, declared_at, made_last, number_where, number_within}
 use Rattle.cmwq_grammar.specs.Grammar.{Says}
-use Rattle.cmwq_grammar.specs.Instructions.{Operands, Makes, OfWork, OfQueue, OfNumber, instr_among, instr_at, line_at, line_of, operands_at, operands_of, queue_id, queue_names, then_times, times_at, work_id, work_names}
+use Rattle.cmwq_grammar.specs.Instructions.{Operands, Makes, OfWork, OfQueue, OfNumber, instr_at, instr_of, line_at, line_of, operands_at, operands_of, queue_id, queue_names, then_times, times_at, work_id, work_names}
 use Rattle.cmwq_grammar.specs.declared.why.Why.TheVariants as why
 use Rattle.cmwq_grammar.proofs.Basics.{ok_same, bind_ok, bind_at, and_true, below, true_and, chosen, same_word}
 use Rattle.cmwq_grammar.proofs.FieldLemmas.{declared_read, ended_again, last_read, where_read, where_again, within_fits, fits_within}
@@ -91,19 +91,25 @@ operands_read D (OfNumber high next) words rest found few said e =
     subst (λ (ws : List (List ℕ)). InstrRead D ws found) (operand_behind words rest after (decimal n) there.0)
     (operands_read D (next n) (words ++ decimal n ∷ []) after found few (said n (omega (arith, fits.1))) number.2)
 
-among_read : (D : ScenarioContents) (mnemonics : List Mnemonic) (word : List ℕ) (rest : List (List ℕ)) (found : Instr × List (List ℕ)) → FewNames D
-    → instr_among mnemonics D word rest ≡ Ok found → InstrRead D (word ∷ rest) found
-among_read D [] word rest found few e = not_standing why.Misplaced word found e
-among_read D (m ∷ more) word rest found few e =
-    elim (chosen (bytes_eq word (spelling m)) (operands_at D (operands_of m) rest) (instr_among more D word rest) (Ok found) e) [
-      | inl it ↦ subst (λ (w : List ℕ). InstrRead D (w ∷ rest) found) (sym (same_word word (spelling m) it.0)) (operands_read D (operands_of m) (spelling m ∷ []) rest found few (table_said D m) it.1)
-      | inr other ↦ among_read D more word rest found few other.1
+spelled_so : (mnemonics : List Mnemonic) (word : List ℕ) (mnemonic : Mnemonic) → first_spelled mnemonics word ≡ Some mnemonic → word ≡ spelling mnemonic
+spelled_so [] word mnemonic e = cc
+spelled_so (m ∷ more) word mnemonic e =
+    elim (chosen (bytes_eq word (spelling m)) (Some m) (first_spelled more word) (Some mnemonic) e) [
+      | inl it ↦ (let same : m ≡ mnemonic = some_same m mnemonic it.1 in same_word word (spelling m) it.0 ∙ ap spelling same)
+      | inr other ↦ spelled_so more word mnemonic other.1
     ]
+  where
+    some_same : (x y : Mnemonic) → Some x ≡ Some y → x ≡ y
+    some_same x y h = cc
 
 pub instr_read : (D : ScenarioContents) (word : List ℕ) (rest : List (List ℕ)) (found : Instr × List (List ℕ)) → FewNames D → instr_at D word rest ≡ Ok found
     → InstrRead D (word ∷ rest) found
 unfolding instr_at
-instr_read D word rest found few e = among_read D mnemonics word rest found few e
+instr_read D word rest found few e = by_mnemonic (mnemonic_of word) refl e
+  where
+    by_mnemonic : (named : Option Mnemonic) → mnemonic_of word ≡ named → instr_of D word named rest ≡ Ok found → InstrRead D (word ∷ rest) found
+    by_mnemonic (Some m) is h = subst (λ (w : List ℕ). InstrRead D (w ∷ rest) found) (sym (spelled_so mnemonics word m is)) (operands_read D (operands_of m) (spelling m ∷ []) rest found few (table_said D m) h)
+    by_mnemonic None is h = not_standing why.Misplaced word found h
 
 -- Again: an instruction's words are read as it.
 
