@@ -1,6 +1,6 @@
 -- The operands that instructions share.
 use Rattle.std.proofs.Common.{◌≡◌, ℕ, List}
-use Rattle.std.specs.Prelude.{Result, Err}
+use Rattle.std.specs.Prelude.{Err}
 use Rattle.cmwq_types.specs.Contents.{ScenarioContents}
 use Rattle.cmwq_types.specs.declared.instr.Instr.{Instr}
 use Rattle.cmwq_types.specs.declared.instr.WorkId.{WorkId}

@@ -16,7 +16,7 @@ use Rattle.cmwq_types.specs.declared.mnemonic.Mnemonic.TheVariants as mnemonic
 use Rattle.cmwq_types.specs.declared.scenario.Line.{Line}
 use Rattle.cmwq_grammar.specs.Fields.{◌>>=◌, declared_at, made_last, number_where, number_within}
 use Rattle.cmwq_grammar.specs.Grammar.{Says}
-use Rattle.cmwq_grammar.specs.Instructions.{Operands, Makes, OfWork, OfQueue, OfNumber, instr_at, instr_of, line_at, line_of, operands_at, operands_of, queue_id, queue_names, then_times, times_at, work_id, work_names}
+use Rattle.cmwq_grammar.specs.Instructions.{Operands, Makes, OfWork, OfQueue, OfNumber, instr_at, instr_named, line_at, line_of, operands_at, operands_of, queue_id, queue_names, then_times, times_at, work_id, work_names}
 use Rattle.cmwq_grammar.specs.declared.why.Why.TheVariants as why
 use Rattle.cmwq_grammar.proofs.Basics.{ok_same, bind_ok, bind_at, and_true, below, true_and, chosen, same_word}
 use Rattle.cmwq_grammar.proofs.FieldLemmas.{declared_read, ended_again, last_read, where_read, where_again, within_fits, fits_within}
@@ -107,7 +107,7 @@ pub instr_read : (D : ScenarioContents) (word : List ℕ) (rest : List (List ℕ
 unfolding instr_at
 instr_read D word rest found few e = by_mnemonic (mnemonic_of word) refl e
   where
-    by_mnemonic : (named : Option Mnemonic) → mnemonic_of word ≡ named → instr_of D word named rest ≡ Ok found → InstrRead D (word ∷ rest) found
+    by_mnemonic : (named : Option Mnemonic) → mnemonic_of word ≡ named → instr_named D word named rest ≡ Ok found → InstrRead D (word ∷ rest) found
     by_mnemonic (Some m) is h = subst (λ (w : List ℕ). InstrRead D (w ∷ rest) found) (sym (spelled_so mnemonics word m is)) (operands_read D (operands_of m) (spelling m ∷ []) rest found few (table_said D m) h)
     by_mnemonic None is h = not_standing why.Misplaced word found h
 

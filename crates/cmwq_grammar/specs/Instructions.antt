@@ -102,12 +102,12 @@ operands_at S (OfQueue next) words = declared_at (queue_names S) words >>= (λ q
 operands_at S (OfNumber high next) words = number_within 0 high words >>= (λ n. operands_at S (next n.0) n.1)
 
 -- the instruction of this word, if it is one's
-abbrev pub instr_of : ScenarioContents → List ℕ → Option Mnemonic → List (List ℕ) → Result (Instr × List (List ℕ)) Why
-instr_of S word (Some mnemonic) rest = operands_at S (operands_of mnemonic) rest
-instr_of S word None rest = cannot_stand why.Misplaced word
+abbrev pub instr_named : ScenarioContents → List ℕ → Option Mnemonic → List (List ℕ) → Result (Instr × List (List ℕ)) Why
+instr_named S word (Some mnemonic) rest = operands_at S (operands_of mnemonic) rest
+instr_named S word None rest = cannot_stand why.Misplaced word
 
 unfoldable pub instr_at : ScenarioContents → List ℕ → List (List ℕ) → Result (Instr × List (List ℕ)) Why
-instr_at S word rest = instr_of S word (mnemonic_of word) rest
+instr_at S word rest = instr_named S word (mnemonic_of word) rest
 
 -- How often the instruction stands: once, or as often as `* N` says.
 
