@@ -111,13 +111,13 @@ instr_at S word rest = instr_named S word (mnemonic_of word) rest
 
 -- How often the instruction stands: once, or as often as `* N` says.
 
-abbrev pub line_of : Instr → ℕ → Line
-line_of instr times = record { instr = instr; times = times }
+abbrev pub line_times : Instr → ℕ → Line
+line_times instr times = record { instr = instr; times = times }
 
 abbrev pub times_at : Instr → List (List ℕ) → Result Line Why
-times_at instr [] = Ok (line_of instr 1)
+times_at instr [] = Ok (line_times instr 1)
 times_at instr (word ∷ rest) =
-    if bytes_eq word (codes "*") then number_within 1 MAX_TIMES rest >>= made_last (line_of instr) else Err why.ExtraWord
+    if bytes_eq word (codes "*") then number_within 1 MAX_TIMES rest >>= made_last (line_times instr) else Err why.ExtraWord
 
 abbrev pub then_times : Instr × List (List ℕ) → Result Line Why
 then_times found = times_at found.0 found.1
