@@ -10,15 +10,18 @@ use Rattle.cmwq_image.specs.declared.error.ImageError.TheVariants as images
 use Rattle.cmwq_play.specs.declared.error.PlayError.{PlayError}
 use Rattle.cmwq_play.specs.declared.error.PlayError.TheVariants as errors
 
--- the exit status: 1 for the input, 3 for reading and writing, 4 for memory (0 is good, 2 is usage)
+-- the exit status: 1 for the input, 3 for reading and writing, 4 for what ran out (0 is good, 2 is usage)
 abbrev pub status_of : PlayError → ℕ
 status_of (errors.Asm (texts.At line why)) = 1
 status_of (errors.Asm texts.NoMemory) = 4
 status_of (errors.Image images.NoMemory) = 4
 status_of (errors.Image fault) = 1
 status_of errors.Actors = 1
+status_of errors.TooLong = 1
 status_of errors.Read = 3
 status_of errors.Write = 3
+status_of errors.Full = 4
+status_of errors.Tickets = 4
 status_of errors.NoMemory = 4
 
 -- the name of a scenario's fault
@@ -57,6 +60,9 @@ line_of (errors.Image (images.BadField offset)) = told (codes "image: BadField "
 line_of (errors.Image (images.Fault fault)) = told (codes "image: " ++ fault_name fault)
 line_of (errors.Image images.NoMemory) = told (codes "no memory")
 line_of errors.Actors = told (codes "actors")
+line_of errors.Full = told (codes "full")
+line_of errors.Tickets = told (codes "tickets")
+line_of errors.TooLong = told (codes "too long")
 line_of errors.Read = told (codes "read")
 line_of errors.Write = told (codes "write")
 line_of errors.NoMemory = told (codes "no memory")

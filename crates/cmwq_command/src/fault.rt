@@ -24,9 +24,11 @@ pub fn status(fault: PlayError) -> u8
     match fault {
         PlayError::NoMemory
         | PlayError::Asm(AsmError::NoMemory)
-        | PlayError::Image(ImageError::NoMemory) => 4,
+        | PlayError::Image(ImageError::NoMemory)
+        | PlayError::Full
+        | PlayError::Tickets => 4,
         PlayError::Read | PlayError::Write => 3,
-        PlayError::Asm(_) | PlayError::Image(_) | PlayError::Actors => 1,
+        PlayError::Asm(_) | PlayError::Image(_) | PlayError::Actors | PlayError::TooLong => 1,
     }
 }
 
@@ -79,6 +81,9 @@ fn line_of(fault: PlayError) -> Line
         PlayError::Image(ImageError::BadField(offset)) => line_of_field(offset),
         PlayError::Image(ImageError::Fault(fault)) => line_of_image(fault),
         PlayError::Actors => told("actors"),
+        PlayError::Full => told("full"),
+        PlayError::Tickets => told("tickets"),
+        PlayError::TooLong => told("too long"),
         PlayError::Read => told("read"),
         PlayError::Write => told("write"),
         PlayError::NoMemory

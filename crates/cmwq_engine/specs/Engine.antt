@@ -41,11 +41,15 @@ contents_of scenario capacity state history =
 abbrev pub opening : ScenarioContents → ℕ → Contents
 opening scenario capacity = contents_of scenario capacity (start scenario) []
 
--- the engine as it begins; the scenario's first fault; or want of memory, where it has none
+-- the scenario's first fault, or want of memory, where it has none
+abbrev pub Refuses : ScenarioContents → LoadError → Type 0
+Refuses scenario (Fault fault) = first_fault scenario ≡ Some fault
+Refuses scenario NoMemory = IsValid scenario
+
+-- the engine as it begins, or a refusal
 abbrev pub Opens : ScenarioContents → ℕ → Result Contents LoadError → Type 0
 Opens scenario capacity (Ok engine) = IsValid scenario × (engine ≡ opening scenario capacity)
-Opens scenario capacity (Err (Fault fault)) = first_fault scenario ≡ Some fault
-Opens scenario capacity (Err NoMemory) = IsValid scenario
+Opens scenario capacity (Err refused) = Refuses scenario refused
 
 abbrev pub entry : ℕ → ℕ → Instr → Reply → Entry
 entry ticket caller instr reply = record { ticket = ticket; caller = caller; instr = instr; reply = reply }

@@ -1,2 +1,4 @@
 pub mod Engine
 pub mod History
+pub mod Issuing
+pub mod Shared

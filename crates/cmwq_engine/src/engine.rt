@@ -80,6 +80,7 @@ impl<M: Machine> Engine<M> {
     /// What was issued so far, in order.
     pub fn history(&self) -> &[Entry]
         ensures entries { result.now ≡ self.now.history }
+        ensures few { length result.now ≤ MAX_HISTORY }
         ensures sound { IsSound self.now }
     {
         &self.history

@@ -1,7 +1,11 @@
-//! Tests of the machine and its parts, and those that start threads or wait; and the one assertion of all tests.
+//! Tests of the machine and its parts, and those that start threads or wait; and what all tests share, the one
+//! assertion and the worked examples.
 #![tactic(auto)]
 
 pub mod checking;
+#[cfg(test)]
+mod engines;
+pub mod examples;
 #[cfg(test)]
 mod lists;
 #[cfg(test)]

@@ -6,7 +6,7 @@ use Rattle.cmwq_play.specs.Commands.{Answers, IsBeforeWriting, IsOutside, Reads,
 use Rattle.cmwq_play.specs.Sending.{HasSent, HasSentFront, IsSendError}
 use Rattle.cmwq_play.proofs.SendingLemmas.{block_out, front_of_block, sends_all}
 use Rattle.cmwq_play.specs.declared.error.PlayError.{PlayError}
-use Rattle.cmwq_play.specs.declared.error.PlayError.TheVariants.{Read, Write, Asm, Image, Actors, NoMemory}
+use Rattle.cmwq_play.specs.declared.error.PlayError.TheVariants.{Read, Write, NoMemory}
 
 err_is : {A : Type 0} (e d : PlayError) (r : Result A PlayError) → r ≡ Err e → r ≡ Err d → e ≡ d
 err_is e d r first second = cc
@@ -134,11 +134,7 @@ writes_all before after failed (Err error) output all front write why = record {
 } where
   late : (e : PlayError) → e ≡ Write → IsBeforeWriting e → ⊥
   late Write is early = early
-  late Read is early = cc
-  late (Asm fault) is early = cc
-  late (Image fault) is early = cc
-  late Actors is early = cc
-  late NoMemory is early = early
+  late other is early = cc
 
 -- a front of an output was given to the writer, and then the sending failed
 pub writes_front : (before after : Option (List ℕ)) (failed : Bool) (error : PlayError) (output : List ℕ) → HasSentFront before after output → (error ≡ Write) ↔ (failed ≡ true) → IsSendError error
@@ -152,11 +148,8 @@ writes_front before after failed error output front write why = record {
 } where
   late : (e : PlayError) → IsSendError e → IsBeforeWriting e → ⊥
   late Write why early = early
-  late Read why early = why
-  late (Asm fault) why early = why
-  late (Image fault) why early = why
-  late Actors why early = why
   late NoMemory why early = early
+  late other why early = why
 
 -- of an output all but a block was given to the writer, and then the block, or a front of it
 pub writes_block : (old mid new : Option (List ℕ)) (left output : List ℕ) (failed : Bool) (r : Result (Unit {0}) PlayError) → HasSent old mid left output
@@ -173,16 +166,10 @@ pub sending_outside : {A : Type 0} (r : Result A PlayError) → IfErr r (λ erro
 sending_outside (Ok x) why = tt
 sending_outside (Err Write) why = tt
 sending_outside (Err NoMemory) why = tt
-sending_outside (Err Read) why = elim why [ ]
-sending_outside (Err (Asm fault)) why = elim why [ ]
-sending_outside (Err (Image fault)) why = elim why [ ]
-sending_outside (Err Actors) why = elim why [ ]
+sending_outside (Err other) why = elim why [ ]
 
 pub sending_no_read : {A : Type 0} (r : Result A PlayError) → IfErr r (λ error. IsSendError error) → r ≢ Err Read
 sending_no_read (Ok x) why is = cc
 sending_no_read (Err Write) why is = cc
 sending_no_read (Err NoMemory) why is = cc
-sending_no_read (Err Read) why is = elim why [ ]
-sending_no_read (Err (Asm fault)) why is = elim why [ ]
-sending_no_read (Err (Image fault)) why is = elim why [ ]
-sending_no_read (Err Actors) why is = elim why [ ]
+sending_no_read (Err other) why is = elim why [ ]

@@ -15,7 +15,7 @@ use Rattle.cmwq_play.specs.Commands.{Answers}
 use Rattle.cmwq_play.specs.Images.{IsImage, IsImageFault}
 use Rattle.cmwq_play.proofs.CommandLemmas.{answers_lifted}
 use Rattle.cmwq_play.specs.declared.error.PlayError.{PlayError}
-use Rattle.cmwq_play.specs.declared.error.PlayError.TheVariants.{Read, Write, Asm, Image, Actors, NoMemory}
+use Rattle.cmwq_play.specs.declared.error.PlayError.TheVariants.{Image}
 
 -- no image is longer than so many bytes
 abbrev pub ImagesAreShort : Type 0
@@ -51,11 +51,7 @@ told_alike text None (Image errors.Truncated) same told = tt
 told_alike text None (Image errors.Extra) same told = tt
 told_alike text None (Image (errors.BadField at)) same told = tt
 told_alike text None (Image (errors.Fault fault)) same told = tt
-told_alike text input (Asm fault) same told = told
-told_alike text input Actors same told = told
-told_alike text input Read same told = told
-told_alike text input Write same told = told
-told_alike text input NoMemory same told = told
+told_alike text input other same told = elim told [ ]
 
 -- what was read of the input says what the input says
 pub image_answers : {A : Type 0} → FarChangesNothing → ImagesAreShort → (input now : Option (List ℕ)) (text : List ℕ) (r : Result A PlayError) → Consumes input now text

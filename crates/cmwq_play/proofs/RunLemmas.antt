@@ -1,12 +1,13 @@
 -- Runs of several parts.
-use Rattle.std.proofs.Common.{◌≡◌, ℕ, zero, suc, ◌+◌, ◌-◌, ◌<◌, List, [], ◌∷◌, ◌++◌, replicate, refl, sym, ap, ◌∙◌, append_assoc, append-nil, zero-add, ◌≤◌, length, take, drop, arith}
+use Rattle.std.proofs.Common.{◌≡◌, ℕ, zero, suc, ◌+◌, ◌-◌, ◌<◌, List, [], ◌∷◌, ◌++◌, replicate, refl, sym, ap, ◌∙◌, append_assoc, append-nil, zero-add, ◌≤◌, length, length-append, take, drop, arith}
 use Rattle.std.proofs.lemmas.Grind.{flat_map-append}
-use Rattle.std.proofs.lemmas.List.{take-append-drop, take_more}
+use Rattle.std.proofs.lemmas.List.{length-replicate, take-append-drop, take_more}
 use Rattle.std.specs.Prelude.{slice_index_or}
 use Rattle.cmwq_types.specs.Scenario.{expand_lines}
 use Rattle.cmwq_types.specs.declared.scenario.Line.{Line}
 use Rattle.cmwq_types.specs.Contents.{ScenarioContents}
 use Rattle.cmwq_types.specs.declared.instr.Instr.{Instr}
+use Rattle.cmwq_types.specs.declared.instr.Instr.TheVariants.{Queue}
 use Rattle.cmwq_table.specs.Events.{events_from, told}
 use Rattle.cmwq_table.specs.State.{State}
 use Rattle.cmwq_table.specs.Table.{after_all, table}
@@ -17,10 +18,6 @@ events_from-append S s (x ∷ xs) ys =
     let next = (table S s x).0 in
     ap (λ (more : List ℕ). told S x (table S s x) ++ more) (events_from-append S next xs ys)
     ∙ sym (append_assoc (told S x (table S s x)) (events_from S next xs) (events_from S (after_all S next xs) ys))
-
-pub after_all-append : (S : ScenarioContents) (s : State) (xs ys : List Instr) → after_all S s (xs ++ ys) ≡ after_all S (after_all S s xs) ys
-after_all-append S s [] ys = refl
-after_all-append S s (x ∷ xs) ys = after_all-append S (table S s x).0 xs ys
 
 -- the instructions of a line in two parts
 pub replicate_add : {A : Type 0} (m n : ℕ) (x : A) → replicate (m + n) x ≡ replicate m x ++ replicate n x
@@ -50,3 +47,16 @@ expand_lines-more lines i d within =
 -- and those of the lines that are left
 pub expand_lines-rest : (lines : List Line) (i : ℕ) → expand_lines lines ≡ expand_lines (take i lines) ++ expand_lines (drop i lines)
 expand_lines-rest lines i = ap expand_lines (sym (take-append-drop i lines)) ∙ flat_map-append (λ line. replicate line.times line.instr) (take i lines) (drop i lines)
+
+-- the lines up to one and that line are no more instructions than all
+pub expand_lines-within : (lines : List Line) (i : ℕ) (d : Line) → i < length lines → length (expand_lines (take i lines)) + (slice_index_or lines i d).times ≤ length (expand_lines lines)
+expand_lines-within lines i d within =
+    let line = slice_index_or lines i d in
+    let these = replicate line.times line.instr in
+    let more = ap length (expand_lines-more lines i d within) ∙ length-append (expand_lines (take i lines)) these in
+    let all = ap length (expand_lines-rest lines (i + 1)) ∙ length-append (expand_lines (take (i + 1) lines)) (expand_lines (drop (i + 1) lines)) in
+    omega (arith, more, all, length-replicate line.times line.instr)
+
+-- the plainest line
+unfoldable pub no_line : Line
+no_line = record { instr = Queue (record { 0 = 0 }) 0; times = 0 }

@@ -4,6 +4,7 @@ use Rattle.std.proofs.Common.{◌≡◌, ℕ, ◌<◌, ◌≤◌, ◌⊎◌, inl
 use Rattle.std.proofs.Math.Nat.{lt_of_not-le}
 use Rattle.std.specs.Io.KnownBytes.{Consumes}
 use Rattle.cmwq_types.specs.Contents.{ActorContents, ScenarioContents}
+use Rattle.cmwq_types.specs.Scenario.{expand}
 use Rattle.cmwq_types.specs.declared.limits.TheConstants.{MAX_TEXT}
 use Rattle.cmwq_grammar.specs.FaultLaw.{IsFault}
 use Rattle.cmwq_grammar.specs.Grammar.{Spells}
@@ -11,11 +12,12 @@ use Rattle.cmwq_grammar.specs.Meaning.{FaultAt, fault_at}
 use Rattle.cmwq_asm.specs.declared.fault.AsmError.{AsmError}
 use Rattle.cmwq_asm.specs.declared.fault.AsmError.TheVariants.{At, NoMemory as asm_no_memory}
 use Rattle.cmwq_play.specs.Commands.{Answers, IsOutside}
+use Rattle.cmwq_play.specs.Runs.{CanRun, IsRefused}
 use Rattle.cmwq_play.specs.Texts.{IsRun, IsRunFault, IsSpelled, IsTextFault}
 use Rattle.cmwq_play.proofs.CommandLemmas.{answers_lifted, outside_told}
 use Rattle.cmwq_grammar.specs.declared.why.Why.{Why}
 use Rattle.cmwq_play.specs.declared.error.PlayError.{PlayError}
-use Rattle.cmwq_play.specs.declared.error.PlayError.TheVariants.{Read, Write, Asm, Image, Actors, NoMemory}
+use Rattle.cmwq_play.specs.declared.error.PlayError.TheVariants.{Asm, Actors, Full}
 
 -- What was read of an input of these bytes.
 module _ (bytes text : List ℕ) (within : length text ≤ length bytes) (whole : length text ≤ MAX_TEXT → bytes ≡ text) where
@@ -64,22 +66,12 @@ module _ (now : Option (List ℕ)) (text : List ℕ) where
       → (error : PlayError) → IsTextFault (Some text) error → IsTextFault input error
   fault_again (Some bytes) front whole (Asm (At line why)) told = faulty_again bytes text (read_within bytes text now front) whole (fault_at line why) told
   fault_again None front whole (Asm (At line why)) told = tt
-  fault_again input front whole (Asm asm_no_memory) told = elim told [ ]
-  fault_again input front whole (Image fault) told = elim told [ ]
-  fault_again input front whole Read told = elim told [ ]
-  fault_again input front whole Write told = elim told [ ]
-  fault_again input front whole Actors told = elim told [ ]
-  fault_again input front whole NoMemory told = elim told [ ]
+  fault_again input front whole other told = elim told [ ]
 
   fault_before : (bytes : List ℕ) → Consumes (Some bytes) now text → (length text ≤ MAX_TEXT → bytes ≡ text)
       → (error : PlayError) → IsTextFault (Some bytes) error → IsTextFault (Some text) error
   fault_before bytes front whole (Asm (At line why)) told = faulty_before bytes text (read_within bytes text now front) whole (fault_at line why) told
-  fault_before bytes front whole (Asm asm_no_memory) told = elim told [ ]
-  fault_before bytes front whole (Image fault) told = elim told [ ]
-  fault_before bytes front whole Read told = elim told [ ]
-  fault_before bytes front whole Write told = elim told [ ]
-  fault_before bytes front whole Actors told = elim told [ ]
-  fault_before bytes front whole NoMemory told = elim told [ ]
+  fault_before bytes front whole other told = elim told [ ]
 
   -- what was read of the input says what the input says
   pub text_answers : {A : Type 0} (input : Option (List ℕ)) (r : Result A PlayError) → Consumes input now text → (length text ≤ MAX_TEXT → IfSome input (λ bytes. bytes ≡ text))
@@ -94,12 +86,7 @@ module _ (now : Option (List ℕ)) (text : List ℕ) where
 module _ (text : List ℕ) where
   no_fault : ((fault : FaultAt) → IsFault text fault → ⊥) → (error : PlayError) → IsTextFault (Some text) error → ⊥
   no_fault sound (Asm (At line why)) told = sound (fault_at line why) told
-  no_fault sound (Asm asm_no_memory) told = told
-  no_fault sound (Image fault) told = told
-  no_fault sound Read told = told
-  no_fault sound Write told = told
-  no_fault sound Actors told = told
-  no_fault sound NoMemory told = told
+  no_fault sound other told = elim told [ ]
 
   -- a text that spells a scenario
   pub answers_spelled : {A : Type 0} (x : A) → ((fault : FaultAt) → IsFault text fault → ⊥) → Answers IsSpelled IsTextFault (Some text) (Ok x)
@@ -107,12 +94,7 @@ module _ (text : List ℕ) where
 
   one_fault : (line : ℕ) (why : Why) → ((fault : FaultAt) → IsFault text fault → fault ≡ fault_at line why) → (error : PlayError) → IsTextFault (Some text) error → Asm (At line why) ≡ error
   one_fault line why one (Asm (At l w)) told = let same = one (fault_at l w) told in ap (λ (f : FaultAt). Asm (At f.line f.why)) (sym same)
-  one_fault line why one (Asm asm_no_memory) told = elim told [ ]
-  one_fault line why one (Image fault) told = elim told [ ]
-  one_fault line why one Read told = elim told [ ]
-  one_fault line why one Write told = elim told [ ]
-  one_fault line why one Actors told = elim told [ ]
-  one_fault line why one NoMemory told = elim told [ ]
+  one_fault line why one other told = elim told [ ]
 
   -- a text with a fault
   pub answers_faulty : {A : Type 0} (line : ℕ) (why : Why) → IsFault text (fault_at line why) → ((S : ScenarioContents) → Spells text S → ⊥)
@@ -136,11 +118,7 @@ one_told error line why fault is (inr outside) = cc
 
 run_fault : (input : Option (List ℕ)) (error : PlayError) → IsTextFault input error → IsRunFault input error
 run_fault input (Asm fault) told = told
-run_fault input (Image fault) told = elim told [ ]
-run_fault input Read told = elim told [ ]
-run_fault input Write told = elim told [ ]
-run_fault input Actors told = elim told [ ]
-run_fault input NoMemory told = elim told [ ]
+run_fault input other told = elim told [ ]
 
 -- the text has a fault, or it couldn't be read
 pub run_err : {A B : Type 0} (input : Option (List ℕ)) (error : PlayError) → Answers {A = A} IsSpelled IsTextFault input (Err error) → Answers {A = B} IsRun IsRunFault input (Err error)
@@ -151,56 +129,70 @@ run_err {A} {B} input error h = whole input h.told h.given h.tells where
 
   run_tells : (bytes : List ℕ) → ((S : ScenarioContents) → IsSpelled (Some bytes) S → IsOutside error) → ((fault : PlayError) → IsTextFault (Some bytes) fault → (error ≡ fault) ⊎ IsOutside error)
       → (fault : PlayError) → IsRunFault (Some bytes) fault → (error ≡ fault) ⊎ IsOutside error
-  run_tells bytes given tells Actors others = inr (given others.0 others.1)
   run_tells bytes given tells (Asm fault) told = tells (Asm fault) told
-  run_tells bytes given tells (Image fault) told = elim told [ ]
-  run_tells bytes given tells Read told = elim told [ ]
-  run_tells bytes given tells Write told = elim told [ ]
-  run_tells bytes given tells NoMemory told = elim told [ ]
+  run_tells bytes given tells other refused = inr (given refused.0 refused.1)
 
   whole : (known : Option (List ℕ)) → IsTextFault known error ⊎ IsOutside error → IfSome known (λ bytes. (S : ScenarioContents) → IsSpelled (Some bytes) S → IsOutside error)
       → IfSome known (λ bytes. (fault : PlayError) → IsTextFault (Some bytes) fault → (error ≡ fault) ⊎ IsOutside error) → Answers {A = B} IsRun IsRunFault known (Err error)
   whole (Some bytes) told given tells = record { told = told_so (Some bytes) told; given = λ output is. given is.0 is.1; tells = run_tells bytes given tells }
   whole None told given tells = record { told = told_so None told; given = tt; tells = tt }
 
-alone_one : (S : ScenarioContents) (actor : ActorContents) → S.actors ≡ actor ∷ [] → length S.actors ≡ 1
-alone_one S actor alone = ap length alone
+-- a scenario has one actor at most that is alone
+same_actor : (S : ScenarioContents) (a b : ActorContents) → S.actors ≡ a ∷ [] → S.actors ≡ b ∷ [] → a ≡ b
+same_actor S a b first second = cc
+
+-- a scenario that can be run isn't refused
+not_refused : (S : ScenarioContents) (error : PlayError) → CanRun S → IsRefused S error → ⊥
+not_refused S Actors can other = other (ap length can.1.alone)
+not_refused S Full can many =
+    let same = ap (λ (actor : ActorContents). length (expand actor)) (same_actor S can.0 many.0 can.1.alone many.1) in
+    absurd (omega (arith, can.1.few, many.2, same))
+not_refused S other can refused = elim refused [ ]
+
+-- it is refused for one reason alone
+refused_once : (S : ScenarioContents) (error fault : PlayError) → IsRefused S error → IsRefused S fault → error ≡ fault
+refused_once S Actors Actors first second = refl
+refused_once S Actors Full first second = absurd (first (ap length second.1))
+refused_once S Full Actors first second = absurd (second (ap length first.1))
+refused_once S Full Full first second = refl
+refused_once S Actors other first second = elim second [ ]
+refused_once S Full other first second = elim second [ ]
+refused_once S other fault first second = elim first [ ]
 
 -- The text spells this scenario and no other.
 module _ (S : ScenarioContents) where
-  run_told : (bytes : List ℕ) → ((T : ScenarioContents) → Spells bytes T → S ≡ T) → length S.actors ≡ 1 → ((fault : PlayError) → IsTextFault (Some bytes) fault → ⊥)
+  run_told : (bytes : List ℕ) → ((T : ScenarioContents) → Spells bytes T → S ≡ T) → CanRun S → ((fault : PlayError) → IsTextFault (Some bytes) fault → ⊥)
       → (fault : PlayError) → IsRunFault (Some bytes) fault → ⊥
-  run_told bytes only one sound Actors others = others.2 (ap (λ (T : ScenarioContents). length T.actors) (sym (only others.0 others.1.spelled)) ∙ one)
-  run_told bytes only one sound (Asm fault) told = sound (Asm fault) told
-  run_told bytes only one sound (Image fault) told = told
-  run_told bytes only one sound Read told = told
-  run_told bytes only one sound Write told = told
-  run_told bytes only one sound NoMemory told = told
+  run_told bytes only can sound (Asm fault) told = sound (Asm fault) told
+  run_told bytes only can sound other refused = not_refused refused.0 other (subst CanRun (only refused.0 refused.1.spelled) can) refused.2
 
-  -- it has one actor, and what follows fails for nothing in the text
-  pub run_ok : {A B : Type 0} (x : A) (input : Option (List ℕ)) (r : Result B PlayError) → length S.actors ≡ 1 → IfErr r (λ error. IsOutside error)
+  -- it can be run, and what follows fails for nothing in the text
+  pub run_ok : {A B : Type 0} (x : A) (input : Option (List ℕ)) (r : Result B PlayError) → CanRun S → IfErr r (λ error. IsOutside error)
       → IfSome input (λ text. (T : ScenarioContents) → Spells text T → S ≡ T) → Answers {A = A} IsSpelled IsTextFault input (Ok x) → Answers {A = B} IsRun IsRunFault input r
-  run_ok x (Some bytes) r one outside only h = record {
+  run_ok x (Some bytes) r can outside only h = record {
     told = outside_told r (IsRunFault (Some bytes)) outside;
     given = λ output is. outside;
-    tells = λ fault told. elim (run_told bytes only one h.tells fault told) [ ];
+    tells = λ fault told. elim (run_told bytes only can h.tells fault told) [ ];
   }
-  run_ok x None r one outside only h = record { told = outside_told r (IsRunFault None) outside; given = tt; tells = tt }
+  run_ok x None r can outside only h = record { told = outside_told r (IsRunFault None) outside; given = tt; tells = tt }
 
-  actors_told : (bytes : List ℕ) → ((fault : PlayError) → IsTextFault (Some bytes) fault → ⊥) → (fault : PlayError) → IsRunFault (Some bytes) fault → Actors ≡ fault
-  actors_told bytes sound Actors others = refl
-  actors_told bytes sound (Asm fault) told = elim (sound (Asm fault) told) [ ]
-  actors_told bytes sound (Image fault) told = elim told [ ]
-  actors_told bytes sound Read told = elim told [ ]
-  actors_told bytes sound Write told = elim told [ ]
-  actors_told bytes sound NoMemory told = elim told [ ]
+  refused_fault : (input : Option (List ℕ)) (error : PlayError) → IsSpelled input S → IsRefused S error → IsRunFault input error
+  refused_fault input Actors found refused = (S, found, refused)
+  refused_fault input Full found refused = (S, found, refused)
+  refused_fault input other found refused = elim refused [ ]
 
-  -- it hasn't one actor
-  pub run_actors : {A B : Type 0} (x : A) (input : Option (List ℕ)) → (length S.actors ≡ 1 → ⊥) → IsSpelled input S → IfSome input (λ text. (T : ScenarioContents) → Spells text T → S ≡ T)
-      → Answers {A = A} IsSpelled IsTextFault input (Ok x) → Answers {A = B} IsRun IsRunFault input (Err Actors)
-  run_actors x (Some bytes) other found only h = record {
-    told = inl (S, found, other);
-    given = λ output is. other (ap (λ (T : ScenarioContents). length T.actors) (only is.0 is.1.spelled) ∙ alone_one is.0 is.2.0 is.2.1);
-    tells = λ fault told. inl (actors_told bytes h.tells fault told);
+  refused_told : (bytes : List ℕ) (error : PlayError) → IsRefused S error → ((T : ScenarioContents) → Spells bytes T → S ≡ T) → ((fault : PlayError) → IsTextFault (Some bytes) fault → ⊥)
+      → (fault : PlayError) → IsRunFault (Some bytes) fault → error ≡ fault
+  refused_told bytes error refused only sound (Asm fault) told = elim (sound (Asm fault) told) [ ]
+  refused_told bytes error refused only sound other told =
+      refused_once S error other refused (subst (λ (T : ScenarioContents). IsRefused T other) (sym (only told.0 told.1.spelled)) told.2)
+
+  -- it can't be run
+  pub run_refused : {A B : Type 0} (x : A) (input : Option (List ℕ)) (error : PlayError) → IsRefused S error → IsSpelled input S → IfSome input (λ text. (T : ScenarioContents) → Spells text T → S ≡ T)
+      → Answers {A = A} IsSpelled IsTextFault input (Ok x) → Answers {A = B} IsRun IsRunFault input (Err error)
+  run_refused x (Some bytes) error refused found only h = record {
+    told = inl (refused_fault (Some bytes) error found refused);
+    given = λ output is. absurd (not_refused is.0 error (is.2.0, is.2.1) (subst (λ (T : ScenarioContents). IsRefused T error) (only is.0 is.1.spelled) refused));
+    tells = λ fault told. inl (refused_told bytes error refused only h.tells fault told);
   }
-  run_actors x None other found only h = record { told = inl (S, found, other); given = tt; tells = tt }
+  run_refused x None error refused found only h = record { told = inl (refused_fault None error found refused); given = tt; tells = tt }

@@ -11,9 +11,7 @@ abbrev pub IsOutside : PlayError → Type 0
 IsOutside errors.Read = Unit {0}
 IsOutside errors.Write = Unit {0}
 IsOutside errors.NoMemory = Unit {0}
-IsOutside (errors.Asm fault) = ⊥
-IsOutside (errors.Image fault) = ⊥
-IsOutside errors.Actors = ⊥
+IsOutside error = ⊥
 
 -- nothing is written before this is told
 abbrev pub IsBeforeWriting : PlayError → Type 0
@@ -21,8 +19,8 @@ IsBeforeWriting errors.Read = Unit {0}
 IsBeforeWriting (errors.Asm fault) = Unit {0}
 IsBeforeWriting (errors.Image fault) = Unit {0}
 IsBeforeWriting errors.Actors = Unit {0}
-IsBeforeWriting errors.Write = ⊥
-IsBeforeWriting errors.NoMemory = ⊥
+IsBeforeWriting errors.Full = Unit {0}
+IsBeforeWriting error = ⊥
 
 -- Of a reader's input so much is left now. A failed read is told as such, and nothing else is; at most one
 -- byte more is read than a text may have.

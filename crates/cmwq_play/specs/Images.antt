@@ -9,7 +9,7 @@ use Rattle.cmwq_types.specs.Values.{IsScenario}
 use Rattle.cmwq_image.specs.declared.error.ImageError.{ImageError}
 use Rattle.cmwq_image.specs.declared.error.ImageError.TheVariants as errors
 use Rattle.cmwq_play.specs.declared.error.PlayError.{PlayError}
-use Rattle.cmwq_play.specs.declared.error.PlayError.TheVariants.{Read, Write, Asm, Image, Actors, NoMemory}
+use Rattle.cmwq_play.specs.declared.error.PlayError.TheVariants.{Image, NoMemory}
 
 -- The input, where it is known, is the image of this scenario, which is valid.
 pub record IsImage (input : Option (List ℕ)) (S : ScenarioContents) : Type 0 where
@@ -21,11 +21,7 @@ pub record IsImage (input : Option (List ℕ)) (S : ScenarioContents) : Type 0 w
 abbrev pub IsImageFault : Option (List ℕ) → PlayError → Type 0
 IsImageFault input (Image errors.NoMemory) = ⊥
 IsImageFault input (Image fault) = IfSome input (λ bytes. reading bytes ≡ Err fault)
-IsImageFault input (Asm fault) = ⊥
-IsImageFault input Actors = ⊥
-IsImageFault input Read = ⊥
-IsImageFault input Write = ⊥
-IsImageFault input NoMemory = ⊥
+IsImageFault input error = ⊥
 
 -- the input is a scenario's image, and this is its listing
 abbrev pub IsShown : Option (List ℕ) → List ℕ → Type 0

@@ -16,7 +16,4 @@ HasSentFront before now text = (sent : List ℕ) × (rest : List ℕ) × Appends
 abbrev pub IsSendError : PlayError → Type 0
 IsSendError errors.Write = Unit {0}
 IsSendError errors.NoMemory = Unit {0}
-IsSendError errors.Read = ⊥
-IsSendError (errors.Asm fault) = ⊥
-IsSendError (errors.Image fault) = ⊥
-IsSendError errors.Actors = ⊥
+IsSendError error = ⊥

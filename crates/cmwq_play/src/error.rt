@@ -21,9 +21,18 @@ pub enum PlayError {
     /// The bytes aren't a scenario's image.
     #[error("image: {0}")]
     Image(ImageError),
-    /// The scenario hasn't exactly one actor.
+    /// The scenario hasn't as many actors as the command takes.
     #[error("actors")]
     Actors,
+    /// More instructions would be issued than one run issues, or a history had no room for one more.
+    #[error("full")]
+    Full,
+    /// A lock had no ticket left.
+    #[error("tickets")]
+    Tickets,
+    /// The commands of a session are longer than a text may be.
+    #[error("too long")]
+    TooLong,
     /// Memory ran out.
     #[error("no memory")]
     NoMemory,

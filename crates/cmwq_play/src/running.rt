@@ -1,10 +1,13 @@
 //! `run`: from a scenario's text to the lines that it prints.
 ghost use Rattle.cmwq_play.specs.Commands.{Answers, Reads, Writes};
 ghost use Rattle.cmwq_play.specs.Sending.{IsSendError};
-ghost use Rattle.cmwq_play.specs.Texts.{IsPrinted, IsRun, IsRunFault};
+ghost use Rattle.cmwq_play.specs.Runs.{CanRun, IsPrinted, IsRefused, IsRunOf};
+ghost use Rattle.cmwq_play.specs.Texts.{IsRun, IsRunFault};
 ghost use Rattle.cmwq_table.specs.State.{start};
 ghost use Rattle.cmwq_types.specs.Faults.{IsValid};
-ghost use Rattle.std.specs.Prelude.{◌≡◌, ◌==◌, ◌∷◌, [], IfErr, false, length};
+ghost use Rattle.cmwq_types.specs.Scenario.{expand, expand_lines};
+ghost use Rattle.cmwq_types.specs.declared.limits.TheConstants.{MAX_HISTORY};
+ghost use Rattle.std.specs.Prelude.{◌≡◌, IfErr, OnOk, false, length, nat_lt};
 
 use crate::block_writer::BlockWriter;
 use crate::error::PlayError;
@@ -13,17 +16,17 @@ use crate::session::Session;
 use crate::stream::{Sink, Source};
 use cmwq_plain::Plain;
 use cmwq_table::Machine;
-use cmwq_types::{Actor, Scenario};
+use cmwq_types::{Actor, Line, MAX_HISTORY, Scenario};
 use std::alloc::Global;
 use std::rc::Rc;
 
 /// Reads a scenario's text, issues its one actor's instructions on a machine, and writes the lines
 /// of the replies as they come, a block at a time.
 ///
-/// It answers `Asm` with the text's fault exactly where the text spells no scenario, and `Actors`
-/// exactly where the scenario hasn't one actor; then, and on `Read`, nothing was written. On `Write`
-/// and `NoMemory` what was written is a front of the lines. At most one byte more is read than the
-/// 4,194,304 that a text may have.
+/// It answers `Asm` with the text's fault exactly where the text spells no scenario, `Actors` exactly
+/// where the scenario hasn't one actor, and `Full` exactly where that one has more than 1,048,576
+/// instructions; then, and on `Read`, nothing was written. On `Write` and `NoMemory` what was written
+/// is a front of the lines. At most one byte more is read than the 4,194,304 that a text may have.
 pub fn run<R: Source, W: Sink>(
     alloc: Global,
     reader: &mut R,
@@ -36,16 +39,36 @@ pub fn run<R: Source, W: Sink>(
     ensures writes { Writes (IsRun (R.remaining reader.old)) (W.contents writer.old) (W.contents writer.new) (W.failed writer.new) result }
 {
     let scenario = read_text(alloc, reader)?;
-    if !has_one_actor(&scenario) {
-        return Err(PlayError::Actors);
-    }
+    judge(&scenario)?;
     load_and_play(alloc, scenario, writer)
 }
 
-fn has_one_actor(scenario: &Scenario) -> bool
-    ensures { result ≡ (length scenario.now.actors == 1) }
+/// Judges whether the scenario can be run: it has exactly one actor, of no more than 1,048,576 instructions.
+fn judge(scenario: &Scenario) -> Result<(), PlayError>
+    ensures can { OnOk result (CanRun scenario.now) }
+    ensures refused { IfErr result (λ error. IsRefused scenario.now error) }
 {
-    scenario.actors.len() == 1
+    if scenario.actors.len() != 1 {
+        return Err(PlayError::Actors);
+    }
+    if are_too_many(&scenario.actors[0].lines) {
+        return Err(PlayError::Full);
+    }
+    Ok(())
+}
+
+/// Whether the lines stand for more instructions than one run issues.
+fn are_too_many(lines: &[Line]) -> bool
+    ensures { result ≡ nat_lt MAX_HISTORY (length (expand_lines lines.now)) }
+{
+    let mut left = MAX_HISTORY;
+    for line in lines {
+        if line.times > left {
+            return true;
+        }
+        left -= line.times;
+    }
+    false
 }
 
 /// Issues the one actor's instructions on a new machine, and writes the lines of the replies. The text's
@@ -56,7 +79,7 @@ fn load_and_play<W: Sink>(
     writer: &mut W,
 ) -> Result<(), PlayError>
     requires valid { IsValid scenario }
-    requires alone { length scenario.actors ≡ 1 }
+    requires can { CanRun scenario }
     requires sound { W.failed writer.old ≡ false }
     ensures writes { Writes (IsPrinted scenario) (W.contents writer.old) (W.contents writer.new) (W.failed writer.new) result }
     ensures why { IfErr result (λ error. IsSendError error) }
@@ -74,7 +97,7 @@ fn play<M: Machine, W: Sink>(
     machine: M,
     writer: &mut W,
 ) -> Result<(), PlayError>
-    requires alone { scenario.now.actors ≡ actor.now ∷ [] }
+    requires runs { IsRunOf scenario.now actor.now }
     requires loaded { M.loaded machine ≡ scenario.now }
     requires start { M.state machine ≡ start scenario.now }
     requires sound { W.failed writer.old ≡ false }

@@ -1,5 +1,4 @@
 //! The commands over memory: what they write, reads and writes that fail, and input that is refused.
-use crate::examples::{EXAMPLES, Example, IMAGE_OF_STEPS_RUN_OUT, MAX_ACTIVE_3, STEPS_RUN_OUT};
 use crate::streams::{
     Command, Failure, Input, Outcome, Output, carried_out, reading_of, writing_to,
 };
@@ -7,7 +6,10 @@ use cmwq_asm::AsmError;
 use cmwq_grammar::Why;
 use cmwq_image::ImageError;
 use cmwq_machine_tests::checking::same;
-use cmwq_play::PlayError;
+use cmwq_machine_tests::examples::{
+    EXAMPLES, Example, IMAGE_OF_STEPS_RUN_OUT, MAX_ACTIVE_3, STEPS_RUN_OUT,
+};
+use cmwq_play::{Marked, PlayError, read_text};
 use cmwq_types::Fault;
 use std::alloc::Global;
 use std::process::Abort;
@@ -57,10 +59,17 @@ fn examples_are_run_and_listed_and_come_back_from_their_images(rt: HostRuntime) 
 const OTHER_WAYS: &[u8] = b"# a lesson\r\ncpus 1\r\n\tworkers  1\n\nsteps 8 # few\nflushes 0\n\
     queue o max 1 ordered unbound\nactor t\nstep 9 * 1";
 
+/// A text of four lines, in other ways, and as it is listed.
+const FOUR_OTHER_WAYS: &[u8] =
+    b"cpus\t1 # one\r\n\r\nworkers 1\r\n\tsteps 8\r\nflushes  0\t\r\n# no queue\r\n";
+
+const FOUR: &[u8] = b"cpus 1\nworkers 1\nsteps 8\nflushes 0\n";
+
 #[test]
 fn a_text_in_other_ways_is_run_and_the_worked_image_is_written(rt: HostRuntime) {
-    let rows: [(Command, &[u8], &[u8]); 2] = [
+    let rows: [(Command, &[u8], &[u8]); 3] = [
         (Command::Run, OTHER_WAYS, b"0 refused NoSuchPool\n"),
+        (Command::List, FOUR_OTHER_WAYS, FOUR),
         (Command::Asm, STEPS_RUN_OUT.text, &IMAGE_OF_STEPS_RUN_OUT),
     ];
     for (command, bytes, want) in rows {
@@ -189,8 +198,16 @@ fn lines_go_out_before_all_are_made(rt: HostRuntime) {
     same(&rt, "a block at a time", outcome.writes > 100, true);
 }
 
-/// Texts that `run` refuses, at which line, and why.
-const REFUSED: [(&[u8], u32, Why); 6] = [
+/// Texts that no command takes, at which line, and why.
+const REFUSED: [(&[u8], u32, Why); 10] = [
+    (b"", 1, Why::MissingWord),
+    (b"cpus 17", 1, Why::Fault(Fault::Range)),
+    (b"cpus 16", 2, Why::MissingWord),
+    (
+        b"cpus 1\nworkers 1\nsteps 8\nflushes 0\nqueue q max 1\nqueue q max 2\n",
+        6,
+        Why::Fault(Fault::Duplicate),
+    ),
     (
         b"cpus 1\nworkers 1\nsteps 8\nflushes 0\nactor t\ndance\n",
         6,
@@ -252,15 +269,54 @@ pub(crate) fn check_refused(
     outcome.reads
 }
 
+/// Each command that reads a text refuses it so, and so does its reader.
+fn check_text_refused(rt: &impl Abort, alloc: Global, text: &[u8], want: PlayError) {
+    for command in [Command::Run, Command::List, Command::Asm] {
+        check_refused(rt, alloc, command, reading_of(text, 4096), want);
+    }
+    let mut reader = Marked::new(reading_of(text, 4096));
+    same(rt, text, read_text(alloc, &mut reader).err(), Some(want));
+}
+
 #[test]
 fn a_text_is_refused_before_anything_is_written(rt: HostRuntime) {
     for (text, line, why) in REFUSED {
-        let input = reading_of(text, 4096);
-        check_refused(&rt, rt.alloc(), Command::Run, input, at(line, why));
+        check_text_refused(&rt, rt.alloc(), text, at(line, why));
     }
     for text in NOT_ONE_ACTOR {
         let input = reading_of(text, 4096);
         check_refused(&rt, rt.alloc(), Command::Run, input, PlayError::Actors);
+    }
+}
+
+/// A text of one actor with so many lines `next * 65535`, and then the last lines.
+fn long_run(rt: &impl Abort, alloc: Global, lines: u32, last: &[u8]) -> Vec<u8> {
+    let head = b"cpus 1\nworkers 1\nsteps 4294967295\nflushes 0\nactor t\n";
+    let mut text = Vec::from_slice(alloc, head).expect(rt, "memory is left");
+    for _line in 0..lines {
+        text.extend_from_slice(b"next * 65535\n")
+            .expect(rt, "memory is left");
+    }
+    text.extend_from_slice(last).expect(rt, "memory is left");
+    text
+}
+
+/// Runs of 1,048,577 instructions and of 1,114,095; and one of more, with a second actor.
+const TOO_LONG: [(u32, &[u8], PlayError); 3] = [
+    (16, b"next * 16\nbusy\n", PlayError::Full),
+    (17, b"", PlayError::Full),
+    (17, b"actor u\n", PlayError::Actors),
+];
+
+#[test]
+fn a_run_issues_1048576_instructions_and_no_more(rt: HostRuntime) {
+    let alloc = rt.alloc();
+    let text = long_run(&rt, alloc, 16, b"next * 15\nbusy\n");
+    let whole = written(&rt, alloc, "all", Command::Run, &text, (4096, 4096));
+    same(&rt, "all", whole.as_slice(), b"1048575 no\n");
+    for (lines, last, want) in TOO_LONG {
+        let text = long_run(&rt, alloc, lines, last);
+        check_refused(&rt, alloc, Command::Run, reading_of(&text, 4096), want);
     }
 }
 

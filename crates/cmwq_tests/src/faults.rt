@@ -29,7 +29,7 @@ const LONGEST: AsmError = AsmError::At {
     why: Why::MissingWord,
 };
 
-const TOLD: [Told; 15] = [
+const TOLD: [Told; 18] = [
     (
         PlayError::Asm(LONGEST),
         1,
@@ -60,8 +60,11 @@ const TOLD: [Told; 15] = [
     ),
     (PlayError::Image(ImageError::Extra), 1, b"image: Extra\n"),
     (PlayError::Actors, 1, b"actors\n"),
+    (PlayError::TooLong, 1, b"too long\n"),
     (PlayError::Read, 3, b"read\n"),
     (PlayError::Write, 3, b"write\n"),
+    (PlayError::Full, 4, b"full\n"),
+    (PlayError::Tickets, 4, b"tickets\n"),
     (PlayError::NoMemory, 4, b"no memory\n"),
     (PlayError::Asm(AsmError::NoMemory), 4, b"no memory\n"),
     (PlayError::Image(ImageError::NoMemory), 4, b"no memory\n"),

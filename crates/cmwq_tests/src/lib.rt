@@ -6,8 +6,6 @@ mod command_lines;
 #[cfg(test)]
 mod commands;
 #[cfg(test)]
-mod examples;
-#[cfg(test)]
 mod faults;
 #[cfg(test)]
 mod files;

@@ -1,8 +1,8 @@
 //! Readers and writers that fail where they are told to, and a command carried out over them.
 use cmwq_play::{Marked, PlayError, from_image, list_text, run, to_image};
 use std::alloc::Global;
-use std::io::{Read, Write};
 use std::io;
+use std::io::{Read, Write};
 
 /// A command over a reader and a writer.
 #[derive(Clone, Copy, Debug, PartialEq, Eq)]

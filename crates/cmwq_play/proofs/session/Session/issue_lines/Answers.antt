@@ -3,16 +3,10 @@ use Rattle.std.proofs.lemmas.Result.{err_from_is_err_and}
 use Rattle.std.specs.Prelude.{slice_index_or}
 use Rattle.cmwq_types.specs.Scenario.{expand_lines}
 use Rattle.cmwq_types.specs.declared.instr.Instr.{Instr}
-use Rattle.cmwq_types.specs.declared.instr.Instr.TheVariants.{Queue}
-use Rattle.cmwq_types.specs.declared.scenario.Line.{Line}
 use Rattle.cmwq_play.specs.Session.{Issued, Stopped}
-use Rattle.cmwq_play.proofs.RunLemmas.{expand_lines-more, expand_lines-rest}
+use Rattle.cmwq_play.proofs.RunLemmas.{expand_lines-more, expand_lines-rest, no_line}
 use Rattle.cmwq_play.proofs.SessionLemmas.{issued_then, stopped_more, stopped_then}
 use Rattle.cmwq_play.proofs.session.Session.issue_lines.Goals as goal
-
--- the plainest line
-no_line : Line
-no_line = record { instr = Queue (record { 0 = 0 }) 0; times = 0 }
 
 pub returns-in_err-issue_line : goal.returns-in_err-issue_line
 unfolding no_line

@@ -3,17 +3,17 @@
 
 /// A scenario's text, and the lines that running it prints.
 #[derive(Clone, Copy)]
-pub(crate) struct Example {
+pub struct Example {
     /// The example's name.
-    pub(crate) name: &'static str,
+    pub name: &'static str,
     /// The text, as it is listed.
-    pub(crate) text: &'static [u8],
+    pub text: &'static [u8],
     /// What is printed.
-    pub(crate) prints: &'static [u8],
+    pub prints: &'static [u8],
 }
 
 /// The kernel's document's works under `max_active` 3.
-pub(crate) const MAX_ACTIVE_3: Example = Example {
+pub const MAX_ACTIVE_3: Example = Example {
     name: "max_active_3",
     text: b"cpus 1
 workers 4
@@ -62,7 +62,7 @@ next * 41
 };
 
 /// A work that queues itself until the steps run out.
-pub(crate) const STEPS_RUN_OUT: Example = Example {
+pub const STEPS_RUN_OUT: Example = Example {
     name: "steps_run_out",
     text: b"cpus 1
 workers 4
@@ -91,7 +91,7 @@ state a
 };
 
 /// Those above, and what no lesson of `scenarios/` shows. (The gate runs the lessons through the built program.)
-pub(crate) const EXAMPLES: [Example; 6] = [
+pub const EXAMPLES: [Example; 6] = [
     MAX_ACTIVE_3,
     STEPS_RUN_OUT,
     Example {
@@ -237,7 +237,7 @@ state c
 ];
 
 /// The image of the example whose steps run out.
-pub(crate) const IMAGE_OF_STEPS_RUN_OUT: [u8; 126] = [
+pub const IMAGE_OF_STEPS_RUN_OUT: [u8; 126] = [
     0x43, 0x4d, 0x57, 0x51, 0x00, 0x01, 0x01, 0x04, 0x00, 0x00, 0x00, 0x08, 0x00, 0x02, 0x01, 0x00,
     0x01, 0x01, 0x01, 0x71, 0x00, 0x00, 0x00, 0x00, 0x00, 0x00, 0x00, 0x00, 0x00, 0x00, 0x00, 0x00,
     0x00, 0x00, 0x00, 0x01, 0x00, 0x00, 0x01, 0x61, 0x00, 0x00, 0x00, 0x00, 0x00, 0x00, 0x00, 0x00,

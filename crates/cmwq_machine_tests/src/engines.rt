@@ -1,0 +1,105 @@
+//! Engines: the worked examples' histories, entry by entry, and histories that are full.
+ghost use Rattle.std.specs.Prelude.{◌≡◌, ◌<◌, [], length};
+
+use crate::checking::same;
+use crate::examples::{EXAMPLES, Example, STEPS_RUN_OUT};
+use cmwq_asm::assemble;
+use cmwq_engine::{Engine, Entry, Full};
+use cmwq_plain::Plain;
+use cmwq_table::{Machine, ReplyLine};
+use cmwq_types::{Instr, Scenario};
+use std::alloc::Global;
+use std::process::Abort;
+
+/// The scenario that the text spells.
+fn scenario(rt: &impl Abort, alloc: Global, text: &[u8]) -> Scenario {
+    assemble(alloc, text).expect(rt, "a scenario's text")
+}
+
+/// An engine of the scenario, whose history has room for so many entries.
+fn opened(rt: &impl Abort, alloc: Global, scenario: &Scenario, capacity: u32) -> Engine<Plain>
+    requires { capacity < 100 }
+    ensures { result.history ≡ [] }
+{
+    Engine::open(alloc, scenario, capacity).expect(rt, "a valid scenario")
+}
+
+/// The instructions of the scenario's first actor, in order.
+fn instrs_of(rt: &impl Abort, alloc: Global, scenario: &Scenario) -> Vec<Instr> {
+    let mut instrs = Vec::new(alloc);
+    for line in &scenario.actors.first().expect(rt, "an actor").lines {
+        for _turn in 0..line.times {
+            instrs.push(line.instr).expect(rt, "memory is left");
+        }
+    }
+    instrs
+}
+
+/// Issues the instructions under the tickets 0, 2, 4 and so on, by three callers in turn.
+fn issue_all(rt: &impl Abort, engine: &mut Engine<Plain>, instrs: &[Instr])
+    requires begins { engine.old.history ≡ [] }
+{
+    let mut ticket = 0;
+    for instr in instrs {
+        if ticket < 1000 {
+            let caller = (ticket % 3) as u32;
+            let issued = engine.issue(ticket, caller, *instr);
+            same(rt, *instr, issued.is_ok(), true);
+            ticket += 2;
+        }
+    }
+}
+
+/// Compares the history with the instructions, and with a machine that carries them out alone; then what the
+/// replies print.
+fn check_history(
+    rt: &impl Abort,
+    alloc: Global,
+    example: &Example,
+    scenario: &Scenario,
+    instrs: &[Instr],
+    history: &[Entry],
+) {
+    let mut machine = Plain::load(alloc, scenario).expect(rt, "a valid scenario");
+    let mut lines = String::new(alloc);
+    let mut ticket = 0u64;
+    for (entry, instr) in history.iter().zip(instrs) {
+        let want = Entry {
+            ticket,
+            caller: (ticket % 3) as u32,
+            instr: *instr,
+            reply: machine.exec(*instr),
+        };
+        same(rt, example.name, *entry, want);
+        let line = ReplyLine {
+            scenario,
+            time: machine.now(),
+            instr: entry.instr,
+            reply: entry.reply,
+        };
+        write!(lines, "{line}").expect(rt, "memory is left");
+        ticket = ticket.saturating_add(2);
+    }
+    same(rt, example.name, history.len(), instrs.len());
+    same(rt, example.name, lines.as_bytes(), example.prints);
+}
+
+#[test]
+fn histories_of_the_examples_are_entered_one_by_one(rt: HostRuntime) {
+    let alloc = rt.alloc();
+    for example in EXAMPLES {
+        let scenario = scenario(&rt, alloc, example.text);
+        let instrs = instrs_of(&rt, alloc, &scenario);
+        let mut engine = opened(&rt, alloc, &scenario, 64);
+        issue_all(&rt, &mut engine, &instrs);
+        check_history(&rt, alloc, &example, &scenario, &instrs, engine.history());
+    }
+}
+
+#[test]
+fn an_engine_without_room_is_full_at_once(rt: HostRuntime) {
+    let scenario = scenario(&rt, rt.alloc(), STEPS_RUN_OUT.text);
+    let mut engine = opened(&rt, rt.alloc(), &scenario, 0);
+    same(&rt, "no room", engine.issue(0, 0, Instr::Tick), Err(Full));
+    same(&rt, "no entry", engine.history().len(), 0);
+}
