@@ -2,6 +2,6 @@ mod AssembleLemmas
 mod BodyLemmas
 mod DraftLemmas
 mod HeaderLemmas
-mod MnemonicLemmas
+mod OperandLemmas
 mod Refused
 mod TextLemmas

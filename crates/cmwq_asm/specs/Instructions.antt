@@ -1,13 +1,10 @@
--- An instruction by its first word.
-use Rattle.std.specs.Prelude.{ℕ, List, Option, Some, None, Result}
+-- The operands that instructions share.
+use Rattle.std.specs.Prelude.{ℕ, List, Result}
 use Rattle.cmwq_types.specs.Contents.{ScenarioContents}
-use Rattle.cmwq_types.specs.declared.instr.Instr.{Instr}
 use Rattle.cmwq_types.specs.declared.instr.WorkId.{WorkId}
-use Rattle.cmwq_types.specs.declared.mnemonic.Mnemonic.{Mnemonic}
 use Rattle.cmwq_grammar.specs.Fields.{◌>>=◌, declared_at, made, number_within}
-use Rattle.cmwq_grammar.specs.Instructions.{cannot_stand, operands_at, operands_of, work_id, work_names}
+use Rattle.cmwq_grammar.specs.Instructions.{work_id, work_names}
 use Rattle.cmwq_grammar.specs.declared.why.Why.{Why}
-use Rattle.cmwq_grammar.specs.declared.why.Why.TheVariants as why
 
 -- a work, a CPU and ticks
 
@@ -19,8 +16,3 @@ with_cpu_ticks work = number_within 0 255 work.1 >>= with_ticks work.0
 
 abbrev pub work_cpu_ticks_at : ScenarioContents → List (List ℕ) → Result ((WorkId × ℕ × ℕ) × List (List ℕ)) Why
 work_cpu_ticks_at S words = declared_at (work_names S) words >>= with_cpu_ticks
-
--- the instruction of this word, if it is one's
-abbrev pub instr_of : ScenarioContents → List ℕ → Option Mnemonic → List (List ℕ) → Result (Instr × List (List ℕ)) Why
-instr_of S word (Some mnemonic) rest = operands_at S (operands_of mnemonic) rest
-instr_of S word None rest = cannot_stand why.Misplaced word

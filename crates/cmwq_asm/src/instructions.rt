@@ -45,6 +45,7 @@ fn read_repeated(instr: Instr, word: &[u8], rest: &[Token]) -> Result<Line, Why>
 }
 
 /// The instruction that begins with this word.
+#[tactic(auto, unfolding(cmwq_grammar::specs::Instructions::instr_at), using(cmwq_scan::proofs::LineSteps::line_steps))]
 fn read_instr<'a, 't>(draft: &Draft, word: &[u8], rest: &'a [Token<'t>]) -> Field<'a, 't, Instr>
     ensures { Tells (λ field. (field.0, words_in field.1.now)) result (instr_at draft.now word.now (words_in rest.now)) }
 {

@@ -1,5 +1,5 @@
 -- Results that go on, tests, and words that are equal.
-use Rattle.std.proofs.Common.{◌≡◌, ℕ, ◌+◌, ◌<◌, ◌≤◌, Bool, true, false, not, ◌&&◌, ◌||◌, ◌⊎◌, List, [], ◌∷◌, ◌++◌, length, cond, leb, ltb, Result, Ok, Err, arith, refl, ap, ◌∙◌, inl, inr}
+use Rattle.std.proofs.Common.{◌≡◌, ℕ, ◌+◌, ◌<◌, ◌≤◌, Bool, true, false, not, ◌&&◌, ◌||◌, ◌⊎◌, List, [], ◌∷◌, ◌++◌, length, cond, eqb, leb, ltb, Result, Ok, Err, arith, refl, ap, ◌∙◌, inl, inr}
 use Rattle.std.proofs.lemmas.Bool.Decides.{nat_tests}
 use Rattle.std.specs.Cmp.Lexicographic.{bytes_decides}
 use Rattle.std.specs.List.{list_any, position_or_len}
@@ -103,3 +103,18 @@ at_most_is n limit e = grind (arith, nat_tests)
 
 pub below : (n limit : ℕ) → ltb n limit ≡ true → n < limit
 below n limit e = grind (arith, nat_tests)
+
+pub below_is : (n limit : ℕ) → n < limit → ltb n limit ≡ true
+below_is n limit e = grind (arith, nat_tests)
+
+pub equal : (n m : ℕ) → eqb n m ≡ true → n ≡ m
+equal n m e = grind (arith, nat_tests)
+
+pub equal_is : (n m : ℕ) → n ≡ m → eqb n m ≡ true
+equal_is n m e = grind (arith, nat_tests)
+
+pub not_below : (n limit : ℕ) → ltb limit n ≡ false → n ≤ limit
+not_below n limit e = grind (arith, nat_tests)
+
+pub not_below_is : (n limit : ℕ) → n ≤ limit → ltb limit n ≡ false
+not_below_is n limit e = grind (arith, nat_tests)

@@ -1,6 +1,5 @@
 -- Declarations, bodies and actors as stages take them: what is read, and that it is read.
-use Rattle.std.proofs.Common.{◌≡◌, ℕ, ◌+◌, ◌<◌, true, false, not, ◌⊎◌, List, [], ◌∷◌, ◌++◌, length, get_or, eqb, ltb, Ok, Err, arith, sym, ap, ◌∙◌, inl, inr, subst, codes}
-use Rattle.std.proofs.lemmas.Bool.Decides.{nat_tests}
+use Rattle.std.proofs.Common.{◌≡◌, ℕ, ◌+◌, ◌<◌, true, false, not, ◌⊎◌, List, [], ◌∷◌, ◌++◌, length, get_or, eqb, ltb, Ok, Err, sym, ap, ◌∙◌, inl, inr, subst, codes, refl}
 use Rattle.std.specs.Str.{bytes_eq}
 use Rattle.cmwq_types.specs.Contents.{ScenarioContents, WorkContents}
 use Rattle.cmwq_types.specs.Faults.{fits_flags, is_finish}
@@ -18,17 +17,11 @@ use Rattle.cmwq_grammar.specs.Instructions.{actor_names, cannot_stand, instr_at,
 use Rattle.cmwq_grammar.specs.Reasons.{add_actor, add_line, add_op, add_queue, add_work, is_next, op_at_line, open_actor, open_body, queue_at_line, work_at_line}
 use Rattle.cmwq_grammar.specs.Stages.{Stage, Queues, Works, Bodies, Body, Actor, with_body}
 use Rattle.cmwq_grammar.specs.declared.why.Why.TheVariants as why
-use Rattle.cmwq_grammar.proofs.Basics.{ok_same, fine, bind_ok, bind_at, value_if_ok, value_if_at, chosen, either, cond_yes, cond_no, not_false, same_word}
+use Rattle.cmwq_grammar.proofs.Basics.{ok_same, fine, bind_ok, bind_at, value_if_ok, value_if_at, chosen, either, cond_yes, cond_no, not_false, same_word, below, below_is, equal, equal_is}
 use Rattle.cmwq_grammar.proofs.FieldLemmas.{IsNew, declared_read, ended_again, last_read, new_name_read, new_name_again}
 use Rattle.cmwq_grammar.proofs.LineLemmas.{OpRead, op_read, queue_read, work_read}
 use Rattle.cmwq_grammar.proofs.InstrLemmas.{FewNames, LineRead, good_line, line_read}
 use Rattle.cmwq_grammar.proofs.NameLists.{GoodNames, declared_good}
-
-below_test : (n m : ℕ) → ltb n m ≡ true → n < m
-below_test n m e = grind (arith, nat_tests)
-
-test_below : (n m : ℕ) → n < m → ltb n m ≡ true
-test_below n m e = grind (arith, nat_tests)
 
 -- A queue.
 
@@ -54,7 +47,7 @@ queue_stage D queue next e =
     elim (chosen (not (fits_flags queue)) (Err (why.Fault fault.BadFlags)) (value_if (ltb (length D.queues) MAX_QUEUES) (Queues (with_queue D queue)) (why.Fault fault.TooMany)) (Ok next) e) [
       | inl bad ↦ absurd (not_fine next bad.1)
       | inr it ↦ (let room : (ltb (length D.queues) MAX_QUEUES ≡ true) × (Queues (with_queue D queue) ≡ next) = value_if_ok (ltb (length D.queues) MAX_QUEUES) (Queues (with_queue D queue)) (why.Fault fault.TooMany) next it.1 in
-          (not_false (fits_flags queue) it.0, below_test (length D.queues) MAX_QUEUES room.0, room.1))
+          (not_false (fits_flags queue) it.0, below (length D.queues) MAX_QUEUES room.0, room.1))
     ]
   where
     not_fine : (n : Stage) → Err (why.Fault fault.BadFlags) ≡ fine n → ⊥
@@ -74,7 +67,7 @@ pub queue_adds : (D : ScenarioContents) (queue : QueueDecl) → fits_flags queue
 unfolding add_queue
 queue_adds D queue fits room =
     cond_no (not (fits_flags queue)) (Err (why.Fault fault.BadFlags)) (value_if (ltb (length D.queues) MAX_QUEUES) (Queues (with_queue D queue)) (why.Fault fault.TooMany)) (ap not fits)
-    ∙ value_if_at (ltb (length D.queues) MAX_QUEUES) (Queues (with_queue D queue)) (why.Fault fault.TooMany) (test_below (length D.queues) MAX_QUEUES room)
+    ∙ value_if_at (ltb (length D.queues) MAX_QUEUES) (Queues (with_queue D queue)) (why.Fault fault.TooMany) (below_is (length D.queues) MAX_QUEUES room)
 
 -- A work.
 
@@ -96,11 +89,11 @@ work_added D rest next e =
     work_read D rest there.0 there.1 in
     let room : (ltb (length D.works) MAX_WORKS ≡ true) × (Works (with_work D there.0) ≡ next) =
     value_if_ok (ltb (length D.works) MAX_WORKS) (Works (with_work D there.0)) (why.Fault fault.TooMany) next there.2 in
-    record { work = there.0; stage = room.1; says = read.0; new = read.1; name = read.2; queue = read.3; bare = read.4; room = below_test (length D.works) MAX_WORKS room.0 }
+    record { work = there.0; stage = room.1; says = read.0; new = read.1; name = read.2; queue = read.3; bare = read.4; room = below (length D.works) MAX_WORKS room.0 }
 
 pub work_adds : (D : ScenarioContents) (work : WorkContents) → length D.works < MAX_WORKS → add_work D work ≡ Ok (Works (with_work D work))
 unfolding add_work
-work_adds D work room = value_if_at (ltb (length D.works) MAX_WORKS) (Works (with_work D work)) (why.Fault fault.TooMany) (test_below (length D.works) MAX_WORKS room)
+work_adds D work room = value_if_at (ltb (length D.works) MAX_WORKS) (Works (with_work D work)) (why.Fault fault.TooMany) (below_is (length D.works) MAX_WORKS room)
 
 -- A body.
 
@@ -115,15 +108,12 @@ body_opened D done rest next e =
     let placed : (eqb (work.0).0 (length done) ≡ true) × (work.0 ≡ last.0) = value_if_ok (eqb (work.0).0 (length done)) work.0 why.Misplaced last.0 work.2 in
     let made : ((last.0).1 ≡ []) × (Body D done [] ≡ next) = last_read (λ (n : ℕ). Body D done []) last.0 next last.2 in
     let there : (rest ≡ get_or (work_names D) (work.0).0 [] ∷ (work.0).1) × ((work.0).0 < length (work_names D)) = declared_read (work_names D) rest work.0 work.1 in
-    let number : (work.0).0 ≡ length done = same_number (work.0).0 (length done) placed.0 in
+    let number : (work.0).0 ≡ length done = equal (work.0).0 (length done) placed.0 in
     let none : (work.0).1 ≡ [] = ap (λ (n : ℕ × List (List ℕ)). n.1) placed.1 ∙ made.0 in (
       there.0 ∙ ap (λ (n : ℕ). get_or (work_names D) n [] ∷ (work.0).1) number ∙ ap (λ (ws : List (List ℕ)). get_or (work_names D) (length done) [] ∷ ws) none,
       subst (λ (n : ℕ). n < length (work_names D)) number there.1,
       made.1,
     )
-  where
-    same_number : (n m : ℕ) → eqb n m ≡ true → n ≡ m
-    same_number n m h = grind (arith, nat_tests)
 
 pub body_opens : (D : ScenarioContents) (done : List WorkContents) → GoodNames [] (work_names D) → length done < length (work_names D)
     → open_body D done (get_or (work_names D) (length done) [] ∷ []) ≡ Ok (Body D done [])
@@ -133,11 +123,8 @@ body_opens D done names there =
     let found : declared_at (work_names D) (name ∷ []) ≡ Ok (length done, []) = declared_good (work_names D) (length done) [] names there in
     let next : (declared_at (work_names D) (name ∷ []) >>= is_next (length done)) ≡ Ok (length done, []) =
     bind_at (declared_at (work_names D) (name ∷ [])) (is_next (length done)) (length done, []) found
-    ∙ value_if_at (eqb (length done) (length done)) (length done, []) why.Misplaced (itself (length done)) in
+    ∙ value_if_at (eqb (length done) (length done)) (length done, []) why.Misplaced (equal_is (length done) (length done) refl) in
     bind_at (declared_at (work_names D) (name ∷ []) >>= is_next (length done)) (made_last (λ work. Body D done [])) (length done, []) next ∙ ended_again (Body D done [])
-  where
-    itself : (n : ℕ) → eqb n n ≡ true
-    itself n = grind (arith, nat_tests)
 
 -- An operation.
 
@@ -161,7 +148,7 @@ op_added D done ops word rest next e =
           elim (chosen (is_finish there.0) (fine (Bodies D (with_body D done more))) (value_if (ltb (length ops + 1) MAX_OPS) (Body D done more) (why.Fault fault.TooMany)) (Ok next) there.2) [
             | inl it ↦ inl (it.0, ok_same (Bodies D (with_body D done more)) next it.1)
             | inr it ↦ (let room : (ltb (length ops + 1) MAX_OPS ≡ true) × (Body D done more ≡ next) = value_if_ok (ltb (length ops + 1) MAX_OPS) (Body D done more) (why.Fault fault.TooMany) next it.1 in
-                inr (it.0, below_test (length ops + 1) MAX_OPS room.0, room.1))
+                inr (it.0, below (length ops + 1) MAX_OPS room.0, room.1))
           ];
     }
 
@@ -176,7 +163,7 @@ pub op_adds : (D : ScenarioContents) (done : List WorkContents) (ops : List Op) 
 unfolding add_op
 op_adds D done ops last e room =
     cond_no (is_finish last) (fine (Bodies D (with_body D done (ops ++ last ∷ [])))) (value_if (ltb (length ops + 1) MAX_OPS) (Body D done (ops ++ last ∷ [])) (why.Fault fault.TooMany)) e
-    ∙ value_if_at (ltb (length ops + 1) MAX_OPS) (Body D done (ops ++ last ∷ [])) (why.Fault fault.TooMany) (test_below (length ops + 1) MAX_OPS room)
+    ∙ value_if_at (ltb (length ops + 1) MAX_OPS) (Body D done (ops ++ last ∷ [])) (why.Fault fault.TooMany) (below_is (length ops + 1) MAX_OPS room)
 
 -- An actor.
 
@@ -205,7 +192,7 @@ actor_opened D rest next e =
       says = read.0 ∙ ap (λ (n : List ℕ). n ∷ (name.0).1) made.1 ∙ ap (λ (ws : List (List ℕ)). last.0 ∷ ws) made.0;
       new = subst (λ (n : List ℕ). IsNew (actor_names D) n) made.1 read.2;
       is = sym (ap is_name made.1) ∙ read.1;
-      room = below_test (length D.actors) MAX_ACTORS room.0;
+      room = below (length D.actors) MAX_ACTORS room.0;
     }
 
 pub actor_opens : (D : ScenarioContents) (name : List ℕ) → is_name name ≡ true → IsNew (actor_names D) name → length D.actors < MAX_ACTORS
@@ -215,7 +202,7 @@ actor_opens D name is new room =
     let found : (new_name_at (actor_names D) (name ∷ []) >>= made_last (λ n. n)) ≡ Ok name =
     bind_at (new_name_at (actor_names D) (name ∷ [])) (made_last (λ n. n)) (name, []) (new_name_again (actor_names D) name [] is new) ∙ ended_again name in
     bind_at (new_name_at (actor_names D) (name ∷ []) >>= made_last (λ n. n)) (add_actor D) name found
-    ∙ value_if_at (ltb (length D.actors) MAX_ACTORS) (Actor D name []) (why.Fault fault.TooMany) (test_below (length D.actors) MAX_ACTORS room)
+    ∙ value_if_at (ltb (length D.actors) MAX_ACTORS) (Actor D name []) (why.Fault fault.TooMany) (below_is (length D.actors) MAX_ACTORS room)
 
 -- An actor's line.
 
@@ -235,13 +222,13 @@ line_added D name lines word rest next few e =
     let read : LineRead D (word ∷ rest) there.0 = line_read D word rest there.0 few there.1 in
     let room : (ltb (length lines) MAX_LINES ≡ true) × (Actor D name (lines ++ there.0 ∷ []) ≡ next) =
     value_if_ok (ltb (length lines) MAX_LINES) (Actor D name (lines ++ there.0 ∷ [])) (why.Fault fault.TooMany) next there.2 in
-    record { line = there.0; stage = room.1; says = read.0; good = read.1; is = read.2; room = below_test (length lines) MAX_LINES room.0 }
+    record { line = there.0; stage = room.1; says = read.0; good = read.1; is = read.2; room = below (length lines) MAX_LINES room.0 }
 
 pub line_adds : (D : ScenarioContents) (name : List ℕ) (lines : List Line) (line : Line) → length lines < MAX_LINES
     → add_line D name lines line ≡ Ok (Actor D name (lines ++ line ∷ []))
 unfolding add_line
 line_adds D name lines line room =
-    value_if_at (ltb (length lines) MAX_LINES) (Actor D name (lines ++ line ∷ [])) (why.Fault fault.TooMany) (test_below (length lines) MAX_LINES room)
+    value_if_at (ltb (length lines) MAX_LINES) (Actor D name (lines ++ line ∷ [])) (why.Fault fault.TooMany) (below_is (length lines) MAX_LINES room)
 
 err_not_fine : (l : Line) → Err why.Misplaced ≡ fine l → ⊥
 err_not_fine l h = cc

@@ -1,6 +1,5 @@
 -- The first fault of a text: where reading fails is the first line with which no scenario's text begins.
-use Rattle.std.proofs.Common.{◌≡◌, ℕ, zero, suc, ◌+◌, ◌<◌, ◌≤◌, Bool, true, false, not, ◌⊎◌, List, [], ◌∷◌, ◌++◌, map, length, get_or, take, cond, eqb, ltb, Result, Ok, Err, arith, refl, sym, ap, ◌∙◌, inl, inr, subst}
-use Rattle.std.proofs.lemmas.Bool.Decides.{nat_tests}
+use Rattle.std.proofs.Common.{◌≡◌, ℕ, zero, suc, ◌+◌, ◌<◌, Bool, true, false, not, ◌⊎◌, List, [], ◌∷◌, ◌++◌, map, length, get_or, take, cond, eqb, ltb, Result, Ok, Err, arith, refl, sym, ap, ◌∙◌, inl, inr, subst}
 use Rattle.std.proofs.lemmas.List.{map-append, take_more}
 use Rattle.std.proofs.lemmas.List.Elements.{filter-append}
 use Rattle.std.proofs.lemmas.List.Folds.{list_all-append}
@@ -17,7 +16,7 @@ use Rattle.cmwq_grammar.specs.Reasons.{at_end, judge}
 use Rattle.cmwq_grammar.specs.Stages.{Stage, Start}
 use Rattle.cmwq_grammar.specs.declared.why.Why.{Why}
 use Rattle.cmwq_grammar.specs.declared.why.Why.TheVariants as why
-use Rattle.cmwq_grammar.proofs.Basics.{and_true, true_and, bind_at, bind_ok, chosen, cond_no, cond_yes, fine}
+use Rattle.cmwq_grammar.proofs.Basics.{and_true, true_and, bind_at, bind_ok, chosen, cond_no, cond_yes, fine, below, below_is, not_below, not_below_is}
 use Rattle.cmwq_grammar.proofs.CanonicalLines.{all_plain, fed, fed_lines, is_feed, joined, no_feeds, plain_no_feeds, plain_utf8, plain_worded, plain_words}
 use Rattle.cmwq_grammar.proofs.Completions.{Completion, complete}
 use Rattle.cmwq_grammar.proofs.GoodScenario.{Good, good_from_valid, valid_from_good}
@@ -256,18 +255,6 @@ fault_in_line lines fault none fails =
     refused : Why → Result Stage Why
     refused w = Err w
 
-not_long : (n : ℕ) → ltb MAX_TEXT n ≡ false → n ≤ MAX_TEXT
-not_long n h = grind (arith, nat_tests)
-
-is_long : (n : ℕ) → ltb MAX_TEXT n ≡ true → MAX_TEXT < n
-is_long n h = grind (arith, nat_tests)
-
-long_test : (n : ℕ) → MAX_TEXT < n → ltb MAX_TEXT n ≡ true
-long_test n h = grind (arith, nat_tests)
-
-short_test : (n : ℕ) → n ≤ MAX_TEXT → ltb MAX_TEXT n ≡ false
-short_test n h = grind (arith, nat_tests)
-
 fault_same : (a b : FaultAt) → failed {A = ScenarioContents} a ≡ failed b → a ≡ b
 fault_same a b h = cc
 
@@ -305,30 +292,30 @@ unfolding reads reads_lines
 fault_is text fault e =
     let lines = lines_of text in
     elim (chosen (ltb MAX_TEXT (length text)) (failed (fault_at 0 why.TooLong)) (stage_after 1 lines Start >>= ends_before (length lines + 1)) (Err fault) e) [
-      | inl it ↦ inl (is_long (length text) it.0, sym (fault_same (fault_at 0 why.TooLong) fault it.1))
+      | inl it ↦ inl (below MAX_TEXT (length text) it.0, sym (fault_same (fault_at 0 why.TooLong) fault it.1))
       | inr it ↦ elim (bind_err (stage_after 1 lines Start) (ends_before (length lines + 1)) fault it.1) [
         | inl here ↦ (let fails : FailsAfter 1 lines Start fault = fails_after 1 lines Start fault here in
-            inr (inl (not_long (length text) it.0, fails.k, fault_in_line lines fault (lines_no_feeds text) fails)))
-        | inr ends ↦ inr (inr (not_long (length text) it.0, fault_at_end text ends.0 fault ends.1 ends.2))
+            inr (inl (not_below (length text) MAX_TEXT it.0, fails.k, fault_in_line lines fault (lines_no_feeds text) fails)))
+        | inr ends ↦ inr (inr (not_below (length text) MAX_TEXT it.0, fault_at_end text ends.0 fault ends.1 ends.2))
       ]
     ]
 
 pub is_fault : (text : List ℕ) (fault : FaultAt) → IsFault text fault → reads text ≡ Err fault
 unfolding reads reads_lines
 is_fault text fault (inl it) =
-    cond_yes (ltb MAX_TEXT (length text)) (failed (fault_at 0 why.TooLong)) (reads_lines (lines_of text)) (long_test (length text) it.0) ∙ ap failed (sym it.1)
+    cond_yes (ltb MAX_TEXT (length text)) (failed (fault_at 0 why.TooLong)) (reads_lines (lines_of text)) (below_is MAX_TEXT (length text) it.0) ∙ ap failed (sym it.1)
 is_fault text fault (inr (inl it)) =
     let lines = lines_of text in
     let at : FaultInLine lines it.1 fault = it.2 in
     let stage = at.why.0 in
     let fails : stage_after 1 lines Start ≡ Err (fault_at (1 + it.1) fault.why) = fails_at 1 lines Start it.1 stage fault.why at.there at.why.1 at.why.2 in
     let same : fault_at (1 + it.1) fault.why ≡ fault = ap (λ (m : ℕ). fault_at m fault.why) (omega arith) ∙ ap (λ (m : ℕ). fault_at m fault.why) (sym at.line) in
-    cond_no (ltb MAX_TEXT (length text)) (failed (fault_at 0 why.TooLong)) (reads_lines lines) (short_test (length text) it.0)
+    cond_no (ltb MAX_TEXT (length text)) (failed (fault_at 0 why.TooLong)) (reads_lines lines) (not_below_is (length text) MAX_TEXT it.0)
     ∙ ap (λ (r : Result Stage FaultAt). r >>= ends_before (length lines + 1)) fails ∙ ap failed same
 is_fault text fault (inr (inr it)) =
     let lines = lines_of text in
     let at : FaultAtEnd text fault = it.1 in
     let stage = at.why.0 in
     let same : fault_at (length lines + 1) fault.why ≡ fault = ap (λ (m : ℕ). fault_at m fault.why) (sym at.line) in
-    cond_no (ltb MAX_TEXT (length text)) (failed (fault_at 0 why.TooLong)) (reads_lines lines) (short_test (length text) it.0)
+    cond_no (ltb MAX_TEXT (length text)) (failed (fault_at 0 why.TooLong)) (reads_lines lines) (not_below_is (length text) MAX_TEXT it.0)
     ∙ bind_at (stage_after 1 lines Start) (ends_before (length lines + 1)) stage at.why.1 ∙ ap (at_line (length lines + 1)) at.why.2 ∙ ap failed same

@@ -1,6 +1,5 @@
 -- Valid scenarios whose names and numbers fit, in parts that grow with each line.
 use Rattle.std.proofs.Common.{◌≡◌, ℕ, ◌+◌, ◌-◌, ◌<◌, ◌≤◌, Bool, true, false, not, ◌&&◌, ◌||◌, List, [], ◌∷◌, ◌++◌, map, length, get_or, take, cond, eqb, ltb, leb, Option, Some, None, arith, refl, sym, ap, ◌∙◌, subst, length-append}
-use Rattle.std.proofs.lemmas.Bool.Decides.{nat_tests}
 use Rattle.std.proofs.lemmas.List.{map-append, take_more, take_all}
 use Rattle.std.proofs.lemmas.List.Folds.{list_all-append}
 use Rattle.std.proofs.lemmas.List.Sums.{sum_by-append, sum_by-cons}
@@ -19,7 +18,7 @@ use Rattle.cmwq_types.specs.declared.scenario.Op.{Op}
 use Rattle.cmwq_types.specs.declared.scenario.Op.TheVariants as op
 use Rattle.cmwq_types.specs.declared.scenario.QueueDecl.{QueueDecl}
 use Rattle.cmwq_grammar.specs.Instructions.{actor_names, queue_names, work_names}
-use Rattle.cmwq_grammar.proofs.Basics.{one_if, and_true, at_most, at_most_is, below, true_and}
+use Rattle.cmwq_grammar.proofs.Basics.{one_if, and_true, at_most, at_most_is, below, true_and, equal, equal_is}
 use Rattle.cmwq_grammar.proofs.FieldLemmas.{IsNew, within_fits}
 use Rattle.cmwq_grammar.proofs.Fitting.{body_is, queues_are, queues_named, works_named}
 use Rattle.cmwq_grammar.proofs.InstrLemmas.{good_line}
@@ -140,12 +139,6 @@ count_none (o ∷ ops) e =
     none_here true h = cc
     none_here false h = refl
 
-eqb_one : (n : ℕ) → eqb n 1 ≡ true → n ≡ 1
-eqb_one n e = grind (arith, nat_tests)
-
-is_one : (n : ℕ) → n ≡ 1 → eqb n 1 ≡ true
-is_one n e = grind (arith, nat_tests)
-
 pub body_good : (S : ScenarioContents) (body : List Op) → body_fault S body ≡ None → GoodBody S.cpus (length S.works) body
 body_good S body e =
     let first : (fault_unless (leb (length body) MAX_OPS) fault.TooMany ≡ None) × (or_else (fault_unless (is_body body) fault.BadBody) (first_along (λ before op. op_fault S op) [] body) ≡ None) =
@@ -158,7 +151,7 @@ body_good S body e =
     let ops : List Op = take (length body - 1) body in
     let whole : body ≡ ops ++ op.Finish ∷ [] = last_finish body is.0 in
     let counted : count_by is_finish (ops ++ op.Finish ∷ []) ≡ count_by is_finish ops + 1 = sum_by-append (λ x. cond (is_finish x) 1 0) ops (op.Finish ∷ []) in
-    let one : count_by is_finish body ≡ 1 = eqb_one (count_by is_finish body) is.1 in
+    let one : count_by is_finish body ≡ 1 = equal (count_by is_finish body) 1 is.1 in
     let same : count_by is_finish body ≡ count_by is_finish (ops ++ op.Finish ∷ []) = ap (count_by is_finish) whole in
     let size : length body ≡ length (ops ++ op.Finish ∷ []) = ap length whole in
     let parts : length (ops ++ op.Finish ∷ []) ≡ length ops + 1 = length-append ops (op.Finish ∷ []) in
@@ -193,7 +186,7 @@ body_valid S body good = ap (body_fault S) good.whole ∙ valid good.ops good.go
         none_first (fault_unless (leb (length body) MAX_OPS) fault.TooMany) (or_else (fault_unless (is_body body) fault.BadBody) (first_along (λ before op. op_fault S op) [] body))
         (unless_none (leb (length body) MAX_OPS) fault.TooMany (at_most_is (length body) MAX_OPS (omega arith)))
         (none_first (fault_unless (is_body body) fault.BadBody) (first_along (λ before op. op_fault S op) [] body)
-        (unless_none (is_body body) fault.BadBody (true_and (is_some_finish (slice_get body (length body - 1))) (eqb (count_by is_finish body) 1) (ap is_some_finish (finish_last ops)) (is_one (count_by is_finish body) (omega arith))))
+        (unless_none (is_body body) fault.BadBody (true_and (is_some_finish (slice_get body (length body - 1))) (eqb (count_by is_finish body) 1) (ap is_some_finish (finish_last ops)) (equal_is (count_by is_finish body) 1 (omega arith))))
         (ops_valid S [] body all))
 
 -- Queues.

@@ -1,11 +1,11 @@
 -- An actor's line: what is read is said so, and what is said so is read.
-use Rattle.std.proofs.Common.{◌≡◌, ℕ, suc, ◌<◌, ◌≤◌, ◌^◌, Bool, true, ◌&&◌, ◌⊎◌, List, [], ◌∷◌, ◌++◌, length, get_or, ltb, Ok, Err, arith, refl, sym, ap, ◌∙◌, inl, inr, subst, codes, append_assoc, append-nil}
+use Rattle.std.proofs.Common.{◌≡◌, ℕ, suc, ◌<◌, ◌≤◌, ◌^◌, Bool, true, ◌&&◌, ◌⊎◌, List, [], ◌∷◌, ◌++◌, length, get_or, ltb, Option, Some, None, Ok, Err, arith, refl, sym, ap, ◌∙◌, inl, inr, subst, codes, append_assoc, append-nil}
 use Rattle.std.specs.Fmt.{decimal}
 use Rattle.std.specs.Str.{bytes_eq}
 use Rattle.cmwq_types.specs.Contents.{ScenarioContents}
 use Rattle.cmwq_types.specs.Faults.{names_declared, within}
 use Rattle.cmwq_types.specs.Listing.{actor_line, instr_words}
-use Rattle.cmwq_types.specs.Mnemonics.{mnemonics, spelling}
+use Rattle.cmwq_types.specs.Mnemonics.{first_spelled, mnemonic_of, mnemonics, spelling}
 use Rattle.cmwq_types.specs.Scenario.{queue_at, work_at}
 use Rattle.cmwq_types.specs.Values.{IsInstr, IsLine}
 use Rattle.cmwq_types.specs.declared.instr.Instr.{Instr}
@@ -16,7 +16,7 @@ use Rattle.cmwq_types.specs.declared.mnemonic.Mnemonic.TheVariants as mnemonic
 use Rattle.cmwq_types.specs.declared.scenario.Line.{Line}
 use Rattle.cmwq_grammar.specs.Fields.{◌>>=◌, declared_at, made_last, number_where, number_within}
 use Rattle.cmwq_grammar.specs.Grammar.{Says}
-use Rattle.cmwq_grammar.specs.Instructions.{Operands, Makes, OfWork, OfQueue, OfNumber, instr_among, instr_at, line_at, line_of, operands_at, operands_of, queue_id, queue_names, then_times, times_at, work_id, work_names}
+use Rattle.cmwq_grammar.specs.Instructions.{Operands, Makes, OfWork, OfQueue, OfNumber, instr_at, instr_named, line_at, line_times, operands_at, operands_of, queue_id, queue_names, then_times, times_at, work_id, work_names}
 use Rattle.cmwq_grammar.specs.declared.why.Why.TheVariants as why
 use Rattle.cmwq_grammar.proofs.Basics.{ok_same, bind_ok, bind_at, and_true, below, true_and, chosen, same_word}
 use Rattle.cmwq_grammar.proofs.FieldLemmas.{declared_read, ended_again, last_read, where_read, where_again, within_fits, fits_within}
@@ -91,19 +91,25 @@ operands_read D (OfNumber high next) words rest found few said e =
     subst (λ (ws : List (List ℕ)). InstrRead D ws found) (operand_behind words rest after (decimal n) there.0)
     (operands_read D (next n) (words ++ decimal n ∷ []) after found few (said n (omega (arith, fits.1))) number.2)
 
-among_read : (D : ScenarioContents) (mnemonics : List Mnemonic) (word : List ℕ) (rest : List (List ℕ)) (found : Instr × List (List ℕ)) → FewNames D
-    → instr_among mnemonics D word rest ≡ Ok found → InstrRead D (word ∷ rest) found
-among_read D [] word rest found few e = not_standing why.Misplaced word found e
-among_read D (m ∷ more) word rest found few e =
-    elim (chosen (bytes_eq word (spelling m)) (operands_at D (operands_of m) rest) (instr_among more D word rest) (Ok found) e) [
-      | inl it ↦ subst (λ (w : List ℕ). InstrRead D (w ∷ rest) found) (sym (same_word word (spelling m) it.0)) (operands_read D (operands_of m) (spelling m ∷ []) rest found few (table_said D m) it.1)
-      | inr other ↦ among_read D more word rest found few other.1
+spelled_so : (mnemonics : List Mnemonic) (word : List ℕ) (mnemonic : Mnemonic) → first_spelled mnemonics word ≡ Some mnemonic → word ≡ spelling mnemonic
+spelled_so [] word mnemonic e = cc
+spelled_so (m ∷ more) word mnemonic e =
+    elim (chosen (bytes_eq word (spelling m)) (Some m) (first_spelled more word) (Some mnemonic) e) [
+      | inl it ↦ (let same : m ≡ mnemonic = some_same m mnemonic it.1 in same_word word (spelling m) it.0 ∙ ap spelling same)
+      | inr other ↦ spelled_so more word mnemonic other.1
     ]
+  where
+    some_same : (x y : Mnemonic) → Some x ≡ Some y → x ≡ y
+    some_same x y h = cc
 
 pub instr_read : (D : ScenarioContents) (word : List ℕ) (rest : List (List ℕ)) (found : Instr × List (List ℕ)) → FewNames D → instr_at D word rest ≡ Ok found
     → InstrRead D (word ∷ rest) found
 unfolding instr_at
-instr_read D word rest found few e = among_read D mnemonics word rest found few e
+instr_read D word rest found few e = by_mnemonic (mnemonic_of word) refl e
+  where
+    by_mnemonic : (named : Option Mnemonic) → mnemonic_of word ≡ named → instr_named D word named rest ≡ Ok found → InstrRead D (word ∷ rest) found
+    by_mnemonic (Some m) is h = subst (λ (w : List ℕ). InstrRead D (w ∷ rest) found) (sym (spelled_so mnemonics word m is)) (operands_read D (operands_of m) (spelling m ∷ []) rest found few (table_said D m) h)
+    by_mnemonic None is h = not_standing why.Misplaced word found h
 
 -- Again: an instruction's words are read as it.
 
@@ -137,11 +143,11 @@ TimesSaid left times = (left ≡ codes "*" ∷ decimal times ∷ []) ⊎ ((times
 times_read : (i : Instr) (left : List (List ℕ)) (line : Line) → times_at i left ≡ Ok line
     → (line.instr ≡ i) × TimesSaid left line.times × (within 1 MAX_TIMES line.times ≡ true)
 times_read i [] line e =
-    subst (λ (l : Line). (l.instr ≡ i) × TimesSaid [] l.times × (within 1 MAX_TIMES l.times ≡ true)) (ok_same (line_of i 1) line e) (refl, inr (refl, refl), refl)
+    subst (λ (l : Line). (l.instr ≡ i) × TimesSaid [] l.times × (within 1 MAX_TIMES l.times ≡ true)) (ok_same (line_times i 1) line e) (refl, inr (refl, refl), refl)
 times_read i (word ∷ rest) line e =
-    elim (chosen (bytes_eq word (codes "*")) (number_within 1 MAX_TIMES rest >>= made_last (line_of i)) (Err why.ExtraWord) (Ok line) e) [
-      | inl it ↦ (let n = bind_ok (number_where (within 1 MAX_TIMES) rest) (made_last (line_of i)) line it.1 in
-          let made : ((n.0).1 ≡ []) × (line_of i (n.0).0 ≡ line) = last_read (line_of i) n.0 line n.2 in
+    elim (chosen (bytes_eq word (codes "*")) (number_within 1 MAX_TIMES rest >>= made_last (line_times i)) (Err why.ExtraWord) (Ok line) e) [
+      | inl it ↦ (let n = bind_ok (number_where (within 1 MAX_TIMES) rest) (made_last (line_times i)) line it.1 in
+          let made : ((n.0).1 ≡ []) × (line_times i (n.0).0 ≡ line) = last_read (line_times i) n.0 line n.2 in
           let number : (rest ≡ decimal (n.0).0 ∷ (n.0).1) × (within 1 MAX_TIMES (n.0).0 ≡ true) = where_read (within 1 MAX_TIMES) rest n.0 n.1 in
           let whole : word ∷ rest ≡ codes "*" ∷ decimal (n.0).0 ∷ [] =
           put_first word (codes "*") rest (decimal (n.0).0 ∷ []) (same_word word (codes "*") it.0) (number.0 ∙ ap (λ (ws : List (List ℕ)). decimal (n.0).0 ∷ ws) made.0) in
@@ -149,16 +155,16 @@ times_read i (word ∷ rest) line e =
       | inr no_star ↦ (let no : Err why.ExtraWord ≡ Ok line = no_star.1 in cc)
     ]
 
-times_again : (i : Instr) (left : List (List ℕ)) (times : ℕ) → TimesSaid left times → within 1 MAX_TIMES times ≡ true → times_at i left ≡ Ok (line_of i times)
+times_again : (i : Instr) (left : List (List ℕ)) (times : ℕ) → TimesSaid left times → within 1 MAX_TIMES times ≡ true → times_at i left ≡ Ok (line_times i times)
 times_again i left times (inl said) fits =
     let small : (1 ≤ times) × (times ≤ MAX_TIMES) = within_fits 1 MAX_TIMES times fits in
     ap (times_at i) said
-    ∙ bind_at (number_where (within 1 MAX_TIMES) (decimal times ∷ [])) (made_last (line_of i)) (times, []) (where_again (within 1 MAX_TIMES) times [] (omega arith) fits)
-    ∙ ended_again (line_of i times)
-times_again i left times (inr said) fits = ap (times_at i) said.1 ∙ ap (λ (n : ℕ). Ok (line_of i n)) (sym said.0)
+    ∙ bind_at (number_where (within 1 MAX_TIMES) (decimal times ∷ [])) (made_last (line_times i)) (times, []) (where_again (within 1 MAX_TIMES) times [] (omega arith) fits)
+    ∙ ended_again (line_times i times)
+times_again i left times (inr said) fits = ap (times_at i) said.1 ∙ ap (λ (n : ℕ). Ok (line_times i n)) (sym said.0)
 
 said_times : (D : ScenarioContents) (i : Instr) (words left : List (List ℕ)) (times : ℕ) → words ≡ instr_words D i ++ left → TimesSaid left times
-    → Says (actor_line D (line_of i times)) words
+    → Says (actor_line D (line_times i times)) words
 said_times D i words left times e (inl said) = inl (e ∙ ap (λ (ws : List (List ℕ)). instr_words D i ++ ws) said)
 said_times D i words left times e (inr said) = inr (said.0, e ∙ ap (λ (ws : List (List ℕ)). instr_words D i ++ ws) said.1 ∙ append-nil (instr_words D i))
 
@@ -174,7 +180,7 @@ line_read D word rest line few e =
     let i = (there.0).0 in
     let times : (line.instr ≡ i) × TimesSaid (there.0).1 line.times × (within 1 MAX_TIMES line.times ≡ true) = times_read i (there.0).1 line there.2 in
     let few_times : (1 ≤ line.times) × (line.times ≤ MAX_TIMES) = within_fits 1 MAX_TIMES line.times times.2 in
-    subst (λ (j : Instr). LineRead D (word ∷ rest) (line_of j line.times)) (sym times.0) (
+    subst (λ (j : Instr). LineRead D (word ∷ rest) (line_times j line.times)) (sym times.0) (
       said_times D i (word ∷ rest) (there.0).1 line.times read.0 times.1,
       true_and (names_declared D i) (within 1 MAX_TIMES line.times) read.1 times.2,
       record { instr = read.2; times = omega (arith, few_times.1) },

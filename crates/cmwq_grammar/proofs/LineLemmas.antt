@@ -1,6 +1,5 @@
 -- Declarations and operations: what is read is said so, and what is said so is read.
 use Rattle.std.proofs.Common.{◌≡◌, ℕ, ◌<◌, ◌≤◌, ◌^◌, Bool, true, ◌&&◌, List, [], ◌∷◌, length, get_or, ltb, Ok, Err, arith, refl, ap, ◌∙◌, inl, inr, subst, codes}
-use Rattle.std.proofs.lemmas.Bool.Decides.{nat_tests}
 use Rattle.std.specs.Fmt.{decimal}
 use Rattle.std.specs.Str.{bytes_eq}
 use Rattle.cmwq_types.specs.Contents.{ScenarioContents, WorkContents}
@@ -18,7 +17,7 @@ use Rattle.cmwq_grammar.specs.Grammar.{Says}
 use Rattle.cmwq_grammar.specs.Instructions.{cannot_stand, queue_names, work_names, work_id}
 use Rattle.cmwq_grammar.specs.Reasons.{flags_at, not_in_body, op_at_line, queue_at_line, queue_of_flags, then_cpu, then_flags, then_max, then_number, then_queue, work_at_line, work_of}
 use Rattle.cmwq_grammar.specs.declared.why.Why.{Why}
-use Rattle.cmwq_grammar.proofs.Basics.{ok_same, bind_ok, bind_at, and_true, true_and, chosen, same_word}
+use Rattle.cmwq_grammar.proofs.Basics.{ok_same, bind_ok, bind_at, and_true, true_and, chosen, same_word, below}
 use Rattle.cmwq_grammar.proofs.FieldLemmas.{IsNew, declared_read, ended_read, ended_again, given_read, given_again, last_read, new_name_read, new_name_again, number_read, number_again, where_read, where_again, within_fits}
 use Rattle.cmwq_grammar.proofs.FlagLemmas.{flags_read, flags_again}
 use Rattle.cmwq_grammar.proofs.NameLists.{GoodNames, name_of_queue, name_of_work, queue_below, queue_declared, work_below, work_declared}
@@ -205,7 +204,8 @@ op_again D (op.Sleep ticks) said names few good says =
     )
 op_again D (op.Queue work cpu) said names few good says =
     let tests : (ltb work.0 (length D.works) ≡ true) × (ltb cpu D.cpus ≡ true) = and_true (ltb work.0 (length D.works)) (ltb cpu D.cpus) good in
-    let small : cpu < 10 ^ 10 = below_small cpu D.cpus tests.1 few in
+    let there : cpu < D.cpus = below cpu D.cpus tests.1 in
+    let small : cpu < 10 ^ 10 = omega arith in
     let below = λ (n : ℕ). ltb n D.cpus in (
       codes "queue",
       (work_at D work.0).name ∷ decimal cpu ∷ [],
@@ -214,7 +214,4 @@ op_again D (op.Queue work cpu) said names few good says =
           ∙ bind_at (number_where below (decimal cpu ∷ [])) (made_last (op.Queue work)) (cpu, []) (where_again below cpu [] small tests.1)
           ∙ ended_again (op.Queue work cpu),
     )
-  where
-    below_small : (n limit : ℕ) → ltb n limit ≡ true → limit ≤ 16 → n < 10 ^ 10
-    below_small n limit e few = (let lt : n < limit = grind (arith, nat_tests) in omega arith)
 op_again D op.Finish said names few good says = (codes "finish", [], says, ended_again op.Finish)

@@ -27,7 +27,7 @@ use Rattle.cmwq_types.specs.declared.scenario.QueueDecl.{QueueDecl}
 use Rattle.cmwq_grammar.specs.Cutting.{is_empty, lines_of, worded}
 use Rattle.cmwq_grammar.specs.Grammar.{SayAll, Says, Spells}
 use Rattle.cmwq_grammar.specs.Instructions.{queue_names, work_names}
-use Rattle.cmwq_grammar.proofs.Basics.{and_true, at_most, true_and, either, cond_no, cond_yes}
+use Rattle.cmwq_grammar.proofs.Basics.{and_true, at_most, true_and, either, cond_no, cond_yes, below}
 use Rattle.cmwq_grammar.proofs.CanonicalLines.{all_plain, fed, fed_lines, joined, plain_byte, plain_no_feeds, plain_utf8, plain_word, plain_worded, plain_words}
 use Rattle.cmwq_grammar.specs.Reasons.{FlagWord, flag_table}
 use Rattle.cmwq_grammar.proofs.FieldLemmas.{numerals, within_fits}
@@ -130,9 +130,6 @@ digits_plain (x ∷ xs) h =
 
 not_empty : (n : ℕ) → 1 ≤ n → not (eqb n 0) ≡ true
 not_empty n h = grind (arith, nat_tests)
-
-below : (n limit : ℕ) → ltb n limit ≡ true → n < limit
-below n limit h = grind (arith, nat_tests)
 
 name_fits : (name : List ℕ) → is_name name ≡ true → WordFits 15 name
 name_fits name is =

@@ -1,5 +1,5 @@
 -- Whole texts: what is read is spelled so, and what is spelled so is read.
-use Rattle.std.proofs.Common.{◌≡◌, ℕ, suc, ◌+◌, ◌≤◌, true, false, not, List, [], ◌∷◌, ◌++◌, length, cond, eqb, ltb, Result, Ok, Err, arith, refl, sym, ap, ◌∙◌, inl, inr, subst, append-nil}
+use Rattle.std.proofs.Common.{◌≡◌, ℕ, suc, ◌+◌, true, false, not, List, [], ◌∷◌, ◌++◌, length, cond, eqb, ltb, Result, Ok, Err, arith, refl, sym, ap, ◌∙◌, inl, inr, subst, append-nil}
 use Rattle.std.proofs.lemmas.Bool.Decides.{nat_tests}
 use Rattle.std.specs.Str.{is_utf8}
 use Rattle.cmwq_types.specs.Contents.{ScenarioContents, WorkContents, ActorContents}
@@ -14,7 +14,7 @@ use Rattle.cmwq_grammar.specs.Reasons.{all_have_bodies, at_end, judge, step, wit
 use Rattle.cmwq_grammar.specs.Stages.{Stage, Start, Cpus, Workers, Steps, Queues, Works, Bodies, Body, Actor, with_actor}
 use Rattle.cmwq_grammar.specs.declared.why.Why.{Why}
 use Rattle.cmwq_grammar.specs.declared.why.Why.TheVariants as why
-use Rattle.cmwq_grammar.proofs.Basics.{bind_ok, chosen, cond_yes, fine, ok_same, value_if_ok}
+use Rattle.cmwq_grammar.proofs.Basics.{bind_ok, chosen, cond_yes, fine, ok_same, value_if_ok, not_below}
 use Rattle.cmwq_grammar.proofs.Continuations.{Continues, Sound, SoundBodies, SoundQueues, rest_lines}
 use Rattle.cmwq_grammar.proofs.GoodScenario.{Good, valid_from_good}
 use Rattle.cmwq_grammar.proofs.Soundness.{sound_all}
@@ -188,7 +188,7 @@ read_spells text S e =
       | inr it ↦ (let read : SayAll (written S) (worded (lines_of text)) × Good S × AllUtf8 (lines_of text) = lines_read (lines_of text) S it.1 in
           let valid = valid_from_good S read.1 in
           record {
-            short = not_above (length text) it.0;
+            short = not_below (length text) MAX_TEXT it.0;
             is_text = record { utf8 = text_utf8 text read.2; lines = read.0; valid = valid.0; scenario = valid.1 };
           })
     ]
@@ -198,6 +198,3 @@ read_spells text S e =
 
     not_ok : Err (fault_at 0 why.TooLong) ≡ as_ok S → ⊥
     not_ok h = cc
-
-    not_above : (n : ℕ) → ltb MAX_TEXT n ≡ false → n ≤ MAX_TEXT
-    not_above n h = grind (arith, nat_tests)

@@ -1,6 +1,5 @@
 -- Each line that is read keeps a stage sound.
-use Rattle.std.proofs.Common.{◌≡◌, ℕ, suc, ◌+◌, ◌<◌, ◌≤◌, Bool, true, false, not, List, [], ◌∷◌, ◌++◌, map, length, get_or, eqb, leb, arith, refl, sym, ap, ◌∙◌, subst, append_assoc, append-nil, length-append}
-use Rattle.std.proofs.lemmas.Bool.Decides.{nat_tests}
+use Rattle.std.proofs.Common.{◌≡◌, ℕ, suc, ◌+◌, ◌<◌, ◌≤◌, Bool, true, false, not, List, [], ◌∷◌, ◌++◌, map, length, get_or, leb, arith, refl, sym, ap, ◌∙◌, subst, append_assoc, append-nil, length-append}
 use Rattle.std.proofs.lemmas.List.{get_or_at, length-map, map-append, same_from_push}
 use Rattle.std.proofs.lemmas.List.Folds.{list_all-append, list_all-map}
 use Rattle.std.specs.List.{AllByRecursion, list_all}
@@ -17,7 +16,7 @@ use Rattle.cmwq_types.specs.declared.scenario.QueueDecl.{QueueDecl}
 use Rattle.cmwq_grammar.specs.Instructions.{work_names}
 use Rattle.cmwq_grammar.specs.Reasons.{all_have_bodies, with_works}
 use Rattle.cmwq_grammar.specs.Stages.{Stage, with_actor, with_body}
-use Rattle.cmwq_grammar.proofs.Basics.{and_true, true_and}
+use Rattle.cmwq_grammar.proofs.Basics.{and_true, true_and, equal, at_most_is}
 use Rattle.cmwq_grammar.proofs.Continuations.{SoundBodies, SoundBody, SoundQueues, SoundWorks, at_least, bare}
 use Rattle.cmwq_grammar.proofs.Events.{ActorOpened, QueueAdded, WorkAdded, with_queue, with_work}
 use Rattle.cmwq_grammar.proofs.FieldLemmas.{IsNew}
@@ -321,15 +320,12 @@ sound_actor D rest next good opened =
 pub sound_all : (D : ScenarioContents) (done : List WorkContents) → SoundBodies D done → all_have_bodies D done ≡ true → Good (with_works D done)
 sound_all D done sound all = closed sound.more sound.declared sound.good
   where
-    same_number : (n m : ℕ) → eqb n m ≡ true → n ≡ m
-    same_number n m h = grind (arith, nat_tests)
-
     closed : (more : List WorkContents) → D.works ≡ map bare (done ++ more) → Good (record D { works = done ++ map at_least more }) → Good (with_works D done)
     closed [] declared good = subst (λ (ws : List WorkContents). Good (record D { works = ws })) (append-nil done) good
     closed (w ∷ more) declared good =
         let size : length D.works ≡ length (done ++ w ∷ more) = declared_length D (done ++ w ∷ more) declared in
         let parts : length (done ++ w ∷ more) ≡ length done + suc (length more) = length-append done (w ∷ more) in
-        let same : length done ≡ length D.works = same_number (length done) (length D.works) all in
+        let same : length done ≡ length D.works = equal (length done) (length D.works) all in
         absurd (omega arith)
 
 pub sound_line : (D : ScenarioContents) (name : List ℕ) (lines : List Line) (line : Line) → Good (with_actor D name lines) → good_line D line ≡ true
@@ -359,9 +355,6 @@ sound_line D name lines line good good_one is room =
       bodies = good.bodies;
       actor_names = subst (λ (ns : List (List ℕ)). GoodNames [] ns) (same_names (λ (actor : ActorContents). actor.name) D.actors [] a b refl) good.actor_names;
       actors = all_and_one (good_actor D) D.actors b parts.0
-          (true_and (leb (length (lines ++ line ∷ [])) MAX_LINES) (good_lines D (lines ++ line ∷ [])) (room_test (length (lines ++ line ∷ [])) (omega arith)) (all_and_one (good_line D) lines line here.1 good_one));
+          (true_and (leb (length (lines ++ line ∷ [])) MAX_LINES) (good_lines D (lines ++ line ∷ [])) (at_most_is (length (lines ++ line ∷ [])) MAX_LINES (omega arith)) (all_and_one (good_line D) lines line here.1 good_one));
       actors_are = all_swap IsActor D.actors [] a b good.actors_are (record { name = are.name; lines = all_and_last IsLine lines line are.lines is });
     }
-  where
-    room_test : (n : ℕ) → n ≤ MAX_LINES → leb n MAX_LINES ≡ true
-    room_test n h = grind (arith, nat_tests)

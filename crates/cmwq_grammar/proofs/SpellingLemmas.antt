@@ -1,6 +1,5 @@
 -- What is spelled is read as it, up to any line of a text.
-use Rattle.std.proofs.Common.{◌≡◌, ℕ, ◌+◌, ◌≤◌, true, false, List, [], ◌∷◌, ◌++◌, map, length, eqb, ltb, Result, Ok, Err, arith, refl, sym, ap, ◌∙◌, subst, append-nil, length-append}
-use Rattle.std.proofs.lemmas.Bool.Decides.{nat_tests}
+use Rattle.std.proofs.Common.{◌≡◌, ℕ, ◌+◌, ◌≤◌, true, List, [], ◌∷◌, ◌++◌, map, length, ltb, Result, Ok, Err, arith, refl, sym, ap, ◌∙◌, subst, append-nil, length-append}
 use Rattle.std.proofs.lemmas.List.{length-map}
 use Rattle.std.specs.Str.{is_utf8}
 use Rattle.cmwq_types.specs.Contents.{ScenarioContents, WorkContents, ActorContents}
@@ -16,7 +15,7 @@ use Rattle.cmwq_grammar.specs.Meaning.{FaultAt, at_line, ends_before, fault_at, 
 use Rattle.cmwq_grammar.specs.Reasons.{all_have_bodies, at_end, judge, step, with_works}
 use Rattle.cmwq_grammar.specs.Stages.{Stage, Start, Cpus, Workers, Steps, Queues, Works, Bodies, Body, Actor, with_actor}
 use Rattle.cmwq_grammar.specs.declared.why.Why.TheVariants as why
-use Rattle.cmwq_grammar.proofs.Basics.{bind_at, cond_no, fine, value_if_at}
+use Rattle.cmwq_grammar.proofs.Basics.{bind_at, cond_no, fine, value_if_at, not_below_is, equal_is}
 use Rattle.cmwq_grammar.proofs.Continuations.{ActorLeft, BodiesLeft, BodyLeft, Continues, QueuesLeft, SameHead, Sound, SoundBodies, SoundBody, SoundQueues, SoundWorks, WorksLeft, bare, rest_lines}
 use Rattle.cmwq_grammar.proofs.GoodScenario.{Good, GoodBody, good_from_valid}
 use Rattle.cmwq_grammar.proofs.ReadingLemmas.{judges, sound_after, step_nothing, with_words, worded_on}
@@ -124,12 +123,9 @@ bodies_end_said D S done sound left =
     let works : S.works ≡ done = left.works ∙ ap (λ (ws : List WorkContents). done ++ ws) none.bodies_end ∙ append-nil done in
     let size : length D.works ≡ length done = ap length left.declared ∙ length-map S.works bare ∙ ap length works in
     let head = left.head in (
-      same (length done) (length D.works) (sym size),
+      equal_is (length done) (length D.works) (sym size),
       same_scenario (with_works D done) S (record { cpus = head.cpus; workers = head.workers; steps = head.steps; flushes = head.flushes }) (sym left.queues) (sym works) (sound.no_actors ∙ sym none.actors_end),
     )
-  where
-    same : (n m : ℕ) → n ≡ m → eqb n m ≡ true
-    same n m h = grind (arith, nat_tests)
 
 body_end_said : {A : Type 0} (D S : ScenarioContents) (done : List WorkContents) (ops : List Op) → SoundBody D done ops → Good S → (left : BodyLeft D done ops [] S) → A
 body_end_said D S done ops sound good left =
@@ -200,11 +196,8 @@ unfolding reads
 spelled_reads text S spells =
     let is = spells.is_text in
     let good : Good S = good_from_valid S is.valid is.scenario in
-    cond_no (ltb MAX_TEXT (length text)) (Err (fault_at 0 why.TooLong)) (reads_lines (lines_of text)) (not_above (length text) spells.short)
+    cond_no (ltb MAX_TEXT (length text)) (Err (fault_at 0 why.TooLong)) (reads_lines (lines_of text)) (not_below_is (length text) MAX_TEXT spells.short)
     ∙ text_reads (lines_of text) S (lines_utf8 text is.utf8) good is.lines
-  where
-    not_above : (n : ℕ) → n ≤ MAX_TEXT → ltb MAX_TEXT n ≡ false
-    not_above n h = grind (arith, nat_tests)
 
 -- a text reads as one scenario
 pub one_spelled : (text : List ℕ) (S T : ScenarioContents) → Spells text S → Spells text T → S ≡ T

@@ -1,6 +1,5 @@
 -- What a stage takes is said by a line of the scenarios that it goes on to.
-use Rattle.std.proofs.Common.{◌≡◌, ℕ, suc, ◌+◌, ◌≤◌, true, not, ◌&&◌, List, [], ◌∷◌, ◌++◌, map, length, get_or, eqb, leb, Ok, arith, refl, sym, ap, ◌∙◌, inl, inr, subst, codes, append_assoc, append-nil, length-append}
-use Rattle.std.proofs.lemmas.Bool.Decides.{nat_tests}
+use Rattle.std.proofs.Common.{◌≡◌, ℕ, suc, ◌+◌, true, not, ◌&&◌, List, [], ◌∷◌, ◌++◌, map, length, get_or, Ok, arith, refl, sym, ap, ◌∙◌, inl, inr, subst, codes, append_assoc, append-nil, length-append}
 use Rattle.std.proofs.lemmas.List.{get_or_at, length-map, map-append}
 use Rattle.std.specs.Fmt.{decimal}
 use Rattle.std.specs.List.{flat_map}
@@ -19,7 +18,7 @@ use Rattle.cmwq_grammar.specs.Instructions.{cannot_stand, line_at, work_names}
 use Rattle.cmwq_grammar.specs.Reasons.{add_line, add_queue, add_work, all_have_bodies, open_actor, open_body, queue_at_line, step, with_works, work_at_line}
 use Rattle.cmwq_grammar.specs.Stages.{Stage, Start, Cpus, Workers, Steps, Queues, Works, Bodies, Body, Actor, head_of, with_actor}
 use Rattle.cmwq_grammar.specs.declared.why.Why.TheVariants as why
-use Rattle.cmwq_grammar.proofs.Basics.{bind_ok, chosen, and_true, same_word}
+use Rattle.cmwq_grammar.proofs.Basics.{bind_ok, chosen, and_true, same_word, equal, at_most_is}
 use Rattle.cmwq_grammar.proofs.Continuations.{BodyLeft, Continues, QueuesLeft, Sound, SoundBodies, SoundBody, SoundQueues, SoundWorks, WorksLeft, bare, rest_lines}
 use Rattle.cmwq_grammar.proofs.Events.{ActorOpened, LineAdded, OpAdded, QueueAdded, WorkAdded, actor_opened, body_opened, line_added, op_added, queue_added, with_work, work_added}
 use Rattle.cmwq_grammar.proofs.FieldLemmas.{last_read, where_read, within_fits}
@@ -77,9 +76,6 @@ steps_read cpus workers word rest next sound is e =
       line = λ lines S left. (numbered (codes "steps") told.0, told.2, (left.0, left.1, left.3));
     })
 
-up_to : (high n : ℕ) → within 0 high n ≡ true → leb n high ≡ true
-up_to high n e = let fits : (0 ≤ n) × (n ≤ high) = within_fits 0 high n e in grind (arith, nat_tests)
-
 head_lines : (cpus workers steps flushes : ℕ) (lines : List WrittenLine) (S : ScenarioContents) → QueuesLeft (head_of cpus workers steps flushes) lines S
     → numbered (codes "cpus") cpus ∷ numbered (codes "workers") workers ∷ numbered (codes "steps") steps ∷ numbered (codes "flushes") flushes ∷ lines ≡ written S
 head_lines cpus workers steps flushes lines S left =
@@ -101,7 +97,7 @@ flushes_read cpus workers steps word rest next sound is e =
           cpus = sound.0;
           workers = sound.1;
           steps = sound.2;
-          flushes = up_to MAX_FLUSHES told.0 told.3;
+          flushes = at_most_is told.0 MAX_FLUSHES (within_fits 0 MAX_FLUSHES told.0 told.3).1;
           few_queues = omega arith;
           few_works = omega arith;
           few_actors = omega arith;
@@ -349,16 +345,13 @@ first_actor_said D rest next sound e =
 pub all_declared : (D : ScenarioContents) (done : List WorkContents) → SoundBodies D done → all_have_bodies D done ≡ true → D.works ≡ map bare done
 all_declared D done sound all = closed sound.more sound.declared
   where
-    same_number : (n m : ℕ) → eqb n m ≡ true → n ≡ m
-    same_number n m h = grind (arith, nat_tests)
-
     closed : (more : List WorkContents) → D.works ≡ map bare (done ++ more) → D.works ≡ map bare done
     closed [] declared = declared ∙ ap (map bare) (append-nil done)
     closed (w ∷ more) declared =
         let size : length D.works ≡ length (map bare (done ++ w ∷ more)) = ap length declared in
         let mapped : length (map bare (done ++ w ∷ more)) ≡ length (done ++ w ∷ more) = length-map (done ++ w ∷ more) bare in
         let parts : length (done ++ w ∷ more) ≡ length done + suc (length more) = length-append done (w ∷ more) in
-        let same : length done ≡ length D.works = same_number (length done) (length D.works) all in
+        let same : length done ≡ length D.works = equal (length done) (length D.works) all in
         absurd (omega arith)
 
 actor_after_bodies_said : (D : ScenarioContents) (done : List WorkContents) (rest : List (List ℕ)) (next : Stage) → SoundBodies D done → all_have_bodies D done ≡ true

@@ -22,7 +22,7 @@ use Rattle.cmwq_grammar.specs.Instructions.{actor_names, line_at, queue_names, w
 use Rattle.cmwq_grammar.specs.Reasons.{add_line, add_op, add_queue, add_work, all_have_bodies, op_at_line, open_actor, open_body, queue_at_line, step, with_works, work_at_line}
 use Rattle.cmwq_grammar.specs.Stages.{Stage, Start, Cpus, Workers, Steps, Queues, Works, Bodies, Body, Actor, head_of, with_actor, with_body}
 use Rattle.cmwq_grammar.specs.declared.why.Why.{Why}
-use Rattle.cmwq_grammar.proofs.Basics.{and_true, bind_at, cond_no, cond_yes, either, same_head, same_tail}
+use Rattle.cmwq_grammar.proofs.Basics.{and_true, bind_at, cond_no, cond_yes, either, same_head, same_tail, at_most, equal_is}
 use Rattle.cmwq_grammar.proofs.Continuations.{BodyLeft, Continues, SameHead, Sound, SoundBodies, SoundBody, SoundQueues, SoundWorks, bare, rest_lines}
 use Rattle.cmwq_grammar.proofs.Events.{actor_opens, body_opens, finish_adds, line_adds, not_actor, op_adds, queue_adds, with_queue, with_work, work_adds}
 use Rattle.cmwq_grammar.proofs.FieldLemmas.{IsNew, ended_again, where_again, within_fits, fits_within}
@@ -140,9 +140,6 @@ flushes_taken cpus workers steps l lines S said good left says =
         said = same_tail l (numbered (codes "flushes") S.flushes) lines (after_4 S) e;
       };
     }
-  where
-    at_most : (n limit : ℕ) → leb n limit ≡ true → n ≤ limit
-    at_most n limit h = grind (arith, nat_tests)
 
 -- Queues and works.
 
@@ -511,7 +508,7 @@ actor_after_bodies_taken D done l lines S said sound good says head queues works
     let told = actor_words l lines S a more e in
     let after : S.actors ≡ D.actors ++ a ∷ more = actors ∙ sym (ap (λ (as_ : List ActorContents). as_ ++ a ∷ more) sound.no_actors) in
     let size : length D.works ≡ length done = ap length declared ∙ length-map S.works bare ∙ ap length works in
-    let all : all_have_bodies D done ≡ true = same (length done) (length D.works) (sym size) in
+    let all : all_have_bodies D done ≡ true = equal_is (length done) (length D.works) (sym size) in
     record {
       word = codes "actor";
       rest = a.name ∷ [];
@@ -528,9 +525,6 @@ actor_after_bodies_taken D done l lines S said sound good says head queues works
         said = told.1;
       };
     }
-  where
-    same : (n m : ℕ) → n ≡ m → eqb n m ≡ true
-    same n m h = grind (arith, nat_tests)
 
 next_actor_taken : (D : ScenarioContents) (name : List ℕ) (given : List Line) (l : WrittenLine) (lines : List WrittenLine) (S : ScenarioContents) (said : List (List ℕ))
     → Good S → Says l said → SameHead D S → S.queues ≡ D.queues → S.works ≡ D.works
@@ -599,9 +593,6 @@ line_taken D name given l lines S said good says head queues works line left mor
         said = same_tail l (actor_line S line) lines after e;
       };
     }
-  where
-    at_most : (n limit : ℕ) → leb n limit ≡ true → n ≤ limit
-    at_most n limit h = grind (arith, nat_tests)
 
 -- Every stage.
 

@@ -41,15 +41,15 @@ abbrev pub after_head : List (List ℕ) → List ℕ
 after_head lines = text (head_lines ++ lines)
 
 -- a queue, a work and its body, which queues the work
-abbrev pub with_work : List (List ℕ)
-with_work =
+abbrev pub work_and_body : List (List ℕ)
+work_and_body =
     codes "queue q max 1" ∷ codes "work a q" ∷ codes "body a" ∷ codes "queue a 0" ∷ codes "finish" ∷ []
 
 -- the work that queues itself until no steps are left
 abbrev pub queues_itself_lines : List (List ℕ)
 queues_itself_lines =
     (codes "cpus 1" ∷ codes "workers 4" ∷ codes "steps 8" ∷ codes "flushes 2" ∷ [])
-    ++ with_work ++ codes "actor t" ∷ codes "queue a 0" ∷ codes "next * 8" ∷ codes "state a" ∷ []
+    ++ work_and_body ++ codes "actor t" ∷ codes "queue a 0" ∷ codes "next * 8" ∷ codes "state a" ∷ []
 
 -- what the first lines of that text tell: the numbers and the queue, then the work too, then the actor too
 abbrev pub queue_alone : List QueueDecl → ScenarioContents
@@ -107,14 +107,14 @@ AfterBodyIs line reason =
 
 -- as an actor's line
 abbrev pub InActorIs : List ℕ → Why → Type 0
-InActorIs line reason = FaultIs (after_head (with_work ++ codes "actor t" ∷ line ∷ [])) 11 reason
+InActorIs line reason = FaultIs (after_head (work_and_body ++ codes "actor t" ∷ line ∷ [])) 11 reason
 
 -- sixteen actors `a` to `p`, which do nothing
 abbrev pub letters : List (List ℕ)
 letters = map (λ k. (97 + k) ∷ []) (range_with_len 0 16)
 
-abbrev pub actor_lines : List (List ℕ)
-actor_lines = map (λ name. codes "actor " ++ name) letters
+abbrev pub sixteen_actor_lines : List (List ℕ)
+sixteen_actor_lines = map (λ name. codes "actor " ++ name) letters
 
 abbrev pub sixteen_actors : List ActorContents
 sixteen_actors = map (λ name. record { name = name; lines = [] }) letters

@@ -1,9 +1,9 @@
 -- An actor's line: an instruction, and how often it stands.
-use Rattle.std.specs.Prelude.{ℕ, List, [], ◌∷◌, ◌++◌, Result, Ok, Err, if◌then◌else◌, codes, map}
+use Rattle.std.specs.Prelude.{ℕ, List, [], ◌∷◌, ◌++◌, Option, Some, None, Result, Ok, Err, if◌then◌else◌, codes, map}
 use Rattle.std.specs.List.{list_any}
 use Rattle.std.specs.Str.{bytes_eq}
 use Rattle.cmwq_types.specs.Contents.{ScenarioContents}
-use Rattle.cmwq_types.specs.Mnemonics.{mnemonics, spelling}
+use Rattle.cmwq_types.specs.Mnemonics.{mnemonic_of, mnemonics, spelling}
 use Rattle.cmwq_types.specs.declared.instr.Instr.{Instr}
 use Rattle.cmwq_types.specs.declared.instr.Instr.TheVariants as instr
 use Rattle.cmwq_types.specs.declared.instr.QueueId.{QueueId}
@@ -12,7 +12,7 @@ use Rattle.cmwq_types.specs.declared.limits.TheConstants.{MAX_TIMES}
 use Rattle.cmwq_types.specs.declared.mnemonic.Mnemonic.{Mnemonic}
 use Rattle.cmwq_types.specs.declared.mnemonic.Mnemonic.TheVariants as mnemonic
 use Rattle.cmwq_types.specs.declared.scenario.Line.{Line}
-use Rattle.cmwq_grammar.specs.Fields.{◌>>=◌, declared_at, made, made_last, number_within}
+use Rattle.cmwq_grammar.specs.Fields.{◌>>=◌, declared_at, made_last, number_within}
 use Rattle.cmwq_grammar.specs.declared.why.Why.{Why}
 use Rattle.cmwq_grammar.specs.declared.why.Why.TheVariants as why
 
@@ -101,44 +101,23 @@ operands_at S (OfWork next) words = declared_at (work_names S) words >>= (λ wor
 operands_at S (OfQueue next) words = declared_at (queue_names S) words >>= (λ queue. operands_at S (next (queue_id queue.0)) queue.1)
 operands_at S (OfNumber high next) words = number_within 0 high words >>= (λ n. operands_at S (next n.0) n.1)
 
--- the instruction that begins with this word, if it is one of these
-abbrev pub instr_among : List Mnemonic → ScenarioContents → List ℕ → List (List ℕ) → Result (Instr × List (List ℕ)) Why
-instr_among [] S word rest = cannot_stand why.Misplaced word
-instr_among (mnemonic ∷ more) S word rest =
-    if bytes_eq word (spelling mnemonic) then operands_at S (operands_of mnemonic) rest else instr_among more S word rest
+-- the instruction of this word, if it is one's
+abbrev pub instr_named : ScenarioContents → List ℕ → Option Mnemonic → List (List ℕ) → Result (Instr × List (List ℕ)) Why
+instr_named S word (Some mnemonic) rest = operands_at S (operands_of mnemonic) rest
+instr_named S word None rest = cannot_stand why.Misplaced word
 
 unfoldable pub instr_at : ScenarioContents → List ℕ → List (List ℕ) → Result (Instr × List (List ℕ)) Why
-instr_at = instr_among mnemonics
-
--- The operands of one shape, read for an instruction.
-
-abbrev pub on_work : ScenarioContents → (WorkId → Instr) → List (List ℕ) → Result (Instr × List (List ℕ)) Why
-on_work S instr = operands_at S (of_work instr)
-
-abbrev pub on_queue : ScenarioContents → (QueueId → Instr) → List (List ℕ) → Result (Instr × List (List ℕ)) Why
-on_queue S instr = operands_at S (of_queue instr)
-
-abbrev pub number_to : ℕ → (ℕ → Instr) → List (List ℕ) → Result (Instr × List (List ℕ)) Why
-number_to high instr words = number_within 0 high words >>= made instr
-
-abbrev pub on_work_cpu : ScenarioContents → (WorkId → ℕ → Instr) → List (List ℕ) → Result (Instr × List (List ℕ)) Why
-on_work_cpu S instr = operands_at S (of_work_cpu instr)
-
-abbrev pub on_work_cpu_ticks : ScenarioContents → (WorkId → ℕ → ℕ → Instr) → List (List ℕ) → Result (Instr × List (List ℕ)) Why
-on_work_cpu_ticks S instr = operands_at S (of_work_cpu_ticks instr)
-
-abbrev pub on_queue_max : ScenarioContents → (QueueId → ℕ → Instr) → List (List ℕ) → Result (Instr × List (List ℕ)) Why
-on_queue_max S instr = operands_at S (of_queue_max instr)
+instr_at S word rest = instr_named S word (mnemonic_of word) rest
 
 -- How often the instruction stands: once, or as often as `* N` says.
 
-abbrev pub line_of : Instr → ℕ → Line
-line_of instr times = record { instr = instr; times = times }
+abbrev pub line_times : Instr → ℕ → Line
+line_times instr times = record { instr = instr; times = times }
 
 abbrev pub times_at : Instr → List (List ℕ) → Result Line Why
-times_at instr [] = Ok (line_of instr 1)
+times_at instr [] = Ok (line_times instr 1)
 times_at instr (word ∷ rest) =
-    if bytes_eq word (codes "*") then number_within 1 MAX_TIMES rest >>= made_last (line_of instr) else Err why.ExtraWord
+    if bytes_eq word (codes "*") then number_within 1 MAX_TIMES rest >>= made_last (line_times instr) else Err why.ExtraWord
 
 abbrev pub then_times : Instr × List (List ℕ) → Result Line Why
 then_times found = times_at found.0 found.1

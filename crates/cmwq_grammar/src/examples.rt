@@ -1,5 +1,5 @@
 //! Short texts, as theorems over the definitions: what reading them gives.
-ghost use Rattle.cmwq_grammar.specs.Examples.{AfterBodyIs, DeclaredIs, FaultIs, FirstLineIs, InActorIs, InBodyIs, ReadsAs, actor_lines, actor_t, after_head, cut_after, free_head, head_lines, itself_lines, long_body, nothing, one_work, queue_alone, queue_q, queues_itself, sixteen_actors, text, with_bad_byte};
+ghost use Rattle.cmwq_grammar.specs.Examples.{AfterBodyIs, DeclaredIs, FaultIs, FirstLineIs, InActorIs, InBodyIs, ReadsAs, sixteen_actor_lines, actor_t, after_head, cut_after, free_head, head_lines, itself_lines, long_body, nothing, one_work, queue_alone, queue_q, queues_itself, sixteen_actors, text, with_bad_byte};
 ghost use Rattle.cmwq_types.specs.Listing.{listing};
 ghost use Rattle.std.specs.Prelude.{◌≡◌, ◌∷◌, ◌++◌, [], codes, take};
 
@@ -144,8 +144,8 @@ pub fn reasons_in_actors()
 
 /// One actor, or one operation that isn't `finish`, over its limit is too many.
 pub fn one_over_a_limit_is_too_many()
-    ensures actors { ReadsAs (after_head actor_lines) (record nothing { actors = sixteen_actors }) }
-    ensures actor { FaultIs (after_head (actor_lines ++ codes "actor t" ∷ [])) 21 (Why.Fault Fault.TooMany) }
+    ensures actors { ReadsAs (after_head sixteen_actor_lines) (record nothing { actors = sixteen_actors }) }
+    ensures actor { FaultIs (after_head (sixteen_actor_lines ++ codes "actor t" ∷ [])) 21 (Why.Fault Fault.TooMany) }
     ensures operation { FaultIs (after_head (long_body ++ codes "burn 1" ∷ [])) 71 (Why.Fault Fault.TooMany) }
     ensures finish { FaultIs (after_head (long_body ++ codes "finish" ∷ codes "finish" ∷ [])) 72 Why.Misplaced }
 {}

@@ -1,6 +1,6 @@
 use Rattle.cmwq_scan.specs.Words.{words_in}
 use Rattle.cmwq_asm.proofs.Refused.{not_there}
-use Rattle.cmwq_asm.proofs.MnemonicLemmas.{timed_fails}
+use Rattle.cmwq_asm.proofs.OperandLemmas.{timed_fails}
 use Rattle.cmwq_types.specs.declared.instr.Instr.TheVariants as instr
 use Rattle.cmwq_asm.proofs.instructions.read_operands.Goals as goal
 
