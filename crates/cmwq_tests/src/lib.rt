@@ -8,6 +8,8 @@ mod command_lines;
 #[cfg(test)]
 mod commands;
 #[cfg(test)]
+mod debugging;
+#[cfg(test)]
 mod engines;
 #[cfg(test)]
 mod examples;
