@@ -1,5 +1,5 @@
 //! Worked examples, as theorems over the definitions: each function's contract says what one scenario
-//! prints, how one is listed, or that they are valid; one has the limits by number. No other crate stands on this one.
+//! prints, how one is listed, or that they are valid; one has the limits by number.
 #![tactic(auto)]
 
 pub mod finer_rules;

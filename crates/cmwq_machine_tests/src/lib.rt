@@ -4,6 +4,8 @@
 
 pub mod checking;
 #[cfg(test)]
+mod debugging;
+#[cfg(test)]
 mod engines;
 pub mod examples;
 #[cfg(test)]

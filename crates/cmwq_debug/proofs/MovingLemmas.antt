@@ -1,0 +1,73 @@
+-- Carrying out the instructions of a list, one after another.
+use Rattle.std.proofs.Common.{◌≡◌, ℕ, zero, suc, ◌+◌, ◌<◌, ◌≤◌, Bool, true, false, ◌&&◌, List, [], ◌∷◌, ◌++◌, length, Option, Some, None, take, arith, refl, sym, ap, ◌∙◌, subst}
+use Rattle.std.proofs.lemmas.Bool.Decides.{nat_tests}
+use Rattle.std.proofs.lemmas.Grind.{common_steps}
+use Rattle.std.specs.Prelude.{is_some, nat_le, slice_index_or}
+use Rattle.cmwq_types.specs.Contents.{ScenarioContents}
+use Rattle.cmwq_types.specs.declared.instr.Instr.{Instr}
+use Rattle.cmwq_types.specs.declared.instr.Instr.TheVariants.{Next}
+use Rattle.cmwq_types.specs.declared.reply.Reply.{Reply}
+use Rattle.cmwq_table.proofs.RunLemmas.{after_all-append}
+use Rattle.cmwq_table.specs.State.{State, start}
+use Rattle.cmwq_table.specs.Table.{run, table}
+use Rattle.cmwq_debug.specs.Breaks.{lowest, said_of}
+use Rattle.cmwq_debug.specs.Debugging.{Session, break_of, run_end, session_of, stop}
+use Rattle.cmwq_debug.specs.declared.breaks.Break.{Break}
+use Rattle.cmwq_debug.proofs.LowestLemmas.{lowest-is, lowest-more, lowest-none}
+
+-- an element that is there doesn't depend on what is read elsewhere
+same_there : {A : Type 0} (xs : List A) (k : ℕ) (d e : A) → k < length xs → slice_index_or xs k d ≡ slice_index_or xs k e
+same_there [] k d e less = absurd (omega arith)
+same_there (x ∷ xs) zero d e less = refl
+same_there (x ∷ xs) (suc k) d e less = same_there xs k d e (omega arith)
+
+-- One instruction more.
+module _ (S loaded : ScenarioContents) (instrs : List Instr) (k : ℕ) (s t : State) (reply : Reply) (d : Instr)
+    (less : k < length instrs) (has : loaded ≡ S) (state : s ≡ run S (take k instrs)) (exact : (t, reply) ≡ table loaded s (slice_index_or instrs k d)) where
+  answered : (t, reply) ≡ table S (run S (take k instrs)) (slice_index_or instrs k Next)
+  answered =
+      exact ∙ ap (λ (at : ScenarioContents). table at s (slice_index_or instrs k d)) has ∙ ap (λ (at : State). table S at (slice_index_or instrs k d)) state
+      ∙ ap (table S (run S (take k instrs))) (same_there instrs k d Next less)
+
+  pub reached : t ≡ run S (take (k + 1) instrs)
+  reached =
+      let more : take (k + 1) instrs ≡ take k instrs ++ slice_index_or instrs k Next ∷ [] = grind (arith, common_steps) in
+      ap (λ (after : State × Reply). after.0) answered ∙ sym (ap (run S) more ∙ after_all-append S (start S) (take k instrs) (slice_index_or instrs k Next ∷ []))
+
+  -- what is said of it
+  pub said : (breaks : List (Option Break)) (from before after : ℕ) → before ≡ s.time → after ≡ t.time → said_of breaks before after reply ≡ break_of (session_of S instrs from breaks) k
+  said breaks from before after is_before is_after =
+      ap (λ (time : ℕ). said_of breaks time after reply) (is_before ∙ ap (λ (at : State). at.time) state)
+      ∙ ap (λ (time : ℕ). said_of breaks (run S (take k instrs)).time time reply) (is_after ∙ ap (λ (at : State). at.time) reached)
+      ∙ ap (said_of breaks (run S (take k instrs)).time (run S (take (k + 1) instrs)).time) (ap (λ (after : State × Reply). after.1) answered)
+
+-- A run from a position on.
+
+and-first : (a b : Bool) → a ≡ false → (a && b) ≡ false
+and-first a b is = rw is refl
+
+and-both : (a b : Bool) → a ≡ true → b ≡ true → (a && b) ≡ true
+and-both a b is_a is_b = rw (is_a, is_b) refl
+
+and-last : (a b : Bool) → b ≡ false → (a && b) ≡ false
+and-last true b is = is
+and-last false b is = refl
+
+module _ (d : Session) where
+  abbrev pub matched : ℕ → Bool
+  matched k = nat_le d.position k && is_some (break_of d k)
+
+  pub none-yet : lowest matched d.position ≡ None
+  none-yet = lowest-none matched d.position (λ k less. and-first (nat_le d.position k) (is_some (break_of d k)) (grind (arith, nat_tests)))
+
+  pub none-more : (k : ℕ) (by : Option ℕ) → lowest matched k ≡ None → is_some by ≡ false → by ≡ break_of d k → lowest matched (k + 1) ≡ None
+  none-more k by none fails is =
+      let next : suc k ≡ k + 1 = omega arith in
+      subst (λ (n : ℕ). lowest matched n ≡ None) next
+      (lowest-more matched k none (and-last (nat_le d.position k) (is_some (break_of d k)) (ap (λ (o : Option ℕ). is_some o) (sym is) ∙ fails)))
+
+  pub stopped : (k : ℕ) (by : Option ℕ) → d.position ≤ k → k < length d.instrs → lowest matched k ≡ None → is_some by ≡ true → by ≡ break_of d k → (k + 1, by) ≡ run_end d (stop d)
+  stopped k by from less none holds is =
+      let passes : matched k ≡ true = and-both (nat_le d.position k) (is_some (break_of d k)) (grind (arith, nat_tests)) (ap (λ (o : Option ℕ). is_some o) (sym is) ∙ holds) in
+      let first : stop d ≡ Some k = lowest-is matched k (length d.instrs) none passes less in
+      ap (λ (o : Option ℕ). (k + 1, o)) is ∙ sym (ap (run_end d) first)

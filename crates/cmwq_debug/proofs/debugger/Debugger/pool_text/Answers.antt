@@ -1,0 +1,13 @@
+use Rattle.std.proofs.Common.{◌≡◌, rules}
+use Rattle.cmwq_dump.specs.Dump.{pool_lines}
+use Rattle.cmwq_table.specs.View.{view_of}
+use Rattle.cmwq_debug.specs.Debugging.{state_at}
+use Rattle.cmwq_debug.proofs.ScenarioLemmas.{shown}
+use Rattle.cmwq_debug.proofs.debugger.Debugger.pool_text.Goals as goal
+
+pub returns : goal.returns
+returns g c =
+    let d = c.args.self.now in
+    let of : c.deref.result.now ≡ d.scenario = search rules in
+    let is : c.in_ok-view.view ≡ view_of (state_at d d.position) = search rules in
+    shown (λ text. text.items) c.pool_text.result c.in_ok-view.view (λ S s. pool_lines S s c.args.pool) c.deref.result.now d.scenario (state_at d d.position) of is c.pool_text.ensures.text

@@ -1,0 +1,178 @@
+-- What a debugger says: a fold over its commands, of a position and breaks. Each answer is read off the table's
+-- run over the first instructions of the list.
+use Rattle.std.specs.Prelude.{◌≡◌, ◌⊎◌, ◌≤◌, ℕ, ◌+◌, ◌-◌, Bool, ◌&&◌, List, [], ◌∷◌, length, map, replicate, take, Option, Some, None, Result, Ok, Err, if◌then◌else◌, is_some, nat_le, nat_lt, ◌==◌, slice_index_or, slice_set}
+use Rattle.cmwq_types.specs.Contents.{ScenarioContents}
+use Rattle.cmwq_types.specs.Faults.{first_fault, IsValid}
+use Rattle.cmwq_types.specs.Scenario.{pool_count}
+use Rattle.cmwq_types.specs.declared.instr.Instr.{Instr}
+use Rattle.cmwq_types.specs.declared.instr.WorkId.{WorkId}
+use Rattle.cmwq_types.specs.declared.limits.TheConstants.{MAX_HISTORY}
+use Rattle.cmwq_types.specs.declared.instr.Instr.TheVariants.{Next}
+use Rattle.cmwq_types.specs.declared.reply.Reply.{Reply}
+use Rattle.cmwq_table.specs.State.{State}
+use Rattle.cmwq_table.specs.Table.{run, table}
+use Rattle.cmwq_table.specs.declared.machine.LoadError.{LoadError}
+use Rattle.cmwq_table.specs.declared.machine.LoadError.TheVariants as load
+use Rattle.cmwq_dump.specs.Dump.{dump, pool_lines}
+use Rattle.cmwq_debug.specs.Breaks.{break_at, free, lowest, said_of}
+use Rattle.cmwq_debug.specs.declared.breaks.TheConstants.{MAX_BREAKS}
+use Rattle.cmwq_debug.specs.declared.breaks.Break.{Break}
+use Rattle.cmwq_debug.specs.declared.breaks.Break.TheVariants.{OnWork, OnTime, OnRefusal}
+use Rattle.cmwq_debug.specs.declared.command.Command.{Command}
+use Rattle.cmwq_debug.specs.declared.command.Command.TheVariants as command
+use Rattle.cmwq_debug.specs.declared.command.EventKind.{EventKind}
+use Rattle.cmwq_debug.specs.declared.command.DebugError.{DebugError}
+use Rattle.cmwq_debug.specs.declared.command.DebugError.TheVariants as error
+use Rattle.cmwq_debug.specs.declared.command.Said.{Said}
+use Rattle.cmwq_debug.specs.declared.command.Said.TheVariants as said
+
+-- A debugger: a scenario, a list of instructions, how many of them were carried out, and the places for breaks.
+pub record Session : Type 0 where
+  pub scenario : ScenarioContents
+  pub instrs : List Instr
+  pub position : ℕ
+  pub breaks : List (Option Break)
+
+abbrev pub session_of : ScenarioContents → List Instr → ℕ → List (Option Break) → Session
+session_of S instrs position breaks = record { scenario = S; instrs = instrs; position = position; breaks = breaks }
+
+-- a debugger that was just opened
+abbrev pub opened : ScenarioContents → List Instr → Session
+opened S instrs = session_of S instrs 0 (replicate MAX_BREAKS None)
+
+-- the state after the first k instructions
+abbrev pub state_at : Session → ℕ → State
+state_at d k = run d.scenario (take k d.instrs)
+
+abbrev pub time_at : Session → ℕ → ℕ
+time_at d k = (state_at d k).time
+
+-- the instruction behind the first k
+abbrev pub instr_at : Session → ℕ → Instr
+instr_at d k = slice_index_or d.instrs k Next
+
+-- the table's reply to it
+abbrev pub reply_at : Session → ℕ → Reply
+reply_at d k = (table d.scenario (state_at d k) (instr_at d k)).1
+
+-- the break that is said of it
+abbrev pub break_of : Session → ℕ → Option ℕ
+break_of d k = said_of d.breaks (time_at d k) (time_at d (k + 1)) (reply_at d k)
+
+-- What is said to a command.
+pub data Answer : Type 0 where
+  -- the position, the time there, and the break that stopped a run
+  At : (position now : ℕ) (by : Option ℕ) → Answer
+  -- the new break's number
+  Broke : ℕ → Answer
+  -- the number of the break that was removed
+  Cleared : ℕ → Answer
+  Text : (text : List ℕ) → Answer
+
+-- where a debugger stands after a command, and what is said to it
+abbrev pub Outcome : Type 0
+Outcome = Session × Result Answer DebugError
+
+abbrev pub refuses : Session → DebugError → Outcome
+refuses d why = (d, Err why)
+
+abbrev pub says : Session → Answer → Outcome
+says d answer = (d, Ok answer)
+
+-- the debugger stands at this position
+abbrev pub stands : Session → ℕ → Option ℕ → Outcome
+stands d k by = says (record d { position = k }) (At k (time_at d k) by)
+
+-- a position that the list has
+abbrev pub goes : Session → ℕ → Outcome
+goes d k = if nat_le k (length d.instrs) then stands d k None else refuses d error.PastEnd
+
+-- back by at most the position
+abbrev pub goes_back : Session → ℕ → Outcome
+goes_back d n = if nat_le n d.position then goes d (d.position - n) else refuses d error.PastStart
+
+-- a new break takes the lowest free place
+abbrev pub put : Session → Break → Option ℕ → Outcome
+put d break (Some i) = says (record d { breaks = slice_set d.breaks i (Some break) }) (Broke i)
+put d break None = refuses d error.TooManyBreaks
+
+abbrev pub breaks_on : Session → Break → Outcome
+breaks_on d break = put d break (free d.breaks)
+
+abbrev pub breaks_on_work : Session → WorkId → EventKind → Outcome
+breaks_on_work d work kind =
+    if nat_lt work.0 (length d.scenario.works) then breaks_on d (OnWork work kind) else refuses d error.NoSuchWork
+
+abbrev pub removed : Session → ℕ → Option Break → Outcome
+removed d i (Some break) = says (record d { breaks = slice_set d.breaks i None }) (Cleared i)
+removed d i None = refuses d error.NoSuchBreak
+
+-- the first instruction from here on of which a break is said
+abbrev pub stop : Session → Option ℕ
+stop d = lowest (λ k. nat_le d.position k && is_some (break_of d k)) (length d.instrs)
+
+-- where a run ends, and which break is said there: behind that instruction, else at the end
+abbrev pub run_end : Session → Option ℕ → ℕ × Option ℕ
+run_end d (Some k) = (k + 1, break_of d k)
+run_end d None = (length d.instrs, None)
+
+-- a run goes forward by at least one instruction
+abbrev pub runs : Session → Outcome
+runs d =
+    if nat_lt d.position (length d.instrs) then stands d (run_end d (stop d)).0 (run_end d (stop d)).1
+    else refuses d error.PastEnd
+
+abbrev pub dumps_pool : Session → ℕ → Outcome
+dumps_pool d pool =
+    if nat_lt pool (pool_count d.scenario) then says d (Text (pool_lines d.scenario (state_at d d.position) pool))
+    else refuses d error.NoSuchPool
+
+-- the command is carried out
+abbrev pub does : Session → Command → Outcome
+does d (command.Step n) = goes d (d.position + n)
+does d (command.Back n) = goes_back d n
+does d (command.Goto k) = goes d k
+does d (command.BreakWork work kind) = breaks_on_work d work kind
+does d (command.BreakTime time) = breaks_on d (OnTime time)
+does d command.BreakRefusal = breaks_on d OnRefusal
+does d (command.Clear i) = removed d i (break_at d.breaks i)
+does d command.Run = runs d
+does d command.Dump = says d (Text (dump d.scenario (state_at d d.position)))
+does d (command.DumpPool pool) = dumps_pool d pool
+
+-- The commands one after another: where the debugger stands then, and what was said to each.
+
+abbrev pub after_commands : Session → List Command → Session
+after_commands d [] = d
+after_commands d (c ∷ cs) = after_commands (does d c).0 cs
+
+abbrev pub answers : Session → List Command → List (Result Answer DebugError)
+answers d [] = []
+answers d (c ∷ cs) = (does d c).1 ∷ answers (does d c).0 cs
+
+-- what a value of `Said` says
+abbrev pub answer_of : Said → Answer
+answer_of (said.At position now by) = At position now by
+answer_of (said.Broke i) = Broke i
+answer_of (said.Cleared i) = Cleared i
+answer_of (said.Text text) = Text text.items
+
+-- a debugger at the start; the scenario's first fault; or want of memory, where it has none
+abbrev pub Opens : {D : Type 0} → (D → Session) → ScenarioContents → List Instr → Result D LoadError → Type 0
+Opens session S instrs (Ok debugger) = IsValid S × (session debugger ≡ opened S instrs)
+Opens session S instrs (Err (load.Fault fault)) = first_fault S ≡ Some fault
+Opens session S instrs (Err load.NoMemory) = IsValid S
+
+-- A command came to its outcome, or memory ran out; what isn't carried out changes nothing.
+abbrev pub Meets : Outcome → Session → Session → Result Said DebugError → Type 0
+Meets outcome old new (Ok told) = outcome ≡ (new, Ok (answer_of told))
+Meets outcome old new (Err why) = (new ≡ old) × ((why ≡ error.NoMemory) ⊎ (outcome ≡ (old, Err why)))
+
+-- A debugger between commands: its machine is in the state after the first instructions, up to the position.
+pub record IsDebugging (d : Session) (scenario : ScenarioContents) (reached : State) : Type 0 where
+  pub valid : IsValid d.scenario
+  pub loaded : scenario ≡ d.scenario
+  pub state : reached ≡ state_at d d.position
+  pub within : d.position ≤ length d.instrs
+  pub short : length d.instrs ≤ MAX_HISTORY
+  pub places : length d.breaks ≡ MAX_BREAKS

@@ -1,0 +1,298 @@
+//! The debugger.
+ghost use Rattle.cmwq_debug.specs.Debugging.{Answer, At, Meets, Opens, answer_of, breaks_on, breaks_on_work, does, dumps_pool, goes, goes_back, opened, removed, run_end, runs, says, state_at, stop, time_at, Text};
+ghost use Rattle.cmwq_debug.specs.Breaks.{break_at};
+ghost use Rattle.cmwq_dump.specs.Dump.{dump, pool_lines};
+ghost use Rattle.cmwq_types.specs.Faults.{IsValid};
+ghost use Rattle.cmwq_types.specs.Scenario.{pool_count};
+ghost use Rattle.cmwq_types.specs.declared.limits.TheConstants.{MAX_HISTORY};
+ghost use Rattle.std.specs.Prelude.{◌≡◌, ◌+◌, ◌⊎◌, ◌<◌, ◌≤◌, Err, IfErr, IfOk, IfSome, Ok, OnErr, OnOk, length};
+
+use crate::breaks::{Break, MAX_BREAKS, free};
+use crate::command::{Command, DebugError, EventKind, Said};
+use crate::moving::{carry_out, run_on};
+use cmwq_dump::{dump_text, pool_text};
+use cmwq_table::{LoadError, Machine};
+use cmwq_types::{Instr, NoMemory, Scenario, WorkId};
+use std::alloc::Global;
+use std::marker::Model;
+use std::rc::Rc;
+
+/// A debugger over a scenario and a list of instructions: it stands at a position, which is how many of them
+/// have been carried out, and has up to sixteen breaks.
+///
+/// In the contracts it is a `Session`. Commands and answers are this project's own.
+#[derive(Drop)]
+pub struct Debugger<M: Machine> {
+    alloc: Global,
+    scenario: Rc<Scenario>,
+    instrs: Vec<Instr>,
+    machine: M,
+    position: usize,
+    breaks: [Option<Break>; 16],
+}
+
+impl<M: Machine> Model for Debugger<M> {
+    ghost use Rattle.cmwq_debug.specs.Debugging.{IsDebugging, Session, session_of};
+
+    ghost Value = { Session };
+
+    ghost view = { λ d. session_of d.scenario.value d.instrs.items d.position d.breaks };
+
+    ghost invariant = { λ d. IsDebugging (session_of d.scenario.value d.instrs.items d.position d.breaks) (M.loaded d.machine) (M.state d.machine) };
+}
+
+impl<M: Machine> Debugger<M> {
+    /// A debugger of the scenario and the instructions, at the start and with no break.
+    ///
+    /// Answers `Fault` exactly where the scenario has one, and else may answer `NoMemory`.
+    pub fn open(
+        alloc: Global,
+        scenario: &Scenario,
+        instrs: Vec<Instr>,
+    ) -> Result<Debugger<M>, LoadError>
+        requires { length instrs.items ≤ MAX_HISTORY }
+        ensures { Opens (λ debugger. debugger) scenario.now instrs.items result }
+    {
+        if let Err(fault) = scenario.check() {
+            return Err(LoadError::Fault(fault));
+        }
+        match Debugger::of_copy(alloc, scenario, instrs) {
+            Ok(debugger) => Ok(debugger),
+            Err(NoMemory) => Err(LoadError::NoMemory),
+        }
+    }
+
+    /// Carries out the command, and says what it came to.
+    ///
+    /// Where it isn't carried out, position and breaks are as before.
+    pub fn command(&mut self, command: Command) -> Result<Said, DebugError>
+        ensures said { IfOk result (λ said. does self.old command ≡ (self.new, Ok (answer_of said))) }
+        ensures refused { IfErr result (λ why. (why ≡ DebugError.NoMemory) ⊎ (does self.old command ≡ (self.old, Err why))) }
+        ensures same { OnErr result (self.new ≡ self.old) }
+    {
+        self.obey(command)
+    }
+
+    fn obey(&mut self, command: Command) -> Result<Said, DebugError>
+        ensures { Meets (does self.old command) self.old self.new result }
+    {
+        match command {
+            Command::Step(n) => self.step(n),
+            Command::Back(n) => self.back(n),
+            Command::Goto(to) => self.go(u64::from(to)),
+            Command::BreakWork { work, event } => self.break_on_work(work, event),
+            Command::BreakTime(time) => self.break_on(Break::OnTime(time)),
+            Command::BreakRefusal => self.break_on(Break::OnRefusal),
+            Command::Clear(number) => self.clear(number),
+            Command::Run => self.run(),
+            Command::Dump => self.dump(),
+            Command::DumpPool(pool) => self.dump_pool(pool),
+        }
+    }
+
+    /// A debugger at the start of a valid scenario, which is copied.
+    fn of_copy(
+        alloc: Global,
+        scenario: &Scenario,
+        instrs: Vec<Instr>,
+    ) -> Result<Debugger<M>, NoMemory>
+        requires valid { IsValid scenario.now }
+        requires short { length instrs.items ≤ MAX_HISTORY }
+        ensures { IfOk result (λ debugger. debugger ≡ opened scenario.now instrs.items) }
+    {
+        let scenario = Rc::new(alloc, scenario.copy()?)?;
+        let machine = M::begin(alloc, Rc::clone(&scenario)?)?;
+        Ok(Debugger {
+            alloc,
+            scenario,
+            instrs,
+            machine,
+            position: 0,
+            breaks: [None; 16],
+        })
+    }
+
+    fn step(&mut self, n: u32) -> Result<Said, DebugError>
+        ensures { Meets (goes self.old (self.old.position + n)) self.old self.new result }
+    {
+        self.go(self.position as u64 + u64::from(n))
+    }
+
+    fn back(&mut self, n: u32) -> Result<Said, DebugError>
+        ensures { Meets (goes_back self.old n) self.old self.new result }
+    {
+        let position = self.position as u64;
+        if u64::from(n) > position {
+            return Err(DebugError::PastStart);
+        }
+        self.go(position - u64::from(n))
+    }
+
+    /// Goes to the position.
+    fn go(&mut self, to: u64) -> Result<Said, DebugError>
+        ensures { Meets (goes self.old to) self.old self.new result }
+    {
+        if to > self.instrs.len() as u64 {
+            return Err(DebugError::PastEnd);
+        }
+        self.reach(to as usize)?;
+        Ok(self.at(None))
+    }
+
+    /// Brings the machine to the position.
+    fn reach(&mut self, to: usize) -> Result<(), NoMemory>
+        requires { to ≤ length self.old.instrs }
+        ensures ok { OnOk result (self.new ≡ record self.old { position = to }) }
+        ensures err { OnErr result (self.new ≡ self.old) }
+    {
+        if to < self.position {
+            self.rewind()?;
+        }
+        self.forward(to);
+        Ok(())
+    }
+
+    /// Loads the scenario again.
+    fn rewind(&mut self) -> Result<(), NoMemory>
+        ensures ok { OnOk result (self.new ≡ record self.old { position = 0 }) }
+        ensures err { OnErr result (self.new ≡ self.old) }
+    {
+        let fresh = M::begin(self.alloc, Rc::clone(&self.scenario)?)?;
+        let Debugger {
+            machine,
+            position,
+            ..
+        } = self;
+        *machine = fresh;
+        *position = 0;
+        Ok(())
+    }
+
+    fn forward(&mut self, to: usize)
+        requires forward { self.old.position ≤ to }
+        requires within { to ≤ length self.old.instrs }
+        ensures { self.new ≡ record self.old { position = to } }
+    {
+        let Debugger {
+            machine,
+            instrs,
+            position,
+            ..
+        } = self;
+        carry_out(machine, instrs, *position, to);
+        *position = to;
+    }
+
+    /// Where the debugger stands.
+    fn at(&self, by: Option<u8>) -> Said
+        ensures { answer_of result ≡ At self.now.position (time_at self.now self.now.position) by }
+    {
+        Said::At {
+            position: self.position as u32,
+            now: self.machine.now(),
+            by,
+        }
+    }
+
+    fn run(&mut self) -> Result<Said, DebugError>
+        ensures { Meets (runs self.old) self.old self.new result }
+    {
+        if self.position == self.instrs.len() {
+            return Err(DebugError::PastEnd);
+        }
+        let by = self.run_on();
+        Ok(self.at(by))
+    }
+
+    /// Goes forward up to the first instruction after which a break matches, and answers its number; or to
+    /// the end.
+    fn run_on(&mut self) -> Option<u8>
+        ensures position { self.new ≡ record self.old { position = (run_end self.old (stop self.old)).0 } }
+        ensures by { result ≡ (run_end self.old (stop self.old)).1 }
+    {
+        let Debugger {
+            machine,
+            instrs,
+            position,
+            breaks,
+            ..
+        } = self;
+        let end = run_on(machine, instrs, *position, breaks);
+        *position = end.position;
+        end.by.map(|by| by as u8)
+    }
+
+    fn break_on_work(&mut self, work: WorkId, event: EventKind) -> Result<Said, DebugError>
+        ensures { Meets (breaks_on_work self.old work event) self.old self.new result }
+    {
+        if work.0 as usize >= self.scenario.works.len() {
+            return Err(DebugError::NoSuchWork);
+        }
+        self.break_on(Break::OnWork(work, event))
+    }
+
+    /// Makes a break at the lowest free place.
+    fn break_on(&mut self, on: Break) -> Result<Said, DebugError>
+        ensures { Meets (breaks_on self.old on) self.old self.new result }
+    {
+        match free(&self.breaks) {
+            Some(place) => {
+                self.breaks[place] = Some(on);
+                Ok(Said::Broke(place as u8))
+            }
+            None => Err(DebugError::TooManyBreaks),
+        }
+    }
+
+    fn clear(&mut self, number: u8) -> Result<Said, DebugError>
+        ensures { Meets (removed self.old number (break_at self.old.breaks number)) self.old self.new result }
+    {
+        match self.breaks.get(number as usize) {
+            Some(Some(_)) => {
+                self.breaks[number as usize] = None;
+                Ok(Said::Cleared(number))
+            }
+            _ => Err(DebugError::NoSuchBreak),
+        }
+    }
+
+    fn dump(&self) -> Result<Said, DebugError>
+        ensures { Meets (says self.now (Text (dump self.now.scenario (state_at self.now self.now.position)))) self.now self.now result }
+    {
+        let text = self.state_text()?;
+        Ok(Said::Text(text))
+    }
+
+    fn dump_pool(&self, pool: u8) -> Result<Said, DebugError>
+        ensures { Meets (dumps_pool self.now pool) self.now self.now result }
+    {
+        if pool >= self.pool_count() {
+            return Err(DebugError::NoSuchPool);
+        }
+        let text = self.pool_text(pool)?;
+        Ok(Said::Text(text))
+    }
+
+    #[tactic(auto, using(crate::proofs::ScenarioLemmas::setting))]
+    fn pool_count(&self) -> u8
+        ensures { result ≡ pool_count self.now.scenario }
+    {
+        self.scenario.pool_count()
+    }
+
+    /// The dump text of the state at the position.
+    fn state_text(&self) -> Result<Vec<u8>, NoMemory>
+        ensures { IfOk result (λ text. text.items ≡ dump self.now.scenario (state_at self.now self.now.position)) }
+    {
+        let view = self.machine.look()?;
+        dump_text(self.alloc, &self.scenario, &view)
+    }
+
+    /// The pool's part of that text.
+    fn pool_text(&self, pool: u8) -> Result<Vec<u8>, NoMemory>
+        ensures { IfOk result (λ text. text.items ≡ pool_lines self.now.scenario (state_at self.now self.now.position) pool) }
+    {
+        let view = self.machine.look()?;
+        pool_text(self.alloc, &self.scenario, &view, pool)
+    }
+}

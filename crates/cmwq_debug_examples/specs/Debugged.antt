@@ -1,0 +1,91 @@
+-- Worked examples of debugging: a scenario, instructions, commands, and what is said to each.
+use Rattle.std.specs.Prelude.{ℕ, List, [], ◌∷◌, Option, Some, None, Result, Ok, Err, codes, replicate, ◌++◌}
+use Rattle.std.specs.List.{flat_map}
+use Rattle.cmwq_types.specs.Contents.{ScenarioContents}
+use Rattle.cmwq_types.specs.Scenario.{expand, expand_lines}
+use Rattle.cmwq_types.specs.declared.instr.Instr.{Instr}
+use Rattle.cmwq_types.specs.declared.instr.Instr.TheVariants as instr
+use Rattle.cmwq_debug.specs.Debugging.{Answer, At, Broke, Cleared, Text, answers, opened}
+use Rattle.cmwq_debug.specs.declared.command.Command.{Command}
+use Rattle.cmwq_debug.specs.declared.command.Command.TheVariants as command
+use Rattle.cmwq_debug.specs.declared.command.DebugError.{DebugError}
+use Rattle.cmwq_debug.specs.declared.command.DebugError.TheVariants as error
+use Rattle.cmwq_debug.specs.declared.command.EventKind.{EventKind}
+use Rattle.cmwq_debug.specs.declared.command.EventKind.TheVariants as kind
+use Rattle.cmwq_examples.specs.Declare.{enqueue, times}
+use Rattle.cmwq_examples.specs.Rows.{queues_itself, text, three_works}
+
+-- what a debugger of these instructions says to the commands
+abbrev pub debugged : ScenarioContents → List Instr → List Command → List (Result Answer DebugError)
+debugged S instrs commands = answers (opened S instrs) commands
+
+-- the instructions of the scenario's actors
+abbrev pub instrs_of : ScenarioContents → List Instr
+instrs_of S = flat_map expand S.actors
+
+-- `break work W event E`
+abbrev pub break_on : ℕ → EventKind → Command
+break_on w event = command.BreakWork (record { 0 = w }) event
+
+abbrev pub at : ℕ → ℕ → Result Answer DebugError
+at position now = Ok (At position now None)
+
+abbrev pub at_break : ℕ → ℕ → ℕ → Result Answer DebugError
+at_break position now by = Ok (At position now (Some by))
+
+-- The kernel document's scenario with `max_active` 3: there and back.
+
+abbrev pub there_and_back : List Command
+there_and_back =
+    command.Goto 12 ∷ command.Dump ∷ break_on 0 kind.Wakes ∷ command.Run ∷ command.Back 28 ∷ command.Back 1 ∷ command.Step 45
+    ∷ command.Clear 1 ∷ command.Step 8 ∷ command.Back 1 ∷ command.Goto 44 ∷ command.Goto 45 ∷ []
+
+-- w0 sleeps, w1 has just started, and w2 waits on the worklist
+abbrev pub dump_at_12 : List ℕ
+dump_at_12 =
+    text (
+    codes "now 5 spent 12 frozen no" ∷ codes "queue q max 3" ∷ codes "pool 0 counted 1 made 2 idle" ∷
+    codes "run w1 1 0 0" ∷ codes "asleep w0 0 2 15" ∷ codes "listed w2" ∷ codes "pool 1 counted 0 made 0 idle" ∷
+    codes "pool 2 counted 0 made 0 idle" ∷ codes "pool 3 counted 0 made 0 idle" ∷ [])
+
+abbrev pub there_and_back_answers : List (Result Answer DebugError)
+there_and_back_answers =
+    at 12 5 ∷ Ok (Text dump_at_12) ∷ Ok (Broke 0) ∷ at_break 28 15 0 ∷ at 0 0 ∷ Err error.PastStart ∷ Err error.PastEnd
+    ∷ Err error.NoSuchBreak ∷ at 8 3 ∷ at 7 2 ∷ at 44 25 ∷ Err error.PastEnd ∷ []
+
+-- A work that queues itself, sleeps, and so starts again as it finishes.
+
+abbrev pub event_breaks : List Command
+event_breaks =
+    break_on 0 kind.Starts ∷ break_on 0 kind.Finishes ∷ command.Run ∷ command.Run ∷ command.Clear 0 ∷ command.Back 1
+    ∷ command.Run ∷ command.BreakTime 1 ∷ command.Goto 2 ∷ command.Run ∷ []
+
+abbrev pub event_breaks_answers : List (Result Answer DebugError)
+event_breaks_answers =
+    Ok (Broke 0) ∷ Ok (Broke 1) ∷ at_break 2 0 0 ∷ at_break 9 2 0 ∷ Ok (Cleared 0) ∷ at 8 2 ∷ at_break 9 2 1 ∷ Ok (Broke 0)
+    ∷ at 2 0 ∷ at_break 6 1 0 ∷ []
+
+-- A refused instruction, a tick, and a refused instruction again.
+
+abbrev pub refusals : List Instr
+refusals = instr.Fire ∷ instr.Tick ∷ instr.Fire ∷ []
+
+abbrev pub refusal_breaks : List Command
+refusal_breaks =
+    command.BreakTime 0 ∷ command.BreakTime 1 ∷ command.BreakRefusal ∷ command.Run ∷ command.Run ∷ command.Run ∷ command.Run ∷ []
+
+-- no instruction makes the time 0, and the last one leaves it at 1
+abbrev pub refusal_breaks_answers : List (Result Answer DebugError)
+refusal_breaks_answers =
+    Ok (Broke 0) ∷ Ok (Broke 1) ∷ Ok (Broke 2) ∷ at_break 1 0 2 ∷ at_break 2 1 1 ∷ at_break 3 1 2 ∷ Err error.PastEnd ∷ []
+
+-- Sixteen breaks, and a seventeenth.
+
+abbrev pub many_breaks : List Command
+many_breaks = replicate 17 command.BreakRefusal ++ break_on 9 kind.Wakes ∷ command.Clear 7 ∷ command.BreakTime 3 ∷ command.DumpPool 4 ∷ []
+
+abbrev pub many_breaks_answers : List (Result Answer DebugError)
+many_breaks_answers =
+    Ok (Broke 0) ∷ Ok (Broke 1) ∷ Ok (Broke 2) ∷ Ok (Broke 3) ∷ Ok (Broke 4) ∷ Ok (Broke 5) ∷ Ok (Broke 6) ∷ Ok (Broke 7)
+    ∷ Ok (Broke 8) ∷ Ok (Broke 9) ∷ Ok (Broke 10) ∷ Ok (Broke 11) ∷ Ok (Broke 12) ∷ Ok (Broke 13) ∷ Ok (Broke 14) ∷ Ok (Broke 15)
+    ∷ Err error.TooManyBreaks ∷ Err error.NoSuchWork ∷ Ok (Cleared 7) ∷ Ok (Broke 7) ∷ Err error.NoSuchPool ∷ []

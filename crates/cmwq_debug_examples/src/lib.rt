@@ -1,0 +1,47 @@
+//! Worked examples of dumps and of debugging, as theorems over the definitions: each function's contract says what
+//! one dump reads, or what is said to some commands. No other crate stands on this one.
+#![tactic(auto)]
+
+ghost use Rattle.cmwq_debug_examples.specs.Debugged.{debugged, event_breaks, event_breaks_answers, instrs_of, many_breaks, many_breaks_answers, refusal_breaks, refusal_breaks_answers, refusals, there_and_back, there_and_back_answers};
+ghost use Rattle.cmwq_debug_examples.specs.Dumps.{dumped, many_kinds, many_kinds_dump, many_kinds_lines, many_kinds_pool_1, pool_dumped};
+ghost use Rattle.cmwq_examples.specs.Rows.{queues_itself, three_works};
+ghost use Rattle.cmwq_types.specs.Faults.{IsValid};
+ghost use Rattle.std.specs.Prelude.{◌≡◌, []};
+
+/// A dump with a line of each kind: idle workers by their last use, sleepers by the tick at which they wake,
+/// timers that run out together by their setting, and a flush that is done beside one that isn't.
+pub fn dump_tells_every_kind()
+    ensures { dumped many_kinds many_kinds_lines ≡ many_kinds_dump }
+{}
+
+/// The part of one pool in that dump.
+pub fn dump_of_a_pool_is_its_part()
+    ensures { pool_dumped many_kinds many_kinds_lines 1 ≡ many_kinds_pool_1 }
+{}
+
+/// The kernel document's scenario: at position 12 one work burns, one sleeps and one waits. What is refused leaves
+/// the debugger where it stands.
+pub fn debugger_goes_there_and_back()
+    ensures { debugged (three_works 3 41) (instrs_of (three_works 3 41)) there_and_back ≡ there_and_back_answers }
+{}
+
+/// An event of two kinds matches a break on each; the lowest is said; a cleared one matches no more, and the next
+/// break takes its place.
+pub fn lowest_break_is_said()
+    ensures { debugged queues_itself (instrs_of queues_itself) event_breaks ≡ event_breaks_answers }
+{}
+
+/// A break on a time is for the instruction that makes the time so, never for one that is refused then.
+pub fn refused_instruction_makes_no_time()
+    ensures { debugged queues_itself refusals refusal_breaks ≡ refusal_breaks_answers }
+{}
+
+/// There are sixteen places for breaks; a work that isn't there is told before that they are taken.
+pub fn seventeenth_break_is_refused()
+    ensures { debugged queues_itself [] many_breaks ≡ many_breaks_answers }
+{}
+
+/// The scenario of the first example is valid.
+pub fn many_kinds_is_valid()
+    ensures { IsValid many_kinds }
+{}

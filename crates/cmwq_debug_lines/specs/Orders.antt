@@ -1,0 +1,94 @@
+-- What a command line tells the debugger, by its words.
+use Rattle.std.specs.Prelude.{ℕ, List, [], ◌∷◌, Option, Some, None, Result, Ok, Err, codes, if◌then◌else◌, position}
+use Rattle.std.specs.Str.{bytes_eq}
+use Rattle.cmwq_types.specs.Contents.{ScenarioContents}
+use Rattle.cmwq_grammar.specs.Fields.{number_within}
+use Rattle.cmwq_grammar.specs.declared.why.Why.{Why}
+use Rattle.cmwq_scan.specs.LastFields.{last}
+use Rattle.cmwq_debug.specs.declared.command.Command.{Command}
+use Rattle.cmwq_debug.specs.declared.command.Command.TheVariants as command
+use Rattle.cmwq_debug.specs.declared.command.EventKind.{EventKind}
+use Rattle.cmwq_debug.specs.declared.command.EventKind.TheVariants as kind
+use Rattle.cmwq_debug_lines.specs.declared.order.Order.{Order}
+use Rattle.cmwq_debug_lines.specs.declared.order.Order.TheVariants.{Nothing, Bad, NoWork, Do}
+
+-- a command with the number that was read
+abbrev pub numbered : (ℕ → Command) → Result ℕ Why → Order
+numbered make (Ok n) = Do (make n)
+numbered make (Err why) = Bad
+
+-- a command with the number that is the last word, at most this high
+abbrev pub with_number : (ℕ → Command) → ℕ → List (List ℕ) → Order
+with_number make high words = numbered make (last (number_within 0 high words))
+
+-- an order behind which no word stands
+abbrev pub only : Order → List (List ℕ) → Order
+only order [] = order
+only order (word ∷ rest) = Bad
+
+abbrev pub alone : Command → List (List ℕ) → Order
+alone command words = only (Do command) words
+
+abbrev pub kind_of : List ℕ → Option EventKind
+kind_of word =
+    if bytes_eq word (codes "starts") then Some kind.Starts
+    else if bytes_eq word (codes "burns") then Some kind.Burns
+    else if bytes_eq word (codes "sleeps") then Some kind.Sleeps
+    else if bytes_eq word (codes "wakes") then Some kind.Wakes
+    else if bytes_eq word (codes "finishes") then Some kind.Finishes
+    else if bytes_eq word (codes "defers") then Some kind.Defers
+    else if bytes_eq word (codes "fires") then Some kind.Fires
+    else if bytes_eq word (codes "queues") then Some kind.Queues
+    else None
+
+-- the number of the work of this name
+abbrev pub work_named : ScenarioContents → List ℕ → Option ℕ
+work_named S name = position (λ work. bytes_eq work.name name) S.works
+
+-- the event is judged before the name is looked up
+abbrev pub on_work : Option ℕ → Option EventKind → Order
+on_work work None = Bad
+on_work None (Some event) = NoWork
+on_work (Some w) (Some event) = Do (command.BreakWork (record { 0 = w }) event)
+
+-- behind `break work W event`
+abbrev pub event_break : Option ℕ → List (List ℕ) → Order
+event_break work [] = Bad
+event_break work (event ∷ rest) = only (on_work work (kind_of event)) rest
+
+-- behind `break work W`
+abbrev pub named_break : Option ℕ → List (List ℕ) → Order
+named_break work [] = Bad
+named_break work (word ∷ rest) = if bytes_eq word (codes "event") then event_break work rest else Bad
+
+-- behind `break work`
+abbrev pub work_break : ScenarioContents → List (List ℕ) → Order
+work_break S [] = Bad
+work_break S (name ∷ rest) = named_break (work_named S name) rest
+
+-- behind `break`
+abbrev pub break_order : ScenarioContents → List (List ℕ) → Order
+break_order S [] = Bad
+break_order S (word ∷ rest) =
+    if bytes_eq word (codes "work") then work_break S rest
+    else if bytes_eq word (codes "time") then with_number command.BreakTime 4294967295 rest
+    else if bytes_eq word (codes "refusal") then alone command.BreakRefusal rest
+    else Bad
+
+-- behind `dump`
+abbrev pub dump_order : List (List ℕ) → Order
+dump_order [] = Do command.Dump
+dump_order (word ∷ rest) = if bytes_eq word (codes "pool") then with_number command.DumpPool 255 rest else Bad
+
+-- what a line of these words tells
+abbrev pub order_of : ScenarioContents → List (List ℕ) → Order
+order_of S [] = Nothing
+order_of S (word ∷ rest) =
+    if bytes_eq word (codes "step") then with_number command.Step 4294967295 rest
+    else if bytes_eq word (codes "back") then with_number command.Back 4294967295 rest
+    else if bytes_eq word (codes "goto") then with_number command.Goto 4294967295 rest
+    else if bytes_eq word (codes "break") then break_order S rest
+    else if bytes_eq word (codes "clear") then with_number command.Clear 255 rest
+    else if bytes_eq word (codes "run") then alone command.Run rest
+    else if bytes_eq word (codes "dump") then dump_order rest
+    else Bad

@@ -1,0 +1,59 @@
+-- What is said to command lines, as bytes.
+use Rattle.std.specs.Prelude.{ℕ, List, [], ◌∷◌, ◌++◌, Option, Some, None, Result, Ok, Err, codes}
+use Rattle.std.specs.Fmt.{decimal}
+use Rattle.cmwq_types.specs.Contents.{ScenarioContents}
+use Rattle.cmwq_types.specs.declared.instr.Instr.{Instr}
+use Rattle.cmwq_grammar.specs.Cutting.{lines_of, words_of}
+use Rattle.cmwq_debug.specs.Debugging.{Answer, At, Broke, Cleared, Text, Session, does, opened}
+use Rattle.cmwq_debug.specs.declared.command.DebugError.{DebugError}
+use Rattle.cmwq_debug.specs.declared.command.DebugError.TheVariants as error
+use Rattle.cmwq_debug_lines.specs.Orders.{order_of}
+use Rattle.cmwq_debug_lines.specs.declared.order.Order.{Order}
+use Rattle.cmwq_debug_lines.specs.declared.order.Order.TheVariants.{Nothing, Bad, NoWork, Do}
+
+-- the break that stopped a run
+abbrev pub by_text : Option ℕ → List ℕ
+by_text (Some number) = codes " break " ++ decimal number
+by_text None = []
+
+abbrev pub answer_text : Answer → List ℕ
+answer_text (At position now by) = codes "at " ++ decimal position ++ codes " now " ++ decimal now ++ by_text by ++ 10 ∷ []
+answer_text (Broke number) = codes "break " ++ decimal number ++ 10 ∷ []
+answer_text (Cleared number) = codes "cleared " ++ decimal number ++ 10 ∷ []
+answer_text (Text text) = text
+
+abbrev pub error_name : DebugError → List ℕ
+error_name error.NoSuchWork = codes "NoSuchWork"
+error_name error.NoSuchPool = codes "NoSuchPool"
+error_name error.NoSuchBreak = codes "NoSuchBreak"
+error_name error.PastEnd = codes "PastEnd"
+error_name error.PastStart = codes "PastStart"
+error_name error.TooManyBreaks = codes "TooManyBreaks"
+error_name error.NoMemory = codes "NoMemory"
+
+abbrev pub refused_text : DebugError → List ℕ
+refused_text why = codes "refused " ++ error_name why ++ 10 ∷ []
+
+abbrev pub told : Result Answer DebugError → List ℕ
+told (Ok answer) = answer_text answer
+told (Err why) = refused_text why
+
+-- where the debugger stands after an order, and what is said to it
+abbrev pub ordered : Session → Order → Session × List ℕ
+ordered d Nothing = (d, [])
+ordered d Bad = (d, codes "bad command" ++ 10 ∷ [])
+ordered d NoWork = (d, refused_text error.NoSuchWork)
+ordered d (Do command) = ((does d command).0, told (does d command).1)
+
+-- the same after a line; S has the names of works
+abbrev pub line_said : ScenarioContents → Session → List ℕ → Session × List ℕ
+line_said S d line = ordered d (order_of S (words_of line))
+
+-- what is said to the lines, one after another
+abbrev pub lines_said : ScenarioContents → Session → List (List ℕ) → List ℕ
+lines_said S d [] = []
+lines_said S d (line ∷ lines) = (line_said S d line).1 ++ lines_said S (line_said S d line).0 lines
+
+-- what a debugger of these instructions says to a text of commands
+abbrev pub debugged : ScenarioContents → List Instr → List ℕ → List ℕ
+debugged S instrs commands = lines_said S (opened S instrs) (lines_of commands)

@@ -1,0 +1,16 @@
+//! What a command line tells the debugger.
+
+use cmwq_debug::Command;
+
+/// What a command line tells the debugger.
+#[derive(Clone, Copy, Debug)]
+pub enum Order {
+    /// Nothing: it has no words.
+    Nothing,
+    /// It isn't a command.
+    Bad,
+    /// To break on a work that isn't declared.
+    NoWork,
+    /// To carry out the command.
+    Do(Command),
+}

@@ -1,0 +1,226 @@
+//! Reading an order off the words of a line.
+ghost use Rattle.cmwq_debug_lines.specs.Orders.{alone, break_order, dump_order, event_break, kind_of, named_break, on_work, order_of, with_number, work_break, work_named};
+ghost use Rattle.cmwq_debug.specs.declared.command.Command.TheVariants as command;
+ghost use Rattle.cmwq_types.specs.declared.limits.TheConstants.{MAX_WORKS};
+ghost use Rattle.std.specs.Prelude.{◌≡◌, ◌<◌, ◌≤◌, IfSome, length};
+
+use crate::order::Order;
+use cmwq_debug::{Command, EventKind};
+use cmwq_scan::{Token, is_word, read_last_number_within};
+use cmwq_types::{Scenario, WorkId};
+
+/// What a line of these words tells.
+pub(crate) fn order_of(scenario: &Scenario, words: &[Token]) -> Order
+    requires { length scenario.now.works ≤ MAX_WORKS }
+    ensures { result ≡ order_of scenario.now words.now }
+{
+    let [word, rest @ ..] = words else {
+        return Order::Nothing;
+    };
+    let word = word.bytes();
+    if is_word(word, b"step") {
+        steps(rest)
+    } else if is_word(word, b"back") {
+        goes_back(rest)
+    } else if is_word(word, b"goto") {
+        goes(rest)
+    } else if is_word(word, b"break") {
+        break_order(scenario, rest)
+    } else if is_word(word, b"clear") {
+        clears(rest)
+    } else if is_word(word, b"run") {
+        alone(Command::Run, rest)
+    } else if is_word(word, b"dump") {
+        dump_order(rest)
+    } else {
+        Order::Bad
+    }
+}
+
+/// Behind `step`.
+fn steps(words: &[Token]) -> Order
+    ensures { result ≡ with_number command.Step 4294967295 words.now }
+{
+    match read_last_number_within(0, u32::MAX, words) {
+        Ok(n) => Order::Do(Command::Step(n)),
+        Err(_) => Order::Bad,
+    }
+}
+
+/// Behind `back`.
+fn goes_back(words: &[Token]) -> Order
+    ensures { result ≡ with_number command.Back 4294967295 words.now }
+{
+    match read_last_number_within(0, u32::MAX, words) {
+        Ok(n) => Order::Do(Command::Back(n)),
+        Err(_) => Order::Bad,
+    }
+}
+
+/// Behind `goto`.
+fn goes(words: &[Token]) -> Order
+    ensures { result ≡ with_number command.Goto 4294967295 words.now }
+{
+    match read_last_number_within(0, u32::MAX, words) {
+        Ok(position) => Order::Do(Command::Goto(position)),
+        Err(_) => Order::Bad,
+    }
+}
+
+/// Behind `clear`.
+fn clears(words: &[Token]) -> Order
+    ensures { result ≡ with_number command.Clear 255 words.now }
+{
+    match read_last_number_within(0, 255, words) {
+        Ok(number) => Order::Do(Command::Clear(number as u8)),
+        Err(_) => Order::Bad,
+    }
+}
+
+/// The command, where no word stands behind it.
+fn alone(command: Command, words: &[Token]) -> Order
+    ensures { result ≡ alone command words.now }
+{
+    if words.is_empty() {
+        Order::Do(command)
+    } else {
+        Order::Bad
+    }
+}
+
+/// Behind `dump`.
+fn dump_order(words: &[Token]) -> Order
+    ensures { result ≡ dump_order words.now }
+{
+    match words {
+        [] => Order::Do(Command::Dump),
+        [word, rest @ ..] if is_word(word.bytes(), b"pool") => dumps_pool(rest),
+        _ => Order::Bad,
+    }
+}
+
+/// Behind `dump pool`.
+fn dumps_pool(words: &[Token]) -> Order
+    ensures { result ≡ with_number command.DumpPool 255 words.now }
+{
+    match read_last_number_within(0, 255, words) {
+        Ok(pool) => Order::Do(Command::DumpPool(pool as u8)),
+        Err(_) => Order::Bad,
+    }
+}
+
+/// Behind `break`.
+fn break_order(scenario: &Scenario, words: &[Token]) -> Order
+    requires { length scenario.now.works ≤ MAX_WORKS }
+    ensures { result ≡ break_order scenario.now words.now }
+{
+    let [word, rest @ ..] = words else {
+        return Order::Bad;
+    };
+    let word = word.bytes();
+    if is_word(word, b"work") {
+        work_break(scenario, rest)
+    } else if is_word(word, b"time") {
+        breaks_on_time(rest)
+    } else if is_word(word, b"refusal") {
+        alone(Command::BreakRefusal, rest)
+    } else {
+        Order::Bad
+    }
+}
+
+/// Behind `break time`.
+fn breaks_on_time(words: &[Token]) -> Order
+    ensures { result ≡ with_number command.BreakTime 4294967295 words.now }
+{
+    match read_last_number_within(0, u32::MAX, words) {
+        Ok(time) => Order::Do(Command::BreakTime(time)),
+        Err(_) => Order::Bad,
+    }
+}
+
+/// Behind `break work`.
+fn work_break(scenario: &Scenario, words: &[Token]) -> Order
+    requires { length scenario.now.works ≤ MAX_WORKS }
+    ensures { result ≡ work_break scenario.now words.now }
+{
+    match words {
+        [name, rest @ ..] => named_break(scenario, name.bytes(), rest),
+        [] => Order::Bad,
+    }
+}
+
+/// Behind `break work` and the name.
+fn named_break(scenario: &Scenario, name: &[u8], words: &[Token]) -> Order
+    requires { length scenario.now.works ≤ MAX_WORKS }
+    ensures { result ≡ named_break (work_named scenario.now name.now) words.now }
+{
+    match words {
+        [word, rest @ ..] if is_word(word.bytes(), b"event") => event_break(scenario, name, rest),
+        _ => Order::Bad,
+    }
+}
+
+/// Behind `break work`, the name and `event`.
+fn event_break(scenario: &Scenario, name: &[u8], words: &[Token]) -> Order
+    requires { length scenario.now.works ≤ MAX_WORKS }
+    ensures { result ≡ event_break (work_named scenario.now name.now) words.now }
+{
+    match words {
+        [event] => on_work(scenario, name, kind_of(event.bytes())),
+        _ => Order::Bad,
+    }
+}
+
+/// A break on an event of the work of this name. The event is judged before the name is looked up.
+fn on_work(scenario: &Scenario, name: &[u8], event: Option<EventKind>) -> Order
+    requires { length scenario.now.works ≤ MAX_WORKS }
+    ensures { result ≡ on_work (work_named scenario.now name.now) event }
+{
+    let Some(event) = event else {
+        return Order::Bad;
+    };
+    match work_named(scenario, name) {
+        Some(w) => Order::Do(Command::BreakWork {
+            work: WorkId(w as u16),
+            event,
+        }),
+        None => Order::NoWork,
+    }
+}
+
+/// The number of the work of this name.
+fn work_named(scenario: &Scenario, name: &[u8]) -> Option<usize>
+    ensures named { result ≡ work_named scenario.now name.now }
+    ensures in_range { IfSome result (λ w. w < length scenario.now.works) }
+{
+    scenario
+        .works
+        .iter()
+        .position(|work| is_word(work.name.as_bytes(), name))
+}
+
+/// The kind of event that the word names.
+fn kind_of(word: &[u8]) -> Option<EventKind>
+    ensures { result ≡ kind_of word.now }
+{
+    if is_word(word, b"starts") {
+        Some(EventKind::Starts)
+    } else if is_word(word, b"burns") {
+        Some(EventKind::Burns)
+    } else if is_word(word, b"sleeps") {
+        Some(EventKind::Sleeps)
+    } else if is_word(word, b"wakes") {
+        Some(EventKind::Wakes)
+    } else if is_word(word, b"finishes") {
+        Some(EventKind::Finishes)
+    } else if is_word(word, b"defers") {
+        Some(EventKind::Defers)
+    } else if is_word(word, b"fires") {
+        Some(EventKind::Fires)
+    } else if is_word(word, b"queues") {
+        Some(EventKind::Queues)
+    } else {
+        None
+    }
+}

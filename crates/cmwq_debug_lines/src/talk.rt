@@ -1,0 +1,120 @@
+//! What is said to a command line.
+ghost use Rattle.cmwq_debug.specs.Debugging.{At, answer_of, does};
+ghost use Rattle.cmwq_debug_lines.specs.Talk.{answer_text, by_text, error_name, line_said, ordered, refused_text, told};
+ghost use Rattle.cmwq_types.specs.declared.limits.TheConstants.{MAX_WORKS};
+ghost use Rattle.std.specs.Prelude.{◌≡◌, ◌≤◌, IfOk, OnOk, Some, length};
+
+use crate::order::Order;
+use crate::reading::order_of;
+use cmwq_debug::{Command, DebugError, Debugger, Said};
+use cmwq_scan::read_tokens;
+use cmwq_table::Machine;
+use cmwq_types::{NoMemory, Scenario};
+use std::alloc::Global;
+use std::fmt;
+
+/// Carries out what the command line tells the debugger, and gives what is said to it, as bytes. The names of works
+/// are the scenario's.
+///
+/// Where memory runs out, the line may have been carried out without being answered.
+pub fn answer<M: Machine>(
+    alloc: Global,
+    scenario: &Scenario,
+    debugger: &mut Debugger<M>,
+    line: &[u8],
+) -> Result<Vec<u8>, NoMemory>
+    requires { length scenario.now.works ≤ MAX_WORKS }
+    ensures debugger { OnOk result (debugger.new ≡ (line_said scenario.now debugger.old line.now).0) }
+    ensures text { IfOk result (λ text. text.items ≡ (line_said scenario.now debugger.old line.now).1) }
+{
+    let mut words = Vec::new(alloc);
+    read_tokens(&mut words, line)?;
+    obey(alloc, debugger, order_of(scenario, &words))
+}
+
+/// Carries out an order, and gives what is said to it.
+fn obey<M: Machine>(
+    alloc: Global,
+    debugger: &mut Debugger<M>,
+    order: Order,
+) -> Result<Vec<u8>, NoMemory>
+    ensures debugger { OnOk result (debugger.new ≡ (ordered debugger.old order).0) }
+    ensures text { IfOk result (λ text. text.items ≡ (ordered debugger.old order).1) }
+{
+    match order {
+        Order::Nothing => Ok(Vec::new(alloc)),
+        Order::Bad => Ok(format!(in alloc; "bad command\n")?.into_bytes()),
+        Order::NoWork => refused_text(alloc, DebugError::NoSuchWork),
+        Order::Do(command) => carry_out(alloc, debugger, command),
+    }
+}
+
+/// Carries out a command, and gives what is said to it.
+fn carry_out<M: Machine>(
+    alloc: Global,
+    debugger: &mut Debugger<M>,
+    command: Command,
+) -> Result<Vec<u8>, NoMemory>
+    ensures debugger { OnOk result (debugger.new ≡ (does debugger.old command).0) }
+    ensures text { IfOk result (λ text. text.items ≡ told (does debugger.old command).1) }
+{
+    match debugger.command(command) {
+        Ok(said) => said_text(alloc, said),
+        Err(DebugError::NoMemory) => Err(NoMemory),
+        Err(why) => refused_text(alloc, why),
+    }
+}
+
+fn said_text(alloc: Global, said: Said) -> Result<Vec<u8>, NoMemory>
+    ensures { IfOk result (λ text. text.items ≡ answer_text (answer_of said)) }
+{
+    match said {
+        Said::At { position, now, by } => at_text(alloc, position, now, by),
+        Said::Broke(number) => Ok(format!(in alloc; "break {number}\n")?.into_bytes()),
+        Said::Cleared(number) => Ok(format!(in alloc; "cleared {number}\n")?.into_bytes()),
+        Said::Text(text) => Ok(text),
+    }
+}
+
+fn at_text(alloc: Global, position: u32, now: u64, by: Option<u8>) -> Result<Vec<u8>, NoMemory>
+    ensures { IfOk result (λ text. text.items ≡ answer_text (At position now by)) }
+{
+    let by = By(by);
+    Ok(format!(in alloc; "at {position} now {now}{by}\n")?.into_bytes())
+}
+
+fn refused_text(alloc: Global, why: DebugError) -> Result<Vec<u8>, NoMemory>
+    ensures { IfOk result (λ text. text.items ≡ refused_text why) }
+{
+    let name = error_name(why);
+    Ok(format!(in alloc; "refused {name}\n")?.into_bytes())
+}
+
+/// The break that stopped a run.
+#[derive(Clone, Copy)]
+struct By(Option<u8>);
+
+impl fmt::Display for By {
+    ghost output = { λ by. Some (by_text by.0) };
+
+    fn fmt<W: fmt::Write>(&self, f: &mut fmt::Formatter<W>) -> fmt::Result {
+        match self.0 {
+            Some(number) => write!(f, " break {number}"),
+            None => Ok(()),
+        }
+    }
+}
+
+fn error_name(why: DebugError) -> &'static str
+    ensures { result.now ≡ error_name why }
+{
+    match why {
+        DebugError::NoSuchWork => "NoSuchWork",
+        DebugError::NoSuchPool => "NoSuchPool",
+        DebugError::NoSuchBreak => "NoSuchBreak",
+        DebugError::PastEnd => "PastEnd",
+        DebugError::PastStart => "PastStart",
+        DebugError::TooManyBreaks => "TooManyBreaks",
+        DebugError::NoMemory => "NoMemory",
+    }
+}

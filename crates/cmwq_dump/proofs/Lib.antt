@@ -1,0 +1,3 @@
+pub mod AlikeLemmas
+pub mod MapLemmas
+pub mod PictureLemmas

@@ -1,0 +1,4 @@
+pub mod Alike
+pub mod Dump
+pub mod Maps
+pub mod Order

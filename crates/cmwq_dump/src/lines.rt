@@ -1,0 +1,259 @@
+//! The lines of a dump.
+ghost use Rattle.cmwq_dump.specs.Dump.{at_worker, clock_line, cpu_of, dump, flush_line, group_lines, idle_workers, left_of, pc_of, pool_line, pool_lines, queue_line, spaced, timer_cpu, work_line, worker_of, yes_or_no};
+ghost use Rattle.cmwq_dump.specs.Order.{each_below};
+ghost use Rattle.cmwq_types.specs.Contents.{ScenarioContents};
+ghost use Rattle.cmwq_types.specs.Scenario.{pool_count, queue_at, work_at};
+ghost use Rattle.std.specs.List.{flat_map};
+ghost use Rattle.std.specs.Prelude.{◌≡◌, ◌<◌, ◌++◌, OnOk, Some, length, string_bytes};
+
+use crate::group::{Group, due, until};
+use crate::picture::Picture;
+use cmwq_table::{Pending, Running};
+use cmwq_types::{NoMemory, Place, Scenario};
+use std::alloc::Global;
+use std::fmt;
+
+impl Picture<'_> {
+    /// Writes the whole dump.
+    pub(crate) fn push_dump(&self, alloc: Global, text: &mut String) -> Result<(), NoMemory>
+        ensures { OnOk result (string_bytes text.new ≡ string_bytes text.old ++ dump self.now.scenario self.now.state) }
+    {
+        self.push_clock(text)?;
+        self.push_queues(text)?;
+        self.push_pools(alloc, text)?;
+        self.push_group(alloc, text, Group::Timed)?;
+        self.push_flushes(text)
+    }
+
+    fn push_clock(&self, text: &mut String) -> Result<(), NoMemory>
+        ensures { OnOk result (string_bytes text.new ≡ string_bytes text.old ++ clock_line self.now.state) }
+    {
+        let time = self.time();
+        let spent = self.spent();
+        let frozen = yes_or_no(self.is_frozen());
+        write!(text, "now {time} spent {spent} frozen {frozen}\n")?;
+        Ok(())
+    }
+
+    fn push_queues(&self, text: &mut String) -> Result<(), NoMemory>
+        ensures { OnOk result (string_bytes text.new ≡ string_bytes text.old
+            ++ each_below (queue_line self.now.scenario self.now.state) (length self.now.scenario.queues)) }
+    {
+        for queue in 0..self.scenario().queues.len() {
+            self.push_queue(text, queue)?;
+        }
+        Ok(())
+    }
+
+    fn push_queue(&self, text: &mut String, queue: usize) -> Result<(), NoMemory>
+        ensures { OnOk result (string_bytes text.new ≡ string_bytes text.old ++ queue_line self.now.scenario self.now.state queue) }
+    {
+        let name = queue_name(self.scenario(), queue);
+        let max = self.max_of(queue);
+        write!(text, "queue {name} max {max}\n")?;
+        Ok(())
+    }
+
+    fn push_pools(&self, alloc: Global, text: &mut String) -> Result<(), NoMemory>
+        ensures { OnOk result (string_bytes text.new ≡ string_bytes text.old
+            ++ each_below (pool_lines self.now.scenario self.now.state) (pool_count self.now.scenario)) }
+    {
+        for pool in 0..self.scenario().pool_count() {
+            self.push_pool(alloc, text, pool)?;
+        }
+        Ok(())
+    }
+
+    /// Writes the lines of one pool.
+    pub(crate) fn push_pool(
+        &self,
+        alloc: Global,
+        text: &mut String,
+        pool: u8,
+    ) -> Result<(), NoMemory>
+        ensures { OnOk result (string_bytes text.new ≡ string_bytes text.old ++ pool_lines self.now.scenario self.now.state pool) }
+    {
+        self.push_workers(alloc, text, pool)?;
+        self.push_group(alloc, text, Group::Running(pool))?;
+        self.push_group(alloc, text, Group::Asleep(pool))?;
+        self.push_group(alloc, text, Group::Listed(pool))?;
+        self.push_group(alloc, text, Group::Deferred(pool))?;
+        self.push_group(alloc, text, Group::Inactive(pool))
+    }
+
+    /// Writes the pool's own line: its concurrency level and its workers.
+    fn push_workers(&self, alloc: Global, text: &mut String, pool: u8) -> Result<(), NoMemory>
+        ensures { OnOk result (string_bytes text.new ≡ string_bytes text.old ++ pool_line self.now.scenario self.now.state pool) }
+    {
+        let counted = self.counted(pool);
+        let made = self.made_of(pool);
+        let idle = self.idle_workers(alloc, pool)?;
+        write!(text, "pool {pool} counted {counted} made {made} idle")?;
+        push_numbers(text, &idle)?;
+        text.push_str("\n")?;
+        Ok(())
+    }
+
+    /// Writes the line of each work of the group, in order.
+    fn push_group(&self, alloc: Global, text: &mut String, group: Group) -> Result<(), NoMemory>
+        ensures { OnOk result (string_bytes text.new ≡ string_bytes text.old ++ group_lines self.now.scenario self.now.state group) }
+    {
+        let works = self.members(alloc, group)?;
+        self.push_works(text, group, &works)
+    }
+
+    /// Writes the line of each of these works.
+    fn push_works(&self, text: &mut String, group: Group, works: &[usize]) -> Result<(), NoMemory>
+        ensures { OnOk result (string_bytes text.new ≡ string_bytes text.old ++ flat_map (work_line self.now.scenario self.now.state group) works.now) }
+    {
+        for w in works {
+            self.push_work(text, group, *w)?;
+        }
+        Ok(())
+    }
+
+    /// Writes the line of a work of the group.
+    fn push_work(&self, text: &mut String, group: Group, w: usize) -> Result<(), NoMemory>
+        ensures { OnOk result (string_bytes text.new ≡ string_bytes text.old ++ work_line self.now.scenario self.now.state group w) }
+    {
+        let name = work_name(self.scenario(), w);
+        match group {
+            Group::Running(_) => {
+                let running = self.running_of(w);
+                let worker = AtWorker(running);
+                let left = left_of(running);
+                write!(text, "run {name}{worker} {left}\n")?;
+            }
+            Group::Asleep(_) => {
+                let running = self.running_of(w);
+                let worker = AtWorker(running);
+                let until = until(running);
+                write!(text, "asleep {name}{worker} {until}\n")?;
+            }
+            Group::Listed(_) => write!(text, "listed {name}\n")?,
+            Group::Deferred(_) => write!(text, "deferred {name}\n")?,
+            Group::Inactive(_) => write!(text, "inactive {name}\n")?,
+            Group::Timed => {
+                let pending = self.pending_of(w);
+                let cpu = timer_cpu(pending);
+                let due = due(pending);
+                write!(text, "timer {name} {cpu} {due}\n")?;
+            }
+        }
+        Ok(())
+    }
+
+    fn push_flushes(&self, text: &mut String) -> Result<(), NoMemory>
+        ensures { OnOk result (string_bytes text.new ≡ string_bytes text.old
+            ++ each_below (flush_line self.now.scenario self.now.state) (length self.now.state.flushes)) }
+    {
+        for flush in 0..self.flush_count() {
+            self.push_flush(text, flush)?;
+        }
+        Ok(())
+    }
+
+    fn push_flush(&self, text: &mut String, flush: usize) -> Result<(), NoMemory>
+        ensures { OnOk result (string_bytes text.new ≡ string_bytes text.old ++ flush_line self.now.scenario self.now.state flush) }
+    {
+        let done = yes_or_no(self.is_done(self.flush_target(flush)));
+        write!(text, "flush {flush} {done}\n")?;
+        Ok(())
+    }
+}
+
+/// Writes each number behind a space.
+fn push_numbers(text: &mut String, numbers: &[u8]) -> Result<(), NoMemory>
+    ensures { OnOk result (string_bytes text.new ≡ string_bytes text.old ++ flat_map spaced numbers.now) }
+{
+    for number in numbers {
+        write!(text, " {number}")?;
+    }
+    Ok(())
+}
+
+/// The worker of a running work and its place in the body, each behind a space.
+#[derive(Clone, Copy)]
+struct AtWorker(Option<Running>);
+
+impl fmt::Display for AtWorker {
+    ghost output = { λ at. Some (at_worker at.0) };
+
+    fn fmt<W: fmt::Write>(&self, f: &mut fmt::Formatter<W>) -> fmt::Result {
+        let worker = worker_of(self.0);
+        let pc = pc_of(self.0);
+        write!(f, " {worker} {pc}")
+    }
+}
+
+fn worker_of(running: Option<Running>) -> u8
+    ensures { result ≡ worker_of running }
+{
+    match running {
+        Some(r) => r.worker,
+        None => 0,
+    }
+}
+
+fn pc_of(running: Option<Running>) -> u8
+    ensures { result ≡ pc_of running }
+{
+    match running {
+        Some(r) => r.pc,
+        None => 0,
+    }
+}
+
+fn left_of(running: Option<Running>) -> u32
+    ensures { result ≡ left_of running }
+{
+    match running {
+        Some(r) => r.left,
+        None => 0,
+    }
+}
+
+/// The CPU of the timer for which the work waits, and 0 where it waits for none.
+fn timer_cpu(pending: Option<Pending>) -> u8
+    ensures { result ≡ timer_cpu pending }
+{
+    match pending {
+        Some(p) => cpu_of(p.place),
+        None => 0,
+    }
+}
+
+fn cpu_of(place: Place) -> u8
+    ensures { result ≡ cpu_of place }
+{
+    match place {
+        Place::Timer { cpu, .. } => cpu,
+        _ => 0,
+    }
+}
+
+fn yes_or_no(holds: bool) -> &'static str
+    ensures { result.now ≡ yes_or_no holds }
+{
+    if holds { "yes" } else { "no" }
+}
+
+/// The name of a queue, or no text where no queue has the number.
+fn queue_name(scenario: &Scenario, queue: usize) -> &str
+    ensures { result.now ≡ (queue_at scenario.now queue).name }
+{
+    match scenario.queues.get(queue) {
+        Some(declared) => declared.name.as_str(),
+        None => "",
+    }
+}
+
+/// The name of a work, or no text where no work has the number.
+fn work_name(scenario: &Scenario, w: usize) -> &str
+    ensures { result.now ≡ (work_at scenario.now w).name }
+{
+    match scenario.works.get(w) {
+        Some(declared) => declared.name.as_str(),
+        None => "",
+    }
+}

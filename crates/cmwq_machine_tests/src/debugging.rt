@@ -1,0 +1,214 @@
+//! The debugger, by its command lines: what is said to each. What is said comes from this project's own worked
+//! examples, never from a run.
+use crate::checking::same;
+use crate::examples::MAX_ACTIVE_3;
+use cmwq_asm::assemble;
+use cmwq_debug::Debugger;
+use cmwq_debug_lines::answer;
+use cmwq_plain::Plain;
+use cmwq_types::{Instr, MAX_HISTORY, MAX_WORKS, Scenario};
+use std::alloc::Global;
+use std::process::Abort;
+
+/// A session: of each command line what is said to it.
+#[derive(Clone, Copy)]
+struct Talk {
+    name: &'static str,
+    lines: &'static [(&'static str, &'static [u8])],
+}
+
+/// There and back on the kernel's document's works.
+const THERE_AND_BACK: Talk = Talk {
+    name: "there and back",
+    lines: &[
+        ("goto 12", b"at 12 now 5\n"),
+        (
+            "dump",
+            b"now 5 spent 12 frozen no
+queue q max 3
+pool 0 counted 1 made 2 idle
+run w1 1 0 0
+asleep w0 0 2 15
+listed w2
+pool 1 counted 0 made 0 idle
+pool 2 counted 0 made 0 idle
+pool 3 counted 0 made 0 idle
+",
+        ),
+        ("break work w0 event wakes", b"break 0\n"),
+        ("run", b"at 28 now 15 break 0\n"),
+        ("back 28", b"at 0 now 0\n"),
+        ("back 1", b"refused PastStart\n"),
+        ("step 45", b"refused PastEnd\n"),
+        ("clear 1", b"refused NoSuchBreak\n"),
+    ],
+};
+
+/// Lines that aren't commands, lines that say nothing, and commands that are refused.
+const OTHER_LINES: Talk = Talk {
+    name: "other lines",
+    lines: &[
+        ("", b""),
+        ("  \t# nothing", b""),
+        ("step 1 # one instruction\r", b"at 1 now 0\n"),
+        ("Step 1", b"bad command\n"),
+        ("step", b"bad command\n"),
+        ("step 01", b"bad command\n"),
+        ("step 4294967296", b"bad command\n"),
+        ("step 4294967295", b"refused PastEnd\n"),
+        ("clear 256", b"bad command\n"),
+        ("clear 255", b"refused NoSuchBreak\n"),
+        ("run 1", b"bad command\n"),
+        ("dump pool", b"bad command\n"),
+        ("dump pool 4", b"refused NoSuchPool\n"),
+        ("dump pool 1", b"pool 1 counted 0 made 0 idle\n"),
+        ("break work w3 event wakes", b"refused NoSuchWork\n"),
+        ("break work W0 event wakes", b"refused NoSuchWork\n"),
+        ("break work w3 event waking", b"bad command\n"),
+        ("break time 20", b"break 0\n"),
+        ("run", b"at 34 now 20 break 0\n"),
+        ("clear 0", b"cleared 0\n"),
+        ("run", b"at 44 now 25\n"),
+        ("run", b"refused PastEnd\n"),
+    ],
+};
+
+/// A scenario that comes to a state with all kinds of works, workers, timers and flushes.
+const MANY_KINDS: &[u8] = b"cpus 1
+workers 8
+steps 1000
+flushes 2
+queue q max 8
+queue f max 1 freezable
+work s q
+work t q
+work u q
+work a q
+work b q
+work r q
+work l q
+work d f
+work e f
+work g q
+work h q
+body s
+sleep 1
+finish
+body t
+sleep 2
+finish
+body u
+sleep 3
+finish
+body a
+queue a 0
+sleep 9
+finish
+body b
+sleep 8
+finish
+body r
+burn 5
+finish
+body l
+finish
+body d
+finish
+body e
+finish
+body g
+finish
+body h
+finish
+actor x
+queue s 0
+queue t 0
+queue u 0
+queue a 0
+queue b 0
+next * 21
+queue r 0
+queue l 0
+next * 3
+delay h 0 20
+delay g 0 20
+queue d 0
+queue e 0
+flush a
+flush s
+set_max q 9
+freeze
+";
+
+/// A dump with a line of each kind.
+const EVERY_KIND: Talk = Talk {
+    name: "every kind of line",
+    lines: &[
+        ("run", b"at 39 now 4\n"),
+        (
+            "dump",
+            b"now 4 spent 39 frozen yes
+queue q max 9
+queue f max 1
+pool 0 counted 1 made 5 idle 1 0
+run r 2 1 4
+asleep b 4 1 8
+asleep a 3 2 9
+listed l
+listed d
+deferred a
+inactive e
+pool 1 counted 0 made 0 idle
+pool 2 counted 0 made 0 idle
+pool 3 counted 0 made 0 idle
+timer h 0 24
+timer g 0 24
+flush 0 no
+flush 1 yes
+",
+        ),
+    ],
+};
+
+/// The instructions of the scenario's first actor, in order.
+fn instrs_of(rt: &impl Abort, alloc: Global, scenario: &Scenario) -> Vec<Instr> {
+    let mut instrs = Vec::new(alloc);
+    for line in &scenario.actors.first().expect(rt, "an actor").lines {
+        for _turn in 0..line.times {
+            instrs.push(line.instr).expect(rt, "memory is left");
+        }
+    }
+    instrs
+}
+
+/// Says the lines to a debugger, and compares what it says.
+fn check_talk(rt: &impl Abort, alloc: Global, talk: Talk, scenario: &Scenario, instrs: Vec<Instr>) {
+    if instrs.len() > MAX_HISTORY as usize || scenario.works.len() > MAX_WORKS {
+        return;
+    }
+    let mut debugger: Debugger<Plain> = Debugger::open(alloc, scenario, instrs).expect(
+        rt,
+        "a valid scenario",
+    );
+    for (line, want) in talk.lines {
+        let said = answer(alloc, scenario, &mut debugger, line.as_bytes()).expect(
+            rt,
+            "memory is left",
+        );
+        same(rt, (talk.name, *line), &said[..], *want);
+    }
+}
+
+/// Says the lines to a debugger of the scenario that the text spells, and compares what it says.
+fn check_text(rt: &impl Abort, alloc: Global, text: &[u8], talk: Talk) {
+    let scenario = assemble(alloc, text).expect(rt, "a scenario's text");
+    let instrs = instrs_of(rt, alloc, &scenario);
+    check_talk(rt, alloc, talk, &scenario, instrs);
+}
+
+#[test]
+fn each_command_line_is_answered(rt: HostRuntime) {
+    check_text(&rt, rt.alloc(), MAX_ACTIVE_3.text, THERE_AND_BACK);
+    check_text(&rt, rt.alloc(), MAX_ACTIVE_3.text, OTHER_LINES);
+    check_text(&rt, rt.alloc(), MANY_KINDS, EVERY_KIND);
+}
