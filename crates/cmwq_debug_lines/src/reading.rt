@@ -2,6 +2,7 @@
 ghost use Rattle.cmwq_debug_lines.specs.Orders.{alone, break_order, dump_order, event_break, kind_of, named_break, on_work, order_of, with_number, work_break, work_named};
 ghost use Rattle.cmwq_debug.specs.declared.command.Command.TheVariants as command;
 ghost use Rattle.cmwq_types.specs.declared.limits.TheConstants.{MAX_WORKS};
+ghost use Rattle.cmwq_scan.specs.Words.{words_in};
 ghost use Rattle.std.specs.Prelude.{◌≡◌, ◌<◌, ◌≤◌, IfSome, length};
 
 use crate::order::Order;
@@ -12,7 +13,7 @@ use cmwq_types::{Scenario, WorkId};
 /// What a line of these words tells.
 pub(crate) fn order_of(scenario: &Scenario, words: &[Token]) -> Order
     requires { length scenario.now.works ≤ MAX_WORKS }
-    ensures { result ≡ order_of scenario.now words.now }
+    ensures { result ≡ order_of scenario.now (words_in words.now) }
 {
     let [word, rest @ ..] = words else {
         return Order::Nothing;
@@ -39,7 +40,7 @@ pub(crate) fn order_of(scenario: &Scenario, words: &[Token]) -> Order
 
 /// Behind `step`.
 fn steps(words: &[Token]) -> Order
-    ensures { result ≡ with_number command.Step 4294967295 words.now }
+    ensures { result ≡ with_number command.Step 4294967295 (words_in words.now) }
 {
     match read_last_number_within(0, u32::MAX, words) {
         Ok(n) => Order::Do(Command::Step(n)),
@@ -49,7 +50,7 @@ fn steps(words: &[Token]) -> Order
 
 /// Behind `back`.
 fn goes_back(words: &[Token]) -> Order
-    ensures { result ≡ with_number command.Back 4294967295 words.now }
+    ensures { result ≡ with_number command.Back 4294967295 (words_in words.now) }
 {
     match read_last_number_within(0, u32::MAX, words) {
         Ok(n) => Order::Do(Command::Back(n)),
@@ -59,7 +60,7 @@ fn goes_back(words: &[Token]) -> Order
 
 /// Behind `goto`.
 fn goes(words: &[Token]) -> Order
-    ensures { result ≡ with_number command.Goto 4294967295 words.now }
+    ensures { result ≡ with_number command.Goto 4294967295 (words_in words.now) }
 {
     match read_last_number_within(0, u32::MAX, words) {
         Ok(position) => Order::Do(Command::Goto(position)),
@@ -69,7 +70,7 @@ fn goes(words: &[Token]) -> Order
 
 /// Behind `clear`.
 fn clears(words: &[Token]) -> Order
-    ensures { result ≡ with_number command.Clear 255 words.now }
+    ensures { result ≡ with_number command.Clear 255 (words_in words.now) }
 {
     match read_last_number_within(0, 255, words) {
         Ok(number) => Order::Do(Command::Clear(number as u8)),
@@ -79,7 +80,7 @@ fn clears(words: &[Token]) -> Order
 
 /// The command, where no word stands behind it.
 fn alone(command: Command, words: &[Token]) -> Order
-    ensures { result ≡ alone command words.now }
+    ensures { result ≡ alone command (words_in words.now) }
 {
     if words.is_empty() {
         Order::Do(command)
@@ -90,7 +91,7 @@ fn alone(command: Command, words: &[Token]) -> Order
 
 /// Behind `dump`.
 fn dump_order(words: &[Token]) -> Order
-    ensures { result ≡ dump_order words.now }
+    ensures { result ≡ dump_order (words_in words.now) }
 {
     match words {
         [] => Order::Do(Command::Dump),
@@ -101,7 +102,7 @@ fn dump_order(words: &[Token]) -> Order
 
 /// Behind `dump pool`.
 fn dumps_pool(words: &[Token]) -> Order
-    ensures { result ≡ with_number command.DumpPool 255 words.now }
+    ensures { result ≡ with_number command.DumpPool 255 (words_in words.now) }
 {
     match read_last_number_within(0, 255, words) {
         Ok(pool) => Order::Do(Command::DumpPool(pool as u8)),
@@ -112,7 +113,7 @@ fn dumps_pool(words: &[Token]) -> Order
 /// Behind `break`.
 fn break_order(scenario: &Scenario, words: &[Token]) -> Order
     requires { length scenario.now.works ≤ MAX_WORKS }
-    ensures { result ≡ break_order scenario.now words.now }
+    ensures { result ≡ break_order scenario.now (words_in words.now) }
 {
     let [word, rest @ ..] = words else {
         return Order::Bad;
@@ -131,7 +132,7 @@ fn break_order(scenario: &Scenario, words: &[Token]) -> Order
 
 /// Behind `break time`.
 fn breaks_on_time(words: &[Token]) -> Order
-    ensures { result ≡ with_number command.BreakTime 4294967295 words.now }
+    ensures { result ≡ with_number command.BreakTime 4294967295 (words_in words.now) }
 {
     match read_last_number_within(0, u32::MAX, words) {
         Ok(time) => Order::Do(Command::BreakTime(time)),
@@ -142,7 +143,7 @@ fn breaks_on_time(words: &[Token]) -> Order
 /// Behind `break work`.
 fn work_break(scenario: &Scenario, words: &[Token]) -> Order
     requires { length scenario.now.works ≤ MAX_WORKS }
-    ensures { result ≡ work_break scenario.now words.now }
+    ensures { result ≡ work_break scenario.now (words_in words.now) }
 {
     match words {
         [name, rest @ ..] => named_break(scenario, name.bytes(), rest),
@@ -153,7 +154,7 @@ fn work_break(scenario: &Scenario, words: &[Token]) -> Order
 /// Behind `break work` and the name.
 fn named_break(scenario: &Scenario, name: &[u8], words: &[Token]) -> Order
     requires { length scenario.now.works ≤ MAX_WORKS }
-    ensures { result ≡ named_break (work_named scenario.now name.now) words.now }
+    ensures { result ≡ named_break (work_named scenario.now name.now) (words_in words.now) }
 {
     match words {
         [word, rest @ ..] if is_word(word.bytes(), b"event") => event_break(scenario, name, rest),
@@ -164,7 +165,7 @@ fn named_break(scenario: &Scenario, name: &[u8], words: &[Token]) -> Order
 /// Behind `break work`, the name and `event`.
 fn event_break(scenario: &Scenario, name: &[u8], words: &[Token]) -> Order
     requires { length scenario.now.works ≤ MAX_WORKS }
-    ensures { result ≡ event_break (work_named scenario.now name.now) words.now }
+    ensures { result ≡ event_break (work_named scenario.now name.now) (words_in words.now) }
 {
     match words {
         [event] => on_work(scenario, name, kind_of(event.bytes())),
