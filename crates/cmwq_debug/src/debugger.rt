@@ -15,7 +15,7 @@ use cmwq_table::{LoadError, Machine};
 use cmwq_types::{Instr, NoMemory, Scenario, WorkId};
 use std::alloc::Global;
 use std::marker::Model;
-use std::rc::Rc;
+use std::sync::Arc;
 
 /// A debugger over a scenario and a list of instructions: it stands at a position, which is how many of them
 /// have been carried out, and has up to sixteen breaks.
@@ -24,7 +24,7 @@ use std::rc::Rc;
 #[derive(Drop)]
 pub struct Debugger<M: Machine> {
     alloc: Global,
-    scenario: Rc<Scenario>,
+    scenario: Arc<Scenario>,
     instrs: Vec<Instr>,
     machine: M,
     position: usize,
@@ -100,8 +100,8 @@ impl<M: Machine> Debugger<M> {
         requires short { length instrs.items ≤ MAX_HISTORY }
         ensures { IfOk result (λ debugger. debugger ≡ opened scenario.now instrs.items) }
     {
-        let scenario = Rc::new(alloc, scenario.copy()?)?;
-        let machine = M::begin(alloc, Rc::clone(&scenario)?)?;
+        let scenario = Arc::new(alloc, scenario.copy()?)?;
+        let machine = M::begin(alloc, Arc::clone(&scenario)?)?;
         Ok(Debugger {
             alloc,
             scenario,
@@ -157,7 +157,7 @@ impl<M: Machine> Debugger<M> {
         ensures ok { OnOk result (self.new ≡ record self.old { position = 0 }) }
         ensures err { OnErr result (self.new ≡ self.old) }
     {
-        let fresh = M::begin(self.alloc, Rc::clone(&self.scenario)?)?;
+        let fresh = M::begin(self.alloc, Arc::clone(&self.scenario)?)?;
         let Debugger {
             machine,
             position,

@@ -9,7 +9,7 @@ use cmwq_table::{LoadError, Machine, View};
 use cmwq_types::{Instr, NoMemory, Reply, Scenario};
 use std::alloc::Global;
 use std::marker::Model;
-use std::rc::Rc;
+use std::sync::Arc;
 
 /// The machine that carries out the instruction table over these parts.
 ///
@@ -45,7 +45,7 @@ impl<P: Parts> Machine for Driven<P> {
     }
 
     #[tactic(auto, using(crate::proofs::StartLemmas::starts))]
-    fn begin(alloc: Global, scenario: Rc<Scenario>) -> Result<Self, NoMemory> {
+    fn begin(alloc: Global, scenario: Arc<Scenario>) -> Result<Self, NoMemory> {
         let going = Going::begin(alloc, scenario)?;
         Ok(Driven { going })
     }
@@ -75,7 +75,7 @@ impl<P: Parts> Driven<P> {
         ensures scenario { IfOk result (λ machine. machine.scenario ≡ scenario.now) }
         ensures state { IfOk result (λ machine. machine.state ≡ start scenario.now) }
     {
-        let shared = Rc::new(alloc, scenario.copy()?)?;
+        let shared = Arc::new(alloc, scenario.copy()?)?;
         Driven::begin(alloc, shared)
     }
 }

@@ -15,7 +15,7 @@ use cmwq_table::{FlushTarget, Pending, Running, View};
 use cmwq_types::{NoMemory, Place, Scenario};
 use std::alloc::Global;
 use std::marker::Model;
-use std::rc::Rc;
+use std::sync::Arc;
 
 /// A machine amid an instruction. Each of its works can be gone on from, whatever is done next.
 ///
@@ -40,7 +40,7 @@ impl<P: Parts> Model for Going<P> {
 impl<P: Parts> Going<P> {
     /// The start state of the scenario.
     #[tactic(auto, using(cmwq_table::proofs::ReadyLemmas::keeps_ready))]
-    pub(crate) fn begin(alloc: Global, scenario: Rc<Scenario>) -> Result<Self, NoMemory>
+    pub(crate) fn begin(alloc: Global, scenario: Arc<Scenario>) -> Result<Self, NoMemory>
         requires { IsSetting scenario.value }
         ensures { IfOk result (λ going. going ≡ record { scenario = scenario.value; state = start scenario.value }) }
     {

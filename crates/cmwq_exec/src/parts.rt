@@ -14,7 +14,7 @@ ghost use Rattle.std.specs.Prelude.{◌≡◌, ◌<◌, ◌+◌, ◌^◌, IfOk, 
 use cmwq_table::{FlushTarget, Pending, Running, View};
 use cmwq_types::{NoMemory, Place, Scenario};
 use std::alloc::Global;
-use std::rc::Rc;
+use std::sync::Arc;
 
 /// A machine's own structure: a loaded scenario and the state of its works, workers and flushes.
 ///
@@ -26,7 +26,7 @@ pub trait Parts: Drop {
     ghost held: { Self → Loaded };
 
     /// The start state of the scenario, with room for all that can come.
-    fn begin(alloc: Global, scenario: Rc<Scenario>) -> Result<Self, NoMemory>
+    fn begin(alloc: Global, scenario: Arc<Scenario>) -> Result<Self, NoMemory>
         requires { IsSetting scenario.value }
         ensures { IfOk result (λ parts. held parts ≡ record { scenario = scenario.value; state = start scenario.value }) };
 

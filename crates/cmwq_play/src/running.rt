@@ -18,7 +18,7 @@ use cmwq_plain::Plain;
 use cmwq_table::Machine;
 use cmwq_types::{Actor, Line, MAX_HISTORY, Scenario};
 use std::alloc::Global;
-use std::rc::Rc;
+use std::sync::Arc;
 
 /// Reads a scenario's text, issues its one actor's instructions on a machine, and writes the lines
 /// of the replies as they come, a block at a time.
@@ -84,8 +84,8 @@ fn load_and_play<W: Sink>(
     ensures writes { Writes (IsPrinted scenario) (W.contents writer.old) (W.contents writer.new) (W.failed writer.new) result }
     ensures why { IfErr result (λ error. IsSendError error) }
 {
-    let scenario = Rc::new(alloc, scenario)?;
-    let machine = Plain::begin(alloc, Rc::clone(&scenario)?)?;
+    let scenario = Arc::new(alloc, scenario)?;
+    let machine = Plain::begin(alloc, Arc::clone(&scenario)?)?;
     play(alloc, &scenario, &scenario.actors[0], machine, writer)
 }
 

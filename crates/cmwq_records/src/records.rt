@@ -13,7 +13,7 @@ use cmwq_table::{FlushTarget, Pending, Running, View};
 use cmwq_types::{MAX_WORKERS, Mode, NoMemory, Place, Scenario};
 use std::alloc::Global;
 use std::marker::Model;
-use std::rc::Rc;
+use std::sync::Arc;
 
 /// A loaded scenario and the whole state of the instruction table, as vectors. There is one entry for each
 /// queue, work, pool and worker of a pool, by its number from 0, and a vector keeps its length; the flushes
@@ -22,7 +22,7 @@ use std::rc::Rc;
 /// It is slow on purpose, the yardstick for every other structure.
 #[derive(Drop)]
 pub struct Records {
-    pub(crate) scenario: Rc<Scenario>,
+    pub(crate) scenario: Arc<Scenario>,
     time: u64,
     next: u64,
     spent: u32,
@@ -64,7 +64,7 @@ impl Model for Records {
 impl Parts for Records {
     ghost held = { λ r. r };
 
-    fn begin(alloc: Global, scenario: Rc<Scenario>) -> Result<Self, NoMemory> {
+    fn begin(alloc: Global, scenario: Arc<Scenario>) -> Result<Self, NoMemory> {
         let works = scenario.works.len();
         let pools = scenario.pool_count() as usize;
         let max = declared_max(alloc, &scenario.queues)?;
@@ -90,7 +90,7 @@ impl Parts for Records {
 
     fn copy(&self) -> Result<Self, NoMemory> {
         let alloc = *self.max.allocator();
-        let scenario = Rc::clone(&self.scenario)?;
+        let scenario = Arc::clone(&self.scenario)?;
         let max = Vec::from_slice(alloc, &self.max)?;
         let pending = Vec::from_slice(alloc, &self.pending)?;
         let running = Vec::from_slice(alloc, &self.running)?;

@@ -10,7 +10,7 @@ ghost use Rattle.std.specs.Prelude.{◌≡◌, IfOk};
 use crate::view::View;
 use cmwq_types::{Fault, Instr, NoMemory, Reply, Scenario};
 use std::alloc::{AllocError, Global};
-use std::rc::Rc;
+use std::sync::Arc;
 use thiserror::Error;
 
 /// Why a scenario wasn't loaded.
@@ -43,7 +43,7 @@ pub trait Machine: Drop {
 
     /// A machine in the start state of a scenario that is known to be valid, with room for all that can
     /// come. The scenario is shared, and isn't judged again.
-    fn begin(alloc: Global, scenario: Rc<Scenario>) -> Result<Self, NoMemory>
+    fn begin(alloc: Global, scenario: Arc<Scenario>) -> Result<Self, NoMemory>
         requires { IsValid scenario.value }
         ensures scenario { IfOk result (λ machine. loaded machine ≡ scenario.value) }
         ensures state { IfOk result (λ machine. state machine ≡ start scenario.value) };
