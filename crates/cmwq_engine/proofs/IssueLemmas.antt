@@ -1,5 +1,5 @@
 -- What a turn has done, by what it came to.
-use Rattle.std.proofs.Common.{◌≡◌, List, [], ◌∷◌, ◌++◌, length, Result, Ok, Err, IfOk, IfErr, inl, inr, sym, ap, ◌∙◌, arith, length-append}
+use Rattle.std.proofs.Common.{◌≡◌, ◌<◌, All, subst, List, [], ◌∷◌, ◌++◌, length, Result, Ok, Err, IfOk, IfErr, inl, inr, sym, ap, ◌∙◌, arith, length-append}
 use Rattle.std.proofs.lemmas.List.{append_cancel_left}
 use Rattle.cmwq_types.specs.declared.instr.Instr.{Instr}
 use Rattle.cmwq_lock.specs.Log.{BeginsWith, BothGrow}
@@ -38,3 +38,9 @@ module _ (from : Setting) (instr : Instr) (before : List Entry) (v w : EngineVie
   found_full (Ok receipt) grows told = tt
   found_full (Err full) (inl same) told = record { full = ap length told.0 ∙ told.1; mine = same.1 }
   found_full (Err full) (inr more) told = absurd (not_longer before (seen_of w) _ told.0 more.1)
+
+  -- and all entries are those of earlier turns
+  pub none_new : (outcome : Result Receipt Full) → All (λ (e : Entry). e.ticket < ticket_of v) before → Issued from instr before (seen_of w) (ticket_of v) (caller_of v) outcome
+      → IfErr outcome (λ full. All (λ (e : Entry). e.ticket < ticket_of v) (seen_of w))
+  none_new (Ok receipt) earlier told = tt
+  none_new (Err full) earlier told = subst (λ (l : List Entry). All (λ (e : Entry). e.ticket < ticket_of v) l) (sym told.0) earlier

@@ -53,7 +53,7 @@ impl<M: Machine> Engine<M> {
     }
 
     /// Carries out one instruction, enters it with its ticket, its caller and the reply, and answers the reply.
-    /// Refused instructions and questions are entered too.
+    /// Refused instructions and questions are entered too. The ticket has to be above all those in the history.
     ///
     /// `Full` exactly where the history has as many entries as there is room for; then nothing has changed.
     pub fn issue(&mut self, ticket: u64, caller: u32, instr: Instr) -> Result<Reply, Full>

@@ -160,6 +160,9 @@ impl<M: Machine> Shared<M> {
             receipt.ticket ≡ ticket_of (drawn_view drawn))) }
         ensures full { IfOk result (λ r. IfErr r.1 (λ _.
             HasFoundFull (setting_of self.now) (drawn_view drawn) (pass_view r.0))) }
+        // A turn that finds the history full leaves no entry: those there are of earlier turns.
+        ensures none_new { IfOk result (λ r. IfErr r.1 (λ _.
+            All (λ e. e.ticket < ticket_of (drawn_view drawn)) (seen_of (pass_view r.0)))) }
         ensures token_back { IfErr result (λ e. IsDrawnOf self.now e.drawn) }
         ensures knowledge_back { IfErr result
             (λ e. SameKnowledge (drawn_view drawn) (drawn_view e.drawn)) }
