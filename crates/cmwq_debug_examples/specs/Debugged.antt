@@ -1,8 +1,8 @@
 -- Worked examples of debugging: a scenario, instructions, commands, and what is said to each.
-use Rattle.std.specs.Prelude.{ℕ, List, [], ◌∷◌, Option, Some, None, Result, Ok, Err, codes, replicate, ◌++◌}
+use Rattle.std.specs.Prelude.{ℕ, List, [], ◌∷◌, Some, None, Result, Ok, Err, codes, replicate, ◌++◌}
 use Rattle.std.specs.List.{flat_map}
 use Rattle.cmwq_types.specs.Contents.{ScenarioContents}
-use Rattle.cmwq_types.specs.Scenario.{expand, expand_lines}
+use Rattle.cmwq_types.specs.Scenario.{expand}
 use Rattle.cmwq_types.specs.declared.instr.Instr.{Instr}
 use Rattle.cmwq_types.specs.declared.instr.Instr.TheVariants as instr
 use Rattle.cmwq_debug.specs.Debugging.{Answer, At, Broke, Cleared, Text, answers, opened}
@@ -12,8 +12,10 @@ use Rattle.cmwq_debug.specs.declared.command.DebugError.{DebugError}
 use Rattle.cmwq_debug.specs.declared.command.DebugError.TheVariants as error
 use Rattle.cmwq_debug.specs.declared.command.EventKind.{EventKind}
 use Rattle.cmwq_debug.specs.declared.command.EventKind.TheVariants as kind
-use Rattle.cmwq_examples.specs.Declare.{enqueue, times}
-use Rattle.cmwq_examples.specs.Rows.{queues_itself, text, three_works}
+use Rattle.cmwq_types.specs.Scenario.{plain_flags}
+use Rattle.cmwq_types.specs.declared.scenario.Op.TheVariants as op
+use Rattle.cmwq_examples.specs.Declare.{delay, queue, queues, scenario, times, work}
+use Rattle.cmwq_examples.specs.Rows.{text}
 
 -- what a debugger of these instructions says to the commands
 abbrev pub debugged : ScenarioContents → List Instr → List Command → List (Result Answer DebugError)
@@ -64,6 +66,37 @@ abbrev pub event_breaks_answers : List (Result Answer DebugError)
 event_breaks_answers =
     Ok (Broke 0) ∷ Ok (Broke 1) ∷ at_break 2 0 0 ∷ at_break 9 2 0 ∷ Ok (Cleared 0) ∷ at 8 2 ∷ at_break 9 2 1 ∷ Ok (Broke 0)
     ∷ at 2 0 ∷ at_break 6 1 0 ∷ []
+
+-- Work a, when its timer fires, queues b and finishes; b queues itself twice, so that it defers where it sleeps.
+
+abbrev pub each_event : ScenarioContents
+each_event =
+    scenario 1000 (queue (codes "q") 8 plain_flags ∷ [])
+    (work (codes "a") 0 (queues 1 ∷ op.Finish ∷ [])
+    ∷ work (codes "b") 0 (queues 1 ∷ queues 1 ∷ op.Burn 1 ∷ op.Sleep 1 ∷ op.Finish ∷ []) ∷ [])
+    (delay 0 1 ∷ times instr.Next 15 ∷ [])
+
+-- breaks on all that b does, and on what only a does: it fires, and finishes for good
+abbrev pub each_event_breaks : List Command
+each_event_breaks =
+    break_on 1 kind.Starts ∷ break_on 1 kind.Burns ∷ break_on 1 kind.Sleeps ∷ break_on 1 kind.Wakes ∷ break_on 0 kind.Finishes
+    ∷ break_on 1 kind.Defers ∷ break_on 0 kind.Fires ∷ break_on 1 kind.Queues
+    ∷ replicate 11 command.Run ++ command.Back 4 ∷ command.Step 3 ∷ command.Back 2 ∷ command.DumpPool 0 ∷ command.DumpPool 1 ∷ []
+
+-- b sleeps on the worker that a has left
+abbrev pub pool_0_at_13 : List ℕ
+pool_0_at_13 = text (codes "pool 0 counted 0 made 1 idle" ∷ codes "asleep b 0 4 3" ∷ codes "deferred b" ∷ [])
+
+abbrev pub pool_1_at_13 : List ℕ
+pool_1_at_13 = text (codes "pool 1 counted 0 made 0 idle" ∷ [])
+
+-- a starts at 4 and queues b at 5, where no run stops; b finds itself queued already at 9
+abbrev pub each_event_answers : List (Result Answer DebugError)
+each_event_answers =
+    Ok (Broke 0) ∷ Ok (Broke 1) ∷ Ok (Broke 2) ∷ Ok (Broke 3) ∷ Ok (Broke 4) ∷ Ok (Broke 5) ∷ Ok (Broke 6) ∷ Ok (Broke 7)
+    ∷ at_break 3 1 6 ∷ at_break 6 1 4 ∷ at_break 7 1 0 ∷ at_break 8 1 7 ∷ at_break 9 1 7 ∷ at_break 10 1 1 ∷ at_break 12 2 2
+    ∷ at_break 13 2 5 ∷ at_break 15 3 3 ∷ at_break 16 3 0 ∷ Err error.PastEnd ∷ at 12 2 ∷ at 15 3 ∷ at 13 2
+    ∷ Ok (Text pool_0_at_13) ∷ Ok (Text pool_1_at_13) ∷ []
 
 -- A refused instruction, a tick, and a refused instruction again.
 

@@ -7,7 +7,7 @@ use Rattle.cmwq_types.specs.declared.scenario.Line.{Line}
 use Rattle.cmwq_types.specs.declared.scenario.Op.TheVariants as op
 use Rattle.cmwq_table.specs.Table.{run}
 use Rattle.cmwq_dump.specs.Dump.{dump, pool_lines}
-use Rattle.cmwq_examples.specs.Declare.{delay, enqueue, flush, freezable, queue, queues, scenario, set_max, times, work}
+use Rattle.cmwq_examples.specs.Declare.{delay, delay_on, enqueue, flush, freezable, queue, queues, scenario, set_max, times, unbound, work}
 use Rattle.cmwq_examples.specs.Rows.{text}
 
 -- the dump of a scenario once these lines were carried out
@@ -48,3 +48,32 @@ many_kinds_dump =
 
 abbrev pub many_kinds_pool_1 : List ℕ
 many_kinds_pool_1 = text (codes "pool 1 counted 0 made 0 idle" ∷ [])
+
+-- Two CPUs: a and b run in the unbound pool, c and d sleep, and more; e, f and g share a queue of one.
+abbrev pub two_cpus : ScenarioContents
+two_cpus =
+    record
+    (scenario 1000
+    (queue (codes "q") 8 plain_flags ∷ queue (codes "u") 8 unbound ∷ queue (codes "i") 1 plain_flags ∷ [])
+    (work (codes "a") 1 (op.Burn 7 ∷ op.Finish ∷ []) ∷ work (codes "b") 1 (op.Burn 5 ∷ op.Finish ∷ [])
+    ∷ work (codes "c") 0 (op.Sleep 9 ∷ op.Finish ∷ []) ∷ work (codes "d") 0 (op.Sleep 9 ∷ op.Finish ∷ [])
+    ∷ work (codes "e") 2 (op.Finish ∷ []) ∷ work (codes "f") 2 (op.Finish ∷ []) ∷ work (codes "g") 2 (op.Finish ∷ [])
+    ∷ work (codes "h") 0 (op.Finish ∷ []) ∷ work (codes "j") 0 (op.Finish ∷ []) ∷ work (codes "k") 0 (op.Finish ∷ []) ∷ []) [])
+    { cpus = 2 }
+
+-- each group's later works come first; d and c are queued again while they sleep, and j's timer is set first
+abbrev pub two_cpus_lines : List Line
+two_cpus_lines =
+    enqueue 3 0 ∷ enqueue 2 0 ∷ enqueue 1 0 ∷ enqueue 0 1 ∷ times instr.Next 9 ∷ enqueue 3 0 ∷ enqueue 2 1
+    ∷ times instr.Next 2 ∷ enqueue 7 1 ∷ enqueue 6 1 ∷ enqueue 5 1 ∷ enqueue 4 1 ∷ delay_on 8 0 9 ∷ delay_on 9 1 5 ∷ []
+
+-- all stand in the order of their stamps, the sleepers too, which wake together; k's timer runs out before j's
+abbrev pub two_cpus_dump : List ℕ
+two_cpus_dump =
+    text (
+    codes "now 1 spent 23 frozen no" ∷ codes "queue q max 8" ∷ codes "queue u max 8" ∷ codes "queue i max 1" ∷
+    codes "pool 0 counted 0 made 2 idle" ∷ codes "asleep d 0 1 9" ∷ codes "asleep c 1 1 9" ∷ codes "deferred d" ∷
+    codes "deferred c" ∷ codes "pool 1 counted 0 made 0 idle" ∷
+    codes "pool 2 counted 0 made 0 idle" ∷ codes "listed h" ∷ codes "listed g" ∷ codes "inactive f" ∷ codes "inactive e" ∷
+    codes "pool 3 counted 0 made 0 idle" ∷ codes "pool 4 counted 0 made 2 idle" ∷ codes "run b 0 1 4" ∷
+    codes "run a 1 1 6" ∷ codes "pool 5 counted 0 made 0 idle" ∷ codes "timer k 1 6" ∷ codes "timer j 0 10" ∷ [])

@@ -2,8 +2,8 @@
 //! one dump reads, or what is said to some commands. No other crate stands on this one.
 #![tactic(auto)]
 
-ghost use Rattle.cmwq_debug_examples.specs.Debugged.{debugged, event_breaks, event_breaks_answers, instrs_of, many_breaks, many_breaks_answers, refusal_breaks, refusal_breaks_answers, refusals, there_and_back, there_and_back_answers};
-ghost use Rattle.cmwq_debug_examples.specs.Dumps.{dumped, many_kinds, many_kinds_dump, many_kinds_lines, many_kinds_pool_1, pool_dumped};
+ghost use Rattle.cmwq_debug_examples.specs.Debugged.{debugged, each_event, each_event_answers, each_event_breaks, event_breaks, event_breaks_answers, instrs_of, many_breaks, many_breaks_answers, refusal_breaks, refusal_breaks_answers, refusals, there_and_back, there_and_back_answers};
+ghost use Rattle.cmwq_debug_examples.specs.Dumps.{dumped, many_kinds, many_kinds_dump, many_kinds_lines, many_kinds_pool_1, pool_dumped, two_cpus, two_cpus_dump, two_cpus_lines};
 ghost use Rattle.cmwq_examples.specs.Rows.{queues_itself, three_works};
 ghost use Rattle.cmwq_types.specs.Faults.{IsValid};
 ghost use Rattle.std.specs.Prelude.{◌≡◌, []};
@@ -19,6 +19,12 @@ pub fn dump_of_a_pool_is_its_part()
     ensures { pool_dumped many_kinds many_kinds_lines 1 ≡ many_kinds_pool_1 }
 {}
 
+/// A dump of two CPUs and the unbound pools: the works of each group stand by what the format says, not by their numbers,
+/// and a timer has its CPU.
+pub fn dump_keeps_each_order()
+    ensures { dumped two_cpus two_cpus_lines ≡ two_cpus_dump }
+{}
+
 /// The kernel document's scenario: at position 12 one work burns, one sleeps and one waits. What is refused leaves
 /// the debugger where it stands.
 pub fn debugger_goes_there_and_back()
@@ -31,6 +37,12 @@ pub fn lowest_break_is_said()
     ensures { debugged queues_itself (instrs_of queues_itself) event_breaks ≡ event_breaks_answers }
 {}
 
+/// A break on each kind of event stops a run at its work's event, and at no other work's; from there on, steps are counted
+/// and pools are dumped.
+pub fn each_kind_of_event_is_met()
+    ensures { debugged each_event (instrs_of each_event) each_event_breaks ≡ each_event_answers }
+{}
+
 /// A break on a time is for the instruction that makes the time so, never for one that is refused then.
 pub fn refused_instruction_makes_no_time()
     ensures { debugged queues_itself refusals refusal_breaks ≡ refusal_breaks_answers }
@@ -41,7 +53,9 @@ pub fn seventeenth_break_is_refused()
     ensures { debugged queues_itself [] many_breaks ≡ many_breaks_answers }
 {}
 
-/// The scenario of the first example is valid.
-pub fn many_kinds_is_valid()
-    ensures { IsValid many_kinds }
+/// The scenarios that stand here are valid.
+pub fn scenarios_are_valid()
+    ensures many_kinds { IsValid many_kinds }
+    ensures two_cpus { IsValid two_cpus }
+    ensures each_event { IsValid each_event }
 {}
