@@ -5,20 +5,22 @@ use crate::telling::{GOOD, tell};
 use cmwq_play::{Marked, PlayError};
 use cmwq_words::request::{Request, parse};
 use std::fs::File;
-use std::io::Write;
+use std::io::{Read, Write};
 use std::rt::Files;
 
-/// Does what the words ask, of which the first is the program's name, and gives the exit status. Events,
-/// listings and help go to `output`, and usage faults to `errors`.
-pub fn carry_out<R: Files + AllocGlobal, O: Write + Drop, E: Write + Drop>(
+/// Does what the words ask, of which the first is the program's name, and gives the exit status. Commands of a
+/// debugger come from `input`. Events, listings, what a debugger says and help go to `output`, and usage faults to
+/// `errors`.
+pub fn carry_out<R: Files + AllocGlobal, I: Read + Drop, O: Write + Drop, E: Write + Drop>(
     rt: &R,
     words: &[String],
+    input: I,
     output: O,
     errors: E,
 ) -> Result<u8, PlayError> {
     match parse(rt.alloc(), words) {
         Ok(request) => {
-            answer(rt, output, request)?;
+            answer(rt, input, output, request)?;
             Ok(GOOD)
         }
         Err(error) => {
@@ -29,9 +31,11 @@ pub fn carry_out<R: Files + AllocGlobal, O: Write + Drop, E: Write + Drop>(
     }
 }
 
-/// Does what is asked. Events and listings go to the writer.
-pub fn answer<R: Files + AllocGlobal, W: Write + Drop>(
+/// Does what is asked. Commands of a debugger come from the input. Events, listings and what a debugger says go to the
+/// writer.
+pub fn answer<R: Files + AllocGlobal, I: Read + Drop, W: Write + Drop>(
     rt: &R,
+    input: I,
     writer: W,
     request: Request<'_>,
 ) -> Result<(), PlayError> {
@@ -40,6 +44,7 @@ pub fn answer<R: Files + AllocGlobal, W: Write + Drop>(
         Request::List { file } => list(rt, writer, file),
         Request::Asm { file, out } => asm(rt, file, out),
         Request::Show { image } => show(rt, writer, image),
+        Request::Debug { file } => debug(rt, input, writer, file),
     }
 }
 
@@ -83,6 +88,20 @@ fn show<R: Files + AllocGlobal, W: Write + Drop>(
     let mut reader = opened(rt, image)?;
     let mut writer = Marked::new(writer);
     cmwq_play::from_image(rt.alloc(), &mut reader, &mut writer)
+}
+
+/// Debugs the scenario whose text is in the file, by the commands of the input, and writes what is said to each.
+fn debug<R: Files + AllocGlobal, I: Read + Drop, W: Write + Drop>(
+    rt: &R,
+    input: I,
+    writer: W,
+    file: &str,
+) -> Result<(), PlayError> {
+    let mut reader = opened(rt, file)?;
+    let scenario = cmwq_play::read_text(rt.alloc(), &mut reader)?;
+    let mut commands = Marked::new(input);
+    let mut writer = Marked::new(writer);
+    cmwq_play::debug(rt.alloc(), &scenario, &mut commands, &mut writer)
 }
 
 /// The file, opened to be read.

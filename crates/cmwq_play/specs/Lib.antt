@@ -6,3 +6,4 @@ pub mod Sending
 pub mod Session
 pub mod Stream
 pub mod Texts
+pub mod Told

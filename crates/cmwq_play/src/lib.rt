@@ -2,6 +2,7 @@
 #![tactic(auto)]
 
 mod block_writer;
+mod debugging;
 mod error;
 mod images;
 mod listing;
@@ -12,6 +13,7 @@ mod session;
 mod stream;
 
 pub use block_writer::BlockWriter;
+pub use debugging::debug;
 pub use error::PlayError;
 pub use images::{from_image, to_image};
 pub use listing::list_text;

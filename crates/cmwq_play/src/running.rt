@@ -44,7 +44,7 @@ pub fn run<R: Source, W: Sink>(
 }
 
 /// Judges whether the scenario can be run: it has exactly one actor, of no more than 1,048,576 instructions.
-fn judge(scenario: &Scenario) -> Result<(), PlayError>
+pub(crate) fn judge(scenario: &Scenario) -> Result<(), PlayError>
     ensures can { OnOk result (CanRun scenario.now) }
     ensures refused { IfErr result (λ error. IsRefused scenario.now error) }
 {

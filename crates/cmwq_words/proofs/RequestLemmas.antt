@@ -24,6 +24,11 @@ plain_show : (name : Text) (first : ℕ) (rest : Text) → (first == 45) ≡ fal
 unfolding clap_on_literals
 plain_show name first rest e = (rw e (rw e refl), rw e (rw e refl))
 
+plain_debug : (name : Text) (first : ℕ) (rest : Text) → (first == 45) ≡ false
+    → IsRead (name ∷ codes "debug" ∷ (first ∷ rest) ∷ []) (codes "debug" ∷ (first ∷ rest) ∷ [])
+unfolding clap_on_literals
+plain_debug name first rest e = (rw e (rw e refl), rw e (rw e refl))
+
 plain_asm : (name : Text) (first : ℕ) (rest : Text) (head : ℕ) (tail : Text) → (first == 45) ≡ false → (head == 45) ≡ false
     → IsRead (name ∷ codes "asm" ∷ (first ∷ rest) ∷ (head ∷ tail) ∷ []) (codes "asm" ∷ (first ∷ rest) ∷ (head ∷ tail) ∷ [])
 unfolding clap_on_literals
@@ -43,6 +48,10 @@ list_read words name file are (first, rest, is, plain) = rw (are, is) (plain_lis
 pub show_read : (words : List Text) (name image : Text) → words ≡ name ∷ codes "show" ∷ image ∷ [] → IsPlainWord image
     → IsRead words (codes "show" ∷ image ∷ [])
 show_read words name image are (first, rest, is, plain) = rw (are, is) (plain_show name first rest (no_hyphen first plain))
+
+pub debug_read : (words : List Text) (name file : Text) → words ≡ name ∷ codes "debug" ∷ file ∷ [] → IsPlainWord file
+    → IsRead words (codes "debug" ∷ file ∷ [])
+debug_read words name file are (first, rest, is, plain) = rw (are, is) (plain_debug name first rest (no_hyphen first plain))
 
 pub asm_read : (words : List Text) (name file out : Text) → words ≡ name ∷ codes "asm" ∷ file ∷ out ∷ [] → IsPlainWord file
     → IsPlainWord out → IsRead words (codes "asm" ∷ file ∷ out ∷ [])

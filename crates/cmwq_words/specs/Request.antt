@@ -5,7 +5,7 @@ use Rattle.clap.specs.Words.{App, Row, Rule, Text, first_of, kind_of, new_app, n
 use Rattle.clap.specs.declared.error.Error.{Error}
 use Rattle.clap.specs.declared.error.kind.ErrorKind.TheVariants.{OutOfMemory}
 use Rattle.cmwq_words.specs.declared.request.Request.{Request}
-use Rattle.cmwq_words.specs.declared.request.Request.TheVariants.{Run, List as list, Asm, Show}
+use Rattle.cmwq_words.specs.declared.request.Request.TheVariants.{Run, List as list, Asm, Show, Debug}
 
 -- an argument that has to be given
 abbrev pub required_rule : Text → Rule
@@ -22,7 +22,7 @@ program =
       top = record (new_app (codes "cmwq")).top { arg_required_else_help = true; subcommand_required = true };
     }
 
--- `run FILE`, `list FILE`, `asm FILE OUT` and `show IMAGE`
+-- `run FILE`, `list FILE`, `asm FILE OUT`, `show IMAGE` and `debug FILE`
 abbrev pub run_command : App
 run_command = command_on (codes "run") (codes "FILE")
 
@@ -35,11 +35,16 @@ asm_command = with_rule (command_on (codes "asm") (codes "FILE")) (required_rule
 abbrev pub show_command : App
 show_command = command_on (codes "show") (codes "IMAGE")
 
+abbrev pub debug_command : App
+debug_command = command_on (codes "debug") (codes "FILE")
+
 -- the program with its commands
 abbrev pub command_line : App
 command_line =
-    with_subcommand (with_subcommand (with_subcommand (with_subcommand program run_command.top) list_command.top) asm_command.top)
-    show_command.top
+    with_subcommand
+    (with_subcommand (with_subcommand (with_subcommand (with_subcommand program run_command.top) list_command.top) asm_command.top)
+    show_command.top)
+    debug_command.top
 
 -- the words that ask for it
 abbrev pub words_of : Request → List Text
@@ -47,6 +52,7 @@ words_of (Run file) = codes "run" ∷ file.now ∷ []
 words_of (list file) = codes "list" ∷ file.now ∷ []
 words_of (Asm file out) = codes "asm" ∷ file.now ∷ out.now ∷ []
 words_of (Show image) = codes "show" ∷ image.now ∷ []
+words_of (Debug file) = codes "debug" ∷ file.now ∷ []
 
 -- the words of the request, where clap met this command with these values
 abbrev pub one_value : Text → Text → List Row → Option (List Text)
@@ -62,6 +68,7 @@ asked_in met =
     else if bytes_eq met.0 (codes "list") then one_value (codes "list") (codes "FILE") met.1
     else if bytes_eq met.0 (codes "asm") then two_values (codes "asm") (codes "FILE") (codes "OUT") met.1
     else if bytes_eq met.0 (codes "show") then one_value (codes "show") (codes "IMAGE") met.1
+    else if bytes_eq met.0 (codes "debug") then one_value (codes "debug") (codes "FILE") met.1
     else None
 
 abbrev pub asked_of : Option (Text × List Row) → Option (List Text)

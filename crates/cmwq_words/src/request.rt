@@ -34,6 +34,11 @@ pub enum Request<'a> {
         /// The image's path.
         image: &'a str,
     },
+    /// Debug the scenario whose text is in this file.
+    Debug {
+        /// The text's path.
+        file: &'a str,
+    },
 }
 
 /// What follows the help.
@@ -43,8 +48,9 @@ Examples:
   cmwq list scenarios/max_active_3.cmwq
   cmwq asm scenarios/max_active_3.cmwq max_active_3.image
   cmwq show max_active_3.image
+  cmwq debug scenarios/max_active_3.cmwq
 
-The formats of scenarios and images, and what each fault means, are in docs/FORMATS.md.
+The formats of scenarios and images, the debugger's commands, and what each fault means, are in docs/FORMATS.md.
 
 Exit status:
   0  the command did what it was asked
@@ -67,6 +73,8 @@ pub fn parse<'a>(alloc: Global, words: &'a [String]) -> Result<Request<'a>, Erro
         → IsPlainWord file → IsPlainWord out → Asks (codes "asm" ∷ file ∷ out ∷ []) result }
     ensures show { (name image : Text) → map string_bytes words.entry.now ≡ name ∷ codes "show" ∷ image ∷ []
         → IsPlainWord image → Asks (codes "show" ∷ image ∷ []) result }
+    ensures debug { (name file : Text) → map string_bytes words.entry.now ≡ name ∷ codes "debug" ∷ file ∷ []
+        → IsPlainWord file → Asks (codes "debug" ∷ file ∷ []) result }
 {
     let mut command = command(alloc)?;
     request_met(&mut command, words)
@@ -128,6 +136,10 @@ fn request_by<'a>(name: &str, given: &ArgMatches<'a>) -> Option<Request<'a>>
             let image = value_of(given, "IMAGE")?;
             Some(Request::Show { image })
         }
+        "debug" => {
+            let file = value_of(given, "FILE")?;
+            Some(Request::Debug { file })
+        }
         _ => None,
     }
 }
@@ -142,6 +154,19 @@ fn value_of<'a>(given: &ArgMatches<'a>, id: &str) -> Option<&'a str>
 /// The command line of the program.
 fn command<'a>(alloc: Global) -> Result<Command<'a>, AllocError>
     ensures { IfOk result (λ r. app_of r ≡ command_line) }
+{
+    let commands = commands_on_files(alloc)?;
+    let debug = on_text(
+        alloc,
+        "debug",
+        "Carries out commands of standard input on a scenario's run, forwards and back",
+    )?;
+    commands.subcommand(debug)
+}
+
+/// The program with the commands that read nothing but a file.
+fn commands_on_files<'a>(alloc: Global) -> Result<Command<'a>, AllocError>
+    ensures { IfOk result (λ r. app_of r ≡ with_subcommand (with_subcommand (with_subcommand (with_subcommand program run_command.top) list_command.top) asm_command.top) show_command.top) }
 {
     let commands = commands_on_texts(alloc)?;
     let show = show_command(alloc)?;

@@ -1,0 +1,61 @@
+-- What a debugging session has said to the commands that it heard.
+use Rattle.std.specs.Prelude.{◌≡◌, ◌≤◌, ℕ, List, ◌++◌, length, take, drop, false, Option, IfSome, ◌==◌}
+use Rattle.std.specs.Io.KnownBytes.{Appends, Consumes}
+use Rattle.std.specs.List.{All}
+use Rattle.cmwq_types.specs.Contents.{ActorContents, ScenarioContents}
+use Rattle.cmwq_types.specs.Scenario.{expand}
+use Rattle.cmwq_types.specs.declared.limits.TheConstants.{MAX_TEXT}
+use Rattle.cmwq_grammar.specs.Cutting.{lines_of}
+use Rattle.cmwq_debug.specs.Debugging.{Session, opened}
+use Rattle.cmwq_debug_lines.specs.Talk.{debugged, lines_said}
+use Rattle.cmwq_play.specs.Runs.{IsRunOf}
+use Rattle.cmwq_play.specs.Sending.{HasSentFront}
+use Rattle.cmwq_play.specs.declared.error.PlayError.{PlayError}
+use Rattle.cmwq_play.specs.declared.error.PlayError.TheVariants as errors
+
+-- To these bytes, which are whole lines, was written what a debugger at d says; then it stands at e. So it goes on from
+-- there, whatever lines come.
+abbrev pub Told : Option (List ℕ) → Option (List ℕ) → ScenarioContents → Session → List ℕ → Session → Type 0
+Told before after S d lines e =
+    (said : List ℕ) × Appends before after said
+    × ((more : List ℕ) → lines_said S d (lines_of (lines ++ more)) ≡ said ++ lines_said S e (lines_of more))
+
+-- of what it says to these bytes, whatever comes behind them, a front was written
+abbrev pub ToldFront : Option (List ℕ) → Option (List ℕ) → ScenarioContents → Session → List ℕ → Type 0
+ToldFront before after S d bytes = (more : List ℕ) → HasSentFront before after (lines_said S d (lines_of (bytes ++ more)))
+
+abbrev pub HasNoLine : List ℕ → Type 0
+HasNoLine bytes = All (λ byte. (byte == 10) ≡ false) bytes
+
+-- Between two reads: this text was heard, and each whole line of it has been answered. No line is begun and ended behind
+-- the place up to which that was done.
+pub record IsAnswered (input left before after : Option (List ℕ)) (S : ScenarioContents) (d : Session) (text : List ℕ) (done : ℕ) (e : Session) : Type 0 where
+  pub heard : Consumes input left text
+  pub short : length text ≤ MAX_TEXT
+  pub within : done ≤ length text
+  pub told : Told before after S d (take done text) e
+  pub begun : HasNoLine (drop done text)
+
+-- what was read has been answered, line by line
+abbrev pub HasAnswered : (input left before after : Option (List ℕ)) → ScenarioContents → Session → Type 0
+HasAnswered input left before after S d = (text : List ℕ) × (done : ℕ) × (e : Session) × IsAnswered input left before after S d text done e
+
+-- what a talk may end early for
+abbrev pub IsTalkError : PlayError → Type 0
+IsTalkError errors.Read = Unit {0}
+IsTalkError errors.Write = Unit {0}
+IsTalkError errors.TooLong = Unit {0}
+IsTalkError errors.NoMemory = Unit {0}
+IsTalkError error = ⊥
+
+-- The scenario can be debugged, and to the input, where it is known, was said what is to be said.
+abbrev pub IsTold : (input before after : Option (List ℕ)) → ScenarioContents → Type 0
+IsTold input before after S = (actor : ActorContents) × IsRunOf S actor × IfSome input (λ bytes. Appends before after (debugged S (expand actor) bytes))
+
+-- of what is to be said to the input, where it is known, a front was said
+abbrev pub IsFrontTold : (input before after : Option (List ℕ)) → ScenarioContents → Type 0
+IsFrontTold input before after S = (actor : ActorContents) → IsRunOf S actor → IfSome input (λ bytes. HasSentFront before after (debugged S (expand actor) bytes))
+
+-- what was read has been answered, on a debugger of the one actor's instructions
+abbrev pub IsTalked : (input left before after : Option (List ℕ)) → ScenarioContents → Type 0
+IsTalked input left before after S = (actor : ActorContents) → IsRunOf S actor → HasAnswered input left before after S (opened S (expand actor))
