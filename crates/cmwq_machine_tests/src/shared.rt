@@ -1,6 +1,8 @@
 //! Shared engines over `Plain`: what no clause says of them, that their calls succeed, for one thread and for two.
 ghost use Rattle.std.specs.Prelude.{◌≡◌, ◌≤◌};
 ghost use Rattle.cmwq_types.specs.declared.limits.TheConstants.{MAX_HISTORY};
+ghost use Rattle.cmwq_lock.specs.Tokens.{opener_view};
+ghost use Rattle.cmwq_lock.specs.Views.{next_of};
 ghost use Rattle.cmwq_engine.specs.Shared.{IsDrawnOf, IsOpenerOf, IsPassOf};
 
 use crate::checking::same;
@@ -26,12 +28,10 @@ const B: WorkId = WorkId(1);
 const QUEUE_A: Instr = Instr::Queue(A, 0);
 
 /// A work that waits on pool 0's worklist, and doesn't run.
-const LISTED: Reply = Reply::Found(
-    WorkState {
-        place: Some(Place::Listed(0)),
-        run: None,
-    },
-);
+const LISTED: Reply = Reply::Found(WorkState {
+    place: Some(Place::Listed(0)),
+    run: None,
+});
 
 fn receipt(ticket: u64, place: u32, reply: Reply) -> Receipt {
     Receipt {
@@ -41,20 +41,39 @@ fn receipt(ticket: u64, place: u32, reply: Reply) -> Receipt {
     }
 }
 
+/// A shared engine with room for so many entries, and its opener.
+fn opened(
+    rt: &impl Abort,
+    alloc: Global,
+    text: &[u8],
+    capacity: u32,
+) -> (Shared<Plain>, Opener<Engine<Plain>>)
+    requires { capacity ≤ MAX_HISTORY }
+    ensures opener { IsOpenerOf result.0 result.1 }
+    ensures first { next_of (opener_view result.1) ≡ 0 }
+{
+    let scenario = scenario(rt, alloc, text);
+    Shared::open(alloc, &scenario, capacity).expect(rt, "memory is left")
+}
+
 /// A shared engine with room for so many entries, and its first two passes.
 fn with_two_passes(
     rt: &impl Abort,
     alloc: Global,
     text: &[u8],
     capacity: u32,
-) -> (Shared<Plain>, Opener<Engine<Plain>>, Pass<Engine<Plain>>, Pass<Engine<Plain>>)
+) -> (
+    Shared<Plain>,
+    Opener<Engine<Plain>>,
+    Pass<Engine<Plain>>,
+    Pass<Engine<Plain>>,
+)
     requires { capacity ≤ MAX_HISTORY }
     ensures opener { IsOpenerOf result.0 result.1 }
     ensures first { IsPassOf result.0 result.2 }
     ensures second { IsPassOf result.0 result.3 }
 {
-    let scenario = scenario(rt, alloc, text);
-    let (shared, mut opener) = Shared::open(alloc, &scenario, capacity).expect(rt, "memory is left");
+    let (shared, mut opener) = opened(rt, alloc, text, capacity);
     let first = shared.pass(&mut opener).expect(rt, "no pass is out");
     let second = shared.pass(&mut opener).expect(rt, "one pass is out");
     (shared, opener, first, second)
@@ -175,7 +194,13 @@ fn two_callers_issue_in_the_order_of_their_tickets(rt: HostRuntime) {
     let d0 = drawn_by(&rt, &shared, p0);
     let d1 = drawn_by(&rt, &shared, p1);
     let d1 = not_yet_issued(&rt, &shared, d1, QUEUE_A, (1, 0));
-    let p0 = issued(&rt, &shared, d0, Instr::Tick, Ok(receipt(0, 0, Reply::Done)));
+    let p0 = issued(
+        &rt,
+        &shared,
+        d0,
+        Instr::Tick,
+        Ok(receipt(0, 0, Reply::Done)),
+    );
     let p1 = issued(&rt, &shared, d1, QUEUE_A, Ok(receipt(1, 1, Reply::Queued)));
     let d0 = drawn_by(&rt, &shared, p0);
     let p0 = issued(&rt, &shared, d0, Instr::State(A), Ok(receipt(2, 2, LISTED)));
@@ -190,7 +215,13 @@ fn two_callers_issue_in_the_order_of_their_tickets(rt: HostRuntime) {
 fn a_caller_issues_on_after_a_meeting(rt: HostRuntime) {
     let (shared, _opener, p0, p1) = with_two_passes(&rt, rt.alloc(), ONE_WORK, 4);
     let d0 = drawn_by(&rt, &shared, p0);
-    let p0 = issued(&rt, &shared, d0, Instr::Tick, Ok(receipt(0, 0, Reply::Done)));
+    let p0 = issued(
+        &rt,
+        &shared,
+        d0,
+        Instr::Tick,
+        Ok(receipt(0, 0, Reply::Done)),
+    );
     let d1 = drawn_by(&rt, &shared, p1);
     let p1 = issued(&rt, &shared, d1, QUEUE_A, Ok(receipt(1, 1, Reply::Queued)));
     let (p0, _p1) = shared.meet(p0, p1);
@@ -200,11 +231,18 @@ fn a_caller_issues_on_after_a_meeting(rt: HostRuntime) {
 
 #[test]
 fn refuses_a_pass_while_64_callers_are_out(rt: HostRuntime) {
-    let (shared, mut opener, _p0, _p1) = with_two_passes(&rt, rt.alloc(), ONE_WORK, 3);
-    for _ in 2u64..64 {
-        let _stays_out = shared.pass(&mut opener).expect(&rt, "fewer than 64 are out");
+    let (shared, mut opener) = opened(&rt, rt.alloc(), ONE_WORK, 3);
+    for _ in 0u64..64 {
+        let _stays_out = shared
+            .pass(&mut opener)
+            .expect(&rt, "fewer than 64 are out");
     }
-    same(&rt, "64 passes out", shared.pass(&mut opener).is_err(), true);
+    same(
+        &rt,
+        "64 passes out",
+        shared.pass(&mut opener).is_err(),
+        true,
+    );
 }
 
 /// Whether the work that was asked for is pending.
@@ -274,7 +312,12 @@ fn both_see<R: Threads + Wait + Clock + Abort + Sync>(
         move || queue_and_see(rt, start, shared, one, A, B),
         move || queue_and_see(rt, start, shared, other, B, A),
     );
-    same(rt, "each sees the other's work", (first, second), (true, true));
+    same(
+        rt,
+        "each sees the other's work",
+        (first, second),
+        (true, true),
+    );
     (one, other)
 }
 
@@ -285,7 +328,12 @@ fn two_threads_see_each_others_work_pending_and_meet(rt: HostRuntime) {
     let (p0, p1) = shared.meet(p0, p1);
     let (p0, first) = shared.issue(&rt, p0, Instr::State(B));
     let (p1, second) = shared.issue(&rt, p1, Instr::State(A));
-    same(&rt, "both serve on", (is_pending(first), is_pending(second)), (true, true));
+    same(
+        &rt,
+        "both serve on",
+        (is_pending(first), is_pending(second)),
+        (true, true),
+    );
     let engine = closed(&rt, shared, opener, p0, p1);
     let last = engine.history().iter().rev().take(2);
     assert!(rt; last.map(|entry| entry.caller).eq([1, 0].iter().copied()));
