@@ -140,15 +140,14 @@ does d command.Run = runs d
 does d command.Dump = says d (Text (dump d.scenario (state_at d d.position)))
 does d (command.DumpPool pool) = dumps_pool d pool
 
--- The commands one after another: where the debugger stands then, and what was said to each.
+-- what is said to each of these, one after another, by what one of them does
+abbrev pub said_to_each : {A B : Type 0} → (Session → A → Session × B) → Session → List A → List B
+said_to_each one d [] = []
+said_to_each one d (x ∷ xs) = (one d x).1 ∷ said_to_each one (one d x).0 xs
 
-abbrev pub after_commands : Session → List Command → Session
-after_commands d [] = d
-after_commands d (c ∷ cs) = after_commands (does d c).0 cs
-
+-- what is said to the commands
 abbrev pub answers : Session → List Command → List (Result Answer DebugError)
-answers d [] = []
-answers d (c ∷ cs) = (does d c).1 ∷ answers (does d c).0 cs
+answers d commands = said_to_each does d commands
 
 -- what a value of `Said` says
 abbrev pub answer_of : Said → Answer

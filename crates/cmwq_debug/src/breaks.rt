@@ -6,7 +6,7 @@ use crate::command::EventKind;
 use cmwq_types::{Event, Reply, WorkId};
 
 /// The most breaks at once.
-pub(crate) const MAX_BREAKS: usize = 16;
+pub const MAX_BREAKS: usize = 16;
 
 /// What a run stops at.
 #[derive(Clone, Copy, Debug)]

@@ -16,10 +16,10 @@ pub enum Command {
     /// queues.
     ///
     /// Refused, as `NoSuchWork`, where no work has the number, and then, as `TooManyBreaks`, where there
-    /// are sixteen breaks.
+    /// are [`crate::MAX_BREAKS`] breaks.
     BreakWork { work: WorkId, event: EventKind },
     /// Makes a break on the instruction that makes the time this tick. Refused, as `TooManyBreaks`, where
-    /// there are sixteen breaks.
+    /// there are [`crate::MAX_BREAKS`] breaks.
     BreakTime(u32),
     /// Makes a break on each refused instruction. Refused as `BreakTime` is.
     BreakRefusal,
@@ -90,7 +90,7 @@ pub enum DebugError {
     /// The list of instructions begins after.
     #[error("PastStart")]
     PastStart,
-    /// There are sixteen breaks.
+    /// There are [`crate::MAX_BREAKS`] breaks.
     #[error("TooManyBreaks")]
     TooManyBreaks,
     /// Memory ran out.

@@ -18,7 +18,7 @@ use std::marker::Model;
 use std::sync::Arc;
 
 /// A debugger over a scenario and a list of instructions: it stands at a position, which is how many of them
-/// have been carried out, and has up to sixteen breaks.
+/// have been carried out, and has up to [`MAX_BREAKS`] breaks.
 ///
 /// In the contracts it is a `Session`. Commands and answers are this project's own.
 #[derive(Drop)]
@@ -28,7 +28,7 @@ pub struct Debugger<M: Machine> {
     instrs: Vec<Instr>,
     machine: M,
     position: usize,
-    breaks: [Option<Break>; 16],
+    breaks: [Option<Break>; MAX_BREAKS],
 }
 
 impl<M: Machine> Model for Debugger<M> {
@@ -108,7 +108,7 @@ impl<M: Machine> Debugger<M> {
             instrs,
             machine,
             position: 0,
-            breaks: [None; 16],
+            breaks: [None; MAX_BREAKS],
         })
     }
 

@@ -6,5 +6,6 @@ mod command;
 mod debugger;
 mod moving;
 
+pub use breaks::MAX_BREAKS;
 pub use command::{Command, DebugError, EventKind, Said};
 pub use debugger::Debugger;

@@ -1,3 +1,4 @@
 pub mod AlikeLemmas
 pub mod MapLemmas
+pub mod Maps
 pub mod PictureLemmas

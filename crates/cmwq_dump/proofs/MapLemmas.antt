@@ -6,7 +6,7 @@ use Rattle.cmwq_types.specs.declared.instr.WorkId.{WorkId}
 use Rattle.cmwq_types.specs.declared.limits.TheConstants.{MAX_WORKERS}
 use Rattle.cmwq_table.specs.State.{seat}
 use Rattle.cmwq_table.specs.View.{entries_from, idle_from}
-use Rattle.cmwq_dump.specs.Maps.{idled_at, written_at}
+use Rattle.cmwq_dump.proofs.Maps.{idled_at, written_at}
 
 other : (n m : ℕ) → n < m → (n == m) ≡ false
 other n m less = grind (arith, nat_tests)

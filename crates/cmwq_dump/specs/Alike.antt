@@ -1,4 +1,4 @@
--- States that look alike: all that a machine shows is equal.
+-- States that look alike: all is equal but the next stamp, of which a dump tells nothing.
 use Rattle.std.specs.Prelude.{◌≡◌, ℕ}
 use Rattle.cmwq_table.specs.State.{State, idle_at, pending_at, running_at}
 

@@ -1,4 +1,3 @@
 pub mod Alike
 pub mod Dump
-pub mod Maps
 pub mod Order

@@ -14,7 +14,6 @@ use std::alloc::Global;
 /// worker pool with its workers and works, the timers, and each flush. The format is this project's own.
 ///
 /// A work that the scenario doesn't have isn't listed. The only error is want of memory.
-
 pub fn dump_text(alloc: Global, scenario: &Scenario, view: &View) -> Result<Vec<u8>, NoMemory>
     requires valid { IsValid scenario.now }
     ensures text { IfOk result (λ text. (s : State) → view.now ≡ view_of s → text.items ≡ dump scenario.now s) }
@@ -26,7 +25,9 @@ pub fn dump_text(alloc: Global, scenario: &Scenario, view: &View) -> Result<Vec<
 }
 
 /// The lines of one worker pool in that text, its own line and those of its works.
-
+///
+/// A machine has no workers and no works in a pool that its scenario doesn't have: then it is the line of a pool
+/// that has made no worker.
 pub fn pool_text(
     alloc: Global,
     scenario: &Scenario,

@@ -2,7 +2,7 @@ use Rattle.std.proofs.Common.{◌≡◌, ℕ, [], None, List, drop, rules, sym, 
 use Rattle.std.proofs.lemmas.Grind.{common_steps}
 use Rattle.std.specs.Prelude.{slice_index_or}
 use Rattle.cmwq_table.specs.declared.view.IdleWorker.{IdleWorker}
-use Rattle.cmwq_dump.specs.Maps.{idled_at}
+use Rattle.cmwq_dump.proofs.Maps.{idled_at}
 use Rattle.cmwq_dump.proofs.MapLemmas.{idled-is}
 use Rattle.cmwq_dump.proofs.entries.idle_map.Goals as goal
 

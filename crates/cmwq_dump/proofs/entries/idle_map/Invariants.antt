@@ -1,6 +1,6 @@
 use Rattle.std.proofs.Common.{◌≡◌, ℕ, None, drop}
 use Rattle.std.specs.Prelude.{slice_index_or}
-use Rattle.cmwq_dump.specs.Maps.{idled_at}
+use Rattle.cmwq_dump.proofs.Maps.{idled_at}
 use Rattle.cmwq_dump.proofs.entries.idle_map.Given as goal
 
 -- what is left makes the whole
