@@ -1,5 +1,5 @@
 -- The sorted one of some lists stays sorted.
-use Rattle.std.proofs.Common.{◌≡◌, ℕ, ◌<◌, List, [], arith, sym, ap, subst, ◌∙◌, inl, inr, length}
+use Rattle.std.proofs.Common.{◌≡◌, ℕ, ◌<◌, List, [], sym, ap, subst, ◌∙◌, inl, inr, length}
 use Rattle.std.proofs.lemmas.Bool.{cases_eq}
 use Rattle.std.proofs.lemmas.List.{get_or-set_same, get_or-set_other}
 use Rattle.cmwq_lists.specs.Contents.{Contents, Entry, IsSorted, list_at, with_list}
