@@ -1,7 +1,6 @@
 -- States that look alike have the same dump.
-use Rattle.std.proofs.Common.{◌≡◌, ℕ, ◌+◌, Bool, not, ◌&&◌, ◌||◌, List, [], ◌∷◌, ◌++◌, length, Option, cond, refl, sym, ap, ◌∙◌, nat_lt, codes}
+use Rattle.std.proofs.Common.{◌≡◌, ℕ, Bool, not, ◌&&◌, ◌||◌, List, [], ◌∷◌, ◌++◌, length, Option, cond, refl, ap, ◌∙◌, nat_lt, codes}
 use std.Path.{fun_ext}
-use Rattle.std.specs.Fmt.{decimal}
 use Rattle.std.specs.List.{flat_map}
 use Rattle.std.specs.Prelude.{◌==◌, is_some}
 use Rattle.cmwq_types.specs.Contents.{ScenarioContents}
@@ -9,7 +8,7 @@ use Rattle.cmwq_types.specs.First.{by_greatest, by_least, by_least_two, count_be
 use Rattle.cmwq_types.specs.Places.{is_active, is_deferred, is_inactive, is_listed, is_placed, is_runnable}
 use Rattle.cmwq_types.specs.Scenario.{flags_at, is_unbound, pool_count, queue_of}
 use Rattle.cmwq_table.specs.Counts.{counted, idle_stamp, is_done, pending_due, pending_stamp, pends, placed_born, running_stamp, running_until, runs}
-use Rattle.cmwq_table.specs.State.{State, idle_at, pending_at, running_at}
+use Rattle.cmwq_table.specs.State.{State, pending_at, running_at}
 use Rattle.cmwq_table.specs.Table.{target_at}
 use Rattle.cmwq_table.specs.declared.state.FlushTarget.{FlushTarget}
 use Rattle.cmwq_table.specs.declared.state.FlushTarget.TheVariants.{Instance, Queue, Nothing}
@@ -18,7 +17,7 @@ use Rattle.cmwq_table.specs.declared.state.Running.{Running}
 use Rattle.cmwq_dump.specs.declared.group.Group.{Group}
 use Rattle.cmwq_dump.specs.declared.group.Group.TheVariants.{Running as runnable, Asleep as asleep, Listed as listed, Deferred as deferred, Inactive as inactive, Timed as timed}
 use Rattle.cmwq_dump.specs.Alike.{LooksLike}
-use Rattle.cmwq_dump.specs.Dump.{at_worker, clock_line, dump, flush_line, group_lines, idle_workers, left_of, named, pool_line, pool_lines, queue_line, spaced, timer_cpu, yes_or_no}
+use Rattle.cmwq_dump.specs.Dump.{at_worker, clock_line, dump, flush_line, group_lines, idle_workers, left_of, named, pool_line, pool_lines, queue_line, spaced, timer_cpu}
 use Rattle.cmwq_dump.specs.Order.{all_below, each_below}
 
 -- the works that pass and their texts, by what the map of pending works has

@@ -1,5 +1,5 @@
 -- What entries make of a map, read at one number.
-use Rattle.std.specs.Prelude.{ℕ, ◌+◌, ◌*◌, List, [], ◌∷◌, Option, Some, if◌then◌else◌, ◌==◌}
+use Rattle.std.specs.Prelude.{ℕ, List, [], ◌∷◌, Option, Some, if◌then◌else◌, ◌==◌}
 use Rattle.cmwq_types.specs.declared.instr.WorkId.{WorkId}
 use Rattle.cmwq_table.specs.State.{seat}
 use Rattle.cmwq_table.specs.declared.view.IdleWorker.{IdleWorker}

@@ -5,6 +5,7 @@ mod counts;
 mod dump;
 mod entries;
 mod group;
+pub mod laws;
 mod lines;
 mod picture;
 

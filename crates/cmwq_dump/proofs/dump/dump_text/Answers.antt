@@ -1,5 +1,4 @@
-use Rattle.std.proofs.Common.{rules, ◌≡◌, ◌∙◌, ap, List, ℕ}
-use Rattle.cmwq_table.specs.State.{State}
+use Rattle.std.proofs.Common.{rules, ◌≡◌, ◌∙◌, ap}
 use Rattle.cmwq_types.specs.Contents.{ScenarioContents}
 use Rattle.cmwq_dump.specs.Dump.{dump}
 use Rattle.cmwq_dump.proofs.AlikeLemmas.{dump-alike}
