@@ -6,6 +6,8 @@ mod command_lines;
 #[cfg(test)]
 mod commands;
 #[cfg(test)]
+mod debugging;
+#[cfg(test)]
 mod faults;
 #[cfg(test)]
 mod files;
