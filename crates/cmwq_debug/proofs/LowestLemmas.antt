@@ -1,5 +1,5 @@
 -- The lowest number that passes a test.
-use Rattle.std.proofs.Common.{◌≡◌, ℕ, suc, ◌+◌, ◌<◌, Bool, true, false, Option, Some, None, ap, ◌∙◌}
+use Rattle.std.proofs.Common.{◌≡◌, ℕ, suc, ◌<◌, Bool, true, false, Some, None, ap, ◌∙◌}
 use Rattle.cmwq_types.proofs.FirstLemmas.{by_least-order, first_below-from, first_below-none}
 use Rattle.cmwq_types.specs.First.{by_least, first_with}
 use Rattle.cmwq_debug.specs.Breaks.{lowest}

@@ -1,6 +1,6 @@
 -- What a debugger says: a fold over its commands, of a position and breaks. Each answer is read off the table's
 -- run over the first instructions of the list.
-use Rattle.std.specs.Prelude.{◌≡◌, ◌⊎◌, ◌≤◌, ℕ, ◌+◌, ◌-◌, Bool, ◌&&◌, List, [], ◌∷◌, length, map, replicate, take, Option, Some, None, Result, Ok, Err, if◌then◌else◌, is_some, nat_le, nat_lt, ◌==◌, slice_index_or, slice_set}
+use Rattle.std.specs.Prelude.{◌≡◌, ◌⊎◌, ◌≤◌, ℕ, ◌+◌, ◌-◌, ◌&&◌, List, [], ◌∷◌, length, replicate, take, Option, Some, None, Result, Ok, Err, if◌then◌else◌, is_some, nat_le, nat_lt, slice_index_or, slice_set}
 use Rattle.cmwq_types.specs.Contents.{ScenarioContents}
 use Rattle.cmwq_types.specs.Faults.{first_fault, IsValid}
 use Rattle.cmwq_types.specs.Scenario.{pool_count}

@@ -1,4 +1,4 @@
-use Rattle.std.proofs.Common.{◌≡◌, ℕ, Bool, ◌∙◌, arith, length, rules, sym, true}
+use Rattle.std.proofs.Common.{◌≡◌, ℕ, Bool, length, rules, sym, true}
 use Rattle.std.specs.Prelude.{is_none}
 use Rattle.cmwq_debug.specs.Breaks.{break_at}
 use Rattle.cmwq_debug.proofs.LowestLemmas.{lowest-is}

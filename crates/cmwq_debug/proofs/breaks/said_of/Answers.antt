@@ -1,4 +1,4 @@
-use Rattle.std.proofs.Common.{◌≡◌, ℕ, Bool, ◌∙◌, arith, length, rules, sym, true}
+use Rattle.std.proofs.Common.{◌≡◌, ℕ, Bool, length, rules, sym, true}
 use Rattle.cmwq_debug.specs.Breaks.{break_at, matches_there}
 use Rattle.cmwq_debug.proofs.LowestLemmas.{lowest-is}
 use Rattle.cmwq_debug.proofs.breaks.said_of.Goals as goal

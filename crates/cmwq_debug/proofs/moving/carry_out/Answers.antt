@@ -1,4 +1,4 @@
-use Rattle.std.proofs.Common.{◌≡◌, ◌<◌, length, arith, rules, ◌∙◌}
+use Rattle.std.proofs.Common.{◌<◌, length, arith, ◌∙◌}
 use Rattle.cmwq_debug.proofs.MovingLemmas.{reached}
 use Rattle.cmwq_debug.proofs.moving.carry_out.Goals as goal
 

@@ -1,4 +1,4 @@
-use Rattle.std.proofs.Common.{◌≡◌, ◌<◌, ◌≤◌, length, arith, rules, refl, ◌∙◌}
+use Rattle.std.proofs.Common.{◌≡◌, arith, rules, refl, ◌∙◌}
 use Rattle.cmwq_debug.specs.Debugging.{break_of, session_of}
 use Rattle.cmwq_debug.proofs.MovingLemmas.{none-more, none-yet, reached, said, stopped}
 use Rattle.cmwq_debug.proofs.moving.run_on.Goals as goal
