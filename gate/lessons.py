@@ -1,5 +1,6 @@
 """Runs each scenario of scenarios/ through a built program: what it prints is NAME.out; its listing prints the same; its image is
-shown as the listing. The program's own stored run is one of them. Then faulty input: the status, and what each stream is given.
+shown as the listing. What a debugger says to NAME.debug is NAME.said. The program's own stored run is one of them. Then faulty
+input: the status, and what each stream is given.
 
     python3 gate/lessons.py PROGRAM"""
 import glob
@@ -39,6 +40,14 @@ def faults_of(program, text, room):
     return [f"{os.path.relpath(text, TOP)}: {what} is not as it should be" for what, is_well in checks.items() if not is_well]
 
 
+def session_faults(program, commands):
+    """What is wrong with a debugger's session: what is said to the commands."""
+    text, wanted = f"{commands.removesuffix('.debug')}.cmwq", bytes_of(f"{commands.removesuffix('.debug')}.said")
+    with open(commands, "rb") as it:
+        ran = subprocess.run((program, "debug", text), stdin=it, stdout=subprocess.PIPE, stderr=subprocess.STDOUT, timeout=120)
+    return [] if (ran.returncode, ran.stdout) == (0, wanted) else [f"{os.path.relpath(commands, TOP)}: what is said is not as it should be"]
+
+
 def failed(*words):
     """What the program ends with: its status, its standard output and its standard error."""
     ran = subprocess.run(words, stdout=subprocess.PIPE, stderr=subprocess.PIPE, timeout=120)
@@ -49,6 +58,7 @@ def main(program):
     texts = sorted(glob.glob(f"{TOP}/scenarios/*.cmwq"))
     with tempfile.TemporaryDirectory(prefix="lessons-") as room:
         faults = [fault for text in texts for fault in faults_of(program, text, room)]
+        faults += [fault for commands in sorted(glob.glob(f"{TOP}/scenarios/*.debug")) for fault in session_faults(program, commands)]
         with open(f"{room}/faulty.cmwq", "w", encoding="utf-8") as it:
             it.write("cpus 17\n")
         if failed(program, "run", f"{room}/faulty.cmwq") != (1, b"", b"line 1: Range\n"):

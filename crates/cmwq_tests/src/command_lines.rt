@@ -1,6 +1,6 @@
 //! Command lines: the requests that they are, and help and usage faults.
 use crate::checking::same;
-use crate::streams::{Output, writing_to};
+use crate::streams::{Output, reading_of, writing_to};
 use clap::error::ErrorKind;
 use cmwq_command::{carry_out, tell};
 use cmwq_play::Marked;
@@ -17,7 +17,7 @@ fn words(rt: &impl Abort, alloc: Global, line: &str) -> Vec<String> {
         .expect(rt, "memory is left")
 }
 
-const REQUESTS: [(&str, Request<'_>); 4] = [
+const REQUESTS: [(&str, Request<'_>); 5] = [
     ("cmwq run a.cmwq", Request::Run { file: "a.cmwq" }),
     ("cmwq list a.cmwq", Request::List { file: "a.cmwq" }),
     (
@@ -28,6 +28,7 @@ const REQUESTS: [(&str, Request<'_>); 4] = [
         },
     ),
     ("cmwq show a.image", Request::Show { image: "a.image" }),
+    ("cmwq debug a.cmwq", Request::Debug { file: "a.cmwq" }),
 ];
 
 #[test]
@@ -128,7 +129,13 @@ fn check_told<R: Files + AllocGlobal + Abort>(
     let given = words(rt, rt.alloc(), line);
     let mut output = writing_to(rt.alloc(), 4096);
     let mut errors = writing_to(rt.alloc(), 4096);
-    let result = carry_out(rt, given.as_slice(), &mut output, &mut errors);
+    let result = carry_out(
+        rt,
+        given.as_slice(),
+        reading_of(b"", 1),
+        &mut output,
+        &mut errors,
+    );
     same(rt, line, result, Ok(status));
     check_streams(rt, line, (output, errors), want);
 }

@@ -2,10 +2,14 @@
 //! examples, never from a run.
 use crate::checking::same;
 use crate::examples::MAX_ACTIVE_3;
+use crate::streams::{
+    Command, Failure, Input, Outcome, Output, carried_out, reading_of, writing_to,
+};
 use cmwq_asm::assemble;
 use cmwq_debug::Debugger;
 use cmwq_debug_lines::answer;
 use cmwq_plain::Plain;
+use cmwq_play::PlayError;
 use cmwq_types::{Instr, MAX_HISTORY, MAX_WORKS, Scenario};
 use std::alloc::Global;
 use std::process::Abort;
@@ -211,4 +215,81 @@ fn each_command_line_is_answered(rt: HostRuntime) {
     check_text(&rt, rt.alloc(), MAX_ACTIVE_3.text, THERE_AND_BACK);
     check_text(&rt, rt.alloc(), MAX_ACTIVE_3.text, OTHER_LINES);
     check_text(&rt, rt.alloc(), MANY_KINDS, EVERY_KIND);
+}
+
+/// Commands, the last of which no line feed ends.
+const COMMANDS: &[u8] =
+    b"goto 12\n\nbreak work w0 event wakes\nrun\nback 28\nback 1 # before the start\nstep 45\nclear 1\nhello";
+
+/// What is said to them.
+const SAID: &[u8] =
+    b"at 12 now 5\nbreak 0\nat 28 now 15 break 0\nat 0 now 0\nrefused PastStart\nrefused PastEnd\n\
+    refused NoSuchBreak\nbad command\n";
+
+/// Carries the commands out, read and written so many bytes a call.
+fn debugged(alloc: Global, input: Input<'_>, output: Output) -> Outcome {
+    carried_out(alloc, Command::Debug, input, output)
+}
+
+#[test]
+fn commands_are_answered_however_they_come(rt: HostRuntime) {
+    for (read, write) in [(4096, 4096), (1, 4096), (7, 5), (4096, 1)] {
+        let outcome = debugged(
+            rt.alloc(),
+            reading_of(COMMANDS, read),
+            writing_to(rt.alloc(), write),
+        );
+        same(&rt, (read, write), outcome.result, Ok(()));
+        same(&rt, (read, write), outcome.written.as_slice(), SAID);
+    }
+}
+
+/// Each read gives one command: where the next one fails, all before it have been answered.
+#[test]
+fn a_command_is_answered_before_the_next_one_is_read(rt: HostRuntime) {
+    let answers: [&[u8]; 4] = [
+        b"",
+        b"at 1 now 0\n",
+        b"at 1 now 0\nat 2 now 0\n",
+        b"at 1 now 0\nat 2 now 0\nat 3 now 0\n",
+    ];
+    for (before, want) in answers.iter().enumerate() {
+        let mut input = reading_of(b"step 1\nstep 1\nstep 1\n", 7);
+        input.fails = before.saturating_add(1);
+        let outcome = debugged(rt.alloc(), input, writing_to(rt.alloc(), 4096));
+        same(&rt, before, outcome.result, Err(PlayError::Read));
+        same(&rt, before, outcome.written.as_slice(), *want);
+    }
+}
+
+/// A writer that fails at one of its calls takes what was said before.
+#[test]
+fn a_failed_write_ends_the_session(rt: HostRuntime) {
+    for failure in [Failure::Error, Failure::TakesNone] {
+        let mut output = writing_to(rt.alloc(), 4096);
+        output.fails = 3;
+        output.failure = failure;
+        let outcome = debugged(rt.alloc(), reading_of(COMMANDS, 4096), output);
+        same(&rt, failure, outcome.result, Err(PlayError::Write));
+        same(
+            &rt,
+            failure,
+            outcome.written.as_slice(),
+            &b"at 12 now 5\nbreak 0\n"[..],
+        );
+    }
+}
+
+#[test]
+fn commands_without_end_are_too_long(rt: HostRuntime) {
+    let mut input = reading_of(b"goto 12\n", 4096);
+    input.endless = true;
+    let outcome = debugged(rt.alloc(), input, writing_to(rt.alloc(), 4096));
+    same(&rt, "endless", outcome.result, Err(PlayError::TooLong));
+    same(
+        &rt,
+        "endless",
+        outcome.written.as_slice(),
+        &b"at 12 now 5\n"[..],
+    );
 }

@@ -1,6 +1,7 @@
 //! Each command on real files, as the program carries it out.
 use crate::checking::same;
 use crate::examples::{IMAGE_OF_STEPS_RUN_OUT as IMAGE, STEPS_RUN_OUT};
+use crate::streams::reading_of;
 use cmwq_asm::AsmError;
 use cmwq_command::answer;
 use cmwq_grammar::Why;
@@ -36,8 +37,19 @@ fn check_answer<R: Files + AllocGlobal + Abort>(
     want: Result<(), PlayError>,
     printed: &[u8],
 ) {
+    check_talk(rt, request, b"", want, printed);
+}
+
+/// The same, with these commands on standard input.
+fn check_talk<R: Files + AllocGlobal + Abort>(
+    rt: &R,
+    request: Request<'_>,
+    commands: &[u8],
+    want: Result<(), PlayError>,
+    printed: &[u8],
+) {
     let mut output = Vec::new(rt.alloc());
-    let result = answer(rt, &mut output, request);
+    let result = answer(rt, reading_of(commands, 4096), &mut output, request);
     same(rt, request, result, want);
     same(rt, request, output.as_slice(), printed);
 }
@@ -57,6 +69,13 @@ fn each_command_reads_and_writes_files(rt: HostRuntime) {
         Request::Show { image: out },
         Ok(()),
         STEPS_RUN_OUT.text,
+    );
+    check_talk(
+        &rt,
+        Request::Debug { file },
+        b"run\nstep 1",
+        Ok(()),
+        b"at 10 now 0\nrefused PastEnd\n",
     );
     let _ = fs::remove_dir_all(&rt, "cmwq_commands");
 }
@@ -94,6 +113,7 @@ fn a_file_that_is_not_there_is_a_failed_read_or_write(rt: HostRuntime) {
         (Request::Run { file }, PlayError::Read),
         (Request::List { file }, PlayError::Read),
         (Request::Show { image: out }, PlayError::Read),
+        (Request::Debug { file }, PlayError::Read),
         (Request::Asm { file, out }, PlayError::Write),
     ] {
         check_answer(&rt, request, Err(fault), b"");

@@ -1,5 +1,8 @@
 //! Readers and writers that fail where they are told to, and a command carried out over them.
-use cmwq_play::{Marked, PlayError, from_image, list_text, run, to_image};
+ghost use Rattle.std.specs.Prelude.{◌≡◌, false};
+
+use crate::examples::MAX_ACTIVE_3;
+use cmwq_play::{Marked, PlayError, debug, from_image, list_text, read_text, run, to_image};
 use std::alloc::Global;
 use std::io;
 use std::io::{Read, Write};
@@ -15,6 +18,8 @@ pub(crate) enum Command {
     Asm,
     /// List a scenario's image.
     Show,
+    /// Debug the kernel's document's works under `max_active` 3.
+    Debug,
 }
 
 /// A reader that gives at most some bytes a call, and may fail at one of its calls.
@@ -142,6 +147,7 @@ pub(crate) fn carried_out(
         Command::List => list_text(alloc, &mut reader, &mut writer),
         Command::Asm => to_image(alloc, &mut reader, &mut writer),
         Command::Show => from_image(alloc, &mut reader, &mut writer),
+        Command::Debug => debugged(alloc, &mut reader, &mut writer),
     };
     let output = writer.into_inner();
     Outcome {
@@ -150,4 +156,18 @@ pub(crate) fn carried_out(
         writes: output.calls,
         written: output.taken,
     }
+}
+
+/// Debugs the kernel's document's works under `max_active` 3.
+fn debugged(
+    alloc: Global,
+    commands: &mut Marked<Input<'_>>,
+    writer: &mut Marked<Output>,
+) -> Result<(), PlayError>
+    requires commands { commands.old.failed ≡ false }
+    requires writer { writer.old.failed ≡ false }
+{
+    let mut text = Marked::new(reading_of(MAX_ACTIVE_3.text, 4096));
+    let scenario = read_text(alloc, &mut text)?;
+    debug(alloc, &scenario, commands, writer)
 }
