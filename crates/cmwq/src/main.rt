@@ -17,13 +17,7 @@ fn outcome(rt: &HostRuntime) -> Result<u8, PlayError> {
     match env::args(rt) {
         Ok(words) => {
             let words: Vec<String> = words.collect(rt.alloc())?;
-            carry_out(
-                rt,
-                words.as_slice(),
-                rt.stdin(),
-                rt.stdout(),
-                rt.stderr(),
-            )
+            carry_out(rt, words.as_slice(), rt.stdin(), rt.stdout(), rt.stderr())
         }
         Err(error) if error.kind() == io::ErrorKind::OutOfMemory => Err(PlayError::NoMemory),
         Err(_) => {

@@ -13,7 +13,8 @@ ghost use Rattle.std.specs.Prelude.{◌≡◌, ◌++◌, ◌∷◌, ◌<◌, ◌
 use crate::lines::{push_line, push_others, push_words};
 use cmwq_grammar::laws::listing_spells_its_scenario;
 use cmwq_types::{
-    Actor, Flags, Instr, Line, Mnemonic, NoMemory, Op, QueueDecl, QueueId, Scenario, WorkDecl, WorkId,
+    Actor, Flags, Instr, Line, Mnemonic, NoMemory, Op, QueueDecl, QueueId, Scenario, WorkDecl,
+    WorkId,
 };
 use itoa::Buffer;
 use std::alloc::Global;
@@ -261,17 +262,16 @@ fn push_named(text: &mut Vec<u8>, mnemonic: Mnemonic, name: &[u8]) -> Result<(),
 }
 
 /// Writes an instruction on a work or queue of this name, and a number.
-fn push_of_name(
-    text: &mut Vec<u8>,
-    mnemonic: Mnemonic,
-    name: &[u8],
-    n: u32,
-) -> Result<(), NoMemory>
+fn push_of_name(text: &mut Vec<u8>, mnemonic: Mnemonic, name: &[u8], n: u32) -> Result<(), NoMemory>
     ensures { OnOk result (text.new.items ≡ text.old.items
         ++ join_with_byte 32 (spelling mnemonic ∷ name.now ∷ decimal n ∷ [])) }
 {
     let mut digits = Buffer::new();
-    push_words(text, mnemonic.as_bytes(), &[name, digits.format(n).as_bytes()])
+    push_words(
+        text,
+        mnemonic.as_bytes(),
+        &[name, digits.format(n).as_bytes()],
+    )
 }
 
 /// Writes an instruction on a number.

@@ -17,8 +17,12 @@ returns-clause-told g c =
     let first : c.index.result.now ≡ slice_index_or S.actors 0 c.index.result.now = search rules in
     let can = c.in_ok-judge.ensures.can in
     on_ok_weaker c.talk.result
-    (λ told. (can.0, can.1, subst (λ (d : Session). IfSome (g.R.Read.remaining c.args.commands.now) (λ bytes. Appends (contents c.args.writer.now) (contents c.talk.new.writer) (lines_said S d (lines_of bytes))))
-    (opened_is S c.index.result.now can.0 c.in_ok-debugger.debugger first c.in_ok-debugger.ensures can.1.alone) told)) c.talk.ensures.told
+    (λ told. (
+      can.0,
+      can.1,
+      subst (λ (d : Session). IfSome (g.R.Read.remaining c.args.commands.now) (λ bytes. Appends (contents c.args.writer.now) (contents c.talk.new.writer) (lines_said S d (lines_of bytes))))
+          (opened_is S c.index.result.now can.0 c.in_ok-debugger.debugger first c.in_ok-debugger.ensures can.1.alone) told,
+    )) c.talk.ensures.told
 
 pub returns-clause-front : goal.returns-clause-front
 returns-clause-front g c =
