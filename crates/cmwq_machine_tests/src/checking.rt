@@ -3,7 +3,7 @@ use std::fmt::Debug;
 use std::process::Abort;
 
 /// What was got is what is wanted, in this case of a table.
-pub fn same<C: Debug + Drop, T: Debug + PartialEq + Drop>(
+pub(crate) fn same<C: Debug + Drop, T: Debug + PartialEq + Drop>(
     rt: &impl Abort,
     case: C,
     got: T,

@@ -1,8 +1,9 @@
-//! Tests of the machine and its parts, and those that start threads or wait; and what all tests share, the one
-//! assertion and the worked examples.
+//! Tests of the machine and its parts, and those that start threads or wait; and the worked examples,
+//! which the tests of texts and commands share.
 #![tactic(auto)]
 
-pub mod checking;
+#[cfg(test)]
+mod checking;
 #[cfg(test)]
 mod debugging;
 #[cfg(test)]

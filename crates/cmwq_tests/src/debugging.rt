@@ -1,10 +1,11 @@
 //! The command `debug`, over memory: what it writes, however its commands come, and reads and writes that fail.
+use crate::checking::same;
 use crate::streams::{
     Command, Failure, Input, Outcome, Output, carried_out, reading_of, writing_to,
 };
-use cmwq_machine_tests::checking::same;
 use cmwq_play::PlayError;
 use std::alloc::Global;
+use std::process::Abort;
 
 /// Commands, the last of which no line feed ends.
 const COMMANDS: &[u8] =
@@ -51,21 +52,26 @@ fn a_command_is_answered_before_the_next_one_is_read(rt: HostRuntime) {
     }
 }
 
+/// How many bytes are said to each of the commands and to those before it.
+const SAID_UP_TO: [usize; 8] = [0, 12, 20, 41, 52, 70, 86, 106];
+
 /// A writer that fails at one of its calls takes what was said before.
+fn check_failed_write(rt: &impl Abort, alloc: Global, call: usize, failure: Failure, want: &[u8]) {
+    let mut output = writing_to(alloc, 4096);
+    output.fails = call;
+    output.failure = failure;
+    let outcome = debugged(alloc, reading_of(COMMANDS, 4096), output);
+    same(rt, (call, failure), outcome.result, Err(PlayError::Write));
+    same(rt, (call, failure), outcome.written.as_slice(), want);
+}
+
 #[test]
 fn a_failed_write_ends_the_session(rt: HostRuntime) {
-    for failure in [Failure::Error, Failure::TakesNone] {
-        let mut output = writing_to(rt.alloc(), 4096);
-        output.fails = 3;
-        output.failure = failure;
-        let outcome = debugged(rt.alloc(), reading_of(COMMANDS, 4096), output);
-        same(&rt, failure, outcome.result, Err(PlayError::Write));
-        same(
-            &rt,
-            failure,
-            outcome.written.as_slice(),
-            &b"at 12 now 5\nbreak 0\n"[..],
-        );
+    for (before, said) in SAID_UP_TO.iter().enumerate() {
+        for failure in [Failure::Error, Failure::TakesNone] {
+            let want = SAID.get(..*said).expect(&rt, "so much is said");
+            check_failed_write(&rt, rt.alloc(), before.saturating_add(1), failure, want);
+        }
     }
 }
 

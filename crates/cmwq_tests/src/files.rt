@@ -1,10 +1,10 @@
 //! Each command on real files, as the program carries it out.
+use crate::checking::same;
 use crate::streams::reading_of;
 use cmwq_asm::AsmError;
 use cmwq_command::answer;
 use cmwq_grammar::Why;
 use cmwq_image::ImageError;
-use cmwq_machine_tests::checking::same;
 use cmwq_machine_tests::examples::{IMAGE_OF_STEPS_RUN_OUT as IMAGE, STEPS_RUN_OUT};
 use cmwq_play::PlayError;
 use cmwq_types::Fault;

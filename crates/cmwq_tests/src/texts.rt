@@ -1,8 +1,8 @@
 //! Texts and their first faults, worked out by hand from the rules of texts, never from a run.
+use crate::checking::same;
 use cmwq_asm::{AsmError, assemble};
 use cmwq_grammar::Why;
 use cmwq_list::list;
-use cmwq_machine_tests::checking::same;
 use cmwq_machine_tests::examples::STEPS_RUN_OUT;
 use cmwq_types::Fault;
 use std::alloc::Global;
