@@ -1,9 +1,11 @@
 """Runs each scenario of scenarios/ through a built program: what it prints is NAME.out; its listing prints the same; its image is
 shown as the listing. What a debugger says to NAME.debug is NAME.said. The program's own stored run is one of them. Then faulty
-input: the status, and what each stream is given.
+input: the status, and what each stream is given. And each scenario through an engine, by the program HISTORIES, which prints the
+history: each entry is compared.
 
-    python3 gate/lessons.py PROGRAM"""
+    python3 gate/lessons.py PROGRAM HISTORIES"""
 import glob
+import itertools
 import os
 import subprocess
 import sys
@@ -48,16 +50,49 @@ def session_faults(program, commands):
     return [] if (ran.returncode, ran.stdout) == (0, wanted) else [f"{os.path.relpath(commands, TOP)}: what is said is not as it should be"]
 
 
+def instrs_of(listing):
+    """The instructions of a listing's one actor, in order."""
+    _head, _actor, lines = listing.partition("\nactor ")
+    parts = [line.partition(" * ") for line in lines.splitlines()[1:]]
+    return [instr for instr, _star, times in parts for _turn in range(int(times or 1))]
+
+
+def entry_faults(listing, printed, history):
+    """What is wrong with a history of one caller: each entry has its ticket, its caller, its instruction and its reply. Of the replies
+    that have a line the lines are what is printed, each at its time; one with no line is `Queued` for what queues, and else `Done`."""
+    now, lines, faults = 0, [], []
+    for number, (instr, entry) in enumerate(itertools.zip_longest(instrs_of(listing), history.splitlines())):
+        front, _colon, reply = (entry or "").partition(": ")
+        word, is_silent = (instr or "").partition(" ")[0], reply in ("Queued", "Done")
+        good = f"{now} " == reply[:len(f"{now} ")] if not is_silent else reply == ("Queued" if word in ("queue", "delay", "mod") else "Done")
+        faults += [] if good and front == f"{number} 0 {instr}" else [f"the entry {entry!r} where {instr!r} was issued"]
+        now += is_silent and word in ("next", "tick")
+        lines += [] if is_silent else [f"{reply}\n"]
+    return faults + ([] if "".join(lines) == printed else ["the replies of its history"])
+
+
+def history_faults(histories, program, text):
+    """What is wrong with a scenario's history on an engine, and with the stored one where the scenario is its own."""
+    listing, printed = said(program, "list", text).decode(), bytes_of(f"{text.removesuffix('.cmwq')}.out").decode()
+    with open(text, "rb") as it:
+        ran = subprocess.run([histories], stdin=it, stdout=subprocess.PIPE, stderr=subprocess.STDOUT, timeout=120)
+    stored = f"{TOP}/crates/cmwq_histories"
+    found = [ran.stdout] + ([bytes_of(f"{stored}/stdout")] if bytes_of(f"{stored}/stdin") == bytes_of(text) else [])
+    faults = [fault for history in found for fault in entry_faults(listing, printed, history.decode())]
+    return [f"{os.path.relpath(text, TOP)}: {fault} isn't as it should be" for fault in faults]
+
+
 def failed(*words):
     """What the program ends with: its status, its standard output and its standard error."""
     ran = subprocess.run(words, stdout=subprocess.PIPE, stderr=subprocess.PIPE, timeout=120)
     return ran.returncode, ran.stdout, ran.stderr
 
 
-def main(program):
+def main(program, histories):
     texts = sorted(glob.glob(f"{TOP}/scenarios/*.cmwq"))
     with tempfile.TemporaryDirectory(prefix="lessons-") as room:
         faults = [fault for text in texts for fault in faults_of(program, text, room)]
+        faults += [fault for text in texts for fault in history_faults(histories, program, text)]
         faults += [fault for commands in sorted(glob.glob(f"{TOP}/scenarios/*.debug")) for fault in session_faults(program, commands)]
         with open(f"{room}/faulty.cmwq", "w", encoding="utf-8") as it:
             it.write("cpus 17\n")
@@ -72,6 +107,8 @@ def main(program):
         lesson = f"{TOP}/scenarios/{os.path.basename(stored)}"
         if bytes_of(stored) != bytes_of(lesson) or bytes_of(f"{TOP}/crates/cmwq/stdout") != bytes_of(f"{lesson.removesuffix('.cmwq')}.out"):
             faults.append(f"{os.path.relpath(stored, TOP)}: it isn't the lesson of this name")
+    if bytes_of(f"{TOP}/crates/cmwq_histories/stdin") not in map(bytes_of, texts):
+        faults.append("crates/cmwq_histories/stdin: it is no lesson")
     faults += [] if texts else ["scenarios/: there is nothing to compare"]
     print("".join(f"lessons: {fault}\n" for fault in faults), end="")
     print(f"lessons: {len(texts)} scenarios compared, {len(faults)} faults")

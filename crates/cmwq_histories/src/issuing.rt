@@ -1,0 +1,68 @@
+//! A scenario's instructions, issued on an engine by one caller.
+ghost use Rattle.cmwq_types.specs.declared.limits.TheConstants.{MAX_HISTORY};
+ghost use Rattle.std.specs.Prelude.{◌≡◌, ◌≤◌, [], IfOk};
+
+use cmwq_engine::Engine;
+use cmwq_plain::Plain;
+use cmwq_play::PlayError;
+use cmwq_table::{LoadError, Machine};
+use cmwq_types::{Instr, MAX_HISTORY, Scenario};
+use std::alloc::Global;
+
+/// The instructions of the scenario's first actor, in order. `Actors` where it has none.
+pub(crate) fn instrs_of(alloc: Global, scenario: &Scenario) -> Result<Vec<Instr>, PlayError> {
+    let actor = scenario.actors.first().ok_or(PlayError::Actors)?;
+    let mut instrs = Vec::new(alloc);
+    for line in &actor.lines {
+        for _turn in 0..line.times {
+            instrs.push(line.instr)?;
+        }
+    }
+    Ok(instrs)
+}
+
+/// An engine of the scenario, whose history has room for so many entries.
+fn opened(alloc: Global, scenario: &Scenario, capacity: u32) -> Result<Engine<Plain>, PlayError>
+    requires { capacity ≤ MAX_HISTORY }
+    ensures { IfOk result (λ engine. engine.history ≡ []) }
+{
+    match Engine::open(alloc, scenario, capacity) {
+        Ok(engine) => Ok(engine),
+        Err(LoadError::Fault(_)) | Err(LoadError::NoMemory) => Err(PlayError::NoMemory),
+    }
+}
+
+/// An engine of the scenario on which caller 0 has issued the instructions under the tickets 0, 1 and so on, and the time
+/// behind each, in ticks. `Full` where they are more than 1,048,576.
+pub(crate) fn issued(
+    alloc: Global,
+    scenario: &Scenario,
+    instrs: &[Instr],
+) -> Result<(Engine<Plain>, Vec<u64>), PlayError> {
+    if instrs.len() > MAX_HISTORY as usize {
+        return Err(PlayError::Full);
+    }
+    let mut engine = opened(alloc, scenario, instrs.len() as u32)?;
+    let times = issue_all(alloc, &mut engine, instrs)?;
+    Ok((engine, times))
+}
+
+/// Issues the instructions, and gives the time behind each, in ticks.
+fn issue_all(
+    alloc: Global,
+    engine: &mut Engine<Plain>,
+    instrs: &[Instr],
+) -> Result<Vec<u64>, PlayError>
+    requires begins { engine.old.history ≡ [] }
+{
+    let mut times = Vec::new(alloc);
+    let mut ticket = 0u64;
+    for instr in instrs {
+        engine
+            .issue(ticket, 0, *instr)
+            .map_err(|_full| PlayError::Full)?;
+        times.push(engine.machine().now())?;
+        ticket = ticket.checked_add(1).ok_or(PlayError::Tickets)?;
+    }
+    Ok(times)
+}
