@@ -1,11 +1,15 @@
 //! The debugger, by its command lines: what is said to each. What is said comes from this project's own worked
 //! examples, never from a run.
+ghost use Rattle.cmwq_types.specs.declared.limits.TheConstants.{MAX_WORKS};
+ghost use Rattle.std.specs.Prelude.{◌≤◌, length};
+
 use crate::checking::same;
 use crate::examples::MAX_ACTIVE_3;
-use cmwq_asm::assemble;
+use crate::machines::scenario;
 use cmwq_debug::Debugger;
 use cmwq_debug_lines::answer;
 use cmwq_plain::Plain;
+use cmwq_table::Machine;
 use cmwq_types::{Instr, MAX_HISTORY, MAX_WORKS, Scenario};
 use std::alloc::Global;
 use std::process::Abort;
@@ -171,7 +175,7 @@ flush 1 yes
 };
 
 /// The instructions of the scenario's first actor, in order.
-fn instrs_of(rt: &impl Abort, alloc: Global, scenario: &Scenario) -> Vec<Instr> {
+pub(crate) fn instrs_of(rt: &impl Abort, alloc: Global, scenario: &Scenario) -> Vec<Instr> {
     let mut instrs = Vec::new(alloc);
     for line in &scenario.actors.first().expect(rt, "an actor").lines {
         for _turn in 0..line.times {
@@ -181,34 +185,49 @@ fn instrs_of(rt: &impl Abort, alloc: Global, scenario: &Scenario) -> Vec<Instr> 
     instrs
 }
 
-/// Says the lines to a debugger, and compares what it says.
-fn check_talk(rt: &impl Abort, alloc: Global, talk: Talk, scenario: &Scenario, instrs: Vec<Instr>) {
+/// Says the line to the debugger, and compares what it says.
+fn check_line<M: Machine>(
+    rt: &impl Abort,
+    alloc: Global,
+    scenario: &Scenario,
+    debugger: &mut Debugger<M>,
+    line: &str,
+    want: &[u8],
+)
+    requires { length scenario.now.works ≤ MAX_WORKS }
+{
+    let said = answer(alloc, scenario, debugger, line.as_bytes()).expect(rt, "memory is left");
+    same(rt, line, &said[..], want);
+}
+
+/// Says the lines to a debugger.
+fn check_talk<M: Machine>(
+    rt: &impl Abort,
+    alloc: Global,
+    talk: Talk,
+    scenario: &Scenario,
+    instrs: Vec<Instr>,
+) {
     if instrs.len() > MAX_HISTORY as usize || scenario.works.len() > MAX_WORKS {
         return;
     }
-    let mut debugger: Debugger<Plain> = Debugger::open(alloc, scenario, instrs).expect(
-        rt,
-        "a valid scenario",
-    );
+    let opened = Debugger::open(alloc, scenario, instrs);
+    let mut debugger: Debugger<M> = opened.expect(rt, talk.name);
     for (line, want) in talk.lines {
-        let said = answer(alloc, scenario, &mut debugger, line.as_bytes()).expect(
-            rt,
-            "memory is left",
-        );
-        same(rt, (talk.name, *line), &said[..], *want);
+        check_line(rt, alloc, scenario, &mut debugger, line, want);
     }
 }
 
 /// Says the lines to a debugger of the scenario that the text spells, and compares what it says.
-fn check_text(rt: &impl Abort, alloc: Global, text: &[u8], talk: Talk) {
-    let scenario = assemble(alloc, text).expect(rt, "a scenario's text");
+fn check_text<M: Machine>(rt: &impl Abort, alloc: Global, text: &[u8], talk: Talk) {
+    let scenario = scenario(rt, alloc, text);
     let instrs = instrs_of(rt, alloc, &scenario);
-    check_talk(rt, alloc, talk, &scenario, instrs);
+    check_talk::<M>(rt, alloc, talk, &scenario, instrs);
 }
 
 #[test]
 fn each_command_line_is_answered(rt: HostRuntime) {
-    check_text(&rt, rt.alloc(), MAX_ACTIVE_3.text, THERE_AND_BACK);
-    check_text(&rt, rt.alloc(), MAX_ACTIVE_3.text, OTHER_LINES);
-    check_text(&rt, rt.alloc(), MANY_KINDS, EVERY_KIND);
+    check_text::<Plain>(&rt, rt.alloc(), MAX_ACTIVE_3.text, THERE_AND_BACK);
+    check_text::<Plain>(&rt, rt.alloc(), MAX_ACTIVE_3.text, OTHER_LINES);
+    check_text::<Plain>(&rt, rt.alloc(), MANY_KINDS, EVERY_KIND);
 }

@@ -2,8 +2,9 @@
 ghost use Rattle.std.specs.Prelude.{◌≡◌, ◌<◌, [], length};
 
 use crate::checking::same;
+use crate::debugging::instrs_of;
 use crate::examples::{EXAMPLES, Example, STEPS_RUN_OUT};
-use cmwq_asm::assemble;
+use crate::machines::scenario;
 use cmwq_engine::{Engine, Entry, Full};
 use cmwq_plain::Plain;
 use cmwq_table::{Machine, ReplyLine};
@@ -11,32 +12,21 @@ use cmwq_types::{Instr, Scenario};
 use std::alloc::Global;
 use std::process::Abort;
 
-/// The scenario that the text spells.
-fn scenario(rt: &impl Abort, alloc: Global, text: &[u8]) -> Scenario {
-    assemble(alloc, text).expect(rt, "a scenario's text")
-}
-
 /// An engine of the scenario, whose history has room for so many entries.
-fn opened(rt: &impl Abort, alloc: Global, scenario: &Scenario, capacity: u32) -> Engine<Plain>
+fn opened<M: Machine>(
+    rt: &impl Abort,
+    alloc: Global,
+    scenario: &Scenario,
+    capacity: u32,
+) -> Engine<M>
     requires { capacity < 100 }
     ensures { result.history ≡ [] }
 {
     Engine::open(alloc, scenario, capacity).expect(rt, "a valid scenario")
 }
 
-/// The instructions of the scenario's first actor, in order.
-fn instrs_of(rt: &impl Abort, alloc: Global, scenario: &Scenario) -> Vec<Instr> {
-    let mut instrs = Vec::new(alloc);
-    for line in &scenario.actors.first().expect(rt, "an actor").lines {
-        for _turn in 0..line.times {
-            instrs.push(line.instr).expect(rt, "memory is left");
-        }
-    }
-    instrs
-}
-
 /// Issues the instructions under the tickets 0, 2, 4 and so on, by three callers in turn.
-fn issue_all(rt: &impl Abort, engine: &mut Engine<Plain>, instrs: &[Instr])
+fn issue_all<M: Machine>(rt: &impl Abort, engine: &mut Engine<M>, instrs: &[Instr])
     requires begins { engine.old.history ≡ [] }
 {
     let mut ticket = 0;
@@ -52,7 +42,7 @@ fn issue_all(rt: &impl Abort, engine: &mut Engine<Plain>, instrs: &[Instr])
 
 /// Compares the history with the instructions, and with a machine that carries them out alone; then what the
 /// replies print.
-fn check_history(
+fn check_history<M: Machine>(
     rt: &impl Abort,
     alloc: Global,
     example: &Example,
@@ -60,7 +50,7 @@ fn check_history(
     instrs: &[Instr],
     history: &[Entry],
 ) {
-    let mut machine = Plain::load(alloc, scenario).expect(rt, "a valid scenario");
+    let mut machine = M::load(alloc, scenario).expect(rt, "a valid scenario");
     let mut lines = String::new(alloc);
     let mut ticket = 0u64;
     for (entry, instr) in history.iter().zip(instrs) {
@@ -84,22 +74,31 @@ fn check_history(
     same(rt, example.name, lines.as_bytes(), example.prints);
 }
 
+/// Issues an example's instructions on an engine, and compares its history.
+fn check_example<M: Machine>(rt: &impl Abort, alloc: Global, example: &Example) {
+    let scenario = scenario(rt, alloc, example.text);
+    let instrs = instrs_of(rt, alloc, &scenario);
+    let mut engine: Engine<M> = opened(rt, alloc, &scenario, 64);
+    issue_all(rt, &mut engine, &instrs);
+    check_history::<M>(rt, alloc, example, &scenario, &instrs, engine.history());
+}
+
 #[test]
 fn histories_of_the_examples_are_entered_one_by_one(rt: HostRuntime) {
-    let alloc = rt.alloc();
     for example in EXAMPLES {
-        let scenario = scenario(&rt, alloc, example.text);
-        let instrs = instrs_of(&rt, alloc, &scenario);
-        let mut engine = opened(&rt, alloc, &scenario, 64);
-        issue_all(&rt, &mut engine, &instrs);
-        check_history(&rt, alloc, &example, &scenario, &instrs, engine.history());
+        check_example::<Plain>(&rt, rt.alloc(), &example);
     }
+}
+
+/// An engine with room for no entry takes none.
+fn check_full<M: Machine>(rt: &impl Abort, alloc: Global) {
+    let scenario = scenario(rt, alloc, STEPS_RUN_OUT.text);
+    let mut engine: Engine<M> = opened(rt, alloc, &scenario, 0);
+    same(rt, "no room", engine.issue(0, 0, Instr::Tick), Err(Full));
+    same(rt, "no entry", engine.history().len(), 0);
 }
 
 #[test]
 fn an_engine_without_room_is_full_at_once(rt: HostRuntime) {
-    let scenario = scenario(&rt, rt.alloc(), STEPS_RUN_OUT.text);
-    let mut engine = opened(&rt, rt.alloc(), &scenario, 0);
-    same(&rt, "no room", engine.issue(0, 0, Instr::Tick), Err(Full));
-    same(&rt, "no entry", engine.history().len(), 0);
+    check_full::<Plain>(&rt, rt.alloc());
 }

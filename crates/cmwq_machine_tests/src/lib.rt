@@ -1,5 +1,4 @@
-//! Tests of the machine and its parts, and those that start threads or wait; and the worked examples,
-//! which the tests of texts and commands share.
+//! Tests of the machine and its parts; and the worked examples, which the tests of texts and commands share.
 #![tactic(auto)]
 
 #[cfg(test)]
@@ -14,10 +13,4 @@ mod lists;
 #[cfg(test)]
 mod machines;
 #[cfg(test)]
-mod meeting;
-#[cfg(test)]
-mod shared;
-#[cfg(test)]
 mod timers;
-#[cfg(test)]
-mod turns;

@@ -1,7 +1,8 @@
 //! Linked lists: the worked example, and calls beside a plain vector.
 ghost use Rattle.cmwq_lists.specs.Contents.{held, IsSorted, list_at};
-ghost use Rattle.std.specs.Prelude.{◌≡◌, ◌<◌, ◌≤◌, ◌-◌, length, vec_len};
+ghost use Rattle.std.specs.Prelude.{◌≡◌, ◌<◌, ◌≤◌, ◌-◌, [], length, replicate, vec_len};
 
+use crate::checking::same;
 use cmwq_lists::{Lists, Node};
 use cmwq_types::{NoMemory, WorkId};
 use std::alloc::Global;
@@ -15,47 +16,90 @@ fn node(order: u128, work: u16) -> Node {
     }
 }
 
+/// Puts a node of order 5 and then one of order 3 into the first of two empty lists, and answers the last one's key.
+fn put_two(rt: &impl Abort, lists: &mut Lists) -> usize
+    requires { lists.old.lists ≡ replicate 2 [] }
+    ensures { length lists.new.lists ≡ 2 }
+{
+    assert!(rt; !lists.is_full());
+    lists.push_back(0, node(5, 0));
+    assert!(rt; !lists.is_full());
+    lists.insert_by(0, node(3, 1))
+}
+
+/// The key is held, and the node of order 5 comes next.
+fn check_held(rt: &impl Abort, lists: &Lists, key: usize) {
+    assert!(rt; lists.contains(key));
+    same(rt, "the next", lists.next(key), Some(node(5, 0)));
+}
+
+/// Pops the node of this key, and the one of order 5 stands in front then.
+fn check_popped(rt: &impl Abort, lists: &mut Lists, key: usize)
+    requires { length lists.old.lists ≡ 2 }
+{
+    same(rt, "popped", lists.pop_front(0), Some(node(3, 1)));
+    same(rt, "its key", lists.contains(key), false);
+    same(rt, "the front", lists.front(0), Some(node(5, 0)));
+    same(rt, "the other list", lists.front(1), None);
+}
+
 #[test]
 fn the_lesser_order_stands_in_front(rt: HostRuntime) -> Result<(), Fail> {
     let mut lists = Lists::new(rt.alloc(), 2, 3)?;
-    lists.push_back(0, node(5, 0));
-    assert!(rt; !lists.is_full());
-    let key = lists.insert_by(0, node(3, 1));
-    assert!(rt; lists.contains(key));
-    assert_eq!(rt; lists.next(key), Some(node(5, 0)));
+    let key = put_two(&rt, &mut lists);
+    check_held(&rt, &lists, key);
     let copy = lists.copy()?;
-    assert_eq!(rt; lists.pop_front(0), Some(node(3, 1)));
-    assert!(rt; !lists.contains(key));
-    assert!(rt; copy.contains(key));
-    assert_eq!(rt; copy.next(key), Some(node(5, 0)));
-    assert_eq!(rt; lists.front(0), Some(node(5, 0)));
-    assert_eq!(rt; lists.front(1), None);
+    check_popped(&rt, &mut lists, key);
+    check_held(&rt, &copy, key);
     Ok(())
 }
 
-/// Puts five nodes in and unlinks them in one of the 120 orders.
-fn unlink_in_order(rt: &impl Abort, alloc: Global, order: usize) -> Result<(), NoMemory> {
-    let mut lists = Lists::new(alloc, 1, 5)?;
-    let mut plain: Vec<(usize, Node)> = Vec::with_capacity(alloc, 5)?;
+/// Puts five nodes into the one list, and beside it their keys.
+fn put_five(
+    rt: &impl Abort,
+    lists: &mut Lists,
+    plain: &mut Vec<(usize, Node)>,
+) -> Result<(), NoMemory>
+    requires { length lists.old.lists ≡ 1 }
+{
     for work in 0..5_u16 {
         assert!(rt; !lists.is_full());
         let new = node(u128::from(work), work);
         let key = lists.push_back(0, new);
         plain.push((key, new))?;
     }
+    Ok(())
+}
+
+/// Unlinks the node of this place among those that are left.
+fn unlink_at(rt: &impl Abort, lists: &mut Lists, plain: &mut Vec<(usize, Node)>, at: usize) {
+    assert!(rt; at < plain.len());
+    let (key, new) = plain.remove(at);
+    assert!(rt; lists.contains(key));
+    same(rt, at, lists.unlink(key), new);
+    same(rt, at, lists.contains(key), false);
+}
+
+/// Each node that is left is held, and the one behind it comes next.
+fn check_left(rt: &impl Abort, lists: &Lists, plain: &[(usize, Node)]) {
+    for (i, (key, _)) in plain.iter().enumerate() {
+        assert!(rt; lists.contains(*key));
+        let next = plain.get(i + 1).map(|(_, new)| *new);
+        same(rt, i, lists.next(*key), next);
+    }
+}
+
+/// Puts five nodes in and unlinks them in one of the 120 orders.
+fn unlink_in_order(rt: &impl Abort, alloc: Global, order: usize) -> Result<(), NoMemory> {
+    let mut lists = Lists::new(alloc, 1, 5)?;
+    let mut plain: Vec<(usize, Node)> = Vec::with_capacity(alloc, 5)?;
+    put_five(rt, &mut lists, &mut plain)?;
     let mut choices = order;
-    for _taken in 0..5 {
-        let left = plain.len();
-        assert!(rt; left > 0);
-        let (key, new) = plain.remove(choices % left);
+    for taken in 0..5 {
+        let left = 5 - taken;
+        unlink_at(rt, &mut lists, &mut plain, choices % left);
         choices /= left;
-        assert!(rt; lists.contains(key));
-        assert_eq!(rt; lists.unlink(key), new);
-        assert!(rt; !lists.contains(key));
-        for (i, (key, _)) in plain.iter().enumerate() {
-            assert!(rt; lists.contains(*key));
-            assert_eq!(rt; lists.next(*key), plain.get(i + 1).map(|(_, new)| *new));
-        }
+        check_left(rt, &lists, &plain);
     }
     Ok(())
 }
@@ -147,11 +191,12 @@ fn pop(rt: &impl Abort, lists: &mut Lists, plain: &mut Vec<Held>, list: usize)
 {
     let popped = lists.pop_front(list);
     let at = first_from(plain, 0, list);
-    if at < plain.len() {
-        assert_eq!(rt; popped, Some(plain.remove(at).node));
+    let want = if at < plain.len() {
+        Some(plain.remove(at).node)
     } else {
-        assert_eq!(rt; popped, None);
-    }
+        None
+    };
+    same(rt, list, popped, want);
 }
 
 fn unlink(rt: &impl Abort, lists: &mut Lists, plain: &mut Vec<Held>, at: usize)
@@ -166,24 +211,52 @@ fn unlink(rt: &impl Abort, lists: &mut Lists, plain: &mut Vec<Held>, at: usize)
     }
     let held = plain.remove(at % left);
     assert!(rt; lists.contains(held.key));
-    assert_eq!(rt; lists.unlink(held.key), held.node);
+    same(rt, at, lists.unlink(held.key), held.node);
 }
 
-/// Each list's front, and what comes after each node.
-fn compare(rt: &impl Abort, lists: &Lists, plain: &[Held])
+/// Each list's front.
+fn compare_fronts(rt: &impl Abort, lists: &Lists, plain: &[Held])
     requires lists { length lists.now.lists ≡ 3 }
 {
     for list in 0..3 {
         let first = plain.get(first_from(plain, 0, list)).map(|held| held.node);
-        assert_eq!(rt; lists.front(list), first);
+        same(rt, list, lists.front(list), first);
     }
+}
+
+/// What comes after each node.
+fn compare_nexts(rt: &impl Abort, lists: &Lists, plain: &[Held]) {
     for (i, held) in plain.iter().enumerate() {
         let next = plain
             .get(first_from(plain, i + 1, held.list))
             .map(|held| held.node);
         assert!(rt; lists.contains(held.key));
-        assert_eq!(rt; lists.next(held.key), next);
+        same(rt, i, lists.next(held.key), next);
     }
+}
+
+/// Makes one call, of this random number, on both.
+fn call(
+    rt: &impl Abort,
+    lists: &mut Lists,
+    plain: &mut Vec<Held>,
+    random: u64,
+    stamp: u16,
+) -> Result<(), NoMemory>
+    requires lists { length lists.old.lists ≡ 3 }
+    requires sorted { IsSorted (list_at lists.old 2) }
+    ensures lists { length lists.new.lists ≡ 3 }
+    ensures sorted { IsSorted (list_at lists.new 2) }
+{
+    let list = ((random >> 33) % 3) as usize;
+    let new = node(u128::from(stamp) + u128::from((random >> 50) % 16), stamp);
+    match (random >> 40) % 4 {
+        0 => pop(rt, lists, plain, list),
+        1 => unlink(rt, lists, plain, (random >> 45) as usize),
+        _ if list == SORTED => insert(lists, plain, new)?,
+        _ => push(lists, plain, list, new)?,
+    }
+    Ok(())
 }
 
 #[test]
@@ -195,15 +268,9 @@ fn a_thousand_calls_beside_a_plain_vector(rt: HostRuntime) -> Result<(), Fail> {
         random = random
             .wrapping_mul(6_364_136_223_846_793_005)
             .wrapping_add(1_442_695_040_888_963_407);
-        let list = ((random >> 33) % 3) as usize;
-        let new = node(u128::from(stamp) + u128::from((random >> 50) % 16), stamp);
-        match (random >> 40) % 4 {
-            0 => pop(&rt, &mut lists, &mut plain, list),
-            1 => unlink(&rt, &mut lists, &mut plain, (random >> 45) as usize),
-            _ if list == SORTED => insert(&mut lists, &mut plain, new)?,
-            _ => push(&mut lists, &mut plain, list, new)?,
-        }
-        compare(&rt, &lists, &plain);
+        call(&rt, &mut lists, &mut plain, random, stamp)?;
+        compare_fronts(&rt, &lists, &plain);
+        compare_nexts(&rt, &lists, &plain);
     }
     Ok(())
 }

@@ -1,5 +1,6 @@
 //! Machines by single instructions: what no text shows.
 use crate::checking::same;
+use crate::examples::TWO_WORKS;
 use cmwq_asm::assemble;
 use cmwq_plain::Plain;
 use cmwq_table::{LoadError, Machine, View};
@@ -8,11 +9,6 @@ use std::alloc::Global;
 use std::process::Abort;
 
 const B: WorkId = WorkId(1);
-
-/// Works `a` and `b`, each of which burns once, on a queue of `max_active` 1.
-pub(crate) const TWO_WORKS: &[u8] =
-    b"cpus 1\nworkers 4\nsteps 1000\nflushes 2\nqueue q max 1\nwork a q\nwork b q\n\
-    body a\nburn 1\nfinish\nbody b\nburn 1\nfinish\nactor t\n";
 
 /// Three works on a freezable queue of `max_active` 2.
 const FREEZABLE: &[u8] = b"cpus 1\nworkers 4\nsteps 1000\nflushes 2\nqueue f max 2 freezable\n\
@@ -42,34 +38,52 @@ fn whole_view<M: Machine>(rt: &impl Abort, machine: &M) -> View {
     machine.look().expect(rt, "memory is left")
 }
 
+/// A copy of the scenario equals it until one of the two changes.
+fn check_copied(rt: &impl Abort, alloc: Global, text: &[u8]) {
+    let source = scenario(rt, alloc, text);
+    let mut copy = source.copy().expect(rt, "memory is left");
+    same(rt, text, &copy, &source);
+    copy.works.pop();
+    same(rt, text, copy == source, false);
+}
+
 #[test]
 fn a_copied_scenario_equals_its_source(rt: HostRuntime) {
     for text in [TWO_WORKS, FREEZABLE] {
-        let source = scenario(&rt, rt.alloc(), text);
-        let mut copy = source.copy().expect(&rt, "memory is left");
-        same(&rt, text, &copy, &source);
-        copy.works.pop();
-        same(&rt, text, copy == source, false);
+        check_copied(&rt, rt.alloc(), text);
     }
+}
+
+/// Whether the machine shows this state.
+fn shows<M: Machine>(rt: &impl Abort, machine: &M, view: &View) -> bool {
+    whole_view(rt, machine) == *view
+}
+
+/// A copy of a machine whose second work is delayed shows the same, and goes on alone.
+fn check_copy<M: Machine>(rt: &impl Abort, alloc: Global) {
+    let mut machine: M = loaded(rt, alloc, TWO_WORKS);
+    machine.exec(Instr::Delay(B, 0, 3));
+    let before = whole_view(rt, &machine);
+    let mut copy = machine.copy().expect(rt, "memory is left");
+    same(rt, "a copy", &whole_view(rt, &copy), &before);
+    check_alone(rt, &mut machine, &mut copy, &before);
+}
+
+/// What the copy goes through doesn't show in its source, which then goes through the same.
+fn check_alone<M: Machine>(rt: &impl Abort, source: &mut M, copy: &mut M, before: &View) {
+    let cancelled = (Instr::Cancel(B), Reply::Cancelled);
+    let rows = [cancelled, (Instr::Cancel(B), Reply::NotPending)];
+    exec_all(rt, copy, &rows);
+    same(rt, "the copy went on", shows(rt, copy, before), false);
+    same(rt, "the source stayed", shows(rt, source, before), true);
+    exec_all(rt, source, &rows);
+    let view = whole_view(rt, source);
+    same(rt, "both went on", &view, &whole_view(rt, copy));
 }
 
 #[test]
 fn a_copy_goes_on_alone(rt: HostRuntime) {
-    let mut machine: Plain = loaded(&rt, rt.alloc(), TWO_WORKS);
-    machine.exec(Instr::Delay(B, 0, 3));
-    let before = whole_view(&rt, &machine);
-    let mut copy = machine.copy().expect(&rt, "memory is left");
-    same(&rt, "a copy", &whole_view(&rt, &copy), &before);
-    let cancelled = (Instr::Cancel(B), Reply::Cancelled);
-    let rows = [cancelled, (Instr::Cancel(B), Reply::NotPending)];
-    exec_all(&rt, &mut copy, &rows);
-    let stayed = whole_view(&rt, &copy) == before;
-    same(&rt, "the copy went on", stayed, false);
-    let stayed = whole_view(&rt, &machine) == before;
-    same(&rt, "the source stayed", stayed, true);
-    exec_all(&rt, &mut machine, &rows);
-    let views = (whole_view(&rt, &machine), whole_view(&rt, &copy));
-    same(&rt, "both went on", &views.0, &views.1);
+    check_copy::<Plain>(&rt, rt.alloc());
 }
 
 /// Two instructions at a scenario's start, and what a look then shows.
@@ -117,14 +131,19 @@ fn check_look<M: Machine>(rt: &impl Abort, machine: &M, row: &Looked) {
     same(rt, row.instrs, counts, (row.pending, row.flushes));
 }
 
+/// Carries out the row's instructions, and compares what a look then shows.
+fn check_looked<M: Machine>(rt: &impl Abort, alloc: Global, row: &Looked) {
+    let mut machine: M = loaded(rt, alloc, row.text);
+    for instr in row.instrs {
+        machine.exec(instr);
+    }
+    check_look(rt, &machine, row);
+}
+
 #[test]
 fn a_look_shows_the_state(rt: HostRuntime) {
     for row in LOOKED {
-        let mut machine: Plain = loaded(&rt, rt.alloc(), row.text);
-        for instr in row.instrs {
-            machine.exec(instr);
-        }
-        check_look(&rt, &machine, &row);
+        check_looked::<Plain>(&rt, rt.alloc(), &row);
     }
 }
 
@@ -187,20 +206,30 @@ fn start_first<M: Machine>(rt: &impl Abort, machine: &mut M) {
     }
 }
 
+/// The largest scenario's works are queued, the first of each CPU start, and a tick passes.
+fn check_largest<M: Machine>(rt: &impl Abort, alloc: Global) {
+    let text = largest(rt, alloc);
+    let mut machine: M = loaded(rt, alloc, text.as_bytes());
+    queue_all(rt, &mut machine);
+    start_first(rt, &mut machine);
+    exec_all(rt, &mut machine, &[(Instr::Next, Reply::Done)]);
+    same(rt, "the time", machine.now(), 1);
+}
+
 #[test]
 fn the_largest_scenario_runs(rt: HostRuntime) {
-    let text = largest(&rt, rt.alloc());
-    let mut machine: Plain = loaded(&rt, rt.alloc(), text.as_bytes());
-    queue_all(&rt, &mut machine);
-    start_first(&rt, &mut machine);
-    exec_all(&rt, &mut machine, &[(Instr::Next, Reply::Done)]);
-    same(&rt, "the time", machine.now(), 1);
+    check_largest::<Plain>(&rt, rt.alloc());
+}
+
+/// A scenario of 17 CPUs is refused.
+fn check_not_loaded<M: Machine>(rt: &impl Abort, alloc: Global) {
+    let mut scenario = scenario(rt, alloc, TWO_WORKS);
+    scenario.cpus = 17;
+    let fault = M::load(alloc, &scenario).err();
+    same(rt, "17 CPUs", fault, Some(LoadError::Fault(Fault::Range)));
 }
 
 #[test]
 fn a_scenario_with_a_fault_is_not_loaded(rt: HostRuntime) {
-    let mut scenario = scenario(&rt, rt.alloc(), TWO_WORKS);
-    scenario.cpus = 17;
-    let fault = Plain::load(rt.alloc(), &scenario).err();
-    same(&rt, "17 CPUs", fault, Some(LoadError::Fault(Fault::Range)));
+    check_not_loaded::<Plain>(&rt, rt.alloc());
 }

@@ -6,10 +6,12 @@ ghost use Rattle.cmwq_lock.specs.Views.{next_of};
 ghost use Rattle.cmwq_engine.specs.Shared.{IsDrawnOf, IsOpenerOf, IsPassOf};
 
 use crate::checking::same;
-use crate::machines::{TWO_WORKS, scenario};
+use cmwq_asm::assemble;
 use cmwq_engine::{Engine, Full, IssueError, Receipt, Shared, StillOut};
 use cmwq_lock::{Drawn, NotYet, Opener, Pass};
+use cmwq_machine_tests::examples::TWO_WORKS;
 use cmwq_plain::Plain;
+use cmwq_table::Machine;
 use cmwq_types::{Instr, Place, Reply, WorkId, WorkState};
 use std::alloc::Global;
 use std::process::Abort;
@@ -42,31 +44,31 @@ fn receipt(ticket: u64, place: u32, reply: Reply) -> Receipt {
 }
 
 /// A shared engine with room for so many entries, and its opener.
-fn opened(
+fn opened<M: Machine>(
     rt: &impl Abort,
     alloc: Global,
     text: &[u8],
     capacity: u32,
-) -> (Shared<Plain>, Opener<Engine<Plain>>)
+) -> (Shared<M>, Opener<Engine<M>>)
     requires { capacity ≤ MAX_HISTORY }
     ensures opener { IsOpenerOf result.0 result.1 }
     ensures first { next_of (opener_view result.1) ≡ 0 }
 {
-    let scenario = scenario(rt, alloc, text);
+    let scenario = assemble(alloc, text).expect(rt, "a scenario's text");
     Shared::open(alloc, &scenario, capacity).expect(rt, "memory is left")
 }
 
 /// A shared engine with room for so many entries, and its first two passes.
-fn with_two_passes(
+fn with_two_passes<M: Machine>(
     rt: &impl Abort,
     alloc: Global,
     text: &[u8],
     capacity: u32,
 ) -> (
-    Shared<Plain>,
-    Opener<Engine<Plain>>,
-    Pass<Engine<Plain>>,
-    Pass<Engine<Plain>>,
+    Shared<M>,
+    Opener<Engine<M>>,
+    Pass<Engine<M>>,
+    Pass<Engine<M>>,
 )
     requires { capacity ≤ MAX_HISTORY }
     ensures opener { IsOpenerOf result.0 result.1 }
@@ -80,11 +82,11 @@ fn with_two_passes(
 }
 
 /// Draws a ticket, where no other thread draws.
-fn drawn_by(
+fn drawn_by<M: Machine>(
     rt: &impl Abort,
-    shared: &Shared<Plain>,
-    pass: Pass<Engine<Plain>>,
-) -> Drawn<Engine<Plain>>
+    shared: &Shared<M>,
+    pass: Pass<Engine<M>>,
+) -> Drawn<Engine<M>>
     requires { IsPassOf shared.now pass }
     ensures { IsDrawnOf shared.now result }
 {
@@ -95,13 +97,13 @@ fn drawn_by(
 }
 
 /// Issues the instruction in the turn of the ticket, which has come, and compares what it comes to.
-fn issued(
+fn issued<M: Machine>(
     rt: &impl Abort,
-    shared: &Shared<Plain>,
-    drawn: Drawn<Engine<Plain>>,
+    shared: &Shared<M>,
+    drawn: Drawn<Engine<M>>,
     instr: Instr,
     want: Result<Receipt, Full>,
-) -> Pass<Engine<Plain>>
+) -> Pass<Engine<M>>
     requires { IsDrawnOf shared.now drawn }
     ensures { IsPassOf shared.now result }
 {
@@ -115,13 +117,13 @@ fn issued(
 }
 
 /// The turn of the ticket hasn't come: that of the other number has.
-fn not_yet_issued(
+fn not_yet_issued<M: Machine>(
     rt: &impl Abort,
-    shared: &Shared<Plain>,
-    drawn: Drawn<Engine<Plain>>,
+    shared: &Shared<M>,
+    drawn: Drawn<Engine<M>>,
     instr: Instr,
     want: (u64, u64),
-) -> Drawn<Engine<Plain>>
+) -> Drawn<Engine<M>>
     requires { IsDrawnOf shared.now drawn }
     ensures { IsDrawnOf shared.now result }
 {
@@ -142,12 +144,12 @@ fn not_yet_issued(
 }
 
 /// The shared engine can't be closed while this many passes are out, and comes back.
-fn not_closed(
+fn not_closed<M: Machine>(
     rt: &impl Abort,
-    shared: Shared<Plain>,
-    opener: Opener<Engine<Plain>>,
+    shared: Shared<M>,
+    opener: Opener<Engine<M>>,
     want: u32,
-) -> (Shared<Plain>, Opener<Engine<Plain>>)
+) -> (Shared<M>, Opener<Engine<M>>)
     requires { IsOpenerOf shared opener }
     ensures shared { result.0 ≡ shared }
     ensures opener { result.1 ≡ opener }
@@ -168,13 +170,13 @@ fn not_closed(
 }
 
 /// Retires both passes, and closes the shared engine.
-fn closed(
+fn closed<M: Machine>(
     rt: &impl Abort,
-    shared: Shared<Plain>,
-    opener: Opener<Engine<Plain>>,
-    first: Pass<Engine<Plain>>,
-    second: Pass<Engine<Plain>>,
-) -> Engine<Plain>
+    shared: Shared<M>,
+    opener: Opener<Engine<M>>,
+    first: Pass<Engine<M>>,
+    second: Pass<Engine<M>>,
+) -> Engine<M>
     requires opener { IsOpenerOf shared opener }
     requires first { IsPassOf shared first }
     requires second { IsPassOf shared second }
@@ -188,61 +190,57 @@ fn closed(
     }
 }
 
+/// Two callers draw in turn, and the later ticket waits for the earlier one.
+fn check_order<M: Machine>(rt: &impl Abort, alloc: Global) {
+    let (shared, opener, p0, p1) = with_two_passes::<M>(rt, alloc, ONE_WORK, 3);
+    let d0 = drawn_by(rt, &shared, p0);
+    let d1 = drawn_by(rt, &shared, p1);
+    let d1 = not_yet_issued(rt, &shared, d1, QUEUE_A, (1, 0));
+    let p0 = issued(rt, &shared, d0, Instr::Tick, Ok(receipt(0, 0, Reply::Done)));
+    let p1 = issued(rt, &shared, d1, QUEUE_A, Ok(receipt(1, 1, Reply::Queued)));
+    let d0 = drawn_by(rt, &shared, p0);
+    let p0 = issued(rt, &shared, d0, Instr::State(A), Ok(receipt(2, 2, LISTED)));
+    let d1 = drawn_by(rt, &shared, p1);
+    let p1 = issued(rt, &shared, d1, Instr::Tick, Err(Full));
+    let (shared, opener) = not_closed(rt, shared, opener, 2);
+    let engine = closed(rt, shared, opener, p0, p1);
+    same(rt, "entries", engine.history().len(), 3);
+}
+
 #[test]
 fn two_callers_issue_in_the_order_of_their_tickets(rt: HostRuntime) {
-    let (shared, opener, p0, p1) = with_two_passes(&rt, rt.alloc(), ONE_WORK, 3);
-    let d0 = drawn_by(&rt, &shared, p0);
-    let d1 = drawn_by(&rt, &shared, p1);
-    let d1 = not_yet_issued(&rt, &shared, d1, QUEUE_A, (1, 0));
-    let p0 = issued(
-        &rt,
-        &shared,
-        d0,
-        Instr::Tick,
-        Ok(receipt(0, 0, Reply::Done)),
-    );
-    let p1 = issued(&rt, &shared, d1, QUEUE_A, Ok(receipt(1, 1, Reply::Queued)));
-    let d0 = drawn_by(&rt, &shared, p0);
-    let p0 = issued(&rt, &shared, d0, Instr::State(A), Ok(receipt(2, 2, LISTED)));
-    let d1 = drawn_by(&rt, &shared, p1);
-    let p1 = issued(&rt, &shared, d1, Instr::Tick, Err(Full));
-    let (shared, opener) = not_closed(&rt, shared, opener, 2);
-    let engine = closed(&rt, shared, opener, p0, p1);
-    same(&rt, "entries", engine.history().len(), 3);
+    check_order::<Plain>(&rt, rt.alloc());
+}
+
+/// Two callers issue and meet, and the first issues on.
+fn check_meeting<M: Machine>(rt: &impl Abort, alloc: Global) {
+    let (shared, _opener, p0, p1) = with_two_passes::<M>(rt, alloc, ONE_WORK, 4);
+    let d0 = drawn_by(rt, &shared, p0);
+    let p0 = issued(rt, &shared, d0, Instr::Tick, Ok(receipt(0, 0, Reply::Done)));
+    let d1 = drawn_by(rt, &shared, p1);
+    let p1 = issued(rt, &shared, d1, QUEUE_A, Ok(receipt(1, 1, Reply::Queued)));
+    let (p0, _p1) = shared.meet(p0, p1);
+    let d0 = drawn_by(rt, &shared, p0);
+    let _p0 = issued(rt, &shared, d0, Instr::State(A), Ok(receipt(2, 2, LISTED)));
 }
 
 #[test]
 fn a_caller_issues_on_after_a_meeting(rt: HostRuntime) {
-    let (shared, _opener, p0, p1) = with_two_passes(&rt, rt.alloc(), ONE_WORK, 4);
-    let d0 = drawn_by(&rt, &shared, p0);
-    let p0 = issued(
-        &rt,
-        &shared,
-        d0,
-        Instr::Tick,
-        Ok(receipt(0, 0, Reply::Done)),
-    );
-    let d1 = drawn_by(&rt, &shared, p1);
-    let p1 = issued(&rt, &shared, d1, QUEUE_A, Ok(receipt(1, 1, Reply::Queued)));
-    let (p0, _p1) = shared.meet(p0, p1);
-    let d0 = drawn_by(&rt, &shared, p0);
-    let _p0 = issued(&rt, &shared, d0, Instr::State(A), Ok(receipt(2, 2, LISTED)));
+    check_meeting::<Plain>(&rt, rt.alloc());
+}
+
+/// With 64 callers out, one more is refused.
+fn check_64_out<M: Machine>(rt: &impl Abort, alloc: Global) {
+    let (shared, mut opener) = opened::<M>(rt, alloc, ONE_WORK, 3);
+    for _ in 0u64..64 {
+        let _stays_out = shared.pass(&mut opener).expect(rt, "fewer than 64 are out");
+    }
+    same(rt, "64 passes out", shared.pass(&mut opener).is_err(), true);
 }
 
 #[test]
 fn refuses_a_pass_while_64_callers_are_out(rt: HostRuntime) {
-    let (shared, mut opener) = opened(&rt, rt.alloc(), ONE_WORK, 3);
-    for _ in 0u64..64 {
-        let _stays_out = shared
-            .pass(&mut opener)
-            .expect(&rt, "fewer than 64 are out");
-    }
-    same(
-        &rt,
-        "64 passes out",
-        shared.pass(&mut opener).is_err(),
-        true,
-    );
+    check_64_out::<Plain>(&rt, rt.alloc());
 }
 
 /// Whether the work that was asked for is pending.
@@ -255,12 +253,12 @@ fn is_pending(outcome: Result<Receipt, IssueError>) -> bool {
 
 /// Asks for the work until it is pending, at most 10,000 times, with a millisecond's sleep after each. Whether it
 /// came to be.
-fn sees_pending<R: Wait + Clock>(
+fn sees_pending<M: Machine, R: Wait + Clock>(
     rt: &R,
-    shared: &Shared<Plain>,
-    pass: Pass<Engine<Plain>>,
+    shared: &Shared<M>,
+    pass: Pass<Engine<M>>,
     work: WorkId,
-) -> (Pass<Engine<Plain>>, bool)
+) -> (Pass<Engine<M>>, bool)
     requires { IsPassOf shared.now pass }
     ensures { IsPassOf shared.now result.0 }
 {
@@ -277,14 +275,14 @@ fn sees_pending<R: Wait + Clock>(
 }
 
 /// Queues its own work once both threads are there, and waits for the other's to be pending.
-fn queue_and_see<R: Wait + Clock>(
+fn queue_and_see<M: Machine, R: Wait + Clock>(
     rt: &R,
     start: &Barrier,
-    shared: &Shared<Plain>,
-    pass: Pass<Engine<Plain>>,
+    shared: &Shared<M>,
+    pass: Pass<Engine<M>>,
     own: WorkId,
     other: WorkId,
-) -> (Pass<Engine<Plain>>, bool)
+) -> (Pass<Engine<M>>, bool)
     requires { IsPassOf shared.now pass }
     ensures { IsPassOf shared.now result.0 }
 {
@@ -294,12 +292,12 @@ fn queue_and_see<R: Wait + Clock>(
 }
 
 /// Two threads, each with a work of its own, each of which sees the other's.
-fn both_see<R: Threads + Wait + Clock + Abort + Sync>(
+fn both_see<M: Machine + Send + Sync, R: Threads + Wait + Clock + Abort + Sync>(
     rt: &R,
-    shared: &Shared<Plain>,
-    one: Pass<Engine<Plain>>,
-    other: Pass<Engine<Plain>>,
-) -> (Pass<Engine<Plain>>, Pass<Engine<Plain>>)
+    shared: &Shared<M>,
+    one: Pass<Engine<M>>,
+    other: Pass<Engine<M>>,
+) -> (Pass<Engine<M>>, Pass<Engine<M>>)
     requires one { IsPassOf shared.now one }
     requires other { IsPassOf shared.now other }
     ensures one { IsPassOf shared.now result.0 }
@@ -321,20 +319,28 @@ fn both_see<R: Threads + Wait + Clock + Abort + Sync>(
     (one, other)
 }
 
-#[test]
-fn two_threads_see_each_others_work_pending_and_meet(rt: HostRuntime) {
-    let (shared, opener, p0, p1) = with_two_passes(&rt, rt.alloc(), TWO_WORKS, 20_004);
-    let (p0, p1) = both_see(&rt, &shared, p0, p1);
+/// Two threads see each other's work, their callers meet, and both serve on.
+fn check_seeing<M: Machine + Send + Sync, R: Threads + Wait + Clock + Abort + Sync>(
+    rt: &R,
+    alloc: Global,
+) {
+    let (shared, opener, p0, p1) = with_two_passes::<M>(rt, alloc, TWO_WORKS, 20_004);
+    let (p0, p1) = both_see(rt, &shared, p0, p1);
     let (p0, p1) = shared.meet(p0, p1);
-    let (p0, first) = shared.issue(&rt, p0, Instr::State(B));
-    let (p1, second) = shared.issue(&rt, p1, Instr::State(A));
+    let (p0, first) = shared.issue(rt, p0, Instr::State(B));
+    let (p1, second) = shared.issue(rt, p1, Instr::State(A));
     same(
-        &rt,
+        rt,
         "both serve on",
         (is_pending(first), is_pending(second)),
         (true, true),
     );
-    let engine = closed(&rt, shared, opener, p0, p1);
+    let engine = closed(rt, shared, opener, p0, p1);
     let last = engine.history().iter().rev().take(2);
     assert!(rt; last.map(|entry| entry.caller).eq([1, 0].iter().copied()));
+}
+
+#[test]
+fn two_threads_see_each_others_work_pending_and_meet(rt: HostRuntime) {
+    check_seeing::<Plain, HostRuntime>(&rt, rt.alloc());
 }

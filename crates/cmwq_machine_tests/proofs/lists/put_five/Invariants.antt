@@ -1,5 +1,5 @@
 use Rattle.std.proofs.Common.{◌≡◌, length}
-use Rattle.cmwq_machine_tests.proofs.lists.unlink_in_order.Given as goal
+use Rattle.cmwq_machine_tests.proofs.lists.put_five.Given as goal
 
 abbrev pub invariant-loop-work : goal.invariant-loop-work
 invariant-loop-work g l = length l.lists.lists ≡ 1
