@@ -1,6 +1,7 @@
 //! Cutting: a text into its lines, and a line into its pieces between blanks.
 ghost use Rattle.cmwq_grammar.specs.Cutting.{is_blank, lines_of};
 ghost use Rattle.cmwq_scan.specs.Words.{worded_part};
+ghost use Rattle.memchr.specs.Find.{Nowhere, Passes};
 ghost use Rattle.std.specs.List.{slice_split};
 ghost use Rattle.std.specs.Prelude.{◌≡◌, ◌+◌, ◌<◌, ◌≤◌, ◌∷◌, ◌++◌, ◌==◌, ℕ, [], IfSome, MatchOption, length, position};
 ghost use Rattle.std.specs.Str.Lines.{strip_carriage_return};
@@ -73,7 +74,30 @@ fn place_of(bytes: &[u8], wanted: u8) -> Option<usize>
 fn place_of_blank(bytes: &[u8]) -> Option<usize>
     ensures { result ≡ position is_blank bytes.now }
 {
-    bytes.iter().position(|byte| is_blank(*byte))
+    let mut place = next_low(bytes, 0);
+    while place < bytes.len() {
+        if is_blank(bytes[place]) {
+            return Some(place);
+        }
+        place = next_low(bytes, place + 1);
+    }
+    None
+}
+
+/// The first place from this one on of a byte that is a space or lower, as each blank is; where there is
+/// none, the end.
+fn next_low(bytes: &[u8], from: usize) -> usize
+    requires { from ≤ length bytes.now }
+    ensures low { from ≤ result }
+    ensures high { result ≤ length bytes.now }
+    ensures passed { Nowhere (Passes is_blank bytes.now) from result }
+{
+    for place in from..bytes.len() {
+        if bytes[place] <= b' ' {
+            return place;
+        }
+    }
+    bytes.len()
 }
 
 /// Whether the byte is a space or a tab.
