@@ -3,7 +3,8 @@ ghost use Rattle.cmwq_grammar.specs.Cutting.{is_blank, lines_of};
 ghost use Rattle.cmwq_scan.specs.Words.{worded_part};
 ghost use Rattle.memchr.specs.Find.{Nowhere, Passes};
 ghost use Rattle.std.specs.List.{slice_split};
-ghost use Rattle.std.specs.Prelude.{◌≡◌, ◌+◌, ◌<◌, ◌≤◌, ◌∷◌, ◌++◌, ◌==◌, ℕ, [], IfSome, MatchOption, length, position};
+ghost use Rattle.std.specs.Prelude.{◌≡◌, ◌+◌, ◌<◌, ◌≤◌, ◌∷◌, ◌++◌, ◌==◌, ℕ, [], IfSome, IsTrue, MatchOption, length, position};
+ghost use Rattle.std.specs.Str.{is_utf8};
 ghost use Rattle.std.specs.Str.Lines.{strip_carriage_return};
 
 use memchr::memchr;
@@ -16,6 +17,8 @@ pub fn next_line(text: &[u8]) -> Option<(&[u8], &[u8])>
         (λ line. lines_of text.now ≡ line.0.now ∷ lines_of line.1.now) }
     ensures shorter { IfSome result (λ line. length line.0.now + length line.1.now ≤ length text.now) }
     ensures ends { IfSome result (λ line. length line.1.now < length text.now) }
+    // The lines of what is UTF-8 are so, each by itself.
+    ensures utf8 { IfSome result (λ line. IsTrue (is_utf8 text.now) → IsTrue (is_utf8 line.0.now) × IsTrue (is_utf8 line.1.now)) }
 {
     if text.is_empty() {
         return None;
