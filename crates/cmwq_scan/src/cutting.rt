@@ -7,6 +7,7 @@ ghost use Rattle.std.specs.Prelude.{◌≡◌, ◌+◌, ◌<◌, ◌≤◌, ◌�
 ghost use Rattle.std.specs.Str.{is_utf8};
 ghost use Rattle.std.specs.Str.Lines.{strip_carriage_return};
 
+use crate::lanes::{LANES, run_before_blank};
 use memchr::memchr;
 
 /// The first line of the text and what comes after its line feed, or `None` where there is no line. An
@@ -77,7 +78,7 @@ fn place_of(bytes: &[u8], wanted: u8) -> Option<usize>
 fn place_of_blank(bytes: &[u8]) -> Option<usize>
     ensures { result ≡ position is_blank bytes.now }
 {
-    let mut place = next_low(bytes, 0);
+    let mut place = next_low(bytes, skip_lanes(bytes));
     while place < bytes.len() {
         if is_blank(bytes[place]) {
             return Some(place);
@@ -85,6 +86,22 @@ fn place_of_blank(bytes: &[u8]) -> Option<usize>
         place = next_low(bytes, place + 1);
     }
     None
+}
+
+/// A place up to which there is no blank: that of the first blank, or one near the end.
+fn skip_lanes(bytes: &[u8]) -> usize
+    ensures high { result ≤ length bytes.now }
+    ensures passed { Nowhere (Passes is_blank bytes.now) 0 result }
+{
+    let mut place = 0;
+    while bytes.len() - place >= LANES {
+        let run = run_before_blank(bytes, place);
+        place += run;
+        if run < LANES {
+            return place;
+        }
+    }
+    place
 }
 
 /// The first place from this one on of a byte that is a space or lower, as each blank is; where there is
