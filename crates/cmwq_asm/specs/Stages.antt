@@ -12,5 +12,5 @@ stage_of (reached.Steps cpus workers steps) = stage.Steps cpus workers steps
 stage_of (reached.Queues draft) = stage.Queues draft
 stage_of (reached.Works draft) = stage.Works draft
 stage_of (reached.Bodies bodies) = stage.Bodies bodies.told bodies.done
-stage_of (reached.Body told) = stage.Body told.bodies.told told.bodies.done told.ops.items
-stage_of (reached.Actor told) = stage.Actor told.draft told.name told.lines.items
+stage_of (reached.Body told) = stage.Body told.value.bodies.told told.value.bodies.done told.value.ops.items
+stage_of (reached.Actor told) = stage.Actor told.value.draft told.value.name told.value.lines.items

@@ -29,13 +29,17 @@ pub(crate) fn open_actor<'t>(
         return Err(LineError::Why(Why::Fault(Fault::TooMany)));
     }
     let lines = Vec::new(alloc);
-    Ok(Stage::Actor(OpenActor { draft, name, lines }))
+    let actor = Box::new(alloc, OpenActor { draft, name, lines })?;
+    Ok(Stage::Actor(actor))
 }
 
 /// Adds a line to the actor.
 #[tactic(auto, unfolding(cmwq_grammar::specs::Reasons::add_line))]
-pub(crate) fn add_line<'t>(mut actor: OpenActor<'t>, line: Line) -> Result<Stage<'t>, LineError>
-    ensures { Gives stage_of result (add_line actor.entry.draft actor.entry.name actor.entry.lines.items line) }
+pub(crate) fn add_line<'t>(
+    mut actor: Box<OpenActor<'t>>,
+    line: Line,
+) -> Result<Stage<'t>, LineError>
+    ensures { Gives stage_of result (add_line actor.entry.value.draft actor.entry.value.name actor.entry.value.lines.items line) }
 {
     if actor.lines.len() >= MAX_LINES {
         return Err(LineError::Why(Why::Fault(Fault::TooMany)));
@@ -45,9 +49,9 @@ pub(crate) fn add_line<'t>(mut actor: OpenActor<'t>, line: Line) -> Result<Stage
 }
 
 /// What was told, with this actor, which has no further lines.
-pub(crate) fn close_actor<'t>(actor: OpenActor<'t>) -> Result<Draft<'t>, NoMemory>
-    ensures { IfOk result (λ draft. draft ≡ with_actor actor.entry.draft actor.entry.name actor.entry.lines.items) }
+pub(crate) fn close_actor<'t>(actor: Box<OpenActor<'t>>) -> Result<Draft<'t>, NoMemory>
+    ensures { IfOk result (λ draft. draft ≡ with_actor actor.entry.value.draft actor.entry.value.name actor.entry.value.lines.items) }
 {
-    let OpenActor { draft, name, lines } = actor;
+    let OpenActor { draft, name, lines } = Box::into_inner(actor);
     draft.with_actor(&name, lines)
 }

@@ -19,7 +19,7 @@ use cmwq_grammar::laws::{
     spelled_text_reads_as_its_scenario,
 };
 use cmwq_list::list;
-use cmwq_scan::next_line;
+use cmwq_scan::{is_text, next_line};
 use cmwq_types::{MAX_TEXT, Scenario};
 use std::alloc::Global;
 
@@ -82,13 +82,14 @@ fn read_lines<'t>(alloc: Global, text: &'t [u8]) -> Result<(Stage<'t>, u32), Asm
     ensures count { IfOk result (λ read. read.1 ≡ length (lines_of text.now)) }
     ensures few { IfOk result (λ read. read.1 ≤ MAX_TEXT) }
 {
+    let is_all_text = is_text(text);
     let mut words = Vec::new(alloc);
     let mut stage = Stage::Start;
     let mut lines = 0;
     let mut rest = text;
     while let Some((line, behind)) = next_line(rest) {
         lines += 1;
-        stage = match judge(alloc, &mut words, stage, line) {
+        stage = match judge(alloc, &mut words, stage, line, is_all_text) {
             Ok(next) => next,
             Err(error) => return Err(at_line(lines, error)),
         };

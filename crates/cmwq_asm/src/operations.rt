@@ -33,7 +33,8 @@ pub(crate) fn open_body<'t>(
 {
     read_next(&bodies, rest)?;
     let ops = Vec::new(alloc);
-    Ok(Stage::Body(OpenBody { bodies, ops }))
+    let body = Box::new(alloc, OpenBody { bodies, ops })?;
+    Ok(Stage::Body(body))
 }
 
 /// The number of the next work, which must be named in the line's last word.
@@ -97,17 +98,17 @@ fn not_in_body(word: &[u8]) -> Why
 
 /// Adds the operation to the body; `finish` ends it, and any other must leave room for that.
 #[tactic(auto, unfolding(cmwq_grammar::specs::Reasons::add_op))]
-pub(crate) fn add_op<'t>(mut body: OpenBody<'t>, op: Op) -> Result<Stage<'t>, LineError>
-    ensures { Gives stage_of result (add_op body.entry.bodies.told body.entry.bodies.done body.entry.ops.items op) }
+pub(crate) fn add_op<'t>(mut body: Box<OpenBody<'t>>, op: Op) -> Result<Stage<'t>, LineError>
+    ensures { Gives stage_of result (add_op body.entry.value.bodies.told body.entry.value.bodies.done body.entry.value.ops.items op) }
 {
     let is_last = matches!(op, Op::Finish);
     if !is_last && body.ops.len() + 1 >= MAX_OPS {
         return Err(LineError::Why(Why::Fault(Fault::TooMany)));
     }
     body.ops.push(op)?;
-    if is_last {
-        Ok(Stage::Bodies(body.bodies.with_body(body.ops)?))
-    } else {
-        Ok(Stage::Body(body))
+    if !is_last {
+        return Ok(Stage::Body(body));
     }
+    let OpenBody { bodies, ops } = Box::into_inner(body);
+    Ok(Stage::Bodies(bodies.with_body(ops)?))
 }

@@ -34,9 +34,9 @@ pub(crate) enum Stage<'t> {
     /// No body is open.
     Bodies(Bodies<'t>),
     /// The next work's body is open.
-    Body(OpenBody<'t>),
+    Body(Box<OpenBody<'t>>),
     /// Each work has its body, and an actor is open.
-    Actor(OpenActor<'t>),
+    Actor(Box<OpenActor<'t>>),
 }
 
 /// A stage is dropped by one call, wherever that is.

@@ -5,7 +5,8 @@ ghost use Rattle.cmwq_asm.specs.Stages.{stage_of};
 ghost use Rattle.cmwq_asm.specs.Steps.{text_words};
 ghost use Rattle.cmwq_grammar.specs.Reasons.{at_end, judge, step};
 ghost use Rattle.cmwq_grammar.specs.Stages as stage;
-ghost use Rattle.std.specs.Prelude.{◌∷◌};
+ghost use Rattle.std.specs.Prelude.{◌∷◌, IsTrue};
+ghost use Rattle.std.specs.Str.{is_utf8};
 
 use crate::actors::{add_line, close_actor, open_actor};
 use crate::bodies::Bodies;
@@ -23,24 +24,32 @@ use cmwq_types::Scenario;
 use std::alloc::Global;
 
 /// The stage after this line, or the first reason against it. The line's words are left in `words`.
+/// Whether the line is text is judged here, unless it is known to be.
 #[tactic(auto, unfolding(cmwq_grammar::specs::Reasons::judge))]
 pub(crate) fn judge<'t>(
     alloc: Global,
     words: &mut Vec<Token<'t>>,
     stage: Stage<'t>,
     line: &'t [u8],
+    is_known_text: bool,
 ) -> Result<Stage<'t>, LineError>
+    requires { IsTrue is_known_text → IsTrue (is_utf8 line.now) }
     ensures { Gives stage_of result (judge (stage_of stage.entry) line.now) }
 {
-    read_words(words, line)?;
+    read_words(words, line, is_known_text)?;
     step(alloc, stage, words)
 }
 
 /// Leaves the words of the line in the vector, if it is text.
-fn read_words<'t>(words: &mut Vec<Token<'t>>, line: &'t [u8]) -> Result<(), LineError>
+fn read_words<'t>(
+    words: &mut Vec<Token<'t>>,
+    line: &'t [u8],
+    is_known_text: bool,
+) -> Result<(), LineError>
+    requires { IsTrue is_known_text → IsTrue (is_utf8 line.now) }
     ensures { Gives (λ _. words_in words.new.items) result (text_words line.now) }
 {
-    if !is_text(line) {
+    if !is_known_text && !is_text(line) {
         return Err(LineError::Why(Why::BadUtf8));
     }
     read_tokens(words, line)?;
@@ -122,11 +131,11 @@ pub(crate) fn between_bodies<'t>(
 /// A line in an open body.
 #[tactic(auto, unfolding(cmwq_grammar::specs::Reasons::step))]
 pub(crate) fn in_body<'t>(
-    body: OpenBody<'t>,
+    body: Box<OpenBody<'t>>,
     word: &[u8],
     rest: &[Token<'t>],
 ) -> Result<Stage<'t>, LineError>
-    ensures { Gives stage_of result (step (stage.Body body.entry.bodies.told body.entry.bodies.done body.entry.ops.items) (word.now ∷ words_in rest.now)) }
+    ensures { Gives stage_of result (step (stage.Body body.entry.value.bodies.told body.entry.value.bodies.done body.entry.value.ops.items) (word.now ∷ words_in rest.now)) }
 {
     let op = read_op(body.bodies.draft(), word, rest)?;
     add_op(body, op)
@@ -136,11 +145,11 @@ pub(crate) fn in_body<'t>(
 #[tactic(auto, unfolding(cmwq_grammar::specs::Reasons::step))]
 pub(crate) fn in_actor<'t>(
     alloc: Global,
-    actor: OpenActor<'t>,
+    actor: Box<OpenActor<'t>>,
     word: &[u8],
     rest: &[Token<'t>],
 ) -> Result<Stage<'t>, LineError>
-    ensures { Gives stage_of result (step (stage.Actor actor.entry.draft actor.entry.name actor.entry.lines.items) (word.now ∷ words_in rest.now)) }
+    ensures { Gives stage_of result (step (stage.Actor actor.entry.value.draft actor.entry.value.name actor.entry.value.lines.items) (word.now ∷ words_in rest.now)) }
 {
     if is_word(word, b"actor") {
         return open_actor(alloc, close_actor(actor)?, rest);

@@ -4,7 +4,10 @@ use Rattle.std.specs.List.{slice_split, position_or_len}
 use Rattle.std.proofs.lemmas.Bool.Decides.{nat_tests}
 use Rattle.std.proofs.lemmas.Grind.{common_steps}
 use Rattle.std.proofs.lemmas.List.Splits.{slice_split_none, slice_split_first, length-slice_split}
+use Rattle.std.proofs.lemmas.List.Quantifiers.{position-Some}
 use Rattle.std.proofs.lemmas.List.Sums.{fails_before_first, position_or_len_is}
+use Rattle.std.proofs.lemmas.Str.{IsCharBoundary-after_ascii, IsCharBoundary-before_ascii, IsUtf8-drop, IsUtf8-from_is_utf8, IsUtf8-take, is_utf8-from_IsUtf8}
+use Rattle.std.specs.Str.{IsUtf8, is_utf8}
 use Rattle.cmwq_grammar.specs.Cutting.{without_empty_last, lines_of}
 use Rattle.memchr.specs.Find.{IsFirstByte}
 
@@ -87,3 +90,14 @@ first_byte-position test bytes (Some place) found =
     let at : position_or_len test bytes ≡ place = position_or_len_is test bytes place 0 (omega (arith, found.0.high)) (λ k below. fails _ (found.0.before k (omega arith) below)) (λ inside. found.1) in
     let inside : place < length bytes = found.0.high in
     grind (arith, common_steps)
+
+-- what stands on either side of a line feed is UTF-8 where the whole is
+pub utf8_parts : (text : List ℕ) (i : ℕ) → position (λ byte. byte == 10) text ≡ Some i → is_utf8 text ≡ true → (is_utf8 (take i text) ≡ true) × (is_utf8 (take (length text - (i + 1)) (drop (i + 1) text)) ≡ true)
+utf8_parts text i some whole =
+    let found = position-Some (λ (byte : ℕ). byte == 10) text i 0 some in
+    let feed : (get_or text i 0 == 10) ≡ true = found.1 in
+    let ascii : get_or text i 0 < 128 = grind (arith, nat_tests) in
+    let encoded : IsUtf8 text = IsUtf8-from_is_utf8 text whole in
+    let front = IsUtf8-take text i encoded (IsCharBoundary-before_ascii text i found.0 ascii) in
+    let behind = IsUtf8-drop text (i + 1) encoded (IsCharBoundary-after_ascii text i encoded found.0 ascii) in
+    (is_utf8-from_IsUtf8 (take i text) front, ap is_utf8 (sym (rest (i + 1) text)) ∙ is_utf8-from_IsUtf8 (drop (i + 1) text) behind)

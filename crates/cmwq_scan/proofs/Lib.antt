@@ -1,5 +1,6 @@
 mod CuttingLemmas
 mod FirstWords
+mod LaneLemmas
 pub mod LastFields
 pub mod LineSteps
 mod NameLemmas

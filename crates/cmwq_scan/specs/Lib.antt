@@ -1,4 +1,5 @@
 pub mod Answers
+pub mod Lanes
 pub mod LastFields
 pub mod Refusals
 pub mod Words

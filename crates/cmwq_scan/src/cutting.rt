@@ -1,10 +1,13 @@
 //! Cutting: a text into its lines, and a line into its pieces between blanks.
 ghost use Rattle.cmwq_grammar.specs.Cutting.{is_blank, lines_of};
 ghost use Rattle.cmwq_scan.specs.Words.{worded_part};
+ghost use Rattle.memchr.specs.Find.{Nowhere, Passes};
 ghost use Rattle.std.specs.List.{slice_split};
-ghost use Rattle.std.specs.Prelude.{◌≡◌, ◌+◌, ◌<◌, ◌≤◌, ◌∷◌, ◌++◌, ◌==◌, ℕ, [], IfSome, MatchOption, length, position};
+ghost use Rattle.std.specs.Prelude.{◌≡◌, ◌+◌, ◌<◌, ◌≤◌, ◌∷◌, ◌++◌, ◌==◌, ℕ, [], IfSome, IsTrue, MatchOption, length, position};
+ghost use Rattle.std.specs.Str.{is_utf8};
 ghost use Rattle.std.specs.Str.Lines.{strip_carriage_return};
 
+use crate::lanes::{LANES, run_before_blank};
 use memchr::memchr;
 
 /// The first line of the text and what comes after its line feed, or `None` where there is no line. An
@@ -15,6 +18,8 @@ pub fn next_line(text: &[u8]) -> Option<(&[u8], &[u8])>
         (λ line. lines_of text.now ≡ line.0.now ∷ lines_of line.1.now) }
     ensures shorter { IfSome result (λ line. length line.0.now + length line.1.now ≤ length text.now) }
     ensures ends { IfSome result (λ line. length line.1.now < length text.now) }
+    // The lines of what is UTF-8 are so, each by itself.
+    ensures utf8 { IfSome result (λ line. IsTrue (is_utf8 text.now) → IsTrue (is_utf8 line.0.now) × IsTrue (is_utf8 line.1.now)) }
 {
     if text.is_empty() {
         return None;
@@ -73,7 +78,46 @@ fn place_of(bytes: &[u8], wanted: u8) -> Option<usize>
 fn place_of_blank(bytes: &[u8]) -> Option<usize>
     ensures { result ≡ position is_blank bytes.now }
 {
-    bytes.iter().position(|byte| is_blank(*byte))
+    let mut place = next_low(bytes, skip_lanes(bytes));
+    while place < bytes.len() {
+        if is_blank(bytes[place]) {
+            return Some(place);
+        }
+        place = next_low(bytes, place + 1);
+    }
+    None
+}
+
+/// A place up to which there is no blank: that of the first blank, or one near the end.
+fn skip_lanes(bytes: &[u8]) -> usize
+    ensures high { result ≤ length bytes.now }
+    ensures passed { Nowhere (Passes is_blank bytes.now) 0 result }
+{
+    let mut place = 0;
+    while bytes.len() - place >= LANES {
+        let run = run_before_blank(bytes, place);
+        place += run;
+        if run < LANES {
+            return place;
+        }
+    }
+    place
+}
+
+/// The first place from this one on of a byte that is a space or lower, as each blank is; where there is
+/// none, the end.
+fn next_low(bytes: &[u8], from: usize) -> usize
+    requires { from ≤ length bytes.now }
+    ensures low { from ≤ result }
+    ensures high { result ≤ length bytes.now }
+    ensures passed { Nowhere (Passes is_blank bytes.now) from result }
+{
+    for place in from..bytes.len() {
+        if bytes[place] <= b' ' {
+            return place;
+        }
+    }
+    bytes.len()
 }
 
 /// Whether the byte is a space or a tab.

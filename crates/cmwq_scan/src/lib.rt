@@ -3,6 +3,7 @@
 
 mod cutting;
 mod fields;
+mod lanes;
 mod misplaced;
 mod naming;
 mod text;

@@ -7,6 +7,7 @@ ghost use Rattle.std.specs.Str.{bytes_eq};
 use cmwq_types::{Name, NoMemory};
 use indexmap::IndexSet;
 use std::alloc::Global;
+use std::hash::{Hash, Hasher};
 use std::marker::Model;
 
 /// A name where it stands in the text. Contracts see its bytes.
@@ -53,11 +54,52 @@ impl<'t> Named<'t> {
     }
 }
 
+/// A name's bytes in the text, as a key: they go into a hash in one piece.
+#[derive(Clone, Copy, Debug)]
+struct Key<'t> {
+    bytes: &'t [u8],
+}
+
+impl<'t> PartialEq for Key<'t> {
+    ghost use Rattle.std.specs.Cmp.{on_per, partial_equiv_from_equiv};
+    ghost use Rattle.std.specs.Cmp.Lexicographic.{nat_list_eq_equiv};
+    ghost use Rattle.std.specs.Str.{bytes_eq};
+
+    ghost eq = { λ x y. bytes_eq x.bytes.now y.bytes.now };
+
+    ghost laws = { on_per (λ k. k.bytes.now) (partial_equiv_from_equiv nat_list_eq_equiv) };
+
+    fn eq(&self, other: &Self) -> bool {
+        self.bytes == other.bytes
+    }
+}
+
+impl<'t> Eq for Key<'t> {
+    ghost use Rattle.std.specs.Cmp.{on_equiv};
+    ghost use Rattle.std.specs.Cmp.Lexicographic.{nat_list_eq_equiv};
+
+    ghost laws = { on_equiv (λ k. k.bytes.now) nat_list_eq_equiv };
+}
+
+impl<'t> Hash for Key<'t> {
+    ghost use Rattle.std.proofs.Common.{ap};
+    ghost use Rattle.std.specs.Cmp.Lexicographic.{bytes_decides};
+    ghost use Rattle.std.specs.Prelude.{◌∷◌, []};
+
+    ghost hash_input = { λ k. k.bytes.now ∷ [] };
+
+    ghost respects_eq = { λ x y same. ap (λ bytes. bytes ∷ []) ((bytes_decides x.bytes.now y.bytes.now).0 same) };
+
+    fn hash<H: Hasher>(&self, state: &mut H) {
+        state.write(self.bytes);
+    }
+}
+
 /// Distinct names of one kind (queues, works or actors), each with its bytes in the text. A name's place
 /// is its number.
 #[derive(Drop)]
 pub struct Names<'t> {
-    names: IndexSet<&'t [u8]>,
+    names: IndexSet<Key<'t>>,
 }
 
 impl<'t> Model for Names<'t> {
@@ -67,9 +109,9 @@ impl<'t> Model for Names<'t> {
 
     ghost Value = { List (List ℕ) };
 
-    ghost view = { λ s. map (λ name. name.now) s.names.keys };
+    ghost view = { λ s. map (λ key. key.bytes.now) s.names.keys };
 
-    ghost invariant = { λ s. All (λ name. IsTrue (is_name name.now)) s.names.keys };
+    ghost invariant = { λ s. All (λ key. IsTrue (is_name key.bytes.now)) s.names.keys };
 }
 
 impl<'t> Names<'t> {
@@ -86,7 +128,9 @@ impl<'t> Names<'t> {
     pub fn contains(&self, name: &Named) -> bool
         ensures { result ≡ list_any (λ other. bytes_eq other name.now) self.now }
     {
-        self.names.contains(&name.bytes())
+        self.names.contains(&Key {
+            bytes: name.bytes(),
+        })
     }
 
     /// The number of the name that is these bytes, if it is there.
@@ -94,7 +138,7 @@ impl<'t> Names<'t> {
         ensures number { result ≡ position (λ other. bytes_eq other bytes.now) self.now }
         ensures name { IfSome result (λ number. IsTrue (is_name bytes.now)) }
     {
-        self.names.get_index_of(&bytes)
+        self.names.get_index_of(&Key { bytes })
     }
 
     /// Adds a name that isn't there yet.
@@ -102,7 +146,9 @@ impl<'t> Names<'t> {
         requires { list_any (λ other. bytes_eq other name.now) self.old ≡ false }
         ensures { OnOk result (self.new ≡ self.old ++ name.now ∷ []) }
     {
-        self.names.insert(name.bytes())?;
+        self.names.insert(Key {
+            bytes: name.bytes(),
+        })?;
         Ok(())
     }
 }

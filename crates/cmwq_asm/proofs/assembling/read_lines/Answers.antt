@@ -23,9 +23,13 @@ loop-line-preserved c =
       stage = sym (next_stage now lines c.in-Some.line.now (lines_of c.in-Some.behind.now) (stage_of c.loop-line.stage) (stage_of c.in-Ok.next) c.in-Some.ensures.lines c.in-Ok.ensures) ∙ c.loop-line.invariant.stage;
       count = omega (arith, ap length c.in-Some.ensures.lines);
       room = omega (arith, c.in-Some.ensures.ends);
+      text = λ known. (c.in-Some.ensures.utf8 (c.loop-line.invariant.text known)).1;
     }
 
 pub returns-clause-stage : goal.returns-clause-stage
 returns-clause-stage c =
     sym c.loop-line.invariant.stage
     ∙ last_stage (c.loop-line.lines + 1) (lines_of c.loop-line.rest.now) (stage_of c.loop-line.stage) c.in_default.ensures.lines
+
+pub judge-requires : goal.judge-requires
+judge-requires c known = (c.in-Some.ensures.utf8 (c.loop-line.invariant.text known)).0

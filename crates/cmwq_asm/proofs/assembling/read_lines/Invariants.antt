@@ -1,4 +1,6 @@
 use Rattle.std.proofs.Common.{◌≡◌, ◌+◌, ◌≤◌, length}
+use Rattle.std.specs.Prelude.{IsTrue}
+use Rattle.std.specs.Str.{is_utf8}
 use Rattle.cmwq_grammar.specs.Cutting.{lines_of}
 use Rattle.cmwq_grammar.specs.Meaning.{stage_after}
 use Rattle.cmwq_grammar.specs.Stages.{Start}
@@ -11,6 +13,7 @@ invariant-loop-line l = record {
   stage : stage_after (l.lines + 1) (lines_of l.rest) (stage_of l.stage) ≡ stage_after 1 (lines_of l.text) Start;
   count : l.lines + length (lines_of l.rest) ≡ length (lines_of l.text);
   room : l.lines + length l.rest ≤ length l.text;
+  text : IsTrue l.is_all_text → IsTrue (is_utf8 l.rest);
 }
 
 abbrev pub decreases-loop-line : goal.decreases-loop-line

@@ -4,6 +4,7 @@ use Rattle.cmwq_grammar.specs.Instructions.{work_names}
 use Rattle.cmwq_grammar.specs.Reasons.{open_body, is_next}
 use Rattle.cmwq_grammar.specs.Stages.{Body}
 use Rattle.cmwq_asm.specs.Stages.{stage_of}
+use Rattle.cmwq_asm.specs.declared.open.OpenBody.{OpenBody}
 use Rattle.cmwq_scan.proofs.LastFields.{last_ok, last_err}
 use Rattle.cmwq_scan.specs.Words.{words_in}
 use Rattle.cmwq_asm.proofs.Refused.{refused}
@@ -24,3 +25,4 @@ returns c =
     let done = c.args.bodies.done in
     last_ok (λ (work : ℕ). Body told done []) (declared_at (work_names told) (words_in c.args.rest.now) >>= is_next (length done)) _ c.in_ok-read_next.ensures.next
     ∙ ap (λ ops. Ok (Body told done ops)) (sym c.new-ops.ensures.items)
+    ∙ ap (λ (body : OpenBody). Ok (Body body.bodies.told body.bodies.done body.ops.items)) (sym c.in_ok-body.ensures.ok)

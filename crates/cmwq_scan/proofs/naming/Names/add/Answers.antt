@@ -7,8 +7,8 @@ use Rattle.cmwq_scan.proofs.naming.Names.add.Goals as goal
 
 pub returns : goal.returns
 returns c =
-    ap (λ keys. map (λ key. key.now) keys) c.in_ok-insert.ensures.keys
-    ∙ added (λ key. key.now) c.bytes.result.now c.self.inside.names.keys c.bytes.result refl
+    ap (λ keys. map (λ key. key.bytes.now) keys) c.in_ok-insert.ensures.keys
+    ∙ added (λ key. key.bytes.now) c.bytes.result.now c.self.inside.names.keys (record { bytes = c.bytes.result }) refl
     (ap (λ names. list_any (λ other. bytes_eq other c.bytes.result.now) names) c.self.view_is ∙ ap (λ name. list_any (λ other. bytes_eq other name) c.args.self.now) c.bytes.ensures.same ∙ c.requires)
     ∙ ap (λ names. names ++ c.bytes.result.now ∷ []) c.self.view_is
     ∙ ap (λ name. c.args.self.now ++ name ∷ []) c.bytes.ensures.same

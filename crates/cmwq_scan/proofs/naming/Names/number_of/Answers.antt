@@ -8,7 +8,7 @@ use Rattle.cmwq_scan.proofs.naming.Names.number_of.Goals as goal
 pub returns-clause-number : goal.returns-clause-number
 returns-clause-number c =
     c.get_index_of.ensures.index
-    ∙ position-keys (λ key. key.now) c.args.bytes.now c.self.inside.names.keys
+    ∙ position-keys (λ key. key.bytes.now) c.args.bytes.now c.self.inside.names.keys
     ∙ ap (λ names. position (λ other. bytes_eq other c.args.bytes.now) names) c.self.view_is
 
 if_there : {A : Type 0} (r : Option A) (P : Type 0) → (is_some r ≡ true → P) → IfSome r (λ _. P)
@@ -19,4 +19,4 @@ if_there (Some x) P there = there refl
 pub returns-clause-name : goal.returns-clause-name
 returns-clause-name c =
     if_there c.get_index_of.result (IsTrue (is_name c.args.bytes.now))
-    (λ found. key_is_name (λ key. key.now) c.args.bytes.now c.self.inside.names.keys c.self.invariant (sym c.get_index_of.ensures.found ∙ found))
+    (λ found. key_is_name (λ key. key.bytes.now) c.args.bytes.now c.self.inside.names.keys c.self.invariant (sym c.get_index_of.ensures.found ∙ found))
