@@ -19,7 +19,7 @@ command_on name id = with_rule (new_app name) (required_rule id)
 abbrev pub program : App
 program =
     record (new_app (codes "cmwq")) {
-      top = record (new_app (codes "cmwq")).top { arg_required_else_help = true; subcommand_required = true };
+      top = record (new_app (codes "cmwq")).top { has_version = true; arg_required_else_help = true; subcommand_required = true };
     }
 
 -- `run FILE`, `list FILE`, `asm FILE OUT`, `show IMAGE` and `debug FILE`

@@ -5,6 +5,7 @@ ghost use Rattle.clap.specs.declared.builder.command.Command.TheViews.{out-Comma
 ghost use Rattle.cmwq_words.specs.Request.{Asks, IsPlainWord, IsRead, asked_in, asked_of, asm_command, command_line, command_on, list_command, program, required_rule, run_command, show_command, words_of};
 ghost use Rattle.std.specs.Prelude.{◌≡◌, List, [], ◌∷◌, IfOk, codes, false, map, option_map, string_bytes};
 
+use crate::help;
 use clap::error::ErrorKind;
 use clap::{Arg, ArgMatches, Command, Error};
 use std::alloc::{AllocError, Global};
@@ -40,24 +41,6 @@ pub enum Request<'a> {
         file: &'a str,
     },
 }
-
-/// What follows the help.
-const AFTER_HELP: &str = "\
-Examples:
-  cmwq run scenarios/max_active_3.cmwq
-  cmwq list scenarios/max_active_3.cmwq
-  cmwq asm scenarios/max_active_3.cmwq max_active_3.image
-  cmwq show max_active_3.image
-  cmwq debug scenarios/max_active_3.cmwq
-
-The formats of scenarios and images, the debugger's commands, and what each fault means, are in docs/FORMATS.md.
-
-Exit status:
-  0  the command did what it was asked
-  1  the file isn't a scenario's text or image, or the scenario hasn't one actor
-  2  the command line is wrong
-  3  a file can't be opened, made, read or written
-  4  memory ran out";
 
 /// Reads the words, of which the first is the program's name. The error is a usage fault, help that
 /// was asked for, or want of memory; it holds the text for the user.
@@ -213,7 +196,8 @@ fn bare_program<'a>(alloc: Global) -> Command<'a>
 {
     Command::new(alloc, "cmwq")
         .about("Emulates the concurrency-managed workqueues of the Linux kernel")
-        .after_help(AFTER_HELP)
+        .after_help(help::PROGRAM)
+        .version(help::VERSION)
         .subcommand_required(true)
         .arg_required_else_help(true)
 }
@@ -238,6 +222,7 @@ fn show_command<'a>(alloc: Global) -> Result<Command<'a>, AllocError>
 {
     Command::new(alloc, "show")
         .about("Writes the listing of an image's scenario to standard output")
+        .after_help(help::after_help_of("show"))
         .arg(argument(alloc, "IMAGE", "The scenario's image"))
 }
 
@@ -248,6 +233,7 @@ fn on_text<'a>(alloc: Global, name: &'a str, about: &'a str) -> Result<Command<'
 {
     Command::new(alloc, name)
         .about(about)
+        .after_help(help::after_help_of(name))
         .arg(argument(alloc, "FILE", "The scenario's text"))
 }
 
