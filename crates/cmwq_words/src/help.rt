@@ -6,7 +6,8 @@ pub const VERSION: &str = "0.1.0 (rattle-kit-13b logic dac8208d650f15bf)";
 /// What follows the program's help.
 pub const PROGRAM: &str = "\
 Examples:
-  cmwq run scenarios/max_active_3.cmwq
+  cmwq new first.cmwq
+  cmwq run first.cmwq
   cmwq list scenarios/max_active_3.cmwq
   cmwq asm scenarios/max_active_3.cmwq max_active_3.image
   cmwq show max_active_3.image
@@ -20,6 +21,17 @@ Exit status:
   2  the command line is wrong
   3  a file can't be opened, made, read or written
   4  memory ran out";
+
+const NEW: &str = "\
+Prints the scenario where there is no FILE, and else nothing.
+
+Exit status:
+  0  the scenario was written
+  2  the command line is wrong
+  3  `write`: FILE is there already or can't be made, or the output can't be written
+
+Example:
+  cmwq new first.cmwq";
 
 const RUN: &str = "\
 Prints a line for each thing that happens: the time, the work, and what it did.
@@ -90,6 +102,7 @@ Example:
 /// What follows the help of the command of this name.
 pub fn after_help_of(command: &str) -> &'static str {
     match command {
+        "new" => NEW,
         "run" => RUN,
         "list" => LIST,
         "asm" => ASM,
