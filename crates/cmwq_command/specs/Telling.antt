@@ -1,13 +1,14 @@
--- How help and usage faults are told.
+-- How help, the version and usage faults are told.
 use Rattle.std.specs.Prelude.{ℕ, Bool, true, false, if◌then◌else◌}
 use Rattle.clap.specs.declared.error.kind.ErrorKind.{ErrorKind}
 use Rattle.clap.specs.declared.error.kind.ErrorKind.TheVariants as kinds
 
--- help was asked for
-abbrev pub is_help : ErrorKind → Bool
-is_help kinds.DisplayHelp = true
-is_help kind = false
+-- help or the version was asked for
+abbrev pub is_asked_for : ErrorKind → Bool
+is_asked_for kinds.DisplayHelp = true
+is_asked_for kinds.DisplayVersion = true
+is_asked_for kind = false
 
--- the exit status: 0 for help, and 2 for words that aren't a command line
+-- the exit status: 0 for what was asked for, and 2 for words that aren't a command line
 abbrev pub status_of_kind : ErrorKind → ℕ
-status_of_kind kind = if is_help kind then 0 else 2
+status_of_kind kind = if is_asked_for kind then 0 else 2

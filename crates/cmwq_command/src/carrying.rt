@@ -1,6 +1,7 @@
 //! What the words ask for, carried out on files.
 ghost use Rattle.std.specs.Prelude.{◌≡◌, IfOk, false};
 
+use crate::starting::write_first;
 use crate::telling::{GOOD, tell};
 use cmwq_play::{Marked, PlayError};
 use cmwq_words::request::{Request, parse};
@@ -40,11 +41,23 @@ pub fn answer<R: Files + AllocGlobal, I: Read + Drop, W: Write + Drop>(
     request: Request<'_>,
 ) -> Result<(), PlayError> {
     match request {
+        Request::New { file } => new(rt, writer, file),
         Request::Run { file } => run(rt, writer, file),
         Request::List { file } => list(rt, writer, file),
         Request::Asm { file, out } => asm(rt, file, out),
         Request::Show { image } => show(rt, writer, image),
         Request::Debug { file } => debug(rt, input, writer, file),
+    }
+}
+
+/// Writes a scenario to start from, to a file that isn't there yet, or to the writer where no file is named.
+fn new<R: Files, W: Write + Drop>(rt: &R, writer: W, file: Option<&str>) -> Result<(), PlayError> {
+    match file {
+        Some(path) => {
+            let made = File::create_new(rt, path).map_err(|_| PlayError::Write)?;
+            write_first(&mut Marked::new(made))
+        }
+        None => write_first(&mut Marked::new(writer)),
     }
 }
 

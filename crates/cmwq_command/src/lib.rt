@@ -3,7 +3,9 @@
 
 mod carrying;
 pub mod fault;
+mod starting;
 mod telling;
 
 pub use carrying::{answer, carry_out};
+pub use starting::write_first;
 pub use telling::tell;

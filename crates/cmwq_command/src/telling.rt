@@ -1,6 +1,6 @@
-//! How help and usage faults are told.
+//! How help, the version and usage faults are told.
 
-ghost use Rattle.cmwq_command.specs.Telling.{is_help, status_of_kind};
+ghost use Rattle.cmwq_command.specs.Telling.{is_asked_for, status_of_kind};
 ghost use Rattle.std.specs.Io.KnownBytes.{Appends};
 ghost use Rattle.std.specs.Prelude.{◌≡◌, ◌↔◌, Err, IfOk, IfSome, OnErr, OnOk, ◌⊎◌, false, true};
 
@@ -15,10 +15,10 @@ pub const GOOD: u8 = 0;
 /// The exit status of words that aren't a command line of the program.
 pub const USAGE: u8 = 2;
 
-/// Writes the text of help to `output`, or that of a usage fault to `errors`, by one call of a writer that
+/// Writes the text of help or of the version to `output`, or that of a usage fault to `errors`, by one call of a writer that
 /// takes all of it, and gives the exit status. A usage fault has its status also where its text can't be written.
 ///
-/// The error is `Write` where help can't be written, and else `NoMemory`.
+/// The error is `Write` where what was asked for can't be written, and else `NoMemory`.
 pub fn tell<O: Sink, E: Sink, T: Display + Drop>(
     alloc: Global,
     output: &mut O,
@@ -29,12 +29,12 @@ pub fn tell<O: Sink, E: Sink, T: Display + Drop>(
     requires sound { (O.failed output.old ≡ false) × (E.failed errors.old ≡ false) }
     ensures status { IfOk result (λ status. status ≡ status_of_kind kind) }
     ensures memory { kind ≡ ErrorKind.OutOfMemory → result ≡ Err PlayError.NoMemory }
-    ensures help { OnOk result (is_help kind ≡ true → IfSome (T.output text) (λ bytes.
+    ensures help { OnOk result (is_asked_for kind ≡ true → IfSome (T.output text) (λ bytes.
         Appends (O.contents output.old) (O.contents output.new) bytes)) }
-    ensures usage { OnOk result (is_help kind ≡ false → E.failed errors.new ≡ false → IfSome (T.output text) (λ bytes.
+    ensures usage { OnOk result (is_asked_for kind ≡ false → E.failed errors.new ≡ false → IfSome (T.output text) (λ bytes.
         Appends (E.contents errors.old) (E.contents errors.new) bytes)) }
-    ensures output { is_help kind ≡ false → output.new ≡ output.old }
-    ensures errors { is_help kind ≡ true → errors.new ≡ errors.old }
+    ensures output { is_asked_for kind ≡ false → output.new ≡ output.old }
+    ensures errors { is_asked_for kind ≡ true → errors.new ≡ errors.old }
     ensures write { (result ≡ Err PlayError.Write) ↔ (O.failed output.new ≡ true) }
     ensures why { OnErr result ((result ≡ Err PlayError.Write) ⊎ (result ≡ Err PlayError.NoMemory)) }
 {
@@ -42,7 +42,7 @@ pub fn tell<O: Sink, E: Sink, T: Display + Drop>(
         return Err(PlayError::NoMemory);
     }
     let text = format!(in alloc; "{text}")?;
-    if is_help(kind) {
+    if is_asked_for(kind) {
         put_all(output, text.as_bytes())?;
         return Ok(GOOD);
     }
@@ -51,9 +51,9 @@ pub fn tell<O: Sink, E: Sink, T: Display + Drop>(
     Ok(USAGE)
 }
 
-/// Whether help was asked for.
-fn is_help(kind: ErrorKind) -> bool
-    ensures { result ≡ is_help kind }
+/// Whether help or the version was asked for.
+fn is_asked_for(kind: ErrorKind) -> bool
+    ensures { result ≡ is_asked_for kind }
 {
-    matches!(kind, ErrorKind::DisplayHelp)
+    matches!(kind, ErrorKind::DisplayHelp | ErrorKind::DisplayVersion)
 }

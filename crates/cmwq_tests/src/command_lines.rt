@@ -17,7 +17,14 @@ fn words(rt: &impl Abort, alloc: Global, line: &str) -> Vec<String> {
         .expect(rt, "memory is left")
 }
 
-const REQUESTS: [(&str, Request<'_>); 5] = [
+const REQUESTS: [(&str, Request<'_>); 7] = [
+    ("cmwq new", Request::New { file: None }),
+    (
+        "cmwq new a.cmwq",
+        Request::New {
+            file: Some("a.cmwq"),
+        },
+    ),
     ("cmwq run a.cmwq", Request::Run { file: "a.cmwq" }),
     ("cmwq list a.cmwq", Request::List { file: "a.cmwq" }),
     (
@@ -41,7 +48,7 @@ fn each_command_has_its_words(rt: HostRuntime) {
 }
 
 /// Command lines that are no request, of which kind the answer is, and with which status the program ends.
-const NO_REQUESTS: [(&str, ErrorKind, i32); 12] = [
+const NO_REQUESTS: [(&str, ErrorKind, i32); 15] = [
     (
         "cmwq",
         ErrorKind::DisplayHelpOnMissingArgumentOrSubcommand,
@@ -49,6 +56,7 @@ const NO_REQUESTS: [(&str, ErrorKind, i32); 12] = [
     ),
     ("cmwq run", ErrorKind::MissingRequiredArgument, 2),
     ("cmwq asm a", ErrorKind::MissingRequiredArgument, 2),
+    ("cmwq new a b", ErrorKind::UnknownArgument, 2),
     ("cmwq list a b", ErrorKind::UnknownArgument, 2),
     ("cmwq asm a b c", ErrorKind::UnknownArgument, 2),
     ("cmwq walk a", ErrorKind::InvalidSubcommand, 2),
@@ -58,6 +66,8 @@ const NO_REQUESTS: [(&str, ErrorKind, i32); 12] = [
     ("cmwq help", ErrorKind::DisplayHelp, 0),
     ("cmwq asm --help", ErrorKind::DisplayHelp, 0),
     ("cmwq help show", ErrorKind::DisplayHelp, 0),
+    ("cmwq --version", ErrorKind::DisplayVersion, 0),
+    ("cmwq -V", ErrorKind::DisplayVersion, 0),
 ];
 
 #[test]
@@ -106,7 +116,16 @@ const TOLD: [(&str, u8, &[u8], &[u8]); 4] = [
           <OUT>   The image file to make. What it held is lost, even where FILE has a fault: \
           asm FILE FILE destroys its input\n\n\
           Options:\n  \
-          -h, --help  Print help\n",
+          -h, --help  Print help\n\n\
+          Prints nothing.\n\n\
+          Exit status:\n  \
+          0  OUT is the scenario's image\n  \
+          1  `line 6: Duplicate`: the text's first fault; OUT is empty\n  \
+          2  the command line is wrong\n  \
+          3  `write`: OUT can't be made or written; `read`: FILE can't be read\n  \
+          4  `no memory`\n\n\
+          Example:\n  \
+          cmwq asm scenarios/max_active_3.cmwq max_active_3.image\n",
         b"",
     ),
 ];

@@ -3,6 +3,7 @@ use crate::checking::same;
 use crate::streams::reading_of;
 use cmwq_asm::AsmError;
 use cmwq_command::answer;
+use cmwq_first::first_text;
 use cmwq_grammar::Why;
 use cmwq_image::ImageError;
 use cmwq_machine_tests::examples::{IMAGE_OF_STEPS_RUN_OUT as IMAGE, STEPS_RUN_OUT};
@@ -80,6 +81,21 @@ fn each_command_reads_and_writes_files(rt: HostRuntime) {
     let _ = fs::remove_dir_all(&rt, "cmwq_commands");
 }
 
+#[test]
+fn a_new_scenario_overwrites_no_file(rt: HostRuntime) {
+    make_folder(&rt, "cmwq_new");
+    let file = "cmwq_new/first.cmwq";
+    let new = Request::New { file: Some(file) };
+    let first = first_text().as_bytes();
+    check_answer(&rt, Request::New { file: None }, Ok(()), first);
+    check_answer(&rt, new, Ok(()), b"");
+    check_file(&rt, file, first);
+    put_file(&rt, file, b"mine");
+    check_answer(&rt, new, Err(PlayError::Write), b"");
+    check_file(&rt, file, b"mine");
+    let _ = fs::remove_dir_all(&rt, "cmwq_new");
+}
+
 /// `asm` answers this fault where OUT is a file already, and OUT is empty then.
 fn check_emptied<R: Files + AllocGlobal + Abort>(rt: &R, file: &str, out: &str, want: PlayError) {
     put_file(rt, out, b"an older image");
@@ -115,6 +131,7 @@ fn a_file_that_is_not_there_is_a_failed_read_or_write(rt: HostRuntime) {
         (Request::Show { image: out }, PlayError::Read),
         (Request::Debug { file }, PlayError::Read),
         (Request::Asm { file, out }, PlayError::Write),
+        (Request::New { file: Some(file) }, PlayError::Write),
     ] {
         check_answer(&rt, request, Err(fault), b"");
     }

@@ -9,6 +9,15 @@ simple_line : is_simple command_line ≡ true
 unfolding clap_on_literals
 simple_line = refl
 
+plain_new : (name : Text) → IsRead (name ∷ codes "new" ∷ []) (codes "new" ∷ [])
+unfolding clap_on_literals
+plain_new name = (refl, refl)
+
+plain_new_file : (name : Text) (first : ℕ) (rest : Text) → (first == 45) ≡ false
+    → IsRead (name ∷ codes "new" ∷ (first ∷ rest) ∷ []) (codes "new" ∷ (first ∷ rest) ∷ [])
+unfolding clap_on_literals
+plain_new_file name first rest e = (rw e (rw e refl), rw e (rw e refl))
+
 plain_run : (name : Text) (first : ℕ) (rest : Text) → (first == 45) ≡ false
     → IsRead (name ∷ codes "run" ∷ (first ∷ rest) ∷ []) (codes "run" ∷ (first ∷ rest) ∷ [])
 unfolding clap_on_literals
@@ -36,6 +45,13 @@ plain_asm name first rest head tail e f = (rw e (rw e (rw f (rw f refl))), rw e 
 
 no_hyphen : (first : ℕ) → first ≢ 45 → (first == 45) ≡ false
 no_hyphen first plain = search rules
+
+pub new_read : (words : List Text) (name : Text) → words ≡ name ∷ codes "new" ∷ [] → IsRead words (codes "new" ∷ [])
+new_read words name are = rw are (plain_new name)
+
+pub new_file_read : (words : List Text) (name file : Text) → words ≡ name ∷ codes "new" ∷ file ∷ [] → IsPlainWord file
+    → IsRead words (codes "new" ∷ file ∷ [])
+new_file_read words name file are (first, rest, is, plain) = rw (are, is) (plain_new_file name first rest (no_hyphen first plain))
 
 pub run_read : (words : List Text) (name file : Text) → words ≡ name ∷ codes "run" ∷ file ∷ [] → IsPlainWord file
     → IsRead words (codes "run" ∷ file ∷ [])

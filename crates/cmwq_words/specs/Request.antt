@@ -1,11 +1,11 @@
 -- The command line.
-use Rattle.std.specs.Prelude.{◌≡◌, ◌≢◌, ℕ, List, [], ◌∷◌, true, codes, if◌then◌else◌, Option, None, Some, option_and_then, option_map, Result, MatchResult}
+use Rattle.std.specs.Prelude.{◌≡◌, ◌≢◌, ℕ, List, [], ◌∷◌, true, codes, if◌then◌else◌, Option, None, Some, option_and_then, option_map, option_to_list, Result, MatchResult}
 use Rattle.std.specs.Str.{bytes_eq}
 use Rattle.clap.specs.Words.{App, Row, Rule, Text, first_of, kind_of, new_app, new_rule, subcommand_of, takes, with_rule, with_subcommand}
 use Rattle.clap.specs.declared.error.Error.{Error}
 use Rattle.clap.specs.declared.error.kind.ErrorKind.TheVariants.{OutOfMemory}
 use Rattle.cmwq_words.specs.declared.request.Request.{Request}
-use Rattle.cmwq_words.specs.declared.request.Request.TheVariants.{Run, List as list, Asm, Show, Debug}
+use Rattle.cmwq_words.specs.declared.request.Request.TheVariants.{New, Run, List as list, Asm, Show, Debug}
 
 -- an argument that has to be given
 abbrev pub required_rule : Text → Rule
@@ -15,12 +15,20 @@ required_rule id = record (new_rule id) { required = true }
 abbrev pub command_on : Text → Text → App
 command_on name id = with_rule (new_app name) (required_rule id)
 
--- the program, before its commands
-abbrev pub program : App
-program =
+-- `new [FILE]`
+abbrev pub new_command : App
+new_command = with_rule (new_app (codes "new")) (new_rule (codes "FILE"))
+
+-- the program with no command
+abbrev pub bare_program : App
+bare_program =
     record (new_app (codes "cmwq")) {
-      top = record (new_app (codes "cmwq")).top { arg_required_else_help = true; subcommand_required = true };
+      top = record (new_app (codes "cmwq")).top { has_version = true; arg_required_else_help = true; subcommand_required = true };
     }
+
+-- the program, before the commands that have a file
+abbrev pub program : App
+program = with_subcommand bare_program new_command.top
 
 -- `run FILE`, `list FILE`, `asm FILE OUT`, `show IMAGE` and `debug FILE`
 abbrev pub run_command : App
@@ -48,6 +56,8 @@ command_line =
 
 -- the words that ask for it
 abbrev pub words_of : Request → List Text
+words_of (New None) = codes "new" ∷ []
+words_of (New (Some file)) = codes "new" ∷ file.now ∷ []
 words_of (Run file) = codes "run" ∷ file.now ∷ []
 words_of (list file) = codes "list" ∷ file.now ∷ []
 words_of (Asm file out) = codes "asm" ∷ file.now ∷ out.now ∷ []
@@ -62,9 +72,13 @@ abbrev pub two_values : Text → Text → Text → List Row → Option (List Tex
 two_values command first second rows =
     option_and_then (λ value. option_map (λ other. command ∷ value ∷ other ∷ []) (first_of second rows)) (first_of first rows)
 
+abbrev pub value_if_any : Text → Text → List Row → List Text
+value_if_any command id rows = command ∷ option_to_list (first_of id rows)
+
 abbrev pub asked_in : Text × List Row → Option (List Text)
 asked_in met =
-    if bytes_eq met.0 (codes "run") then one_value (codes "run") (codes "FILE") met.1
+    if bytes_eq met.0 (codes "new") then Some (value_if_any (codes "new") (codes "FILE") met.1)
+    else if bytes_eq met.0 (codes "run") then one_value (codes "run") (codes "FILE") met.1
     else if bytes_eq met.0 (codes "list") then one_value (codes "list") (codes "FILE") met.1
     else if bytes_eq met.0 (codes "asm") then two_values (codes "asm") (codes "FILE") (codes "OUT") met.1
     else if bytes_eq met.0 (codes "show") then one_value (codes "show") (codes "IMAGE") met.1

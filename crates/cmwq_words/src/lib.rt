@@ -1,4 +1,5 @@
 //! The command line: which words ask for what.
 #![tactic(auto)]
 
+pub mod help;
 pub mod request;

@@ -2,9 +2,10 @@
 
 ghost use Rattle.clap.specs.Words.{Text, app_of, first_of, found_of, kind_of, rows_of, rule_of, subcommand_rows_of, with_subcommand};
 ghost use Rattle.clap.specs.declared.builder.command.Command.TheViews.{out-Command as fields_of};
-ghost use Rattle.cmwq_words.specs.Request.{Asks, IsPlainWord, IsRead, asked_in, asked_of, asm_command, command_line, command_on, list_command, program, required_rule, run_command, show_command, words_of};
+ghost use Rattle.cmwq_words.specs.Request.{Asks, IsPlainWord, IsRead, asked_in, asked_of, asm_command, bare_program, command_line, command_on, list_command, new_command, program, required_rule, run_command, show_command, words_of};
 ghost use Rattle.std.specs.Prelude.{◌≡◌, List, [], ◌∷◌, IfOk, codes, false, map, option_map, string_bytes};
 
+use crate::help;
 use clap::error::ErrorKind;
 use clap::{Arg, ArgMatches, Command, Error};
 use std::alloc::{AllocError, Global};
@@ -12,6 +13,11 @@ use std::alloc::{AllocError, Global};
 /// What the words ask for. The paths are as they were given.
 #[derive(Clone, Copy, Debug, PartialEq, Eq)]
 pub enum Request<'a> {
+    /// Write a scenario to start from, to a file that isn't there yet, or to standard output.
+    New {
+        /// The new text's path.
+        file: Option<&'a str>,
+    },
     /// Run the scenario whose text is in this file.
     Run {
         /// The text's path.
@@ -41,30 +47,16 @@ pub enum Request<'a> {
     },
 }
 
-/// What follows the help.
-const AFTER_HELP: &str = "\
-Examples:
-  cmwq run scenarios/max_active_3.cmwq
-  cmwq list scenarios/max_active_3.cmwq
-  cmwq asm scenarios/max_active_3.cmwq max_active_3.image
-  cmwq show max_active_3.image
-  cmwq debug scenarios/max_active_3.cmwq
-
-The formats of scenarios and images, the debugger's commands, and what each fault means, are in docs/FORMATS.md.
-
-Exit status:
-  0  the command did what it was asked
-  1  the file isn't a scenario's text or image, or the scenario hasn't one actor
-  2  the command line is wrong
-  3  a file can't be opened, made, read or written
-  4  memory ran out";
-
 /// Reads the words, of which the first is the program's name. The error is a usage fault, help that
 /// was asked for, or want of memory; it holds the text for the user.
 ///
 /// Each command's words ask for it, where no FILE, OUT or IMAGE is empty or begins with a hyphen;
 /// the call then fails only for want of memory.
 pub fn parse<'a>(alloc: Global, words: &'a [String]) -> Result<Request<'a>, Error>
+    ensures new { (name : Text) → map string_bytes words.entry.now ≡ name ∷ codes "new" ∷ []
+        → Asks (codes "new" ∷ []) result }
+    ensures new_file { (name file : Text) → map string_bytes words.entry.now ≡ name ∷ codes "new" ∷ file ∷ []
+        → IsPlainWord file → Asks (codes "new" ∷ file ∷ []) result }
     ensures run { (name file : Text) → map string_bytes words.entry.now ≡ name ∷ codes "run" ∷ file ∷ []
         → IsPlainWord file → Asks (codes "run" ∷ file ∷ []) result }
     ensures list { (name file : Text) → map string_bytes words.entry.now ≡ name ∷ codes "list" ∷ file ∷ []
@@ -119,6 +111,10 @@ fn request_by<'a>(name: &str, given: &ArgMatches<'a>) -> Option<Request<'a>>
     ensures { option_map (λ request. words_of request) result ≡ asked_in (name.now, rows_of (found_of given.now)) }
 {
     match name {
+        "new" => {
+            let file = value_of(given, "FILE");
+            Some(Request::New { file })
+        }
         "run" => {
             let file = value_of(given, "FILE")?;
             Some(Request::Run { file })
@@ -204,18 +200,42 @@ fn program_that_runs<'a>(alloc: Global) -> Result<Command<'a>, AllocError>
         "run",
         "Runs a scenario and writes its events to standard output",
     )?;
-    bare_program(alloc).subcommand(run)
+    let program = program(alloc)?;
+    program.subcommand(run)
+}
+
+/// The program with the command that needs no file.
+fn program<'a>(alloc: Global) -> Result<Command<'a>, AllocError>
+    ensures { IfOk result (λ r. app_of r ≡ program) }
+{
+    let new = new_command(alloc)?;
+    bare_program(alloc).subcommand(new)
 }
 
 /// The program without its commands.
 fn bare_program<'a>(alloc: Global) -> Command<'a>
-    ensures { app_of result ≡ program }
+    ensures { app_of result ≡ bare_program }
 {
     Command::new(alloc, "cmwq")
         .about("Emulates the concurrency-managed workqueues of the Linux kernel")
-        .after_help(AFTER_HELP)
+        .after_help(help::PROGRAM)
+        .version(help::VERSION)
         .subcommand_required(true)
         .arg_required_else_help(true)
+}
+
+/// The command that writes a scenario to start from.
+fn new_command<'a>(alloc: Global) -> Result<Command<'a>, AllocError>
+    ensures app { IfOk result (λ r. app_of r ≡ new_command) }
+    ensures local { IfOk result (λ r. (fields_of r).has_globals ≡ false) }
+{
+    let file = Arg::new(alloc, "FILE").help(
+        "The file to make, which must not be there yet; without it the scenario goes to standard output",
+    );
+    Command::new(alloc, "new")
+        .about("Writes a scenario to start from, with comments")
+        .after_help(help::after_help_of("new"))
+        .arg(file)
 }
 
 /// The command that makes an image.
@@ -238,6 +258,7 @@ fn show_command<'a>(alloc: Global) -> Result<Command<'a>, AllocError>
 {
     Command::new(alloc, "show")
         .about("Writes the listing of an image's scenario to standard output")
+        .after_help(help::after_help_of("show"))
         .arg(argument(alloc, "IMAGE", "The scenario's image"))
 }
 
@@ -248,6 +269,7 @@ fn on_text<'a>(alloc: Global, name: &'a str, about: &'a str) -> Result<Command<'
 {
     Command::new(alloc, name)
         .about(about)
+        .after_help(help::after_help_of(name))
         .arg(argument(alloc, "FILE", "The scenario's text"))
 }
 

@@ -1,0 +1,18 @@
+# Completion of cmwq for bash: put it into /usr/share/bash-completion/completions/cmwq, or source it.
+_cmwq() {
+    local word=${COMP_WORDS[COMP_CWORD]} command=${COMP_WORDS[1]-}
+    COMPREPLY=()
+    if ((COMP_CWORD == 1)); then
+        mapfile -t COMPREPLY < <(compgen -W 'new run list asm show debug play help --help --version' -- "$word")
+    elif [[ $command == help ]]; then
+        mapfile -t COMPREPLY < <(compgen -W 'new run list asm show debug play help' -- "$word")
+    elif [[ $word == -* ]]; then
+        local options=--help
+        [[ $command == play ]] && options='--capacity --help'
+        mapfile -t COMPREPLY < <(compgen -W "$options" -- "$word")
+    elif [[ ${COMP_WORDS[COMP_CWORD - 1]} != --capacity ]]; then
+        compopt -o filenames 2> /dev/null
+        mapfile -t COMPREPLY < <(compgen -f -- "$word")
+    fi
+}
+complete -F _cmwq cmwq

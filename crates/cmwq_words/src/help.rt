@@ -1,0 +1,113 @@
+//! What help says of the program and of each command.
+
+/// The program's version, and the kit that it is proved with.
+pub const VERSION: &str = "0.1.0 (rattle-kit-13b logic dac8208d650f15bf)";
+
+/// What follows the program's help.
+pub const PROGRAM: &str = "\
+Examples:
+  cmwq new first.cmwq
+  cmwq run first.cmwq
+  cmwq list scenarios/max_active_3.cmwq
+  cmwq asm scenarios/max_active_3.cmwq max_active_3.image
+  cmwq show max_active_3.image
+  cmwq debug scenarios/max_active_3.cmwq
+
+The formats of scenarios and images, the debugger's commands, and what each fault means, are in docs/FORMATS.md.
+
+Exit status:
+  0  the command did what it was asked
+  1  the file isn't a scenario's text or image, or the scenario hasn't one actor
+  2  the command line is wrong
+  3  a file can't be opened, made, read or written
+  4  memory ran out";
+
+const NEW: &str = "\
+Prints the scenario where there is no FILE, and else nothing.
+
+Exit status:
+  0  the scenario was written
+  2  the command line is wrong
+  3  `write`: FILE is there already or can't be made, or the output can't be written
+
+Example:
+  cmwq new first.cmwq";
+
+const RUN: &str = "\
+Prints a line for each thing that happens: the time, the work, and what it did.
+
+Exit status:
+  0  every instruction was carried out, or refused in a line of its own
+  1  `line 6: Duplicate`: the text's first fault; `actors`: there isn't exactly one actor
+  2  the command line is wrong
+  3  `read`: FILE can't be read; `write`: the output can't be written
+  4  `full`: more than 1,048,576 instructions; `no memory`
+
+Example:
+  cmwq run scenarios/max_active_3.cmwq";
+
+const LIST: &str = "\
+Prints the scenario's canonical text: one space between words, and no comments.
+
+Exit status:
+  0  the listing was written
+  1  `line 6: Duplicate`: the text's first fault
+  2  the command line is wrong
+  3  `read`: FILE can't be read; `write`: the output can't be written
+  4  `no memory`
+
+Example:
+  cmwq list scenarios/max_active_3.cmwq";
+
+const ASM: &str = "\
+Prints nothing.
+
+Exit status:
+  0  OUT is the scenario's image
+  1  `line 6: Duplicate`: the text's first fault; OUT is empty
+  2  the command line is wrong
+  3  `write`: OUT can't be made or written; `read`: FILE can't be read
+  4  `no memory`
+
+Example:
+  cmwq asm scenarios/max_active_3.cmwq max_active_3.image";
+
+const SHOW: &str = "\
+Prints the canonical text of the scenario in the image.
+
+Exit status:
+  0  the listing was written
+  1  `image: BadField 37`: the image's first fault
+  2  the command line is wrong
+  3  `read`: IMAGE can't be read; `write`: the output can't be written
+  4  `no memory`
+
+Example:
+  cmwq show max_active_3.image";
+
+const DEBUG: &str = "\
+Commands are lines of standard input: step N, back N, goto K, run, break work W event E, break time T,
+break refusal, clear I, dump, dump pool P. Prints the answer to each before the next is read.
+
+Exit status:
+  0  the input ended; refused and bad commands are answered in lines of their own
+  1  `line 6: Duplicate`: the text's first fault; `actors`: there isn't exactly one actor; `too long`: the commands
+  2  the command line is wrong
+  3  `read`: FILE or the commands can't be read; `write`: the output can't be written
+  4  `full`: more than 1,048,576 instructions; `no memory`
+
+Example:
+  cmwq debug scenarios/max_active_2.cmwq < scenarios/max_active_2.debug";
+
+/// What follows the help of the command of this name.
+pub fn after_help_of(command: &str) -> &'static str {
+    match command {
+        "new" => NEW,
+        "run" => RUN,
+        "list" => LIST,
+        "asm" => ASM,
+        "show" => SHOW,
+        "debug" => DEBUG,
+        _ => "",
+    }
+}

@@ -1,0 +1,119 @@
+"""A test of what users read: manual pages, completions and editors' grammars. Each knows the program's words; each is tried by the
+tools that are there. With a built program, what that says of itself too. It calls no prover.
+
+    python3 gate/test_user_files.py [PROGRAM]"""
+import json
+import os
+import re
+import shutil
+import subprocess
+import sys
+
+TOP = os.path.dirname(os.path.dirname(os.path.realpath(__file__)))
+PAGES = ["man/cmwq.1", "man/cmwq-scenario.5"]
+COMPLETIONS = {"bash": "completions/cmwq.bash", "zsh": "completions/_cmwq", "fish": "completions/cmwq.fish"}
+GRAMMARS = ["editors/vim/syntax/cmwq.vim", "editors/cmwq.tmLanguage.json"]
+
+
+def text_of(path):
+    with open(f"{TOP}/{path}", encoding="utf-8") as it:
+        return it.read()
+
+
+def said(*words, **how):
+    return subprocess.run(words, stdout=subprocess.PIPE, stderr=subprocess.STDOUT, text=True, cwd=TOP, timeout=60, **how).stdout
+
+
+def defined(path, name):
+    """The quoted words of a definition."""
+    body = re.search(rf"^{name}\b.*?(?=\n\n|\Z)", text_of(path), re.S | re.M)[0]
+    return re.findall(r'codes "([a-z_]+)"', body)
+
+
+def words_of_scenarios():
+    listing = text_of("crates/cmwq_types/specs/Listing.antt")
+    instructions = defined("crates/cmwq_types/specs/Mnemonics.antt", "spelling")
+    flags = defined("crates/cmwq_types/specs/Listing.antt", "flag_words")
+    assert len(instructions) >= 18 and len(flags) >= 5
+    lines = ["cpus", "workers", "steps", "flushes", "queue", "work", "body", "burn", "sleep", "finish", "actor", "max"]
+    assert all(f'codes "{word}"' in listing for word in lines), "the definitions have these words"
+    return {*instructions, *flags, *lines}
+
+
+def lacks(path, words):
+    """Which words don't stand in the file."""
+    plain = text_of(path).replace("\\-", "-")
+    return [f"{path} doesn't have {word}" for word in sorted(words) if not re.search(rf"(?<![\w-]){re.escape(word)}(?![\w-])", plain)]
+
+
+def page_faults():
+    """What the tools say of the pages."""
+    tries = [("groff", ["groff", "-ww", "-man", "-Tutf8", "-z"]), ("mandoc", ["mandoc", "-T", "lint", "-W", "warning"])]
+    return [f"{page}: {tool} says {out}" for tool, words in tries if shutil.which(tool) for page in PAGES if (out := said(*words, page))]
+
+
+def version_faults(program):
+    """The version stands in one place, and the pages have it; the kit is the one that is here."""
+    version = re.search(r'VERSION: &str = "(\S+) \((.*)\)";', text_of("crates/cmwq_words/src/help.rt"))
+    faults = [f"{page} is of another version" for page in PAGES if f'"cmwq {version[1]}"' not in text_of(page)]
+    if shutil.which("rt") and said("rt", "version").strip() != version[2]:
+        faults.append("help.rt names another kit than the one that is here")
+    if program and said(program, "--version") != f"cmwq {version[1]} ({version[2]})\n":
+        faults.append("the program's version isn't that of help.rt")
+    return faults
+
+
+def help_faults(program, commands):
+    """Each command's help has a status and an example, and `help` has a line for each."""
+    if not program:
+        return []
+    faults = [f"{command} --help lacks {part}" for command in sorted(commands) for part in ("Exit status:", "Example:") if part not in said(program, command, "--help")]
+    return faults + [f"help lacks {command}" for command in sorted(commands) if not re.search(rf"^  {command} ", said(program, "help"), re.M)]
+
+
+def bash_completes(*words):
+    """What bash offers for the last of the words."""
+    script = 'source completions/cmwq.bash; COMP_WORDS=(cmwq "$@"); COMP_CWORD=$#; _cmwq; echo "${COMPREPLY[*]}"'
+    return said("bash", "-c", script, "bash", *words).split()
+
+
+def completion_faults(commands):
+    faults = [f"{path}: {shell} says {out}" for shell, path in COMPLETIONS.items() if shutil.which(shell) and (out := said(shell, "-n", path))]
+    for words, want in [(("ru",), ["run"]), (("run", "docs/FORM"), ["docs/FORMATS.md"]), (("play", "--c"), ["--capacity"]), (("help", "de"), ["debug"])]:
+        if bash_completes(*words) != want:
+            faults.append(f"bash completes {words} as {bash_completes(*words)}")
+    if not commands <= set(bash_completes("")):
+        faults.append("bash doesn't offer each command")
+    return faults
+
+
+def grammar_faults():
+    """The TextMate grammar colours a line as it should, and vim reads its file."""
+    rules = json.loads(text_of("editors/cmwq.tmLanguage.json"))["patterns"]
+    wanted = {"queue q max 2 freezable # x": ["#", "queue", "max", "2", "freezable"], "next * 20": ["next", "*", "20"], "set_max q 4": ["set_max", "4"]}
+    faults = []
+    for line, words in wanted.items():
+        found = {it[1] if it.re.groups else it[0][:1] if it[0][:1] == "#" else it[0] for rule in rules for it in re.finditer(rule["match"], line)}
+        faults += [f"the TextMate grammar doesn't colour {word} in {line}" for word in words if word not in found]
+    if "+syntax" in (said("vim", "--version") if shutil.which("vim") else ""):
+        script = ["set rtp^=editors/vim", "edit scenarios/freeze.cmwq", "set ft=cmwq", "syntax on", "call search('freezable')"]
+        show = "verbose echo synIDattr(synID(line('.'), col('.'), 1), 'name')"
+        out = said("vim", "-Nu", "NONE", "-es", *(it for word in [*script, show, "qall!"] for it in ("-c", word)), stdin=subprocess.DEVNULL)
+        faults += [] if "cmwqFlag" in out else [f"vim says {out!r} of a flag"]
+    return faults
+
+
+def main(program=None):
+    scenario = words_of_scenarios()
+    commands = set(re.findall(r'^words_of \(.*?= codes "(\w+)"', text_of("crates/cmwq_words/specs/Request.antt"), re.M))
+    assert len(commands) >= 6
+    faults = [fault for path in [PAGES[1], *GRAMMARS] for fault in lacks(path, scenario)]
+    faults += [fault for path in [PAGES[0], *COMPLETIONS.values()] for fault in lacks(path, commands)]
+    faults += page_faults() + version_faults(program) + help_faults(program, commands) + completion_faults(commands) + grammar_faults()
+    print("".join(f"user files: {fault}\n" for fault in faults), end="")
+    print(f"user files: {len(scenario)} words and {len(commands)} commands compared, {len(faults)} faults")
+    return 1 if faults else 0
+
+
+if __name__ == "__main__":
+    sys.exit(main(*sys.argv[1:]))
