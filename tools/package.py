@@ -30,7 +30,7 @@ README = """cmwq {version}: Linux's concurrency-managed workqueue, emulated
     bin/cmwq run first.cmwq        what happens, a line for each thing
     bin/cmwq help                  all commands
 
-bin/cmwq runs on any Linux on x86-64; it needs no library of the system. share/man has its pages (man -l share/man/man1/cmwq.1),
+bin/cmwq runs on any Linux on x86-64 (x86-64-v2, since 2009); it needs no library of the system. share/man has its pages (man -l share/man/man1/cmwq.1),
 share/completions what bash, zsh and fish complete, share/editors the colours of scenario texts. scenarios/README.md is a
 course of lessons, in which ./cmwq stands for the program; docs/FORMATS.md is the reference.
 """

@@ -37,6 +37,8 @@ class Progress:
             self.say(f"{self.crate}: {goes_on[1]} of {goes_on[2]} functions{at}")
         if proved and self.crate:
             self.say(f"{self.crate}: {proved[1]} of {proved[1]} functions, proved")
+        if proved and self.crate == self.crates[-1]:
+            self.say("all crates are proved; the program is compiled")
 
 
 def prove(progress):
