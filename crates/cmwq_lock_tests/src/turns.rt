@@ -3,6 +3,7 @@ ghost use Rattle.std.specs.Prelude.{◌≡◌, ◌<◌, ◌≤◌, ◌^◌, [], 
 ghost use Rattle.std.proofs.Common.{lit≤};
 ghost use Rattle.cmwq_lock.specs.Tokens.{IsDrawnOf, IsOpenerOf, IsPassOf};
 
+use crate::checking::same;
 use cmwq_lock::{Call, Drawn, Kept, NotDrawn, NotYet, Opener, Pass, StillOut, TicketLock, TooMany};
 use cmwq_types::NoMemory;
 use std::alloc::Global;
@@ -103,7 +104,7 @@ pub(crate) fn taken(
 {
     match lock.try_take(drawn, Enter) {
         Ok((pass, ticket, length)) => {
-            assert_eq!(rt; (ticket, length), want);
+            same(rt, "a turn", (ticket, length), want);
             pass
         }
         Err(_not_yet) => panic!(rt; "its turn has come"),
@@ -130,7 +131,7 @@ fn not_yet_taken(
                 call: Enter,
             },
         ) => {
-            assert_eq!(rt; (ticket, served), want);
+            same(rt, "no turn yet", (ticket, served), want);
             drawn
         }
     }
@@ -150,7 +151,7 @@ fn not_closed(
     match lock.close(opener) {
         Ok(_) => panic!(rt; "passes are out"),
         Err(StillOut { lock, opener, left }) => {
-            assert_eq!(rt; left, want);
+            same(rt, "passes out", left, want);
             (lock, opener)
         }
     }
@@ -187,10 +188,11 @@ fn two_callers_take_their_turns_in_the_order_of_their_tickets(rt: HostRuntime) {
     let p1 = taken(&rt, &lock, d1, (1, 2));
     let d1 = drawn_by(&rt, &lock, p1);
     let (p1, ticket, length) = lock.take(&rt, d1, Enter);
-    assert_eq!(rt; (ticket, length), (2, 3));
+    same(&rt, "the third turn", (ticket, length), (2, 3));
     let (lock, opener) = not_closed(&rt, lock, opener, 2);
     let kept = closed(&rt, lock, opener, p0, p1);
-    assert_eq!(rt; kept.pairs.as_slice(), [(0, 0), (1, 1), (2, 1)].as_slice());
+    let log: &[(u64, u32)] = &[(0, 0), (1, 1), (2, 1)];
+    same(&rt, "the log", kept.pairs.as_slice(), log);
 }
 
 // Three turns of one caller, which draws again where another was faster.
@@ -241,10 +243,10 @@ pub(crate) fn both<R: Threads + Wait + Sync>(
 /// The pairs have the tickets 0, 1, .., and this caller this often.
 fn check_pairs(rt: &impl Abort, pairs: &[(u64, u32)], caller: u32, times: usize) {
     for (place, (ticket, _)) in pairs.iter().enumerate() {
-        assert_eq!(rt; *ticket, place as u64);
+        same(rt, place, *ticket, place as u64);
     }
     let its = pairs.iter().filter(|pair| pair.1 == caller).count();
-    assert_eq!(rt; its, times);
+    same(rt, caller, its, times);
 }
 
 #[test]
@@ -253,7 +255,7 @@ fn two_threads_take_three_turns_each(rt: HostRuntime) {
     let (p0, p1) = both(&rt, &lock, p0, p1);
     let kept = closed(&rt, lock, opener, p0, p1);
     let pairs = kept.pairs.as_slice();
-    assert_eq!(rt; pairs.len(), 6);
+    same(&rt, "turns", pairs.len(), 6);
     check_pairs(&rt, pairs, 1, 3);
 }
 
@@ -265,7 +267,8 @@ fn refuses_a_pass_while_64_are_out(rt: HostRuntime) {
     for _ in 1u64..64 {
         let _stays_out = lock.pass(&mut opener).expect(&rt, "fewer than 64 are out");
     }
-    assert!(rt; lock.pass(&mut opener).is_err());
+    let refused = lock.pass(&mut opener).is_err();
+    same(&rt, "64 passes out", refused, true);
     lock.retire(&mut opener, first);
     let last = lock.pass(&mut opener).expect(&rt, "63 passes are out");
     let drawn = drawn_by(&rt, &lock, last);
@@ -286,7 +289,7 @@ fn opens_or_answers_no_memory(rt: HostRuntime) -> Result<(), Fail> {
         let Ok(kept) = lock.close(opener) else {
             panic!(rt; "no pass was given")
         };
-        assert_eq!(rt; kept.pairs.len(), 0);
+        same(&rt, "no turn", kept.pairs.len(), 0);
         return Ok(());
     }
     panic!(rt; "one allocation alone is refused")
