@@ -1,7 +1,8 @@
 //! An actor's line: an instruction, and how often it stands.
 ghost use Rattle.cmwq_scan.specs.Answers.{Tells};
 ghost use Rattle.cmwq_scan.specs.Words.{words_in};
-ghost use Rattle.cmwq_asm.specs.Instructions.{work_cpu_ticks_at};
+ghost use Rattle.cmwq_asm.specs.Instructions.{IsOnWork, behind_work, cpu_ticks_at};
+ghost use Rattle.cmwq_types.specs.Contents.{ScenarioContents};
 ghost use Rattle.cmwq_grammar.specs.Fields.{declared_at};
 ghost use Rattle.cmwq_grammar.specs.Instructions.{instr_at, line_at, operands_at, operands_of, queue_names, times_at, work_names};
 ghost use Rattle.std.specs.Prelude.{◌∷◌};
@@ -64,35 +65,6 @@ fn read_operands<'a, 't>(
     ensures { Tells (λ field. (field.0, words_in field.1.now)) result (operands_at draft.now (operands_of mnemonic) (words_in rest.now)) }
 {
     match mnemonic {
-        Mnemonic::Queue => {
-            let (work, rest) = read_work(draft, rest)?;
-            let (cpu, rest) = read_number_within(0, 255, rest)?;
-            Ok((Instr::Queue(work, cpu as u8), rest))
-        }
-        Mnemonic::Delay => {
-            let ((work, cpu, ticks), rest) = read_work_cpu_ticks(draft, rest)?;
-            Ok((Instr::Delay(work, cpu, ticks), rest))
-        }
-        Mnemonic::Mod => {
-            let ((work, cpu, ticks), rest) = read_work_cpu_ticks(draft, rest)?;
-            Ok((Instr::Mod(work, cpu, ticks), rest))
-        }
-        Mnemonic::Cancel => {
-            let (work, rest) = read_work(draft, rest)?;
-            Ok((Instr::Cancel(work), rest))
-        }
-        Mnemonic::CancelSync => {
-            let (work, rest) = read_work(draft, rest)?;
-            Ok((Instr::CancelSync(work), rest))
-        }
-        Mnemonic::Flush => {
-            let (work, rest) = read_work(draft, rest)?;
-            Ok((Instr::Flush(work), rest))
-        }
-        Mnemonic::FlushDelayed => {
-            let (work, rest) = read_work(draft, rest)?;
-            Ok((Instr::FlushDelayed(work), rest))
-        }
         Mnemonic::FlushQueue => {
             let (queue, rest) = read_queue(draft, rest)?;
             Ok((Instr::FlushQueue(queue), rest))
@@ -116,10 +88,58 @@ fn read_operands<'a, 't>(
             Ok((Instr::Ask(flush as u16), rest))
         }
         Mnemonic::Busy => Ok((Instr::Busy, rest)),
-        Mnemonic::State => {
+        Mnemonic::Queue
+        | Mnemonic::Delay
+        | Mnemonic::Mod
+        | Mnemonic::Cancel
+        | Mnemonic::CancelSync
+        | Mnemonic::Flush
+        | Mnemonic::FlushDelayed
+        | Mnemonic::State => {
             let (work, rest) = read_work(draft, rest)?;
-            Ok((Instr::State(work), rest))
+            read_behind_work(mnemonic, work, rest)
         }
+    }
+}
+
+/// The instruction of this word on this work, and the words after what stands behind the work.
+fn read_behind_work<'a, 't>(
+    mnemonic: Mnemonic,
+    work: WorkId,
+    rest: &'a [Token<'t>],
+) -> Field<'a, 't, Instr>
+    requires { IsOnWork (operands_of mnemonic) }
+    ensures on_work { IsOnWork (operands_of mnemonic) }
+    ensures read { (S : ScenarioContents) → Tells (λ field. (field.0, words_in field.1.now)) result (operands_at S (behind_work (operands_of mnemonic) work) (words_in rest.now)) }
+{
+    match mnemonic {
+        Mnemonic::Queue => {
+            let (cpu, rest) = read_number_within(0, 255, rest)?;
+            Ok((Instr::Queue(work, cpu as u8), rest))
+        }
+        Mnemonic::Delay => {
+            let ((cpu, ticks), rest) = read_cpu_ticks(rest)?;
+            Ok((Instr::Delay(work, cpu, ticks), rest))
+        }
+        Mnemonic::Mod => {
+            let ((cpu, ticks), rest) = read_cpu_ticks(rest)?;
+            Ok((Instr::Mod(work, cpu, ticks), rest))
+        }
+        Mnemonic::Cancel => Ok((Instr::Cancel(work), rest)),
+        Mnemonic::CancelSync => Ok((Instr::CancelSync(work), rest)),
+        Mnemonic::Flush => Ok((Instr::Flush(work), rest)),
+        Mnemonic::FlushDelayed => Ok((Instr::FlushDelayed(work), rest)),
+        Mnemonic::State => Ok((Instr::State(work), rest)),
+        Mnemonic::FlushQueue
+        | Mnemonic::SetMax
+        | Mnemonic::Freeze
+        | Mnemonic::Thaw
+        | Mnemonic::Fire
+        | Mnemonic::Step
+        | Mnemonic::Tick
+        | Mnemonic::Next
+        | Mnemonic::Ask
+        | Mnemonic::Busy => unreachable!(),
     }
 }
 
@@ -139,15 +159,11 @@ fn read_work<'a, 't>(draft: &Draft, rest: &'a [Token<'t>]) -> Field<'a, 't, Work
     Ok((WorkId(work as u16), rest))
 }
 
-/// A declared work, a CPU, which the machine may not have, and how many ticks.
-fn read_work_cpu_ticks<'a, 't>(
-    draft: &Draft,
-    rest: &'a [Token<'t>],
-) -> Field<'a, 't, (WorkId, u8, u32)>
-    ensures { Tells (λ field. (field.0, words_in field.1.now)) result (work_cpu_ticks_at draft.now (words_in rest.now)) }
+/// A CPU, which the machine may not have, and how many ticks.
+fn read_cpu_ticks<'a, 't>(rest: &'a [Token<'t>]) -> Field<'a, 't, (u8, u32)>
+    ensures { Tells (λ field. (field.0, words_in field.1.now)) result (cpu_ticks_at (words_in rest.now)) }
 {
-    let (work, rest) = read_work(draft, rest)?;
     let (cpu, rest) = read_number_within(0, 255, rest)?;
     let (ticks, rest) = read_number_within(0, u32::MAX, rest)?;
-    Ok(((work, cpu as u8, ticks), rest))
+    Ok(((cpu as u8, ticks), rest))
 }
