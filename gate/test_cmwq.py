@@ -106,10 +106,13 @@ def check_progress():
     import prove
 
     said = io.StringIO()
-    progress = prove.Progress(["cmwq_types", "cmwq_plain", "cmwq"], said)
-    for line in ["rt: chose --jobs 2 for cmwq_plain", "so far: 41 of 73 functions checked", "fn cmwq_plain::x: proved", "logic=proved functions=73 sum=0"]:
-        progress.read(f"{line}\n")
-    assert said.getvalue() == "cmwq_plain: 41 of 73 functions (crate 2 of 3)\ncmwq_plain: 73 of 73 functions, proved\n", said.getvalue()
+    progress = prove.Progress(["cmwq_plain", "cmwq"], said)
+    for crate, lines in [("cmwq_plain", ["so far: 41 of 73 functions checked", "fn cmwq_plain::x: proved"]), ("cmwq", ["logic=proved functions=6 sum=0"])]:
+        progress.begin(crate)
+        for line in lines:
+            progress.read(f"{line}\n")
+    wanted = ["cmwq_plain: crate 1 of 2", "cmwq_plain: 41 of 73 functions", "cmwq: crate 2 of 2", "all crates are proved; the program is compiled"]
+    assert said.getvalue().splitlines() == wanted, said.getvalue()
 
 
 for check in (check_builds, check_faults):

@@ -29,9 +29,9 @@ def sources(folder):
 
 
 def crates_below(folder):
-    """The names of the repository's crates below a program, lowest first, and its own."""
+    """The repository's crates below a program, lowest first, and its own; each knows its name and folder, and whether it is built."""
     crate = crate_at(folder)[1]
-    return [*(it.name for it in crate.below()), crate.name]
+    return [*crate.below(), crate]
 
 
 def begin(mark):
