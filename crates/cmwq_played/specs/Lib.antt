@@ -1,0 +1,3 @@
+pub mod Commenting
+pub mod Numbers
+pub mod Played
