@@ -26,14 +26,14 @@ expand_player (i ∷ instrs) = ap (λ (is : List Instr). i ∷ is) (expand_playe
 
 -- Faults.
 
-no_first : (a b : Option Fault) → or_else a b ≡ None → (a ≡ None) × (b ≡ None)
+pub no_first : (a b : Option Fault) → or_else a b ≡ None → (a ≡ None) × (b ≡ None)
 no_first (Some f) b e = cc
 no_first None b e = (refl, e)
 
 none_first : (a b : Option Fault) → a ≡ None → b ≡ None → or_else a b ≡ None
 none_first a b p q = ap (λ (x : Option Fault). or_else x b) p ∙ q
 
-no_unless : (t : Bool) (f : Fault) → fault_unless t f ≡ None → t ≡ true
+pub no_unless : (t : Bool) (f : Fault) → fault_unless t f ≡ None → t ≡ true
 no_unless true f e = refl
 no_unless false f e = cc
 

@@ -4,5 +4,7 @@
 mod commenting;
 mod leaving;
 mod numbers;
+mod playing;
 
 pub use leaving::played_text;
+pub use playing::play;

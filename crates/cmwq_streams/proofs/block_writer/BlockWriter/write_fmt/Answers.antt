@@ -1,7 +1,7 @@
 use Rattle.std.proofs.Common.{string_bytes}
 use Rattle.std.proofs.lemmas.Result.{err_from_is_err_and}
-use Rattle.cmwq_play.proofs.SendingLemmas.{front_known}
-use Rattle.cmwq_play.proofs.block_writer.BlockWriter.write_fmt.Goals as goal
+use Rattle.cmwq_streams.proofs.SendingLemmas.{front_known}
+use Rattle.cmwq_streams.proofs.block_writer.BlockWriter.write_fmt.Goals as goal
 
 pub returns-in_err-finish-clause-err : goal.returns-in_err-finish-clause-err
 returns-in_err-finish-clause-err g c =

@@ -1,5 +1,5 @@
 //! Giving a writer all the bytes.
-ghost use Rattle.cmwq_play.specs.Sending.{HasSentFront};
+ghost use Rattle.cmwq_streams.specs.Sending.{HasSentFront};
 ghost use Rattle.std.specs.Io.KnownBytes.{Appends};
 ghost use Rattle.std.specs.Prelude.{◌≡◌, ◌<◌, ◌≤◌, ◌↔◌, [], Err, IfErr, IfOk, OnErr, OnOk, false, length, take, true};
 

@@ -3,7 +3,7 @@ use Rattle.std.proofs.Common.{ℕ, ◌≡◌, List, [], ◌++◌, take, drop, If
 use Rattle.std.proofs.lemmas.List.{take-append-drop}
 use Rattle.std.specs.Fmt.{AppendsText}
 use Rattle.std.specs.Io.KnownBytes.{Appends, Keeps}
-use Rattle.cmwq_play.specs.Sending.{HasSent, HasSentFront}
+use Rattle.cmwq_streams.specs.Sending.{HasSent, HasSentFront}
 
 -- what is appended twice is appended as one
 pub appends_both : (before now after : Option (List ℕ)) (xs ys : List ℕ) → Appends before now xs → Appends now after ys → Appends before after (xs ++ ys)

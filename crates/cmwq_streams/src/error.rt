@@ -40,7 +40,7 @@ pub enum PlayError {
 
 impl From<AllocError> for PlayError {
     ghost use Rattle.std.specs.Prelude.{◌≡◌};
-    ghost use Rattle.cmwq_play.specs.declared.error.PlayError.TheVariants.{NoMemory as no_memory};
+    ghost use Rattle.cmwq_streams.specs.declared.error.PlayError.TheVariants.{NoMemory as no_memory};
 
     ghost from_gives = { λ _ e. e ≡ no_memory };
 
@@ -51,7 +51,7 @@ impl From<AllocError> for PlayError {
 
 impl<T: Drop> From<AllocFailed<T>> for PlayError {
     ghost use Rattle.std.specs.Prelude.{◌≡◌};
-    ghost use Rattle.cmwq_play.specs.declared.error.PlayError.TheVariants.{NoMemory as no_memory};
+    ghost use Rattle.cmwq_streams.specs.declared.error.PlayError.TheVariants.{NoMemory as no_memory};
 
     ghost from_gives = { λ _ e. e ≡ no_memory };
 
@@ -62,7 +62,7 @@ impl<T: Drop> From<AllocFailed<T>> for PlayError {
 
 impl From<NoMemory> for PlayError {
     ghost use Rattle.std.specs.Prelude.{◌≡◌};
-    ghost use Rattle.cmwq_play.specs.declared.error.PlayError.TheVariants.{NoMemory as no_memory};
+    ghost use Rattle.cmwq_streams.specs.declared.error.PlayError.TheVariants.{NoMemory as no_memory};
 
     ghost from_gives = { λ _ e. e ≡ no_memory };
 
@@ -73,7 +73,7 @@ impl From<NoMemory> for PlayError {
 
 /// A fault of the bytes is told as it is.
 impl From<ImageError> for PlayError {
-    ghost use Rattle.cmwq_play.specs.Images.{told_as};
+    ghost use Rattle.cmwq_streams.specs.Errors.{told_as};
     ghost use Rattle.std.specs.Prelude.{◌≡◌};
 
     ghost from_gives = { λ fault e. e ≡ told_as fault };

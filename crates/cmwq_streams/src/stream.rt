@@ -1,5 +1,5 @@
 //! Readers and writers that remember whether a call of theirs failed.
-ghost use Rattle.cmwq_play.specs.Stream.{put_failed};
+ghost use Rattle.cmwq_streams.specs.Stream.{put_failed};
 ghost use Rattle.std.specs.Io.{ReadsAtMost, WritesAtMost};
 ghost use Rattle.std.specs.Io.KnownBytes.{ReadConsumes, WriteAppends};
 ghost use Rattle.std.specs.Prelude.{◌≡◌, ◌||◌, Bool, false, is_err, length};

@@ -1,8 +1,8 @@
 -- A writer of text in blocks: the writer below it, what it keeps back, and what it sends.
 use Rattle.std.specs.Prelude.{◌≡◌, ℕ, List, Option, string_bytes, ◌++◌}
 use Rattle.std.specs.Borrow.{MutBor}
-use Rattle.cmwq_play.specs.Sending.{HasSent, HasSentFront}
-use Rattle.cmwq_play.specs.declared.block_writer.BlockWriter.{BlockWriter}
+use Rattle.cmwq_streams.specs.Sending.{HasSent, HasSentFront}
+use Rattle.cmwq_streams.specs.declared.block_writer.BlockWriter.{BlockWriter}
 
 module _ {W : Type 0} where
   -- the writer that is given the blocks

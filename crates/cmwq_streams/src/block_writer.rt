@@ -1,5 +1,5 @@
 //! A writer of text that goes out a block at a time.
-ghost use Rattle.cmwq_play.specs.Sending.{HasSent, HasSentFront, IsSendError};
+ghost use Rattle.cmwq_streams.specs.Sending.{HasSent, HasSentFront, IsSendError};
 ghost use Rattle.std.specs.Prelude.{◌≡◌, ◌≤◌, ◌↔◌, [], Err, IfErr, IfSome, OnErr, OnOk, false, length, true};
 
 use crate::error::PlayError;
@@ -22,7 +22,7 @@ pub struct BlockWriter<'w, W> {
 }
 
 impl<'w, W: Sink> BlockWriter<'w, W> {
-    ghost use Rattle.cmwq_play.specs.Blocks.{Sends, SendsFront, SharesSink, WritesTo, kept, sink};
+    ghost use Rattle.cmwq_streams.specs.Blocks.{Sends, SendsFront, SharesSink, WritesTo, kept, sink};
 
     /// A writer that keeps nothing back yet.
     pub fn new(alloc: Global, writer: &'w mut W) -> BlockWriter<'w, W>

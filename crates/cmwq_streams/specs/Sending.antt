@@ -1,8 +1,8 @@
 -- What has gone out of some text.
 use Rattle.std.specs.Prelude.{◌≡◌, ℕ, List, ◌++◌, Option}
 use Rattle.std.specs.Io.KnownBytes.{Appends}
-use Rattle.cmwq_play.specs.declared.error.PlayError.{PlayError}
-use Rattle.cmwq_play.specs.declared.error.PlayError.TheVariants as errors
+use Rattle.cmwq_streams.specs.declared.error.PlayError.{PlayError}
+use Rattle.cmwq_streams.specs.declared.error.PlayError.TheVariants as errors
 
 -- of this text the writer was given all but the block
 abbrev pub HasSent : Option (List ℕ) → Option (List ℕ) → List ℕ → List ℕ → Type 0

@@ -1,5 +1,5 @@
-use Rattle.cmwq_play.proofs.SendingLemmas.{sent_some}
-use Rattle.cmwq_play.proofs.sending.put_all.Goals as goal
+use Rattle.cmwq_streams.proofs.SendingLemmas.{sent_some}
+use Rattle.cmwq_streams.proofs.sending.put_all.Goals as goal
 
 pub loop-rest-preserved : goal.loop-rest-preserved
 loop-rest-preserved g c =

@@ -1,6 +1,6 @@
 use Rattle.std.proofs.Common.{◌≡◌, false, length}
-use Rattle.cmwq_play.specs.Sending.{HasSent}
-use Rattle.cmwq_play.proofs.sending.put_all.Given as goal
+use Rattle.cmwq_streams.specs.Sending.{HasSent}
+use Rattle.cmwq_streams.proofs.sending.put_all.Given as goal
 
 -- all but the rest is out
 abbrev pub invariant-loop-rest : goal.invariant-loop-rest
