@@ -3,11 +3,14 @@
 
 mod debugging;
 mod images;
+pub mod laws;
 mod listing;
 mod reading;
 mod running;
 mod session;
 
+pub use cmwq_actors::{Gate, OpenGate};
+pub use cmwq_played::play;
 pub use cmwq_streams::{BlockWriter, Marked, PlayError, Sink, Source, put_all};
 pub use debugging::debug;
 pub use images::{from_image, to_image};
