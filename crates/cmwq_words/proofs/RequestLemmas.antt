@@ -1,6 +1,9 @@
 -- What clap makes of the words of each command.
-use Rattle.std.proofs.Common.{rules, ap, ℕ, ◌≤◌, ◌<◌, arith, length, get_or, ◌≡◌, ◌∙◌, ◌≢◌, ◌==◌, List, [], ◌∷◌, true, false, Some, codes, refl}
-use Rattle.std.proofs.lemmas.Fmt.{decimal_nonempty, first_decimal}
+use Rattle.std.proofs.Common.{rules, ap, sym, subst, Result, Ok, ◌^◌, ℕ, ◌≤◌, ◌<◌, arith, length, get_or, ◌≡◌, ◌∙◌, ◌≢◌, ◌==◌, List, [], ◌∷◌, true, false, Some, codes, refl}
+use Rattle.std.proofs.lemmas.Fmt.{decimal_nonempty, digits_decimal, digits_value-decimal, first_decimal}
+use Rattle.std.proofs.lemmas.Str.Parse.{IsNumeralModel, numerals_by_value, parse_gives, tells_all_ascii_digits}
+use Rattle.std.specs.Str.{all_ascii_digits}
+use Rattle.std.specs.Str.Parse.{ParsesUnsigned, digits_value}
 use Rattle.std.specs.Fmt.{decimal}
 use Rattle.clap.specs.Words.{App, HasMatchesOf, Text, is_simple, subcommand_of, subcommand_rows_of}
 use Rattle.clap.specs.declared.parser.matches.ArgMatches.{ArgMatches}
@@ -73,14 +76,26 @@ number_plain n fits = digits (decimal n) (decimal_nonempty n (omega (arith, fits
     digits [] some high = absurd (omega arith)
     digits (first ∷ rest) some high = (first, rest, refl, λ is. absurd (omega (arith, high, is)))
 
+numerals : IsNumeralModel (λ word. all_ascii_digits word ≡ true) (digits_value 10)
+numerals = numerals_by_value (λ word. all_ascii_digits word ≡ true) tells_all_ascii_digits
+
+-- and is read as that number
+pub number_read : {E : Type 0} (r : Result ℕ E) (word : Text) (n : ℕ) → ParsesUnsigned 32 10 word r → word ≡ decimal n → IsCapacity n → r ≡ Ok n
+number_read {E} r word n parsed is fits =
+    let small : n < 2 ^ 64 = omega (arith, fits.1) in
+    let value : digits_value 10 (decimal n) ≡ n = digits_value-decimal numerals n small in
+    let read : r ≡ Ok (digits_value 10 (decimal n)) =
+    parse_gives numerals 32 (decimal n) r (subst (λ (w : Text). ParsesUnsigned {E = E} 32 10 w r) is parsed) (digits_decimal numerals n small) (decimal_nonempty n small) (omega (arith, value, fits.1)) in
+    read ∙ ap Ok value
+
 pub play_read : (words : List Text) (name file : Text) (n : ℕ) → words ≡ name ∷ codes "play" ∷ file ∷ codes "--capacity" ∷ decimal n ∷ [] → IsPlainWord file → IsCapacity n
     → IsRead words (codes "play" ∷ file ∷ codes "--capacity" ∷ decimal n ∷ [])
-play_read words name file n are plain fits = of_plain file (decimal n) plain (number_plain n fits) are (n, refl, fits)
+play_read words name file n are plain fits = of_plain file (decimal n) plain (number_plain n fits) are refl
   where
     of_plain : (f number : Text) → IsPlainWord f → IsPlainWord number → words ≡ name ∷ codes "play" ∷ f ∷ codes "--capacity" ∷ number ∷ []
-        → HasCapacity (codes "play" ∷ f ∷ codes "--capacity" ∷ number ∷ []) → IsRead words (codes "play" ∷ f ∷ codes "--capacity" ∷ number ∷ [])
-    of_plain f number (first, rest, is, p) (head, tail, is_number, q) same within =
-        rw (same, is, is_number) (plain_play name first rest head tail (no_hyphen first p) (no_hyphen head q) (rw (is, is_number) at within))
+        → number ≡ decimal n → IsRead words (codes "play" ∷ f ∷ codes "--capacity" ∷ number ∷ [])
+    of_plain f number (first, rest, is, p) (head, tail, is_number, q) same digits =
+        rw (same, is, is_number) (plain_play name first rest head tail (no_hyphen first p) (no_hyphen head q) (n, sym is_number ∙ digits, fits))
 
 -- the matches have what was read
 pub read_met : (line : App) (words asked : List Text) (m : ArgMatches) → line ≡ command_line → HasMatchesOf line words m

@@ -103,8 +103,8 @@ fn request_met<'a>(command: &mut Command<'a>, words: &'a [String]) -> Result<Req
     match request_of(&matches) {
         Some(request) => Ok(request),
         None => Err(command.error(
-            ErrorKind::MissingSubcommand,
-            "a command and its files are required, and for play a capacity from 1 to 4096",
+            ErrorKind::ValueValidation,
+            "--capacity takes a number from 1 to 4096",
         )?),
     }
 }

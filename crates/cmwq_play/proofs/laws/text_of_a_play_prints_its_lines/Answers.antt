@@ -12,6 +12,8 @@ returns c = λ S history text left few.
     let instrs = instrs_of history in
     let T = played S instrs in
     let long : length instrs ≡ length history = length-map history (λ (e : Entry). e.instr) in
-    let given = ap length left.gives in
-    (T, record { valid = left.spells.is_text.valid; spelled = left.spells },
-    (player instrs, record { alone = refl; few = omega arith }, sym (ap (λ (is : List Instr). events T is) left.gives)))
+    let given = ap length left.gives in (
+      T,
+      record { valid = left.spells.is_text.valid; spelled = left.spells },
+      (player instrs, record { alone = refl; few = omega arith }, sym (ap (λ (is : List Instr). events T is) left.gives)),
+    )
