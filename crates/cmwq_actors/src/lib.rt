@@ -1,0 +1,12 @@
+//! Actors in threads of their own, over one shared machine.
+#![tactic(auto)]
+
+mod enacting;
+mod ending;
+mod gate;
+mod part;
+mod threads;
+
+pub use enacting::{Enactment, enact};
+pub use ending::Ending;
+pub use gate::{Gate, OpenGate};
