@@ -3,6 +3,7 @@
 
 mod enacting;
 mod ending;
+pub mod examples;
 mod gate;
 mod part;
 mod threads;
