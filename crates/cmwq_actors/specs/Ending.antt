@@ -3,6 +3,8 @@ use Rattle.std.specs.Prelude.{◌≡◌, ℕ, ◌<◌, Bool, true, false, List, 
 use Rattle.std.specs.List.{list_any}
 use Rattle.cmwq_types.specs.declared.instr.Instr.{Instr}
 use Rattle.cmwq_engine.specs.declared.history.Entry.{Entry}
+use Rattle.cmwq_engine.specs.declared.shared.IssueError.{IssueError}
+use Rattle.cmwq_engine.specs.declared.shared.IssueError.TheVariants as issue
 use Rattle.cmwq_actors.specs.Interleaving.{Interleaves, InterleavesFronts, IsFrontOf, issued_by, script_at}
 use Rattle.cmwq_actors.specs.declared.ending.Ending.{Ending}
 use Rattle.cmwq_actors.specs.declared.ending.Ending.TheVariants.{Done, Full, Exhausted}
@@ -16,6 +18,11 @@ abbrev pub is_exhausted : Ending → Bool
 is_exhausted Done = false
 is_exhausted Full = false
 is_exhausted Exhausted = true
+
+-- how an actor ends whose instruction wasn't issued
+abbrev pub stopped_by : IssueError → Ending
+stopped_by issue.Full = Full
+stopped_by issue.Exhausted = Exhausted
 
 -- how all end: exhausted where one is, else full where one is, else done
 abbrev pub ending_of : List Ending → Ending

@@ -1,15 +1,18 @@
 -- Several actors on one history: who has issued what.
 use Rattle.std.specs.Prelude.{◌≡◌, ℕ, ◌<◌, List, [], All, length, map, take, slice_index_or}
-use Rattle.cmwq_types.specs.Contents.{ScenarioContents}
+use Rattle.cmwq_types.specs.Contents.{ActorContents, ScenarioContents}
 use Rattle.cmwq_types.specs.Scenario.{expand}
 use Rattle.cmwq_types.specs.declared.instr.Instr.{Instr}
 use Rattle.cmwq_lock.specs.Log.{calls_of}
 use Rattle.cmwq_engine.specs.History.{instrs_of}
 use Rattle.cmwq_engine.specs.declared.history.Entry.{Entry}
 
--- what each actor has to issue: its lines, each as often as it stands
+-- what each of these actors has to issue: its lines, each as often as it stands
+abbrev pub scripts_in : List ActorContents → List (List Instr)
+scripts_in actors = map expand actors
+
 abbrev pub scripts_of : ScenarioContents → List (List Instr)
-scripts_of S = map expand S.actors
+scripts_of S = scripts_in S.actors
 
 -- the script of one actor
 abbrev pub script_at : List (List Instr) → ℕ → List Instr

@@ -6,17 +6,16 @@ ghost use Rattle.cmwq_engine.specs.Engine.{IsSound};
 ghost use Rattle.cmwq_actors.specs.Ending.{AllHaveEnded, EachHasEnded, ending_of};
 ghost use Rattle.cmwq_actors.specs.Interleaving.{scripts_of};
 
-use crate::ending::Ending;
+use crate::ending::{Ending, any_exhausted, any_full};
 use crate::gate::Gate;
-use crate::part::{Played, Stage};
-use cmwq_engine::{Engine, Shared, StillOut};
-use cmwq_lock::{Kept, Opener, Pass};
+use crate::part::Stage;
+use cmwq_engine::{Engine, Shared};
+use cmwq_lock::Kept;
 use cmwq_table::{LoadError, Machine};
-use cmwq_types::{Actor, NoMemory, Scenario};
+use cmwq_types::{NoMemory, Scenario};
 use std::alloc::Global;
-use std::snapshot::Snapshot;
 use std::sync::{OnceLock, Wait};
-use std::thread::{self, Promise, PromisedHandle, Scope, Threads};
+use std::thread::Threads;
 use std::time::Clock;
 
 /// The machine with the history that the actors have left, and how they ended.
@@ -37,109 +36,14 @@ impl<M: Machine> Enactment<M> {
     pub fn ending(&self) -> Ending
         ensures { result ≡ ending_of self.now.endings.items }
     {
-        if self
-            .endings
-            .iter()
-            .any(|ending| matches!(ending, Ending::Exhausted))
-        {
+        let endings = self.endings.as_slice();
+        if any_exhausted(endings) {
             return Ending::Exhausted;
         }
-        if self
-            .endings
-            .iter()
-            .any(|ending| matches!(ending, Ending::Full))
-        {
+        if any_full(endings) {
             return Ending::Full;
         }
         Ending::Done
-    }
-}
-
-/// What a thread promises of the actor that it plays.
-#[derive(Drop)]
-pub(crate) struct Plays<M: Machine>
-where
-    Engine<M>: Kept,
-{
-    shared: Snapshot<Shared<M>>,
-    actor: u8,
-}
-
-impl<M: Machine> Promise<Played<M>> for Plays<M> {
-    ghost kept_by = { λ p r. Unit {0} };
-}
-
-type Thread<M> = PromisedHandle<Played<M>, Plays<M>>;
-
-impl<'a, R: Threads + Wait + Clock + Sync, M: Machine + Send, G: Gate> Stage<'a, R, M, G> {
-    /// Starts all threads, and joins them.
-    fn perform<'e>(
-        &'e self,
-        opener: Opener<Engine<M>>,
-        actors: &'e [Actor],
-        threads: Vec<Thread<M>>,
-        endings: Vec<Ending>,
-    ) -> (Opener<Engine<M>>, Vec<Ending>) {
-        thread::scope(thread::scope_env(), self.rt, |scope| {
-            let (opener, threads, refused) = self.start(scope, opener, actors, threads);
-            self.join_all(opener, threads, refused, endings)
-        })
-    }
-
-    /// Starts a thread for each actor, and lets them begin once all are there. Where one can't be started, none begins, and
-    /// that actor's pass comes back.
-    fn start<'s, E>(
-        &'s self,
-        scope: &Scope<'s, E>,
-        opener: Opener<Engine<M>>,
-        actors: &'s [Actor],
-        threads: Vec<Thread<M>>,
-    ) -> (Opener<Engine<M>>, Vec<Thread<M>>, Option<Played<M>>) {
-        let mut opener = opener;
-        let mut threads = threads;
-        for (number, actor) in actors.iter().enumerate() {
-            let number = number as u8;
-            let lines = actor.lines.as_slice();
-            let Ok(pass) = self.shared.pass(&mut opener) else {
-                unreachable!()
-            };
-            let promise = Plays {
-                shared: Snapshot::of(&self.shared),
-                actor: number,
-            };
-            match scope.spawn_with(promise, move || self.play(number, lines, pass)) {
-                Ok(thread) => threads.push_reserved(thread),
-                Err(refused) => {
-                    let _ = self.begin.set(self.rt, false);
-                    return (opener, threads, Some((refused.value)()));
-                }
-            }
-        }
-        let _ = self.begin.set(self.rt, true);
-        (opener, threads, None)
-    }
-
-    /// Joins.
-    fn join_all(
-        &self,
-        opener: Opener<Engine<M>>,
-        threads: Vec<Thread<M>>,
-        refused: Option<Played<M>>,
-        endings: Vec<Ending>,
-    ) -> (Opener<Engine<M>>, Vec<Ending>) {
-        let mut opener = opener;
-        let mut endings = endings;
-        for thread in threads {
-            let Played { pass, ending } = thread.join(self.rt);
-            self.shared.retire(&mut opener, pass);
-            if let Some(ending) = ending {
-                endings.push_reserved(ending);
-            }
-        }
-        if let Some(Played { pass, ending: _ }) = refused {
-            self.shared.retire(&mut opener, pass);
-        }
-        (opener, endings)
     }
 }
 

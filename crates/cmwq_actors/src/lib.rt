@@ -3,8 +3,10 @@
 
 mod enacting;
 mod ending;
+pub mod examples;
 mod gate;
 mod part;
+mod threads;
 
 pub use enacting::{Enactment, enact};
 pub use ending::Ending;

@@ -1,11 +1,19 @@
 //! One actor's part: its instructions, issued one after the other.
+ghost use Rattle.std.specs.Prelude.{◌≡◌, ◌≤◌, [], ◌++◌, length, replicate};
+ghost use Rattle.cmwq_types.specs.Scenario.{expand_lines};
+ghost use Rattle.cmwq_types.specs.declared.limits.TheConstants.{MAX_HISTORY};
+ghost use Rattle.cmwq_lock.specs.Tokens.{pass_view};
+ghost use Rattle.cmwq_lock.specs.Views.{caller_of, knowledge_of, mine_of, seen_of};
+ghost use Rattle.cmwq_engine.specs.Shared.{IsPassOf, setting_of};
+ghost use Rattle.cmwq_actors.specs.Ending.{HasEnded};
+ghost use Rattle.cmwq_actors.specs.Playing.{HasPlayed, issued_with};
 
 use crate::ending::Ending;
 use crate::gate::Gate;
-use cmwq_engine::{Engine, IssueError, Receipt, Shared};
+use cmwq_engine::{Engine, Shared};
 use cmwq_lock::{Kept, Pass};
 use cmwq_table::Machine;
-use cmwq_types::{Instr, Line};
+use cmwq_types::Line;
 use std::sync::{OnceLock, Wait};
 use std::thread::Threads;
 use std::time::Clock;
@@ -35,42 +43,71 @@ where
 
 impl<'a, R: Threads + Wait + Clock, M: Machine, G: Gate> Stage<'a, R, M, G> {
     /// An actor's part, once it may begin.
-    pub(crate) fn play(&self, actor: u8, lines: &[Line], pass: Pass<Engine<M>>) -> Played<M> {
+    pub(crate) fn play(&self, actor: u8, lines: &[Line], pass: Pass<Engine<M>>) -> Played<M>
+        requires small { (setting_of self.now.shared).capacity ≤ MAX_HISTORY }
+        requires pass { IsPassOf self.now.shared pass }
+        requires fresh { mine_of (pass_view pass) ≡ [] }
+        ensures token { IsPassOf self.now.shared result.pass }
+        ensures played { HasPlayed (setting_of self.now.shared).capacity (caller_of (pass_view pass))
+            (expand_lines lines.now) result.ending (knowledge_of (pass_view result.pass)) }
+    {
         if *self.begin.wait(self.rt) {
-            self.play_lines(actor, lines, pass)
+            let (pass, ending) = self.play_lines(actor, lines, pass);
+            Played {
+                pass,
+                ending: Some(ending),
+            }
         } else {
             Played { pass, ending: None }
         }
     }
 
     /// Issues the lines, each as often as it stands, up to the first that can't be.
-    fn play_lines(&self, actor: u8, lines: &[Line], pass: Pass<Engine<M>>) -> Played<M> {
+    fn play_lines(
+        &self,
+        actor: u8,
+        lines: &[Line],
+        pass: Pass<Engine<M>>,
+    ) -> (Pass<Engine<M>>, Ending)
+        requires small { (setting_of self.now.shared).capacity ≤ MAX_HISTORY }
+        requires pass { IsPassOf self.now.shared pass }
+        requires fresh { mine_of (pass_view pass) ≡ [] }
+        ensures token { IsPassOf self.now.shared result.0 }
+        ensures caller { caller_of (pass_view result.0) ≡ caller_of (pass_view pass) }
+        ensures ended { HasEnded (setting_of self.now.shared).capacity (seen_of (pass_view result.0))
+            (issued_with (pass_view result.0)) (expand_lines lines.now) result.1 }
+    {
         let mut pass = pass;
         let mut calls = 0;
         for line in lines {
-            let (back, outcome) = self.play_line(actor, line, pass, &mut calls);
+            let (back, ending) = self.play_line(actor, line, pass, &mut calls);
             pass = back;
-            if let Err(why) = outcome {
-                return Played {
-                    pass,
-                    ending: Some(ending_of(why)),
-                };
+            match ending {
+                Ending::Done => {}
+                Ending::Full | Ending::Exhausted => return (pass, ending),
             }
         }
-        Played {
-            pass,
-            ending: Some(Ending::Done),
-        }
+        (pass, Ending::Done)
     }
 
-    /// Issues one line as often as it stands.
+    /// Issues one line as often as it stands, up to the first time that it can't be.
     fn play_line(
         &self,
         actor: u8,
         line: &Line,
         pass: Pass<Engine<M>>,
         calls: &mut u32,
-    ) -> (Pass<Engine<M>>, Result<(), IssueError>) {
+    ) -> (Pass<Engine<M>>, Ending)
+        requires small { (setting_of self.now.shared).capacity ≤ MAX_HISTORY }
+        requires pass { IsPassOf self.now.shared pass }
+        requires counted { calls.old ≡ length (mine_of (pass_view pass)) }
+        ensures token { IsPassOf self.now.shared result.0 }
+        ensures caller { caller_of (pass_view result.0) ≡ caller_of (pass_view pass) }
+        ensures counted { calls.new ≡ length (mine_of (pass_view result.0)) }
+        ensures ended { HasEnded (setting_of self.now.shared).capacity (seen_of (pass_view result.0))
+            (issued_with (pass_view result.0))
+            (issued_with (pass_view pass) ++ replicate line.now.times line.now.instr) result.1 }
+    {
         let mut pass = pass;
         for _ in 0..line.times {
             self.gate.before(self.rt, actor, *calls);
@@ -78,16 +115,9 @@ impl<'a, R: Threads + Wait + Clock, M: Machine, G: Gate> Stage<'a, R, M, G> {
             pass = back;
             match outcome {
                 Ok(_receipt) => *calls += 1,
-                Err(why) => return (pass, Err(why)),
+                Err(why) => return (pass, Ending::from(why)),
             }
         }
-        (pass, Ok(()))
-    }
-}
-
-fn ending_of(why: IssueError) -> Ending {
-    match why {
-        IssueError::Full => Ending::Full,
-        IssueError::Exhausted => Ending::Exhausted,
+        (pass, Ending::Done)
     }
 }
