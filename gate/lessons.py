@@ -1,12 +1,14 @@
 """Runs each scenario of scenarios/ through a built program: what it prints is NAME.out; its listing prints the same; its image is
-shown as the listing. What a debugger says to NAME.debug is NAME.said. The program's own stored run is one of them. Then faulty
-input: the status, and what each stream is given. And each scenario through an engine, by the program HISTORIES, which prints the
-history: each entry is compared.
+shown as the listing. What a debugger says to NAME.debug is NAME.said. What a play of a scenario with several actors leaves is one of
+NAME.play1, NAME.play2 .., and run again it prints the lines that stand in it. The program's own stored run is one of them. Then faulty
+input: the status, and what each stream is given. And each scenario of one actor through an engine, by the program HISTORIES, which
+prints the history: each entry is compared.
 
     python3 gate/lessons.py PROGRAM HISTORIES"""
 import glob
 import itertools
 import os
+import re
 import subprocess
 import sys
 import tempfile
@@ -82,6 +84,19 @@ def history_faults(histories, program, text):
     return [f"{os.path.relpath(text, TOP)}: {fault} isn't as it should be" for fault in faults]
 
 
+def play_faults(program, text, room):
+    """What is wrong with a play: what it leaves, and what each text that it may leave prints."""
+    lefts = {bytes_of(it) for it in glob.glob(f"{text.removesuffix('.cmwq')}.play*")}
+    left, kept = said(program, "play", text, "--capacity", "100"), f"{room}/kept.cmwq"
+    checks = {"what its play leaves": left in lefts, "a play without room": failed(program, "play", text, "--capacity", "1")[::2] == (4, b"full\n")}
+    for it in sorted(lefts):
+        with open(kept, "wb") as file:
+            file.write(it)
+        lines = b"".join(line[2:] for line in it.splitlines(True) if line.startswith(b"# "))
+        checks[f"the run of {it.splitlines()[-1].decode()}"] = said(program, "run", kept) == lines
+    return [f"{os.path.relpath(text, TOP)}: {what} is not as it should be" for what, is_well in checks.items() if not is_well]
+
+
 def failed(*words):
     """What the program ends with: its status, its standard output and its standard error."""
     ran = subprocess.run(words, stdout=subprocess.PIPE, stderr=subprocess.PIPE, timeout=120)
@@ -89,11 +104,13 @@ def failed(*words):
 
 
 def main(program, histories):
-    texts = sorted(glob.glob(f"{TOP}/scenarios/*.cmwq"))
+    plays = sorted({re.sub(r"\.play\d+$", ".cmwq", it) for it in glob.glob(f"{TOP}/scenarios/*.play*")})
+    texts = sorted(set(glob.glob(f"{TOP}/scenarios/*.cmwq")).difference(plays))
     with tempfile.TemporaryDirectory(prefix="lessons-") as room:
         faults = [fault for text in texts for fault in faults_of(program, text, room)]
         faults += [fault for text in texts for fault in history_faults(histories, program, text)]
         faults += [fault for commands in sorted(glob.glob(f"{TOP}/scenarios/*.debug")) for fault in session_faults(program, commands)]
+        faults += [fault for text in plays for fault in play_faults(program, text, room)]
         with open(f"{room}/faulty.cmwq", "w", encoding="utf-8") as it:
             it.write("cpus 17\n")
         if failed(program, "run", f"{room}/faulty.cmwq") != (1, b"", b"line 1: Range\n"):
@@ -111,7 +128,7 @@ def main(program, histories):
         faults.append("crates/cmwq_histories/stdin: it is no lesson")
     faults += [] if texts else ["scenarios/: there is nothing to compare"]
     print("".join(f"lessons: {fault}\n" for fault in faults), end="")
-    print(f"lessons: {len(texts)} scenarios compared, {len(faults)} faults")
+    print(f"lessons: {len(texts) + len(plays)} scenarios compared, {len(faults)} faults")
     return 1 if faults else 0
 
 

@@ -8,23 +8,33 @@ use std::process::ExitCode;
 use std::{env, io};
 
 fn main(rt: HostRuntime) -> ExitCode {
-    let outcome = outcome(&rt);
+    let outcome = match words(&rt) {
+        Ok(Some(words)) => carry_out(
+            &rt,
+            words.as_slice(),
+            rt.stdin(),
+            rt.stdout(),
+            rt.stderr(),
+        ),
+        Ok(None) => tell_not_text(&rt),
+        Err(error) => Err(error),
+    };
     fault::end(&mut Marked::new(rt.stderr()), outcome)
 }
 
-/// Does what the words ask, and gives the exit status.
-fn outcome(rt: &HostRuntime) -> Result<u8, PlayError> {
+/// The words of the command line, or none where they aren't all text.
+fn words(rt: &HostRuntime) -> Result<Option<Vec<String>>, PlayError> {
     match env::args(rt) {
-        Ok(words) => {
-            let words: Vec<String> = words.collect(rt.alloc())?;
-            carry_out(rt, words.as_slice(), rt.stdin(), rt.stdout(), rt.stderr())
-        }
+        Ok(words) => Ok(Some(words.collect(rt.alloc())?)),
         Err(error) if error.kind() == io::ErrorKind::OutOfMemory => Err(PlayError::NoMemory),
-        Err(_) => {
-            let error = request::not_text(rt.alloc())?;
-            let mut output = Marked::new(rt.stdout());
-            let mut errors = Marked::new(rt.stderr());
-            tell(rt.alloc(), &mut output, &mut errors, error.kind(), &error)
-        }
+        Err(_) => Ok(None),
     }
+}
+
+/// Tells that the words aren't all text, and gives the exit status.
+fn tell_not_text(rt: &HostRuntime) -> Result<u8, PlayError> {
+    let error = request::not_text(rt.alloc())?;
+    let mut output = Marked::new(rt.stdout());
+    let mut errors = Marked::new(rt.stderr());
+    tell(rt.alloc(), &mut output, &mut errors, error.kind(), &error)
 }

@@ -1,24 +1,32 @@
 //! What the words ask for, carried out on files.
+ghost use Rattle.cmwq_types.specs.Faults.{IsValid};
+ghost use Rattle.cmwq_words.specs.Request.{IsCapacity, IsWithin};
 ghost use Rattle.std.specs.Prelude.{◌≡◌, IfOk, false};
 
 use crate::starting::write_first;
 use crate::telling::{GOOD, tell};
-use cmwq_play::{Marked, PlayError};
+use cmwq_play::{Marked, OpenGate, PlayError};
 use cmwq_words::request::{Request, parse};
 use std::fs::File;
 use std::io::{Read, Write};
 use std::rt::Files;
+use std::sync::Wait;
+use std::thread::Threads;
+use std::time::Clock;
 
 /// Does what the words ask, of which the first is the program's name, and gives the exit status. Commands of a
-/// debugger come from `input`. Events, listings, what a debugger says and help go to `output`, and usage faults to
-/// `errors`.
-pub fn carry_out<R: Files + AllocGlobal, I: Read + Drop, O: Write + Drop, E: Write + Drop>(
+/// debugger come from `input`. Events, listings, what a debugger says, what a play leaves, and help go to `output`, and
+/// usage faults to `errors`. A play may wait forever.
+pub fn carry_out<R, I: Read + Drop, O: Write + Drop, E: Write + Drop>(
     rt: &R,
     words: &[String],
     input: I,
     output: O,
     errors: E,
-) -> Result<u8, PlayError> {
+) -> Result<u8, PlayError>
+where
+    R: Files + AllocGlobal + Threads + Wait + Clock + Sync,
+{
     match parse(rt.alloc(), words) {
         Ok(request) => {
             answer(rt, input, output, request)?;
@@ -32,14 +40,18 @@ pub fn carry_out<R: Files + AllocGlobal, I: Read + Drop, O: Write + Drop, E: Wri
     }
 }
 
-/// Does what is asked. Commands of a debugger come from the input. Events, listings and what a debugger says go to the
-/// writer.
-pub fn answer<R: Files + AllocGlobal, I: Read + Drop, W: Write + Drop>(
+/// Does what is asked. Commands of a debugger come from the input. Events, listings, what a debugger says and what a play
+/// leaves go to the writer.
+pub fn answer<R, I: Read + Drop, W: Write + Drop>(
     rt: &R,
     input: I,
     writer: W,
     request: Request<'_>,
-) -> Result<(), PlayError> {
+) -> Result<(), PlayError>
+where
+    R: Files + AllocGlobal + Threads + Wait + Clock + Sync,
+    requires { IsWithin request }
+{
     match request {
         Request::New { file } => new(rt, writer, file),
         Request::Run { file } => run(rt, writer, file),
@@ -47,6 +59,7 @@ pub fn answer<R: Files + AllocGlobal, I: Read + Drop, W: Write + Drop>(
         Request::Asm { file, out } => asm(rt, file, out),
         Request::Show { image } => show(rt, writer, image),
         Request::Debug { file } => debug(rt, input, writer, file),
+        Request::Play { file, capacity } => play(rt, writer, file, capacity),
     }
 }
 
@@ -115,6 +128,21 @@ fn debug<R: Files + AllocGlobal, I: Read + Drop, W: Write + Drop>(
     let mut commands = Marked::new(input);
     let mut writer = Marked::new(writer);
     cmwq_play::debug(rt.alloc(), &scenario, &mut commands, &mut writer)
+}
+
+/// Carries out all actors of the scenario whose text is in the file at once, and writes the text that is left.
+fn play<R: Files + AllocGlobal + Threads + Wait + Clock + Sync, W: Write + Drop>(
+    rt: &R,
+    writer: W,
+    file: &str,
+    capacity: u32,
+) -> Result<(), PlayError>
+    requires { IsCapacity capacity }
+{
+    let mut reader = opened(rt, file)?;
+    let scenario = cmwq_play::read_text(rt.alloc(), &mut reader)?;
+    let mut writer = Marked::new(writer);
+    cmwq_play::play(rt, rt.alloc(), &scenario, capacity, &OpenGate, &mut writer)
 }
 
 /// The file, opened to be read.

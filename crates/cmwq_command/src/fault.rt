@@ -1,7 +1,7 @@
 //! How the program ends: its exit status, and the line that tells a fault on standard error.
 
 ghost use Rattle.cmwq_command.specs.Fault.{fault_name, line_of, status_of, told, why_name};
-ghost use Rattle.cmwq_play.specs.Sending.{HasSentFront};
+ghost use Rattle.cmwq_streams.specs.Sending.{HasSentFront};
 ghost use Rattle.std.specs.Fmt.{decimal};
 ghost use Rattle.std.specs.Io.KnownBytes.{Appends};
 ghost use Rattle.std.specs.Prelude.{◌≡◌, ◌≤◌, ◌↔◌, ◌++◌, Err, IfErr, IfOk, OnErr, OnOk, codes, false, length, true};

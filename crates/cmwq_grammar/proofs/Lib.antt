@@ -1,6 +1,7 @@
 mod Basics
 pub mod CallerLemmas
 mod CanonicalLines
+mod CommentLemmas
 mod Completions
 mod Continuations
 mod Events

@@ -25,6 +25,7 @@ use Rattle.cmwq_types.specs.declared.scenario.Op.{Op}
 use Rattle.cmwq_types.specs.declared.scenario.Op.TheVariants as op
 use Rattle.cmwq_types.specs.declared.scenario.QueueDecl.{QueueDecl}
 use Rattle.cmwq_grammar.specs.Cutting.{is_empty, lines_of, worded}
+use Rattle.cmwq_grammar.specs.Comments.{listing_room}
 use Rattle.cmwq_grammar.specs.Grammar.{SayAll, Says, Spells}
 use Rattle.cmwq_grammar.specs.Instructions.{queue_names, work_names}
 use Rattle.cmwq_grammar.proofs.Basics.{and_true, at_most, true_and, either, cond_no, cond_yes, below}
@@ -404,8 +405,8 @@ actors_fit S before (a ∷ actors) works queues names good are =
 
 -- The whole listing.
 
-pub written_fits : (S : ScenarioContents) → Good S → LinesFitIn MAX_TEXT (written S)
-written_fits S good =
+pub written_room : (S : ScenarioContents) → Good S → LinesFitIn (listing_room (length S.actors)) (written S)
+written_room S good =
     let cpus : (1 ≤ S.cpus) × (S.cpus ≤ MAX_CPUS) = within_fits 1 MAX_CPUS S.cpus good.cpus in
     let workers : (1 ≤ S.workers) × (S.workers ≤ MAX_WORKERS) = within_fits 1 MAX_WORKERS S.workers good.workers in
     let steps : (1 ≤ S.steps) × (S.steps ≤ MAX_STEPS) = within_fits 1 MAX_STEPS S.steps good.steps in
@@ -434,7 +435,12 @@ written_fits S good =
     numbered_fits 5 (codes "steps") S.steps (literal 5 (codes "steps") refl (omega arith)) (omega arith) in
     let flushes_line : LineFitsIn 19 (numbered (codes "flushes") S.flushes) =
     numbered_fits 7 (codes "flushes") S.flushes (literal 7 (codes "flushes") refl (omega arith)) (omega arith) in
-    lines_within MAX_TEXT (line_on cpus_line (line_on workers_line (line_on steps_line (line_on flushes_line all)))) (omega arith)
+    lines_within (listing_room (length S.actors)) (line_on cpus_line (line_on workers_line (line_on steps_line (line_on flushes_line all)))) (omega arith)
+
+pub written_fits : (S : ScenarioContents) → Good S → LinesFitIn MAX_TEXT (written S)
+written_fits S good =
+    let few_actors : length S.actors ≤ MAX_ACTORS = good.few_actors in
+    lines_within MAX_TEXT (written_room S good) (omega arith)
 
 pub listing_lines : (S : ScenarioContents) → Good S → lines_of (listing S) ≡ map joined (map canonical (written S))
 listing_lines S good =

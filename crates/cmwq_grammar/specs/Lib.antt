@@ -1,3 +1,4 @@
+pub mod Comments
 pub mod Cutting
 pub mod Examples
 pub mod FaultLaw

@@ -1,4 +1,5 @@
 //! The laws of texts, each the contract of a function with an empty body.
+ghost use Rattle.cmwq_grammar.specs.Comments.{comments, listing_room};
 ghost use Rattle.cmwq_grammar.specs.FaultLaw.{IsFault};
 ghost use Rattle.cmwq_grammar.specs.Grammar.{Spells};
 ghost use Rattle.cmwq_grammar.specs.Meaning.{FaultAt, reads};
@@ -6,7 +7,9 @@ ghost use Rattle.cmwq_types.specs.Contents.{ScenarioContents};
 ghost use Rattle.cmwq_types.specs.Faults.{IsValid};
 ghost use Rattle.cmwq_types.specs.Listing.{listing};
 ghost use Rattle.cmwq_types.specs.Values.{IsScenario};
-ghost use Rattle.std.specs.Prelude.{◌≡◌, ◌↔◌, ℕ, Err, List, Ok};
+ghost use Rattle.cmwq_types.specs.declared.limits.TheConstants.{MAX_TEXT};
+ghost use Rattle.std.specs.Prelude.{◌≡◌, ◌≤◌, ◌+◌, ◌↔◌, ◌++◌, ℕ, Err, List, Ok, length};
+ghost use Rattle.std.specs.Str.{IsUtf8};
 
 /// What is read is spelled so: a text that reads as a scenario spells it.
 pub fn read_text_spells_its_scenario()
@@ -27,6 +30,14 @@ pub fn text_spells_one_scenario()
 pub fn listing_spells_its_scenario()
     ensures spelled { (S : ScenarioContents) → IsValid S → IsScenario S → Spells (listing S) S }
     ensures read { (S : ScenarioContents) → IsValid S → IsScenario S → reads (listing S) ≡ Ok S }
+{}
+
+/// Comments may follow a listing, as far as a text has room for them: the whole spells the same scenario. A listing leaves room
+/// by how many actors it has.
+pub fn comments_may_follow_a_listing()
+    ensures room { (S : ScenarioContents) → IsValid S → IsScenario S → length (listing S) ≤ listing_room (length S.actors) }
+    ensures spelled { (S : ScenarioContents) (notes : List ℕ) → IsValid S → IsScenario S → IsUtf8 (comments notes)
+        → length (comments notes) + listing_room (length S.actors) ≤ MAX_TEXT → Spells (listing S ++ comments notes) S }
 {}
 
 /// Where reading fails is the first fault of the text: the first line such that no scenario's text begins with

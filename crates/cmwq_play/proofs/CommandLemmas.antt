@@ -3,10 +3,10 @@ use Rattle.std.proofs.Common.{◌≡◌, ◌≢◌, ◌↔◌, ◌⊎◌, inl, i
 use Rattle.std.proofs.lemmas.Result.{on_err_weaker, on_ok_weaker}
 use Rattle.std.specs.Io.KnownBytes.{Appends, Keeps}
 use Rattle.cmwq_play.specs.Commands.{Answers, IsBeforeWriting, IsOutside, Reads, Writes, WroteFront}
-use Rattle.cmwq_play.specs.Sending.{HasSent, HasSentFront, IsSendError}
-use Rattle.cmwq_play.proofs.SendingLemmas.{block_out, front_of_block, sends_all}
-use Rattle.cmwq_play.specs.declared.error.PlayError.{PlayError}
-use Rattle.cmwq_play.specs.declared.error.PlayError.TheVariants.{Read, Write, NoMemory}
+use Rattle.cmwq_streams.specs.Sending.{HasSent, HasSentFront, IsSendError}
+use Rattle.cmwq_streams.proofs.CallerLemmas.{block_out, front_of_block, sends_all}
+use Rattle.cmwq_streams.specs.declared.error.PlayError.{PlayError}
+use Rattle.cmwq_streams.specs.declared.error.PlayError.TheVariants.{Read, Write, NoMemory}
 
 err_is : {A : Type 0} (e d : PlayError) (r : Result A PlayError) → r ≡ Err e → r ≡ Err d → e ≡ d
 err_is e d r first second = cc

@@ -14,8 +14,8 @@ use Rattle.cmwq_image.specs.declared.error.ImageError.TheVariants as errors
 use Rattle.cmwq_play.specs.Commands.{Answers}
 use Rattle.cmwq_play.specs.Images.{IsImage, IsImageFault}
 use Rattle.cmwq_play.proofs.CommandLemmas.{answers_lifted}
-use Rattle.cmwq_play.specs.declared.error.PlayError.{PlayError}
-use Rattle.cmwq_play.specs.declared.error.PlayError.TheVariants.{Image}
+use Rattle.cmwq_streams.specs.declared.error.PlayError.{PlayError}
+use Rattle.cmwq_streams.specs.declared.error.PlayError.TheVariants.{Image}
 
 -- no image is longer than so many bytes
 abbrev pub ImagesAreShort : Type 0

@@ -1,5 +1,4 @@
 pub mod RunLemmas
-pub mod SendingLemmas
 pub mod SessionLemmas
 pub mod TextLemmas
 pub mod CommandLemmas

@@ -7,15 +7,15 @@ use Rattle.cmwq_table.specs.Events.{events_from}
 use Rattle.cmwq_table.specs.State.{State, start}
 use Rattle.cmwq_table.specs.Table.{after_all}
 use Rattle.cmwq_table.proofs.RunLemmas.{after_all-append}
-use Rattle.cmwq_play.specs.Blocks.{Sends, SendsFront, kept, sink}
+use Rattle.cmwq_streams.specs.Blocks.{Sends, SendsFront, kept, sink}
 use Rattle.cmwq_play.specs.Session.{Issued, Stopped, prints}
 use Rattle.cmwq_play.specs.Commands.{Writes}
 use Rattle.cmwq_play.specs.Runs.{IsPrinted, IsRunOf}
 use Rattle.cmwq_play.proofs.CommandLemmas.{writes_more}
-use Rattle.cmwq_play.specs.declared.error.PlayError.{PlayError}
+use Rattle.cmwq_streams.specs.declared.error.PlayError.{PlayError}
 use Rattle.cmwq_play.specs.declared.session.Session.{Session}
 use Rattle.cmwq_play.proofs.RunLemmas.{events_from-append}
-use Rattle.cmwq_play.proofs.SendingLemmas.{front_more, front_then, sends_then}
+use Rattle.cmwq_streams.proofs.CallerLemmas.{front_more, front_then, sends_then}
 
 module _ {M W : Type 0} (loaded : M → ScenarioContents) (state : M → State) (contents : W → Option (List ℕ)) (failed : W → Bool) where
   -- what is printed from where a session came to

@@ -16,8 +16,8 @@ use Rattle.cmwq_play.specs.Runs.{CanRun, IsRefused}
 use Rattle.cmwq_play.specs.Texts.{IsRun, IsRunFault, IsSpelled, IsTextFault}
 use Rattle.cmwq_play.proofs.CommandLemmas.{answers_lifted, outside_told}
 use Rattle.cmwq_grammar.specs.declared.why.Why.{Why}
-use Rattle.cmwq_play.specs.declared.error.PlayError.{PlayError}
-use Rattle.cmwq_play.specs.declared.error.PlayError.TheVariants.{Asm, Actors, Full}
+use Rattle.cmwq_streams.specs.declared.error.PlayError.{PlayError}
+use Rattle.cmwq_streams.specs.declared.error.PlayError.TheVariants.{Asm, Actors, Full}
 
 -- What was read of an input of these bytes.
 module _ (bytes text : List ℕ) (within : length text ≤ length bytes) (whole : length text ≤ MAX_TEXT → bytes ≡ text) where

@@ -14,11 +14,11 @@ use Rattle.cmwq_grammar.specs.Cutting.{lines_of, without_empty_last}
 use Rattle.cmwq_debug.specs.Debugging.{Session, opened}
 use Rattle.cmwq_debug_lines.specs.Talk.{line_said, lines_said}
 use Rattle.cmwq_play.specs.Commands.{Reads}
-use Rattle.cmwq_play.specs.Sending.{HasSentFront}
-use Rattle.cmwq_play.specs.declared.error.PlayError.{PlayError}
-use Rattle.cmwq_play.specs.declared.error.PlayError.TheVariants.{Read}
+use Rattle.cmwq_streams.specs.Sending.{HasSentFront}
+use Rattle.cmwq_streams.specs.declared.error.PlayError.{PlayError}
+use Rattle.cmwq_streams.specs.declared.error.PlayError.TheVariants.{Read}
 use Rattle.cmwq_play.specs.Told.{HasNoLine, IsAnswered, Told, ToldFront}
-use Rattle.cmwq_play.proofs.SendingLemmas.{appends_both, appends_none, front_of_more}
+use Rattle.cmwq_streams.proofs.CallerLemmas.{appends_both, appends_none, front_of_more}
 
 -- Cutting off a line.
 

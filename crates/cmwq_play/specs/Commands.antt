@@ -2,9 +2,9 @@
 use Rattle.std.specs.Prelude.{◌≡◌, ◌≤◌, ◌+◌, ◌↔◌, ◌⊎◌, ℕ, List, length, Bool, true, Option, Some, IfSome, Result, Err, IfErr, MatchResult, OnOk}
 use Rattle.std.specs.Io.KnownBytes.{Appends, Keeps}
 use Rattle.cmwq_types.specs.declared.limits.TheConstants.{MAX_TEXT}
-use Rattle.cmwq_play.specs.Sending.{HasSentFront}
-use Rattle.cmwq_play.specs.declared.error.PlayError.{PlayError}
-use Rattle.cmwq_play.specs.declared.error.PlayError.TheVariants as errors
+use Rattle.cmwq_streams.specs.Sending.{HasSentFront}
+use Rattle.cmwq_streams.specs.declared.error.PlayError.{PlayError}
+use Rattle.cmwq_streams.specs.declared.error.PlayError.TheVariants as errors
 
 -- the error says nothing of the input: a read or a write failed, or memory ran out
 abbrev pub IsOutside : PlayError → Type 0

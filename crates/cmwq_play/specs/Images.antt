@@ -8,8 +8,8 @@ use Rattle.cmwq_image.specs.ImageFault.{reading}
 use Rattle.cmwq_types.specs.Values.{IsScenario}
 use Rattle.cmwq_image.specs.declared.error.ImageError.{ImageError}
 use Rattle.cmwq_image.specs.declared.error.ImageError.TheVariants as errors
-use Rattle.cmwq_play.specs.declared.error.PlayError.{PlayError}
-use Rattle.cmwq_play.specs.declared.error.PlayError.TheVariants.{Image, NoMemory}
+use Rattle.cmwq_streams.specs.declared.error.PlayError.{PlayError}
+use Rattle.cmwq_streams.specs.declared.error.PlayError.TheVariants.{Image, NoMemory}
 
 -- The input, where it is known, is the image of this scenario, which is valid.
 pub record IsImage (input : Option (List ℕ)) (S : ScenarioContents) : Type 0 where
@@ -26,13 +26,3 @@ IsImageFault input error = ⊥
 -- the input is a scenario's image, and this is its listing
 abbrev pub IsShown : Option (List ℕ) → List ℕ → Type 0
 IsShown input output = (S : ScenarioContents) × IsImage input S × (output ≡ listing S)
-
--- how a command tells what the reader of images answers
-abbrev pub told_as : ImageError → PlayError
-told_as errors.NoMemory = NoMemory
-told_as errors.Magic = Image errors.Magic
-told_as errors.Version = Image errors.Version
-told_as errors.Truncated = Image errors.Truncated
-told_as errors.Extra = Image errors.Extra
-told_as (errors.BadField at) = Image (errors.BadField at)
-told_as (errors.Fault fault) = Image (errors.Fault fault)

@@ -1,9 +1,6 @@
-pub mod Blocks
 pub mod Commands
 pub mod Images
 pub mod Runs
-pub mod Sending
 pub mod Session
-pub mod Stream
 pub mod Texts
 pub mod Told

@@ -5,10 +5,10 @@ use Rattle.cmwq_types.specs.declared.instr.Instr.{Instr}
 use Rattle.cmwq_table.specs.Events.{events_from}
 use Rattle.cmwq_table.specs.State.{State}
 use Rattle.cmwq_table.specs.Table.{after_all}
-use Rattle.cmwq_play.specs.Blocks.{Sends, SendsFront, SharesSink, sink}
-use Rattle.cmwq_play.specs.Sending.{IsSendError}
-use Rattle.cmwq_play.specs.declared.error.PlayError.{PlayError}
-use Rattle.cmwq_play.specs.declared.error.PlayError.TheVariants.{Write}
+use Rattle.cmwq_streams.specs.Blocks.{Sends, SendsFront, SharesSink, sink}
+use Rattle.cmwq_streams.specs.Sending.{IsSendError}
+use Rattle.cmwq_streams.specs.declared.error.PlayError.{PlayError}
+use Rattle.cmwq_streams.specs.declared.error.PlayError.TheVariants.{Write}
 use Rattle.cmwq_play.specs.declared.session.Session.{Session}
 
 module _ {M W : Type 0} (loaded : M → ScenarioContents) (state : M → State) (contents : W → Option (List ℕ)) (failed : W → Bool) where

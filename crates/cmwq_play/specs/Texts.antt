@@ -7,8 +7,8 @@ use Rattle.cmwq_grammar.specs.Grammar.{Spells}
 use Rattle.cmwq_grammar.specs.FaultLaw.{IsFault}
 use Rattle.cmwq_grammar.specs.Meaning.{fault_at}
 use Rattle.cmwq_play.specs.Runs.{IsPrinted, IsRefused}
-use Rattle.cmwq_play.specs.declared.error.PlayError.{PlayError}
-use Rattle.cmwq_play.specs.declared.error.PlayError.TheVariants.{Asm}
+use Rattle.cmwq_streams.specs.declared.error.PlayError.{PlayError}
+use Rattle.cmwq_streams.specs.declared.error.PlayError.TheVariants.{Asm}
 
 -- The input, where it is known, spells this scenario, which is valid.
 pub record IsSpelled (input : Option (List ℕ)) (S : ScenarioContents) : Type 0 where

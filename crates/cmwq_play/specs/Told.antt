@@ -9,9 +9,9 @@ use Rattle.cmwq_grammar.specs.Cutting.{lines_of}
 use Rattle.cmwq_debug.specs.Debugging.{Session, opened}
 use Rattle.cmwq_debug_lines.specs.Talk.{debugged, lines_said}
 use Rattle.cmwq_play.specs.Runs.{IsRunOf}
-use Rattle.cmwq_play.specs.Sending.{HasSentFront}
-use Rattle.cmwq_play.specs.declared.error.PlayError.{PlayError}
-use Rattle.cmwq_play.specs.declared.error.PlayError.TheVariants as errors
+use Rattle.cmwq_streams.specs.Sending.{HasSentFront}
+use Rattle.cmwq_streams.specs.declared.error.PlayError.{PlayError}
+use Rattle.cmwq_streams.specs.declared.error.PlayError.TheVariants as errors
 
 -- To these bytes, which are whole lines, was written what a debugger at d says; then it stands at e. So it goes on from
 -- there, whatever lines come.

@@ -1,7 +1,7 @@
 //! `debug`: from command lines to what the debugger says to them.
 ghost use Rattle.cmwq_debug_lines.specs.Talk.{line_said, lines_said};
 ghost use Rattle.cmwq_grammar.specs.Cutting.{lines_of};
-ghost use Rattle.cmwq_play.specs.Sending.{HasSentFront, IsSendError};
+ghost use Rattle.cmwq_streams.specs.Sending.{HasSentFront, IsSendError};
 ghost use Rattle.cmwq_play.specs.Commands.{Reads};
 ghost use Rattle.cmwq_play.specs.Told.{HasAnswered, HasNoLine, IsFrontTold, IsTalkError, IsTalked, IsTold, Told, ToldFront};
 ghost use Rattle.cmwq_play.specs.Runs.{CanRun, IsRefused, IsRunOf};
@@ -12,13 +12,11 @@ ghost use Rattle.cmwq_types.specs.declared.limits.TheConstants.{MAX_TEXT, MAX_WO
 ghost use Rattle.std.specs.Io.KnownBytes.{Appends, Consumes, IsAtEnd, Keeps};
 ghost use Rattle.std.specs.Prelude.{◌≡◌, ◌<◌, ◌≤◌, ◌+◌, ◌↔◌, ◌⊎◌, ◌++◌, Err, IfErr, IfOk, IfSome, List, Ok, OnErr, OnOk, drop, false, length, replicate, take, true, ℕ};
 
-use crate::error::PlayError;
 use crate::running::judge;
-use crate::sending::put_all;
-use crate::stream::{Sink, Source};
 use cmwq_debug::Debugger;
 use cmwq_debug_lines::{answer, line_length};
 use cmwq_plain::Plain;
+use cmwq_streams::{PlayError, Sink, Source, put_all};
 use cmwq_table::{LoadError, Machine};
 use cmwq_types::{Actor, Instr, Line, MAX_TEXT, NoMemory, Scenario};
 use std::alloc::Global;

@@ -1,16 +1,14 @@
 //! `list_text`: from a scenario's text to its listing.
 ghost use Rattle.cmwq_play.specs.Commands.{Answers, Reads, Writes};
-ghost use Rattle.cmwq_play.specs.Sending.{IsSendError};
+ghost use Rattle.cmwq_streams.specs.Sending.{IsSendError};
 ghost use Rattle.cmwq_play.specs.Texts.{IsOutput, IsTextFault};
 ghost use Rattle.cmwq_types.specs.Listing.{listing};
 ghost use Rattle.std.specs.Io.KnownBytes.{Keeps};
 ghost use Rattle.std.specs.Prelude.{◌≡◌, Err, IfErr, false};
 
-use crate::error::PlayError;
 use crate::reading::read_text;
-use crate::sending::put_all;
-use crate::stream::{Sink, Source};
 use cmwq_asm::list;
+use cmwq_streams::{PlayError, Sink, Source, put_all};
 use cmwq_types::Scenario;
 use std::alloc::Global;
 

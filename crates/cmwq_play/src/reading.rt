@@ -7,9 +7,8 @@ ghost use Rattle.cmwq_types.specs.declared.limits.TheConstants.{MAX_TEXT};
 ghost use Rattle.std.specs.Io.KnownBytes.{Consumes};
 ghost use Rattle.std.specs.Prelude.{◌≡◌, ◌≤◌, ◌+◌, ◌⊎◌, ◌≢◌, Err, IfErr, IfOk, IfSome, Some, false, length};
 
-use crate::error::PlayError;
-use crate::stream::Source;
 use cmwq_asm::{AsmError, assemble};
+use cmwq_streams::{PlayError, Source};
 use cmwq_types::{MAX_TEXT, Scenario};
 use std::alloc::Global;
 

@@ -1,6 +1,6 @@
 //! `run`: from a scenario's text to the lines that it prints.
 ghost use Rattle.cmwq_play.specs.Commands.{Answers, Reads, Writes};
-ghost use Rattle.cmwq_play.specs.Sending.{IsSendError};
+ghost use Rattle.cmwq_streams.specs.Sending.{IsSendError};
 ghost use Rattle.cmwq_play.specs.Runs.{CanRun, IsPrinted, IsRefused, IsRunOf};
 ghost use Rattle.cmwq_play.specs.Texts.{IsRun, IsRunFault};
 ghost use Rattle.cmwq_table.specs.State.{start};
@@ -9,12 +9,10 @@ ghost use Rattle.cmwq_types.specs.Scenario.{expand, expand_lines};
 ghost use Rattle.cmwq_types.specs.declared.limits.TheConstants.{MAX_HISTORY};
 ghost use Rattle.std.specs.Prelude.{◌≡◌, IfErr, OnOk, false, length, nat_lt};
 
-use crate::block_writer::BlockWriter;
-use crate::error::PlayError;
 use crate::reading::read_text;
 use crate::session::Session;
-use crate::stream::{Sink, Source};
 use cmwq_plain::Plain;
+use cmwq_streams::{BlockWriter, PlayError, Sink, Source};
 use cmwq_table::Machine;
 use cmwq_types::{Actor, Line, MAX_HISTORY, Scenario};
 use std::alloc::Global;

@@ -1,14 +1,12 @@
 //! A scenario's run on a machine, whose lines go to a writer.
-ghost use Rattle.cmwq_play.specs.Blocks.{SharesSink, WritesTo, kept, sink};
+ghost use Rattle.cmwq_streams.specs.Blocks.{SharesSink, WritesTo, kept, sink};
 ghost use Rattle.cmwq_play.specs.Commands.{Writes};
-ghost use Rattle.cmwq_play.specs.Sending.{IsSendError};
+ghost use Rattle.cmwq_streams.specs.Sending.{IsSendError};
 ghost use Rattle.cmwq_play.specs.Session.{CanIssue, Issues, prints};
 ghost use Rattle.cmwq_types.specs.Scenario.{expand, expand_lines};
 ghost use Rattle.std.specs.Prelude.{◌≡◌, [], ◌∷◌, IfErr, replicate};
 
-use crate::block_writer::BlockWriter;
-use crate::error::PlayError;
-use crate::stream::Sink;
+use cmwq_streams::{BlockWriter, PlayError, Sink};
 use cmwq_table::{Machine, ReplyLine};
 use cmwq_types::{Actor, Instr, Line, Scenario};
 

@@ -8,6 +8,9 @@ use cmwq_words::request::{Request, not_text, parse};
 use std::alloc::Global;
 use std::process::Abort;
 use std::rt::Files;
+use std::sync::Wait;
+use std::thread::Threads;
+use std::time::Clock;
 
 /// The words of the line.
 fn words(rt: &impl Abort, alloc: Global, line: &str) -> Vec<String> {
@@ -17,7 +20,7 @@ fn words(rt: &impl Abort, alloc: Global, line: &str) -> Vec<String> {
         .expect(rt, "memory is left")
 }
 
-const REQUESTS: [(&str, Request<'_>); 7] = [
+const REQUESTS: [(&str, Request<'_>); 9] = [
     ("cmwq new", Request::New { file: None }),
     (
         "cmwq new a.cmwq",
@@ -36,6 +39,20 @@ const REQUESTS: [(&str, Request<'_>); 7] = [
     ),
     ("cmwq show a.image", Request::Show { image: "a.image" }),
     ("cmwq debug a.cmwq", Request::Debug { file: "a.cmwq" }),
+    (
+        "cmwq play a.cmwq --capacity 4096",
+        Request::Play {
+            file: "a.cmwq",
+            capacity: 4096,
+        },
+    ),
+    (
+        "cmwq play --capacity 1 a.cmwq",
+        Request::Play {
+            file: "a.cmwq",
+            capacity: 1,
+        },
+    ),
 ];
 
 #[test]
@@ -48,7 +65,7 @@ fn each_command_has_its_words(rt: HostRuntime) {
 }
 
 /// Command lines that are no request, of which kind the answer is, and with which status the program ends.
-const NO_REQUESTS: [(&str, ErrorKind, i32); 15] = [
+const NO_REQUESTS: [(&str, ErrorKind, i32); 19] = [
     (
         "cmwq",
         ErrorKind::DisplayHelpOnMissingArgumentOrSubcommand,
@@ -61,6 +78,10 @@ const NO_REQUESTS: [(&str, ErrorKind, i32); 15] = [
     ("cmwq asm a b c", ErrorKind::UnknownArgument, 2),
     ("cmwq walk a", ErrorKind::InvalidSubcommand, 2),
     ("cmwq show a --fast", ErrorKind::UnknownArgument, 2),
+    ("cmwq play a", ErrorKind::MissingRequiredArgument, 2),
+    ("cmwq play a --capacity 0", ErrorKind::ValueValidation, 2),
+    ("cmwq play a --capacity 4097", ErrorKind::ValueValidation, 2),
+    ("cmwq play a --capacity many", ErrorKind::ValueValidation, 2),
     ("cmwq --help", ErrorKind::DisplayHelp, 0),
     ("cmwq -h", ErrorKind::DisplayHelp, 0),
     ("cmwq help", ErrorKind::DisplayHelp, 0),
@@ -139,7 +160,7 @@ fn check_streams(rt: &impl Abort, line: &str, got: (Output, Output), want: (&[u8
 }
 
 /// Carries the command line out, and compares what is told.
-fn check_told<R: Files + AllocGlobal + Abort>(
+fn check_told<R: Files + AllocGlobal + Threads + Wait + Clock + Sync + Abort>(
     rt: &R,
     line: &str,
     status: u8,

@@ -1,4 +1,6 @@
 //! Each command on real files, as the program carries it out.
+ghost use Rattle.cmwq_words.specs.Request.{IsWithin};
+
 use crate::checking::same;
 use crate::streams::reading_of;
 use cmwq_asm::AsmError;
@@ -13,6 +15,9 @@ use cmwq_words::request::Request;
 use std::fs;
 use std::process::Abort;
 use std::rt::Files;
+use std::sync::Wait;
+use std::thread::Threads;
+use std::time::Clock;
 
 /// A new folder.
 fn make_folder<R: Files + AllocGlobal + Abort>(rt: &R, path: &str) {
@@ -32,23 +37,27 @@ fn check_file<R: Files + AllocGlobal + Abort>(rt: &R, path: &str, want: &[u8]) {
 }
 
 /// Compares the answer, and what was written to standard output.
-fn check_answer<R: Files + AllocGlobal + Abort>(
+fn check_answer<R: Files + AllocGlobal + Threads + Wait + Clock + Sync + Abort>(
     rt: &R,
     request: Request<'_>,
     want: Result<(), PlayError>,
     printed: &[u8],
-) {
+)
+    requires { IsWithin request }
+{
     check_talk(rt, request, b"", want, printed);
 }
 
 /// The same, with these commands on standard input.
-fn check_talk<R: Files + AllocGlobal + Abort>(
+fn check_talk<R: Files + AllocGlobal + Threads + Wait + Clock + Sync + Abort>(
     rt: &R,
     request: Request<'_>,
     commands: &[u8],
     want: Result<(), PlayError>,
     printed: &[u8],
-) {
+)
+    requires { IsWithin request }
+{
     let mut output = Vec::new(rt.alloc());
     let result = answer(rt, reading_of(commands, 4096), &mut output, request);
     same(rt, request, result, want);
@@ -97,7 +106,12 @@ fn a_new_scenario_overwrites_no_file(rt: HostRuntime) {
 }
 
 /// `asm` answers this fault where OUT is a file already, and OUT is empty then.
-fn check_emptied<R: Files + AllocGlobal + Abort>(rt: &R, file: &str, out: &str, want: PlayError) {
+fn check_emptied<R: Files + AllocGlobal + Threads + Wait + Clock + Sync + Abort>(
+    rt: &R,
+    file: &str,
+    out: &str,
+    want: PlayError,
+) {
     put_file(rt, out, b"an older image");
     check_answer(rt, Request::Asm { file, out }, Err(want), b"");
     check_file(rt, out, b"");
@@ -130,6 +144,7 @@ fn a_file_that_is_not_there_is_a_failed_read_or_write(rt: HostRuntime) {
         (Request::List { file }, PlayError::Read),
         (Request::Show { image: out }, PlayError::Read),
         (Request::Debug { file }, PlayError::Read),
+        (Request::Play { file, capacity: 1 }, PlayError::Read),
         (Request::Asm { file, out }, PlayError::Write),
         (Request::New { file: Some(file) }, PlayError::Write),
     ] {

@@ -16,6 +16,8 @@ mod files;
 #[cfg(test)]
 mod images;
 #[cfg(test)]
+mod playing;
+#[cfg(test)]
 mod streams;
 #[cfg(test)]
 mod texts;

@@ -1,9 +1,14 @@
 -- What clap makes of the words of each command.
-use Rattle.std.proofs.Common.{rules, ap, ℕ, ◌≡◌, ◌∙◌, ◌≢◌, ◌==◌, List, [], ◌∷◌, true, false, Some, codes, refl}
+use Rattle.std.proofs.Common.{rules, ap, sym, subst, Result, Ok, ◌^◌, ℕ, ◌≤◌, ◌<◌, arith, length, get_or, ◌≡◌, ◌∙◌, ◌≢◌, ◌==◌, List, [], ◌∷◌, true, false, Some, codes, refl}
+use Rattle.std.proofs.lemmas.Fmt.{decimal_nonempty, digits_decimal, digits_value-decimal, first_decimal}
+use Rattle.std.proofs.lemmas.Str.Parse.{IsNumeralModel, numerals_by_value, parse_gives, tells_all_ascii_digits}
+use Rattle.std.specs.Str.{all_ascii_digits}
+use Rattle.std.specs.Str.Parse.{ParsesUnsigned, digits_value}
+use Rattle.std.specs.Fmt.{decimal}
 use Rattle.clap.specs.Words.{App, HasMatchesOf, Text, is_simple, subcommand_of, subcommand_rows_of}
 use Rattle.clap.specs.declared.parser.matches.ArgMatches.{ArgMatches}
 use Rattle.clap.proofs.OnLiterals.{clap_on_literals}
-use Rattle.cmwq_words.specs.Request.{IsPlainWord, IsRead, asked_of, command_line}
+use Rattle.cmwq_words.specs.Request.{HasCapacity, IsCapacity, IsPlainWord, IsRead, asked_of, command_line}
 
 simple_line : is_simple command_line ≡ true
 unfolding clap_on_literals
@@ -11,37 +16,42 @@ simple_line = refl
 
 plain_new : (name : Text) → IsRead (name ∷ codes "new" ∷ []) (codes "new" ∷ [])
 unfolding clap_on_literals
-plain_new name = (refl, refl)
+plain_new name = (refl, refl, tt)
 
 plain_new_file : (name : Text) (first : ℕ) (rest : Text) → (first == 45) ≡ false
     → IsRead (name ∷ codes "new" ∷ (first ∷ rest) ∷ []) (codes "new" ∷ (first ∷ rest) ∷ [])
 unfolding clap_on_literals
-plain_new_file name first rest e = (rw e (rw e refl), rw e (rw e refl))
+plain_new_file name first rest e = (rw e (rw e refl), rw e (rw e refl), tt)
 
 plain_run : (name : Text) (first : ℕ) (rest : Text) → (first == 45) ≡ false
     → IsRead (name ∷ codes "run" ∷ (first ∷ rest) ∷ []) (codes "run" ∷ (first ∷ rest) ∷ [])
 unfolding clap_on_literals
-plain_run name first rest e = (rw e (rw e refl), rw e (rw e refl))
+plain_run name first rest e = (rw e (rw e refl), rw e (rw e refl), tt)
 
 plain_list : (name : Text) (first : ℕ) (rest : Text) → (first == 45) ≡ false
     → IsRead (name ∷ codes "list" ∷ (first ∷ rest) ∷ []) (codes "list" ∷ (first ∷ rest) ∷ [])
 unfolding clap_on_literals
-plain_list name first rest e = (rw e (rw e refl), rw e (rw e refl))
+plain_list name first rest e = (rw e (rw e refl), rw e (rw e refl), tt)
 
 plain_show : (name : Text) (first : ℕ) (rest : Text) → (first == 45) ≡ false
     → IsRead (name ∷ codes "show" ∷ (first ∷ rest) ∷ []) (codes "show" ∷ (first ∷ rest) ∷ [])
 unfolding clap_on_literals
-plain_show name first rest e = (rw e (rw e refl), rw e (rw e refl))
+plain_show name first rest e = (rw e (rw e refl), rw e (rw e refl), tt)
 
 plain_debug : (name : Text) (first : ℕ) (rest : Text) → (first == 45) ≡ false
     → IsRead (name ∷ codes "debug" ∷ (first ∷ rest) ∷ []) (codes "debug" ∷ (first ∷ rest) ∷ [])
 unfolding clap_on_literals
-plain_debug name first rest e = (rw e (rw e refl), rw e (rw e refl))
+plain_debug name first rest e = (rw e (rw e refl), rw e (rw e refl), tt)
 
 plain_asm : (name : Text) (first : ℕ) (rest : Text) (head : ℕ) (tail : Text) → (first == 45) ≡ false → (head == 45) ≡ false
     → IsRead (name ∷ codes "asm" ∷ (first ∷ rest) ∷ (head ∷ tail) ∷ []) (codes "asm" ∷ (first ∷ rest) ∷ (head ∷ tail) ∷ [])
 unfolding clap_on_literals
-plain_asm name first rest head tail e f = (rw e (rw e (rw f (rw f refl))), rw e (rw e (rw f (rw f refl))))
+plain_asm name first rest head tail e f = (rw e (rw e (rw f (rw f refl))), rw e (rw e (rw f (rw f refl))), tt)
+
+plain_play : (name : Text) (first : ℕ) (rest : Text) (head : ℕ) (tail : Text) → (first == 45) ≡ false → (head == 45) ≡ false → HasCapacity (codes "play" ∷ (first ∷ rest) ∷ codes "--capacity" ∷ (head ∷ tail) ∷ [])
+    → IsRead (name ∷ codes "play" ∷ (first ∷ rest) ∷ codes "--capacity" ∷ (head ∷ tail) ∷ []) (codes "play" ∷ (first ∷ rest) ∷ codes "--capacity" ∷ (head ∷ tail) ∷ [])
+unfolding clap_on_literals
+plain_play name first rest head tail e f fits = (rw e (rw e (rw f (rw f refl))), rw e (rw e (rw f (rw f refl))), fits)
 
 no_hyphen : (first : ℕ) → first ≢ 45 → (first == 45) ≡ false
 no_hyphen first plain = search rules
@@ -73,6 +83,35 @@ pub asm_read : (words : List Text) (name file out : Text) → words ≡ name ∷
     → IsPlainWord out → IsRead words (codes "asm" ∷ file ∷ out ∷ [])
 asm_read words name file out are (first, rest, is, plain) (head, tail, is_out, plain_out) =
     rw (are, is, is_out) (plain_asm name first rest head tail (no_hyphen first plain) (no_hyphen head plain_out))
+
+-- a number in decimal is no option
+number_plain : (n : ℕ) → IsCapacity n → IsPlainWord (decimal n)
+number_plain n fits = digits (decimal n) (decimal_nonempty n (omega (arith, fits.1))) (first_decimal n (omega (arith, fits.0)) (omega (arith, fits.1)))
+  where
+    digits : (word : Text) → 0 < length word → 48 < get_or word 0 0 → IsPlainWord word
+    digits [] some high = absurd (omega arith)
+    digits (first ∷ rest) some high = (first, rest, refl, λ is. absurd (omega (arith, high, is)))
+
+numerals : IsNumeralModel (λ word. all_ascii_digits word ≡ true) (digits_value 10)
+numerals = numerals_by_value (λ word. all_ascii_digits word ≡ true) tells_all_ascii_digits
+
+-- and is read as that number
+pub number_read : {E : Type 0} (r : Result ℕ E) (word : Text) (n : ℕ) → ParsesUnsigned 32 10 word r → word ≡ decimal n → IsCapacity n → r ≡ Ok n
+number_read {E} r word n parsed is fits =
+    let small : n < 2 ^ 64 = omega (arith, fits.1) in
+    let value : digits_value 10 (decimal n) ≡ n = digits_value-decimal numerals n small in
+    let read : r ≡ Ok (digits_value 10 (decimal n)) =
+    parse_gives numerals 32 (decimal n) r (subst (λ (w : Text). ParsesUnsigned {E = E} 32 10 w r) is parsed) (digits_decimal numerals n small) (decimal_nonempty n small) (omega (arith, value, fits.1)) in
+    read ∙ ap Ok value
+
+pub play_read : (words : List Text) (name file : Text) (n : ℕ) → words ≡ name ∷ codes "play" ∷ file ∷ codes "--capacity" ∷ decimal n ∷ [] → IsPlainWord file → IsCapacity n
+    → IsRead words (codes "play" ∷ file ∷ codes "--capacity" ∷ decimal n ∷ [])
+play_read words name file n are plain fits = of_plain file (decimal n) plain (number_plain n fits) are refl
+  where
+    of_plain : (f number : Text) → IsPlainWord f → IsPlainWord number → words ≡ name ∷ codes "play" ∷ f ∷ codes "--capacity" ∷ number ∷ []
+        → number ≡ decimal n → IsRead words (codes "play" ∷ f ∷ codes "--capacity" ∷ number ∷ [])
+    of_plain f number (first, rest, is, p) (head, tail, is_number, q) same digits =
+        rw (same, is, is_number) (plain_play name first rest head tail (no_hyphen first p) (no_hyphen head q) (n, sym is_number ∙ digits, fits))
 
 -- the matches have what was read
 pub read_met : (line : App) (words asked : List Text) (m : ArgMatches) → line ≡ command_line → HasMatchesOf line words m

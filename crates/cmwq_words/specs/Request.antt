@@ -1,11 +1,17 @@
 -- The command line.
-use Rattle.std.specs.Prelude.{◌≡◌, ◌≢◌, ℕ, List, [], ◌∷◌, true, codes, if◌then◌else◌, Option, None, Some, option_and_then, option_map, option_to_list, Result, MatchResult}
+use Rattle.std.specs.Prelude.{◌≡◌, ◌≢◌, ◌≤◌, ℕ, List, [], ◌∷◌, true, codes, if◌then◌else◌, Option, None, Some, option_and_then, option_map, option_to_list, Result, MatchResult}
+use Rattle.std.specs.Fmt.{decimal}
 use Rattle.std.specs.Str.{bytes_eq}
 use Rattle.clap.specs.Words.{App, Row, Rule, Text, first_of, kind_of, new_app, new_rule, subcommand_of, takes, with_rule, with_subcommand}
 use Rattle.clap.specs.declared.error.Error.{Error}
 use Rattle.clap.specs.declared.error.kind.ErrorKind.TheVariants.{OutOfMemory}
+use Rattle.cmwq_types.specs.declared.limits.TheConstants.{MAX_LINES}
 use Rattle.cmwq_words.specs.declared.request.Request.{Request}
-use Rattle.cmwq_words.specs.declared.request.Request.TheVariants.{New, Run, List as list, Asm, Show, Debug}
+use Rattle.cmwq_words.specs.declared.request.Request.TheVariants.{New, Run, List as list, Asm, Show, Debug, Play}
+
+-- how many entries a play's history may have room for: as many as an actor may have lines
+abbrev pub IsCapacity : ℕ → Type 0
+IsCapacity capacity = (1 ≤ capacity) × (capacity ≤ MAX_LINES)
 
 -- an argument that has to be given
 abbrev pub required_rule : Text → Rule
@@ -30,7 +36,7 @@ bare_program =
 abbrev pub program : App
 program = with_subcommand bare_program new_command.top
 
--- `run FILE`, `list FILE`, `asm FILE OUT`, `show IMAGE` and `debug FILE`
+-- `run FILE`, `list FILE`, `asm FILE OUT`, `show IMAGE`, `debug FILE` and `play FILE --capacity N`
 abbrev pub run_command : App
 run_command = command_on (codes "run") (codes "FILE")
 
@@ -46,13 +52,24 @@ show_command = command_on (codes "show") (codes "IMAGE")
 abbrev pub debug_command : App
 debug_command = command_on (codes "debug") (codes "FILE")
 
--- the program with its commands
-abbrev pub command_line : App
-command_line =
+-- an option that has to be given, with its value
+abbrev pub option_rule : Text → Text → Rule
+option_rule id name = record (required_rule id) { long = Some name }
+
+abbrev pub play_command : App
+play_command = with_rule (command_on (codes "play") (codes "FILE")) (option_rule (codes "N") (codes "capacity"))
+
+-- the program with the commands that take files alone
+abbrev pub commands_on_files : App
+commands_on_files =
     with_subcommand
     (with_subcommand (with_subcommand (with_subcommand (with_subcommand program run_command.top) list_command.top) asm_command.top)
     show_command.top)
     debug_command.top
+
+-- the program with its commands
+abbrev pub command_line : App
+command_line = with_subcommand commands_on_files play_command.top
 
 -- the words that ask for it
 abbrev pub words_of : Request → List Text
@@ -63,6 +80,7 @@ words_of (list file) = codes "list" ∷ file.now ∷ []
 words_of (Asm file out) = codes "asm" ∷ file.now ∷ out.now ∷ []
 words_of (Show image) = codes "show" ∷ image.now ∷ []
 words_of (Debug file) = codes "debug" ∷ file.now ∷ []
+words_of (Play file capacity) = codes "play" ∷ file.now ∷ codes "--capacity" ∷ decimal capacity ∷ []
 
 -- the words of the request, where clap met this command with these values
 abbrev pub one_value : Text → Text → List Row → Option (List Text)
@@ -75,6 +93,10 @@ two_values command first second rows =
 abbrev pub value_if_any : Text → Text → List Row → List Text
 value_if_any command id rows = command ∷ option_to_list (first_of id rows)
 
+abbrev pub file_and_capacity : List Row → Option (List Text)
+file_and_capacity rows =
+    option_and_then (λ file. option_map (λ n. codes "play" ∷ file ∷ codes "--capacity" ∷ n ∷ []) (first_of (codes "N") rows)) (first_of (codes "FILE") rows)
+
 abbrev pub asked_in : Text × List Row → Option (List Text)
 asked_in met =
     if bytes_eq met.0 (codes "new") then Some (value_if_any (codes "new") (codes "FILE") met.1)
@@ -83,14 +105,25 @@ asked_in met =
     else if bytes_eq met.0 (codes "asm") then two_values (codes "asm") (codes "FILE") (codes "OUT") met.1
     else if bytes_eq met.0 (codes "show") then one_value (codes "show") (codes "IMAGE") met.1
     else if bytes_eq met.0 (codes "debug") then one_value (codes "debug") (codes "FILE") met.1
+    else if bytes_eq met.0 (codes "play") then file_and_capacity met.1
     else None
 
 abbrev pub asked_of : Option (Text × List Row) → Option (List Text)
 asked_of met = option_and_then asked_in met
 
+-- a capacity that is asked for is a number from 1 to 4,096
+abbrev pub HasCapacity : List Text → Type 0
+HasCapacity (command ∷ file ∷ option ∷ n ∷ []) = (capacity : ℕ) × (n ≡ decimal capacity) × IsCapacity capacity
+HasCapacity words = Unit {0}
+
+-- what is asked for has such a capacity, if it has one
+abbrev pub IsWithin : Request → Type 0
+IsWithin (Play file capacity) = IsCapacity capacity
+IsWithin request = Unit {0}
+
 -- clap takes the words, and the request that is read of them has these words
 abbrev pub IsRead : List Text → List Text → Type 0
-IsRead words asked = (takes command_line words ≡ true) × (asked_of (subcommand_of command_line words) ≡ Some asked)
+IsRead words asked = (takes command_line words ≡ true) × (asked_of (subcommand_of command_line words) ≡ Some asked) × HasCapacity asked
 
 -- the word is no option: it isn't empty and doesn't begin with a hyphen (45)
 abbrev pub IsPlainWord : Text → Type 0

@@ -12,15 +12,16 @@ Examples:
   cmwq asm scenarios/max_active_3.cmwq max_active_3.image
   cmwq show max_active_3.image
   cmwq debug scenarios/max_active_3.cmwq
+  cmwq play scenarios/race.cmwq --capacity 100
 
 The formats of scenarios and images, the debugger's commands, and what each fault means, are in docs/FORMATS.md.
 
 Exit status:
   0  the command did what it was asked
-  1  the file isn't a scenario's text or image, or the scenario hasn't one actor
+  1  the file isn't a scenario's text or image, or the scenario hasn't as many actors as the command takes
   2  the command line is wrong
   3  a file can't be opened, made, read or written
-  4  memory ran out";
+  4  memory ran out, or a history had no room for one more instruction";
 
 const NEW: &str = "\
 Prints the scenario where there is no FILE, and else nothing.
@@ -99,6 +100,20 @@ Exit status:
 Example:
   cmwq debug scenarios/max_active_2.cmwq < scenarios/max_active_2.debug";
 
+const PLAY: &str = "\
+Prints the listing of the same scenario with one actor, who gives the instructions in the order in which the machine took
+them, and behind it, as comments, the lines that running it prints.
+
+Exit status:
+  0  each actor's instructions were all taken
+  1  `line 6: Duplicate`: the text's first fault; `actors`: there is no actor
+  2  the command line is wrong
+  3  `read`: FILE can't be read; `write`: the output can't be written
+  4  `full`: the machine took N instructions, and there were more; `tickets`: no ticket was left; `no memory`
+
+Example:
+  cmwq play scenarios/race.cmwq --capacity 100";
+
 /// What follows the help of the command of this name.
 pub fn after_help_of(command: &str) -> &'static str {
     match command {
@@ -108,6 +123,7 @@ pub fn after_help_of(command: &str) -> &'static str {
         "asm" => ASM,
         "show" => SHOW,
         "debug" => DEBUG,
+        "play" => PLAY,
         _ => "",
     }
 }

@@ -2,12 +2,14 @@
 
 ghost use Rattle.clap.specs.Words.{Text, app_of, first_of, found_of, kind_of, rows_of, rule_of, subcommand_rows_of, with_subcommand};
 ghost use Rattle.clap.specs.declared.builder.command.Command.TheViews.{out-Command as fields_of};
-ghost use Rattle.cmwq_words.specs.Request.{Asks, IsPlainWord, IsRead, asked_in, asked_of, asm_command, bare_program, command_line, command_on, list_command, new_command, program, required_rule, run_command, show_command, words_of};
-ghost use Rattle.std.specs.Prelude.{◌≡◌, List, [], ◌∷◌, IfOk, codes, false, map, option_map, string_bytes};
+ghost use Rattle.cmwq_words.specs.Request.{Asks, HasCapacity, IsCapacity, IsPlainWord, IsRead, IsWithin, asked_in, asked_of, asm_command, bare_program, command_line, command_on, commands_on_files, list_command, new_command, play_command, program, required_rule, run_command, show_command, words_of};
+ghost use Rattle.std.specs.Fmt.{decimal};
+ghost use Rattle.std.specs.Prelude.{◌≡◌, ℕ, List, [], ◌∷◌, IfOk, IfSome, Some, codes, false, map, option_map, string_bytes};
 
 use crate::help;
 use clap::error::ErrorKind;
 use clap::{Arg, ArgMatches, Command, Error};
+use cmwq_types::MAX_LINES;
 use std::alloc::{AllocError, Global};
 
 /// What the words ask for. The paths are as they were given.
@@ -45,6 +47,13 @@ pub enum Request<'a> {
         /// The text's path.
         file: &'a str,
     },
+    /// Carry out all actors of the scenario whose text is in this file at once.
+    Play {
+        /// The text's path.
+        file: &'a str,
+        /// How many instructions the machine takes at most, 1 to 4,096.
+        capacity: u32,
+    },
 }
 
 /// Reads the words, of which the first is the program's name. The error is a usage fault, help that
@@ -67,6 +76,9 @@ pub fn parse<'a>(alloc: Global, words: &'a [String]) -> Result<Request<'a>, Erro
         → IsPlainWord image → Asks (codes "show" ∷ image ∷ []) result }
     ensures debug { (name file : Text) → map string_bytes words.entry.now ≡ name ∷ codes "debug" ∷ file ∷ []
         → IsPlainWord file → Asks (codes "debug" ∷ file ∷ []) result }
+    ensures play { (name file : Text) (n : ℕ) → map string_bytes words.entry.now ≡ name ∷ codes "play" ∷ file ∷ codes "--capacity" ∷ decimal n ∷ []
+        → IsPlainWord file → IsCapacity n → Asks (codes "play" ∷ file ∷ codes "--capacity" ∷ decimal n ∷ []) result }
+    ensures capacity { IfOk result (λ request. IsWithin request) }
 {
     let mut command = command(alloc)?;
     request_met(&mut command, words)
@@ -75,14 +87,15 @@ pub fn parse<'a>(alloc: Global, words: &'a [String]) -> Result<Request<'a>, Erro
 /// What the words ask for, by the program's command line.
 fn request_met<'a>(command: &mut Command<'a>, words: &'a [String]) -> Result<Request<'a>, Error>
     requires { app_of command.now ≡ command_line }
-    ensures { (asked : List Text) → IsRead (map string_bytes words.entry.now) asked → Asks asked result }
+    ensures asks { (asked : List Text) → IsRead (map string_bytes words.entry.now) asked → Asks asked result }
+    ensures capacity { IfOk result (λ request. IsWithin request) }
 {
     let matches = command.try_get_matches_from_mut(words)?;
     match request_of(&matches) {
         Some(request) => Ok(request),
         None => Err(command.error(
-            ErrorKind::MissingSubcommand,
-            "a command and its files are required",
+            ErrorKind::ValueValidation,
+            "--capacity takes a number from 1 to 4096",
         )?),
     }
 }
@@ -100,7 +113,8 @@ pub fn not_text(alloc: Global) -> Result<Error, AllocError>
 
 /// What the command that was met asks for.
 fn request_of<'a>(matches: &ArgMatches<'a>) -> Option<Request<'a>>
-    ensures { option_map (λ request. words_of request) result ≡ asked_of (subcommand_rows_of matches.now) }
+    ensures words { (asked : List Text) → asked_of (subcommand_rows_of matches.now) ≡ Some asked → HasCapacity asked → option_map (λ request. words_of request) result ≡ Some asked }
+    ensures capacity { IfSome result (λ request. IsWithin request) }
 {
     let (name, given) = matches.subcommand()?;
     request_by(name, given)
@@ -108,7 +122,8 @@ fn request_of<'a>(matches: &ArgMatches<'a>) -> Option<Request<'a>>
 
 /// What the command of this name asks for, given these values.
 fn request_by<'a>(name: &str, given: &ArgMatches<'a>) -> Option<Request<'a>>
-    ensures { option_map (λ request. words_of request) result ≡ asked_in (name.now, rows_of (found_of given.now)) }
+    ensures words { (asked : List Text) → asked_in (name.now, rows_of (found_of given.now)) ≡ Some asked → HasCapacity asked → option_map (λ request. words_of request) result ≡ Some asked }
+    ensures capacity { IfSome result (λ request. IsWithin request) }
 {
     match name {
         "new" => {
@@ -136,8 +151,25 @@ fn request_by<'a>(name: &str, given: &ArgMatches<'a>) -> Option<Request<'a>>
             let file = value_of(given, "FILE")?;
             Some(Request::Debug { file })
         }
+        "play" => {
+            let file = value_of(given, "FILE")?;
+            let capacity = capacity_of(value_of(given, "N")?)?;
+            Some(Request::Play { file, capacity })
+        }
         _ => None,
     }
+}
+
+/// The number that the word is, where it is one from 1 to 4,096.
+fn capacity_of(word: &str) -> Option<u32>
+    ensures read { (n : ℕ) → word.now ≡ decimal n → IsCapacity n → result ≡ Some n }
+    ensures capacity { IfSome result (λ n. IsCapacity n) }
+{
+    let capacity: u32 = word.parse().ok()?;
+    if capacity < 1 || capacity > MAX_LINES as u32 {
+        return None;
+    }
+    Some(capacity)
 }
 
 /// The value of the argument.
@@ -152,6 +184,15 @@ fn command<'a>(alloc: Global) -> Result<Command<'a>, AllocError>
     ensures { IfOk result (λ r. app_of r ≡ command_line) }
 {
     let commands = commands_on_files(alloc)?;
+    let play = play_command(alloc)?;
+    commands.subcommand(play)
+}
+
+/// The program with the commands that take files alone.
+fn commands_on_files<'a>(alloc: Global) -> Result<Command<'a>, AllocError>
+    ensures { IfOk result (λ r. app_of r ≡ commands_on_files) }
+{
+    let commands = commands_on_one_file(alloc)?;
     let debug = on_text(
         alloc,
         "debug",
@@ -161,7 +202,7 @@ fn command<'a>(alloc: Global) -> Result<Command<'a>, AllocError>
 }
 
 /// The program with the commands that read nothing but a file.
-fn commands_on_files<'a>(alloc: Global) -> Result<Command<'a>, AllocError>
+fn commands_on_one_file<'a>(alloc: Global) -> Result<Command<'a>, AllocError>
     ensures { IfOk result (λ r. app_of r ≡ with_subcommand (with_subcommand (with_subcommand (with_subcommand program run_command.top) list_command.top) asm_command.top) show_command.top) }
 {
     let commands = commands_on_texts(alloc)?;
@@ -260,6 +301,24 @@ fn show_command<'a>(alloc: Global) -> Result<Command<'a>, AllocError>
         .about("Writes the listing of an image's scenario to standard output")
         .after_help(help::after_help_of("show"))
         .arg(argument(alloc, "IMAGE", "The scenario's image"))
+}
+
+/// The command that carries out all actors at once.
+fn play_command<'a>(alloc: Global) -> Result<Command<'a>, AllocError>
+    ensures app { IfOk result (λ r. app_of r ≡ play_command) }
+    ensures local { IfOk result (λ r. (fields_of r).has_globals ≡ false) }
+{
+    let play = on_text(
+        alloc,
+        "play",
+        "Carries out all actors of a scenario at once, and writes the order that came out, as a scenario of one actor",
+    )?;
+    let capacity = argument(
+        alloc,
+        "N",
+        "How many instructions the machine takes at most, 1 to 4096",
+    );
+    play.arg(capacity.long("capacity"))
 }
 
 /// A command on the text of a scenario.

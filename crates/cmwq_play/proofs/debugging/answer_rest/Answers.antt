@@ -1,7 +1,7 @@
 use Rattle.std.proofs.Common.{List, OnErr, OnOk, arith, length, subst, sym, ℕ, ◌<◌}
 use Rattle.std.proofs.lemmas.Grind.{common_steps}
 use Rattle.std.specs.Io.KnownBytes.{Appends}
-use Rattle.cmwq_play.specs.Sending.{HasSentFront}
+use Rattle.cmwq_streams.specs.Sending.{HasSentFront}
 use Rattle.cmwq_play.proofs.ToldLemmas.{last_said}
 use Rattle.cmwq_play.proofs.debugging.answer_rest.Goals as goal
 

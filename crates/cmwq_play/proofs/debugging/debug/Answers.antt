@@ -5,7 +5,7 @@ use Rattle.std.specs.Prelude.{slice_index_or}
 use Rattle.cmwq_grammar.specs.Cutting.{lines_of}
 use Rattle.cmwq_debug.specs.Debugging.{Session}
 use Rattle.cmwq_debug_lines.specs.Talk.{lines_said}
-use Rattle.cmwq_play.specs.Sending.{HasSentFront}
+use Rattle.cmwq_streams.specs.Sending.{HasSentFront}
 use Rattle.cmwq_play.specs.Told.{HasAnswered}
 use Rattle.cmwq_play.proofs.ToldLemmas.{opened_is}
 use Rattle.cmwq_play.proofs.debugging.debug.Goals as goal

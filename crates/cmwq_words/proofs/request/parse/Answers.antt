@@ -1,14 +1,16 @@
-use Rattle.cmwq_words.proofs.RequestLemmas.{asm_read, debug_read, list_read, new_file_read, new_read, run_read, show_read}
+use Rattle.cmwq_words.proofs.RequestLemmas.{asm_read, debug_read, list_read, new_file_read, new_read, play_read, run_read, show_read}
 use Rattle.cmwq_words.proofs.request.parse.Goals as goal
 
 pub returns : goal.returns
 returns c =
     record {
-      new = λ name are. c.request_met.ensures _ (new_read _ name are);
-      new_file = λ name file are plain. c.request_met.ensures _ (new_file_read _ name file are plain);
-      run = λ name file are plain. c.request_met.ensures _ (run_read _ name file are plain);
-      list = λ name file are plain. c.request_met.ensures _ (list_read _ name file are plain);
-      asm = λ name file out are plain plain_out. c.request_met.ensures _ (asm_read _ name file out are plain plain_out);
-      show = λ name image are plain. c.request_met.ensures _ (show_read _ name image are plain);
-      debug = λ name file are plain. c.request_met.ensures _ (debug_read _ name file are plain);
+      new = λ name are. c.request_met.ensures.asks _ (new_read _ name are);
+      new_file = λ name file are plain. c.request_met.ensures.asks _ (new_file_read _ name file are plain);
+      run = λ name file are plain. c.request_met.ensures.asks _ (run_read _ name file are plain);
+      list = λ name file are plain. c.request_met.ensures.asks _ (list_read _ name file are plain);
+      asm = λ name file out are plain plain_out. c.request_met.ensures.asks _ (asm_read _ name file out are plain plain_out);
+      show = λ name image are plain. c.request_met.ensures.asks _ (show_read _ name image are plain);
+      play = λ name file n are plain fits. c.request_met.ensures.asks _ (play_read _ name file n are plain fits);
+      capacity = c.request_met.ensures.capacity;
+      debug = λ name file are plain. c.request_met.ensures.asks _ (debug_read _ name file are plain);
     }

@@ -3,8 +3,8 @@ use Rattle.std.proofs.lemmas.Result.{err_from_is_err_and}
 use Rattle.cmwq_types.specs.Contents.{ActorContents}
 use Rattle.cmwq_types.specs.Scenario.{expand_lines}
 use Rattle.cmwq_types.specs.declared.scenario.Line.{Line}
-use Rattle.cmwq_play.specs.Blocks.{kept, sink}
-use Rattle.cmwq_play.specs.Sending.{HasSent, HasSentFront}
+use Rattle.cmwq_streams.specs.Blocks.{kept, sink}
+use Rattle.cmwq_streams.specs.Sending.{HasSent, HasSentFront}
 use Rattle.cmwq_play.specs.Session.{prints}
 use Rattle.cmwq_play.proofs.CommandLemmas.{writes_block, writes_front}
 use Rattle.cmwq_play.proofs.session.Session.issue_all.Goals as goal

@@ -1,10 +1,10 @@
 use Rattle.std.proofs.Common.{◌≡◌, List, ℕ, ap, refl, sym}
 use Rattle.std.proofs.lemmas.Result.{err_from_is_err_and}
 use Rattle.cmwq_types.specs.Scenario.{expand}
-use Rattle.cmwq_play.specs.Blocks.{sink}
+use Rattle.cmwq_streams.specs.Blocks.{sink}
 use Rattle.cmwq_play.specs.Session.{prints}
-use Rattle.cmwq_play.specs.declared.error.PlayError.{PlayError}
-use Rattle.cmwq_play.specs.declared.error.PlayError.TheVariants.{NoMemory, Write}
+use Rattle.cmwq_streams.specs.declared.error.PlayError.{PlayError}
+use Rattle.cmwq_streams.specs.declared.error.PlayError.TheVariants.{NoMemory, Write}
 use Rattle.cmwq_play.proofs.CommandLemmas.{writes_err, writes_moved}
 use Rattle.cmwq_play.proofs.session.Session.play.Goals as goal
 

@@ -1,0 +1,58 @@
+-- What an issue adds to what a pass has issued.
+use Rattle.std.proofs.Common.{◌≡◌, ◌==◌, ℕ, ◌+◌, ◌-◌, ◌≤◌, List, [], ◌∷◌, ◌++◌, length, filter, replicate, sym, ◌∙◌, ap, subst, arith, append_assoc, length-append}
+use Rattle.std.proofs.lemmas.List.{replicate-append-replicate}
+use Rattle.std.proofs.lemmas.List.Sums.{length-filter, count_by-le-length}
+use Rattle.cmwq_types.specs.declared.instr.Instr.{Instr}
+use Rattle.cmwq_lock.specs.Views.{SameKnowledge, caller_of, mine_of, seen_of}
+use Rattle.cmwq_engine.specs.History.{instrs_of}
+use Rattle.cmwq_engine.specs.Shared.{EngineView, HasEntered, HasFoundFull, HasHadTurn, IfExhausted, IfFull}
+use Rattle.cmwq_engine.specs.declared.history.Entry.{Entry}
+use Rattle.cmwq_engine.specs.declared.history.Setting.{Setting}
+use Rattle.cmwq_engine.specs.declared.shared.IssueError.{IssueError}
+use Rattle.cmwq_engine.specs.declared.shared.IssueError.TheVariants.{Full, Exhausted}
+use Rattle.cmwq_actors.specs.Interleaving.{IsFrontOf}
+use Rattle.cmwq_actors.specs.Ending.{HasEnded, stopped_by}
+use Rattle.cmwq_actors.specs.Playing.{issued_with}
+use Rattle.cmwq_actors.proofs.FrontLemmas.{front_of_longer}
+
+-- a caller has no more entries than the history has room for
+pub own_calls_fit : (from : Setting) (v w : EngineView) → HasHadTurn from v w → length (mine_of w) ≤ from.capacity
+own_calls_fit from v w turn =
+    let is_own = λ (e : Entry). e.caller == caller_of v in
+    let few : length (filter is_own (seen_of w)) ≤ length (seen_of w) =
+    rw length-filter (count_by-le-length is_own (seen_of w))
+    in
+    let all : length (filter is_own (seen_of w)) ≡ length (mine_of w) = ap length turn.own_calls in
+    let room : length (seen_of w) ≤ from.capacity = turn.legal.bounded in omega arith
+
+-- one entry more is counted, and there was room for it
+pub one_more_fits :
+    (from : Setting) (v w : EngineView) (new : Entry) (place : ℕ)
+    → HasHadTurn from v w → HasEntered from v w new place → length (mine_of v) + 1 ≤ from.capacity
+one_more_fits from v w new place turn entered =
+    let longer : length (mine_of w) ≡ length (mine_of v) + 1 = ap length entered.mine ∙ length-append (mine_of v) (new ∷ []) in
+    let fits = own_calls_fit from v w turn in omega arith
+
+-- who has issued an instruction k times, and nothing since, has issued a front of issuing it n times
+pub stops_in_front :
+    (v w : EngineView) (before : List Instr) (k n : ℕ) (x : Instr)
+    → issued_with v ≡ before ++ replicate k x → k ≤ n → mine_of w ≡ mine_of v
+    → IsFrontOf (issued_with w) (before ++ replicate n x)
+stops_in_front v w before k n x issued few same =
+    let is : issued_with w ≡ before ++ replicate k x = ap instrs_of same ∙ issued in
+    let whole : (before ++ replicate k x) ++ replicate (n - k) x ≡ before ++ replicate n x =
+    append_assoc before (replicate k x) (replicate (n - k) x)
+    ∙ ap (λ xs. before ++ xs) (replicate-append-replicate k (n - k) x ∙ ap (λ i. replicate i x) (omega arith))
+    in
+    let front = front_of_longer (before ++ replicate k x) (replicate (n - k) x) in
+    let P = λ (xs : List Instr). IsFrontOf xs (before ++ replicate n x) in
+    subst P (sym is) (subst (λ (ys : List Instr). IsFrontOf (before ++ replicate k x) ys) whole front)
+
+-- who was refused the next of n times has ended so
+pub stop_ends :
+    (from : Setting) (v w : EngineView) (before : List Instr) (k n : ℕ) (x : Instr) (why : IssueError)
+    → issued_with v ≡ before ++ replicate k x → k ≤ n → IfFull why (HasFoundFull from v w)
+    → IfExhausted why (SameKnowledge v w)
+    → HasEnded from.capacity (seen_of w) (issued_with w) (before ++ replicate n x) (stopped_by why)
+stop_ends from v w before k n x Full issued few full same = (stops_in_front v w before k n x issued few full.mine, full.full)
+stop_ends from v w before k n x Exhausted issued few full same = stops_in_front v w before k n x issued few same.same_mine

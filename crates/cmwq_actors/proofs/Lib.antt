@@ -1,0 +1,7 @@
+mod EndingLemmas
+mod FrontLemmas
+mod IssueLemmas
+mod PlayedLemmas
+mod RestLemmas
+mod TokenLemmas
+mod ValidLemmas

@@ -1,0 +1,19 @@
+use Rattle.std.proofs.Common.{rules, arith, ◌≤◌}
+use Rattle.cmwq_actors.proofs.IssueLemmas.{one_more_fits, stop_ends}
+use Rattle.cmwq_actors.proofs.part.Stage.play_line.Goals as goal
+
+pub overflow_add-calls : goal.overflow_add-calls
+overflow_add-calls g c =
+    let turn = rw c.in-Ok.is at c.issue-back.ensures.turn in
+    let entered = rw c.in-Ok.is at c.issue-back.ensures.entered in
+    let fits = one_more_fits _ _ _ _ _ turn entered in
+    let counted = c.loop.invariant.counted in
+    let small = c.requires.small in
+    search rules
+
+pub returns-in-Err-clause-ended : goal.returns-in-Err-clause-ended
+returns-in-Err-clause-ended g c =
+    let full = rw c.in-Err.is at c.issue-back.ensures.full in
+    let same = rw c.in-Err.is at c.issue-back.ensures.same in
+    let few : c.loop.counter ≤ c.args.line.now.times = omega arith in
+    rw c.from.ensures (stop_ends _ _ _ _ c.loop.counter c.args.line.now.times _ c.in-Err.why c.loop.invariant.issued few full same)

@@ -1,0 +1,4 @@
+pub mod Ending
+pub mod Examples
+pub mod Interleaving
+pub mod Playing

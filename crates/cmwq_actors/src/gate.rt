@@ -1,0 +1,18 @@
+//! What stands before each call of an actor.
+
+use std::sync::Wait;
+use std::thread::Threads;
+use std::time::Clock;
+
+/// What an actor passes before each instruction that it issues. Tests hold actors there until others have come as far.
+pub trait Gate: Sync {
+    /// Actor `actor` is about to issue its instruction `call`, both counted from 0. It may wait.
+    fn before<R: Threads + Wait + Clock>(&self, rt: &R, actor: u8, call: u32);
+}
+
+/// A gate that holds nobody.
+pub struct OpenGate;
+
+impl Gate for OpenGate {
+    fn before<R: Threads + Wait + Clock>(&self, _rt: &R, _actor: u8, _call: u32) {}
+}

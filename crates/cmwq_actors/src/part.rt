@@ -1,0 +1,123 @@
+//! One actor's part: its instructions, issued one after the other.
+ghost use Rattle.std.specs.Prelude.{◌≡◌, ◌≤◌, [], ◌++◌, length, replicate};
+ghost use Rattle.cmwq_types.specs.Scenario.{expand_lines};
+ghost use Rattle.cmwq_types.specs.declared.limits.TheConstants.{MAX_HISTORY};
+ghost use Rattle.cmwq_lock.specs.Tokens.{pass_view};
+ghost use Rattle.cmwq_lock.specs.Views.{caller_of, knowledge_of, mine_of, seen_of};
+ghost use Rattle.cmwq_engine.specs.Shared.{IsPassOf, setting_of};
+ghost use Rattle.cmwq_actors.specs.Ending.{HasEnded};
+ghost use Rattle.cmwq_actors.specs.Playing.{HasPlayed, issued_with};
+
+use crate::ending::Ending;
+use crate::gate::Gate;
+use cmwq_engine::{Engine, Shared};
+use cmwq_lock::{Kept, Pass};
+use cmwq_table::Machine;
+use cmwq_types::Line;
+use std::sync::{OnceLock, Wait};
+use std::thread::Threads;
+use std::time::Clock;
+
+/// What all actors share.
+#[derive(Drop)]
+pub(crate) struct Stage<'a, R, M: Machine, G>
+where
+    Engine<M>: Kept,
+{
+    pub(crate) rt: &'a R,
+    pub(crate) gate: &'a G,
+    pub(crate) shared: Shared<M>,
+    /// Whether the actors may begin, once it is known: all their threads were started, or one couldn't be.
+    pub(crate) begin: OnceLock<bool>,
+}
+
+/// An actor's pass, and how the actor ended; not at all where it wasn't let begin.
+#[derive(Drop)]
+pub(crate) struct Played<M: Machine>
+where
+    Engine<M>: Kept,
+{
+    pub(crate) pass: Pass<Engine<M>>,
+    pub(crate) ending: Option<Ending>,
+}
+
+impl<'a, R: Threads + Wait + Clock, M: Machine, G: Gate> Stage<'a, R, M, G> {
+    /// An actor's part, once it may begin.
+    pub(crate) fn play(&self, actor: u8, lines: &[Line], pass: Pass<Engine<M>>) -> Played<M>
+        requires small { (setting_of self.now.shared).capacity ≤ MAX_HISTORY }
+        requires pass { IsPassOf self.now.shared pass }
+        requires fresh { mine_of (pass_view pass) ≡ [] }
+        ensures token { IsPassOf self.now.shared result.pass }
+        ensures played { HasPlayed (setting_of self.now.shared).capacity (caller_of (pass_view pass))
+            (expand_lines lines.now) result.ending (knowledge_of (pass_view result.pass)) }
+    {
+        if *self.begin.wait(self.rt) {
+            let (pass, ending) = self.play_lines(actor, lines, pass);
+            Played {
+                pass,
+                ending: Some(ending),
+            }
+        } else {
+            Played { pass, ending: None }
+        }
+    }
+
+    /// Issues the lines, each as often as it stands, up to the first that can't be.
+    fn play_lines(
+        &self,
+        actor: u8,
+        lines: &[Line],
+        pass: Pass<Engine<M>>,
+    ) -> (Pass<Engine<M>>, Ending)
+        requires small { (setting_of self.now.shared).capacity ≤ MAX_HISTORY }
+        requires pass { IsPassOf self.now.shared pass }
+        requires fresh { mine_of (pass_view pass) ≡ [] }
+        ensures token { IsPassOf self.now.shared result.0 }
+        ensures caller { caller_of (pass_view result.0) ≡ caller_of (pass_view pass) }
+        ensures ended { HasEnded (setting_of self.now.shared).capacity (seen_of (pass_view result.0))
+            (issued_with (pass_view result.0)) (expand_lines lines.now) result.1 }
+    {
+        let mut pass = pass;
+        let mut calls = 0;
+        for line in lines {
+            let (back, ending) = self.play_line(actor, line, pass, &mut calls);
+            pass = back;
+            match ending {
+                Ending::Done => {}
+                Ending::Full | Ending::Exhausted => return (pass, ending),
+            }
+        }
+        (pass, Ending::Done)
+    }
+
+    /// Issues one line as often as it stands, up to the first time that it can't be.
+    fn play_line(
+        &self,
+        actor: u8,
+        line: &Line,
+        pass: Pass<Engine<M>>,
+        calls: &mut u32,
+    ) -> (Pass<Engine<M>>, Ending)
+        requires small { (setting_of self.now.shared).capacity ≤ MAX_HISTORY }
+        requires pass { IsPassOf self.now.shared pass }
+        requires counted { calls.old ≡ length (mine_of (pass_view pass)) }
+        ensures token { IsPassOf self.now.shared result.0 }
+        ensures caller { caller_of (pass_view result.0) ≡ caller_of (pass_view pass) }
+        ensures counted { calls.new ≡ length (mine_of (pass_view result.0)) }
+        ensures ended { HasEnded (setting_of self.now.shared).capacity (seen_of (pass_view result.0))
+            (issued_with (pass_view result.0))
+            (issued_with (pass_view pass) ++ replicate line.now.times line.now.instr) result.1 }
+    {
+        let mut pass = pass;
+        for _ in 0..line.times {
+            self.gate.before(self.rt, actor, *calls);
+            let (back, outcome) = self.shared.issue(self.rt, pass, line.instr);
+            pass = back;
+            match outcome {
+                Ok(_receipt) => *calls += 1,
+                Err(why) => return (pass, Ending::from(why)),
+            }
+        }
+        (pass, Ending::Done)
+    }
+}

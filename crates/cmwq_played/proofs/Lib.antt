@@ -1,0 +1,5 @@
+mod HistoryLemmas
+mod LineLemmas
+mod PieceLemmas
+mod PlayLemmas
+mod PlayedLemmas

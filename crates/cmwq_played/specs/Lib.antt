@@ -1,0 +1,4 @@
+pub mod Commenting
+pub mod Numbers
+pub mod Played
+pub mod Plays

@@ -1,0 +1,52 @@
+-- The numbers in a reply are below 2^64.
+use Rattle.std.specs.Prelude.{ℕ, ◌<◌, ◌^◌, Option, Some, None}
+use Rattle.cmwq_types.specs.declared.reply.Event.{Event}
+use Rattle.cmwq_types.specs.declared.reply.Event.TheVariants as event
+use Rattle.cmwq_types.specs.declared.reply.Mode.{Mode}
+use Rattle.cmwq_types.specs.declared.reply.Mode.TheVariants.{Runnable, Asleep}
+use Rattle.cmwq_types.specs.declared.reply.Place.{Place}
+use Rattle.cmwq_types.specs.declared.reply.Place.TheVariants.{Timer, Inactive, Listed, Deferred}
+use Rattle.cmwq_types.specs.declared.reply.Reply.{Reply}
+use Rattle.cmwq_types.specs.declared.reply.Reply.TheVariants as reply
+use Rattle.cmwq_types.specs.declared.reply.WorkRun.{WorkRun}
+
+abbrev pub IsPlace : Option Place → Type 0
+IsPlace None = Unit {0}
+IsPlace (Some (Timer due cpu)) = due < 2 ^ 64
+IsPlace (Some (Inactive pool)) = pool < 2 ^ 64
+IsPlace (Some (Listed pool)) = pool < 2 ^ 64
+IsPlace (Some (Deferred pool)) = pool < 2 ^ 64
+
+abbrev pub IsTime : Mode → Type 0
+IsTime Runnable = Unit {0}
+IsTime (Asleep until) = until < 2 ^ 64
+
+abbrev pub IsRun : Option WorkRun → Type 0
+IsRun None = Unit {0}
+IsRun (Some run) = (run.pool < 2 ^ 64) × (run.worker < 2 ^ 64) × IsTime run.mode
+
+abbrev pub IsEvent : Event → Type 0
+IsEvent (event.Burns ticks) = ticks < 2 ^ 64
+IsEvent (event.Sleeps ticks) = ticks < 2 ^ 64
+IsEvent event.Starts = Unit {0}
+IsEvent event.Wakes = Unit {0}
+IsEvent event.Finishes = Unit {0}
+IsEvent event.FinishesAndStarts = Unit {0}
+IsEvent event.Defers = Unit {0}
+IsEvent event.Fires = Unit {0}
+IsEvent (event.Queues other already) = Unit {0}
+
+abbrev pub IsReply : Reply → Type 0
+IsReply (reply.Sync was flush) = flush < 2 ^ 64
+IsReply (reply.Flush flush) = flush < 2 ^ 64
+IsReply (reply.Found state) = IsPlace state.place × IsRun state.run
+IsReply (reply.Event work event) = IsEvent event
+IsReply reply.Queued = Unit {0}
+IsReply reply.Done = Unit {0}
+IsReply reply.Already = Unit {0}
+IsReply reply.Changed = Unit {0}
+IsReply reply.Cancelled = Unit {0}
+IsReply reply.NotPending = Unit {0}
+IsReply reply.Yes = Unit {0}
+IsReply reply.No = Unit {0}
+IsReply (reply.Refused why) = Unit {0}

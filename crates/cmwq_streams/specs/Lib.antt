@@ -1,0 +1,4 @@
+pub mod Blocks
+pub mod Errors
+pub mod Sending
+pub mod Stream
