@@ -12,6 +12,7 @@ ghost use Rattle.cmwq_types.specs.declared.limits.TheConstants.{MAX_TEXT, MAX_WO
 ghost use Rattle.std.specs.Io.KnownBytes.{Appends, Consumes, IsAtEnd, Keeps};
 ghost use Rattle.std.specs.Prelude.{◌≡◌, ◌<◌, ◌≤◌, ◌+◌, ◌↔◌, ◌⊎◌, ◌++◌, Err, IfErr, IfOk, IfSome, List, Ok, OnErr, OnOk, drop, false, length, replicate, take, true, ℕ};
 
+use crate::reading::read_some;
 use crate::running::judge;
 use cmwq_debug::Debugger;
 use cmwq_debug_lines::{answer, line_length};
@@ -68,32 +69,6 @@ fn answer_lines<M: Machine, W: Sink>(
     Ok(taken)
 }
 
-/// Reads some bytes more, and says how many: none only at the end.
-fn hear<R: Source>(commands: &mut R, text: &mut Vec<u8>) -> Result<usize, PlayError>
-    requires sound { R.failed commands.old ≡ false }
-    requires short { length text.old.items ≤ MAX_TEXT }
-    ensures heard { IfOk result (λ n. (bytes : List ℕ) × (text.new.items ≡ text.old.items ++ bytes) × (length bytes ≡ n)
-        × Consumes (R.remaining commands.old) (R.remaining commands.new) bytes) }
-    ensures bounded { length text.new.items ≤ MAX_TEXT + 1 }
-    ensures end { result ≡ Ok 0 → IsAtEnd (R.remaining commands.new) }
-    ensures same { OnErr result (text.new.items ≡ text.old.items) }
-    ensures few { IfSome (R.remaining commands.old) (λ bytes. IfSome (R.remaining commands.new)
-        (λ rest. length bytes + length text.old.items ≤ length rest + MAX_TEXT + 1)) }
-    ensures failed { (result ≡ Err PlayError.Read) ↔ (R.failed commands.new ≡ true) }
-    ensures unread { result ≡ Err PlayError.Read → Keeps (R.remaining commands.old) (R.remaining commands.new) }
-    ensures why { IfErr result (λ error. (error ≡ PlayError.Read) ⊎ (error ≡ PlayError.NoMemory)) }
-{
-    let mut chunk = [0u8; 4096];
-    let room = (MAX_TEXT + 1 - text.len()).min(4096);
-    match commands.pull(&mut chunk[..room]) {
-        Ok(n) => {
-            text.extend_from_slice(&chunk[..n])?;
-            Ok(n)
-        }
-        Err(_) => Err(PlayError::Read),
-    }
-}
-
 /// Answers what is left at the end: a last line that no line feed ends.
 fn answer_rest<M: Machine, W: Sink>(
     alloc: Global,
@@ -139,7 +114,7 @@ fn talk<M: Machine, R: Source, W: Sink>(
     let mut text = Vec::new(alloc);
     let mut done = 0;
     for _turn in 0..MAX_TEXT + 2 {
-        if hear(commands, &mut text)? == 0 {
+        if read_some(commands, &mut text)? == 0 {
             return answer_rest(alloc, scenario, debugger, &text[done..], writer);
         }
         if text.len() > MAX_TEXT {

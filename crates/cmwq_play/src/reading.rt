@@ -4,8 +4,8 @@ ghost use Rattle.cmwq_play.specs.Commands.{Answers, Reads};
 ghost use Rattle.cmwq_play.specs.Texts.{IsSpelled, IsTextFault};
 ghost use Rattle.cmwq_types.specs.Contents.{ScenarioContents};
 ghost use Rattle.cmwq_types.specs.declared.limits.TheConstants.{MAX_TEXT};
-ghost use Rattle.std.specs.Io.KnownBytes.{Consumes};
-ghost use Rattle.std.specs.Prelude.{◌≡◌, ◌≤◌, ◌+◌, ◌⊎◌, ◌≢◌, Err, IfErr, IfOk, IfSome, Some, false, length};
+ghost use Rattle.std.specs.Io.KnownBytes.{Consumes, IsAtEnd, Keeps};
+ghost use Rattle.std.specs.Prelude.{◌≡◌, ◌≤◌, ◌+◌, ◌↔◌, ◌⊎◌, ◌≢◌, ◌++◌, Err, IfErr, IfOk, IfSome, List, Ok, OnErr, Some, false, length, true, ℕ};
 
 use cmwq_asm::{AsmError, assemble};
 use cmwq_streams::{PlayError, Source};
@@ -54,17 +54,36 @@ pub(crate) fn read_whole<R: Source>(alloc: Global, reader: &mut R) -> Result<Vec
     ensures other { IfErr result (λ error. (error ≡ PlayError.Read) ⊎ (error ≡ PlayError.NoMemory)) }
 {
     let mut text = Vec::new(alloc);
-    let mut chunk = [0u8; 4096];
     for _turn in 0..MAX_TEXT + 1 {
-        let room = (MAX_TEXT + 1 - text.len()).min(4096);
-        match reader.pull(&mut chunk[..room]) {
-            Err(_) => return Err(PlayError::Read),
-            Ok(0) => return Ok(text),
-            Ok(n) => text.extend_from_slice(&chunk[..n])?,
-        }
-        if text.len() > MAX_TEXT {
+        if read_some(reader, &mut text)? == 0 || text.len() > MAX_TEXT {
             return Ok(text);
         }
     }
     unreachable!()
+}
+
+/// Reads some bytes more, and says how many: none only at the end.
+pub(crate) fn read_some<R: Source>(reader: &mut R, text: &mut Vec<u8>) -> Result<usize, PlayError>
+    requires sound { R.failed reader.old ≡ false }
+    requires short { length text.old.items ≤ MAX_TEXT }
+    ensures read { IfOk result (λ n. (bytes : List ℕ) × (text.new.items ≡ text.old.items ++ bytes) × (length bytes ≡ n)
+        × Consumes (R.remaining reader.old) (R.remaining reader.new) bytes) }
+    ensures bounded { length text.new.items ≤ MAX_TEXT + 1 }
+    ensures end { result ≡ Ok 0 → IsAtEnd (R.remaining reader.new) }
+    ensures same { OnErr result (text.new.items ≡ text.old.items) }
+    ensures few { IfSome (R.remaining reader.old) (λ bytes. IfSome (R.remaining reader.new)
+        (λ rest. length bytes + length text.old.items ≤ length rest + MAX_TEXT + 1)) }
+    ensures failed { (result ≡ Err PlayError.Read) ↔ (R.failed reader.new ≡ true) }
+    ensures unread { result ≡ Err PlayError.Read → Keeps (R.remaining reader.old) (R.remaining reader.new) }
+    ensures why { IfErr result (λ error. (error ≡ PlayError.Read) ⊎ (error ≡ PlayError.NoMemory)) }
+{
+    let mut chunk = [0u8; 4096];
+    let room = (MAX_TEXT + 1 - text.len()).min(4096);
+    match reader.pull(&mut chunk[..room]) {
+        Ok(n) => {
+            text.extend_from_slice(&chunk[..n])?;
+            Ok(n)
+        }
+        Err(_) => Err(PlayError::Read),
+    }
 }

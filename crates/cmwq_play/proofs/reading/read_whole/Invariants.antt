@@ -10,5 +10,4 @@ invariant-loop-turn g l = record {
   sound : g.R.Source.failed l.reader ≡ false;
   short : length l.text.items ≤ MAX_TEXT;
   long : l._turn ≤ length l.text.items;
-  chunk : length l.chunk ≡ 4096;
 }
