@@ -9,13 +9,7 @@ use std::{env, io};
 
 fn main(rt: HostRuntime) -> ExitCode {
     let outcome = match words(&rt) {
-        Ok(Some(words)) => carry_out(
-            &rt,
-            words.as_slice(),
-            rt.stdin(),
-            rt.stdout(),
-            rt.stderr(),
-        ),
+        Ok(Some(words)) => carry_out(&rt, words.as_slice(), rt.stdin(), rt.stdout(), rt.stderr()),
         Ok(None) => tell_not_text(&rt),
         Err(error) => Err(error),
     };
