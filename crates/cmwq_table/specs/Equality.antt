@@ -27,5 +27,6 @@ view_eq x y =
     && (pointwise nat_eq x.max y.max
     && (pointwise pending_eq x.pending y.pending
     && (pointwise running_eq x.running y.running
+    && (pointwise nat_eq x.depth y.depth
     && (pointwise idle.ghosts.eq x.idle y.idle
-    && (pointwise nat_eq x.made y.made && pointwise flush.ghosts.eq x.flushes y.flushes))))))))
+    && (pointwise nat_eq x.made y.made && pointwise flush.ghosts.eq x.flushes y.flushes)))))))))

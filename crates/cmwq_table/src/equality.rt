@@ -23,6 +23,7 @@ impl PartialEq for View {
             && self.max == other.max
             && self.pending == other.pending
             && self.running == other.running
+            && self.depth == other.depth
             && self.idle == other.idle
             && self.made == other.made
             && self.flushes == other.flushes
