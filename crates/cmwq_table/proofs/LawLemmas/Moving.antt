@@ -20,6 +20,7 @@ use Rattle.cmwq_table.specs.State.{State, seat, pending_at, running_at, depth_at
 use Rattle.cmwq_table.specs.Counts.{first_listed, first_ready, first_runnable, first_slept, free_worker, idle_stamp, if_ready, is_deferred, is_listed, is_runnable, is_slept, last_idle, may_start, new_worker, or_else, pends, pending_before, pending_stamp, ready_head, running_before, running_stamp, running_until, runs}
 use Rattle.cmwq_table.specs.Laws.{is_wake}
 use Rattle.cmwq_table.specs.Moves.{advance, as_move, begin_again, begun, carry_out, come_to_end, deferred, finish, moved, next_move, onward, queue_from_body, retire, start_first, start_move, started, started_on, take_listed, with_running, woken}
+use Rattle.cmwq_table.proofs.CounterLemmas.{set-within}
 use Rattle.cmwq_table.proofs.LawLemmas.Setting.{IsOpInRange, IsSetting}
 use Rattle.cmwq_table.proofs.LawLemmas.Changes.{Kind, Change, Follows}
 use Rattle.cmwq_table.proofs.LawLemmas.Disabled.{enabled-zero}
@@ -214,13 +215,6 @@ wakes-follows S s w None sound h is = Follows.stays true true s
 
 -- where the free worker is one of the pool's, the pool doesn't make too many
 
-made-set : (made : List ℕ) (most pool x : ℕ) → ((i : ℕ) → slice_index_or made i 0 ≤ most) → x ≤ most → (i : ℕ) → slice_index_or (slice_set made pool x) i 0 ≤ most
-made-set [] most pool x each here i = each i
-made-set (m ∷ made) most zero x each here zero = here
-made-set (m ∷ made) most zero x each here (suc i) = each (suc i)
-made-set (m ∷ made) most (suc pool) x each here zero = each zero
-made-set (m ∷ made) most (suc pool) x each here (suc i) = made-set made most pool x (λ j. each (suc j)) here i
-
 idle-first : (S : ScenarioContents) (s : State) (pool : ℕ) → IfSome (λ worker. worker < S.workers) (last_idle S s pool)
 idle-first S s pool =
     found-first (λ v w. nat_lt (idle_stamp (idle_at s pool w)) (idle_stamp (idle_at s pool v))) (λ worker. is_some (idle_at s pool worker)) S.workers (λ worker. worker < S.workers)
@@ -254,7 +248,7 @@ start-place S wakes s pool w worker p (Listed at) sound h seated idle may is is_
     one S true wakes s (started_on s pool w worker p) w
     (changed S true wakes None s (started_on s pool w worker p) w (Some (record { born = p.born; stamp = p.stamp; place = Listed pool })) None None (Some q) (is_pending ∙ same) idle
     (alters-both S s w None (Some q) (s.next + 1) (slice_set s.idle (seat pool worker) None) (slice_set s.made pool made) sound.long h
-    (λ within. made-set s.made S.workers pool made within (made-one_more worker (made_at s pool) S.workers (worker == made_at s pool) seated (within pool))))
+    (λ within. set-within s.made S.workers pool made within (made-one_more worker (made_at s pool) S.workers (worker == made_at s pool) seated (within pool))))
     (Kind.started p.born p.stamp pool worker may))
 start-place S wakes s pool w worker p (Timer due cpu) sound h seated idle may is is_pending = cc
 start-place S wakes s pool w worker p (Inactive at) sound h seated idle may is is_pending = cc
