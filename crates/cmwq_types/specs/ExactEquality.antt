@@ -136,6 +136,8 @@ same_instr instr.Next instr.Next h = refl
 same_instr (instr.Ask a) (instr.Ask b) h = ap instr.Ask (eqb-true a b h)
 same_instr instr.Busy instr.Busy h = refl
 same_instr (instr.State w) (instr.State v) h = ap instr.State (same_work_id w v h)
+same_instr (instr.Disable w) (instr.Disable v) h = ap instr.Disable (same_work_id w v h)
+same_instr (instr.Enable w) (instr.Enable v) h = ap instr.Enable (same_work_id w v h)
 same_instr x y h = absurd (true≢false (sym h))
 
 pub same_line : (x y : Line) → line.ghosts.eq x y ≡ true → x ≡ y

@@ -72,6 +72,8 @@ instr_words S instr.Next = spelling mnemonic.Next ∷ []
 instr_words S (instr.Ask flush) = spelling mnemonic.Ask ∷ decimal flush ∷ []
 instr_words S instr.Busy = spelling mnemonic.Busy ∷ []
 instr_words S (instr.State work) = spelling mnemonic.State ∷ (work_at S work.0).name ∷ []
+instr_words S (instr.Disable work) = spelling mnemonic.Disable ∷ (work_at S work.0).name ∷ []
+instr_words S (instr.Enable work) = spelling mnemonic.Enable ∷ (work_at S work.0).name ∷ []
 
 abbrev pub actor_line : ScenarioContents → Line → WrittenLine
 actor_line S line = Repeated (instr_words S line.instr) line.times

@@ -24,12 +24,15 @@ spelling mnemonic.Next = codes "next"
 spelling mnemonic.Ask = codes "ask"
 spelling mnemonic.Busy = codes "busy"
 spelling mnemonic.State = codes "state"
+spelling mnemonic.Disable = codes "disable"
+spelling mnemonic.Enable = codes "enable"
 
 abbrev pub mnemonics : List Mnemonic
 mnemonics =
     mnemonic.Queue ∷ mnemonic.Delay ∷ mnemonic.Mod ∷ mnemonic.Cancel ∷ mnemonic.CancelSync ∷ mnemonic.Flush
     ∷ mnemonic.FlushDelayed ∷ mnemonic.FlushQueue ∷ mnemonic.SetMax ∷ mnemonic.Freeze ∷ mnemonic.Thaw ∷ mnemonic.Fire
-    ∷ mnemonic.Step ∷ mnemonic.Tick ∷ mnemonic.Next ∷ mnemonic.Ask ∷ mnemonic.Busy ∷ mnemonic.State ∷ []
+    ∷ mnemonic.Step ∷ mnemonic.Tick ∷ mnemonic.Next ∷ mnemonic.Ask ∷ mnemonic.Busy ∷ mnemonic.State
+    ∷ mnemonic.Disable ∷ mnemonic.Enable ∷ []
 
 -- the first of these that is spelled so
 abbrev pub first_spelled : List Mnemonic → List ℕ → Option Mnemonic

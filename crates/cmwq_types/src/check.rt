@@ -193,7 +193,9 @@ impl Scenario {
             | Instr::CancelSync(work)
             | Instr::Flush(work)
             | Instr::FlushDelayed(work)
-            | Instr::State(work) => (work.0 as usize) < self.works.len(),
+            | Instr::State(work)
+            | Instr::Disable(work)
+            | Instr::Enable(work) => (work.0 as usize) < self.works.len(),
             Instr::FlushQueue(queue) | Instr::SetMax(queue, _) => {
                 (queue.0 as usize) < self.queues.len()
             }

@@ -17,7 +17,7 @@ pub struct WorkId(pub u16);
 pub enum Instr {
     /// Queues the work on the CPU, as the kernel's `queue_work_on` does. A pending work stays as it is.
     ///
-    /// Refused where there is no such work, or the CPU isn't below `cpus`.
+    /// Refused where there is no such work, the CPU isn't below `cpus`, or the work is disabled.
     Queue(WorkId, u8),
     /// Queues the work on the CPU after so many ticks, as the kernel's `queue_delayed_work_on` does. A
     /// pending work stays as it is, and a delay of 0 queues at once.
@@ -84,4 +84,14 @@ pub enum Instr {
     Busy,
     /// Asks where the work is. Refused where there is no such work.
     State(WorkId),
+    /// Takes a pending work off, and disables the work once more: it isn't queued any more until it was enabled as
+    /// often. A running instance goes on. The kernel's `disable_work`, from Linux 6.10 on, counts and takes off too.
+    ///
+    /// Refused where there is no such work, or it was disabled 65,535 times more often than enabled.
+    Disable(WorkId),
+    /// Takes back one `Disable`, and answers whether the work can be queued again, as the kernel's `enable_work`
+    /// does, from Linux 6.10 on. It queues nothing.
+    ///
+    /// Refused where there is no such work, or it isn't disabled.
+    Enable(WorkId),
 }

@@ -22,6 +22,9 @@ pub const MAX_WORKS: usize = 256;
 /// The most actors.
 pub const MAX_ACTORS: usize = 16;
 
+/// How much more often a work can be disabled than enabled, at most.
+pub const MAX_DEPTH: u16 = 65_535;
+
 /// The greatest `max_active` of a queue; the kernel's `WQ_MAX_ACTIVE`.
 pub const MAX_MAX_ACTIVE: u16 = 512;
 

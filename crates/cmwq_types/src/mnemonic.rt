@@ -24,9 +24,11 @@ pub enum Mnemonic {
     Ask,
     Busy,
     State,
+    Disable,
+    Enable,
 }
 
-const MNEMONICS: [Mnemonic; 18] = [
+const MNEMONICS: [Mnemonic; 20] = [
     Mnemonic::Queue,
     Mnemonic::Delay,
     Mnemonic::Mod,
@@ -45,6 +47,8 @@ const MNEMONICS: [Mnemonic; 18] = [
     Mnemonic::Ask,
     Mnemonic::Busy,
     Mnemonic::State,
+    Mnemonic::Disable,
+    Mnemonic::Enable,
 ];
 
 impl Mnemonic {
@@ -85,6 +89,8 @@ impl Mnemonic {
             Mnemonic::Ask => b"ask",
             Mnemonic::Busy => b"busy",
             Mnemonic::State => b"state",
+            Mnemonic::Disable => b"disable",
+            Mnemonic::Enable => b"enable",
         }
     }
 }

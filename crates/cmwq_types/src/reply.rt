@@ -134,6 +134,8 @@ pub enum Event {
     Fires,
     /// It queued the work `other`, or found it pending `already`.
     Queues { other: WorkId, already: bool },
+    /// It was to queue the work `other`, which is disabled.
+    QueuesDisabled { other: WorkId },
 }
 
 /// Why no time may pass.
@@ -174,6 +176,12 @@ pub enum Refusal {
     NothingToDo,
     /// Something can still happen without time.
     Unsettled(Cause),
+    /// The work is disabled.
+    Disabled,
+    /// The work was disabled 65,535 times more often than enabled.
+    TooDeep,
+    /// The work isn't disabled.
+    NotDisabled,
 }
 
 /// Where a running work runs.
