@@ -7,7 +7,7 @@ use Rattle.cmwq_types.specs.Contents.{ScenarioContents}
 use Rattle.cmwq_types.specs.Scenario.{queue_of}
 use Rattle.cmwq_table.specs.declared.state.Pending.{Pending}
 use Rattle.cmwq_table.specs.declared.state.Running.{Running}
-use Rattle.cmwq_table.specs.State.{State, depth_at, is_disabled, pending_at, running_at}
+use Rattle.cmwq_table.specs.State.{State, depth_at, pending_at, running_at}
 use Rattle.cmwq_table.specs.Moves.{fill, with_depth}
 use Rattle.cmwq_table.proofs.LawLemmas.Changes.{Change, Follows, Kind}
 
