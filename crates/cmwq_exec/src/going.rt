@@ -1,6 +1,6 @@
 //! A machine amid an instruction: its parts, ready to be gone on from.
 ghost use Rattle.cmwq_table.specs.Counts.{first_inactive, first_listed, first_slept, free_worker, is_deferred, ready_head};
-ghost use Rattle.cmwq_table.specs.Moves.{begin_again, deferred, enlist, newborn, retire, started_on, taking, tick, with_flush, with_pending, with_running, woken};
+ghost use Rattle.cmwq_table.specs.Moves.{begin_again, deferred, enlist, newborn, retire, started_on, taking, tick, with_depth, with_flush, with_pending, with_running, woken};
 ghost use Rattle.cmwq_table.specs.Ready.{IsPlaceReady};
 ghost use Rattle.cmwq_table.specs.State.{pending_at, running_at, start};
 ghost use Rattle.cmwq_table.specs.View.{view_of};
@@ -200,6 +200,15 @@ impl<P: Parts> Going<P> {
         ensures { self.new ≡ record self.old { state = tick self.old.scenario self.old.state } }
     {
         self.parts.tick();
+    }
+
+    /// Sets how much more often the work was disabled than enabled.
+    #[tactic(auto, using(cmwq_table::proofs::ReadyLemmas::keeps_ready))]
+    pub(crate) fn set_depth(&mut self, w: usize, depth: u16)
+        requires work { w < length self.old.scenario.works }
+        ensures { self.new ≡ record self.old { state = with_depth self.old.state w depth } }
+    {
+        self.parts.set_depth(w, depth);
     }
 
     /// Sets the queue's `max_active`.

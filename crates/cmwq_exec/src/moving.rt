@@ -3,7 +3,7 @@ ghost use Rattle.cmwq_exec.specs.Moves.{IsFirstMove, IsFound, if_found, move_of}
 ghost use Rattle.cmwq_table.specs.Counts.{first_listed, free_worker, ready_head};
 ghost use Rattle.cmwq_table.specs.Moves.{advance, carry_out, come_to_end, finish, moved, next_move, queue_from_body, start_move, started};
 ghost use Rattle.cmwq_table.specs.Ready.{Takes};
-ghost use Rattle.cmwq_table.specs.State.{pending_at, running_at};
+ghost use Rattle.cmwq_table.specs.State.{is_disabled, pending_at, running_at};
 ghost use Rattle.cmwq_types.specs.Scenario.{op_at, pool_count};
 ghost use Rattle.cmwq_types.specs.Setting.{IsOpInRange, IsPcInRange};
 ghost use Rattle.std.specs.Prelude.{◌≡◌, ◌<◌, ◌^◌, IfSome, None, Some, length};
@@ -153,14 +153,17 @@ impl<P: Parts> Going<P> {
         }
     }
 
-    /// A body queues a work.
+    /// A body queues a work, unless it is disabled.
     fn queue_from_body(&mut self, other: WorkId, cpu: u8) -> Event
         requires work { other.0 < length self.old.scenario.works }
         requires cpu { cpu < self.old.scenario.cpus }
         requires stamps { self.old.state.next < 2 ^ 63 }
-        ensures state { self.new ≡ record self.old { state = (queue_from_body self.old.scenario self.old.state other cpu (pending_at self.old.state other.0)).0 } }
-        ensures event { result ≡ (queue_from_body self.old.scenario self.old.state other cpu (pending_at self.old.state other.0)).1 }
+        ensures state { self.new ≡ record self.old { state = (queue_from_body self.old.scenario self.old.state other cpu (is_disabled self.old.state other.0) (pending_at self.old.state other.0)).0 } }
+        ensures event { result ≡ (queue_from_body self.old.scenario self.old.state other cpu (is_disabled self.old.state other.0) (pending_at self.old.state other.0)).1 }
     {
+        if self.is_disabled(other) {
+            return Event::QueuesDisabled { other };
+        }
         let already = self.pending_of(other.0 as usize).is_some();
         if !already {
             self.place(other.0 as usize, cpu);

@@ -1,8 +1,8 @@
 //! What the instruction table asks of a machine's own structure.
 ghost use Rattle.cmwq_table.specs.Counts.{first_due, first_inactive, first_listed, first_slept, free_worker, has_room, is_busy, is_deferred, is_done, may_start, ready_head};
-ghost use Rattle.cmwq_table.specs.Moves.{begin_again, deferred, enlist, newborn, retire, started_on, taking, tick, with_flush, with_pending, with_running, woken};
+ghost use Rattle.cmwq_table.specs.Moves.{begin_again, deferred, enlist, newborn, retire, started_on, taking, tick, with_depth, with_flush, with_pending, with_running, woken};
 ghost use Rattle.cmwq_table.specs.Ready.{IsPlaceReady, IsRunningReady, Loaded};
-ghost use Rattle.cmwq_table.specs.State.{pending_at, running_at, start};
+ghost use Rattle.cmwq_table.specs.State.{depth_at, pending_at, running_at, start};
 ghost use Rattle.cmwq_table.specs.Table.{target_at};
 ghost use Rattle.cmwq_table.specs.View.{view_of};
 ghost use Rattle.cmwq_types.specs.Scenario.{pool_count};
@@ -73,6 +73,10 @@ pub trait Parts: Drop {
     /// The running instance of the work, if it has one and there is such a work.
     fn running_of(&self, w: usize) -> Option<Running>
         ensures { result ≡ running_at (held self.now).state w };
+
+    /// How much more often the work was disabled than enabled, and 0 where there is no such work.
+    fn depth_of(&self, w: usize) -> u16
+        ensures { result ≡ depth_at (held self.now).state w };
 
     /// Whether one more work of the queue may be active in the pool.
     fn has_room(&self, queue: u8, pool: u8) -> bool
@@ -223,6 +227,11 @@ pub trait Parts: Drop {
     fn tick(&mut self)
         requires time { (held self.old).state.time < 2 ^ 63 }
         ensures { held self.new ≡ record (held self.old) { state = tick (held self.old).scenario (held self.old).state } };
+
+    /// Sets how much more often the work was disabled than enabled.
+    fn set_depth(&mut self, w: usize, depth: u16)
+        requires work { w < length (held self.old).scenario.works }
+        ensures { held self.new ≡ record (held self.old) { state = with_depth (held self.old).state w depth } };
 
     /// Sets the queue's `max_active`.
     fn set_max(&mut self, queue: u8, max: u16)

@@ -6,7 +6,7 @@ ghost use Rattle.cmwq_table.specs.Counts.{first_due, is_busy, is_done};
 ghost use Rattle.cmwq_table.specs.Moves.{first_moving, moved_work};
 ghost use Rattle.cmwq_table.specs.Ready.{HasCounters};
 ghost use Rattle.cmwq_table.specs.State.{pending_at};
-ghost use Rattle.cmwq_table.specs.Table.{cancelled, delayed, fired_first, found, modified, next, operands, queued, step_or_tick, stepped, table, target_at, yes_or_no};
+ghost use Rattle.cmwq_table.specs.Table.{cancelled, fired_first, found, next, operands, step_or_tick, stepped, table, target_at, yes_or_no};
 ghost use Rattle.cmwq_types.specs.Scenario.{pool_count};
 ghost use Rattle.cmwq_types.specs.declared.instr.Instr.TheVariants as instr;
 ghost use Rattle.cmwq_types.specs.declared.limits.TheConstants.{MAX_MAX_ACTIVE};
@@ -51,9 +51,9 @@ impl<P: Parts> Going<P> {
         ensures answer { result ≡ (performed self.old.scenario self.old.state instr).1 }
     {
         match instr {
-            Instr::Queue(w, cpu) => Ok(self.queue(w.0 as usize, cpu)),
-            Instr::Delay(w, cpu, ticks) => Ok(self.delay(w.0 as usize, cpu, ticks)),
-            Instr::Mod(w, cpu, ticks) => Ok(self.modify(w.0 as usize, cpu, ticks)),
+            Instr::Queue(w, cpu) => self.queue(w, cpu),
+            Instr::Delay(w, cpu, ticks) => self.delay(w, cpu, ticks),
+            Instr::Mod(w, cpu, ticks) => self.modify(w, cpu, ticks),
             Instr::Cancel(w) => Ok(self.cancel(w.0 as usize)),
             Instr::CancelSync(w) => self.cancel_sync(w),
             Instr::Flush(w) => self.flush_last(w),
@@ -69,60 +69,71 @@ impl<P: Parts> Going<P> {
             Instr::Ask(flush) => Ok(self.ask(flush)),
             Instr::Busy => Ok(self.busy()),
             Instr::State(w) => Ok(self.found(w.0 as usize)),
+            Instr::Disable(w) => self.disable(w),
+            Instr::Enable(w) => self.enable(w),
         }
     }
 
-    /// Queues the work on the CPU, unless it is pending.
-    fn queue(&mut self, w: usize, cpu: u8) -> Reply
-        requires work { w < length self.old.scenario.works }
+    /// Queues the work on the CPU, unless it is disabled or pending.
+    fn queue(&mut self, w: WorkId, cpu: u8) -> Result<Reply, Refusal>
+        requires work { w.0 < length self.old.scenario.works }
         requires cpu { cpu < self.old.scenario.cpus }
         requires stamps { self.old.state.next < 2 ^ 60 }
-        ensures state { self.new ≡ record self.old { state = (queued self.old.scenario self.old.state w cpu (pending_at self.old.state w)).0 } }
-        ensures reply { result ≡ (queued self.old.scenario self.old.state w cpu (pending_at self.old.state w)).1 }
+        ensures state { self.new ≡ record self.old { state = (performed self.old.scenario self.old.state (instr.Queue w cpu)).0 } }
+        ensures answer { result ≡ (performed self.old.scenario self.old.state (instr.Queue w cpu)).1 }
     {
-        if self.pending_of(w).is_some() {
-            return Reply::Already;
+        if self.is_disabled(w) {
+            return Err(Refusal::Disabled);
         }
-        self.place(w, cpu);
-        Reply::Queued
+        if self.pending_of(w.0 as usize).is_some() {
+            return Ok(Reply::Already);
+        }
+        self.place(w.0 as usize, cpu);
+        Ok(Reply::Queued)
     }
 
-    /// Queues the work on the CPU after so many ticks, unless it is pending.
-    fn delay(&mut self, w: usize, cpu: u8, ticks: u32) -> Reply
-        requires work { w < length self.old.scenario.works }
+    /// Queues the work on the CPU after so many ticks, unless it is disabled or pending.
+    fn delay(&mut self, w: WorkId, cpu: u8, ticks: u32) -> Result<Reply, Refusal>
+        requires work { w.0 < length self.old.scenario.works }
         requires cpu { cpu < self.old.scenario.cpus }
         requires time { self.old.state.time < 2 ^ 60 }
         requires stamps { self.old.state.next < 2 ^ 60 }
-        ensures state { self.new ≡ record self.old { state = (delayed self.old.scenario self.old.state w cpu ticks (pending_at self.old.state w)).0 } }
-        ensures reply { result ≡ (delayed self.old.scenario self.old.state w cpu ticks (pending_at self.old.state w)).1 }
+        ensures state { self.new ≡ record self.old { state = (performed self.old.scenario self.old.state (instr.Delay w cpu ticks)).0 } }
+        ensures answer { result ≡ (performed self.old.scenario self.old.state (instr.Delay w cpu ticks)).1 }
     {
-        if self.pending_of(w).is_some() {
-            return Reply::Already;
+        if self.is_disabled(w) {
+            return Err(Refusal::Disabled);
         }
-        self.place_after(w, cpu, ticks);
-        Reply::Queued
+        if self.pending_of(w.0 as usize).is_some() {
+            return Ok(Reply::Already);
+        }
+        self.place_after(w.0 as usize, cpu, ticks);
+        Ok(Reply::Queued)
     }
 
     /// The same, but a pending work is taken off first.
-    fn modify(&mut self, w: usize, cpu: u8, ticks: u32) -> Reply
-        requires work { w < length self.old.scenario.works }
+    fn modify(&mut self, w: WorkId, cpu: u8, ticks: u32) -> Result<Reply, Refusal>
+        requires work { w.0 < length self.old.scenario.works }
         requires cpu { cpu < self.old.scenario.cpus }
         requires time { self.old.state.time < 2 ^ 60 }
         requires stamps { self.old.state.next < 2 ^ 60 }
-        ensures state { self.new ≡ record self.old { state = (modified self.old.scenario self.old.state w cpu ticks (pending_at self.old.state w)).0 } }
-        ensures reply { result ≡ (modified self.old.scenario self.old.state w cpu ticks (pending_at self.old.state w)).1 }
+        ensures state { self.new ≡ record self.old { state = (performed self.old.scenario self.old.state (instr.Mod w cpu ticks)).0 } }
+        ensures answer { result ≡ (performed self.old.scenario self.old.state (instr.Mod w cpu ticks)).1 }
     {
-        if self.pending_of(w).is_none() {
-            self.place_after(w, cpu, ticks);
-            return Reply::Queued;
+        if self.is_disabled(w) {
+            return Err(Refusal::Disabled);
         }
-        self.take_off(w);
-        self.place_after(w, cpu, ticks);
-        Reply::Changed
+        if self.pending_of(w.0 as usize).is_none() {
+            self.place_after(w.0 as usize, cpu, ticks);
+            return Ok(Reply::Queued);
+        }
+        self.take_off(w.0 as usize);
+        self.place_after(w.0 as usize, cpu, ticks);
+        Ok(Reply::Changed)
     }
 
     /// Takes a pending work off.
-    fn cancel(&mut self, w: usize) -> Reply
+    pub(crate) fn cancel(&mut self, w: usize) -> Reply
         requires work { w < length self.old.scenario.works }
         requires stamps { self.old.state.next < 2 ^ 60 }
         ensures state { self.new ≡ record self.old { state = (cancelled self.old.scenario self.old.state w (pending_at self.old.state w)).0 } }

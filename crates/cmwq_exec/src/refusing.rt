@@ -44,7 +44,9 @@ impl<P: Parts> Going<P> {
             | Instr::CancelSync(w)
             | Instr::Flush(w)
             | Instr::FlushDelayed(w)
-            | Instr::State(w) => no_work(scenario, w),
+            | Instr::State(w)
+            | Instr::Disable(w)
+            | Instr::Enable(w) => no_work(scenario, w),
             Instr::FlushQueue(q) if q.0 as usize >= scenario.queues.len() => {
                 Some(Refusal::NoSuchQueue)
             }

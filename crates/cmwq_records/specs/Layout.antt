@@ -8,11 +8,12 @@ use Rattle.cmwq_table.specs.declared.state.Pending.{Pending}
 use Rattle.cmwq_table.specs.declared.state.Running.{Running}
 
 -- one entry for each queue, work, worker of a pool and pool, and room for each flush that can be given
-pub record IsLaidOut (S : ScenarioContents) (max : List ℕ) (pending : List (Option Pending)) (running : List (Option Running)) (idle : List (Option ℕ)) (made : List ℕ) (room : ℕ) : Type 0 where
+pub record IsLaidOut (S : ScenarioContents) (max : List ℕ) (pending : List (Option Pending)) (running : List (Option Running)) (depth : List ℕ) (idle : List (Option ℕ)) (made : List ℕ) (room : ℕ) : Type 0 where
   pub setting : IsSetting S
   pub max_long : length max ≡ length S.queues
   pub pending_long : length pending ≡ length S.works
   pub running_long : length running ≡ length S.works
+  pub depth_long : length depth ≡ length S.works
   pub idle_long : length idle ≡ MAX_WORKERS * pool_count S
   pub made_long : length made ≡ pool_count S
   pub flush_room : S.flushes ≤ room

@@ -30,6 +30,7 @@ pub struct Records {
     max: Vec<u16>,
     pending: Vec<Option<Pending>>,
     running: Vec<Option<Running>>,
+    depth: Vec<u16>,
     idle: Vec<Option<u64>>,
     made: Vec<u8>,
     flushes: Vec<FlushTarget>,
@@ -52,13 +53,14 @@ impl Model for Records {
         max = r.max.items;
         pending = r.pending.items;
         running = r.running.items;
+        depth = r.depth.items;
         idle = r.idle.items;
         made = r.made.items;
         flushes = r.flushes.items;
       };
     } };
 
-    ghost invariant = { λ r. IsLaidOut r.scenario.value r.max.items r.pending.items r.running.items r.idle.items r.made.items (vec_capacity r.flushes) };
+    ghost invariant = { λ r. IsLaidOut r.scenario.value r.max.items r.pending.items r.running.items r.depth.items r.idle.items r.made.items (vec_capacity r.flushes) };
 }
 
 impl Parts for Records {
@@ -70,6 +72,7 @@ impl Parts for Records {
         let max = declared_max(alloc, &scenario.queues)?;
         let pending = filled(alloc, None, works)?;
         let running = filled(alloc, None, works)?;
+        let depth = filled(alloc, 0, works)?;
         let idle = filled(alloc, None, MAX_WORKERS as usize * pools)?;
         let made = filled(alloc, 0, pools)?;
         let flushes = Vec::with_capacity(alloc, scenario.flushes as usize)?;
@@ -82,6 +85,7 @@ impl Parts for Records {
             max,
             pending,
             running,
+            depth,
             idle,
             made,
             flushes,
@@ -94,6 +98,7 @@ impl Parts for Records {
         let max = Vec::from_slice(alloc, &self.max)?;
         let pending = Vec::from_slice(alloc, &self.pending)?;
         let running = Vec::from_slice(alloc, &self.running)?;
+        let depth = Vec::from_slice(alloc, &self.depth)?;
         let idle = Vec::from_slice(alloc, &self.idle)?;
         let made = Vec::from_slice(alloc, &self.made)?;
         let mut flushes = Vec::with_capacity(alloc, self.scenario.flushes as usize)?;
@@ -107,6 +112,7 @@ impl Parts for Records {
             max,
             pending,
             running,
+            depth,
             idle,
             made,
             flushes,
@@ -118,6 +124,7 @@ impl Parts for Records {
         let max = Vec::from_slice(alloc, &self.max)?;
         let pending = entries(alloc, &self.pending)?;
         let running = entries(alloc, &self.running)?;
+        let depth = Vec::from_slice(alloc, &self.depth)?;
         let idle = idle_workers(alloc, &self.idle)?;
         let made = Vec::from_slice(alloc, &self.made)?;
         let flushes = Vec::from_slice(alloc, &self.flushes)?;
@@ -129,6 +136,7 @@ impl Parts for Records {
             max,
             pending,
             running,
+            depth,
             idle,
             made,
             flushes,
@@ -172,6 +180,10 @@ impl Parts for Records {
 
     fn running_of(&self, w: usize) -> Option<Running> {
         self.running.get(w).copied().unwrap_or(None)
+    }
+
+    fn depth_of(&self, w: usize) -> u16 {
+        self.depth.get(w).copied().unwrap_or(0)
     }
 
     fn has_room(&self, queue: u8, pool: u8) -> bool {
@@ -297,6 +309,10 @@ impl Parts for Records {
         let unbound = 2 * self.scenario.cpus;
         burn(&mut self.running, &heads, unbound);
         self.time += 1;
+    }
+
+    fn set_depth(&mut self, w: usize, depth: u16) {
+        self.depth[w] = depth;
     }
 
     fn set_max(&mut self, queue: u8, max: u16) {
