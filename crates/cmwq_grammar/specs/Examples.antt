@@ -77,6 +77,14 @@ itself_lines =
 abbrev pub queues_itself : ScenarioContents
 queues_itself = one_work (actor_t itself_lines)
 
+-- that text up to the actor's name, and then these lines
+abbrev pub in_actor_t : List (List ℕ) → List ℕ
+in_actor_t lines = text (take 10 queues_itself_lines ++ lines)
+
+abbrev pub disabling_lines : List Line
+disabling_lines =
+    record { instr = instr.Disable (record { 0 = 0 }); times = 2 } ∷ record { instr = instr.Enable (record { 0 = 0 }); times = 1 } ∷ []
+
 -- that text cut after n lines
 abbrev pub cut_after : ℕ → List ℕ
 cut_after n = text (take n queues_itself_lines)

@@ -78,6 +78,8 @@ operands_of mnemonic.Next = Makes instr.Next
 operands_of mnemonic.Ask = of_number 65535 instr.Ask
 operands_of mnemonic.Busy = Makes instr.Busy
 operands_of mnemonic.State = of_work instr.State
+operands_of mnemonic.Disable = of_work instr.Disable
+operands_of mnemonic.Enable = of_work instr.Enable
 
 -- the words that other lines begin with; an operation and a queue's line begin with an instruction's word, `queue`
 abbrev pub other_words : List (List ℕ)

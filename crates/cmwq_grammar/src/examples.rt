@@ -1,5 +1,5 @@
 //! Short texts, as theorems over the definitions: what reading them gives.
-ghost use Rattle.cmwq_grammar.specs.Examples.{AfterBodyIs, DeclaredIs, FaultIs, FirstLineIs, InActorIs, InBodyIs, ReadsAs, sixteen_actor_lines, actor_t, after_head, cut_after, free_head, head_lines, itself_lines, long_body, nothing, one_work, queue_alone, queue_q, queues_itself, sixteen_actors, text, with_bad_byte};
+ghost use Rattle.cmwq_grammar.specs.Examples.{AfterBodyIs, DeclaredIs, FaultIs, FirstLineIs, InActorIs, InBodyIs, ReadsAs, sixteen_actor_lines, actor_t, after_head, cut_after, disabling_lines, free_head, head_lines, in_actor_t, itself_lines, long_body, nothing, one_work, queue_alone, queue_q, queues_itself, sixteen_actors, text, with_bad_byte};
 ghost use Rattle.cmwq_types.specs.Listing.{listing};
 ghost use Rattle.std.specs.Prelude.{◌≡◌, ◌∷◌, ◌++◌, [], codes, take};
 
@@ -55,6 +55,11 @@ pub fn cut_listing_ends_well_or_not()
     ensures cut_12 { ReadsAs (cut_after 12) (one_work (actor_t (take 2 itself_lines))) }
 {}
 
+/// A work is disabled and enabled by its name, as often as the line says.
+pub fn disable_and_enable_are_read()
+    ensures { ReadsAs (in_actor_t (codes "disable a * 2" ∷ codes "enable a" ∷ [])) (one_work (actor_t disabling_lines)) }
+{}
+
 /// A byte that isn't UTF-8 is the first fault of its line.
 pub fn bad_byte_is_the_first_fault_of_its_line()
     ensures { FaultIs with_bad_byte 8 Why.BadUtf8 }
@@ -102,7 +107,8 @@ pub fn reasons_in_bodies()
     ensures actor { InBodyIs (codes "actor t") (Why.Fault Fault.BadBody) }
     ensures body { InBodyIs (codes "body b") (Why.Fault Fault.BadBody) }
     ensures no_operation { InBodyIs (codes "freeze") Why.Misplaced }
-    ensures no_word { InBodyIs (codes "disable a") Why.BadWord }
+    ensures disable { InBodyIs (codes "disable a") Why.Misplaced }
+    ensures no_word { InBodyIs (codes "meet a") Why.BadWord }
     ensures no_ticks { InBodyIs (codes "burn 0") (Why.Fault Fault.Range) }
     ensures too_many_ticks { InBodyIs (codes "sleep 1000001") (Why.Fault Fault.Range) }
     ensures unknown { InBodyIs (codes "queue c 0") (Why.Fault Fault.Unknown) }
@@ -127,6 +133,8 @@ pub fn reasons_in_actors()
     ensures no_instruction { InActorIs (codes "burn 1") Why.Misplaced }
     ensures body { InActorIs (codes "body a") Why.Misplaced }
     ensures unknown { InActorIs (codes "cancel b") (Why.Fault Fault.Unknown) }
+    ensures disable { InActorIs (codes "disable") Why.MissingWord }
+    ensures enable { InActorIs (codes "enable b") (Why.Fault Fault.Unknown) }
     ensures unknown_queue { InActorIs (codes "flush_queue a") (Why.Fault Fault.Unknown) }
     ensures cpu { InActorIs (codes "queue a 256") (Why.Fault Fault.Range) }
     ensures ticks { InActorIs (codes "delay a 255 4294967296") (Why.Fault Fault.Range) }

@@ -16,6 +16,7 @@ use Rattle.cmwq_image.specs.Image.{number, name_field}
 use Rattle.cmwq_image.specs.ImageFault.{Reader, ◌>>=◌, done, many, read_number, if_within, read_version, read_name, name_of}
 use Rattle.cmwq_image.specs.Limits.{AreBytes}
 use Rattle.cmwq_image.specs.declared.error.ImageError.TheVariants as errors
+use Rattle.cmwq_image.specs.declared.version.TheConstants.{FIRST_VERSION, VERSION}
 use Rattle.cmwq_image.proofs.Codec.{Codec, Meaning, of_field, bad_field, bad_version, convert, nothing, one_then}
 
 -- ---- numbers
@@ -94,10 +95,10 @@ numbers width limit low high wide some below =
     of_field errors.BadField bad_field (byte_len width) (λ bytes. if_within low high (from_be_bytes width bytes)) (number width) (InRange low high)
     (number_meaning width limit low high wide some below)
 
-pub versions : Codec read_version (number w16) (InRange 1 1)
+pub versions : Codec read_version (number w16) (InRange FIRST_VERSION VERSION)
 versions =
-    of_field (λ at. errors.Version) bad_version 2 (λ bytes. if_within 1 1 (from_be_bytes w16 bytes)) (number w16) (InRange 1 1)
-    (number_meaning w16 65536 1 1 wide16 (omega arith) (omega arith))
+    of_field (λ at. errors.Version) bad_version 2 (λ bytes. if_within FIRST_VERSION VERSION (from_be_bytes w16 bytes)) (number w16) (InRange FIRST_VERSION VERSION)
+    (number_meaning w16 65536 FIRST_VERSION VERSION wide16 (omega arith) (omega arith))
 
 -- ---- names
 

@@ -1,5 +1,5 @@
 -- How far a reader looks: what stands behind the longest image makes no difference to what is read.
-use Rattle.std.proofs.Common.{◌≡◌, ℕ, zero, suc, ◌+◌, ◌*◌, ◌<◌, ◌≤◌, inl, inr, Bool, true, false, cond, eqb, List, [], ◌∷◌, ◌++◌, length, take, drop, Option, Some, None, Result, Ok, Err, refl, sym, ap, subst, ◌∙◌, arith}
+use Rattle.std.proofs.Common.{◌≡◌, ℕ, zero, suc, ◌+◌, ◌*◌, ◌<◌, ◌≤◌, ◌⊎◌, inl, inr, Bool, true, false, cond, eqb, List, [], ◌∷◌, ◌++◌, length, take, drop, Option, Some, None, Result, Ok, Err, refl, sym, ap, subst, ◌∙◌, arith}
 use Rattle.std.proofs.Math.Nat.{suc-mul}
 use Rattle.std.proofs.lemmas.Bool.{cases_lt, eqb-true}
 use Rattle.std.proofs.lemmas.List.{length-append, length-drop, length-take-le, take_all, take-append-drop, take-append-le, drop-append-le}
@@ -7,18 +7,20 @@ use Rattle.std.specs.Int.{Width, w8, w16, w32, byte_len, from_be_bytes}
 use Rattle.std.specs.Str.{bytes_eq}
 use Rattle.cmwq_types.specs.Contents.{ScenarioContents}
 use Rattle.cmwq_types.specs.Faults.{first_fault, IsValid}
-use Rattle.cmwq_image.specs.Image.{image, magic}
-use Rattle.cmwq_image.specs.ImageFault.{Place, Reader, ◌>>=◌, hand_on, done, many, field, accepted, behind, if_within, read_number, read_version, read_name, name_of, read_queue, read_op_tag, op_tag_of, op_room, read_op, read_instr_tag, instr_tag_of, instr_room, read_instr, read_work, read_line, read_actor, read_head, scenario_at, judged, unless_faulty, from_there, reading}
+use Rattle.cmwq_image.specs.Image.{magic}
+use Rattle.cmwq_image.specs.ImageFault.{Place, Reader, ◌>>=◌, hand_on, done, many, field, accepted, behind, if_within, read_number, read_version, read_name, name_of, read_queue, read_op_tag, op_tag_of, op_room, read_op, read_instr_tag, instr_tag_in, instr_room, read_instr, read_work, read_line, read_actor, read_head, scenario_at, judged, unless_faulty, from_there, reading}
 use Rattle.cmwq_image.specs.Limits.{HasSize}
+use Rattle.cmwq_image.specs.Versions.{IsImageOf}
 use Rattle.cmwq_types.specs.Values.{IsScenario}
 use Rattle.cmwq_image.specs.declared.error.ImageError.{ImageError}
 use Rattle.cmwq_image.specs.declared.error.ImageError.TheVariants as errors
 use Rattle.cmwq_image.specs.declared.head.Head.{Head}
+use Rattle.cmwq_image.specs.declared.version.TheConstants.{FIRST_VERSION, VERSION}
 use Rattle.cmwq_image.proofs.Codec.{place, open_field}
 use Rattle.cmwq_image.proofs.FieldCodecs.{InRange, within_is}
-use Rattle.cmwq_image.proofs.ReadingLemmas.{whole_image}
+use Rattle.cmwq_image.proofs.ReadingLemmas.{image_read}
 use Rattle.cmwq_image.proofs.SizeLemmas.{sized}
-use Rattle.cmwq_image.proofs.WholeCodecs.{rest_image}
+use Rattle.cmwq_image.proofs.WholeCodecs.{Versioned, rest_image, versioned}
 
 -- what was given of these bytes: as much is given where more stand behind them, and no more than so many are gone
 abbrev pub Gave : {A : Type 0} → Reader A → ℕ → (A → Type 0) → ℕ → (front more : List ℕ) → Result (A × Place) ImageError → Type 0
@@ -121,7 +123,7 @@ near_number width low high =
 -- each kind of field, and what follows it
 version_then : {B : Type 0} {Goal : B → Type 0} (next : ℕ → Reader B) (rest : ℕ) → ((n : ℕ) → Near (next n) rest Goal) → Near (read_version >>= next) (2 + rest) Goal
 version_then {Goal} next rest others =
-    near_then read_version next 2 rest Any Goal (near_field (λ at. errors.Version) 2 (λ bytes. if_within 1 1 (from_be_bytes w16 bytes)) Any (λ bytes x e. tt)) (λ n fits. others n)
+    near_then read_version next 2 rest Any Goal (near_field (λ at. errors.Version) 2 (λ bytes. if_within FIRST_VERSION VERSION (from_be_bytes w16 bytes)) Any (λ bytes x e. tt)) (λ n fits. others n)
 
 byte_then : {B : Type 0} {Goal : B → Type 0} (low high : ℕ) (next : ℕ → Reader B) (rest : ℕ) → ((n : ℕ) → InRange low high n → Near (next n) rest Goal)
     → Near (read_number w8 low high >>= next) (1 + rest) Goal
@@ -156,10 +158,10 @@ near_op =
     near_then read_op_tag _ 1 7 Any Any (near_field errors.BadField 1 (λ bytes. op_tag_of (from_be_bytes w8 bytes)) Any (λ bytes x e. tt))
     (λ tag fits. byte_then 0 (op_room tag).cpu _ 6 (λ cpu c. short_then 0 (op_room tag).a _ 4 (λ a b. long_then 0 (op_room tag).n _ 0 (λ n m. near_done _ Any tt))))
 
-near_instr : Near read_instr 8 Any
+near_instr : (version : ℕ) → Near (read_instr version) 8 Any
 unfolding read_instr
-near_instr =
-    near_then read_instr_tag _ 1 7 Any Any (near_field errors.BadField 1 (λ bytes. instr_tag_of (from_be_bytes w8 bytes)) Any (λ bytes x e. tt))
+near_instr version =
+    near_then (read_instr_tag version) _ 1 7 Any Any (near_field errors.BadField 1 (λ bytes. instr_tag_in version (from_be_bytes w8 bytes)) Any (λ bytes x e. tt))
     (λ tag fits. byte_then 0 (instr_room tag).cpu _ 6 (λ cpu c. short_then 0 (instr_room tag).a _ 4 (λ a b. long_then 0 (instr_room tag).n _ 0 (λ n m. near_done _ Any tt))))
 
 -- a name, two bytes, and at most 64 operations of 8 bytes
@@ -169,16 +171,16 @@ near_work =
     name_then _ 514 (λ name. byte_then 0 255 _ 513 (λ queue q. byte_then 1 64 _ 512 (λ count few.
     wider _ (count * 8 + 0) 512 Any (omega (arith, few.1)) (many_then read_op 8 near_op count _ 0 (λ body. near_done _ Any tt)))))
 
-near_line : Near read_line 12 Any
+near_line : (version : ℕ) → Near (read_line version) 12 Any
 unfolding read_line
-near_line = near_then read_instr _ 8 4 Any Any near_instr (λ instr fits. long_then 0 4294967295 _ 0 (λ times t. near_done _ Any tt))
+near_line version = near_then (read_instr version) _ 8 4 Any Any (near_instr version) (λ instr fits. long_then 0 4294967295 _ 0 (λ times t. near_done _ Any tt))
 
 -- a name, two bytes, and at most 4096 lines of 12 bytes
-near_actor : Near read_actor 49170 Any
+near_actor : (version : ℕ) → Near (read_actor version) 49170 Any
 unfolding read_actor
-near_actor =
+near_actor version =
     name_then _ 49154 (λ name. short_then 0 4096 _ 49152 (λ count few.
-    wider _ (count * 12 + 0) 49152 Any (omega (arith, few.1)) (many_then read_line 12 near_line count _ 0 (λ lines. near_done _ Any tt))))
+    wider _ (count * 12 + 0) 49152 Any (omega (arith, few.1)) (many_then (read_line version) 12 (near_line version) count _ 0 (λ lines. near_done _ Any tt))))
 
 -- ---- the whole
 
@@ -186,23 +188,23 @@ near_actor =
 abbrev FewParts : Head → Type 0
 FewParts head = (head.queues ≤ 32) × (head.works ≤ 256) × (head.actors ≤ 16)
 
-near_head : Near read_head 14 FewParts
+near_head : Near read_head 12 FewParts
 unfolding read_head
 near_head =
-    version_then _ 12 (λ version. byte_then 0 255 _ 11 (λ cpus c. byte_then 0 255 _ 10 (λ workers w. long_then 0 4294967295 _ 6 (λ steps s. short_then 0 65535 _ 4 (λ flushes f.
+    byte_then 0 255 _ 11 (λ cpus c. byte_then 0 255 _ 10 (λ workers w. long_then 0 4294967295 _ 6 (λ steps s. short_then 0 65535 _ 4 (λ flushes f.
     byte_then 0 32 _ 3 (λ queues few_queues. short_then 0 256 _ 1 (λ works few_works. byte_then 0 16 _ 0 (λ actors few_actors.
-    near_done _ FewParts (few_queues.1, few_works.1, few_actors.1)))))))))
+    near_done _ FewParts (few_queues.1, few_works.1, few_actors.1))))))))
 
--- 14 + 32 * 20 + 256 * 530 + 16 * 49170 bytes
+-- 2 + 12 + 32 * 20 + 256 * 530 + 16 * 49170 bytes
 near_scenario : Near scenario_at 923054 Any
 unfolding scenario_at
 near_scenario =
-    near_then read_head _ 14 923040 FewParts Any near_head
+    version_then _ 923052 (λ version. near_then read_head _ 12 923040 FewParts Any near_head
     (λ head few.
     wider _ (head.queues * 20 + (head.works * 530 + (head.actors * 49170 + 0))) 923040 Any (omega (arith, few.0, few.1, few.2))
     (many_then read_queue 20 near_queue head.queues _ (head.works * 530 + (head.actors * 49170 + 0)) (λ queues.
     many_then read_work 530 near_work head.works _ (head.actors * 49170 + 0) (λ works.
-    many_then read_actor 49170 near_actor head.actors _ 0 (λ actors. near_done _ Any tt)))))
+    many_then (read_actor version) 49170 (near_actor version) head.actors _ 0 (λ actors. near_done _ Any tt))))))
 
 -- a byte that is left is the fault Extra
 left_over : (S : ScenarioContents) (at : ℕ) (rest : List ℕ) → 0 < length rest → judged (done S (place at rest)) ≡ Err errors.Extra
@@ -248,15 +250,21 @@ far_bytes n bytes far =
     ]
 
 -- the image of a scenario is read up to its end
-pub image_size : (S : ScenarioContents) → IsScenario S → HasSize S → length (image S) ≤ 923058
-image_size S contents sizes =
-    elim (cases_lt 923054 (length (rest_image S))) [
-      | inl longer ↦
-          let read = whole_image S (record { contents = contents; sized = sizes }) in
-          let gave = subst (Gave scenario_at 923054 Any 4 (rest_image S) []) read (near_scenario.same 4 (rest_image S) [] (omega (arith, longer))) in
-          absurd (omega (arith, longer, gave.1))
-      | inr short ↦ omega (arith, short, length-append magic (rest_image S))
-    ]
+pub image_size : (bytes : List ℕ) (S : ScenarioContents) → IsScenario S → HasSize S → IsImageOf bytes S → length bytes ≤ 923058
+image_size bytes S contents sizes is = at_most (cases_lt 923054 (length (rest_image p)))
+  where
+    p : Versioned
+    p = versioned is.version S
 
-pub valid_image_size : (S : ScenarioContents) → IsScenario S → IsValid S → length (image S) ≤ 923058
-valid_image_size S contents valid = image_size S contents (sized S valid)
+    whole : length bytes ≡ length (magic ++ rest_image p)
+    whole = ap length is.written
+
+    at_most : (923054 < length (rest_image p)) ⊎ (length (rest_image p) ≤ 923054) → length bytes ≤ 923058
+    at_most (inl longer) =
+        let read = image_read p (record { contents = contents; sized = sizes; has = is.has }) in
+        let gave = subst (Gave scenario_at 923054 Any 4 (rest_image p) []) read (near_scenario.same 4 (rest_image p) [] (omega (arith, longer))) in
+        absurd (omega (arith, longer, gave.1))
+    at_most (inr short) = omega (arith, short, whole, length-append magic (rest_image p))
+
+pub valid_image_size : (bytes : List ℕ) (S : ScenarioContents) → IsScenario S → IsValid S → IsImageOf bytes S → length bytes ≤ 923058
+valid_image_size bytes S contents valid is = image_size bytes S contents (sized S valid) is

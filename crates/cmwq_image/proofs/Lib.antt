@@ -3,6 +3,7 @@ pub mod FieldCodecs
 pub mod LoopLemmas
 pub mod NameLemmas
 pub mod SizeLemmas
+pub mod VersionLemmas
 pub mod WordCodecs
 pub mod PartCodecs
 pub mod WholeCodecs

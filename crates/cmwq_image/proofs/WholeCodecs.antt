@@ -1,5 +1,6 @@
 -- Works, actors and the whole: what is read of each is what is written.
-use Rattle.std.proofs.Common.{◌≡◌, ℕ, ◌≤◌, List, [], ◌∷◌, ◌++◌, length, refl, sym, ap, subst, ◌∙◌, arith}
+use Rattle.std.proofs.Common.{◌≡◌, ℕ, ◌≤◌, List, [], ◌∷◌, ◌++◌, length, Result, Ok, Err, refl, sym, ap, subst, ◌∙◌, arith}
+use Rattle.std.proofs.lemmas.List.{append-nil}
 use Rattle.std.specs.Int.{w8, w16, w32}
 use Rattle.std.specs.List.{flat_map, AllByRecursion}
 use Rattle.std.specs.Prelude.{IsTrue}
@@ -10,14 +11,18 @@ use Rattle.cmwq_types.specs.declared.scenario.Line.{Line}
 use Rattle.cmwq_types.specs.declared.scenario.Op.{Op}
 use Rattle.cmwq_types.specs.declared.scenario.QueueDecl.{QueueDecl}
 use Rattle.cmwq_image.specs.Image.{in_order, number, name_field, queue_image, op_image, work_image, word_image, instr_word, line_image, actor_image, image, magic}
-use Rattle.cmwq_image.specs.ImageFault.{◌>>=◌, done, many, read_number, read_byte, read_short, read_long, read_version, read_name, read_queue, read_op, read_work, read_instr, read_line, read_actor, read_head, scenario_at}
+use Rattle.cmwq_image.specs.ImageFault.{Place, Reader, ◌>>=◌, hand_on, done, many, read_number, read_byte, read_short, read_long, read_version, read_name, read_queue, read_op, read_work, read_instr, read_line, read_actor, read_head, scenario_at}
 use Rattle.cmwq_image.specs.Limits.{HasBodySize, HasLinesSize, HasSize}
-use Rattle.cmwq_types.specs.Values.{IsQueueDecl, IsOp, IsWorkDecl, IsInstr, IsLine, IsActor, IsScenario}
+use Rattle.cmwq_image.specs.Versions.{IsLineOf, AreLinesOf, HasVersion}
+use Rattle.cmwq_types.specs.Values.{IsQueueDecl, IsOp, IsWorkDecl, IsLine, IsActor, IsScenario}
+use Rattle.cmwq_image.specs.declared.error.ImageError.{ImageError}
 use Rattle.cmwq_image.specs.declared.head.Head.{Head}
+use Rattle.cmwq_image.specs.declared.version.TheConstants.{FIRST_VERSION, VERSION}
 use Rattle.cmwq_image.proofs.Codec.{Codec, nothing, one_then}
 use Rattle.cmwq_image.proofs.FieldCodecs.{InRange, Each, names, versions, many_of}
 use Rattle.cmwq_image.proofs.PartCodecs.{bytes_of, shorts, longs, queues}
-use Rattle.cmwq_image.proofs.WordCodecs.{ops, instrs}
+use Rattle.cmwq_image.proofs.VersionLemmas.{all_are, both_all}
+use Rattle.cmwq_image.proofs.WordCodecs.{InstrFits, ops, instrs}
 
 -- ---- works
 
@@ -100,55 +105,69 @@ lines_times instr =
       written = λ l h. refl;
     })
 
-pub lines : Codec read_line line_image IsLine
+abbrev LineFits : ℕ → Line → Type 0
+LineFits version l = IsLine l × IsLineOf version l
+
+pub lines : (version : ℕ) → Codec (read_line version) line_image (LineFits version)
 unfolding read_line
-lines =
-    one_then read_instr (λ instr. read_long >>= λ times. done (line_with instr times)) (λ l. l.instr) (λ i. word_image (instr_word i)) IsInstr
-    (λ l. in_order (number w32 l.times ∷ [])) (λ instr l. (l.instr ≡ instr) × (l.times ≤ 4294967295)) line_image IsLine
-    instrs (λ instr fits. lines_times instr) (record {
-      join = λ instr l fits h. (h.0, record { instr = subst IsInstr (sym h.0) fits; times = omega (arith, h.1) });
-      cut = λ l h. (h.instr, (refl, omega (arith, h.times)));
+lines version =
+    one_then (read_instr version) (λ instr. read_long >>= λ times. done (line_with instr times)) (λ l. l.instr) (λ i. word_image (instr_word i)) (InstrFits version)
+    (λ l. in_order (number w32 l.times ∷ [])) (λ instr l. (l.instr ≡ instr) × (l.times ≤ 4294967295)) line_image (LineFits version)
+    (instrs version) (λ instr fits. lines_times instr) (record {
+      join = λ instr l fits h.
+          let known : InstrFits version l.instr = subst (InstrFits version) (sym h.0) fits in
+          (h.0, (record { instr = known.0; times = omega (arith, h.1) }, known.1));
+      cut = λ l h. ((h.0.instr, h.1), (refl, omega (arith, h.0.times)));
       written = λ l h. refl;
     })
 
 abbrev actor_with : List ℕ → List Line → ActorContents
 actor_with name lines = record { name = name; lines = lines }
 
-actors_lines : (name : List ℕ) (count : ℕ)
-    → Codec (many read_line count >>= λ lines. done (actor_with name lines)) (λ a. in_order (flat_map line_image a.lines ∷ [])) (λ a. (a.name ≡ name) × Each IsLine count a.lines)
-actors_lines name count =
-    one_then (many read_line count) (λ lines. done (actor_with name lines)) (λ a. a.lines) (flat_map line_image) (Each IsLine count)
-    (λ a. []) (λ lines a. a ≡ actor_with name lines) (λ a. in_order (flat_map line_image a.lines ∷ [])) (λ a. (a.name ≡ name) × Each IsLine count a.lines)
-    (many_of read_line line_image IsLine lines count) (λ lines fits. nothing (actor_with name lines)) (record {
+abbrev ActorFits : ℕ → ActorContents → Type 0
+ActorFits version a = IsActor a × (HasLinesSize a × AllByRecursion (IsLineOf version) a.lines)
+
+actors_lines : (version : ℕ) (name : List ℕ) (count : ℕ)
+    → Codec (many (read_line version) count >>= λ lines. done (actor_with name lines)) (λ a. in_order (flat_map line_image a.lines ∷ [])) (λ a. (a.name ≡ name) × Each (LineFits version) count a.lines)
+actors_lines version name count =
+    one_then (many (read_line version) count) (λ lines. done (actor_with name lines)) (λ a. a.lines) (flat_map line_image) (Each (LineFits version) count)
+    (λ a. []) (λ lines a. a ≡ actor_with name lines) (λ a. in_order (flat_map line_image a.lines ∷ [])) (λ a. (a.name ≡ name) × Each (LineFits version) count a.lines)
+    (many_of (read_line version) line_image (LineFits version) (lines version) count) (λ lines fits. nothing (actor_with name lines)) (record {
       join = λ lines a fits e.
           let lines_are : a.lines ≡ lines = ap (λ (x : ActorContents). x.lines) e in
-          (lines_are, (ap (λ (x : ActorContents). x.name) e, subst (Each IsLine count) (sym lines_are) fits));
+          (lines_are, (ap (λ (x : ActorContents). x.name) e, subst (Each (LineFits version) count) (sym lines_are) fits));
       cut = λ a h. (h.1, ap (λ (x : List ℕ). actor_with x a.lines) h.0);
       written = λ a h. refl;
     })
 
-actors_count : (name : List ℕ)
-    → Codec (read_number w16 0 4096 >>= λ count. many read_line count >>= λ lines. done (actor_with name lines)) (λ a. in_order (number w16 (length a.lines) ∷ flat_map line_image a.lines ∷ []))
-    (λ a. (a.name ≡ name) × HasLinesSize a × AllByRecursion IsLine a.lines)
-actors_count name =
-    one_then (read_number w16 0 4096) (λ count. many read_line count >>= λ lines. done (actor_with name lines)) (λ a. length a.lines) (number w16) (InRange 0 4096)
-    (λ a. in_order (flat_map line_image a.lines ∷ [])) (λ count a. (a.name ≡ name) × Each IsLine count a.lines)
-    (λ a. in_order (number w16 (length a.lines) ∷ flat_map line_image a.lines ∷ [])) (λ a. (a.name ≡ name) × HasLinesSize a × AllByRecursion IsLine a.lines)
-    (shorts 0 4096 (omega arith) (omega arith)) (λ count fits. actors_lines name count) (record {
+actors_count : (version : ℕ) (name : List ℕ)
+    → Codec (read_number w16 0 4096 >>= λ count. many (read_line version) count >>= λ lines. done (actor_with name lines)) (λ a. in_order (number w16 (length a.lines) ∷ flat_map line_image a.lines ∷ []))
+    (λ a. (a.name ≡ name) × HasLinesSize a × AllByRecursion (LineFits version) a.lines)
+actors_count version name =
+    one_then (read_number w16 0 4096) (λ count. many (read_line version) count >>= λ lines. done (actor_with name lines)) (λ a. length a.lines) (number w16) (InRange 0 4096)
+    (λ a. in_order (flat_map line_image a.lines ∷ [])) (λ count a. (a.name ≡ name) × Each (LineFits version) count a.lines)
+    (λ a. in_order (number w16 (length a.lines) ∷ flat_map line_image a.lines ∷ [])) (λ a. (a.name ≡ name) × HasLinesSize a × AllByRecursion (LineFits version) a.lines)
+    (shorts 0 4096 (omega arith) (omega arith)) (λ count fits. actors_lines version name count) (record {
       join = λ count a fits h. (h.1.0, (h.0, omega (arith, h.1.0, fits.1), h.1.1));
       cut = λ a h. ((omega arith, h.1), (h.0, (refl, h.2)));
       written = λ a h. refl;
     })
 
-pub actors : Codec read_actor actor_image (λ a. IsActor a × HasLinesSize a)
+pub actors : (version : ℕ) → Codec (read_actor version) actor_image (ActorFits version)
 unfolding read_actor
-actors =
-    one_then read_name (λ name. read_number w16 0 4096 >>= λ count. many read_line count >>= λ lines. done (actor_with name lines)) (λ a. a.name) name_field (λ name. IsTrue (is_name name))
-    (λ a. in_order (number w16 (length a.lines) ∷ flat_map line_image a.lines ∷ [])) (λ name a. (a.name ≡ name) × HasLinesSize a × AllByRecursion IsLine a.lines)
-    actor_image (λ a. IsActor a × HasLinesSize a)
-    names (λ name fits. actors_count name) (record {
-      join = λ name a fits h. (h.0, (record { name = ap is_name h.0 ∙ fits; lines = h.2 }, h.1));
-      cut = λ a h. (h.0.name, (refl, h.1, h.0.lines));
+actors version =
+    one_then read_name (λ name. read_number w16 0 4096 >>= λ count. many (read_line version) count >>= λ lines. done (actor_with name lines)) (λ a. a.name) name_field (λ name. IsTrue (is_name name))
+    (λ a. in_order (number w16 (length a.lines) ∷ flat_map line_image a.lines ∷ [])) (λ name a. (a.name ≡ name) × HasLinesSize a × AllByRecursion (LineFits version) a.lines)
+    actor_image (ActorFits version)
+    names (λ name fits. actors_count version name) (record {
+      join = λ name a fits h. (
+        h.0,
+        (
+          record { name = ap is_name h.0 ∙ fits; lines = all_are (LineFits version) IsLine (λ l is. is.0) a.lines h.2 },
+          (h.1, all_are (LineFits version) (IsLineOf version) (λ l is. is.1) a.lines h.2),
+        ),
+      );
+      cut = λ a h. (h.0.name, (refl, h.1.0, both_all IsLine (IsLineOf version) a.lines h.0.lines h.1.1));
       written = λ a h. refl;
     })
 
@@ -243,48 +262,25 @@ heads_workers cpus =
       written = λ h i. refl;
     })
 
-heads_cpus : Codec (read_byte >>= λ cpus. read_byte >>= λ workers. read_long >>= λ steps. read_short >>= λ flushes. read_number w8 0 32 >>= λ queues. read_number w16 0 256 >>= λ works. read_number w8 0 16 >>= λ actors. done (head_with cpus workers steps flushes queues works actors))
-    (λ h. in_order (number w8 h.cpus ∷ number w8 h.workers ∷ number w32 h.steps ∷ number w16 h.flushes ∷ number w8 h.queues ∷ number w16 h.works ∷ number w8 h.actors ∷ [])) (λ h. (h.cpus ≤ 255) × (h.workers ≤ 255) × (h.steps ≤ 4294967295) × (h.flushes ≤ 65535) × (h.queues ≤ 32) × (h.works ≤ 256) × (h.actors ≤ 16))
-heads_cpus =
+abbrev HeadFits : Head → Type 0
+HeadFits h = (h.cpus ≤ 255) × (h.workers ≤ 255) × (h.steps ≤ 4294967295) × (h.flushes ≤ 65535) × (h.queues ≤ 32) × (h.works ≤ 256) × (h.actors ≤ 16)
+
+abbrev head_bytes : Head → List ℕ
+head_bytes h = in_order (number w8 h.cpus ∷ number w8 h.workers ∷ number w32 h.steps ∷ number w16 h.flushes ∷ number w8 h.queues ∷ number w16 h.works ∷ number w8 h.actors ∷ [])
+
+pub heads : Codec read_head head_bytes HeadFits
+unfolding read_head
+heads =
     one_then read_byte (λ cpus. read_byte >>= λ workers. read_long >>= λ steps. read_short >>= λ flushes. read_number w8 0 32 >>= λ queues. read_number w16 0 256 >>= λ works. read_number w8 0 16 >>= λ actors. done (head_with cpus workers steps flushes queues works actors)) (λ h. h.cpus) (number w8) (InRange 0 255)
     (λ h. in_order (number w8 h.workers ∷ number w32 h.steps ∷ number w16 h.flushes ∷ number w8 h.queues ∷ number w16 h.works ∷ number w8 h.actors ∷ [])) (λ cpus h. (h.cpus ≡ cpus) × (h.workers ≤ 255) × (h.steps ≤ 4294967295) × (h.flushes ≤ 65535) × (h.queues ≤ 32) × (h.works ≤ 256) × (h.actors ≤ 16))
-    (λ h. in_order (number w8 h.cpus ∷ number w8 h.workers ∷ number w32 h.steps ∷ number w16 h.flushes ∷ number w8 h.queues ∷ number w16 h.works ∷ number w8 h.actors ∷ [])) (λ h. (h.cpus ≤ 255) × (h.workers ≤ 255) × (h.steps ≤ 4294967295) × (h.flushes ≤ 65535) × (h.queues ≤ 32) × (h.works ≤ 256) × (h.actors ≤ 16))
+    head_bytes HeadFits
     (bytes_of 0 255 (omega arith) (omega arith)) (λ cpus fits. heads_workers cpus) (record {
       join = λ cpus h fits i. (i.0, (omega (arith, i.0, fits.1), i.1, i.2, i.3, i.4, i.5, i.6));
       cut = λ h i. ((omega arith, i.0), (refl, i.1, i.2, i.3, i.4, i.5, i.6));
       written = λ h i. refl;
     })
 
-abbrev HeadFits : Head → Type 0
-HeadFits h = (h.cpus ≤ 255) × (h.workers ≤ 255) × (h.steps ≤ 4294967295) × (h.flushes ≤ 65535) × (h.queues ≤ 32) × (h.works ≤ 256) × (h.actors ≤ 16)
-
-abbrev head_bytes : Head → List ℕ
-head_bytes h = in_order (number w16 1 ∷ number w8 h.cpus ∷ number w8 h.workers ∷ number w32 h.steps ∷ number w16 h.flushes ∷ number w8 h.queues ∷ number w16 h.works ∷ number w8 h.actors ∷ [])
-
-pub heads : Codec read_head head_bytes HeadFits
-unfolding read_head
-heads =
-    one_then read_version (λ version. read_byte >>= λ cpus. read_byte >>= λ workers. read_long >>= λ steps. read_short >>= λ flushes. read_number w8 0 32 >>= λ queues. read_number w16 0 256 >>= λ works. read_number w8 0 16 >>= λ actors. done (head_with cpus workers steps flushes queues works actors)) (λ h. 1) (number w16) (InRange 1 1)
-    (λ h. in_order (number w8 h.cpus ∷ number w8 h.workers ∷ number w32 h.steps ∷ number w16 h.flushes ∷ number w8 h.queues ∷ number w16 h.works ∷ number w8 h.actors ∷ [])) (λ version h. HeadFits h) head_bytes HeadFits
-    versions (λ version fits. heads_cpus) (record {
-      join = λ version h fits i. (omega (arith, fits.0, fits.1), i);
-      cut = λ h i. ((omega arith, omega arith), i);
-      written = λ h i. refl;
-    })
-
 -- ---- the whole
-
-both_all : {A : Type 0} (P Q : A → Type 0) (xs : List A) → AllByRecursion P xs → AllByRecursion Q xs → AllByRecursion (λ x. P x × Q x) xs
-both_all P Q [] p q = tt
-both_all P Q (x ∷ xs) p q = ((p.0, q.0), both_all P Q xs p.1 q.1)
-
-first_all : {A : Type 0} (P Q : A → Type 0) (xs : List A) → AllByRecursion (λ x. P x × Q x) xs → AllByRecursion P xs
-first_all P Q [] h = tt
-first_all P Q (x ∷ xs) h = (h.0.0, first_all P Q xs h.1)
-
-second_all : {A : Type 0} (P Q : A → Type 0) (xs : List A) → AllByRecursion (λ x. P x × Q x) xs → AllByRecursion Q xs
-second_all P Q [] h = tt
-second_all P Q (x ∷ xs) h = (h.0.1, second_all P Q xs h.1)
 
 abbrev head_of : ScenarioContents → Head
 head_of S = head_with S.cpus S.workers S.steps S.flushes (length S.queues) (length S.works) (length S.actors)
@@ -295,9 +291,6 @@ scenario_with head queues works actors =
 
 abbrev WorkFits : WorkContents → Type 0
 WorkFits w = IsWorkDecl w × HasBodySize w
-
-abbrev ActorFits : ActorContents → Type 0
-ActorFits a = IsActor a × HasLinesSize a
 
 abbrev with_numbers : (cpus workers steps flushes : ℕ) → List QueueDecl → List WorkContents → List ActorContents → ScenarioContents
 with_numbers cpus workers steps flushes queues works actors =
@@ -313,14 +306,14 @@ same_numbers a b c d a' b' c' d' queues works actors p q r s =
     ap (λ x. with_numbers x b c d queues works actors) p ∙ ap (λ x. with_numbers a' x c d queues works actors) q
     ∙ ap (λ x. with_numbers a' b' x d queues works actors) r ∙ ap (λ x. with_numbers a' b' c' x queues works actors) s
 
-scenarios_actors : (head : Head) (queues : List QueueDecl) (works : List WorkContents)
-    → Codec (many read_actor head.actors >>= λ actors. done (scenario_with head queues works actors)) (λ S. in_order (flat_map actor_image S.actors ∷ []))
-    (λ S. NumbersAre head S × (S.queues ≡ queues) × (S.works ≡ works) × Each ActorFits head.actors S.actors)
-scenarios_actors head queues works =
-    one_then (many read_actor head.actors) (λ actors. done (scenario_with head queues works actors)) (λ S. S.actors) (flat_map actor_image) (Each ActorFits head.actors)
+scenarios_actors : (version : ℕ) (head : Head) (queues : List QueueDecl) (works : List WorkContents)
+    → Codec (many (read_actor version) head.actors >>= λ actors. done (scenario_with head queues works actors)) (λ S. in_order (flat_map actor_image S.actors ∷ []))
+    (λ S. NumbersAre head S × (S.queues ≡ queues) × (S.works ≡ works) × Each (ActorFits version) head.actors S.actors)
+scenarios_actors version head queues works =
+    one_then (many (read_actor version) head.actors) (λ actors. done (scenario_with head queues works actors)) (λ S. S.actors) (flat_map actor_image) (Each (ActorFits version) head.actors)
     (λ S. []) (λ actors S. S ≡ scenario_with head queues works actors) (λ S. in_order (flat_map actor_image S.actors ∷ []))
-    (λ S. NumbersAre head S × (S.queues ≡ queues) × (S.works ≡ works) × Each ActorFits head.actors S.actors)
-    (many_of read_actor actor_image ActorFits actors head.actors) (λ actors fits. nothing (scenario_with head queues works actors)) (record {
+    (λ S. NumbersAre head S × (S.queues ≡ queues) × (S.works ≡ works) × Each (ActorFits version) head.actors S.actors)
+    (many_of (read_actor version) actor_image (ActorFits version) (actors version) head.actors) (λ actors fits. nothing (scenario_with head queues works actors)) (record {
       join = λ actors S fits e.
           let actors_are : S.actors ≡ actors = ap (λ (x : ScenarioContents). x.actors) e in (
             actors_are,
@@ -328,7 +321,7 @@ scenarios_actors head queues works =
               (ap (λ (x : ScenarioContents). x.cpus) e, ap (λ (x : ScenarioContents). x.workers) e, ap (λ (x : ScenarioContents). x.steps) e, ap (λ (x : ScenarioContents). x.flushes) e),
               ap (λ (x : ScenarioContents). x.queues) e,
               ap (λ (x : ScenarioContents). x.works) e,
-              subst (Each ActorFits head.actors) (sym actors_are) fits,
+              subst (Each (ActorFits version) head.actors) (sym actors_are) fits,
             ),
           );
       cut = λ S h. (
@@ -339,49 +332,50 @@ scenarios_actors head queues works =
       written = λ S h. refl;
     })
 
-scenarios_works : (head : Head) (queues : List QueueDecl)
-    → Codec (many read_work head.works >>= λ works. many read_actor head.actors >>= λ actors. done (scenario_with head queues works actors))
+scenarios_works : (version : ℕ) (head : Head) (queues : List QueueDecl)
+    → Codec (many read_work head.works >>= λ works. many (read_actor version) head.actors >>= λ actors. done (scenario_with head queues works actors))
     (λ S. in_order (flat_map work_image S.works ∷ flat_map actor_image S.actors ∷ []))
-    (λ S. NumbersAre head S × (S.queues ≡ queues) × Each WorkFits head.works S.works × Each ActorFits head.actors S.actors)
-scenarios_works head queues =
-    one_then (many read_work head.works) (λ works. many read_actor head.actors >>= λ actors. done (scenario_with head queues works actors)) (λ S. S.works) (flat_map work_image) (Each WorkFits head.works)
-    (λ S. in_order (flat_map actor_image S.actors ∷ [])) (λ works S. NumbersAre head S × (S.queues ≡ queues) × (S.works ≡ works) × Each ActorFits head.actors S.actors)
+    (λ S. NumbersAre head S × (S.queues ≡ queues) × Each WorkFits head.works S.works × Each (ActorFits version) head.actors S.actors)
+scenarios_works version head queues =
+    one_then (many read_work head.works) (λ works. many (read_actor version) head.actors >>= λ actors. done (scenario_with head queues works actors)) (λ S. S.works) (flat_map work_image) (Each WorkFits head.works)
+    (λ S. in_order (flat_map actor_image S.actors ∷ [])) (λ works S. NumbersAre head S × (S.queues ≡ queues) × (S.works ≡ works) × Each (ActorFits version) head.actors S.actors)
     (λ S. in_order (flat_map work_image S.works ∷ flat_map actor_image S.actors ∷ []))
-    (λ S. NumbersAre head S × (S.queues ≡ queues) × Each WorkFits head.works S.works × Each ActorFits head.actors S.actors)
-    (many_of read_work work_image WorkFits works head.works) (λ works fits. scenarios_actors head queues works) (record {
+    (λ S. NumbersAre head S × (S.queues ≡ queues) × Each WorkFits head.works S.works × Each (ActorFits version) head.actors S.actors)
+    (many_of read_work work_image WorkFits works head.works) (λ works fits. scenarios_actors version head queues works) (record {
       join = λ works S fits h. (h.2, (h.0, h.1, subst (Each WorkFits head.works) (sym h.2) fits, h.3));
       cut = λ S h. (h.2, (h.0, h.1, refl, h.3));
       written = λ S h. refl;
     })
 
-scenarios_queues : (head : Head)
-    → Codec (many read_queue head.queues >>= λ queues. many read_work head.works >>= λ works. many read_actor head.actors >>= λ actors. done (scenario_with head queues works actors))
+scenarios_queues : (version : ℕ) (head : Head)
+    → Codec (many read_queue head.queues >>= λ queues. many read_work head.works >>= λ works. many (read_actor version) head.actors >>= λ actors. done (scenario_with head queues works actors))
     (λ S. in_order (flat_map queue_image S.queues ∷ flat_map work_image S.works ∷ flat_map actor_image S.actors ∷ []))
-    (λ S. NumbersAre head S × Each IsQueueDecl head.queues S.queues × Each WorkFits head.works S.works × Each ActorFits head.actors S.actors)
-scenarios_queues head =
-    one_then (many read_queue head.queues) (λ queues. many read_work head.works >>= λ works. many read_actor head.actors >>= λ actors. done (scenario_with head queues works actors)) (λ S. S.queues) (flat_map queue_image) (Each IsQueueDecl head.queues)
+    (λ S. NumbersAre head S × Each IsQueueDecl head.queues S.queues × Each WorkFits head.works S.works × Each (ActorFits version) head.actors S.actors)
+scenarios_queues version head =
+    one_then (many read_queue head.queues) (λ queues. many read_work head.works >>= λ works. many (read_actor version) head.actors >>= λ actors. done (scenario_with head queues works actors)) (λ S. S.queues) (flat_map queue_image) (Each IsQueueDecl head.queues)
     (λ S. in_order (flat_map work_image S.works ∷ flat_map actor_image S.actors ∷ []))
-    (λ queues S. NumbersAre head S × (S.queues ≡ queues) × Each WorkFits head.works S.works × Each ActorFits head.actors S.actors)
+    (λ queues S. NumbersAre head S × (S.queues ≡ queues) × Each WorkFits head.works S.works × Each (ActorFits version) head.actors S.actors)
     (λ S. in_order (flat_map queue_image S.queues ∷ flat_map work_image S.works ∷ flat_map actor_image S.actors ∷ []))
-    (λ S. NumbersAre head S × Each IsQueueDecl head.queues S.queues × Each WorkFits head.works S.works × Each ActorFits head.actors S.actors)
-    (many_of read_queue queue_image IsQueueDecl queues head.queues) (λ queues fits. scenarios_works head queues) (record {
+    (λ S. NumbersAre head S × Each IsQueueDecl head.queues S.queues × Each WorkFits head.works S.works × Each (ActorFits version) head.actors S.actors)
+    (many_of read_queue queue_image IsQueueDecl queues head.queues) (λ queues fits. scenarios_works version head queues) (record {
       join = λ queues S fits h. (h.1, (h.0, subst (Each IsQueueDecl head.queues) (sym h.1) fits, h.2, h.3));
       cut = λ S h. (h.1, (h.0, refl, h.2, h.3));
       written = λ S h. refl;
     })
 
--- what has an image
-pub record HasImage (S : ScenarioContents) : Type 0 where
+-- what stands behind the version
+abbrev parts_image : ScenarioContents → List ℕ
+parts_image S = head_bytes (head_of S) ++ in_order (flat_map queue_image S.queues ∷ flat_map work_image S.works ∷ flat_map actor_image S.actors ∷ [])
+
+-- what has an image, in this version
+pub record HasParts (version : ℕ) (S : ScenarioContents) : Type 0 where
   pub contents : IsScenario S
   pub sized : HasSize S
+  pub lines : AreLinesOf version S.actors
 
--- the image, behind the magic bytes
-abbrev pub rest_image : ScenarioContents → List ℕ
-rest_image S = head_bytes (head_of S) ++ in_order (flat_map queue_image S.queues ∷ flat_map work_image S.works ∷ flat_map actor_image S.actors ∷ [])
-
-scenario_join : (head : Head) (S : ScenarioContents) → HeadFits head
-    → NumbersAre head S × Each IsQueueDecl head.queues S.queues × Each WorkFits head.works S.works × Each ActorFits head.actors S.actors → (head_of S ≡ head) × HasImage S
-scenario_join head S fits h =
+scenario_join : (version : ℕ) (head : Head) (S : ScenarioContents) → HeadFits head
+    → NumbersAre head S × Each IsQueueDecl head.queues S.queues × Each WorkFits head.works S.works × Each (ActorFits version) head.actors S.actors → (head_of S ≡ head) × HasParts version S
+scenario_join version head S fits h =
     let head_is : head_of S ≡ head =
     ap (λ x. head_with x S.workers S.steps S.flushes (length S.queues) (length S.works) (length S.actors)) h.0.0
     ∙ ap (λ x. head_with head.cpus x S.steps S.flushes (length S.queues) (length S.works) (length S.actors)) h.0.1
@@ -398,22 +392,23 @@ scenario_join head S fits h =
           steps = omega (arith, h.0.2, fits.2);
           flushes = omega (arith, h.0.3, fits.3);
           queues = h.1.1;
-          works = first_all IsWorkDecl HasBodySize S.works h.2.1;
-          actors = first_all IsActor HasLinesSize S.actors h.3.1;
+          works = all_are WorkFits IsWorkDecl (λ w is. is.0) S.works h.2.1;
+          actors = all_are (ActorFits version) IsActor (λ a is. is.0) S.actors h.3.1;
         };
         sized = record {
           queues = omega (arith, h.1.0, fits.4);
           works = omega (arith, h.2.0, fits.5);
           actors = omega (arith, h.3.0, fits.6);
-          bodies = second_all IsWorkDecl HasBodySize S.works h.2.1;
-          lines = second_all IsActor HasLinesSize S.actors h.3.1;
+          bodies = all_are WorkFits HasBodySize (λ w is. is.1) S.works h.2.1;
+          lines = all_are (ActorFits version) HasLinesSize (λ a is. is.1.0) S.actors h.3.1;
         };
+        lines = all_are (ActorFits version) (λ a. AllByRecursion (IsLineOf version) a.lines) (λ a is. is.1.1) S.actors h.3.1;
       },
     )
 
-scenario_cut : (S : ScenarioContents) → HasImage S
-    → HeadFits (head_of S) × (NumbersAre (head_of S) S × Each IsQueueDecl (length S.queues) S.queues × Each WorkFits (length S.works) S.works × Each ActorFits (length S.actors) S.actors)
-scenario_cut S h = (
+scenario_cut : (version : ℕ) (S : ScenarioContents) → HasParts version S
+    → HeadFits (head_of S) × (NumbersAre (head_of S) S × Each IsQueueDecl (length S.queues) S.queues × Each WorkFits (length S.works) S.works × Each (ActorFits version) (length S.actors) S.actors)
+scenario_cut version S h = (
   (
     omega (arith, h.contents.cpus),
     omega (arith, h.contents.workers),
@@ -427,22 +422,102 @@ scenario_cut S h = (
     (refl, refl, refl, refl),
     (refl, h.contents.queues),
     (refl, both_all IsWorkDecl HasBodySize S.works h.contents.works h.sized.bodies),
-    (refl, both_all IsActor HasLinesSize S.actors h.contents.actors h.sized.lines),
+    (
+      refl,
+      both_all IsActor (λ a. HasLinesSize a × AllByRecursion (IsLineOf version) a.lines) S.actors h.contents.actors
+          (both_all HasLinesSize (λ a. AllByRecursion (IsLineOf version) a.lines) S.actors h.sized.lines h.lines),
+    ),
   ),
 )
 
-pub scenarios : Codec scenario_at rest_image HasImage
-unfolding scenario_at
-scenarios =
-    one_then read_head (λ head. many read_queue head.queues >>= λ queues. many read_work head.works >>= λ works. many read_actor head.actors >>= λ actors. done (scenario_with head queues works actors)) head_of head_bytes HeadFits
+-- what stands behind the version is read
+abbrev pub parts_at : ℕ → Reader ScenarioContents
+parts_at version =
+    read_head >>= λ head. many read_queue head.queues >>= λ queues. many read_work head.works >>= λ works. many (read_actor version) head.actors >>= λ actors. done (scenario_with head queues works actors)
+
+parts : (version : ℕ) → Codec (parts_at version) parts_image (HasParts version)
+parts version =
+    one_then read_head (λ head. many read_queue head.queues >>= λ queues. many read_work head.works >>= λ works. many (read_actor version) head.actors >>= λ actors. done (scenario_with head queues works actors)) head_of head_bytes HeadFits
     (λ S. in_order (flat_map queue_image S.queues ∷ flat_map work_image S.works ∷ flat_map actor_image S.actors ∷ []))
-    (λ head S. NumbersAre head S × Each IsQueueDecl head.queues S.queues × Each WorkFits head.works S.works × Each ActorFits head.actors S.actors)
-    rest_image HasImage
-    heads (λ head fits. scenarios_queues head) (record {
-      join = λ head S fits h. scenario_join head S fits h;
-      cut = scenario_cut;
+    (λ head S. NumbersAre head S × Each IsQueueDecl head.queues S.queues × Each WorkFits head.works S.works × Each (ActorFits version) head.actors S.actors)
+    parts_image (HasParts version)
+    heads (λ head fits. scenarios_queues version head) (record {
+      join = λ head S fits h. scenario_join version head S fits h;
+      cut = scenario_cut version;
       written = λ S h. refl;
     })
 
-pub image_is : (S : ScenarioContents) → image S ≡ magic ++ rest_image S
-image_is S = refl
+-- A version, and a scenario that has it.
+
+abbrev pub Versioned : Type 0
+Versioned = ℕ × ScenarioContents
+
+abbrev pub versioned : ℕ → ScenarioContents → Versioned
+versioned version S = (version, S)
+
+pub record HasImage (p : Versioned) : Type 0 where
+  pub contents : IsScenario p.1
+  pub sized : HasSize p.1
+  pub has : HasVersion p.1 p.0
+
+-- the image, behind the magic bytes
+abbrev pub rest_image : Versioned → List ℕ
+rest_image p = number w16 p.0 ++ parts_image p.1
+
+-- what stands behind the magic bytes is read, and the version is kept
+abbrev pub versioned_at : Reader Versioned
+versioned_at = read_version >>= λ version. parts_at version >>= λ S. done (versioned version S)
+
+versioned_parts : (version : ℕ) → Codec (parts_at version >>= λ S. done (versioned version S)) (λ p. parts_image p.1) (λ p. (p.0 ≡ version) × HasParts version p.1)
+versioned_parts version =
+    one_then (parts_at version) (λ S. done (versioned version S)) (λ p. p.1) parts_image (HasParts version)
+    (λ p. []) (λ S p. p ≡ versioned version S) (λ p. parts_image p.1) (λ p. (p.0 ≡ version) × HasParts version p.1)
+    (parts version) (λ S fits. nothing (versioned version S)) (record {
+      join = λ S p fits e.
+          let scenario_is : p.1 ≡ S = ap (λ (x : Versioned). x.1) e in
+          (scenario_is, (ap (λ (x : Versioned). x.0) e, subst (HasParts version) (sym scenario_is) fits));
+      cut = λ p h. (h.1, ap (λ v. versioned v p.1) h.0);
+      written = λ p h. sym (append-nil (parts_image p.1));
+    })
+
+pub images : Codec versioned_at rest_image HasImage
+images =
+    one_then read_version (λ version. parts_at version >>= λ S. done (versioned version S)) (λ p. p.0) (number w16) (InRange FIRST_VERSION VERSION)
+    (λ p. parts_image p.1) (λ version p. (p.0 ≡ version) × HasParts version p.1) rest_image HasImage
+    versions (λ version fits. versioned_parts version) (record {
+      join = λ version p fits h. (
+        h.0,
+        record {
+          contents = h.1.contents;
+          sized = h.1.sized;
+          has = record {
+            first = omega (arith, h.0, fits.0);
+            last = omega (arith, h.0, fits.1);
+            lines = subst (λ v. AreLinesOf v p.1.actors) (sym h.0) h.1.lines;
+          };
+        },
+      );
+      cut = λ p h. ((h.has.first, h.has.last), (refl, record { contents = h.contents; sized = h.sized; lines = h.has.lines }));
+      written = λ p h. refl;
+    })
+
+pub image_is : (p : Versioned) → image p.0 p.1 ≡ magic ++ rest_image p
+image_is p = refl
+
+-- Reading, and keeping the version, gives what reading gives.
+
+abbrev pub without_version : Result (Versioned × Place) ImageError → Result (ScenarioContents × Place) ImageError
+without_version (Ok found) = Ok (found.0.1, found.1)
+without_version (Err fault) = Err fault
+
+pub read_with_version : (place : Place) → scenario_at place ≡ without_version (versioned_at place)
+unfolding scenario_at
+read_with_version place = by_version (read_version place)
+  where
+    kept : (version : ℕ) (r : Result (ScenarioContents × Place) ImageError) → r ≡ without_version (hand_on (λ S. done (versioned version S)) r)
+    kept version (Ok found) = refl
+    kept version (Err fault) = refl
+
+    by_version : (r : Result (ℕ × Place) ImageError) → hand_on parts_at r ≡ without_version (hand_on (λ version. parts_at version >>= λ S. done (versioned version S)) r)
+    by_version (Ok found) = kept found.0 (parts_at found.0 found.1)
+    by_version (Err fault) = refl

@@ -1,13 +1,15 @@
 -- The words of operations and instructions: what is read of each is what is written.
-use Rattle.std.proofs.Common.{◌≡◌, ℕ, ◌<◌, ◌≤◌, Bool, true, false, cond, eqb, [], ◌∷◌, ◌++◌, Option, Some, refl, sym, ap, subst, ◌∙◌, arith}
+use Rattle.std.proofs.Common.{◌≡◌, ℕ, ◌<◌, ◌≤◌, Bool, true, false, cond, eqb, [], ◌∷◌, ◌++◌, Option, Some, None, refl, sym, ap, subst, ◌∙◌, arith}
 use Rattle.std.specs.Int.{w8, w16, w32, from_be_bytes}
+use Rattle.std.specs.Prelude.{nat_le}
 use Rattle.std.proofs.lemmas.Bool.{eqb-true}
+use Rattle.std.proofs.lemmas.Bool.Decides.{nat_tests}
 use Rattle.cmwq_types.specs.declared.instr.Instr.{Instr}
 use Rattle.cmwq_types.specs.declared.instr.Instr.TheVariants as instr
 use Rattle.cmwq_types.specs.declared.scenario.Op.{Op}
 use Rattle.cmwq_types.specs.declared.scenario.Op.TheVariants as op
-use Rattle.cmwq_image.specs.Image.{in_order, number, word, word_image, op_word, instr_word}
-use Rattle.cmwq_image.specs.ImageFault.{◌>>=◌, done, field, read_number, op_tag_of, op_room, op_of, read_op, instr_tag_of, instr_room, instr_of, read_instr}
+use Rattle.cmwq_image.specs.Image.{in_order, number, word, word_image, op_word, instr_word, last_tag}
+use Rattle.cmwq_image.specs.ImageFault.{◌>>=◌, done, field, read_number, op_tag_of, op_room, op_of, read_op, instr_tag_of, instr_tag_in, instr_room, instr_of, read_instr}
 use Rattle.cmwq_types.specs.Values.{IsOp, IsInstr}
 use Rattle.cmwq_image.specs.declared.error.ImageError.TheVariants as errors
 use Rattle.cmwq_image.specs.declared.tags.InstrTag.{InstrTag}
@@ -34,25 +36,32 @@ pub record IsRoom (room : Room) : Type 0 where
 pub record WordLaws {T B : Type 0} (code : T → ℕ) (tag_of : ℕ → Option T) (room : T → Room) (made : T → (cpu a n : ℕ) → B) (tag : B → T) (as_word : B → Word) (Fits : B → Type 0) : Type 0 where
   pub small : (t : T) → code t < 256
   pub known : (n : ℕ) (t : T) → tag_of n ≡ Some t → n ≡ code t
-  pub found : (t : T) → tag_of (code t) ≡ Some t
   pub some : T
+  pub some_found : tag_of (code some) ≡ Some some
   pub is_room : (t : T) → IsRoom (room t)
   pub tagged : (x : B) → (as_word x).tag ≡ code (tag x)
+  pub found : (x : B) → Fits x → tag_of (code (tag x)) ≡ Some (tag x)
   pub within : (x : B) → Fits x → Within (room (tag x)) (as_word x).cpu (as_word x).a (as_word x).n
-  pub fits : (x : B) → Within (room (tag x)) (as_word x).cpu (as_word x).a (as_word x).n → Fits x
+  pub fits : (x : B) → tag_of (code (tag x)) ≡ Some (tag x) → Within (room (tag x)) (as_word x).cpu (as_word x).a (as_word x).n → Fits x
   pub made_tag : (t : T) (cpu a n : ℕ) → tag (made t cpu a n) ≡ t
   pub made_word : (t : T) (cpu a n : ℕ) → Within (room t) cpu a n → as_word (made t cpu a n) ≡ word (code t) cpu a n
   pub again : (x : B) → made (tag x) (as_word x).cpu (as_word x).a (as_word x).n ≡ x
 
+-- the tag stands in the table
+abbrev IsFound : {T : Type 0} (code : T → ℕ) (tag_of : ℕ → Option T) → T → Type 0
+IsFound code tag_of t = tag_of (code t) ≡ Some t
+
 tag_meaning : {T B : Type 0} (code : T → ℕ) (tag_of : ℕ → Option T) (room : T → Room) (made : T → (cpu a n : ℕ) → B) (tag : B → T) (as_word : B → Word) (Fits : B → Type 0)
-    → WordLaws code tag_of room made tag as_word Fits → Meaning 1 (λ bytes. tag_of (from_be_bytes w8 bytes)) (λ t. number w8 (code t)) (λ t. Unit {0})
+    → WordLaws code tag_of room made tag as_word Fits → Meaning 1 (λ bytes. tag_of (from_be_bytes w8 bytes)) (λ t. number w8 (code t)) (IsFound code tag_of)
 tag_meaning {T} code tag_of room made tag as_word Fits laws = record {
   small = omega arith;
-  takes = λ bytes t fine size meant. (tt, sym (wide8.back bytes size fine) ∙ ap (number w8) (laws.known (from_be_bytes w8 bytes) t meant));
-  again = λ t fits. ap tag_of (wide8.again (code t) (laws.small t)) ∙ laws.found t;
+  takes = λ bytes t fine size meant.
+      let is : from_be_bytes w8 bytes ≡ code t = laws.known (from_be_bytes w8 bytes) t meant in
+      (ap tag_of (sym is) ∙ meant, sym (wide8.back bytes size fine) ∙ ap (number w8) is);
+  again = λ t fits. ap tag_of (wide8.again (code t) (laws.small t)) ∙ fits;
   long = λ t fits. refl;
   some = laws.some;
-  some_fits = tt;
+  some_fits = laws.some_found;
 }
 
 -- Behind a tag: the word's value has this tag, and these fields, and what is still to come has room.
@@ -129,14 +138,14 @@ words : {T B : Type 0} (code : T → ℕ) (tag_of : ℕ → Option T) (room : T 
 words {T} {B} code tag_of room made tag as_word Fits laws =
     one_then (field errors.BadField 1 (λ bytes. tag_of (from_be_bytes w8 bytes)))
     (λ t. read_number w8 0 (room t).cpu >>= λ cpu. read_number w16 0 (room t).a >>= λ a. read_number w32 0 (room t).n >>= λ n. done (made t cpu a n))
-    tag (λ t. number w8 (code t)) (λ t. Unit {0})
+    tag (λ t. number w8 (code t)) (IsFound code tag_of)
     (λ x. in_order (number w8 (as_word x).cpu ∷ number w16 (as_word x).a ∷ number w32 (as_word x).n ∷ [])) (Tagged room tag as_word)
     (λ x. word_image (as_word x)) Fits
-    (of_field errors.BadField bad_field 1 (λ bytes. tag_of (from_be_bytes w8 bytes)) (λ t. number w8 (code t)) (λ t. Unit {0}) (tag_meaning code tag_of room made tag as_word Fits laws))
+    (of_field errors.BadField bad_field 1 (λ bytes. tag_of (from_be_bytes w8 bytes)) (λ t. number w8 (code t)) (IsFound code tag_of) (tag_meaning code tag_of room made tag as_word Fits laws))
     (λ t fits. words_cpu code tag_of room made tag as_word Fits laws t)
     (record {
-      join = λ t x any h. (h.0, laws.fits x (subst (λ (u : T). Within (room u) (as_word x).cpu (as_word x).a (as_word x).n) (sym h.0) h.1));
-      cut = λ x h. (tt, (refl, laws.within x h));
+      join = λ t x found h. (h.0, laws.fits x (subst (IsFound code tag_of) (sym h.0) found) (subst (λ (u : T). Within (room u) (as_word x).cpu (as_word x).a (as_word x).n) (sym h.0) h.1));
+      cut = λ x h. (laws.found x h, (refl, laws.within x h));
       written = λ x h. ap (λ n. number w8 n ++ in_order (number w8 (as_word x).cpu ∷ number w16 (as_word x).a ∷ number w32 (as_word x).n ∷ [])) (laws.tagged x);
     })
 
@@ -148,6 +157,13 @@ pick {T} code n k t found later is rest e = go (eqb n k) refl e
     go : (b : Bool) → eqb n k ≡ b → cond b (Some t) later ≡ Some found → n ≡ code found
     go true same h = let it : t ≡ found = cc in eqb-true n k same ∙ sym is ∙ ap code it
     go false same h = rest h
+
+-- a test of a limit
+at_most : (n high : ℕ) → nat_le n high ≡ true → n ≤ high
+at_most n high h = grind (arith, nat_tests)
+
+is_at_most : (n high : ℕ) → n ≤ high → nat_le n high ≡ true
+is_at_most n high h = grind (arith, nat_tests)
 
 -- words with the same fields
 plain : (tag cpu a n c b m : ℕ) → cpu ≡ c → a ≡ b → n ≡ m → word tag cpu a n ≡ word tag c b m
@@ -197,11 +213,11 @@ op_within (op.Sleep ticks) h = record { cpu_fits = omega arith; a_fits = omega a
 op_within (op.Queue work cpu) h = record { cpu_fits = omega arith; a_fits = omega arith; n_fits = omega arith }
 op_within op.Finish h = record { cpu_fits = omega arith; a_fits = omega arith; n_fits = omega arith }
 
-op_fits : (x : Op) → Within (op_room (op_tag_is x)) (op_word x).cpu (op_word x).a (op_word x).n → IsOp x
-op_fits (op.Burn ticks) h = omega (arith, h.n_fits)
-op_fits (op.Sleep ticks) h = omega (arith, h.n_fits)
-op_fits (op.Queue work cpu) h = (omega (arith, h.a_fits), omega (arith, h.cpu_fits))
-op_fits op.Finish h = tt
+op_fits : (x : Op) → op_tag_of (op_code (op_tag_is x)) ≡ Some (op_tag_is x) → Within (op_room (op_tag_is x)) (op_word x).cpu (op_word x).a (op_word x).n → IsOp x
+op_fits (op.Burn ticks) found h = omega (arith, h.n_fits)
+op_fits (op.Sleep ticks) found h = omega (arith, h.n_fits)
+op_fits (op.Queue work cpu) found h = (omega (arith, h.a_fits), omega (arith, h.cpu_fits))
+op_fits op.Finish found h = tt
 
 op_made_tag : (t : OpTag) (cpu a n : ℕ) → op_tag_is (op_of t cpu a n) ≡ t
 op_made_tag op_tag.Burn cpu a n = refl
@@ -233,10 +249,11 @@ op_laws : WordLaws op_code op_tag_of op_room op_of op_tag_is op_word IsOp
 op_laws = record {
   small = op_small;
   known = op_known;
-  found = op_found;
   some = op_tag.Burn;
+  some_found = refl;
   is_room = op_is_room;
   tagged = op_tagged;
+  found = λ x h. op_found (op_tag_is x);
   within = op_within;
   fits = op_fits;
   made_tag = op_made_tag;
@@ -269,6 +286,8 @@ instr_code instr_tag.Next = 30
 instr_code instr_tag.Ask = 31
 instr_code instr_tag.Busy = 32
 instr_code instr_tag.State = 33
+instr_code instr_tag.Disable = 34
+instr_code instr_tag.Enable = 35
 
 abbrev instr_tag_is : Instr → InstrTag
 instr_tag_is (instr.Queue work cpu) = instr_tag.Queue
@@ -289,6 +308,8 @@ instr_tag_is instr.Next = instr_tag.Next
 instr_tag_is (instr.Ask flush) = instr_tag.Ask
 instr_tag_is instr.Busy = instr_tag.Busy
 instr_tag_is (instr.State work) = instr_tag.State
+instr_tag_is (instr.Disable work) = instr_tag.Disable
+instr_tag_is (instr.Enable work) = instr_tag.Enable
 
 instr_small : (t : InstrTag) → instr_code t < 256
 instr_small instr_tag.Queue = omega arith
@@ -309,6 +330,8 @@ instr_small instr_tag.Next = omega arith
 instr_small instr_tag.Ask = omega arith
 instr_small instr_tag.Busy = omega arith
 instr_small instr_tag.State = omega arith
+instr_small instr_tag.Disable = omega arith
+instr_small instr_tag.Enable = omega arith
 
 instr_found : (t : InstrTag) → instr_tag_of (instr_code t) ≡ Some t
 instr_found instr_tag.Queue = refl
@@ -329,6 +352,8 @@ instr_found instr_tag.Next = refl
 instr_found instr_tag.Ask = refl
 instr_found instr_tag.Busy = refl
 instr_found instr_tag.State = refl
+instr_found instr_tag.Disable = refl
+instr_found instr_tag.Enable = refl
 
 instr_is_room : (t : InstrTag) → IsRoom (instr_room t)
 instr_is_room instr_tag.Queue = record { cpu_fits = omega arith; a_fits = omega arith; n_fits = omega arith }
@@ -349,6 +374,8 @@ instr_is_room instr_tag.Next = record { cpu_fits = omega arith; a_fits = omega a
 instr_is_room instr_tag.Ask = record { cpu_fits = omega arith; a_fits = omega arith; n_fits = omega arith }
 instr_is_room instr_tag.Busy = record { cpu_fits = omega arith; a_fits = omega arith; n_fits = omega arith }
 instr_is_room instr_tag.State = record { cpu_fits = omega arith; a_fits = omega arith; n_fits = omega arith }
+instr_is_room instr_tag.Disable = record { cpu_fits = omega arith; a_fits = omega arith; n_fits = omega arith }
+instr_is_room instr_tag.Enable = record { cpu_fits = omega arith; a_fits = omega arith; n_fits = omega arith }
 
 instr_tagged : (x : Instr) → (instr_word x).tag ≡ instr_code (instr_tag_is x)
 instr_tagged (instr.Queue work cpu) = refl
@@ -369,6 +396,8 @@ instr_tagged instr.Next = refl
 instr_tagged (instr.Ask flush) = refl
 instr_tagged instr.Busy = refl
 instr_tagged (instr.State work) = refl
+instr_tagged (instr.Disable work) = refl
+instr_tagged (instr.Enable work) = refl
 
 instr_within : (x : Instr) → IsInstr x → Within (instr_room (instr_tag_is x)) (instr_word x).cpu (instr_word x).a (instr_word x).n
 instr_within (instr.Queue work cpu) h = record { cpu_fits = omega arith; a_fits = omega arith; n_fits = omega arith }
@@ -389,6 +418,8 @@ instr_within instr.Next h = record { cpu_fits = omega arith; a_fits = omega arit
 instr_within (instr.Ask flush) h = record { cpu_fits = omega arith; a_fits = omega arith; n_fits = omega arith }
 instr_within instr.Busy h = record { cpu_fits = omega arith; a_fits = omega arith; n_fits = omega arith }
 instr_within (instr.State work) h = record { cpu_fits = omega arith; a_fits = omega arith; n_fits = omega arith }
+instr_within (instr.Disable work) h = record { cpu_fits = omega arith; a_fits = omega arith; n_fits = omega arith }
+instr_within (instr.Enable work) h = record { cpu_fits = omega arith; a_fits = omega arith; n_fits = omega arith }
 
 instr_fits : (x : Instr) → Within (instr_room (instr_tag_is x)) (instr_word x).cpu (instr_word x).a (instr_word x).n → IsInstr x
 instr_fits (instr.Queue work cpu) h = (omega (arith, h.a_fits), omega (arith, h.cpu_fits))
@@ -409,6 +440,8 @@ instr_fits instr.Next h = tt
 instr_fits (instr.Ask flush) h = omega (arith, h.a_fits)
 instr_fits instr.Busy h = tt
 instr_fits (instr.State work) h = omega (arith, h.a_fits)
+instr_fits (instr.Disable work) h = omega (arith, h.a_fits)
+instr_fits (instr.Enable work) h = omega (arith, h.a_fits)
 
 instr_made_tag : (t : InstrTag) (cpu a n : ℕ) → instr_tag_is (instr_of t cpu a n) ≡ t
 instr_made_tag instr_tag.Queue cpu a n = refl
@@ -429,6 +462,8 @@ instr_made_tag instr_tag.Next cpu a n = refl
 instr_made_tag instr_tag.Ask cpu a n = refl
 instr_made_tag instr_tag.Busy cpu a n = refl
 instr_made_tag instr_tag.State cpu a n = refl
+instr_made_tag instr_tag.Disable cpu a n = refl
+instr_made_tag instr_tag.Enable cpu a n = refl
 
 instr_made_word : (t : InstrTag) (cpu a n : ℕ) → Within (instr_room t) cpu a n → instr_word (instr_of t cpu a n) ≡ word (instr_code t) cpu a n
 instr_made_word instr_tag.Queue cpu a n h = plain 16 cpu a 0 cpu a n (omega (arith, h.cpu_fits)) (omega (arith, h.a_fits)) (omega (arith, h.n_fits))
@@ -449,6 +484,8 @@ instr_made_word instr_tag.Next cpu a n h = plain 30 0 0 0 cpu a n (omega (arith,
 instr_made_word instr_tag.Ask cpu a n h = plain 31 0 a 0 cpu a n (omega (arith, h.cpu_fits)) (omega (arith, h.a_fits)) (omega (arith, h.n_fits))
 instr_made_word instr_tag.Busy cpu a n h = plain 32 0 0 0 cpu a n (omega (arith, h.cpu_fits)) (omega (arith, h.a_fits)) (omega (arith, h.n_fits))
 instr_made_word instr_tag.State cpu a n h = plain 33 0 a 0 cpu a n (omega (arith, h.cpu_fits)) (omega (arith, h.a_fits)) (omega (arith, h.n_fits))
+instr_made_word instr_tag.Disable cpu a n h = plain 34 0 a 0 cpu a n (omega (arith, h.cpu_fits)) (omega (arith, h.a_fits)) (omega (arith, h.n_fits))
+instr_made_word instr_tag.Enable cpu a n h = plain 35 0 a 0 cpu a n (omega (arith, h.cpu_fits)) (omega (arith, h.a_fits)) (omega (arith, h.n_fits))
 
 instr_again : (x : Instr) → instr_of (instr_tag_is x) (instr_word x).cpu (instr_word x).a (instr_word x).n ≡ x
 instr_again (instr.Queue work cpu) = refl
@@ -469,6 +506,8 @@ instr_again instr.Next = refl
 instr_again (instr.Ask flush) = refl
 instr_again instr.Busy = refl
 instr_again (instr.State work) = refl
+instr_again (instr.Disable work) = refl
+instr_again (instr.Enable work) = refl
 
 instr_known : (n : ℕ) (t : InstrTag) → instr_tag_of n ≡ Some t → n ≡ instr_code t
 instr_known n t =
@@ -490,23 +529,52 @@ instr_known n t =
     pick instr_code n 31 instr_tag.Ask t _ refl (
     pick instr_code n 32 instr_tag.Busy t _ refl (
     pick instr_code n 33 instr_tag.State t _ refl (
-    λ never. absurd cc))))))))))))))))))
+    pick instr_code n 34 instr_tag.Disable t _ refl (
+    pick instr_code n 35 instr_tag.Enable t _ refl (
+    λ never. absurd cc))))))))))))))))))))
 
-instr_laws : WordLaws instr_code instr_tag_of instr_room instr_of instr_tag_is instr_word IsInstr
-instr_laws = record {
+-- the instruction of a version
+abbrev pub InstrFits : ℕ → Instr → Type 0
+InstrFits version i = IsInstr i × ((instr_word i).tag ≤ last_tag version)
+
+-- what the version has is in the table, up to its last tag
+found_in : (version n : ℕ) (t : InstrTag) → instr_tag_in version n ≡ Some t → (instr_tag_of n ≡ Some t) × (n ≤ last_tag version)
+found_in version n t e = go (nat_le n (last_tag version)) refl e
+  where
+    go : (b : Bool) → nat_le n (last_tag version) ≡ b → cond b (instr_tag_of n) None ≡ Some t → (instr_tag_of n ≡ Some t) × (n ≤ last_tag version)
+    go true small h = (h, at_most n (last_tag version) small)
+    go false large h = absurd cc
+
+is_found_in : (version n : ℕ) → n ≤ last_tag version → instr_tag_in version n ≡ instr_tag_of n
+is_found_in version n small = ap (λ b. cond b (instr_tag_of n) None) (is_at_most n (last_tag version) small)
+
+-- each version has the first tag
+queue_found : (version : ℕ) → instr_tag_in version 16 ≡ Some instr_tag.Queue
+queue_found version = go (eqb version 1)
+  where
+    go : (b : Bool) → cond (nat_le 16 (cond b 33 35)) (instr_tag_of 16) None ≡ Some instr_tag.Queue
+    go true = refl
+    go false = refl
+
+instr_laws : (version : ℕ) → WordLaws instr_code (instr_tag_in version) instr_room instr_of instr_tag_is instr_word (InstrFits version)
+instr_laws version = record {
   small = instr_small;
-  known = instr_known;
-  found = instr_found;
+  known = λ n t e. instr_known n t (found_in version n t e).0;
   some = instr_tag.Queue;
+  some_found = queue_found version;
   is_room = instr_is_room;
   tagged = instr_tagged;
-  within = instr_within;
-  fits = instr_fits;
+  found = λ x h. is_found_in version (instr_code (instr_tag_is x)) (subst (λ n. n ≤ last_tag version) (instr_tagged x) h.1) ∙ instr_found (instr_tag_is x);
+  within = λ x h. instr_within x h.0;
+  fits = λ x found h. (
+    instr_fits x h,
+    subst (λ n. n ≤ last_tag version) (sym (instr_tagged x)) (found_in version (instr_code (instr_tag_is x)) (instr_tag_is x) found).1,
+  );
   made_tag = instr_made_tag;
   made_word = instr_made_word;
   again = instr_again;
 }
 
-pub instrs : Codec read_instr (λ x. word_image (instr_word x)) IsInstr
+pub instrs : (version : ℕ) → Codec (read_instr version) (λ x. word_image (instr_word x)) (InstrFits version)
 unfolding read_instr
-instrs = words instr_code instr_tag_of instr_room instr_of instr_tag_is instr_word IsInstr instr_laws
+instrs version = words instr_code (instr_tag_in version) instr_room instr_of instr_tag_is instr_word (InstrFits version) (instr_laws version)

@@ -4,16 +4,19 @@ use Rattle.cmwq_types.specs.Contents.{ScenarioContents}
 use Rattle.cmwq_types.specs.Faults.{first_fault}
 use Rattle.cmwq_image.specs.Image.{image, magic}
 use Rattle.cmwq_image.specs.Limits.{HasSize}
+use Rattle.cmwq_image.specs.Versions.{HasVersion, IsImageOf}
 use Rattle.cmwq_types.specs.Values.{IsScenario}
 use Rattle.cmwq_image.specs.declared.error.ImageError.{ImageError}
 use Rattle.cmwq_image.specs.declared.error.ImageError.TheVariants as errors
 
 -- the image of a scenario, which may not be valid, has these bytes and then these
 pub record IsImageInTwo (front more : List ℕ) : Type 0 where
+  pub version : ℕ
   pub scenario : ScenarioContents
   pub contents : IsScenario scenario
   pub sized : HasSize scenario
-  pub bytes : image scenario ≡ front ++ more
+  pub has : HasVersion scenario version
+  pub bytes : image version scenario ≡ front ++ more
 
 -- some image begins with these bytes
 abbrev pub BeginsImage : List ℕ → Type 0
@@ -33,13 +36,13 @@ IsBadAt bytes n = (size : ℕ) × (size ≤ 16) × (n + size ≤ length bytes) �
 abbrev pub EndsAt : List ℕ → ℕ → Type 0
 EndsAt bytes n =
     (more : List ℕ) × (n ≤ length bytes) × (length bytes < n + 16) × (length bytes < n + length more) × IsImageInTwo (take n bytes) more
-    × ((S : ScenarioContents) (rest : List ℕ) → IsScenario S → HasSize S → bytes ≡ image S ++ rest → ⊥)
+    × ((S : ScenarioContents) (front rest : List ℕ) → IsScenario S → HasSize S → IsImageOf front S → bytes ≡ front ++ rest → ⊥)
 
 abbrev pub Means : List ℕ → ImageError → Type 0
 Means bytes errors.Magic = (rest : List ℕ) → bytes ≡ magic ++ rest → ⊥
 Means bytes errors.Version = (n : ℕ) × IsBadAt bytes n
 Means bytes errors.Truncated = (n : ℕ) × EndsAt bytes n
-Means bytes errors.Extra = (n : ℕ) × (n < length bytes) × ((S : ScenarioContents) × IsScenario S × HasSize S × (take n bytes ≡ image S))
+Means bytes errors.Extra = (n : ℕ) × (n < length bytes) × ((S : ScenarioContents) × IsScenario S × HasSize S × IsImageOf (take n bytes) S)
 Means bytes (errors.BadField n) = IsBadAt bytes n
-Means bytes (errors.Fault fault) = (S : ScenarioContents) × IsScenario S × HasSize S × (bytes ≡ image S) × (first_fault S ≡ Some fault)
+Means bytes (errors.Fault fault) = (S : ScenarioContents) × IsScenario S × HasSize S × IsImageOf bytes S × (first_fault S ≡ Some fault)
 Means bytes errors.NoMemory = Unit {0}

@@ -1,5 +1,5 @@
 -- The image of a scenario: its bytes, field by field.
-use Rattle.std.specs.Prelude.{ℕ, ◌+◌, Bool, List, [], ◌∷◌, ◌++◌, length, codes, if◌then◌else◌}
+use Rattle.std.specs.Prelude.{ℕ, ◌+◌, Bool, List, [], ◌∷◌, ◌++◌, length, codes, if◌then◌else◌, ◌==◌}
 use Rattle.std.specs.Int.{Width, w8, w16, w32, to_be_bytes}
 use Rattle.std.specs.List.{flat_map}
 use Rattle.cmwq_types.specs.Contents.{ScenarioContents, WorkContents, ActorContents}
@@ -11,6 +11,7 @@ use Rattle.cmwq_types.specs.declared.scenario.Line.{Line}
 use Rattle.cmwq_types.specs.declared.scenario.Op.{Op}
 use Rattle.cmwq_types.specs.declared.scenario.Op.TheVariants as op
 use Rattle.cmwq_types.specs.declared.scenario.QueueDecl.{QueueDecl}
+use Rattle.cmwq_image.specs.declared.version.TheConstants.{FIRST_VERSION}
 use Rattle.cmwq_image.specs.declared.word.Word.{Word}
 
 -- one field after the other
@@ -73,6 +74,12 @@ instr_word instr.Next = word 30 0 0 0
 instr_word (instr.Ask flush) = word 31 0 flush 0
 instr_word instr.Busy = word 32 0 0 0
 instr_word (instr.State work) = word 33 0 work.0 0
+instr_word (instr.Disable work) = word 34 0 work.0 0
+instr_word (instr.Enable work) = word 35 0 work.0 0
+
+-- the last tag of an instruction that a version has
+abbrev pub last_tag : ℕ → ℕ
+last_tag version = if version == FIRST_VERSION then 33 else 35
 
 -- Works and actors.
 
@@ -96,11 +103,12 @@ abbrev pub magic : List ℕ
 magic = codes "CMWQ"
 
 -- 18 bytes: what it is, the version, the scenario's numbers, and how many queues, works and actors follow
-abbrev pub head_image : ScenarioContents → List ℕ
-head_image S =
-    in_order (magic ∷ number w16 1 ∷ number w8 S.cpus ∷ number w8 S.workers ∷ number w32 S.steps ∷ number w16 S.flushes
+abbrev pub head_image : ℕ → ScenarioContents → List ℕ
+head_image version S =
+    in_order (magic ∷ number w16 version ∷ number w8 S.cpus ∷ number w8 S.workers ∷ number w32 S.steps ∷ number w16 S.flushes
     ∷ number w8 (length S.queues) ∷ number w16 (length S.works) ∷ number w8 (length S.actors) ∷ [])
 
-abbrev pub image : ScenarioContents → List ℕ
-image S =
-    in_order (head_image S ∷ flat_map queue_image S.queues ∷ flat_map work_image S.works ∷ flat_map actor_image S.actors ∷ [])
+-- the bytes of a scenario in this version, if the version has its instructions
+abbrev pub image : ℕ → ScenarioContents → List ℕ
+image version S =
+    in_order (head_image version S ∷ flat_map queue_image S.queues ∷ flat_map work_image S.works ∷ flat_map actor_image S.actors ∷ [])

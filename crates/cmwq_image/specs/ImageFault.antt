@@ -1,5 +1,5 @@
 -- What bytes say, read field by field from the left, and the first fault that is met.
-use Rattle.std.specs.Prelude.{◌≡◌, ℕ, ◌+◌, ◌/◌, ◌%◌, zero, suc, Bool, ◌&&◌, List, [], ◌∷◌, length, take, drop, Option, Some, None, Result, Ok, Err, nat_lt, ◌==◌, if◌then◌else◌}
+use Rattle.std.specs.Prelude.{◌≡◌, ℕ, ◌+◌, ◌/◌, ◌%◌, zero, suc, Bool, ◌&&◌, List, [], ◌∷◌, length, take, drop, Option, Some, None, Result, Ok, Err, nat_le, nat_lt, ◌==◌, if◌then◌else◌}
 use Rattle.std.specs.Int.{Width, w8, w16, w32, byte_len, from_be_bytes}
 use Rattle.std.specs.Str.{bytes_eq}
 use Rattle.cmwq_types.specs.Contents.{ScenarioContents, WorkContents, ActorContents}
@@ -14,7 +14,7 @@ use Rattle.cmwq_types.specs.declared.scenario.Line.{Line}
 use Rattle.cmwq_types.specs.declared.scenario.Op.{Op}
 use Rattle.cmwq_types.specs.declared.scenario.Op.TheVariants as op
 use Rattle.cmwq_types.specs.declared.scenario.QueueDecl.{QueueDecl}
-use Rattle.cmwq_image.specs.Image.{magic, name_field}
+use Rattle.cmwq_image.specs.Image.{last_tag, magic, name_field}
 use Rattle.cmwq_image.specs.declared.error.ImageError.{ImageError}
 use Rattle.cmwq_image.specs.declared.error.ImageError.TheVariants as errors
 use Rattle.cmwq_image.specs.declared.head.Head.{Head}
@@ -22,6 +22,7 @@ use Rattle.cmwq_image.specs.declared.tags.InstrTag.{InstrTag}
 use Rattle.cmwq_image.specs.declared.tags.InstrTag.TheVariants as instr_tag
 use Rattle.cmwq_image.specs.declared.tags.OpTag.{OpTag}
 use Rattle.cmwq_image.specs.declared.tags.OpTag.TheVariants as op_tag
+use Rattle.cmwq_image.specs.declared.version.TheConstants.{FIRST_VERSION, VERSION}
 use Rattle.cmwq_image.specs.declared.word.Room.{Room}
 
 -- an offset, and the bytes from there on
@@ -84,9 +85,9 @@ read_short = read_number w16 0 65535
 abbrev pub read_long : Reader ℕ
 read_long = read_number w32 0 4294967295
 
--- the one version that there is
+-- one of the versions that there are
 abbrev pub read_version : Reader ℕ
-read_version = field (λ at. errors.Version) 2 (λ bytes. if_within 1 1 (from_be_bytes w16 bytes))
+read_version = field (λ at. errors.Version) 2 (λ bytes. if_within FIRST_VERSION VERSION (from_be_bytes w16 bytes))
 
 -- the name of which these bytes are the field
 abbrev pub name_of : List ℕ → Option (List ℕ)
@@ -178,7 +179,13 @@ instr_tag_of n =
     else (if n == 31 then Some instr_tag.Ask
     else (if n == 32 then Some instr_tag.Busy
     else (if n == 33 then Some instr_tag.State
-    else None)))))))))))))))))
+    else (if n == 34 then Some instr_tag.Disable
+    else (if n == 35 then Some instr_tag.Enable
+    else None)))))))))))))))))))
+
+-- the tag, if the version has it
+abbrev pub instr_tag_in : (version n : ℕ) → Option InstrTag
+instr_tag_in version n = if nat_le n (last_tag version) then instr_tag_of n else None
 
 -- a queue's number has one byte in a scenario
 abbrev pub instr_room : InstrTag → Room
@@ -200,6 +207,8 @@ instr_room instr_tag.Next = room 0 0 0
 instr_room instr_tag.Ask = room 0 65535 0
 instr_room instr_tag.Busy = room 0 0 0
 instr_room instr_tag.State = room 0 65535 0
+instr_room instr_tag.Disable = room 0 65535 0
+instr_room instr_tag.Enable = room 0 65535 0
 
 -- the instruction of a tag, with the fields of its word
 abbrev pub instr_of : InstrTag → (cpu a n : ℕ) → Instr
@@ -221,13 +230,15 @@ instr_of instr_tag.Next cpu a n = instr.Next
 instr_of instr_tag.Ask cpu a n = instr.Ask a
 instr_of instr_tag.Busy cpu a n = instr.Busy
 instr_of instr_tag.State cpu a n = instr.State (record { 0 = a })
+instr_of instr_tag.Disable cpu a n = instr.Disable (record { 0 = a })
+instr_of instr_tag.Enable cpu a n = instr.Enable (record { 0 = a })
 
-abbrev pub read_instr_tag : Reader InstrTag
-read_instr_tag = field errors.BadField 1 (λ bytes. instr_tag_of (from_be_bytes w8 bytes))
+abbrev pub read_instr_tag : ℕ → Reader InstrTag
+read_instr_tag version = field errors.BadField 1 (λ bytes. instr_tag_in version (from_be_bytes w8 bytes))
 
-unfoldable pub read_instr : Reader Instr
-read_instr = do
-  tag ← read_instr_tag
+unfoldable pub read_instr : ℕ → Reader Instr
+read_instr version = do
+  tag ← read_instr_tag version
   cpu ← read_number w8 0 (instr_room tag).cpu
   a ← read_number w16 0 (instr_room tag).a
   n ← read_number w32 0 (instr_room tag).n
@@ -243,25 +254,24 @@ read_work = do
   body ← many read_op ops
   done (record { name = name; queue = record { 0 = queue }; body = body })
 
-unfoldable pub read_line : Reader Line
-read_line = do
-  instr ← read_instr
+unfoldable pub read_line : ℕ → Reader Line
+read_line version = do
+  instr ← read_instr version
   times ← read_long
   done (record { instr = instr; times = times })
 
-unfoldable pub read_actor : Reader ActorContents
-read_actor = do
+unfoldable pub read_actor : ℕ → Reader ActorContents
+read_actor version = do
   name ← read_name
   count ← read_number w16 0 MAX_LINES
-  lines ← many read_line count
+  lines ← many (read_line version) count
   done (record { name = name; lines = lines })
 
 -- The whole image.
 
--- what stands behind the four bytes that tell what it is
+-- what stands behind the version, up to the queues
 unfoldable pub read_head : Reader Head
 read_head = do
-  version ← read_version
   cpus ← read_byte
   workers ← read_byte
   steps ← read_long
@@ -271,12 +281,14 @@ read_head = do
   actors ← read_number w8 0 MAX_ACTORS
   done (record { cpus = cpus; workers = workers; steps = steps; flushes = flushes; queues = queues; works = works; actors = actors })
 
+-- what stands behind the four bytes that tell what it is
 unfoldable pub scenario_at : Reader ScenarioContents
 scenario_at = do
+  version ← read_version
   head ← read_head
   queues ← many read_queue head.queues
   works ← many read_work head.works
-  actors ← many read_actor head.actors
+  actors ← many (read_actor version) head.actors
   done (record {
     cpus = head.cpus;
     workers = head.workers;

@@ -1,5 +1,5 @@
 -- A worked image: one queue, one work that queues itself, and one actor of three lines.
-use Rattle.std.specs.Prelude.{ℕ, List, [], ◌∷◌, replicate}
+use Rattle.std.specs.Prelude.{ℕ, List, [], ◌∷◌, replicate, slice_set}
 use Rattle.cmwq_types.specs.Contents.{ScenarioContents, WorkContents, ActorContents}
 use Rattle.cmwq_types.specs.Scenario.{plain_flags}
 use Rattle.cmwq_types.specs.declared.instr.Instr.{Instr}
@@ -21,16 +21,13 @@ worked_work = record { name = 97 ∷ []; queue = record { 0 = 0 }; body = op.Que
 abbrev pub times : Instr → ℕ → Line
 times instr n = record { instr = instr; times = n }
 
--- `actor t`, `queue a 0`, `next * 8`, `state a`
-abbrev pub worked_actor : ActorContents
-worked_actor =
-    record {
-      name = 116 ∷ [];
-      lines = times (instr.Queue (record { 0 = 0 }) 0) 1 ∷ times instr.Next 8 ∷ times (instr.State (record { 0 = 0 })) 1 ∷ [];
-    }
+-- `actor t`, `queue a 0`, `next * 8`, and this last line
+abbrev pub worked_actor : Instr → ActorContents
+worked_actor last =
+    record { name = 116 ∷ []; lines = times (instr.Queue (record { 0 = 0 }) 0) 1 ∷ times instr.Next 8 ∷ times last 1 ∷ [] }
 
-abbrev pub worked_scenario : ScenarioContents
-worked_scenario =
+abbrev pub ending_with : Instr → ScenarioContents
+ending_with last =
     record {
       cpus = 1;
       workers = 4;
@@ -38,8 +35,16 @@ worked_scenario =
       flushes = 2;
       queues = worked_queue ∷ [];
       works = worked_work ∷ [];
-      actors = worked_actor ∷ [];
+      actors = worked_actor last ∷ [];
     }
+
+-- the last line is `state a`
+abbrev pub worked_scenario : ScenarioContents
+worked_scenario = ending_with (instr.State (record { 0 = 0 }))
+
+-- the last line is `disable a`
+abbrev pub disabling_scenario : ScenarioContents
+disabling_scenario = ending_with (instr.Disable (record { 0 = 0 }))
 
 abbrev pub zeros : ℕ → List ℕ
 zeros n = replicate n 0
@@ -48,7 +53,7 @@ abbrev pub worked_head : List ℕ
 worked_head =
     in_order (
     (0x43 ∷ 0x4d ∷ 0x57 ∷ 0x51 ∷ [])
-    ∷ (0x00 ∷ 0x01 ∷ [])
+    ∷ (0x00 ∷ 0x02 ∷ [])
     ∷ (0x01 ∷ [])
     ∷ (0x04 ∷ [])
     ∷ (0x00 ∷ 0x00 ∷ 0x00 ∷ 0x08 ∷ [])
@@ -81,6 +86,10 @@ worked_actor_bytes =
     ∷ (0x21 ∷ []) ∷ zeros 7 ∷ (0x00 ∷ 0x00 ∷ 0x00 ∷ 0x01 ∷ [])
     ∷ [])
 
--- 126 bytes
+-- 126 bytes, of version 2
 abbrev pub worked_image : List ℕ
 worked_image = in_order (worked_head ∷ worked_queue_bytes ∷ worked_work_bytes ∷ worked_actor_bytes ∷ [])
+
+-- the same in version 1
+abbrev pub older_image : List ℕ
+older_image = slice_set worked_image 5 1

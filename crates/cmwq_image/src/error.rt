@@ -10,7 +10,7 @@ pub enum ImageError {
     /// They don't begin with `CMWQ`.
     #[error("Magic")]
     Magic,
-    /// The version isn't 1.
+    /// The version is neither 1 nor 2.
     #[error("Version")]
     Version,
     /// They end before a field does.

@@ -7,6 +7,7 @@ ghost use Rattle.cmwq_image.specs.declared.error.ImageError.TheVariants as error
 
 use crate::error::ImageError;
 use crate::tags::{InstrTag, OpTag};
+use crate::version::{FIRST_VERSION, VERSION};
 use cmwq_types::{MAX_NAME, Name};
 use std::marker::Model;
 
@@ -108,17 +109,18 @@ impl<'a> Fields<'a> {
         Ok(n)
     }
 
-    /// The version, which is 1.
-    pub(crate) fn version(&mut self) -> Result<(), ImageError>
+    /// The version, one of those that there are.
+    pub(crate) fn version(&mut self) -> Result<u16, ImageError>
         requires { self.old.at + 2 ≤ u32.MAX }
-        ensures read { GivesRead (λ nothing. (1, self.new)) result (read_version self.old) }
+        ensures read { GivesRead (λ version. (version, self.new)) result (read_version self.old) }
         ensures ahead { OnOk result (self.new.at ≡ self.old.at + 2) }
     {
         let bytes = self.take(2)?;
-        if u16::from_be_bytes([bytes[0], bytes[1]]) != 1 {
+        let version = u16::from_be_bytes([bytes[0], bytes[1]]);
+        if version < FIRST_VERSION || VERSION < version {
             return Err(ImageError::Version);
         }
-        Ok(())
+        Ok(version)
     }
 
     /// A name: its length, its bytes, and zeros.
@@ -143,15 +145,15 @@ impl<'a> Fields<'a> {
         OpTag::of(u8::from_be_bytes([bytes[0]])).ok_or(ImageError::BadField(at))
     }
 
-    /// The tag of an instruction.
-    pub(crate) fn instr_tag(&mut self) -> Result<InstrTag, ImageError>
+    /// The tag of an instruction that the version has.
+    pub(crate) fn instr_tag(&mut self, version: u16) -> Result<InstrTag, ImageError>
         requires { self.old.at + 1 ≤ u32.MAX }
-        ensures read { GivesRead (λ tag. (tag, self.new)) result (read_instr_tag self.old) }
+        ensures read { GivesRead (λ tag. (tag, self.new)) result (read_instr_tag version self.old) }
         ensures ahead { OnOk result (self.new.at ≡ self.old.at + 1) }
     {
         let at = self.at;
         let bytes = self.take(1)?;
-        InstrTag::of(u8::from_be_bytes([bytes[0]])).ok_or(ImageError::BadField(at))
+        InstrTag::of(version, u8::from_be_bytes([bytes[0]])).ok_or(ImageError::BadField(at))
     }
 }
 

@@ -3,10 +3,12 @@ ghost use Rattle.cmwq_image.specs.FaultMeaning.{Means};
 ghost use Rattle.cmwq_image.specs.Image.{image};
 ghost use Rattle.cmwq_image.specs.ImageFault.{GivesRead, reading};
 ghost use Rattle.cmwq_image.specs.Limits.{AreBytes, HasSize};
+ghost use Rattle.cmwq_image.specs.Versions.{HasVersion, IsImageOf, NeverDisables};
 ghost use Rattle.cmwq_types.specs.Values.{IsScenario};
-ghost use Rattle.cmwq_image.specs.Worked.{worked_image, worked_scenario};
+ghost use Rattle.cmwq_image.specs.Worked.{disabling_scenario, older_image, worked_image, worked_scenario};
 ghost use Rattle.cmwq_image.specs.declared.error.ImageError.{ImageError};
 ghost use Rattle.cmwq_image.specs.declared.error.ImageError.TheVariants as errors;
+ghost use Rattle.cmwq_image.specs.declared.version.TheConstants.{FIRST_VERSION, VERSION};
 ghost use Rattle.cmwq_types.specs.Contents.{ScenarioContents};
 ghost use Rattle.cmwq_types.specs.Faults.{IsValid};
 ghost use Rattle.cmwq_types.specs.declared.check.Fault.TheVariants.{Range};
@@ -18,19 +20,28 @@ use crate::writing::write;
 use cmwq_types::Scenario;
 use std::alloc::Global;
 
-/// Bytes are read as a scenario exactly where they are its image and it is valid.
+/// Bytes are read as a scenario exactly where they are its image, of whichever version, and it is valid.
 pub fn images_are_read()
-    ensures { (bytes : List ℕ) (S : ScenarioContents) → AreBytes bytes → (reading bytes ≡ Ok S) ↔ (IsScenario S × IsValid S × (bytes ≡ image S)) }
+    ensures { (bytes : List ℕ) (S : ScenarioContents) → AreBytes bytes → (reading bytes ≡ Ok S) ↔ (IsScenario S × IsValid S × IsImageOf bytes S) }
 {}
 
-/// What is written is read again.
+/// What is written in a version that has the scenario's instructions is read again.
 #[tactic(auto, using(crate::proofs::ReadingLemmas::reading_again))]
 pub fn written_is_read()
-    ensures { (S : ScenarioContents) → IsScenario S → IsValid S → reading (image S) ≡ Ok S }
+    ensures { (S : ScenarioContents) (version : ℕ) → IsScenario S → IsValid S → HasVersion S version → reading (image version S) ≡ Ok S }
+{}
+
+/// The version that is written has each scenario's instructions; the first one has them exactly where no actor
+/// disables or enables a work.
+#[tactic(auto, using(crate::proofs::VersionLemmas::newest, crate::proofs::VersionLemmas::oldest))]
+pub fn versions_of_a_scenario()
+    ensures newest { (S : ScenarioContents) → HasVersion S VERSION }
+    ensures first { (S : ScenarioContents) → HasVersion S FIRST_VERSION ↔ NeverDisables S.actors }
 {}
 
 /// Writes the scenario and reads it again: it comes back, unless memory runs out. This stands on what `write`
 /// and `read` say and on nothing else of them.
+#[tactic(auto, using(crate::proofs::VersionLemmas::newest_image))]
 pub fn read_back(alloc: Global, scenario: &Scenario) -> Result<Scenario, ImageError>
     requires { IsValid scenario.now }
     ensures { GivesRead (λ again. again) result (Ok scenario.now) }
@@ -39,11 +50,10 @@ pub fn read_back(alloc: Global, scenario: &Scenario) -> Result<Scenario, ImageEr
     read(alloc, &bytes)
 }
 
-/// Each image is that of one scenario. The scenarios needn't be valid, but have no more parts than an image can
-/// have, and no empty body.
-#[tactic(auto, using(crate::proofs::ReadingLemmas::one_image))]
+/// Each image is that of one scenario, whatever its version. The scenarios needn't be valid, but have no more parts
+/// than an image can have, and no empty body.
 pub fn image_has_one_scenario()
-    ensures { (S T : ScenarioContents) → IsScenario S → HasSize S → IsScenario T → HasSize T → image S ≡ image T → S ≡ T }
+    ensures { (bytes : List ℕ) (S T : ScenarioContents) → IsScenario S → HasSize S → IsScenario T → HasSize T → IsImageOf bytes S → IsImageOf bytes T → S ≡ T }
 {}
 
 /// What each fault says of the bytes, in words of images alone.
@@ -54,10 +64,9 @@ pub fn faults_have_meanings()
 
 /// No image is longer than 923,058 bytes. The scenario needn't be valid, but has no more parts than an image can
 /// have, and no empty body; a valid one is so.
-#[tactic(auto, using(crate::proofs::FrontLemmas::image_size, crate::proofs::FrontLemmas::valid_image_size))]
 pub fn image_is_at_most_923058_bytes()
-    ensures sized { (S : ScenarioContents) → IsScenario S → HasSize S → length (image S) ≤ 923058 }
-    ensures valid { (S : ScenarioContents) → IsScenario S → IsValid S → length (image S) ≤ 923058 }
+    ensures sized { (bytes : List ℕ) (S : ScenarioContents) → IsScenario S → HasSize S → IsImageOf bytes S → length bytes ≤ 923058 }
+    ensures valid { (bytes : List ℕ) (S : ScenarioContents) → IsScenario S → IsValid S → IsImageOf bytes S → length bytes ≤ 923058 }
 {}
 
 /// No image is longer than 923,058 bytes, so what stands behind the first 923,059 bytes changes nothing: these, or
@@ -67,9 +76,10 @@ pub fn far_bytes_change_no_reading()
     ensures { (n : ℕ) (bytes : List ℕ) → 923058 < n → reading (take n bytes) ≡ reading bytes }
 {}
 
-/// The worked image is the image of the worked scenario, which is valid.
+/// The worked image is the image of the worked scenario, which is valid; with 1 in its byte 5 it is that of version 1.
 pub fn worked_image_is_written()
-    ensures image { image worked_scenario ≡ worked_image }
+    ensures image { image VERSION worked_scenario ≡ worked_image }
+    ensures older { image FIRST_VERSION worked_scenario ≡ older_image }
     ensures size { length worked_image ≡ 126 }
     ensures valid { IsValid worked_scenario }
 {}
@@ -78,10 +88,14 @@ pub fn worked_image_is_written()
 #[tactic(auto, unfolding(crate::specs::ImageFault::reading, crate::specs::ImageFault::scenario_at, crate::specs::ImageFault::read_head, crate::specs::ImageFault::read_queue, crate::specs::ImageFault::read_work, crate::specs::ImageFault::read_op, crate::specs::ImageFault::read_actor, crate::specs::ImageFault::read_line, crate::specs::ImageFault::read_instr))]
 pub fn worked_image_is_read()
     ensures read { reading worked_image ≡ Ok worked_scenario }
+    ensures older { reading older_image ≡ Ok worked_scenario }
     ensures empty { reading [] ≡ Err errors.Magic }
     ensures shorter { reading (take 125 worked_image) ≡ Err errors.Truncated }
     ensures longer { reading (worked_image ++ 0 ∷ []) ≡ Err errors.Extra }
     ensures zero_byte { reading (slice_set worked_image 37 1) ≡ Err (errors.BadField 37) }
     ensures cpus { reading (slice_set worked_image 6 17) ≡ Err (errors.Fault Range) }
-    ensures version { reading (slice_set worked_image 5 2) ≡ Err errors.Version }
+    ensures version_0 { reading (slice_set worked_image 5 0) ≡ Err errors.Version }
+    ensures version_3 { reading (slice_set worked_image 5 3) ≡ Err errors.Version }
+    ensures disable { reading (slice_set worked_image 114 34) ≡ Ok disabling_scenario }
+    ensures older_disable { reading (slice_set older_image 114 34) ≡ Err (errors.BadField 114) }
 {}

@@ -8,9 +8,11 @@ pub mod laws;
 mod parts;
 mod reading;
 mod tags;
+mod version;
 mod word;
 mod writing;
 
 pub use error::ImageError;
 pub use reading::read;
+pub use version::{FIRST_VERSION, VERSION};
 pub use writing::write;

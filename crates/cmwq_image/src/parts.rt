@@ -13,17 +13,16 @@ use cmwq_types::{
 use std::alloc::Global;
 
 impl<'a> Fields<'a> {
-    /// What stands behind the magic bytes, up to the queues.
+    /// What stands behind the version, up to the queues.
     #[tactic(auto, unfolding(crate::specs::ImageFault::read_head))]
     pub(crate) fn head(&mut self) -> Result<Head, ImageError>
-        requires { self.old.at + 14 ≤ u32.MAX }
+        requires { self.old.at + 12 ≤ u32.MAX }
         ensures read { GivesRead (λ head. (head, self.new)) result (read_head self.old) }
         ensures queues { IfOk result (λ head. head.queues ≤ MAX_QUEUES) }
         ensures works { IfOk result (λ head. head.works ≤ MAX_WORKS) }
         ensures actors { IfOk result (λ head. head.actors ≤ MAX_ACTORS) }
-        ensures ahead { OnOk result (self.new.at ≡ self.old.at + 14) }
+        ensures ahead { OnOk result (self.new.at ≡ self.old.at + 12) }
     {
-        self.version()?;
         let cpus = self.byte(0, u8::MAX)?;
         let workers = self.byte(0, u8::MAX)?;
         let steps = self.long(0, u32::MAX)?;
@@ -122,62 +121,67 @@ impl<'a> Fields<'a> {
         Ok(tag.with(cpu, a, n))
     }
 
-    /// So many actors.
-    pub(crate) fn actors(&mut self, alloc: Global, count: u8) -> Result<Vec<Actor>, ImageError>
+    /// So many actors, with instructions of the version.
+    pub(crate) fn actors(
+        &mut self,
+        alloc: Global,
+        version: u16,
+        count: u8,
+    ) -> Result<Vec<Actor>, ImageError>
         requires { self.old.at + 49170 * count ≤ u32.MAX }
-        ensures read { GivesRead (λ actors. (actors.items, self.new)) result (many read_actor count self.old) }
+        ensures read { GivesRead (λ actors. (actors.items, self.new)) result (many (read_actor version) count self.old) }
         ensures ahead { OnOk result (self.new.at ≤ self.old.at + 49170 * count) }
     {
         let mut actors = Vec::new(alloc);
         for _ in 0..count {
-            actors.push(self.actor(alloc)?)?;
+            actors.push(self.actor(alloc, version)?)?;
         }
         Ok(actors)
     }
 
     #[tactic(auto, unfolding(crate::specs::ImageFault::read_actor))]
-    fn actor(&mut self, alloc: Global) -> Result<Actor, ImageError>
+    fn actor(&mut self, alloc: Global, version: u16) -> Result<Actor, ImageError>
         requires { self.old.at + 49170 ≤ u32.MAX }
-        ensures read { GivesRead (λ actor. (actor, self.new)) result (read_actor self.old) }
+        ensures read { GivesRead (λ actor. (actor, self.new)) result (read_actor version self.old) }
         ensures ahead { OnOk result (self.new.at ≤ self.old.at + 49170) }
     {
         let name = self.name()?;
         let count = self.short(0, MAX_LINES as u16)?;
-        let lines = self.lines(alloc, count)?;
+        let lines = self.lines(alloc, version, count)?;
         Ok(Actor { name, lines })
     }
 
     /// So many lines.
-    fn lines(&mut self, alloc: Global, count: u16) -> Result<Vec<Line>, ImageError>
+    fn lines(&mut self, alloc: Global, version: u16, count: u16) -> Result<Vec<Line>, ImageError>
         requires { self.old.at + 12 * count ≤ u32.MAX }
-        ensures read { GivesRead (λ lines. (lines.items, self.new)) result (many read_line count self.old) }
+        ensures read { GivesRead (λ lines. (lines.items, self.new)) result (many (read_line version) count self.old) }
         ensures ahead { OnOk result (self.new.at ≤ self.old.at + 12 * count) }
     {
         let mut lines = Vec::new(alloc);
         for _ in 0..count {
-            lines.push(self.line()?)?;
+            lines.push(self.line(version)?)?;
         }
         Ok(lines)
     }
 
     #[tactic(auto, unfolding(crate::specs::ImageFault::read_line))]
-    fn line(&mut self) -> Result<Line, ImageError>
+    fn line(&mut self, version: u16) -> Result<Line, ImageError>
         requires { self.old.at + 12 ≤ u32.MAX }
-        ensures read { GivesRead (λ line. (line, self.new)) result (read_line self.old) }
+        ensures read { GivesRead (λ line. (line, self.new)) result (read_line version self.old) }
         ensures ahead { OnOk result (self.new.at ≡ self.old.at + 12) }
     {
-        let instr = self.instr()?;
+        let instr = self.instr(version)?;
         let times = self.long(0, u32::MAX)?;
         Ok(Line { instr, times })
     }
 
     #[tactic(auto, unfolding(crate::specs::ImageFault::read_instr))]
-    fn instr(&mut self) -> Result<Instr, ImageError>
+    fn instr(&mut self, version: u16) -> Result<Instr, ImageError>
         requires { self.old.at + 8 ≤ u32.MAX }
-        ensures read { GivesRead (λ instr. (instr, self.new)) result (read_instr self.old) }
+        ensures read { GivesRead (λ instr. (instr, self.new)) result (read_instr version self.old) }
         ensures ahead { OnOk result (self.new.at ≡ self.old.at + 8) }
     {
-        let tag = self.instr_tag()?;
+        let tag = self.instr_tag(version)?;
         let room = tag.room();
         let cpu = self.byte(0, room.cpu)?;
         let a = self.short(0, room.a)?;

@@ -1,7 +1,7 @@
 //! Reading an image.
 ghost use Rattle.cmwq_image.specs.FaultMeaning.{Means};
-ghost use Rattle.cmwq_image.specs.Image.{image};
 ghost use Rattle.cmwq_image.specs.ImageFault.{GivesRead, reading, scenario_at};
+ghost use Rattle.cmwq_image.specs.Versions.{IsImageOf};
 ghost use Rattle.cmwq_types.specs.Values.{IsScenario};
 ghost use Rattle.cmwq_types.specs.Contents.{ScenarioContents};
 ghost use Rattle.cmwq_types.specs.Faults.{IsValid};
@@ -12,16 +12,16 @@ use crate::fields::Fields;
 use cmwq_types::Scenario;
 use std::alloc::Global;
 
-/// The scenario of which the bytes are the image.
+/// The scenario of which the bytes are the image, of version 2 or of version 1.
 ///
 /// Faults are judged in this order, which is this project's own: `Magic`; then field by field from the
 /// left `Truncated`, `Version` or `BadField`; then `Extra`; then the first fault of the scenario itself. Besides
 /// there may be `NoMemory`, which says nothing of the bytes.
 pub fn read(alloc: Global, bytes: &[u8]) -> Result<Scenario, ImageError>
-    // What is read has the bytes as its image.
-    ensures found { IfOk result (λ scenario. IsScenario scenario × IsValid scenario × (bytes.now ≡ image scenario)) }
+    // What is read has the bytes as its image of some version.
+    ensures found { IfOk result (λ scenario. IsScenario scenario × IsValid scenario × IsImageOf bytes.now scenario) }
     // The image of a valid scenario is read, unless memory runs out.
-    ensures only { (S : ScenarioContents) → IsScenario S → IsValid S → bytes.now ≡ image S → GivesRead (λ scenario. scenario) result (Ok S) }
+    ensures only { (S : ScenarioContents) → IsScenario S → IsValid S → IsImageOf bytes.now S → GivesRead (λ scenario. scenario) result (Ok S) }
     // Which fault it is: the first one from the left.
     ensures fault { GivesRead (λ scenario. scenario) result (reading bytes.now) }
     // What the fault says of the bytes.
@@ -50,10 +50,11 @@ fn read_scenario(alloc: Global, fields: &mut Fields) -> Result<Scenario, ImageEr
     requires { fields.old.at ≡ 4 }
     ensures { GivesRead (λ scenario. (scenario, fields.new)) result (scenario_at fields.old) }
 {
+    let version = fields.version()?;
     let head = fields.head()?;
     let queues = fields.queues(alloc, head.queues)?;
     let works = fields.works(alloc, head.works)?;
-    let actors = fields.actors(alloc, head.actors)?;
+    let actors = fields.actors(alloc, version, head.actors)?;
     Ok(Scenario {
         cpus: head.cpus,
         workers: head.workers,

@@ -1,7 +1,9 @@
 //! The tags of words, and what each says of the fields behind it.
-ghost use Rattle.cmwq_image.specs.ImageFault.{instr_of, instr_room, instr_tag_of, op_of, op_room, op_tag_of};
+ghost use Rattle.cmwq_image.specs.Image.{last_tag};
+ghost use Rattle.cmwq_image.specs.ImageFault.{instr_of, instr_room, instr_tag_in, instr_tag_of, op_of, op_room, op_tag_of};
 ghost use Rattle.std.specs.Prelude.{◌≡◌, ◌≤◌};
 
+use crate::version::FIRST_VERSION;
 use crate::word::Room;
 use cmwq_types::{Instr, Op, QueueId, WorkId};
 
@@ -73,11 +75,24 @@ pub(crate) enum InstrTag {
     Ask = 31,
     Busy = 32,
     State = 33,
+    Disable = 34,
+    Enable = 35,
 }
 
 impl InstrTag {
+    /// The tag with this number, if the version has it.
+    pub(crate) fn of(version: u16, byte: u8) -> Option<InstrTag>
+        ensures { result ≡ instr_tag_in version byte }
+    {
+        if byte <= last_tag(version) {
+            InstrTag::numbered(byte)
+        } else {
+            None
+        }
+    }
+
     /// The tag with this number.
-    pub(crate) fn of(byte: u8) -> Option<InstrTag>
+    fn numbered(byte: u8) -> Option<InstrTag>
         ensures { result ≡ instr_tag_of byte }
     {
         match byte {
@@ -99,6 +114,8 @@ impl InstrTag {
             31 => Some(InstrTag::Ask),
             32 => Some(InstrTag::Busy),
             33 => Some(InstrTag::State),
+            34 => Some(InstrTag::Disable),
+            35 => Some(InstrTag::Enable),
             _ => None,
         }
     }
@@ -115,7 +132,9 @@ impl InstrTag {
             | InstrTag::Flush
             | InstrTag::FlushDelayed
             | InstrTag::Ask
-            | InstrTag::State => Room::new(0, u16::MAX, 0),
+            | InstrTag::State
+            | InstrTag::Disable
+            | InstrTag::Enable => Room::new(0, u16::MAX, 0),
             InstrTag::FlushQueue => Room::new(0, 255, 0),
             InstrTag::SetMax => Room::new(0, 255, u32::MAX),
             InstrTag::Step => Room::new(u8::MAX, 0, 0),
@@ -152,6 +171,15 @@ impl InstrTag {
             InstrTag::Ask => Instr::Ask(a),
             InstrTag::Busy => Instr::Busy,
             InstrTag::State => Instr::State(WorkId(a)),
+            InstrTag::Disable => Instr::Disable(WorkId(a)),
+            InstrTag::Enable => Instr::Enable(WorkId(a)),
         }
     }
+}
+
+/// The last tag of an instruction that the version has.
+fn last_tag(version: u16) -> u8
+    ensures { result ≡ last_tag version }
+{
+    if version == FIRST_VERSION { 33 } else { 35 }
 }

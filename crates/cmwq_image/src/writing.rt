@@ -5,21 +5,23 @@ ghost use Rattle.cmwq_types.specs.Values.{IsActor, IsScenario, IsInstr, IsLine, 
 ghost use Rattle.cmwq_types.specs.Faults.{IsValid};
 ghost use Rattle.cmwq_types.specs.Name.{is_name};
 ghost use Rattle.cmwq_types.specs.declared.limits.TheConstants.{MAX_ACTORS, MAX_LINES, MAX_OPS, MAX_QUEUES, MAX_WORKS};
+ghost use Rattle.cmwq_image.specs.declared.version.TheConstants.{VERSION};
 ghost use Rattle.std.specs.Int.{w8, w16, w32};
 ghost use Rattle.std.specs.List.{All, flat_map};
 ghost use Rattle.std.specs.Prelude.{◌≡◌, ◌∷◌, ◌++◌, ◌≤◌, ◌<◌, ◌^◌, [], IfOk, IsTrue, OnOk, length};
 
 use crate::tags::{InstrTag, OpTag};
+use crate::version::VERSION;
 use crate::word::Word;
 use cmwq_types::{Actor, Flags, Instr, Line, Name, NoMemory, Op, QueueDecl, Scenario, WorkDecl};
 use std::alloc::Global;
 
 /// The image of a valid scenario, at most 923,058 bytes: a head, then each queue, each work with its operations and
 /// each actor with its lines, in order, numbers with their highest byte first. The format is this project's own,
-/// version 1, and is drawn in `docs/FORMATS.md`. The only error is want of memory.
+/// version 2, and is drawn in `docs/FORMATS.md`. The only error is want of memory.
 pub fn write(alloc: Global, scenario: &Scenario) -> Result<Vec<u8>, NoMemory>
     requires { IsValid scenario.now }
-    ensures image { IfOk result (λ bytes. bytes.items ≡ image scenario.now) }
+    ensures image { IfOk result (λ bytes. bytes.items ≡ image VERSION scenario.now) }
     ensures contents { OnOk result (IsScenario scenario.now) }
 {
     let mut bytes = Vec::new(alloc);
@@ -69,14 +71,14 @@ fn push_head(bytes: &mut Vec<u8>, scenario: &Scenario) -> Result<(), NoMemory>
     requires queues { length scenario.now.queues ≤ MAX_QUEUES }
     requires works { length scenario.now.works ≤ MAX_WORKS }
     requires actors { length scenario.now.actors ≤ MAX_ACTORS }
-    ensures image { OnOk result (bytes.new.items ≡ bytes.old.items ++ head_image scenario.now) }
+    ensures image { OnOk result (bytes.new.items ≡ bytes.old.items ++ head_image VERSION scenario.now) }
     ensures cpus { OnOk result (scenario.now.cpus < 2 ^ 8) }
     ensures workers { OnOk result (scenario.now.workers < 2 ^ 8) }
     ensures steps { OnOk result (scenario.now.steps < 2 ^ 32) }
     ensures flushes { OnOk result (scenario.now.flushes < 2 ^ 16) }
 {
     bytes.extend_from_slice(b"CMWQ")?;
-    push_short(bytes, 1)?;
+    push_short(bytes, VERSION)?;
     push_numbers(bytes, scenario)?;
     push_counts(bytes, scenario)?;
     Ok(())
@@ -263,5 +265,7 @@ fn instr_word(instr: Instr) -> Word
         Instr::Ask(flush) => Word::new(InstrTag::Ask as u8, 0, flush, 0),
         Instr::Busy => Word::new(InstrTag::Busy as u8, 0, 0, 0),
         Instr::State(work) => Word::new(InstrTag::State as u8, 0, work.0, 0),
+        Instr::Disable(work) => Word::new(InstrTag::Disable as u8, 0, work.0, 0),
+        Instr::Enable(work) => Word::new(InstrTag::Enable as u8, 0, work.0, 0),
     }
 }

@@ -243,6 +243,8 @@ fn push_instr(text: &mut Vec<u8>, scenario: &Scenario, instr: Instr) -> Result<(
         Instr::Ask(flush) => push_counted(text, Mnemonic::Ask, u32::from(flush)),
         Instr::Busy => push_alone(text, Mnemonic::Busy),
         Instr::State(work) => push_named(text, Mnemonic::State, work_name(scenario, work)),
+        Instr::Disable(work) => push_named(text, Mnemonic::Disable, work_name(scenario, work)),
+        Instr::Enable(work) => push_named(text, Mnemonic::Enable, work_name(scenario, work)),
     }
 }
 

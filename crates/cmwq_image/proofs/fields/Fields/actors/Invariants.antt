@@ -5,6 +5,6 @@ use Rattle.cmwq_image.specs.ImageFault.{read_actor, many}
 
 abbrev pub invariant-loop : goal.invariant-loop
 invariant-loop l = record {
-  read : with_front l.actors.items (many read_actor (l.count - l.counter) l.self) ≡ many read_actor l.count l.fn.self;
+  read : with_front l.actors.items (many (read_actor l.version) (l.count - l.counter) l.self) ≡ many (read_actor l.version) l.count l.fn.self;
   ahead : l.self.at ≤ l.fn.self.at + 49170 * l.counter;
 }

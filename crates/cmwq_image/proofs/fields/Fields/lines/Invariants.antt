@@ -5,6 +5,6 @@ use Rattle.cmwq_image.specs.ImageFault.{read_line, many}
 
 abbrev pub invariant-loop : goal.invariant-loop
 invariant-loop l = record {
-  read : with_front l.lines.items (many read_line (l.count - l.counter) l.self) ≡ many read_line l.count l.fn.self;
+  read : with_front l.lines.items (many (read_line l.version) (l.count - l.counter) l.self) ≡ many (read_line l.version) l.count l.fn.self;
   ahead : l.self.at ≤ l.fn.self.at + 12 * l.counter;
 }
