@@ -1,6 +1,6 @@
 -- How far the changes take the counters, and that no instruction takes one too far.
-use Rattle.std.proofs.Common.{◌≡◌, ℕ, zero, suc, ◌+◌, ◌*◌, ◌<◌, ◌≤◌, Bool, true, false, cond, ◌||◌, List, [], ◌∷◌, Option, Some, None, length, arith, refl, ◌∙◌}
-use Rattle.std.specs.Prelude.{if◌then◌else◌, nat_lt, slice_set}
+use Rattle.std.proofs.Common.{◌≡◌, ℕ, zero, suc, ◌+◌, ◌-◌, ◌*◌, ◌<◌, ◌≤◌, Bool, true, false, cond, ◌||◌, List, [], ◌∷◌, Option, Some, None, length, replicate, arith, refl, ◌∙◌}
+use Rattle.std.specs.Prelude.{if◌then◌else◌, nat_lt, slice_index_or, slice_set}
 use Rattle.std.proofs.lemmas.Bool.{ltb-true}
 use Rattle.cmwq_types.specs.Contents.{ScenarioContents}
 use Rattle.cmwq_types.specs.Scenario.{flags_at, op_at, pool_count, queue_of}
@@ -8,7 +8,7 @@ use Rattle.cmwq_types.specs.Setting.{IsSetting}
 use Rattle.cmwq_types.specs.declared.instr.Instr.{Instr}
 use Rattle.cmwq_types.specs.declared.instr.Instr.TheVariants as instr
 use Rattle.cmwq_types.specs.declared.instr.WorkId.{WorkId}
-use Rattle.cmwq_types.specs.declared.limits.TheConstants.{MAX_WORKS}
+use Rattle.cmwq_types.specs.declared.limits.TheConstants.{MAX_DEPTH, MAX_WORKS}
 use Rattle.cmwq_types.specs.declared.moves.Move.{Move}
 use Rattle.cmwq_types.specs.declared.moves.Move.TheVariants.{Advance, Wake, Start, Defer}
 use Rattle.cmwq_types.specs.declared.reply.Event.{Event}
@@ -16,32 +16,32 @@ use Rattle.cmwq_types.specs.declared.reply.Event.TheVariants as event
 use Rattle.cmwq_types.specs.declared.reply.Place.{Place}
 use Rattle.cmwq_types.specs.declared.reply.Place.TheVariants.{Timer, Inactive, Listed, Deferred}
 use Rattle.cmwq_types.specs.declared.reply.Refusal.{Refusal}
-use Rattle.cmwq_types.specs.declared.reply.Refusal.TheVariants.{Spent}
+use Rattle.cmwq_types.specs.declared.reply.Refusal.TheVariants.{Spent, TooDeep}
 use Rattle.cmwq_types.specs.declared.scenario.Op.{Op}
 use Rattle.cmwq_types.specs.declared.scenario.Op.TheVariants as op
 use Rattle.cmwq_types.proofs.SettingLemmas.{IsSetting-valid}
 use Rattle.cmwq_table.specs.Counts.{first_due, first_inactive, free_worker, has_room, is_deferred, or_else}
 use Rattle.cmwq_table.specs.Laws.{InEveryState}
-use Rattle.cmwq_table.specs.Moves.{advance, begin_again, carry_out, come_to_end, deferred, enlist, fill, fill_everywhere, fill_freezable, fill_from, fill_one, fill_pools, fill_times, finish, fire, fired, fired_to, first_moving, moved, next_move, onward, place, place_after, queue_from_body, retire, set_max, started, taken_off, thaw, tick, with_pending, woken}
+use Rattle.cmwq_table.specs.Moves.{advance, begin_again, carry_out, come_to_end, deferred, enlist, fill, fill_everywhere, fill_freezable, fill_from, fill_one, fill_pools, fill_times, finish, fire, fired, fired_to, first_moving, moved, next_move, onward, place, place_after, queue_from_body, retire, set_max, started, taken_off, thaw, tick, with_depth, with_pending, woken}
 use Rattle.cmwq_table.specs.Ready.{HasCounters, Takes, most_everywhere, most_stamps}
-use Rattle.cmwq_table.specs.State.{State, pending_at, running_at, start}
+use Rattle.cmwq_table.specs.State.{State, depth_at, is_disabled, pending_at, running_at, start}
 use Rattle.cmwq_table.specs.Table.{after_all, answer, cancelled, delayed, effect, fired_first, is_question, modified, next, operands, queued, refuse_unless, situation, spent_all, step_or_tick, stepped, table}
 use Rattle.cmwq_table.specs.declared.state.Pending.{Pending}
 use Rattle.cmwq_table.specs.declared.state.Running.{Running}
 
 stays : (n : ℕ) (s : State) → Takes n s s
-stays n s = record { next = omega arith; time = refl; spent = refl; flushes = refl }
+stays n s = record { next = omega arith; time = refl; spent = refl; depth = refl; flushes = refl }
 
 both : (m n k : ℕ) (s t u : State) → Takes m s t → Takes n t u → m + n ≤ k → Takes k s u
-both m n k s t u a b h = record { next = omega (arith, a.next, b.next); time = b.time ∙ a.time; spent = b.spent ∙ a.spent; flushes = b.flushes ∙ a.flushes }
+both m n k s t u a b h = record { next = omega (arith, a.next, b.next); time = b.time ∙ a.time; spent = b.spent ∙ a.spent; depth = b.depth ∙ a.depth; flushes = b.flushes ∙ a.flushes }
 
 within : (m n : ℕ) (s t : State) → Takes m s t → m ≤ n → Takes n s t
-within m n s t a h = record { next = omega (arith, a.next); time = a.time; spent = a.spent; flushes = a.flushes }
+within m n s t a h = record { next = omega (arith, a.next); time = a.time; spent = a.spent; depth = a.depth; flushes = a.flushes }
 
 -- Filling.
 
 enlist-takes : (s : State) (pool : ℕ) (o : Option ℕ) → Takes 1 s (enlist s pool o)
-enlist-takes s pool (Some w) = record { next = omega arith; time = refl; spent = refl; flushes = refl }
+enlist-takes s pool (Some w) = record { next = omega arith; time = refl; spent = refl; depth = refl; flushes = refl }
 enlist-takes s pool None = stays 1 s
 
 pub fill_one-takes : (S : ScenarioContents) (queue pool : ℕ) (s : State) → Takes 1 s (fill_one S queue pool s)
@@ -77,21 +77,21 @@ fill_freezable-takes S (suc n) s setting =
 pub set_max-takes : (S : ScenarioContents) (s : State) (queue max : ℕ) → IsSetting S → Takes most_everywhere s (set_max S s queue max)
 set_max-takes S s queue max setting =
     let filled = fill_everywhere-takes S queue (record s { max = slice_set s.max queue max }) setting in
-    record { next = filled.next; time = filled.time; spent = filled.spent; flushes = filled.flushes }
+    record { next = filled.next; time = filled.time; spent = filled.spent; depth = filled.depth; flushes = filled.flushes }
 
 pub thaw-takes : (S : ScenarioContents) (s : State) → IsSetting S → Takes most_stamps s (thaw S s)
 thaw-takes S s setting =
     let filled = fill_freezable-takes S (length S.queues) (record s { frozen = false }) setting in
-    record { next = omega (arith, filled.next, setting.queues); time = filled.time; spent = filled.spent; flushes = filled.flushes }
+    record { next = omega (arith, filled.next, setting.queues); time = filled.time; spent = filled.spent; depth = filled.depth; flushes = filled.flushes }
 
 -- Placing and taking off.
 
 place-takes : (S : ScenarioContents) (s : State) (w cpu : ℕ) → Takes 1 s (place S s w cpu)
-place-takes S s w cpu = record { next = omega arith; time = refl; spent = refl; flushes = refl }
+place-takes S s w cpu = record { next = omega arith; time = refl; spent = refl; depth = refl; flushes = refl }
 
 place_after-takes : (S : ScenarioContents) (s : State) (w cpu ticks : ℕ) → Takes 1 s (place_after S s w cpu ticks)
 place_after-takes S s w cpu zero = place-takes S s w cpu
-place_after-takes S s w cpu (suc ticks) = record { next = omega arith; time = refl; spent = refl; flushes = refl }
+place_after-takes S s w cpu (suc ticks) = record { next = omega arith; time = refl; spent = refl; depth = refl; flushes = refl }
 
 pub fill_from-takes : (S : ScenarioContents) (queue : ℕ) (at : Place) (s : State) → IsSetting S → Takes MAX_WORKS s (fill_from S queue at s)
 fill_from-takes S queue (Timer due cpu) s setting = stays MAX_WORKS s
@@ -102,11 +102,11 @@ fill_from-takes S queue (Deferred pool) s setting = fill-takes S queue pool s se
 pub taken_off-takes : (S : ScenarioContents) (s : State) (w : ℕ) (p : Option Pending) → IsSetting S → Takes MAX_WORKS s (taken_off S s w p)
 taken_off-takes S s w (Some p) setting =
     let filled = fill_from-takes S (queue_of S w) p.place (with_pending s w None) setting in
-    record { next = filled.next; time = filled.time; spent = filled.spent; flushes = filled.flushes }
+    record { next = filled.next; time = filled.time; spent = filled.spent; depth = filled.depth; flushes = filled.flushes }
 taken_off-takes S s w None setting = stays MAX_WORKS s
 
 fired_to-takes : (S : ScenarioContents) (s : State) (w : ℕ) (at : Place) → Takes 1 s (fired_to S s w at)
-fired_to-takes S s w (Timer due cpu) = record { next = omega arith; time = refl; spent = refl; flushes = refl }
+fired_to-takes S s w (Timer due cpu) = record { next = omega arith; time = refl; spent = refl; depth = refl; flushes = refl }
 fired_to-takes S s w (Inactive pool) = stays 1 s
 fired_to-takes S s w (Listed pool) = stays 1 s
 fired_to-takes S s w (Deferred pool) = stays 1 s
@@ -123,8 +123,8 @@ either-takes n s false x y a c = c
 
 pub come_to_end-takes : (s : State) (w : ℕ) (r : Running) (p : Option Pending) → Takes 1 s (come_to_end s w r p).0
 come_to_end-takes s w r (Some p) =
-    either-takes 1 s (is_deferred p.place) (begin_again s w r p, event.FinishesAndStarts) (retire s w r, event.Finishes) (record { next = omega arith; time = refl; spent = refl; flushes = refl }) (record { next = omega arith; time = refl; spent = refl; flushes = refl })
-come_to_end-takes s w r None = record { next = omega arith; time = refl; spent = refl; flushes = refl }
+    either-takes 1 s (is_deferred p.place) (begin_again s w r p, event.FinishesAndStarts) (retire s w r, event.Finishes) (record { next = omega arith; time = refl; spent = refl; depth = refl; flushes = refl }) (record { next = omega arith; time = refl; spent = refl; depth = refl; flushes = refl })
+come_to_end-takes s w r None = record { next = omega arith; time = refl; spent = refl; depth = refl; flushes = refl }
 
 -- what a move takes at most
 abbrev pub most_of_move : ℕ
@@ -135,16 +135,17 @@ finish-takes S s w r setting =
     let ended : State = (come_to_end s w r (pending_at s w)).0 in
     both 1 MAX_WORKS most_of_move s ended (fill S (queue_of S w) r.pool ended) (come_to_end-takes s w r (pending_at s w)) (fill-takes S (queue_of S w) r.pool ended setting) (omega arith)
 
-queue_from_body-takes : (S : ScenarioContents) (s : State) (other : WorkId) (cpu : ℕ) (p : Option Pending) → Takes most_of_move s (queue_from_body S s other cpu p).0
-queue_from_body-takes S s other cpu (Some p) = stays most_of_move s
-queue_from_body-takes S s other cpu None = record { next = omega arith; time = refl; spent = refl; flushes = refl }
+queue_from_body-takes : (S : ScenarioContents) (s : State) (other : WorkId) (cpu : ℕ) (b : Bool) (p : Option Pending) → Takes most_of_move s (queue_from_body S s other cpu b p).0
+queue_from_body-takes S s other cpu true p = stays most_of_move s
+queue_from_body-takes S s other cpu false (Some p) = stays most_of_move s
+queue_from_body-takes S s other cpu false None = record { next = omega arith; time = refl; spent = refl; depth = refl; flushes = refl }
 
 carry_out-takes : (S : ScenarioContents) (s : State) (w : ℕ) (r : Running) (o : Op) → IsSetting S → Takes most_of_move s (carry_out S s w r o).0
-carry_out-takes S s w r (op.Burn ticks) setting = record { next = omega arith; time = refl; spent = refl; flushes = refl }
-carry_out-takes S s w r (op.Sleep ticks) setting = record { next = omega arith; time = refl; spent = refl; flushes = refl }
+carry_out-takes S s w r (op.Burn ticks) setting = record { next = omega arith; time = refl; spent = refl; depth = refl; flushes = refl }
+carry_out-takes S s w r (op.Sleep ticks) setting = record { next = omega arith; time = refl; spent = refl; depth = refl; flushes = refl }
 carry_out-takes S s w r (op.Queue other cpu) setting =
-    let placed = queue_from_body-takes S (onward s w r) other cpu (pending_at s other.0) in
-    record { next = placed.next; time = placed.time; spent = placed.spent; flushes = placed.flushes }
+    let placed = queue_from_body-takes S (onward s w r) other cpu (is_disabled s other.0) (pending_at s other.0) in
+    record { next = placed.next; time = placed.time; spent = placed.spent; depth = placed.depth; flushes = placed.flushes }
 carry_out-takes S s w r op.Finish setting = finish-takes S s w r setting
 
 advance-takes : (S : ScenarioContents) (s : State) (w : ℕ) (r : Option Running) → IsSetting S → Takes most_of_move s (advance S s w r).0
@@ -152,16 +153,16 @@ advance-takes S s w (Some r) setting = carry_out-takes S s w r (op_at S w r.pc) 
 advance-takes S s w None setting = stays most_of_move s
 
 woken-takes : (s : State) (w : ℕ) (r : Option Running) → Takes most_of_move s (woken s w r)
-woken-takes s w (Some r) = record { next = omega arith; time = refl; spent = refl; flushes = refl }
+woken-takes s w (Some r) = record { next = omega arith; time = refl; spent = refl; depth = refl; flushes = refl }
 woken-takes s w None = stays most_of_move s
 
 started-takes : (s : State) (pool w : ℕ) (worker : Option ℕ) (p : Option Pending) → Takes most_of_move s (started s pool w worker p)
-started-takes s pool w (Some worker) (Some p) = record { next = omega arith; time = refl; spent = refl; flushes = refl }
+started-takes s pool w (Some worker) (Some p) = record { next = omega arith; time = refl; spent = refl; depth = refl; flushes = refl }
 started-takes s pool w (Some worker) None = stays most_of_move s
 started-takes s pool w None p = stays most_of_move s
 
 deferred-takes : (s : State) (pool w : ℕ) (p : Option Pending) → Takes most_of_move s (deferred s pool w p)
-deferred-takes s pool w (Some p) = record { next = omega arith; time = refl; spent = refl; flushes = refl }
+deferred-takes s pool w (Some p) = record { next = omega arith; time = refl; spent = refl; depth = refl; flushes = refl }
 deferred-takes s pool w None = stays most_of_move s
 
 moved-takes : (S : ScenarioContents) (s : State) (pool : ℕ) (move : Move) → IsSetting S → Takes most_of_move s (moved S s pool move).0
@@ -176,9 +177,10 @@ record Costs (question : Bool) (s t : State) : Type 0 where
   next : t.next ≤ s.next + (if question then 0 else most_stamps)
   time : t.time ≤ s.time + (if question then 0 else 1)
   spent : t.spent ≡ s.spent
+  depth : t.depth ≡ s.depth
 
 costs : (n : ℕ) (s t : State) → Takes n s t → n ≤ most_stamps → Costs false s t
-costs n s t a h = record { next = omega (arith, a.next); time = omega (arith, a.time); spent = a.spent }
+costs n s t a h = record { next = omega (arith, a.next); time = omega (arith, a.time); spent = a.spent; depth = a.depth }
 
 queued-costs : (S : ScenarioContents) (s : State) (w cpu : ℕ) (p : Option Pending) → Costs false s (queued S s w cpu p).0
 queued-costs S s w cpu (Some p) = costs 0 s s (stays 0 s) (omega arith)
@@ -207,7 +209,7 @@ stepped-costs S s pool (Some move) setting = costs most_of_move s (moved S s poo
 stepped-costs S s pool None setting = costs 0 s s (stays 0 s) (omega arith)
 
 tick-costs : (S : ScenarioContents) (s : State) → Costs false s (tick S s)
-tick-costs S s = record { next = omega arith; time = omega arith; spent = refl }
+tick-costs S s = record { next = omega arith; time = omega arith; spent = refl; depth = refl }
 
 step_or_tick-costs : (S : ScenarioContents) (s : State) (o : Option ℕ) → IsSetting S → Costs false s (step_or_tick S s o).0
 step_or_tick-costs S s (Some pool) setting = stepped-costs S s pool (next_move S s pool) setting
@@ -218,23 +220,34 @@ next-costs S s (Some w) setting = fired_first-costs S s (Some w)
 next-costs S s None setting = step_or_tick-costs S s (first_moving S s) setting
 
 asks : (s : State) → Costs true s s
-asks s = record { next = omega arith; time = omega arith; spent = refl }
+asks s = record { next = omega arith; time = omega arith; spent = refl; depth = refl }
 
-effect-costs : (S : ScenarioContents) (s : State) (i : Instr) → IsSetting S → Costs (is_question i) s (effect S s i).0
+holds-if : (b : Bool) (why : Refusal) → refuse_unless b why ≡ None → b ≡ true
+holds-if true why e = refl
+holds-if false why e = cc
+
+-- the depths that an instruction leaves
+depth_after : State → Instr → List ℕ
+depth_after s (instr.Disable w) = slice_set s.depth w.0 (depth_at s w.0 + 1)
+depth_after s (instr.Enable w) = slice_set s.depth w.0 (depth_at s w.0 - 1)
+depth_after s i = s.depth
+
+effect-costs : (S : ScenarioContents) (s : State) (i : Instr) → IsSetting S → Costs (is_question i) (record s { depth = depth_after s i }) (effect S s i).0
+unfolding depth_after
 effect-costs S s (instr.Queue w cpu) setting = queued-costs S s w.0 cpu (pending_at s w.0)
 effect-costs S s (instr.Delay w cpu ticks) setting = delayed-costs S s w.0 cpu ticks (pending_at s w.0)
 effect-costs S s (instr.Mod w cpu ticks) setting = modified-costs S s w.0 cpu ticks (pending_at s w.0) setting
 effect-costs S s (instr.Cancel w) setting = cancelled-costs S s w.0 (pending_at s w.0) setting
 effect-costs S s (instr.CancelSync w) setting =
     let off = taken_off-takes S s w.0 (pending_at s w.0) setting in
-    record { next = omega (arith, off.next); time = omega (arith, off.time); spent = off.spent }
-effect-costs S s (instr.Flush w) setting = record { next = omega arith; time = omega arith; spent = refl }
+    record { next = omega (arith, off.next); time = omega (arith, off.time); spent = off.spent; depth = off.depth }
+effect-costs S s (instr.Flush w) setting = record { next = omega arith; time = omega arith; spent = refl; depth = refl }
 effect-costs S s (instr.FlushDelayed w) setting =
     let fires = fired-takes S s w.0 (pending_at s w.0) in
-    record { next = omega (arith, fires.next); time = omega (arith, fires.time); spent = fires.spent }
-effect-costs S s (instr.FlushQueue q) setting = record { next = omega arith; time = omega arith; spent = refl }
+    record { next = omega (arith, fires.next); time = omega (arith, fires.time); spent = fires.spent; depth = fires.depth }
+effect-costs S s (instr.FlushQueue q) setting = record { next = omega arith; time = omega arith; spent = refl; depth = refl }
 effect-costs S s (instr.SetMax q max) setting = costs most_everywhere s (set_max S s q.0 max) (set_max-takes S s q.0 max setting) (omega arith)
-effect-costs S s instr.Freeze setting = record { next = omega arith; time = omega arith; spent = refl }
+effect-costs S s instr.Freeze setting = record { next = omega arith; time = omega arith; spent = refl; depth = refl }
 effect-costs S s instr.Thaw setting = costs most_stamps s (thaw S s) (thaw-takes S s setting) (omega arith)
 effect-costs S s instr.Fire setting = fired_first-costs S s (first_due S s)
 effect-costs S s (instr.Step pool) setting = stepped-costs S s pool (next_move S s pool) setting
@@ -243,46 +256,74 @@ effect-costs S s instr.Next setting = next-costs S s (first_due S s) setting
 effect-costs S s (instr.Ask flush) setting = asks s
 effect-costs S s instr.Busy setting = asks s
 effect-costs S s (instr.State w) setting = asks s
+effect-costs S s (instr.Disable w) setting = cancelled-costs S (with_depth s w.0 (depth_at s w.0 + 1)) w.0 (pending_at s w.0) setting
+effect-costs S s (instr.Enable w) setting =
+    let shallower = with_depth s w.0 (depth_at s w.0 - 1) in
+    costs 0 shallower shallower (stays 0 shallower) (omega arith)
+
+-- what holds of each depth and of one more holds of each once that is written
+pub set-within : (xs : List ℕ) (most i x : ℕ) → ((w : ℕ) → slice_index_or xs w 0 ≤ most) → x ≤ most → (w : ℕ) → slice_index_or (slice_set xs i x) w 0 ≤ most
+set-within [] most i x each here w = each w
+set-within (y ∷ ys) most zero x each here zero = here
+set-within (y ∷ ys) most zero x each here (suc w) = each (suc w)
+set-within (y ∷ ys) most (suc i) x each here zero = each zero
+set-within (y ∷ ys) most (suc i) x each here (suc w) = set-within ys most i x (λ v. each (suc v)) here w
+
+-- no work is disabled more often than it may be
+depth_after-within : (S : ScenarioContents) (s : State) (i : Instr) → situation S s i ≡ None → ((w : ℕ) → depth_at s w ≤ MAX_DEPTH)
+    → (w : ℕ) → slice_index_or (depth_after s i) w 0 ≤ MAX_DEPTH
+unfolding depth_after
+depth_after-within S s (instr.Disable w) fits within =
+    let below : depth_at s w.0 < MAX_DEPTH = ltb-true (depth_at s w.0) MAX_DEPTH (holds-if (nat_lt (depth_at s w.0) MAX_DEPTH) TooDeep fits) in
+    set-within s.depth MAX_DEPTH w.0 (depth_at s w.0 + 1) within (omega arith)
+depth_after-within S s (instr.Enable w) fits within =
+    let here : depth_at s w.0 ≤ MAX_DEPTH = within w.0 in
+    set-within s.depth MAX_DEPTH w.0 (depth_at s w.0 - 1) within (omega arith)
+depth_after-within S s i fits within = within
 
 -- no effect spends a step
 pub effect-spent : (S : ScenarioContents) (s : State) (i : Instr) → IsSetting S → (effect S s i).0.spent ≡ s.spent
 effect-spent S s i setting = (effect-costs S s i setting).spent
 
 -- what is accepted costs one step, which was there
-spent-counters : (S : ScenarioContents) (s t : State) (question : Bool) → HasCounters S s → Costs question s t → (question || nat_lt s.spent S.steps) ≡ true
+spent-counters : (S : ScenarioContents) (s t : State) (depth : List ℕ) (question : Bool) → HasCounters S s → Costs question (record s { depth = depth }) t
+    → ((w : ℕ) → slice_index_or depth w 0 ≤ MAX_DEPTH) → (question || nat_lt s.spent S.steps) ≡ true
     → HasCounters S (record t { spent = t.spent + (if question then 0 else 1) })
-spent-counters S s t true counters cost left = record {
+spent-counters S s t depth true counters cost within left = record {
   spent = omega (arith, cost.spent, counters.spent);
   time = omega (arith, cost.spent, cost.time, counters.time);
   next = omega (arith, cost.spent, cost.next, counters.next);
+  depth = λ w. rw (cost.depth) (within w);
 }
-spent-counters S s t false counters cost left =
+spent-counters S s t depth false counters cost within left =
     let one_left : s.spent < S.steps = ltb-true s.spent S.steps left in
     record {
       spent = omega (arith, cost.spent, one_left);
       time = omega (arith, cost.spent, cost.time, counters.time);
       next = omega (arith, cost.spent, cost.next, counters.next);
+      depth = λ w. rw (cost.depth) (within w);
     }
 
-holds-if : (b : Bool) (why : Refusal) → refuse_unless b why ≡ None → b ≡ true
-holds-if true why e = refl
-holds-if false why e = cc
-
 answer-counters : (S : ScenarioContents) (s : State) (i : Instr) → IsSetting S → HasCounters S s → (a b c : Option Refusal) → spent_all S s i ≡ b
-    → HasCounters S (answer s i (or_else a (or_else b c)) (effect S s i)).0
-answer-counters S s i setting counters (Some why) b c e = counters
-answer-counters S s i setting counters None (Some why) c e = counters
-answer-counters S s i setting counters None None (Some why) e = counters
-answer-counters S s i setting counters None None None e =
-    spent-counters S s (effect S s i).0 (is_question i) counters (effect-costs S s i setting) (holds-if (is_question i || nat_lt s.spent S.steps) Spent e)
+    → situation S s i ≡ c → HasCounters S (answer s i (or_else a (or_else b c)) (effect S s i)).0
+answer-counters S s i setting counters (Some why) b c e fits = counters
+answer-counters S s i setting counters None (Some why) c e fits = counters
+answer-counters S s i setting counters None None (Some why) e fits = counters
+answer-counters S s i setting counters None None None e fits =
+    spent-counters S s (effect S s i).0 (depth_after s i) (is_question i) counters (effect-costs S s i setting) (depth_after-within S s i fits counters.depth) (holds-if (is_question i || nat_lt s.spent S.steps) Spent e)
 
 -- No instruction takes a counter too far.
 pub table-counters : (S : ScenarioContents) (s : State) (i : Instr) → IsSetting S → HasCounters S s → HasCounters S (table S s i).0
 unfolding table
-table-counters S s i setting counters = answer-counters S s i setting counters (operands S s i) (spent_all S s i) (situation S s i) refl
+table-counters S s i setting counters = answer-counters S s i setting counters (operands S s i) (spent_all S s i) (situation S s i) refl refl
+
+none-deep : (n w : ℕ) → slice_index_or (replicate n 0) w 0 ≤ MAX_DEPTH
+none-deep zero w = omega arith
+none-deep (suc n) zero = omega arith
+none-deep (suc n) (suc w) = none-deep n w
 
 pub start-counters : (S : ScenarioContents) → HasCounters S (start S)
-start-counters S = record { spent = omega arith; time = omega arith; next = omega arith }
+start-counters S = record { spent = omega arith; time = omega arith; next = omega arith; depth = none-deep (length S.works) }
 
 all-counters : (S : ScenarioContents) (s : State) (instrs : List Instr) → IsSetting S → HasCounters S s → HasCounters S (after_all S s instrs)
 all-counters S s [] setting counters = counters

@@ -5,6 +5,7 @@ pub mod Changes
 pub mod Conclusions
 pub mod Concurrency
 pub mod Counting
+pub mod Disabled
 pub mod Effects
 pub mod Fills
 pub mod Instances

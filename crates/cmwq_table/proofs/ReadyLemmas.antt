@@ -9,7 +9,7 @@ use Rattle.cmwq_types.specs.declared.reply.Mode.TheVariants.{Asleep, Runnable}
 use Rattle.cmwq_types.specs.declared.reply.Place.{Place}
 use Rattle.cmwq_types.specs.declared.reply.Place.TheVariants.{Deferred}
 use Rattle.cmwq_table.specs.Counts.{burns}
-use Rattle.cmwq_table.specs.Moves.{begin_again, begun, burned, deferred, enlist, listed_at, newborn, one_less, retire, started_on, taking, tick, with_flush, with_pending, with_running, woken}
+use Rattle.cmwq_table.specs.Moves.{begin_again, begun, burned, deferred, enlist, listed_at, newborn, one_less, retire, started_on, taking, tick, with_depth, with_flush, with_pending, with_running, woken}
 use Rattle.cmwq_table.specs.Ready.{IsPendingReady, IsPlaceReady, IsReady, IsRunningReady}
 use Rattle.cmwq_table.specs.State.{State, pending_at, running_at, start}
 use Rattle.cmwq_table.specs.declared.state.FlushTarget.{FlushTarget}
@@ -135,6 +135,9 @@ frozen-ready S s frozen ready = record { setting = ready.setting; pending = read
 pub flush-ready : (S : ScenarioContents) (s : State) (target : FlushTarget) → IsReady S s → IsReady S (with_flush s target)
 flush-ready S s target ready = record { setting = ready.setting; pending = ready.pending; running = ready.running }
 
+pub depth-ready : (S : ScenarioContents) (s : State) (w depth : ℕ) → IsReady S s → IsReady S (with_depth s w depth)
+depth-ready S s w depth ready = record { setting = ready.setting; pending = ready.pending; running = ready.running }
+
 pub spent-ready : (S : ScenarioContents) (s : State) (spent : ℕ) → IsReady S s → IsReady S (record s { spent = spent })
 spent-ready S s spent ready = record { setting = ready.setting; pending = ready.pending; running = ready.running }
 
@@ -153,4 +156,4 @@ start-ready S setting = record {
 }
 
 pub ruleset keeps_ready =
-    (unpend-ready, bear-ready, enlist-ready, deferred-ready, started_on-ready, running_at-ready, go_on-ready, sleep-ready, woken-ready, begin_again-ready, retire-ready, tick-ready, max-ready, frozen-ready, flush-ready, spent-ready, start-ready)
+    (unpend-ready, bear-ready, enlist-ready, deferred-ready, started_on-ready, running_at-ready, go_on-ready, sleep-ready, woken-ready, begin_again-ready, retire-ready, tick-ready, max-ready, frozen-ready, flush-ready, depth-ready, spent-ready, start-ready)

@@ -18,6 +18,10 @@ pending_eq x y = work_id.ghosts.eq x.0 y.0 && pending.ghosts.eq x.1 y.1
 abbrev pub running_eq : WorkId × Running → WorkId × Running → Bool
 running_eq x y = work_id.ghosts.eq x.0 y.0 && running.ghosts.eq x.1 y.1
 
+-- what is known of each work is equal
+abbrev pub works_eq : ViewContents → ViewContents → Bool
+works_eq x y = pointwise pending_eq x.pending y.pending && (pointwise running_eq x.running y.running && pointwise nat_eq x.depth y.depth)
+
 abbrev pub view_eq : ViewContents → ViewContents → Bool
 view_eq x y =
     (x.time == y.time)
@@ -25,7 +29,6 @@ view_eq x y =
     && ((x.spent == y.spent)
     && (beq x.frozen y.frozen
     && (pointwise nat_eq x.max y.max
-    && (pointwise pending_eq x.pending y.pending
-    && (pointwise running_eq x.running y.running
+    && (works_eq x y
     && (pointwise idle.ghosts.eq x.idle y.idle
-    && (pointwise nat_eq x.made y.made && pointwise flush.ghosts.eq x.flushes y.flushes))))))))
+    && (pointwise nat_eq x.made y.made && pointwise flush.ghosts.eq x.flushes y.flushes)))))))

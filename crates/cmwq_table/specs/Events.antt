@@ -38,12 +38,14 @@ event_verb event.FinishesAndStarts = codes "finishes and starts"
 event_verb event.Defers = codes "defers"
 event_verb event.Fires = codes "fires"
 event_verb (event.Queues other already) = codes "queues"
+event_verb (event.QueuesDisabled other) = codes "queues"
 
 -- and how long, or which work
 abbrev pub event_object : ScenarioContents → Event → List ℕ
 event_object S (event.Burns ticks) = codes " " ++ decimal ticks
 event_object S (event.Sleeps ticks) = codes " " ++ decimal ticks
 event_object S (event.Queues other already) = codes " " ++ work_name S other ++ already_text already
+event_object S (event.QueuesDisabled other) = codes " " ++ work_name S other ++ codes " disabled"
 event_object S event.Starts = []
 event_object S event.Wakes = []
 event_object S event.Finishes = []
@@ -69,6 +71,9 @@ refusal_text refusal.AlreadyFrozen = codes "AlreadyFrozen"
 refusal_text refusal.NotFrozen = codes "NotFrozen"
 refusal_text refusal.NothingToDo = codes "NothingToDo"
 refusal_text (refusal.Unsettled cause) = codes "Unsettled"
+refusal_text refusal.Disabled = codes "Disabled"
+refusal_text refusal.TooDeep = codes "TooDeep"
+refusal_text refusal.NotDisabled = codes "NotDisabled"
 
 -- a line that begins with the time
 abbrev pub line_at : ℕ → List ℕ → List ℕ
@@ -120,6 +125,8 @@ asked_name S instr.Tick = []
 asked_name S instr.Next = []
 asked_name S (instr.Ask flush) = []
 asked_name S instr.Busy = []
+asked_name S (instr.Disable work) = []
+asked_name S (instr.Enable work) = []
 
 -- what was queued or done without a word has no line
 abbrev pub is_silent : Reply → Bool

@@ -17,7 +17,7 @@ use Rattle.cmwq_types.specs.declared.reply.Reply.TheVariants as reply
 use Rattle.cmwq_table.specs.declared.state.FlushTarget.TheVariants.{Instance, Queue}
 use Rattle.cmwq_table.specs.declared.state.Pending.{Pending}
 use Rattle.cmwq_table.specs.declared.state.Running.{Running}
-use Rattle.cmwq_table.specs.State.{State, pending_at, running_at, idle_at, made_at}
+use Rattle.cmwq_table.specs.State.{State, pending_at, running_at, depth_at, idle_at, made_at}
 use Rattle.cmwq_table.specs.Counts.{limit, active, counted, is_busy, is_active, is_inactive, is_listed, is_activated, is_deferred, is_placed, is_done, pends}
 use Rattle.cmwq_table.specs.Table.{table, run, after_all, is_question, target_at}
 
@@ -61,6 +61,7 @@ is_wake event.FinishesAndStarts = false
 is_wake event.Defers = false
 is_wake event.Fires = false
 is_wake (event.Queues other already) = false
+is_wake (event.QueuesDisabled other) = false
 
 -- the reply tells that a sleeper wakes
 abbrev pub tells_wake : Reply → Bool
@@ -216,6 +217,12 @@ IsNotReentrant S s =
     (w : ℕ) (p : Pending) → pending_at s w ≡ Some p
     → ((r : Running) → running_at s w ≡ Some r → is_placed p.place ≡ true → placed_in p.place ≡ Some r.pool)
     × (is_deferred p.place ≡ true → is_some (running_at s w) ≡ true)
+
+-- Disabled works.
+
+-- A work that was disabled more often than enabled isn't pending.
+unfoldable pub IsNotPendingDisabled : ScenarioContents → State → Type 0
+IsNotPendingDisabled S s = (w : ℕ) → 0 < depth_at s w → pending_at s w ≡ None
 
 -- Flushes.
 

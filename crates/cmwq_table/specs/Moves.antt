@@ -18,7 +18,7 @@ use Rattle.cmwq_table.specs.declared.state.FlushTarget.{FlushTarget}
 use Rattle.cmwq_table.specs.declared.state.FlushTarget.TheVariants.{Instance, Nothing}
 use Rattle.cmwq_table.specs.declared.state.Pending.{Pending}
 use Rattle.cmwq_table.specs.declared.state.Running.{Running}
-use Rattle.cmwq_table.specs.State.{State, seat, pending_at, running_at, made_at, target, pool_count}
+use Rattle.cmwq_table.specs.State.{State, seat, pending_at, running_at, is_disabled, made_at, target, pool_count}
 use Rattle.cmwq_table.specs.Counts.{is_placed, is_deferred, has_room, may_start, first_inactive, first_listed, first_slept, ready_head, free_worker, or_else, burns}
 
 -- Changes of one work. `taking` has taken the next stamp.
@@ -31,6 +31,9 @@ with_pending s w p = record s { pending = slice_set s.pending w p }
 
 abbrev pub with_running : State → ℕ → Option Running → State
 with_running s w r = record s { running = slice_set s.running w r }
+
+abbrev pub with_depth : State → ℕ → ℕ → State
+with_depth s w depth = record s { depth = slice_set s.depth w depth }
 
 -- Placing (`__queue_work`). One fresh stamp is the birth of the instance, and the stamp of its place.
 
@@ -163,17 +166,19 @@ finish S s w r = filled S (queue_of S w) r.pool (come_to_end s w r (pending_at s
 abbrev pub onward : State → ℕ → Running → State
 onward s w r = with_running s w (Some (record r { pc = r.pc + 1 }))
 
--- a body queues a work
-abbrev pub queue_from_body : ScenarioContents → State → WorkId → ℕ → Option Pending → State × Event
-queue_from_body S s other cpu (Some p) = (s, event.Queues other true)
-queue_from_body S s other cpu None = (place S s other.0 cpu, event.Queues other false)
+-- a body queues a work, if that isn't disabled
+abbrev pub queue_from_body : ScenarioContents → State → WorkId → ℕ → Bool → Option Pending → State × Event
+queue_from_body S s other cpu true p = (s, event.QueuesDisabled other)
+queue_from_body S s other cpu false (Some p) = (s, event.Queues other true)
+queue_from_body S s other cpu false None = (place S s other.0 cpu, event.Queues other false)
 
 abbrev pub carry_out : ScenarioContents → State → ℕ → Running → Op → State × Event
 carry_out S s w r (op.Burn ticks) =
     (with_running s w (Some (record r { pc = r.pc + 1; left = ticks })), event.Burns ticks)
 carry_out S s w r (op.Sleep ticks) =
     (with_running s w (Some (record r { pc = r.pc + 1; mode = Asleep (s.time + ticks) })), event.Sleeps ticks)
-carry_out S s w r (op.Queue other cpu) = queue_from_body S (onward s w r) other cpu (pending_at s other.0)
+carry_out S s w r (op.Queue other cpu) =
+    queue_from_body S (onward s w r) other cpu (is_disabled s other.0) (pending_at s other.0)
 carry_out S s w r op.Finish = finish S s w r
 
 abbrev pub advance : ScenarioContents → State → ℕ → Option Running → State × Event

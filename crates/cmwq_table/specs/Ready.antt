@@ -3,10 +3,10 @@ use Rattle.std.specs.Prelude.{◌≡◌, ℕ, ◌+◌, ◌*◌, ◌<◌, ◌≤�
 use Rattle.cmwq_types.specs.Contents.{ScenarioContents}
 use Rattle.cmwq_types.specs.Scenario.{pool_count}
 use Rattle.cmwq_types.specs.Setting.{IsSetting}
-use Rattle.cmwq_types.specs.declared.limits.TheConstants.{MAX_CPUS, MAX_OPS, MAX_QUEUES, MAX_WORKERS, MAX_WORKS}
+use Rattle.cmwq_types.specs.declared.limits.TheConstants.{MAX_CPUS, MAX_DEPTH, MAX_OPS, MAX_QUEUES, MAX_WORKERS, MAX_WORKS}
 use Rattle.cmwq_types.specs.declared.reply.Place.{Place}
 use Rattle.cmwq_types.specs.declared.reply.Place.TheVariants.{Timer, Inactive, Listed, Deferred}
-use Rattle.cmwq_table.specs.State.{State, pending_at, running_at}
+use Rattle.cmwq_table.specs.State.{State, pending_at, running_at, depth_at}
 use Rattle.cmwq_table.specs.declared.state.Pending.{Pending}
 use Rattle.cmwq_table.specs.declared.state.Running.{Running}
 
@@ -40,18 +40,21 @@ most_everywhere = (2 * MAX_CPUS + 2) * MAX_WORKS
 abbrev pub most_stamps : ℕ
 most_stamps = MAX_QUEUES * most_everywhere
 
--- a change that took at most n stamps, and left time, spent steps and flushes as they were
+-- a change that took at most n stamps, and left time, spent steps, depths and flushes as they were
 pub record Takes (n : ℕ) (old new : State) : Type 0 where
   pub next : new.next ≤ old.next + n
   pub time : new.time ≡ old.time
   pub spent : new.spent ≡ old.spent
+  pub depth : new.depth ≡ old.depth
   pub flushes : new.flushes ≡ old.flushes
 
--- What holds between instructions: no counter outgrows what was spent, nor that the scenario's steps.
+-- What holds between instructions: no counter outgrows what was spent, nor that the scenario's steps; and no work is
+-- disabled more often than it may be.
 pub record HasCounters (S : ScenarioContents) (s : State) : Type 0 where
   pub spent : s.spent ≤ S.steps
   pub time : s.time ≤ s.spent
   pub next : s.next ≤ most_stamps * s.spent
+  pub depth : (w : ℕ) → depth_at s w ≤ MAX_DEPTH
 
 -- a scenario and the state that it has come to
 pub record Loaded : Type 0 where

@@ -1,5 +1,5 @@
 -- The state of a machine.
-use Rattle.std.specs.Prelude.{ℕ, ◌+◌, ◌*◌, Bool, false, List, [], length, map, replicate, Option, None, slice_index_or}
+use Rattle.std.specs.Prelude.{ℕ, ◌+◌, ◌*◌, Bool, false, not, List, [], length, map, replicate, Option, None, ◌==◌, slice_index_or}
 use Rattle.cmwq_types.specs.Contents.{ScenarioContents}
 pub use Rattle.cmwq_types.specs.Scenario.{pool_count, is_unbound, is_high, priority, target}
 use Rattle.cmwq_types.specs.declared.limits.TheConstants.{MAX_WORKERS}
@@ -22,6 +22,8 @@ pub record State : Type 0 where
   pub pending : List (Option Pending)
   -- the finite map of the running works, by work
   pub running : List (Option Running)
+  -- of each work, how much more often it was disabled than enabled
+  pub depth : List ℕ
   -- the finite map of the idle workers' stamps, by seat
   pub idle : List (Option ℕ)
   -- of each pool, how many workers were made
@@ -38,6 +40,12 @@ pending_at s work = slice_index_or s.pending work None
 
 abbrev pub running_at : State → ℕ → Option Running
 running_at s work = slice_index_or s.running work None
+
+abbrev pub depth_at : State → ℕ → ℕ
+depth_at s work = slice_index_or s.depth work 0
+
+abbrev pub is_disabled : State → ℕ → Bool
+is_disabled s work = not (depth_at s work == 0)
 
 abbrev pub idle_at : State → ℕ → ℕ → Option ℕ
 idle_at s pool worker = slice_index_or s.idle (seat pool worker) None
@@ -58,6 +66,7 @@ start S = record {
   max = map (λ queue. queue.max) S.queues;
   pending = replicate (length S.works) None;
   running = replicate (length S.works) None;
+  depth = replicate (length S.works) 0;
   idle = replicate (MAX_WORKERS * pool_count S) None;
   made = replicate (pool_count S) 0;
   flushes = [];

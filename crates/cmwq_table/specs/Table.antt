@@ -1,18 +1,18 @@
 -- The instruction table. Each instruction has a line in `operands`, one in `situation` and one in `effect`.
-use Rattle.std.specs.Prelude.{ℕ, ◌+◌, Bool, true, false, not, ◌||◌, List, [], ◌∷◌, length, Option, Some, None, if◌then◌else◌, is_some, nat_lt, slice_index_or}
+use Rattle.std.specs.Prelude.{ℕ, ◌+◌, ◌-◌, Bool, true, false, not, ◌||◌, List, [], ◌∷◌, length, Option, Some, None, if◌then◌else◌, is_some, nat_lt, ◌==◌, slice_index_or}
 use Rattle.cmwq_types.specs.Contents.{ScenarioContents}
 use Rattle.cmwq_types.specs.Faults.{within}
 use Rattle.cmwq_types.specs.Scenario.{flags_at}
 use Rattle.cmwq_types.specs.declared.instr.WorkId.{WorkId}
 use Rattle.cmwq_types.specs.declared.instr.Instr.{Instr}
 use Rattle.cmwq_types.specs.declared.instr.Instr.TheVariants as instr
-use Rattle.cmwq_types.specs.declared.limits.TheConstants.{MAX_MAX_ACTIVE}
+use Rattle.cmwq_types.specs.declared.limits.TheConstants.{MAX_DEPTH, MAX_MAX_ACTIVE}
 use Rattle.cmwq_types.specs.declared.moves.Move.{Move}
 use Rattle.cmwq_types.specs.declared.reply.Cause.TheVariants.{Due, Pool}
 use Rattle.cmwq_types.specs.declared.reply.Event.{Event}
 use Rattle.cmwq_types.specs.declared.reply.Event.TheVariants as event
 use Rattle.cmwq_types.specs.declared.reply.Refusal.{Refusal}
-use Rattle.cmwq_types.specs.declared.reply.Refusal.TheVariants.{NoSuchWork, NoSuchQueue, NoSuchCpu, NoSuchPool, NoSuchFlush, BadCount, Spent, TooManyFlushes, Ordered, AlreadyFrozen, NotFrozen, NothingToDo, Unsettled}
+use Rattle.cmwq_types.specs.declared.reply.Refusal.TheVariants.{NoSuchWork, NoSuchQueue, NoSuchCpu, NoSuchPool, NoSuchFlush, BadCount, Spent, TooManyFlushes, Ordered, AlreadyFrozen, NotFrozen, NothingToDo, Unsettled, Disabled, TooDeep, NotDisabled}
 use Rattle.cmwq_types.specs.declared.reply.Place.{Place}
 use Rattle.cmwq_types.specs.declared.reply.WorkRun.{WorkRun}
 use Rattle.cmwq_types.specs.declared.reply.Reply.{Reply}
@@ -22,9 +22,9 @@ use Rattle.cmwq_table.specs.declared.state.FlushTarget.TheVariants as target
 use Rattle.cmwq_table.specs.declared.state.FlushTarget.TheVariants.{Nothing}
 use Rattle.cmwq_table.specs.declared.state.Pending.{Pending}
 use Rattle.cmwq_table.specs.declared.state.Running.{Running}
-use Rattle.cmwq_table.specs.State.{State, pending_at, running_at, pool_count, start}
+use Rattle.cmwq_table.specs.State.{State, pending_at, running_at, depth_at, is_disabled, pool_count, start}
 use Rattle.cmwq_table.specs.Counts.{first_due, is_busy, is_done, or_else}
-use Rattle.cmwq_table.specs.Moves.{place, place_after, take_off, taken_off, set_max, freeze, thaw, next_move, moved, moved_work, first_moving, fire, tick, with_flush, running_instance, last_instance}
+use Rattle.cmwq_table.specs.Moves.{place, place_after, take_off, taken_off, set_max, freeze, thaw, next_move, moved, moved_work, first_moving, fire, tick, with_depth, with_flush, running_instance, last_instance}
 
 -- a refusal where the test fails
 abbrev pub refuse_unless : Bool → Refusal → Option Refusal
@@ -58,6 +58,8 @@ operands S s instr.Next = None
 operands S s (instr.Ask flush) = refuse_unless (nat_lt flush (length s.flushes)) NoSuchFlush
 operands S s instr.Busy = None
 operands S s (instr.State w) = no_work S w
+operands S s (instr.Disable w) = no_work S w
+operands S s (instr.Enable w) = no_work S w
 
 -- A question is never Spent, and changes nothing.
 abbrev pub is_question : Instr → Bool
@@ -79,6 +81,8 @@ is_question instr.Fire = false
 is_question (instr.Step pool) = false
 is_question instr.Tick = false
 is_question instr.Next = false
+is_question (instr.Disable w) = false
+is_question (instr.Enable w) = false
 
 -- The situation.
 
@@ -98,10 +102,13 @@ unsettled None moving = unsettled_by_pool moving
 abbrev pub no_more_flushes : ScenarioContents → State → Option Refusal
 no_more_flushes S s = refuse_unless (nat_lt (length s.flushes) S.flushes) TooManyFlushes
 
+abbrev pub while_enabled : State → WorkId → Option Refusal
+while_enabled s w = refuse_unless (not (is_disabled s w.0)) Disabled
+
 abbrev pub situation : ScenarioContents → State → Instr → Option Refusal
-situation S s (instr.Queue w cpu) = None
-situation S s (instr.Delay w cpu ticks) = None
-situation S s (instr.Mod w cpu ticks) = None
+situation S s (instr.Queue w cpu) = while_enabled s w
+situation S s (instr.Delay w cpu ticks) = while_enabled s w
+situation S s (instr.Mod w cpu ticks) = while_enabled s w
 situation S s (instr.Cancel w) = None
 situation S s (instr.CancelSync w) = no_more_flushes S s
 situation S s (instr.Flush w) = no_more_flushes S s
@@ -117,6 +124,8 @@ situation S s instr.Next = None
 situation S s (instr.Ask flush) = None
 situation S s instr.Busy = None
 situation S s (instr.State w) = None
+situation S s (instr.Disable w) = refuse_unless (nat_lt (depth_at s w.0) MAX_DEPTH) TooDeep
+situation S s (instr.Enable w) = refuse_unless (is_disabled s w.0) NotDisabled
 
 -- The effect and the reply.
 
@@ -139,6 +148,10 @@ modified S s w cpu ticks None = (place_after S s w cpu ticks, reply.Queued)
 abbrev pub cancelled : ScenarioContents → State → ℕ → Option Pending → State × Reply
 cancelled S s w (Some p) = (taken_off S s w (Some p), reply.Cancelled)
 cancelled S s w None = (s, reply.NotPending)
+
+-- the work is disabled once more, and taken off if it is pending (the kernel's `disable_work`, from Linux 6.10 on)
+abbrev pub disabled : ScenarioContents → State → ℕ → Option Pending → State × Reply
+disabled S s w p = cancelled S (with_depth s w (depth_at s w + 1)) w p
 
 -- a flush is given, and told by its number
 abbrev pub flushed : State → FlushTarget → State × Reply
@@ -170,6 +183,10 @@ next S s None = step_or_tick S s (first_moving S s)
 
 abbrev pub yes_or_no : Bool → Reply
 yes_or_no holds = if holds then reply.Yes else reply.No
+
+-- the work is disabled so many times only, and the reply tells whether it can be queued again (`enable_work`)
+abbrev pub enabled : State → ℕ → ℕ → State × Reply
+enabled s w depth = (with_depth s w depth, yes_or_no (depth == 0))
 
 abbrev pub target_at : State → ℕ → FlushTarget
 target_at s flush = slice_index_or s.flushes flush Nothing
@@ -204,6 +221,8 @@ effect S s instr.Next = next S s (first_due S s)
 effect S s (instr.Ask flush) = (s, yes_or_no (is_done S s (target_at s flush)))
 effect S s instr.Busy = (s, yes_or_no (is_busy S s))
 effect S s (instr.State w) = (s, found s w.0)
+effect S s (instr.Disable w) = disabled S s w.0 (pending_at s w.0)
+effect S s (instr.Enable w) = enabled s w.0 (depth_at s w.0 - 1)
 
 -- The line of an instruction: a refusal changes nothing, and what is accepted is spent, questions aside.
 

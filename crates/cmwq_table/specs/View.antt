@@ -17,6 +17,7 @@ pub record ViewContents : Type 0 where
   pub max : List ℕ
   pub pending : List (WorkId × Pending)
   pub running : List (WorkId × Running)
+  pub depth : List ℕ
   pub idle : List IdleWorker
   pub made : List ℕ
   pub flushes : List FlushTarget
@@ -53,6 +54,7 @@ view_of s =
       max = s.max;
       pending = entries_from 0 s.pending;
       running = entries_from 0 s.running;
+      depth = s.depth;
       idle = idle_from 0 s.idle;
       made = s.made;
       flushes = s.flushes;

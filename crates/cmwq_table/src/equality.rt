@@ -1,7 +1,7 @@
 //! Equality of views: by their contents, whatever the capacities of their lists.
 ghost use Rattle.std.specs.Cmp.{decided, partial_equiv_from_equiv};
 ghost use Rattle.std.specs.Prelude.{◌≡◌, ◌↔◌, IsTrue};
-ghost use Rattle.cmwq_table.specs.Equality.{view_eq};
+ghost use Rattle.cmwq_table.specs.Equality.{view_eq, works_eq};
 ghost use Rattle.cmwq_table.specs.ExactEquality.{view_eq_is_exact};
 
 use crate::view::View;
@@ -21,11 +21,19 @@ impl PartialEq for View {
             && self.spent == other.spent
             && self.frozen == other.frozen
             && self.max == other.max
-            && self.pending == other.pending
-            && self.running == other.running
+            && self.has_works_of(other)
             && self.idle == other.idle
             && self.made == other.made
             && self.flushes == other.flushes
+    }
+}
+
+impl View {
+    /// Whether the same is known of each work as in the other view.
+    fn has_works_of(&self, other: &View) -> bool
+        ensures { result ≡ works_eq self.now other.now }
+    {
+        self.pending == other.pending && self.running == other.running && self.depth == other.depth
     }
 }
 

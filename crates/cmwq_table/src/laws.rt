@@ -2,7 +2,7 @@
 //!
 //! Each function's contract is a law, over every valid scenario and every list of instructions. The functions
 //! do nothing: they carry the laws.
-ghost use Rattle.cmwq_table.specs.Laws.{ActivatesInOrder, AtEveryInstruction, ChangesNothingAsked, ChangesNothingRefused, GoesInOrder, InEveryState, LeavesNoRoom, ListsInOrder, StartsAtLevelZero, TimeWaitsForStarts, RisesByWakes, RisesWithinLimit, IsNotReentrant, StayDone, TellsActive, WaitForInstances};
+ghost use Rattle.cmwq_table.specs.Laws.{ActivatesInOrder, AtEveryInstruction, ChangesNothingAsked, ChangesNothingRefused, GoesInOrder, InEveryState, IsNotPendingDisabled, LeavesNoRoom, ListsInOrder, StartsAtLevelZero, TimeWaitsForStarts, RisesByWakes, RisesWithinLimit, IsNotReentrant, StayDone, TellsActive, WaitForInstances};
 ghost use Rattle.cmwq_table.specs.Ready.{HasCounters};
 
 /// An instruction that is refused changes nothing: neither a work, a worker or a flush, nor the time, the stamps
@@ -19,8 +19,8 @@ pub fn questions_change_nothing()
 {}
 
 /// A run comes to its end: no more instructions are accepted than the scenario's `steps`, questions aside, and at most
-/// one tick passes for each of them. Nor does it run out of stamps: each takes at most 278,528. That is this project's
-/// own rule.
+/// one tick passes for each of them. Nor does it run out of stamps: each takes at most 278,528. And no work is disabled
+/// more than 65,535 times more often than enabled. That is this project's own rule.
 #[tactic(auto, using(crate::proofs::CounterLemmas::has_counters))]
 pub fn counters_keep_within_the_steps()
     ensures { InEveryState HasCounters }
@@ -95,6 +95,13 @@ pub fn busy_tells_of_active_works()
 #[tactic(auto, using(crate::proofs::LawLemmas::Conclusions::is_not_reentrant))]
 pub fn works_are_not_reentrant()
     ensures { InEveryState IsNotReentrant }
+{}
+
+/// A disabled work is kept off: while a work was disabled more often than enabled, it isn't pending. No instruction, timer
+/// or body queues it, as nothing queues a work that the kernel's `disable_work` disabled.
+#[tactic(auto, using(crate::proofs::LawLemmas::Conclusions::is_not_pending_disabled))]
+pub fn disabled_works_are_not_pending()
+    ensures { InEveryState IsNotPendingDisabled }
 {}
 
 /// A flush that is done stays done, whatever is queued after it.

@@ -112,6 +112,10 @@ impl fmt::Display for EventWords<'_> {
                 let already = already_text(already);
                 write!(f, " {other}{already}")
             }
+            Event::QueuesDisabled { other } => {
+                let other = work_name(self.scenario, other);
+                write!(f, " {other} disabled")
+            }
             _ => Ok(()),
         }
     }
@@ -130,7 +134,7 @@ fn event_verb(event: Event) -> &'static str
         Event::FinishesAndStarts => "finishes and starts",
         Event::Defers => "defers",
         Event::Fires => "fires",
-        Event::Queues { .. } => "queues",
+        Event::Queues { .. } | Event::QueuesDisabled { .. } => "queues",
     }
 }
 
@@ -216,6 +220,9 @@ pub fn refusal_name(why: Refusal) -> &'static str
         Refusal::NotFrozen => "NotFrozen",
         Refusal::NothingToDo => "NothingToDo",
         Refusal::Unsettled(_) => "Unsettled",
+        Refusal::Disabled => "Disabled",
+        Refusal::TooDeep => "TooDeep",
+        Refusal::NotDisabled => "NotDisabled",
     }
 }
 

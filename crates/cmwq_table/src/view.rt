@@ -32,6 +32,8 @@ pub struct View {
     pub pending: Vec<(WorkId, Pending)>,
     /// The running works, by rising number.
     pub running: Vec<(WorkId, Running)>,
+    /// How much more often each work was disabled than enabled, by its number.
+    pub depth: Vec<u16>,
     /// The idle workers, by pool and worker.
     pub idle: Vec<IdleWorker>,
     /// How many workers each pool has made, by its number.
@@ -53,6 +55,7 @@ impl Model for View {
       max = v.max.items;
       pending = v.pending.items;
       running = v.running.items;
+      depth = v.depth.items;
       idle = v.idle.items;
       made = v.made.items;
       flushes = v.flushes.items;

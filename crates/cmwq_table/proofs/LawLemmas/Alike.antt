@@ -1,4 +1,4 @@
--- States that differ in time, limits or what is left to burn alone.
+-- States that differ in time, limits, depths or what is left to burn alone.
 use Rattle.std.proofs.Common.{◌≡◌, ℕ, zero, suc, ◌+◌, ◌<◌, ◌≤◌, Bool, true, false, not, cond, ◌&&◌, ◌||◌, List, [], ◌∷◌, length, Option, Some, None, arith, refl, sym, ap, ◌∙◌, subst, inl, inr}
 use Rattle.std.specs.Prelude.{slice_index_or, is_some, ◌==◌}
 use Rattle.cmwq_types.specs.Contents.{ScenarioContents}
@@ -10,7 +10,7 @@ use Rattle.cmwq_table.specs.declared.state.Pending.{Pending}
 use Rattle.cmwq_table.specs.declared.state.Running.{Running}
 use Rattle.cmwq_table.specs.State.{State, pending_at, running_at, is_unbound, max_at}
 use Rattle.cmwq_table.specs.Counts.{active, burns, counted, has_instance, is_active, is_counted, is_runnable, pends, placed_born, runs}
-use Rattle.cmwq_table.specs.Moves.{burned, one_less, tick}
+use Rattle.cmwq_table.specs.Moves.{burned, one_less, tick, with_depth}
 use Rattle.cmwq_table.proofs.LawLemmas.Changes.{IsLong, IsPoolOf, RunsIn}
 use Rattle.cmwq_table.proofs.LawLemmas.Counting.{count_below-same}
 use Rattle.cmwq_table.proofs.LawLemmas.Concurrency.{runnable}
@@ -42,6 +42,17 @@ pub alike-limits : (S : ScenarioContents) (s : State) (max : List ℕ) (frozen :
 alike-limits S s max frozen = record {
   pending = λ w. refl;
   running = λ w. itself (running_at s w);
+  long = λ long. record { pending = long.pending; running = long.running };
+  next = refl;
+  flushes = refl;
+  made = refl;
+}
+
+-- a state with another depth of a work
+pub alike-depth : (S : ScenarioContents) (s : State) (w depth : ℕ) → IsAlike S s (with_depth s w depth)
+alike-depth S s w depth = record {
+  pending = λ v. refl;
+  running = λ v. itself (running_at s v);
   long = λ long. record { pending = long.pending; running = long.running };
   next = refl;
   flushes = refl;

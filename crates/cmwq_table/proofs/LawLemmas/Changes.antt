@@ -5,7 +5,7 @@ use Rattle.cmwq_types.specs.Scenario.{flags_at, queue_of}
 use Rattle.cmwq_types.specs.declared.reply.Place.TheVariants.{Timer, Inactive, Listed, Deferred}
 use Rattle.cmwq_table.specs.declared.state.Pending.{Pending}
 use Rattle.cmwq_table.specs.declared.state.Running.{Running}
-use Rattle.cmwq_table.specs.State.{State, pending_at, running_at, made_at, pool_count, target}
+use Rattle.cmwq_table.specs.State.{State, pending_at, running_at, depth_at, made_at, pool_count, target}
 use Rattle.cmwq_table.specs.Counts.{has_room, may_start, first_inactive, is_deferred, is_runnable, pends}
 use Rattle.cmwq_table.specs.Moves.{newborn, begun, fill}
 
@@ -39,17 +39,19 @@ pub record Alters (S : ScenarioContents) (s t : State) (w : ℕ) (p : Option Pen
   pub max : t.max ≡ s.max
   pub frozen : t.frozen ≡ s.frozen
   pub time : t.time ≡ s.time
+  pub depth : t.depth ≡ s.depth
   pub flushes : t.flushes ≡ s.flushes
   pub made : ((pool : ℕ) → made_at s pool ≤ S.workers) → (pool : ℕ) → made_at t pool ≤ S.workers
 
 -- The kinds of change of the work w, from what it pends and runs as to what it then does, and the next
 -- stamp. First stands the pool in which its queue loses an active instance, if it does.
 pub data Kind (S : ScenarioContents) (places wakes : Bool) (s : State) (w : ℕ) : Option ℕ → Option Pending → Option Running → Option Pending → Option Running → ℕ → Type 0 where
-  placed : (r : Option Running) (pool : ℕ) → places ≡ true → IsPoolOf S w pool → RunsIn r pool → has_room S s (queue_of S w) pool ≡ true
+  placed : (r : Option Running) (pool : ℕ) → places ≡ true → IsPoolOf S w pool → RunsIn r pool → has_room S s (queue_of S w) pool ≡ true → depth_at s w ≡ 0
       → Kind S places wakes s w None None r (newborn s (Listed pool)) r (s.next + 1)
-  put_off : (r : Option Running) (pool : ℕ) → places ≡ true → IsPoolOf S w pool → RunsIn r pool → has_room S s (queue_of S w) pool ≡ false
+  put_off : (r : Option Running) (pool : ℕ) → places ≡ true → IsPoolOf S w pool → RunsIn r pool → has_room S s (queue_of S w) pool ≡ false → depth_at s w ≡ 0
       → Kind S places wakes s w None None r (newborn s (Inactive pool)) r (s.next + 1)
-  timed : (r : Option Running) (due cpu : ℕ) → places ≡ true → cpu < S.cpus → Kind S places wakes s w None None r (newborn s (Timer due cpu)) r (s.next + 1)
+  timed : (r : Option Running) (due cpu : ℕ) → places ≡ true → cpu < S.cpus → depth_at s w ≡ 0
+      → Kind S places wakes s w None None r (newborn s (Timer due cpu)) r (s.next + 1)
   untimed : (born stamp : ℕ) (r : Option Running) (due cpu : ℕ)
       → Kind S places wakes s w None (Some (record { born = born; stamp = stamp; place = Timer due cpu })) r None r s.next
   taken_inactive : (born stamp : ℕ) (r : Option Running) (pool : ℕ)

@@ -20,7 +20,7 @@ use Rattle.cmwq_table.specs.declared.state.Running.{Running}
 use Rattle.cmwq_table.specs.State.{State, idle_at, is_unbound, made_at, pending_at, pool_count, running_at, target}
 use Rattle.cmwq_table.specs.Counts.{active, counted, first_listed, first_slept, free_worker, has_instance, idle_stamp, is_deferred, is_done, is_inactive, is_listed, is_placed, last_idle, limit, may_start, new_worker, pends, placed_born, pending_before, queued_before, ready_head, runs}
 use Rattle.cmwq_table.specs.Counts as counts
-use Rattle.cmwq_table.specs.Laws.{ActivatesInOrder, ActiveInSince, AtEveryInstruction, CannotStart, GoesInOrder, HasInstance, HasNoIdleWorker, InEveryState, IsListedIn, LeavesNoRoom, ListsInOrder, TimeWaitsForStarts, RisesByWakes, RisesWithinLimit, IsNotReentrant, StayDone, WaitForInstances, placed_in, reply_to, state_after, tells_wake}
+use Rattle.cmwq_table.specs.Laws.{ActivatesInOrder, ActiveInSince, AtEveryInstruction, CannotStart, GoesInOrder, HasInstance, HasNoIdleWorker, InEveryState, IsListedIn, IsNotPendingDisabled, LeavesNoRoom, ListsInOrder, TimeWaitsForStarts, RisesByWakes, RisesWithinLimit, IsNotReentrant, StayDone, WaitForInstances, placed_in, reply_to, state_after, tells_wake}
 use Rattle.cmwq_table.specs.Moves.{as_move, first_moving, next_move, start_first, start_move, take_listed}
 use Rattle.cmwq_table.specs.Ready.{IsPlaceReady}
 use Rattle.cmwq_table.specs.Table.{after_all, run, target_at}
@@ -288,6 +288,12 @@ pub leaves_no_room : InEveryState LeavesNoRoom
 unfolding LeavesNoRoom
 leaves_no_room S valid instrs pool w waiting =
     (run-reached S instrs valid).are_full (queue_of S w) pool w refl (ap (pends (λ place. is_inactive place pool)) waiting.1 ∙ waiting.2)
+
+-- Disabled works.
+
+pub is_not_pending_disabled : InEveryState IsNotPendingDisabled
+unfolding IsNotPendingDisabled
+is_not_pending_disabled S valid instrs w deep = (run-reached S instrs valid).off w deep
 
 -- Non-reentrance.
 

@@ -55,9 +55,9 @@ goes-on r q pool counts e mode =
 
 Kind-runnable : (S : ScenarioContents) (places wakes : Bool) (s : State) (w : ℕ) (left : Option ℕ) (a : Option Pending) (b : Option Running) (c : Option Pending) (d : Option Running) (n pool : ℕ)
     → wakes ≡ false → Kind S places wakes s w left a b c d n → RisesIf (may_start S s pool ≡ true) (runnable_of S w pool d) (runnable_of S w pool b)
-Kind-runnable S places wakes s w left a b c d n pool quiet (Kind.placed r at e fits with_run room) = inl (omega arith)
-Kind-runnable S places wakes s w left a b c d n pool quiet (Kind.put_off r at may_place fits with_run room) = inl (omega arith)
-Kind-runnable S places wakes s w left a b c d n pool quiet (Kind.timed r due cpu may_place h) = inl (omega arith)
+Kind-runnable S places wakes s w left a b c d n pool quiet (Kind.placed r at e fits with_run room enabled) = inl (omega arith)
+Kind-runnable S places wakes s w left a b c d n pool quiet (Kind.put_off r at may_place fits with_run room enabled) = inl (omega arith)
+Kind-runnable S places wakes s w left a b c d n pool quiet (Kind.timed r due cpu may_place h enabled) = inl (omega arith)
 Kind-runnable S places wakes s w left a b c d n pool quiet (Kind.untimed born stamp r due cpu) = inl (omega arith)
 Kind-runnable S places wakes s w left a b c d n pool quiet (Kind.taken_inactive born stamp r at) = inl (omega arith)
 Kind-runnable S places wakes s w left a b c d n pool quiet (Kind.taken_listed born stamp r at) = inl (omega arith)

@@ -30,9 +30,9 @@ born-same test p r q e h = ap (λ (born : ℕ). placed_born test p || test born)
 
 Kind-instance : (S : ScenarioContents) (places wakes : Bool) (s : State) (w : ℕ) (left : Option ℕ) (a : Option Pending) (b : Option Running) (c : Option Pending) (d : Option Running) (n : ℕ) (test : ℕ → Bool)
     → IsOnEarlier s.next test → Kind S places wakes s w left a b c d n → instance_of test c d ≡ true → instance_of test a b ≡ true
-Kind-instance S places wakes s w left a b c d n test early (Kind.placed r at e fits with_run room) h = right-of (test s.next) (runs (λ r. test r.born) r) (early s.next (omega arith)) h
-Kind-instance S places wakes s w left a b c d n test early (Kind.put_off r at may_place fits with_run room) h = right-of (test s.next) (runs (λ r. test r.born) r) (early s.next (omega arith)) h
-Kind-instance S places wakes s w left a b c d n test early (Kind.timed r due cpu may_place in_range) h = h
+Kind-instance S places wakes s w left a b c d n test early (Kind.placed r at e fits with_run room enabled) h = right-of (test s.next) (runs (λ r. test r.born) r) (early s.next (omega arith)) h
+Kind-instance S places wakes s w left a b c d n test early (Kind.put_off r at may_place fits with_run room enabled) h = right-of (test s.next) (runs (λ r. test r.born) r) (early s.next (omega arith)) h
+Kind-instance S places wakes s w left a b c d n test early (Kind.timed r due cpu may_place in_range enabled) h = h
 Kind-instance S places wakes s w left a b c d n test early (Kind.untimed born stamp r due cpu) h = h
 Kind-instance S places wakes s w left a b c d n test early (Kind.taken_inactive born stamp r at) h = or_right (test born) (runs (λ r. test r.born) r) h
 Kind-instance S places wakes s w left a b c d n test early (Kind.taken_listed born stamp r at) h = or_right (test born) (runs (λ r. test r.born) r) h

@@ -73,10 +73,10 @@ pool-same x a b pool rest e = let same : bit (x && (b == pool)) ≡ bit (x && (a
 Kind-active : (S : ScenarioContents) (places wakes : Bool) (s : State) (w : ℕ) (left : Option ℕ) (a : Option Pending) (b : Option Running) (c : Option Pending) (d : Option Running) (n queue pool : ℕ)
     → Kind S places wakes s w left a b c d n
     → RisesIf (active S s queue pool < limit S s queue) (active_of S w queue pool c d) (active_of S w queue pool a b)
-Kind-active S places wakes s w left a b c d n queue pool (Kind.placed r at e fits with_run room) =
+Kind-active S places wakes s w left a b c d n queue pool (Kind.placed r at e fits with_run room enabled) =
     activates S s w at queue pool (bit ((queue_of S w == queue) && runs (λ r. r.pool == pool) r)) room (queue_of S w == queue) (at == pool) refl refl
-Kind-active S places wakes s w left a b c d n queue pool (Kind.put_off r at may_place fits with_run room) = inl (omega arith)
-Kind-active S places wakes s w left a b c d n queue pool (Kind.timed r due cpu may_place h) = inl (omega arith)
+Kind-active S places wakes s w left a b c d n queue pool (Kind.put_off r at may_place fits with_run room enabled) = inl (omega arith)
+Kind-active S places wakes s w left a b c d n queue pool (Kind.timed r due cpu may_place h enabled) = inl (omega arith)
 Kind-active S places wakes s w left a b c d n queue pool (Kind.untimed born stamp r due cpu) = inl (omega arith)
 Kind-active S places wakes s w left a b c d n queue pool (Kind.taken_inactive born stamp r at) = inl (omega arith)
 Kind-active S places wakes s w left a b c d n queue pool (Kind.taken_listed born stamp r at) =

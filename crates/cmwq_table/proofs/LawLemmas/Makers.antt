@@ -22,6 +22,7 @@ alters-pending S s w p next long h = record {
   max = refl;
   frozen = refl;
   time = refl;
+  depth = refl;
   flushes = refl;
   made = λ within. within;
 }
@@ -39,6 +40,7 @@ alters-running S s w r next idle long h = record {
   max = refl;
   frozen = refl;
   time = refl;
+  depth = refl;
   flushes = refl;
   made = λ within. within;
 }
@@ -57,6 +59,7 @@ alters-both S s w p r next idle made long h within = record {
   max = refl;
   frozen = refl;
   time = refl;
+  depth = refl;
   flushes = refl;
   made = within;
 }

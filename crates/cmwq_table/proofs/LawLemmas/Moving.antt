@@ -1,7 +1,7 @@
 -- Each move of a pool makes a chain of changes.
-use Rattle.std.proofs.Common.{◌≡◌, ℕ, zero, suc, ◌+◌, ◌<◌, ◌≤◌, Bool, true, false, cond, ◌&&◌, ◌||◌, List, [], ◌∷◌, length, Option, Some, None, arith, refl, sym, ap, ◌∙◌, subst}
+use Rattle.std.proofs.Common.{◌≡◌, ℕ, ◌+◌, ◌<◌, ◌≤◌, Bool, true, false, not, cond, ◌&&◌, ◌||◌, length, Option, Some, None, arith, refl, sym, ap, ◌∙◌, subst}
 use Rattle.std.proofs.lemmas.Bool.{and_parts, eqb-true, ltb-true}
-use Rattle.std.specs.Prelude.{slice_set, slice_index_or, is_some, nat_lt, ◌==◌}
+use Rattle.std.specs.Prelude.{slice_set, is_some, nat_lt, ◌==◌}
 use Rattle.cmwq_types.specs.Contents.{ScenarioContents}
 use Rattle.cmwq_types.specs.First.{MatchFirst}
 use Rattle.cmwq_types.specs.Scenario.{op_at}
@@ -16,12 +16,14 @@ use Rattle.cmwq_types.specs.declared.scenario.Op.TheVariants as op
 use Rattle.cmwq_types.proofs.FirstLemmas.{by_least-order, by_least_two-order, by_greatest-order, first_below-is_first}
 use Rattle.cmwq_table.specs.declared.state.Pending.{Pending}
 use Rattle.cmwq_table.specs.declared.state.Running.{Running}
-use Rattle.cmwq_table.specs.State.{State, seat, pending_at, running_at, idle_at, made_at, is_unbound}
+use Rattle.cmwq_table.specs.State.{State, seat, pending_at, running_at, depth_at, is_disabled, idle_at, made_at, is_unbound}
 use Rattle.cmwq_table.specs.Counts.{first_listed, first_ready, first_runnable, first_slept, free_worker, idle_stamp, if_ready, is_deferred, is_listed, is_runnable, is_slept, last_idle, may_start, new_worker, or_else, pends, pending_before, pending_stamp, ready_head, running_before, running_stamp, running_until, runs}
 use Rattle.cmwq_table.specs.Laws.{is_wake}
 use Rattle.cmwq_table.specs.Moves.{advance, as_move, begin_again, begun, carry_out, come_to_end, deferred, finish, moved, next_move, onward, queue_from_body, retire, start_first, start_move, started, started_on, take_listed, with_running, woken}
+use Rattle.cmwq_table.proofs.CounterLemmas.{set-within}
 use Rattle.cmwq_table.proofs.LawLemmas.Setting.{IsOpInRange, IsSetting}
 use Rattle.cmwq_table.proofs.LawLemmas.Changes.{Kind, Change, Follows}
+use Rattle.cmwq_table.proofs.LawLemmas.Disabled.{enabled-zero}
 use Rattle.cmwq_table.proofs.LawLemmas.Makers.{alters-pending, alters-running, alters-both}
 use Rattle.cmwq_table.proofs.LawLemmas.Sound.{IsSound, Change-sound}
 use Rattle.cmwq_table.proofs.LawLemmas.Steps.{changed, leaving, one, place-follows}
@@ -176,9 +178,12 @@ finish-follows S wakes s w r sound h is runs =
     leaving S true wakes s (come_to_end s w r (pending_at s w)).0 w r.pool (ends S wakes s w r (pending_at s w) sound h is runs refl)
 
 queues-follows : (S : ScenarioContents) (wakes : Bool) (s : State) (other : WorkId) (cpu : ℕ) (o : Option Pending) → IsSound S s
-    → other.0 < length S.works → cpu < S.cpus → pending_at s other.0 ≡ o → Follows S true wakes s (queue_from_body S s other cpu o).0
-queues-follows S wakes s other cpu (Some p) sound h there is = Follows.stays true wakes s
-queues-follows S wakes s other cpu None sound h there is = place-follows S wakes s other.0 cpu sound h there is
+    → other.0 < length S.works → cpu < S.cpus → pending_at s other.0 ≡ o → (b : Bool) → is_disabled s other.0 ≡ b
+    → Follows S true wakes s (queue_from_body S s other cpu b o).0
+queues-follows S wakes s other cpu o sound h there is true deep = Follows.stays true wakes s
+queues-follows S wakes s other cpu (Some p) sound h there is false shallow = Follows.stays true wakes s
+queues-follows S wakes s other cpu None sound h there is false shallow =
+    place-follows S wakes s other.0 cpu sound h there is (enabled-zero (depth_at s other.0) (ap not shallow))
 
 carries-out : (S : ScenarioContents) (wakes : Bool) (s : State) (w : ℕ) (r : Running) (o : Op) → IsSound S s → w < length S.works
     → running_at s w ≡ Some r → is_runnable r.mode ≡ true → IsOpInRange S o → Follows S true wakes s (carry_out S s w r o).0
@@ -190,8 +195,8 @@ carries-out S wakes s w r (op.Sleep ticks) sound h is runs in_range =
     one S true wakes s (with_running s w (Some q)) w (goes S wakes s w r q sound h is refl refl (λ e. runs))
 carries-out S wakes s w r (op.Queue other cpu) sound h is runs in_range =
     let change : Change S true wakes None s (onward s w r) w = goes S wakes s w r (record r { pc = r.pc + 1 }) sound h is refl refl (λ e. e) in
-    Follows.changes true wakes s (onward s w r) (queue_from_body S (onward s w r) other cpu (pending_at s other.0)).0 w change
-    (queues-follows S wakes (onward s w r) other cpu (pending_at s other.0) (Change-sound S true wakes None s (onward s w r) w change sound) in_range.0 in_range.1 refl)
+    Follows.changes true wakes s (onward s w r) (queue_from_body S (onward s w r) other cpu (is_disabled s other.0) (pending_at s other.0)).0 w change
+    (queues-follows S wakes (onward s w r) other cpu (pending_at s other.0) (Change-sound S true wakes None s (onward s w r) w change sound) in_range.0 in_range.1 refl (is_disabled s other.0) refl)
 carries-out S wakes s w r op.Finish sound h is runs in_range = finish-follows S wakes s w r sound h is runs
 
 advances : (S : ScenarioContents) (wakes : Bool) (s : State) (w : ℕ) (o : Option Running) → IsSetting S → IsSound S s → w < length S.works
@@ -209,13 +214,6 @@ wakes-follows S s w (Some r) sound h is =
 wakes-follows S s w None sound h is = Follows.stays true true s
 
 -- where the free worker is one of the pool's, the pool doesn't make too many
-
-made-set : (made : List ℕ) (most pool x : ℕ) → ((i : ℕ) → slice_index_or made i 0 ≤ most) → x ≤ most → (i : ℕ) → slice_index_or (slice_set made pool x) i 0 ≤ most
-made-set [] most pool x each here i = each i
-made-set (m ∷ made) most zero x each here zero = here
-made-set (m ∷ made) most zero x each here (suc i) = each (suc i)
-made-set (m ∷ made) most (suc pool) x each here zero = each zero
-made-set (m ∷ made) most (suc pool) x each here (suc i) = made-set made most pool x (λ j. each (suc j)) here i
 
 idle-first : (S : ScenarioContents) (s : State) (pool : ℕ) → IfSome (λ worker. worker < S.workers) (last_idle S s pool)
 idle-first S s pool =
@@ -250,7 +248,7 @@ start-place S wakes s pool w worker p (Listed at) sound h seated idle may is is_
     one S true wakes s (started_on s pool w worker p) w
     (changed S true wakes None s (started_on s pool w worker p) w (Some (record { born = p.born; stamp = p.stamp; place = Listed pool })) None None (Some q) (is_pending ∙ same) idle
     (alters-both S s w None (Some q) (s.next + 1) (slice_set s.idle (seat pool worker) None) (slice_set s.made pool made) sound.long h
-    (λ within. made-set s.made S.workers pool made within (made-one_more worker (made_at s pool) S.workers (worker == made_at s pool) seated (within pool))))
+    (λ within. set-within s.made S.workers pool made within (made-one_more worker (made_at s pool) S.workers (worker == made_at s pool) seated (within pool))))
     (Kind.started p.born p.stamp pool worker may))
 start-place S wakes s pool w worker p (Timer due cpu) sound h seated idle may is is_pending = cc
 start-place S wakes s pool w worker p (Inactive at) sound h seated idle may is is_pending = cc

@@ -117,14 +117,14 @@ moves-on pool p r q e at born (inr ran) = inr (sym at ∙ ran.0, sym e ∙ ran.1
 Kind-order : (S : ScenarioContents) (places wakes : Bool) (s : State) (w : ℕ) (left : Option ℕ) (a : Option Pending) (b : Option Running) (c : Option Pending) (d : Option Running) (n pool : ℕ)
     → IsSound S s → (places ≡ true → AreFull S s) → pending_at s w ≡ a → Fits S s.next w a b
     → Kind S places wakes s w left a b c d n → Orders S s w pool a b c d
-Kind-order S places wakes s w left a b c d n pool sound are_full is fits (Kind.placed r at e pool_fits with_run room) =
+Kind-order S places wakes s w left a b c d n pool sound are_full is fits (Kind.placed r at e pool_fits with_run room enabled) =
     Orders.opens (λ later h. cc) (λ born h. elim h [
       | inl pends ↦ inr (λ x later ne of_queue inactive. absurd (none-waits S s w at pool (are_full e) room pends.0 x later of_queue inactive))
       | inr ran ↦ inl (inr ran)
     ])
-Kind-order S places wakes s w left a b c d n pool sound are_full is fits (Kind.put_off r at may_place pool_fits with_run room) =
+Kind-order S places wakes s w left a b c d n pool sound are_full is fits (Kind.put_off r at may_place pool_fits with_run room enabled) =
     Orders.quiet (λ born h. elim h [ inl pends ↦ absurd cc | inr ran ↦ inr ran ]) (λ later h. inr (sym h.1))
-Kind-order S places wakes s w left a b c d n pool sound are_full is fits (Kind.timed r due cpu may_place h) =
+Kind-order S places wakes s w left a b c d n pool sound are_full is fits (Kind.timed r due cpu may_place h enabled) =
     Orders.quiet (λ born h. elim h [ inl pends ↦ absurd cc | inr ran ↦ inr ran ]) (λ later h. cc)
 Kind-order S places wakes s w left a b c d n pool sound are_full is fits (Kind.untimed born stamp r due cpu) =
     Orders.quiet (λ born h. elim h [ inl pends ↦ absurd pends | inr ran ↦ inr ran ]) (λ later h. absurd h)

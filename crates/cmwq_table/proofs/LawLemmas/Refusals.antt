@@ -1,6 +1,6 @@
 -- A refused instruction changes nothing, and neither does a question.
-use Rattle.std.proofs.Common.{◌≡◌, ℕ, ◌+◌, Bool, true, false, Option, Some, None, arith, refl, ap}
-use Rattle.std.specs.Prelude.{is_some, nat_lt}
+use Rattle.std.proofs.Common.{◌≡◌, ℕ, ◌+◌, ◌-◌, Bool, true, false, Option, Some, None, arith, refl, ap}
+use Rattle.std.specs.Prelude.{is_some, nat_lt, ◌==◌}
 use Rattle.cmwq_types.proofs.FirstLemmas.{by_least-order, first_below-is_first}
 use Rattle.cmwq_types.specs.Contents.{ScenarioContents}
 use Rattle.cmwq_types.specs.First.{MatchFirst}
@@ -14,9 +14,9 @@ use Rattle.cmwq_table.specs.declared.state.Pending.{Pending}
 use Rattle.cmwq_table.specs.Counts.{first_due, is_busy, is_done}
 use Rattle.cmwq_table.specs.Counts as counts
 use Rattle.cmwq_table.specs.Laws.{AtEveryInstruction, ChangesNothingAsked, ChangesNothingRefused}
-use Rattle.cmwq_table.specs.Moves.{first_moving, next_move}
-use Rattle.cmwq_table.specs.State.{State, pending_at, pool_count}
-use Rattle.cmwq_table.specs.Table.{answer, cancelled, delayed, effect, fired_first, is_question, modified, next, nothing_to_do, operands, queued, run, situation, spent_all, step_or_tick, stepped, table, target_at, yes_or_no}
+use Rattle.cmwq_table.specs.Moves.{first_moving, next_move, with_depth}
+use Rattle.cmwq_table.specs.State.{State, depth_at, pending_at, pool_count}
+use Rattle.cmwq_table.specs.Table.{answer, cancelled, delayed, disabled, effect, fired_first, is_question, modified, next, nothing_to_do, operands, queued, run, situation, spent_all, step_or_tick, stepped, table, target_at, yes_or_no}
 
 -- The reply is no refusal.
 abbrev IsTold : Reply → Type 0
@@ -37,6 +37,9 @@ modified-told S s w cpu ticks None why e = cc
 cancelled-told : (S : ScenarioContents) (s : State) (w : ℕ) (o : Option Pending) → IsTold (cancelled S s w o).1
 cancelled-told S s w (Some p) why e = cc
 cancelled-told S s w None why e = cc
+
+disabled-told : (S : ScenarioContents) (s : State) (w : ℕ) (o : Option Pending) → IsTold (disabled S s w o).1
+disabled-told S s w o = cancelled-told S (with_depth s w (depth_at s w + 1)) w o
 
 answer-told : (holds : Bool) → IsTold (yes_or_no holds)
 answer-told true why e = cc
@@ -94,6 +97,8 @@ effect-told S s instr.Next fits = next-told S s (first_due S s)
 effect-told S s (instr.Ask flush) fits = answer-told (is_done S s (target_at s flush))
 effect-told S s instr.Busy fits = answer-told (is_busy S s)
 effect-told S s (instr.State w) fits = λ why e. cc
+effect-told S s (instr.Disable w) fits = disabled-told S s w.0 (pending_at s w.0)
+effect-told S s (instr.Enable w) fits = answer-told ((depth_at s w.0 - 1) == 0)
 
 -- A refusal of the table's is given with the state as it was.
 refused-same : (S : ScenarioContents) (s : State) (i : Instr) (a b c : Option Refusal) → situation S s i ≡ c → (why : Refusal)
@@ -135,6 +140,8 @@ asked-same S s instr.Fire asked None = cc
 asked-same S s (instr.Step pool) asked None = cc
 asked-same S s instr.Tick asked None = cc
 asked-same S s instr.Next asked None = cc
+asked-same S s (instr.Disable w) asked None = cc
+asked-same S s (instr.Enable w) asked None = cc
 
 pub changes_nothing_asked : AtEveryInstruction ChangesNothingAsked
 unfolding ChangesNothingAsked table

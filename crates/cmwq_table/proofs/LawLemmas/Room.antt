@@ -46,11 +46,11 @@ goes S s w queue pool p r q e = record {
 
 Kind-full : (S : ScenarioContents) (places wakes : Bool) (s : State) (w : ℕ) (left : Option ℕ) (a : Option Pending) (b : Option Running) (c : Option Pending) (d : Option Running) (n queue pool : ℕ)
     → IsElsewhere S left w queue pool → Fits S s.next w a b → Kind S places wakes s w left a b c d n → KeepsFull S s w queue pool a b c d
-Kind-full S places wakes s w left a b c d n queue pool elsewhere fits (Kind.placed r at e pool_fits with_run room) =
+Kind-full S places wakes s w left a b c d n queue pool elsewhere fits (Kind.placed r at e pool_fits with_run room enabled) =
     record { level = falls (queue_of S w == queue) (at == pool) (bit ((queue_of S w == queue) && runs (λ r. r.pool == pool) r)); waiting = λ of_queue is. cc }
-Kind-full S places wakes s w left a b c d n queue pool elsewhere fits (Kind.put_off r at may_place pool_fits with_run room) =
+Kind-full S places wakes s w left a b c d n queue pool elsewhere fits (Kind.put_off r at may_place pool_fits with_run room enabled) =
     record { level = omega arith; waiting = λ of_queue is. inr (no-room S s w queue at pool room of_queue is) }
-Kind-full S places wakes s w left a b c d n queue pool elsewhere fits (Kind.timed r due cpu may_place h) =
+Kind-full S places wakes s w left a b c d n queue pool elsewhere fits (Kind.timed r due cpu may_place h enabled) =
     record { level = omega arith; waiting = λ of_queue is. cc }
 Kind-full S places wakes s w left a b c d n queue pool elsewhere fits (Kind.untimed born stamp r due cpu) =
     record { level = omega arith; waiting = λ of_queue is. cc }

@@ -21,6 +21,7 @@ use Rattle.cmwq_table.specs.Laws.{tells_wake}
 use Rattle.cmwq_table.specs.Table.{after_all, answer, effect, operands, run, situation, spent_all, table}
 use Rattle.cmwq_table.proofs.LawLemmas.Alike.{alike-active, alike-listed, alike-order, alike-sound}
 use Rattle.cmwq_table.proofs.LawLemmas.Counting.{count_below-all_fail}
+use Rattle.cmwq_table.proofs.LawLemmas.Disabled.{IsOff}
 use Rattle.cmwq_table.proofs.LawLemmas.Effects.{Effect, GivenFits, effect-is, with_given}
 use Rattle.cmwq_table.proofs.LawLemmas.Order.{Follows-one_by_one, IsOneByOne}
 use Rattle.cmwq_table.proofs.LawLemmas.PoolOrder.{Follows-pool_order, HasInactiveAt, IsInPoolOrder}
@@ -35,6 +36,7 @@ pub record IsReached (S : ScenarioContents) (s : State) : Type 0 where
   pub in_order : IsInPoolOrder S s
   pub listed : IsInListOrder S s
   pub one_by_one : IsOneByOne S s
+  pub off : IsOff s
 
 -- neither flushes nor what was spent matter to the works
 counted-on : (S : ScenarioContents) (s : State) (flushes : List FlushTarget) (spent : ℕ) → IsReached S s
@@ -52,6 +54,7 @@ counted-on S s flushes spent reached fits = record {
   in_order = reached.in_order;
   listed = record { below = reached.listed.below; rises = reached.listed.rises };
   one_by_one = reached.one_by_one;
+  off = reached.off;
 }
 
 one-more : (next : ℕ) (flushes : List FlushTarget) (target : FlushTarget) → ((flush : ℕ) → FitsTarget next (slice_index_or flushes flush Nothing))
@@ -77,6 +80,7 @@ effect-reached S wakes s t spent reached effect =
       listed = Follows-list_order S effect.places wakes effect.begun effect.ended effect.follows begun_sound effect.begun_full begun_order (alike-listed S s effect.begun effect.alike reached.listed);
       one_by_one = Follows-one_by_one S effect.places wakes effect.begun effect.ended effect.follows begun_sound
           (λ queue pool ordered. rw (alike-active S s effect.begun queue pool effect.alike) (reached.one_by_one queue pool ordered));
+      off = effect.ended_off;
     } in
     subst (λ (u : State). IsReached S (record u { spent = spent })) (sym effect.after) (given-reached S effect.ended effect.given spent ended effect.given_fits)
 
@@ -92,7 +96,7 @@ answers S s i setting reached (Some why) b c operands_are situation_is = Outcome
 answers S s i setting reached None (Some why) c operands_are situation_is = Outcome.refused why
 answers S s i setting reached None None (Some why) operands_are situation_is = Outcome.refused why
 answers S s i setting reached None None None operands_are situation_is =
-    Outcome.done (effect S s i).0 (effect S s i).1 (answer s i None (effect S s i)).0.spent (effect-is S s i setting reached.sound reached.are_full operands_are situation_is)
+    Outcome.done (effect S s i).0 (effect S s i).1 (answer s i None (effect S s i)).0.spent (effect-is S s i setting reached.sound reached.are_full reached.off operands_are situation_is)
 
 pub outcome-is : (S : ScenarioContents) (s : State) (i : Instr) → IsSetting S → IsReached S s → Outcome S s (table S s i).0 (table S s i).1
 unfolding table
@@ -169,6 +173,7 @@ start-reached S setting = record {
     rises = λ v w pool born stamp later last of_queue one other less. absurd (none-listed pool born stamp (pending_at (start S) v) (start-pending S v) one);
   };
   one_by_one = λ queue pool ordered. let none : active S (start S) queue pool ≡ 0 = start-idle S queue pool in omega arith;
+  off = λ w deep. start-pending S w;
 }
 
 pub run-reached : (S : ScenarioContents) (instrs : List Instr) → IsValid S → IsReached S (run S instrs)

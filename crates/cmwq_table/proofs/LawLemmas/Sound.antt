@@ -110,9 +110,9 @@ pending-still S next w r None e fits = tt
 
 pub Kind-next : (S : ScenarioContents) (places wakes : Bool) (s : State) (w : ℕ) (left : Option ℕ) (a : Option Pending) (b : Option Running) (c : Option Pending) (d : Option Running) (n : ℕ)
     → Kind S places wakes s w left a b c d n → s.next ≤ n
-Kind-next S places wakes s w left a b c d n (Kind.placed r pool e fits with_run room) = omega arith
-Kind-next S places wakes s w left a b c d n (Kind.put_off r pool may_place fits with_run room) = omega arith
-Kind-next S places wakes s w left a b c d n (Kind.timed r due cpu may_place h) = omega arith
+Kind-next S places wakes s w left a b c d n (Kind.placed r pool e fits with_run room enabled) = omega arith
+Kind-next S places wakes s w left a b c d n (Kind.put_off r pool may_place fits with_run room enabled) = omega arith
+Kind-next S places wakes s w left a b c d n (Kind.timed r due cpu may_place h enabled) = omega arith
 Kind-next S places wakes s w left a b c d n (Kind.untimed born stamp r due cpu) = omega arith
 Kind-next S places wakes s w left a b c d n (Kind.taken_inactive born stamp r pool) = omega arith
 Kind-next S places wakes s w left a b c d n (Kind.taken_listed born stamp r pool) = omega arith
@@ -128,11 +128,11 @@ Kind-next S places wakes s w left a b c d n (Kind.retired p r e) = omega arith
 -- Where a change leaves it pending it fits there, and where it leaves it running too.
 Kind-fits : (S : ScenarioContents) (places wakes : Bool) (s : State) (w : ℕ) (left : Option ℕ) (a : Option Pending) (b : Option Running) (c : Option Pending) (d : Option Running) (n : ℕ)
     → Kind S places wakes s w left a b c d n → Fits S s.next w a b → Fits S n w c d
-Kind-fits S places wakes s w left a b c d n (Kind.placed r pool e fits with_run room) was =
+Kind-fits S places wakes s w left a b c d n (Kind.placed r pool e fits with_run room enabled) was =
     record { pending = record { born = omega arith; stamp = λ still. refl; place = fits.in_range; stands = (fits.own, with_run) }; running = running-later S s.next (s.next + 1) w r (omega arith) was.running }
-Kind-fits S places wakes s w left a b c d n (Kind.put_off r pool may_place fits with_run room) was =
+Kind-fits S places wakes s w left a b c d n (Kind.put_off r pool may_place fits with_run room enabled) was =
     record { pending = record { born = omega arith; stamp = λ still. refl; place = fits.in_range; stands = (fits.own, with_run) }; running = running-later S s.next (s.next + 1) w r (omega arith) was.running }
-Kind-fits S places wakes s w left a b c d n (Kind.timed r due cpu may_place h) was =
+Kind-fits S places wakes s w left a b c d n (Kind.timed r due cpu may_place h enabled) was =
     record { pending = record { born = omega arith; stamp = λ still. refl; place = h; stands = tt }; running = running-later S s.next (s.next + 1) w r (omega arith) was.running }
 Kind-fits S places wakes s w left a b c d n (Kind.untimed born stamp r due cpu) was = record { pending = tt; running = was.running }
 Kind-fits S places wakes s w left a b c d n (Kind.taken_inactive born stamp r pool) was = record { pending = tt; running = was.running }
@@ -160,9 +160,9 @@ KeepsBirth s a q = ((p : Pending) × (a ≡ Some p) × (p.born ≡ q.born)) ⊎ 
 Kind-births : (S : ScenarioContents) (places wakes : Bool) (s : State) (w : ℕ) (left : Option ℕ) (a : Option Pending) (b : Option Running) (c : Option Pending) (d : Option Running) (n : ℕ)
     → Kind S places wakes s w left a b c d n → (q : Pending) → c ≡ Some q → KeepsBirth s a q
 unfolding KeepsBirth
-Kind-births S places wakes s w left a b c d n (Kind.placed r pool e fits with_run room) q is = inr cc
-Kind-births S places wakes s w left a b c d n (Kind.put_off r pool may_place fits with_run room) q is = inr cc
-Kind-births S places wakes s w left a b c d n (Kind.timed r due cpu may_place h) q is = inr cc
+Kind-births S places wakes s w left a b c d n (Kind.placed r pool e fits with_run room enabled) q is = inr cc
+Kind-births S places wakes s w left a b c d n (Kind.put_off r pool may_place fits with_run room enabled) q is = inr cc
+Kind-births S places wakes s w left a b c d n (Kind.timed r due cpu may_place h enabled) q is = inr cc
 Kind-births S places wakes s w left a b c d n (Kind.untimed born stamp r due cpu) q is = cc
 Kind-births S places wakes s w left a b c d n (Kind.taken_inactive born stamp r pool) q is = cc
 Kind-births S places wakes s w left a b c d n (Kind.taken_listed born stamp r pool) q is = cc

@@ -21,10 +21,10 @@ use Rattle.cmwq_types.specs.declared.scenario.Op.{Op}
 use Rattle.cmwq_types.specs.declared.scenario.Op.TheVariants as op
 use Rattle.cmwq_table.specs.declared.state.Pending.{Pending}
 use Rattle.cmwq_table.specs.declared.state.Running.{Running}
-use Rattle.cmwq_table.specs.State.{State, is_unbound, pending_at, pool_count, running_at}
+use Rattle.cmwq_table.specs.State.{State, depth_at, is_disabled, is_unbound, pending_at, pool_count, running_at}
 use Rattle.cmwq_table.specs.Counts.{burns, first_due, first_inactive, free_worker, has_room, is_counted, is_deferred, is_listed, may_start, pends}
 use Rattle.cmwq_table.specs.Laws.{AtEveryInstruction, IsListedIn, StartsAtLevelZero}
-use Rattle.cmwq_table.specs.Moves.{advance, begin_again, begun, burned, carry_out, come_to_end, deferred, enlist, fill, fill_everywhere, fill_freezable, fill_from, fill_pools, fill_times, fired, fired_to, first_moving, moved, next_move, one_less, onward, place_after, queue_from_body, retire, started, taken_off, tick, with_pending, woken}
+use Rattle.cmwq_table.specs.Moves.{advance, begin_again, begun, burned, carry_out, come_to_end, deferred, enlist, fill, fill_everywhere, fill_freezable, fill_from, fill_pools, fill_times, fired, fired_to, first_moving, moved, next_move, one_less, onward, place_after, queue_from_body, retire, started, taken_off, tick, with_depth, with_pending, woken}
 use Rattle.cmwq_table.specs.Table.{answer, cancelled, delayed, effect, fired_first, modified, next, queued, refusal, run, step_or_tick, stepped, table}
 use Rattle.cmwq_table.proofs.LawLemmas.Moving.{MoveFits, next_move-fits}
 
@@ -146,9 +146,10 @@ end-set s w r (Some p) = end-if (is_deferred p.place)
     end-if false = (None, refl)
 end-set s w r None = (None, refl)
 
-queue_from_body-same : (S : ScenarioContents) (s : State) (other : WorkId) (cpu : ℕ) (o : Option Pending) → SameRunning s (queue_from_body S s other cpu o).0
-queue_from_body-same S s other cpu (Some p) = refl
-queue_from_body-same S s other cpu None = refl
+queue_from_body-same : (S : ScenarioContents) (s : State) (other : WorkId) (cpu : ℕ) (b : Bool) (o : Option Pending) → SameRunning s (queue_from_body S s other cpu b o).0
+queue_from_body-same S s other cpu true o = refl
+queue_from_body-same S s other cpu false (Some p) = refl
+queue_from_body-same S s other cpu false None = refl
 
 carry_out-none : (S : ScenarioContents) (s : State) (w : ℕ) (r : Running) (o : Op) → running_at s w ≡ Some r → NoneBegin s (carry_out S s w r o).0
 carry_out-none S s w r (op.Burn ticks) runs =
@@ -157,7 +158,7 @@ carry_out-none S s w r (op.Sleep ticks) runs =
     set-none s (carry_out S s w r (op.Sleep ticks)).0 w (Some (record r { pc = r.pc + 1; mode = Asleep (s.time + ticks) })) r runs refl
 carry_out-none S s w r (op.Queue other cpu) runs =
     set-none s (carry_out S s w r (op.Queue other cpu)).0 w (Some (record r { pc = r.pc + 1 })) r runs
-    (queue_from_body-same S (onward s w r) other cpu (pending_at (onward s w r) other.0))
+    (queue_from_body-same S (onward s w r) other cpu (is_disabled s other.0) (pending_at (onward s w r) other.0))
 carry_out-none S s w r op.Finish runs =
     let ended = end-set s w r (pending_at s w) in
     set-none s (carry_out S s w r op.Finish).0 w ended.0 r runs
@@ -255,6 +256,9 @@ effect-listed S s instr.Next = next-listed S s (first_due S s)
 effect-listed S s (instr.Ask flush) = same-listed S s s refl
 effect-listed S s instr.Busy = same-listed S s s refl
 effect-listed S s (instr.State w) = same-listed S s s refl
+effect-listed S s (instr.Disable w) =
+    same-listed S s (effect S s (instr.Disable w)).0 (cancelled-same S (with_depth s w.0 (depth_at s w.0 + 1)) w.0 (pending_at s w.0))
+effect-listed S s (instr.Enable w) = same-listed S s (effect S s (instr.Enable w)).0 refl
 
 answer-listed : (S : ScenarioContents) (s : State) (i : Instr) (o : Option Refusal) → BeginsListed S s (answer s i o (effect S s i)).0
 answer-listed S s i (Some why) = same-listed S s s refl

@@ -7,10 +7,11 @@ use Rattle.cmwq_types.specs.declared.reply.Place.{Place}
 use Rattle.cmwq_types.specs.declared.reply.Place.TheVariants.{Timer, Inactive, Listed, Deferred}
 use Rattle.cmwq_table.specs.declared.state.Pending.{Pending}
 use Rattle.cmwq_table.specs.declared.state.Running.{Running}
-use Rattle.cmwq_table.specs.State.{State, pending_at, running_at, pool_count, target, priority}
+use Rattle.cmwq_table.specs.State.{State, pending_at, running_at, depth_at, pool_count, target, priority}
 use Rattle.cmwq_table.specs.Counts.{has_room}
 use Rattle.cmwq_table.specs.Moves.{fill, filled, fill_everywhere, fill_freezable, fill_from, fill_pools, fired, fired_to, newborn, place, place_after, pool_for, pool_or, set_timer, taken_off, with_pending}
 use Rattle.cmwq_table.proofs.LawLemmas.Changes.{IsLong, IsPoolOf, RunsIn, Alters, Kind, Change, Follows, Follows-then}
+use Rattle.cmwq_table.proofs.LawLemmas.Disabled.{IsOff, pending-enabled}
 use Rattle.cmwq_table.proofs.LawLemmas.Fills.{fill-fills}
 use Rattle.cmwq_table.proofs.LawLemmas.Makers.{alters-pending}
 use Rattle.cmwq_table.proofs.LawLemmas.Sound.{IsSound, Fits, FitsIfRunning, Change-sound}
@@ -56,34 +57,35 @@ pool-fits : (S : ScenarioContents) (next w cpu : ℕ) (r : Option Running) → c
 pool-fits S next w cpu (Some r) h fits = (fits.pool, refl)
 pool-fits S next w cpu None h fits = (target-is_pool S w cpu h, tt)
 
-place-kind : (S : ScenarioContents) (wakes : Bool) (s : State) (w pool : ℕ) (r : Option Running) → IsPoolOf S w pool → RunsIn r pool → (b : Bool)
+place-kind : (S : ScenarioContents) (wakes : Bool) (s : State) (w pool : ℕ) (r : Option Running) → IsPoolOf S w pool → RunsIn r pool → depth_at s w ≡ 0 → (b : Bool)
     → has_room S s (queue_of S w) pool ≡ b → Kind S true wakes s w None None r (newborn s (cond b (Listed pool) (Inactive pool))) r (s.next + 1)
-place-kind S wakes s w pool r fits with_run true room = Kind.placed r pool refl fits with_run room
-place-kind S wakes s w pool r fits with_run false room = Kind.put_off r pool refl fits with_run room
+place-kind S wakes s w pool r fits with_run enabled true room = Kind.placed r pool refl fits with_run room enabled
+place-kind S wakes s w pool r fits with_run enabled false room = Kind.put_off r pool refl fits with_run room enabled
 
 pub place-follows : (S : ScenarioContents) (wakes : Bool) (s : State) (w cpu : ℕ) → IsSound S s → w < length S.works → cpu < S.cpus
-    → pending_at s w ≡ None → Follows S true wakes s (place S s w cpu)
-place-follows S wakes s w cpu sound h cpu_below idle =
+    → pending_at s w ≡ None → depth_at s w ≡ 0 → Follows S true wakes s (place S s w cpu)
+place-follows S wakes s w cpu sound h cpu_below idle enabled =
     let pool = pool_for S s w cpu in
     let fits = pool-fits S s.next w cpu (running_at s w) cpu_below (sound.works w).running in
     let p = newborn s (cond (has_room S s (queue_of S w) pool) (Listed pool) (Inactive pool)) in
     one S true wakes s (place S s w cpu) w
     (changed S true wakes None s (place S s w cpu) w None (running_at s w) p (running_at s w) idle refl
     (alters-pending S s w p (s.next + 1) sound.long h)
-    (place-kind S wakes s w pool (running_at s w) fits.0 fits.1 (has_room S s (queue_of S w) pool) refl))
+    (place-kind S wakes s w pool (running_at s w) fits.0 fits.1 enabled (has_room S s (queue_of S w) pool) refl))
 
 pub timer-follows : (S : ScenarioContents) (wakes : Bool) (s : State) (w cpu due : ℕ) → IsSound S s → w < length S.works → cpu < S.cpus
-    → pending_at s w ≡ None → Follows S true wakes s (set_timer s w cpu due)
-timer-follows S wakes s w cpu due sound h cpu_below idle =
+    → pending_at s w ≡ None → depth_at s w ≡ 0 → Follows S true wakes s (set_timer s w cpu due)
+timer-follows S wakes s w cpu due sound h cpu_below idle enabled =
     one S true wakes s (set_timer s w cpu due) w
     (changed S true wakes None s (set_timer s w cpu due) w None (running_at s w) (newborn s (Timer due cpu)) (running_at s w) idle refl
     (alters-pending S s w (newborn s (Timer due cpu)) (s.next + 1) sound.long h)
-    (Kind.timed (running_at s w) due cpu refl cpu_below))
+    (Kind.timed (running_at s w) due cpu refl cpu_below enabled))
 
 pub place_after-follows : (S : ScenarioContents) (wakes : Bool) (s : State) (w cpu ticks : ℕ) → IsSound S s → w < length S.works → cpu < S.cpus
-    → pending_at s w ≡ None → Follows S true wakes s (place_after S s w cpu ticks)
-place_after-follows S wakes s w cpu zero sound h cpu_below idle = place-follows S wakes s w cpu sound h cpu_below idle
-place_after-follows S wakes s w cpu (suc ticks) sound h cpu_below idle = timer-follows S wakes s w cpu (s.time + suc ticks) sound h cpu_below idle
+    → pending_at s w ≡ None → depth_at s w ≡ 0 → Follows S true wakes s (place_after S s w cpu ticks)
+place_after-follows S wakes s w cpu zero sound h cpu_below idle enabled = place-follows S wakes s w cpu sound h cpu_below idle enabled
+place_after-follows S wakes s w cpu (suc ticks) sound h cpu_below idle enabled =
+    timer-follows S wakes s w cpu (s.time + suc ticks) sound h cpu_below idle enabled
 
 -- Taking off.
 
@@ -95,9 +97,9 @@ stop-alters S s w long h = alters-pending S s w None s.next long h
 
 Kind-still : (S : ScenarioContents) (places wakes : Bool) (s : State) (w : ℕ) (left : Option ℕ) (a : Option Pending) (b : Option Running) (c : Option Pending) (d : Option Running) (n : ℕ)
     → places ≡ false → a ≡ None → Kind S places wakes s w left a b c d n → c ≡ None
-Kind-still S places wakes s w left a b c d n quiet idle (Kind.placed r at e fits with_run room) = cc
-Kind-still S places wakes s w left a b c d n quiet idle (Kind.put_off r at e fits with_run room) = cc
-Kind-still S places wakes s w left a b c d n quiet idle (Kind.timed r due cpu e in_range) = cc
+Kind-still S places wakes s w left a b c d n quiet idle (Kind.placed r at e fits with_run room enabled) = cc
+Kind-still S places wakes s w left a b c d n quiet idle (Kind.put_off r at e fits with_run room enabled) = cc
+Kind-still S places wakes s w left a b c d n quiet idle (Kind.timed r due cpu e in_range enabled) = cc
 Kind-still S places wakes s w left a b c d n quiet idle (Kind.untimed born stamp r due cpu) = refl
 Kind-still S places wakes s w left a b c d n quiet idle (Kind.taken_inactive born stamp r at) = refl
 Kind-still S places wakes s w left a b c d n quiet idle (Kind.taken_listed born stamp r at) = refl
@@ -173,23 +175,23 @@ take_off-follows S wakes s w None sound h is = Follows.stays true wakes s
 
 -- Timers.
 
-fired_to-follows : (S : ScenarioContents) (wakes : Bool) (s : State) (w : ℕ) (p : Pending) (at : Place) → IsSound S s → w < length S.works
+fired_to-follows : (S : ScenarioContents) (wakes : Bool) (s : State) (w : ℕ) (p : Pending) (at : Place) → IsSound S s → IsOff s → w < length S.works
     → pending_at s w ≡ Some (record { born = p.born; stamp = p.stamp; place = at }) → Follows S true wakes s (fired_to S s w at)
-fired_to-follows S wakes s w p (Timer due cpu) sound h is =
+fired_to-follows S wakes s w p (Timer due cpu) sound off h is =
     let stopped = with_pending s w None in
     let alters : Alters S s stopped w None (running_at s w) = stop-alters S s w sound.long h in
     let change : Change S true wakes None s stopped w = changed S true wakes None s stopped w (Some (record { born = p.born; stamp = p.stamp; place = Timer due cpu })) (running_at s w) None (running_at s w) is refl alters (Kind.untimed p.born p.stamp (running_at s w) due cpu) in
     let fits : Fits S s.next w (Some (record { born = p.born; stamp = p.stamp; place = Timer due cpu })) (running_at s w) = subst (λ (o : Option Pending). Fits S s.next w o (running_at s w)) is (sound.works w) in
     Follows.changes true wakes s stopped (place S stopped w cpu) w change
-    (place-follows S wakes stopped w cpu (Change-sound S true wakes None s stopped w change sound) h fits.pending.place alters.pending_here)
-fired_to-follows S wakes s w p (Inactive at) sound h is = Follows.stays true wakes s
-fired_to-follows S wakes s w p (Listed at) sound h is = Follows.stays true wakes s
-fired_to-follows S wakes s w p (Deferred at) sound h is = Follows.stays true wakes s
+    (place-follows S wakes stopped w cpu (Change-sound S true wakes None s stopped w change sound) h fits.pending.place alters.pending_here (pending-enabled s w (record { born = p.born; stamp = p.stamp; place = Timer due cpu }) off is))
+fired_to-follows S wakes s w p (Inactive at) sound off h is = Follows.stays true wakes s
+fired_to-follows S wakes s w p (Listed at) sound off h is = Follows.stays true wakes s
+fired_to-follows S wakes s w p (Deferred at) sound off h is = Follows.stays true wakes s
 
-pub fired-follows : (S : ScenarioContents) (wakes : Bool) (s : State) (w : ℕ) (o : Option Pending) → IsSound S s → w < length S.works
+pub fired-follows : (S : ScenarioContents) (wakes : Bool) (s : State) (w : ℕ) (o : Option Pending) → IsSound S s → IsOff s → w < length S.works
     → pending_at s w ≡ o → Follows S true wakes s (fired S s w o)
-fired-follows S wakes s w (Some p) sound h is = fired_to-follows S wakes s w p p.place sound h is
-fired-follows S wakes s w None sound h is = Follows.stays true wakes s
+fired-follows S wakes s w (Some p) sound off h is = fired_to-follows S wakes s w p p.place sound off h is
+fired-follows S wakes s w None sound off h is = Follows.stays true wakes s
 
 -- Fills everywhere.
 

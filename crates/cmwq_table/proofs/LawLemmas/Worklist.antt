@@ -50,15 +50,15 @@ listed-active pool born stamp r None listed = absurd listed
 
 Kind-lists : (S : ScenarioContents) (places wakes : Bool) (s : State) (w : ℕ) (left : Option ℕ) (a : Option Pending) (b : Option Running) (c : Option Pending) (d : Option Running) (n pool : ℕ)
     → IsSound S s → IsInPoolOrder S s → pending_at s w ≡ a → Kind S places wakes s w left a b c d n → Lists S s w pool a c n
-Kind-lists S places wakes s w left a b c d n pool sound in_order is (Kind.placed r at e fits with_run room) =
+Kind-lists S places wakes s w left a b c d n pool sound in_order is (Kind.placed r at e fits with_run room enabled) =
     Lists.lists (omega arith) (λ born stamp h. (
       sym h.2,
       λ x early first ne of_queue listed.
           let below : early < s.next = listed-below S s.next x pool early first (running_at s x) (pending_at s x) (sound.works x).pending listed in
           omega (arith, h.1),
     ))
-Kind-lists S places wakes s w left a b c d n pool sound in_order is (Kind.put_off r at may_place fits with_run room) = Lists.keeps (λ born stamp h. absurd cc)
-Kind-lists S places wakes s w left a b c d n pool sound in_order is (Kind.timed r due cpu may_place in_range) = Lists.keeps (λ born stamp h. absurd cc)
+Kind-lists S places wakes s w left a b c d n pool sound in_order is (Kind.put_off r at may_place fits with_run room enabled) = Lists.keeps (λ born stamp h. absurd cc)
+Kind-lists S places wakes s w left a b c d n pool sound in_order is (Kind.timed r due cpu may_place in_range enabled) = Lists.keeps (λ born stamp h. absurd cc)
 Kind-lists S places wakes s w left a b c d n pool sound in_order is (Kind.untimed born stamp r due cpu) = Lists.keeps (λ birth last h. absurd h)
 Kind-lists S places wakes s w left a b c d n pool sound in_order is (Kind.taken_inactive born stamp r at) = Lists.keeps (λ birth last h. absurd h)
 Kind-lists S places wakes s w left a b c d n pool sound in_order is (Kind.taken_listed born stamp r at) = Lists.keeps (λ birth last h. absurd h)
