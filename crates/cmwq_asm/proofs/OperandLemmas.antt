@@ -1,11 +1,10 @@
 -- Operands of which the first is a work.
 use Rattle.std.proofs.Common.{◌≡◌, ℕ, List}
-use Rattle.std.specs.Prelude.{Result, Ok}
+use Rattle.std.specs.Prelude.{Ok}
 use Rattle.cmwq_types.specs.Contents.{ScenarioContents}
 use Rattle.cmwq_grammar.specs.Instructions.{Operands, operands_at, work_id, work_names}
 use Rattle.cmwq_grammar.specs.Instructions.Operands.{Makes, OfWork, OfQueue, OfNumber}
-use Rattle.cmwq_grammar.specs.Fields.{◌>>=◌, declared_at}
-use Rattle.cmwq_grammar.specs.declared.why.Why.{Why}
+use Rattle.cmwq_grammar.specs.Fields.{declared_at}
 use Rattle.cmwq_asm.specs.Instructions.{IsOnWork, behind_work}
 use Rattle.cmwq_asm.proofs.Refused.{then_ok}
 

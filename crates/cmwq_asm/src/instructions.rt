@@ -95,7 +95,9 @@ fn read_operands<'a, 't>(
         | Mnemonic::CancelSync
         | Mnemonic::Flush
         | Mnemonic::FlushDelayed
-        | Mnemonic::State => {
+        | Mnemonic::State
+        | Mnemonic::Disable
+        | Mnemonic::Enable => {
             let (work, rest) = read_work(draft, rest)?;
             read_behind_work(mnemonic, work, rest)
         }
@@ -130,6 +132,8 @@ fn read_behind_work<'a, 't>(
         Mnemonic::Flush => Ok((Instr::Flush(work), rest)),
         Mnemonic::FlushDelayed => Ok((Instr::FlushDelayed(work), rest)),
         Mnemonic::State => Ok((Instr::State(work), rest)),
+        Mnemonic::Disable => Ok((Instr::Disable(work), rest)),
+        Mnemonic::Enable => Ok((Instr::Enable(work), rest)),
         Mnemonic::FlushQueue
         | Mnemonic::SetMax
         | Mnemonic::Freeze

@@ -1,5 +1,5 @@
 -- What was read of an input, as far as an image is read, tells as much as the whole input.
-use Rattle.std.proofs.Common.{◌≡◌, ℕ, ◌<◌, ◌≤◌, ◌⊎◌, length-append, inl, inr, List, ◌++◌, length, take, Option, Some, None, IfSome, IfOk, Result, Ok, Err, sym, ap, ◌∙◌, arith}
+use Rattle.std.proofs.Common.{◌≡◌, ℕ, ◌<◌, ◌≤◌, ◌⊎◌, length-append, inl, inr, List, ◌++◌, length, take, Option, Some, None, IfSome, IfOk, Result, Ok, Err, sym, ap, subst, ◌∙◌, arith}
 use Rattle.std.proofs.Math.Seq.{take-length}
 use Rattle.std.proofs.lemmas.Bool.{cases_lt}
 use Rattle.std.proofs.lemmas.List.{take-append-le}
@@ -7,8 +7,8 @@ use Rattle.std.specs.Io.KnownBytes.{Consumes}
 use Rattle.cmwq_types.specs.Contents.{ScenarioContents}
 use Rattle.cmwq_types.specs.Faults.{IsValid}
 use Rattle.cmwq_types.specs.declared.limits.TheConstants.{MAX_TEXT}
-use Rattle.cmwq_image.specs.Image.{image}
 use Rattle.cmwq_image.specs.ImageFault.{reading}
+use Rattle.cmwq_image.specs.Versions.{IsImageOf}
 use Rattle.cmwq_types.specs.Values.{IsScenario}
 use Rattle.cmwq_image.specs.declared.error.ImageError.TheVariants as errors
 use Rattle.cmwq_play.specs.Commands.{Answers}
@@ -19,7 +19,7 @@ use Rattle.cmwq_streams.specs.declared.error.PlayError.TheVariants.{Image}
 
 -- no image is longer than so many bytes
 abbrev pub ImagesAreShort : Type 0
-ImagesAreShort = (S : ScenarioContents) → IsScenario S → IsValid S → length (image S) ≤ 923058
+ImagesAreShort = (bytes : List ℕ) (S : ScenarioContents) → IsScenario S → IsValid S → IsImageOf bytes S → length bytes ≤ 923058
 
 -- what stands behind so many bytes and one more changes no reading
 abbrev pub FarChangesNothing : Type 0
@@ -59,7 +59,9 @@ pub image_answers : {A : Type 0} → FarChangesNothing → ImagesAreShort → (i
 image_answers far short (Some bytes) (Some rest) text r front whole h =
     let same = text_reads far bytes text rest front whole in
     answers_lifted IsImage IsImageFault (Some bytes) text r (λ fault told. told_alike text (Some bytes) fault same told)
-    (λ S is. record { contents = is.contents; valid = is.valid; image = sym (whole (omega (arith, short S is.contents is.valid, ap length is.image, ap length front, length-append text rest))) ∙ is.image })
+    (λ S is.
+    let all : bytes ≡ text = whole (omega (arith, short bytes S is.contents is.valid is.image, ap length front, length-append text rest)) in
+    record { contents = is.contents; valid = is.valid; image = subst (λ (b : List ℕ). IsImageOf b S) all is.image })
     (λ fault told. told_alike bytes (Some text) fault (sym same) told) h
 image_answers far short (Some bytes) None text r front whole h = elim front [ ]
 image_answers far short None now text r front whole h = answers_lifted IsImage IsImageFault None text r (λ fault told. told_alike text None fault tt told) tt tt h
@@ -68,7 +70,7 @@ image_answers far short None now text r front whole h = answers_lifted IsImage I
 pub known_image : {A : Type 0} → ImagesAreShort → (input : Option (List ℕ)) (text : List ℕ) (r : Result A PlayError) (view : A → ScenarioContents)
     → (length text ≤ MAX_TEXT → IfSome input (λ bytes. bytes ≡ text)) → IfOk r (λ s. IsImage (Some text) (view s)) → IfOk r (λ s. IsImage input (view s))
 known_image short (Some bytes) text (Ok s) view whole is =
-    let few = short (view s) is.contents is.valid in
-    record { contents = is.contents; valid = is.valid; image = whole (omega (arith, few, ap length is.image)) ∙ is.image }
+    let all : bytes ≡ text = whole (omega (arith, short text (view s) is.contents is.valid is.image)) in
+    record { contents = is.contents; valid = is.valid; image = subst (λ (b : List ℕ). IsImageOf b (view s)) (sym all) is.image }
 known_image short None text (Ok s) view whole is = record { contents = is.contents; valid = is.valid; image = tt }
 known_image short input text (Err error) view whole found = tt

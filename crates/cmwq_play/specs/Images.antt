@@ -3,19 +3,19 @@ use Rattle.std.specs.Prelude.{◌≡◌, ℕ, List, Option, IfSome, Err}
 use Rattle.cmwq_types.specs.Contents.{ScenarioContents}
 use Rattle.cmwq_types.specs.Faults.{IsValid}
 use Rattle.cmwq_types.specs.Listing.{listing}
-use Rattle.cmwq_image.specs.Image.{image}
 use Rattle.cmwq_image.specs.ImageFault.{reading}
+use Rattle.cmwq_image.specs.Versions.{IsImageOf}
 use Rattle.cmwq_types.specs.Values.{IsScenario}
 use Rattle.cmwq_image.specs.declared.error.ImageError.{ImageError}
 use Rattle.cmwq_image.specs.declared.error.ImageError.TheVariants as errors
 use Rattle.cmwq_streams.specs.declared.error.PlayError.{PlayError}
 use Rattle.cmwq_streams.specs.declared.error.PlayError.TheVariants.{Image, NoMemory}
 
--- The input, where it is known, is the image of this scenario, which is valid.
+-- The input, where it is known, is the image of this scenario, of version 2 or of version 1, and the scenario is valid.
 pub record IsImage (input : Option (List ℕ)) (S : ScenarioContents) : Type 0 where
   pub contents : IsScenario S
   pub valid : IsValid S
-  pub image : IfSome input (λ bytes. bytes ≡ image S)
+  pub image : IfSome input (λ bytes. IsImageOf bytes S)
 
 -- the error is the first fault of the image
 abbrev pub IsImageFault : Option (List ℕ) → PlayError → Type 0

@@ -1,5 +1,6 @@
 //! `to_image` and `from_image`: from a scenario's text to its image, and from an image to the listing.
 ghost use Rattle.cmwq_image.specs.Image.{image};
+ghost use Rattle.cmwq_image.specs.declared.version.TheConstants.{VERSION};
 ghost use Rattle.cmwq_play.specs.Commands.{Answers, Reads, Writes};
 ghost use Rattle.cmwq_play.specs.Images.{IsImage, IsImageFault, IsShown};
 ghost use Rattle.cmwq_streams.specs.Sending.{IsSendError};
@@ -16,7 +17,7 @@ use cmwq_streams::{PlayError, Sink, Source, put_all};
 use cmwq_types::Scenario;
 use std::alloc::Global;
 
-/// Reads a scenario's text, and writes the scenario's image.
+/// Reads a scenario's text, and writes the scenario's image, of version 2.
 ///
 /// It answers `Asm` with the text's fault exactly where the text spells no scenario. Nothing was
 /// written then, and on `Read` and `NoMemory`; on `Write` what was written is a front of the image.
@@ -29,8 +30,8 @@ pub fn to_image<R: Source, W: Sink>(
     requires reader { R.failed reader.old ≡ false }
     requires writer { W.failed writer.old ≡ false }
     ensures reads { Reads (R.remaining reader.old) (R.remaining reader.new) (R.failed reader.new) result }
-    ensures answers { Answers (IsOutput image) IsTextFault (R.remaining reader.old) result }
-    ensures writes { Writes (IsOutput image (R.remaining reader.old)) (W.contents writer.old) (W.contents writer.new) (W.failed writer.new) result }
+    ensures answers { Answers (IsOutput (image VERSION)) IsTextFault (R.remaining reader.old) result }
+    ensures writes { Writes (IsOutput (image VERSION) (R.remaining reader.old)) (W.contents writer.old) (W.contents writer.new) (W.failed writer.new) result }
     ensures no_memory { result ≡ Err PlayError.NoMemory → Keeps (W.contents writer.old) (W.contents writer.new) }
 {
     let scenario = read_text(alloc, reader)?;
@@ -41,7 +42,7 @@ pub fn to_image<R: Source, W: Sink>(
 fn write_image<W: Sink>(alloc: Global, scenario: &Scenario, writer: &mut W) -> Result<(), PlayError>
     requires valid { IsValid scenario.now }
     requires sound { W.failed writer.old ≡ false }
-    ensures writes { Writes (λ output. output ≡ image scenario.now) (W.contents writer.old) (W.contents writer.new) (W.failed writer.new) result }
+    ensures writes { Writes (λ output. output ≡ image VERSION scenario.now) (W.contents writer.old) (W.contents writer.new) (W.failed writer.new) result }
     ensures why { IfErr result (λ error. IsSendError error) }
     ensures no_memory { result ≡ Err PlayError.NoMemory → Keeps (W.contents writer.old) (W.contents writer.new) }
 {
@@ -49,7 +50,7 @@ fn write_image<W: Sink>(alloc: Global, scenario: &Scenario, writer: &mut W) -> R
     put_all(writer, &image)
 }
 
-/// Reads a scenario's image, and writes the scenario's listing.
+/// Reads a scenario's image, of version 2 or of version 1, and writes the scenario's listing.
 ///
 /// It answers `Image` with the first fault of the bytes exactly where they are no image. Nothing was
 /// written then, and on `Read` and `NoMemory`; on `Write` what was written is a front of the listing.

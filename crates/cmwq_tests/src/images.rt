@@ -24,9 +24,9 @@ fn image_of_text(rt: &impl Abort, alloc: Global) -> Vec<u8> {
     write(alloc, &scenario).expect(rt, "memory is left")
 }
 
-/// The image of the scenario that the worked image spells.
-fn image_of_image(rt: &impl Abort, alloc: Global) -> Vec<u8> {
-    let scenario = read(alloc, &IMAGE).expect(rt, "a scenario's image");
+/// The image of the scenario that the worked image spells, where some of its bytes are changed.
+fn image_of_image(rt: &impl Abort, alloc: Global, changes: &[(usize, u8)]) -> Vec<u8> {
+    let scenario = read(alloc, &changed(changes)).expect(rt, "a scenario's image");
     write(alloc, &scenario).expect(rt, "memory is left")
 }
 
@@ -37,9 +37,20 @@ fn the_worked_image_is_written(rt: HostRuntime) {
 }
 
 #[test]
-fn the_worked_image_is_read(rt: HostRuntime) {
-    let image = image_of_image(&rt, rt.alloc());
-    same(&rt, "of the image", image.as_slice(), IMAGE.as_slice());
+fn the_worked_image_is_read_in_both_versions(rt: HostRuntime) {
+    for version in [1, 2] {
+        let image = image_of_image(&rt, rt.alloc(), &[(5, version)]);
+        same(&rt, version, image.as_slice(), IMAGE.as_slice());
+    }
+}
+
+#[test]
+fn works_are_disabled_and_enabled_in_version_2(rt: HostRuntime) {
+    for tag in [34, 35] {
+        let image = image_of_image(&rt, rt.alloc(), &[(114, tag)]);
+        let want = changed(&[(114, tag)]);
+        same(&rt, tag, image.as_slice(), want.as_slice());
+    }
 }
 
 #[test]
@@ -62,9 +73,12 @@ fn one_byte_more_is_extra(rt: HostRuntime) {
 }
 
 /// Some bytes by their offset, what each is set to, and the fault that the image then has.
-const CHANGED: [(&[(usize, u8)], ImageError); 23] = [
+const CHANGED: [(&[(usize, u8)], ImageError); 29] = [
     (&[(3, 0x52)], ImageError::Magic),
-    (&[(5, 2)], ImageError::Version),
+    // versions 0, 3, and 258
+    (&[(5, 0)], ImageError::Version),
+    (&[(5, 3)], ImageError::Version),
+    (&[(4, 1)], ImageError::Version),
     // 17 CPUs
     (&[(6, 17)], ImageError::Fault(Fault::Range)),
     // 33 queues; 257 works; 17 actors
@@ -94,6 +108,11 @@ const CHANGED: [(&[(usize, u8)], ImageError); 23] = [
     // an operation among the instructions; no times
     (&[(90, 3)], ImageError::BadField(90)),
     (&[(101, 0)], ImageError::Fault(Fault::Range)),
+    // `disable` and `enable` in version 1; a tag behind the last one; a field that `disable` doesn't use
+    (&[(5, 1), (114, 34)], ImageError::BadField(114)),
+    (&[(5, 1), (114, 35)], ImageError::BadField(114)),
+    (&[(114, 36)], ImageError::BadField(114)),
+    (&[(114, 34), (115, 1)], ImageError::BadField(115)),
     // an instruction on a queue whose number has more than one byte
     (&[(114, 23), (116, 1)], ImageError::BadField(116)),
 ];

@@ -56,7 +56,7 @@ const ENDS_TOO_EARLY: [Faulty; 5] = [
 const BAD_WORDS: [Faulty; 10] = [
     (b"# \xff\ncpus 1\n", 1, Why::BadUtf8),
     (b"cpus 1\nworkers \xc3\n", 2, Why::BadUtf8),
-    (b"\ndisable a\n", 2, Why::BadWord),
+    (b"\nmeet a\n", 2, Why::BadWord),
     (
         b"cpus 1\nworkers 1\nsteps 8\nflushes 0\nqueue q max 0 fast\n",
         5,
@@ -199,10 +199,11 @@ const LIMITS: [Judged; 9] = [
 const OPEN_BODY: &[u8] = b"cpus 1\nworkers 1\nsteps 8\nflushes 0\n\
     queue q max 1\nqueue r max 1\nwork a q\nwork b r\nbody a\n";
 
-const IN_A_BODY: [Judged; 8] = [
+const IN_A_BODY: [Judged; 9] = [
     (b"burn 1000000\nfinish\nbody b\nfinish\n", None),
     (b"burn 1000001\n", Some((10, RANGE))),
     (b"sleep 0\n", Some((10, RANGE))),
+    (b"disable a\n", Some((10, Why::Misplaced))),
     // A work that isn't declared on a CPU that there isn't.
     (b"queue c 9\n", Some((10, Why::Fault(Fault::Unknown)))),
     (b"queue b 1\n", Some((10, RANGE))),
@@ -308,6 +309,10 @@ const FREE: &[u8] = b"# a head\r\n\tcpus\t1\r\nworkers 1 # one\r\n\r\nsteps   8 
 const PLAIN: &[u8] = b"cpus 1\nworkers 1\nsteps 8\nflushes 0\n\
     queue q max 1 highpri unbound cpu_intensive freezable ordered\nactor t\ntick\n";
 
+/// A text in which a work is disabled and enabled, as it is listed.
+const DISABLING: &[u8] = b"cpus 1\nworkers 1\nsteps 8\nflushes 0\nqueue q max 1\n\
+    work a q\nbody a\nfinish\nactor t\ndisable a * 2\nenable a\n";
+
 /// Compares the listing of the text's scenario.
 fn check_listing(rt: &impl Abort, alloc: Global, text: &[u8], want: &[u8]) {
     let scenario = assemble(alloc, text).expect(rt, "a scenario's text");
@@ -319,6 +324,7 @@ fn check_listing(rt: &impl Abort, alloc: Global, text: &[u8], want: &[u8]) {
 fn a_text_is_listed(rt: HostRuntime) {
     check_listing(&rt, rt.alloc(), STEPS_RUN_OUT.text, STEPS_RUN_OUT.text);
     check_listing(&rt, rt.alloc(), FREE, PLAIN);
+    check_listing(&rt, rt.alloc(), DISABLING, DISABLING);
 }
 
 #[test]
