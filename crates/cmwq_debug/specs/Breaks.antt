@@ -26,6 +26,7 @@ is_kind kind.Finishes event.FinishesAndStarts = true
 is_kind kind.Defers event.Defers = true
 is_kind kind.Fires event.Fires = true
 is_kind kind.Queues (event.Queues other already) = true
+is_kind kind.Queues (event.QueuesDisabled other) = true
 is_kind kind other = false
 
 -- an event of the kind, of this work

@@ -53,7 +53,9 @@ fn is_kind(kind: EventKind, event: Event) -> bool
         EventKind::Finishes => matches!(event, Event::Finishes | Event::FinishesAndStarts),
         EventKind::Defers => matches!(event, Event::Defers),
         EventKind::Fires => matches!(event, Event::Fires),
-        EventKind::Queues => matches!(event, Event::Queues { .. }),
+        EventKind::Queues => {
+            matches!(event, Event::Queues { .. } | Event::QueuesDisabled { .. })
+        }
     }
 }
 

@@ -51,7 +51,7 @@ pub enum EventKind {
     Defers,
     /// Its timer fires.
     Fires,
-    /// It queues a work, or finds it pending.
+    /// It queues a work, or finds it pending or disabled.
     Queues,
 }
 

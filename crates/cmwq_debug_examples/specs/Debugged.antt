@@ -98,6 +98,22 @@ each_event_answers =
     ∷ at_break 13 2 5 ∷ at_break 15 3 3 ∷ at_break 16 3 0 ∷ Err error.PastEnd ∷ at 12 2 ∷ at 15 3 ∷ at 13 2
     ∷ Ok (Text pool_0_at_13) ∷ Ok (Text pool_1_at_13) ∷ []
 
+-- The body of b is to queue a, which is disabled.
+
+abbrev pub disabled_breaks : List Command
+disabled_breaks = break_on 0 kind.Queues ∷ break_on 1 kind.Queues ∷ command.Run ∷ command.Dump ∷ command.Run ∷ []
+
+-- a was disabled twice, and its queueing was refused; b goes on to its end
+abbrev pub dump_at_8 : List ℕ
+dump_at_8 =
+    text (
+    codes "now 0 spent 6 frozen no" ∷ codes "queue q max 1" ∷ codes "pool 0 counted 1 made 1 idle" ∷
+    codes "run b 0 1 0" ∷ codes "pool 1 counted 0 made 0 idle" ∷ codes "pool 2 counted 0 made 0 idle" ∷
+    codes "pool 3 counted 0 made 0 idle" ∷ codes "disabled a 2" ∷ [])
+
+abbrev pub disabled_breaks_answers : List (Result Answer DebugError)
+disabled_breaks_answers = Ok (Broke 0) ∷ Ok (Broke 1) ∷ at_break 8 0 1 ∷ Ok (Text dump_at_8) ∷ at 17 1 ∷ []
+
 -- A refused instruction, a tick, and a refused instruction again.
 
 abbrev pub refusals : List Instr

@@ -7,7 +7,7 @@ use Rattle.cmwq_types.specs.declared.scenario.Line.{Line}
 use Rattle.cmwq_types.specs.declared.scenario.Op.TheVariants as op
 use Rattle.cmwq_table.specs.Table.{run}
 use Rattle.cmwq_dump.specs.Dump.{dump, pool_lines}
-use Rattle.cmwq_examples.specs.Declare.{delay, delay_on, enqueue, flush, freezable, queue, queues, scenario, set_max, times, unbound, work}
+use Rattle.cmwq_examples.specs.Declare.{delay, delay_on, disable, enqueue, flush, freezable, queue, queues, scenario, set_max, times, unbound, work}
 use Rattle.cmwq_examples.specs.Rows.{text}
 
 -- the dump of a scenario once these lines were carried out
@@ -29,22 +29,24 @@ many_kinds =
     ∷ work (codes "g") 0 (op.Finish ∷ []) ∷ work (codes "h") 0 (op.Finish ∷ []) ∷ []) [])
     { workers = 8 }
 
--- s, t and u come and go while a and b sleep; then r burns, before l, d and e, and g and h wait for timers
+-- s, t and u come and go while a and b sleep; then r burns, before l, d and e, and g and h wait for timers; u and s are disabled
 abbrev pub many_kinds_lines : List Line
 many_kinds_lines =
     enqueue 0 0 ∷ enqueue 1 0 ∷ enqueue 2 0 ∷ enqueue 3 0 ∷ enqueue 4 0 ∷ times instr.Next 21
     ∷ enqueue 5 0 ∷ enqueue 6 0 ∷ times instr.Next 3 ∷ delay 10 20 ∷ delay 9 20 ∷ enqueue 7 0 ∷ enqueue 8 0
-    ∷ flush 3 ∷ flush 0 ∷ set_max 0 9 ∷ times instr.Freeze 1 ∷ []
+    ∷ flush 3 ∷ flush 0 ∷ set_max 0 9 ∷ times instr.Freeze 1 ∷ disable 2 ∷ disable 0 ∷ disable 2 ∷ []
 
--- worker 1 became idle after worker 0; b wakes before a, which began to sleep first; h was set before g
+-- worker 1 became idle after worker 0; b wakes before a, which began to sleep first; h was set before g; u was disabled before s, and
+-- after it
 abbrev pub many_kinds_dump : List ℕ
 many_kinds_dump =
     text (
-    codes "now 4 spent 39 frozen yes" ∷ codes "queue q max 9" ∷ codes "queue f max 1" ∷
+    codes "now 4 spent 42 frozen yes" ∷ codes "queue q max 9" ∷ codes "queue f max 1" ∷
     codes "pool 0 counted 1 made 5 idle 1 0" ∷ codes "run r 2 1 4" ∷ codes "asleep b 4 1 8" ∷ codes "asleep a 3 2 9" ∷
     codes "listed l" ∷ codes "listed d" ∷ codes "deferred a" ∷ codes "inactive e" ∷
     codes "pool 1 counted 0 made 0 idle" ∷ codes "pool 2 counted 0 made 0 idle" ∷ codes "pool 3 counted 0 made 0 idle" ∷
-    codes "timer h 0 24" ∷ codes "timer g 0 24" ∷ codes "flush 0 no" ∷ codes "flush 1 yes" ∷ [])
+    codes "timer h 0 24" ∷ codes "timer g 0 24" ∷ codes "disabled s 1" ∷ codes "disabled u 2" ∷ codes "flush 0 no" ∷
+    codes "flush 1 yes" ∷ [])
 
 abbrev pub many_kinds_pool_1 : List ℕ
 many_kinds_pool_1 = text (codes "pool 1 counted 0 made 0 idle" ∷ [])

@@ -2,14 +2,15 @@
 //! one dump reads, or what is said to some commands. No other crate stands on this one.
 #![tactic(auto)]
 
-ghost use Rattle.cmwq_debug_examples.specs.Debugged.{debugged, each_event, each_event_answers, each_event_breaks, event_breaks, event_breaks_answers, instrs_of, many_breaks, many_breaks_answers, refusal_breaks, refusal_breaks_answers, refusals, there_and_back, there_and_back_answers};
+ghost use Rattle.cmwq_debug_examples.specs.Debugged.{debugged, disabled_breaks, disabled_breaks_answers, each_event, each_event_answers, each_event_breaks, event_breaks, event_breaks_answers, instrs_of, many_breaks, many_breaks_answers, refusal_breaks, refusal_breaks_answers, refusals, there_and_back, there_and_back_answers};
 ghost use Rattle.cmwq_debug_examples.specs.Dumps.{dumped, many_kinds, many_kinds_dump, many_kinds_lines, many_kinds_pool_1, pool_dumped, two_cpus, two_cpus_dump, two_cpus_lines};
-ghost use Rattle.cmwq_examples.specs.Rows.{queues_itself, three_works};
+ghost use Rattle.cmwq_examples.specs.Rows.{disabled_twice, queues_itself, three_works};
 ghost use Rattle.cmwq_types.specs.Faults.{IsValid};
 ghost use Rattle.std.specs.Prelude.{◌≡◌, []};
 
 /// A dump with a line of each kind: idle workers by their last use, sleepers by the tick at which they wake,
-/// timers that run out together by their setting, and a flush that is done beside one that isn't.
+/// timers that run out together by their setting, disabled works by their numbers, and a flush that is done beside one that
+/// isn't.
 pub fn dump_tells_every_kind()
     ensures { dumped many_kinds many_kinds_lines ≡ many_kinds_dump }
 {}
@@ -41,6 +42,12 @@ pub fn lowest_break_is_said()
 /// and pools are dumped.
 pub fn each_kind_of_event_is_met()
     ensures { debugged each_event (instrs_of each_event) each_event_breaks ≡ each_event_answers }
+{}
+
+/// A break on `queues` stops a run where the body of its work finds another one disabled, and not at the work that is
+/// disabled; the dump there has the depth.
+pub fn disabled_work_is_not_queued()
+    ensures { debugged disabled_twice (instrs_of disabled_twice) disabled_breaks ≡ disabled_breaks_answers }
 {}
 
 /// A break on a time is for the instruction that makes the time so, never for one that is refused then.

@@ -2,7 +2,7 @@
 use Rattle.std.proofs.Common.{◌≡◌, ℕ, Bool, not, ◌&&◌, ◌||◌, List, [], ◌∷◌, ◌++◌, length, Option, cond, refl, ap, ◌∙◌, nat_lt, codes}
 use std.Path.{fun_ext}
 use Rattle.std.specs.List.{flat_map}
-use Rattle.std.specs.Prelude.{◌==◌, is_some}
+use Rattle.std.specs.Prelude.{◌==◌, is_some, slice_index_or}
 use Rattle.cmwq_types.specs.Contents.{ScenarioContents}
 use Rattle.cmwq_types.specs.First.{by_greatest, by_least, by_least_two, count_below}
 use Rattle.cmwq_types.specs.Places.{is_active, is_deferred, is_inactive, is_listed, is_placed, is_runnable}
@@ -15,7 +15,7 @@ use Rattle.cmwq_table.specs.declared.state.FlushTarget.TheVariants.{Instance, Qu
 use Rattle.cmwq_table.specs.declared.state.Pending.{Pending}
 use Rattle.cmwq_table.specs.declared.state.Running.{Running}
 use Rattle.cmwq_dump.specs.declared.group.Group.{Group}
-use Rattle.cmwq_dump.specs.declared.group.Group.TheVariants.{Running as runnable, Asleep as asleep, Listed as listed, Deferred as deferred, Inactive as inactive, Timed as timed}
+use Rattle.cmwq_dump.specs.declared.group.Group.TheVariants.{Running as runnable, Asleep as asleep, Listed as listed, Deferred as deferred, Inactive as inactive, Timed as timed, Disabled as disabled}
 use Rattle.cmwq_dump.specs.Alike.{LooksLike}
 use Rattle.cmwq_dump.specs.Dump.{at_worker, clock_line, dump, flush_line, group_lines, idle_workers, left_of, named, pool_line, pool_lines, queue_line, spaced, timer_cpu}
 use Rattle.cmwq_dump.specs.Order.{all_below, each_below}
@@ -54,6 +54,9 @@ module _ (S : ScenarioContents) (s t : State) (h : LooksLike s t) where
   group-alike timed =
       ap (pending_text (pends (λ at. not (is_placed at))) (λ at. by_least_two (λ w. pending_due (at w)) (λ w. pending_stamp (at w)))
       (λ at w. named S (codes "timer ") w ++ spaced (timer_cpu (at w)) ++ spaced (pending_due (at w)) ++ 10 ∷ []) (length S.works)) pending
+  group-alike disabled =
+      ap (λ (depth : List ℕ). flat_map (λ w. named S (codes "disabled ") w ++ spaced (slice_index_or depth w 0) ++ 10 ∷ [])
+      (all_below (by_least (λ w. w)) (λ w. not (slice_index_or depth w 0 == 0)) (length S.works))) h.depth
 
   counted-alike : (pool : ℕ) → counted S s pool ≡ counted S t pool
   counted-alike pool =
@@ -109,7 +112,9 @@ module _ (S : ScenarioContents) (s t : State) (h : LooksLike s t) where
       let to_queues = λ (u : State). clock_line u ++ queues_of u in
       let to_pools = λ (u : State). to_queues u ++ pools_of u in
       let to_timers = λ (u : State). to_pools u ++ group_lines S u timed in
+      let to_disabled = λ (u : State). to_timers u ++ group_lines S u disabled in
       let one : to_queues s ≡ to_queues t = both (clock_line s) (clock_line t) (queues_of s) (queues_of t) clock-alike queues in
       let two : to_pools s ≡ to_pools t = both (to_queues s) (to_queues t) (pools_of s) (pools_of t) one pools in
       let three : to_timers s ≡ to_timers t = both (to_pools s) (to_pools t) (group_lines S s timed) (group_lines S t timed) two (group-alike timed) in
-      both (to_timers s) (to_timers t) (flushes_of s) (flushes_of t) three flushes
+      let four : to_disabled s ≡ to_disabled t = both (to_timers s) (to_timers t) (group_lines S s disabled) (group_lines S t disabled) three (group-alike disabled) in
+      both (to_disabled s) (to_disabled t) (flushes_of s) (flushes_of t) four flushes

@@ -3,18 +3,18 @@ use Rattle.std.specs.Prelude.{ℕ, Bool, true, false, not, ◌&&◌, List, [], �
 use Rattle.std.specs.Fmt.{decimal}
 use Rattle.std.specs.List.{flat_map}
 use Rattle.cmwq_types.specs.Contents.{ScenarioContents}
-use Rattle.cmwq_types.specs.First.{by_greatest, by_least_two}
+use Rattle.cmwq_types.specs.First.{by_greatest, by_least, by_least_two}
 use Rattle.cmwq_types.specs.Places.{is_active, is_deferred, is_inactive, is_listed, is_placed, is_runnable}
 use Rattle.cmwq_types.specs.Scenario.{pool_count, queue_at, work_at}
 use Rattle.cmwq_types.specs.declared.reply.Place.{Place}
 use Rattle.cmwq_types.specs.declared.reply.Place.TheVariants as place
 use Rattle.cmwq_table.specs.Counts.{counted, idle_stamp, is_done, pending_before, pending_due, pending_stamp, pends, running_before, running_stamp, running_until, runs}
-use Rattle.cmwq_table.specs.State.{State, idle_at, made_at, max_at, pending_at, running_at}
+use Rattle.cmwq_table.specs.State.{State, depth_at, idle_at, is_disabled, made_at, max_at, pending_at, running_at}
 use Rattle.cmwq_table.specs.Table.{target_at}
 use Rattle.cmwq_table.specs.declared.state.Pending.{Pending}
 use Rattle.cmwq_table.specs.declared.state.Running.{Running}
 use Rattle.cmwq_dump.specs.declared.group.Group.{Group}
-use Rattle.cmwq_dump.specs.declared.group.Group.TheVariants.{Running as runnable, Asleep as asleep, Listed as listed, Deferred as deferred, Inactive as inactive, Timed as timed}
+use Rattle.cmwq_dump.specs.declared.group.Group.TheVariants.{Running as runnable, Asleep as asleep, Listed as listed, Deferred as deferred, Inactive as inactive, Timed as timed, Disabled as disabled}
 use Rattle.cmwq_dump.specs.Order.{all_below, each_below}
 
 -- Groups of works. Each has a line in `is_in`, one in `comes_before` and one in `work_line`.
@@ -27,8 +27,9 @@ is_in s (listed pool) w = pends (λ at. is_listed at pool) (pending_at s w)
 is_in s (deferred pool) w = pends (λ at. is_deferred at && is_active at pool) (pending_at s w)
 is_in s (inactive pool) w = pends (λ at. is_inactive at pool) (pending_at s w)
 is_in s timed w = pends (λ at. not (is_placed at)) (pending_at s w)
+is_in s disabled w = is_disabled s w
 
--- sleepers by (until, stamp), timers by (due, stamp), all others by stamp
+-- sleepers by (until, stamp), timers by (due, stamp), disabled works by number, all others by stamp
 abbrev pub comes_before : State → Group → ℕ → ℕ → Bool
 comes_before s (runnable pool) = running_before s
 comes_before s (asleep pool) = by_least_two (λ w. running_until (running_at s w)) (λ w. running_stamp (running_at s w))
@@ -36,6 +37,7 @@ comes_before s (listed pool) = pending_before s
 comes_before s (deferred pool) = pending_before s
 comes_before s (inactive pool) = pending_before s
 comes_before s timed = by_least_two (λ w. pending_due (pending_at s w)) (λ w. pending_stamp (pending_at s w))
+comes_before s disabled = by_least (λ w. w)
 
 -- What a line says of a work that may not be pending, or not run.
 
@@ -81,6 +83,7 @@ work_line S s (listed pool) w = named S (codes "listed ") w ++ 10 ∷ []
 work_line S s (deferred pool) w = named S (codes "deferred ") w ++ 10 ∷ []
 work_line S s (inactive pool) w = named S (codes "inactive ") w ++ 10 ∷ []
 work_line S s timed w = named S (codes "timer ") w ++ spaced (timer_cpu (pending_at s w)) ++ spaced (pending_due (pending_at s w)) ++ 10 ∷ []
+work_line S s disabled w = named S (codes "disabled ") w ++ spaced (depth_at s w) ++ 10 ∷ []
 
 -- the works of the group, in order
 abbrev pub members : ScenarioContents → State → Group → List ℕ
@@ -128,4 +131,4 @@ flush_line S s flush =
 abbrev pub dump : ScenarioContents → State → List ℕ
 dump S s =
     clock_line s ++ each_below (queue_line S s) (length S.queues) ++ each_below (pool_lines S s) (pool_count S)
-    ++ group_lines S s timed ++ each_below (flush_line S s) (length s.flushes)
+    ++ group_lines S s timed ++ group_lines S s disabled ++ each_below (flush_line S s) (length s.flushes)

@@ -11,7 +11,8 @@ use cmwq_types::{NoMemory, Scenario};
 use std::alloc::Global;
 
 /// The dump text of the state that the view shows, as bytes: the clock, each queue with its `max_active`, each
-/// worker pool with its workers and works, the timers, and each flush. The format is this project's own.
+/// worker pool with its workers and works, the timers, the disabled works, and each flush. The format is this
+/// project's own.
 ///
 /// A work that the scenario doesn't have isn't listed. The only error is want of memory.
 pub fn dump_text(alloc: Global, scenario: &Scenario, view: &View) -> Result<Vec<u8>, NoMemory>

@@ -22,6 +22,7 @@ impl Picture<'_> {
         self.push_queues(text)?;
         self.push_pools(alloc, text)?;
         self.push_group(alloc, text, Group::Timed)?;
+        self.push_group(alloc, text, Group::Disabled)?;
         self.push_flushes(text)
     }
 
@@ -138,6 +139,10 @@ impl Picture<'_> {
                 let cpu = timer_cpu(pending);
                 let due = due(pending);
                 write!(text, "timer {name} {cpu} {due}\n")?;
+            }
+            Group::Disabled => {
+                let depth = self.depth_of(w);
+                write!(text, "disabled {name} {depth}\n")?;
             }
         }
         Ok(())

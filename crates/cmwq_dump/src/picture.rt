@@ -34,6 +34,7 @@ impl<'a> Model for Picture<'a> {
         max = p.view.now.max;
         pending = p.pending.items;
         running = p.running.items;
+        depth = p.view.now.depth;
         idle = p.idle.items;
         made = p.view.now.made;
         flushes = p.view.now.flushes;
@@ -45,7 +46,7 @@ impl<'a> Model for Picture<'a> {
 
 impl<'a> Picture<'a> {
     ghost use Rattle.cmwq_dump.specs.Alike.{LooksLike};
-    ghost use Rattle.cmwq_table.specs.State.{State, idle_at, made_at, max_at, pending_at, pool_count, running_at};
+    ghost use Rattle.cmwq_table.specs.State.{State, depth_at, idle_at, made_at, max_at, pending_at, pool_count, running_at};
     ghost use Rattle.cmwq_table.specs.Table.{target_at};
     ghost use Rattle.cmwq_table.specs.View.{view_of};
     ghost use Rattle.std.specs.Prelude.{length};
@@ -120,6 +121,14 @@ impl<'a> Picture<'a> {
         ensures { result ≡ running_at self.now.state w }
     {
         self.running.get(w).copied().unwrap_or(None)
+    }
+
+    /// How much more often the work was disabled than enabled, and 0 where there is no such work.
+    pub(crate) fn depth_of(&self, w: usize) -> u16
+        ensures { result ≡ depth_at self.now.state w }
+    {
+        let view = self.view;
+        view.depth.get(w).copied().unwrap_or(0)
     }
 
     /// The stamp from which on the worker of the pool is idle, if it is.

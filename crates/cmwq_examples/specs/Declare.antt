@@ -59,6 +59,13 @@ cancel w = record { instr = instr.Cancel (record { 0 = w }); times = 1 }
 abbrev pub cancel_sync : ℕ → Line
 cancel_sync w = record { instr = instr.CancelSync (record { 0 = w }); times = 1 }
 
+-- `disable W` and `enable W`
+abbrev pub disable : ℕ → Line
+disable w = record { instr = instr.Disable (record { 0 = w }); times = 1 }
+
+abbrev pub enable : ℕ → Line
+enable w = record { instr = instr.Enable (record { 0 = w }); times = 1 }
+
 -- `flush W`, `flush_delayed W` and `flush_queue Q`
 abbrev pub flush : ℕ → Line
 flush w = record { instr = instr.Flush (record { 0 = w }); times = 1 }

@@ -5,7 +5,8 @@ use Rattle.cmwq_types.specs.Scenario.{plain_flags}
 use Rattle.cmwq_types.specs.declared.instr.Instr.{Instr}
 use Rattle.cmwq_types.specs.declared.instr.Instr.TheVariants as instr
 use Rattle.cmwq_types.specs.declared.scenario.Op.TheVariants as op
-use Rattle.cmwq_examples.specs.Declare.{queue, work, highpri, unbound, freezable, ordered, queues, queues_on, enqueue, delay, delay_on, modify, cancel, cancel_sync, flush, flush_delayed, flush_queue, set_max, ask, state, times, scenario}
+use Rattle.cmwq_table.specs.State.{State, start}
+use Rattle.cmwq_examples.specs.Declare.{queue, work, highpri, unbound, freezable, ordered, queues, queues_on, enqueue, delay, delay_on, modify, cancel, cancel_sync, disable, enable, flush, flush_delayed, flush_queue, set_max, ask, state, times, scenario}
 use Rattle.cmwq_examples.specs.Rows.{text}
 
 -- two workers become idle, one after the other; then c is queued
@@ -434,6 +435,24 @@ pools_apart_lines =
     codes "0 refused NothingToDo" ∷ codes "0 a starts" ∷ codes "0 a sleeps 1" ∷ codes "1 refused NothingToDo" ∷
     codes "1 a wakes" ∷ codes "1 refused NothingToDo" ∷ codes "1 a finishes" ∷ [])
 
+-- a is disabled on a timer, c while it is listed and b behind it waits, and b while it runs; then no step is left
+abbrev pub disabled_anywhere : ScenarioContents
+disabled_anywhere =
+    scenario 12 (queue (codes "q") 1 plain_flags ∷ [])
+    (work (codes "a") 0 (op.Finish ∷ []) ∷ work (codes "b") 0 (op.Burn 2 ∷ op.Finish ∷ [])
+    ∷ work (codes "c") 0 (op.Finish ∷ []) ∷ [])
+    (delay 0 2 ∷ disable 0 ∷ enqueue 0 1 ∷ delay 0 9 ∷ enqueue 2 0 ∷ enqueue 1 0 ∷ disable 2 ∷ state 1
+    ∷ times instr.Next 2 ∷ disable 1 ∷ times instr.Next 4 ∷ state 0 ∷ enqueue 0 0 ∷ enable 0 ∷ disable 0 ∷ enqueue 0 1 ∷ [])
+
+-- at 2 no timer fires; b is let in when c is taken off, and goes on to its end; the last four are refused
+abbrev pub disabled_anywhere_lines : List ℕ
+disabled_anywhere_lines =
+    text (
+    codes "0 cancelled" ∷ codes "0 refused NoSuchCpu" ∷ codes "0 refused Disabled" ∷ codes "0 cancelled" ∷
+    codes "0 b listed 0 still" ∷ codes "0 b starts" ∷ codes "0 b burns 2" ∷ codes "0 not pending" ∷
+    codes "2 b finishes" ∷ codes "3 a idle still" ∷ codes "3 refused Spent" ∷ codes "3 refused Spent" ∷
+    codes "3 refused Spent" ∷ codes "3 refused NoSuchCpu" ∷ [])
+
 -- a on a normal queue, and b on one of high priority
 abbrev pub unsettled : ScenarioContents
 unsettled =
@@ -449,3 +468,14 @@ undeclared_instrs =
 abbrev pub unsettled_instrs : List Instr
 unsettled_instrs =
     instr.Delay (record { 0 = 0 }) 0 1 ∷ instr.Tick ∷ instr.Queue (record { 0 = 1 }) 0 ∷ instr.Tick ∷ instr.Fire ∷ instr.Tick ∷ []
+
+-- the start of that scenario, but a was disabled so many times
+abbrev pub disabled_so_often : ℕ → State
+disabled_so_often depth = record (start unsettled) { depth = depth ∷ 0 ∷ [] }
+
+-- the instructions that disable a, and enable it
+abbrev pub disabled_again : Instr
+disabled_again = instr.Disable (record { 0 = 0 })
+
+abbrev pub enabled_again : Instr
+enabled_again = instr.Enable (record { 0 = 0 })

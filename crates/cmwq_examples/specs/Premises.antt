@@ -8,7 +8,7 @@ use Rattle.cmwq_types.specs.declared.scenario.Line.{Line}
 use Rattle.cmwq_types.specs.declared.scenario.Op.TheVariants as op
 use Rattle.cmwq_table.specs.State.{State}
 use Rattle.cmwq_table.specs.Table.{run}
-use Rattle.cmwq_examples.specs.Declare.{queue, work, freezable, ordered, unbound, enqueue, flush, flush_queue, set_max, times, scenario}
+use Rattle.cmwq_examples.specs.Declare.{queue, work, freezable, ordered, unbound, disable, enqueue, flush, flush_queue, set_max, times, scenario}
 use Rattle.cmwq_examples.specs.Rows.{burning}
 
 -- the state that a scenario comes to by these lines
@@ -84,6 +84,10 @@ work_finished = flushes_given ++ times instr.Next 4 ∷ []
 -- and is queued once more
 abbrev pub work_queued_again : List Line
 work_queued_again = work_finished ++ enqueue 0 0 ∷ []
+
+-- the work is queued, and then disabled twice
+abbrev pub work_disabled : List Line
+work_disabled = enqueue 0 0 ∷ disable 0 ∷ disable 0 ∷ []
 
 -- the instruction that queues the first work on CPU 0
 abbrev pub queued_once : Instr

@@ -7,7 +7,7 @@ use Rattle.cmwq_types.specs.declared.instr.Instr.TheVariants as instr
 use Rattle.cmwq_types.specs.declared.scenario.Op.{Op}
 use Rattle.cmwq_types.specs.declared.scenario.Op.TheVariants as op
 use Rattle.cmwq_table.specs.Events.{events}
-use Rattle.cmwq_examples.specs.Declare.{queue, work, highpri, unbound, cpu_intensive, freezable, ordered, queues, enqueue, delay, modify, cancel, cancel_sync, flush, flush_delayed, flush_queue, set_max, ask, state, times, scenario}
+use Rattle.cmwq_examples.specs.Declare.{queue, work, highpri, unbound, cpu_intensive, freezable, ordered, queues, enqueue, delay, modify, cancel, cancel_sync, disable, enable, flush, flush_delayed, flush_queue, set_max, ask, state, times, scenario}
 
 -- a text of these lines
 abbrev pub text : List (List ℕ) → List ℕ
@@ -308,3 +308,19 @@ activated_in_order =
 abbrev pub activated_in_order_lines : List ℕ
 activated_in_order_lines =
     text (codes "0 a inactive 0 still" ∷ codes "0 b listed 0 still" ∷ codes "0 c listed 0 still" ∷ [])
+
+-- a is queued and disabled twice; then b's body is to queue it, and it is enabled
+abbrev pub disabled_twice : ScenarioContents
+disabled_twice =
+    scenario 1000 (queue (codes "q") 1 plain_flags ∷ [])
+    (work (codes "a") 0 (burning 1) ∷ work (codes "b") 0 (queues 0 ∷ op.Finish ∷ []) ∷ [])
+    (enqueue 0 0 ∷ disable 0 ∷ disable 0 ∷ enqueue 0 0 ∷ modify 0 2 ∷ enqueue 1 0 ∷ times instr.Next 3
+    ∷ enable 0 ∷ enable 0 ∷ enable 0 ∷ enqueue 0 0 ∷ times instr.Next 4 ∷ [])
+
+-- the first disable takes it off; nothing queues it until it was enabled twice
+abbrev pub disabled_twice_lines : List ℕ
+disabled_twice_lines =
+    text (
+    codes "0 cancelled" ∷ codes "0 not pending" ∷ codes "0 refused Disabled" ∷ codes "0 refused Disabled" ∷
+    codes "0 b starts" ∷ codes "0 b queues a disabled" ∷ codes "0 b finishes" ∷ codes "0 no" ∷ codes "0 yes" ∷
+    codes "0 refused NotDisabled" ∷ codes "0 a starts" ∷ codes "0 a burns 1" ∷ codes "1 a finishes" ∷ [])

@@ -2,8 +2,9 @@
 //! counts, and which refusal is told.
 #![tactic(auto, unfolding(cmwq_table::specs::Events::reply_line, cmwq_table::specs::Table::table))]
 
-ghost use Rattle.cmwq_examples.specs.FinerRules.{busy, busy_lines, cancel_lets_in, cancel_lets_in_lines, deferred, deferred_lines, equal_times, equal_times_lines, fills, fills_lines, flush_beside_timer, flush_beside_timer_lines, flush_targets, flush_targets_lines, high_and_unbound, high_and_unbound_lines, idle_workers, idle_workers_lines, later_times, later_times_lines, mod_and_delay, mod_and_delay_lines, mod_goes_behind, mod_goes_behind_lines, no_flushes, no_flushes_lines, one_worker, one_worker_lines, operands, operands_lines, pools_apart, pools_apart_lines, queues_others, queues_others_lines, same_worker, same_worker_lines, starts_again_behind, starts_again_behind_lines, starts_behind, starts_behind_lines, thaw_fills, thaw_fills_lines, timer_cpu, timer_cpu_lines, two_cpus, two_cpus_lines, unbound_workers, unbound_workers_lines, undeclared_instrs, unsettled, unsettled_instrs, wakes_behind, wakes_behind_lines, what_is_spent, what_is_spent_lines};
+ghost use Rattle.cmwq_examples.specs.FinerRules.{busy, busy_lines, cancel_lets_in, cancel_lets_in_lines, deferred, deferred_lines, disabled_again, disabled_anywhere, disabled_anywhere_lines, disabled_so_often, enabled_again, equal_times, equal_times_lines, fills, fills_lines, flush_beside_timer, flush_beside_timer_lines, flush_targets, flush_targets_lines, high_and_unbound, high_and_unbound_lines, idle_workers, idle_workers_lines, later_times, later_times_lines, mod_and_delay, mod_and_delay_lines, mod_goes_behind, mod_goes_behind_lines, no_flushes, no_flushes_lines, one_worker, one_worker_lines, operands, operands_lines, pools_apart, pools_apart_lines, queues_others, queues_others_lines, same_worker, same_worker_lines, starts_again_behind, starts_again_behind_lines, starts_behind, starts_behind_lines, thaw_fills, thaw_fills_lines, timer_cpu, timer_cpu_lines, two_cpus, two_cpus_lines, unbound_workers, unbound_workers_lines, undeclared_instrs, unsettled, unsettled_instrs, wakes_behind, wakes_behind_lines, what_is_spent, what_is_spent_lines};
 ghost use Rattle.cmwq_examples.specs.Rows.{printed};
+ghost use Rattle.cmwq_table.specs.Laws.{reply_to};
 ghost use Rattle.cmwq_table.specs.Table.{replies};
 ghost use Rattle.cmwq_types.specs.Faults.{IsValid};
 ghost use Rattle.std.specs.Prelude.{◌≡◌, ◌∷◌, []};
@@ -151,6 +152,12 @@ pub fn pools_move_their_own_works()
     ensures { printed pools_apart ≡ pools_apart_lines }
 {}
 
+/// A disable ends a timer, lets in what waits behind a listed work, and leaves a running one to its end; that a work
+/// is disabled is told behind its CPU and behind `Spent`.
+pub fn disable_takes_off_from_anywhere()
+    ensures { printed disabled_anywhere ≡ disabled_anywhere_lines }
+{}
+
 /// Operands are judged from left to right: a queue before its count, a work before its CPU.
 pub fn undeclared_operands_are_refused_first()
     ensures { replies unsettled undeclared_instrs ≡ Reply.Refused Refusal.NoSuchQueue ∷ Reply.Refused Refusal.NoSuchWork ∷ Reply.Refused Refusal.NoSuchQueue ∷ [] }
@@ -159,6 +166,14 @@ pub fn undeclared_operands_are_refused_first()
 /// A tick is refused for a timer that is due before it is for a pool that has a move, and of the pools for the least.
 pub fn due_timer_is_told_before_a_move()
     ensures { replies unsettled unsettled_instrs ≡ Reply.Queued ∷ Reply.Done ∷ Reply.Queued ∷ Reply.Refused (Refusal.Unsettled Cause.Due) ∷ Reply.Event (record { 0 = 0 }) Event.Fires ∷ Reply.Refused (Refusal.Unsettled (Cause.Pool 0)) ∷ [] }
+{}
+
+/// A work that was disabled 65,535 times isn't disabled once more, and can't be queued until it was enabled as often.
+pub fn deepest_work_is_not_disabled_again()
+    ensures below { reply_to unsettled (disabled_so_often 65534) disabled_again ≡ Reply.NotPending }
+    ensures deepest { reply_to unsettled (disabled_so_often 65535) disabled_again ≡ Reply.Refused Refusal.TooDeep }
+    ensures taken_back { reply_to unsettled (disabled_so_often 65535) enabled_again ≡ Reply.No }
+    ensures last { reply_to unsettled (disabled_so_often 1) enabled_again ≡ Reply.Yes }
 {}
 
 /// Each of these scenarios is valid.
@@ -189,5 +204,6 @@ pub fn finer_examples_are_valid()
     ensures thaw_fills { IsValid thaw_fills }
     ensures flush_beside_timer { IsValid flush_beside_timer }
     ensures pools_apart { IsValid pools_apart }
+    ensures disabled_anywhere { IsValid disabled_anywhere }
     ensures unsettled { IsValid unsettled }
 {}

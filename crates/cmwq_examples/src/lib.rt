@@ -5,8 +5,8 @@
 pub mod finer_rules;
 pub mod premises;
 
-ghost use Rattle.cmwq_examples.specs.Rows.{activated_in_order, activated_in_order_lines, cancelled_while_running, cancelled_while_running_lines, cpu_intensive_beside_normal, cpu_intensive_lines, flushes, flushes_lines, freeze_and_thaw, freeze_and_thaw_lines, high_beside_normal, high_lines, max_active_1, max_active_2, max_active_3, max_down_and_up, max_down_and_up_lines, printed, queued_elsewhere, queued_elsewhere_lines, queued_twice, queued_twice_lines, queues_itself, queues_itself_lines, refused, refused_in_order, refused_in_order_lines, refused_lines, steps_run_out, steps_run_out_lines, three_works, timers, timers_lines, unbound_beside_ordered, unbound_lines, written_out};
-ghost use Rattle.cmwq_types.specs.declared.limits.TheConstants.{MAX_ACTORS, MAX_CPUS, MAX_FLUSHES, MAX_HISTORY, MAX_LINES, MAX_MAX_ACTIVE, MAX_NAME, MAX_OPS, MAX_PASSES, MAX_QUEUES, MAX_STEPS, MAX_TEXT, MAX_TICKETS, MAX_TICKS, MAX_TIMES, MAX_WORKERS, MAX_WORKS};
+ghost use Rattle.cmwq_examples.specs.Rows.{activated_in_order, activated_in_order_lines, cancelled_while_running, cancelled_while_running_lines, cpu_intensive_beside_normal, cpu_intensive_lines, disabled_twice, disabled_twice_lines, flushes, flushes_lines, freeze_and_thaw, freeze_and_thaw_lines, high_beside_normal, high_lines, max_active_1, max_active_2, max_active_3, max_down_and_up, max_down_and_up_lines, printed, queued_elsewhere, queued_elsewhere_lines, queued_twice, queued_twice_lines, queues_itself, queues_itself_lines, refused, refused_in_order, refused_in_order_lines, refused_lines, steps_run_out, steps_run_out_lines, three_works, timers, timers_lines, unbound_beside_ordered, unbound_lines, written_out};
+ghost use Rattle.cmwq_types.specs.declared.limits.TheConstants.{MAX_ACTORS, MAX_CPUS, MAX_DEPTH, MAX_FLUSHES, MAX_HISTORY, MAX_LINES, MAX_MAX_ACTIVE, MAX_NAME, MAX_OPS, MAX_PASSES, MAX_QUEUES, MAX_STEPS, MAX_TEXT, MAX_TICKETS, MAX_TICKS, MAX_TIMES, MAX_WORKERS, MAX_WORKS};
 ghost use Rattle.cmwq_types.specs.Faults.{IsValid};
 ghost use Rattle.cmwq_types.specs.Listing.{listing};
 ghost use Rattle.std.specs.Prelude.{◌≡◌};
@@ -104,6 +104,11 @@ pub fn room_activates_in_order()
     ensures { printed activated_in_order ≡ activated_in_order_lines }
 {}
 
+/// A work that was disabled twice is taken off and kept off, from bodies too, until it was enabled twice.
+pub fn disabled_work_is_kept_off()
+    ensures { printed disabled_twice ≡ disabled_twice_lines }
+{}
+
 /// Each of these scenarios is valid.
 pub fn examples_are_valid()
     ensures three_works_3 { IsValid (three_works 3 41) }
@@ -124,6 +129,7 @@ pub fn examples_are_valid()
     ensures freeze_and_thaw { IsValid freeze_and_thaw }
     ensures max_down_and_up { IsValid max_down_and_up }
     ensures activated_in_order { IsValid activated_in_order }
+    ensures disabled_twice { IsValid disabled_twice }
 {}
 
 /// The listing of a scenario is its text, line by line.
@@ -141,6 +147,7 @@ pub fn limits_by_number()
     ensures works { MAX_WORKS ≡ 256 }
     ensures actors { MAX_ACTORS ≡ 16 }
     ensures name { MAX_NAME ≡ 15 }
+    ensures depth { MAX_DEPTH ≡ 65535 }
     ensures max_active { MAX_MAX_ACTIVE ≡ 512 }
     ensures ops { MAX_OPS ≡ 64 }
     ensures lines { MAX_LINES ≡ 4096 }

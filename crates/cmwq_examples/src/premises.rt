@@ -2,12 +2,12 @@
 //! case.
 #![tactic(auto, unfolding(cmwq_table::specs::Table::table))]
 
-ghost use Rattle.cmwq_examples.specs.Premises.{after_lines, before_start, before_tick, before_wake, both_queued, flushes_given, itself_deferred, itself_queued, max_raised, one_flushed, one_freezable, one_worker, queued_on_both, queued_once, sleeper, two_ordered, work_finished, work_queued_again, worker_taken};
+ghost use Rattle.cmwq_examples.specs.Premises.{after_lines, before_start, before_tick, before_wake, both_queued, flushes_given, itself_deferred, itself_queued, max_raised, one_flushed, one_freezable, one_worker, queued_on_both, queued_once, sleeper, two_ordered, work_disabled, work_finished, work_queued_again, worker_taken};
 ghost use Rattle.cmwq_examples.specs.FinerRules.{fills};
 ghost use Rattle.cmwq_examples.specs.Rows.{activated_in_order, cpu_intensive_beside_normal, queues_itself};
 ghost use Rattle.cmwq_table.specs.Counts.{active, counted, is_busy, is_done, limit};
 ghost use Rattle.cmwq_table.specs.Laws.{active_anywhere, reply_to, state_after, tells_wake};
-ghost use Rattle.cmwq_table.specs.State.{idle_at, made_at, pending_at, running_at};
+ghost use Rattle.cmwq_table.specs.State.{depth_at, idle_at, made_at, pending_at, running_at};
 ghost use Rattle.cmwq_table.specs.Table.{is_question, place_of, target_at};
 ghost use Rattle.cmwq_types.specs.Faults.{IsValid};
 ghost use Rattle.std.specs.Prelude.{◌≡◌, [], None, Some, false, is_some, length, true};
@@ -105,6 +105,13 @@ pub fn running_work_is_placed()
     ensures runs { is_some (running_at (after_lines queues_itself itself_queued) 0) ≡ true }
     ensures deferred { place_of (pending_at (after_lines queues_itself itself_deferred) 0) ≡ Some (Place.Deferred 0) }
     ensures sleeps { is_some (running_at (after_lines queues_itself itself_deferred) 0) ≡ true }
+{}
+
+/// A work that was queued was disabled twice, and isn't pending any more.
+pub fn work_is_disabled()
+    ensures queued { is_some (pending_at (state_after one_flushed (after_lines one_flushed []) queued_once) 0) ≡ true }
+    ensures depth { depth_at (after_lines one_flushed work_disabled) 0 ≡ 2 }
+    ensures not_pending { pending_at (after_lines one_flushed work_disabled) 0 ≡ None }
 {}
 
 /// A flush on a work and one on its queue aren't done while the work is listed.
