@@ -1,4 +1,4 @@
--- What an instruction does: time or limits change, then comes a chain of changes, then a flush may be given.
+-- What an instruction does: time, limits or a depth change, then comes a chain of changes, then a flush may be given.
 use Rattle.std.proofs.Common.{◌≡◌, ℕ, ◌+◌, ◌-◌, ◌<◌, ◌≤◌, Bool, true, false, not, cond, ◌&&◌, ◌||◌, List, length, Option, Some, None, arith, refl, ap, ◌∙◌, inl, inr, ◌⊎◌}
 use Rattle.std.proofs.lemmas.Bool.{ltb-true, not-true}
 use Rattle.std.specs.Prelude.{nat_lt, slice_index_or, ◌==◌}
@@ -45,7 +45,7 @@ GivenFits next (Some target) = FitsTarget next target
 GivenFits next None = Unit {0}
 
 pub record Effect (S : ScenarioContents) (wakes : Bool) (s t : State) : Type 0 where
-  -- the state with another time, or other limits
+  -- the state with another time, other limits or another depth of a work
   pub begun : State
   pub alike : IsAlike S s begun
   pub time : (begun.time ≡ s.time) ⊎ IsSettled S s
@@ -125,38 +125,43 @@ module _ (S : ScenarioContents) (s : State) (setting : IsSetting S) (sound : IsS
   }
 
   thaws : (wakes : Bool) → Effect S wakes s (thaw S s)
-  thaws wakes = let follows : Follows S false wakes (thawed s) (thaw S s) = (fill_freezable-follows S wakes (length S.queues) (thawed s) (thawed-sound S s sound).long).0 in record {
-    begun = thawed s;
-    alike = alike-limits S s s.max false;
-    time = inl refl;
-    ordered = sound.ordered;
-    places = false;
-    begun_full = λ e. cc;
-    ended = thaw S s;
-    follows = follows;
-    ended_full = thaw-full S s sound are_full;
-    ended_off = Follows-all_off S false wakes (thawed s) (thaw S s) follows off;
-    given = None;
-    given_fits = tt;
-    after = refl;
-  }
+  thaws wakes =
+      let follows : Follows S false wakes (thawed s) (thaw S s) = (fill_freezable-follows S wakes (length S.queues) (thawed s) (thawed-sound S s sound).long).0 in
+      record {
+        begun = thawed s;
+        alike = alike-limits S s s.max false;
+        time = inl refl;
+        ordered = sound.ordered;
+        places = false;
+        begun_full = λ e. cc;
+        ended = thaw S s;
+        follows = follows;
+        ended_full = thaw-full S s sound are_full;
+        ended_off = Follows-all_off S false wakes (thawed s) (thaw S s) follows off;
+        given = None;
+        given_fits = tt;
+        after = refl;
+      }
 
   limits : (wakes : Bool) (queue max : ℕ) → (flags_at S queue).ordered ≡ false → Effect S wakes s (set_max S s queue max)
-  limits wakes queue max not_ordered = let follows : Follows S false wakes (limited s queue max) (set_max S s queue max) = (fill_pools-follows S wakes queue (pool_count S) (limited s queue max) (limited-sound S s queue max sound not_ordered).long).0 in record {
-    begun = limited s queue max;
-    alike = alike-limits S s (limited s queue max).max s.frozen;
-    time = inl refl;
-    ordered = limited-ordered S s queue max sound not_ordered;
-    places = false;
-    begun_full = λ e. cc;
-    ended = set_max S s queue max;
-    follows = follows;
-    ended_full = set_max-full S s queue max sound not_ordered are_full;
-    ended_off = Follows-all_off S false wakes (limited s queue max) (set_max S s queue max) follows off;
-    given = None;
-    given_fits = tt;
-    after = refl;
-  }
+  limits wakes queue max not_ordered =
+      let follows : Follows S false wakes (limited s queue max) (set_max S s queue max) =
+      (fill_pools-follows S wakes queue (pool_count S) (limited s queue max) (limited-sound S s queue max sound not_ordered).long).0 in
+      record {
+        begun = limited s queue max;
+        alike = alike-limits S s (limited s queue max).max s.frozen;
+        time = inl refl;
+        ordered = limited-ordered S s queue max sound not_ordered;
+        places = false;
+        begun_full = λ e. cc;
+        ended = set_max S s queue max;
+        follows = follows;
+        ended_full = set_max-full S s queue max sound not_ordered are_full;
+        ended_off = Follows-all_off S false wakes (limited s queue max) (set_max S s queue max) follows off;
+        given = None;
+        given_fits = tt;
+        after = refl;
+      }
 
   -- another depth of a work, and then a chain of changes after which the work isn't pending
   deepens : (wakes : Bool) (w depth : ℕ) (t : State) → Follows S true wakes (with_depth s w depth) t → pending_at t w ≡ None → Effect S wakes s t
@@ -213,7 +218,9 @@ module _ (S : ScenarioContents) (s : State) (setting : IsSetting S) (sound : IsS
       let begun_sound : IsSound S begun = alike-sound S s begun (alike-depth S s w (depth_at s w + 1)) sound sound.ordered in
       let stops : Stops S wakes begun (taken_off S begun w (Some p)) w = stops-taken_off S wakes begun w p begun_sound h is in
       deepens wakes w (depth_at s w + 1) (taken_off S begun w (Some p)) stops.follows stops.stopped
-  disabled-effect wakes w None h is = deepens wakes w (depth_at s w + 1) (with_depth s w (depth_at s w + 1)) (Follows.stays true wakes (with_depth s w (depth_at s w + 1))) is
+  disabled-effect wakes w None h is =
+      let begun = with_depth s w (depth_at s w + 1) in
+      deepens wakes w (depth_at s w + 1) begun (Follows.stays true wakes begun) is
 
   enabled-effect : (wakes : Bool) (w depth : ℕ) → 0 < depth_at s w → Effect S wakes s (enabled s w depth).0
   enabled-effect wakes w depth deep = deepens wakes w depth (with_depth s w depth) (Follows.stays true wakes (with_depth s w depth)) (off w deep)
