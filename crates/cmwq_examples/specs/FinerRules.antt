@@ -442,16 +442,17 @@ disabled_anywhere =
     (work (codes "a") 0 (op.Finish ∷ []) ∷ work (codes "b") 0 (op.Burn 2 ∷ op.Finish ∷ [])
     ∷ work (codes "c") 0 (op.Finish ∷ []) ∷ [])
     (delay 0 2 ∷ disable 0 ∷ enqueue 0 1 ∷ delay 0 9 ∷ enqueue 2 0 ∷ enqueue 1 0 ∷ disable 2 ∷ state 1
-    ∷ times instr.Next 2 ∷ disable 1 ∷ times instr.Next 4 ∷ state 0 ∷ enqueue 0 0 ∷ enable 0 ∷ disable 0 ∷ enqueue 0 1 ∷ [])
+    ∷ times instr.Next 2 ∷ disable 1 ∷ times instr.Next 4 ∷ state 0 ∷ enqueue 0 0 ∷ delay 0 1 ∷ modify 0 1 ∷ enable 0 ∷ disable 0
+    ∷ enqueue 0 1 ∷ [])
 
--- at 2 no timer fires; b is let in when c is taken off, and goes on to its end; the last four are refused
+-- at 2 no timer fires; b is let in when c is taken off, and goes on to its end; the last six are refused
 abbrev pub disabled_anywhere_lines : List ℕ
 disabled_anywhere_lines =
     text (
     codes "0 cancelled" ∷ codes "0 refused NoSuchCpu" ∷ codes "0 refused Disabled" ∷ codes "0 cancelled" ∷
     codes "0 b listed 0 still" ∷ codes "0 b starts" ∷ codes "0 b burns 2" ∷ codes "0 not pending" ∷
     codes "2 b finishes" ∷ codes "3 a idle still" ∷ codes "3 refused Spent" ∷ codes "3 refused Spent" ∷
-    codes "3 refused Spent" ∷ codes "3 refused NoSuchCpu" ∷ [])
+    codes "3 refused Spent" ∷ codes "3 refused Spent" ∷ codes "3 refused Spent" ∷ codes "3 refused NoSuchCpu" ∷ [])
 
 -- a on a normal queue, and b on one of high priority
 abbrev pub unsettled : ScenarioContents
