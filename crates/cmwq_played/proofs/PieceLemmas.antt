@@ -140,12 +140,15 @@ verb_piece event.FinishesAndStarts = literal 20 (codes "finishes and starts") re
 verb_piece event.Defers = literal 20 (codes "defers") refl refl
 verb_piece event.Fires = literal 20 (codes "fires") refl refl
 verb_piece (event.Queues other already) = literal 20 (codes "queues") refl refl
+verb_piece (event.QueuesDisabled other) = literal 20 (codes "queues") refl refl
 
 object_piece : (S : ScenarioContents) (event : Event) → AllByRecursion IsWorkDecl S.works → IsEvent event → Piece 30 (event_object S event)
 object_piece S (event.Burns ticks) are is = within 30 (joint (literal 1 (codes " ") refl refl) (number ticks is)) refl
 object_piece S (event.Sleeps ticks) are is = within 30 (joint (literal 1 (codes " ") refl refl) (number ticks is)) refl
 object_piece S (event.Queues other already) are is =
     within 30 (joint (joint (literal 1 (codes " ") refl refl) (work_piece S other are)) (already_piece already)) refl
+object_piece S (event.QueuesDisabled other) are is =
+    within 30 (joint (joint (literal 1 (codes " ") refl refl) (work_piece S other are)) (literal 9 (codes " disabled") refl refl)) refl
 object_piece S event.Starts are is = literal 30 [] refl refl
 object_piece S event.Wakes are is = literal 30 [] refl refl
 object_piece S event.Finishes are is = literal 30 [] refl refl
@@ -167,6 +170,9 @@ refusal_piece refusal.AlreadyFrozen = literal 20 (codes "AlreadyFrozen") refl re
 refusal_piece refusal.NotFrozen = literal 20 (codes "NotFrozen") refl refl
 refusal_piece refusal.NothingToDo = literal 20 (codes "NothingToDo") refl refl
 refusal_piece (refusal.Unsettled cause) = literal 20 (codes "Unsettled") refl refl
+refusal_piece refusal.Disabled = literal 20 (codes "Disabled") refl refl
+refusal_piece refusal.TooDeep = literal 20 (codes "TooDeep") refl refl
+refusal_piece refusal.NotDisabled = literal 20 (codes "NotDisabled") refl refl
 
 was_piece : (was : Bool) → Piece 11 (was_text was)
 was_piece true = literal 11 (codes "cancelled") refl refl

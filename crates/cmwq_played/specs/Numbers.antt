@@ -35,6 +35,7 @@ IsEvent event.FinishesAndStarts = Unit {0}
 IsEvent event.Defers = Unit {0}
 IsEvent event.Fires = Unit {0}
 IsEvent (event.Queues other already) = Unit {0}
+IsEvent (event.QueuesDisabled other) = Unit {0}
 
 abbrev pub IsReply : Reply → Type 0
 IsReply (reply.Sync was flush) = flush < 2 ^ 64
