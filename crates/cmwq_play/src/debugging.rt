@@ -146,12 +146,16 @@ pub fn debug<R: Source, W: Sink>(
     ensures write { (result ≡ Err PlayError.Write) ↔ (W.failed writer.new ≡ true) }
 {
     judge(scenario)?;
-    let mut debugger = opened(alloc, scenario, &scenario.actors[0])?;
+    let mut debugger = opened::<Plain>(alloc, scenario, &scenario.actors[0])?;
     talk(alloc, scenario, &mut debugger, commands, writer)
 }
 
 /// A debugger over the actor's instructions.
-fn opened(alloc: Global, scenario: &Scenario, actor: &Actor) -> Result<Debugger<Plain>, NoMemory>
+fn opened<M: Machine>(
+    alloc: Global,
+    scenario: &Scenario,
+    actor: &Actor,
+) -> Result<Debugger<M>, NoMemory>
     requires valid { IsValid scenario.now }
     requires runs { IsRunOf scenario.now actor.now }
     ensures { IfOk result (λ debugger. debugger ≡ opened scenario.now (expand actor.now)) }
