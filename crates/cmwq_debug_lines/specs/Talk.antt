@@ -46,7 +46,7 @@ ordered d NoWork = (d, refused_text error.NoSuchWork)
 ordered d (Do command) = ((does d command).0, told (does d command).1)
 
 -- the same after a line; S has the names of works
-abbrev pub line_said : ScenarioContents → Session → List ℕ → Session × List ℕ
+unfoldable pub line_said : ScenarioContents → Session → List ℕ → Session × List ℕ
 line_said S d line = ordered d (order_of S (words_of line))
 
 -- what is said to the lines, one after another

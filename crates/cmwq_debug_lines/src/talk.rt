@@ -17,6 +17,7 @@ use std::fmt;
 /// are the scenario's.
 ///
 /// Where memory runs out, the line may have been carried out without being answered.
+#[tactic(auto, unfolding(crate::specs::Talk::line_said))]
 pub fn answer<M: Machine>(
     alloc: Global,
     scenario: &Scenario,

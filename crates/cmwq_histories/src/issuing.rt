@@ -3,7 +3,6 @@ ghost use Rattle.cmwq_types.specs.declared.limits.TheConstants.{MAX_HISTORY};
 ghost use Rattle.std.specs.Prelude.{◌≡◌, ◌≤◌, [], IfOk};
 
 use cmwq_engine::Engine;
-use cmwq_plain::Plain;
 use cmwq_play::PlayError;
 use cmwq_table::{LoadError, Machine};
 use cmwq_types::{Instr, MAX_HISTORY, Scenario};
@@ -22,7 +21,11 @@ pub(crate) fn instrs_of(alloc: Global, scenario: &Scenario) -> Result<Vec<Instr>
 }
 
 /// An engine of the scenario, whose history has room for so many entries.
-fn opened(alloc: Global, scenario: &Scenario, capacity: u32) -> Result<Engine<Plain>, PlayError>
+fn opened<M: Machine>(
+    alloc: Global,
+    scenario: &Scenario,
+    capacity: u32,
+) -> Result<Engine<M>, PlayError>
     requires { capacity ≤ MAX_HISTORY }
     ensures { IfOk result (λ engine. engine.history ≡ []) }
 {
@@ -34,11 +37,11 @@ fn opened(alloc: Global, scenario: &Scenario, capacity: u32) -> Result<Engine<Pl
 
 /// An engine of the scenario on which caller 0 has issued the instructions under the tickets 0, 1 and so on, and the time
 /// behind each, in ticks. `Full` where they are more than 1,048,576.
-pub(crate) fn issued(
+pub(crate) fn issued<M: Machine>(
     alloc: Global,
     scenario: &Scenario,
     instrs: &[Instr],
-) -> Result<(Engine<Plain>, Vec<u64>), PlayError> {
+) -> Result<(Engine<M>, Vec<u64>), PlayError> {
     if instrs.len() > MAX_HISTORY as usize {
         return Err(PlayError::Full);
     }
@@ -48,9 +51,9 @@ pub(crate) fn issued(
 }
 
 /// Issues the instructions, and gives the time behind each, in ticks.
-fn issue_all(
+fn issue_all<M: Machine>(
     alloc: Global,
-    engine: &mut Engine<Plain>,
+    engine: &mut Engine<M>,
     instrs: &[Instr],
 ) -> Result<Vec<u64>, PlayError>
     requires begins { engine.old.history ≡ [] }

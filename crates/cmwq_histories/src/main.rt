@@ -8,11 +8,24 @@
 mod issuing;
 mod printing;
 
+use cmwq_plain::Plain;
 use cmwq_play::{Marked, PlayError, read_text};
+use cmwq_table::Machine;
+use cmwq_types::Scenario;
+use std::alloc::Global;
+
+/// Issues the scenario's instructions on an engine, and prints the history.
+fn issue_and_print<M: Machine, R: Print>(
+    rt: &R,
+    alloc: Global,
+    scenario: Scenario,
+) -> Result<(), PlayError> {
+    let instrs = issuing::instrs_of(alloc, &scenario)?;
+    let (engine, times) = issuing::issued::<M>(alloc, &scenario, &instrs)?;
+    printing::print(rt, alloc, scenario, engine.history(), &times)
+}
 
 fn main(rt: HostRuntime) -> Result<(), PlayError> {
     let scenario = read_text(rt.alloc(), &mut Marked::new(rt.stdin()))?;
-    let instrs = issuing::instrs_of(rt.alloc(), &scenario)?;
-    let (engine, times) = issuing::issued(rt.alloc(), &scenario, &instrs)?;
-    printing::print(&rt, rt.alloc(), scenario, engine.history(), &times)
+    issue_and_print::<Plain, HostRuntime>(&rt, rt.alloc(), scenario)
 }

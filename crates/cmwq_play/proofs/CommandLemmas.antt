@@ -8,7 +8,7 @@ use Rattle.cmwq_streams.proofs.CallerLemmas.{block_out, front_of_block, sends_al
 use Rattle.cmwq_streams.specs.declared.error.PlayError.{PlayError}
 use Rattle.cmwq_streams.specs.declared.error.PlayError.TheVariants.{Read, Write, NoMemory}
 
-err_is : {A : Type 0} (e d : PlayError) (r : Result A PlayError) → r ≡ Err e → r ≡ Err d → e ≡ d
+pub err_is : {A : Type 0} (e d : PlayError) (r : Result A PlayError) → r ≡ Err e → r ≡ Err d → e ≡ d
 err_is e d r first second = cc
 
 -- the reading's error is the command's

@@ -4,3 +4,4 @@ pub mod TextLemmas
 pub mod CommandLemmas
 pub mod ImageLemmas
 pub mod ToldLemmas
+pub mod TalkLemmas

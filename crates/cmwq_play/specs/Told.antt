@@ -1,5 +1,5 @@
 -- What a debugging session has said to the commands that it heard.
-use Rattle.std.specs.Prelude.{◌≡◌, ◌≤◌, ℕ, List, ◌++◌, length, take, drop, false, Option, IfSome, ◌==◌}
+use Rattle.std.specs.Prelude.{◌≡◌, ◌<◌, ◌≤◌, ◌↔◌, ℕ, List, ◌++◌, length, take, drop, Bool, false, true, Option, IfSome, Result, Err, IfErr, OnErr, OnOk, ◌==◌}
 use Rattle.std.specs.Io.KnownBytes.{Appends, Consumes}
 use Rattle.std.specs.List.{All}
 use Rattle.cmwq_types.specs.Contents.{ActorContents, ScenarioContents}
@@ -8,6 +8,7 @@ use Rattle.cmwq_types.specs.declared.limits.TheConstants.{MAX_TEXT}
 use Rattle.cmwq_grammar.specs.Cutting.{lines_of}
 use Rattle.cmwq_debug.specs.Debugging.{Session, opened}
 use Rattle.cmwq_debug_lines.specs.Talk.{debugged, lines_said}
+use Rattle.cmwq_play.specs.Commands.{Reads}
 use Rattle.cmwq_play.specs.Runs.{IsRunOf}
 use Rattle.cmwq_streams.specs.Sending.{HasSentFront}
 use Rattle.cmwq_streams.specs.declared.error.PlayError.{PlayError}
@@ -47,6 +48,16 @@ IsTalkError errors.Write = Unit {0}
 IsTalkError errors.TooLong = Unit {0}
 IsTalkError errors.NoMemory = Unit {0}
 IsTalkError error = ⊥
+
+-- What a talk answers, and what it has said to its input. The writer is broken exactly where `Write` is told.
+pub record Talks (input left before after : Option (List ℕ)) (unreadable broken : Bool) (S : ScenarioContents) (d : Session) (result : Result (Unit {0}) PlayError) : Type 0 where
+  pub reads : Reads input left unreadable result
+  pub told : OnOk result (IfSome input (λ bytes. Appends before after (lines_said S d (lines_of bytes))))
+  pub front : OnErr result (IfSome input (λ bytes. HasSentFront before after (lines_said S d (lines_of bytes))))
+  pub answered : result ≡ Err errors.Read → HasAnswered input left before after S d
+  pub too_long : result ≡ Err errors.TooLong → IfSome input (λ bytes. MAX_TEXT < length bytes)
+  pub write : (result ≡ Err errors.Write) ↔ (broken ≡ true)
+  pub why : IfErr result (λ error. IsTalkError error)
 
 -- The scenario can be debugged, and to the input, where it is known, was said what is to be said.
 abbrev pub IsTold : (input before after : Option (List ℕ)) → ScenarioContents → Type 0

@@ -3,7 +3,7 @@ ghost use Rattle.cmwq_debug_lines.specs.Talk.{line_said, lines_said};
 ghost use Rattle.cmwq_grammar.specs.Cutting.{lines_of};
 ghost use Rattle.cmwq_streams.specs.Sending.{HasSentFront, IsSendError};
 ghost use Rattle.cmwq_play.specs.Commands.{Reads};
-ghost use Rattle.cmwq_play.specs.Told.{HasAnswered, HasNoLine, IsFrontTold, IsTalkError, IsTalked, IsTold, Told, ToldFront};
+ghost use Rattle.cmwq_play.specs.Told.{HasNoLine, IsFrontTold, IsTalkError, IsTalked, IsTold, Talks, Told, ToldFront};
 ghost use Rattle.cmwq_play.specs.Runs.{CanRun, IsRefused, IsRunOf};
 ghost use Rattle.cmwq_debug.specs.Debugging.{opened};
 ghost use Rattle.cmwq_types.specs.Faults.{IsValid};
@@ -103,13 +103,7 @@ fn talk<M: Machine, R: Source, W: Sink>(
     requires works { length scenario.now.works ≤ MAX_WORKS }
     requires commands { R.failed commands.old ≡ false }
     requires writer { W.failed writer.old ≡ false }
-    ensures reads { Reads (R.remaining commands.old) (R.remaining commands.new) (R.failed commands.new) result }
-    ensures told { OnOk result (IfSome (R.remaining commands.old) (λ bytes. Appends (W.contents writer.old) (W.contents writer.new) (lines_said scenario.now debugger.old (lines_of bytes)))) }
-    ensures front { OnErr result (IfSome (R.remaining commands.old) (λ bytes. HasSentFront (W.contents writer.old) (W.contents writer.new) (lines_said scenario.now debugger.old (lines_of bytes)))) }
-    ensures answered { result ≡ Err PlayError.Read → HasAnswered (R.remaining commands.old) (R.remaining commands.new) (W.contents writer.old) (W.contents writer.new) scenario.now debugger.old }
-    ensures too_long { result ≡ Err PlayError.TooLong → IfSome (R.remaining commands.old) (λ bytes. MAX_TEXT < length bytes) }
-    ensures write { (result ≡ Err PlayError.Write) ↔ (W.failed writer.new ≡ true) }
-    ensures why { IfErr result (λ error. IsTalkError error) }
+    ensures { Talks (R.remaining commands.old) (R.remaining commands.new) (W.contents writer.old) (W.contents writer.new) (R.failed commands.new) (W.failed writer.new) scenario.now debugger.old result }
 {
     let mut text = Vec::new(alloc);
     let mut done = 0;
@@ -152,12 +146,16 @@ pub fn debug<R: Source, W: Sink>(
     ensures write { (result ≡ Err PlayError.Write) ↔ (W.failed writer.new ≡ true) }
 {
     judge(scenario)?;
-    let mut debugger = opened(alloc, scenario, &scenario.actors[0])?;
+    let mut debugger = opened::<Plain>(alloc, scenario, &scenario.actors[0])?;
     talk(alloc, scenario, &mut debugger, commands, writer)
 }
 
 /// A debugger over the actor's instructions.
-fn opened(alloc: Global, scenario: &Scenario, actor: &Actor) -> Result<Debugger<Plain>, NoMemory>
+fn opened<M: Machine>(
+    alloc: Global,
+    scenario: &Scenario,
+    actor: &Actor,
+) -> Result<Debugger<M>, NoMemory>
     requires valid { IsValid scenario.now }
     requires runs { IsRunOf scenario.now actor.now }
     ensures { IfOk result (λ debugger. debugger ≡ opened scenario.now (expand actor.now)) }

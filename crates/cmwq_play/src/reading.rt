@@ -77,7 +77,7 @@ pub(crate) fn read_some<R: Source>(reader: &mut R, text: &mut Vec<u8>) -> Result
     ensures unread { result ≡ Err PlayError.Read → Keeps (R.remaining reader.old) (R.remaining reader.new) }
     ensures why { IfErr result (λ error. (error ≡ PlayError.Read) ⊎ (error ≡ PlayError.NoMemory)) }
 {
-    let mut chunk = [0u8; 4096];
+    let mut chunk = empty_chunk();
     let room = (MAX_TEXT + 1 - text.len()).min(4096);
     match reader.pull(&mut chunk[..room]) {
         Ok(n) => {
@@ -86,4 +86,9 @@ pub(crate) fn read_some<R: Source>(reader: &mut R, text: &mut Vec<u8>) -> Result
         }
         Err(_) => Err(PlayError::Read),
     }
+}
+
+/// Room for what one read gives.
+fn empty_chunk() -> [u8; 4096] {
+    [0u8; 4096]
 }

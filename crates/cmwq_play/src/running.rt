@@ -38,7 +38,7 @@ pub fn run<R: Source, W: Sink>(
 {
     let scenario = read_text(alloc, reader)?;
     judge(&scenario)?;
-    load_and_play(alloc, scenario, writer)
+    load_and_play::<Plain, W>(alloc, scenario, writer)
 }
 
 /// Judges whether the scenario can be run: it has exactly one actor, of no more than 1,048,576 instructions.
@@ -71,7 +71,7 @@ fn are_too_many(lines: &[Line]) -> bool
 
 /// Issues the one actor's instructions on a new machine, and writes the lines of the replies. The text's
 /// reader has judged the scenario already.
-fn load_and_play<W: Sink>(
+fn load_and_play<M: Machine, W: Sink>(
     alloc: Global,
     scenario: Scenario,
     writer: &mut W,
@@ -83,7 +83,7 @@ fn load_and_play<W: Sink>(
     ensures why { IfErr result (λ error. IsSendError error) }
 {
     let scenario = Arc::new(alloc, scenario)?;
-    let machine = Plain::begin(alloc, Arc::clone(&scenario)?)?;
+    let machine = M::begin(alloc, Arc::clone(&scenario)?)?;
     play(alloc, &scenario, &scenario.actors[0], machine, writer)
 }
 

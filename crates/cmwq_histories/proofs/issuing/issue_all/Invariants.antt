@@ -4,4 +4,4 @@ use Rattle.cmwq_histories.proofs.issuing.issue_all.Given as goal
 
 -- the next ticket is above all that were entered
 abbrev pub invariant-loop-instr : goal.invariant-loop-instr
-invariant-loop-instr l = All (λ (e : Entry). e.ticket < l.ticket) l.engine.history
+invariant-loop-instr g l = All (λ (e : Entry). e.ticket < l.ticket) l.engine.history

@@ -1,4 +1,4 @@
-use Rattle.std.proofs.Common.{◌≡◌, ◌+◌, ◌-◌, ◌∷◌, ◌++◌, [], List, ℕ, arith, drop, length, rules, subst, sym, take, ap, ◌∙◌}
+use Rattle.std.proofs.Common.{◌+◌, ◌-◌, ◌∷◌, ◌++◌, List, ℕ, arith, drop, length, rules, subst, take}
 use Rattle.std.proofs.lemmas.List.{take_rest}
 use Rattle.std.proofs.lemmas.Result.{err_from_is_err_and}
 use Rattle.cmwq_play.specs.Told.{ToldFront}
