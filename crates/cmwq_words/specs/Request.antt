@@ -1,5 +1,5 @@
 -- The command line.
-use Rattle.std.specs.Prelude.{◌≡◌, ◌≢◌, ◌≤◌, ℕ, List, [], ◌∷◌, true, codes, if◌then◌else◌, Option, None, Some, option_and_then, option_map, option_to_list, Result, MatchResult}
+use Rattle.std.specs.Prelude.{◌≡◌, ◌≢◌, ◌≤◌, ◌⊎◌, ℕ, List, [], ◌∷◌, ◌++◌, true, codes, if◌then◌else◌, Option, None, Some, option_and_then, option_map, option_to_list, Result, MatchResult}
 use Rattle.std.specs.Fmt.{decimal}
 use Rattle.std.specs.Str.{bytes_eq}
 use Rattle.clap.specs.Words.{App, Row, Rule, Text, first_of, kind_of, new_app, new_rule, subcommand_of, takes, with_rule, with_subcommand}
@@ -7,7 +7,8 @@ use Rattle.clap.specs.declared.error.Error.{Error}
 use Rattle.clap.specs.declared.error.kind.ErrorKind.TheVariants.{OutOfMemory}
 use Rattle.cmwq_types.specs.declared.limits.TheConstants.{MAX_LINES}
 use Rattle.cmwq_words.specs.declared.request.Request.{Request}
-use Rattle.cmwq_words.specs.declared.request.Request.TheVariants.{New, Run, List as list, Asm, Show, Debug, Play}
+use Rattle.cmwq_words.specs.declared.help.TheConstants.{VERSION}
+use Rattle.cmwq_words.specs.declared.request.Request.TheVariants.{New, Run, List as list, Asm, Show, Debug, Play, Version}
 
 -- how many entries a play's history may have room for: as many as an actor may have lines
 abbrev pub IsCapacity : ℕ → Type 0
@@ -81,6 +82,7 @@ words_of (Asm file out) = codes "asm" ∷ file.now ∷ out.now ∷ []
 words_of (Show image) = codes "show" ∷ image.now ∷ []
 words_of (Debug file) = codes "debug" ∷ file.now ∷ []
 words_of (Play file capacity) = codes "play" ∷ file.now ∷ codes "--capacity" ∷ decimal capacity ∷ []
+words_of Version = codes "--version" ∷ []
 
 -- the words of the request, where clap met this command with these values
 abbrev pub one_value : Text → Text → List Row → Option (List Text)
@@ -132,3 +134,15 @@ IsPlainWord word = (first : ℕ) × (rest : Text) × (word ≡ first ∷ rest) �
 -- the answer is the request of these words, unless memory ran out
 abbrev pub Asks : List Text → Result Request Error → Type 0
 Asks words r = MatchResult r (λ request. words_of request ≡ words) (λ e. kind_of e ≡ OutOfMemory)
+
+-- the words that ask for the version
+abbrev pub IsVersionWord : Text → Type 0
+IsVersionWord word = (word ≡ codes "--version") ⊎ (word ≡ codes "-V")
+
+-- the answer is to tell the version, unless memory ran out
+abbrev pub AsksVersion : Result Request Error → Type 0
+AsksVersion r = MatchResult r (λ request. request ≡ Version) (λ e. kind_of e ≡ OutOfMemory)
+
+-- the line of the program's version
+abbrev pub version_line : List ℕ
+version_line = codes "cmwq " ++ VERSION.now ++ 10 ∷ []

@@ -1,10 +1,10 @@
 //! The command line: which words ask for what.
 
-ghost use Rattle.clap.specs.Words.{Text, app_of, first_of, found_of, kind_of, rows_of, rule_of, subcommand_rows_of, with_subcommand};
+ghost use Rattle.clap.specs.Words.{Text, app_of, fault_of, first_of, found_of, kind_of, rows_of, rule_of, subcommand_rows_of, with_subcommand};
 ghost use Rattle.clap.specs.declared.builder.command.Command.TheViews.{out-Command as fields_of};
-ghost use Rattle.cmwq_words.specs.Request.{Asks, HasCapacity, IsCapacity, IsPlainWord, IsRead, IsWithin, asked_in, asked_of, asm_command, bare_program, command_line, command_on, commands_on_files, list_command, new_command, play_command, program, required_rule, run_command, show_command, words_of};
+ghost use Rattle.cmwq_words.specs.Request.{Asks, AsksVersion, HasCapacity, IsCapacity, IsPlainWord, IsRead, IsVersionWord, IsWithin, asked_in, asked_of, asm_command, bare_program, command_line, command_on, commands_on_files, list_command, new_command, play_command, program, required_rule, run_command, show_command, words_of};
 ghost use Rattle.std.specs.Fmt.{decimal};
-ghost use Rattle.std.specs.Prelude.{◌≡◌, ℕ, List, [], ◌∷◌, IfOk, IfSome, Some, codes, false, map, option_map, string_bytes};
+ghost use Rattle.std.specs.Prelude.{◌≡◌, ◌↔◌, IsTrue, ℕ, List, [], ◌∷◌, IfOk, IfSome, Some, codes, false, map, option_map, string_bytes};
 
 use crate::help;
 use clap::error::ErrorKind;
@@ -54,10 +54,12 @@ pub enum Request<'a> {
         /// How many instructions the machine takes at most, 1 to 4,096.
         capacity: u32,
     },
+    /// Tell the program's version.
+    Version,
 }
 
 /// Reads the words, of which the first is the program's name. The error is a usage fault, help that
-/// was asked for, or want of memory; it holds the text for the user.
+/// was asked for, or want of memory; it holds the text for the user. The version is a request.
 ///
 /// Each command's words ask for it, where no FILE, OUT or IMAGE is empty or begins with a hyphen;
 /// the call then fails only for want of memory.
@@ -78,6 +80,8 @@ pub fn parse<'a>(alloc: Global, words: &'a [String]) -> Result<Request<'a>, Erro
         → IsPlainWord file → Asks (codes "debug" ∷ file ∷ []) result }
     ensures play { (name file : Text) (n : ℕ) → map string_bytes words.entry.now ≡ name ∷ codes "play" ∷ file ∷ codes "--capacity" ∷ decimal n ∷ []
         → IsPlainWord file → IsCapacity n → Asks (codes "play" ∷ file ∷ codes "--capacity" ∷ decimal n ∷ []) result }
+    ensures version { (name word : Text) → map string_bytes words.entry.now ≡ name ∷ word ∷ []
+        → IsVersionWord word → AsksVersion result }
     ensures capacity { IfOk result (λ request. IsWithin request) }
 {
     let mut command = command(alloc)?;
@@ -88,9 +92,14 @@ pub fn parse<'a>(alloc: Global, words: &'a [String]) -> Result<Request<'a>, Erro
 fn request_met<'a>(command: &mut Command<'a>, words: &'a [String]) -> Result<Request<'a>, Error>
     requires { app_of command.now ≡ command_line }
     ensures asks { (asked : List Text) → IsRead (map string_bytes words.entry.now) asked → Asks asked result }
+    ensures version { fault_of command_line (map string_bytes words.entry.now) ≡ ErrorKind.DisplayVersion ∷ [] → AsksVersion result }
     ensures capacity { IfOk result (λ request. IsWithin request) }
 {
-    let matches = command.try_get_matches_from_mut(words)?;
+    let matches = match command.try_get_matches_from_mut(words) {
+        Ok(matches) => matches,
+        Err(error) if tells_version(&error) => return Ok(Request::Version),
+        Err(error) => return Err(error),
+    };
     match request_of(&matches) {
         Some(request) => Ok(request),
         None => Err(command.error(
@@ -98,6 +107,13 @@ fn request_met<'a>(command: &mut Command<'a>, words: &'a [String]) -> Result<Req
             "--capacity takes a number from 1 to 4096",
         )?),
     }
+}
+
+/// Whether the version was asked for.
+fn tells_version(error: &Error) -> bool
+    ensures { IsTrue result ↔ (kind_of error.now ≡ ErrorKind.DisplayVersion) }
+{
+    error.kind() == ErrorKind::DisplayVersion
 }
 
 /// The usage fault of words that aren't all text.
