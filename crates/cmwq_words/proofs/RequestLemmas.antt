@@ -20,7 +20,8 @@ use Rattle.clap.specs.declared.parser.matches.SubCommand.{SubCommand}
 use Rattle.std.specs.Box.{box_value}
 use Rattle.std.specs.Prelude.{Box, Option, None, option_map}
 use Rattle.clap.proofs.OnLiterals.{clap_on_literals}
-use Rattle.cmwq_words.specs.Request.{HasCapacity, IsCapacity, IsPlainWord, IsRead, IsVersionWord, asked_in, asked_of, command_line}
+use Rattle.cmwq_words.specs.declared.request.Request.{Request}
+use Rattle.cmwq_words.specs.Request.{HasCapacity, IsCapacity, IsPlainWord, IsRead, IsRequestOf, IsVersionWord, asked_in, asked_of, command_line}
 
 simple_line : is_simple command_line ≡ true
 unfolding clap_on_literals
@@ -77,6 +78,16 @@ plain_play : (name : Text) (first : ℕ) (rest : Text) (head : ℕ) (tail : Text
 unfolding clap_on_literals
 plain_play name first rest head tail e f fits = (rw e (rw e (rw f (rw f refl))), rw e (rw e (rw f (rw f refl))), fits)
 
+plain_check : (name : Text) (first : ℕ) (rest : Text) → (first == 45) ≡ false
+    → IsRead (name ∷ codes "check" ∷ (first ∷ rest) ∷ []) (codes "check" ∷ (first ∷ rest) ∷ [])
+unfolding clap_on_literals
+plain_check name first rest e = (rw e (rw e refl), rw e (rw e refl), tt)
+
+plain_check_two : (name : Text) (first : ℕ) (rest : Text) (head : ℕ) (tail : Text) → (first == 45) ≡ false → (head == 45) ≡ false
+    → IsRead (name ∷ codes "check" ∷ (first ∷ rest) ∷ (head ∷ tail) ∷ []) (codes "check" ∷ (first ∷ rest) ∷ (head ∷ tail) ∷ [])
+unfolding clap_on_literals
+plain_check_two name first rest head tail e f = (rw e (rw e (rw f (rw f refl))), rw e (rw e (rw f (rw f refl))), tt)
+
 no_hyphen : (first : ℕ) → first ≢ 45 → (first == 45) ≡ false
 no_hyphen first plain = search rules
 
@@ -126,6 +137,15 @@ show_read words name image are (first, rest, is, plain) = rw (are, is) (plain_sh
 pub debug_read : (words : List Text) (name file : Text) → words ≡ name ∷ codes "debug" ∷ file ∷ [] → IsPlainWord file
     → IsRead words (codes "debug" ∷ file ∷ [])
 debug_read words name file are (first, rest, is, plain) = rw (are, is) (plain_debug name first rest (no_hyphen first plain))
+
+pub check_read : (words : List Text) (name file : Text) → words ≡ name ∷ codes "check" ∷ file ∷ [] → IsPlainWord file
+    → IsRead words (codes "check" ∷ file ∷ [])
+check_read words name file are (first, rest, is, plain) = rw (are, is) (plain_check name first rest (no_hyphen first plain))
+
+pub check_two_read : (words : List Text) (name file other : Text) → words ≡ name ∷ codes "check" ∷ file ∷ other ∷ [] → IsPlainWord file
+    → IsPlainWord other → IsRead words (codes "check" ∷ file ∷ other ∷ [])
+check_two_read words name file other are (first, rest, is, plain) (head, tail, is_other, plain_other) =
+    rw (are, is, is_other) (plain_check_two name first rest head tail (no_hyphen first plain) (no_hyphen head plain_other))
 
 pub asm_read : (words : List Text) (name file out : Text) → words ≡ name ∷ codes "asm" ∷ file ∷ out ∷ [] → IsPlainWord file
     → IsPlainWord out → IsRead words (codes "asm" ∷ file ∷ out ∷ [])
@@ -177,3 +197,8 @@ met_in m name rows asked = at (out-ArgMatches m).subcommand
         → Some rows ≡ option_map (λ p. p.1) (subcommand_rows o) → asked_of (subcommand_rows o) ≡ Some asked → asked_in (name, rows) ≡ Some asked
     at None is_name are_rows is = cc
     at (Some b) is_name are_rows is = cc
+
+-- where nothing is asked for, no words are
+pub nothing_asked : (request : Option Request) (asked : List Text) → request ≡ None → IsRequestOf asked request → ⊥
+nothing_asked None asked none is = cc
+nothing_asked (Some request) asked none is = cc

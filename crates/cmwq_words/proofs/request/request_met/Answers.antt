@@ -1,7 +1,7 @@
 use Rattle.std.proofs.Common.{rules, refl, false, true, sym, inl, inr, ap, ◌≡◌, ◌∙◌, map, string_bytes}
 use Rattle.clap.specs.Words.{takes}
 use Rattle.clap.specs.declared.error.kind.ErrorKind.TheVariants.{DisplayVersion, OutOfMemory}
-use Rattle.cmwq_words.proofs.RequestLemmas.{no_matches, read_met, version_kind}
+use Rattle.cmwq_words.proofs.RequestLemmas.{no_matches, nothing_asked, read_met, version_kind}
 use Rattle.cmwq_words.proofs.request.request_met.Goals as goal
 
 pub returns-in-Err-clause-asks : goal.returns-in-Err-clause-asks
@@ -36,11 +36,11 @@ returns-clause-version c asked = absurd (no_matches _ (map string_bytes c.args.w
 pub returns-in-Some-clause-asks : goal.returns-in-Some-clause-asks
 returns-in-Some-clause-asks c asked read =
     let words = map string_bytes c.args.words.now in
-    let met = c.in-Some.ensures.words asked (read_met _ words asked c.in-Ok.matches c.requires c.in-Ok.ensures.ok.2 read) read.2 in
+    let met = c.request_of.ensures.words asked (read_met _ words asked c.in-Ok.matches c.requires c.in-Ok.ensures.ok.2 read) read.2 in
     search rules
 
 pub returns-clause-asks : goal.returns-clause-asks
 returns-clause-asks c asked read =
     let words = map string_bytes c.args.words.now in
-    let met = c.in-None.ensures.words asked (read_met _ words asked c.in-Ok.matches c.requires c.in-Ok.ensures.ok.2 read) read.2 in
-    absurd cc
+    let met = c.in_ok-request.ensures.words asked (read_met _ words asked c.in-Ok.matches c.requires c.in-Ok.ensures.ok.2 read) read.2 in
+    absurd (nothing_asked c.in_ok-request.field-0 asked c.in-None.is met)
