@@ -55,7 +55,7 @@ where
     requires within { IsWithin request }
     requires output { O.failed output.old ≡ false }
     requires errors { E.failed errors.old ≡ false }
-    ensures version { request ≡ Request.Version → Prints version_line (O.contents output.old) (O.contents output.new) result }
+    ensures version { request.entry ≡ Request.Version → Prints version_line (O.contents output.old) (O.contents output.new) result }
 {
     match request {
         Request::New { file } => new(rt, output, file)?,
