@@ -3,9 +3,9 @@ _cmwq() {
     local word=${COMP_WORDS[COMP_CWORD]} command=${COMP_WORDS[1]-}
     COMPREPLY=()
     if ((COMP_CWORD == 1)); then
-        mapfile -t COMPREPLY < <(compgen -W 'new run list asm show debug play help --help --version' -- "$word")
+        mapfile -t COMPREPLY < <(compgen -W 'new run list asm show debug play check help --help --version' -- "$word")
     elif [[ $command == help ]]; then
-        mapfile -t COMPREPLY < <(compgen -W 'new run list asm show debug play help' -- "$word")
+        mapfile -t COMPREPLY < <(compgen -W 'new run list asm show debug play check help' -- "$word")
     elif [[ $word == -* ]]; then
         local options=--help
         [[ $command == play ]] && options='--capacity --help'

@@ -1,5 +1,5 @@
 # Completion of cmwq for fish: put it into ~/.config/fish/completions.
-set -l commands new run list asm show debug play help
+set -l commands new run list asm show debug play check help
 complete -c cmwq -n "not __fish_seen_subcommand_from $commands" -f
 complete -c cmwq -n "not __fish_seen_subcommand_from $commands" -a new -d 'Write a scenario to start from, with comments'
 complete -c cmwq -n "not __fish_seen_subcommand_from $commands" -a run -d 'Run a scenario and write its events'
@@ -8,6 +8,7 @@ complete -c cmwq -n "not __fish_seen_subcommand_from $commands" -a asm -d 'Make 
 complete -c cmwq -n "not __fish_seen_subcommand_from $commands" -a show -d "Write the listing of an image's scenario"
 complete -c cmwq -n "not __fish_seen_subcommand_from $commands" -a debug -d "Carry out commands on a scenario's run"
 complete -c cmwq -n "not __fish_seen_subcommand_from $commands" -a play -d 'Let actors issue their instructions from threads'
+complete -c cmwq -n "not __fish_seen_subcommand_from $commands" -a check -d "Tell whether scenarios' texts are good, or where their first faults are"
 complete -c cmwq -n "not __fish_seen_subcommand_from $commands" -a help -d 'Say what there is, or what a command does'
 complete -c cmwq -n "__fish_seen_subcommand_from help" -f -a "$commands"
 complete -c cmwq -n "__fish_seen_subcommand_from play" -l capacity -x -d 'How many instructions can be issued in all'

@@ -9,7 +9,13 @@ use std::{env, io};
 
 fn main(rt: HostRuntime) -> ExitCode {
     let outcome = match words(&rt) {
-        Ok(Some(words)) => carry_out(&rt, words.as_slice(), rt.stdin(), rt.stdout(), rt.stderr()),
+        Ok(Some(words)) => carry_out(
+            &rt,
+            words.as_slice(),
+            rt.stdin(),
+            &mut Marked::new(rt.stdout()),
+            &mut Marked::new(rt.stderr()),
+        ),
         Ok(None) => tell_not_text(&rt),
         Err(error) => Err(error),
     };

@@ -1,10 +1,7 @@
 -- How the program tells a fault.
 use Rattle.std.specs.Prelude.{ℕ, List, ◌∷◌, [], ◌++◌, codes}
 use Rattle.std.specs.Fmt.{decimal}
-use Rattle.cmwq_types.specs.declared.check.Fault.{Fault}
-use Rattle.cmwq_types.specs.declared.check.Fault.TheVariants as faults
-use Rattle.cmwq_grammar.specs.declared.why.Why.{Why}
-use Rattle.cmwq_grammar.specs.declared.why.Why.TheVariants as whys
+use Rattle.cmwq_verdict.specs.Names.{fault_name, why_name}
 use Rattle.cmwq_asm.specs.declared.fault.AsmError.TheVariants as texts
 use Rattle.cmwq_image.specs.declared.error.ImageError.TheVariants as images
 use Rattle.cmwq_streams.specs.declared.error.PlayError.{PlayError}
@@ -23,27 +20,6 @@ status_of errors.Write = 3
 status_of errors.Full = 4
 status_of errors.Tickets = 4
 status_of errors.NoMemory = 4
-
--- the name of a scenario's fault
-abbrev pub fault_name : Fault → List ℕ
-fault_name faults.Range = codes "Range"
-fault_name faults.TooMany = codes "TooMany"
-fault_name faults.Duplicate = codes "Duplicate"
-fault_name faults.Unknown = codes "Unknown"
-fault_name faults.BadBody = codes "BadBody"
-fault_name faults.BadFlags = codes "BadFlags"
-
--- why a line is refused; a scenario's fault goes by its own name
-abbrev pub why_name : Why → List ℕ
-why_name whys.BadUtf8 = codes "BadUtf8"
-why_name whys.BadWord = codes "BadWord"
-why_name whys.BadName = codes "BadName"
-why_name whys.BadNumber = codes "BadNumber"
-why_name whys.MissingWord = codes "MissingWord"
-why_name whys.ExtraWord = codes "ExtraWord"
-why_name whys.Misplaced = codes "Misplaced"
-why_name whys.TooLong = codes "TooLong"
-why_name (whys.Fault fault) = fault_name fault
 
 -- the line on standard error, which `told` ends
 abbrev pub told : List ℕ → List ℕ

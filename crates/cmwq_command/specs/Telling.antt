@@ -1,5 +1,8 @@
 -- How help, the version and usage faults are told.
-use Rattle.std.specs.Prelude.{ℕ, Bool, true, false, if◌then◌else◌}
+use Rattle.std.specs.Prelude.{◌≡◌, ℕ, List, Option, Result, Ok, Err, Bool, true, false, if◌then◌else◌}
+use Rattle.std.specs.Io.KnownBytes.{Appends}
+use Rattle.cmwq_streams.specs.Sending.{IsSendError}
+use Rattle.cmwq_streams.specs.declared.error.PlayError.{PlayError}
 use Rattle.clap.specs.declared.error.kind.ErrorKind.{ErrorKind}
 use Rattle.clap.specs.declared.error.kind.ErrorKind.TheVariants as kinds
 
@@ -12,3 +15,8 @@ is_asked_for kind = false
 -- the exit status: 0 for what was asked for, and 2 for words that aren't a command line
 abbrev pub status_of_kind : ErrorKind → ℕ
 status_of_kind kind = if is_asked_for kind then 0 else 2
+
+-- these bytes were written, and the status is 0; or a write failed, or memory ran out
+abbrev pub Prints : List ℕ → (before after : Option (List ℕ)) → Result ℕ PlayError → Type 0
+Prints bytes before after (Ok status) = (status ≡ 0) × Appends before after bytes
+Prints bytes before after (Err error) = IsSendError error

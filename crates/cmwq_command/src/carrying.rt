@@ -1,99 +1,147 @@
 //! What the words ask for, carried out on files.
 ghost use Rattle.cmwq_types.specs.Faults.{IsValid};
-ghost use Rattle.cmwq_words.specs.Request.{IsCapacity, IsWithin};
-ghost use Rattle.std.specs.Prelude.{◌≡◌, IfOk, false};
+ghost use Rattle.clap.specs.Words.{Text};
+ghost use Rattle.cmwq_command.specs.Telling.{Prints};
+ghost use Rattle.cmwq_words.specs.Request.{IsCapacity, IsVersionWord, IsWithin, version_line};
+ghost use Rattle.std.specs.Prelude.{◌≡◌, ◌∷◌, [], IfOk, OnOk, false, map, string_bytes};
 
-use crate::starting::write_first;
+use crate::checking::{Judged, check_text, tell_unread};
+use crate::starting::{write_first, write_version};
 use crate::telling::{GOOD, tell};
-use cmwq_play::{Marked, OpenGate, PlayError};
+use cmwq_play::{Marked, OpenGate, PlayError, Sink};
 use cmwq_words::request::{Request, parse};
 use std::fs::File;
-use std::io::{Read, Write};
+use std::io::Read;
 use std::rt::Files;
 use std::sync::Wait;
 use std::thread::Threads;
 use std::time::Clock;
 
 /// Does what the words ask, of which the first is the program's name, and gives the exit status. Commands of a
-/// debugger come from `input`. Events, listings, what a debugger says, what a play leaves, and help go to `output`, and
-/// usage faults to `errors`. A play may wait forever.
-pub fn carry_out<R, I: Read + Drop, O: Write + Drop, E: Write + Drop>(
+/// debugger come from `input`. Events, listings, what a debugger says, what a play leaves, verdicts of good files, the version and
+/// help go to `output`, and other verdicts and usage faults to `errors`. A play may wait forever.
+pub fn carry_out<R, I: Read + Drop, O: Sink, E: Sink>(
     rt: &R,
     words: &[String],
     input: I,
-    output: O,
-    errors: E,
+    output: &mut O,
+    errors: &mut E,
 ) -> Result<u8, PlayError>
 where
     R: Files + AllocGlobal + Threads + Wait + Clock + Sync,
+    requires output { O.failed output.old ≡ false }
+    requires errors { E.failed errors.old ≡ false }
+    // `--version` and `-V` print the version's line.
+    ensures version { (name word : Text) → map string_bytes words.now ≡ name ∷ word ∷ [] → IsVersionWord word
+        → Prints version_line (O.contents output.old) (O.contents output.new) result }
 {
     match parse(rt.alloc(), words) {
-        Ok(request) => {
-            answer(rt, input, output, request)?;
-            Ok(GOOD)
-        }
-        Err(error) => {
-            let mut output = Marked::new(output);
-            let mut errors = Marked::new(errors);
-            tell(rt.alloc(), &mut output, &mut errors, error.kind(), &error)
-        }
+        Ok(request) => answer(rt, input, output, errors, request),
+        Err(error) => tell(rt.alloc(), output, errors, error.kind(), &error),
     }
 }
 
-/// Does what is asked. Commands of a debugger come from the input. Events, listings, what a debugger says and what a play
-/// leaves go to the writer.
-pub fn answer<R, I: Read + Drop, W: Write + Drop>(
+/// Does what is asked, and gives the exit status. Commands of a debugger come from the input. Events, listings, what a debugger
+/// says, what a play leaves, verdicts of good files and the version go to `output`, and other verdicts to `errors`.
+pub fn answer<R, I: Read + Drop, O: Sink, E: Sink>(
     rt: &R,
     input: I,
-    writer: W,
+    output: &mut O,
+    errors: &mut E,
     request: Request<'_>,
-) -> Result<(), PlayError>
+) -> Result<u8, PlayError>
 where
     R: Files + AllocGlobal + Threads + Wait + Clock + Sync,
-    requires { IsWithin request }
+    requires within { IsWithin request }
+    requires output { O.failed output.old ≡ false }
+    requires errors { E.failed errors.old ≡ false }
+    ensures version { request.entry ≡ Request.Version → Prints version_line (O.contents output.old) (O.contents output.new) result }
 {
     match request {
-        Request::New { file } => new(rt, writer, file),
-        Request::Run { file } => run(rt, writer, file),
-        Request::List { file } => list(rt, writer, file),
-        Request::Asm { file, out } => asm(rt, file, out),
-        Request::Show { image } => show(rt, writer, image),
-        Request::Debug { file } => debug(rt, input, writer, file),
-        Request::Play { file, capacity } => play(rt, writer, file, capacity),
+        Request::New { file } => new(rt, output, file)?,
+        Request::Run { file } => run(rt, output, file)?,
+        Request::List { file } => list(rt, output, file)?,
+        Request::Asm { file, out } => asm(rt, file, out)?,
+        Request::Show { image } => show(rt, output, image)?,
+        Request::Debug { file } => debug(rt, input, output, file)?,
+        Request::Play { file, capacity } => play(rt, output, file, capacity)?,
+        Request::Check { files } => return check(rt, output, errors, &files),
+        Request::Version => write_version(rt.alloc(), output)?,
+    }
+    Ok(GOOD)
+}
+
+/// Tells the verdict of each of these files, one after another, and gives the highest of their statuses.
+fn check<R: Files + AllocGlobal, O: Sink, E: Sink>(
+    rt: &R,
+    output: &mut O,
+    errors: &mut E,
+    files: &[&str],
+) -> Result<u8, PlayError>
+    requires output { O.failed output.old ≡ false }
+    requires errors { E.failed errors.old ≡ false }
+{
+    let mut status = GOOD;
+    for file in files {
+        let judged = check_file(rt, output, errors, file)?;
+        status = status.max(judged.status());
+    }
+    Ok(status)
+}
+
+/// Tells the verdict of the file.
+fn check_file<R: Files + AllocGlobal, O: Sink, E: Sink>(
+    rt: &R,
+    output: &mut O,
+    errors: &mut E,
+    file: &str,
+) -> Result<Judged, PlayError>
+    requires output { O.failed output.old ≡ false }
+    requires errors { E.failed errors.old ≡ false }
+    ensures output { OnOk result (O.failed output.new ≡ false) }
+    ensures errors { OnOk result (E.failed errors.new ≡ false) }
+{
+    match opened(rt, file) {
+        Ok(mut reader) => check_text(rt.alloc(), file, &mut reader, output, errors),
+        Err(_) => tell_unread(rt.alloc(), file, errors),
     }
 }
 
 /// Writes a scenario to start from, to a file that isn't there yet, or to the writer where no file is named.
-fn new<R: Files, W: Write + Drop>(rt: &R, writer: W, file: Option<&str>) -> Result<(), PlayError> {
+fn new<R: Files, W: Sink>(rt: &R, writer: &mut W, file: Option<&str>) -> Result<(), PlayError>
+    requires { W.failed writer.old ≡ false }
+{
     match file {
         Some(path) => {
             let made = File::create_new(rt, path).map_err(|_| PlayError::Write)?;
             write_first(&mut Marked::new(made))
         }
-        None => write_first(&mut Marked::new(writer)),
+        None => write_first(writer),
     }
 }
 
 /// Runs the scenario whose text is in the file, and writes its events.
-fn run<R: Files + AllocGlobal, W: Write + Drop>(
+fn run<R: Files + AllocGlobal, W: Sink>(
     rt: &R,
-    writer: W,
+    writer: &mut W,
     file: &str,
-) -> Result<(), PlayError> {
+) -> Result<(), PlayError>
+    requires { W.failed writer.old ≡ false }
+{
     let mut reader = opened(rt, file)?;
-    let mut writer = Marked::new(writer);
-    cmwq_play::run(rt.alloc(), &mut reader, &mut writer)
+    cmwq_play::run(rt.alloc(), &mut reader, writer)
 }
 
 /// Writes the listing of the scenario whose text is in the file.
-fn list<R: Files + AllocGlobal, W: Write + Drop>(
+fn list<R: Files + AllocGlobal, W: Sink>(
     rt: &R,
-    writer: W,
+    writer: &mut W,
     file: &str,
-) -> Result<(), PlayError> {
+) -> Result<(), PlayError>
+    requires { W.failed writer.old ≡ false }
+{
     let mut reader = opened(rt, file)?;
-    let mut writer = Marked::new(writer);
-    cmwq_play::list_text(rt.alloc(), &mut reader, &mut writer)
+    cmwq_play::list_text(rt.alloc(), &mut reader, writer)
 }
 
 /// Makes the image file of the scenario whose text is in the file. The image file is made anew
@@ -106,43 +154,45 @@ fn asm<R: Files + AllocGlobal>(rt: &R, file: &str, out: &str) -> Result<(), Play
 }
 
 /// Writes the listing of the scenario whose image is in the file.
-fn show<R: Files + AllocGlobal, W: Write + Drop>(
+fn show<R: Files + AllocGlobal, W: Sink>(
     rt: &R,
-    writer: W,
+    writer: &mut W,
     image: &str,
-) -> Result<(), PlayError> {
+) -> Result<(), PlayError>
+    requires { W.failed writer.old ≡ false }
+{
     let mut reader = opened(rt, image)?;
-    let mut writer = Marked::new(writer);
-    cmwq_play::from_image(rt.alloc(), &mut reader, &mut writer)
+    cmwq_play::from_image(rt.alloc(), &mut reader, writer)
 }
 
 /// Debugs the scenario whose text is in the file, by the commands of the input, and writes what is said to each.
-fn debug<R: Files + AllocGlobal, I: Read + Drop, W: Write + Drop>(
+fn debug<R: Files + AllocGlobal, I: Read + Drop, W: Sink>(
     rt: &R,
     input: I,
-    writer: W,
+    writer: &mut W,
     file: &str,
-) -> Result<(), PlayError> {
-    let mut reader = opened(rt, file)?;
-    let scenario = cmwq_play::read_text(rt.alloc(), &mut reader)?;
-    let mut commands = Marked::new(input);
-    let mut writer = Marked::new(writer);
-    cmwq_play::debug(rt.alloc(), &scenario, &mut commands, &mut writer)
-}
-
-/// Carries out all actors of the scenario whose text is in the file at once, and writes the text that is left.
-fn play<R: Files + AllocGlobal + Threads + Wait + Clock + Sync, W: Write + Drop>(
-    rt: &R,
-    writer: W,
-    file: &str,
-    capacity: u32,
 ) -> Result<(), PlayError>
-    requires { IsCapacity capacity }
+    requires { W.failed writer.old ≡ false }
 {
     let mut reader = opened(rt, file)?;
     let scenario = cmwq_play::read_text(rt.alloc(), &mut reader)?;
-    let mut writer = Marked::new(writer);
-    cmwq_play::play(rt, rt.alloc(), &scenario, capacity, &OpenGate, &mut writer)
+    let mut commands = Marked::new(input);
+    cmwq_play::debug(rt.alloc(), &scenario, &mut commands, writer)
+}
+
+/// Carries out all actors of the scenario whose text is in the file at once, and writes the text that is left.
+fn play<R: Files + AllocGlobal + Threads + Wait + Clock + Sync, W: Sink>(
+    rt: &R,
+    writer: &mut W,
+    file: &str,
+    capacity: u32,
+) -> Result<(), PlayError>
+    requires capacity { IsCapacity capacity }
+    requires writer { W.failed writer.old ≡ false }
+{
+    let mut reader = opened(rt, file)?;
+    let scenario = cmwq_play::read_text(rt.alloc(), &mut reader)?;
+    cmwq_play::play(rt, rt.alloc(), &scenario, capacity, &OpenGate, writer)
 }
 
 /// The file, opened to be read.

@@ -1,6 +1,7 @@
 //! How the program ends: its exit status, and the line that tells a fault on standard error.
 
-ghost use Rattle.cmwq_command.specs.Fault.{fault_name, line_of, status_of, told, why_name};
+ghost use Rattle.cmwq_command.specs.Fault.{line_of, status_of, told};
+ghost use Rattle.cmwq_verdict.specs.Names.{fault_name, why_name};
 ghost use Rattle.cmwq_streams.specs.Sending.{HasSentFront};
 ghost use Rattle.std.specs.Fmt.{decimal};
 ghost use Rattle.std.specs.Io.KnownBytes.{Appends};
@@ -13,6 +14,7 @@ use cmwq_grammar::Why;
 use cmwq_image::ImageError;
 use cmwq_play::{PlayError, Sink, put_all};
 use cmwq_types::Fault;
+use cmwq_verdict::{fault_name, why_name};
 use itoa::Buffer;
 use std::process::ExitCode;
 
@@ -136,37 +138,4 @@ fn told(text: &str) -> Line
     line.push_str(text);
     line.push_str("\n");
     line
-}
-
-/// Why a line is refused, as one word.
-fn why_name(why: Why) -> &'static str
-    ensures name { result.now ≡ why_name why }
-    ensures short { length result.now ≤ 20 }
-{
-    match why {
-        Why::BadUtf8 => "BadUtf8",
-        Why::BadWord => "BadWord",
-        Why::BadName => "BadName",
-        Why::BadNumber => "BadNumber",
-        Why::MissingWord => "MissingWord",
-        Why::ExtraWord => "ExtraWord",
-        Why::Misplaced => "Misplaced",
-        Why::TooLong => "TooLong",
-        Why::Fault(fault) => fault_name(fault),
-    }
-}
-
-/// The name of a scenario's fault.
-fn fault_name(fault: Fault) -> &'static str
-    ensures name { result.now ≡ fault_name fault }
-    ensures short { length result.now ≤ 20 }
-{
-    match fault {
-        Fault::Range => "Range",
-        Fault::TooMany => "TooMany",
-        Fault::Duplicate => "Duplicate",
-        Fault::Unknown => "Unknown",
-        Fault::BadBody => "BadBody",
-        Fault::BadFlags => "BadFlags",
-    }
 }

@@ -2,10 +2,12 @@
 #![tactic(auto)]
 
 mod carrying;
+mod checking;
 pub mod fault;
 mod starting;
 mod telling;
 
 pub use carrying::{answer, carry_out};
-pub use starting::write_first;
+pub use checking::{Judged, check_text};
+pub use starting::{write_first, write_version};
 pub use telling::tell;

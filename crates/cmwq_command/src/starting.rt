@@ -1,10 +1,15 @@
-//! The scenario that a newcomer starts from.
+//! What is written without a file: the scenario that a newcomer starts from, and the program's version.
 
 ghost use Rattle.cmwq_command.specs.Starting.{HasWrittenFirst};
+ghost use Rattle.cmwq_streams.specs.Sending.{IsSendError};
+ghost use Rattle.cmwq_words.specs.Request.{version_line};
+ghost use Rattle.std.specs.Io.KnownBytes.{Appends};
 ghost use Rattle.std.specs.Prelude.{◌≡◌, ◌↔◌, Err, IfErr, OnOk, false, true};
 
 use cmwq_first::first_text;
 use cmwq_play::{PlayError, Sink, put_all};
+use cmwq_words::help::VERSION;
+use std::alloc::Global;
 
 /// Writes the text of a scenario to start from. It fails only where the writer does.
 pub fn write_first<W: Sink>(writer: &mut W) -> Result<(), PlayError>
@@ -14,4 +19,18 @@ pub fn write_first<W: Sink>(writer: &mut W) -> Result<(), PlayError>
     ensures failed { (result ≡ Err PlayError.Write) ↔ (W.failed writer.new ≡ true) }
 {
     put_all(writer, first_text().as_bytes())
+}
+
+/// Writes the line of the program's version, by one call of a writer that takes all of it. The error is `Write` exactly where the
+/// writer fails, and else `NoMemory`.
+pub fn write_version<W: Sink>(alloc: Global, writer: &mut W) -> Result<(), PlayError>
+    requires sound { W.failed writer.old ≡ false }
+    ensures line { OnOk result (Appends (W.contents writer.old) (W.contents writer.new) version_line) }
+    ensures why { IfErr result (λ error. IsSendError error) }
+    ensures failed { (result ≡ Err PlayError.Write) ↔ (W.failed writer.new ≡ true) }
+{
+    let mut line = String::from_str(alloc, "cmwq ")?;
+    line.push_str(VERSION)?;
+    line.push_str("\n")?;
+    put_all(writer, line.as_bytes())
 }

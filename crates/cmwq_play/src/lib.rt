@@ -15,5 +15,5 @@ pub use cmwq_streams::{BlockWriter, Marked, PlayError, Sink, Source, put_all};
 pub use debugging::debug;
 pub use images::{from_image, to_image};
 pub use listing::list_text;
-pub use reading::read_text;
+pub use reading::{read_text, read_whole};
 pub use running::run;

@@ -44,8 +44,9 @@ fn assembled(alloc: Global, text: &[u8]) -> Result<Scenario, PlayError>
     }
 }
 
-/// Reads all that the source has: at most one byte more than a text may have.
-pub(crate) fn read_whole<R: Source>(alloc: Global, reader: &mut R) -> Result<Vec<u8>, PlayError>
+/// Reads all that the source has: at most one byte more than a text may have. The error is `Read` exactly where the source failed,
+/// and else `NoMemory`.
+pub fn read_whole<R: Source>(alloc: Global, reader: &mut R) -> Result<Vec<u8>, PlayError>
     requires { R.failed reader.old ≡ false }
     ensures whole { IfOk result (λ text. length text.items ≤ MAX_TEXT → IfSome (R.remaining reader.old) (λ input. input ≡ text.items)) }
     ensures bounded { IfOk result (λ text. length text.items ≤ MAX_TEXT + 1) }

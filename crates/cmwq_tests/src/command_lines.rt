@@ -20,7 +20,7 @@ fn words(rt: &impl Abort, alloc: Global, line: &str) -> Vec<String> {
         .expect(rt, "memory is left")
 }
 
-const REQUESTS: [(&str, Request<'_>); 9] = [
+const REQUESTS: [(&str, Request<'_>); 11] = [
     ("cmwq new", Request::New { file: None }),
     (
         "cmwq new a.cmwq",
@@ -53,6 +53,8 @@ const REQUESTS: [(&str, Request<'_>); 9] = [
             capacity: 1,
         },
     ),
+    ("cmwq --version", Request::Version),
+    ("cmwq -V", Request::Version),
 ];
 
 #[test]
@@ -64,8 +66,21 @@ fn each_command_has_its_words(rt: HostRuntime) {
     }
 }
 
+#[test]
+fn a_check_asks_for_each_of_its_files(rt: HostRuntime) {
+    let line = "cmwq check a.cmwq b.cmwq c.cmwq a.cmwq";
+    let given = words(&rt, rt.alloc(), line);
+    let request = parse(rt.alloc(), given.as_slice()).expect(&rt, line);
+    let files = match request {
+        Request::Check { files } => files,
+        _ => Vec::new(rt.alloc()),
+    };
+    let want: [&str; 4] = ["a.cmwq", "b.cmwq", "c.cmwq", "a.cmwq"];
+    same(&rt, line, files.as_slice(), want.as_slice());
+}
+
 /// Command lines that are no request, of which kind the answer is, and with which status the program ends.
-const NO_REQUESTS: [(&str, ErrorKind, i32); 19] = [
+const NO_REQUESTS: [(&str, ErrorKind, i32); 18] = [
     (
         "cmwq",
         ErrorKind::DisplayHelpOnMissingArgumentOrSubcommand,
@@ -87,8 +102,7 @@ const NO_REQUESTS: [(&str, ErrorKind, i32); 19] = [
     ("cmwq help", ErrorKind::DisplayHelp, 0),
     ("cmwq asm --help", ErrorKind::DisplayHelp, 0),
     ("cmwq help show", ErrorKind::DisplayHelp, 0),
-    ("cmwq --version", ErrorKind::DisplayVersion, 0),
-    ("cmwq -V", ErrorKind::DisplayVersion, 0),
+    ("cmwq check", ErrorKind::MissingRequiredArgument, 2),
 ];
 
 #[test]
@@ -102,7 +116,7 @@ fn other_words_are_help_or_usage_faults(rt: HostRuntime) {
 }
 
 /// Command lines, the exit status, and what goes to standard output and to standard error.
-const TOLD: [(&str, u8, &[u8], &[u8]); 4] = [
+const TOLD: [(&str, u8, &[u8], &[u8]); 6] = [
     (
         "cmwq walk a",
         2,
@@ -126,6 +140,18 @@ const TOLD: [(&str, u8, &[u8], &[u8]); 4] = [
         b"error: unexpected argument 'b' found\n\n\
           Usage: cmwq list <FILE>\n\n\
           For more information, try '--help'.\n",
+    ),
+    (
+        "cmwq --version",
+        0,
+        b"cmwq 0.1.0 (rattle-kit-13b logic dac8208d650f15bf)\n",
+        b"",
+    ),
+    (
+        "cmwq check cmwq_no_folder/a.cmwq",
+        3,
+        b"",
+        b"cmwq_no_folder/a.cmwq: read\n",
     ),
     (
         "cmwq asm --help",
@@ -167,8 +193,8 @@ fn check_told<R: Files + AllocGlobal + Threads + Wait + Clock + Sync + Abort>(
     want: (&[u8], &[u8]),
 ) {
     let given = words(rt, rt.alloc(), line);
-    let mut output = writing_to(rt.alloc(), 4096);
-    let mut errors = writing_to(rt.alloc(), 4096);
+    let mut output = Marked::new(writing_to(rt.alloc(), 4096));
+    let mut errors = Marked::new(writing_to(rt.alloc(), 4096));
     let result = carry_out(
         rt,
         given.as_slice(),
@@ -177,7 +203,7 @@ fn check_told<R: Files + AllocGlobal + Threads + Wait + Clock + Sync + Abort>(
         &mut errors,
     );
     same(rt, line, result, Ok(status));
-    check_streams(rt, line, (output, errors), want);
+    check_streams(rt, line, (output.into_inner(), errors.into_inner()), want);
 }
 
 #[test]

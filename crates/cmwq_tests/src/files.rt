@@ -9,7 +9,7 @@ use cmwq_first::first_text;
 use cmwq_grammar::Why;
 use cmwq_image::ImageError;
 use cmwq_machine_tests::examples::{IMAGE_OF_STEPS_RUN_OUT as IMAGE, STEPS_RUN_OUT};
-use cmwq_play::PlayError;
+use cmwq_play::{Marked, PlayError};
 use cmwq_types::Fault;
 use cmwq_words::request::Request;
 use std::fs;
@@ -58,10 +58,41 @@ fn check_talk<R: Files + AllocGlobal + Threads + Wait + Clock + Sync + Abort>(
 )
     requires { IsWithin request }
 {
-    let mut output = Vec::new(rt.alloc());
-    let result = answer(rt, reading_of(commands, 4096), &mut output, request);
-    same(rt, request, result, want);
-    same(rt, request, output.as_slice(), printed);
+    let mut output = Marked::new(Vec::new(rt.alloc()));
+    let mut errors = Marked::new(Vec::new(rt.alloc()));
+    let input = reading_of(commands, 4096);
+    let result = answer(rt, input, &mut output, &mut errors, request);
+    same(rt, printed, result, want.map(|()| 0));
+    same(rt, printed, output.inner.as_slice(), printed);
+    same(rt, printed, errors.inner.as_slice(), b"".as_slice());
+}
+
+/// Files, and what they have.
+const CHECKED: [(&str, &[u8]); 3] = [
+    ("cmwq_checks/a.cmwq", b"cpus 1\nworkers 1\nsteps 1\nflushes 0\n"),
+    ("cmwq_checks/b.cmwq", b"cpus 1\n# 65\nworkers\t 65 # too many\n"),
+    ("cmwq_checks/c.cmwq", b"cpus 1\r\nworkers\n"),
+];
+
+#[test]
+fn a_check_tells_each_files_verdict(rt: HostRuntime) {
+    make_folder(&rt, "cmwq_checks");
+    let mut files = vec![in rt.alloc(); "cmwq_checks/none.cmwq"].expect(&rt, "memory is left");
+    for (file, text) in CHECKED {
+        put_file(&rt, file, text);
+        files.push(file).expect(&rt, "memory is left");
+    }
+    let mut output = Marked::new(Vec::new(rt.alloc()));
+    let mut errors = Marked::new(Vec::new(rt.alloc()));
+    let request = Request::Check { files };
+    let result = answer(&rt, reading_of(b"", 1), &mut output, &mut errors, request);
+    let told: &[u8] = b"cmwq_checks/none.cmwq: read\n\
+        cmwq_checks/b.cmwq:3:10: 65: Range\n\
+        cmwq_checks/c.cmwq:2:8: end of line: MissingWord\n";
+    same(&rt, "status", result, Ok(3));
+    same(&rt, "output", output.inner.as_slice(), b"cmwq_checks/a.cmwq: ok\n".as_slice());
+    same(&rt, "errors", errors.inner.as_slice(), told);
+    let _ = fs::remove_dir_all(&rt, "cmwq_checks");
 }
 
 #[test]
@@ -94,13 +125,12 @@ fn each_command_reads_and_writes_files(rt: HostRuntime) {
 fn a_new_scenario_overwrites_no_file(rt: HostRuntime) {
     make_folder(&rt, "cmwq_new");
     let file = "cmwq_new/first.cmwq";
-    let new = Request::New { file: Some(file) };
     let first = first_text().as_bytes();
     check_answer(&rt, Request::New { file: None }, Ok(()), first);
-    check_answer(&rt, new, Ok(()), b"");
+    check_answer(&rt, Request::New { file: Some(file) }, Ok(()), b"");
     check_file(&rt, file, first);
     put_file(&rt, file, b"mine");
-    check_answer(&rt, new, Err(PlayError::Write), b"");
+    check_answer(&rt, Request::New { file: Some(file) }, Err(PlayError::Write), b"");
     check_file(&rt, file, b"mine");
     let _ = fs::remove_dir_all(&rt, "cmwq_new");
 }

@@ -1,18 +1,43 @@
 -- What clap makes of the words of each command.
-use Rattle.std.proofs.Common.{rules, ap, sym, subst, Result, Ok, ◌^◌, ℕ, ◌≤◌, ◌<◌, arith, length, get_or, ◌≡◌, ◌∙◌, ◌≢◌, ◌==◌, List, [], ◌∷◌, true, false, Some, codes, refl}
+use Rattle.std.proofs.Common.{rules, ap, sym, subst, Result, Ok, ◌^◌, ℕ, ◌≤◌, ◌<◌, arith, length, get_or, ◌≡◌, ◌∙◌, ◌≢◌, ◌==◌, List, [], ◌∷◌, true, false, Some, codes, refl, inl, inr, ◌⊎◌}
 use Rattle.std.proofs.lemmas.Fmt.{decimal_nonempty, digits_decimal, digits_value-decimal, first_decimal}
 use Rattle.std.proofs.lemmas.Str.Parse.{IsNumeralModel, numerals_by_value, parse_gives, tells_all_ascii_digits}
 use Rattle.std.specs.Str.{all_ascii_digits}
 use Rattle.std.specs.Str.Parse.{ParsesUnsigned, digits_value}
 use Rattle.std.specs.Fmt.{decimal}
-use Rattle.clap.specs.Words.{App, HasMatchesOf, Text, is_simple, subcommand_of, subcommand_rows_of}
+use Rattle.clap.specs.Words.{App, HasMatchesOf, Text, fault_of, is_simple, is_simple_and_free, subcommand_of, subcommand_rows_of}
+use Rattle.clap.specs.Kinds.{HasKind}
+use Rattle.clap.specs.Values.{kind_of}
+use Rattle.clap.specs.declared.error.Error.{Error}
+use Rattle.clap.specs.declared.error.kind.ErrorKind.{ErrorKind}
+use Rattle.clap.specs.declared.error.kind.ErrorKind.TheVariants.{DisplayVersion, OutOfMemory}
+use Rattle.clap.specs.Matches.{subcommand_name_of}
+use Rattle.clap.specs.Simple.{subcommand_rows}
+use Rattle.clap.specs.Walk.{Row}
 use Rattle.clap.specs.declared.parser.matches.ArgMatches.{ArgMatches}
+use Rattle.clap.specs.declared.parser.matches.ArgMatches.TheViews.{out-ArgMatches, out-SubCommand}
+use Rattle.clap.specs.declared.parser.matches.SubCommand.{SubCommand}
+use Rattle.std.specs.Box.{box_value}
+use Rattle.std.specs.Prelude.{Box, Option, None, option_map}
 use Rattle.clap.proofs.OnLiterals.{clap_on_literals}
-use Rattle.cmwq_words.specs.Request.{HasCapacity, IsCapacity, IsPlainWord, IsRead, asked_of, command_line}
+use Rattle.cmwq_words.specs.declared.request.Request.{Request}
+use Rattle.cmwq_words.specs.Request.{HasCapacity, IsCapacity, IsPlainWord, IsRead, IsRequestOf, IsVersionWord, asked_in, asked_of, command_line}
 
 simple_line : is_simple command_line ≡ true
 unfolding clap_on_literals
 simple_line = refl
+
+pub free_line : is_simple_and_free command_line ≡ true
+unfolding clap_on_literals
+free_line = refl
+
+long_version : (name : Text) → fault_of command_line (name ∷ codes "--version" ∷ []) ≡ DisplayVersion ∷ []
+unfolding clap_on_literals
+long_version name = refl
+
+short_version : (name : Text) → fault_of command_line (name ∷ codes "-V" ∷ []) ≡ DisplayVersion ∷ []
+unfolding clap_on_literals
+short_version name = refl
 
 plain_new : (name : Text) → IsRead (name ∷ codes "new" ∷ []) (codes "new" ∷ [])
 unfolding clap_on_literals
@@ -53,8 +78,42 @@ plain_play : (name : Text) (first : ℕ) (rest : Text) (head : ℕ) (tail : Text
 unfolding clap_on_literals
 plain_play name first rest head tail e f fits = (rw e (rw e (rw f (rw f refl))), rw e (rw e (rw f (rw f refl))), fits)
 
+plain_check : (name : Text) (first : ℕ) (rest : Text) → (first == 45) ≡ false
+    → IsRead (name ∷ codes "check" ∷ (first ∷ rest) ∷ []) (codes "check" ∷ (first ∷ rest) ∷ [])
+unfolding clap_on_literals
+plain_check name first rest e = (rw e (rw e refl), rw e (rw e refl), tt)
+
+plain_check_two : (name : Text) (first : ℕ) (rest : Text) (head : ℕ) (tail : Text) → (first == 45) ≡ false → (head == 45) ≡ false
+    → IsRead (name ∷ codes "check" ∷ (first ∷ rest) ∷ (head ∷ tail) ∷ []) (codes "check" ∷ (first ∷ rest) ∷ (head ∷ tail) ∷ [])
+unfolding clap_on_literals
+plain_check_two name first rest head tail e f = (rw e (rw e (rw f (rw f refl))), rw e (rw e (rw f (rw f refl))), tt)
+
 no_hyphen : (first : ℕ) → first ≢ 45 → (first == 45) ≡ false
 no_hyphen first plain = search rules
+
+pub version_asked : (words : List Text) (name word : Text) → words ≡ name ∷ word ∷ [] → IsVersionWord word → fault_of command_line words ≡ DisplayVersion ∷ []
+version_asked words name word are (inl is) = rw (are, is) (long_version name)
+version_asked words name word are (inr is) = rw (are, is) (short_version name)
+
+-- a parse that fails for the version, or for want of memory
+pub version_kind : (line : App) (words : List Text) (e : Error) → line ≡ command_line → (is_simple_and_free line ≡ true → HasKind (fault_of line words) e)
+    → fault_of command_line words ≡ DisplayVersion ∷ [] → (kind_of e ≡ OutOfMemory) ⊎ (kind_of e ≡ DisplayVersion)
+version_kind line words e line_is fails asked =
+    let kinds : fault_of line words ≡ DisplayVersion ∷ [] = ap (λ (a : App). fault_of a words) line_is ∙ asked in
+    elim (subst (λ (ks : List ErrorKind). HasKind ks e) kinds (fails (ap is_simple_and_free line_is ∙ free_line))) [
+      | inl it ↦ inl it
+      | inr (inl it) ↦ inr it
+      | inr (inr it) ↦ absurd it
+    ]
+
+pub no_matches : (line : App) (words : List Text) → line ≡ command_line → (is_simple_and_free line ≡ true → fault_of line words ≡ [])
+    → fault_of command_line words ≡ DisplayVersion ∷ [] → ⊥
+no_matches line words line_is none asked =
+    let both : DisplayVersion ∷ [] ≡ [] = sym asked ∙ sym (ap (λ (a : App). fault_of a words) line_is) ∙ none (ap is_simple_and_free line_is ∙ free_line) in
+    apart both
+  where
+    apart : {k : ErrorKind} → k ∷ [] ≡ [] → ⊥
+    apart e = cc
 
 pub new_read : (words : List Text) (name : Text) → words ≡ name ∷ codes "new" ∷ [] → IsRead words (codes "new" ∷ [])
 new_read words name are = rw are (plain_new name)
@@ -78,6 +137,15 @@ show_read words name image are (first, rest, is, plain) = rw (are, is) (plain_sh
 pub debug_read : (words : List Text) (name file : Text) → words ≡ name ∷ codes "debug" ∷ file ∷ [] → IsPlainWord file
     → IsRead words (codes "debug" ∷ file ∷ [])
 debug_read words name file are (first, rest, is, plain) = rw (are, is) (plain_debug name first rest (no_hyphen first plain))
+
+pub check_read : (words : List Text) (name file : Text) → words ≡ name ∷ codes "check" ∷ file ∷ [] → IsPlainWord file
+    → IsRead words (codes "check" ∷ file ∷ [])
+check_read words name file are (first, rest, is, plain) = rw (are, is) (plain_check name first rest (no_hyphen first plain))
+
+pub check_two_read : (words : List Text) (name file other : Text) → words ≡ name ∷ codes "check" ∷ file ∷ other ∷ [] → IsPlainWord file
+    → IsPlainWord other → IsRead words (codes "check" ∷ file ∷ other ∷ [])
+check_two_read words name file other are (first, rest, is, plain) (head, tail, is_other, plain_other) =
+    rw (are, is, is_other) (plain_check_two name first rest head tail (no_hyphen first plain) (no_hyphen head plain_other))
 
 pub asm_read : (words : List Text) (name file out : Text) → words ≡ name ∷ codes "asm" ∷ file ∷ out ∷ [] → IsPlainWord file
     → IsPlainWord out → IsRead words (codes "asm" ∷ file ∷ out ∷ [])
@@ -119,3 +187,18 @@ pub read_met : (line : App) (words asked : List Text) (m : ArgMatches) → line 
 read_met line words asked m line_is matches read =
     let same = (matches (ap is_simple line_is ∙ simple_line)).1 ∙ ap (λ a. subcommand_of a words) line_is in
     ap asked_of same ∙ read.1
+
+-- what was met is a command's name and its values
+pub met_in : (m : ArgMatches) (name : Text) (rows : List Row) (asked : List Text) → Some name ≡ subcommand_name_of m
+    → Some rows ≡ option_map (λ p. p.1) (subcommand_rows_of m) → asked_of (subcommand_rows_of m) ≡ Some asked → asked_in (name, rows) ≡ Some asked
+met_in m name rows asked = at (out-ArgMatches m).subcommand
+  where
+    at : {Z : Type 0} (o : Option (Box SubCommand Z)) → Some name ≡ option_map (λ b. (out-SubCommand (box_value b)).name.now) o
+        → Some rows ≡ option_map (λ p. p.1) (subcommand_rows o) → asked_of (subcommand_rows o) ≡ Some asked → asked_in (name, rows) ≡ Some asked
+    at None is_name are_rows is = cc
+    at (Some b) is_name are_rows is = cc
+
+-- where nothing is asked for, no words are
+pub nothing_asked : (request : Option Request) (asked : List Text) → request ≡ None → IsRequestOf asked request → ⊥
+nothing_asked None asked none is = cc
+nothing_asked (Some request) asked none is = cc

@@ -1,13 +1,15 @@
 -- The command line.
-use Rattle.std.specs.Prelude.{◌≡◌, ◌≢◌, ◌≤◌, ℕ, List, [], ◌∷◌, true, codes, if◌then◌else◌, Option, None, Some, option_and_then, option_map, option_to_list, Result, MatchResult}
+use Rattle.std.specs.Prelude.{◌≡◌, ◌≢◌, ◌≤◌, ◌⊎◌, ℕ, List, [], ◌∷◌, ◌++◌, Bool, true, false, map, codes, if◌then◌else◌, Option, None, Some, option_and_then, option_map, option_to_list, Result, MatchResult}
 use Rattle.std.specs.Fmt.{decimal}
 use Rattle.std.specs.Str.{bytes_eq}
-use Rattle.clap.specs.Words.{App, Row, Rule, Text, first_of, kind_of, new_app, new_rule, subcommand_of, takes, with_rule, with_subcommand}
+use Rattle.clap.specs.Words.{App, Row, Rule, Text, all_of, first_of, kind_of, new_app, new_rule, subcommand_of, takes, with_rule, with_subcommand}
+use Rattle.clap.specs.declared.builder.action.ArgAction.TheVariants.{Append}
 use Rattle.clap.specs.declared.error.Error.{Error}
 use Rattle.clap.specs.declared.error.kind.ErrorKind.TheVariants.{OutOfMemory}
 use Rattle.cmwq_types.specs.declared.limits.TheConstants.{MAX_LINES}
 use Rattle.cmwq_words.specs.declared.request.Request.{Request}
-use Rattle.cmwq_words.specs.declared.request.Request.TheVariants.{New, Run, List as list, Asm, Show, Debug, Play}
+use Rattle.cmwq_words.specs.declared.help.TheConstants.{VERSION}
+use Rattle.cmwq_words.specs.declared.request.Request.TheVariants.{New, Run, List as list, Asm, Show, Debug, Play, Check, Version}
 
 -- how many entries a play's history may have room for: as many as an actor may have lines
 abbrev pub IsCapacity : ℕ → Type 0
@@ -67,9 +69,13 @@ commands_on_files =
     show_command.top)
     debug_command.top
 
+-- `check FILE..`
+abbrev pub check_command : App
+check_command = with_rule (new_app (codes "check")) (record (required_rule (codes "FILE")) { action = Some Append })
+
 -- the program with its commands
 abbrev pub command_line : App
-command_line = with_subcommand commands_on_files play_command.top
+command_line = with_subcommand (with_subcommand commands_on_files play_command.top) check_command.top
 
 -- the words that ask for it
 abbrev pub words_of : Request → List Text
@@ -81,6 +87,8 @@ words_of (Asm file out) = codes "asm" ∷ file.now ∷ out.now ∷ []
 words_of (Show image) = codes "show" ∷ image.now ∷ []
 words_of (Debug file) = codes "debug" ∷ file.now ∷ []
 words_of (Play file capacity) = codes "play" ∷ file.now ∷ codes "--capacity" ∷ decimal capacity ∷ []
+words_of (Check files) = codes "check" ∷ map (λ file. file.now) files.items
+words_of Version = codes "--version" ∷ []
 
 -- the words of the request, where clap met this command with these values
 abbrev pub one_value : Text → Text → List Row → Option (List Text)
@@ -97,6 +105,9 @@ abbrev pub file_and_capacity : List Row → Option (List Text)
 file_and_capacity rows =
     option_and_then (λ file. option_map (λ n. codes "play" ∷ file ∷ codes "--capacity" ∷ n ∷ []) (first_of (codes "N") rows)) (first_of (codes "FILE") rows)
 
+abbrev pub all_values : Text → Text → List Row → Option (List Text)
+all_values command id rows = option_map (λ values. command ∷ values) (all_of id rows)
+
 abbrev pub asked_in : Text × List Row → Option (List Text)
 asked_in met =
     if bytes_eq met.0 (codes "new") then Some (value_if_any (codes "new") (codes "FILE") met.1)
@@ -106,20 +117,29 @@ asked_in met =
     else if bytes_eq met.0 (codes "show") then one_value (codes "show") (codes "IMAGE") met.1
     else if bytes_eq met.0 (codes "debug") then one_value (codes "debug") (codes "FILE") met.1
     else if bytes_eq met.0 (codes "play") then file_and_capacity met.1
+    else if bytes_eq met.0 (codes "check") then all_values (codes "check") (codes "FILE") met.1
     else None
 
 abbrev pub asked_of : Option (Text × List Row) → Option (List Text)
 asked_of met = option_and_then asked_in met
 
--- a capacity that is asked for is a number from 1 to 4,096
+-- a play's capacity is a number from 1 to 4,096
+abbrev pub IsCapacityOf : (is_play : Bool) → Text → Type 0
+IsCapacityOf true n = (capacity : ℕ) × (n ≡ decimal capacity) × IsCapacity capacity
+IsCapacityOf false n = Unit {0}
+
 abbrev pub HasCapacity : List Text → Type 0
-HasCapacity (command ∷ file ∷ option ∷ n ∷ []) = (capacity : ℕ) × (n ≡ decimal capacity) × IsCapacity capacity
+HasCapacity (command ∷ file ∷ option ∷ n ∷ []) = IsCapacityOf (bytes_eq command (codes "play")) n
 HasCapacity words = Unit {0}
 
 -- what is asked for has such a capacity, if it has one
 abbrev pub IsWithin : Request → Type 0
 IsWithin (Play file capacity) = IsCapacity capacity
 IsWithin request = Unit {0}
+
+-- the request, which is there, has these words
+abbrev pub IsRequestOf : List Text → Option Request → Type 0
+IsRequestOf asked request = option_map (λ r. words_of r) request ≡ Some asked
 
 -- clap takes the words, and the request that is read of them has these words
 abbrev pub IsRead : List Text → List Text → Type 0
@@ -132,3 +152,15 @@ IsPlainWord word = (first : ℕ) × (rest : Text) × (word ≡ first ∷ rest) �
 -- the answer is the request of these words, unless memory ran out
 abbrev pub Asks : List Text → Result Request Error → Type 0
 Asks words r = MatchResult r (λ request. words_of request ≡ words) (λ e. kind_of e ≡ OutOfMemory)
+
+-- the words that ask for the version
+abbrev pub IsVersionWord : Text → Type 0
+IsVersionWord word = (word ≡ codes "--version") ⊎ (word ≡ codes "-V")
+
+-- the answer is to tell the version, unless memory ran out
+abbrev pub AsksVersion : Result Request Error → Type 0
+AsksVersion r = MatchResult r (λ request. request ≡ Version) (λ e. kind_of e ≡ OutOfMemory)
+
+-- the line of the program's version
+abbrev pub version_line : List ℕ
+version_line = codes "cmwq " ++ VERSION.now ++ 10 ∷ []

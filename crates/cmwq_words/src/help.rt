@@ -13,6 +13,7 @@ Examples:
   cmwq show max_active_3.image
   cmwq debug scenarios/max_active_3.cmwq
   cmwq play scenarios/race.cmwq --capacity 100
+  cmwq check first.cmwq scenarios/race.cmwq
 
 The formats of scenarios and images, the debugger's commands, and what each fault means, are in docs/FORMATS.md.
 
@@ -114,6 +115,20 @@ Exit status:
 Example:
   cmwq play scenarios/race.cmwq --capacity 100";
 
+const CHECK: &str = "\
+Prints a line for each file: `FILE: ok` on standard output, or on standard error where the text's first fault is and why it is one,
+and in a second line what could stand there. Each file is judged, whatever the others are.
+
+Exit status, the highest of the files':
+  0  each file is a scenario's text
+  1  `first.cmwq:6:1: quue: BadWord`: file, line, column, word and reason of a text's first fault
+  2  the command line is wrong
+  3  `first.cmwq: read`: a file can't be read; `write`: the output can't be written
+  4  `no memory`
+
+Example:
+  cmwq check first.cmwq scenarios/race.cmwq";
+
 /// What follows the help of the command of this name.
 pub fn after_help_of(command: &str) -> &'static str {
     match command {
@@ -124,6 +139,7 @@ pub fn after_help_of(command: &str) -> &'static str {
         "show" => SHOW,
         "debug" => DEBUG,
         "play" => PLAY,
+        "check" => CHECK,
         _ => "",
     }
 }

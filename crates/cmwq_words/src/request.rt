@@ -1,19 +1,20 @@
 //! The command line: which words ask for what.
 
-ghost use Rattle.clap.specs.Words.{Text, app_of, first_of, found_of, kind_of, rows_of, rule_of, subcommand_rows_of, with_subcommand};
+ghost use Rattle.clap.specs.Words.{Text, all_of, app_of, fault_of, first_of, found_of, kind_of, rows_of, rule_of, subcommand_rows_of, with_subcommand};
 ghost use Rattle.clap.specs.declared.builder.command.Command.TheViews.{out-Command as fields_of};
-ghost use Rattle.cmwq_words.specs.Request.{Asks, HasCapacity, IsCapacity, IsPlainWord, IsRead, IsWithin, asked_in, asked_of, asm_command, bare_program, command_line, command_on, commands_on_files, list_command, new_command, play_command, program, required_rule, run_command, show_command, words_of};
+ghost use Rattle.cmwq_words.specs.Request.{Asks, AsksVersion, HasCapacity, IsCapacity, IsPlainWord, IsRead, IsRequestOf, IsVersionWord, IsWithin, all_values, asked_in, asked_of, asm_command, bare_program, check_command, command_line, command_on, commands_on_files, list_command, new_command, play_command, program, required_rule, run_command, show_command, words_of};
 ghost use Rattle.std.specs.Fmt.{decimal};
-ghost use Rattle.std.specs.Prelude.{◌≡◌, ℕ, List, [], ◌∷◌, IfOk, IfSome, Some, codes, false, map, option_map, string_bytes};
+ghost use Rattle.std.specs.Str.{bytes_eq};
+ghost use Rattle.std.specs.Prelude.{◌≡◌, ◌↔◌, IsTrue, ℕ, List, [], ◌∷◌, IfOk, IfSome, Some, codes, false, map, option_map, string_bytes};
 
 use crate::help;
 use clap::error::ErrorKind;
-use clap::{Arg, ArgMatches, Command, Error};
+use clap::{Arg, ArgAction, ArgMatches, Command, Error};
 use cmwq_types::MAX_LINES;
 use std::alloc::{AllocError, Global};
 
 /// What the words ask for. The paths are as they were given.
-#[derive(Clone, Copy, Debug, PartialEq, Eq)]
+#[derive(Debug, PartialEq, Eq, Drop)]
 pub enum Request<'a> {
     /// Write a scenario to start from, to a file that isn't there yet, or to standard output.
     New {
@@ -54,10 +55,17 @@ pub enum Request<'a> {
         /// How many instructions the machine takes at most, 1 to 4,096.
         capacity: u32,
     },
+    /// Tell the verdict of each of these files.
+    Check {
+        /// The texts' paths, at least one.
+        files: Vec<&'a str>,
+    },
+    /// Tell the program's version.
+    Version,
 }
 
 /// Reads the words, of which the first is the program's name. The error is a usage fault, help that
-/// was asked for, or want of memory; it holds the text for the user.
+/// was asked for, or want of memory; it holds the text for the user. The version is a request.
 ///
 /// Each command's words ask for it, where no FILE, OUT or IMAGE is empty or begins with a hyphen;
 /// the call then fails only for want of memory.
@@ -78,26 +86,48 @@ pub fn parse<'a>(alloc: Global, words: &'a [String]) -> Result<Request<'a>, Erro
         → IsPlainWord file → Asks (codes "debug" ∷ file ∷ []) result }
     ensures play { (name file : Text) (n : ℕ) → map string_bytes words.entry.now ≡ name ∷ codes "play" ∷ file ∷ codes "--capacity" ∷ decimal n ∷ []
         → IsPlainWord file → IsCapacity n → Asks (codes "play" ∷ file ∷ codes "--capacity" ∷ decimal n ∷ []) result }
+    ensures check { (name file : Text) → map string_bytes words.entry.now ≡ name ∷ codes "check" ∷ file ∷ []
+        → IsPlainWord file → Asks (codes "check" ∷ file ∷ []) result }
+    ensures check_two { (name file other : Text) → map string_bytes words.entry.now ≡ name ∷ codes "check" ∷ file ∷ other ∷ []
+        → IsPlainWord file → IsPlainWord other → Asks (codes "check" ∷ file ∷ other ∷ []) result }
+    ensures version { (name word : Text) → map string_bytes words.entry.now ≡ name ∷ word ∷ []
+        → IsVersionWord word → AsksVersion result }
     ensures capacity { IfOk result (λ request. IsWithin request) }
 {
     let mut command = command(alloc)?;
-    request_met(&mut command, words)
+    request_met(alloc, &mut command, words)
 }
 
 /// What the words ask for, by the program's command line.
-fn request_met<'a>(command: &mut Command<'a>, words: &'a [String]) -> Result<Request<'a>, Error>
+fn request_met<'a>(
+    alloc: Global,
+    command: &mut Command<'a>,
+    words: &'a [String],
+) -> Result<Request<'a>, Error>
     requires { app_of command.now ≡ command_line }
     ensures asks { (asked : List Text) → IsRead (map string_bytes words.entry.now) asked → Asks asked result }
+    ensures version { fault_of command_line (map string_bytes words.entry.now) ≡ ErrorKind.DisplayVersion ∷ [] → AsksVersion result }
     ensures capacity { IfOk result (λ request. IsWithin request) }
 {
-    let matches = command.try_get_matches_from_mut(words)?;
-    match request_of(&matches) {
+    let matches = match command.try_get_matches_from_mut(words) {
+        Ok(matches) => matches,
+        Err(error) if tells_version(&error) => return Ok(Request::Version),
+        Err(error) => return Err(error),
+    };
+    match request_of(alloc, &matches)? {
         Some(request) => Ok(request),
         None => Err(command.error(
             ErrorKind::ValueValidation,
             "--capacity takes a number from 1 to 4096",
         )?),
     }
+}
+
+/// Whether the version was asked for.
+fn tells_version(error: &Error) -> bool
+    ensures { IsTrue result ↔ (kind_of error.now ≡ ErrorKind.DisplayVersion) }
+{
+    error.kind() == ErrorKind::DisplayVersion
 }
 
 /// The usage fault of words that aren't all text.
@@ -111,17 +141,55 @@ pub fn not_text(alloc: Global) -> Result<Error, AllocError>
     )
 }
 
-/// What the command that was met asks for.
-fn request_of<'a>(matches: &ArgMatches<'a>) -> Option<Request<'a>>
-    ensures words { (asked : List Text) → asked_of (subcommand_rows_of matches.now) ≡ Some asked → HasCapacity asked → option_map (λ request. words_of request) result ≡ Some asked }
-    ensures capacity { IfSome result (λ request. IsWithin request) }
+/// What the command that was met asks for. The error is want of memory.
+fn request_of<'a>(
+    alloc: Global,
+    matches: &ArgMatches<'a>,
+) -> Result<Option<Request<'a>>, AllocError>
+    ensures words { (asked : List Text) → asked_of (subcommand_rows_of matches.now) ≡ Some asked → HasCapacity asked → IfOk result (λ request. IsRequestOf asked request) }
+    ensures capacity { IfOk result (λ found. IfSome found (λ request. IsWithin request)) }
 {
-    let (name, given) = matches.subcommand()?;
-    request_by(name, given)
+    match matches.subcommand() {
+        Some((name, given)) => request_by(alloc, name, given),
+        None => Ok(None),
+    }
 }
 
-/// What the command of this name asks for, given these values.
-fn request_by<'a>(name: &str, given: &ArgMatches<'a>) -> Option<Request<'a>>
+/// What the command of this name asks for, given these values. The error is want of memory.
+fn request_by<'a>(
+    alloc: Global,
+    name: &str,
+    given: &ArgMatches<'a>,
+) -> Result<Option<Request<'a>>, AllocError>
+    ensures words { (asked : List Text) → asked_in (name.now, rows_of (found_of given.now)) ≡ Some asked → HasCapacity asked → IfOk result (λ request. IsRequestOf asked request) }
+    ensures capacity { IfOk result (λ found. IfSome found (λ request. IsWithin request)) }
+{
+    if name == "check" {
+        return check_of(alloc, given);
+    }
+    Ok(request_on_file(name, given))
+}
+
+/// The files whose verdicts are asked for. The error is want of memory.
+fn check_of<'a>(
+    alloc: Global,
+    given: &ArgMatches<'a>,
+) -> Result<Option<Request<'a>>, AllocError>
+    ensures words { (asked : List Text) → all_values (codes "check") (codes "FILE") (rows_of (found_of given.now)) ≡ Some asked → IfOk result (λ request. IsRequestOf asked request) }
+    ensures capacity { IfOk result (λ found. IfSome found (λ request. IsWithin request)) }
+{
+    match values_of(given, "FILE") {
+        Some(paths) => {
+            let files = paths.to_vec(alloc)?;
+            Ok(Some(Request::Check { files }))
+        }
+        None => Ok(None),
+    }
+}
+
+/// What the command of this name, which takes at most two files, asks for.
+fn request_on_file<'a>(name: &str, given: &ArgMatches<'a>) -> Option<Request<'a>>
+    requires { bytes_eq name.now (codes "check") ≡ false }
     ensures words { (asked : List Text) → asked_in (name.now, rows_of (found_of given.now)) ≡ Some asked → HasCapacity asked → option_map (λ request. words_of request) result ≡ Some asked }
     ensures capacity { IfSome result (λ request. IsWithin request) }
 {
@@ -179,9 +247,25 @@ fn value_of<'a>(given: &ArgMatches<'a>, id: &str) -> Option<&'a str>
     given.get_str(id)
 }
 
+/// All values of the argument.
+fn values_of<'m, 'a>(given: &'m ArgMatches<'a>, id: &str) -> Option<&'m [&'a str]>
+    ensures { option_map (λ values. map (λ value. value.now) values.now) result ≡ all_of id.now (rows_of (found_of given.now)) }
+{
+    given.get_strs(id)
+}
+
 /// The command line of the program.
 fn command<'a>(alloc: Global) -> Result<Command<'a>, AllocError>
     ensures { IfOk result (λ r. app_of r ≡ command_line) }
+{
+    let commands = commands_with_play(alloc)?;
+    let check = check_command(alloc)?;
+    commands.subcommand(check)
+}
+
+/// The program with all commands but the one that takes any number of files.
+fn commands_with_play<'a>(alloc: Global) -> Result<Command<'a>, AllocError>
+    ensures { IfOk result (λ r. app_of r ≡ with_subcommand commands_on_files play_command.top) }
 {
     let commands = commands_on_files(alloc)?;
     let play = play_command(alloc)?;
@@ -319,6 +403,18 @@ fn play_command<'a>(alloc: Global) -> Result<Command<'a>, AllocError>
         "How many instructions the machine takes at most, 1 to 4096",
     );
     play.arg(capacity.long("capacity"))
+}
+
+/// The command that tells files' verdicts.
+fn check_command<'a>(alloc: Global) -> Result<Command<'a>, AllocError>
+    ensures app { IfOk result (λ r. app_of r ≡ check_command) }
+    ensures local { IfOk result (λ r. (fields_of r).has_globals ≡ false) }
+{
+    let files = argument(alloc, "FILE", "The scenarios' texts");
+    Command::new(alloc, "check")
+        .about("Tells of each scenario's text whether it is good, or where its first fault is and what could stand there")
+        .after_help(help::after_help_of("check"))
+        .arg(files.action(ArgAction::Append))
 }
 
 /// A command on the text of a scenario.

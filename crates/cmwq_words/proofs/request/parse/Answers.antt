@@ -1,4 +1,4 @@
-use Rattle.cmwq_words.proofs.RequestLemmas.{asm_read, debug_read, list_read, new_file_read, new_read, play_read, run_read, show_read}
+use Rattle.cmwq_words.proofs.RequestLemmas.{asm_read, check_read, check_two_read, debug_read, list_read, new_file_read, new_read, play_read, run_read, show_read, version_asked}
 use Rattle.cmwq_words.proofs.request.parse.Goals as goal
 
 pub returns : goal.returns
@@ -11,6 +11,9 @@ returns c =
       asm = λ name file out are plain plain_out. c.request_met.ensures.asks _ (asm_read _ name file out are plain plain_out);
       show = λ name image are plain. c.request_met.ensures.asks _ (show_read _ name image are plain);
       play = λ name file n are plain fits. c.request_met.ensures.asks _ (play_read _ name file n are plain fits);
+      check = λ name file are plain. c.request_met.ensures.asks _ (check_read _ name file are plain);
+      check_two = λ name file other are plain plain_other. c.request_met.ensures.asks _ (check_two_read _ name file other are plain plain_other);
+      version = λ name word are is. c.request_met.ensures.version (version_asked _ name word are is);
       capacity = c.request_met.ensures.capacity;
       debug = λ name file are plain. c.request_met.ensures.asks _ (debug_read _ name file are plain);
     }

@@ -1,22 +1,46 @@
-use Rattle.std.proofs.Common.{rules, ap, ◌≡◌, ◌∙◌, map, string_bytes}
+use Rattle.std.proofs.Common.{rules, refl, false, true, sym, inl, inr, ap, ◌≡◌, ◌∙◌, map, string_bytes}
 use Rattle.clap.specs.Words.{takes}
-use Rattle.cmwq_words.proofs.RequestLemmas.{read_met}
+use Rattle.clap.specs.declared.error.kind.ErrorKind.TheVariants.{DisplayVersion, OutOfMemory}
+use Rattle.cmwq_words.proofs.RequestLemmas.{no_matches, nothing_asked, read_met, version_kind}
 use Rattle.cmwq_words.proofs.request.request_met.Goals as goal
 
-pub returns-in_err-matches-clause-asks : goal.returns-in_err-matches-clause-asks
-returns-in_err-matches-clause-asks c asked read =
+pub returns-in-Err-clause-asks : goal.returns-in-Err-clause-asks
+returns-in-Err-clause-asks c asked read =
     let words = map string_bytes c.args.words.now in
-    let kind = c.in_err-matches.ensures.passes (ap (λ a. takes a words) c.requires ∙ read.0) in
-    search rules
+    let kind = c.in-Err.ensures.passes (ap (λ a. takes a words) c.requires ∙ read.0) in
+    apart (sym (c.if-tells_version.ensures.0 refl) ∙ kind)
+  where
+    apart : {A : Type 0} → DisplayVersion ≡ OutOfMemory → A
+    apart e = cc
+
+pub returns-in-Err-2-clause-asks : goal.returns-in-Err-2-clause-asks
+returns-in-Err-2-clause-asks c asked read =
+    c.in-Err.ensures.passes (ap (λ a. takes a (map string_bytes c.args.words.now)) c.requires ∙ read.0)
+
+pub returns-in-Err-2-clause-version : goal.returns-in-Err-2-clause-version
+returns-in-Err-2-clause-version c asked =
+    elim (version_kind _ (map string_bytes c.args.words.now) c.in-Err.error c.requires c.in-Err.ensures.kinds asked) [
+      | inl it ↦ it
+      | inr it ↦ apart (c.if-tells_version.ensures.1 it)
+    ]
+  where
+    apart : {A : Type 0} → false ≡ true → A
+    apart e = cc
+
+pub returns-in-Some-clause-version : goal.returns-in-Some-clause-version
+returns-in-Some-clause-version c asked = absurd (no_matches _ (map string_bytes c.args.words.now) c.requires c.in-Ok.ensures.kinds asked)
+
+pub returns-clause-version : goal.returns-clause-version
+returns-clause-version c asked = absurd (no_matches _ (map string_bytes c.args.words.now) c.requires c.in-Ok.ensures.kinds asked)
 
 pub returns-in-Some-clause-asks : goal.returns-in-Some-clause-asks
 returns-in-Some-clause-asks c asked read =
     let words = map string_bytes c.args.words.now in
-    let met = c.in-Some.ensures.words asked (read_met _ words asked c.in_ok-matches.matches c.requires c.in_ok-matches.ensures.ok.2 read) read.2 in
+    let met = c.request_of.ensures.words asked (read_met _ words asked c.in-Ok.matches c.requires c.in-Ok.ensures.ok.2 read) read.2 in
     search rules
 
 pub returns-clause-asks : goal.returns-clause-asks
 returns-clause-asks c asked read =
     let words = map string_bytes c.args.words.now in
-    let met = c.in-None.ensures.words asked (read_met _ words asked c.in_ok-matches.matches c.requires c.in_ok-matches.ensures.ok.2 read) read.2 in
-    absurd cc
+    let met = c.in_ok-request.ensures.words asked (read_met _ words asked c.in-Ok.matches c.requires c.in-Ok.ensures.ok.2 read) read.2 in
+    absurd (nothing_asked c.in_ok-request.field-0 asked c.in-None.is met)

@@ -1,0 +1,32 @@
+-- What is told of a file's text.
+use Rattle.std.specs.Prelude.{◌≡◌, ◌≤◌, ℕ, List, length, Bool, true, Option, None, Some, IfSome}
+use Rattle.std.specs.Io.KnownBytes.{Appends, Consumes, Keeps}
+use Rattle.cmwq_types.specs.declared.limits.TheConstants.{MAX_TEXT}
+use Rattle.cmwq_verdict.specs.Verdicts.{IsVerdict, ok_line, read_line}
+use Rattle.cmwq_command.specs.declared.checking.Judged.{Judged}
+use Rattle.cmwq_command.specs.declared.checking.Judged.TheVariants as judged
+
+-- the exit status
+abbrev pub status_of_judged : Judged → ℕ
+status_of_judged judged.Good = 0
+status_of_judged judged.Faulty = 1
+status_of_judged judged.Unread = 3
+
+-- Of a reader's input this was read: all, if it's no longer than a text may be.
+pub record HasRead (input left : Option (List ℕ)) (text : List ℕ) : Type 0 where
+  pub read : Consumes input left text
+  pub whole : length text ≤ MAX_TEXT → IfSome input (λ all. all ≡ text)
+
+-- The file was judged so, and its verdict told: `ok` on the output, all else on the writer for faults.
+abbrev pub HasTold : (file : List ℕ) (input left : Option (List ℕ)) (has_failed : Bool) (output output_now errors errors_now : Option (List ℕ)) → Judged → Type 0
+HasTold file input left has_failed output output_now errors errors_now judged.Good =
+    ((text : List ℕ) × HasRead input left text × IsVerdict file text None) × Appends output output_now (ok_line file) × Keeps errors errors_now
+HasTold file input left has_failed output output_now errors errors_now judged.Faulty =
+    (text : List ℕ) × (told : List ℕ) × HasRead input left text × IsVerdict file text (Some told) × Keeps output output_now × Appends errors errors_now told
+HasTold file input left has_failed output output_now errors errors_now judged.Unread =
+    (has_failed ≡ true) × Keeps output output_now × Appends errors errors_now (read_line file)
+
+-- it was told that the file can't be read
+abbrev pub IsToldOfUnread : (file : List ℕ) (errors errors_now : Option (List ℕ)) → Judged → Type 0
+IsToldOfUnread file errors errors_now judged.Unread = Appends errors errors_now (read_line file)
+IsToldOfUnread file errors errors_now judged = ⊥

@@ -1,0 +1,85 @@
+//! The verdict of a file's text, told.
+
+ghost use Rattle.cmwq_command.specs.Checking.{HasTold, IsToldOfUnread, status_of_judged};
+ghost use Rattle.cmwq_streams.specs.Sending.{IsSendError};
+ghost use Rattle.std.specs.Prelude.{◌≡◌, IfErr, IfOk, OnOk, false};
+
+use cmwq_play::{PlayError, Sink, Source, put_all, read_whole};
+use cmwq_verdict::{ok_line, read_line, verdict};
+use std::alloc::Global;
+
+/// How a file was judged.
+#[derive(Clone, Copy, Debug, PartialEq, Eq)]
+pub enum Judged {
+    /// Its text spells a scenario.
+    Good,
+    /// Its text has a fault.
+    Faulty,
+    /// It can't be read.
+    Unread,
+}
+
+impl Judged {
+    /// The exit status of a command that judged the file so.
+    pub fn status(self) -> u8
+        ensures { result ≡ status_of_judged self }
+    {
+        match self {
+            Judged::Good => 0,
+            Judged::Faulty => 1,
+            Judged::Unread => 3,
+        }
+    }
+}
+
+/// Reads the text of this file and tells its verdict: `FILE: ok` on `output`, or on `errors` the line of its first fault, or
+/// `FILE: read` where the reader fails. Each goes out by one call of a writer that takes all of it.
+///
+/// At most one byte more is read than the 4,194,304 that a text may have. The error is `Write` or `NoMemory`.
+pub fn check_text<R: Source, O: Sink, E: Sink>(
+    alloc: Global,
+    file: &str,
+    reader: &mut R,
+    output: &mut O,
+    errors: &mut E,
+) -> Result<Judged, PlayError>
+    requires reader { R.failed reader.old ≡ false }
+    requires output { O.failed output.old ≡ false }
+    requires errors { E.failed errors.old ≡ false }
+    ensures told { IfOk result (λ judged. HasTold file.now (R.remaining reader.old) (R.remaining reader.new) (R.failed reader.new)
+        (O.contents output.old) (O.contents output.new) (E.contents errors.old) (E.contents errors.new) judged) }
+    ensures output { OnOk result (O.failed output.new ≡ false) }
+    ensures errors { OnOk result (E.failed errors.new ≡ false) }
+    ensures why { IfErr result (λ error. IsSendError error) }
+{
+    let text = match read_whole(alloc, reader) {
+        Ok(text) => text,
+        Err(PlayError::Read) => return tell_unread(alloc, file, errors),
+        Err(_) => return Err(PlayError::NoMemory),
+    };
+    match verdict(alloc, file, &text)? {
+        None => {
+            put_all(output, &ok_line(alloc, file)?)?;
+            Ok(Judged::Good)
+        }
+        Some(told) => {
+            put_all(errors, &told)?;
+            Ok(Judged::Faulty)
+        }
+    }
+}
+
+/// Tells that the file can't be read. The error is `Write` or `NoMemory`.
+pub(crate) fn tell_unread<E: Sink>(
+    alloc: Global,
+    file: &str,
+    errors: &mut E,
+) -> Result<Judged, PlayError>
+    requires { E.failed errors.old ≡ false }
+    ensures told { IfOk result (λ judged. IsToldOfUnread file.now (E.contents errors.old) (E.contents errors.new) judged) }
+    ensures errors { OnOk result (E.failed errors.new ≡ false) }
+    ensures why { IfErr result (λ error. IsSendError error) }
+{
+    put_all(errors, &read_line(alloc, file)?)?;
+    Ok(Judged::Unread)
+}

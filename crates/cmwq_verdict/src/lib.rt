@@ -1,0 +1,9 @@
+//! The verdict of a scenario's text, for editors and for people: that it is good, or where its first fault is and why it is one.
+#![tactic(auto)]
+
+mod names;
+mod places;
+mod verdicts;
+
+pub use names::{fault_name, why_name};
+pub use verdicts::{ok_line, read_line, verdict};

@@ -1,0 +1,135 @@
+//! What is said of a text.
+ghost use Rattle.cmwq_grammar.specs.Meaning.{fault_at};
+ghost use Rattle.cmwq_verdict.specs.Verdicts.{IsVerdict, column_of, fault_line, ok_line, read_line, shown, subject_of, visible};
+ghost use Rattle.std.specs.Fmt.{decimal};
+ghost use Rattle.std.specs.Prelude.{◌≡◌, ◌++◌, ◌∷◌, [], IfOk, OnOk, option_map, take};
+
+use crate::names::why_name;
+use crate::places::{Place, TextFault, place_of};
+use cmwq_asm::{AsmError, assemble};
+use cmwq_types::NoMemory;
+use itoa::Buffer;
+use std::alloc::Global;
+
+/// What is said of the text of this file: nothing where it spells a scenario, and else a line, `FILE:LINE:COLUMN: WORD: WHY`.
+///
+/// Line and reason are those of the text's first fault. The word is the first one of that line such that the text cut behind it
+/// has this fault, and the column is that of its first byte, counted in bytes from 1. For a word that is missing stands `end of
+/// line`, or `end of text`, for a line in which no word is at fault `line`, and for a text that is too long `text`. Of a word the
+/// first 64 bytes are shown, and `?` for each that isn't a visible character of ASCII. It fails only for want of memory.
+pub fn verdict(alloc: Global, file: &str, text: &[u8]) -> Result<Option<Vec<u8>>, NoMemory>
+    ensures { IfOk result (λ told. IsVerdict file.now text.now (option_map (λ bytes. bytes.items) told)) }
+{
+    match assemble(alloc, text) {
+        Ok(_) => Ok(None),
+        Err(AsmError::At { line, why }) => {
+            let fault = TextFault { line, why };
+            let place = place_of(alloc, text, fault)?;
+            let told = fault_line(alloc, file, fault, place)?;
+            Ok(Some(told))
+        }
+        Err(AsmError::NoMemory) => Err(NoMemory),
+    }
+}
+
+/// `FILE: ok`, which is said of a good file. It fails only for want of memory.
+pub fn ok_line(alloc: Global, file: &str) -> Result<Vec<u8>, NoMemory>
+    ensures { IfOk result (λ line. line.items ≡ ok_line file.now) }
+{
+    let mut line = Vec::new(alloc);
+    line.extend_from_slice(file.as_bytes())?;
+    line.extend_from_slice(b": ok\n")?;
+    Ok(line)
+}
+
+/// `FILE: read`, which is said of a file that can't be read. It fails only for want of memory.
+pub fn read_line(alloc: Global, file: &str) -> Result<Vec<u8>, NoMemory>
+    ensures { IfOk result (λ line. line.items ≡ read_line file.now) }
+{
+    let mut line = Vec::new(alloc);
+    line.extend_from_slice(file.as_bytes())?;
+    line.extend_from_slice(b": read\n")?;
+    Ok(line)
+}
+
+/// The line that tells a fault, and where it is seen.
+fn fault_line(
+    alloc: Global,
+    file: &str,
+    fault: TextFault,
+    place: Place<'_>,
+) -> Result<Vec<u8>, NoMemory>
+    ensures { IfOk result (λ told. told.items ≡ fault_line file.now (fault_at fault.line fault.why) place.entry) }
+{
+    let mut told = Vec::new(alloc);
+    told.extend_from_slice(file.as_bytes())?;
+    push_number(&mut told, u64::from(fault.line))?;
+    push_number(&mut told, column_of(place) as u64)?;
+    told.extend_from_slice(b": ")?;
+    push_subject(&mut told, place)?;
+    told.extend_from_slice(b": ")?;
+    told.extend_from_slice(why_name(fault.why).as_bytes())?;
+    told.push(b'\n')?;
+    Ok(told)
+}
+
+/// Writes a number behind a colon.
+fn push_number(told: &mut Vec<u8>, n: u64) -> Result<(), NoMemory>
+    ensures { OnOk result (told.new.items ≡ told.old.items ++ 58 ∷ decimal n) }
+{
+    told.push(b':')?;
+    told.extend_from_slice(Buffer::new().format(n).as_bytes())?;
+    Ok(())
+}
+
+/// The column of the place.
+fn column_of(place: Place<'_>) -> usize
+    ensures { result ≡ column_of place.entry }
+{
+    match place {
+        Place::Text => 0,
+        Place::EndOfText | Place::Line => 1,
+        Place::EndOfLine { column } => column,
+        Place::Word { column, .. } => column,
+    }
+}
+
+/// Writes what stands at the place.
+fn push_subject(told: &mut Vec<u8>, place: Place<'_>) -> Result<(), NoMemory>
+    ensures { OnOk result (told.new.items ≡ told.old.items ++ subject_of place.entry) }
+{
+    match place {
+        Place::Text => told.extend_from_slice(b"text")?,
+        Place::EndOfText => told.extend_from_slice(b"end of text")?,
+        Place::Line => told.extend_from_slice(b"line")?,
+        Place::EndOfLine { .. } => told.extend_from_slice(b"end of line")?,
+        Place::Word { bytes, .. } => push_shown(told, bytes)?,
+    }
+    Ok(())
+}
+
+/// Writes the word as it is shown.
+fn push_shown(told: &mut Vec<u8>, word: &[u8]) -> Result<(), NoMemory>
+    ensures { OnOk result (told.new.items ≡ told.old.items ++ shown word.now) }
+{
+    let front = front_of(word);
+    for byte in front {
+        told.push(visible(*byte))?;
+    }
+    Ok(())
+}
+
+/// The part of the word that is shown.
+#[tactic(auto, using(crate::proofs::PlaceLemmas::short_front))]
+fn front_of(word: &[u8]) -> &[u8]
+    ensures { result.now ≡ take 64 word.now }
+{
+    if word.len() > 64 { word.split_at(64).0 } else { word }
+}
+
+/// The byte, or `?` where it isn't a visible character of ASCII.
+fn visible(byte: u8) -> u8
+    ensures { result ≡ visible byte }
+{
+    if byte.is_ascii_graphic() { byte } else { b'?' }
+}
