@@ -89,6 +89,8 @@ module _ (S : ScenarioContents) (instrs : List Instr) where
       same_names (instr.Ask flush) = refl
       same_names instr.Busy = refl
       same_names (instr.State work) = refl
+      same_names (instr.Disable work) = refl
+      same_names (instr.Enable work) = refl
 
   declared_lines : (before : List Line) (is : List Instr) → AllByRecursion (λ i. names_declared S i ≡ true) is
       → first_along (λ before line. line_fault (played S instrs) line) before (map once is) ≡ None
