@@ -1,13 +1,9 @@
-//! Tests of the lock and of the shared engine behind it, some of which start threads or wait; and of how engines open.
+//! Tests of the lock, some of which start threads or wait.
 #![tactic(auto)]
 
 #[cfg(test)]
 mod checking;
 #[cfg(test)]
 mod meeting;
-#[cfg(test)]
-mod opening;
-#[cfg(test)]
-mod shared;
 #[cfg(test)]
 mod turns;
