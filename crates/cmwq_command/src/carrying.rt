@@ -121,11 +121,7 @@ fn new<R: Files, W: Sink>(rt: &R, writer: &mut W, file: Option<&str>) -> Result<
 }
 
 /// Runs the scenario whose text is in the file, and writes its events.
-fn run<R: Files + AllocGlobal, W: Sink>(
-    rt: &R,
-    writer: &mut W,
-    file: &str,
-) -> Result<(), PlayError>
+fn run<R: Files + AllocGlobal, W: Sink>(rt: &R, writer: &mut W, file: &str) -> Result<(), PlayError>
     requires { W.failed writer.old ≡ false }
 {
     let mut reader = opened(rt, file)?;

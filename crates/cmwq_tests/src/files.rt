@@ -69,8 +69,14 @@ fn check_talk<R: Files + AllocGlobal + Threads + Wait + Clock + Sync + Abort>(
 
 /// Files, and what they have.
 const CHECKED: [(&str, &[u8]); 3] = [
-    ("cmwq_checks/a.cmwq", b"cpus 1\nworkers 1\nsteps 1\nflushes 0\n"),
-    ("cmwq_checks/b.cmwq", b"cpus 1\n# 65\nworkers\t 65 # too many\n"),
+    (
+        "cmwq_checks/a.cmwq",
+        b"cpus 1\nworkers 1\nsteps 1\nflushes 0\n",
+    ),
+    (
+        "cmwq_checks/b.cmwq",
+        b"cpus 1\n# 65\nworkers\t 65 # too many\n",
+    ),
     ("cmwq_checks/c.cmwq", b"cpus 1\r\nworkers\n"),
 ];
 
@@ -90,7 +96,12 @@ fn a_check_tells_each_files_verdict(rt: HostRuntime) {
         cmwq_checks/b.cmwq:3:10: 65: Range\n\
         cmwq_checks/c.cmwq:2:8: end of line: MissingWord\n";
     same(&rt, "status", result, Ok(3));
-    same(&rt, "output", output.inner.as_slice(), b"cmwq_checks/a.cmwq: ok\n".as_slice());
+    same(
+        &rt,
+        "output",
+        output.inner.as_slice(),
+        b"cmwq_checks/a.cmwq: ok\n".as_slice(),
+    );
     same(&rt, "errors", errors.inner.as_slice(), told);
     let _ = fs::remove_dir_all(&rt, "cmwq_checks");
 }
@@ -130,7 +141,12 @@ fn a_new_scenario_overwrites_no_file(rt: HostRuntime) {
     check_answer(&rt, Request::New { file: Some(file) }, Ok(()), b"");
     check_file(&rt, file, first);
     put_file(&rt, file, b"mine");
-    check_answer(&rt, Request::New { file: Some(file) }, Err(PlayError::Write), b"");
+    check_answer(
+        &rt,
+        Request::New { file: Some(file) },
+        Err(PlayError::Write),
+        b"",
+    );
     check_file(&rt, file, b"mine");
     let _ = fs::remove_dir_all(&rt, "cmwq_new");
 }

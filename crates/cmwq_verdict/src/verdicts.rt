@@ -124,7 +124,11 @@ fn push_shown(told: &mut Vec<u8>, word: &[u8]) -> Result<(), NoMemory>
 fn front_of(word: &[u8]) -> &[u8]
     ensures { result.now ≡ take 64 word.now }
 {
-    if word.len() > 64 { word.split_at(64).0 } else { word }
+    if word.len() > 64 {
+        word.split_at(64).0
+    } else {
+        word
+    }
 }
 
 /// The byte, or `?` where it isn't a visible character of ASCII.

@@ -171,10 +171,7 @@ fn request_by<'a>(
 }
 
 /// The files whose verdicts are asked for. The error is want of memory.
-fn check_of<'a>(
-    alloc: Global,
-    given: &ArgMatches<'a>,
-) -> Result<Option<Request<'a>>, AllocError>
+fn check_of<'a>(alloc: Global, given: &ArgMatches<'a>) -> Result<Option<Request<'a>>, AllocError>
     ensures words { (asked : List Text) → all_values (codes "check") (codes "FILE") (rows_of (found_of given.now)) ≡ Some asked → IfOk result (λ request. IsRequestOf asked request) }
     ensures capacity { IfOk result (λ found. IfSome found (λ request. IsWithin request)) }
 {
@@ -412,7 +409,9 @@ fn check_command<'a>(alloc: Global) -> Result<Command<'a>, AllocError>
 {
     let files = argument(alloc, "FILE", "The scenarios' texts");
     Command::new(alloc, "check")
-        .about("Tells of each scenario's text whether it is good, or where its first fault is and what could stand there")
+        .about(
+            "Tells of each scenario's text whether it is good, or where its first fault is and what could stand there",
+        )
         .after_help(help::after_help_of("check"))
         .arg(files.action(ArgAction::Append))
 }
