@@ -142,16 +142,19 @@ flush a
 flush s
 set_max q 9
 freeze
+disable u
+disable s
+disable u
 ";
 
 /// A dump with a line of each kind.
 const EVERY_KIND: Talk = Talk {
     name: "every kind of line",
     lines: &[
-        ("run", b"at 39 now 4\n"),
+        ("run", b"at 42 now 4\n"),
         (
             "dump",
-            b"now 4 spent 39 frozen yes
+            b"now 4 spent 42 frozen yes
 queue q max 9
 queue f max 1
 pool 0 counted 1 made 5 idle 1 0
@@ -167,6 +170,8 @@ pool 2 counted 0 made 0 idle
 pool 3 counted 0 made 0 idle
 timer h 0 24
 timer g 0 24
+disabled s 1
+disabled u 2
 flush 0 no
 flush 1 yes
 ",

@@ -99,17 +99,20 @@ struct Looked {
     max: u16,
     /// How many works are pending.
     pending: usize,
+    /// How much more often the second work was disabled than enabled.
+    depth: u16,
     /// How many flushes were given.
     flushes: usize,
 }
 
-const LOOKED: [Looked; 2] = [
+const LOOKED: [Looked; 3] = [
     Looked {
         text: TWO_WORKS,
         instrs: [Instr::Delay(B, 0, 3), Instr::FlushQueue(QueueId(0))],
         frozen: false,
         max: 1,
         pending: 1,
+        depth: 0,
         flushes: 1,
     },
     Looked {
@@ -118,6 +121,16 @@ const LOOKED: [Looked; 2] = [
         frozen: true,
         max: 512,
         pending: 0,
+        depth: 0,
+        flushes: 0,
+    },
+    Looked {
+        text: TWO_WORKS,
+        instrs: [Instr::Disable(B), Instr::Disable(B)],
+        frozen: false,
+        max: 1,
+        pending: 0,
+        depth: 2,
         flushes: 0,
     },
 ];
@@ -129,6 +142,8 @@ fn check_look<M: Machine>(rt: &impl Abort, machine: &M, row: &Looked) {
     same(rt, row.instrs, limits, (row.frozen, Some(row.max)));
     let counts = (view.pending.len(), view.flushes.len());
     same(rt, row.instrs, counts, (row.pending, row.flushes));
+    let depth = view.depth.get(1).copied();
+    same(rt, row.instrs, depth, Some(row.depth));
 }
 
 /// Carries out the row's instructions, and compares what a look then shows.

@@ -320,6 +320,33 @@ fn a_run_issues_1048576_instructions_and_no_more(rt: HostRuntime) {
     }
 }
 
+/// A work that is disabled 65,536 times, and then enabled.
+const DEEPEST: &[u8] =
+    b"cpus 1\nworkers 1\nsteps 70000\nflushes 0\nqueue q max 1\nwork a q\nbody a\nfinish\n\
+    actor t\ndisable a * 65535\ndisable a\nenable a\n";
+
+/// What is printed of it: the last disabling is refused, and the work stays disabled.
+fn deepest_lines(rt: &impl Abort, alloc: Global) -> Vec<u8> {
+    let mut lines = Vec::new(alloc);
+    for _time in 0..65_535u32 {
+        lines
+            .extend_from_slice(b"0 not pending\n")
+            .expect(rt, "memory is left");
+    }
+    lines
+        .extend_from_slice(b"0 refused TooDeep\n0 no\n")
+        .expect(rt, "memory is left");
+    lines
+}
+
+#[test]
+fn a_work_is_disabled_65535_times_and_no_more(rt: HostRuntime) {
+    let alloc = rt.alloc();
+    let want = deepest_lines(&rt, alloc);
+    let steps = (4096, 4096);
+    check_written(&rt, alloc, "deepest", Command::Run, DEEPEST, steps, &want);
+}
+
 /// The bytes, and then hashes without end.
 fn endless(bytes: &[u8]) -> Input<'_> {
     let mut input = reading_of(bytes, 4096);
