@@ -49,13 +49,18 @@ module _ (input mid left before now : Option (List ℕ)) (unreadable broken : Bo
     reads = reads_err input left unreadable error reads;
     told = tt;
     front = front_so_far input mid before now S d e text done so_far;
-    answered = λ is. (text, done, e, record {
-      heard = consumes_kept input mid left text so_far.heard (unread (err_is {A = Unit {0}} error Read (Err error) refl is));
-      short = so_far.short;
-      within = so_far.within;
-      told = so_far.told;
-      begun = so_far.begun;
-    });
+    answered = λ is. (
+      text,
+      done,
+      e,
+      record {
+        heard = consumes_kept input mid left text so_far.heard (unread (err_is {A = Unit {0}} error Read (Err error) refl is));
+        short = so_far.short;
+        within = so_far.within;
+        told = so_far.told;
+        begun = so_far.begun;
+      },
+    );
     too_long = λ is. elim (reading_is_not error TooLong (λ at. cc) (λ at. cc) why (err_is {A = Unit {0}} error TooLong (Err error) refl is)) [ ];
     write = (λ is. elim (reading_is_not error Write (λ at. cc) (λ at. cc) why (err_is {A = Unit {0}} error Write (Err error) refl is)) [ ], λ is. cc);
     why = reading_talks error why;
