@@ -116,10 +116,10 @@ Example:
   cmwq play scenarios/race.cmwq --capacity 100";
 
 const CHECK: &str = "\
-Prints a line for each file: `FILE: ok` on standard output, or on standard error where the text's first fault is and why it is one,
-and in a second line what could stand there. Each file is judged, whatever the others are.
+Prints a line for each file: `FILE: ok` on standard output, or on standard error where the text's first fault is and why it is one.
+Each file is judged, whatever the others are, and the highest of their statuses is the command's.
 
-Exit status, the highest of the files':
+Exit status:
   0  each file is a scenario's text
   1  `first.cmwq:6:1: quue: BadWord`: file, line, column, word and reason of a text's first fault
   2  the command line is wrong
