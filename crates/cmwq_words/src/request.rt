@@ -409,9 +409,7 @@ fn check_command<'a>(alloc: Global) -> Result<Command<'a>, AllocError>
 {
     let files = argument(alloc, "FILE", "The scenarios' texts");
     Command::new(alloc, "check")
-        .about(
-            "Tells of each scenario's text whether it is good, or where its first fault is",
-        )
+        .about("Tells of each scenario's text whether it is good, or where its first fault is")
         .after_help(help::after_help_of("check"))
         .arg(files.action(ArgAction::Append))
 }
