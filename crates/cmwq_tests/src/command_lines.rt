@@ -57,12 +57,17 @@ const REQUESTS: [(&str, Request<'_>); 11] = [
     ("cmwq -V", Request::Version),
 ];
 
+/// The words of the line are this request.
+fn check_request(rt: &impl Abort, alloc: Global, line: &'static str, want: Request<'static>) {
+    let given = words(rt, alloc, line);
+    let request = parse(alloc, given.as_slice()).expect(rt, line);
+    same(rt, line, request, want);
+}
+
 #[test]
 fn each_command_has_its_words(rt: HostRuntime) {
     for (line, want) in REQUESTS {
-        let given = words(&rt, rt.alloc(), line);
-        let request = parse(rt.alloc(), given.as_slice()).expect(&rt, line);
-        same(&rt, line, request, want);
+        check_request(&rt, rt.alloc(), line, want);
     }
 }
 
