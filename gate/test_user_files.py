@@ -77,11 +77,38 @@ def bash_completes(*words):
     return said("bash", "-c", script, "bash", *words).split()
 
 
+# A terminal of zsh's own, in which the words and a tab are typed; what the line then has stands between < and >.
+ZSH = r"""
+zmodload zsh/zpty
+zpty terminal zsh -f -i
+zpty -w terminal 'fpath=($PWD/completions $fpath); autoload -U compinit; compinit -u -D'
+zpty -w terminal 'tell() { print -r -- "<$BUFFER>"; exit }; zle -N tell; bindkey "^X" tell; PS1=; print REA""DY'
+zpty -r terminal said $'*READY\r*'
+zpty -w -n terminal "cmwq $*"$'\t\x18'
+zpty -r terminal said '*<*>*'
+print -r -- "$said"
+"""
+
+
+def zsh_completes(*words):
+    """What zsh makes of the last of the words, and what it says besides."""
+    out = said("zsh", "-f", "-c", ZSH, "zsh", *words)
+    line = re.search(r"<cmwq (.*)>", out)
+    return [out] if "error" in out or not line else line[1].split()[-1:]
+
+
+def fish_completes(*words):
+    """What fish offers for the last of the words."""
+    out = said("fish", "--no-config", "-c", 'source completions/cmwq.fish; complete -C "$argv"', "cmwq", *words)
+    return [line.split("\t")[0] for line in out.splitlines()]
+
+
 def completion_faults(commands):
-    faults = [f"{path}: {shell} says {out}" for shell, path in COMPLETIONS.items() if shutil.which(shell) and (out := said(shell, "-n", path))]
-    for words, want in [(("ru",), ["run"]), (("run", "docs/FORM"), ["docs/FORMATS.md"]), (("play", "--c"), ["--capacity"]), (("help", "de"), ["debug"])]:
-        if bash_completes(*words) != want:
-            faults.append(f"bash completes {words} as {bash_completes(*words)}")
+    shells = {"bash": bash_completes, "zsh": zsh_completes, "fish": fish_completes}
+    shells = {shell: completes for shell, completes in shells.items() if shutil.which(shell)}
+    faults = [f"{COMPLETIONS[shell]}: {shell} says {out}" for shell in shells if (out := said(shell, "-n", COMPLETIONS[shell]))]
+    for words, want in [(("ru",), ["run"]), (("run", "docs/FORM"), ["docs/FORMATS.md"]), (("play", "--c"), ["--capacity"]), (("help", "de"), ["debug"]), (("--v",), ["--version"])]:
+        faults += [f"{shell} completes {words} as {found}" for shell, completes in shells.items() if (found := completes(*words)) != want]
     if not commands <= set(bash_completes("")):
         faults.append("bash doesn't offer each command")
     return faults
