@@ -49,7 +49,7 @@ free-none S s queue v long free of_queue ran =
     let passes : test v ≡ true = and_from (queue_of S v == queue) (runs_on_rescuer s v) (eq-eqb (queue_of S v) queue of_queue) ran in
     elim (cases_lt v (length S.works)) [
       | inl there ↦ cc (count_below-none test (length S.works) v none there, passes)
-      | inr past ↦ (let idle : running_at s v ≡ None = get_or_past s.running v None (omega (arith, long.running)) in cc (ap on_rescuer idle, ran))
+      | inr past ↦ (let idle : running_at s v ≡ None = get_or_past s.running v None (omega (arith, long.running)) in cc (idle, ran))
     ]
 
 Change-before : (S : ScenarioContents) (places wakes : Bool) (left : Option ℕ) (s t : State) (w v : ℕ) → Change S places wakes left s t w → runs_on_rescuer t v ≡ true
