@@ -26,6 +26,14 @@ HasTold file input left has_failed output output_now errors errors_now judged.Fa
 HasTold file input left has_failed output output_now errors errors_now judged.Unread =
     (has_failed ≡ true) × Keeps output output_now × Appends errors errors_now (read_line file)
 
+-- the same of a file that has this text
+abbrev pub HasToldOf : (file text : List ℕ) (output output_now errors errors_now : Option (List ℕ)) → Judged → Type 0
+HasToldOf file text output output_now errors errors_now judged.Good =
+    IsVerdict file text None × Appends output output_now (ok_line file) × Keeps errors errors_now
+HasToldOf file text output output_now errors errors_now judged.Faulty =
+    (told : List ℕ) × IsVerdict file text (Some told) × Keeps output output_now × Appends errors errors_now told
+HasToldOf file text output output_now errors errors_now judged.Unread = ⊥
+
 -- it was told that the file can't be read
 abbrev pub IsToldOfUnread : (file : List ℕ) (errors errors_now : Option (List ℕ)) → Judged → Type 0
 IsToldOfUnread file errors errors_now judged.Unread = Appends errors errors_now (read_line file)

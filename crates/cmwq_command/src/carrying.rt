@@ -3,7 +3,8 @@ ghost use Rattle.cmwq_types.specs.Faults.{IsValid};
 ghost use Rattle.clap.specs.Words.{Text};
 ghost use Rattle.cmwq_command.specs.Telling.{Prints};
 ghost use Rattle.cmwq_words.specs.Request.{IsCapacity, IsVersionWord, IsWithin, version_line};
-ghost use Rattle.std.specs.Prelude.{◌≡◌, ◌∷◌, [], IfOk, OnOk, false, map, string_bytes};
+ghost use Rattle.cmwq_command.specs.declared.telling.TheConstants.{GOOD};
+ghost use Rattle.std.specs.Prelude.{◌≡◌, ◌∷◌, [], Err, IfOk, MatchResult, Ok, OnOk, false, map, string_bytes};
 
 use crate::checking::{Judged, check_text, tell_unread};
 use crate::starting::{write_first, write_version};
@@ -58,16 +59,23 @@ where
     ensures version { request.entry ≡ Request.Version → Prints version_line (O.contents output.old) (O.contents output.new) result }
 {
     match request {
-        Request::New { file } => new(rt, output, file)?,
-        Request::Run { file } => run(rt, output, file)?,
-        Request::List { file } => list(rt, output, file)?,
-        Request::Asm { file, out } => asm(rt, file, out)?,
-        Request::Show { image } => show(rt, output, image)?,
-        Request::Debug { file } => debug(rt, input, output, file)?,
-        Request::Play { file, capacity } => play(rt, output, file, capacity)?,
-        Request::Check { files } => return check(rt, output, errors, &files),
-        Request::Version => write_version(rt.alloc(), output)?,
+        Request::New { file } => good(new(rt, output, file)),
+        Request::Run { file } => good(run(rt, output, file)),
+        Request::List { file } => good(list(rt, output, file)),
+        Request::Asm { file, out } => good(asm(rt, file, out)),
+        Request::Show { image } => good(show(rt, output, image)),
+        Request::Debug { file } => good(debug(rt, input, output, file)),
+        Request::Play { file, capacity } => good(play(rt, output, file, capacity)),
+        Request::Check { files } => check(rt, output, errors, &files),
+        Request::Version => good(write_version(rt.alloc(), output)),
     }
+}
+
+/// The exit status of what was done.
+fn good(outcome: Result<(), PlayError>) -> Result<u8, PlayError>
+    ensures { MatchResult outcome (λ _. result ≡ Ok GOOD) (λ error. result ≡ Err error) }
+{
+    outcome?;
     Ok(GOOD)
 }
 

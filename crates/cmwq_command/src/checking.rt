@@ -1,7 +1,9 @@
 //! The verdict of a file's text, told.
 
-ghost use Rattle.cmwq_command.specs.Checking.{HasTold, IsToldOfUnread, status_of_judged};
+ghost use Rattle.cmwq_command.specs.Checking.{HasTold, HasToldOf, IsToldOfUnread, status_of_judged};
 ghost use Rattle.cmwq_streams.specs.Sending.{IsSendError};
+ghost use Rattle.cmwq_verdict.specs.Verdicts.{ok_line};
+ghost use Rattle.std.specs.Io.KnownBytes.{Appends};
 ghost use Rattle.std.specs.Prelude.{◌≡◌, IfErr, IfOk, OnOk, false};
 
 use cmwq_play::{PlayError, Sink, Source, put_all, read_whole};
@@ -57,16 +59,43 @@ pub fn check_text<R: Source, O: Sink, E: Sink>(
         Err(PlayError::Read) => return tell_unread(alloc, file, errors),
         Err(_) => return Err(PlayError::NoMemory),
     };
-    match verdict(alloc, file, &text)? {
-        None => {
-            put_all(output, &ok_line(alloc, file)?)?;
-            Ok(Judged::Good)
-        }
+    tell_verdict(alloc, file, &text, output, errors)
+}
+
+/// Tells the verdict of the file that has this text. The error is `Write` or `NoMemory`.
+fn tell_verdict<O: Sink, E: Sink>(
+    alloc: Global,
+    file: &str,
+    text: &[u8],
+    output: &mut O,
+    errors: &mut E,
+) -> Result<Judged, PlayError>
+    requires output { O.failed output.old ≡ false }
+    requires errors { E.failed errors.old ≡ false }
+    ensures told { IfOk result (λ judged. HasToldOf file.now text.now
+        (O.contents output.old) (O.contents output.new) (E.contents errors.old) (E.contents errors.new) judged) }
+    ensures output { OnOk result (O.failed output.new ≡ false) }
+    ensures errors { OnOk result (E.failed errors.new ≡ false) }
+    ensures why { IfErr result (λ error. IsSendError error) }
+{
+    match verdict(alloc, file, text)? {
+        None => tell_good(alloc, file, output),
         Some(told) => {
             put_all(errors, &told)?;
             Ok(Judged::Faulty)
         }
     }
+}
+
+/// Tells that the file's text spells a scenario. The error is `Write` or `NoMemory`.
+fn tell_good<O: Sink>(alloc: Global, file: &str, output: &mut O) -> Result<Judged, PlayError>
+    requires { O.failed output.old ≡ false }
+    ensures told { IfOk result (λ judged. (judged ≡ Judged.Good) × Appends (O.contents output.old) (O.contents output.new) (ok_line file.now)) }
+    ensures output { OnOk result (O.failed output.new ≡ false) }
+    ensures why { IfErr result (λ error. IsSendError error) }
+{
+    put_all(output, &ok_line(alloc, file)?)?;
+    Ok(Judged::Good)
 }
 
 /// Tells that the file can't be read. The error is `Write` or `NoMemory`.

@@ -1,4 +1,5 @@
-//! Tests of the machine and its parts; and the worked examples, which the tests of texts and commands share.
+//! Tests of the machine and its parts; and the worked examples, readers and writers that the tests of texts, commands and the program
+//! share.
 #![tactic(auto)]
 
 #[cfg(test)]
@@ -12,5 +13,6 @@ pub mod examples;
 mod lists;
 #[cfg(test)]
 mod machines;
+pub mod streams;
 #[cfg(test)]
 mod timers;

@@ -1,14 +1,13 @@
 //! The commands over memory: what they write, reads and writes that fail, and input that is refused.
+use crate::carried::{Command, Outcome, carried_out};
 use crate::checking::same;
-use crate::streams::{
-    Command, Failure, Input, Outcome, Output, carried_out, reading_of, writing_to,
-};
 use cmwq_asm::AsmError;
 use cmwq_grammar::Why;
 use cmwq_image::ImageError;
 use cmwq_machine_tests::examples::{
     EXAMPLES, Example, IMAGE_OF_STEPS_RUN_OUT, MAX_ACTIVE_3, STEPS_RUN_OUT,
 };
+use cmwq_machine_tests::streams::{Failure, Input, Output, reading_of, writing_to};
 use cmwq_play::{Marked, PlayError, read_text};
 use cmwq_types::Fault;
 use std::alloc::Global;

@@ -1,11 +1,12 @@
 //! The worked image cut short, made longer and changed. The expected answers are worked out by hand from the
 //! table of fields.
+use crate::carried::Command;
 use crate::checking::same;
 use crate::commands::check_refused;
-use crate::streams::{Command, reading_of};
 use cmwq_asm::assemble;
 use cmwq_image::{ImageError, read, write};
 use cmwq_machine_tests::examples::{IMAGE_OF_STEPS_RUN_OUT as IMAGE, STEPS_RUN_OUT};
+use cmwq_machine_tests::streams::reading_of;
 use cmwq_play::PlayError;
 use cmwq_types::Fault;
 use std::alloc::Global;

@@ -1,23 +1,15 @@
-//! Tests of texts, images and commands, over tables of rows.
+//! Tests of texts, images and commands over memory, over tables of rows.
 #![tactic(auto)]
 
 #[cfg(test)]
-mod checking;
+mod carried;
 #[cfg(test)]
-mod command_lines;
+mod checking;
 #[cfg(test)]
 mod commands;
 #[cfg(test)]
 mod debugging;
 #[cfg(test)]
-mod faults;
-#[cfg(test)]
-mod files;
-#[cfg(test)]
 mod images;
-#[cfg(test)]
-mod playing;
-#[cfg(test)]
-mod streams;
 #[cfg(test)]
 mod texts;

@@ -1,8 +1,8 @@
 //! The command line: which words ask for what.
 
-ghost use Rattle.clap.specs.Words.{Text, all_of, app_of, fault_of, first_of, found_of, kind_of, rows_of, rule_of, subcommand_rows_of, with_subcommand};
+ghost use Rattle.clap.specs.Words.{App, Text, all_of, app_of, fault_of, first_of, found_of, kind_of, rows_of, rule_of, subcommand_rows_of, with_subcommand};
 ghost use Rattle.clap.specs.declared.builder.command.Command.TheViews.{out-Command as fields_of};
-ghost use Rattle.cmwq_words.specs.Request.{Asks, AsksVersion, HasCapacity, IsCapacity, IsPlainWord, IsRead, IsRequestOf, IsVersionWord, IsWithin, all_values, asked_in, asked_of, asm_command, bare_program, check_command, command_line, command_on, commands_on_files, list_command, new_command, play_command, program, required_rule, run_command, show_command, words_of};
+ghost use Rattle.cmwq_words.specs.Request.{Asks, AsksVersion, HasCapacity, IsCapacity, IsPlainWord, IsRead, IsRequestOf, IsVersionWord, IsWithin, all_values, asked_in, asked_of, asm_command, bare_program, check_command, command_line, command_on, commands_on_files, file_and_capacity, list_command, new_command, one_value, play_command, program, required_rule, run_command, show_command, two_values, value_if_any, words_of};
 ghost use Rattle.std.specs.Fmt.{decimal};
 ghost use Rattle.std.specs.Str.{bytes_eq};
 ghost use Rattle.std.specs.Prelude.{◌≡◌, ◌↔◌, IsTrue, ℕ, List, [], ◌∷◌, IfOk, IfSome, Some, codes, false, map, option_map, string_bytes};
@@ -191,38 +191,80 @@ fn request_on_file<'a>(name: &str, given: &ArgMatches<'a>) -> Option<Request<'a>
     ensures capacity { IfSome result (λ request. IsWithin request) }
 {
     match name {
-        "new" => {
-            let file = value_of(given, "FILE");
-            Some(Request::New { file })
-        }
-        "run" => {
-            let file = value_of(given, "FILE")?;
-            Some(Request::Run { file })
-        }
-        "list" => {
-            let file = value_of(given, "FILE")?;
-            Some(Request::List { file })
-        }
-        "asm" => {
-            let file = value_of(given, "FILE")?;
-            let out = value_of(given, "OUT")?;
-            Some(Request::Asm { file, out })
-        }
-        "show" => {
-            let image = value_of(given, "IMAGE")?;
-            Some(Request::Show { image })
-        }
-        "debug" => {
-            let file = value_of(given, "FILE")?;
-            Some(Request::Debug { file })
-        }
-        "play" => {
-            let file = value_of(given, "FILE")?;
-            let capacity = capacity_of(value_of(given, "N")?)?;
-            Some(Request::Play { file, capacity })
-        }
+        "new" => Some(new_request(given)),
+        "run" => run_request(given),
+        "list" => list_request(given),
+        "asm" => asm_request(given),
+        "show" => show_request(given),
+        "debug" => debug_request(given),
+        "play" => play_request(given),
         _ => None,
     }
+}
+
+/// What `new` asks for.
+fn new_request<'a>(given: &ArgMatches<'a>) -> Request<'a>
+    ensures words { words_of result ≡ value_if_any (codes "new") (codes "FILE") (rows_of (found_of given.now)) }
+    ensures capacity { IsWithin result }
+{
+    let file = value_of(given, "FILE");
+    Request::New { file }
+}
+
+/// What `run` asks for.
+fn run_request<'a>(given: &ArgMatches<'a>) -> Option<Request<'a>>
+    ensures words { option_map (λ request. words_of request) result ≡ one_value (codes "run") (codes "FILE") (rows_of (found_of given.now)) }
+    ensures capacity { IfSome result (λ request. IsWithin request) }
+{
+    let file = value_of(given, "FILE")?;
+    Some(Request::Run { file })
+}
+
+/// What `list` asks for.
+fn list_request<'a>(given: &ArgMatches<'a>) -> Option<Request<'a>>
+    ensures words { option_map (λ request. words_of request) result ≡ one_value (codes "list") (codes "FILE") (rows_of (found_of given.now)) }
+    ensures capacity { IfSome result (λ request. IsWithin request) }
+{
+    let file = value_of(given, "FILE")?;
+    Some(Request::List { file })
+}
+
+/// What `asm` asks for.
+fn asm_request<'a>(given: &ArgMatches<'a>) -> Option<Request<'a>>
+    ensures words { option_map (λ request. words_of request) result ≡ two_values (codes "asm") (codes "FILE") (codes "OUT") (rows_of (found_of given.now)) }
+    ensures capacity { IfSome result (λ request. IsWithin request) }
+{
+    let file = value_of(given, "FILE")?;
+    let out = value_of(given, "OUT")?;
+    Some(Request::Asm { file, out })
+}
+
+/// What `show` asks for.
+fn show_request<'a>(given: &ArgMatches<'a>) -> Option<Request<'a>>
+    ensures words { option_map (λ request. words_of request) result ≡ one_value (codes "show") (codes "IMAGE") (rows_of (found_of given.now)) }
+    ensures capacity { IfSome result (λ request. IsWithin request) }
+{
+    let image = value_of(given, "IMAGE")?;
+    Some(Request::Show { image })
+}
+
+/// What `debug` asks for.
+fn debug_request<'a>(given: &ArgMatches<'a>) -> Option<Request<'a>>
+    ensures words { option_map (λ request. words_of request) result ≡ one_value (codes "debug") (codes "FILE") (rows_of (found_of given.now)) }
+    ensures capacity { IfSome result (λ request. IsWithin request) }
+{
+    let file = value_of(given, "FILE")?;
+    Some(Request::Debug { file })
+}
+
+/// What `play` asks for.
+fn play_request<'a>(given: &ArgMatches<'a>) -> Option<Request<'a>>
+    ensures words { (asked : List Text) → file_and_capacity (rows_of (found_of given.now)) ≡ Some asked → HasCapacity asked → option_map (λ request. words_of request) result ≡ Some asked }
+    ensures capacity { IfSome result (λ request. IsWithin request) }
+{
+    let file = value_of(given, "FILE")?;
+    let capacity = capacity_of(value_of(given, "N")?)?;
+    Some(Request::Play { file, capacity })
 }
 
 /// The number that the word is, where it is one from 1 to 4,096.
@@ -255,62 +297,52 @@ fn values_of<'m, 'a>(given: &'m ArgMatches<'a>, id: &str) -> Option<&'m [&'a str
 fn command<'a>(alloc: Global) -> Result<Command<'a>, AllocError>
     ensures { IfOk result (λ r. app_of r ≡ command_line) }
 {
-    let commands = commands_with_play(alloc)?;
-    let check = check_command(alloc)?;
-    commands.subcommand(check)
+    joined(commands_with_play(alloc), check_command(alloc))
 }
 
 /// The program with all commands but the one that takes any number of files.
 fn commands_with_play<'a>(alloc: Global) -> Result<Command<'a>, AllocError>
     ensures { IfOk result (λ r. app_of r ≡ with_subcommand commands_on_files play_command.top) }
 {
-    let commands = commands_on_files(alloc)?;
-    let play = play_command(alloc)?;
-    commands.subcommand(play)
+    joined(commands_on_files(alloc), play_command(alloc))
 }
 
 /// The program with the commands that take files alone.
 fn commands_on_files<'a>(alloc: Global) -> Result<Command<'a>, AllocError>
     ensures { IfOk result (λ r. app_of r ≡ commands_on_files) }
 {
-    let commands = commands_on_one_file(alloc)?;
     let debug = on_text(
         alloc,
         "debug",
         "Carries out commands of standard input on a scenario's run, forwards and back",
-    )?;
-    commands.subcommand(debug)
+    );
+    joined(commands_on_one_file(alloc), debug)
 }
 
 /// The program with the commands that read nothing but a file.
 fn commands_on_one_file<'a>(alloc: Global) -> Result<Command<'a>, AllocError>
     ensures { IfOk result (λ r. app_of r ≡ with_subcommand (with_subcommand (with_subcommand (with_subcommand program run_command.top) list_command.top) asm_command.top) show_command.top) }
 {
-    let commands = commands_on_texts(alloc)?;
-    let show = show_command(alloc)?;
-    commands.subcommand(show)
+    joined(commands_on_texts(alloc), show_command(alloc))
 }
 
 /// The program with the commands that read a text.
 fn commands_on_texts<'a>(alloc: Global) -> Result<Command<'a>, AllocError>
     ensures { IfOk result (λ r. app_of r ≡ with_subcommand (with_subcommand (with_subcommand program run_command.top) list_command.top) asm_command.top) }
 {
-    let commands = printing_commands(alloc)?;
-    let asm = asm_command(alloc)?;
-    commands.subcommand(asm)
+    joined(printing_commands(alloc), asm_command(alloc))
 }
 
 /// The program with the commands that print something of a text.
 fn printing_commands<'a>(alloc: Global) -> Result<Command<'a>, AllocError>
     ensures { IfOk result (λ r. app_of r ≡ with_subcommand (with_subcommand program run_command.top) list_command.top) }
 {
-    let commands = program_that_runs(alloc)?;
     let list = on_text(
         alloc,
         "list",
         "Writes a scenario's listing to standard output",
-    )?;
-    commands.subcommand(list)
+    );
+    joined(program_that_runs(alloc), list)
 }
 
 /// The program with the command that runs a scenario.
@@ -321,9 +353,8 @@ fn program_that_runs<'a>(alloc: Global) -> Result<Command<'a>, AllocError>
         alloc,
         "run",
         "Runs a scenario and writes its events to standard output",
-    )?;
-    let program = program(alloc)?;
-    program.subcommand(run)
+    );
+    joined(program(alloc), run)
 }
 
 /// The program with the command that needs no file.
@@ -332,6 +363,19 @@ fn program<'a>(alloc: Global) -> Result<Command<'a>, AllocError>
 {
     let new = new_command(alloc)?;
     bare_program(alloc).subcommand(new)
+}
+
+/// The program with this command more. The error is want of memory.
+fn joined<'a>(
+    program: Result<Command<'a>, AllocError>,
+    command: Result<Command<'a>, AllocError>,
+) -> Result<Command<'a>, AllocError>
+    requires local { IfOk command (λ added. (fields_of added).has_globals ≡ false) }
+    ensures { (before more : App) → IfOk program.entry (λ given. app_of given ≡ before) → IfOk command.entry (λ added. app_of added ≡ more)
+        → IfOk result (λ r. app_of r ≡ with_subcommand before more.top) }
+{
+    let program = program?;
+    program.subcommand(command?)
 }
 
 /// The program without its commands.

@@ -1,4 +1,4 @@
-use Rattle.std.proofs.Common.{rules, arith, ◌≡◌, Ok}
+use Rattle.std.proofs.Common.{rules, ◌≡◌, Ok}
 use Rattle.cmwq_words.proofs.RequestLemmas.{number_read}
 use Rattle.cmwq_words.proofs.request.capacity_of.Goals as goal
 

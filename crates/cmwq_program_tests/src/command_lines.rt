@@ -1,8 +1,8 @@
 //! Command lines: the requests that they are, and help and usage faults.
 use crate::checking::same;
-use crate::streams::{Output, reading_of, writing_to};
 use clap::error::ErrorKind;
 use cmwq_command::{carry_out, tell};
+use cmwq_machine_tests::streams::{Output, reading_of, writing_to};
 use cmwq_play::Marked;
 use cmwq_words::request::{Request, not_text, parse};
 use std::alloc::Global;

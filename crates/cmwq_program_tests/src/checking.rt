@@ -1,0 +1,13 @@
+//! The one assertion. A row of a table costs less to prove where it only calls this.
+use std::fmt::Debug;
+use std::process::Abort;
+
+/// What was got is what is wanted, in this case of a table.
+pub(crate) fn same<C: Debug + Drop, T: Debug + PartialEq + Drop>(
+    rt: &impl Abort,
+    case: C,
+    got: T,
+    want: T,
+) {
+    assert_eq!(rt; got, want, "{case:?}");
+}

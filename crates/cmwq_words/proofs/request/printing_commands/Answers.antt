@@ -1,0 +1,4 @@
+use Rattle.cmwq_words.proofs.request.printing_commands.Goals as goal
+
+pub returns : goal.returns
+returns c = c.joined.ensures _ _ c.program_that_runs.ensures c.on_text-list.ensures.app
