@@ -6,6 +6,7 @@ use Rattle.cmwq_types.specs.Scenario.{flags_at, queue_of}
 pub use Rattle.cmwq_types.specs.Places.{is_inactive, is_listed, is_active, is_activated, is_deferred, is_placed, is_due, due_of, is_runnable, is_slept, until_of}
 pub use Rattle.cmwq_types.specs.First.{or_else}
 use Rattle.cmwq_types.specs.First.{count_below, first_below, by_least, by_least_two, by_greatest}
+use Rattle.cmwq_types.specs.declared.limits.TheConstants.{RESCUER}
 use Rattle.cmwq_types.specs.declared.reply.Place.{Place}
 use Rattle.cmwq_table.specs.declared.state.FlushTarget.{FlushTarget}
 use Rattle.cmwq_table.specs.declared.state.FlushTarget.TheVariants.{Instance, Queue, Nothing}
@@ -139,13 +140,36 @@ abbrev pub last_idle : ScenarioContents → State → ℕ → Option ℕ
 last_idle S s pool =
     first_below (by_greatest (λ worker. idle_stamp (idle_at s pool worker))) (λ worker. is_some (idle_at s pool worker)) S.workers
 
--- the number of a new worker, if one can be made
+-- the number of a new worker, if one can be made; none while memory is short
 abbrev pub new_worker : ScenarioContents → State → ℕ → Option ℕ
-new_worker S s pool = if nat_lt (made_at s pool) S.workers then Some (made_at s pool) else None
+new_worker S s pool = if not s.pressed && nat_lt (made_at s pool) S.workers then Some (made_at s pool) else None
 
 -- the worker of the pool that takes the next work: an idle one, else a new one
 abbrev pub free_worker : ScenarioContents → State → ℕ → Option ℕ
 free_worker S s pool = or_else (last_idle S s pool) (new_worker S s pool)
+
+-- Rescuers. Each queue with mem_reclaim has one, for all pools (`rescuer_thread`).
+
+abbrev pub is_rescuer : ℕ → Bool
+is_rescuer worker = worker == RESCUER
+
+abbrev pub runs_on_rescuer : State → ℕ → Bool
+runs_on_rescuer s w = runs (λ r. is_rescuer r.worker) (running_at s w)
+
+-- the queue has a rescuer, and none of its works runs on it
+abbrev pub has_free_rescuer : ScenarioContents → State → ℕ → Bool
+has_free_rescuer S s queue =
+    (flags_at S queue).mem_reclaim
+    && (count_below (λ w. (queue_of S w == queue) && runs_on_rescuer s w) (length S.works) == 0)
+
+-- the work is listed in the pool and doesn't run, and its queue's rescuer is free
+abbrev pub can_be_rescued : ScenarioContents → State → ℕ → ℕ → Bool
+can_be_rescued S s pool w =
+    pends (λ place. is_listed place pool) (pending_at s w) && (is_none (running_at s w) && has_free_rescuer S s (queue_of S w))
+
+-- the pool's first listed work that a rescuer can take
+abbrev pub first_rescued : ScenarioContents → State → ℕ → Option ℕ
+first_rescued S s pool = first_below (pending_before s) (can_be_rescued S s pool) (length S.works)
 
 -- Who burns in a tick: on a CPU the head of its high pool if it has one, else the head of its normal
 -- pool; and each runnable work of the unbound pools.

@@ -22,13 +22,18 @@ running_eq x y = work_id.ghosts.eq x.0 y.0 && running.ghosts.eq x.1 y.1
 abbrev pub works_eq : ViewContents → ViewContents → Bool
 works_eq x y = pointwise pending_eq x.pending y.pending && (pointwise running_eq x.running y.running && pointwise nat_eq x.depth y.depth)
 
-abbrev pub view_eq : ViewContents → ViewContents → Bool
-view_eq x y =
+-- the clock and what holds for the whole machine are equal
+abbrev pub machine_eq : ViewContents → ViewContents → Bool
+machine_eq x y =
     (x.time == y.time)
     && ((x.next == y.next)
     && ((x.spent == y.spent)
-    && (beq x.frozen y.frozen
+    && (beq x.frozen y.frozen && beq x.pressed y.pressed)))
+
+abbrev pub view_eq : ViewContents → ViewContents → Bool
+view_eq x y =
+    machine_eq x y
     && (pointwise nat_eq x.max y.max
     && (works_eq x y
     && (pointwise idle.ghosts.eq x.idle y.idle
-    && (pointwise nat_eq x.made y.made && pointwise flush.ghosts.eq x.flushes y.flushes)))))))
+    && (pointwise nat_eq x.made y.made && pointwise flush.ghosts.eq x.flushes y.flushes))))

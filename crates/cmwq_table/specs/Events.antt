@@ -17,6 +17,7 @@ use Rattle.cmwq_types.specs.declared.reply.Refusal.{Refusal}
 use Rattle.cmwq_types.specs.declared.reply.Refusal.TheVariants as refusal
 use Rattle.cmwq_types.specs.declared.reply.Reply.{Reply}
 use Rattle.cmwq_types.specs.declared.reply.Reply.TheVariants as reply
+use Rattle.cmwq_table.specs.Counts.{is_rescuer}
 use Rattle.cmwq_table.specs.State.{State, start}
 use Rattle.cmwq_table.specs.Table.{table}
 
@@ -39,6 +40,7 @@ event_verb event.Defers = codes "defers"
 event_verb event.Fires = codes "fires"
 event_verb (event.Queues other already) = codes "queues"
 event_verb (event.QueuesDisabled other) = codes "queues"
+event_verb event.StartsOnRescuer = codes "starts on rescuer"
 
 -- and how long, or which work
 abbrev pub event_object : ScenarioContents → Event → List ℕ
@@ -52,6 +54,7 @@ event_object S event.Finishes = []
 event_object S event.FinishesAndStarts = []
 event_object S event.Defers = []
 event_object S event.Fires = []
+event_object S event.StartsOnRescuer = []
 
 abbrev pub event_text : ScenarioContents → Event → List ℕ
 event_text S event = event_verb event ++ event_object S event
@@ -74,6 +77,8 @@ refusal_text (refusal.Unsettled cause) = codes "Unsettled"
 refusal_text refusal.Disabled = codes "Disabled"
 refusal_text refusal.TooDeep = codes "TooDeep"
 refusal_text refusal.NotDisabled = codes "NotDisabled"
+refusal_text refusal.AlreadyPressed = codes "AlreadyPressed"
+refusal_text refusal.NotPressed = codes "NotPressed"
 
 -- a line that begins with the time
 abbrev pub line_at : ℕ → List ℕ → List ℕ
@@ -87,9 +92,13 @@ place_text (Some (Inactive pool)) = codes "inactive " ++ decimal pool
 place_text (Some (Listed pool)) = codes "listed " ++ decimal pool
 place_text (Some (Deferred pool)) = codes "deferred " ++ decimal pool
 
--- a pool and the number of one of its workers
+-- the number of a worker; a rescuer has a word
+abbrev pub worker_number : ℕ → List ℕ
+worker_number worker = if is_rescuer worker then codes "rescuer" else decimal worker
+
+-- a pool, and the worker that works for it
 abbrev pub worker_text : WorkRun → List ℕ
-worker_text run = decimal run.pool ++ codes "/" ++ decimal run.worker
+worker_text run = decimal run.pool ++ codes "/" ++ worker_number run.worker
 
 abbrev pub mode_text : WorkRun → Mode → List ℕ
 mode_text run Runnable = codes "runs " ++ worker_text run
@@ -127,6 +136,8 @@ asked_name S (instr.Ask flush) = []
 asked_name S instr.Busy = []
 asked_name S (instr.Disable work) = []
 asked_name S (instr.Enable work) = []
+asked_name S instr.Pressure = []
+asked_name S instr.Relief = []
 
 -- what was queued or done without a word has no line
 abbrev pub is_silent : Reply → Bool

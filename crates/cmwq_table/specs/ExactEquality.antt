@@ -14,7 +14,7 @@ use Rattle.cmwq_types.specs.contracts.instr.WorkIdPartialEq.TheImpl as work_id
 use Rattle.cmwq_types.specs.contracts.reply.ModePartialEq.TheImpl as mode
 use Rattle.cmwq_types.specs.contracts.reply.PlacePartialEq.TheImpl as place
 use Rattle.cmwq_types.specs.ExactEquality.{equal_numbers, exact, same_mode, same_place, same_queue_id, same_work_id, told}
-use Rattle.cmwq_table.specs.Equality.{pending_eq, running_eq, view_eq, works_eq}
+use Rattle.cmwq_table.specs.Equality.{machine_eq, pending_eq, running_eq, view_eq, works_eq}
 use Rattle.cmwq_table.specs.View.{ViewContents}
 use Rattle.cmwq_table.specs.declared.state.FlushTarget.{FlushTarget}
 use Rattle.cmwq_table.specs.declared.state.FlushTarget.TheVariants.{Instance, Nothing, Queue}
@@ -111,6 +111,7 @@ lists_eq x y = pointwise nat_eq x.max y.max && (works_eq x y && workers_eq x y)
 pub view_eq_is_exact : (x y : ViewContents) → Decides (view_eq x y) (x ≡ y)
 view_eq_is_exact x y =
     let frozen = booleans_Decides x.frozen y.frozen in
+    let pressed = booleans_Decides x.pressed y.pressed in
     let max = bytes_decides x.max y.max in
     let pending = Decides-pending x.pending y.pending in
     let running = Decides-running x.running y.running in
@@ -119,11 +120,12 @@ view_eq_is_exact x y =
     let made = bytes_decides x.made y.made in
     let flushes = Decides-flushes x.flushes y.flushes in (
       λ h.
-          let a = and_parts (x.time == y.time) ((x.next == y.next) && ((x.spent == y.spent) && (beq x.frozen y.frozen && lists_eq x y))) h in
-          let b = and_parts (x.next == y.next) ((x.spent == y.spent) && (beq x.frozen y.frozen && lists_eq x y)) a.1 in
-          let c = and_parts (x.spent == y.spent) (beq x.frozen y.frozen && lists_eq x y) b.1 in
-          let d = and_parts (beq x.frozen y.frozen) (lists_eq x y) c.1 in
-          let e = and_parts (pointwise nat_eq x.max y.max) (works_eq x y && workers_eq x y) d.1 in
+          let whole = and_parts (machine_eq x y) (lists_eq x y) h in
+          let a = and_parts (x.time == y.time) ((x.next == y.next) && ((x.spent == y.spent) && (beq x.frozen y.frozen && beq x.pressed y.pressed))) whole.0 in
+          let b = and_parts (x.next == y.next) ((x.spent == y.spent) && (beq x.frozen y.frozen && beq x.pressed y.pressed)) a.1 in
+          let c = and_parts (x.spent == y.spent) (beq x.frozen y.frozen && beq x.pressed y.pressed) b.1 in
+          let d = and_parts (beq x.frozen y.frozen) (beq x.pressed y.pressed) c.1 in
+          let e = and_parts (pointwise nat_eq x.max y.max) (works_eq x y && workers_eq x y) whole.1 in
           let f = and_parts (works_eq x y) (workers_eq x y) e.1 in
           let g = and_parts (pointwise pending_eq x.pending y.pending) (pointwise running_eq x.running y.running && _) f.0 in
           let j = and_parts (pointwise running_eq x.running y.running) _ g.1 in
@@ -134,6 +136,7 @@ view_eq_is_exact x y =
             next = eqb-true x.next y.next b.0 i;
             spent = eqb-true x.spent y.spent c.0 i;
             frozen = frozen.0 d.0 i;
+            pressed = pressed.0 d.1 i;
             max = max.0 e.0 i;
             pending = pending.0 g.0 i;
             running = running.0 j.0 i;
@@ -143,14 +146,15 @@ view_eq_is_exact x y =
             flushes = flushes.0 l.1 i;
           },
       λ e.
-          both_true (equal_numbers x.time y.time (ap (λ v. v.time) e))
+          both_true
+          (both_true (equal_numbers x.time y.time (ap (λ v. v.time) e))
           (both_true (equal_numbers x.next y.next (ap (λ v. v.next) e))
           (both_true (equal_numbers x.spent y.spent (ap (λ v. v.spent) e))
-          (both_true (frozen.1 (ap (λ v. v.frozen) e))
+          (both_true (frozen.1 (ap (λ v. v.frozen) e)) (pressed.1 (ap (λ v. v.pressed) e))))))
           (both_true (max.1 (ap (λ v. v.max) e))
           (both_true (both_true (pending.1 (ap (λ v. v.pending) e)) (both_true (running.1 (ap (λ v. v.running) e)) (depth.1 (ap (λ v. v.depth) e))))
           (both_true (idle.1 (ap (λ v. v.idle) e))
-          (both_true (made.1 (ap (λ v. v.made) e)) (flushes.1 (ap (λ v. v.flushes) e))))))))),
+          (both_true (made.1 (ap (λ v. v.made) e)) (flushes.1 (ap (λ v. v.flushes) e)))))),
     )
 
 -- what an answer of the test says

@@ -18,7 +18,8 @@ use Rattle.cmwq_table.specs.declared.state.FlushTarget.TheVariants.{Instance, Qu
 use Rattle.cmwq_table.specs.declared.state.Pending.{Pending}
 use Rattle.cmwq_table.specs.declared.state.Running.{Running}
 use Rattle.cmwq_table.specs.State.{State, pending_at, running_at, depth_at, idle_at, made_at}
-use Rattle.cmwq_table.specs.Counts.{limit, active, counted, is_busy, is_active, is_inactive, is_listed, is_activated, is_deferred, is_placed, is_done, pends}
+use Rattle.cmwq_table.specs.Counts.{limit, active, counted, may_start, has_free_rescuer, runs_on_rescuer, is_busy, is_active, is_inactive, is_listed, is_activated, is_deferred, is_placed, is_done, pends}
+use Rattle.cmwq_table.specs.Moves.{next_move}
 use Rattle.cmwq_table.specs.Table.{table, run, after_all, is_question, target_at}
 
 -- Where a law holds.
@@ -62,6 +63,7 @@ is_wake event.Defers = false
 is_wake event.Fires = false
 is_wake (event.Queues other already) = false
 is_wake (event.QueuesDisabled other) = false
+is_wake event.StartsOnRescuer = false
 
 -- the reply tells that a sleeper wakes
 abbrev pub tells_wake : Reply → Bool
@@ -92,9 +94,10 @@ IsListedIn s w pool = (p : Pending) × (pending_at s w ≡ Some p) × (is_listed
 abbrev pub HasNoIdleWorker : ScenarioContents → State → ℕ → Type 0
 HasNoIdleWorker S s pool = (worker : ℕ) → worker < S.workers → idle_at s pool worker ≡ None
 
--- the pool has a counted runnable worker; or it has no idle worker, and has made all its workers
+-- the pool has a counted runnable worker; or it has no idle worker, and has made all its workers or memory is short
 abbrev pub CannotStart : ScenarioContents → State → ℕ → Type 0
-CannotStart S s pool = (0 < counted S s pool) ⊎ (HasNoIdleWorker S s pool × (made_at s pool ≡ S.workers))
+CannotStart S s pool =
+    (0 < counted S s pool) ⊎ (HasNoIdleWorker S s pool × (s.pressed ≡ false → made_at s pool ≡ S.workers))
 
 -- Where time passes, no pool with a listed work could have started it.
 unfoldable pub TimeWaitsForStarts : ScenarioContents → State → Instr → Type 0
@@ -223,6 +226,21 @@ IsNotReentrant S s =
 -- A work that was disabled more often than enabled isn't pending.
 unfoldable pub IsNotPendingDisabled : ScenarioContents → State → Type 0
 IsNotPendingDisabled S s = (w : ℕ) → 0 < depth_at s w → pending_at s w ≡ None
+
+-- Rescuers.
+
+-- At most one work of a queue with mem_reclaim runs on a rescuer, and no work of another queue does.
+unfoldable pub HasOneRescuer : ScenarioContents → State → Type 0
+HasOneRescuer S s =
+    ((w : ℕ) → runs_on_rescuer s w ≡ true → (flags_at S (queue_of S w)).mem_reclaim ≡ true)
+    × ((v w : ℕ) → runs_on_rescuer s v ≡ true → runs_on_rescuer s w ≡ true → queue_of S v ≡ queue_of S w → v ≡ w)
+
+-- Where a pool may start a work, and one is listed there that doesn't run and whose queue's rescuer is free, the pool has a
+-- move, whatever workers it has made.
+unfoldable pub RescuersWork : ScenarioContents → State → Type 0
+RescuersWork S s =
+    (pool w : ℕ) → may_start S s pool ≡ true → IsListedIn s w pool → running_at s w ≡ None
+    → has_free_rescuer S s (queue_of S w) ≡ true → is_some (next_move S s pool) ≡ true
 
 -- Flushes.
 

@@ -5,8 +5,9 @@ use Rattle.cmwq_types.specs.Contents.{ScenarioContents}
 use Rattle.cmwq_types.specs.Scenario.{flags_at, queue_of, op_at}
 use Rattle.cmwq_types.specs.First.{first_below, by_least}
 use Rattle.cmwq_types.specs.declared.instr.WorkId.{WorkId}
+use Rattle.cmwq_types.specs.declared.limits.TheConstants.{RESCUER}
 use Rattle.cmwq_types.specs.declared.moves.Move.{Move}
-use Rattle.cmwq_types.specs.declared.moves.Move.TheVariants.{Advance, Wake, Start, Defer}
+use Rattle.cmwq_types.specs.declared.moves.Move.TheVariants.{Advance, Wake, Start, Defer, Rescue}
 use Rattle.cmwq_types.specs.declared.reply.Place.{Place}
 use Rattle.cmwq_types.specs.declared.reply.Place.TheVariants.{Timer, Inactive, Listed, Deferred}
 use Rattle.cmwq_types.specs.declared.reply.Mode.TheVariants.{Runnable, Asleep}
@@ -19,7 +20,7 @@ use Rattle.cmwq_table.specs.declared.state.FlushTarget.TheVariants.{Instance, No
 use Rattle.cmwq_table.specs.declared.state.Pending.{Pending}
 use Rattle.cmwq_table.specs.declared.state.Running.{Running}
 use Rattle.cmwq_table.specs.State.{State, seat, pending_at, running_at, is_disabled, made_at, target, pool_count}
-use Rattle.cmwq_table.specs.Counts.{is_placed, is_deferred, has_room, may_start, first_inactive, first_listed, first_slept, ready_head, free_worker, or_else, burns}
+use Rattle.cmwq_table.specs.Counts.{is_placed, is_deferred, has_room, may_start, first_inactive, first_listed, first_slept, ready_head, free_worker, is_rescuer, first_rescued, or_else, burns}
 
 -- Changes of one work. `taking` has taken the next stamp.
 
@@ -100,7 +101,7 @@ fill_freezable S zero s = s
 fill_freezable S (suc n) s =
     if (flags_at S n).freezable then fill_everywhere S n (fill_freezable S n s) else fill_freezable S n s
 
--- Limits and the freeze.
+-- Limits, the freeze, and memory.
 
 -- the queue's max is set, and what has room now is activated (`workqueue_set_max_active`)
 abbrev pub set_max : ScenarioContents → State → ℕ → ℕ → State
@@ -113,6 +114,10 @@ freeze s = record s { frozen = true }
 -- the freeze ends, and what has room now is activated (`thaw_workqueues`)
 abbrev pub thaw : ScenarioContents → State → State
 thaw S s = fill_freezable S (length S.queues) (record s { frozen = false })
+
+-- memory is short, or no longer short
+abbrev pub with_pressed : State → Bool → State
+with_pressed s pressed = record s { pressed = pressed }
 
 -- Taking off (`try_to_grab_pending`): the work isn't pending any more, and what it leaves in a pool is filled.
 
@@ -130,7 +135,7 @@ abbrev pub take_off : ScenarioContents → State → ℕ → State
 take_off S s w = taken_off S s w (pending_at s w)
 
 -- Finishing: a deferred instance starts at once on the same worker (the worker's `scheduled` list in
--- `process_one_work`; document: Non-reentrance Conditions), else the worker becomes idle;
+-- `process_one_work`; document: Non-reentrance Conditions), else the worker becomes idle, or the rescuer free;
 -- then the queue is filled in the pool.
 
 -- an instance born then, at the beginning of its body
@@ -138,16 +143,24 @@ abbrev pub begun : ℕ → ℕ → ℕ → ℕ → Running
 begun born pool worker stamp =
     record { born = born; pool = pool; worker = worker; pc = 0; left = 0; mode = Runnable; stamp = stamp }
 
-abbrev pub begin_again : State → ℕ → Running → Pending → State
-begin_again s w r p = taking (with_running (with_pending s w None) w (Some (begun p.born r.pool r.worker s.next)))
+-- the pending work begins on this worker
+abbrev pub begin_on : State → ℕ → ℕ → ℕ → Pending → State
+begin_on s w pool worker p = taking (with_running (with_pending s w None) w (Some (begun p.born pool worker s.next)))
 
-abbrev pub retire : State → ℕ → Running → State
-retire s w r =
+abbrev pub begin_again : State → ℕ → Running → Pending → State
+begin_again s w r p = begin_on s w r.pool r.worker p
+
+abbrev pub become_idle : State → ℕ → Running → State
+become_idle s w r =
     record s {
       next = s.next + 1;
       running = slice_set s.running w None;
       idle = slice_set s.idle (seat r.pool r.worker) (Some s.next);
     }
+
+-- no stamp is taken for a rescuer
+abbrev pub retire : State → ℕ → Running → State
+retire s w r = if is_rescuer r.worker then with_running s w None else become_idle s w r
 
 abbrev pub come_to_end : State → ℕ → Running → Option Pending → State × Event
 come_to_end s w r (Some p) =
@@ -205,6 +218,11 @@ started s pool w (Some worker) (Some p) = started_on s pool w worker p
 started s pool w (Some worker) None = s
 started s pool w None p = s
 
+-- The listed work begins on its queue's rescuer, which runs it for the pool.
+abbrev pub rescued : State → ℕ → ℕ → Option Pending → State
+rescued s pool w (Some p) = begin_on s w pool RESCUER p
+rescued s pool w None = s
+
 -- The listed work waits where it runs (`process_one_work`). Its stamp stays.
 abbrev pub deferred : State → ℕ → ℕ → Option Pending → State
 deferred s pool w (Some p) = with_pending s w (Some (record p { place = Deferred pool }))
@@ -220,12 +238,17 @@ abbrev pub start_first : State → Option ℕ → Option ℕ → Option Move
 start_first s (Some w) worker = take_listed w (running_at s w) worker
 start_first s None worker = None
 
-abbrev pub start_move : ScenarioContents → State → ℕ → Option Move
-start_move S s pool = if may_start S s pool then start_first s (first_listed S s pool) (free_worker S s pool) else None
-
 abbrev pub as_move : (WorkId → Move) → Option ℕ → Option Move
 as_move move (Some w) = Some (move (record { 0 = w }))
 as_move move None = None
+
+-- the first listed work's, else that of the first listed work that a rescuer can take
+abbrev pub start_or_rescue : ScenarioContents → State → ℕ → Option Move
+start_or_rescue S s pool =
+    or_else (start_first s (first_listed S s pool) (free_worker S s pool)) (as_move Rescue (first_rescued S s pool))
+
+abbrev pub start_move : ScenarioContents → State → ℕ → Option Move
+start_move S s pool = if may_start S s pool then start_or_rescue S s pool else None
 
 -- the pool's next move: advance, else wake, else start
 abbrev pub next_move : ScenarioContents → State → ℕ → Option Move
@@ -238,12 +261,14 @@ moved S s pool (Advance w) = advance S s w.0 (running_at s w.0)
 moved S s pool (Wake w) = (woken s w.0 (running_at s w.0), event.Wakes)
 moved S s pool (Start w) = (started s pool w.0 (free_worker S s pool) (pending_at s w.0), event.Starts)
 moved S s pool (Defer w) = (deferred s pool w.0 (pending_at s w.0), event.Defers)
+moved S s pool (Rescue w) = (rescued s pool w.0 (pending_at s w.0), event.StartsOnRescuer)
 
 abbrev pub moved_work : Move → WorkId
 moved_work (Advance w) = w
 moved_work (Wake w) = w
 moved_work (Start w) = w
 moved_work (Defer w) = w
+moved_work (Rescue w) = w
 
 -- the least pool that has a move
 abbrev pub first_moving : ScenarioContents → State → Option ℕ

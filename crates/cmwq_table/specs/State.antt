@@ -16,6 +16,8 @@ pub record State : Type 0 where
   -- how many instructions were accepted, questions aside
   pub spent : ℕ
   pub frozen : Bool
+  -- memory is short
+  pub pressed : Bool
   -- of each queue, its max_active
   pub max : List ℕ
   -- the finite map of the pending works, by work
@@ -63,6 +65,7 @@ start S = record {
   next = 0;
   spent = 0;
   frozen = false;
+  pressed = false;
   max = map (λ queue. queue.max) S.queues;
   pending = replicate (length S.works) None;
   running = replicate (length S.works) None;

@@ -12,7 +12,7 @@ use Rattle.cmwq_types.specs.declared.reply.Cause.TheVariants.{Due, Pool}
 use Rattle.cmwq_types.specs.declared.reply.Event.{Event}
 use Rattle.cmwq_types.specs.declared.reply.Event.TheVariants as event
 use Rattle.cmwq_types.specs.declared.reply.Refusal.{Refusal}
-use Rattle.cmwq_types.specs.declared.reply.Refusal.TheVariants.{NoSuchWork, NoSuchQueue, NoSuchCpu, NoSuchPool, NoSuchFlush, BadCount, Spent, TooManyFlushes, Ordered, AlreadyFrozen, NotFrozen, NothingToDo, Unsettled, Disabled, TooDeep, NotDisabled}
+use Rattle.cmwq_types.specs.declared.reply.Refusal.TheVariants.{NoSuchWork, NoSuchQueue, NoSuchCpu, NoSuchPool, NoSuchFlush, BadCount, Spent, TooManyFlushes, Ordered, AlreadyFrozen, NotFrozen, NothingToDo, Unsettled, Disabled, TooDeep, NotDisabled, AlreadyPressed, NotPressed}
 use Rattle.cmwq_types.specs.declared.reply.Place.{Place}
 use Rattle.cmwq_types.specs.declared.reply.WorkRun.{WorkRun}
 use Rattle.cmwq_types.specs.declared.reply.Reply.{Reply}
@@ -24,7 +24,7 @@ use Rattle.cmwq_table.specs.declared.state.Pending.{Pending}
 use Rattle.cmwq_table.specs.declared.state.Running.{Running}
 use Rattle.cmwq_table.specs.State.{State, pending_at, running_at, depth_at, is_disabled, pool_count, start}
 use Rattle.cmwq_table.specs.Counts.{first_due, is_busy, is_done, or_else}
-use Rattle.cmwq_table.specs.Moves.{place, place_after, take_off, taken_off, set_max, freeze, thaw, next_move, moved, moved_work, first_moving, fire, tick, with_depth, with_flush, running_instance, last_instance}
+use Rattle.cmwq_table.specs.Moves.{place, place_after, take_off, taken_off, set_max, freeze, thaw, with_pressed, next_move, moved, moved_work, first_moving, fire, tick, with_depth, with_flush, running_instance, last_instance}
 
 -- a refusal where the test fails
 abbrev pub refuse_unless : Bool → Refusal → Option Refusal
@@ -60,6 +60,8 @@ operands S s instr.Busy = None
 operands S s (instr.State w) = no_work S w
 operands S s (instr.Disable w) = no_work S w
 operands S s (instr.Enable w) = no_work S w
+operands S s instr.Pressure = None
+operands S s instr.Relief = None
 
 -- A question is never Spent, and changes nothing.
 abbrev pub is_question : Instr → Bool
@@ -83,6 +85,8 @@ is_question instr.Tick = false
 is_question instr.Next = false
 is_question (instr.Disable w) = false
 is_question (instr.Enable w) = false
+is_question instr.Pressure = false
+is_question instr.Relief = false
 
 -- The situation.
 
@@ -126,6 +130,8 @@ situation S s instr.Busy = None
 situation S s (instr.State w) = None
 situation S s (instr.Disable w) = refuse_unless (nat_lt (depth_at s w.0) MAX_DEPTH) TooDeep
 situation S s (instr.Enable w) = refuse_unless (is_disabled s w.0) NotDisabled
+situation S s instr.Pressure = refuse_unless (not s.pressed) AlreadyPressed
+situation S s instr.Relief = refuse_unless s.pressed NotPressed
 
 -- The effect and the reply.
 
@@ -223,6 +229,8 @@ effect S s instr.Busy = (s, yes_or_no (is_busy S s))
 effect S s (instr.State w) = (s, found s w.0)
 effect S s (instr.Disable w) = disabled S s w.0 (pending_at s w.0)
 effect S s (instr.Enable w) = enabled s w.0 (depth_at s w.0 - 1)
+effect S s instr.Pressure = (with_pressed s true, reply.Done)
+effect S s instr.Relief = (with_pressed s false, reply.Done)
 
 -- The line of an instruction: a refusal changes nothing, and what is accepted is spent, questions aside.
 

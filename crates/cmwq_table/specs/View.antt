@@ -14,6 +14,7 @@ pub record ViewContents : Type 0 where
   pub next : ℕ
   pub spent : ℕ
   pub frozen : Bool
+  pub pressed : Bool
   pub max : List ℕ
   pub pending : List (WorkId × Pending)
   pub running : List (WorkId × Running)
@@ -51,6 +52,7 @@ view_of s =
       next = s.next;
       spent = s.spent;
       frozen = s.frozen;
+      pressed = s.pressed;
       max = s.max;
       pending = entries_from 0 s.pending;
       running = entries_from 0 s.running;

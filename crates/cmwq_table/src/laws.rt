@@ -2,7 +2,7 @@
 //!
 //! Each function's contract is a law, over every valid scenario and every list of instructions. The functions
 //! do nothing: they carry the laws.
-ghost use Rattle.cmwq_table.specs.Laws.{ActivatesInOrder, AtEveryInstruction, ChangesNothingAsked, ChangesNothingRefused, GoesInOrder, InEveryState, IsNotPendingDisabled, LeavesNoRoom, ListsInOrder, StartsAtLevelZero, TimeWaitsForStarts, RisesByWakes, RisesWithinLimit, IsNotReentrant, StayDone, TellsActive, WaitForInstances};
+ghost use Rattle.cmwq_table.specs.Laws.{ActivatesInOrder, AtEveryInstruction, ChangesNothingAsked, ChangesNothingRefused, GoesInOrder, HasOneRescuer, InEveryState, IsNotPendingDisabled, LeavesNoRoom, ListsInOrder, RescuersWork, StartsAtLevelZero, TimeWaitsForStarts, RisesByWakes, RisesWithinLimit, IsNotReentrant, StayDone, TellsActive, WaitForInstances};
 ghost use Rattle.cmwq_table.specs.Ready.{HasCounters};
 
 /// An instruction that is refused changes nothing: neither a work, a worker or a flush, nor the time, the stamps
@@ -35,7 +35,8 @@ pub fn concurrency_level_rises_by_wakes()
 {}
 
 /// A pool starts the next work as soon as the last runnable one sleeps or ends: where time passes, each pool
-/// with a listed work has a counted runnable worker, or has no idle worker and has made all its workers.
+/// with a listed work has a counted runnable worker, or has no idle worker and, unless memory is short, has made all its
+/// workers.
 #[tactic(auto, using(crate::proofs::LawLemmas::Conclusions::time_waits_for_starts))]
 pub fn no_time_passes_while_a_work_can_start()
     ensures { AtEveryInstruction TimeWaitsForStarts }
@@ -102,6 +103,21 @@ pub fn works_are_not_reentrant()
 #[tactic(auto, using(crate::proofs::LawLemmas::Conclusions::is_not_pending_disabled))]
 pub fn disabled_works_are_not_pending()
     ensures { InEveryState IsNotPendingDisabled }
+{}
+
+/// A queue with `mem_reclaim` has one rescuer: at most one of its works runs on a rescuer, in whatever pool, and no work of
+/// a queue without the flag does.
+#[tactic(auto, using(crate::proofs::LawLemmas::Conclusions::has_one_rescuer))]
+pub fn queues_have_at_most_one_rescuer()
+    ensures { InEveryState HasOneRescuer }
+{}
+
+/// A queue with `mem_reclaim` has an execution context regardless of memory pressure: where a pool may start a work, and one
+/// of the queue is listed there that doesn't run, while the queue's rescuer is free, the pool has a move. So no time passes
+/// until a worker or the rescuer has taken it.
+#[tactic(auto, using(crate::proofs::LawLemmas::Conclusions::rescuers_work))]
+pub fn rescuers_work_regardless_of_memory()
+    ensures { InEveryState RescuersWork }
 {}
 
 /// A flush that is done stays done, whatever is queued after it.

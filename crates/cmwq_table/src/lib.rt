@@ -9,6 +9,6 @@ mod state;
 mod view;
 
 pub use machine::{LoadError, Machine};
-pub use reply_line::{PlaceWords, ReplyLine, RunWords, refusal_name};
+pub use reply_line::{PlaceWords, ReplyLine, RunWords, WorkerWords, refusal_name};
 pub use state::{FlushTarget, Pending, Running};
 pub use view::{IdleWorker, View};

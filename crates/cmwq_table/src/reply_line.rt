@@ -1,8 +1,8 @@
 //! The line that a reply prints.
-ghost use Rattle.cmwq_table.specs.Events.{already_text, asked_name, event_text, event_verb, is_silent, place_text, refusal_text, reply_line, reply_words, run_text, was_text, work_name};
+ghost use Rattle.cmwq_table.specs.Events.{already_text, asked_name, event_text, event_verb, is_silent, place_text, refusal_text, reply_line, reply_words, run_text, was_text, work_name, worker_number};
 ghost use Rattle.std.specs.Prelude.{◌≡◌, Some};
 
-use cmwq_types::{Event, Instr, Mode, Place, Refusal, Reply, Scenario, WorkId, WorkRun};
+use cmwq_types::{Event, Instr, Mode, Place, RESCUER, Refusal, Reply, Scenario, WorkId, WorkRun};
 use std::fmt;
 
 /// A reply at a time, to be printed for a reader of the scenario.
@@ -135,6 +135,7 @@ fn event_verb(event: Event) -> &'static str
         Event::Defers => "defers",
         Event::Fires => "fires",
         Event::Queues { .. } | Event::QueuesDisabled { .. } => "queues",
+        Event::StartsOnRescuer => "starts on rescuer",
     }
 }
 
@@ -165,7 +166,7 @@ impl fmt::Display for PlaceWords {
 }
 
 /// The words of where a work runs: `still`, `runs P/WORKER` or `asleep P/WORKER UNTIL`, as the answer to
-/// `State` has them. P is a pool's number, UNTIL a tick.
+/// `State` has them. P is a pool's number, WORKER that of a worker of the pool or `rescuer`, UNTIL a tick.
 #[derive(Clone, Copy, Debug)]
 pub struct RunWords(pub Option<WorkRun>);
 
@@ -177,11 +178,27 @@ impl fmt::Display for RunWords {
             return write!(f, "still");
         };
         let pool = run.pool;
-        let worker = run.worker;
+        let worker = WorkerWords(run.worker);
         match run.mode {
             Mode::Runnable => write!(f, "runs {pool}/{worker}"),
             Mode::Asleep(until) => write!(f, "asleep {pool}/{worker} {until}"),
         }
+    }
+}
+
+/// The number of a worker of a pool, or `rescuer` where it is `RESCUER`, as the answer to `State` has it.
+#[derive(Clone, Copy, Debug)]
+pub struct WorkerWords(pub u8);
+
+impl fmt::Display for WorkerWords {
+    ghost output = { λ words. Some (worker_number words.0) };
+
+    fn fmt<W: fmt::Write>(&self, f: &mut fmt::Formatter<W>) -> fmt::Result {
+        if self.0 == RESCUER {
+            return f.write_str("rescuer");
+        }
+        let number = self.0;
+        write!(f, "{number}")
     }
 }
 
@@ -223,6 +240,8 @@ pub fn refusal_name(why: Refusal) -> &'static str
         Refusal::Disabled => "Disabled",
         Refusal::TooDeep => "TooDeep",
         Refusal::NotDisabled => "NotDisabled",
+        Refusal::AlreadyPressed => "AlreadyPressed",
+        Refusal::NotPressed => "NotPressed",
     }
 }
 

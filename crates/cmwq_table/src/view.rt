@@ -26,6 +26,8 @@ pub struct View {
     pub spent: u32,
     /// Whether the machine is frozen.
     pub frozen: bool,
+    /// Whether memory is short.
+    pub pressed: bool,
     /// The `max_active` of each queue, by its number.
     pub max: Vec<u16>,
     /// The pending works, by rising number.
@@ -52,6 +54,7 @@ impl Model for View {
       next = v.next;
       spent = v.spent;
       frozen = v.frozen;
+      pressed = v.pressed;
       max = v.max.items;
       pending = v.pending.items;
       running = v.running.items;

@@ -85,16 +85,19 @@ same_name x y h =
 
 pub same_flags : (x y : Flags) → flags.ghosts.eq x y ≡ true → x ≡ y
 same_flags x y h =
-    let a = and_parts (beq x.highpri y.highpri) (beq x.unbound y.unbound && (beq x.cpu_intensive y.cpu_intensive && (beq x.freezable y.freezable && beq x.ordered y.ordered))) h in
-    let b = and_parts (beq x.unbound y.unbound) (beq x.cpu_intensive y.cpu_intensive && (beq x.freezable y.freezable && beq x.ordered y.ordered)) a.1 in
-    let c = and_parts (beq x.cpu_intensive y.cpu_intensive) (beq x.freezable y.freezable && beq x.ordered y.ordered) b.1 in
-    let d = and_parts (beq x.freezable y.freezable) (beq x.ordered y.ordered) c.1 in
+    let last = beq x.ordered y.ordered && beq x.mem_reclaim y.mem_reclaim in
+    let a = and_parts (beq x.highpri y.highpri) (beq x.unbound y.unbound && (beq x.cpu_intensive y.cpu_intensive && (beq x.freezable y.freezable && last))) h in
+    let b = and_parts (beq x.unbound y.unbound) (beq x.cpu_intensive y.cpu_intensive && (beq x.freezable y.freezable && last)) a.1 in
+    let c = and_parts (beq x.cpu_intensive y.cpu_intensive) (beq x.freezable y.freezable && last) b.1 in
+    let d = and_parts (beq x.freezable y.freezable) last c.1 in
+    let e = and_parts (beq x.ordered y.ordered) (beq x.mem_reclaim y.mem_reclaim) d.1 in
     λ i. record {
       highpri = (booleans_Decides x.highpri y.highpri).0 a.0 i;
       unbound = (booleans_Decides x.unbound y.unbound).0 b.0 i;
       cpu_intensive = (booleans_Decides x.cpu_intensive y.cpu_intensive).0 c.0 i;
       freezable = (booleans_Decides x.freezable y.freezable).0 d.0 i;
-      ordered = (booleans_Decides x.ordered y.ordered).0 d.1 i;
+      ordered = (booleans_Decides x.ordered y.ordered).0 e.0 i;
+      mem_reclaim = (booleans_Decides x.mem_reclaim y.mem_reclaim).0 e.1 i;
     }
 
 pub same_queue : (x y : QueueDecl) → queue.ghosts.eq x y ≡ true → x ≡ y
@@ -138,6 +141,8 @@ same_instr instr.Busy instr.Busy h = refl
 same_instr (instr.State w) (instr.State v) h = ap instr.State (same_work_id w v h)
 same_instr (instr.Disable w) (instr.Disable v) h = ap instr.Disable (same_work_id w v h)
 same_instr (instr.Enable w) (instr.Enable v) h = ap instr.Enable (same_work_id w v h)
+same_instr instr.Pressure instr.Pressure h = refl
+same_instr instr.Relief instr.Relief h = refl
 same_instr x y h = absurd (true≢false (sym h))
 
 pub same_line : (x y : Line) → line.ghosts.eq x y ≡ true → x ≡ y

@@ -109,6 +109,8 @@ names_declared s instr.Busy = true
 names_declared s (instr.State work) = nat_lt work.0 (length s.works)
 names_declared s (instr.Disable work) = nat_lt work.0 (length s.works)
 names_declared s (instr.Enable work) = nat_lt work.0 (length s.works)
+names_declared s instr.Pressure = true
+names_declared s instr.Relief = true
 
 abbrev pub line_fault : ScenarioContents → Line → Option Fault
 line_fault s line =

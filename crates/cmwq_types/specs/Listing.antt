@@ -31,7 +31,7 @@ abbrev pub flag_words : Flags → List (List ℕ)
 flag_words flags =
     word_if flags.highpri (codes "highpri") ++ word_if flags.unbound (codes "unbound")
     ++ word_if flags.cpu_intensive (codes "cpu_intensive") ++ word_if flags.freezable (codes "freezable")
-    ++ word_if flags.ordered (codes "ordered")
+    ++ word_if flags.ordered (codes "ordered") ++ word_if flags.mem_reclaim (codes "mem_reclaim")
 
 -- a word and a number
 abbrev pub numbered : List ℕ → ℕ → WrittenLine
@@ -74,6 +74,8 @@ instr_words S instr.Busy = spelling mnemonic.Busy ∷ []
 instr_words S (instr.State work) = spelling mnemonic.State ∷ (work_at S work.0).name ∷ []
 instr_words S (instr.Disable work) = spelling mnemonic.Disable ∷ (work_at S work.0).name ∷ []
 instr_words S (instr.Enable work) = spelling mnemonic.Enable ∷ (work_at S work.0).name ∷ []
+instr_words S instr.Pressure = spelling mnemonic.Pressure ∷ []
+instr_words S instr.Relief = spelling mnemonic.Relief ∷ []
 
 abbrev pub actor_line : ScenarioContents → Line → WrittenLine
 actor_line S line = Repeated (instr_words S line.instr) line.times

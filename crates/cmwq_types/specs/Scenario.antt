@@ -10,7 +10,8 @@ use Rattle.cmwq_types.specs.declared.scenario.Op.TheVariants.{Finish}
 use Rattle.cmwq_types.specs.declared.scenario.QueueDecl.{QueueDecl}
 
 abbrev pub plain_flags : Flags
-plain_flags = record { highpri = false; unbound = false; cpu_intensive = false; freezable = false; ordered = false }
+plain_flags =
+    record { highpri = false; unbound = false; cpu_intensive = false; freezable = false; ordered = false; mem_reclaim = false }
 
 abbrev pub queue_at : ScenarioContents → ℕ → QueueDecl
 queue_at S queue = slice_index_or S.queues queue (record { name = []; max = 0; flags = plain_flags })

@@ -46,6 +46,8 @@ IsInstr instr.Busy = Unit {0}
 IsInstr (instr.State work) = work.0 < 2 ^ 16
 IsInstr (instr.Disable work) = work.0 < 2 ^ 16
 IsInstr (instr.Enable work) = work.0 < 2 ^ 16
+IsInstr instr.Pressure = Unit {0}
+IsInstr instr.Relief = Unit {0}
 
 pub record IsLine (line : Line) : Type 0 where
   pub instr : IsInstr line.instr

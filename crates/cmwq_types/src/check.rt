@@ -206,7 +206,9 @@ impl Scenario {
             | Instr::Tick
             | Instr::Next
             | Instr::Ask(_)
-            | Instr::Busy => true,
+            | Instr::Busy
+            | Instr::Pressure
+            | Instr::Relief => true,
         }
     }
 }

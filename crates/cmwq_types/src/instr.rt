@@ -94,4 +94,11 @@ pub enum Instr {
     ///
     /// Refused where there is no such work, or it isn't disabled.
     Enable(WorkId),
+    /// Makes memory short: no pool makes a worker until the `Relief`. It stands for what befalls a kernel, which has
+    /// no such call.
+    ///
+    /// Refused where memory is short already.
+    Pressure,
+    /// Ends the shortage of memory. Refused where there is none.
+    Relief,
 }

@@ -20,7 +20,7 @@ pub use instr::{Instr, QueueId, WorkId};
 pub use limits::{
     MAX_ACTORS, MAX_CPUS, MAX_DEPTH, MAX_FLUSHES, MAX_HISTORY, MAX_LINES, MAX_MAX_ACTIVE, MAX_NAME,
     MAX_OPS, MAX_PASSES, MAX_QUEUES, MAX_STEPS, MAX_TEXT, MAX_TICKETS, MAX_TICKS, MAX_TIMES,
-    MAX_WORKERS, MAX_WORKS,
+    MAX_WORKERS, MAX_WORKS, RESCUER,
 };
 pub use memory::NoMemory;
 pub use mnemonic::Mnemonic;

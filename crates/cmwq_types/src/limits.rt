@@ -10,6 +10,9 @@ pub const MAX_CPUS: u8 = 16;
 /// The most workers of one worker pool.
 pub const MAX_WORKERS: u8 = 64;
 
+/// The number that stands for the rescuer of a work's queue where that of a worker stands. No worker of a pool has it.
+pub const RESCUER: u8 = 255;
+
 /// The most flushes that a scenario can give.
 pub const MAX_FLUSHES: u16 = 1024;
 

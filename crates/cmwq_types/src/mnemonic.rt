@@ -26,9 +26,11 @@ pub enum Mnemonic {
     State,
     Disable,
     Enable,
+    Pressure,
+    Relief,
 }
 
-const MNEMONICS: [Mnemonic; 20] = [
+const MNEMONICS: [Mnemonic; 22] = [
     Mnemonic::Queue,
     Mnemonic::Delay,
     Mnemonic::Mod,
@@ -49,6 +51,8 @@ const MNEMONICS: [Mnemonic; 20] = [
     Mnemonic::State,
     Mnemonic::Disable,
     Mnemonic::Enable,
+    Mnemonic::Pressure,
+    Mnemonic::Relief,
 ];
 
 impl Mnemonic {
@@ -91,6 +95,8 @@ impl Mnemonic {
             Mnemonic::State => b"state",
             Mnemonic::Disable => b"disable",
             Mnemonic::Enable => b"enable",
+            Mnemonic::Pressure => b"pressure",
+            Mnemonic::Relief => b"relief",
         }
     }
 }

@@ -13,4 +13,6 @@ pub enum Move {
     Start(WorkId),
     /// The work's turn came while it still runs: it will start where it runs.
     Defer(WorkId),
+    /// The rescuer of the work's queue takes the work from the worklist.
+    Rescue(WorkId),
 }

@@ -136,6 +136,8 @@ pub enum Event {
     Queues { other: WorkId, already: bool },
     /// It was to queue the work `other`, which is disabled.
     QueuesDisabled { other: WorkId },
+    /// Its queue's rescuer took the work from the worklist.
+    StartsOnRescuer,
 }
 
 /// Why no time may pass.
@@ -182,6 +184,10 @@ pub enum Refusal {
     TooDeep,
     /// The work isn't disabled.
     NotDisabled,
+    /// Memory is short already.
+    AlreadyPressed,
+    /// Memory isn't short.
+    NotPressed,
 }
 
 /// Where a running work runs.
@@ -189,7 +195,7 @@ pub enum Refusal {
 pub struct WorkRun {
     /// The pool in which it runs.
     pub pool: u8,
-    /// The number of its worker in that pool.
+    /// The number of its worker in that pool, or `RESCUER`.
     pub worker: u8,
     /// Whether it is runnable, or until when it sleeps.
     pub mode: Mode,

@@ -19,6 +19,8 @@ pub struct Flags {
     pub freezable: bool,
     /// An ordered queue: unbound, with `max` 1 for good.
     pub ordered: bool,
+    /// `WQ_MEM_RECLAIM`: it has a rescuer, which runs one of its works at a time where its pool has no worker for it.
+    pub mem_reclaim: bool,
 }
 
 impl Flags {
@@ -29,6 +31,7 @@ impl Flags {
         cpu_intensive: false,
         freezable: false,
         ordered: false,
+        mem_reclaim: false,
     };
 }
 
