@@ -1,7 +1,6 @@
 //! The lines of a dump.
 ghost use Rattle.cmwq_dump.specs.Dump.{asleep_line, at_worker, clock_line, cpu_of, disabled_line, dump, flush_line, group_lines, idle_workers, left_of, name_line, pc_of, pool_line, pool_lines, pressed_line, queue_line, run_line, spaced, timer_cpu, timer_line, work_line, worker_of, yes_or_no};
 ghost use Rattle.cmwq_dump.specs.Order.{each_below};
-ghost use Rattle.cmwq_table.specs.Events.{worker_number};
 ghost use Rattle.cmwq_types.specs.Contents.{ScenarioContents};
 ghost use Rattle.cmwq_types.specs.Scenario.{pool_count, queue_at, work_at};
 ghost use Rattle.std.specs.List.{flat_map};
@@ -9,8 +8,8 @@ ghost use Rattle.std.specs.Prelude.{◌≡◌, ◌<◌, ◌++◌, OnOk, Some, le
 
 use crate::group::{Group, due, until};
 use crate::picture::Picture;
-use cmwq_table::{Pending, Running};
-use cmwq_types::{NoMemory, Place, RESCUER, Scenario};
+use cmwq_table::{Pending, Running, WorkerWords};
+use cmwq_types::{NoMemory, Place, Scenario};
 use std::alloc::Global;
 use std::fmt;
 
@@ -228,25 +227,9 @@ impl fmt::Display for AtWorker {
     ghost output = { λ at. Some (at_worker at.0) };
 
     fn fmt<W: fmt::Write>(&self, f: &mut fmt::Formatter<W>) -> fmt::Result {
-        let worker = WorkerName(worker_of(self.0));
+        let worker = WorkerWords(worker_of(self.0));
         let pc = pc_of(self.0);
         write!(f, " {worker} {pc}")
-    }
-}
-
-/// A worker's number, or `rescuer` where it is one.
-#[derive(Clone, Copy)]
-struct WorkerName(u8);
-
-impl fmt::Display for WorkerName {
-    ghost output = { λ worker. Some (worker_number worker.0) };
-
-    fn fmt<W: fmt::Write>(&self, f: &mut fmt::Formatter<W>) -> fmt::Result {
-        let worker = self.0;
-        if worker == RESCUER {
-            return f.write_str("rescuer");
-        }
-        write!(f, "{worker}")
     }
 }
 
