@@ -31,6 +31,9 @@ freezable = record plain_flags { freezable = true }
 abbrev pub ordered : Flags
 ordered = record plain_flags { ordered = true }
 
+abbrev pub mem_reclaim : Flags
+mem_reclaim = record plain_flags { mem_reclaim = true }
+
 -- the operations `queue W C` and `queue W 0`
 abbrev pub queues_on : ℕ → ℕ → Op
 queues_on w cpu = op.Queue (record { 0 = w }) cpu

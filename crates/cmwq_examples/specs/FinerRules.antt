@@ -6,7 +6,7 @@ use Rattle.cmwq_types.specs.declared.instr.Instr.{Instr}
 use Rattle.cmwq_types.specs.declared.instr.Instr.TheVariants as instr
 use Rattle.cmwq_types.specs.declared.scenario.Op.TheVariants as op
 use Rattle.cmwq_table.specs.State.{State, start}
-use Rattle.cmwq_examples.specs.Declare.{queue, work, highpri, unbound, freezable, ordered, queues, queues_on, enqueue, delay, delay_on, modify, cancel, cancel_sync, disable, enable, flush, flush_delayed, flush_queue, set_max, ask, state, times, scenario}
+use Rattle.cmwq_examples.specs.Declare.{queue, work, highpri, unbound, freezable, ordered, mem_reclaim, queues, queues_on, enqueue, delay, delay_on, modify, cancel, cancel_sync, disable, enable, flush, flush_delayed, flush_queue, set_max, ask, state, times, scenario}
 use Rattle.cmwq_examples.specs.Rows.{text}
 
 -- two workers become idle, one after the other; then c is queued
@@ -453,6 +453,35 @@ disabled_anywhere_lines =
     codes "0 b listed 0 still" ∷ codes "0 b starts" ∷ codes "0 b burns 2" ∷ codes "0 not pending" ∷
     codes "2 b finishes" ∷ codes "3 a idle still" ∷ codes "3 refused Spent" ∷ codes "3 refused Spent" ∷
     codes "3 refused Spent" ∷ codes "3 refused Spent" ∷ codes "3 refused Spent" ∷ codes "3 refused NoSuchCpu" ∷ [])
+
+-- Memory is short while a sleeps: e waits for a worker, b and c of one queue and d of another one for their rescuers, c on
+-- CPU 1; b is queued again as it runs. There is relief for a moment while d burns, and again at the end.
+abbrev pub rescuers : ScenarioContents
+rescuers =
+    record
+    (scenario 1000 (queue (codes "q") 2 plain_flags ∷ queue (codes "r") 2 mem_reclaim ∷ queue (codes "s") 1 mem_reclaim ∷ [])
+    (work (codes "a") 0 (op.Sleep 9 ∷ op.Finish ∷ []) ∷ work (codes "b") 1 (op.Sleep 2 ∷ op.Finish ∷ [])
+    ∷ work (codes "c") 1 (op.Finish ∷ []) ∷ work (codes "d") 2 (op.Burn 1 ∷ op.Finish ∷ [])
+    ∷ work (codes "e") 0 (op.Finish ∷ []) ∷ [])
+    (enqueue 2 0 ∷ times instr.Next 2 ∷ enqueue 0 0 ∷ times instr.Next 2 ∷ times instr.Pressure 1
+    ∷ enqueue 4 0 ∷ enqueue 1 0 ∷ enqueue 3 0 ∷ enqueue 2 1 ∷ times instr.Next 1 ∷ enqueue 1 0 ∷ times instr.Next 1
+    ∷ times (instr.Step 2) 1 ∷ times instr.Next 2 ∷ times instr.Relief 1 ∷ times (instr.Step 0) 1 ∷ times instr.Pressure 1
+    ∷ cancel 4 ∷ times instr.Next 6 ∷ state 1 ∷ times instr.Next 6 ∷ state 2 ∷ times instr.Next 1 ∷ times instr.Relief 1
+    ∷ enqueue 4 0 ∷ times instr.Next 1 ∷ state 4 ∷ []))
+    { cpus = 2; workers = 2 }
+
+-- c first starts on a worker, though a rescuer is free; b starts again on its rescuer, which c then waits for on CPU 1; while d
+-- burns on the other one nothing starts on that CPU
+abbrev pub rescuers_lines : List ℕ
+rescuers_lines =
+    text (
+    codes "0 c starts" ∷ codes "0 c finishes" ∷ codes "0 a starts" ∷ codes "0 a sleeps 9" ∷
+    codes "0 b starts on rescuer" ∷ codes "0 b sleeps 2" ∷ codes "0 refused NothingToDo" ∷
+    codes "0 d starts on rescuer" ∷ codes "0 d burns 1" ∷ codes "0 refused NothingToDo" ∷ codes "0 cancelled" ∷
+    codes "1 d finishes" ∷ codes "1 b defers" ∷ codes "2 b wakes" ∷ codes "2 b finishes and starts" ∷
+    codes "2 b idle runs 0/rescuer" ∷ codes "2 b sleeps 2" ∷ codes "4 b wakes" ∷ codes "4 b finishes" ∷
+    codes "4 c starts on rescuer" ∷ codes "4 c idle runs 2/rescuer" ∷ codes "4 c finishes" ∷ codes "4 e starts" ∷
+    codes "4 e idle runs 0/1" ∷ [])
 
 -- a on a normal queue, and b on one of high priority
 abbrev pub unsettled : ScenarioContents

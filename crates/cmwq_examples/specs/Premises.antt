@@ -96,3 +96,19 @@ queued_once = instr.Queue (record { 0 = 0 }) 0
 -- one work on a freezable queue
 abbrev pub one_freezable : ScenarioContents
 one_freezable = scenario 1000 (queue (codes "f") 1 freezable ∷ []) (work (codes "a") 0 (burning 1) ∷ []) []
+
+-- beside a sleeping work: memory is short, and c is listed
+abbrev pub worker_wanted : List Line
+worker_wanted = enqueue 0 0 ∷ times instr.Next 2 ∷ times instr.Pressure 1 ∷ enqueue 2 0 ∷ []
+
+-- then b is listed behind it
+abbrev pub rescuer_wanted : List Line
+rescuer_wanted = worker_wanted ++ enqueue 1 0 ∷ []
+
+-- and starts
+abbrev pub rescuer_taken : List Line
+rescuer_taken = rescuer_wanted ++ times instr.Next 1 ∷ []
+
+-- and finishes
+abbrev pub rescuer_freed : List Line
+rescuer_freed = rescuer_taken ++ times instr.Next 3 ∷ []

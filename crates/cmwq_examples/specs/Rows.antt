@@ -4,10 +4,11 @@ use Rattle.std.specs.List.{flat_map}
 use Rattle.cmwq_types.specs.Contents.{ScenarioContents}
 use Rattle.cmwq_types.specs.Scenario.{expand, plain_flags}
 use Rattle.cmwq_types.specs.declared.instr.Instr.TheVariants as instr
+use Rattle.cmwq_types.specs.declared.scenario.Line.{Line}
 use Rattle.cmwq_types.specs.declared.scenario.Op.{Op}
 use Rattle.cmwq_types.specs.declared.scenario.Op.TheVariants as op
 use Rattle.cmwq_table.specs.Events.{events}
-use Rattle.cmwq_examples.specs.Declare.{queue, work, highpri, unbound, cpu_intensive, freezable, ordered, queues, enqueue, delay, modify, cancel, cancel_sync, disable, enable, flush, flush_delayed, flush_queue, set_max, ask, state, times, scenario}
+use Rattle.cmwq_examples.specs.Declare.{queue, work, highpri, unbound, cpu_intensive, freezable, ordered, mem_reclaim, queues, enqueue, delay, modify, cancel, cancel_sync, disable, enable, flush, flush_delayed, flush_queue, set_max, ask, state, times, scenario}
 
 -- a text of these lines
 abbrev pub text : List (List ℕ) → List ℕ
@@ -324,3 +325,43 @@ disabled_twice_lines =
     codes "0 cancelled" ∷ codes "0 not pending" ∷ codes "0 refused Disabled" ∷ codes "0 refused Disabled" ∷
     codes "0 b starts" ∷ codes "0 b queues a disabled" ∷ codes "0 b finishes" ∷ codes "0 no" ∷ codes "0 yes" ∷
     codes "0 refused NotDisabled" ∷ codes "0 a starts" ∷ codes "0 a burns 1" ∷ codes "1 a finishes" ∷ [])
+
+-- a sleeps; then c of the same queue and b of a queue with a rescuer are queued
+abbrev pub sleeper_and_two : List Line → ScenarioContents
+sleeper_and_two lines =
+    scenario 1000 (queue (codes "q") 2 plain_flags ∷ queue (codes "r") 2 mem_reclaim ∷ [])
+    (work (codes "a") 0 (op.Sleep 3 ∷ op.Finish ∷ []) ∷ work (codes "b") 1 (burning 1) ∷ work (codes "c") 0 (burning 1) ∷ [])
+    lines
+
+-- memory is short meanwhile
+abbrev pub pressed : ScenarioContents
+pressed =
+    sleeper_and_two
+    (enqueue 0 0 ∷ times instr.Next 2 ∷ times instr.Pressure 1 ∷ times instr.Pressure 1 ∷ enqueue 2 0 ∷ enqueue 1 0
+    ∷ times instr.Next 1 ∷ state 1 ∷ times instr.Next 3 ∷ times instr.Next 1 ∷ times instr.Relief 1 ∷ times instr.Relief 1
+    ∷ times instr.Next 1 ∷ state 2 ∷ times instr.Next 3 ∷ [])
+
+-- no worker is made for c; b goes past it on the rescuer, and c starts on a new worker after the relief
+abbrev pub pressed_lines : List ℕ
+pressed_lines =
+    text (
+    codes "0 a starts" ∷ codes "0 a sleeps 3" ∷ codes "0 refused AlreadyPressed" ∷ codes "0 b starts on rescuer" ∷
+    codes "0 b idle runs 0/rescuer" ∷ codes "0 b burns 1" ∷ codes "1 b finishes" ∷ codes "2 refused NotPressed" ∷
+    codes "2 c starts" ∷ codes "2 c idle runs 0/1" ∷ codes "2 c burns 1" ∷ codes "3 c finishes" ∷ [])
+
+-- the pool's one worker sleeps
+abbrev pub all_workers_taken : ScenarioContents
+all_workers_taken =
+    record
+    (sleeper_and_two
+    (enqueue 0 0 ∷ times instr.Next 2 ∷ enqueue 2 0 ∷ enqueue 1 0 ∷ times instr.Next 1 ∷ state 1 ∷ times instr.Next 3
+    ∷ times instr.Next 2 ∷ state 2 ∷ times instr.Next 3 ∷ []))
+    { workers = 1 }
+
+-- b goes past c on the rescuer, and c waits for the worker
+abbrev pub all_workers_taken_lines : List ℕ
+all_workers_taken_lines =
+    text (
+    codes "0 a starts" ∷ codes "0 a sleeps 3" ∷ codes "0 b starts on rescuer" ∷ codes "0 b idle runs 0/rescuer" ∷
+    codes "0 b burns 1" ∷ codes "1 b finishes" ∷ codes "3 c listed 0 still" ∷ codes "3 a wakes" ∷
+    codes "3 a finishes" ∷ codes "3 c starts" ∷ [])

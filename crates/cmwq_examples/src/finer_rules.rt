@@ -2,7 +2,7 @@
 //! counts, and which refusal is told.
 #![tactic(auto, unfolding(cmwq_table::specs::Events::reply_line, cmwq_table::specs::Table::table))]
 
-ghost use Rattle.cmwq_examples.specs.FinerRules.{busy, busy_lines, cancel_lets_in, cancel_lets_in_lines, deferred, deferred_lines, disabled_again, disabled_anywhere, disabled_anywhere_lines, disabled_so_often, enabled_again, equal_times, equal_times_lines, fills, fills_lines, flush_beside_timer, flush_beside_timer_lines, flush_targets, flush_targets_lines, high_and_unbound, high_and_unbound_lines, idle_workers, idle_workers_lines, later_times, later_times_lines, mod_and_delay, mod_and_delay_lines, mod_goes_behind, mod_goes_behind_lines, no_flushes, no_flushes_lines, one_worker, one_worker_lines, operands, operands_lines, pools_apart, pools_apart_lines, queues_others, queues_others_lines, same_worker, same_worker_lines, starts_again_behind, starts_again_behind_lines, starts_behind, starts_behind_lines, thaw_fills, thaw_fills_lines, timer_cpu, timer_cpu_lines, two_cpus, two_cpus_lines, unbound_workers, unbound_workers_lines, undeclared_instrs, unsettled, unsettled_instrs, wakes_behind, wakes_behind_lines, what_is_spent, what_is_spent_lines};
+ghost use Rattle.cmwq_examples.specs.FinerRules.{busy, busy_lines, cancel_lets_in, cancel_lets_in_lines, deferred, deferred_lines, disabled_again, disabled_anywhere, disabled_anywhere_lines, disabled_so_often, enabled_again, equal_times, equal_times_lines, fills, fills_lines, flush_beside_timer, flush_beside_timer_lines, flush_targets, flush_targets_lines, high_and_unbound, high_and_unbound_lines, idle_workers, idle_workers_lines, later_times, later_times_lines, mod_and_delay, mod_and_delay_lines, mod_goes_behind, mod_goes_behind_lines, no_flushes, no_flushes_lines, one_worker, one_worker_lines, operands, operands_lines, pools_apart, pools_apart_lines, queues_others, queues_others_lines, rescuers, rescuers_lines, same_worker, same_worker_lines, starts_again_behind, starts_again_behind_lines, starts_behind, starts_behind_lines, thaw_fills, thaw_fills_lines, timer_cpu, timer_cpu_lines, two_cpus, two_cpus_lines, unbound_workers, unbound_workers_lines, undeclared_instrs, unsettled, unsettled_instrs, wakes_behind, wakes_behind_lines, what_is_spent, what_is_spent_lines};
 ghost use Rattle.cmwq_examples.specs.Rows.{printed};
 ghost use Rattle.cmwq_table.specs.Laws.{reply_to};
 ghost use Rattle.cmwq_table.specs.Table.{replies};
@@ -158,6 +158,12 @@ pub fn disable_takes_off_from_anywhere()
     ensures { printed disabled_anywhere ≡ disabled_anywhere_lines }
 {}
 
+/// A work starts on a rescuer only where no worker takes it; a queue's rescuer runs one of its works at a time, in whatever
+/// pool, and starts a deferred one again; what runs on it counts towards the concurrency level.
+pub fn rescuer_runs_one_work_at_a_time()
+    ensures { printed rescuers ≡ rescuers_lines }
+{}
+
 /// Operands are judged from left to right: a queue before its count, a work before its CPU.
 pub fn undeclared_operands_are_refused_first()
     ensures { replies unsettled undeclared_instrs ≡ Reply.Refused Refusal.NoSuchQueue ∷ Reply.Refused Refusal.NoSuchWork ∷ Reply.Refused Refusal.NoSuchQueue ∷ [] }
@@ -205,5 +211,6 @@ pub fn finer_examples_are_valid()
     ensures flush_beside_timer { IsValid flush_beside_timer }
     ensures pools_apart { IsValid pools_apart }
     ensures disabled_anywhere { IsValid disabled_anywhere }
+    ensures rescuers { IsValid rescuers }
     ensures unsettled { IsValid unsettled }
 {}

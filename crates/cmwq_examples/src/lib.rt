@@ -5,8 +5,8 @@
 pub mod finer_rules;
 pub mod premises;
 
-ghost use Rattle.cmwq_examples.specs.Rows.{activated_in_order, activated_in_order_lines, cancelled_while_running, cancelled_while_running_lines, cpu_intensive_beside_normal, cpu_intensive_lines, disabled_twice, disabled_twice_lines, flushes, flushes_lines, freeze_and_thaw, freeze_and_thaw_lines, high_beside_normal, high_lines, max_active_1, max_active_2, max_active_3, max_down_and_up, max_down_and_up_lines, printed, queued_elsewhere, queued_elsewhere_lines, queued_twice, queued_twice_lines, queues_itself, queues_itself_lines, refused, refused_in_order, refused_in_order_lines, refused_lines, steps_run_out, steps_run_out_lines, three_works, timers, timers_lines, unbound_beside_ordered, unbound_lines, written_out};
-ghost use Rattle.cmwq_types.specs.declared.limits.TheConstants.{MAX_ACTORS, MAX_CPUS, MAX_DEPTH, MAX_FLUSHES, MAX_HISTORY, MAX_LINES, MAX_MAX_ACTIVE, MAX_NAME, MAX_OPS, MAX_PASSES, MAX_QUEUES, MAX_STEPS, MAX_TEXT, MAX_TICKETS, MAX_TICKS, MAX_TIMES, MAX_WORKERS, MAX_WORKS};
+ghost use Rattle.cmwq_examples.specs.Rows.{activated_in_order, activated_in_order_lines, all_workers_taken, all_workers_taken_lines, cancelled_while_running, cancelled_while_running_lines, cpu_intensive_beside_normal, cpu_intensive_lines, disabled_twice, disabled_twice_lines, flushes, flushes_lines, freeze_and_thaw, freeze_and_thaw_lines, high_beside_normal, high_lines, max_active_1, max_active_2, max_active_3, max_down_and_up, max_down_and_up_lines, pressed, pressed_lines, printed, queued_elsewhere, queued_elsewhere_lines, queued_twice, queued_twice_lines, queues_itself, queues_itself_lines, refused, refused_in_order, refused_in_order_lines, refused_lines, steps_run_out, steps_run_out_lines, three_works, timers, timers_lines, unbound_beside_ordered, unbound_lines, written_out};
+ghost use Rattle.cmwq_types.specs.declared.limits.TheConstants.{MAX_ACTORS, MAX_CPUS, MAX_DEPTH, MAX_FLUSHES, MAX_HISTORY, MAX_LINES, MAX_MAX_ACTIVE, MAX_NAME, MAX_OPS, MAX_PASSES, MAX_QUEUES, MAX_STEPS, MAX_TEXT, MAX_TICKETS, MAX_TICKS, MAX_TIMES, MAX_WORKERS, MAX_WORKS, RESCUER};
 ghost use Rattle.cmwq_types.specs.Faults.{IsValid};
 ghost use Rattle.cmwq_types.specs.Listing.{listing};
 ghost use Rattle.std.specs.Prelude.{◌≡◌};
@@ -109,6 +109,17 @@ pub fn disabled_work_is_kept_off()
     ensures { printed disabled_twice ≡ disabled_twice_lines }
 {}
 
+/// While memory is short no worker is made: a work of a queue with `mem_reclaim` runs on the queue's rescuer, past one that
+/// waits for the relief.
+pub fn rescuer_runs_while_memory_is_short()
+    ensures { printed pressed ≡ pressed_lines }
+{}
+
+/// It does so too where the pool has made all its workers, and none is idle.
+pub fn rescuer_runs_while_all_workers_are_taken()
+    ensures { printed all_workers_taken ≡ all_workers_taken_lines }
+{}
+
 /// Each of these scenarios is valid.
 pub fn examples_are_valid()
     ensures three_works_3 { IsValid (three_works 3 41) }
@@ -130,6 +141,8 @@ pub fn examples_are_valid()
     ensures max_down_and_up { IsValid max_down_and_up }
     ensures activated_in_order { IsValid activated_in_order }
     ensures disabled_twice { IsValid disabled_twice }
+    ensures pressed { IsValid pressed }
+    ensures all_workers_taken { IsValid all_workers_taken }
 {}
 
 /// The listing of a scenario is its text, line by line.
@@ -141,6 +154,7 @@ pub fn scenario_is_written_out()
 pub fn limits_by_number()
     ensures cpus { MAX_CPUS ≡ 16 }
     ensures workers { MAX_WORKERS ≡ 64 }
+    ensures rescuer { RESCUER ≡ 255 }
     ensures steps { MAX_STEPS ≡ 4294967295 }
     ensures flushes { MAX_FLUSHES ≡ 1024 }
     ensures queues { MAX_QUEUES ≡ 32 }

@@ -2,18 +2,20 @@
 //! case.
 #![tactic(auto, unfolding(cmwq_table::specs::Table::table))]
 
-ghost use Rattle.cmwq_examples.specs.Premises.{after_lines, before_start, before_tick, before_wake, both_queued, flushes_given, itself_deferred, itself_queued, max_raised, one_flushed, one_freezable, one_worker, queued_on_both, queued_once, sleeper, two_ordered, work_disabled, work_finished, work_queued_again, worker_taken};
+ghost use Rattle.cmwq_examples.specs.Premises.{after_lines, before_start, before_tick, before_wake, both_queued, flushes_given, itself_deferred, itself_queued, max_raised, one_flushed, one_freezable, one_worker, queued_on_both, queued_once, rescuer_freed, rescuer_taken, rescuer_wanted, sleeper, two_ordered, work_disabled, work_finished, work_queued_again, worker_taken, worker_wanted};
 ghost use Rattle.cmwq_examples.specs.FinerRules.{fills};
-ghost use Rattle.cmwq_examples.specs.Rows.{activated_in_order, cpu_intensive_beside_normal, queues_itself};
-ghost use Rattle.cmwq_table.specs.Counts.{active, counted, is_busy, is_done, limit};
+ghost use Rattle.cmwq_examples.specs.Rows.{activated_in_order, cpu_intensive_beside_normal, pressed, queues_itself};
+ghost use Rattle.cmwq_table.specs.Counts.{active, counted, first_listed, free_worker, has_free_rescuer, is_busy, is_done, limit, may_start, runs_on_rescuer};
 ghost use Rattle.cmwq_table.specs.Laws.{active_anywhere, reply_to, state_after, tells_wake};
+ghost use Rattle.cmwq_table.specs.Moves.{next_move};
 ghost use Rattle.cmwq_table.specs.State.{depth_at, idle_at, made_at, pending_at, running_at};
 ghost use Rattle.cmwq_table.specs.Table.{is_question, place_of, target_at};
 ghost use Rattle.cmwq_types.specs.Faults.{IsValid};
+ghost use Rattle.cmwq_types.specs.Scenario.{flags_at};
 ghost use Rattle.std.specs.Prelude.{◌≡◌, [], None, Some, false, is_some, length, true};
 
 use cmwq_table::FlushTarget;
-use cmwq_types::{Instr, Place, Refusal, Reply};
+use cmwq_types::{Instr, Move, Place, Refusal, Reply};
 
 /// An instruction is refused: a timer is to fire where none is due.
 pub fn instruction_is_refused()
@@ -59,6 +61,45 @@ pub fn time_passes_while_all_workers_run()
     ensures all_made { made_at (after_lines one_worker worker_taken) 2 ≡ 1 }
     ensures before { (after_lines one_worker worker_taken).time ≡ 0 }
     ensures after { (state_after one_worker (after_lines one_worker worker_taken) Instr.Tick).time ≡ 1 }
+{}
+
+/// Time passes while a work is listed in a pool that could make a worker for it, but for the shortage of memory.
+pub fn time_passes_while_memory_is_short()
+    ensures listed { place_of (pending_at (after_lines pressed worker_wanted) 2) ≡ Some (Place.Listed 0) }
+    ensures level { counted pressed (after_lines pressed worker_wanted) 0 ≡ 0 }
+    ensures none_idle { idle_at (after_lines pressed worker_wanted) 0 0 ≡ None }
+    ensures made { made_at (after_lines pressed worker_wanted) 0 ≡ 1 }
+    ensures short { (after_lines pressed worker_wanted).pressed ≡ true }
+    ensures before { (after_lines pressed worker_wanted).time ≡ 0 }
+    ensures after { (state_after pressed (after_lines pressed worker_wanted) Instr.Tick).time ≡ 1 }
+{}
+
+/// Behind a work that no worker is free for another one is listed, whose queue has a free rescuer.
+pub fn listed_work_can_be_rescued()
+    ensures level { may_start pressed (after_lines pressed rescuer_wanted) 0 ≡ true }
+    ensures first { first_listed pressed (after_lines pressed rescuer_wanted) 0 ≡ Some 2 }
+    ensures no_worker { free_worker pressed (after_lines pressed rescuer_wanted) 0 ≡ None }
+    ensures listed { place_of (pending_at (after_lines pressed rescuer_wanted) 1) ≡ Some (Place.Listed 0) }
+    ensures still { running_at (after_lines pressed rescuer_wanted) 1 ≡ None }
+    ensures free { has_free_rescuer pressed (after_lines pressed rescuer_wanted) 1 ≡ true }
+    ensures rescued { next_move pressed (after_lines pressed rescuer_wanted) 0 ≡ Some (Move.Rescue (record { 0 = 1 })) }
+{}
+
+/// A work runs on the rescuer of its queue, which isn't free then.
+pub fn work_runs_on_the_rescuer()
+    ensures reclaims { (flags_at pressed 1).mem_reclaim ≡ true }
+    ensures runs { runs_on_rescuer (after_lines pressed rescuer_taken) 1 ≡ true }
+    ensures taken { has_free_rescuer pressed (after_lines pressed rescuer_taken) 1 ≡ false }
+{}
+
+/// Its end takes no stamp, makes no worker idle, and leaves the rescuer free. Another queue has none.
+pub fn rescuer_is_free_again()
+    ensures stamps_before { (after_lines pressed rescuer_taken).next ≡ 5 }
+    ensures stamps { (after_lines pressed rescuer_freed).next ≡ 5 }
+    ensures idle { (after_lines pressed rescuer_freed).idle ≡ (after_lines pressed []).idle }
+    ensures made { (after_lines pressed rescuer_freed).made ≡ (after_lines pressed rescuer_taken).made }
+    ensures free { has_free_rescuer pressed (after_lines pressed rescuer_freed) 1 ≡ true }
+    ensures no_other { has_free_rescuer pressed (after_lines pressed rescuer_freed) 0 ≡ false }
 {}
 
 /// The active count of a queue rises to its limit.

@@ -10,7 +10,7 @@ use Rattle.cmwq_types.specs.declared.instr.Instr.TheVariants as instr
 use Rattle.cmwq_types.specs.declared.instr.WorkId.{WorkId}
 use Rattle.cmwq_types.specs.declared.limits.TheConstants.{MAX_DEPTH, MAX_WORKS}
 use Rattle.cmwq_types.specs.declared.moves.Move.{Move}
-use Rattle.cmwq_types.specs.declared.moves.Move.TheVariants.{Advance, Wake, Start, Defer}
+use Rattle.cmwq_types.specs.declared.moves.Move.TheVariants.{Advance, Wake, Start, Defer, Rescue}
 use Rattle.cmwq_types.specs.declared.reply.Event.{Event}
 use Rattle.cmwq_types.specs.declared.reply.Event.TheVariants as event
 use Rattle.cmwq_types.specs.declared.reply.Place.{Place}
@@ -20,9 +20,9 @@ use Rattle.cmwq_types.specs.declared.reply.Refusal.TheVariants.{Spent, TooDeep}
 use Rattle.cmwq_types.specs.declared.scenario.Op.{Op}
 use Rattle.cmwq_types.specs.declared.scenario.Op.TheVariants as op
 use Rattle.cmwq_types.proofs.SettingLemmas.{IsSetting-valid}
-use Rattle.cmwq_table.specs.Counts.{first_due, first_inactive, free_worker, has_room, is_deferred, or_else}
+use Rattle.cmwq_table.specs.Counts.{first_due, first_inactive, free_worker, has_room, is_deferred, is_rescuer, or_else}
 use Rattle.cmwq_table.specs.Laws.{InEveryState}
-use Rattle.cmwq_table.specs.Moves.{advance, begin_again, carry_out, come_to_end, deferred, enlist, fill, fill_everywhere, fill_freezable, fill_from, fill_one, fill_pools, fill_times, finish, fire, fired, fired_to, first_moving, moved, next_move, onward, place, place_after, queue_from_body, retire, set_max, started, taken_off, thaw, tick, with_depth, with_pending, woken}
+use Rattle.cmwq_table.specs.Moves.{advance, become_idle, begin_again, carry_out, come_to_end, deferred, enlist, fill, fill_everywhere, fill_freezable, fill_from, fill_one, fill_pools, fill_times, finish, fire, fired, fired_to, first_moving, moved, next_move, onward, place, place_after, queue_from_body, rescued, retire, set_max, started, taken_off, thaw, tick, with_depth, with_pending, with_running, woken}
 use Rattle.cmwq_table.specs.Ready.{HasCounters, Takes, most_everywhere, most_stamps}
 use Rattle.cmwq_table.specs.State.{State, depth_at, is_disabled, pending_at, running_at, start}
 use Rattle.cmwq_table.specs.Table.{after_all, answer, cancelled, delayed, effect, fired_first, is_question, modified, next, operands, queued, refuse_unless, situation, spent_all, step_or_tick, stepped, table}
@@ -121,10 +121,14 @@ either-takes : (n : ℕ) (s : State) (b : Bool) (x y : State × Event) → Takes
 either-takes n s true x y a c = a
 either-takes n s false x y a c = c
 
+retire-takes : (s : State) (w : ℕ) (r : Running) (b : Bool) → Takes 1 s (cond {A = State} b (with_running s w None) (become_idle s w r))
+retire-takes s w r true = record { next = omega arith; time = refl; spent = refl; depth = refl; flushes = refl }
+retire-takes s w r false = record { next = omega arith; time = refl; spent = refl; depth = refl; flushes = refl }
+
 pub come_to_end-takes : (s : State) (w : ℕ) (r : Running) (p : Option Pending) → Takes 1 s (come_to_end s w r p).0
 come_to_end-takes s w r (Some p) =
-    either-takes 1 s (is_deferred p.place) (begin_again s w r p, event.FinishesAndStarts) (retire s w r, event.Finishes) (record { next = omega arith; time = refl; spent = refl; depth = refl; flushes = refl }) (record { next = omega arith; time = refl; spent = refl; depth = refl; flushes = refl })
-come_to_end-takes s w r None = record { next = omega arith; time = refl; spent = refl; depth = refl; flushes = refl }
+    either-takes 1 s (is_deferred p.place) (begin_again s w r p, event.FinishesAndStarts) (retire s w r, event.Finishes) (record { next = omega arith; time = refl; spent = refl; depth = refl; flushes = refl }) (retire-takes s w r (is_rescuer r.worker))
+come_to_end-takes s w r None = retire-takes s w r (is_rescuer r.worker)
 
 -- what a move takes at most
 abbrev pub most_of_move : ℕ
@@ -165,11 +169,16 @@ deferred-takes : (s : State) (pool w : ℕ) (p : Option Pending) → Takes most_
 deferred-takes s pool w (Some p) = record { next = omega arith; time = refl; spent = refl; depth = refl; flushes = refl }
 deferred-takes s pool w None = stays most_of_move s
 
+rescued-takes : (s : State) (pool w : ℕ) (p : Option Pending) → Takes most_of_move s (rescued s pool w p)
+rescued-takes s pool w (Some p) = record { next = omega arith; time = refl; spent = refl; depth = refl; flushes = refl }
+rescued-takes s pool w None = stays most_of_move s
+
 moved-takes : (S : ScenarioContents) (s : State) (pool : ℕ) (move : Move) → IsSetting S → Takes most_of_move s (moved S s pool move).0
 moved-takes S s pool (Advance w) setting = advance-takes S s w.0 (running_at s w.0) setting
 moved-takes S s pool (Wake w) setting = woken-takes s w.0 (running_at s w.0)
 moved-takes S s pool (Start w) setting = started-takes s pool w.0 (free_worker S s pool) (pending_at s w.0)
 moved-takes S s pool (Defer w) setting = deferred-takes s pool w.0 (pending_at s w.0)
+moved-takes S s pool (Rescue w) setting = rescued-takes s pool w.0 (pending_at s w.0)
 
 -- Instructions: what one that is no question takes at most, and a question takes nothing.
 
@@ -260,6 +269,8 @@ effect-costs S s (instr.Disable w) setting = cancelled-costs S (with_depth s w.0
 effect-costs S s (instr.Enable w) setting =
     let shallower = with_depth s w.0 (depth_at s w.0 - 1) in
     costs 0 shallower shallower (stays 0 shallower) (omega arith)
+effect-costs S s instr.Pressure setting = record { next = omega arith; time = omega arith; spent = refl; depth = refl }
+effect-costs S s instr.Relief setting = record { next = omega arith; time = omega arith; spent = refl; depth = refl }
 
 -- what holds of each depth and of one more holds of each once that is written
 pub set-within : (xs : List ℕ) (most i x : ℕ) → ((w : ℕ) → slice_index_or xs w 0 ≤ most) → x ≤ most → (w : ℕ) → slice_index_or (slice_set xs i x) w 0 ≤ most

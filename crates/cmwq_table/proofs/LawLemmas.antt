@@ -16,6 +16,7 @@ pub mod Moving
 pub mod Order
 pub mod PoolOrder
 pub mod Refusals
+pub mod Rescuers
 pub mod Room
 pub mod Runs
 pub mod Setting

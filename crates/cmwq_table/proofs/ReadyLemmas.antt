@@ -1,15 +1,15 @@
 -- Each change of the state keeps it ready.
-use Rattle.std.proofs.Common.{ℕ, suc, zero, ◌+◌, ◌<◌, Bool, true, false, cond, List, [], ◌∷◌, Option, Some, None, length, replicate, arith, ◌≡◌, subst}
+use Rattle.std.proofs.Common.{ℕ, suc, zero, ◌+◌, ◌<◌, Bool, true, false, cond, List, [], ◌∷◌, Option, Some, None, length, replicate, arith, ◌≡◌, refl, subst, inl, inr}
 use Rattle.std.specs.Prelude.{slice_set, slice_index_or}
 use Rattle.cmwq_types.specs.Contents.{ScenarioContents}
 use Rattle.cmwq_types.specs.Scenario.{pool_count}
 use Rattle.cmwq_types.specs.Setting.{IsSetting}
-use Rattle.cmwq_types.specs.declared.limits.TheConstants.{MAX_OPS}
+use Rattle.cmwq_types.specs.declared.limits.TheConstants.{MAX_OPS, RESCUER}
 use Rattle.cmwq_types.specs.declared.reply.Mode.TheVariants.{Asleep, Runnable}
 use Rattle.cmwq_types.specs.declared.reply.Place.{Place}
 use Rattle.cmwq_types.specs.declared.reply.Place.TheVariants.{Deferred}
-use Rattle.cmwq_table.specs.Counts.{burns}
-use Rattle.cmwq_table.specs.Moves.{begin_again, begun, burned, deferred, enlist, listed_at, newborn, one_less, retire, started_on, taking, tick, with_depth, with_flush, with_pending, with_running, woken}
+use Rattle.cmwq_table.specs.Counts.{burns, is_rescuer}
+use Rattle.cmwq_table.specs.Moves.{become_idle, begin_again, begin_on, begun, burned, deferred, enlist, listed_at, newborn, one_less, retire, started_on, taking, tick, with_depth, with_flush, with_pending, with_pressed, with_running, woken}
 use Rattle.cmwq_table.specs.Ready.{IsPendingReady, IsPlaceReady, IsReady, IsRunningReady}
 use Rattle.cmwq_table.specs.State.{State, pending_at, running_at, start}
 use Rattle.cmwq_table.specs.declared.state.FlushTarget.{FlushTarget}
@@ -83,18 +83,29 @@ begin_again-ready S s w r p ready is = let here = running_at-ready S s w r ready
   running = each-set (IsRunningReady S) s.running w (Some (begun p.born r.pool r.worker s.next)) ready.running (here.0, here.1, omega arith);
 }
 
-pub retire-ready : (S : ScenarioContents) (s : State) (w : ℕ) (r : Running) → IsReady S s → IsReady S (retire s w r)
-retire-ready S s w r ready = record {
+retire_if-ready : (S : ScenarioContents) (s : State) (w : ℕ) (r : Running) (b : Bool) → IsReady S s → IsReady S (cond {A = State} b (with_running s w None) (become_idle s w r))
+retire_if-ready S s w r true ready = with_running-ready S s w None ready tt
+retire_if-ready S s w r false ready = record {
   setting = ready.setting;
   pending = ready.pending;
   running = each-set (IsRunningReady S) s.running w None ready.running tt;
 }
 
+pub retire-ready : (S : ScenarioContents) (s : State) (w : ℕ) (r : Running) → IsReady S s → IsReady S (retire s w r)
+retire-ready S s w r ready = retire_if-ready S s w r (is_rescuer r.worker) ready
+
 pub started_on-ready : (S : ScenarioContents) (s : State) (pool w worker : ℕ) (p : Pending) → IsReady S s → pool < pool_count S → worker < S.workers → IsReady S (started_on s pool w worker p)
 started_on-ready S s pool w worker p ready pool_is_there worker_is_there = record {
   setting = ready.setting;
   pending = each-set (IsPendingReady S) s.pending w None ready.pending tt;
-  running = each-set (IsRunningReady S) s.running w (Some (begun p.born pool worker s.next)) ready.running (pool_is_there, omega (arith, ready.setting.workers), omega arith);
+  running = each-set (IsRunningReady S) s.running w (Some (begun p.born pool worker s.next)) ready.running (pool_is_there, inl (omega (arith, ready.setting.workers)), omega arith);
+}
+
+pub rescued-ready : (S : ScenarioContents) (s : State) (pool w : ℕ) (p : Pending) → IsReady S s → pool < pool_count S → IsReady S (begin_on s w pool RESCUER p)
+rescued-ready S s pool w p ready pool_is_there = record {
+  setting = ready.setting;
+  pending = each-set (IsPendingReady S) s.pending w None ready.pending tt;
+  running = each-set (IsRunningReady S) s.running w (Some (begun p.born pool RESCUER s.next)) ready.running (pool_is_there, inr refl, omega arith);
 }
 
 woken_as-ready : (S : ScenarioContents) (s : State) (w : ℕ) (r : Option Running) → IsReady S s → IsRunningReady S r → IsReady S (woken s w r)
@@ -132,6 +143,9 @@ max-ready S s max ready = record { setting = ready.setting; pending = ready.pend
 pub frozen-ready : (S : ScenarioContents) (s : State) (frozen : Bool) → IsReady S s → IsReady S (record s { frozen = frozen })
 frozen-ready S s frozen ready = record { setting = ready.setting; pending = ready.pending; running = ready.running }
 
+pub pressed-ready : (S : ScenarioContents) (s : State) (pressed : Bool) → IsReady S s → IsReady S (with_pressed s pressed)
+pressed-ready S s pressed ready = record { setting = ready.setting; pending = ready.pending; running = ready.running }
+
 pub flush-ready : (S : ScenarioContents) (s : State) (target : FlushTarget) → IsReady S s → IsReady S (with_flush s target)
 flush-ready S s target ready = record { setting = ready.setting; pending = ready.pending; running = ready.running }
 
@@ -156,4 +170,4 @@ start-ready S setting = record {
 }
 
 pub ruleset keeps_ready =
-    (unpend-ready, bear-ready, enlist-ready, deferred-ready, started_on-ready, running_at-ready, go_on-ready, sleep-ready, woken-ready, begin_again-ready, retire-ready, tick-ready, max-ready, frozen-ready, flush-ready, depth-ready, spent-ready, start-ready)
+    (unpend-ready, bear-ready, enlist-ready, deferred-ready, started_on-ready, rescued-ready, running_at-ready, go_on-ready, sleep-ready, woken-ready, begin_again-ready, retire-ready, tick-ready, max-ready, frozen-ready, pressed-ready, flush-ready, depth-ready, spent-ready, start-ready)

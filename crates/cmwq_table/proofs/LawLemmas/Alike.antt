@@ -1,4 +1,4 @@
--- States that differ in time, limits, depths or what is left to burn alone.
+-- States that differ in time, limits, depths, the shortage of memory or what is left to burn alone.
 use Rattle.std.proofs.Common.{◌≡◌, ℕ, zero, suc, ◌+◌, ◌<◌, ◌≤◌, Bool, true, false, not, cond, ◌&&◌, ◌||◌, List, [], ◌∷◌, length, Option, Some, None, arith, refl, sym, ap, ◌∙◌, subst, inl, inr}
 use Rattle.std.specs.Prelude.{slice_index_or, is_some, ◌==◌}
 use Rattle.cmwq_types.specs.Contents.{ScenarioContents}
@@ -10,7 +10,7 @@ use Rattle.cmwq_table.specs.declared.state.Pending.{Pending}
 use Rattle.cmwq_table.specs.declared.state.Running.{Running}
 use Rattle.cmwq_table.specs.State.{State, pending_at, running_at, is_unbound, max_at}
 use Rattle.cmwq_table.specs.Counts.{active, burns, counted, has_instance, is_active, is_counted, is_runnable, pends, placed_born, runs}
-use Rattle.cmwq_table.specs.Moves.{burned, one_less, tick, with_depth}
+use Rattle.cmwq_table.specs.Moves.{burned, one_less, tick, with_depth, with_pressed}
 use Rattle.cmwq_table.proofs.LawLemmas.Changes.{IsLong, IsPoolOf, RunsIn}
 use Rattle.cmwq_table.proofs.LawLemmas.Counting.{count_below-same}
 use Rattle.cmwq_table.proofs.LawLemmas.Concurrency.{runnable}
@@ -20,7 +20,7 @@ use Rattle.cmwq_table.proofs.LawLemmas.Worklist.{IsInListOrder}
 
 -- two works run alike, but for what they have left to burn, or neither runs
 abbrev pub RunsAlike : Option Running → Option Running → Type 0
-RunsAlike (Some r) (Some q) = (q.born ≡ r.born) × (q.pool ≡ r.pool) × (q.mode ≡ r.mode)
+RunsAlike (Some r) (Some q) = (q.born ≡ r.born) × (q.pool ≡ r.pool) × (q.mode ≡ r.mode) × (q.worker ≡ r.worker)
 RunsAlike (Some r) None = ⊥
 RunsAlike None (Some q) = ⊥
 RunsAlike None None = Unit {0}
@@ -34,7 +34,7 @@ pub record IsAlike (S : ScenarioContents) (s t : State) : Type 0 where
   pub made : t.made ≡ s.made
 
 pub itself : (r : Option Running) → RunsAlike r r
-itself (Some r) = (refl, refl, refl)
+itself (Some r) = (refl, refl, refl, refl)
 itself None = tt
 
 -- a state with another limit, or another freeze
@@ -59,6 +59,17 @@ alike-depth S s w depth = record {
   made = refl;
 }
 
+-- a state in which memory is short, or isn't
+pub alike-pressed : (S : ScenarioContents) (s : State) (pressed : Bool) → IsAlike S s (with_pressed s pressed)
+alike-pressed S s pressed = record {
+  pending = λ w. refl;
+  running = λ w. itself (running_at s w);
+  long = λ long. record { pending = long.pending; running = long.running };
+  next = refl;
+  flushes = refl;
+  made = refl;
+}
+
 -- a tick
 
 burned-length : (f : ℕ → Option Running → Bool) (w : ℕ) (rs : List (Option Running)) → length (burned f w rs) ≡ length rs
@@ -66,8 +77,8 @@ burned-length f w [] = refl
 burned-length f w (r ∷ rs) = ap suc (burned-length f (w + 1) rs)
 
 burned-one : (r : Option Running) (b : Bool) → RunsAlike r (cond b (one_less r) r)
-burned-one (Some r) true = (refl, refl, refl)
-burned-one (Some r) false = (refl, refl, refl)
+burned-one (Some r) true = (refl, refl, refl, refl)
+burned-one (Some r) false = (refl, refl, refl, refl)
 burned-one None true = tt
 burned-one None false = tt
 

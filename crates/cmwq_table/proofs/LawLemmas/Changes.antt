@@ -6,7 +6,7 @@ use Rattle.cmwq_types.specs.declared.reply.Place.TheVariants.{Timer, Inactive, L
 use Rattle.cmwq_table.specs.declared.state.Pending.{Pending}
 use Rattle.cmwq_table.specs.declared.state.Running.{Running}
 use Rattle.cmwq_table.specs.State.{State, pending_at, running_at, depth_at, made_at, pool_count, target}
-use Rattle.cmwq_table.specs.Counts.{has_room, may_start, first_inactive, is_deferred, is_runnable, pends}
+use Rattle.cmwq_table.specs.Counts.{has_free_rescuer, has_room, is_rescuer, may_start, first_inactive, is_deferred, is_runnable, pends}
 use Rattle.cmwq_table.specs.Moves.{newborn, begun, fill}
 
 -- the maps of the pending and of the running works have a place for each work
@@ -63,16 +63,17 @@ pub data Kind (S : ScenarioContents) (places wakes : Bool) (s : State) (w : ℕ)
   activated : (born stamp : ℕ) (r : Option Running) (pool : ℕ) → has_room S s (queue_of S w) pool ≡ true
       → first_inactive S s (queue_of S w) pool ≡ Some w
       → Kind S places wakes s w None (Some (record { born = born; stamp = stamp; place = Inactive pool })) r (Some (record { born = born; stamp = s.next; place = Listed pool })) r (s.next + 1)
-  started : (born stamp pool worker : ℕ) → may_start S s pool ≡ true
+  started : (born stamp pool worker : ℕ) → may_start S s pool ≡ true → (is_rescuer worker ≡ true → has_free_rescuer S s (queue_of S w) ≡ true)
       → Kind S places wakes s w None (Some (record { born = born; stamp = stamp; place = Listed pool })) None None (Some (begun born pool worker s.next)) (s.next + 1)
   deferred : (born stamp pool : ℕ) (r : Running)
       → Kind S places wakes s w None (Some (record { born = born; stamp = stamp; place = Listed pool })) (Some r) (Some (record { born = born; stamp = stamp; place = Deferred pool })) (Some r) s.next
-  goes_on : (p : Option Pending) (r q : Running) → q.born ≡ r.born → q.pool ≡ r.pool → (is_runnable q.mode ≡ true → is_runnable r.mode ≡ true)
+  goes_on : (p : Option Pending) (r q : Running) → q.born ≡ r.born → q.pool ≡ r.pool → q.worker ≡ r.worker → (is_runnable q.mode ≡ true → is_runnable r.mode ≡ true)
       → Kind S places wakes s w None p (Some r) p (Some q) s.next
-  woken : (p : Option Pending) (r q : Running) → wakes ≡ true → q.born ≡ r.born → q.pool ≡ r.pool → Kind S places wakes s w None p (Some r) p (Some q) (s.next + 1)
+  woken : (p : Option Pending) (r q : Running) → wakes ≡ true → q.born ≡ r.born → q.pool ≡ r.pool → q.worker ≡ r.worker
+      → Kind S places wakes s w None p (Some r) p (Some q) (s.next + 1)
   again : (born stamp pool : ℕ) (r : Running) → is_runnable r.mode ≡ true
       → Kind S places wakes s w (Some r.pool) (Some (record { born = born; stamp = stamp; place = Deferred pool })) (Some r) None (Some (begun born r.pool r.worker s.next)) (s.next + 1)
-  retired : (p : Option Pending) (r : Running) → pends is_deferred p ≡ false → Kind S places wakes s w (Some r.pool) p (Some r) p None (s.next + 1)
+  retired : (p : Option Pending) (r : Running) (next : ℕ) → pends is_deferred p ≡ false → s.next ≤ next → Kind S places wakes s w (Some r.pool) p (Some r) p None next
 
 -- a change of one work
 pub record Change (S : ScenarioContents) (places wakes : Bool) (left : Option ℕ) (s t : State) (w : ℕ) : Type 0 where

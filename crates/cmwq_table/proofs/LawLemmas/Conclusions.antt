@@ -2,13 +2,13 @@
 use Rattle.std.proofs.Common.{◌≡◌, ℕ, zero, suc, ◌+◌, ◌<◌, ◌≤◌, Bool, true, false, not, cond, ◌&&◌, List, [], ◌∷◌, ◌++◌, length, Option, Some, None, arith, refl, sym, ap, ◌∙◌, subst, inl, inr}
 use Rattle.std.proofs.lemmas.Bool.{and_from, cases_Bool, cases_lt, eq-eqb, eqb-true, le-ltb, lt-ltb, ltb-false, ne_eqb, or_left, or_parts, or_right}
 use Rattle.std.proofs.lemmas.List.{get_or_append_left, get_or_past, length-append}
-use Rattle.std.specs.Prelude.{is_some, nat_lt, slice_index_or, ◌==◌}
+use Rattle.std.specs.Prelude.{is_none, is_some, nat_lt, slice_index_or, ◌==◌}
 use Rattle.cmwq_types.specs.Contents.{ScenarioContents}
 use Rattle.cmwq_types.specs.First.{MatchFirst}
 use Rattle.cmwq_types.specs.Scenario.{queue_of}
 use Rattle.cmwq_types.specs.declared.instr.Instr.{Instr}
 use Rattle.cmwq_types.specs.declared.moves.Move.{Move}
-use Rattle.cmwq_types.specs.declared.moves.Move.TheVariants.{Advance, Wake}
+use Rattle.cmwq_types.specs.declared.moves.Move.TheVariants.{Advance, Wake, Rescue}
 use Rattle.cmwq_types.specs.declared.reply.Place.{Place}
 use Rattle.cmwq_types.specs.declared.reply.Place.TheVariants.{Timer, Inactive, Listed, Deferred}
 use Rattle.cmwq_types.specs.declared.reply.Reply.{Reply}
@@ -18,10 +18,10 @@ use Rattle.cmwq_table.specs.declared.state.FlushTarget.TheVariants.{Instance, Qu
 use Rattle.cmwq_table.specs.declared.state.Pending.{Pending}
 use Rattle.cmwq_table.specs.declared.state.Running.{Running}
 use Rattle.cmwq_table.specs.State.{State, idle_at, is_unbound, made_at, pending_at, pool_count, running_at, target}
-use Rattle.cmwq_table.specs.Counts.{active, counted, first_listed, first_slept, free_worker, has_instance, idle_stamp, is_deferred, is_done, is_inactive, is_listed, is_placed, last_idle, limit, may_start, new_worker, pends, placed_born, pending_before, queued_before, ready_head, runs}
+use Rattle.cmwq_table.specs.Counts.{active, can_be_rescued, counted, first_listed, first_rescued, first_slept, free_worker, has_free_rescuer, has_instance, idle_stamp, is_deferred, is_done, is_inactive, is_listed, is_placed, last_idle, limit, may_start, new_worker, pends, placed_born, pending_before, queued_before, ready_head, runs}
 use Rattle.cmwq_table.specs.Counts as counts
-use Rattle.cmwq_table.specs.Laws.{ActivatesInOrder, ActiveInSince, AtEveryInstruction, CannotStart, GoesInOrder, HasInstance, HasNoIdleWorker, InEveryState, IsListedIn, IsNotPendingDisabled, LeavesNoRoom, ListsInOrder, TimeWaitsForStarts, RisesByWakes, RisesWithinLimit, IsNotReentrant, StayDone, WaitForInstances, placed_in, reply_to, state_after, tells_wake}
-use Rattle.cmwq_table.specs.Moves.{as_move, first_moving, next_move, start_first, start_move, take_listed}
+use Rattle.cmwq_table.specs.Laws.{ActivatesInOrder, ActiveInSince, AtEveryInstruction, CannotStart, GoesInOrder, HasInstance, HasNoIdleWorker, HasOneRescuer, InEveryState, IsListedIn, IsNotPendingDisabled, LeavesNoRoom, ListsInOrder, RescuersWork, TimeWaitsForStarts, RisesByWakes, RisesWithinLimit, IsNotReentrant, StayDone, WaitForInstances, placed_in, reply_to, state_after, tells_wake}
+use Rattle.cmwq_table.specs.Moves.{as_move, first_moving, next_move, start_first, start_move, start_or_rescue, take_listed}
 use Rattle.cmwq_table.specs.Ready.{IsPlaceReady}
 use Rattle.cmwq_table.specs.Table.{after_all, run, target_at}
 use Rattle.cmwq_table.proofs.LawLemmas.Alike.{alike-active, alike-counted, alike-instances, alike-order, alike-sound}
@@ -31,7 +31,7 @@ use Rattle.cmwq_table.proofs.LawLemmas.Effects.{Effect, IsSettled, with_given}
 use Rattle.cmwq_table.proofs.LawLemmas.Fills.{waits-in_range}
 use Rattle.cmwq_table.proofs.LawLemmas.Instances.{BringsNoneBack, Follows-flushes, Follows-instances, Follows-next, Follows-time}
 use Rattle.cmwq_table.proofs.LawLemmas.Levels.{Follows-active, Follows-limit, RisesWithin}
-use Rattle.cmwq_table.proofs.LawLemmas.Moving.{listed-is_first}
+use Rattle.cmwq_table.proofs.LawLemmas.Moving.{listed-is_first, rescued-is_first}
 use Rattle.cmwq_table.proofs.LawLemmas.Order.{active-there, at-most-one, inactive-there}
 use Rattle.cmwq_table.proofs.LawLemmas.PoolOrder.{Follows-waits, HasActiveAt, HasInactiveAt, IsInPoolOrder, PendsActiveAt, RanAt, WaitsSince, active-below, waits-then}
 use Rattle.cmwq_table.proofs.LawLemmas.Runs.{IsReached, Outcome, outcome-is, run-reached, table-reached}
@@ -116,15 +116,17 @@ no-idle : (S : ScenarioContents) (s : State) (pool : ℕ) → (o : Option ℕ)
 no-idle S s pool (Some worker) first e = cc
 no-idle S s pool None none e = λ worker h. no-some (idle_at s pool worker) (none worker h)
 
-all-made : (made most : ℕ) (b : Bool) → nat_lt made most ≡ b → cond b (Some made) None ≡ None → made ≤ most → made ≡ most
-all-made made most true test e within = cc
-all-made made most false test e within = let over : most ≤ made = ltb-false made most test in omega arith
+all-made : (made most : ℕ) (pressed b : Bool) → nat_lt made most ≡ b → cond (not pressed && b) (Some made) None ≡ None → made ≤ most → pressed ≡ false → made ≡ most
+all-made made most true b test e within ample = cc
+all-made made most false true test e within ample = cc
+all-made made most false false test e within ample = let over : most ≤ made = ltb-false made most test in omega arith
 
-no-worker : (S : ScenarioContents) (s : State) (pool : ℕ) → IsSound S s → free_worker S s pool ≡ None → HasNoIdleWorker S s pool × (made_at s pool ≡ S.workers)
+no-worker : (S : ScenarioContents) (s : State) (pool : ℕ) → IsSound S s → free_worker S s pool ≡ None
+    → HasNoIdleWorker S s pool × (s.pressed ≡ false → made_at s pool ≡ S.workers)
 no-worker S s pool sound e =
     let both = none-free S s pool (last_idle S s pool) (new_worker S s pool) e in (
       no-idle S s pool (last_idle S s pool) (first_below-is_first (λ v w. nat_lt (idle_stamp (idle_at s pool w)) (idle_stamp (idle_at s pool v))) (λ worker. is_some (idle_at s pool worker)) S.workers (by_greatest-order (λ worker. idle_stamp (idle_at s pool worker)))) both.0,
-      all-made (made_at s pool) S.workers (nat_lt (made_at s pool) S.workers) refl both.1 (sound.made pool),
+      all-made (made_at s pool) S.workers s.pressed (nat_lt (made_at s pool) S.workers) refl both.1 (sound.made pool),
     )
 
 not-taken : (w : ℕ) (r : Option Running) (worker : Option ℕ) → take_listed w r worker ≡ None → worker ≡ None
@@ -144,11 +146,17 @@ not-zero : (n : ℕ) → (n == 0) ≡ false → 0 < n
 not-zero zero e = cc
 not-zero (suc n) e = omega arith
 
+none-first : (a b : Option Move) → counts.or_else a b ≡ None → a ≡ None
+none-first (Some move) b e = cc
+none-first None b e = refl
+
 cannot-start : (S : ScenarioContents) (s : State) (pool w : ℕ) → IsSound S s → w < length S.works
     → pends (λ place. is_listed place pool) (pending_at s w) ≡ true → (b : Bool) → may_start S s pool ≡ b
-    → cond b (start_first s (first_listed S s pool) (free_worker S s pool)) None ≡ None → CannotStart S s pool
+    → cond b (start_or_rescue S s pool) None ≡ None → CannotStart S s pool
 cannot-start S s pool w sound h listed true may e =
-    inr (no-worker S s pool sound (not-first S s pool w (free_worker S s pool) (first_listed S s pool) h listed (listed-is_first S s pool) e))
+    let first : start_first s (first_listed S s pool) (free_worker S s pool) ≡ None =
+    none-first (start_first s (first_listed S s pool) (free_worker S s pool)) (as_move Rescue (first_rescued S s pool)) e in
+    inr (no-worker S s pool sound (not-first S s pool w (free_worker S s pool) (first_listed S s pool) h listed (listed-is_first S s pool) first))
 cannot-start S s pool w sound h listed false may e = inl (not-zero (counted S s pool) (or_parts (is_unbound S pool) (counted S s pool == 0) may).1)
 
 listed-in_range : (S : ScenarioContents) (pool : ℕ) (place : Place) → IsPlaceReady S place → is_listed place pool ≡ true → pool < pool_count S
@@ -317,6 +325,44 @@ is_not_reentrant S valid instrs w p is =
       λ r runs placed. place-once S w r p.place (subst (λ (o : Option Running). StandsWithRun S w o p.place) runs fits.pending.stands) placed,
       λ deferred. place-deferred S w (running_at s w) p.place fits.pending.stands deferred,
     )
+
+-- Rescuers.
+
+pub has_one_rescuer : InEveryState HasOneRescuer
+unfolding HasOneRescuer
+has_one_rescuer S valid instrs = let rescued = (run-reached S instrs valid).rescued in (rescued.reclaims, rescued.alone)
+
+passing-some : (before : ℕ → ℕ → Bool) (test : ℕ → Bool) (n : ℕ) (o : Option ℕ) → MatchFirst before test n o → (w : ℕ) → w < n → test w ≡ true → is_some o ≡ true
+passing-some before test n (Some m) first w h e = refl
+passing-some before test n None none w h e = cc (none w h, e)
+
+later-some : (a b : Option Move) → is_some b ≡ true → is_some (counts.or_else a b) ≡ true
+later-some (Some move) b e = refl
+later-some None b e = e
+
+move-some : (o : Option ℕ) → is_some o ≡ true → is_some (as_move Rescue o) ≡ true
+move-some (Some w) e = refl
+move-some None e = cc
+
+if-some : (b : Bool) (o : Option Move) → b ≡ true → is_some o ≡ true → is_some (cond b o None) ≡ true
+if-some true o may e = e
+if-some false o may e = cc
+
+pub rescuers_work : InEveryState RescuersWork
+unfolding RescuersWork
+rescuers_work S valid instrs pool w may listed idle free =
+    let s = run S instrs in
+    let is : pends (λ place. is_listed place pool) (pending_at s w) ≡ true = ap (pends (λ place. is_listed place pool)) listed.1 ∙ listed.2 in
+    let there : w < length S.works = waits-in_range S s w (λ place. is_listed place pool) (run-reached S instrs valid).sound.long is in
+    let passes : can_be_rescued S s pool w ≡ true =
+    and_from (pends (λ place. is_listed place pool) (pending_at s w)) (is_none (running_at s w) && has_free_rescuer S s (queue_of S w)) is
+    (and_from (is_none (running_at s w)) (has_free_rescuer S s (queue_of S w)) (ap is_none idle) free) in
+    let some : is_some (first_rescued S s pool) ≡ true =
+    passing-some (pending_before s) (can_be_rescued S s pool) (length S.works) (first_rescued S s pool) (rescued-is_first S s pool) w there passes in
+    let moves : is_some (start_or_rescue S s pool) ≡ true =
+    later-some (start_first s (first_listed S s pool) (free_worker S s pool)) (as_move Rescue (first_rescued S s pool)) (move-some (first_rescued S s pool) some) in
+    later-some (as_move Advance (ready_head S s pool)) (counts.or_else (as_move Wake (first_slept S s pool)) (start_move S s pool))
+    (later-some (as_move Wake (first_slept S s pool)) (start_move S s pool) (if-some (may_start S s pool) (start_or_rescue S s pool) may moves))
 
 -- Flushes.
 

@@ -63,15 +63,15 @@ Kind-runnable S places wakes s w left a b c d n pool quiet (Kind.taken_inactive 
 Kind-runnable S places wakes s w left a b c d n pool quiet (Kind.taken_listed born stamp r at) = inl (omega arith)
 Kind-runnable S places wakes s w left a b c d n pool quiet (Kind.taken_deferred born stamp r at) = inl (omega arith)
 Kind-runnable S places wakes s w left a b c d n pool quiet (Kind.activated born stamp r at room first) = inl (omega arith)
-Kind-runnable S places wakes s w left a b c d n pool quiet (Kind.started born stamp at worker may) =
+Kind-runnable S places wakes s w left a b c d n pool quiet (Kind.started born stamp at worker may free) =
     starts-counted S s at pool (not (flags_at S (queue_of S w)).cpu_intensive) may (at == pool) refl
 Kind-runnable S places wakes s w left a b c d n pool quiet (Kind.deferred born stamp at r) = inl (omega arith)
-Kind-runnable S places wakes s w left a b c d n pool quiet (Kind.goes_on p r q same_born same_pool mode) =
+Kind-runnable S places wakes s w left a b c d n pool quiet (Kind.goes_on p r q same_born same_pool same_worker mode) =
     inl (goes-on r q pool (not (flags_at S (queue_of S w)).cpu_intensive) same_pool mode)
-Kind-runnable S places wakes s w left a b c d n pool quiet (Kind.woken p r q wake same_born same_pool) = cc
+Kind-runnable S places wakes s w left a b c d n pool quiet (Kind.woken p r q wake same_born same_pool same_worker) = cc
 Kind-runnable S places wakes s w left a b c d n pool quiet (Kind.again born stamp at r run) =
     inl (goes-on-counted (r.pool == pool) (is_runnable r.mode) true (not (flags_at S (queue_of S w)).cpu_intensive) (λ e. run))
-Kind-runnable S places wakes s w left a b c d n pool quiet (Kind.retired p r e) = inl (omega arith)
+Kind-runnable S places wakes s w left a b c d n pool quiet (Kind.retired p r next e later) = inl (omega arith)
 
 -- the level, from whether the pool is unbound
 level-rises : (unbound : Bool) (after before : ℕ) → RisesIf ((unbound || (cond unbound 0 before == 0)) ≡ true) after before

@@ -44,12 +44,12 @@ Kind-off S places wakes s w left a b c d n deep idle (Kind.taken_inactive born s
 Kind-off S places wakes s w left a b c d n deep idle (Kind.taken_listed born stamp r at) = refl
 Kind-off S places wakes s w left a b c d n deep idle (Kind.taken_deferred born stamp r at) = refl
 Kind-off S places wakes s w left a b c d n deep idle (Kind.activated born stamp r at room first) = cc
-Kind-off S places wakes s w left a b c d n deep idle (Kind.started born stamp at worker may) = refl
+Kind-off S places wakes s w left a b c d n deep idle (Kind.started born stamp at worker may free) = refl
 Kind-off S places wakes s w left a b c d n deep idle (Kind.deferred born stamp at r) = cc
-Kind-off S places wakes s w left a b c d n deep idle (Kind.goes_on p r q same_born same_pool mode) = idle
-Kind-off S places wakes s w left a b c d n deep idle (Kind.woken p r q wake same_born same_pool) = idle
+Kind-off S places wakes s w left a b c d n deep idle (Kind.goes_on p r q same_born same_pool same_worker mode) = idle
+Kind-off S places wakes s w left a b c d n deep idle (Kind.woken p r q wake same_born same_pool same_worker) = idle
 Kind-off S places wakes s w left a b c d n deep idle (Kind.again born stamp at r run) = refl
-Kind-off S places wakes s w left a b c d n deep idle (Kind.retired p r e) = idle
+Kind-off S places wakes s w left a b c d n deep idle (Kind.retired p r next e later) = idle
 
 Change-off : (S : ScenarioContents) (places wakes : Bool) (left : Option ℕ) (s t : State) (w v : ℕ) → 0 < depth_at s v → pending_at s v ≡ None
     → Change S places wakes left s t w → pending_at t v ≡ None

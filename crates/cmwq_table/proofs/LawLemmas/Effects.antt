@@ -1,4 +1,4 @@
--- What an instruction does: time, limits or a depth change, then comes a chain of changes, then a flush may be given.
+-- What an instruction does: time, limits, a depth or the shortage of memory change, then comes a chain of changes, then a flush may be given.
 use Rattle.std.proofs.Common.{◌≡◌, ℕ, ◌+◌, ◌-◌, ◌<◌, ◌≤◌, Bool, true, false, not, cond, ◌&&◌, ◌||◌, List, length, Option, Some, None, arith, refl, ap, ◌∙◌, inl, inr, ◌⊎◌}
 use Rattle.std.proofs.lemmas.Bool.{ltb-true, not-true}
 use Rattle.std.specs.Prelude.{nat_lt, slice_index_or, ◌==◌}
@@ -20,9 +20,9 @@ use Rattle.cmwq_table.specs.State.{State, depth_at, is_disabled, max_at, pending
 use Rattle.cmwq_table.specs.Counts.{first_due, is_due, is_placed, pending_due, pending_stamp, pends}
 use Rattle.cmwq_table.specs.Counts as counts
 use Rattle.cmwq_table.specs.Laws.{tells_wake}
-use Rattle.cmwq_table.specs.Moves.{fire, first_moving, freeze, last_instance, moved, next_move, place, place_after, running_instance, set_max, take_off, taken_off, thaw, tick, with_depth, with_flush}
+use Rattle.cmwq_table.specs.Moves.{fire, first_moving, freeze, last_instance, moved, next_move, place, place_after, running_instance, set_max, take_off, taken_off, thaw, tick, with_depth, with_flush, with_pressed}
 use Rattle.cmwq_table.specs.Table.{cancelled, delayed, disabled, effect, enabled, fired_first, modified, next, no_work, no_work_or_cpu, operands, queued, refuse_unless, situation, step_or_tick, stepped, unsettled, while_enabled}
-use Rattle.cmwq_table.proofs.LawLemmas.Alike.{IsAlike, alike-depth, alike-limits, alike-sound, alike-tick, itself}
+use Rattle.cmwq_table.proofs.LawLemmas.Alike.{IsAlike, alike-depth, alike-limits, alike-pressed, alike-sound, alike-tick, itself}
 use Rattle.cmwq_table.proofs.LawLemmas.Changes.{Follows, Follows-then}
 use Rattle.cmwq_table.proofs.LawLemmas.Disabled.{Follows-all_off, Follows-depth, Follows-off_but, IsOff, disabled-deep, enabled-zero}
 use Rattle.cmwq_table.proofs.LawLemmas.Limits.{alike-full, freeze-full, limited, limited-ordered, limited-sound, set_max-full, thaw-full, thawed, thawed-sound}
@@ -45,7 +45,7 @@ GivenFits next (Some target) = FitsTarget next target
 GivenFits next None = Unit {0}
 
 pub record Effect (S : ScenarioContents) (wakes : Bool) (s t : State) : Type 0 where
-  -- the state with another time, other limits or another depth of a work
+  -- the state with another time, other limits, another depth of a work, or short of memory or not
   pub begun : State
   pub alike : IsAlike S s begun
   pub time : (begun.time ≡ s.time) ⊎ IsSettled S s
@@ -118,6 +118,23 @@ module _ (S : ScenarioContents) (s : State) (setting : IsSetting S) (sound : IsS
     ended = freeze s;
     follows = Follows.stays false wakes (freeze s);
     ended_full = freeze-full S s are_full;
+    ended_off = off;
+    given = None;
+    given_fits = tt;
+    after = refl;
+  }
+
+  presses : (wakes pressed : Bool) → Effect S wakes s (with_pressed s pressed)
+  presses wakes pressed = record {
+    begun = with_pressed s pressed;
+    alike = alike-pressed S s pressed;
+    time = inl refl;
+    ordered = sound.ordered;
+    places = false;
+    begun_full = λ e. cc;
+    ended = with_pressed s pressed;
+    follows = Follows.stays false wakes (with_pressed s pressed);
+    ended_full = are_full;
     ended_off = off;
     given = None;
     given_fits = tt;
@@ -340,3 +357,5 @@ effect-is S s (instr.Disable w) setting sound are_full off operands_fit situatio
     disabled-effect S s setting sound are_full off (tells_wake (disabled S s w.0 (pending_at s w.0)).1) w.0 (pending_at s w.0) (work-there S w operands_fit) refl
 effect-is S s (instr.Enable w) setting sound are_full off operands_fit situation_fits =
     enabled-effect S s setting sound are_full off (tells_wake (enabled s w.0 (depth_at s w.0 - 1)).1) w.0 (depth_at s w.0 - 1) (disabled-deep (depth_at s w.0) (granted (is_disabled s w.0) NotDisabled situation_fits))
+effect-is S s instr.Pressure setting sound are_full off operands_fit situation_fits = presses S s setting sound are_full off false true
+effect-is S s instr.Relief setting sound are_full off operands_fit situation_fits = presses S s setting sound are_full off false false

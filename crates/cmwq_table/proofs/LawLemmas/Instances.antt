@@ -38,12 +38,12 @@ Kind-instance S places wakes s w left a b c d n test early (Kind.taken_inactive 
 Kind-instance S places wakes s w left a b c d n test early (Kind.taken_listed born stamp r at) h = or_right (test born) (runs (λ r. test r.born) r) h
 Kind-instance S places wakes s w left a b c d n test early (Kind.taken_deferred born stamp r at) h = or_right (test born) (runs (λ r. test r.born) r) h
 Kind-instance S places wakes s w left a b c d n test early (Kind.activated born stamp r at room first) h = h
-Kind-instance S places wakes s w left a b c d n test early (Kind.started born stamp at worker may) h = or_left (test born) false h
+Kind-instance S places wakes s w left a b c d n test early (Kind.started born stamp at worker may free) h = or_left (test born) false h
 Kind-instance S places wakes s w left a b c d n test early (Kind.deferred born stamp at r) h = h
-Kind-instance S places wakes s w left a b c d n test early (Kind.goes_on p r q same_born same_pool mode) h = born-same test p r q same_born h
-Kind-instance S places wakes s w left a b c d n test early (Kind.woken p r q wake same_born same_pool) h = born-same test p r q same_born h
+Kind-instance S places wakes s w left a b c d n test early (Kind.goes_on p r q same_born same_pool same_worker mode) h = born-same test p r q same_born h
+Kind-instance S places wakes s w left a b c d n test early (Kind.woken p r q wake same_born same_pool same_worker) h = born-same test p r q same_born h
 Kind-instance S places wakes s w left a b c d n test early (Kind.again born stamp at r run) h = or_left (test born) (test r.born) h
-Kind-instance S places wakes s w left a b c d n test early (Kind.retired p r e) h = or_left (placed_born test p) (test r.born) (left-of (placed_born test p) false refl h)
+Kind-instance S places wakes s w left a b c d n test early (Kind.retired p r next e later) h = or_left (placed_born test p) (test r.born) (left-of (placed_born test p) false refl h)
 
 -- what has an instance on a test of earlier births then, had one before
 abbrev pub BringsNoneBack : State → State → Type 0

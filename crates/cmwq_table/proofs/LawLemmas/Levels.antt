@@ -85,15 +85,15 @@ Kind-active S places wakes s w left a b c d n queue pool (Kind.taken_deferred bo
     inl (falls (queue_of S w == queue) (at == pool) (bit ((queue_of S w == queue) && runs (λ r. r.pool == pool) r)))
 Kind-active S places wakes s w left a b c d n queue pool (Kind.activated born stamp r at room first) =
     activates S s w at queue pool (bit ((queue_of S w == queue) && runs (λ r. r.pool == pool) r)) room (queue_of S w == queue) (at == pool) refl refl
-Kind-active S places wakes s w left a b c d n queue pool (Kind.started born stamp at worker may) = inl (passes-on (queue_of S w == queue) (at == pool))
+Kind-active S places wakes s w left a b c d n queue pool (Kind.started born stamp at worker may free) = inl (passes-on (queue_of S w == queue) (at == pool))
 Kind-active S places wakes s w left a b c d n queue pool (Kind.deferred born stamp at r) = inl (omega arith)
-Kind-active S places wakes s w left a b c d n queue pool (Kind.goes_on p r q same_born same_pool mode) =
+Kind-active S places wakes s w left a b c d n queue pool (Kind.goes_on p r q same_born same_pool same_worker mode) =
     inl (pool-same (queue_of S w == queue) r.pool q.pool pool (bit ((queue_of S w == queue) && pends (λ place. is_active place pool) p)) same_pool)
-Kind-active S places wakes s w left a b c d n queue pool (Kind.woken p r q wake same_born same_pool) =
+Kind-active S places wakes s w left a b c d n queue pool (Kind.woken p r q wake same_born same_pool same_worker) =
     inl (pool-same (queue_of S w == queue) r.pool q.pool pool (bit ((queue_of S w == queue) && pends (λ place. is_active place pool) p)) same_pool)
 Kind-active S places wakes s w left a b c d n queue pool (Kind.again born stamp at r run) =
     inl (falls (queue_of S w == queue) (at == pool) (bit ((queue_of S w == queue) && (r.pool == pool))))
-Kind-active S places wakes s w left a b c d n queue pool (Kind.retired p r e) =
+Kind-active S places wakes s w left a b c d n queue pool (Kind.retired p r next e later) =
     inl (falls-right (queue_of S w == queue) (r.pool == pool) (bit ((queue_of S w == queue) && pends (λ place. is_active place pool) p)))
 
 -- a count that doesn't rise, or is then within the bound

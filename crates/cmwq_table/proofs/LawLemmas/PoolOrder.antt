@@ -144,17 +144,17 @@ Kind-order S places wakes s w left a b c d n pool sound are_full is fits (Kind.a
           omega (arith, pends.1))
       | inr ran ↦ inl (inr ran)
     ])
-Kind-order S places wakes s w left a b c d n pool sound are_full is fits (Kind.started born stamp at worker may) =
+Kind-order S places wakes s w left a b c d n pool sound are_full is fits (Kind.started born stamp at worker may free) =
     Orders.quiet (λ birth h. elim h [ inl pends ↦ absurd pends | inr ran ↦ inl (eq-eqb at pool ran.0, ran.1) ]) (λ later h. absurd h)
 Kind-order S places wakes s w left a b c d n pool sound are_full is fits (Kind.deferred born stamp at r) =
     Orders.quiet (λ birth h. elim h [ inl pends ↦ inl pends | inr ran ↦ inr ran ]) (λ later h. cc)
-Kind-order S places wakes s w left a b c d n pool sound are_full is fits (Kind.goes_on p r q same_born same_pool mode) =
+Kind-order S places wakes s w left a b c d n pool sound are_full is fits (Kind.goes_on p r q same_born same_pool same_worker mode) =
     Orders.quiet (moves-on pool p r q same_born same_pool) (λ later h. inl h)
-Kind-order S places wakes s w left a b c d n pool sound are_full is fits (Kind.woken p r q wake same_born same_pool) =
+Kind-order S places wakes s w left a b c d n pool sound are_full is fits (Kind.woken p r q wake same_born same_pool same_worker) =
     Orders.quiet (moves-on pool p r q same_born same_pool) (λ later h. inl h)
 Kind-order S places wakes s w left a b c d n pool sound are_full is fits (Kind.again born stamp at r run) =
     Orders.quiet (λ birth h. elim h [ inl pends ↦ absurd pends | inr ran ↦ inl (eq-eqb at pool (sym fits.pending.stands.1 ∙ ran.0), ran.1) ]) (λ later h. absurd h)
-Kind-order S places wakes s w left a b c d n pool sound are_full is fits (Kind.retired p r e) =
+Kind-order S places wakes s w left a b c d n pool sound are_full is fits (Kind.retired p r next e later) =
     Orders.quiet (λ birth h. elim h [ inl pends ↦ inl pends | inr ran ↦ absurd ran ]) (λ later h. inl h)
 
 -- births lie below the next stamp

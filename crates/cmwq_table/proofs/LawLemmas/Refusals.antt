@@ -99,6 +99,8 @@ effect-told S s instr.Busy fits = answer-told (is_busy S s)
 effect-told S s (instr.State w) fits = λ why e. cc
 effect-told S s (instr.Disable w) fits = disabled-told S s w.0 (pending_at s w.0)
 effect-told S s (instr.Enable w) fits = answer-told ((depth_at s w.0 - 1) == 0)
+effect-told S s instr.Pressure fits = λ why e. cc
+effect-told S s instr.Relief fits = λ why e. cc
 
 -- A refusal of the table's is given with the state as it was.
 refused-same : (S : ScenarioContents) (s : State) (i : Instr) (a b c : Option Refusal) → situation S s i ≡ c → (why : Refusal)
@@ -142,6 +144,8 @@ asked-same S s instr.Tick asked None = cc
 asked-same S s instr.Next asked None = cc
 asked-same S s (instr.Disable w) asked None = cc
 asked-same S s (instr.Enable w) asked None = cc
+asked-same S s instr.Pressure asked None = cc
+asked-same S s instr.Relief asked None = cc
 
 pub changes_nothing_asked : AtEveryInstruction ChangesNothingAsked
 unfolding ChangesNothingAsked table

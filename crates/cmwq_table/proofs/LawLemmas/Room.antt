@@ -62,19 +62,19 @@ Kind-full S places wakes s w left a b c d n queue pool elsewhere fits (Kind.take
     record { level = not-both S w queue at pool (bit ((queue_of S w == queue) && runs (λ r. r.pool == pool) r)) elsewhere (queue_of S w == queue) (at == pool) refl refl; waiting = λ of_queue is. cc }
 Kind-full S places wakes s w left a b c d n queue pool elsewhere fits (Kind.activated born stamp r at room first) =
     record { level = falls (queue_of S w == queue) (at == pool) (bit ((queue_of S w == queue) && runs (λ r. r.pool == pool) r)); waiting = λ of_queue is. cc }
-Kind-full S places wakes s w left a b c d n queue pool elsewhere fits (Kind.started born stamp at worker may) =
+Kind-full S places wakes s w left a b c d n queue pool elsewhere fits (Kind.started born stamp at worker may free) =
     record { level = omega arith; waiting = λ of_queue is. cc }
 Kind-full S places wakes s w left a b c d n queue pool elsewhere fits (Kind.deferred born stamp at r) =
     record { level = omega arith; waiting = λ of_queue is. cc }
-Kind-full S places wakes s w left a b c d n queue pool elsewhere fits (Kind.goes_on p r q same_born same_pool mode) = goes S s w queue pool p r q same_pool
-Kind-full S places wakes s w left a b c d n queue pool elsewhere fits (Kind.woken p r q wake same_born same_pool) = goes S s w queue pool p r q same_pool
+Kind-full S places wakes s w left a b c d n queue pool elsewhere fits (Kind.goes_on p r q same_born same_pool same_worker mode) = goes S s w queue pool p r q same_pool
+Kind-full S places wakes s w left a b c d n queue pool elsewhere fits (Kind.woken p r q wake same_born same_pool same_worker) = goes S s w queue pool p r q same_pool
 Kind-full S places wakes s w left a b c d n queue pool elsewhere fits (Kind.again born stamp at r run) =
     let same : at ≡ r.pool = sym fits.pending.stands.1 in
     let less : bit ((queue_of S w == queue) && (r.pool == pool)) + bit ((queue_of S w == queue) && (r.pool == pool)) ≤ bit ((queue_of S w == queue) && false) + bit ((queue_of S w == queue) && (r.pool == pool)) =
     not-both S w queue r.pool pool (bit ((queue_of S w == queue) && (r.pool == pool))) elsewhere (queue_of S w == queue) (r.pool == pool) refl refl in
     let here : bit ((queue_of S w == queue) && (at == pool)) ≡ bit ((queue_of S w == queue) && (r.pool == pool)) = ap (λ (x : ℕ). bit ((queue_of S w == queue) && (x == pool))) same in
     record { level = omega arith; waiting = λ of_queue is. cc }
-Kind-full S places wakes s w left a b c d n queue pool elsewhere fits (Kind.retired p r e) =
+Kind-full S places wakes s w left a b c d n queue pool elsewhere fits (Kind.retired p r next e later) =
     let pending = bit ((queue_of S w == queue) && pends (λ place. is_active place pool) p) in
     let less : bit ((queue_of S w == queue) && (r.pool == pool)) + pending ≤ bit ((queue_of S w == queue) && false) + pending =
     not-both S w queue r.pool pool pending elsewhere (queue_of S w == queue) (r.pool == pool) refl refl in

@@ -15,7 +15,7 @@ use Rattle.cmwq_table.specs.declared.state.FlushTarget.TheVariants.{Nothing}
 use Rattle.cmwq_table.specs.declared.state.Pending.{Pending}
 use Rattle.cmwq_table.specs.declared.state.Running.{Running}
 use Rattle.cmwq_table.specs.State.{State, pending_at, pool_count, running_at, start}
-use Rattle.cmwq_table.specs.Counts.{active, is_active, is_inactive, limit, pends, runs}
+use Rattle.cmwq_table.specs.Counts.{active, is_active, is_inactive, is_rescuer, limit, pends, runs}
 use Rattle.cmwq_table.specs.Counts as counts
 use Rattle.cmwq_table.specs.Laws.{tells_wake}
 use Rattle.cmwq_table.specs.Table.{after_all, answer, effect, operands, run, situation, spent_all, table}
@@ -25,6 +25,7 @@ use Rattle.cmwq_table.proofs.LawLemmas.Disabled.{IsOff}
 use Rattle.cmwq_table.proofs.LawLemmas.Effects.{Effect, GivenFits, effect-is, with_given}
 use Rattle.cmwq_table.proofs.LawLemmas.Order.{Follows-one_by_one, IsOneByOne}
 use Rattle.cmwq_table.proofs.LawLemmas.PoolOrder.{Follows-pool_order, HasInactiveAt, IsInPoolOrder}
+use Rattle.cmwq_table.proofs.LawLemmas.Rescuers.{Follows-rescued, IsRescued, alike-rescued}
 use Rattle.cmwq_table.proofs.LawLemmas.Room.{AreFull}
 use Rattle.cmwq_table.proofs.LawLemmas.Setting.{IsSetting, IsSetting-valid, max-declared}
 use Rattle.cmwq_table.proofs.LawLemmas.Sound.{Fits, FitsTarget, Follows-sound, IsSound}
@@ -37,6 +38,7 @@ pub record IsReached (S : ScenarioContents) (s : State) : Type 0 where
   pub listed : IsInListOrder S s
   pub one_by_one : IsOneByOne S s
   pub off : IsOff s
+  pub rescued : IsRescued S s
 
 -- neither flushes nor what was spent matter to the works
 counted-on : (S : ScenarioContents) (s : State) (flushes : List FlushTarget) (spent : ℕ) → IsReached S s
@@ -55,6 +57,7 @@ counted-on S s flushes spent reached fits = record {
   listed = record { below = reached.listed.below; rises = reached.listed.rises };
   one_by_one = reached.one_by_one;
   off = reached.off;
+  rescued = record { reclaims = reached.rescued.reclaims; alone = reached.rescued.alone };
 }
 
 one-more : (next : ℕ) (flushes : List FlushTarget) (target : FlushTarget) → ((flush : ℕ) → FitsTarget next (slice_index_or flushes flush Nothing))
@@ -81,6 +84,7 @@ effect-reached S wakes s t spent reached effect =
       one_by_one = Follows-one_by_one S effect.places wakes effect.begun effect.ended effect.follows begun_sound
           (λ queue pool ordered. rw (alike-active S s effect.begun queue pool effect.alike) (reached.one_by_one queue pool ordered));
       off = effect.ended_off;
+      rescued = Follows-rescued S effect.places wakes effect.begun effect.ended begun_sound.long effect.follows (alike-rescued S s effect.begun effect.alike reached.rescued);
     } in
     subst (λ (u : State). IsReached S (record u { spent = spent })) (sym effect.after) (given-reached S effect.ended effect.given spent ended effect.given_fits)
 
@@ -174,6 +178,10 @@ start-reached S setting = record {
   };
   one_by_one = λ queue pool ordered. let none : active S (start S) queue pool ≡ 0 = start-idle S queue pool in omega arith;
   off = λ w deep. start-pending S w;
+  rescued = record {
+    reclaims = λ w ran. absurd (cc (ap (runs (λ r. is_rescuer r.worker)) (start-running S w), ran));
+    alone = λ v w one other same. absurd (cc (ap (runs (λ r. is_rescuer r.worker)) (start-running S v), one));
+  };
 }
 
 pub run-reached : (S : ScenarioContents) (instrs : List Instr) → IsValid S → IsReached S (run S instrs)

@@ -118,12 +118,12 @@ Kind-next S places wakes s w left a b c d n (Kind.taken_inactive born stamp r po
 Kind-next S places wakes s w left a b c d n (Kind.taken_listed born stamp r pool) = omega arith
 Kind-next S places wakes s w left a b c d n (Kind.taken_deferred born stamp r pool) = omega arith
 Kind-next S places wakes s w left a b c d n (Kind.activated born stamp r pool room first) = omega arith
-Kind-next S places wakes s w left a b c d n (Kind.started born stamp pool worker may) = omega arith
+Kind-next S places wakes s w left a b c d n (Kind.started born stamp pool worker may free) = omega arith
 Kind-next S places wakes s w left a b c d n (Kind.deferred born stamp pool r) = omega arith
-Kind-next S places wakes s w left a b c d n (Kind.goes_on p r q same_born same_pool mode) = omega arith
-Kind-next S places wakes s w left a b c d n (Kind.woken p r q wake same_born same_pool) = omega arith
+Kind-next S places wakes s w left a b c d n (Kind.goes_on p r q same_born same_pool same_worker mode) = omega arith
+Kind-next S places wakes s w left a b c d n (Kind.woken p r q wake same_born same_pool same_worker) = omega arith
 Kind-next S places wakes s w left a b c d n (Kind.again born stamp pool r run) = omega arith
-Kind-next S places wakes s w left a b c d n (Kind.retired p r e) = omega arith
+Kind-next S places wakes s w left a b c d n (Kind.retired p r next e later) = omega arith
 
 -- Where a change leaves it pending it fits there, and where it leaves it running too.
 Kind-fits : (S : ScenarioContents) (places wakes : Bool) (s : State) (w : ℕ) (left : Option ℕ) (a : Option Pending) (b : Option Running) (c : Option Pending) (d : Option Running) (n : ℕ)
@@ -140,18 +140,18 @@ Kind-fits S places wakes s w left a b c d n (Kind.taken_listed born stamp r pool
 Kind-fits S places wakes s w left a b c d n (Kind.taken_deferred born stamp r pool) was = record { pending = tt; running = was.running }
 Kind-fits S places wakes s w left a b c d n (Kind.activated born stamp r pool room first) was =
     record { pending = record { born = omega (arith, was.pending.born); stamp = λ still. cc; place = was.pending.place; stands = was.pending.stands }; running = running-later S s.next (s.next + 1) w r (omega arith) was.running }
-Kind-fits S places wakes s w left a b c d n (Kind.started born stamp pool worker may) was =
+Kind-fits S places wakes s w left a b c d n (Kind.started born stamp pool worker may free) was =
     record { pending = tt; running = record { born = omega (arith, was.pending.born); pool = record { in_range = was.pending.place; own = was.pending.stands.0 } } }
 Kind-fits S places wakes s w left a b c d n (Kind.deferred born stamp pool r) was =
     record { pending = record { born = was.pending.born; stamp = λ still. cc; place = was.pending.place; stands = (was.pending.stands.0, was.pending.stands.1, refl) }; running = was.running }
-Kind-fits S places wakes s w left a b c d n (Kind.goes_on p r q same_born same_pool mode) was =
+Kind-fits S places wakes s w left a b c d n (Kind.goes_on p r q same_born same_pool same_worker mode) was =
     record { pending = pending-moved S s.next w r q p same_pool was.pending; running = running-moved S s.next w r q same_born same_pool was.running }
-Kind-fits S places wakes s w left a b c d n (Kind.woken p r q wake same_born same_pool) was =
+Kind-fits S places wakes s w left a b c d n (Kind.woken p r q wake same_born same_pool same_worker) was =
     Fits-later S s.next (s.next + 1) w p (Some q) (omega arith) (record { pending = pending-moved S s.next w r q p same_pool was.pending; running = running-moved S s.next w r q same_born same_pool was.running })
 Kind-fits S places wakes s w left a b c d n (Kind.again born stamp pool r run) was =
     record { pending = tt; running = record { born = omega (arith, was.pending.born); pool = was.running.pool } }
-Kind-fits S places wakes s w left a b c d n (Kind.retired p r e) was =
-    record { pending = pending-later S s.next (s.next + 1) w None p (omega arith) (pending-still S s.next w r p e was.pending); running = tt }
+Kind-fits S places wakes s w left a b c d n (Kind.retired p r next e later) was =
+    record { pending = pending-later S s.next next w None p later (pending-still S s.next w r p e was.pending); running = tt }
 
 -- an instance that pends after a change did so before, or has the birth that was next
 KeepsBirth : State → Option Pending → Pending → Type 0
@@ -168,12 +168,12 @@ Kind-births S places wakes s w left a b c d n (Kind.taken_inactive born stamp r 
 Kind-births S places wakes s w left a b c d n (Kind.taken_listed born stamp r pool) q is = cc
 Kind-births S places wakes s w left a b c d n (Kind.taken_deferred born stamp r pool) q is = cc
 Kind-births S places wakes s w left a b c d n (Kind.activated born stamp r pool room first) q is = inl (record { born = born; stamp = stamp; place = Inactive pool }, refl, cc)
-Kind-births S places wakes s w left a b c d n (Kind.started born stamp pool worker may) q is = cc
+Kind-births S places wakes s w left a b c d n (Kind.started born stamp pool worker may free) q is = cc
 Kind-births S places wakes s w left a b c d n (Kind.deferred born stamp pool r) q is = inl (record { born = born; stamp = stamp; place = Listed pool }, refl, cc)
-Kind-births S places wakes s w left a b c d n (Kind.goes_on p r q' same_born same_pool mode) q is = inl (q, is, refl)
-Kind-births S places wakes s w left a b c d n (Kind.woken p r q' wake same_born same_pool) q is = inl (q, is, refl)
+Kind-births S places wakes s w left a b c d n (Kind.goes_on p r q' same_born same_pool same_worker mode) q is = inl (q, is, refl)
+Kind-births S places wakes s w left a b c d n (Kind.woken p r q' wake same_born same_pool same_worker) q is = inl (q, is, refl)
 Kind-births S places wakes s w left a b c d n (Kind.again born stamp pool r run) q is = cc
-Kind-births S places wakes s w left a b c d n (Kind.retired p r e) q is = inl (q, is, refl)
+Kind-births S places wakes s w left a b c d n (Kind.retired p r next e later) q is = inl (q, is, refl)
 
 -- Each change keeps a state sound.
 

@@ -9,8 +9,9 @@ use Rattle.cmwq_types.specs.Scenario.{flags_at, op_at, queue_of}
 use Rattle.cmwq_types.specs.declared.instr.WorkId.{WorkId}
 use Rattle.cmwq_types.specs.declared.instr.Instr.{Instr}
 use Rattle.cmwq_types.specs.declared.instr.Instr.TheVariants as instr
+use Rattle.cmwq_types.specs.declared.limits.TheConstants.{RESCUER}
 use Rattle.cmwq_types.specs.declared.moves.Move.{Move}
-use Rattle.cmwq_types.specs.declared.moves.Move.TheVariants.{Advance, Wake, Start, Defer}
+use Rattle.cmwq_types.specs.declared.moves.Move.TheVariants.{Advance, Wake, Start, Defer, Rescue}
 use Rattle.cmwq_types.specs.declared.reply.Event.{Event}
 use Rattle.cmwq_types.specs.declared.reply.Event.TheVariants as event
 use Rattle.cmwq_types.specs.declared.reply.Mode.TheVariants.{Runnable, Asleep}
@@ -22,9 +23,9 @@ use Rattle.cmwq_types.specs.declared.scenario.Op.TheVariants as op
 use Rattle.cmwq_table.specs.declared.state.Pending.{Pending}
 use Rattle.cmwq_table.specs.declared.state.Running.{Running}
 use Rattle.cmwq_table.specs.State.{State, depth_at, is_disabled, is_unbound, pending_at, pool_count, running_at}
-use Rattle.cmwq_table.specs.Counts.{burns, first_due, first_inactive, free_worker, has_room, is_counted, is_deferred, is_listed, may_start, pends}
+use Rattle.cmwq_table.specs.Counts.{burns, first_due, first_inactive, free_worker, has_room, is_counted, is_deferred, is_listed, is_rescuer, may_start, pends}
 use Rattle.cmwq_table.specs.Laws.{AtEveryInstruction, IsListedIn, StartsAtLevelZero}
-use Rattle.cmwq_table.specs.Moves.{advance, begin_again, begun, burned, carry_out, come_to_end, deferred, enlist, fill, fill_everywhere, fill_freezable, fill_from, fill_pools, fill_times, fired, fired_to, first_moving, moved, next_move, one_less, onward, place_after, queue_from_body, retire, started, taken_off, tick, with_depth, with_pending, woken}
+use Rattle.cmwq_table.specs.Moves.{advance, become_idle, begin_again, begun, burned, carry_out, come_to_end, deferred, enlist, fill, fill_everywhere, fill_freezable, fill_from, fill_pools, fill_times, fired, fired_to, first_moving, moved, next_move, one_less, onward, place_after, queue_from_body, rescued, retire, started, taken_off, tick, with_depth, with_pending, with_running, woken}
 use Rattle.cmwq_table.specs.Table.{answer, cancelled, delayed, effect, fired_first, modified, next, queued, refusal, run, step_or_tick, stepped, table}
 use Rattle.cmwq_table.proofs.LawLemmas.Moving.{MoveFits, next_move-fits}
 
@@ -138,13 +139,17 @@ set-none s t v q r runs set w idle =
       | inr other ↦ ap (λ (running : List (Option Running)). slice_index_or running w None) set ∙ (get_or-set_other s.running v w q None other ∙ idle)
     ]
 
+retire-set : (s : State) (w : ℕ) (r : Running) (b : Bool) → (cond {A = State} b (with_running s w None) (become_idle s w r)).running ≡ slice_set s.running w None
+retire-set s w r true = refl
+retire-set s w r false = refl
+
 end-set : (s : State) (w : ℕ) (r : Running) (o : Option Pending) → (q : Option Running) × ((come_to_end s w r o).0.running ≡ slice_set s.running w q)
 end-set s w r (Some p) = end-if (is_deferred p.place)
   where
     end-if : (b : Bool) → (q : Option Running) × ((cond {A = State × Event} b (begin_again s w r p, event.FinishesAndStarts) (retire s w r, event.Finishes)).0.running ≡ slice_set s.running w q)
     end-if true = (Some (begun p.born r.pool r.worker s.next), refl)
-    end-if false = (None, refl)
-end-set s w r None = (None, refl)
+    end-if false = (None, retire-set s w r (is_rescuer r.worker))
+end-set s w r None = (None, retire-set s w r (is_rescuer r.worker))
 
 queue_from_body-same : (S : ScenarioContents) (s : State) (other : WorkId) (cpu : ℕ) (b : Bool) (o : Option Pending) → SameRunning s (queue_from_body S s other cpu b o).0
 queue_from_body-same S s other cpu true o = refl
@@ -209,12 +214,19 @@ started-listed S s pool w (Some worker) (Some p) may is listed v r idle runs =
 started-listed S s pool w (Some worker) None may is listed v r idle runs = absurd (cc (idle, runs))
 started-listed S s pool w None o may is listed v r idle runs = absurd (cc (idle, runs))
 
+rescued-listed : (S : ScenarioContents) (s : State) (pool w : ℕ) (o : Option Pending) → may_start S s pool ≡ true → pending_at s w ≡ o
+    → pends (λ place. is_listed place pool) o ≡ true → BeginsListed S s (rescued s pool w o)
+rescued-listed S s pool w (Some p) may is listed v r idle runs =
+    begins-at S s pool w p v (begun p.born pool RESCUER s.next) r refl may is listed idle runs
+rescued-listed S s pool w None may is listed v r idle runs = absurd (cc (idle, runs))
+
 moved-listed : (S : ScenarioContents) (s : State) (pool : ℕ) (move : Move) → MoveFits S s pool move → BeginsListed S s (moved S s pool move).0
 moved-listed S s pool (Advance w) fits = none-listed S s (moved S s pool (Advance w)).0 (advance-none S s w.0 (running_at s w.0) refl)
 moved-listed S s pool (Wake w) fits = none-listed S s (moved S s pool (Wake w)).0 (woken-none s w.0 (running_at s w.0) refl)
 moved-listed S s pool (Start w) fits = started-listed S s pool w.0 (free_worker S s pool) (pending_at s w.0) fits.2 refl fits.3
 moved-listed S s pool (Defer w) fits =
     none-listed S s (moved S s pool (Defer w)).0 (same-none s (moved S s pool (Defer w)).0 (deferred-same s pool w.0 (pending_at s w.0)))
+moved-listed S s pool (Rescue w) fits = rescued-listed S s pool w.0 (pending_at s w.0) fits.2 refl fits.3
 
 -- The instructions.
 
@@ -259,6 +271,8 @@ effect-listed S s (instr.State w) = same-listed S s s refl
 effect-listed S s (instr.Disable w) =
     same-listed S s (effect S s (instr.Disable w)).0 (cancelled-same S (with_depth s w.0 (depth_at s w.0 + 1)) w.0 (pending_at s w.0))
 effect-listed S s (instr.Enable w) = same-listed S s (effect S s (instr.Enable w)).0 refl
+effect-listed S s instr.Pressure = same-listed S s (effect S s instr.Pressure).0 refl
+effect-listed S s instr.Relief = same-listed S s (effect S s instr.Relief).0 refl
 
 answer-listed : (S : ScenarioContents) (s : State) (i : Instr) (o : Option Refusal) → BeginsListed S s (answer s i o (effect S s i)).0
 answer-listed S s i (Some why) = same-listed S s s refl

@@ -105,12 +105,12 @@ Kind-still S places wakes s w left a b c d n quiet idle (Kind.taken_inactive bor
 Kind-still S places wakes s w left a b c d n quiet idle (Kind.taken_listed born stamp r at) = refl
 Kind-still S places wakes s w left a b c d n quiet idle (Kind.taken_deferred born stamp r at) = refl
 Kind-still S places wakes s w left a b c d n quiet idle (Kind.activated born stamp r at room first) = cc
-Kind-still S places wakes s w left a b c d n quiet idle (Kind.started born stamp at worker may) = refl
+Kind-still S places wakes s w left a b c d n quiet idle (Kind.started born stamp at worker may free) = refl
 Kind-still S places wakes s w left a b c d n quiet idle (Kind.deferred born stamp at r) = cc
-Kind-still S places wakes s w left a b c d n quiet idle (Kind.goes_on p r q same_born same_pool mode) = idle
-Kind-still S places wakes s w left a b c d n quiet idle (Kind.woken p r q wake same_born same_pool) = idle
+Kind-still S places wakes s w left a b c d n quiet idle (Kind.goes_on p r q same_born same_pool same_worker mode) = idle
+Kind-still S places wakes s w left a b c d n quiet idle (Kind.woken p r q wake same_born same_pool same_worker) = idle
 Kind-still S places wakes s w left a b c d n quiet idle (Kind.again born stamp at r run) = refl
-Kind-still S places wakes s w left a b c d n quiet idle (Kind.retired p r e) = idle
+Kind-still S places wakes s w left a b c d n quiet idle (Kind.retired p r next e later) = idle
 
 Change-still : (S : ScenarioContents) (places wakes : Bool) (left : Option ℕ) (s t : State) (w v : ℕ) → places ≡ false → pending_at s v ≡ None
     → Change S places wakes left s t w → pending_at t v ≡ None

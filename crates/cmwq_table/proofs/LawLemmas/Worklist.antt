@@ -70,12 +70,12 @@ Kind-lists S places wakes s w left a b c d n pool sound in_order is (Kind.activa
           let waits : HasInactiveAt pool (pending_at s w) birth = subst (λ (o : Option Pending). HasInactiveAt pool o birth) (sym is) (h.0, h.1) in
           in_order x w pool early birth (sym of_queue) (listed-active pool early before (running_at s x) (pending_at s x) listed) waits,
     ))
-Kind-lists S places wakes s w left a b c d n pool sound in_order is (Kind.started born stamp at worker may) = Lists.keeps (λ birth last h. absurd h)
+Kind-lists S places wakes s w left a b c d n pool sound in_order is (Kind.started born stamp at worker may free) = Lists.keeps (λ birth last h. absurd h)
 Kind-lists S places wakes s w left a b c d n pool sound in_order is (Kind.deferred born stamp at r) = Lists.keeps (λ birth last h. absurd cc)
-Kind-lists S places wakes s w left a b c d n pool sound in_order is (Kind.goes_on p r q same_born same_pool mode) = Lists.keeps (λ birth last h. h)
-Kind-lists S places wakes s w left a b c d n pool sound in_order is (Kind.woken p r q wake same_born same_pool) = Lists.keeps (λ birth last h. h)
+Kind-lists S places wakes s w left a b c d n pool sound in_order is (Kind.goes_on p r q same_born same_pool same_worker mode) = Lists.keeps (λ birth last h. h)
+Kind-lists S places wakes s w left a b c d n pool sound in_order is (Kind.woken p r q wake same_born same_pool same_worker) = Lists.keeps (λ birth last h. h)
 Kind-lists S places wakes s w left a b c d n pool sound in_order is (Kind.again born stamp at r run) = Lists.keeps (λ birth last h. absurd h)
-Kind-lists S places wakes s w left a b c d n pool sound in_order is (Kind.retired p r e) = Lists.keeps (λ birth last h. h)
+Kind-lists S places wakes s w left a b c d n pool sound in_order is (Kind.retired p r next e later) = Lists.keeps (λ birth last h. h)
 
 same-born : (pool born stamp later last : ℕ) (o : Option Pending) → ListedAs pool o born stamp → ListedAs pool o later last → born ≡ later
 same-born pool born stamp later last (Some p) one other = sym one.1 ∙ other.1
