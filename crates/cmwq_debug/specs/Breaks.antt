@@ -17,6 +17,7 @@ lowest test n = first_below (by_least (λ k. k)) test n
 -- an event of the kind; a work that finishes and starts does both
 abbrev pub is_kind : EventKind → Event → Bool
 is_kind kind.Starts event.Starts = true
+is_kind kind.Starts event.StartsOnRescuer = true
 is_kind kind.Starts event.FinishesAndStarts = true
 is_kind kind.Burns (event.Burns ticks) = true
 is_kind kind.Sleeps (event.Sleeps ticks) = true

@@ -46,7 +46,9 @@ fn is_kind(kind: EventKind, event: Event) -> bool
     ensures { result ≡ is_kind kind event }
 {
     match kind {
-        EventKind::Starts => matches!(event, Event::Starts | Event::FinishesAndStarts),
+        EventKind::Starts => {
+            matches!(event, Event::Starts | Event::StartsOnRescuer | Event::FinishesAndStarts)
+        }
         EventKind::Burns => matches!(event, Event::Burns(_)),
         EventKind::Sleeps => matches!(event, Event::Sleeps(_)),
         EventKind::Wakes => matches!(event, Event::Wakes),

@@ -37,7 +37,7 @@ pub enum Command {
 /// A kind of event. An event `FinishesAndStarts` is of two kinds.
 #[derive(Clone, Copy, Debug, PartialEq, Eq)]
 pub enum EventKind {
-    /// A worker takes the work from the worklist, or starts its deferred instance.
+    /// A worker or a rescuer takes the work from the worklist, or starts its deferred instance.
     Starts,
     /// It begins to burn CPU time.
     Burns,

@@ -114,6 +114,39 @@ dump_at_8 =
 abbrev pub disabled_breaks_answers : List (Result Answer DebugError)
 disabled_breaks_answers = Ok (Broke 0) ∷ Ok (Broke 1) ∷ at_break 8 0 1 ∷ Ok (Text dump_at_8) ∷ at 17 1 ∷ []
 
+-- The rescuer of b's queue takes it while memory is short, before c, which was queued first.
+
+abbrev pub rescuer_breaks : List Command
+rescuer_breaks =
+    break_on 1 kind.Starts ∷ break_on 2 kind.Starts ∷ command.Run ∷ command.Dump ∷ command.Run ∷ command.Dump ∷ command.Back 6
+    ∷ command.DumpPool 0 ∷ command.Run ∷ command.Run ∷ []
+
+-- a sleeps on the one worker that was made; the second pressure was refused
+abbrev pub dump_under_pressure : List ℕ
+dump_under_pressure =
+    text (
+    codes "now 0 spent 7 frozen no" ∷ codes "pressed" ∷ codes "queue q max 2" ∷ codes "queue r max 2" ∷
+    codes "pool 0 counted 1 made 1 idle" ∷ codes "run b rescuer 0 0" ∷ codes "asleep a 0 1 3" ∷ codes "listed c" ∷
+    codes "pool 1 counted 0 made 0 idle" ∷ codes "pool 2 counted 0 made 0 idle" ∷ codes "pool 3 counted 0 made 0 idle" ∷ [])
+
+-- b has begun to burn
+abbrev pub pool_0_at_10 : List ℕ
+pool_0_at_10 =
+    text (codes "pool 0 counted 1 made 1 idle" ∷ codes "run b rescuer 1 1" ∷ codes "asleep a 0 1 3" ∷ codes "listed c" ∷ [])
+
+-- the rescuer was never made, and is no idle worker; c has a worker that was made for it
+abbrev pub dump_after_relief : List ℕ
+dump_after_relief =
+    text (
+    codes "now 2 spent 13 frozen no" ∷ codes "queue q max 2" ∷ codes "queue r max 2" ∷
+    codes "pool 0 counted 1 made 2 idle" ∷ codes "run c 1 0 0" ∷ codes "asleep a 0 1 3" ∷
+    codes "pool 1 counted 0 made 0 idle" ∷ codes "pool 2 counted 0 made 0 idle" ∷ codes "pool 3 counted 0 made 0 idle" ∷ [])
+
+abbrev pub rescuer_breaks_answers : List (Result Answer DebugError)
+rescuer_breaks_answers =
+    Ok (Broke 0) ∷ Ok (Broke 1) ∷ at_break 8 0 0 ∷ Ok (Text dump_under_pressure) ∷ at_break 16 2 1 ∷ Ok (Text dump_after_relief)
+    ∷ at 10 0 ∷ Ok (Text pool_0_at_10) ∷ at_break 16 2 1 ∷ at 20 3 ∷ []
+
 -- A refused instruction, a tick, and a refused instruction again.
 
 abbrev pub refusals : List Instr

@@ -34,14 +34,14 @@ abbrev pub many_kinds_lines : List Line
 many_kinds_lines =
     enqueue 0 0 ∷ enqueue 1 0 ∷ enqueue 2 0 ∷ enqueue 3 0 ∷ enqueue 4 0 ∷ times instr.Next 21
     ∷ enqueue 5 0 ∷ enqueue 6 0 ∷ times instr.Next 3 ∷ delay 10 20 ∷ delay 9 20 ∷ enqueue 7 0 ∷ enqueue 8 0
-    ∷ flush 3 ∷ flush 0 ∷ set_max 0 9 ∷ times instr.Freeze 1 ∷ disable 2 ∷ disable 0 ∷ disable 2 ∷ []
+    ∷ flush 3 ∷ flush 0 ∷ set_max 0 9 ∷ times instr.Freeze 1 ∷ times instr.Pressure 1 ∷ disable 2 ∷ disable 0 ∷ disable 2 ∷ []
 
--- worker 1 became idle after worker 0; b wakes before a, which began to sleep first; h was set before g; u was disabled before s, and
+-- memory is short; worker 1 became idle after worker 0; b wakes before a, which began to sleep first; h was set before g; u was disabled before s, and
 -- after it
 abbrev pub many_kinds_dump : List ℕ
 many_kinds_dump =
     text (
-    codes "now 4 spent 42 frozen yes" ∷ codes "queue q max 9" ∷ codes "queue f max 1" ∷
+    codes "now 4 spent 43 frozen yes" ∷ codes "pressed" ∷ codes "queue q max 9" ∷ codes "queue f max 1" ∷
     codes "pool 0 counted 1 made 5 idle 1 0" ∷ codes "run r 2 1 4" ∷ codes "asleep b 4 1 8" ∷ codes "asleep a 3 2 9" ∷
     codes "listed l" ∷ codes "listed d" ∷ codes "deferred a" ∷ codes "inactive e" ∷
     codes "pool 1 counted 0 made 0 idle" ∷ codes "pool 2 counted 0 made 0 idle" ∷ codes "pool 3 counted 0 made 0 idle" ∷

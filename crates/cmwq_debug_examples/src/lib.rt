@@ -2,13 +2,13 @@
 //! one dump reads, or what is said to some commands. No other crate stands on this one.
 #![tactic(auto)]
 
-ghost use Rattle.cmwq_debug_examples.specs.Debugged.{debugged, disabled_breaks, disabled_breaks_answers, each_event, each_event_answers, each_event_breaks, event_breaks, event_breaks_answers, instrs_of, many_breaks, many_breaks_answers, refusal_breaks, refusal_breaks_answers, refusals, there_and_back, there_and_back_answers};
+ghost use Rattle.cmwq_debug_examples.specs.Debugged.{debugged, disabled_breaks, disabled_breaks_answers, each_event, each_event_answers, each_event_breaks, event_breaks, event_breaks_answers, instrs_of, many_breaks, many_breaks_answers, refusal_breaks, refusal_breaks_answers, refusals, rescuer_breaks, rescuer_breaks_answers, there_and_back, there_and_back_answers};
 ghost use Rattle.cmwq_debug_examples.specs.Dumps.{dumped, many_kinds, many_kinds_dump, many_kinds_lines, many_kinds_pool_1, pool_dumped, two_cpus, two_cpus_dump, two_cpus_lines};
 ghost use Rattle.cmwq_examples.specs.Rows.{disabled_twice, queues_itself, three_works};
 ghost use Rattle.cmwq_types.specs.Faults.{IsValid};
 ghost use Rattle.std.specs.Prelude.{◌≡◌, []};
 
-/// A dump with a line of each kind: idle workers by their last use, sleepers by the tick at which they wake,
+/// A dump with a line of each kind: memory is short, idle workers by their last use, sleepers by the tick at which they wake,
 /// timers that run out together by their setting, disabled works by their numbers, and a flush that is done beside one that
 /// isn't.
 pub fn dump_tells_every_kind()
@@ -48,6 +48,12 @@ pub fn each_kind_of_event_is_met()
 /// disabled; the dump there has the depth.
 pub fn disabled_work_is_not_queued()
     ensures { debugged disabled_twice (instrs_of disabled_twice) disabled_breaks ≡ disabled_breaks_answers }
+{}
+
+/// A break on `starts` stops a run where a rescuer takes its work; the dump there says that memory is short, and names no worker
+/// for the work. After the relief the machine is dumped as ever.
+pub fn rescuer_starts_its_work()
+    ensures { debugged rescued (instrs_of rescued) rescuer_breaks ≡ rescuer_breaks_answers }
 {}
 
 /// A break on a time is for the instruction that makes the time so, never for one that is refused then.

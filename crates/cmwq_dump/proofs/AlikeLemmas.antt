@@ -17,7 +17,7 @@ use Rattle.cmwq_table.specs.declared.state.Running.{Running}
 use Rattle.cmwq_dump.specs.declared.group.Group.{Group}
 use Rattle.cmwq_dump.specs.declared.group.Group.TheVariants.{Running as runnable, Asleep as asleep, Listed as listed, Deferred as deferred, Inactive as inactive, Timed as timed, Disabled as disabled}
 use Rattle.cmwq_dump.specs.Alike.{LooksLike}
-use Rattle.cmwq_dump.specs.Dump.{at_worker, clock_line, dump, flush_line, group_lines, idle_workers, left_of, named, pool_line, pool_lines, queue_line, spaced, timer_cpu}
+use Rattle.cmwq_dump.specs.Dump.{at_worker, clock_line, dump, flush_line, group_lines, idle_workers, left_of, named, pool_line, pool_lines, pressed_line, queue_line, spaced, timer_cpu}
 use Rattle.cmwq_dump.specs.Order.{all_below, each_below}
 
 -- the works that pass and their texts, by what the map of pending works has
@@ -100,6 +100,9 @@ module _ (S : ScenarioContents) (s t : State) (h : LooksLike s t) where
   clock-alike : clock_line s ≡ clock_line t
   clock-alike = rw (h.time, h.spent, h.frozen) refl
 
+  pressed-alike : pressed_line s ≡ pressed_line t
+  pressed-alike = rw h.pressed refl
+
   pub dump-alike : dump S s ≡ dump S t
   dump-alike =
       let queues : each_below (queue_line S s) (length S.queues) ≡ each_below (queue_line S t) (length S.queues) = ap (λ (line : ℕ → List ℕ). each_below line (length S.queues)) (fun_ext queue-alike) in
@@ -109,11 +112,13 @@ module _ (S : ScenarioContents) (s t : State) (h : LooksLike s t) where
       let queues_of = λ (u : State). each_below (queue_line S u) (length S.queues) in
       let pools_of = λ (u : State). each_below (pool_lines S u) (pool_count S) in
       let flushes_of = λ (u : State). each_below (flush_line S u) (length u.flushes) in
-      let to_queues = λ (u : State). clock_line u ++ queues_of u in
+      let to_pressed = λ (u : State). clock_line u ++ pressed_line u in
+      let to_queues = λ (u : State). to_pressed u ++ queues_of u in
       let to_pools = λ (u : State). to_queues u ++ pools_of u in
       let to_timers = λ (u : State). to_pools u ++ group_lines S u timed in
       let to_disabled = λ (u : State). to_timers u ++ group_lines S u disabled in
-      let one : to_queues s ≡ to_queues t = both (clock_line s) (clock_line t) (queues_of s) (queues_of t) clock-alike queues in
+      let zero : to_pressed s ≡ to_pressed t = both (clock_line s) (clock_line t) (pressed_line s) (pressed_line t) clock-alike pressed-alike in
+      let one : to_queues s ≡ to_queues t = both (to_pressed s) (to_pressed t) (queues_of s) (queues_of t) zero queues in
       let two : to_pools s ≡ to_pools t = both (to_queues s) (to_queues t) (pools_of s) (pools_of t) one pools in
       let three : to_timers s ≡ to_timers t = both (to_pools s) (to_pools t) (group_lines S s timed) (group_lines S t timed) two (group-alike timed) in
       let four : to_disabled s ≡ to_disabled t = both (to_timers s) (to_timers t) (group_lines S s disabled) (group_lines S t disabled) three (group-alike disabled) in

@@ -1,5 +1,5 @@
 -- The dump text: a machine's state at a glance, as bytes.
-use Rattle.std.specs.Prelude.{ℕ, Bool, true, false, not, ◌&&◌, List, [], ◌∷◌, ◌++◌, length, Option, Some, None, codes, is_some, ◌==◌}
+use Rattle.std.specs.Prelude.{ℕ, Bool, true, false, not, ◌&&◌, List, [], ◌∷◌, ◌++◌, length, Option, Some, None, codes, if◌then◌else◌, is_some, ◌==◌}
 use Rattle.std.specs.Fmt.{decimal}
 use Rattle.std.specs.List.{flat_map}
 use Rattle.cmwq_types.specs.Contents.{ScenarioContents}
@@ -9,6 +9,7 @@ use Rattle.cmwq_types.specs.Scenario.{pool_count, queue_at, work_at}
 use Rattle.cmwq_types.specs.declared.reply.Place.{Place}
 use Rattle.cmwq_types.specs.declared.reply.Place.TheVariants as place
 use Rattle.cmwq_table.specs.Counts.{counted, idle_stamp, is_done, pending_before, pending_due, pending_stamp, pends, running_before, running_stamp, running_until, runs}
+use Rattle.cmwq_table.specs.Events.{worker_number}
 use Rattle.cmwq_table.specs.State.{State, depth_at, idle_at, is_disabled, made_at, max_at, pending_at, running_at}
 use Rattle.cmwq_table.specs.Table.{target_at}
 use Rattle.cmwq_table.specs.declared.state.Pending.{Pending}
@@ -71,19 +72,37 @@ named S word w = word ++ (work_at S w).name
 abbrev pub spaced : ℕ → List ℕ
 spaced n = 32 ∷ decimal n
 
--- the worker of a running work and its place in the body
+-- the worker of a running work, or `rescuer`, and its place in the body
 abbrev pub at_worker : Option Running → List ℕ
-at_worker r = spaced (worker_of r) ++ spaced (pc_of r)
+at_worker r = 32 ∷ worker_number (worker_of r) ++ spaced (pc_of r)
+
+-- The lines of works, by what is told of them.
+
+abbrev pub run_line : ScenarioContents → State → ℕ → List ℕ
+run_line S s w = named S (codes "run ") w ++ at_worker (running_at s w) ++ spaced (left_of (running_at s w)) ++ 10 ∷ []
+
+abbrev pub asleep_line : ScenarioContents → State → ℕ → List ℕ
+asleep_line S s w = named S (codes "asleep ") w ++ at_worker (running_at s w) ++ spaced (running_until (running_at s w)) ++ 10 ∷ []
+
+-- the line that has no more than a word and the name
+abbrev pub name_line : ScenarioContents → List ℕ → ℕ → List ℕ
+name_line S word w = named S word w ++ 10 ∷ []
+
+abbrev pub timer_line : ScenarioContents → State → ℕ → List ℕ
+timer_line S s w = named S (codes "timer ") w ++ spaced (timer_cpu (pending_at s w)) ++ spaced (pending_due (pending_at s w)) ++ 10 ∷ []
+
+abbrev pub disabled_line : ScenarioContents → State → ℕ → List ℕ
+disabled_line S s w = named S (codes "disabled ") w ++ spaced (depth_at s w) ++ 10 ∷ []
 
 -- the line of a work in the group
 abbrev pub work_line : ScenarioContents → State → Group → ℕ → List ℕ
-work_line S s (runnable pool) w = named S (codes "run ") w ++ at_worker (running_at s w) ++ spaced (left_of (running_at s w)) ++ 10 ∷ []
-work_line S s (asleep pool) w = named S (codes "asleep ") w ++ at_worker (running_at s w) ++ spaced (running_until (running_at s w)) ++ 10 ∷ []
-work_line S s (listed pool) w = named S (codes "listed ") w ++ 10 ∷ []
-work_line S s (deferred pool) w = named S (codes "deferred ") w ++ 10 ∷ []
-work_line S s (inactive pool) w = named S (codes "inactive ") w ++ 10 ∷ []
-work_line S s timed w = named S (codes "timer ") w ++ spaced (timer_cpu (pending_at s w)) ++ spaced (pending_due (pending_at s w)) ++ 10 ∷ []
-work_line S s disabled w = named S (codes "disabled ") w ++ spaced (depth_at s w) ++ 10 ∷ []
+work_line S s (runnable pool) w = run_line S s w
+work_line S s (asleep pool) w = asleep_line S s w
+work_line S s (listed pool) w = name_line S (codes "listed ") w
+work_line S s (deferred pool) w = name_line S (codes "deferred ") w
+work_line S s (inactive pool) w = name_line S (codes "inactive ") w
+work_line S s timed w = timer_line S s w
+work_line S s disabled w = disabled_line S s w
 
 -- the works of the group, in order
 abbrev pub members : ScenarioContents → State → Group → List ℕ
@@ -120,6 +139,10 @@ abbrev pub clock_line : State → List ℕ
 clock_line s =
     codes "now " ++ decimal s.time ++ codes " spent " ++ decimal s.spent ++ codes " frozen " ++ yes_or_no s.frozen ++ 10 ∷ []
 
+-- a line of a pressed machine alone
+abbrev pub pressed_line : State → List ℕ
+pressed_line s = if s.pressed then codes "pressed" ++ 10 ∷ [] else []
+
 abbrev pub queue_line : ScenarioContents → State → ℕ → List ℕ
 queue_line S s queue = codes "queue " ++ (queue_at S queue).name ++ codes " max " ++ decimal (max_at s queue) ++ 10 ∷ []
 
@@ -130,5 +153,5 @@ flush_line S s flush =
 -- the dump text of a state of the scenario
 abbrev pub dump : ScenarioContents → State → List ℕ
 dump S s =
-    clock_line s ++ each_below (queue_line S s) (length S.queues) ++ each_below (pool_lines S s) (pool_count S)
+    clock_line s ++ pressed_line s ++ each_below (queue_line S s) (length S.queues) ++ each_below (pool_lines S s) (pool_count S)
     ++ group_lines S s timed ++ group_lines S s disabled ++ each_below (flush_line S s) (length s.flushes)

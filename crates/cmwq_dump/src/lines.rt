@@ -1,5 +1,5 @@
 //! The lines of a dump.
-ghost use Rattle.cmwq_dump.specs.Dump.{at_worker, clock_line, cpu_of, dump, flush_line, group_lines, idle_workers, left_of, pc_of, pool_line, pool_lines, queue_line, spaced, timer_cpu, work_line, worker_of, yes_or_no};
+ghost use Rattle.cmwq_dump.specs.Dump.{asleep_line, at_worker, clock_line, cpu_of, disabled_line, dump, flush_line, group_lines, idle_workers, left_of, name_line, pc_of, pool_line, pool_lines, pressed_line, queue_line, run_line, spaced, timer_cpu, timer_line, work_line, worker_of, yes_or_no};
 ghost use Rattle.cmwq_dump.specs.Order.{each_below};
 ghost use Rattle.cmwq_types.specs.Contents.{ScenarioContents};
 ghost use Rattle.cmwq_types.specs.Scenario.{pool_count, queue_at, work_at};
@@ -8,7 +8,7 @@ ghost use Rattle.std.specs.Prelude.{◌≡◌, ◌<◌, ◌++◌, OnOk, Some, le
 
 use crate::group::{Group, due, until};
 use crate::picture::Picture;
-use cmwq_table::{Pending, Running};
+use cmwq_table::{Pending, Running, WorkerWords};
 use cmwq_types::{NoMemory, Place, Scenario};
 use std::alloc::Global;
 use std::fmt;
@@ -19,6 +19,7 @@ impl Picture<'_> {
         ensures { OnOk result (string_bytes text.new ≡ string_bytes text.old ++ dump self.now.scenario self.now.state) }
     {
         self.push_clock(text)?;
+        self.push_pressed(text)?;
         self.push_queues(text)?;
         self.push_pools(alloc, text)?;
         self.push_group(alloc, text, Group::Timed)?;
@@ -33,6 +34,16 @@ impl Picture<'_> {
         let spent = self.spent();
         let frozen = yes_or_no(self.is_frozen());
         write!(text, "now {time} spent {spent} frozen {frozen}\n")?;
+        Ok(())
+    }
+
+    /// Writes the line that a pressed machine has, and no other one.
+    fn push_pressed(&self, text: &mut String) -> Result<(), NoMemory>
+        ensures { OnOk result (string_bytes text.new ≡ string_bytes text.old ++ pressed_line self.now.state) }
+    {
+        if self.is_pressed() {
+            text.push_str("pressed\n")?;
+        }
         Ok(())
     }
 
@@ -117,34 +128,65 @@ impl Picture<'_> {
     fn push_work(&self, text: &mut String, group: Group, w: usize) -> Result<(), NoMemory>
         ensures { OnOk result (string_bytes text.new ≡ string_bytes text.old ++ work_line self.now.scenario self.now.state group w) }
     {
-        let name = work_name(self.scenario(), w);
         match group {
-            Group::Running(_) => {
-                let running = self.running_of(w);
-                let worker = AtWorker(running);
-                let left = left_of(running);
-                write!(text, "run {name}{worker} {left}\n")?;
-            }
-            Group::Asleep(_) => {
-                let running = self.running_of(w);
-                let worker = AtWorker(running);
-                let until = until(running);
-                write!(text, "asleep {name}{worker} {until}\n")?;
-            }
-            Group::Listed(_) => write!(text, "listed {name}\n")?,
-            Group::Deferred(_) => write!(text, "deferred {name}\n")?,
-            Group::Inactive(_) => write!(text, "inactive {name}\n")?,
-            Group::Timed => {
-                let pending = self.pending_of(w);
-                let cpu = timer_cpu(pending);
-                let due = due(pending);
-                write!(text, "timer {name} {cpu} {due}\n")?;
-            }
-            Group::Disabled => {
-                let depth = self.depth_of(w);
-                write!(text, "disabled {name} {depth}\n")?;
-            }
+            Group::Running(_) => self.push_run(text, w),
+            Group::Asleep(_) => self.push_asleep(text, w),
+            Group::Listed(_) => self.push_name(text, "listed ", w),
+            Group::Deferred(_) => self.push_name(text, "deferred ", w),
+            Group::Inactive(_) => self.push_name(text, "inactive ", w),
+            Group::Timed => self.push_timer(text, w),
+            Group::Disabled => self.push_disabled(text, w),
         }
+    }
+
+    fn push_run(&self, text: &mut String, w: usize) -> Result<(), NoMemory>
+        ensures { OnOk result (string_bytes text.new ≡ string_bytes text.old ++ run_line self.now.scenario self.now.state w) }
+    {
+        let name = work_name(self.scenario(), w);
+        let running = self.running_of(w);
+        let worker = AtWorker(running);
+        let left = left_of(running);
+        write!(text, "run {name}{worker} {left}\n")?;
+        Ok(())
+    }
+
+    fn push_asleep(&self, text: &mut String, w: usize) -> Result<(), NoMemory>
+        ensures { OnOk result (string_bytes text.new ≡ string_bytes text.old ++ asleep_line self.now.scenario self.now.state w) }
+    {
+        let name = work_name(self.scenario(), w);
+        let running = self.running_of(w);
+        let worker = AtWorker(running);
+        let until = until(running);
+        write!(text, "asleep {name}{worker} {until}\n")?;
+        Ok(())
+    }
+
+    /// Writes a line that has no more than the word and the name of the work.
+    fn push_name(&self, text: &mut String, word: &str, w: usize) -> Result<(), NoMemory>
+        ensures { OnOk result (string_bytes text.new ≡ string_bytes text.old ++ name_line self.now.scenario word.now w) }
+    {
+        let name = work_name(self.scenario(), w);
+        write!(text, "{word}{name}\n")?;
+        Ok(())
+    }
+
+    fn push_timer(&self, text: &mut String, w: usize) -> Result<(), NoMemory>
+        ensures { OnOk result (string_bytes text.new ≡ string_bytes text.old ++ timer_line self.now.scenario self.now.state w) }
+    {
+        let name = work_name(self.scenario(), w);
+        let pending = self.pending_of(w);
+        let cpu = timer_cpu(pending);
+        let due = due(pending);
+        write!(text, "timer {name} {cpu} {due}\n")?;
+        Ok(())
+    }
+
+    fn push_disabled(&self, text: &mut String, w: usize) -> Result<(), NoMemory>
+        ensures { OnOk result (string_bytes text.new ≡ string_bytes text.old ++ disabled_line self.now.scenario self.now.state w) }
+    {
+        let name = work_name(self.scenario(), w);
+        let depth = self.depth_of(w);
+        write!(text, "disabled {name} {depth}\n")?;
         Ok(())
     }
 
@@ -177,7 +219,7 @@ fn push_numbers(text: &mut String, numbers: &[u8]) -> Result<(), NoMemory>
     Ok(())
 }
 
-/// The worker of a running work and its place in the body, each behind a space.
+/// The worker of a running work, or `rescuer`, and its place in the body, each behind a space.
 #[derive(Clone, Copy)]
 struct AtWorker(Option<Running>);
 
@@ -185,7 +227,7 @@ impl fmt::Display for AtWorker {
     ghost output = { λ at. Some (at_worker at.0) };
 
     fn fmt<W: fmt::Write>(&self, f: &mut fmt::Formatter<W>) -> fmt::Result {
-        let worker = worker_of(self.0);
+        let worker = WorkerWords(worker_of(self.0));
         let pc = pc_of(self.0);
         write!(f, " {worker} {pc}")
     }

@@ -31,6 +31,7 @@ impl<'a> Model for Picture<'a> {
         next = p.view.now.next;
         spent = p.view.now.spent;
         frozen = p.view.now.frozen;
+        pressed = p.view.now.pressed;
         max = p.view.now.max;
         pending = p.pending.items;
         running = p.running.items;
@@ -101,6 +102,13 @@ impl<'a> Picture<'a> {
     {
         let view = self.view;
         view.frozen
+    }
+
+    pub(crate) fn is_pressed(&self) -> bool
+        ensures { result ≡ self.now.state.pressed }
+    {
+        let view = self.view;
+        view.pressed
     }
 
     /// The `max_active` that the queue has now, and 0 where there is no such queue.

@@ -142,6 +142,7 @@ flush a
 flush s
 set_max q 9
 freeze
+pressure
 disable u
 disable s
 disable u
@@ -151,10 +152,11 @@ disable u
 const EVERY_KIND: Talk = Talk {
     name: "every kind of line",
     lines: &[
-        ("run", b"at 42 now 4\n"),
+        ("run", b"at 43 now 4\n"),
         (
             "dump",
-            b"now 4 spent 42 frozen yes
+            b"now 4 spent 43 frozen yes
+pressed
 queue q max 9
 queue f max 1
 pool 0 counted 1 made 5 idle 1 0

@@ -95,6 +95,8 @@ struct Looked {
     instrs: [Instr; 2],
     /// Whether the machine is frozen.
     frozen: bool,
+    /// Whether memory is short.
+    pressed: bool,
     /// The first queue's `max_active`.
     max: u16,
     /// How many works are pending.
@@ -105,11 +107,12 @@ struct Looked {
     flushes: usize,
 }
 
-const LOOKED: [Looked; 3] = [
+const LOOKED: [Looked; 4] = [
     Looked {
         text: TWO_WORKS,
         instrs: [Instr::Delay(B, 0, 3), Instr::FlushQueue(QueueId(0))],
         frozen: false,
+        pressed: false,
         max: 1,
         pending: 1,
         depth: 0,
@@ -119,7 +122,18 @@ const LOOKED: [Looked; 3] = [
         text: FREEZABLE,
         instrs: [Instr::SetMax(QueueId(0), 512), Instr::Freeze],
         frozen: true,
+        pressed: false,
         max: 512,
+        pending: 0,
+        depth: 0,
+        flushes: 0,
+    },
+    Looked {
+        text: TWO_WORKS,
+        instrs: [Instr::Pressure, Instr::Pressure],
+        frozen: false,
+        pressed: true,
+        max: 1,
         pending: 0,
         depth: 0,
         flushes: 0,
@@ -128,6 +142,7 @@ const LOOKED: [Looked; 3] = [
         text: TWO_WORKS,
         instrs: [Instr::Disable(B), Instr::Disable(B)],
         frozen: false,
+        pressed: false,
         max: 1,
         pending: 0,
         depth: 2,
@@ -138,8 +153,8 @@ const LOOKED: [Looked; 3] = [
 /// Compares what a look at the machine shows.
 fn check_look<M: Machine>(rt: &impl Abort, machine: &M, row: &Looked) {
     let view = whole_view(rt, machine);
-    let limits = (view.frozen, view.max.first().copied());
-    same(rt, row.instrs, limits, (row.frozen, Some(row.max)));
+    let limits = (view.frozen, view.pressed, view.max.first().copied());
+    same(rt, row.instrs, limits, (row.frozen, row.pressed, Some(row.max)));
     let counts = (view.pending.len(), view.flushes.len());
     same(rt, row.instrs, counts, (row.pending, row.flushes));
     let depth = view.depth.get(1).copied();

@@ -27,7 +27,8 @@ use Rattle.cmwq_types.specs.declared.reply.Refusal.{Refusal}
 use Rattle.cmwq_types.specs.declared.reply.Refusal.TheVariants as refusal
 use Rattle.cmwq_types.specs.declared.reply.Reply.{Reply}
 use Rattle.cmwq_types.specs.declared.reply.Reply.TheVariants as reply
-use Rattle.cmwq_table.specs.Events.{already_text, asked_name, event_object, event_text, event_verb, line_at, mode_text, place_text, refusal_text, reply_words, run_text, was_text, work_name, worker_text}
+use Rattle.cmwq_table.specs.Counts.{is_rescuer}
+use Rattle.cmwq_table.specs.Events.{already_text, asked_name, event_object, event_text, event_verb, line_at, mode_text, place_text, refusal_text, reply_words, run_text, was_text, work_name, worker_number, worker_text}
 use Rattle.cmwq_played.specs.Numbers.{IsEvent, IsPlace, IsReply, IsRun, IsTime}
 
 abbrev pub no_feed : List ℕ → Bool
@@ -114,8 +115,15 @@ place_piece (Some (Inactive pool)) is = within 40 (joint (literal 9 (codes "inac
 place_piece (Some (Listed pool)) is = within 40 (joint (literal 7 (codes "listed ") refl refl) (number pool is)) refl
 place_piece (Some (Deferred pool)) is = within 40 (joint (literal 9 (codes "deferred ") refl refl) (number pool is)) refl
 
+worker_number_piece : (worker : ℕ) → worker < 2 ^ 64 → Piece 20 (worker_number worker)
+worker_number_piece worker small = by_kind (is_rescuer worker)
+  where
+    by_kind : (b : Bool) → Piece 20 (if b then codes "rescuer" else decimal worker)
+    by_kind true = literal 20 (codes "rescuer") refl refl
+    by_kind false = number worker small
+
 worker_piece : (run : WorkRun) → run.pool < 2 ^ 64 → run.worker < 2 ^ 64 → Piece 41 (worker_text run)
-worker_piece run pool worker = joint (joint (number run.pool pool) (literal 1 (codes "/") refl refl)) (number run.worker worker)
+worker_piece run pool worker = joint (joint (number run.pool pool) (literal 1 (codes "/") refl refl)) (worker_number_piece run.worker worker)
 
 mode_piece : (run : WorkRun) (mode : Mode) → run.pool < 2 ^ 64 → run.worker < 2 ^ 64 → IsTime mode → Piece 80 (mode_text run mode)
 mode_piece run Runnable pool worker is = within 80 (joint (literal 5 (codes "runs ") refl refl) (worker_piece run pool worker)) refl
@@ -132,6 +140,7 @@ already_piece false = literal 8 [] refl refl
 
 verb_piece : (event : Event) → Piece 20 (event_verb event)
 verb_piece event.Starts = literal 20 (codes "starts") refl refl
+verb_piece event.StartsOnRescuer = literal 20 (codes "starts on rescuer") refl refl
 verb_piece (event.Burns ticks) = literal 20 (codes "burns") refl refl
 verb_piece (event.Sleeps ticks) = literal 20 (codes "sleeps") refl refl
 verb_piece event.Wakes = literal 20 (codes "wakes") refl refl
@@ -150,6 +159,7 @@ object_piece S (event.Queues other already) are is =
 object_piece S (event.QueuesDisabled other) are is =
     within 30 (joint (joint (literal 1 (codes " ") refl refl) (work_piece S other are)) (literal 9 (codes " disabled") refl refl)) refl
 object_piece S event.Starts are is = literal 30 [] refl refl
+object_piece S event.StartsOnRescuer are is = literal 30 [] refl refl
 object_piece S event.Wakes are is = literal 30 [] refl refl
 object_piece S event.Finishes are is = literal 30 [] refl refl
 object_piece S event.FinishesAndStarts are is = literal 30 [] refl refl
@@ -173,6 +183,8 @@ refusal_piece (refusal.Unsettled cause) = literal 20 (codes "Unsettled") refl re
 refusal_piece refusal.Disabled = literal 20 (codes "Disabled") refl refl
 refusal_piece refusal.TooDeep = literal 20 (codes "TooDeep") refl refl
 refusal_piece refusal.NotDisabled = literal 20 (codes "NotDisabled") refl refl
+refusal_piece refusal.AlreadyPressed = literal 20 (codes "AlreadyPressed") refl refl
+refusal_piece refusal.NotPressed = literal 20 (codes "NotPressed") refl refl
 
 was_piece : (was : Bool) → Piece 11 (was_text was)
 was_piece true = literal 11 (codes "cancelled") refl refl

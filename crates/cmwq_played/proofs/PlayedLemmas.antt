@@ -91,6 +91,8 @@ module _ (S : ScenarioContents) (instrs : List Instr) where
       same_names (instr.State work) = refl
       same_names (instr.Disable work) = refl
       same_names (instr.Enable work) = refl
+      same_names instr.Pressure = refl
+      same_names instr.Relief = refl
 
   declared_lines : (before : List Line) (is : List Instr) → AllByRecursion (λ i. names_declared S i ≡ true) is
       → first_along (λ before line. line_fault (played S instrs) line) before (map once is) ≡ None

@@ -29,6 +29,7 @@ abbrev pub IsEvent : Event → Type 0
 IsEvent (event.Burns ticks) = ticks < 2 ^ 64
 IsEvent (event.Sleeps ticks) = ticks < 2 ^ 64
 IsEvent event.Starts = Unit {0}
+IsEvent event.StartsOnRescuer = Unit {0}
 IsEvent event.Wakes = Unit {0}
 IsEvent event.Finishes = Unit {0}
 IsEvent event.FinishesAndStarts = Unit {0}
