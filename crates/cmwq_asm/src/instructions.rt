@@ -88,6 +88,8 @@ fn read_operands<'a, 't>(
             Ok((Instr::Ask(flush as u16), rest))
         }
         Mnemonic::Busy => Ok((Instr::Busy, rest)),
+        Mnemonic::Pressure => Ok((Instr::Pressure, rest)),
+        Mnemonic::Relief => Ok((Instr::Relief, rest)),
         Mnemonic::Queue
         | Mnemonic::Delay
         | Mnemonic::Mod
@@ -143,7 +145,9 @@ fn read_behind_work<'a, 't>(
         | Mnemonic::Tick
         | Mnemonic::Next
         | Mnemonic::Ask
-        | Mnemonic::Busy => unreachable!(),
+        | Mnemonic::Busy
+        | Mnemonic::Pressure
+        | Mnemonic::Relief => unreachable!(),
     }
 }
 

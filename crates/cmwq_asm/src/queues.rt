@@ -107,6 +107,15 @@ fn add_flag(flags: Flags, word: &[u8]) -> Result<Flags, Why>
             },
         );
     }
+    if is_word(word, b"mem_reclaim") {
+        return set_once(
+            flags.mem_reclaim,
+            Flags {
+                mem_reclaim: true,
+                ..flags
+            },
+        );
+    }
     Err(Why::BadWord)
 }
 

@@ -1,5 +1,5 @@
 -- Short texts, and what reading them gives.
-use Rattle.std.specs.Prelude.{◌≡◌, ℕ, ◌+◌, List, [], ◌∷◌, ◌++◌, map, replicate, take, Ok, Err, codes}
+use Rattle.std.specs.Prelude.{◌≡◌, ℕ, true, ◌+◌, List, [], ◌∷◌, ◌++◌, map, replicate, take, Ok, Err, codes}
 use Rattle.std.specs.List.{flat_map, range_with_len}
 use Rattle.cmwq_types.specs.Contents.{ScenarioContents, ActorContents}
 use Rattle.cmwq_types.specs.Scenario.{plain_flags}
@@ -84,6 +84,14 @@ in_actor_t lines = text (take 10 queues_itself_lines ++ lines)
 abbrev pub disabling_lines : List Line
 disabling_lines =
     record { instr = instr.Disable (record { 0 = 0 }); times = 2 } ∷ record { instr = instr.Enable (record { 0 = 0 }); times = 1 } ∷ []
+
+abbrev pub pressing_lines : List Line
+pressing_lines = record { instr = instr.Pressure; times = 2 } ∷ record { instr = instr.Relief; times = 1 } ∷ []
+
+-- `queue q max 1 ordered mem_reclaim`
+abbrev pub queue_with_memory : List QueueDecl
+queue_with_memory =
+    record { name = codes "q"; max = 1; flags = record plain_flags { ordered = true; mem_reclaim = true } } ∷ []
 
 -- that text cut after n lines
 abbrev pub cut_after : ℕ → List ℕ

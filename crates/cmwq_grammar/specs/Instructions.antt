@@ -80,6 +80,8 @@ operands_of mnemonic.Busy = Makes instr.Busy
 operands_of mnemonic.State = of_work instr.State
 operands_of mnemonic.Disable = of_work instr.Disable
 operands_of mnemonic.Enable = of_work instr.Enable
+operands_of mnemonic.Pressure = Makes instr.Pressure
+operands_of mnemonic.Relief = Makes instr.Relief
 
 -- the words that other lines begin with; an operation and a queue's line begin with an instruction's word, `queue`
 abbrev pub other_words : List (List ℕ)

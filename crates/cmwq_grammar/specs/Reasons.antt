@@ -34,6 +34,7 @@ flag_table =
     ∷ record { word = codes "cpu_intensive"; has = λ flags. flags.cpu_intensive; set = λ flags. record flags { cpu_intensive = true } }
     ∷ record { word = codes "freezable"; has = λ flags. flags.freezable; set = λ flags. record flags { freezable = true } }
     ∷ record { word = codes "ordered"; has = λ flags. flags.ordered; set = λ flags. record flags { ordered = true } }
+    ∷ record { word = codes "mem_reclaim"; has = λ flags. flags.mem_reclaim; set = λ flags. record flags { mem_reclaim = true } }
     ∷ []
 
 -- the flag, if it isn't set yet

@@ -1,5 +1,5 @@
 //! Short texts, as theorems over the definitions: what reading them gives.
-ghost use Rattle.cmwq_grammar.specs.Examples.{AfterBodyIs, DeclaredIs, FaultIs, FirstLineIs, InActorIs, InBodyIs, ReadsAs, sixteen_actor_lines, actor_t, after_head, cut_after, disabling_lines, free_head, head_lines, in_actor_t, itself_lines, long_body, nothing, one_work, queue_alone, queue_q, queues_itself, sixteen_actors, text, with_bad_byte};
+ghost use Rattle.cmwq_grammar.specs.Examples.{AfterBodyIs, DeclaredIs, FaultIs, FirstLineIs, InActorIs, InBodyIs, ReadsAs, sixteen_actor_lines, actor_t, after_head, cut_after, disabling_lines, free_head, head_lines, in_actor_t, itself_lines, long_body, nothing, one_work, pressing_lines, queue_alone, queue_q, queue_with_memory, queues_itself, sixteen_actors, text, with_bad_byte};
 ghost use Rattle.cmwq_types.specs.Listing.{listing};
 ghost use Rattle.std.specs.Prelude.{◌≡◌, ◌∷◌, ◌++◌, [], codes, take};
 
@@ -60,6 +60,13 @@ pub fn disable_and_enable_are_read()
     ensures { ReadsAs (in_actor_t (codes "disable a * 2" ∷ codes "enable a" ∷ [])) (one_work (actor_t disabling_lines)) }
 {}
 
+/// The flag `mem_reclaim` stands beside any other, and memory pressure begins and ends by a word alone.
+pub fn memory_is_told_of()
+    ensures flag { ReadsAs (after_head (codes "queue q max 1 mem_reclaim ordered" ∷ [])) (record nothing { queues = queue_with_memory }) }
+    ensures listed { listing (record nothing { queues = queue_with_memory }) ≡ after_head (codes "queue q max 1 ordered mem_reclaim" ∷ []) }
+    ensures words { ReadsAs (in_actor_t (codes "pressure * 2" ∷ codes "relief" ∷ [])) (one_work (actor_t pressing_lines)) }
+{}
+
 /// A byte that isn't UTF-8 is the first fault of its line.
 pub fn bad_byte_is_the_first_fault_of_its_line()
     ensures { FaultIs with_bad_byte 8 Why.BadUtf8 }
@@ -94,6 +101,7 @@ pub fn reasons_in_declarations()
     ensures no_flag { DeclaredIs (codes "queue r max 0 fast") Why.BadWord }
     ensures flag_twice { DeclaredIs (codes "queue r max 0 highpri unbound highpri") (Why.Fault Fault.Duplicate) }
     ensures ordered { DeclaredIs (codes "queue r max 2 ordered") (Why.Fault Fault.BadFlags) }
+    ensures mem_reclaim_twice { DeclaredIs (codes "queue r max 1 mem_reclaim mem_reclaim") (Why.Fault Fault.Duplicate) }
     ensures no_queue { DeclaredIs (codes "work a") Why.MissingWord }
     ensures bad_queue { DeclaredIs (codes "work a Q") Why.BadName }
     ensures unknown_queue { DeclaredIs (codes "work a r") (Why.Fault Fault.Unknown) }
@@ -108,6 +116,7 @@ pub fn reasons_in_bodies()
     ensures body { InBodyIs (codes "body b") (Why.Fault Fault.BadBody) }
     ensures no_operation { InBodyIs (codes "freeze") Why.Misplaced }
     ensures disable { InBodyIs (codes "disable a") Why.Misplaced }
+    ensures pressure { InBodyIs (codes "pressure") Why.Misplaced }
     ensures no_word { InBodyIs (codes "meet a") Why.BadWord }
     ensures no_ticks { InBodyIs (codes "burn 0") (Why.Fault Fault.Range) }
     ensures too_many_ticks { InBodyIs (codes "sleep 1000001") (Why.Fault Fault.Range) }
@@ -135,6 +144,8 @@ pub fn reasons_in_actors()
     ensures unknown { InActorIs (codes "cancel b") (Why.Fault Fault.Unknown) }
     ensures disable { InActorIs (codes "disable") Why.MissingWord }
     ensures enable { InActorIs (codes "enable b") (Why.Fault Fault.Unknown) }
+    ensures pressure { InActorIs (codes "pressure 1") Why.ExtraWord }
+    ensures relief { InActorIs (codes "relief a") Why.ExtraWord }
     ensures unknown_queue { InActorIs (codes "flush_queue a") (Why.Fault Fault.Unknown) }
     ensures cpu { InActorIs (codes "queue a 256") (Why.Fault Fault.Range) }
     ensures ticks { InActorIs (codes "delay a 255 4294967296") (Why.Fault Fault.Range) }

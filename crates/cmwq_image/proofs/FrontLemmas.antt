@@ -7,7 +7,7 @@ use Rattle.std.specs.Int.{Width, w8, w16, w32, byte_len, from_be_bytes}
 use Rattle.std.specs.Str.{bytes_eq}
 use Rattle.cmwq_types.specs.Contents.{ScenarioContents}
 use Rattle.cmwq_types.specs.Faults.{first_fault, IsValid}
-use Rattle.cmwq_image.specs.Image.{magic}
+use Rattle.cmwq_image.specs.Image.{all_flags, magic}
 use Rattle.cmwq_image.specs.ImageFault.{Place, Reader, ◌>>=◌, hand_on, done, many, field, accepted, behind, if_within, read_number, read_version, read_name, name_of, read_queue, read_op_tag, op_tag_of, op_room, read_op, read_instr_tag, instr_tag_in, instr_room, read_instr, read_work, read_line, read_actor, read_head, scenario_at, judged, unless_faulty, from_there, reading}
 use Rattle.cmwq_image.specs.Limits.{HasSize}
 use Rattle.cmwq_image.specs.Versions.{IsImageOf}
@@ -147,10 +147,10 @@ many_then {Goal} one size near count next rest others = near_then (many one coun
 
 -- ---- the parts of an image
 
-near_queue : Near read_queue 20 Any
+near_queue : (version : ℕ) → Near (read_queue version) 20 Any
 unfolding read_queue
-near_queue =
-    name_then _ 4 (λ name. short_then 0 65535 _ 2 (λ max m. byte_then 0 31 _ 1 (λ bits b. byte_then 0 0 _ 0 (λ nothing n. near_done _ Any tt))))
+near_queue version =
+    name_then _ 4 (λ name. short_then 0 65535 _ 2 (λ max m. byte_then 0 (all_flags version) _ 1 (λ bits b. byte_then 0 0 _ 0 (λ nothing n. near_done _ Any tt))))
 
 near_op : Near read_op 8 Any
 unfolding read_op
@@ -202,7 +202,7 @@ near_scenario =
     version_then _ 923052 (λ version. near_then read_head _ 12 923040 FewParts Any near_head
     (λ head few.
     wider _ (head.queues * 20 + (head.works * 530 + (head.actors * 49170 + 0))) 923040 Any (omega (arith, few.0, few.1, few.2))
-    (many_then read_queue 20 near_queue head.queues _ (head.works * 530 + (head.actors * 49170 + 0)) (λ queues.
+    (many_then (read_queue version) 20 (near_queue version) head.queues _ (head.works * 530 + (head.actors * 49170 + 0)) (λ queues.
     many_then read_work 530 near_work head.works _ (head.actors * 49170 + 0) (λ works.
     many_then (read_actor version) 49170 (near_actor version) head.actors _ 0 (λ actors. near_done _ Any tt))))))
 

@@ -1,5 +1,6 @@
 pub mod Codec
 pub mod FieldCodecs
+pub mod FlagLemmas
 pub mod LoopLemmas
 pub mod NameLemmas
 pub mod SizeLemmas

@@ -6,9 +6,11 @@ use Rattle.cmwq_types.specs.Contents.{ScenarioContents, ActorContents}
 use Rattle.cmwq_types.specs.declared.instr.Instr.{Instr}
 use Rattle.cmwq_types.specs.declared.instr.Instr.TheVariants as instr
 use Rattle.cmwq_types.specs.declared.scenario.Line.{Line}
-use Rattle.cmwq_image.specs.Image.{image, instr_word}
-use Rattle.cmwq_image.specs.Versions.{IsLineOf, HasVersion, IsImageOf, NeitherDisablesNorEnables, NeverDisables}
-use Rattle.cmwq_image.specs.declared.version.TheConstants.{FIRST_VERSION, VERSION}
+use Rattle.cmwq_types.specs.declared.scenario.QueueDecl.{QueueDecl}
+use Rattle.cmwq_image.specs.Image.{flag_bits, image, instr_word}
+use Rattle.cmwq_image.specs.Versions.{IsQueueOf, IsLineOf, HasVersion, IsImageOf, EachInstr, NeitherDisablesNorEnables, NeverDisables, NeitherPressesNorRelieves, NeverReclaims, MemoryIsAmple}
+use Rattle.cmwq_image.specs.declared.version.TheConstants.{FIRST_VERSION, SECOND_VERSION, VERSION}
+use Rattle.cmwq_image.proofs.FlagLemmas.{at_most_31, at_most_63, never_reclaims}
 
 -- what each element is, where it is something that says so
 pub all_are : {A : Type 0} (P Q : A → Type 0) → ((x : A) → P x → Q x) → (xs : List A) → AllByRecursion P xs → AllByRecursion Q xs
@@ -25,40 +27,98 @@ every : {A : Type 0} (P : A → Type 0) → ((x : A) → P x) → (xs : List A) 
 every P so [] = tt
 every P so (x ∷ xs) = (so x, every P so xs)
 
-last_is_35 : (i : Instr) → (instr_word i).tag ≤ 35
-last_is_35 (instr.Queue work cpu) = omega arith
-last_is_35 _ = omega arith
+-- what each instruction is, where it is something that says so
+each_instr : (P Q : Instr → Type 0) → ((i : Instr) → P i → Q i) → (actors : List ActorContents) → EachInstr P actors → EachInstr Q actors
+each_instr P Q so actors =
+    all_are (λ (actor : ActorContents). AllByRecursion (λ (line : Line). P line.instr) actor.lines) (λ actor. AllByRecursion (λ (line : Line). Q line.instr) actor.lines)
+    (λ actor. all_are (λ (line : Line). P line.instr) (λ (line : Line). Q line.instr) (λ line. so line.instr) actor.lines) actors
+
+-- what each instruction is in both ways
+both_instr : (P Q : Instr → Type 0) (actors : List ActorContents) → EachInstr P actors → EachInstr Q actors → EachInstr (λ i. P i × Q i) actors
+both_instr P Q [] p q = tt
+both_instr P Q (actor ∷ actors) p q =
+    (both_all (λ (line : Line). P line.instr) (λ (line : Line). Q line.instr) actor.lines p.0 q.0, both_instr P Q actors p.1 q.1)
+
+abbrev IsTagged : ℕ → Instr → Type 0
+IsTagged last i = (instr_word i).tag ≤ last
+
+last_is_37 : (i : Instr) → IsTagged 37 i
+last_is_37 (instr.Queue work cpu) = omega arith
+last_is_37 _ = omega arith
 
 pub newest : (S : ScenarioContents) → HasVersion S VERSION
 newest S = record {
   first = omega arith;
   last = omega arith;
-  lines = every (λ (actor : ActorContents). AllByRecursion (IsLineOf VERSION) actor.lines) (λ actor. every (IsLineOf VERSION) (λ line. last_is_35 line.instr) actor.lines) S.actors;
+  queues = every (IsQueueOf VERSION) (λ queue. at_most_63 queue.flags) S.queues;
+  lines = every (λ (actor : ActorContents). AllByRecursion (IsLineOf VERSION) actor.lines) (λ actor. every (IsLineOf VERSION) (λ line. last_is_37 line.instr) actor.lines) S.actors;
 }
 
 -- the image that is written
 pub newest_image : (bytes : List ℕ) (S : ScenarioContents) → bytes ≡ image VERSION S → IsImageOf bytes S
 newest_image bytes S e = record { version = VERSION; has = newest S; written = e }
 
-older : (i : Instr) → (instr_word i).tag ≤ 33 → NeitherDisablesNorEnables i
-older (instr.Disable work) h = absurd (omega (arith, h))
-older (instr.Enable work) h = absurd (omega (arith, h))
-older _ h = tt
+-- a queue that does without the last flag
+queue_never : (queue : QueueDecl) → flag_bits queue.flags ≤ 31 → NeverReclaims queue
+queue_never queue few = never_reclaims queue.flags few
 
-last_is_33 : (i : Instr) → NeitherDisablesNorEnables i → (instr_word i).tag ≤ 33
-last_is_33 (instr.Disable work) h = elim h [ ]
-last_is_33 (instr.Enable work) h = elim h [ ]
-last_is_33 _ h = omega arith
+queue_few : (queue : QueueDecl) → NeverReclaims queue → flag_bits queue.flags ≤ 31
+queue_few queue never = at_most_31 queue.flags never
 
-pub oldest : (S : ScenarioContents) → HasVersion S FIRST_VERSION ↔ NeverDisables S.actors
-oldest S = (
-  λ has.
-      all_are (λ (actor : ActorContents). AllByRecursion (IsLineOf FIRST_VERSION) actor.lines) (λ actor. AllByRecursion (λ (line : Line). NeitherDisablesNorEnables line.instr) actor.lines)
-      (λ actor. all_are (IsLineOf FIRST_VERSION) (λ line. NeitherDisablesNorEnables line.instr) (λ line. older line.instr) actor.lines) S.actors has.lines,
-  λ never. record {
+-- the second version
+
+ample : (i : Instr) → IsTagged 35 i → NeitherPressesNorRelieves i
+ample instr.Pressure h = absurd (omega (arith, h))
+ample instr.Relief h = absurd (omega (arith, h))
+ample _ h = tt
+
+last_is_35 : (i : Instr) → NeitherPressesNorRelieves i → IsTagged 35 i
+last_is_35 instr.Pressure h = elim h [ ]
+last_is_35 instr.Relief h = elim h [ ]
+last_is_35 _ h = omega arith
+
+pub older : (S : ScenarioContents) → HasVersion S SECOND_VERSION ↔ MemoryIsAmple S
+older S = (
+  λ has. (
+    all_are (IsQueueOf SECOND_VERSION) NeverReclaims queue_never S.queues has.queues,
+    each_instr (IsTagged 35) NeitherPressesNorRelieves ample S.actors has.lines,
+  ),
+  λ is. record {
     first = omega arith;
     last = omega arith;
-    lines = all_are (λ (actor : ActorContents). AllByRecursion (λ (line : Line). NeitherDisablesNorEnables line.instr) actor.lines) (λ actor. AllByRecursion (IsLineOf FIRST_VERSION) actor.lines)
-        (λ actor. all_are (λ (line : Line). NeitherDisablesNorEnables line.instr) (IsLineOf FIRST_VERSION) (λ line. last_is_33 line.instr) actor.lines) S.actors never;
+    queues = all_are NeverReclaims (IsQueueOf SECOND_VERSION) queue_few S.queues is.0;
+    lines = each_instr NeitherPressesNorRelieves (IsTagged 35) last_is_35 S.actors is.1;
+  },
+)
+
+-- the first version
+
+early : (i : Instr) → IsTagged 33 i → NeitherDisablesNorEnables i
+early (instr.Disable work) h = absurd (omega (arith, h))
+early (instr.Enable work) h = absurd (omega (arith, h))
+early _ h = tt
+
+last_is_33 : (i : Instr) → NeitherPressesNorRelieves i × NeitherDisablesNorEnables i → IsTagged 33 i
+last_is_33 (instr.Disable work) h = elim h.1 [ ]
+last_is_33 (instr.Enable work) h = elim h.1 [ ]
+last_is_33 instr.Pressure h = elim h.0 [ ]
+last_is_33 instr.Relief h = elim h.0 [ ]
+last_is_33 _ h = omega arith
+
+pub oldest : (S : ScenarioContents) → HasVersion S FIRST_VERSION ↔ (MemoryIsAmple S × NeverDisables S)
+oldest S = (
+  λ has. (
+    (
+      all_are (IsQueueOf FIRST_VERSION) NeverReclaims queue_never S.queues has.queues,
+      each_instr (IsTagged 33) NeitherPressesNorRelieves (λ i h. ample i (omega (arith, h))) S.actors has.lines,
+    ),
+    each_instr (IsTagged 33) NeitherDisablesNorEnables early S.actors has.lines,
+  ),
+  λ is. record {
+    first = omega arith;
+    last = omega arith;
+    queues = all_are NeverReclaims (IsQueueOf FIRST_VERSION) queue_few S.queues is.0.0;
+    lines = each_instr (λ i. NeitherPressesNorRelieves i × NeitherDisablesNorEnables i) (IsTagged 33) last_is_33 S.actors
+        (both_instr NeitherPressesNorRelieves NeitherDisablesNorEnables S.actors is.0.1 is.1);
   },
 )

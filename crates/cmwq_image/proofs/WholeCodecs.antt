@@ -13,14 +13,14 @@ use Rattle.cmwq_types.specs.declared.scenario.QueueDecl.{QueueDecl}
 use Rattle.cmwq_image.specs.Image.{in_order, number, name_field, queue_image, op_image, work_image, word_image, instr_word, line_image, actor_image, image, magic}
 use Rattle.cmwq_image.specs.ImageFault.{Place, Reader, ◌>>=◌, hand_on, done, many, read_number, read_byte, read_short, read_long, read_version, read_name, read_queue, read_op, read_work, read_instr, read_line, read_actor, read_head, scenario_at}
 use Rattle.cmwq_image.specs.Limits.{HasBodySize, HasLinesSize, HasSize}
-use Rattle.cmwq_image.specs.Versions.{IsLineOf, AreLinesOf, HasVersion}
+use Rattle.cmwq_image.specs.Versions.{IsQueueOf, AreQueuesOf, IsLineOf, AreLinesOf, HasVersion}
 use Rattle.cmwq_types.specs.Values.{IsQueueDecl, IsOp, IsWorkDecl, IsLine, IsActor, IsScenario}
 use Rattle.cmwq_image.specs.declared.error.ImageError.{ImageError}
 use Rattle.cmwq_image.specs.declared.head.Head.{Head}
 use Rattle.cmwq_image.specs.declared.version.TheConstants.{FIRST_VERSION, VERSION}
 use Rattle.cmwq_image.proofs.Codec.{Codec, nothing, one_then}
 use Rattle.cmwq_image.proofs.FieldCodecs.{InRange, Each, names, versions, many_of}
-use Rattle.cmwq_image.proofs.PartCodecs.{bytes_of, shorts, longs, queues}
+use Rattle.cmwq_image.proofs.PartCodecs.{QueueFits, bytes_of, shorts, longs, queues}
 use Rattle.cmwq_image.proofs.VersionLemmas.{all_are, both_all}
 use Rattle.cmwq_image.proofs.WordCodecs.{InstrFits, ops, instrs}
 
@@ -348,17 +348,17 @@ scenarios_works version head queues =
     })
 
 scenarios_queues : (version : ℕ) (head : Head)
-    → Codec (many read_queue head.queues >>= λ queues. many read_work head.works >>= λ works. many (read_actor version) head.actors >>= λ actors. done (scenario_with head queues works actors))
+    → Codec (many (read_queue version) head.queues >>= λ queues. many read_work head.works >>= λ works. many (read_actor version) head.actors >>= λ actors. done (scenario_with head queues works actors))
     (λ S. in_order (flat_map queue_image S.queues ∷ flat_map work_image S.works ∷ flat_map actor_image S.actors ∷ []))
-    (λ S. NumbersAre head S × Each IsQueueDecl head.queues S.queues × Each WorkFits head.works S.works × Each (ActorFits version) head.actors S.actors)
+    (λ S. NumbersAre head S × Each (QueueFits version) head.queues S.queues × Each WorkFits head.works S.works × Each (ActorFits version) head.actors S.actors)
 scenarios_queues version head =
-    one_then (many read_queue head.queues) (λ queues. many read_work head.works >>= λ works. many (read_actor version) head.actors >>= λ actors. done (scenario_with head queues works actors)) (λ S. S.queues) (flat_map queue_image) (Each IsQueueDecl head.queues)
+    one_then (many (read_queue version) head.queues) (λ queues. many read_work head.works >>= λ works. many (read_actor version) head.actors >>= λ actors. done (scenario_with head queues works actors)) (λ S. S.queues) (flat_map queue_image) (Each (QueueFits version) head.queues)
     (λ S. in_order (flat_map work_image S.works ∷ flat_map actor_image S.actors ∷ []))
     (λ queues S. NumbersAre head S × (S.queues ≡ queues) × Each WorkFits head.works S.works × Each (ActorFits version) head.actors S.actors)
     (λ S. in_order (flat_map queue_image S.queues ∷ flat_map work_image S.works ∷ flat_map actor_image S.actors ∷ []))
-    (λ S. NumbersAre head S × Each IsQueueDecl head.queues S.queues × Each WorkFits head.works S.works × Each (ActorFits version) head.actors S.actors)
-    (many_of read_queue queue_image IsQueueDecl queues head.queues) (λ queues fits. scenarios_works version head queues) (record {
-      join = λ queues S fits h. (h.1, (h.0, subst (Each IsQueueDecl head.queues) (sym h.1) fits, h.2, h.3));
+    (λ S. NumbersAre head S × Each (QueueFits version) head.queues S.queues × Each WorkFits head.works S.works × Each (ActorFits version) head.actors S.actors)
+    (many_of (read_queue version) queue_image (QueueFits version) (queues version) head.queues) (λ queues fits. scenarios_works version head queues) (record {
+      join = λ queues S fits h. (h.1, (h.0, subst (Each (QueueFits version) head.queues) (sym h.1) fits, h.2, h.3));
       cut = λ S h. (h.1, (h.0, refl, h.2, h.3));
       written = λ S h. refl;
     })
@@ -371,10 +371,11 @@ parts_image S = head_bytes (head_of S) ++ in_order (flat_map queue_image S.queue
 pub record HasParts (version : ℕ) (S : ScenarioContents) : Type 0 where
   pub contents : IsScenario S
   pub sized : HasSize S
+  pub queues : AreQueuesOf version S.queues
   pub lines : AreLinesOf version S.actors
 
 scenario_join : (version : ℕ) (head : Head) (S : ScenarioContents) → HeadFits head
-    → NumbersAre head S × Each IsQueueDecl head.queues S.queues × Each WorkFits head.works S.works × Each (ActorFits version) head.actors S.actors → (head_of S ≡ head) × HasParts version S
+    → NumbersAre head S × Each (QueueFits version) head.queues S.queues × Each WorkFits head.works S.works × Each (ActorFits version) head.actors S.actors → (head_of S ≡ head) × HasParts version S
 scenario_join version head S fits h =
     let head_is : head_of S ≡ head =
     ap (λ x. head_with x S.workers S.steps S.flushes (length S.queues) (length S.works) (length S.actors)) h.0.0
@@ -391,7 +392,7 @@ scenario_join version head S fits h =
           workers = omega (arith, h.0.1, fits.1);
           steps = omega (arith, h.0.2, fits.2);
           flushes = omega (arith, h.0.3, fits.3);
-          queues = h.1.1;
+          queues = all_are (QueueFits version) IsQueueDecl (λ q is. is.0) S.queues h.1.1;
           works = all_are WorkFits IsWorkDecl (λ w is. is.0) S.works h.2.1;
           actors = all_are (ActorFits version) IsActor (λ a is. is.0) S.actors h.3.1;
         };
@@ -402,12 +403,13 @@ scenario_join version head S fits h =
           bodies = all_are WorkFits HasBodySize (λ w is. is.1) S.works h.2.1;
           lines = all_are (ActorFits version) HasLinesSize (λ a is. is.1.0) S.actors h.3.1;
         };
+        queues = all_are (QueueFits version) (IsQueueOf version) (λ q is. is.1) S.queues h.1.1;
         lines = all_are (ActorFits version) (λ a. AllByRecursion (IsLineOf version) a.lines) (λ a is. is.1.1) S.actors h.3.1;
       },
     )
 
 scenario_cut : (version : ℕ) (S : ScenarioContents) → HasParts version S
-    → HeadFits (head_of S) × (NumbersAre (head_of S) S × Each IsQueueDecl (length S.queues) S.queues × Each WorkFits (length S.works) S.works × Each (ActorFits version) (length S.actors) S.actors)
+    → HeadFits (head_of S) × (NumbersAre (head_of S) S × Each (QueueFits version) (length S.queues) S.queues × Each WorkFits (length S.works) S.works × Each (ActorFits version) (length S.actors) S.actors)
 scenario_cut version S h = (
   (
     omega (arith, h.contents.cpus),
@@ -420,7 +422,7 @@ scenario_cut version S h = (
   ),
   (
     (refl, refl, refl, refl),
-    (refl, h.contents.queues),
+    (refl, both_all IsQueueDecl (IsQueueOf version) S.queues h.contents.queues h.queues),
     (refl, both_all IsWorkDecl HasBodySize S.works h.contents.works h.sized.bodies),
     (
       refl,
@@ -433,13 +435,13 @@ scenario_cut version S h = (
 -- what stands behind the version is read
 abbrev pub parts_at : ℕ → Reader ScenarioContents
 parts_at version =
-    read_head >>= λ head. many read_queue head.queues >>= λ queues. many read_work head.works >>= λ works. many (read_actor version) head.actors >>= λ actors. done (scenario_with head queues works actors)
+    read_head >>= λ head. many (read_queue version) head.queues >>= λ queues. many read_work head.works >>= λ works. many (read_actor version) head.actors >>= λ actors. done (scenario_with head queues works actors)
 
 parts : (version : ℕ) → Codec (parts_at version) parts_image (HasParts version)
 parts version =
-    one_then read_head (λ head. many read_queue head.queues >>= λ queues. many read_work head.works >>= λ works. many (read_actor version) head.actors >>= λ actors. done (scenario_with head queues works actors)) head_of head_bytes HeadFits
+    one_then read_head (λ head. many (read_queue version) head.queues >>= λ queues. many read_work head.works >>= λ works. many (read_actor version) head.actors >>= λ actors. done (scenario_with head queues works actors)) head_of head_bytes HeadFits
     (λ S. in_order (flat_map queue_image S.queues ∷ flat_map work_image S.works ∷ flat_map actor_image S.actors ∷ []))
-    (λ head S. NumbersAre head S × Each IsQueueDecl head.queues S.queues × Each WorkFits head.works S.works × Each (ActorFits version) head.actors S.actors)
+    (λ head S. NumbersAre head S × Each (QueueFits version) head.queues S.queues × Each WorkFits head.works S.works × Each (ActorFits version) head.actors S.actors)
     parts_image (HasParts version)
     heads (λ head fits. scenarios_queues version head) (record {
       join = λ head S fits h. scenario_join version head S fits h;
@@ -493,11 +495,12 @@ images =
           has = record {
             first = omega (arith, h.0, fits.0);
             last = omega (arith, h.0, fits.1);
+            queues = subst (λ v. AreQueuesOf v p.1.queues) (sym h.0) h.1.queues;
             lines = subst (λ v. AreLinesOf v p.1.actors) (sym h.0) h.1.lines;
           };
         },
       );
-      cut = λ p h. ((h.has.first, h.has.last), (refl, record { contents = h.contents; sized = h.sized; lines = h.has.lines }));
+      cut = λ p h. ((h.has.first, h.has.last), (refl, record { contents = h.contents; sized = h.sized; queues = h.has.queues; lines = h.has.lines }));
       written = λ p h. refl;
     })
 

@@ -288,6 +288,8 @@ instr_code instr_tag.Busy = 32
 instr_code instr_tag.State = 33
 instr_code instr_tag.Disable = 34
 instr_code instr_tag.Enable = 35
+instr_code instr_tag.Pressure = 36
+instr_code instr_tag.Relief = 37
 
 abbrev instr_tag_is : Instr → InstrTag
 instr_tag_is (instr.Queue work cpu) = instr_tag.Queue
@@ -310,6 +312,8 @@ instr_tag_is instr.Busy = instr_tag.Busy
 instr_tag_is (instr.State work) = instr_tag.State
 instr_tag_is (instr.Disable work) = instr_tag.Disable
 instr_tag_is (instr.Enable work) = instr_tag.Enable
+instr_tag_is instr.Pressure = instr_tag.Pressure
+instr_tag_is instr.Relief = instr_tag.Relief
 
 instr_small : (t : InstrTag) → instr_code t < 256
 instr_small instr_tag.Queue = omega arith
@@ -332,6 +336,8 @@ instr_small instr_tag.Busy = omega arith
 instr_small instr_tag.State = omega arith
 instr_small instr_tag.Disable = omega arith
 instr_small instr_tag.Enable = omega arith
+instr_small instr_tag.Pressure = omega arith
+instr_small instr_tag.Relief = omega arith
 
 instr_found : (t : InstrTag) → instr_tag_of (instr_code t) ≡ Some t
 instr_found instr_tag.Queue = refl
@@ -354,6 +360,8 @@ instr_found instr_tag.Busy = refl
 instr_found instr_tag.State = refl
 instr_found instr_tag.Disable = refl
 instr_found instr_tag.Enable = refl
+instr_found instr_tag.Pressure = refl
+instr_found instr_tag.Relief = refl
 
 instr_is_room : (t : InstrTag) → IsRoom (instr_room t)
 instr_is_room instr_tag.Queue = record { cpu_fits = omega arith; a_fits = omega arith; n_fits = omega arith }
@@ -376,6 +384,8 @@ instr_is_room instr_tag.Busy = record { cpu_fits = omega arith; a_fits = omega a
 instr_is_room instr_tag.State = record { cpu_fits = omega arith; a_fits = omega arith; n_fits = omega arith }
 instr_is_room instr_tag.Disable = record { cpu_fits = omega arith; a_fits = omega arith; n_fits = omega arith }
 instr_is_room instr_tag.Enable = record { cpu_fits = omega arith; a_fits = omega arith; n_fits = omega arith }
+instr_is_room instr_tag.Pressure = record { cpu_fits = omega arith; a_fits = omega arith; n_fits = omega arith }
+instr_is_room instr_tag.Relief = record { cpu_fits = omega arith; a_fits = omega arith; n_fits = omega arith }
 
 instr_tagged : (x : Instr) → (instr_word x).tag ≡ instr_code (instr_tag_is x)
 instr_tagged (instr.Queue work cpu) = refl
@@ -398,6 +408,8 @@ instr_tagged instr.Busy = refl
 instr_tagged (instr.State work) = refl
 instr_tagged (instr.Disable work) = refl
 instr_tagged (instr.Enable work) = refl
+instr_tagged instr.Pressure = refl
+instr_tagged instr.Relief = refl
 
 instr_within : (x : Instr) → IsInstr x → Within (instr_room (instr_tag_is x)) (instr_word x).cpu (instr_word x).a (instr_word x).n
 instr_within (instr.Queue work cpu) h = record { cpu_fits = omega arith; a_fits = omega arith; n_fits = omega arith }
@@ -420,6 +432,8 @@ instr_within instr.Busy h = record { cpu_fits = omega arith; a_fits = omega arit
 instr_within (instr.State work) h = record { cpu_fits = omega arith; a_fits = omega arith; n_fits = omega arith }
 instr_within (instr.Disable work) h = record { cpu_fits = omega arith; a_fits = omega arith; n_fits = omega arith }
 instr_within (instr.Enable work) h = record { cpu_fits = omega arith; a_fits = omega arith; n_fits = omega arith }
+instr_within instr.Pressure h = record { cpu_fits = omega arith; a_fits = omega arith; n_fits = omega arith }
+instr_within instr.Relief h = record { cpu_fits = omega arith; a_fits = omega arith; n_fits = omega arith }
 
 instr_fits : (x : Instr) → Within (instr_room (instr_tag_is x)) (instr_word x).cpu (instr_word x).a (instr_word x).n → IsInstr x
 instr_fits (instr.Queue work cpu) h = (omega (arith, h.a_fits), omega (arith, h.cpu_fits))
@@ -442,6 +456,8 @@ instr_fits instr.Busy h = tt
 instr_fits (instr.State work) h = omega (arith, h.a_fits)
 instr_fits (instr.Disable work) h = omega (arith, h.a_fits)
 instr_fits (instr.Enable work) h = omega (arith, h.a_fits)
+instr_fits instr.Pressure h = tt
+instr_fits instr.Relief h = tt
 
 instr_made_tag : (t : InstrTag) (cpu a n : ℕ) → instr_tag_is (instr_of t cpu a n) ≡ t
 instr_made_tag instr_tag.Queue cpu a n = refl
@@ -464,6 +480,8 @@ instr_made_tag instr_tag.Busy cpu a n = refl
 instr_made_tag instr_tag.State cpu a n = refl
 instr_made_tag instr_tag.Disable cpu a n = refl
 instr_made_tag instr_tag.Enable cpu a n = refl
+instr_made_tag instr_tag.Pressure cpu a n = refl
+instr_made_tag instr_tag.Relief cpu a n = refl
 
 instr_made_word : (t : InstrTag) (cpu a n : ℕ) → Within (instr_room t) cpu a n → instr_word (instr_of t cpu a n) ≡ word (instr_code t) cpu a n
 instr_made_word instr_tag.Queue cpu a n h = plain 16 cpu a 0 cpu a n (omega (arith, h.cpu_fits)) (omega (arith, h.a_fits)) (omega (arith, h.n_fits))
@@ -486,6 +504,8 @@ instr_made_word instr_tag.Busy cpu a n h = plain 32 0 0 0 cpu a n (omega (arith,
 instr_made_word instr_tag.State cpu a n h = plain 33 0 a 0 cpu a n (omega (arith, h.cpu_fits)) (omega (arith, h.a_fits)) (omega (arith, h.n_fits))
 instr_made_word instr_tag.Disable cpu a n h = plain 34 0 a 0 cpu a n (omega (arith, h.cpu_fits)) (omega (arith, h.a_fits)) (omega (arith, h.n_fits))
 instr_made_word instr_tag.Enable cpu a n h = plain 35 0 a 0 cpu a n (omega (arith, h.cpu_fits)) (omega (arith, h.a_fits)) (omega (arith, h.n_fits))
+instr_made_word instr_tag.Pressure cpu a n h = plain 36 0 0 0 cpu a n (omega (arith, h.cpu_fits)) (omega (arith, h.a_fits)) (omega (arith, h.n_fits))
+instr_made_word instr_tag.Relief cpu a n h = plain 37 0 0 0 cpu a n (omega (arith, h.cpu_fits)) (omega (arith, h.a_fits)) (omega (arith, h.n_fits))
 
 instr_again : (x : Instr) → instr_of (instr_tag_is x) (instr_word x).cpu (instr_word x).a (instr_word x).n ≡ x
 instr_again (instr.Queue work cpu) = refl
@@ -508,6 +528,8 @@ instr_again instr.Busy = refl
 instr_again (instr.State work) = refl
 instr_again (instr.Disable work) = refl
 instr_again (instr.Enable work) = refl
+instr_again instr.Pressure = refl
+instr_again instr.Relief = refl
 
 instr_known : (n : ℕ) (t : InstrTag) → instr_tag_of n ≡ Some t → n ≡ instr_code t
 instr_known n t =
@@ -531,7 +553,9 @@ instr_known n t =
     pick instr_code n 33 instr_tag.State t _ refl (
     pick instr_code n 34 instr_tag.Disable t _ refl (
     pick instr_code n 35 instr_tag.Enable t _ refl (
-    λ never. absurd cc))))))))))))))))))))
+    pick instr_code n 36 instr_tag.Pressure t _ refl (
+    pick instr_code n 37 instr_tag.Relief t _ refl (
+    λ never. absurd cc))))))))))))))))))))))
 
 -- the instruction of a version
 abbrev pub InstrFits : ℕ → Instr → Type 0
@@ -550,11 +574,12 @@ is_found_in version n small = ap (λ b. cond b (instr_tag_of n) None) (is_at_mos
 
 -- each version has the first tag
 queue_found : (version : ℕ) → instr_tag_in version 16 ≡ Some instr_tag.Queue
-queue_found version = go (eqb version 1)
+queue_found version = go (eqb version 1) (eqb version 2)
   where
-    go : (b : Bool) → cond (nat_le 16 (cond b 33 35)) (instr_tag_of 16) None ≡ Some instr_tag.Queue
-    go true = refl
-    go false = refl
+    go : (b c : Bool) → cond (nat_le 16 (cond b 33 (cond c 35 37))) (instr_tag_of 16) None ≡ Some instr_tag.Queue
+    go true c = refl
+    go false true = refl
+    go false false = refl
 
 instr_laws : (version : ℕ) → WordLaws instr_code (instr_tag_in version) instr_room instr_of instr_tag_is instr_word (InstrFits version)
 instr_laws version = record {

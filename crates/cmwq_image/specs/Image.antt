@@ -1,5 +1,5 @@
 -- The image of a scenario: its bytes, field by field.
-use Rattle.std.specs.Prelude.{ℕ, ◌+◌, Bool, List, [], ◌∷◌, ◌++◌, length, codes, if◌then◌else◌, ◌==◌}
+use Rattle.std.specs.Prelude.{ℕ, ◌+◌, Bool, List, [], ◌∷◌, ◌++◌, length, codes, nat_le, if◌then◌else◌, ◌==◌}
 use Rattle.std.specs.Int.{Width, w8, w16, w32, to_be_bytes}
 use Rattle.std.specs.List.{flat_map}
 use Rattle.cmwq_types.specs.Contents.{ScenarioContents, WorkContents, ActorContents}
@@ -11,7 +11,7 @@ use Rattle.cmwq_types.specs.declared.scenario.Line.{Line}
 use Rattle.cmwq_types.specs.declared.scenario.Op.{Op}
 use Rattle.cmwq_types.specs.declared.scenario.Op.TheVariants as op
 use Rattle.cmwq_types.specs.declared.scenario.QueueDecl.{QueueDecl}
-use Rattle.cmwq_image.specs.declared.version.TheConstants.{FIRST_VERSION}
+use Rattle.cmwq_image.specs.declared.version.TheConstants.{FIRST_VERSION, SECOND_VERSION}
 use Rattle.cmwq_image.specs.declared.word.Word.{Word}
 
 -- one field after the other
@@ -36,6 +36,11 @@ worth flag bit = if flag then bit else 0
 abbrev pub flag_bits : Flags → ℕ
 flag_bits flags =
     worth flags.highpri 1 + worth flags.unbound 2 + worth flags.cpu_intensive 4 + worth flags.freezable 8 + worth flags.ordered 16
+    + worth flags.mem_reclaim 32
+
+-- the flags that a version has, all of them set
+abbrev pub all_flags : ℕ → ℕ
+all_flags version = if nat_le version SECOND_VERSION then 31 else 63
 
 abbrev pub queue_image : QueueDecl → List ℕ
 queue_image queue =
@@ -76,10 +81,12 @@ instr_word instr.Busy = word 32 0 0 0
 instr_word (instr.State work) = word 33 0 work.0 0
 instr_word (instr.Disable work) = word 34 0 work.0 0
 instr_word (instr.Enable work) = word 35 0 work.0 0
+instr_word instr.Pressure = word 36 0 0 0
+instr_word instr.Relief = word 37 0 0 0
 
 -- the last tag of an instruction that a version has
 abbrev pub last_tag : ℕ → ℕ
-last_tag version = if version == FIRST_VERSION then 33 else 35
+last_tag version = if version == FIRST_VERSION then 33 else (if version == SECOND_VERSION then 35 else 37)
 
 -- Works and actors.
 
@@ -108,7 +115,7 @@ head_image version S =
     in_order (magic ∷ number w16 version ∷ number w8 S.cpus ∷ number w8 S.workers ∷ number w32 S.steps ∷ number w16 S.flushes
     ∷ number w8 (length S.queues) ∷ number w16 (length S.works) ∷ number w8 (length S.actors) ∷ [])
 
--- the bytes of a scenario in this version, if the version has its instructions
+-- the bytes of a scenario in this version, if the version has its flags and its instructions
 abbrev pub image : ℕ → ScenarioContents → List ℕ
 image version S =
     in_order (head_image version S ∷ flat_map queue_image S.queues ∷ flat_map work_image S.works ∷ flat_map actor_image S.actors ∷ [])

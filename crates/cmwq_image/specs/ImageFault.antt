@@ -14,7 +14,7 @@ use Rattle.cmwq_types.specs.declared.scenario.Line.{Line}
 use Rattle.cmwq_types.specs.declared.scenario.Op.{Op}
 use Rattle.cmwq_types.specs.declared.scenario.Op.TheVariants as op
 use Rattle.cmwq_types.specs.declared.scenario.QueueDecl.{QueueDecl}
-use Rattle.cmwq_image.specs.Image.{last_tag, magic, name_field}
+use Rattle.cmwq_image.specs.Image.{all_flags, last_tag, magic, name_field}
 use Rattle.cmwq_image.specs.declared.error.ImageError.{ImageError}
 use Rattle.cmwq_image.specs.declared.error.ImageError.TheVariants as errors
 use Rattle.cmwq_image.specs.declared.head.Head.{Head}
@@ -111,13 +111,14 @@ flags_of bits = record {
   cpu_intensive = is_set bits 4;
   freezable = is_set bits 8;
   ordered = is_set bits 16;
+  mem_reclaim = is_set bits 32;
 }
 
-unfoldable pub read_queue : Reader QueueDecl
-read_queue = do
+unfoldable pub read_queue : ℕ → Reader QueueDecl
+read_queue version = do
   name ← read_name
   max ← read_short
-  bits ← read_number w8 0 31
+  bits ← read_number w8 0 (all_flags version)
   nothing ← read_number w8 0 0
   done (record { name = name; max = max; flags = flags_of bits })
 
@@ -181,7 +182,9 @@ instr_tag_of n =
     else (if n == 33 then Some instr_tag.State
     else (if n == 34 then Some instr_tag.Disable
     else (if n == 35 then Some instr_tag.Enable
-    else None)))))))))))))))))))
+    else (if n == 36 then Some instr_tag.Pressure
+    else (if n == 37 then Some instr_tag.Relief
+    else None)))))))))))))))))))))
 
 -- the tag, if the version has it
 abbrev pub instr_tag_in : (version n : ℕ) → Option InstrTag
@@ -209,6 +212,8 @@ instr_room instr_tag.Busy = room 0 0 0
 instr_room instr_tag.State = room 0 65535 0
 instr_room instr_tag.Disable = room 0 65535 0
 instr_room instr_tag.Enable = room 0 65535 0
+instr_room instr_tag.Pressure = room 0 0 0
+instr_room instr_tag.Relief = room 0 0 0
 
 -- the instruction of a tag, with the fields of its word
 abbrev pub instr_of : InstrTag → (cpu a n : ℕ) → Instr
@@ -232,6 +237,8 @@ instr_of instr_tag.Busy cpu a n = instr.Busy
 instr_of instr_tag.State cpu a n = instr.State (record { 0 = a })
 instr_of instr_tag.Disable cpu a n = instr.Disable (record { 0 = a })
 instr_of instr_tag.Enable cpu a n = instr.Enable (record { 0 = a })
+instr_of instr_tag.Pressure cpu a n = instr.Pressure
+instr_of instr_tag.Relief cpu a n = instr.Relief
 
 abbrev pub read_instr_tag : ℕ → Reader InstrTag
 read_instr_tag version = field errors.BadField 1 (λ bytes. instr_tag_in version (from_be_bytes w8 bytes))
@@ -286,7 +293,7 @@ unfoldable pub scenario_at : Reader ScenarioContents
 scenario_at = do
   version ← read_version
   head ← read_head
-  queues ← many read_queue head.queues
+  queues ← many (read_queue version) head.queues
   works ← many read_work head.works
   actors ← many (read_actor version) head.actors
   done (record {

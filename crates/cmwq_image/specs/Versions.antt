@@ -1,12 +1,21 @@
 -- Which versions a scenario has, and what its images are.
-use Rattle.std.specs.Prelude.{◌≡◌, ℕ, ◌≤◌, List}
+use Rattle.std.specs.Prelude.{◌≡◌, ℕ, ◌≤◌, false, List}
 use Rattle.std.specs.List.{AllByRecursion}
 use Rattle.cmwq_types.specs.Contents.{ScenarioContents, ActorContents}
 use Rattle.cmwq_types.specs.declared.instr.Instr.{Instr}
 use Rattle.cmwq_types.specs.declared.instr.Instr.TheVariants as instr
 use Rattle.cmwq_types.specs.declared.scenario.Line.{Line}
-use Rattle.cmwq_image.specs.Image.{image, instr_word, last_tag}
+use Rattle.cmwq_types.specs.declared.scenario.QueueDecl.{QueueDecl}
+use Rattle.cmwq_image.specs.Image.{all_flags, flag_bits, image, instr_word, last_tag}
 use Rattle.cmwq_image.specs.declared.version.TheConstants.{FIRST_VERSION, VERSION}
+
+-- the queue's flags are among the version's
+abbrev pub IsQueueOf : ℕ → QueueDecl → Type 0
+IsQueueOf version queue = flag_bits queue.flags ≤ all_flags version
+
+-- so are those of all queues
+abbrev pub AreQueuesOf : ℕ → List QueueDecl → Type 0
+AreQueuesOf version queues = AllByRecursion (IsQueueOf version) queues
 
 -- the tag of the line's instruction is one of the version's
 abbrev pub IsLineOf : ℕ → Line → Type 0
@@ -16,10 +25,11 @@ IsLineOf version line = (instr_word line.instr).tag ≤ last_tag version
 abbrev pub AreLinesOf : ℕ → List ActorContents → Type 0
 AreLinesOf version actors = AllByRecursion (λ actor. AllByRecursion (IsLineOf version) actor.lines) actors
 
--- this is a version, and it has the scenario's instructions
+-- this is a version, and it has the scenario's flags and instructions
 pub record HasVersion (S : ScenarioContents) (version : ℕ) : Type 0 where
   pub first : FIRST_VERSION ≤ version
   pub last : version ≤ VERSION
+  pub queues : AreQueuesOf version S.queues
   pub lines : AreLinesOf version S.actors
 
 -- the bytes are the scenario's image in one of its versions
@@ -28,7 +38,11 @@ pub record IsImageOf (bytes : List ℕ) (S : ScenarioContents) : Type 0 where
   pub has : HasVersion S version
   pub written : bytes ≡ image version S
 
--- Which scenarios have the first version.
+-- Which scenarios have an older version.
+
+-- each instruction of these actors is so
+abbrev pub EachInstr : (Instr → Type 0) → List ActorContents → Type 0
+EachInstr Is actors = AllByRecursion (λ actor. AllByRecursion (λ line. Is line.instr) actor.lines) actors
 
 abbrev pub NeitherDisablesNorEnables : Instr → Type 0
 NeitherDisablesNorEnables (instr.Disable work) = ⊥
@@ -36,5 +50,17 @@ NeitherDisablesNorEnables (instr.Enable work) = ⊥
 NeitherDisablesNorEnables _ = Unit {0}
 
 -- no actor disables or enables a work
-abbrev pub NeverDisables : List ActorContents → Type 0
-NeverDisables actors = AllByRecursion (λ actor. AllByRecursion (λ line. NeitherDisablesNorEnables line.instr) actor.lines) actors
+abbrev pub NeverDisables : ScenarioContents → Type 0
+NeverDisables S = EachInstr NeitherDisablesNorEnables S.actors
+
+abbrev pub NeitherPressesNorRelieves : Instr → Type 0
+NeitherPressesNorRelieves instr.Pressure = ⊥
+NeitherPressesNorRelieves instr.Relief = ⊥
+NeitherPressesNorRelieves _ = Unit {0}
+
+abbrev pub NeverReclaims : QueueDecl → Type 0
+NeverReclaims queue = queue.flags.mem_reclaim ≡ false
+
+-- memory is never short: no queue has the flag `mem_reclaim`, and no actor gives `pressure` or `relief`
+abbrev pub MemoryIsAmple : ScenarioContents → Type 0
+MemoryIsAmple S = AllByRecursion NeverReclaims S.queues × EachInstr NeitherPressesNorRelieves S.actors

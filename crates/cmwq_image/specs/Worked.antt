@@ -1,5 +1,5 @@
 -- A worked image: one queue, one work that queues itself, and one actor of three lines.
-use Rattle.std.specs.Prelude.{ℕ, List, [], ◌∷◌, replicate, slice_set}
+use Rattle.std.specs.Prelude.{ℕ, true, List, [], ◌∷◌, replicate, slice_set}
 use Rattle.cmwq_types.specs.Contents.{ScenarioContents, WorkContents, ActorContents}
 use Rattle.cmwq_types.specs.Scenario.{plain_flags}
 use Rattle.cmwq_types.specs.declared.instr.Instr.{Instr}
@@ -46,6 +46,11 @@ worked_scenario = ending_with (instr.State (record { 0 = 0 }))
 abbrev pub disabling_scenario : ScenarioContents
 disabling_scenario = ending_with (instr.Disable (record { 0 = 0 }))
 
+-- `queue q max 1 mem_reclaim`
+abbrev pub reclaiming_scenario : ScenarioContents
+reclaiming_scenario =
+    record worked_scenario { queues = record worked_queue { flags = record plain_flags { mem_reclaim = true } } ∷ [] }
+
 abbrev pub zeros : ℕ → List ℕ
 zeros n = replicate n 0
 
@@ -53,7 +58,7 @@ abbrev pub worked_head : List ℕ
 worked_head =
     in_order (
     (0x43 ∷ 0x4d ∷ 0x57 ∷ 0x51 ∷ [])
-    ∷ (0x00 ∷ 0x02 ∷ [])
+    ∷ (0x00 ∷ 0x03 ∷ [])
     ∷ (0x01 ∷ [])
     ∷ (0x04 ∷ [])
     ∷ (0x00 ∷ 0x00 ∷ 0x00 ∷ 0x08 ∷ [])
@@ -86,10 +91,10 @@ worked_actor_bytes =
     ∷ (0x21 ∷ []) ∷ zeros 7 ∷ (0x00 ∷ 0x00 ∷ 0x00 ∷ 0x01 ∷ [])
     ∷ [])
 
--- 126 bytes, of version 2
+-- 126 bytes, of version 3
 abbrev pub worked_image : List ℕ
 worked_image = in_order (worked_head ∷ worked_queue_bytes ∷ worked_work_bytes ∷ worked_actor_bytes ∷ [])
 
--- the same in version 1
-abbrev pub older_image : List ℕ
-older_image = slice_set worked_image 5 1
+-- the same with this number in the place of the version
+abbrev pub in_version : ℕ → List ℕ
+in_version version = slice_set worked_image 5 version

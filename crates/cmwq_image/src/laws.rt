@@ -3,15 +3,16 @@ ghost use Rattle.cmwq_image.specs.FaultMeaning.{Means};
 ghost use Rattle.cmwq_image.specs.Image.{image};
 ghost use Rattle.cmwq_image.specs.ImageFault.{GivesRead, reading};
 ghost use Rattle.cmwq_image.specs.Limits.{AreBytes, HasSize};
-ghost use Rattle.cmwq_image.specs.Versions.{HasVersion, IsImageOf, NeverDisables};
+ghost use Rattle.cmwq_image.specs.Versions.{HasVersion, IsImageOf, MemoryIsAmple, NeverDisables};
 ghost use Rattle.cmwq_types.specs.Values.{IsScenario};
-ghost use Rattle.cmwq_image.specs.Worked.{disabling_scenario, older_image, worked_image, worked_scenario};
+ghost use Rattle.cmwq_image.specs.Worked.{disabling_scenario, ending_with, in_version, reclaiming_scenario, worked_image, worked_scenario};
 ghost use Rattle.cmwq_image.specs.declared.error.ImageError.{ImageError};
 ghost use Rattle.cmwq_image.specs.declared.error.ImageError.TheVariants as errors;
-ghost use Rattle.cmwq_image.specs.declared.version.TheConstants.{FIRST_VERSION, VERSION};
+ghost use Rattle.cmwq_image.specs.declared.version.TheConstants.{FIRST_VERSION, SECOND_VERSION, VERSION};
 ghost use Rattle.cmwq_types.specs.Contents.{ScenarioContents};
 ghost use Rattle.cmwq_types.specs.Faults.{IsValid};
 ghost use Rattle.cmwq_types.specs.declared.check.Fault.TheVariants.{Range};
+ghost use Rattle.cmwq_types.specs.declared.instr.Instr.TheVariants as instr;
 ghost use Rattle.std.specs.Prelude.{◌≡◌, ◌↔◌, ◌≤◌, ◌<◌, ◌++◌, ◌∷◌, [], Err, List, Ok, length, slice_set, take, ℕ};
 
 use crate::error::ImageError;
@@ -25,18 +26,19 @@ pub fn images_are_read()
     ensures { (bytes : List ℕ) (S : ScenarioContents) → AreBytes bytes → (reading bytes ≡ Ok S) ↔ (IsScenario S × IsValid S × IsImageOf bytes S) }
 {}
 
-/// What is written in a version that has the scenario's instructions is read again.
+/// What is written in a version that has the scenario's flags and instructions is read again.
 #[tactic(auto, using(crate::proofs::ReadingLemmas::reading_again))]
 pub fn written_is_read()
     ensures { (S : ScenarioContents) (version : ℕ) → IsScenario S → IsValid S → HasVersion S version → reading (image version S) ≡ Ok S }
 {}
 
-/// The version that is written has each scenario's instructions; the first one has them exactly where no actor
-/// disables or enables a work.
-#[tactic(auto, using(crate::proofs::VersionLemmas::newest, crate::proofs::VersionLemmas::oldest))]
+/// The version that is written has each scenario's flags and instructions. The second one has them exactly where no
+/// queue has the flag `mem_reclaim` and no actor gives `pressure` or `relief`; the first one exactly where besides no
+/// actor disables or enables a work.
 pub fn versions_of_a_scenario()
     ensures newest { (S : ScenarioContents) → HasVersion S VERSION }
-    ensures first { (S : ScenarioContents) → HasVersion S FIRST_VERSION ↔ NeverDisables S.actors }
+    ensures second { (S : ScenarioContents) → HasVersion S SECOND_VERSION ↔ MemoryIsAmple S }
+    ensures first { (S : ScenarioContents) → HasVersion S FIRST_VERSION ↔ (MemoryIsAmple S × NeverDisables S) }
 {}
 
 /// Writes the scenario and reads it again: it comes back, unless memory runs out. This stands on what `write`
@@ -76,10 +78,12 @@ pub fn far_bytes_change_no_reading()
     ensures { (n : ℕ) (bytes : List ℕ) → 923058 < n → reading (take n bytes) ≡ reading bytes }
 {}
 
-/// The worked image is the image of the worked scenario, which is valid; with 1 in its byte 5 it is that of version 1.
+/// The worked image is the image of the worked scenario, which is valid; with 1 or 2 in its byte 5 it is that of an
+/// older version.
 pub fn worked_image_is_written()
     ensures image { image VERSION worked_scenario ≡ worked_image }
-    ensures older { image FIRST_VERSION worked_scenario ≡ older_image }
+    ensures first { image FIRST_VERSION worked_scenario ≡ in_version 1 }
+    ensures second { image SECOND_VERSION worked_scenario ≡ in_version 2 }
     ensures size { length worked_image ≡ 126 }
     ensures valid { IsValid worked_scenario }
 {}
@@ -88,14 +92,24 @@ pub fn worked_image_is_written()
 #[tactic(auto, unfolding(crate::specs::ImageFault::reading, crate::specs::ImageFault::scenario_at, crate::specs::ImageFault::read_head, crate::specs::ImageFault::read_queue, crate::specs::ImageFault::read_work, crate::specs::ImageFault::read_op, crate::specs::ImageFault::read_actor, crate::specs::ImageFault::read_line, crate::specs::ImageFault::read_instr))]
 pub fn worked_image_is_read()
     ensures read { reading worked_image ≡ Ok worked_scenario }
-    ensures older { reading older_image ≡ Ok worked_scenario }
+    ensures version_1 { reading (in_version 1) ≡ Ok worked_scenario }
+    ensures version_2 { reading (in_version 2) ≡ Ok worked_scenario }
     ensures empty { reading [] ≡ Err errors.Magic }
     ensures shorter { reading (take 125 worked_image) ≡ Err errors.Truncated }
     ensures longer { reading (worked_image ++ 0 ∷ []) ≡ Err errors.Extra }
     ensures zero_byte { reading (slice_set worked_image 37 1) ≡ Err (errors.BadField 37) }
     ensures cpus { reading (slice_set worked_image 6 17) ≡ Err (errors.Fault Range) }
-    ensures version_0 { reading (slice_set worked_image 5 0) ≡ Err errors.Version }
-    ensures version_3 { reading (slice_set worked_image 5 3) ≡ Err errors.Version }
+    ensures version_0 { reading (in_version 0) ≡ Err errors.Version }
+    ensures version_4 { reading (in_version 4) ≡ Err errors.Version }
     ensures disable { reading (slice_set worked_image 114 34) ≡ Ok disabling_scenario }
-    ensures older_disable { reading (slice_set older_image 114 34) ≡ Err (errors.BadField 114) }
+    ensures disable_in_1 { reading (slice_set (in_version 1) 114 34) ≡ Err (errors.BadField 114) }
+    ensures disable_in_2 { reading (slice_set (in_version 2) 114 34) ≡ Ok disabling_scenario }
+    ensures pressure { reading (slice_set worked_image 114 36) ≡ Ok (ending_with instr.Pressure) }
+    ensures pressure_in_2 { reading (slice_set (in_version 2) 114 36) ≡ Err (errors.BadField 114) }
+    ensures relief { reading (slice_set worked_image 114 37) ≡ Ok (ending_with instr.Relief) }
+    ensures relief_in_2 { reading (slice_set (in_version 2) 114 37) ≡ Err (errors.BadField 114) }
+    ensures mem_reclaim { reading (slice_set (in_version 3) 36 32) ≡ Ok reclaiming_scenario }
+    ensures mem_reclaim_in_1 { reading (slice_set (in_version 1) 36 32) ≡ Err (errors.BadField 36) }
+    ensures mem_reclaim_in_2 { reading (slice_set (in_version 2) 36 32) ≡ Err (errors.BadField 36) }
+    ensures mem_reclaim_in_4 { reading (slice_set (in_version 4) 36 32) ≡ Err errors.Version }
 {}

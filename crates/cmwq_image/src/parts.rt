@@ -1,4 +1,5 @@
 //! The parts of an image: its head, queues, works and actors.
+ghost use Rattle.cmwq_image.specs.Image.{all_flags};
 ghost use Rattle.cmwq_image.specs.ImageFault.{GivesRead, read_actor, flags_of, read_head, read_instr, is_set, read_line, many, read_op, read_queue, read_work};
 ghost use Rattle.cmwq_types.specs.declared.limits.TheConstants.{MAX_ACTORS, MAX_LINES, MAX_OPS, MAX_QUEUES, MAX_WORKS};
 ghost use Rattle.std.specs.Prelude.{◌≡◌, ◌+◌, ◌*◌, ◌≤◌, ◌<◌, IfOk, OnOk};
@@ -6,6 +7,7 @@ ghost use Rattle.std.specs.Prelude.{◌≡◌, ◌+◌, ◌*◌, ◌≤◌, ◌<
 use crate::error::ImageError;
 use crate::fields::Fields;
 use crate::head::Head;
+use crate::version::SECOND_VERSION;
 use cmwq_types::{
     Actor, Flags, Instr, Line, MAX_ACTORS, MAX_LINES, MAX_OPS, MAX_QUEUES, MAX_WORKS, Op,
     QueueDecl, QueueId, WorkDecl,
@@ -41,28 +43,33 @@ impl<'a> Fields<'a> {
         })
     }
 
-    /// So many queues.
-    pub(crate) fn queues(&mut self, alloc: Global, count: u8) -> Result<Vec<QueueDecl>, ImageError>
+    /// So many queues, with flags of the version.
+    pub(crate) fn queues(
+        &mut self,
+        alloc: Global,
+        version: u16,
+        count: u8,
+    ) -> Result<Vec<QueueDecl>, ImageError>
         requires { self.old.at + 20 * count ≤ u32.MAX }
-        ensures read { GivesRead (λ queues. (queues.items, self.new)) result (many read_queue count self.old) }
+        ensures read { GivesRead (λ queues. (queues.items, self.new)) result (many (read_queue version) count self.old) }
         ensures ahead { OnOk result (self.new.at ≤ self.old.at + 20 * count) }
     {
         let mut queues = Vec::new(alloc);
         for _ in 0..count {
-            queues.push(self.queue()?)?;
+            queues.push(self.queue(version)?)?;
         }
         Ok(queues)
     }
 
     #[tactic(auto, unfolding(crate::specs::ImageFault::read_queue))]
-    fn queue(&mut self) -> Result<QueueDecl, ImageError>
+    fn queue(&mut self, version: u16) -> Result<QueueDecl, ImageError>
         requires { self.old.at + 20 ≤ u32.MAX }
-        ensures read { GivesRead (λ queue. (queue, self.new)) result (read_queue self.old) }
+        ensures read { GivesRead (λ queue. (queue, self.new)) result (read_queue version self.old) }
         ensures ahead { OnOk result (self.new.at ≡ self.old.at + 20) }
     {
         let name = self.name()?;
         let max = self.short(0, u16::MAX)?;
-        let bits = self.byte(0, 31)?;
+        let bits = self.byte(0, all_flags(version))?;
         self.byte(0, 0)?;
         let flags = flags_of(bits);
         Ok(QueueDecl { name, max, flags })
@@ -200,7 +207,15 @@ fn flags_of(bits: u8) -> Flags
         cpu_intensive: is_set(bits, 4),
         freezable: is_set(bits, 8),
         ordered: is_set(bits, 16),
+        mem_reclaim: is_set(bits, 32),
     }
+}
+
+/// The byte in which each flag is set that the version has.
+fn all_flags(version: u16) -> u8
+    ensures { result ≡ all_flags version }
+{
+    if version <= SECOND_VERSION { 31 } else { 63 }
 }
 
 /// Whether the bit that is worth so much is set.

@@ -12,7 +12,7 @@ use crate::fields::Fields;
 use cmwq_types::Scenario;
 use std::alloc::Global;
 
-/// The scenario of which the bytes are the image, of version 2 or of version 1.
+/// The scenario of which the bytes are the image, of version 3 or of an older one.
 ///
 /// Faults are judged in this order, which is this project's own: `Magic`; then field by field from the
 /// left `Truncated`, `Version` or `BadField`; then `Extra`; then the first fault of the scenario itself. Besides
@@ -52,7 +52,7 @@ fn read_scenario(alloc: Global, fields: &mut Fields) -> Result<Scenario, ImageEr
 {
     let version = fields.version()?;
     let head = fields.head()?;
-    let queues = fields.queues(alloc, head.queues)?;
+    let queues = fields.queues(alloc, version, head.queues)?;
     let works = fields.works(alloc, head.works)?;
     let actors = fields.actors(alloc, version, head.actors)?;
     Ok(Scenario {

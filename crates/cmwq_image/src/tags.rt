@@ -3,7 +3,7 @@ ghost use Rattle.cmwq_image.specs.Image.{last_tag};
 ghost use Rattle.cmwq_image.specs.ImageFault.{instr_of, instr_room, instr_tag_in, instr_tag_of, op_of, op_room, op_tag_of};
 ghost use Rattle.std.specs.Prelude.{◌≡◌, ◌≤◌};
 
-use crate::version::FIRST_VERSION;
+use crate::version::{FIRST_VERSION, SECOND_VERSION};
 use crate::word::Room;
 use cmwq_types::{Instr, Op, QueueId, WorkId};
 
@@ -77,6 +77,8 @@ pub(crate) enum InstrTag {
     State = 33,
     Disable = 34,
     Enable = 35,
+    Pressure = 36,
+    Relief = 37,
 }
 
 impl InstrTag {
@@ -116,6 +118,8 @@ impl InstrTag {
             33 => Some(InstrTag::State),
             34 => Some(InstrTag::Disable),
             35 => Some(InstrTag::Enable),
+            36 => Some(InstrTag::Pressure),
+            37 => Some(InstrTag::Relief),
             _ => None,
         }
     }
@@ -143,7 +147,9 @@ impl InstrTag {
             | InstrTag::Fire
             | InstrTag::Tick
             | InstrTag::Next
-            | InstrTag::Busy => Room::new(0, 0, 0),
+            | InstrTag::Busy
+            | InstrTag::Pressure
+            | InstrTag::Relief => Room::new(0, 0, 0),
         }
     }
 
@@ -173,6 +179,8 @@ impl InstrTag {
             InstrTag::State => Instr::State(WorkId(a)),
             InstrTag::Disable => Instr::Disable(WorkId(a)),
             InstrTag::Enable => Instr::Enable(WorkId(a)),
+            InstrTag::Pressure => Instr::Pressure,
+            InstrTag::Relief => Instr::Relief,
         }
     }
 }
@@ -181,5 +189,11 @@ impl InstrTag {
 fn last_tag(version: u16) -> u8
     ensures { result ≡ last_tag version }
 {
-    if version == FIRST_VERSION { 33 } else { 35 }
+    if version == FIRST_VERSION {
+        33
+    } else if version == SECOND_VERSION {
+        35
+    } else {
+        37
+    }
 }

@@ -1,7 +1,10 @@
 //! The versions of the format.
 
-/// The first version. It has no tag for `disable` and `enable`.
+/// The first version. It has what the second one has, but no tag for `disable` and `enable`.
 pub const FIRST_VERSION: u16 = 1;
 
-/// The version that is written. It has a tag for each instruction.
-pub const VERSION: u16 = 2;
+/// The second version. It has no tag for `pressure` and `relief`, and no bit for `mem_reclaim`.
+pub const SECOND_VERSION: u16 = 2;
+
+/// The version that is written. It has a tag for each instruction and a bit for each flag.
+pub const VERSION: u16 = 3;

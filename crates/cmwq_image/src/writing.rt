@@ -18,7 +18,7 @@ use std::alloc::Global;
 
 /// The image of a valid scenario, at most 923,058 bytes: a head, then each queue, each work with its operations and
 /// each actor with its lines, in order, numbers with their highest byte first. The format is this project's own,
-/// version 2, and is drawn in `docs/FORMATS.md`. The only error is want of memory.
+/// version 3, and is drawn in `docs/FORMATS.md`. The only error is want of memory.
 pub fn write(alloc: Global, scenario: &Scenario) -> Result<Vec<u8>, NoMemory>
     requires { IsValid scenario.now }
     ensures image { IfOk result (λ bytes. bytes.items ≡ image VERSION scenario.now) }
@@ -140,6 +140,7 @@ fn flag_bits(flags: Flags) -> u8
         + worth(flags.cpu_intensive, 4)
         + worth(flags.freezable, 8)
         + worth(flags.ordered, 16)
+        + worth(flags.mem_reclaim, 32)
 }
 
 fn worth(flag: bool, bit: u8) -> u8
@@ -267,5 +268,7 @@ fn instr_word(instr: Instr) -> Word
         Instr::State(work) => Word::new(InstrTag::State as u8, 0, work.0, 0),
         Instr::Disable(work) => Word::new(InstrTag::Disable as u8, 0, work.0, 0),
         Instr::Enable(work) => Word::new(InstrTag::Enable as u8, 0, work.0, 0),
+        Instr::Pressure => Word::new(InstrTag::Pressure as u8, 0, 0, 0),
+        Instr::Relief => Word::new(InstrTag::Relief as u8, 0, 0, 0),
     }
 }

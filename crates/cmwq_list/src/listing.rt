@@ -112,6 +112,7 @@ fn push_flags(text: &mut Vec<u8>, flags: Flags) -> Result<(), NoMemory>
     push_word_if(text, flags.cpu_intensive, b"cpu_intensive")?;
     push_word_if(text, flags.freezable, b"freezable")?;
     push_word_if(text, flags.ordered, b"ordered")?;
+    push_word_if(text, flags.mem_reclaim, b"mem_reclaim")?;
     Ok(())
 }
 
@@ -245,6 +246,8 @@ fn push_instr(text: &mut Vec<u8>, scenario: &Scenario, instr: Instr) -> Result<(
         Instr::State(work) => push_named(text, Mnemonic::State, work_name(scenario, work)),
         Instr::Disable(work) => push_named(text, Mnemonic::Disable, work_name(scenario, work)),
         Instr::Enable(work) => push_named(text, Mnemonic::Enable, work_name(scenario, work)),
+        Instr::Pressure => push_alone(text, Mnemonic::Pressure),
+        Instr::Relief => push_alone(text, Mnemonic::Relief),
     }
 }
 

@@ -37,20 +37,34 @@ fn the_worked_image_is_written(rt: HostRuntime) {
 }
 
 #[test]
-fn the_worked_image_is_read_in_both_versions(rt: HostRuntime) {
-    for version in [1, 2] {
+fn the_worked_image_is_read_in_each_version(rt: HostRuntime) {
+    for version in [1, 2, 3] {
         let image = image_of_image(&rt, rt.alloc(), &[(5, version)]);
         same(&rt, version, image.as_slice(), IMAGE.as_slice());
     }
 }
 
 #[test]
-fn works_are_disabled_and_enabled_in_version_2(rt: HostRuntime) {
-    for tag in [34, 35] {
-        let image = image_of_image(&rt, rt.alloc(), &[(114, tag)]);
-        let want = changed(&[(114, tag)]);
-        same(&rt, tag, image.as_slice(), want.as_slice());
+fn works_are_disabled_and_enabled_from_version_2_on(rt: HostRuntime) {
+    for version in [2, 3] {
+        for tag in [34, 35] {
+            let image = image_of_image(&rt, rt.alloc(), &[(5, version), (114, tag)]);
+            let want = changed(&[(114, tag)]);
+            same(&rt, (version, tag), image.as_slice(), want.as_slice());
+        }
     }
+}
+
+#[test]
+fn memory_is_told_of_in_version_3(rt: HostRuntime) {
+    for change in [(36, 32), (114, 36), (114, 37)] {
+        let image = image_of_image(&rt, rt.alloc(), &[change]);
+        same(&rt, change, image.as_slice(), changed(&[change]).as_slice());
+    }
+    let reclaiming = changed(&[(36, 32)]);
+    let scenario = read(rt.alloc(), &reclaiming).expect(&rt, "a scenario's image");
+    let reclaims = scenario.queues.first().map(|queue| queue.flags.mem_reclaim);
+    same(&rt, "its flag", reclaims, Some(true));
 }
 
 #[test]
@@ -73,12 +87,13 @@ fn one_byte_more_is_extra(rt: HostRuntime) {
 }
 
 /// Some bytes by their offset, what each is set to, and the fault that the image then has.
-const CHANGED: [(&[(usize, u8)], ImageError); 29] = [
+const CHANGED: [(&[(usize, u8)], ImageError); 35] = [
     (&[(3, 0x52)], ImageError::Magic),
-    // versions 0, 3, and 258
+    // versions 0, 4, and 259; that comes before a flag
     (&[(5, 0)], ImageError::Version),
-    (&[(5, 3)], ImageError::Version),
+    (&[(5, 4)], ImageError::Version),
     (&[(4, 1)], ImageError::Version),
+    (&[(5, 4), (36, 32)], ImageError::Version),
     // 17 CPUs
     (&[(6, 17)], ImageError::Fault(Fault::Range)),
     // 33 queues; 257 works; 17 actors
@@ -94,9 +109,11 @@ const CHANGED: [(&[(usize, u8)], ImageError); 29] = [
     (&[(18, 16)], ImageError::BadField(18)),
     (&[(33, 0x71)], ImageError::BadField(18)),
     (&[(19, 0x51)], ImageError::BadField(18)),
-    // max 0; a sixth flag; the zero byte
+    // max 0; a seventh flag; a sixth one in versions 1 and 2; the zero byte
     (&[(35, 0)], ImageError::Fault(Fault::BadFlags)),
-    (&[(36, 32)], ImageError::BadField(36)),
+    (&[(36, 64)], ImageError::BadField(36)),
+    (&[(5, 1), (36, 32)], ImageError::BadField(36)),
+    (&[(5, 2), (36, 32)], ImageError::BadField(36)),
     (&[(37, 1)], ImageError::BadField(37)),
     // a queue that isn't declared; no operation
     (&[(54, 1)], ImageError::Fault(Fault::Unknown)),
@@ -108,11 +125,15 @@ const CHANGED: [(&[(usize, u8)], ImageError); 29] = [
     // an operation among the instructions; no times
     (&[(90, 3)], ImageError::BadField(90)),
     (&[(101, 0)], ImageError::Fault(Fault::Range)),
-    // `disable` and `enable` in version 1; a tag behind the last one; a field that `disable` doesn't use
+    // `disable` and `enable` in version 1, `pressure` and `relief` in version 2; a tag behind the last one; fields that
+    // `disable` and `pressure` don't use
     (&[(5, 1), (114, 34)], ImageError::BadField(114)),
     (&[(5, 1), (114, 35)], ImageError::BadField(114)),
-    (&[(114, 36)], ImageError::BadField(114)),
+    (&[(5, 2), (114, 36)], ImageError::BadField(114)),
+    (&[(5, 2), (114, 37)], ImageError::BadField(114)),
+    (&[(114, 38)], ImageError::BadField(114)),
     (&[(114, 34), (115, 1)], ImageError::BadField(115)),
+    (&[(114, 36), (117, 1)], ImageError::BadField(116)),
     // an instruction on a queue whose number has more than one byte
     (&[(114, 23), (116, 1)], ImageError::BadField(116)),
 ];

@@ -199,11 +199,12 @@ const LIMITS: [Judged; 9] = [
 const OPEN_BODY: &[u8] = b"cpus 1\nworkers 1\nsteps 8\nflushes 0\n\
     queue q max 1\nqueue r max 1\nwork a q\nwork b r\nbody a\n";
 
-const IN_A_BODY: [Judged; 9] = [
+const IN_A_BODY: [Judged; 10] = [
     (b"burn 1000000\nfinish\nbody b\nfinish\n", None),
     (b"burn 1000001\n", Some((10, RANGE))),
     (b"sleep 0\n", Some((10, RANGE))),
     (b"disable a\n", Some((10, Why::Misplaced))),
+    (b"pressure\n", Some((10, Why::Misplaced))),
     // A work that isn't declared on a CPU that there isn't.
     (b"queue c 9\n", Some((10, Why::Fault(Fault::Unknown)))),
     (b"queue b 1\n", Some((10, RANGE))),
@@ -303,15 +304,19 @@ fn a_cut_listing_ends_well_or_not(rt: HostRuntime) {
 
 /// A text with blanks, comments and flags in another order.
 const FREE: &[u8] = b"# a head\r\n\tcpus\t1\r\nworkers 1 # one\r\n\r\nsteps   8 \r\nflushes 0#\n\
-    queue q max 1 ordered freezable cpu_intensive unbound highpri\nactor t\ntick * 1";
+    queue q max 1 mem_reclaim ordered freezable cpu_intensive unbound highpri\nactor t\ntick * 1";
 
 /// The same as it is listed.
 const PLAIN: &[u8] = b"cpus 1\nworkers 1\nsteps 8\nflushes 0\n\
-    queue q max 1 highpri unbound cpu_intensive freezable ordered\nactor t\ntick\n";
+    queue q max 1 highpri unbound cpu_intensive freezable ordered mem_reclaim\nactor t\ntick\n";
 
 /// A text in which a work is disabled and enabled, as it is listed.
 const DISABLING: &[u8] = b"cpus 1\nworkers 1\nsteps 8\nflushes 0\nqueue q max 1\n\
     work a q\nbody a\nfinish\nactor t\ndisable a * 2\nenable a\n";
+
+/// A text in which memory gets short and no longer is, as it is listed.
+const PRESSING: &[u8] = b"cpus 1\nworkers 1\nsteps 8\nflushes 0\nqueue q max 2 mem_reclaim\n\
+    work a q\nbody a\nfinish\nactor t\npressure * 2\nrelief\n";
 
 /// Compares the listing of the text's scenario.
 fn check_listing(rt: &impl Abort, alloc: Global, text: &[u8], want: &[u8]) {
@@ -325,6 +330,7 @@ fn a_text_is_listed(rt: HostRuntime) {
     check_listing(&rt, rt.alloc(), STEPS_RUN_OUT.text, STEPS_RUN_OUT.text);
     check_listing(&rt, rt.alloc(), FREE, PLAIN);
     check_listing(&rt, rt.alloc(), DISABLING, DISABLING);
+    check_listing(&rt, rt.alloc(), PRESSING, PRESSING);
 }
 
 #[test]

@@ -25,6 +25,10 @@ pub returns-clause-disable : goal.returns-clause-disable
 unfolding digits encode chars is_utf8 after_word declared_at ended name_at new_name_at number_at number_where word_at cannot_stand instr_at line_at reads reads_lines stage_after add_flag add_line add_op add_queue add_work at_end flags_at judge op_at_line open_actor open_body queue_at_line step work_at_line
 returns-clause-disable c = refl
 
+pub returns-clause-pressure : goal.returns-clause-pressure
+unfolding digits encode chars is_utf8 after_word declared_at ended name_at new_name_at number_at number_where word_at cannot_stand instr_at line_at reads reads_lines stage_after add_flag add_line add_op add_queue add_work at_end flags_at judge op_at_line open_actor open_body queue_at_line step work_at_line
+returns-clause-pressure c = refl
+
 pub returns-clause-no_word : goal.returns-clause-no_word
 unfolding digits encode chars is_utf8 after_word declared_at ended name_at new_name_at number_at number_where word_at cannot_stand instr_at line_at reads reads_lines stage_after add_flag add_line add_op add_queue add_work at_end flags_at judge op_at_line open_actor open_body queue_at_line step work_at_line
 returns-clause-no_word c = refl

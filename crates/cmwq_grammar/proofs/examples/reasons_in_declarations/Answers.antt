@@ -65,6 +65,10 @@ pub returns-clause-ordered : goal.returns-clause-ordered
 unfolding digits encode chars is_utf8 after_word declared_at ended name_at new_name_at number_at number_where word_at cannot_stand instr_at line_at reads reads_lines stage_after add_flag add_line add_op add_queue add_work at_end flags_at judge op_at_line open_actor open_body queue_at_line step work_at_line
 returns-clause-ordered c = refl
 
+pub returns-clause-mem_reclaim_twice : goal.returns-clause-mem_reclaim_twice
+unfolding digits encode chars is_utf8 after_word declared_at ended name_at new_name_at number_at number_where word_at cannot_stand instr_at line_at reads reads_lines stage_after add_flag add_line add_op add_queue add_work at_end flags_at judge op_at_line open_actor open_body queue_at_line step work_at_line
+returns-clause-mem_reclaim_twice c = refl
+
 pub returns-clause-no_queue : goal.returns-clause-no_queue
 unfolding digits encode chars is_utf8 after_word declared_at ended name_at new_name_at number_at number_where word_at cannot_stand instr_at line_at reads reads_lines stage_after add_flag add_line add_op add_queue add_work at_end flags_at judge op_at_line open_actor open_body queue_at_line step work_at_line
 returns-clause-no_queue c = refl

@@ -5,6 +5,6 @@ use Rattle.cmwq_image.specs.ImageFault.{read_queue, many}
 
 abbrev pub invariant-loop : goal.invariant-loop
 invariant-loop l = record {
-  read : with_front l.queues.items (many read_queue (l.count - l.counter) l.self) ≡ many read_queue l.count l.fn.self;
+  read : with_front l.queues.items (many (read_queue l.version) (l.count - l.counter) l.self) ≡ many (read_queue l.version) l.count l.fn.self;
   ahead : l.self.at ≤ l.fn.self.at + 20 * l.counter;
 }
