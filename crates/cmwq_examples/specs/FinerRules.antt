@@ -460,18 +460,18 @@ abbrev pub rescuers : ScenarioContents
 rescuers =
     record
     (scenario 1000 (queue (codes "q") 2 plain_flags ∷ queue (codes "r") 2 mem_reclaim ∷ queue (codes "s") 1 mem_reclaim ∷ [])
-    (work (codes "a") 0 (op.Sleep 9 ∷ op.Finish ∷ []) ∷ work (codes "b") 1 (op.Sleep 2 ∷ op.Finish ∷ [])
-    ∷ work (codes "c") 1 (op.Finish ∷ []) ∷ work (codes "d") 2 (op.Burn 1 ∷ op.Finish ∷ [])
+    (work (codes "d") 2 (op.Burn 1 ∷ op.Finish ∷ []) ∷ work (codes "c") 1 (op.Finish ∷ [])
+    ∷ work (codes "b") 1 (op.Sleep 2 ∷ op.Finish ∷ []) ∷ work (codes "a") 0 (op.Sleep 9 ∷ op.Finish ∷ [])
     ∷ work (codes "e") 0 (op.Finish ∷ []) ∷ [])
-    (enqueue 2 0 ∷ times instr.Next 2 ∷ enqueue 0 0 ∷ times instr.Next 2 ∷ times instr.Pressure 1
-    ∷ enqueue 4 0 ∷ enqueue 1 0 ∷ enqueue 3 0 ∷ enqueue 2 1 ∷ times instr.Next 1 ∷ enqueue 1 0 ∷ times instr.Next 1
+    (enqueue 1 0 ∷ times instr.Next 2 ∷ enqueue 3 0 ∷ times instr.Next 2 ∷ times instr.Pressure 1
+    ∷ enqueue 4 0 ∷ enqueue 2 0 ∷ enqueue 0 0 ∷ enqueue 1 1 ∷ times instr.Next 1 ∷ enqueue 2 0 ∷ times instr.Next 1
     ∷ times (instr.Step 2) 1 ∷ times instr.Next 2 ∷ times instr.Relief 1 ∷ times (instr.Step 0) 1 ∷ times instr.Pressure 1
-    ∷ cancel 4 ∷ times instr.Next 6 ∷ state 1 ∷ times instr.Next 6 ∷ state 2 ∷ times instr.Next 1 ∷ times instr.Relief 1
+    ∷ cancel 4 ∷ times instr.Next 6 ∷ state 2 ∷ times instr.Next 6 ∷ state 1 ∷ times instr.Next 1 ∷ times instr.Relief 1
     ∷ enqueue 4 0 ∷ times instr.Next 1 ∷ state 4 ∷ []))
     { cpus = 2; workers = 2 }
 
--- c first starts on a worker, though a rescuer is free; b starts again on its rescuer, which c then waits for on CPU 1; while d
--- burns on the other one nothing starts on that CPU
+-- c first starts on a worker, though a rescuer is free; then the rescuers take b and d, as they were queued; b starts again on
+-- its rescuer, which c waits for on CPU 1; and while d burns nothing starts on its CPU
 abbrev pub rescuers_lines : List ℕ
 rescuers_lines =
     text (

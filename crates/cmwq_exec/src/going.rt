@@ -1,12 +1,12 @@
 //! A machine amid an instruction: its parts, ready to be gone on from.
-ghost use Rattle.cmwq_table.specs.Counts.{first_inactive, first_listed, first_slept, free_worker, is_deferred, ready_head};
-ghost use Rattle.cmwq_table.specs.Moves.{begin_again, deferred, enlist, newborn, retire, started_on, taking, tick, with_depth, with_flush, with_pending, with_running, woken};
+ghost use Rattle.cmwq_table.specs.Counts.{first_inactive, first_listed, first_rescued, first_slept, free_worker, is_deferred, ready_head};
+ghost use Rattle.cmwq_table.specs.Moves.{begin_again, begin_on, deferred, enlist, newborn, retire, started_on, taking, tick, with_depth, with_flush, with_pending, with_pressed, with_running, woken};
 ghost use Rattle.cmwq_table.specs.Ready.{IsPlaceReady};
 ghost use Rattle.cmwq_table.specs.State.{pending_at, running_at, start};
 ghost use Rattle.cmwq_table.specs.View.{view_of};
 ghost use Rattle.cmwq_types.specs.Scenario.{pool_count};
 ghost use Rattle.cmwq_types.specs.Setting.{IsSetting};
-ghost use Rattle.cmwq_types.specs.declared.limits.TheConstants.{MAX_OPS};
+ghost use Rattle.cmwq_types.specs.declared.limits.TheConstants.{MAX_OPS, RESCUER};
 ghost use Rattle.cmwq_types.specs.declared.reply.Mode.TheVariants.{Asleep};
 ghost use Rattle.std.specs.Prelude.{◌≡◌, ◌<◌, ◌+◌, ◌^◌, IfOk, None, Some, is_some, length, slice_set, true};
 
@@ -133,6 +133,19 @@ impl<P: Parts> Going<P> {
         self.parts.start_on(pool, w, worker, p);
     }
 
+    /// Starts the pool's first listed work that its queue's rescuer can take, on that rescuer.
+    #[tactic(auto, using(cmwq_table::proofs::ReadyLemmas::keeps_ready))]
+    pub(crate) fn rescue(&mut self, pool: u8, w: usize, p: Pending)
+        requires pool { pool < pool_count self.old.scenario }
+        requires work { w < length self.old.scenario.works }
+        requires first { first_rescued self.old.scenario self.old.state pool ≡ Some w }
+        requires pending { pending_at self.old.state w ≡ Some p }
+        requires stamps { self.old.state.next < 2 ^ 63 }
+        ensures { self.new ≡ record self.old { state = begin_on self.old.state w pool RESCUER p } }
+    {
+        self.parts.rescue(pool, w, p);
+    }
+
     /// The running work goes on to the next operation, with so many ticks to burn first.
     #[tactic(auto, using(cmwq_table::proofs::ReadyLemmas::keeps_ready))]
     pub(crate) fn go_on(&mut self, w: usize, r: Running, left: u32)
@@ -182,7 +195,7 @@ impl<P: Parts> Going<P> {
         self.parts.begin_again(w, r, p);
     }
 
-    /// The running work ends, and its worker is idle.
+    /// The running work ends, and its worker is idle, or the rescuer is free.
     #[tactic(auto, using(cmwq_table::proofs::ReadyLemmas::keeps_ready))]
     pub(crate) fn retire(&mut self, w: usize, r: Running)
         requires work { w < length self.old.scenario.works }
@@ -226,6 +239,14 @@ impl<P: Parts> Going<P> {
         ensures { self.new ≡ record self.old { state = record self.old.state { frozen = frozen } } }
     {
         self.parts.set_frozen(frozen);
+    }
+
+    /// Sets whether there is memory pressure.
+    #[tactic(auto, using(cmwq_table::proofs::ReadyLemmas::keeps_ready))]
+    pub(crate) fn set_pressed(&mut self, pressed: bool)
+        ensures { self.new ≡ record self.old { state = with_pressed self.old.state pressed } }
+    {
+        self.parts.set_pressed(pressed);
     }
 
     /// Gives a flush on the target.

@@ -1,7 +1,7 @@
 //! The moves of a worker pool: which one is next, and what each does.
 ghost use Rattle.cmwq_exec.specs.Moves.{IsFirstMove, IsFound, if_found, move_of};
-ghost use Rattle.cmwq_table.specs.Counts.{first_listed, free_worker, ready_head};
-ghost use Rattle.cmwq_table.specs.Moves.{advance, carry_out, come_to_end, finish, moved, next_move, queue_from_body, start_move, started};
+ghost use Rattle.cmwq_table.specs.Counts.{first_listed, first_rescued, free_worker, ready_head};
+ghost use Rattle.cmwq_table.specs.Moves.{advance, carry_out, come_to_end, finish, moved, next_move, queue_from_body, rescued, start_first, start_move, started};
 ghost use Rattle.cmwq_table.specs.Ready.{Takes};
 ghost use Rattle.cmwq_table.specs.State.{is_disabled, pending_at, running_at};
 ghost use Rattle.cmwq_types.specs.Scenario.{op_at, pool_count};
@@ -24,6 +24,8 @@ pub(crate) enum Found {
     Start(WorkId, u8),
     /// The work's turn came while it still runs.
     Defer(WorkId),
+    /// The rescuer of the work's queue takes the work from the worklist.
+    Rescue(WorkId),
 }
 
 impl<P: Parts> Going<P> {
@@ -42,8 +44,8 @@ impl<P: Parts> Going<P> {
         self.start_move(pool)
     }
 
-    /// The move that takes the first listed work, if the pool may start it. A work that runs is
-    /// deferred; any other wants a worker.
+    /// The move that takes a listed work, if the pool may start one: the first listed work, else the first
+    /// that a rescuer can take.
     fn start_move(&self, pool: u8) -> Option<Found>
         requires pool { pool < pool_count self.now.scenario }
         ensures next { if_found result ≡ start_move self.now.scenario self.now.state pool }
@@ -52,6 +54,20 @@ impl<P: Parts> Going<P> {
         if !self.parts.may_start(pool) {
             return None;
         }
+        let first = self.start_first(pool);
+        if first.is_some() {
+            return first;
+        }
+        let w = self.parts.first_rescued(pool)?;
+        Some(Found::Rescue(WorkId(w as u16)))
+    }
+
+    /// The move that takes the first listed work. A work that runs is deferred; any other wants a worker.
+    fn start_first(&self, pool: u8) -> Option<Found>
+        requires pool { pool < pool_count self.now.scenario }
+        ensures next { if_found result ≡ start_first self.now.state (first_listed self.now.scenario self.now.state pool) (free_worker self.now.scenario self.now.state pool) }
+        ensures fits { IfSome result (IsFound self.now.scenario self.now.state pool) }
+    {
         let w = self.parts.first_listed(pool)?;
         if self.parts.running_of(w).is_some() {
             return Some(Found::Defer(WorkId(w as u16)));
@@ -96,6 +112,10 @@ impl<P: Parts> Going<P> {
             Found::Defer(w) => {
                 self.defer(pool, w.0 as usize);
                 Event::Defers
+            }
+            Found::Rescue(w) => {
+                self.take_to_rescuer(pool, w.0 as usize);
+                Event::StartsOnRescuer
             }
         }
     }
@@ -186,7 +206,8 @@ impl<P: Parts> Going<P> {
         event
     }
 
-    /// A deferred instance starts at once on the same worker, else the worker becomes idle.
+    /// A deferred instance starts at once on the same worker, else the worker becomes idle, or the rescuer
+    /// free.
     #[tactic(auto, using(cmwq_table::proofs::CounterLemmas::takes))]
     fn come_to_end(&mut self, w: usize, r: Running) -> Event
         requires work { w < length self.old.scenario.works }
@@ -221,6 +242,19 @@ impl<P: Parts> Going<P> {
     {
         if let Some(p) = self.parts.pending_of(w) {
             self.start_on(pool, w, worker, p);
+        }
+    }
+
+    /// The rescuer of the work's queue takes the work, the first of the pool that one can take.
+    fn take_to_rescuer(&mut self, pool: u8, w: usize)
+        requires pool { pool < pool_count self.old.scenario }
+        requires work { w < length self.old.scenario.works }
+        requires first { first_rescued self.old.scenario self.old.state pool ≡ Some w }
+        requires stamps { self.old.state.next < 2 ^ 63 }
+        ensures { self.new ≡ record self.old { state = rescued self.old.state pool w (pending_at self.old.state w) } }
+    {
+        if let Some(p) = self.parts.pending_of(w) {
+            self.rescue(pool, w, p);
         }
     }
 }

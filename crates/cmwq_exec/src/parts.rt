@@ -1,13 +1,13 @@
 //! What the instruction table asks of a machine's own structure.
-ghost use Rattle.cmwq_table.specs.Counts.{first_due, first_inactive, first_listed, first_slept, free_worker, has_room, is_busy, is_deferred, is_done, may_start, ready_head};
-ghost use Rattle.cmwq_table.specs.Moves.{begin_again, deferred, enlist, newborn, retire, started_on, taking, tick, with_depth, with_flush, with_pending, with_running, woken};
+ghost use Rattle.cmwq_table.specs.Counts.{first_due, first_inactive, first_listed, first_rescued, first_slept, free_worker, has_room, is_busy, is_deferred, is_done, may_start, ready_head};
+ghost use Rattle.cmwq_table.specs.Moves.{begin_again, begin_on, deferred, enlist, newborn, retire, started_on, taking, tick, with_depth, with_flush, with_pending, with_pressed, with_running, woken};
 ghost use Rattle.cmwq_table.specs.Ready.{IsPlaceReady, IsRunningReady, Loaded};
 ghost use Rattle.cmwq_table.specs.State.{depth_at, pending_at, running_at, start};
 ghost use Rattle.cmwq_table.specs.Table.{target_at};
 ghost use Rattle.cmwq_table.specs.View.{view_of};
 ghost use Rattle.cmwq_types.specs.Scenario.{pool_count};
 ghost use Rattle.cmwq_types.specs.Setting.{IsSetting};
-ghost use Rattle.cmwq_types.specs.declared.limits.TheConstants.{MAX_OPS};
+ghost use Rattle.cmwq_types.specs.declared.limits.TheConstants.{MAX_OPS, RESCUER};
 ghost use Rattle.cmwq_types.specs.declared.reply.Mode.TheVariants.{Asleep};
 ghost use Rattle.std.specs.Prelude.{◌≡◌, ◌<◌, ◌+◌, ◌^◌, IfOk, IfSome, None, Some, is_some, length, slice_set, true};
 
@@ -57,6 +57,10 @@ pub trait Parts: Drop {
     /// Whether there is a freeze.
     fn is_frozen(&self) -> bool
         ensures { result ≡ (held self.now).state.frozen };
+
+    /// Whether there is memory pressure.
+    fn is_pressed(&self) -> bool
+        ensures { result ≡ (held self.now).state.pressed };
 
     /// How many flushes were given: the number of the next one.
     fn flush_count(&self) -> usize
@@ -108,6 +112,12 @@ pub trait Parts: Drop {
     fn first_listed(&self, pool: u8) -> Option<usize>
         requires pool { pool < pool_count (held self.now).scenario }
         ensures first { result ≡ first_listed (held self.now).scenario (held self.now).state pool }
+        ensures in_range { IfSome result (λ w. w < length (held self.now).scenario.works) };
+
+    /// The pool's first listed work that doesn't run, and whose queue has a free rescuer.
+    fn first_rescued(&self, pool: u8) -> Option<usize>
+        requires pool { pool < pool_count (held self.now).scenario }
+        ensures first { result ≡ first_rescued (held self.now).scenario (held self.now).state pool }
         ensures in_range { IfSome result (λ w. w < length (held self.now).scenario.works) };
 
     /// The work whose timer is the first of those that have run out.
@@ -177,6 +187,16 @@ pub trait Parts: Drop {
         requires stamps { (held self.old).state.next < 2 ^ 63 }
         ensures { held self.new ≡ record (held self.old) { state = started_on (held self.old).state pool w worker p } };
 
+    /// Starts the pool's first listed work that doesn't run and whose queue has a free rescuer, on that
+    /// rescuer.
+    fn rescue(&mut self, pool: u8, w: usize, p: Pending)
+        requires pool { pool < pool_count (held self.old).scenario }
+        requires work { w < length (held self.old).scenario.works }
+        requires first { first_rescued (held self.old).scenario (held self.old).state pool ≡ Some w }
+        requires pending { pending_at (held self.old).state w ≡ Some p }
+        requires stamps { (held self.old).state.next < 2 ^ 63 }
+        ensures { held self.new ≡ record (held self.old) { state = begin_on (held self.old).state w pool RESCUER p } };
+
     /// The running work, the ready head of its pool, goes on to the next operation, with so many ticks to
     /// burn first.
     fn go_on(&mut self, w: usize, r: Running, left: u32)
@@ -215,7 +235,8 @@ pub trait Parts: Drop {
         requires stamps { (held self.old).state.next < 2 ^ 63 }
         ensures { held self.new ≡ record (held self.old) { state = begin_again (held self.old).state w r p } };
 
-    /// The running work ends, and its worker is idle from a fresh stamp on.
+    /// The running work ends, and its worker is idle from a fresh stamp on. A rescuer is free, and takes no
+    /// stamp.
     fn retire(&mut self, w: usize, r: Running)
         requires work { w < length (held self.old).scenario.works }
         requires running { running_at (held self.old).state w ≡ Some r }
@@ -241,6 +262,10 @@ pub trait Parts: Drop {
     /// Sets whether there is a freeze.
     fn set_frozen(&mut self, frozen: bool)
         ensures { held self.new ≡ record (held self.old) { state = record (held self.old).state { frozen = frozen } } };
+
+    /// Sets whether there is memory pressure.
+    fn set_pressed(&mut self, pressed: bool)
+        ensures { held self.new ≡ record (held self.old) { state = with_pressed (held self.old).state pressed } };
 
     /// Gives a flush on the target, under the next number.
     fn push_flush(&mut self, target: FlushTarget)

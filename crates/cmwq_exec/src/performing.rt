@@ -71,6 +71,8 @@ impl<P: Parts> Going<P> {
             Instr::State(w) => Ok(self.found(w.0 as usize)),
             Instr::Disable(w) => self.disable(w),
             Instr::Enable(w) => self.enable(w),
+            Instr::Pressure => self.press(),
+            Instr::Relief => self.relieve(),
         }
     }
 
@@ -183,6 +185,30 @@ impl<P: Parts> Going<P> {
             return Err(Refusal::NotFrozen);
         }
         self.thaw();
+        Ok(Reply::Done)
+    }
+
+    /// Brings memory pressure, unless there is some.
+    fn press(&mut self) -> Result<Reply, Refusal>
+        ensures state { self.new ≡ record self.old { state = (performed self.old.scenario self.old.state instr.Pressure).0 } }
+        ensures answer { result ≡ (performed self.old.scenario self.old.state instr.Pressure).1 }
+    {
+        if self.parts.is_pressed() {
+            return Err(Refusal::AlreadyPressed);
+        }
+        self.set_pressed(true);
+        Ok(Reply::Done)
+    }
+
+    /// Ends the memory pressure, if there is some.
+    fn relieve(&mut self) -> Result<Reply, Refusal>
+        ensures state { self.new ≡ record self.old { state = (performed self.old.scenario self.old.state instr.Relief).0 } }
+        ensures answer { result ≡ (performed self.old.scenario self.old.state instr.Relief).1 }
+    {
+        if !self.parts.is_pressed() {
+            return Err(Refusal::NotPressed);
+        }
+        self.set_pressed(false);
         Ok(Reply::Done)
     }
 
@@ -331,6 +357,10 @@ fn moved_work(next: Found) -> WorkId
     ensures { result ≡ moved_work (move_of next) }
 {
     match next {
-        Found::Advance(w) | Found::Wake(w) | Found::Start(w, _) | Found::Defer(w) => w,
+        Found::Advance(w)
+        | Found::Wake(w)
+        | Found::Start(w, _)
+        | Found::Defer(w)
+        | Found::Rescue(w) => w,
     }
 }

@@ -10,7 +10,7 @@ use crate::sought::Sought;
 use crate::tally::Tally;
 use cmwq_exec::Parts;
 use cmwq_table::{FlushTarget, Pending, Running, View};
-use cmwq_types::{MAX_WORKERS, Mode, NoMemory, Place, Scenario};
+use cmwq_types::{MAX_WORKERS, Mode, NoMemory, Place, RESCUER, Scenario};
 use std::alloc::Global;
 use std::marker::Model;
 use std::sync::Arc;
@@ -27,6 +27,7 @@ pub struct Records {
     next: u64,
     spent: u32,
     frozen: bool,
+    pressed: bool,
     max: Vec<u16>,
     pending: Vec<Option<Pending>>,
     running: Vec<Option<Running>>,
@@ -50,6 +51,7 @@ impl Model for Records {
         next = r.next;
         spent = r.spent;
         frozen = r.frozen;
+        pressed = r.pressed;
         max = r.max.items;
         pending = r.pending.items;
         running = r.running.items;
@@ -82,6 +84,7 @@ impl Parts for Records {
             next: 0,
             spent: 0,
             frozen: false,
+            pressed: false,
             max,
             pending,
             running,
@@ -109,6 +112,7 @@ impl Parts for Records {
             next: self.next,
             spent: self.spent,
             frozen: self.frozen,
+            pressed: self.pressed,
             max,
             pending,
             running,
@@ -133,6 +137,7 @@ impl Parts for Records {
             next: self.next,
             spent: self.spent,
             frozen: self.frozen,
+            pressed: self.pressed,
             max,
             pending,
             running,
@@ -161,6 +166,10 @@ impl Parts for Records {
 
     fn is_frozen(&self) -> bool {
         self.frozen
+    }
+
+    fn is_pressed(&self) -> bool {
+        self.pressed
     }
 
     fn flush_count(&self) -> usize {
@@ -215,6 +224,10 @@ impl Parts for Records {
 
     fn first_listed(&self, pool: u8) -> Option<usize> {
         self.first(Sought::Listed { pool })
+    }
+
+    fn first_rescued(&self, pool: u8) -> Option<usize> {
+        self.first(Sought::Rescued { pool })
     }
 
     fn first_due(&self) -> Option<usize> {
@@ -273,6 +286,12 @@ impl Parts for Records {
         self.made[pool as usize] = if worker == made { worker + 1 } else { made };
     }
 
+    fn rescue(&mut self, pool: u8, w: usize, p: Pending) {
+        let stamp = self.take_stamp();
+        self.pending[w] = None;
+        self.running[w] = Some(begun(p.born, pool, RESCUER, stamp));
+    }
+
     fn go_on(&mut self, w: usize, r: Running, left: u32) {
         let pc = r.pc + 1;
         self.running[w] = Some(Running { pc, left, ..r });
@@ -299,8 +318,11 @@ impl Parts for Records {
     }
 
     fn retire(&mut self, w: usize, r: Running) {
-        let stamp = self.take_stamp();
         self.running[w] = None;
+        if r.worker == RESCUER {
+            return;
+        }
+        let stamp = self.take_stamp();
         self.idle[seat(r.pool, r.worker)] = Some(stamp);
     }
 
@@ -321,6 +343,10 @@ impl Parts for Records {
 
     fn set_frozen(&mut self, frozen: bool) {
         self.frozen = frozen;
+    }
+
+    fn set_pressed(&mut self, pressed: bool) {
+        self.pressed = pressed;
     }
 
     fn push_flush(&mut self, target: FlushTarget) {

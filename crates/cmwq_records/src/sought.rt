@@ -16,6 +16,8 @@ pub(crate) enum Sought {
     Inactive { queue: u8, pool: u8 },
     /// A work on the pool's worklist.
     Listed { pool: u8 },
+    /// A work on the pool's worklist that doesn't run, and whose queue has a free rescuer.
+    Rescued { pool: u8 },
     /// A timer that has run out.
     Due,
     /// A sleeper of the pool whose sleep is over.
@@ -63,6 +65,11 @@ impl Records {
             Sought::Listed { pool } => {
                 matches!(self.pending_of(w), Some(p) if p.place.is_listed(pool))
             }
+            Sought::Rescued { pool } => {
+                matches!(self.pending_of(w), Some(p) if p.place.is_listed(pool))
+                    && self.running_of(w).is_none()
+                    && self.has_free_rescuer(self.scenario().queue_of(w))
+            }
             Sought::Due => matches!(self.pending_of(w), Some(p) if p.place.is_due(self.time())),
             Sought::Slept { pool } => {
                 matches!(self.running_of(w), Some(r) if r.pool == pool && r.mode.is_slept(self.time()))
@@ -81,7 +88,7 @@ impl Records {
         ensures { result ≡ comes_before self.now.state sought v w }
     {
         match sought {
-            Sought::Inactive { .. } | Sought::Listed { .. } => {
+            Sought::Inactive { .. } | Sought::Listed { .. } | Sought::Rescued { .. } => {
                 self.pending_stamp(v) < self.pending_stamp(w)
             }
             Sought::Due => is_less(self.firing_key(v), self.firing_key(w)),

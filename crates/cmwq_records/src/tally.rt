@@ -7,6 +7,7 @@ ghost use Rattle.std.specs.Prelude.{◌≡◌, ◌≤◌, length};
 
 use crate::records::Records;
 use cmwq_exec::Parts;
+use cmwq_types::RESCUER;
 
 /// What a scan of the works counts.
 #[derive(Clone, Copy)]
@@ -19,6 +20,8 @@ pub(crate) enum Tally {
     Counted { pool: u8 },
     /// A work of the queue with an instance that was queued before.
     QueuedBefore { queue: u8, bound: u64 },
+    /// A work of the queue that runs on its rescuer.
+    Rescued { queue: u8 },
     /// A work of a freezable queue that is listed, deferred or runs.
     Busy,
 }
@@ -58,6 +61,10 @@ impl Records {
             }
             Tally::QueuedBefore { queue, bound } => {
                 scenario.queue_of(w) == queue && self.has_instance_before(w, bound)
+            }
+            Tally::Rescued { queue } => {
+                scenario.queue_of(w) == queue
+                    && matches!(self.running_of(w), Some(r) if r.worker == RESCUER)
             }
             Tally::Busy => {
                 self.is_freezable(w)

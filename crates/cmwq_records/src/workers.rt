@@ -1,10 +1,11 @@
-//! The worker that takes the next work.
-ghost use Rattle.cmwq_table.specs.Counts.{idle_stamp, last_idle, new_worker};
+//! The worker, or the rescuer, that takes the next work.
+ghost use Rattle.cmwq_table.specs.Counts.{has_free_rescuer, idle_stamp, last_idle, new_worker};
 ghost use Rattle.cmwq_table.specs.State.{idle_at};
 ghost use Rattle.cmwq_types.specs.First.{by_greatest, first_with};
 ghost use Rattle.std.specs.Prelude.{◌≡◌, ◌<◌, IfSome, true};
 
 use crate::records::Records;
+use crate::tally::Tally;
 use cmwq_exec::Parts;
 
 impl Records {
@@ -46,10 +47,17 @@ impl Records {
         ensures in_range { IfSome result (λ worker. worker < self.now.scenario.workers) }
     {
         let made = self.made_of(pool);
-        if made < self.scenario().workers {
+        if !self.is_pressed() && made < self.scenario().workers {
             Some(made)
         } else {
             None
         }
+    }
+
+    /// Whether the queue has a rescuer that none of its works runs on.
+    pub(crate) fn has_free_rescuer(&self, queue: u8) -> bool
+        ensures { result ≡ has_free_rescuer self.now.scenario self.now.state queue }
+    {
+        self.scenario().flags_of(queue).mem_reclaim && self.count(Tally::Rescued { queue }) == 0
     }
 }
