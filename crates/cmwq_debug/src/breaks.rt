@@ -47,7 +47,10 @@ fn is_kind(kind: EventKind, event: Event) -> bool
 {
     match kind {
         EventKind::Starts => {
-            matches!(event, Event::Starts | Event::StartsOnRescuer | Event::FinishesAndStarts)
+            matches!(
+                event,
+                Event::Starts | Event::StartsOnRescuer | Event::FinishesAndStarts
+            )
         }
         EventKind::Burns => matches!(event, Event::Burns(_)),
         EventKind::Sleeps => matches!(event, Event::Sleeps(_)),

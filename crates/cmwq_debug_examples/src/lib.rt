@@ -4,7 +4,7 @@
 
 ghost use Rattle.cmwq_debug_examples.specs.Debugged.{debugged, disabled_breaks, disabled_breaks_answers, each_event, each_event_answers, each_event_breaks, event_breaks, event_breaks_answers, instrs_of, many_breaks, many_breaks_answers, refusal_breaks, refusal_breaks_answers, refusals, rescuer_breaks, rescuer_breaks_answers, there_and_back, there_and_back_answers};
 ghost use Rattle.cmwq_debug_examples.specs.Dumps.{dumped, many_kinds, many_kinds_dump, many_kinds_lines, many_kinds_pool_1, pool_dumped, two_cpus, two_cpus_dump, two_cpus_lines};
-ghost use Rattle.cmwq_examples.specs.Rows.{disabled_twice, queues_itself, three_works};
+ghost use Rattle.cmwq_examples.specs.Rows.{disabled_twice, pressed, queues_itself, three_works};
 ghost use Rattle.cmwq_types.specs.Faults.{IsValid};
 ghost use Rattle.std.specs.Prelude.{◌≡◌, []};
 
@@ -53,7 +53,7 @@ pub fn disabled_work_is_not_queued()
 /// A break on `starts` stops a run where a rescuer takes its work; the dump there says that memory is short, and names no worker
 /// for the work. After the relief the machine is dumped as ever.
 pub fn rescuer_starts_its_work()
-    ensures { debugged rescued (instrs_of rescued) rescuer_breaks ≡ rescuer_breaks_answers }
+    ensures { debugged pressed (instrs_of pressed) rescuer_breaks ≡ rescuer_breaks_answers }
 {}
 
 /// A break on a time is for the instruction that makes the time so, never for one that is refused then.
