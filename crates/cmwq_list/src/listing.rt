@@ -164,15 +164,36 @@ fn push_op(text: &mut Vec<u8>, scenario: &Scenario, op: Op) -> Result<(), NoMemo
     ensures text { OnOk result (text.new.items ≡ text.old.items ++ written_text (op_line scenario.now op)) }
     ensures op { IsOp op }
 {
+    let mut end = LineEnd::new();
+    put_op(&mut end, scenario, op);
+    text.extend_from_slice(end.as_bytes())?;
+    Ok(())
+}
+
+/// Puts the operation's words before a line feed.
+fn put_op(text: &mut LineEnd, scenario: &Scenario, op: Op)
+    requires { text.old ≡ 10 ∷ [] }
+    ensures text { text.new ≡ written_text (op_line scenario.now op) }
+    ensures op { IsOp op }
+{
     match op {
-        Op::Burn(ticks) => push_number(text, b"burn", ticks),
-        Op::Sleep(ticks) => push_number(text, b"sleep", ticks),
-        Op::Queue(work, cpu) => {
-            let mut digits = Buffer::new();
-            let cpu = digits.format(cpu).as_bytes();
-            push_line(text, b"queue", &[work_name(scenario, work), cpu])
+        Op::Burn(ticks) => {
+            text.put_number(ticks);
+            text.put(b"burn");
         }
-        Op::Finish => push_line(text, b"finish", &[]),
+        Op::Sleep(ticks) => {
+            text.put_number(ticks);
+            text.put(b"sleep");
+        }
+        Op::Queue(work, cpu) => {
+            put_of_name(
+                text,
+                Mnemonic::Queue,
+                work_name(scenario, work),
+                u32::from(cpu),
+            );
+        }
+        Op::Finish => text.put(b"finish"),
     }
 }
 
