@@ -1,7 +1,7 @@
 use Rattle.std.proofs.Common.{◌∙◌, Some, None, arith, sym}
 use Rattle.cmwq_grammar.specs.Cutting.{is_blank}
 use Rattle.cmwq_scan.proofs.CuttingLemmas.{first_byte-position}
-use Rattle.cmwq_scan.proofs.cutting.place_of_blank.Goals as goal
+use Rattle.cmwq_scan.proofs.cutting.place_of_blank_from.Goals as goal
 
 pub returns-then-is_blank : goal.returns-then-is_blank
 returns-then-is_blank c =
