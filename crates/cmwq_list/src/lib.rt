@@ -1,6 +1,7 @@
 //! The lister: the canonical text of a scenario.
 #![tactic(auto)]
 
+mod line_end;
 mod lines;
 mod listing;
 

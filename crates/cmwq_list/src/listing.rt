@@ -5,16 +5,18 @@ ghost use Rattle.cmwq_types.specs.Listing.{Flagged, actor_line, actor_lines, bod
 ghost use Rattle.cmwq_types.specs.Mnemonics.{spelling};
 ghost use Rattle.cmwq_types.specs.Name.{is_name};
 ghost use Rattle.cmwq_types.specs.Scenario.{queue_at, work_at};
+ghost use Rattle.cmwq_types.specs.declared.limits.TheConstants.{MAX_NAME};
 ghost use Rattle.cmwq_types.specs.Values.{IsActor, IsInstr, IsLine, IsOp, IsQueueDecl, IsScenario};
 ghost use Rattle.std.specs.Fmt.{decimal};
 ghost use Rattle.std.specs.List.{All, AllByRecursion, flat_map, join_with_byte};
-ghost use Rattle.std.specs.Prelude.{◌≡◌, ◌++◌, ◌∷◌, ◌<◌, ◌^◌, [], IfOk, IsTrue, OnOk, map};
+ghost use Rattle.std.specs.Prelude.{◌≡◌, ◌++◌, ◌∷◌, ◌<◌, ◌^◌, [], IfOk, IsTrue, OnOk, length, map, ◌≤◌};
 
+use crate::line_end::LineEnd;
 use crate::lines::{push_line, push_others, push_words};
 use cmwq_grammar::laws::listing_spells_its_scenario;
 use cmwq_types::{
-    Actor, Flags, Instr, Line, Mnemonic, NoMemory, Op, QueueDecl, QueueId, Scenario, WorkDecl,
-    WorkId,
+    Actor, Flags, Instr, Line, MAX_NAME, Mnemonic, NoMemory, Op, QueueDecl, QueueId, Scenario,
+    WorkDecl, WorkId,
 };
 use itoa::Buffer;
 use std::alloc::Global;
@@ -163,15 +165,36 @@ fn push_op(text: &mut Vec<u8>, scenario: &Scenario, op: Op) -> Result<(), NoMemo
     ensures text { OnOk result (text.new.items ≡ text.old.items ++ written_text (op_line scenario.now op)) }
     ensures op { IsOp op }
 {
+    let mut end = LineEnd::new();
+    put_op(&mut end, scenario, op);
+    text.extend_from_slice(end.as_bytes())?;
+    Ok(())
+}
+
+/// Puts the operation's words before a line feed.
+fn put_op(text: &mut LineEnd, scenario: &Scenario, op: Op)
+    requires { text.old ≡ 10 ∷ [] }
+    ensures text { text.new ≡ written_text (op_line scenario.now op) }
+    ensures op { IsOp op }
+{
     match op {
-        Op::Burn(ticks) => push_number(text, b"burn", ticks),
-        Op::Sleep(ticks) => push_number(text, b"sleep", ticks),
-        Op::Queue(work, cpu) => {
-            let mut digits = Buffer::new();
-            let cpu = digits.format(cpu).as_bytes();
-            push_line(text, b"queue", &[work_name(scenario, work), cpu])
+        Op::Burn(ticks) => {
+            text.put_number(ticks);
+            text.put(b"burn");
         }
-        Op::Finish => push_line(text, b"finish", &[]),
+        Op::Sleep(ticks) => {
+            text.put_number(ticks);
+            text.put(b"sleep");
+        }
+        Op::Queue(work, cpu) => {
+            put_of_name(
+                text,
+                Mnemonic::Queue,
+                work_name(scenario, work),
+                u32::from(cpu),
+            );
+        }
+        Op::Finish => text.put(b"finish"),
     }
 }
 
@@ -200,125 +223,123 @@ fn push_actor_line(text: &mut Vec<u8>, scenario: &Scenario, line: Line) -> Resul
     ensures text { OnOk result (text.new.items ≡ text.old.items ++ written_text (actor_line scenario.now line)) }
     ensures line { IsLine line }
 {
-    push_instr(text, scenario, line.instr)?;
-    push_times(text, line.times)?;
-    text.push(b'\n')?;
+    let mut end = LineEnd::new();
+    put_times(&mut end, line.times);
+    put_instr(&mut end, scenario, line.instr);
+    text.extend_from_slice(end.as_bytes())?;
     Ok(())
 }
 
-fn push_instr(text: &mut Vec<u8>, scenario: &Scenario, instr: Instr) -> Result<(), NoMemory>
-    ensures text { OnOk result (text.new.items ≡ text.old.items ++ join_with_byte 32 (instr_words scenario.now instr)) }
+/// Puts the instruction's words before what is there.
+fn put_instr(text: &mut LineEnd, scenario: &Scenario, instr: Instr)
+    requires { length text.old ≤ 14 }
+    ensures text { text.new ≡ join_with_byte 32 (instr_words scenario.now instr) ++ text.old }
     ensures instr { IsInstr instr }
 {
     match instr {
         Instr::Queue(work, cpu) => {
             let work = work_name(scenario, work);
-            push_of_name(text, Mnemonic::Queue, work, u32::from(cpu))
+            put_of_name(text, Mnemonic::Queue, work, u32::from(cpu))
         }
         Instr::Delay(work, cpu, ticks) => {
-            push_delayed(text, Mnemonic::Delay, work_name(scenario, work), cpu, ticks)
+            put_delayed(text, Mnemonic::Delay, work_name(scenario, work), cpu, ticks)
         }
         Instr::Mod(work, cpu, ticks) => {
-            push_delayed(text, Mnemonic::Mod, work_name(scenario, work), cpu, ticks)
+            put_delayed(text, Mnemonic::Mod, work_name(scenario, work), cpu, ticks)
         }
-        Instr::Cancel(work) => push_named(text, Mnemonic::Cancel, work_name(scenario, work)),
+        Instr::Cancel(work) => put_named(text, Mnemonic::Cancel, work_name(scenario, work)),
         Instr::CancelSync(work) => {
-            push_named(text, Mnemonic::CancelSync, work_name(scenario, work))
+            put_named(text, Mnemonic::CancelSync, work_name(scenario, work))
         }
-        Instr::Flush(work) => push_named(text, Mnemonic::Flush, work_name(scenario, work)),
+        Instr::Flush(work) => put_named(text, Mnemonic::Flush, work_name(scenario, work)),
         Instr::FlushDelayed(work) => {
-            push_named(text, Mnemonic::FlushDelayed, work_name(scenario, work))
+            put_named(text, Mnemonic::FlushDelayed, work_name(scenario, work))
         }
         Instr::FlushQueue(queue) => {
-            push_named(text, Mnemonic::FlushQueue, queue_name(scenario, queue))
+            put_named(text, Mnemonic::FlushQueue, queue_name(scenario, queue))
         }
         Instr::SetMax(queue, max) => {
-            push_of_name(text, Mnemonic::SetMax, queue_name(scenario, queue), max)
+            put_of_name(text, Mnemonic::SetMax, queue_name(scenario, queue), max)
         }
-        Instr::Freeze => push_alone(text, Mnemonic::Freeze),
-        Instr::Thaw => push_alone(text, Mnemonic::Thaw),
-        Instr::Fire => push_alone(text, Mnemonic::Fire),
-        Instr::Step(pool) => push_counted(text, Mnemonic::Step, u32::from(pool)),
-        Instr::Tick => push_alone(text, Mnemonic::Tick),
-        Instr::Next => push_alone(text, Mnemonic::Next),
-        Instr::Ask(flush) => push_counted(text, Mnemonic::Ask, u32::from(flush)),
-        Instr::Busy => push_alone(text, Mnemonic::Busy),
-        Instr::State(work) => push_named(text, Mnemonic::State, work_name(scenario, work)),
-        Instr::Disable(work) => push_named(text, Mnemonic::Disable, work_name(scenario, work)),
-        Instr::Enable(work) => push_named(text, Mnemonic::Enable, work_name(scenario, work)),
-        Instr::Pressure => push_alone(text, Mnemonic::Pressure),
-        Instr::Relief => push_alone(text, Mnemonic::Relief),
+        Instr::Freeze => put_alone(text, Mnemonic::Freeze),
+        Instr::Thaw => put_alone(text, Mnemonic::Thaw),
+        Instr::Fire => put_alone(text, Mnemonic::Fire),
+        Instr::Step(pool) => put_counted(text, Mnemonic::Step, u32::from(pool)),
+        Instr::Tick => put_alone(text, Mnemonic::Tick),
+        Instr::Next => put_alone(text, Mnemonic::Next),
+        Instr::Ask(flush) => put_counted(text, Mnemonic::Ask, u32::from(flush)),
+        Instr::Busy => put_alone(text, Mnemonic::Busy),
+        Instr::State(work) => put_named(text, Mnemonic::State, work_name(scenario, work)),
+        Instr::Disable(work) => put_named(text, Mnemonic::Disable, work_name(scenario, work)),
+        Instr::Enable(work) => put_named(text, Mnemonic::Enable, work_name(scenario, work)),
+        Instr::Pressure => put_alone(text, Mnemonic::Pressure),
+        Instr::Relief => put_alone(text, Mnemonic::Relief),
     }
 }
 
-/// Writes the word of an instruction that has no operands.
-fn push_alone(text: &mut Vec<u8>, mnemonic: Mnemonic) -> Result<(), NoMemory>
-    ensures { OnOk result (text.new.items ≡ text.old.items ++ spelling mnemonic) }
+/// Puts the word of an instruction that has no operands.
+fn put_alone(text: &mut LineEnd, mnemonic: Mnemonic)
+    requires { length text.old ≤ 52 }
+    ensures { text.new ≡ spelling mnemonic ++ text.old }
 {
-    text.extend_from_slice(mnemonic.as_bytes())?;
-    Ok(())
+    text.put(mnemonic.as_bytes());
 }
 
-/// Writes an instruction on a work or queue of this name.
-fn push_named(text: &mut Vec<u8>, mnemonic: Mnemonic, name: &[u8]) -> Result<(), NoMemory>
-    ensures { OnOk result (text.new.items ≡ text.old.items ++ join_with_byte 32 (spelling mnemonic ∷ name.now ∷ [])) }
+/// Puts an instruction on a work or queue of this name.
+fn put_named(text: &mut LineEnd, mnemonic: Mnemonic, name: &[u8])
+    requires end { length text.old ≤ 36 }
+    requires name { length name.now ≤ MAX_NAME }
+    ensures { text.new ≡ join_with_byte 32 (spelling mnemonic ∷ name.now ∷ []) ++ text.old }
 {
-    push_words(text, mnemonic.as_bytes(), &[name])
+    text.put_word(name);
+    put_alone(text, mnemonic);
 }
 
-/// Writes an instruction on a work or queue of this name, and a number.
-fn push_of_name(text: &mut Vec<u8>, mnemonic: Mnemonic, name: &[u8], n: u32) -> Result<(), NoMemory>
-    ensures { OnOk result (text.new.items ≡ text.old.items
-        ++ join_with_byte 32 (spelling mnemonic ∷ name.now ∷ decimal n ∷ [])) }
+/// Puts an instruction on a work or queue of this name, and a number.
+fn put_of_name(text: &mut LineEnd, mnemonic: Mnemonic, name: &[u8], n: u32)
+    requires end { length text.old ≤ 25 }
+    requires name { length name.now ≤ MAX_NAME }
+    ensures { text.new ≡ join_with_byte 32 (spelling mnemonic ∷ name.now ∷ decimal n ∷ []) ++ text.old }
 {
-    let mut digits = Buffer::new();
-    push_words(
-        text,
-        mnemonic.as_bytes(),
-        &[name, digits.format(n).as_bytes()],
-    )
+    text.put_number(n);
+    put_named(text, mnemonic, name);
 }
 
-/// Writes an instruction on a number.
-fn push_counted(text: &mut Vec<u8>, mnemonic: Mnemonic, n: u32) -> Result<(), NoMemory>
-    ensures { OnOk result (text.new.items ≡ text.old.items ++ join_with_byte 32 (spelling mnemonic ∷ decimal n ∷ [])) }
+/// Puts an instruction on a number.
+fn put_counted(text: &mut LineEnd, mnemonic: Mnemonic, n: u32)
+    requires { length text.old ≤ 25 }
+    ensures { text.new ≡ join_with_byte 32 (spelling mnemonic ∷ decimal n ∷ []) ++ text.old }
 {
-    let mut digits = Buffer::new();
-    push_words(text, mnemonic.as_bytes(), &[digits.format(n).as_bytes()])
+    text.put_number(n);
+    put_alone(text, mnemonic);
 }
 
-/// Writes an instruction on a work of this name, a CPU and how many ticks.
-fn push_delayed(
-    text: &mut Vec<u8>,
-    mnemonic: Mnemonic,
-    work: &[u8],
-    cpu: u8,
-    ticks: u32,
-) -> Result<(), NoMemory>
-    ensures { OnOk result (text.new.items ≡ text.old.items
-        ++ join_with_byte 32 (spelling mnemonic ∷ work.now ∷ decimal cpu ∷ decimal ticks ∷ [])) }
+/// Puts an instruction on a work of this name, a CPU and how many ticks.
+fn put_delayed(text: &mut LineEnd, mnemonic: Mnemonic, work: &[u8], cpu: u8, ticks: u32)
+    requires end { length text.old ≤ 14 }
+    requires name { length work.now ≤ MAX_NAME }
+    ensures { text.new ≡ join_with_byte 32 (spelling mnemonic ∷ work.now ∷ decimal cpu ∷ decimal ticks ∷ []) ++ text.old }
 {
-    let mut cpu_digits = Buffer::new();
-    let mut tick_digits = Buffer::new();
-    let cpu = cpu_digits.format(cpu).as_bytes();
-    let ticks = tick_digits.format(ticks).as_bytes();
-    push_words(text, mnemonic.as_bytes(), &[work, cpu, ticks])
+    text.put_number(ticks);
+    put_of_name(text, mnemonic, work, u32::from(cpu));
 }
 
-/// Writes `* N` behind a space, unless the line stands once.
-fn push_times(text: &mut Vec<u8>, times: u32) -> Result<(), NoMemory>
-    ensures { OnOk result (text.new.items ≡ text.old.items ++ flat_map (λ word. 32 ∷ word) (times_words times)) }
+/// Puts `* N` behind a space, unless the line stands once.
+fn put_times(text: &mut LineEnd, times: u32)
+    requires { length text.old ≤ 1 }
+    ensures text { text.new ≡ flat_map (λ word. 32 ∷ word) (times_words times) ++ text.old }
+    ensures short { length text.new ≤ 14 }
 {
     if times != 1 {
-        let mut digits = Buffer::new();
-        push_others(text, &[b"*", digits.format(times).as_bytes()])?;
+        text.put_number(times);
+        text.put_word(b"*");
     }
-    Ok(())
 }
 
 /// The name of a queue, or no bytes where no queue has the number.
 fn queue_name(scenario: &Scenario, queue: QueueId) -> &[u8]
     ensures name { result.now ≡ (queue_at scenario.now queue.0).name }
+    ensures short { length result.now ≤ MAX_NAME }
     ensures number { queue.0 < 2 ^ 8 }
 {
     match scenario.queues.get(queue.0 as usize) {
@@ -329,7 +350,8 @@ fn queue_name(scenario: &Scenario, queue: QueueId) -> &[u8]
 
 /// The name of a work, or no bytes where no work has the number.
 fn work_name(scenario: &Scenario, work: WorkId) -> &[u8]
-    ensures { result.now ≡ (work_at scenario.now work.0).name }
+    ensures name { result.now ≡ (work_at scenario.now work.0).name }
+    ensures short { length result.now ≤ MAX_NAME }
 {
     match scenario.works.get(work.0 as usize) {
         Some(declared) => declared.name.as_bytes(),

@@ -78,7 +78,24 @@ fn place_of(bytes: &[u8], wanted: u8) -> Option<usize>
 fn place_of_blank(bytes: &[u8]) -> Option<usize>
     ensures { result ≡ position is_blank bytes.now }
 {
-    let mut place = next_low(bytes, skip_lanes(bytes));
+    let mut place = 0;
+    while bytes.len() - place >= LANES {
+        let run = run_before_blank(bytes, place);
+        place += run;
+        if run < LANES {
+            return Some(place);
+        }
+    }
+    place_of_blank_from(bytes, place)
+}
+
+/// The place of the first blank, which doesn't stand before this place.
+fn place_of_blank_from(bytes: &[u8], from: usize) -> Option<usize>
+    requires within { from ≤ length bytes.now }
+    requires passed { Nowhere (Passes is_blank bytes.now) 0 from }
+    ensures { result ≡ position is_blank bytes.now }
+{
+    let mut place = next_low(bytes, from);
     while place < bytes.len() {
         if is_blank(bytes[place]) {
             return Some(place);
@@ -86,22 +103,6 @@ fn place_of_blank(bytes: &[u8]) -> Option<usize>
         place = next_low(bytes, place + 1);
     }
     None
-}
-
-/// A place up to which there is no blank: that of the first blank, or one near the end.
-fn skip_lanes(bytes: &[u8]) -> usize
-    ensures high { result ≤ length bytes.now }
-    ensures passed { Nowhere (Passes is_blank bytes.now) 0 result }
-{
-    let mut place = 0;
-    while bytes.len() - place >= LANES {
-        let run = run_before_blank(bytes, place);
-        place += run;
-        if run < LANES {
-            return place;
-        }
-    }
-    place
 }
 
 /// The first place from this one on of a byte that is a space or lower, as each blank is; where there is

@@ -1,7 +1,7 @@
 use Rattle.std.proofs.Common.{length, ◌-◌, ◌≤◌}
 use Rattle.cmwq_grammar.specs.Cutting.{is_blank}
 use Rattle.memchr.specs.Find.{Nowhere, Passes}
-use Rattle.cmwq_scan.proofs.cutting.skip_lanes.Given as goal
+use Rattle.cmwq_scan.proofs.cutting.place_of_blank_from.Given as goal
 
 -- none of the bytes so far is a blank
 abbrev pub invariant-loop-place : goal.invariant-loop-place
