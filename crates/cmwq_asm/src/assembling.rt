@@ -76,7 +76,7 @@ fn read_text(alloc: Global, text: &[u8]) -> Result<Scenario, AsmError>
 }
 
 /// The stage after all lines of the text, and how many there are.
-fn read_lines<'t>(alloc: Global, text: &'t [u8]) -> Result<(Stage<'t>, u32), AsmError>
+pub(crate) fn read_lines<'t>(alloc: Global, text: &'t [u8]) -> Result<(Stage<'t>, u32), AsmError>
     requires { length text.now ≤ MAX_TEXT }
     ensures stage { GivesStage result (stage_after 1 (lines_of text.now) stage.Start) }
     ensures count { IfOk result (λ read. read.1 ≡ length (lines_of text.now)) }

@@ -9,6 +9,7 @@ mod draft;
 mod fault;
 mod header;
 mod instructions;
+mod next;
 mod open;
 mod operations;
 mod queues;
@@ -17,6 +18,7 @@ mod steps;
 mod works;
 
 pub use assembling::{assemble, assemble_again};
-pub use cmwq_grammar::Why;
+pub use cmwq_grammar::{Next, Why};
 pub use cmwq_list::list;
 pub use fault::AsmError;
+pub use next::next_after;

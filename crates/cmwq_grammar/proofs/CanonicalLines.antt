@@ -49,7 +49,7 @@ cut_at p (x ∷ xs) y ys none passes =
     let both : (not (p x) ≡ true) × (list_all (λ b. not (p b)) xs ≡ true) = and_true (not (p x)) (list_all (λ b. not (p b)) xs) none in
     slice_split-cons_no p x (xs ++ y ∷ ys) (not_true (p x) both.0) ∙ ap (onto_first x) (cut_at p xs y ys both.1 passes)
 
-cut_none : (p : ℕ → Bool) (xs : List ℕ) → list_all (λ b. not (p b)) xs ≡ true → slice_split p xs ≡ xs ∷ []
+pub cut_none : (p : ℕ → Bool) (xs : List ℕ) → list_all (λ b. not (p b)) xs ≡ true → slice_split p xs ≡ xs ∷ []
 cut_none p [] none = refl
 cut_none p (x ∷ xs) none =
     let both : (not (p x) ≡ true) × (list_all (λ b. not (p b)) xs ≡ true) = and_true (not (p x)) (list_all (λ b. not (p b)) xs) none in

@@ -55,7 +55,7 @@ kept_no_feeds (piece ∷ next ∷ more) all =
     let both : (no_feed piece ≡ true) × (no_feeds (next ∷ more) ≡ true) = and_true (no_feed piece) (no_feeds (next ∷ more)) all in
     true_and (no_feed piece) (no_feeds (without_empty_last (next ∷ more))) both.0 (kept_no_feeds (next ∷ more) both.1)
 
-lines_no_feeds : (text : List ℕ) → no_feeds (lines_of text) ≡ true
+pub lines_no_feeds : (text : List ℕ) → no_feeds (lines_of text) ≡ true
 lines_no_feeds text = kept_no_feeds (slice_split is_feed text) (pieces_no_feeds text)
 
 taken_no_feeds : (n : ℕ) (lines : List (List ℕ)) → no_feeds lines ≡ true → no_feeds (take n lines) ≡ true
@@ -200,7 +200,7 @@ fails_at n (line ∷ lines) origin (suc k) stage reason there before e =
     bind_at (at_line n (judge origin line)) (stage_after (n + 1) lines) first.0 first.1 ∙ later ∙ ap (λ (m : ℕ). failed (fault_at m reason)) (omega arith)
 
 -- one line more
-one_more : (n : ℕ) (lines : List (List ℕ)) (line : List ℕ) (origin stage next : Stage) → stage_after n lines origin ≡ Ok stage
+pub one_more : (n : ℕ) (lines : List (List ℕ)) (line : List ℕ) (origin stage next : Stage) → stage_after n lines origin ≡ Ok stage
     → stage_after n (lines ++ line ∷ []) origin ≡ Ok next → judge stage line ≡ Ok next
 unfolding stage_after
 one_more n [] line origin stage next before e =

@@ -9,11 +9,14 @@ mod FaultLemmas
 mod FieldLemmas
 mod Fitting
 mod FlagLemmas
+mod FreshNames
 mod GoodScenario
 mod InstrLemmas
 mod LineLemmas
 mod ListingLemmas
 mod NameLists
+mod OfferLaw
+mod OfferLemmas
 mod ReadingLemmas
 mod SameLines
 mod Soundness

@@ -148,6 +148,12 @@ number_fits k n some small wide = record {
   short = length-decimal-le k n some small wide;
 }
 
+pub name_is_plain : (name : List ℕ) → is_name name ≡ true → plain_word name ≡ true
+name_is_plain name is = (name_fits name is).plain
+
+pub number_is_plain : (n : ℕ) → n < 10 → plain_word (decimal n) ≡ true
+number_is_plain n small = (number_fits 1 n (omega arith) (omega arith) (omega arith)).plain
+
 -- Lines.
 
 record LineFitsIn (k : ℕ) (l : WrittenLine) : Type 0 where

@@ -48,7 +48,7 @@ says_as l m said e says = subst (λ (x : WrittenLine). Says x said) e says
 
 -- The numbers at the head.
 
-number_taken : (low high n : ℕ) (make : ℕ → Stage) → within low high n ≡ true → high < 10 ^ 10
+pub number_taken : (low high n : ℕ) (make : ℕ → Stage) → within low high n ≡ true → high < 10 ^ 10
     → (number_within low high (decimal n ∷ []) >>= made_last make) ≡ Ok (make n)
 number_taken low high n make fits small =
     let bounds : (low ≤ n) × (n ≤ high) = within_fits low high n fits in

@@ -8,7 +8,9 @@ use Rattle.cmwq_types.specs.declared.scenario.Line.{Line}
 use Rattle.cmwq_types.specs.declared.scenario.Op.TheVariants as op
 use Rattle.cmwq_types.specs.declared.scenario.QueueDecl.{QueueDecl}
 use Rattle.cmwq_grammar.specs.Meaning.{reads, fault_at}
+use Rattle.cmwq_grammar.specs.Offers.{IsNextAfter, words_of_next}
 use Rattle.cmwq_grammar.specs.Stages.{head_of}
+use Rattle.cmwq_grammar.specs.declared.next.Next.{Next}
 use Rattle.cmwq_grammar.specs.declared.why.Why.{Why}
 
 -- a text of these lines
@@ -22,6 +24,10 @@ FaultIs bytes line reason = reads bytes ≡ Err (fault_at line reason)
 -- the text reads as this scenario
 abbrev pub ReadsAs : List ℕ → ScenarioContents → Type 0
 ReadsAs bytes S = reads bytes ≡ Ok S
+
+-- a line after these may begin with these words
+abbrev pub OfferedAre : List (List ℕ) → List (List ℕ) → Type 0
+OfferedAre lines words = (next : Next) × IsNextAfter lines next × (words_of_next next ≡ words)
 
 -- the least head that a text can have, with 8 steps
 abbrev pub head_lines : List (List ℕ)

@@ -6,5 +6,6 @@ pub mod Fields
 pub mod Grammar
 pub mod Instructions
 pub mod Meaning
+pub mod Offers
 pub mod Reasons
 pub mod Stages

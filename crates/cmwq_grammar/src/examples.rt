@@ -1,5 +1,5 @@
 //! Short texts, as theorems over the definitions: what reading them gives.
-ghost use Rattle.cmwq_grammar.specs.Examples.{AfterBodyIs, DeclaredIs, FaultIs, FirstLineIs, InActorIs, InBodyIs, ReadsAs, sixteen_actor_lines, actor_t, after_head, cut_after, disabling_lines, free_head, head_lines, in_actor_t, itself_lines, long_body, nothing, one_work, pressing_lines, queue_alone, queue_q, queue_with_memory, queues_itself, sixteen_actors, text, with_bad_byte};
+ghost use Rattle.cmwq_grammar.specs.Examples.{AfterBodyIs, DeclaredIs, FaultIs, FirstLineIs, InActorIs, InBodyIs, OfferedAre, ReadsAs, sixteen_actor_lines, actor_t, after_head, cut_after, disabling_lines, free_head, head_lines, in_actor_t, itself_lines, long_body, nothing, one_work, pressing_lines, queue_alone, queue_q, queue_with_memory, queues_itself, sixteen_actors, text, with_bad_byte};
 ghost use Rattle.cmwq_types.specs.Listing.{listing};
 ghost use Rattle.std.specs.Prelude.{◌≡◌, ◌∷◌, ◌++◌, [], codes, take};
 
@@ -167,4 +167,10 @@ pub fn one_over_a_limit_is_too_many()
     ensures actor { FaultIs (after_head (sixteen_actor_lines ++ codes "actor t" ∷ [])) 21 (Why.Fault Fault.TooMany) }
     ensures operation { FaultIs (after_head (long_body ++ codes "burn 1" ∷ [])) 71 (Why.Fault Fault.TooMany) }
     ensures finish { FaultIs (after_head (long_body ++ codes "finish" ∷ codes "finish" ∷ [])) 72 Why.Misplaced }
+{}
+
+/// After the head a queue or an actor may stand, but no work yet; in a body with one operation left only `finish`.
+pub fn lines_go_on_with_what_has_room()
+    ensures head { OfferedAre head_lines (codes "queue" ∷ codes "actor" ∷ []) }
+    ensures operation { OfferedAre (head_lines ++ long_body) (codes "finish" ∷ []) }
 {}

@@ -1,15 +1,18 @@
 //! The laws of texts, each the contract of a function with an empty body.
 ghost use Rattle.cmwq_grammar.specs.Comments.{comments, listing_room};
-ghost use Rattle.cmwq_grammar.specs.FaultLaw.{IsFault};
+ghost use Rattle.cmwq_grammar.specs.FaultLaw.{Begins, IsFault};
 ghost use Rattle.cmwq_grammar.specs.Grammar.{Spells};
 ghost use Rattle.cmwq_grammar.specs.Meaning.{FaultAt, reads};
+ghost use Rattle.cmwq_grammar.specs.Offers.{GoesOnWith, IsNextAfter, words_of_next};
+ghost use Rattle.cmwq_grammar.specs.declared.next.Next.{Next};
 ghost use Rattle.cmwq_types.specs.Contents.{ScenarioContents};
 ghost use Rattle.cmwq_types.specs.Faults.{IsValid};
 ghost use Rattle.cmwq_types.specs.Listing.{listing};
 ghost use Rattle.cmwq_types.specs.Values.{IsScenario};
 ghost use Rattle.cmwq_types.specs.declared.limits.TheConstants.{MAX_TEXT};
-ghost use Rattle.std.specs.Prelude.{◌≡◌, ◌≤◌, ◌+◌, ◌↔◌, ◌++◌, ℕ, Err, List, Ok, length};
-ghost use Rattle.std.specs.Str.{IsUtf8};
+ghost use Rattle.std.specs.List.{list_any};
+ghost use Rattle.std.specs.Prelude.{◌≡◌, ◌≤◌, ◌+◌, ◌↔◌, ◌++◌, ℕ, Err, IsTrue, List, Ok, length};
+ghost use Rattle.std.specs.Str.{IsUtf8, bytes_eq};
 
 /// What is read is spelled so: a text that reads as a scenario spells it.
 pub fn read_text_spells_its_scenario()
@@ -44,4 +47,12 @@ pub fn comments_may_follow_a_listing()
 /// the lines up to it, for the table's reason; or the end, where a text may not end there.
 pub fn reading_fails_at_the_first_fault()
     ensures { (text : List ℕ) (fault : FaultAt) → reads text ≡ Err fault ↔ IsFault text fault }
+{}
+
+/// After lines with which some scenario's text begins, the table has just the words that a further line may begin with: those with
+/// which some scenario's text goes on.
+pub fn table_has_the_words_that_go_on()
+    ensures there { (lines : List (List ℕ)) → Begins lines → (next : Next) × IsNextAfter lines next }
+    ensures words { (lines : List (List ℕ)) (next : Next) (word : List ℕ) → Begins lines → IsNextAfter lines next
+        → IsTrue (list_any (bytes_eq word) (words_of_next next)) ↔ GoesOnWith lines word }
 {}

@@ -4,6 +4,8 @@
 
 pub mod examples;
 pub mod laws;
+mod next;
 mod why;
 
+pub use next::Next;
 pub use why::Why;

@@ -68,7 +68,7 @@ fn check_talk<R: Files + AllocGlobal + Threads + Wait + Clock + Sync + Abort>(
 }
 
 /// Files, and what they have.
-const CHECKED: [(&str, &[u8]); 3] = [
+const CHECKED: [(&str, &[u8]); 5] = [
     (
         "cmwq_checks/a.cmwq",
         b"cpus 1\nworkers 1\nsteps 1\nflushes 0\n",
@@ -78,6 +78,14 @@ const CHECKED: [(&str, &[u8]); 3] = [
         b"cpus 1\n# 65\nworkers\t 65 # too many\n",
     ),
     ("cmwq_checks/c.cmwq", b"cpus 1\r\nworkers\n"),
+    (
+        "cmwq_checks/d.cmwq",
+        b"cpus 1\nworkers 1\nsteps 1\nflushes 0\nqueue q max 1\nquue",
+    ),
+    (
+        "cmwq_checks/e.cmwq",
+        b"cpus 1\nworkers 1\nsteps 1\nflushes 0\nqueue q max 1\nactor t\ncancel a\n",
+    ),
 ];
 
 #[test]
@@ -93,8 +101,10 @@ fn a_check_tells_each_files_verdict(rt: HostRuntime) {
     let request = Request::Check { files };
     let result = answer(&rt, reading_of(b"", 1), &mut output, &mut errors, request);
     let told: &[u8] = b"cmwq_checks/none.cmwq: read\n\
-        cmwq_checks/b.cmwq:3:10: 65: Range\n\
-        cmwq_checks/c.cmwq:2:8: end of line: MissingWord\n";
+        cmwq_checks/b.cmwq:3:10: 65: Range\n  a line here may begin with: workers\n\
+        cmwq_checks/c.cmwq:2:8: end of line: MissingWord\n  a line here may begin with: workers\n\
+        cmwq_checks/d.cmwq:6:1: quue: BadWord\n  a line here may begin with: queue, work, actor\n\
+        cmwq_checks/e.cmwq:7:8: a: Unknown\n  a line here may begin with: flush_queue, set_max, freeze, thaw, fire, step, tick, next, ask, busy, actor\n";
     same(&rt, "status", result, Ok(3));
     same(
         &rt,

@@ -1,5 +1,5 @@
 //! The words that name the instructions, in texts, listings and commands.
-ghost use Rattle.cmwq_types.specs.Mnemonics.{first_spelled, mnemonic_of, spelling};
+ghost use Rattle.cmwq_types.specs.Mnemonics.{first_spelled, mnemonic_of, mnemonics, spelling};
 ghost use Rattle.std.specs.Prelude.{◌≡◌};
 ghost use Rattle.std.specs.Str.{bytes_eq};
 
@@ -61,6 +61,13 @@ impl Mnemonic {
         ensures { result ≡ mnemonic_of word.now }
     {
         first_spelled(&MNEMONICS, word)
+    }
+
+    /// All of them, in the order of the table.
+    pub fn all() -> &'static [Mnemonic]
+        ensures { result.now ≡ mnemonics }
+    {
+        &MNEMONICS
     }
 
     /// Whether it is spelled so.

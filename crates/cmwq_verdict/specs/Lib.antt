@@ -1,3 +1,4 @@
 pub mod Names
+pub mod Offers
 pub mod Places
 pub mod Verdicts

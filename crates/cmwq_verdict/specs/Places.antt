@@ -1,6 +1,6 @@
 -- Where the first fault of a text is seen: its column, and what stands there.
-use Rattle.std.specs.Prelude.{◌≡◌, ◌≢◌, ◌<◌, ◌+◌, ◌-◌, ◌==◌, ℕ, zero, suc, List, [], ◌∷◌, length, drop, take, codes, if◌then◌else◌, Option, None, Some, slice_get}
-use Rattle.std.specs.List.{All, slice_index_or}
+use Rattle.std.specs.Prelude.{◌≡◌, ◌≢◌, ◌<◌, ◌+◌, ◌-◌, ◌==◌, ℕ, zero, suc, List, [], ◌∷◌, length, drop, take, if◌then◌else◌, Option, None, Some, slice_get}
+use Rattle.std.specs.List.{All}
 use Rattle.cmwq_grammar.specs.Cutting.{lines_of, words_of}
 use Rattle.cmwq_grammar.specs.FaultLaw.{IsFault}
 use Rattle.cmwq_grammar.specs.Meaning.{FaultAt}

@@ -1,5 +1,5 @@
 -- What is said of a text.
-use Rattle.std.specs.Prelude.{◌≡◌, ℕ, List, [], ◌∷◌, ◌++◌, Bool, codes, map, take, if◌then◌else◌, Option, None, Some}
+use Rattle.std.specs.Prelude.{◌≡◌, ℕ, List, [], ◌∷◌, ◌++◌, codes, map, take, if◌then◌else◌, Option, None, Some}
 use Rattle.std.specs.Fmt.{decimal}
 use Rattle.cmwq_types.specs.Contents.{ScenarioContents}
 use Rattle.cmwq_types.specs.Faults.{within}
@@ -7,6 +7,7 @@ use Rattle.cmwq_grammar.specs.FaultLaw.{IsFault}
 use Rattle.cmwq_grammar.specs.Grammar.{Spells}
 use Rattle.cmwq_grammar.specs.Meaning.{FaultAt}
 use Rattle.cmwq_verdict.specs.Names.{why_name}
+use Rattle.cmwq_verdict.specs.Offers.{IsOffer}
 use Rattle.cmwq_verdict.specs.Places.{IsPlace}
 use Rattle.cmwq_verdict.specs.declared.places.Place.{Place}
 use Rattle.cmwq_verdict.specs.declared.places.Place.TheVariants as place
@@ -46,8 +47,10 @@ ok_line file = file ++ codes ": ok" ++ 10 ∷ []
 abbrev pub read_line : List ℕ → List ℕ
 read_line file = file ++ codes ": read" ++ 10 ∷ []
 
--- this is said of the text of a file: nothing where it spells a scenario, and else its first fault and where that is seen
+-- this is said of the text of a file: nothing where it spells a scenario, and else its first fault, where that is seen, and what may
+-- stand there
 abbrev pub IsVerdict : List ℕ → List ℕ → Option (List ℕ) → Type 0
 IsVerdict file text None = (S : ScenarioContents) × Spells text S
 IsVerdict file text (Some told) =
-    (fault : FaultAt) × (place : Place) × IsFault text fault × IsPlace text fault place × (told ≡ fault_line file fault place)
+    (fault : FaultAt) × (place : Place) × (offer : List ℕ) × IsFault text fault × IsPlace text fault place × IsOffer text fault offer
+    × (told ≡ fault_line file fault place ++ offer)

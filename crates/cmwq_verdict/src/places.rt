@@ -111,7 +111,7 @@ fn place_among<'t>(
 }
 
 /// Where line n of the text begins, lines being counted from 0.
-fn line_start(text: &[u8], n: u32) -> usize
+pub(crate) fn line_start(text: &[u8], n: u32) -> usize
     ensures start { result ≡ line_start n text.now }
     ensures within { result ≤ length text.now }
 {

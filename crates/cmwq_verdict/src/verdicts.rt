@@ -5,18 +5,22 @@ ghost use Rattle.std.specs.Fmt.{decimal};
 ghost use Rattle.std.specs.Prelude.{◌≡◌, ◌++◌, ◌∷◌, [], IfOk, OnOk, option_map, take};
 
 use crate::names::why_name;
+use crate::offers::push_offer;
 use crate::places::{Place, TextFault, place_of};
 use cmwq_asm::{AsmError, assemble};
 use cmwq_types::NoMemory;
 use itoa::Buffer;
 use std::alloc::Global;
 
-/// What is said of the text of this file: nothing where it spells a scenario, and else a line, `FILE:LINE:COLUMN: WORD: WHY`.
+/// What is said of the text of this file: nothing where it spells a scenario, and else a line, `FILE:LINE:COLUMN: WORD: WHY`, and a
+/// second one with the words that a line may begin with there.
 ///
 /// Line and reason are those of the text's first fault. The word is the first one of that line such that the text cut behind it
 /// has this fault, and the column is that of its first byte, counted in bytes from 1. For a word that is missing stands `end of
 /// line`, or `end of text`, for a line in which no word is at fault `line`, and for a text that is too long `text`. Of a word the
-/// first 64 bytes are shown, and `?` for each that isn't a visible character of ASCII. It fails only for want of memory.
+/// first 64 bytes are shown, and `?` for each that isn't a visible character of ASCII. The second line is `  a line here may begin
+/// with: WORD, WORD`, of just those words with which some scenario's text goes on after the lines before the fault's, or `  no line
+/// may stand here`; a text that is too long has no second line. It fails only for want of memory.
 pub fn verdict(alloc: Global, file: &str, text: &[u8]) -> Result<Option<Vec<u8>>, NoMemory>
     ensures { IfOk result (λ told. IsVerdict file.now text.now (option_map (λ bytes. bytes.items) told)) }
 {
@@ -25,7 +29,8 @@ pub fn verdict(alloc: Global, file: &str, text: &[u8]) -> Result<Option<Vec<u8>>
         Err(AsmError::At { line, why }) => {
             let fault = TextFault { line, why };
             let place = place_of(alloc, text, fault)?;
-            let told = fault_line(alloc, file, fault, place)?;
+            let mut told = fault_line(alloc, file, fault, place)?;
+            push_offer(alloc, &mut told, text, fault)?;
             Ok(Some(told))
         }
         Err(AsmError::NoMemory) => Err(NoMemory),

@@ -116,7 +116,8 @@ Example:
   cmwq play scenarios/race.cmwq --capacity 100";
 
 const CHECK: &str = "\
-Prints a line for each file: `FILE: ok` on standard output, or on standard error where the text's first fault is and why it is one.
+Prints of each file: `FILE: ok` on standard output, or on standard error where the text's first fault is and why it is one, and in a
+second line the words that a line may begin with there, as `  a line here may begin with: queue, work, actor`.
 Each file is judged, whatever the others are, and the highest of their statuses is the command's.
 
 Exit status:

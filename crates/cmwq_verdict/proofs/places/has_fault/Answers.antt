@@ -1,7 +1,7 @@
-use Rattle.std.proofs.Common.{rules, Err, ℕ, List, ◌≡◌, false, true, ap, sym, ◌∙◌, subst}
+use Rattle.std.proofs.Common.{rules, Err, ◌≡◌, false, true, subst}
 use Rattle.cmwq_asm.specs.declared.fault.AsmError.TheVariants as asm
 use Rattle.cmwq_grammar.specs.FaultLaw.{IsFault}
-use Rattle.cmwq_grammar.specs.Meaning.{FaultAt, fault_at}
+use Rattle.cmwq_grammar.specs.Meaning.{FaultAt}
 use Rattle.cmwq_verdict.proofs.PlaceLemmas.{no_fault, only_fault}
 use Rattle.cmwq_verdict.proofs.places.has_fault.Goals as goal
 

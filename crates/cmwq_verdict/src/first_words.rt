@@ -1,0 +1,168 @@
+//! The words that lines begin with.
+ghost use Rattle.cmwq_grammar.specs.Instructions.{operands_of};
+ghost use Rattle.cmwq_grammar.specs.Offers.{has_named, words_of_next};
+ghost use Rattle.cmwq_types.specs.Listing.{word_if};
+ghost use Rattle.cmwq_types.specs.Mnemonics.{mnemonics, spelling};
+ghost use Rattle.cmwq_verdict.specs.Offers.{spelled};
+ghost use Rattle.std.specs.List.{filter};
+ghost use Rattle.std.specs.Prelude.{◌≡◌, ◌++◌, IfOk, OnOk, map};
+
+use cmwq_grammar::Next;
+use cmwq_types::{Mnemonic, NoMemory};
+use std::alloc::Global;
+
+/// The first word of a line.
+#[derive(Clone, Copy, Debug, PartialEq, Eq)]
+pub enum FirstWord {
+    Cpus,
+    Workers,
+    Steps,
+    Flushes,
+    Work,
+    Body,
+    Burn,
+    Sleep,
+    Finish,
+    Actor,
+    /// An instruction's word. A queue's line and an operation begin with one, `queue`.
+    Instruction(Mnemonic),
+}
+
+impl FirstWord {
+    /// How it is spelled.
+    pub fn as_bytes(self) -> &'static [u8]
+        ensures { result.now ≡ spelled self }
+    {
+        match self {
+            FirstWord::Cpus => b"cpus",
+            FirstWord::Workers => b"workers",
+            FirstWord::Steps => b"steps",
+            FirstWord::Flushes => b"flushes",
+            FirstWord::Work => b"work",
+            FirstWord::Body => b"body",
+            FirstWord::Burn => b"burn",
+            FirstWord::Sleep => b"sleep",
+            FirstWord::Finish => b"finish",
+            FirstWord::Actor => b"actor",
+            FirstWord::Instruction(mnemonic) => mnemonic.as_bytes(),
+        }
+    }
+}
+
+/// The words that such a line may begin with, in the order of the table. It fails only for want of memory.
+pub(crate) fn words_of(alloc: Global, next: Next) -> Result<Vec<FirstWord>, NoMemory>
+    ensures { IfOk result (λ words. map spelled words.items ≡ words_of_next next) }
+{
+    let mut words = Vec::new(alloc);
+    push_words(&mut words, next)?;
+    Ok(words)
+}
+
+/// Adds the words that such a line may begin with.
+fn push_words(words: &mut Vec<FirstWord>, next: Next) -> Result<(), NoMemory>
+    ensures { OnOk result (map spelled words.new.items ≡ map spelled words.old.items ++ words_of_next next) }
+{
+    match next {
+        Next::Cpus => push_if(words, true, FirstWord::Cpus),
+        Next::Workers => push_if(words, true, FirstWord::Workers),
+        Next::Steps => push_if(words, true, FirstWord::Steps),
+        Next::Flushes => push_if(words, true, FirstWord::Flushes),
+        Next::Declaration { room, queues } => push_declarations(words, room, queues),
+        Next::Work { room } => push_works(words, room),
+        Next::Body => push_if(words, true, FirstWord::Body),
+        Next::Actor => push_if(words, true, FirstWord::Actor),
+        Next::Operation { room } => push_operations(words, room),
+        Next::Instruction {
+            room,
+            works,
+            queues,
+            actor,
+        } => push_lines(words, room, works, queues, actor),
+    }
+}
+
+/// Adds the word where the test holds.
+fn push_if(words: &mut Vec<FirstWord>, holds: bool, word: FirstWord) -> Result<(), NoMemory>
+    ensures { OnOk result (map spelled words.new.items ≡ map spelled words.old.items ++ word_if holds (spelled word)) }
+{
+    if holds {
+        words.push(word)?;
+    }
+    Ok(())
+}
+
+/// Adds the words of declarations, and of the first actor.
+fn push_declarations(words: &mut Vec<FirstWord>, room: bool, queues: bool) -> Result<(), NoMemory>
+    ensures { OnOk result (map spelled words.new.items ≡ map spelled words.old.items ++ words_of_next (Next.Declaration room queues)) }
+{
+    push_if(words, room, FirstWord::Instruction(Mnemonic::Queue))?;
+    push_if(words, queues, FirstWord::Work)?;
+    push_if(words, true, FirstWord::Actor)
+}
+
+/// Adds the words of a further work, and of the first body.
+fn push_works(words: &mut Vec<FirstWord>, room: bool) -> Result<(), NoMemory>
+    ensures { OnOk result (map spelled words.new.items ≡ map spelled words.old.items ++ words_of_next (Next.Work room)) }
+{
+    push_if(words, room, FirstWord::Work)?;
+    push_if(words, true, FirstWord::Body)
+}
+
+/// Adds the words of operations.
+fn push_operations(words: &mut Vec<FirstWord>, room: bool) -> Result<(), NoMemory>
+    ensures { OnOk result (map spelled words.new.items ≡ map spelled words.old.items ++ words_of_next (Next.Operation room)) }
+{
+    push_if(words, room, FirstWord::Burn)?;
+    push_if(words, room, FirstWord::Sleep)?;
+    push_if(words, room, FirstWord::Instruction(Mnemonic::Queue))?;
+    push_if(words, true, FirstWord::Finish)
+}
+
+/// Adds the words of an actor's lines, and of a further actor.
+fn push_lines(
+    words: &mut Vec<FirstWord>,
+    room: bool,
+    works: bool,
+    queues: bool,
+    actor: bool,
+) -> Result<(), NoMemory>
+    ensures { OnOk result (map spelled words.new.items ≡ map spelled words.old.items ++ words_of_next (Next.Instruction room works queues actor)) }
+{
+    if room {
+        push_instructions(words, works, queues)?;
+    }
+    push_if(words, actor, FirstWord::Actor)
+}
+
+/// Adds the words of instructions, where there are works and queues or none.
+fn push_instructions(words: &mut Vec<FirstWord>, works: bool, queues: bool) -> Result<(), NoMemory>
+    ensures { OnOk result (map spelled words.new.items
+        ≡ map spelled words.old.items ++ map spelling (filter (λ mnemonic. has_named works queues (operands_of mnemonic)) mnemonics)) }
+{
+    let all = Mnemonic::all();
+    for mnemonic in all {
+        let has_named = has_named(*mnemonic, works, queues);
+        push_if(words, has_named, FirstWord::Instruction(*mnemonic))?;
+    }
+    Ok(())
+}
+
+/// Whether there is one of what the instruction's first operand names.
+fn has_named(mnemonic: Mnemonic, works: bool, queues: bool) -> bool
+    ensures { result ≡ has_named works queues (operands_of mnemonic) }
+{
+    match mnemonic {
+        Mnemonic::FlushQueue | Mnemonic::SetMax => queues,
+        Mnemonic::Freeze
+        | Mnemonic::Thaw
+        | Mnemonic::Fire
+        | Mnemonic::Step
+        | Mnemonic::Tick
+        | Mnemonic::Next
+        | Mnemonic::Ask
+        | Mnemonic::Busy
+        | Mnemonic::Pressure
+        | Mnemonic::Relief => true,
+        _ => works,
+    }
+}

@@ -1,0 +1,83 @@
+//! What may stand in a fault's place.
+ghost use Rattle.cmwq_grammar.specs.FaultLaw.{IsFault};
+ghost use Rattle.cmwq_grammar.specs.Meaning.{fault_at};
+ghost use Rattle.cmwq_grammar.specs.Offers.{words_of_next};
+ghost use Rattle.cmwq_grammar.specs.declared.next.Next.{Next};
+ghost use Rattle.cmwq_grammar.specs.declared.why.Why.{Why};
+ghost use Rattle.cmwq_verdict.specs.Offers.{IsNextAt, IsOffer, offer_line, spelled};
+ghost use Rattle.std.specs.List.{flat_map};
+ghost use Rattle.std.specs.Prelude.{◌≡◌, ◌≢◌, ◌++◌, ◌∷◌, ℕ, List, IfOk, OnOk, codes, map};
+
+use crate::first_words::{FirstWord, words_of};
+use crate::places::{TextFault, line_start};
+use cmwq_asm::{AsmError, next_after};
+use cmwq_types::NoMemory;
+use std::alloc::Global;
+
+/// The words that a line may begin with in the place of the text's first fault, which is in this line, counted from 1, or behind the
+/// last one: just those with which some scenario's text goes on after the lines before. It fails only for want of memory.
+pub fn next_words(alloc: Global, text: &[u8], line: u32) -> Result<Vec<FirstWord>, NoMemory>
+    requires line { line ≢ 0 }
+    requires fault { (why : Why) × IsFault text.now (fault_at line why) }
+    ensures { IfOk result (λ words. (next : Next) × IsNextAt text.now line next × (map spelled words.items ≡ words_of_next next)) }
+{
+    let start = line_start(text, line - 1);
+    let front = text.split_at(start).0;
+    match next_after(alloc, front) {
+        Ok(next) => words_of(alloc, next),
+        Err(AsmError::NoMemory) => Err(NoMemory),
+        Err(AsmError::At { .. }) => unreachable!(),
+    }
+}
+
+/// Writes what is said of the place of the text's first fault.
+pub(crate) fn push_offer(
+    alloc: Global,
+    told: &mut Vec<u8>,
+    text: &[u8],
+    fault: TextFault,
+) -> Result<(), NoMemory>
+    requires { IsFault text.now (fault_at fault.line fault.why) }
+    ensures { OnOk result ((offer : List ℕ) × IsOffer text.now (fault_at fault.line fault.why) offer × (told.new.items ≡ told.old.items ++ offer)) }
+{
+    if fault.line == 0 {
+        return Ok(());
+    }
+    let words = next_words(alloc, text, fault.line)?;
+    push_line(told, &words)
+}
+
+/// Writes the line that offers these words.
+fn push_line(told: &mut Vec<u8>, words: &[FirstWord]) -> Result<(), NoMemory>
+    ensures { OnOk result (told.new.items ≡ told.old.items ++ offer_line (map spelled words.now)) }
+{
+    match words {
+        [] => {
+            told.extend_from_slice(b"  no line may stand here\n")?;
+            Ok(())
+        }
+        [word, others @ ..] => push_some(told, *word, others),
+    }
+}
+
+/// Writes the line that offers this word and the others.
+fn push_some(told: &mut Vec<u8>, word: FirstWord, others: &[FirstWord]) -> Result<(), NoMemory>
+    ensures { OnOk result (told.new.items ≡ told.old.items ++ offer_line (spelled word ∷ map spelled others.now)) }
+{
+    told.extend_from_slice(b"  a line here may begin with: ")?;
+    told.extend_from_slice(word.as_bytes())?;
+    push_others(told, others)?;
+    told.push(b'\n')?;
+    Ok(())
+}
+
+/// Writes the words behind the first.
+fn push_others(told: &mut Vec<u8>, others: &[FirstWord]) -> Result<(), NoMemory>
+    ensures { OnOk result (told.new.items ≡ told.old.items ++ flat_map (λ other. codes ", " ++ other) (map spelled others.now)) }
+{
+    for other in others {
+        told.extend_from_slice(b", ")?;
+        told.extend_from_slice(other.as_bytes())?;
+    }
+    Ok(())
+}
