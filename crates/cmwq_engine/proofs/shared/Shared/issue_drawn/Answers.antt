@@ -1,4 +1,4 @@
-use Rattle.std.proofs.Common.{IfErr, IfOk, Result, subst}
+use Rattle.std.proofs.Common.{IfErr, IfOk, Result, refl, subst}
 use Rattle.cmwq_lock.specs.Tokens.{drawn_view, pass_view}
 use Rattle.cmwq_lock.specs.Views.{caller_of}
 use Rattle.cmwq_engine.specs.Issuing.{entry_of}
@@ -7,7 +7,6 @@ use Rattle.cmwq_engine.specs.declared.history.Full.{Full}
 use Rattle.cmwq_engine.specs.declared.kept.Receipt.{Receipt}
 use Rattle.cmwq_engine.proofs.IssueLemmas.{entered, found_full}
 use Rattle.cmwq_engine.proofs.shared.Shared.issue_drawn.Goals as goal
-use Rattle.std.proofs.Common.{refl}
 
 pub returns-in-Ok-clause-entered : goal.returns-in-Ok-clause-entered
 returns-in-Ok-clause-entered g c =
@@ -25,6 +24,8 @@ returns-in-Err-clause-full g c =
     let from = setting_of c.self.inside.lock in
     let was = drawn_view c.args.drawn in
     let is = pass_view c.take-pass.result.0 in
-    let told = found_full from c.args.instr turn.before was is c.take-pass.result.2 turn.both_grow turn.told in
-    (refl, subst (λ (shared : EngineLock). HasFoundFull (setting_of shared) was is) c.self.view_is
-    (subst (λ (outcome : Result Receipt Full). IfErr outcome (λ full. HasFoundFull from was is)) c.in-Err.is told))
+    let told = found_full from c.args.instr turn.before was is c.take-pass.result.2 turn.both_grow turn.told in (
+      refl,
+      subst (λ (shared : EngineLock). HasFoundFull (setting_of shared) was is) c.self.view_is
+          (subst (λ (outcome : Result Receipt Full). IfErr outcome (λ full. HasFoundFull from was is)) c.in-Err.is told),
+    )
