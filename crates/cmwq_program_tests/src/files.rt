@@ -104,7 +104,7 @@ fn a_check_tells_each_files_verdict(rt: HostRuntime) {
         cmwq_checks/b.cmwq:3:10: 65: Range\n  a line here may begin with: workers\n\
         cmwq_checks/c.cmwq:2:8: end of line: MissingWord\n  a line here may begin with: workers\n\
         cmwq_checks/d.cmwq:6:1: quue: BadWord\n  a line here may begin with: queue, work, actor\n\
-        cmwq_checks/e.cmwq:7:8: a: Unknown\n  a line here may begin with: flush_queue, set_max, freeze, thaw, fire, step, tick, next, ask, busy, actor\n";
+        cmwq_checks/e.cmwq:7:8: a: Unknown\n  a line here may begin with: flush_queue, set_max, freeze, thaw, fire, step, tick, next, ask, busy, pressure, relief, actor\n";
     same(&rt, "status", result, Ok(3));
     same(
         &rt,
