@@ -154,7 +154,12 @@ const LOOKED: [Looked; 4] = [
 fn check_look<M: Machine>(rt: &impl Abort, machine: &M, row: &Looked) {
     let view = whole_view(rt, machine);
     let limits = (view.frozen, view.pressed, view.max.first().copied());
-    same(rt, row.instrs, limits, (row.frozen, row.pressed, Some(row.max)));
+    same(
+        rt,
+        row.instrs,
+        limits,
+        (row.frozen, row.pressed, Some(row.max)),
+    );
     let counts = (view.pending.len(), view.flushes.len());
     same(rt, row.instrs, counts, (row.pending, row.flushes));
     let depth = view.depth.get(1).copied();
