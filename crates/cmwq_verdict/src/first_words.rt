@@ -139,7 +139,19 @@ fn push_instructions(words: &mut Vec<FirstWord>, works: bool, queues: bool) -> R
     ensures { OnOk result (map spelled words.new.items
         ≡ map spelled words.old.items ++ map spelling (filter (λ mnemonic. has_named works queues (operands_of mnemonic)) mnemonics)) }
 {
-    let all = Mnemonic::all();
+    push_named(words, Mnemonic::all(), works, queues)
+}
+
+/// Adds those of these words of instructions for which there is one of what the first operand names.
+fn push_named(
+    words: &mut Vec<FirstWord>,
+    all: &[Mnemonic],
+    works: bool,
+    queues: bool,
+) -> Result<(), NoMemory>
+    ensures { OnOk result (map spelled words.new.items
+        ≡ map spelled words.old.items ++ map spelling (filter (λ mnemonic. has_named works queues (operands_of mnemonic)) all.now)) }
+{
     for mnemonic in all {
         let has_named = has_named(*mnemonic, works, queues);
         push_if(words, has_named, FirstWord::Instruction(*mnemonic))?;
