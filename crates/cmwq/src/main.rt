@@ -1,9 +1,10 @@
 //! The program `cmwq`: words in, status out.
 #![tactic(auto)]
 
-use cmwq_command::{carry_out, fault, tell};
+use cmwq_command::{Look, carry_out, fault, tell};
 use cmwq_play::{Marked, PlayError};
 use cmwq_words::request;
+use std::io::IsTerminal;
 use std::process::ExitCode;
 use std::{env, io};
 
@@ -11,6 +12,7 @@ fn main(rt: HostRuntime) -> ExitCode {
     let outcome = match words(&rt) {
         Ok(Some(words)) => carry_out(
             &rt,
+            look(&rt),
             words.as_slice(),
             rt.stdin(),
             &mut Marked::new(rt.stdout()),
@@ -20,6 +22,15 @@ fn main(rt: HostRuntime) -> ExitCode {
         Err(error) => Err(error),
     };
     fault::end(&mut Marked::new(rt.stderr()), outcome)
+}
+
+/// How verdicts look on standard error.
+fn look(rt: &HostRuntime) -> Look {
+    if rt.stderr().is_terminal() {
+        Look::Terminal
+    } else {
+        Look::Plain
+    }
 }
 
 /// The words of the command line, or none where they aren't all text.

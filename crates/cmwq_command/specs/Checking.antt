@@ -3,6 +3,7 @@ use Rattle.std.specs.Prelude.{◌≡◌, ◌≤◌, ℕ, List, length, Bool, tru
 use Rattle.std.specs.Io.KnownBytes.{Appends, Consumes, Keeps}
 use Rattle.cmwq_types.specs.declared.limits.TheConstants.{MAX_TEXT}
 use Rattle.cmwq_verdict.specs.Verdicts.{IsVerdict, ok_line, read_line}
+use Rattle.cmwq_verdict.specs.declared.looks.Look.{Look}
 use Rattle.cmwq_command.specs.declared.checking.Judged.{Judged}
 use Rattle.cmwq_command.specs.declared.checking.Judged.TheVariants as judged
 
@@ -18,21 +19,21 @@ pub record HasRead (input left : Option (List ℕ)) (text : List ℕ) : Type 0 w
   pub whole : length text ≤ MAX_TEXT → IfSome input (λ all. all ≡ text)
 
 -- The file was judged so, and its verdict told: `ok` on the output, all else on the writer for faults.
-abbrev pub HasTold : (file : List ℕ) (input left : Option (List ℕ)) (has_failed : Bool) (output output_now errors errors_now : Option (List ℕ)) → Judged → Type 0
-HasTold file input left has_failed output output_now errors errors_now judged.Good =
-    ((text : List ℕ) × HasRead input left text × IsVerdict file text None) × Appends output output_now (ok_line file) × Keeps errors errors_now
-HasTold file input left has_failed output output_now errors errors_now judged.Faulty =
-    (text : List ℕ) × (told : List ℕ) × HasRead input left text × IsVerdict file text (Some told) × Keeps output output_now × Appends errors errors_now told
-HasTold file input left has_failed output output_now errors errors_now judged.Unread =
+abbrev pub HasTold : (look : Look) (file : List ℕ) (input left : Option (List ℕ)) (has_failed : Bool) (output output_now errors errors_now : Option (List ℕ)) → Judged → Type 0
+HasTold look file input left has_failed output output_now errors errors_now judged.Good =
+    ((text : List ℕ) × HasRead input left text × IsVerdict look file text None) × Appends output output_now (ok_line file) × Keeps errors errors_now
+HasTold look file input left has_failed output output_now errors errors_now judged.Faulty =
+    (text : List ℕ) × (told : List ℕ) × HasRead input left text × IsVerdict look file text (Some told) × Keeps output output_now × Appends errors errors_now told
+HasTold look file input left has_failed output output_now errors errors_now judged.Unread =
     (has_failed ≡ true) × Keeps output output_now × Appends errors errors_now (read_line file)
 
 -- the same of a file that has this text
-abbrev pub HasToldOf : (file text : List ℕ) (output output_now errors errors_now : Option (List ℕ)) → Judged → Type 0
-HasToldOf file text output output_now errors errors_now judged.Good =
-    IsVerdict file text None × Appends output output_now (ok_line file) × Keeps errors errors_now
-HasToldOf file text output output_now errors errors_now judged.Faulty =
-    (told : List ℕ) × IsVerdict file text (Some told) × Keeps output output_now × Appends errors errors_now told
-HasToldOf file text output output_now errors errors_now judged.Unread = ⊥
+abbrev pub HasToldOf : (look : Look) (file text : List ℕ) (output output_now errors errors_now : Option (List ℕ)) → Judged → Type 0
+HasToldOf look file text output output_now errors errors_now judged.Good =
+    IsVerdict look file text None × Appends output output_now (ok_line file) × Keeps errors errors_now
+HasToldOf look file text output output_now errors errors_now judged.Faulty =
+    (told : List ℕ) × IsVerdict look file text (Some told) × Keeps output output_now × Appends errors errors_now told
+HasToldOf look file text output output_now errors errors_now judged.Unread = ⊥
 
 -- it was told that the file can't be read
 abbrev pub IsToldOfUnread : (file : List ℕ) (errors errors_now : Option (List ℕ)) → Judged → Type 0

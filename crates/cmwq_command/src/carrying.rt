@@ -10,6 +10,7 @@ use crate::checking::{Judged, check_text, tell_unread};
 use crate::starting::{write_first, write_version};
 use crate::telling::{GOOD, tell};
 use cmwq_play::{Marked, OpenGate, PlayError, Sink};
+use cmwq_verdict::Look;
 use cmwq_words::request::{Request, parse};
 use std::fs::File;
 use std::io::Read;
@@ -20,9 +21,10 @@ use std::time::Clock;
 
 /// Does what the words ask, of which the first is the program's name, and gives the exit status. Commands of a
 /// debugger come from `input`. Events, listings, what a debugger says, what a play leaves, verdicts of good files, the version and
-/// help go to `output`, and other verdicts and usage faults to `errors`. A play may wait forever.
+/// help go to `output`, and other verdicts, which look as they are to, and usage faults to `errors`. A play may wait forever.
 pub fn carry_out<R, I: Read + Drop, O: Sink, E: Sink>(
     rt: &R,
+    look: Look,
     words: &[String],
     input: I,
     output: &mut O,
@@ -37,7 +39,7 @@ where
         → Prints version_line (O.contents output.old) (O.contents output.new) result }
 {
     match parse(rt.alloc(), words) {
-        Ok(request) => answer(rt, input, output, errors, request),
+        Ok(request) => answer(rt, look, input, output, errors, request),
         Err(error) => tell(rt.alloc(), output, errors, error.kind(), &error),
     }
 }
@@ -46,6 +48,7 @@ where
 /// says, what a play leaves, verdicts of good files and the version go to `output`, and other verdicts to `errors`.
 pub fn answer<R, I: Read + Drop, O: Sink, E: Sink>(
     rt: &R,
+    look: Look,
     input: I,
     output: &mut O,
     errors: &mut E,
@@ -66,7 +69,7 @@ where
         Request::Show { image } => good(show(rt, output, image)),
         Request::Debug { file } => good(debug(rt, input, output, file)),
         Request::Play { file, capacity } => good(play(rt, output, file, capacity)),
-        Request::Check { files } => check(rt, output, errors, &files),
+        Request::Check { files } => check(rt, look, output, errors, &files),
         Request::Version => good(write_version(rt.alloc(), output)),
     }
 }
@@ -82,6 +85,7 @@ fn good(outcome: Result<(), PlayError>) -> Result<u8, PlayError>
 /// Tells the verdict of each of these files, one after another, and gives the highest of their statuses.
 fn check<R: Files + AllocGlobal, O: Sink, E: Sink>(
     rt: &R,
+    look: Look,
     output: &mut O,
     errors: &mut E,
     files: &[&str],
@@ -91,7 +95,7 @@ fn check<R: Files + AllocGlobal, O: Sink, E: Sink>(
 {
     let mut status = GOOD;
     for file in files {
-        let judged = check_file(rt, output, errors, file)?;
+        let judged = check_file(rt, look, output, errors, file)?;
         status = status.max(judged.status());
     }
     Ok(status)
@@ -100,6 +104,7 @@ fn check<R: Files + AllocGlobal, O: Sink, E: Sink>(
 /// Tells the verdict of the file.
 fn check_file<R: Files + AllocGlobal, O: Sink, E: Sink>(
     rt: &R,
+    look: Look,
     output: &mut O,
     errors: &mut E,
     file: &str,
@@ -110,7 +115,7 @@ fn check_file<R: Files + AllocGlobal, O: Sink, E: Sink>(
     ensures errors { OnOk result (E.failed errors.new ≡ false) }
 {
     match opened(rt, file) {
-        Ok(mut reader) => check_text(rt.alloc(), file, &mut reader, output, errors),
+        Ok(mut reader) => check_text(rt.alloc(), look, file, &mut reader, output, errors),
         Err(_) => tell_unread(rt.alloc(), file, errors),
     }
 }

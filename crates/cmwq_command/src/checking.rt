@@ -7,7 +7,7 @@ ghost use Rattle.std.specs.Io.KnownBytes.{Appends};
 ghost use Rattle.std.specs.Prelude.{◌≡◌, IfErr, IfOk, OnOk, false};
 
 use cmwq_play::{PlayError, Sink, Source, put_all, read_whole};
-use cmwq_verdict::{ok_line, read_line, verdict};
+use cmwq_verdict::{Look, ok_line, read_line, verdict};
 use std::alloc::Global;
 
 /// How a file was judged.
@@ -34,12 +34,13 @@ impl Judged {
     }
 }
 
-/// Reads the text of this file and tells its verdict: `FILE: ok` on `output`, or on `errors` the line of its first fault, or
-/// `FILE: read` where the reader fails. Each goes out by one call of a writer that takes all of it.
+/// Reads the text of this file and tells its verdict: `FILE: ok` on `output`, or on `errors` what is said of its first fault, as it is to
+/// look, or `FILE: read` where the reader fails. Each goes out by one call of a writer that takes all of it.
 ///
 /// At most one byte more is read than the 4,194,304 that a text may have. The error is `Write` or `NoMemory`.
 pub fn check_text<R: Source, O: Sink, E: Sink>(
     alloc: Global,
+    look: Look,
     file: &str,
     reader: &mut R,
     output: &mut O,
@@ -48,7 +49,7 @@ pub fn check_text<R: Source, O: Sink, E: Sink>(
     requires reader { R.failed reader.old ≡ false }
     requires output { O.failed output.old ≡ false }
     requires errors { E.failed errors.old ≡ false }
-    ensures told { IfOk result (λ judged. HasTold file.now (R.remaining reader.old) (R.remaining reader.new) (R.failed reader.new)
+    ensures told { IfOk result (λ judged. HasTold look file.now (R.remaining reader.old) (R.remaining reader.new) (R.failed reader.new)
         (O.contents output.old) (O.contents output.new) (E.contents errors.old) (E.contents errors.new) judged) }
     ensures output { OnOk result (O.failed output.new ≡ false) }
     ensures errors { OnOk result (E.failed errors.new ≡ false) }
@@ -59,12 +60,13 @@ pub fn check_text<R: Source, O: Sink, E: Sink>(
         Err(PlayError::Read) => return tell_unread(alloc, file, errors),
         Err(_) => return Err(PlayError::NoMemory),
     };
-    tell_verdict(alloc, file, &text, output, errors)
+    tell_verdict(alloc, look, file, &text, output, errors)
 }
 
 /// Tells the verdict of the file that has this text. The error is `Write` or `NoMemory`.
 fn tell_verdict<O: Sink, E: Sink>(
     alloc: Global,
+    look: Look,
     file: &str,
     text: &[u8],
     output: &mut O,
@@ -72,13 +74,13 @@ fn tell_verdict<O: Sink, E: Sink>(
 ) -> Result<Judged, PlayError>
     requires output { O.failed output.old ≡ false }
     requires errors { E.failed errors.old ≡ false }
-    ensures told { IfOk result (λ judged. HasToldOf file.now text.now
+    ensures told { IfOk result (λ judged. HasToldOf look file.now text.now
         (O.contents output.old) (O.contents output.new) (E.contents errors.old) (E.contents errors.new) judged) }
     ensures output { OnOk result (O.failed output.new ≡ false) }
     ensures errors { OnOk result (E.failed errors.new ≡ false) }
     ensures why { IfErr result (λ error. IsSendError error) }
 {
-    match verdict(alloc, file, text)? {
+    match verdict(alloc, look, file, text)? {
         None => tell_good(alloc, file, output),
         Some(told) => {
             put_all(errors, &told)?;

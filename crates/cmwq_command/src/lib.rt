@@ -9,5 +9,6 @@ mod telling;
 
 pub use carrying::{answer, carry_out};
 pub use checking::{Judged, check_text};
+pub use cmwq_verdict::Look;
 pub use starting::{write_first, write_version};
 pub use telling::tell;

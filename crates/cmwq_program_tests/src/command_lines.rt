@@ -1,7 +1,7 @@
 //! Command lines: the requests that they are, and help and usage faults.
 use crate::checking::same;
 use clap::error::ErrorKind;
-use cmwq_command::{carry_out, tell};
+use cmwq_command::{Look, carry_out, tell};
 use cmwq_machine_tests::streams::{Output, reading_of, writing_to};
 use cmwq_play::Marked;
 use cmwq_words::request::{Request, not_text, parse};
@@ -202,6 +202,7 @@ fn check_told<R: Files + AllocGlobal + Threads + Wait + Clock + Sync + Abort>(
     let mut errors = Marked::new(writing_to(rt.alloc(), 4096));
     let result = carry_out(
         rt,
+        Look::Plain,
         given.as_slice(),
         reading_of(b"", 1),
         &mut output,

@@ -3,7 +3,7 @@ ghost use Rattle.cmwq_words.specs.Request.{IsWithin};
 
 use crate::checking::same;
 use cmwq_asm::AsmError;
-use cmwq_command::answer;
+use cmwq_command::{Look, answer};
 use cmwq_first::first_text;
 use cmwq_grammar::Why;
 use cmwq_image::ImageError;
@@ -61,7 +61,7 @@ fn check_talk<R: Files + AllocGlobal + Threads + Wait + Clock + Sync + Abort>(
     let mut output = Marked::new(Vec::new(rt.alloc()));
     let mut errors = Marked::new(Vec::new(rt.alloc()));
     let input = reading_of(commands, 4096);
-    let result = answer(rt, input, &mut output, &mut errors, request);
+    let result = answer(rt, Look::Plain, input, &mut output, &mut errors, request);
     same(rt, printed, result, want.map(|()| 0));
     same(rt, printed, output.inner.as_slice(), printed);
     same(rt, printed, errors.inner.as_slice(), b"".as_slice());
@@ -77,7 +77,7 @@ const CHECKED: [(&str, &[u8]); 5] = [
         "cmwq_checks/b.cmwq",
         b"cpus 1\n# 65\nworkers\t 65 # too many\n",
     ),
-    ("cmwq_checks/c.cmwq", b"cpus 1\r\nworkers\n"),
+    ("cmwq_checks/c.cmwq", b"cpus 1\r\nworkers\r\n"),
     (
         "cmwq_checks/d.cmwq",
         b"cpus 1\nworkers 1\nsteps 1\nflushes 0\nqueue q max 1\nquue",
@@ -88,32 +88,49 @@ const CHECKED: [(&str, &[u8]); 5] = [
     ),
 ];
 
+/// What is told of them, and of one that isn't there.
+const VERDICTS: &[u8] = b"cmwq_checks/none.cmwq: read\n\
+    cmwq_checks/b.cmwq:3:10: 65: Range\n  a line here may begin with: workers\n\
+    cmwq_checks/c.cmwq:2:8: end of line: MissingWord\n  a line here may begin with: workers\n\
+    cmwq_checks/d.cmwq:6:1: quue: BadWord\n  a line here may begin with: queue, work, actor\n\
+    cmwq_checks/e.cmwq:7:8: a: Unknown\n  a line here may begin with: flush_queue, set_max, freeze, thaw, fire, step, tick, next, ask, busy, pressure, relief, actor\n";
+
+/// The same at a terminal.
+const SHOWN: &[u8] = b"cmwq_checks/none.cmwq: read\n\
+    cmwq_checks/b.cmwq:3:10: 65: \x1b[1;31mRange\x1b[0m\n  workers\t 65 # too many\n         \t ^\n  a line here may begin with: workers\n\
+    cmwq_checks/c.cmwq:2:8: end of line: \x1b[1;31mMissingWord\x1b[0m\n  workers \n         ^\n  a line here may begin with: workers\n\
+    cmwq_checks/d.cmwq:6:1: quue: \x1b[1;31mBadWord\x1b[0m\n  quue\n  ^\n  a line here may begin with: queue, work, actor\n\
+    cmwq_checks/e.cmwq:7:8: a: \x1b[1;31mUnknown\x1b[0m\n  cancel a\n         ^\n  a line here may begin with: flush_queue, set_max, freeze, thaw, fire, step, tick, next, ask, busy, pressure, relief, actor\n";
+
 #[test]
 fn a_check_tells_each_files_verdict(rt: HostRuntime) {
     make_folder(&rt, "cmwq_checks");
-    let mut files = vec![in rt.alloc(); "cmwq_checks/none.cmwq"].expect(&rt, "memory is left");
     for (file, text) in CHECKED {
         put_file(&rt, file, text);
-        files.push(file).expect(&rt, "memory is left");
+    }
+    check_verdicts(&rt, Look::Plain, VERDICTS);
+    check_verdicts(&rt, Look::Terminal, SHOWN);
+    let _ = fs::remove_dir_all(&rt, "cmwq_checks");
+}
+
+/// Compares what is told of the files, and of one that isn't there.
+fn check_verdicts<R: Files + AllocGlobal + Threads + Wait + Clock + Sync + Abort>(
+    rt: &R,
+    look: Look,
+    told: &[u8],
+) {
+    let mut files = vec![in rt.alloc(); "cmwq_checks/none.cmwq"].expect(rt, "memory is left");
+    for (file, _) in CHECKED {
+        files.push(file).expect(rt, "memory is left");
     }
     let mut output = Marked::new(Vec::new(rt.alloc()));
     let mut errors = Marked::new(Vec::new(rt.alloc()));
     let request = Request::Check { files };
-    let result = answer(&rt, reading_of(b"", 1), &mut output, &mut errors, request);
-    let told: &[u8] = b"cmwq_checks/none.cmwq: read\n\
-        cmwq_checks/b.cmwq:3:10: 65: Range\n  a line here may begin with: workers\n\
-        cmwq_checks/c.cmwq:2:8: end of line: MissingWord\n  a line here may begin with: workers\n\
-        cmwq_checks/d.cmwq:6:1: quue: BadWord\n  a line here may begin with: queue, work, actor\n\
-        cmwq_checks/e.cmwq:7:8: a: Unknown\n  a line here may begin with: flush_queue, set_max, freeze, thaw, fire, step, tick, next, ask, busy, pressure, relief, actor\n";
-    same(&rt, "status", result, Ok(3));
-    same(
-        &rt,
-        "output",
-        output.inner.as_slice(),
-        b"cmwq_checks/a.cmwq: ok\n".as_slice(),
-    );
-    same(&rt, "errors", errors.inner.as_slice(), told);
-    let _ = fs::remove_dir_all(&rt, "cmwq_checks");
+    let result = answer(rt, look, reading_of(b"", 1), &mut output, &mut errors, request);
+    let good: &[u8] = b"cmwq_checks/a.cmwq: ok\n";
+    same(rt, "status", result, Ok(3));
+    same(rt, "output", output.inner.as_slice(), good);
+    same(rt, "errors", errors.inner.as_slice(), told);
 }
 
 #[test]

@@ -26,8 +26,8 @@ within part word stands =
     let column : word.column ≡ length stands.front + 1 = stands.column in
     (omega arith, omega arith)
 
-pub short_front : (word : List ℕ) → length word ≤ 64 → take 64 word ≡ word
-short_front word short = take_all 64 word short
+pub short_front : (word : List ℕ) (most : ℕ) → length word ≤ most → take most word ≡ word
+short_front word most short = take_all most word short
 
 abbrev Tells : List ℕ → Result ScenarioContents AsmError → Type 0
 Tells text r = (fault : FaultAt) → IsFault text fault → MatchResult r (λ s. ⊥) (λ e. (e ≡ asm.At fault.line fault.why) ⊎ (e ≡ asm.NoMemory))

@@ -1,3 +1,4 @@
+pub mod Looks
 pub mod Names
 pub mod Offers
 pub mod Places

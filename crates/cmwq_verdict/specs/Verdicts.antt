@@ -6,9 +6,10 @@ use Rattle.cmwq_types.specs.Faults.{within}
 use Rattle.cmwq_grammar.specs.FaultLaw.{IsFault}
 use Rattle.cmwq_grammar.specs.Grammar.{Spells}
 use Rattle.cmwq_grammar.specs.Meaning.{FaultAt}
-use Rattle.cmwq_verdict.specs.Names.{why_name}
+use Rattle.cmwq_verdict.specs.Looks.{pointer, why_words}
 use Rattle.cmwq_verdict.specs.Offers.{IsOffer}
 use Rattle.cmwq_verdict.specs.Places.{IsPlace}
+use Rattle.cmwq_verdict.specs.declared.looks.Look.{Look}
 use Rattle.cmwq_verdict.specs.declared.places.Place.{Place}
 use Rattle.cmwq_verdict.specs.declared.places.Place.TheVariants as place
 
@@ -36,9 +37,9 @@ subject_of (place.EndOfLine column) = codes "end of line"
 subject_of (place.Word column bytes) = shown bytes.now
 
 -- `FILE:LINE:COLUMN: WORD: WHY`
-abbrev pub fault_line : List ℕ → FaultAt → Place → List ℕ
-fault_line file fault place =
-    file ++ 58 ∷ decimal fault.line ++ 58 ∷ decimal (column_of place) ++ codes ": " ++ subject_of place ++ codes ": " ++ why_name fault.why ++ 10 ∷ []
+abbrev pub fault_line : Look → List ℕ → FaultAt → Place → List ℕ
+fault_line look file fault place =
+    file ++ 58 ∷ decimal fault.line ++ 58 ∷ decimal (column_of place) ++ codes ": " ++ subject_of place ++ codes ": " ++ why_words look fault.why ++ 10 ∷ []
 
 -- `FILE: ok`, and what is said of a file that can't be read
 abbrev pub ok_line : List ℕ → List ℕ
@@ -49,8 +50,8 @@ read_line file = file ++ codes ": read" ++ 10 ∷ []
 
 -- this is said of the text of a file: nothing where it spells a scenario, and else its first fault, where that is seen, and what may
 -- stand there
-abbrev pub IsVerdict : List ℕ → List ℕ → Option (List ℕ) → Type 0
-IsVerdict file text None = (S : ScenarioContents) × Spells text S
-IsVerdict file text (Some told) =
+abbrev pub IsVerdict : Look → List ℕ → List ℕ → Option (List ℕ) → Type 0
+IsVerdict look file text None = (S : ScenarioContents) × Spells text S
+IsVerdict look file text (Some told) =
     (fault : FaultAt) × (place : Place) × (offer : List ℕ) × IsFault text fault × IsPlace text fault place × IsOffer text fault offer
-    × (told ≡ fault_line file fault place ++ offer)
+    × (told ≡ fault_line look file fault place ++ pointer look text fault (column_of place) ++ offer)

@@ -126,7 +126,7 @@ pub(crate) fn line_start(text: &[u8], n: u32) -> usize
 }
 
 /// What stands from this place on.
-fn rest_from(text: &[u8], start: usize) -> &[u8]
+pub(crate) fn rest_from(text: &[u8], start: usize) -> &[u8]
     requires { start ≤ length text.now }
     ensures { result.now ≡ drop start text.now }
 {

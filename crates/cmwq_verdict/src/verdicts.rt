@@ -4,7 +4,7 @@ ghost use Rattle.cmwq_verdict.specs.Verdicts.{IsVerdict, column_of, fault_line, 
 ghost use Rattle.std.specs.Fmt.{decimal};
 ghost use Rattle.std.specs.Prelude.{◌≡◌, ◌++◌, ◌∷◌, [], IfOk, OnOk, option_map, take};
 
-use crate::names::why_name;
+use crate::looks::{Look, front_of, push_pointer, push_why};
 use crate::offers::push_offer;
 use crate::places::{Place, TextFault, place_of};
 use cmwq_asm::{AsmError, assemble};
@@ -20,16 +20,23 @@ use std::alloc::Global;
 /// line`, or `end of text`, for a line in which no word is at fault `line`, and for a text that is too long `text`. Of a word the
 /// first 64 bytes are shown, and `?` for each that isn't a visible character of ASCII. The second line is `  a line here may begin
 /// with: WORD, WORD`, of just those words with which some scenario's text goes on after the lines before the fault's, or `  no line
-/// may stand here`; a text that is too long has no second line. It fails only for want of memory.
-pub fn verdict(alloc: Global, file: &str, text: &[u8]) -> Result<Option<Vec<u8>>, NoMemory>
-    ensures { IfOk result (λ told. IsVerdict file.now text.now (option_map (λ bytes. bytes.items) told)) }
+/// may stand here`; a text that is too long has no second line. As a terminal shows it, the reason is red, and between the two stands
+/// the fault's line, its first 100 bytes, with a caret below the column where that is among them. It fails only for want of memory.
+pub fn verdict(
+    alloc: Global,
+    look: Look,
+    file: &str,
+    text: &[u8],
+) -> Result<Option<Vec<u8>>, NoMemory>
+    ensures { IfOk result (λ told. IsVerdict look file.now text.now (option_map (λ bytes. bytes.items) told)) }
 {
     match assemble(alloc, text) {
         Ok(_) => Ok(None),
         Err(AsmError::At { line, why }) => {
             let fault = TextFault { line, why };
             let place = place_of(alloc, text, fault)?;
-            let mut told = fault_line(alloc, file, fault, place)?;
+            let mut told = fault_line(alloc, look, file, fault, place)?;
+            push_pointer(&mut told, look, text, fault, column_of(place))?;
             push_offer(alloc, &mut told, text, fault)?;
             Ok(Some(told))
         }
@@ -60,11 +67,12 @@ pub fn read_line(alloc: Global, file: &str) -> Result<Vec<u8>, NoMemory>
 /// The line that tells a fault, and where it is seen.
 fn fault_line(
     alloc: Global,
+    look: Look,
     file: &str,
     fault: TextFault,
     place: Place<'_>,
 ) -> Result<Vec<u8>, NoMemory>
-    ensures { IfOk result (λ told. told.items ≡ fault_line file.now (fault_at fault.line fault.why) place.entry) }
+    ensures { IfOk result (λ told. told.items ≡ fault_line look file.now (fault_at fault.line fault.why) place.entry) }
 {
     let mut told = Vec::new(alloc);
     told.extend_from_slice(file.as_bytes())?;
@@ -73,7 +81,7 @@ fn fault_line(
     told.extend_from_slice(b": ")?;
     push_subject(&mut told, place)?;
     told.extend_from_slice(b": ")?;
-    told.extend_from_slice(why_name(fault.why).as_bytes())?;
+    push_why(&mut told, look, fault.why)?;
     told.push(b'\n')?;
     Ok(told)
 }
@@ -117,23 +125,11 @@ fn push_subject(told: &mut Vec<u8>, place: Place<'_>) -> Result<(), NoMemory>
 fn push_shown(told: &mut Vec<u8>, word: &[u8]) -> Result<(), NoMemory>
     ensures { OnOk result (told.new.items ≡ told.old.items ++ shown word.now) }
 {
-    let front = front_of(word);
+    let front = front_of(word, 64);
     for byte in front {
         told.push(visible(*byte))?;
     }
     Ok(())
-}
-
-/// The part of the word that is shown.
-#[tactic(auto, using(crate::proofs::PlaceLemmas::short_front))]
-fn front_of(word: &[u8]) -> &[u8]
-    ensures { result.now ≡ take 64 word.now }
-{
-    if word.len() > 64 {
-        word.split_at(64).0
-    } else {
-        word
-    }
 }
 
 /// The byte, or `?` where it isn't a visible character of ASCII.

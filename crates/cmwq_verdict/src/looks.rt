@@ -1,0 +1,126 @@
+//! How a verdict looks.
+ghost use Rattle.cmwq_grammar.specs.Cutting.{lines_of};
+ghost use Rattle.cmwq_grammar.specs.Meaning.{fault_at};
+ghost use Rattle.cmwq_verdict.specs.Looks.{blank, pointed, pointer, seen, why_words};
+ghost use Rattle.std.specs.Prelude.{◌≡◌, ◌++◌, ◌∷◌, OnOk, codes, map, take};
+
+use crate::names::why_name;
+use crate::places::{TextFault, line_start, rest_from};
+use cmwq_grammar::Why;
+use cmwq_scan::next_line;
+use cmwq_types::NoMemory;
+
+/// How a verdict looks.
+#[derive(Clone, Copy, Debug, PartialEq, Eq)]
+pub enum Look {
+    /// As plain bytes, for files and editors.
+    Plain,
+    /// As a terminal shows it: the reason in red, and the fault's line with a caret below the column.
+    Terminal,
+}
+
+/// Writes why the text has a fault.
+pub(crate) fn push_why(told: &mut Vec<u8>, look: Look, why: Why) -> Result<(), NoMemory>
+    ensures { OnOk result (told.new.items ≡ told.old.items ++ why_words look why) }
+{
+    match look {
+        Look::Plain => told.extend_from_slice(why_name(why).as_bytes())?,
+        Look::Terminal => push_red(told, why_name(why).as_bytes())?,
+    }
+    Ok(())
+}
+
+/// Writes the word in red.
+fn push_red(told: &mut Vec<u8>, word: &[u8]) -> Result<(), NoMemory>
+    ensures { OnOk result (told.new.items ≡ told.old.items ++ (27 ∷ codes "[1;31m") ++ word.now ++ 27 ∷ codes "[0m") }
+{
+    told.extend_from_slice(b"\x1b[1;31m")?;
+    told.extend_from_slice(word)?;
+    told.extend_from_slice(b"\x1b[0m")?;
+    Ok(())
+}
+
+/// Writes what points at a column of the fault's line.
+pub(crate) fn push_pointer(
+    told: &mut Vec<u8>,
+    look: Look,
+    text: &[u8],
+    fault: TextFault,
+    column: usize,
+) -> Result<(), NoMemory>
+    ensures { OnOk result (told.new.items ≡ told.old.items ++ pointer look text.now (fault_at fault.line fault.why) column) }
+{
+    if look == Look::Plain || fault.line == 0 {
+        return Ok(());
+    }
+    let start = line_start(text, fault.line - 1);
+    match next_line(rest_from(text, start)) {
+        Some((line, _)) => push_pointed(told, line, column),
+        None => Ok(()),
+    }
+}
+
+/// Writes the line, and a caret below the column.
+fn push_pointed(told: &mut Vec<u8>, line: &[u8], column: usize) -> Result<(), NoMemory>
+    ensures { OnOk result (told.new.items ≡ told.old.items ++ pointed line.now column) }
+{
+    if column > 100 {
+        return Ok(());
+    }
+    told.extend_from_slice(b"  ")?;
+    push_seen(told, front_of(line, 100))?;
+    told.extend_from_slice(b"\n  ")?;
+    push_blanks(told, front_of(line, column.saturating_sub(1)))?;
+    told.extend_from_slice(b"^\n")?;
+    Ok(())
+}
+
+/// Writes the bytes as they are shown.
+fn push_seen(told: &mut Vec<u8>, bytes: &[u8]) -> Result<(), NoMemory>
+    ensures { OnOk result (told.new.items ≡ told.old.items ++ map seen bytes.now) }
+{
+    for byte in bytes {
+        told.push(seen(*byte))?;
+    }
+    Ok(())
+}
+
+/// Writes blanks as wide as these bytes.
+fn push_blanks(told: &mut Vec<u8>, bytes: &[u8]) -> Result<(), NoMemory>
+    ensures { OnOk result (told.new.items ≡ told.old.items ++ map blank bytes.now) }
+{
+    for byte in bytes {
+        told.push(blank(*byte))?;
+    }
+    Ok(())
+}
+
+/// The byte, or `?` where it can't be seen; a tab stays one, and a carriage return is a blank.
+fn seen(byte: u8) -> u8
+    ensures { result ≡ seen byte }
+{
+    match byte {
+        b'\t' | 32..=126 => byte,
+        b'\r' => b' ',
+        _ => b'?',
+    }
+}
+
+/// A blank as wide as the byte.
+fn blank(byte: u8) -> u8
+    ensures { result ≡ blank byte }
+{
+    if byte == b'\t' { byte } else { b' ' }
+}
+
+/// The bytes, up to so many.
+#[tactic(auto, using(crate::proofs::PlaceLemmas::short_front))]
+pub(crate) fn front_of(bytes: &[u8], most: usize) -> &[u8]
+    ensures { result.now ≡ take most bytes.now }
+{
+    if bytes.len() > most {
+        bytes.split_at(most).0
+    } else {
+        bytes
+    }
+}
