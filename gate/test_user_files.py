@@ -8,6 +8,7 @@ import re
 import shutil
 import subprocess
 import sys
+import tempfile
 
 TOP = os.path.dirname(os.path.dirname(os.path.realpath(__file__)))
 PAGES = ["man/cmwq.1", "man/cmwq-scenario.5"]
@@ -61,6 +62,24 @@ def version_faults(program):
     if program and said(program, "--version") != f"cmwq {version[1]} ({version[2]})\n":
         faults.append("the program's version isn't that of help.rt")
     return faults
+
+
+def terminal_faults(program):
+    """A verdict is red where standard error is a terminal, with a caret, and plain where it isn't."""
+    if not program:
+        return []
+    with tempfile.NamedTemporaryFile(suffix=".cmwq") as file:
+        file.write(b"cpus 1\nworkers 65\n")
+        file.flush()
+        first, last = f"{file.name}:2:9: 65: ", "\n  a line here may begin with: workers\n"
+        ours, theirs = os.openpty()
+        with open(ours, "rb", buffering=0) as screen:
+            subprocess.run([program, "check", file.name], stderr=theirs, timeout=60)
+            os.close(theirs)
+            shown = screen.read(4096).decode().replace("\r\n", "\n")
+        found = {"a file": said(program, "check", file.name), "a terminal": shown}
+    wanted = {"a file": first + "Range" + last, "a terminal": first + "\x1b[1;31mRange\x1b[0m\n  workers 65\n          ^" + last}
+    return [f"check says {found[where]!r} to {where}" for where in wanted if found[where] != wanted[where]]
 
 
 def help_faults(program, commands):
@@ -136,7 +155,7 @@ def main(program=None):
     assert len(commands) >= 6
     faults = [fault for path in [PAGES[1], *GRAMMARS] for fault in lacks(path, scenario)]
     faults += [fault for path in [PAGES[0], *COMPLETIONS.values()] for fault in lacks(path, commands)]
-    faults += page_faults() + version_faults(program) + help_faults(program, commands) + completion_faults(commands) + grammar_faults()
+    faults += page_faults() + version_faults(program) + help_faults(program, commands) + terminal_faults(program) + completion_faults(commands) + grammar_faults()
     print("".join(f"user files: {fault}\n" for fault in faults), end="")
     print(f"user files: {len(scenario)} words and {len(commands)} commands compared, {len(faults)} faults")
     return 1 if faults else 0
