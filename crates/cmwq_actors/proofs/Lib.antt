@@ -3,5 +3,4 @@ mod FrontLemmas
 mod IssueLemmas
 mod PlayedLemmas
 mod RestLemmas
-mod TokenLemmas
 mod ValidLemmas

@@ -2,15 +2,19 @@
 ghost use Rattle.std.specs.Prelude.{◌≡◌, ◌≤◌, IfOk};
 ghost use Rattle.cmwq_types.specs.Faults.{IsValid};
 ghost use Rattle.cmwq_types.specs.declared.limits.TheConstants.{MAX_HISTORY};
+ghost use Rattle.cmwq_lock.specs.Rule.{opening_view};
+ghost use Rattle.cmwq_lock.specs.Tokens.{opener_view};
 ghost use Rattle.cmwq_engine.specs.Engine.{IsSound};
+ghost use Rattle.cmwq_engine.specs.Shared.{IsOpenerOf, setting_of};
 ghost use Rattle.cmwq_actors.specs.Ending.{AllHaveEnded, EachHasEnded, ending_of};
 ghost use Rattle.cmwq_actors.specs.Interleaving.{scripts_of};
 
 use crate::ending::{Ending, any_exhausted, any_full};
 use crate::gate::Gate;
 use crate::part::Stage;
+use crate::threads::room_for;
 use cmwq_engine::{Engine, Shared};
-use cmwq_lock::Kept;
+use cmwq_lock::{Kept, Opener};
 use cmwq_table::{LoadError, Machine};
 use cmwq_types::{NoMemory, Scenario};
 use std::alloc::Global;
@@ -70,26 +74,41 @@ pub fn enact<'x, R: Threads + Wait + Clock + Sync, M: Machine + Send, G: Gate>(
     ensures all { IfOk result
         (λ r. AllHaveEnded (scripts_of scenario.now) capacity r.engine.history (ending_of r.endings.items)) }
 {
-    let (shared, opener) = match Shared::open(alloc, scenario, capacity) {
-        Ok(opened) => opened,
-        Err(LoadError::NoMemory) => return Err(NoMemory),
-        Err(LoadError::Fault(_)) => unreachable!(),
-    };
+    let (shared, opener) = open(alloc, scenario, capacity)?;
     let count = scenario.actors.len();
-    let threads = Vec::with_capacity(alloc, count)?;
-    let endings = Vec::with_capacity(alloc, count)?;
+    let room = room_for(alloc, count)?;
     let stage = Stage {
         rt,
         gate,
         shared,
         begin: OnceLock::new(),
     };
-    let (opener, endings) = stage.perform(opener, &scenario.actors, threads, endings);
+    let (opener, endings) = stage.perform(opener, &scenario.actors, room);
     if endings.len() < count {
         return Err(NoMemory);
     }
     match stage.shared.close(opener) {
         Ok(engine) => Ok(Enactment { engine, endings }),
         Err(_) => unreachable!(),
+    }
+}
+
+/// The shared engine of a valid scenario, which can only lack memory.
+fn open<M: Machine>(
+    alloc: Global,
+    scenario: &Scenario,
+    capacity: u32,
+) -> Result<(Shared<M>, Opener<Engine<M>>), NoMemory>
+    requires valid { IsValid scenario.now }
+    requires few { capacity ≤ MAX_HISTORY }
+    ensures setting { IfOk result
+        (λ r. setting_of r.0 ≡ record { scenario = scenario.now; capacity = capacity }) }
+    ensures opener { IfOk result (λ r. IsOpenerOf r.0 r.1) }
+    ensures opening { IfOk result (λ r. opener_view r.1 ≡ opening_view (setting_of r.0)) }
+{
+    match Shared::open(alloc, scenario, capacity) {
+        Ok(opened) => Ok(opened),
+        Err(LoadError::NoMemory) => Err(NoMemory),
+        Err(LoadError::Fault(_)) => unreachable!(),
     }
 }

@@ -1,10 +1,10 @@
 //! A thread for each actor.
-ghost use Rattle.std.specs.Prelude.{◌≡◌, ℕ, ◌<◌, ◌≤◌, [], Some, length, slice_index_or, vec_capacity, vec_len};
+ghost use Rattle.std.specs.Prelude.{◌≡◌, ◌+◌, ℕ, ◌<◌, ◌≤◌, [], IfOk, IfSome, None, Some, length, slice_index_or, vec_capacity, vec_len};
 ghost use Rattle.cmwq_types.specs.Scenario.{expand_lines};
-ghost use Rattle.cmwq_types.specs.declared.limits.TheConstants.{MAX_ACTORS, MAX_HISTORY};
+ghost use Rattle.cmwq_types.specs.declared.limits.TheConstants.{MAX_ACTORS, MAX_HISTORY, MAX_PASSES};
 ghost use Rattle.cmwq_lock.specs.Rule.{opening_view};
 ghost use Rattle.cmwq_lock.specs.Tokens.{opener_view, pass_view};
-ghost use Rattle.cmwq_lock.specs.Views.{mine_of, out_of, records_of};
+ghost use Rattle.cmwq_lock.specs.Views.{mine_of, next_of, out_of, records_of};
 ghost use Rattle.cmwq_engine.specs.Shared.{IsOpenerOf, IsPassOf, setting_of};
 ghost use Rattle.cmwq_actors.specs.Interleaving.{scripts_in};
 ghost use Rattle.cmwq_actors.specs.Playing.{EachHasPlayed, HasPlayed};
@@ -15,7 +15,8 @@ use crate::part::{Played, Stage};
 use cmwq_engine::{Engine, Shared};
 use cmwq_lock::{Kept, Opener};
 use cmwq_table::Machine;
-use cmwq_types::{Actor, Line};
+use cmwq_types::{Actor, Line, NoMemory};
+use std::alloc::Global;
 use std::snapshot::Snapshot;
 use std::sync::Wait;
 use std::thread::{self, Promise, PromisedHandle, Scope, Threads};
@@ -44,6 +45,21 @@ impl<M: Machine> Promise<Played<M>> for Plays<M> {
 
 type Thread<M> = PromisedHandle<Played<M>, Plays<M>>;
 
+/// The actors' threads, and how they ended.
+type Room<M> = (Vec<Thread<M>>, Vec<Ending>);
+
+/// Room for the threads and the endings of so many actors, with none in it.
+pub(crate) fn room_for<M: Machine>(alloc: Global, count: usize) -> Result<Room<M>, NoMemory>
+    ensures no_threads { IfOk result (λ room. room.0.items ≡ []) }
+    ensures no_endings { IfOk result (λ room. room.1.items ≡ []) }
+    ensures threads { IfOk result (λ room. count ≤ vec_capacity room.0) }
+    ensures endings { IfOk result (λ room. count ≤ vec_capacity room.1) }
+{
+    let threads = Vec::with_capacity(alloc, count)?;
+    let endings = Vec::with_capacity(alloc, count)?;
+    Ok((threads, endings))
+}
+
 impl<'a, R: Threads + Wait + Clock + Sync, M: Machine + Send, G: Gate> Stage<'a, R, M, G> {
     /// Plays all actors at once, and takes their passes back. There are fewer endings than actors where a thread couldn't be
     /// started.
@@ -51,23 +67,23 @@ impl<'a, R: Threads + Wait + Clock + Sync, M: Machine + Send, G: Gate> Stage<'a,
         &'e self,
         opener: Opener<Engine<M>>,
         actors: &'e [Actor],
-        threads: Vec<Thread<M>>,
-        endings: Vec<Ending>,
+        room: Room<M>,
     ) -> (Opener<Engine<M>>, Vec<Ending>)
         requires small { (setting_of self.now.shared).capacity ≤ MAX_HISTORY }
         requires opener { IsOpenerOf self.now.shared opener }
         requires opening { opener_view opener ≡ opening_view (setting_of self.now.shared) }
         requires few { length actors.now ≤ MAX_ACTORS }
-        requires no_threads { threads.items ≡ [] }
-        requires no_endings { endings.items ≡ [] }
-        requires threads { length actors.now ≤ vec_capacity threads }
-        requires endings { length actors.now ≤ vec_capacity endings }
+        requires no_threads { room.0.items ≡ [] }
+        requires no_endings { room.1.items ≡ [] }
+        requires threads { length actors.now ≤ vec_capacity room.0 }
+        requires endings { length actors.now ≤ vec_capacity room.1 }
         ensures opener { IsOpenerOf self.now.shared result.0 }
         ensures none_out { out_of (opener_view result.0) ≡ 0 }
         ensures few { vec_len result.1 ≤ length actors.now }
         ensures played { vec_len result.1 ≡ length actors.now
             → EachHasPlayed (setting_of self.now.shared).capacity (scripts_in actors.now) result.1.items (records_of (opener_view result.0)) }
     {
+        let (threads, endings) = room;
         thread::scope(
             thread::scope_env(),
             self.rt,
@@ -119,33 +135,61 @@ impl<'a, R: Threads + Wait + Clock + Sync, M: Machine + Send, G: Gate> Stage<'a,
         let mut opener = opener;
         let mut threads = threads;
         for (number, actor) in actors.iter().enumerate() {
-            let number = number as u8;
-            let lines = &actor.lines;
-            let Ok(pass) = self.shared.pass(&mut opener) else {
-                unreachable!()
-            };
-            let promise = Plays {
-                shared: Snapshot::of(&self.shared),
-                actor: number,
-                lines: Snapshot::of(lines),
-            };
-            let part = move || -> Played<M>
-                requires { ((setting_of self.now.shared).capacity ≤ MAX_HISTORY)
-                    × IsPassOf self.now.shared pass
-                    × (mine_of (pass_view pass) ≡ []) }
-            { self.play(number, lines, pass) };
-            match scope.spawn_with(promise, part) {
-                Ok(thread) => threads.push_reserved(thread),
-                Err(refused) => {
-                    let _ = self.begin.set(self.rt, false);
-                    let Played { pass, ending: _ } = (refused.value)();
-                    self.shared.retire(&mut opener, pass);
-                    return (opener, threads);
-                }
+            match self.start_one(scope, &mut opener, number as u8, &actor.lines) {
+                Some(thread) => threads.push_reserved(thread),
+                None => return (opener, threads),
             }
         }
         let _ = self.begin.set(self.rt, true);
         (opener, threads)
+    }
+
+    /// Starts an actor's thread. Where it can't be started, no actor begins, and its pass is taken back.
+    fn start_one<'s, E>(
+        &'s self,
+        scope: &Scope<'s, E>,
+        opener: &mut Opener<Engine<M>>,
+        number: u8,
+        lines: &'s Vec<Line>,
+    ) -> Option<Thread<M>>
+        requires small { (setting_of self.now.shared).capacity ≤ MAX_HISTORY }
+        requires opener { IsOpenerOf self.now.shared opener.old }
+        requires next { next_of (opener_view opener.old) ≡ number }
+        requires few { out_of (opener_view opener.old) < MAX_PASSES }
+        ensures opener { IsOpenerOf self.now.shared opener.new }
+        ensures next { IfSome result (λ _. next_of (opener_view opener.new) ≡ number + 1) }
+        ensures one_more { IfSome result
+            (λ _. out_of (opener_view opener.new) ≡ out_of (opener_view opener.old) + 1) }
+        ensures same_records { IfSome result
+            (λ _. records_of (opener_view opener.new) ≡ records_of (opener_view opener.old)) }
+        ensures promise { IfSome result
+            (λ thread. (thread.promise.shared.value ≡ self.now.shared)
+            × (thread.promise.actor ≡ number)
+            × (thread.promise.lines.value.items ≡ lines.now.items)) }
+        ensures back { result ≡ None → out_of (opener_view opener.new) ≡ out_of (opener_view opener.old) }
+    {
+        let Ok(pass) = self.shared.pass(opener) else {
+            unreachable!()
+        };
+        let promise = Plays {
+            shared: Snapshot::of(&self.shared),
+            actor: number,
+            lines: Snapshot::of(lines),
+        };
+        let part = move || -> Played<M>
+            requires { ((setting_of self.now.shared).capacity ≤ MAX_HISTORY)
+                × IsPassOf self.now.shared pass
+                × (mine_of (pass_view pass) ≡ []) }
+        { self.play(number, lines, pass) };
+        match scope.spawn_with(promise, part) {
+            Ok(thread) => Some(thread),
+            Err(refused) => {
+                let _ = self.begin.set(self.rt, false);
+                let Played { pass, ending: _ } = (refused.value)();
+                self.shared.retire(opener, pass);
+                None
+            }
+        }
     }
 
     /// Waits for each actor's end, and takes its pass back.

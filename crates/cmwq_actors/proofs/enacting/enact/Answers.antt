@@ -24,8 +24,8 @@ returns-clause-each g c =
     let long = c.deref.ensures.len in
     let all : vec_len endings ≡ length c.deref.result.now = omega arith in
     let counted = endings.ok.0 in
-    let closed = c.in-Ok-close.ensures in
-    (enacted c.args.scenario.now c.args.capacity c.deref.result.now _ c.in-Ok-close.engine endings.items _ actors c.in-Ok.ensures.setting closed.setting
+    let closed = c.in-Ok.ensures in
+    (enacted c.args.scenario.now c.args.capacity c.deref.result.now _ c.in-Ok.engine endings.items _ actors c.in_ok-shared.ensures.setting closed.setting
     closed.sound (performed.played all) (sym counted ∙ all) closed.last).0
 
 pub returns-clause-all : goal.returns-clause-all
@@ -40,6 +40,6 @@ returns-clause-all g c =
     let long = c.deref.ensures.len in
     let all : vec_len endings ≡ length c.deref.result.now = omega arith in
     let counted = endings.ok.0 in
-    let closed = c.in-Ok-close.ensures in
-    (enacted c.args.scenario.now c.args.capacity c.deref.result.now _ c.in-Ok-close.engine endings.items _ actors c.in-Ok.ensures.setting closed.setting
+    let closed = c.in-Ok.ensures in
+    (enacted c.args.scenario.now c.args.capacity c.deref.result.now _ c.in-Ok.engine endings.items _ actors c.in_ok-shared.ensures.setting closed.setting
     closed.sound (performed.played all) (sym counted ∙ all) closed.last).1

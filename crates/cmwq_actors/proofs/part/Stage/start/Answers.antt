@@ -1,18 +1,15 @@
-use Rattle.std.proofs.Common.{arith, ◌≡◌, ◌<◌, ◌++◌, ℕ, [], ◌∷◌, refl, length, get_or, sym, ap, ◌∙◌, below_more}
+use Rattle.std.proofs.Common.{arith, ◌≡◌, ◌<◌, ◌++◌, ℕ, [], ◌∷◌, length, get_or, sym, ap, ◌∙◌, below_more}
 use Rattle.std.proofs.Math.ListN.{get_or-append}
 use Rattle.std.proofs.Math.Seq.{get_or-append_seam}
 use Rattle.std.proofs.lemmas.List.{get_or_default}
-use Rattle.cmwq_lock.specs.Tokens.{opener_view}
-use Rattle.cmwq_lock.specs.Views.{records_of}
-use Rattle.cmwq_actors.proofs.TokenLemmas.{given_records_nothing}
 use Rattle.cmwq_actors.proofs.part.Stage.start.Goals as goal
 
 pub returns-clause-parts : goal.returns-clause-parts
 returns-clause-parts g c =
     λ i t a below. let started = c.loop-number.invariant.started in c.loop-number.invariant.parts i t a (omega arith)
 
-pub returns-in-Err-clause-parts : goal.returns-in-Err-clause-parts
-returns-in-Err-clause-parts g c =
+pub returns-in-None-clause-parts : goal.returns-in-None-clause-parts
+returns-in-None-clause-parts g c =
     λ i t a below. let started = c.loop-number.invariant.started in c.loop-number.invariant.parts i t a (omega arith)
 
 -- The thread that was started stands behind the others, and promises of its own number and lines.
@@ -22,16 +19,17 @@ loop-number-preserved g c =
     let n = c.loop-number.number in
     let old = c.loop-number.threads in
     let new = c.push_reserved.new.self in
-    let thread = c.in-Ok-spawn_with.thread in
+    let thread = c.in-Some.thread in
+    let one = c.in-Some.ensures in
     let counted = old.ok.0 in
     let long : length old.items ≡ n = sym counted ∙ was.started in
     let pushed = c.push_reserved.ensures.items in
-    let known = c.in-Ok-spawn_with.ensures.ok in
+    let promise = one.promise in
     record {
-      token = c.in-Ok.ensures.opener;
-      next = (let given = c.in-Ok.ensures.next in let next = was.next in omega arith);
-      out = (let given = c.in-Ok.ensures.one_more in let out = was.out in omega arith);
-      none_retired = ap records_of c.in-Ok.ensures.given ∙ given_records_nothing (opener_view c.loop-number.opener) ∙ was.none_retired;
+      token = one.opener;
+      next = (let given = one.next in let next = was.next in omega arith);
+      out = (let given = one.one_more in let out = was.out in omega arith);
+      none_retired = one.same_records ∙ was.none_retired;
       started = (let longer = c.push_reserved.ensures.len in let started = was.started in omega arith);
       room = c.push_reserved.ensures.capacity ∙ was.room;
       parts = λ i t a below.
@@ -50,6 +48,6 @@ loop-number-preserved g c =
           × ((get_or new.items k t).promise.lines.value.items ≡ (get_or c.args.actors.now k a).lines))
           n
           (λ k low. rw (earlier k low) (was.parts k t a low))
-          (rw last (rw known (c.of.ensures, refl, ap (λ v. v.items) c.of-in-loop-number.ensures ∙ ap (λ x. x.lines) actor)))
+          (rw last (promise.0, promise.1, promise.2 ∙ ap (λ x. x.lines) actor))
           i below;
     }
