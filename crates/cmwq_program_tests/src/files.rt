@@ -126,7 +126,14 @@ fn check_verdicts<R: Files + AllocGlobal + Threads + Wait + Clock + Sync + Abort
     let mut output = Marked::new(Vec::new(rt.alloc()));
     let mut errors = Marked::new(Vec::new(rt.alloc()));
     let request = Request::Check { files };
-    let result = answer(rt, look, reading_of(b"", 1), &mut output, &mut errors, request);
+    let result = answer(
+        rt,
+        look,
+        reading_of(b"", 1),
+        &mut output,
+        &mut errors,
+        request,
+    );
     let good: &[u8] = b"cmwq_checks/a.cmwq: ok\n";
     same(rt, "status", result, Ok(3));
     same(rt, "output", output.inner.as_slice(), good);
