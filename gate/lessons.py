@@ -1,5 +1,5 @@
 """Runs each scenario of scenarios/ through a built program: what it prints is NAME.out; its listing prints the same; its image is
-shown as the listing. What a debugger says to NAME.debug is NAME.said. What a play of a scenario with several actors leaves is one of
+shown as the listing. Its picture stands in scenarios/README.md, and is NAME.draw, where there is one. What a debugger says to NAME.debug is NAME.said. What a play of a scenario with several actors leaves is one of
 NAME.play1, NAME.play2 .., and run again it prints the lines that stand in it. The program's own stored run is one of them. Then faulty
 input: the status, and what each stream is given. And each scenario of one actor through an engine, by the program HISTORIES, which
 prints the history: each entry is compared.
@@ -50,6 +50,20 @@ def session_faults(program, commands):
     with open(commands, "rb") as it:
         ran = subprocess.run((program, "debug", text), stdin=it, stdout=subprocess.PIPE, stderr=subprocess.STDOUT, timeout=120)
     return [] if (ran.returncode, ran.stdout) == (0, wanted) else [f"{os.path.relpath(commands, TOP)}: what is said is not as it should be"]
+
+
+def drawing_faults(program, drawing):
+    """What is wrong with a scenario's picture as text."""
+    text = f"{drawing.removesuffix('.draw')}.cmwq"
+    return [] if said(program, "draw", text) == bytes_of(drawing) else [f"{os.path.relpath(text, TOP)}: its picture is not as it should be"]
+
+
+def shown_faults(program, texts):
+    """Which lessons' pictures aren't those that scenarios/README.md shows."""
+    shown = dict(re.findall(r"^### `(\w+)`\n\n```text\n(.*?)^```$", bytes_of(f"{TOP}/scenarios/README.md").decode(), re.S | re.M))
+    lessons = {os.path.basename(text).removesuffix(".cmwq"): text for text in texts}
+    faults = [name for name, text in lessons.items() if said(program, "draw", text) != shown.get(name, "").encode()]
+    return [f"scenarios/README.md: the picture of {name} is not as it should be" for name in [*faults, *sorted(shown.keys() - lessons.keys())]]
 
 
 def instrs_of(listing):
@@ -106,11 +120,14 @@ def failed(*words):
 def main(program, histories):
     plays = sorted({re.sub(r"\.play\d+$", ".cmwq", it) for it in glob.glob(f"{TOP}/scenarios/*.play*")})
     texts = sorted(set(glob.glob(f"{TOP}/scenarios/*.cmwq")).difference(plays))
+    drawings = sorted(glob.glob(f"{TOP}/scenarios/*.draw"))
     with tempfile.TemporaryDirectory(prefix="lessons-") as room:
         faults = [fault for text in texts for fault in faults_of(program, text, room)]
         faults += [fault for text in texts for fault in history_faults(histories, program, text)]
         faults += [fault for commands in sorted(glob.glob(f"{TOP}/scenarios/*.debug")) for fault in session_faults(program, commands)]
         faults += [fault for text in plays for fault in play_faults(program, text, room)]
+        faults += shown_faults(program, texts)
+        faults += [fault for drawing in drawings for fault in drawing_faults(program, drawing)]
         with open(f"{room}/faulty.cmwq", "w", encoding="utf-8") as it:
             it.write("cpus 17\n")
         if failed(program, "run", f"{room}/faulty.cmwq") != (1, b"", b"line 1: Range\n"):
@@ -127,8 +144,9 @@ def main(program, histories):
     if bytes_of(f"{TOP}/crates/cmwq_histories/stdin") not in map(bytes_of, texts):
         faults.append("crates/cmwq_histories/stdin: it is no lesson")
     faults += [] if texts else ["scenarios/: there is nothing to compare"]
+    faults += [] if drawings else ["scenarios/: there is no picture to compare"]
     print("".join(f"lessons: {fault}\n" for fault in faults), end="")
-    print(f"lessons: {len(texts) + len(plays)} scenarios compared, {len(faults)} faults")
+    print(f"lessons: {len(texts) + len(plays)} scenarios and {len(drawings)} pictures compared, {len(faults)} faults")
     return 1 if faults else 0
 
 

@@ -86,7 +86,7 @@ def help_faults(program, commands):
     """Each command's help has a status and an example, and `help` has a line for each."""
     if not program:
         return []
-    faults = [f"{command} --help lacks {part}" for command in sorted(commands) for part in ("Exit status:", "Example:") if part not in said(program, command, "--help")]
+    faults = [f"{command} --help lacks {part}" for command in sorted(commands) for part in ("Exit status:", "\nExample") if part not in said(program, command, "--help")]
     return faults + [f"help lacks {command}" for command in sorted(commands) if not re.search(rf"^  {command} ", said(program, "help"), re.M)]
 
 

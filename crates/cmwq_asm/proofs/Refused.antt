@@ -26,6 +26,11 @@ pub fails_alike : {A B C E : Type 0} (r : Result A E) (f : A → Result B E) (g 
 fails_alike (Ok found) f g error alike e = alike found e
 fails_alike (Err other) f g error alike e = cc
 
+-- the first test holds
+pub first : {A : Type 0} (b : Bool) (x y : A) → b ≡ true → cond b x y ≡ x
+first true x y holds = refl
+first false x y holds = cc
+
 -- the second of two tests holds
 pub second : {A : Type 0} (b c : Bool) (x y z : A) → b ≡ false → c ≡ true → cond b x (cond c y z) ≡ y
 second true c x y z first then = cc

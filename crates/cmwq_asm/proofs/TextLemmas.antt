@@ -1,12 +1,13 @@
 -- Reading a text line by line.
-use Rattle.std.proofs.Common.{◌≡◌, ℕ, ◌+◌, List, [], ◌∷◌, ap, ◌∙◌, sym, subst}
+use Rattle.std.proofs.Common.{◌≡◌, ℕ, ◌+◌, ◌<◌, List, [], ◌∷◌, length, ap, ◌∙◌, sym, subst, arith}
 use Rattle.std.specs.Prelude.{Result, Ok, Err}
+use Rattle.cmwq_grammar.specs.Cutting.{lines_of}
 use Rattle.cmwq_grammar.specs.Fields.{◌>>=◌}
 use Rattle.cmwq_grammar.specs.Meaning.{FaultAt, fault_at, at_line, stage_after}
 use Rattle.cmwq_grammar.specs.Reasons.{judge}
 use Rattle.cmwq_grammar.specs.Stages.{Stage}
 use Rattle.cmwq_grammar.specs.declared.why.Why.{Why}
-use Rattle.cmwq_asm.specs.Texts.{AsmErrorIs, Fails}
+use Rattle.cmwq_asm.specs.Texts.{AsmErrorIs, Fails, LeadsOn}
 use Rattle.cmwq_asm.specs.Answers.{Refuses}
 use Rattle.cmwq_asm.specs.declared.fault.AsmError.{AsmError}
 use Rattle.cmwq_asm.specs.declared.fault.LineError.{LineError}
@@ -30,6 +31,26 @@ fault_in_line n lines line more stage reason cut judged =
 pub last_stage : (n : ℕ) (lines : List (List ℕ)) (stage : Stage) → lines ≡ [] → stage_after n lines stage ≡ Ok stage
 unfolding stage_after
 last_stage n lines stage none = ap (λ (all : List (List ℕ)). stage_after n all stage) none
+
+-- no line is read yet
+pub leads_nowhere : (text : List ℕ) (stage : Stage) → LeadsOn text stage text 0 stage
+leads_nowhere text stage = record {
+  stage = λ line. ap (λ (n : ℕ). stage_after n (lines_of text) stage) (omega arith);
+  counted = omega arith;
+  room = omega arith;
+}
+
+-- one line more
+pub leads_further : (text : List ℕ) (from : Stage) (rest : List ℕ) (count : ℕ) (stage next : Stage) (line behind : List ℕ)
+    → LeadsOn text from rest count stage → lines_of rest ≡ line ∷ lines_of behind → length behind < length rest → judge stage line ≡ Ok next
+    → LeadsOn text from behind (count + 1) next
+leads_further text from rest count stage next line behind so_far cut shorter judged = record {
+  stage = λ first.
+      so_far.stage first ∙ next_stage (first + count) (lines_of rest) line (lines_of behind) stage next cut judged
+      ∙ ap (λ (n : ℕ). stage_after n (lines_of behind) next) (omega arith);
+  counted = omega (arith, so_far.counted, ap length cut);
+  room = omega (arith, so_far.room, shorter);
+}
 
 -- a line's error, told with the line
 pub told_fails : {A B : Type 0} (answer : AsmError) (line : ℕ) (e : LineError) (said : Result A Why) (text : Result B FaultAt) → AsmErrorIs answer line e → Refuses e said → ((reason : Why) → said ≡ Err reason → text ≡ Err (fault_at line reason)) → Fails answer text

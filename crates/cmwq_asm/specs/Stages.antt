@@ -1,8 +1,18 @@
 -- The grammar's stage that a stage of the code stands for.
+use Rattle.std.specs.Prelude.{[], ◌∷◌, ◌++◌}
+use Rattle.cmwq_types.specs.declared.scenario.Line.{Line}
 use Rattle.cmwq_grammar.specs.Stages.{Stage}
 use Rattle.cmwq_grammar.specs.Stages as stage
+use Rattle.cmwq_asm.specs.declared.open.OpenActor.{OpenActor}
 use Rattle.cmwq_asm.specs.declared.stage.Stage.{Stage as Reached}
 use Rattle.cmwq_asm.specs.declared.stage.Stage.TheVariants as reached
+
+-- in the actor, and with one line more of it
+abbrev pub stage_in : OpenActor → Stage
+stage_in actor = stage.Actor actor.draft actor.name actor.lines.items
+
+abbrev pub with_line : OpenActor → Line → Stage
+with_line actor line = stage.Actor actor.draft actor.name (actor.lines.items ++ line ∷ [])
 
 abbrev pub stage_of : Reached → Stage
 stage_of reached.Start = stage.Start

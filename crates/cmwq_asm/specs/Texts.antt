@@ -1,7 +1,8 @@
 -- What reading a whole text answers: what the grammar's reading gives, or want of memory.
-use Rattle.std.specs.Prelude.{◌≡◌, ℕ, Result, Ok, Err}
+use Rattle.std.specs.Prelude.{◌≡◌, ℕ, ◌+◌, ◌≤◌, List, Result, Ok, Err, length}
 use Rattle.cmwq_types.specs.Contents.{ScenarioContents}
-use Rattle.cmwq_grammar.specs.Meaning.{FaultAt, fault_at}
+use Rattle.cmwq_grammar.specs.Cutting.{lines_of}
+use Rattle.cmwq_grammar.specs.Meaning.{FaultAt, fault_at, stage_after}
 use Rattle.cmwq_grammar.specs.Stages.{Stage}
 use Rattle.cmwq_asm.specs.Stages.{stage_of}
 use Rattle.cmwq_asm.specs.declared.fault.AsmError.{AsmError}
@@ -28,3 +29,9 @@ Assembles (Err error) said = Fails error said
 abbrev pub GivesStage : Result (Reached × ℕ) AsmError → Result Stage FaultAt → Type 0
 GivesStage (Ok read) said = said ≡ Ok (stage_of read.0)
 GivesStage (Err error) said = Fails error said
+
+-- so many lines of the text lead from one stage to the other, with this text left
+pub record LeadsOn (text : List ℕ) (from : Stage) (rest : List ℕ) (count : ℕ) (to : Stage) : Type 0 where
+  pub stage : (line : ℕ) → stage_after line (lines_of text) from ≡ stage_after (line + count) (lines_of rest) to
+  pub counted : length (lines_of text) ≡ count + length (lines_of rest)
+  pub room : count + length rest ≤ length text

@@ -1,17 +1,21 @@
 //! The lines of an actor: `actor NAME`, and its instructions.
 ghost use Rattle.cmwq_asm.specs.Answers.{Gives};
-ghost use Rattle.cmwq_scan.specs.Words.{words_in};
-ghost use Rattle.cmwq_asm.specs.Stages.{stage_of};
-ghost use Rattle.cmwq_grammar.specs.Reasons.{add_line, open_actor};
+ghost use Rattle.cmwq_scan.specs.Words.{words_left};
+ghost use Rattle.cmwq_asm.specs.Stages.{stage_in, stage_of, with_line};
+ghost use Rattle.cmwq_asm.specs.Texts.{LeadsOn};
+ghost use Rattle.cmwq_grammar.specs.Reasons.{add_line, judge, open_actor};
 ghost use Rattle.cmwq_grammar.specs.Stages.{with_actor};
-ghost use Rattle.std.specs.Prelude.{◌≡◌, IfOk};
+ghost use Rattle.cmwq_types.specs.declared.limits.TheConstants.{MAX_TEXT};
+ghost use Rattle.std.specs.Prelude.{◌≡◌, ◌≤◌, IfOk, IfSome, IsTrue, Ok, length};
+ghost use Rattle.std.specs.Str.{is_utf8};
 
 use crate::draft::Draft;
 use crate::fault::LineError;
+use crate::instructions::read_line;
 use crate::open::OpenActor;
 use crate::stage::Stage;
 use cmwq_grammar::Why;
-use cmwq_scan::{Token, read_last_new_name};
+use cmwq_scan::{is_word, next_line, next_word, take_last_new_name, worded_part};
 use cmwq_types::{Fault, Line, MAX_ACTORS, MAX_LINES, NoMemory};
 use std::alloc::Global;
 
@@ -20,11 +24,11 @@ use std::alloc::Global;
 pub(crate) fn open_actor<'t>(
     alloc: Global,
     draft: Draft<'t>,
-    rest: &[Token<'t>],
+    rest: &'t [u8],
 ) -> Result<Stage<'t>, LineError>
-    ensures { Gives stage_of result (open_actor draft.entry (words_in rest.now)) }
+    ensures { Gives stage_of result (open_actor draft.entry (words_left rest.now)) }
 {
-    let name = read_last_new_name(draft.actor_names(), rest)?;
+    let name = take_last_new_name(draft.actor_names(), rest)?;
     if draft.actors().len() >= MAX_ACTORS {
         return Err(LineError::Why(Why::Fault(Fault::TooMany)));
     }
@@ -54,4 +58,46 @@ pub(crate) fn close_actor<'t>(actor: Box<OpenActor<'t>>) -> Result<Draft<'t>, No
 {
     let OpenActor { draft, name, lines } = Box::into_inner(actor);
     draft.with_actor(&name, lines)
+}
+
+/// Adds the lines at the front of the text to the actor, up to the first that isn't an instruction of it
+/// without fault. Tells what is left of the text, and how many lines were added. Most lines of a large text
+/// are such: none of them makes a stage by itself.
+pub(crate) fn read_instructions<'t>(
+    mut actor: Box<OpenActor<'t>>,
+    text: &'t [u8],
+) -> Result<(Box<OpenActor<'t>>, &'t [u8], u32), NoMemory>
+    requires text { IsTrue (is_utf8 text.now) }
+    requires few { length text.now ≤ MAX_TEXT }
+    ensures lines { IfOk result (λ read. LeadsOn text.now (stage_in actor.entry.value) read.1.now read.2 (stage_in read.0.value)) }
+    ensures text { IfOk result (λ read. IsTrue (is_utf8 read.1.now)) }
+{
+    let mut rest = text;
+    let mut count = 0;
+    while let Some((line, behind)) = next_line(rest) {
+        match instruction_of(&actor, line) {
+            Some(instruction) => actor.lines.push(instruction)?,
+            None => return Ok((actor, rest, count)),
+        }
+        rest = behind;
+        count += 1;
+    }
+    Ok((actor, rest, count))
+}
+
+/// The line that this is of the actor, where it is an instruction without fault, and there is room for it.
+#[tactic(auto, unfolding(cmwq_grammar::specs::Reasons::judge, cmwq_grammar::specs::Reasons::step, cmwq_grammar::specs::Reasons::add_line))]
+fn instruction_of(actor: &OpenActor, line: &[u8]) -> Option<Line>
+    requires { IsTrue (is_utf8 line.now) }
+    ensures { IfSome result (λ next. judge (stage_in actor.now) line.now ≡ Ok (with_line actor.now next)) }
+{
+    let has_room = actor.lines.len() < MAX_LINES;
+    if !has_room {
+        return None;
+    }
+    let (word, rest) = next_word(worded_part(line))?;
+    if is_word(word, b"actor") {
+        return None;
+    }
+    read_line(&actor.draft, word, rest).ok()
 }

@@ -83,17 +83,19 @@ pub(crate) fn read_lines<'t>(alloc: Global, text: &'t [u8]) -> Result<(Stage<'t>
     ensures few { IfOk result (λ read. read.1 ≤ MAX_TEXT) }
 {
     let is_all_text = is_text(text);
-    let mut words = Vec::new(alloc);
     let mut stage = Stage::Start;
     let mut lines = 0;
     let mut rest = text;
     while let Some((line, behind)) = next_line(rest) {
         lines += 1;
-        stage = match judge(alloc, &mut words, stage, line, is_all_text) {
+        let next = match judge(alloc, stage, line, is_all_text) {
             Ok(next) => next,
             Err(error) => return Err(at_line(lines, error)),
         };
-        rest = behind;
+        let (reached, left, more) = next.read_on(behind, is_all_text)?;
+        stage = reached;
+        rest = left;
+        lines += more;
     }
     Ok((stage, lines))
 }

@@ -1,6 +1,6 @@
 //! An actor's line: an instruction, and how often it stands.
 ghost use Rattle.cmwq_scan.specs.Answers.{Tells};
-ghost use Rattle.cmwq_scan.specs.Words.{words_in};
+ghost use Rattle.cmwq_scan.specs.Words.{words_left};
 ghost use Rattle.cmwq_asm.specs.Instructions.{IsOnWork, behind_work, cpu_ticks_at};
 ghost use Rattle.cmwq_types.specs.Contents.{ScenarioContents};
 ghost use Rattle.cmwq_grammar.specs.Fields.{declared_at};
@@ -10,45 +10,45 @@ ghost use Rattle.std.specs.Prelude.{◌∷◌};
 use crate::draft::Draft;
 use cmwq_grammar::Why;
 use cmwq_scan::{
-    Field, Token, is_word, read_declared, read_last_number_within, read_number_within, refusal,
+    Field, is_word, next_word, refusal, take_declared, take_last_number_within, take_number_within,
 };
 use cmwq_types::{Instr, Line, MAX_TIMES, Mnemonic, QueueId, WorkId};
 
 /// The line that begins with this word.
 #[tactic(auto, unfolding(cmwq_grammar::specs::Instructions::line_at))]
-pub(crate) fn read_line(draft: &Draft, word: &[u8], rest: &[Token]) -> Result<Line, Why>
-    ensures { Tells (λ line. line) result (line_at draft.now word.now (words_in rest.now)) }
+pub(crate) fn read_line(draft: &Draft, word: &[u8], rest: &[u8]) -> Result<Line, Why>
+    ensures { Tells (λ line. line) result (line_at draft.now word.now (words_left rest.now)) }
 {
     let (instr, rest) = read_instr(draft, word, rest)?;
     read_times(instr, rest)
 }
 
 /// The line of this instruction, which stands once, or as often as `* N` says.
-fn read_times(instr: Instr, words: &[Token]) -> Result<Line, Why>
-    ensures { Tells (λ line. line) result (times_at instr (words_in words.now)) }
+fn read_times(instr: Instr, rest: &[u8]) -> Result<Line, Why>
+    ensures { Tells (λ line. line) result (times_at instr (words_left rest.now)) }
 {
-    match words {
-        [] => Ok(Line { instr, times: 1 }),
-        [word, rest @ ..] => read_repeated(instr, word.bytes(), rest),
+    match next_word(rest) {
+        None => Ok(Line { instr, times: 1 }),
+        Some((word, rest)) => read_repeated(instr, word, rest),
     }
 }
 
 /// The line of this instruction behind which the word stands, which must be `*`.
 #[tactic(auto, using(cmwq_scan::proofs::LineSteps::line_steps))]
-fn read_repeated(instr: Instr, word: &[u8], rest: &[Token]) -> Result<Line, Why>
-    ensures { Tells (λ line. line) result (times_at instr (word.now ∷ words_in rest.now)) }
+fn read_repeated(instr: Instr, word: &[u8], rest: &[u8]) -> Result<Line, Why>
+    ensures { Tells (λ line. line) result (times_at instr (word.now ∷ words_left rest.now)) }
 {
     if !is_word(word, b"*") {
         return Err(Why::ExtraWord);
     }
-    let times = read_last_number_within(1, MAX_TIMES, rest)?;
+    let times = take_last_number_within(1, MAX_TIMES, rest)?;
     Ok(Line { instr, times })
 }
 
 /// The instruction that begins with this word.
 #[tactic(auto, unfolding(cmwq_grammar::specs::Instructions::instr_at), using(cmwq_scan::proofs::LineSteps::line_steps))]
-fn read_instr<'a, 't>(draft: &Draft, word: &[u8], rest: &'a [Token<'t>]) -> Field<'a, 't, Instr>
-    ensures { Tells (λ field. (field.0, words_in field.1.now)) result (instr_at draft.now word.now (words_in rest.now)) }
+fn read_instr<'t>(draft: &Draft, word: &[u8], rest: &'t [u8]) -> Field<'t, Instr>
+    ensures { Tells (λ field. (field.0, words_left field.1.now)) result (instr_at draft.now word.now (words_left rest.now)) }
 {
     match Mnemonic::read(word) {
         Some(mnemonic) => read_operands(draft, mnemonic, rest),
@@ -57,12 +57,8 @@ fn read_instr<'a, 't>(draft: &Draft, word: &[u8], rest: &'a [Token<'t>]) -> Fiel
 }
 
 /// The instruction of this word, and the words after its operands.
-fn read_operands<'a, 't>(
-    draft: &Draft,
-    mnemonic: Mnemonic,
-    rest: &'a [Token<'t>],
-) -> Field<'a, 't, Instr>
-    ensures { Tells (λ field. (field.0, words_in field.1.now)) result (operands_at draft.now (operands_of mnemonic) (words_in rest.now)) }
+fn read_operands<'t>(draft: &Draft, mnemonic: Mnemonic, rest: &'t [u8]) -> Field<'t, Instr>
+    ensures { Tells (λ field. (field.0, words_left field.1.now)) result (operands_at draft.now (operands_of mnemonic) (words_left rest.now)) }
 {
     match mnemonic {
         Mnemonic::FlushQueue => {
@@ -71,20 +67,20 @@ fn read_operands<'a, 't>(
         }
         Mnemonic::SetMax => {
             let (queue, rest) = read_queue(draft, rest)?;
-            let (max, rest) = read_number_within(0, u32::MAX, rest)?;
+            let (max, rest) = take_number_within(0, u32::MAX, rest)?;
             Ok((Instr::SetMax(queue, max), rest))
         }
         Mnemonic::Freeze => Ok((Instr::Freeze, rest)),
         Mnemonic::Thaw => Ok((Instr::Thaw, rest)),
         Mnemonic::Fire => Ok((Instr::Fire, rest)),
         Mnemonic::Step => {
-            let (pool, rest) = read_number_within(0, 255, rest)?;
+            let (pool, rest) = take_number_within(0, 255, rest)?;
             Ok((Instr::Step(pool as u8), rest))
         }
         Mnemonic::Tick => Ok((Instr::Tick, rest)),
         Mnemonic::Next => Ok((Instr::Next, rest)),
         Mnemonic::Ask => {
-            let (flush, rest) = read_number_within(0, 65535, rest)?;
+            let (flush, rest) = take_number_within(0, 65535, rest)?;
             Ok((Instr::Ask(flush as u16), rest))
         }
         Mnemonic::Busy => Ok((Instr::Busy, rest)),
@@ -107,18 +103,14 @@ fn read_operands<'a, 't>(
 }
 
 /// The instruction of this word on this work, and the words after what stands behind the work.
-fn read_behind_work<'a, 't>(
-    mnemonic: Mnemonic,
-    work: WorkId,
-    rest: &'a [Token<'t>],
-) -> Field<'a, 't, Instr>
+fn read_behind_work<'t>(mnemonic: Mnemonic, work: WorkId, rest: &'t [u8]) -> Field<'t, Instr>
     requires { IsOnWork (operands_of mnemonic) }
     ensures on_work { IsOnWork (operands_of mnemonic) }
-    ensures read { (S : ScenarioContents) → Tells (λ field. (field.0, words_in field.1.now)) result (operands_at S (behind_work (operands_of mnemonic) work) (words_in rest.now)) }
+    ensures read { (S : ScenarioContents) → Tells (λ field. (field.0, words_left field.1.now)) result (operands_at S (behind_work (operands_of mnemonic) work) (words_left rest.now)) }
 {
     match mnemonic {
         Mnemonic::Queue => {
-            let (cpu, rest) = read_number_within(0, 255, rest)?;
+            let (cpu, rest) = take_number_within(0, 255, rest)?;
             Ok((Instr::Queue(work, cpu as u8), rest))
         }
         Mnemonic::Delay => {
@@ -152,26 +144,26 @@ fn read_behind_work<'a, 't>(
 }
 
 /// A declared queue.
-fn read_queue<'a, 't>(draft: &Draft, rest: &'a [Token<'t>]) -> Field<'a, 't, QueueId>
-    ensures { Tells (λ field. (field.0.0, words_in field.1.now)) result (declared_at (queue_names draft.now) (words_in rest.now)) }
+fn read_queue<'t>(draft: &Draft, rest: &'t [u8]) -> Field<'t, QueueId>
+    ensures { Tells (λ field. (field.0.0, words_left field.1.now)) result (declared_at (queue_names draft.now) (words_left rest.now)) }
 {
-    let (queue, rest) = read_declared(draft.queue_names(), rest)?;
+    let (queue, rest) = take_declared(draft.queue_names(), rest)?;
     Ok((QueueId(queue as u8), rest))
 }
 
 /// A declared work.
-fn read_work<'a, 't>(draft: &Draft, rest: &'a [Token<'t>]) -> Field<'a, 't, WorkId>
-    ensures { Tells (λ field. (field.0.0, words_in field.1.now)) result (declared_at (work_names draft.now) (words_in rest.now)) }
+fn read_work<'t>(draft: &Draft, rest: &'t [u8]) -> Field<'t, WorkId>
+    ensures { Tells (λ field. (field.0.0, words_left field.1.now)) result (declared_at (work_names draft.now) (words_left rest.now)) }
 {
-    let (work, rest) = read_declared(draft.work_names(), rest)?;
+    let (work, rest) = take_declared(draft.work_names(), rest)?;
     Ok((WorkId(work as u16), rest))
 }
 
 /// A CPU, which the machine may not have, and how many ticks.
-fn read_cpu_ticks<'a, 't>(rest: &'a [Token<'t>]) -> Field<'a, 't, (u8, u32)>
-    ensures { Tells (λ field. (field.0, words_in field.1.now)) result (cpu_ticks_at (words_in rest.now)) }
+fn read_cpu_ticks<'t>(rest: &'t [u8]) -> Field<'t, (u8, u32)>
+    ensures { Tells (λ field. (field.0, words_left field.1.now)) result (cpu_ticks_at (words_left rest.now)) }
 {
-    let (cpu, rest) = read_number_within(0, 255, rest)?;
-    let (ticks, rest) = read_number_within(0, u32::MAX, rest)?;
+    let (cpu, rest) = take_number_within(0, 255, rest)?;
+    let (ticks, rest) = take_number_within(0, u32::MAX, rest)?;
     Ok(((cpu as u8, ticks), rest))
 }

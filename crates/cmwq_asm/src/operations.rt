@@ -1,7 +1,7 @@
 //! The lines of a body: `body NAME`, its operations, and `finish`.
 ghost use Rattle.cmwq_asm.specs.Answers.{Gives};
 ghost use Rattle.cmwq_scan.specs.Answers.{Tells};
-ghost use Rattle.cmwq_scan.specs.Words.{words_in};
+ghost use Rattle.cmwq_scan.specs.Words.{words_left};
 ghost use Rattle.cmwq_asm.specs.Operations.{next_at, queued_at};
 ghost use Rattle.cmwq_scan.specs.LastFields.{last};
 ghost use Rattle.cmwq_grammar.specs.Fields.{number_within};
@@ -17,7 +17,7 @@ use crate::open::OpenBody;
 use crate::stage::Stage;
 use cmwq_grammar::Why;
 use cmwq_scan::{
-    Token, ended, is_word, read_declared, read_last_number_below, read_last_number_within, refusal,
+    ended, is_word, refusal, take_declared, take_last_number_below, take_last_number_within,
 };
 use cmwq_types::{Fault, MAX_OPS, MAX_TICKS, Op, WorkId};
 use std::alloc::Global;
@@ -27,9 +27,9 @@ use std::alloc::Global;
 pub(crate) fn open_body<'t>(
     alloc: Global,
     bodies: Bodies<'t>,
-    rest: &[Token],
+    rest: &[u8],
 ) -> Result<Stage<'t>, LineError>
-    ensures { Gives stage_of result (open_body bodies.entry.told bodies.entry.done (words_in rest.now)) }
+    ensures { Gives stage_of result (open_body bodies.entry.told bodies.entry.done (words_left rest.now)) }
 {
     read_next(&bodies, rest)?;
     let ops = Vec::new(alloc);
@@ -38,11 +38,11 @@ pub(crate) fn open_body<'t>(
 }
 
 /// The number of the next work, which must be named in the line's last word.
-fn read_next(bodies: &Bodies, rest: &[Token]) -> Result<usize, Why>
-    ensures next { Tells (λ n. n) result (next_at bodies.now.told bodies.now.done (words_in rest.now)) }
+fn read_next(bodies: &Bodies, rest: &[u8]) -> Result<usize, Why>
+    ensures next { Tells (λ n. n) result (next_at bodies.now.told bodies.now.done (words_left rest.now)) }
     ensures there { OnOk result (length bodies.now.done < length bodies.now.told.works) }
 {
-    let (work, rest) = read_declared(bodies.draft().work_names(), rest)?;
+    let (work, rest) = take_declared(bodies.draft().work_names(), rest)?;
     if work != bodies.count() {
         return Err(Why::Misplaced);
     }
@@ -51,8 +51,8 @@ fn read_next(bodies: &Bodies, rest: &[Token]) -> Result<usize, Why>
 
 /// The operation of a body's line.
 #[tactic(auto, using(cmwq_scan::proofs::LineSteps::line_steps), unfolding(cmwq_grammar::specs::Reasons::op_at_line))]
-pub(crate) fn read_op(draft: &Draft, word: &[u8], rest: &[Token]) -> Result<Op, Why>
-    ensures { Tells (λ op. op) result (op_at_line draft.now word.now (words_in rest.now)) }
+pub(crate) fn read_op(draft: &Draft, word: &[u8], rest: &[u8]) -> Result<Op, Why>
+    ensures { Tells (λ op. op) result (op_at_line draft.now word.now (words_left rest.now)) }
 {
     if is_word(word, b"burn") {
         return Ok(Op::Burn(read_ticks(rest)?));
@@ -70,18 +70,18 @@ pub(crate) fn read_op(draft: &Draft, word: &[u8], rest: &[Token]) -> Result<Op, 
 }
 
 /// So many ticks, in a line's last word.
-fn read_ticks(rest: &[Token]) -> Result<u32, Why>
-    ensures { Tells (λ n. n) result (last (number_within 1 MAX_TICKS (words_in rest.now))) }
+fn read_ticks(rest: &[u8]) -> Result<u32, Why>
+    ensures { Tells (λ n. n) result (last (number_within 1 MAX_TICKS (words_left rest.now))) }
 {
-    read_last_number_within(1, MAX_TICKS, rest)
+    take_last_number_within(1, MAX_TICKS, rest)
 }
 
 #[tactic(auto, using(cmwq_scan::proofs::LineSteps::line_steps))]
-fn read_queued(draft: &Draft, rest: &[Token]) -> Result<Op, Why>
-    ensures { Tells (λ op. op) result (queued_at draft.now (words_in rest.now)) }
+fn read_queued(draft: &Draft, rest: &[u8]) -> Result<Op, Why>
+    ensures { Tells (λ op. op) result (queued_at draft.now (words_left rest.now)) }
 {
-    let (work, rest) = read_declared(draft.work_names(), rest)?;
-    let cpu = read_last_number_below(draft.cpus(), rest)?;
+    let (work, rest) = take_declared(draft.work_names(), rest)?;
+    let cpu = take_last_number_below(draft.cpus(), rest)?;
     Ok(Op::Queue(WorkId(work as u16), cpu))
 }
 

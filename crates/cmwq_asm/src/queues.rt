@@ -1,7 +1,7 @@
 //! Lines that declare queues: `queue NAME max N FLAG..`.
 ghost use Rattle.cmwq_asm.specs.Answers.{Gives};
 ghost use Rattle.cmwq_scan.specs.Answers.{Tells};
-ghost use Rattle.cmwq_scan.specs.Words.{words_in};
+ghost use Rattle.cmwq_scan.specs.Words.{words_left};
 ghost use Rattle.cmwq_asm.specs.Declarations.{queue_of};
 ghost use Rattle.cmwq_asm.specs.Stages.{stage_of};
 ghost use Rattle.cmwq_asm.specs.Steps.{declared_queue};
@@ -18,15 +18,12 @@ use crate::draft::Draft;
 use crate::fault::LineError;
 use crate::stage::Stage;
 use cmwq_grammar::Why;
-use cmwq_scan::{Token, is_word, read_keyword, read_new_name, read_number};
+use cmwq_scan::{is_word, next_word, take_keyword, take_new_name, take_number};
 use cmwq_types::{Fault, Flags, MAX_MAX_ACTIVE, MAX_QUEUES};
 
 /// Declares the queue that is behind the word `queue`.
-pub(crate) fn declare_queue<'t>(
-    draft: Draft<'t>,
-    rest: &[Token<'t>],
-) -> Result<Stage<'t>, LineError>
-    ensures { Gives stage_of result (declared_queue draft.entry (words_in rest.now)) }
+pub(crate) fn declare_queue<'t>(draft: Draft<'t>, rest: &'t [u8]) -> Result<Stage<'t>, LineError>
+    ensures { Gives stage_of result (declared_queue draft.entry (words_left rest.now)) }
 {
     let queue = read_queue(&draft, rest)?;
     add_queue(draft, queue)
@@ -34,25 +31,27 @@ pub(crate) fn declare_queue<'t>(
 
 /// What is behind the word `queue`.
 #[tactic(auto, unfolding(cmwq_grammar::specs::Reasons::queue_at_line))]
-fn read_queue<'t>(draft: &Draft<'t>, rest: &[Token<'t>]) -> Result<QueueLine<'t>, Why>
-    ensures line { Tells queue_of result (queue_at_line draft.now (words_in rest.now)) }
+fn read_queue<'t>(draft: &Draft<'t>, rest: &'t [u8]) -> Result<QueueLine<'t>, Why>
+    ensures line { Tells queue_of result (queue_at_line draft.now (words_left rest.now)) }
     ensures new { IfOk result (λ queue. list_any (λ other. bytes_eq other queue.name) (queue_names draft.now) ≡ false) }
 {
-    let (name, rest) = read_new_name(draft.queue_names(), rest)?;
-    let rest = read_keyword(b"max", rest)?;
-    let (max, rest) = read_number(rest)?;
+    let (name, rest) = take_new_name(draft.queue_names(), rest)?;
+    let rest = take_keyword(b"max", rest)?;
+    let (max, rest) = take_number(rest)?;
     let flags = read_flags(rest)?;
     Ok(QueueLine { name, max, flags })
 }
 
 /// The flags of a queue; each word is one.
 #[tactic(auto, unfolding(cmwq_grammar::specs::Reasons::flags_at))]
-fn read_flags(words: &[Token]) -> Result<Flags, Why>
-    ensures { Tells (λ flags. flags) result (flags_at (words_in words.now) plain_flags) }
+fn read_flags(words: &[u8]) -> Result<Flags, Why>
+    ensures { Tells (λ flags. flags) result (flags_at (words_left words.now) plain_flags) }
 {
     let mut flags = Flags::PLAIN;
-    for word in words {
-        flags = add_flag(flags, word.bytes())?;
+    let mut rest = words;
+    while let Some((word, behind)) = next_word(rest) {
+        flags = add_flag(flags, word)?;
+        rest = behind;
     }
     Ok(flags)
 }

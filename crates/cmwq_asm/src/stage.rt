@@ -1,11 +1,14 @@
 //! How far a text has come.
 ghost use Rattle.cmwq_asm.specs.Answers.{Gives};
-ghost use Rattle.cmwq_scan.specs.Words.{words_in};
+ghost use Rattle.cmwq_scan.specs.Words.{words_left};
 ghost use Rattle.cmwq_asm.specs.Stages.{stage_of};
 ghost use Rattle.cmwq_grammar.specs.Reasons.{at_end, step};
-ghost use Rattle.std.specs.Prelude.{◌∷◌};
+ghost use Rattle.cmwq_asm.specs.Texts.{LeadsOn};
+ghost use Rattle.cmwq_types.specs.declared.limits.TheConstants.{MAX_TEXT};
+ghost use Rattle.std.specs.Prelude.{◌∷◌, ◌≤◌, IfOk, IsTrue, length};
+ghost use Rattle.std.specs.Str.{is_utf8};
 
-use crate::actors::close_actor;
+use crate::actors::{close_actor, read_instructions};
 use crate::bodies::Bodies;
 use crate::draft::Draft;
 use crate::fault::LineError;
@@ -13,8 +16,7 @@ use crate::header::{read_cpus, read_flushes, read_steps, read_workers};
 use crate::open::{OpenActor, OpenBody};
 use crate::steps::{between_bodies, end_between_bodies, in_actor, in_body, in_queues, in_works};
 use cmwq_grammar::Why;
-use cmwq_scan::Token;
-use cmwq_types::{Fault, Scenario};
+use cmwq_types::{Fault, NoMemory, Scenario};
 use std::alloc::Global;
 
 /// What a text's lines so far have told.
@@ -58,9 +60,9 @@ impl<'t> Stage<'t> {
         self,
         alloc: Global,
         word: &[u8],
-        rest: &[Token<'t>],
+        rest: &'t [u8],
     ) -> Result<Stage<'t>, LineError>
-        ensures { Gives stage_of result (step (stage_of self.entry) (word.now ∷ words_in rest.now)) }
+        ensures { Gives stage_of result (step (stage_of self.entry) (word.now ∷ words_left rest.now)) }
     {
         match self {
             Stage::Start => read_cpus(word, rest),
@@ -74,6 +76,30 @@ impl<'t> Stage<'t> {
             Stage::Bodies(bodies) => between_bodies(alloc, bodies, word, rest),
             Stage::Body(body) => in_body(body, word, rest),
             Stage::Actor(actor) => in_actor(alloc, actor, word, rest),
+        }
+    }
+
+    /// Goes on over the lines at the front of the text that are read in one go: an actor's instructions, where
+    /// the text is known to be text. Tells the stage after them, what is left, and how many lines they are.
+    pub(crate) fn read_on(
+        self,
+        text: &'t [u8],
+        is_known_text: bool,
+    ) -> Result<(Stage<'t>, &'t [u8], u32), NoMemory>
+        requires text { IsTrue is_known_text → IsTrue (is_utf8 text.now) }
+        requires few { length text.now ≤ MAX_TEXT }
+        ensures lines { IfOk result (λ read. LeadsOn text.now (stage_of self.entry) read.1.now read.2 (stage_of read.0)) }
+        ensures text { IfOk result (λ read. IsTrue is_known_text → IsTrue (is_utf8 read.1.now)) }
+    {
+        if !is_known_text {
+            return Ok((self, text, 0));
+        }
+        match self {
+            Stage::Actor(actor) => {
+                let (actor, rest, count) = read_instructions(actor, text)?;
+                Ok((Stage::Actor(actor), rest, count))
+            }
+            other => Ok((other, text, 0)),
         }
     }
 

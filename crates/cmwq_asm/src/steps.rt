@@ -1,6 +1,7 @@
 //! What each line adds at the stage where it stands.
 ghost use Rattle.cmwq_asm.specs.Answers.{Gives};
-ghost use Rattle.cmwq_scan.specs.Words.{words_in};
+ghost use Rattle.cmwq_scan.specs.Answers.{Tells};
+ghost use Rattle.cmwq_scan.specs.Words.{words_left};
 ghost use Rattle.cmwq_asm.specs.Stages.{stage_of};
 ghost use Rattle.cmwq_asm.specs.Steps.{text_words};
 ghost use Rattle.cmwq_grammar.specs.Reasons.{at_end, judge, step};
@@ -19,16 +20,15 @@ use crate::queues::declare_queue;
 use crate::stage::Stage;
 use crate::works::declare_work;
 use cmwq_grammar::Why;
-use cmwq_scan::{Token, is_text, is_word, read_tokens, refusal};
+use cmwq_scan::{is_text, is_word, next_word, refusal, worded_part};
 use cmwq_types::Scenario;
 use std::alloc::Global;
 
-/// The stage after this line, or the first reason against it. The line's words are left in `words`.
-/// Whether the line is text is judged here, unless it is known to be.
+/// The stage after this line, or the first reason against it. Whether the line is text is judged here,
+/// unless it is known to be.
 #[tactic(auto, unfolding(cmwq_grammar::specs::Reasons::judge))]
 pub(crate) fn judge<'t>(
     alloc: Global,
-    words: &mut Vec<Token<'t>>,
     stage: Stage<'t>,
     line: &'t [u8],
     is_known_text: bool,
@@ -36,34 +36,29 @@ pub(crate) fn judge<'t>(
     requires { IsTrue is_known_text → IsTrue (is_utf8 line.now) }
     ensures { Gives stage_of result (judge (stage_of stage.entry) line.now) }
 {
-    read_words(words, line, is_known_text)?;
+    let words = read_words(line, is_known_text)?;
     step(alloc, stage, words)
 }
 
-/// Leaves the words of the line in the vector, if it is text.
-fn read_words<'t>(
-    words: &mut Vec<Token<'t>>,
-    line: &'t [u8],
-    is_known_text: bool,
-) -> Result<(), LineError>
+/// The part of the line that has its words, if the line is text.
+fn read_words<'t>(line: &'t [u8], is_known_text: bool) -> Result<&'t [u8], Why>
     requires { IsTrue is_known_text → IsTrue (is_utf8 line.now) }
-    ensures { Gives (λ _. words_in words.new.items) result (text_words line.now) }
+    ensures { Tells (λ words. words_left words.now) result (text_words line.now) }
 {
     if !is_known_text && !is_text(line) {
-        return Err(LineError::Why(Why::BadUtf8));
+        return Err(Why::BadUtf8);
     }
-    read_tokens(words, line)?;
-    Ok(())
+    Ok(worded_part(line))
 }
 
 /// The stage after a line of these words. A line without words tells nothing.
 #[tactic(auto, unfolding(cmwq_grammar::specs::Reasons::step))]
-fn step<'t>(alloc: Global, stage: Stage<'t>, words: &[Token<'t>]) -> Result<Stage<'t>, LineError>
-    ensures { Gives stage_of result (step (stage_of stage.entry) (words_in words.now)) }
+fn step<'t>(alloc: Global, stage: Stage<'t>, words: &'t [u8]) -> Result<Stage<'t>, LineError>
+    ensures { Gives stage_of result (step (stage_of stage.entry) (words_left words.now)) }
 {
-    match words {
-        [] => Ok(stage),
-        [word, rest @ ..] => stage.after(alloc, word.bytes(), rest),
+    match next_word(words) {
+        None => Ok(stage),
+        Some((word, rest)) => stage.after(alloc, word, rest),
     }
 }
 
@@ -73,9 +68,9 @@ pub(crate) fn in_queues<'t>(
     alloc: Global,
     draft: Draft<'t>,
     word: &[u8],
-    rest: &[Token<'t>],
+    rest: &'t [u8],
 ) -> Result<Stage<'t>, LineError>
-    ensures { Gives stage_of result (step (stage.Queues draft.entry) (word.now ∷ words_in rest.now)) }
+    ensures { Gives stage_of result (step (stage.Queues draft.entry) (word.now ∷ words_left rest.now)) }
 {
     if is_word(word, b"queue") {
         return declare_queue(draft, rest);
@@ -95,9 +90,9 @@ pub(crate) fn in_works<'t>(
     alloc: Global,
     draft: Draft<'t>,
     word: &[u8],
-    rest: &[Token<'t>],
+    rest: &'t [u8],
 ) -> Result<Stage<'t>, LineError>
-    ensures { Gives stage_of result (step (stage.Works draft.entry) (word.now ∷ words_in rest.now)) }
+    ensures { Gives stage_of result (step (stage.Works draft.entry) (word.now ∷ words_left rest.now)) }
 {
     if is_word(word, b"work") {
         return declare_work(alloc, draft, rest);
@@ -114,9 +109,9 @@ pub(crate) fn between_bodies<'t>(
     alloc: Global,
     bodies: Bodies<'t>,
     word: &[u8],
-    rest: &[Token<'t>],
+    rest: &'t [u8],
 ) -> Result<Stage<'t>, LineError>
-    ensures { Gives stage_of result (step (stage.Bodies bodies.entry.told bodies.entry.done) (word.now ∷ words_in rest.now)) }
+    ensures { Gives stage_of result (step (stage.Bodies bodies.entry.told bodies.entry.done) (word.now ∷ words_left rest.now)) }
 {
     let are_complete = bodies.are_complete();
     if is_word(word, b"body") && !are_complete {
@@ -133,9 +128,9 @@ pub(crate) fn between_bodies<'t>(
 pub(crate) fn in_body<'t>(
     body: Box<OpenBody<'t>>,
     word: &[u8],
-    rest: &[Token<'t>],
+    rest: &'t [u8],
 ) -> Result<Stage<'t>, LineError>
-    ensures { Gives stage_of result (step (stage.Body body.entry.value.bodies.told body.entry.value.bodies.done body.entry.value.ops.items) (word.now ∷ words_in rest.now)) }
+    ensures { Gives stage_of result (step (stage.Body body.entry.value.bodies.told body.entry.value.bodies.done body.entry.value.ops.items) (word.now ∷ words_left rest.now)) }
 {
     let op = read_op(body.bodies.draft(), word, rest)?;
     add_op(body, op)
@@ -147,9 +142,9 @@ pub(crate) fn in_actor<'t>(
     alloc: Global,
     actor: Box<OpenActor<'t>>,
     word: &[u8],
-    rest: &[Token<'t>],
+    rest: &'t [u8],
 ) -> Result<Stage<'t>, LineError>
-    ensures { Gives stage_of result (step (stage.Actor actor.entry.value.draft actor.entry.value.name actor.entry.value.lines.items) (word.now ∷ words_in rest.now)) }
+    ensures { Gives stage_of result (step (stage.Actor actor.entry.value.draft actor.entry.value.name actor.entry.value.lines.items) (word.now ∷ words_left rest.now)) }
 {
     if is_word(word, b"actor") {
         return open_actor(alloc, close_actor(actor)?, rest);

@@ -1,7 +1,7 @@
 //! Lines that declare works: `work NAME QUEUE`.
 ghost use Rattle.cmwq_asm.specs.Answers.{Gives};
 ghost use Rattle.cmwq_scan.specs.Answers.{Tells};
-ghost use Rattle.cmwq_scan.specs.Words.{words_in};
+ghost use Rattle.cmwq_scan.specs.Words.{words_left};
 ghost use Rattle.cmwq_asm.specs.Declarations.{work_of};
 ghost use Rattle.cmwq_asm.specs.Stages.{stage_of};
 ghost use Rattle.cmwq_asm.specs.Steps.{declared_work};
@@ -16,7 +16,7 @@ use crate::draft::Draft;
 use crate::fault::LineError;
 use crate::stage::Stage;
 use cmwq_grammar::Why;
-use cmwq_scan::{Token, read_last_declared, read_new_name};
+use cmwq_scan::{take_last_declared, take_new_name};
 use cmwq_types::{Fault, MAX_WORKS, QueueId};
 use std::alloc::Global;
 
@@ -24,9 +24,9 @@ use std::alloc::Global;
 pub(crate) fn declare_work<'t>(
     alloc: Global,
     draft: Draft<'t>,
-    rest: &[Token<'t>],
+    rest: &'t [u8],
 ) -> Result<Stage<'t>, LineError>
-    ensures { Gives stage_of result (declared_work draft.entry (words_in rest.now)) }
+    ensures { Gives stage_of result (declared_work draft.entry (words_left rest.now)) }
 {
     let work = read_work(&draft, rest)?;
     add_work(alloc, draft, work)
@@ -34,12 +34,12 @@ pub(crate) fn declare_work<'t>(
 
 /// What is behind the word `work`.
 #[tactic(auto, using(cmwq_scan::proofs::LineSteps::line_steps), unfolding(cmwq_grammar::specs::Reasons::work_at_line))]
-fn read_work<'t>(draft: &Draft<'t>, rest: &[Token<'t>]) -> Result<WorkLine<'t>, Why>
-    ensures line { Tells work_of result (work_at_line draft.now (words_in rest.now)) }
+fn read_work<'t>(draft: &Draft<'t>, rest: &'t [u8]) -> Result<WorkLine<'t>, Why>
+    ensures line { Tells work_of result (work_at_line draft.now (words_left rest.now)) }
     ensures new { IfOk result (λ work. list_any (λ other. bytes_eq other work.name) (work_names draft.now) ≡ false) }
 {
-    let (name, rest) = read_new_name(draft.work_names(), rest)?;
-    let queue = read_last_declared(draft.queue_names(), rest)?;
+    let (name, rest) = take_new_name(draft.work_names(), rest)?;
+    let queue = take_last_declared(draft.queue_names(), rest)?;
     let queue = QueueId(queue as u8);
     Ok(WorkLine { name, queue })
 }

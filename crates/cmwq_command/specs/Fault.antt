@@ -7,7 +7,7 @@ use Rattle.cmwq_image.specs.declared.error.ImageError.TheVariants as images
 use Rattle.cmwq_streams.specs.declared.error.PlayError.{PlayError}
 use Rattle.cmwq_streams.specs.declared.error.PlayError.TheVariants as errors
 
--- the exit status: 1 for the input, 3 for reading and writing, 4 for what ran out (0 is good, 2 is usage)
+-- the exit status: 1 for the input, 2 where the command line has to say more, 3 for reading and writing, 4 for what ran out (0 is good)
 abbrev pub status_of : PlayError → ℕ
 status_of (errors.Asm (texts.At line why)) = 1
 status_of (errors.Asm texts.NoMemory) = 4
@@ -15,6 +15,8 @@ status_of (errors.Image images.NoMemory) = 4
 status_of (errors.Image fault) = 1
 status_of errors.Actors = 1
 status_of errors.TooLong = 1
+status_of errors.NeverQuiet = 1
+status_of errors.TooWide = 2
 status_of errors.Read = 3
 status_of errors.Write = 3
 status_of errors.Full = 4
@@ -39,6 +41,8 @@ line_of errors.Actors = told (codes "actors")
 line_of errors.Full = told (codes "full")
 line_of errors.Tickets = told (codes "tickets")
 line_of errors.TooLong = told (codes "too long")
+line_of errors.NeverQuiet = told (codes "never quiet")
+line_of errors.TooWide = told (codes "more than 500 columns: give --from and --to")
 line_of errors.Read = told (codes "read")
 line_of errors.Write = told (codes "write")
 line_of errors.NoMemory = told (codes "no memory")

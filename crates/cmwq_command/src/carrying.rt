@@ -9,8 +9,11 @@ ghost use Rattle.std.specs.Prelude.{◌≡◌, ◌∷◌, [], Err, IfOk, MatchRe
 use crate::checking::{Judged, check_text, tell_unread};
 use crate::starting::{write_first, write_version};
 use crate::telling::{GOOD, tell};
+use cmwq_draw::{Drawing, Span};
 use cmwq_play::{Marked, OpenGate, PlayError, Sink};
+use cmwq_settle::{run_settled, settle_text};
 use cmwq_verdict::Look;
+use cmwq_words::drawing::DrawOptions;
 use cmwq_words::request::{Request, parse};
 use std::fs::File;
 use std::io::Read;
@@ -20,7 +23,7 @@ use std::thread::Threads;
 use std::time::Clock;
 
 /// Does what the words ask, of which the first is the program's name, and gives the exit status. Commands of a
-/// debugger come from `input`. Events, listings, what a debugger says, what a play leaves, verdicts of good files, the version and
+/// debugger come from `input`. Events, listings, pictures, what a debugger says, what a play leaves, verdicts of good files, the version and
 /// help go to `output`, and other verdicts, which look as they are to, and usage faults to `errors`. A play may wait forever.
 pub fn carry_out<R, I: Read + Drop, O: Sink, E: Sink>(
     rt: &R,
@@ -44,7 +47,7 @@ where
     }
 }
 
-/// Does what is asked, and gives the exit status. Commands of a debugger come from the input. Events, listings, what a debugger
+/// Does what is asked, and gives the exit status. Commands of a debugger come from the input. Events, listings, pictures, what a debugger
 /// says, what a play leaves, verdicts of good files and the version go to `output`, and other verdicts to `errors`.
 pub fn answer<R, I: Read + Drop, O: Sink, E: Sink>(
     rt: &R,
@@ -63,11 +66,13 @@ where
 {
     match request {
         Request::New { file } => good(new(rt, output, file)),
-        Request::Run { file } => good(run(rt, output, file)),
+        Request::Run { file, settle } => good(run(rt, output, file, settle)),
+        Request::Settle { file } => good(settle(rt, output, file)),
         Request::List { file } => good(list(rt, output, file)),
         Request::Asm { file, out } => good(asm(rt, file, out)),
         Request::Show { image } => good(show(rt, output, image)),
         Request::Debug { file } => good(debug(rt, input, output, file)),
+        Request::Draw { file, options } => good(draw(rt, output, file, options)),
         Request::Play { file, capacity } => good(play(rt, output, file, capacity)),
         Request::Check { files } => check(rt, look, output, errors, &files),
         Request::Version => good(write_version(rt.alloc(), output)),
@@ -133,12 +138,57 @@ fn new<R: Files, W: Sink>(rt: &R, writer: &mut W, file: Option<&str>) -> Result<
     }
 }
 
-/// Runs the scenario whose text is in the file, and writes its events.
-fn run<R: Files + AllocGlobal, W: Sink>(rt: &R, writer: &mut W, file: &str) -> Result<(), PlayError>
+/// Runs the scenario whose text is in the file, until its machine is quiet where that is asked for, and writes its events.
+fn run<R: Files + AllocGlobal, W: Sink>(
+    rt: &R,
+    writer: &mut W,
+    file: &str,
+    settle: bool,
+) -> Result<(), PlayError>
     requires { W.failed writer.old ≡ false }
 {
     let mut reader = opened(rt, file)?;
+    if settle {
+        return run_settled(rt.alloc(), &mut reader, writer);
+    }
     cmwq_play::run(rt.alloc(), &mut reader, writer)
+}
+
+/// Writes the listing of the scenario whose text is in the file, with the `next` that make its machine quiet.
+fn settle<R: Files + AllocGlobal, W: Sink>(
+    rt: &R,
+    writer: &mut W,
+    file: &str,
+) -> Result<(), PlayError>
+    requires { W.failed writer.old ≡ false }
+{
+    let mut reader = opened(rt, file)?;
+    settle_text(rt.alloc(), &mut reader, writer)
+}
+
+/// Draws the run of the scenario whose text is in the file.
+fn draw<R: Files + AllocGlobal, W: Sink>(
+    rt: &R,
+    writer: &mut W,
+    file: &str,
+    options: DrawOptions,
+) -> Result<(), PlayError>
+    requires { W.failed writer.old ≡ false }
+{
+    let DrawOptions {
+        settle,
+        svg,
+        from,
+        to,
+    } = options;
+    let span = Span { from, to };
+    let mut reader = opened(rt, file)?;
+    cmwq_draw::draw(
+        rt.alloc(),
+        Drawing { settle, svg, span },
+        &mut reader,
+        writer,
+    )
 }
 
 /// Writes the listing of the scenario whose text is in the file.

@@ -30,7 +30,12 @@ pub fn status(fault: PlayError) -> u8
         | PlayError::Full
         | PlayError::Tickets => 4,
         PlayError::Read | PlayError::Write => 3,
-        PlayError::Asm(_) | PlayError::Image(_) | PlayError::Actors | PlayError::TooLong => 1,
+        PlayError::TooWide => 2,
+        PlayError::Asm(_)
+        | PlayError::Image(_)
+        | PlayError::Actors
+        | PlayError::TooLong
+        | PlayError::NeverQuiet => 1,
     }
 }
 
@@ -86,6 +91,8 @@ fn line_of(fault: PlayError) -> Line
         PlayError::Full => told("full"),
         PlayError::Tickets => told("tickets"),
         PlayError::TooLong => told("too long"),
+        PlayError::NeverQuiet => told("never quiet"),
+        PlayError::TooWide => told("more than 500 columns: give --from and --to"),
         PlayError::Read => told("read"),
         PlayError::Write => told("write"),
         PlayError::NoMemory

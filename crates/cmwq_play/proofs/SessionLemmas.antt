@@ -3,14 +3,13 @@ use Rattle.std.proofs.Common.{◌≡◌, ℕ, List, ◌++◌, Bool, Option, Resu
 use Rattle.cmwq_types.specs.Contents.{ActorContents, ScenarioContents}
 use Rattle.cmwq_types.specs.Scenario.{expand}
 use Rattle.cmwq_types.specs.declared.instr.Instr.{Instr}
-use Rattle.cmwq_table.specs.Events.{events_from}
+use Rattle.cmwq_table.specs.Events.{events, events_from}
 use Rattle.cmwq_table.specs.State.{State, start}
 use Rattle.cmwq_table.specs.Table.{after_all}
 use Rattle.cmwq_table.proofs.RunLemmas.{after_all-append}
 use Rattle.cmwq_streams.specs.Blocks.{Sends, SendsFront, kept, sink}
 use Rattle.cmwq_play.specs.Session.{Issued, Stopped, prints}
 use Rattle.cmwq_play.specs.Commands.{Writes}
-use Rattle.cmwq_play.specs.Runs.{IsPrinted, IsRunOf}
 use Rattle.cmwq_play.proofs.CommandLemmas.{writes_more}
 use Rattle.cmwq_streams.specs.declared.error.PlayError.{PlayError}
 use Rattle.cmwq_play.specs.declared.session.Session.{Session}
@@ -78,9 +77,9 @@ module _ {M W : Type 0} (loaded : M → ScenarioContents) (state : M → State) 
         why = stopped.why;
       }
 
--- what a session writes from the start on is what the one actor prints
-pub writes_printed : (S : ScenarioContents) (actor : ActorContents) (s : State) (before after : Option (List ℕ)) (failed : Bool) (r : Result (Unit {0}) PlayError) → IsRunOf S actor → s ≡ start S
-    → Writes (λ output. output ≡ events_from S s (expand actor)) before after failed r → Writes (IsPrinted S) before after failed r
-writes_printed S actor s before after failed r runs begins h =
-    writes_more (λ output. output ≡ events_from S s (expand actor)) (IsPrinted S) before after failed r
-    (λ output is. (actor, runs, is ∙ ap (λ (t : State). events_from S t (expand actor)) begins)) h
+-- what a session writes from the start on is what the actor prints
+pub writes_events : (S : ScenarioContents) (actor : ActorContents) (s : State) (before after : Option (List ℕ)) (failed : Bool) (r : Result (Unit {0}) PlayError) → s ≡ start S
+    → Writes (λ output. output ≡ events_from S s (expand actor)) before after failed r → Writes (λ output. output ≡ events S (expand actor)) before after failed r
+writes_events S actor s before after failed r begins h =
+    writes_more (λ output. output ≡ events_from S s (expand actor)) (λ output. output ≡ events S (expand actor)) before after failed r
+    (λ output is. is ∙ ap (λ (t : State). events_from S t (expand actor)) begins) h

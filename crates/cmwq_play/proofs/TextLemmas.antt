@@ -3,6 +3,7 @@
 use Rattle.std.proofs.Common.{◌≡◌, ℕ, ◌<◌, ◌≤◌, ◌⊎◌, inl, inr, List, [], ◌∷◌, length, refl, Option, Some, None, IfSome, sym, ap, ◌∙◌, subst, length-append, arith, IfErr, Result, Ok, Err}
 use Rattle.std.proofs.Math.Nat.{lt_of_not-le}
 use Rattle.std.specs.Io.KnownBytes.{Consumes}
+use Rattle.std.specs.Prelude.{slice_index_or}
 use Rattle.cmwq_types.specs.Contents.{ActorContents, ScenarioContents}
 use Rattle.cmwq_types.specs.Scenario.{expand}
 use Rattle.cmwq_types.specs.declared.limits.TheConstants.{MAX_TEXT}
@@ -13,7 +14,7 @@ use Rattle.cmwq_asm.specs.declared.fault.AsmError.{AsmError}
 use Rattle.cmwq_asm.specs.declared.fault.AsmError.TheVariants.{At, NoMemory as asm_no_memory}
 use Rattle.cmwq_play.specs.Commands.{Answers, IsOutside}
 use Rattle.cmwq_play.specs.Runs.{CanRun, IsRefused}
-use Rattle.cmwq_play.specs.Texts.{IsRun, IsRunFault, IsSpelled, IsTextFault}
+use Rattle.cmwq_play.specs.Texts.{ComesTo, IsFaultOf, IsSpelled, IsTextFault}
 use Rattle.cmwq_play.proofs.CommandLemmas.{answers_lifted, outside_told}
 use Rattle.cmwq_grammar.specs.declared.why.Why.{Why}
 use Rattle.cmwq_streams.specs.declared.error.PlayError.{PlayError}
@@ -114,35 +115,79 @@ one_told error line why fault is (inl told) =
     ap (λ (n : ℕ). fault_at n fault.why) lines ∙ ap (λ (w : Why). fault_at line w) reasons
 one_told error line why fault is (inr outside) = cc
 
--- A run's answers from those of its text.
+-- A command's answers from those of its text: what the scenario comes to, and what is told of it. A fault of the text isn't told of it.
+module _ {X : Type 0} (Gives : ScenarioContents → X → Type 0) (Tells : ScenarioContents → PlayError → Type 0) where
+  text_fault : (input : Option (List ℕ)) (error : PlayError) → IsTextFault input error → IsFaultOf Tells input error
+  text_fault input (Asm fault) told = told
+  text_fault input other told = elim told [ ]
 
-run_fault : (input : Option (List ℕ)) (error : PlayError) → IsTextFault input error → IsRunFault input error
-run_fault input (Asm fault) told = told
-run_fault input other told = elim told [ ]
+  -- the text has a fault, or it couldn't be read
+  pub answers_unread : {A B : Type 0} (input : Option (List ℕ)) (error : PlayError) → Answers {A = A} IsSpelled IsTextFault input (Err error)
+      → Answers {A = B} (ComesTo Gives) (IsFaultOf Tells) input (Err error)
+  answers_unread {A} {B} input error h = whole input h.told h.given h.tells where
+    told_so : (known : Option (List ℕ)) → IsTextFault known error ⊎ IsOutside error → IsFaultOf Tells known error ⊎ IsOutside error
+    told_so known (inl fault) = inl (text_fault known error fault)
+    told_so known (inr outside) = inr outside
 
--- the text has a fault, or it couldn't be read
-pub run_err : {A B : Type 0} (input : Option (List ℕ)) (error : PlayError) → Answers {A = A} IsSpelled IsTextFault input (Err error) → Answers {A = B} IsRun IsRunFault input (Err error)
-run_err {A} {B} input error h = whole input h.told h.given h.tells where
-  told_so : (known : Option (List ℕ)) → IsTextFault known error ⊎ IsOutside error → IsRunFault known error ⊎ IsOutside error
-  told_so known (inl fault) = inl (run_fault known error fault)
-  told_so known (inr outside) = inr outside
+    each : (bytes : List ℕ) → ((S : ScenarioContents) → IsSpelled (Some bytes) S → IsOutside error) → ((fault : PlayError) → IsTextFault (Some bytes) fault → (error ≡ fault) ⊎ IsOutside error)
+        → (fault : PlayError) → IsFaultOf Tells (Some bytes) fault → (error ≡ fault) ⊎ IsOutside error
+    each bytes given tells (Asm fault) told = tells (Asm fault) told
+    each bytes given tells other told = inr (given told.0 told.1)
 
-  run_tells : (bytes : List ℕ) → ((S : ScenarioContents) → IsSpelled (Some bytes) S → IsOutside error) → ((fault : PlayError) → IsTextFault (Some bytes) fault → (error ≡ fault) ⊎ IsOutside error)
-      → (fault : PlayError) → IsRunFault (Some bytes) fault → (error ≡ fault) ⊎ IsOutside error
-  run_tells bytes given tells (Asm fault) told = tells (Asm fault) told
-  run_tells bytes given tells other refused = inr (given refused.0 refused.1)
+    whole : (known : Option (List ℕ)) → IsTextFault known error ⊎ IsOutside error → IfSome known (λ bytes. (S : ScenarioContents) → IsSpelled (Some bytes) S → IsOutside error)
+        → IfSome known (λ bytes. (fault : PlayError) → IsTextFault (Some bytes) fault → (error ≡ fault) ⊎ IsOutside error) → Answers {A = B} (ComesTo Gives) (IsFaultOf Tells) known (Err error)
+    whole (Some bytes) told given tells = record { told = told_so (Some bytes) told; given = λ x is. given is.0 is.1; tells = each bytes given tells }
+    whole None told given tells = record { told = told_so None told; given = tt; tells = tt }
 
-  whole : (known : Option (List ℕ)) → IsTextFault known error ⊎ IsOutside error → IfSome known (λ bytes. (S : ScenarioContents) → IsSpelled (Some bytes) S → IsOutside error)
-      → IfSome known (λ bytes. (fault : PlayError) → IsTextFault (Some bytes) fault → (error ≡ fault) ⊎ IsOutside error) → Answers {A = B} IsRun IsRunFault known (Err error)
-  whole (Some bytes) told given tells = record { told = told_so (Some bytes) told; given = λ output is. given is.0 is.1; tells = run_tells bytes given tells }
-  whole None told given tells = record { told = told_so None told; given = tt; tells = tt }
+  -- The text spells this scenario and no other.
+  module _ (S : ScenarioContents) where
+    none_told : (bytes : List ℕ) → ((T : ScenarioContents) → Spells bytes T → S ≡ T) → ((fault : PlayError) → Tells S fault → ⊥) → ((fault : PlayError) → IsTextFault (Some bytes) fault → ⊥)
+        → (fault : PlayError) → IsFaultOf Tells (Some bytes) fault → ⊥
+    none_told bytes only nothing sound (Asm fault) told = sound (Asm fault) told
+    none_told bytes only nothing sound other told = nothing other (subst (λ (T : ScenarioContents). Tells T other) (sym (only told.0 told.1.spelled)) told.2)
+
+    -- nothing is told of it, and what follows fails for nothing in the text
+    pub answers_well : {A B : Type 0} (x : A) (input : Option (List ℕ)) (r : Result B PlayError) → ((fault : PlayError) → Tells S fault → ⊥) → IfErr r (λ error. IsOutside error)
+        → IfSome input (λ text. (T : ScenarioContents) → Spells text T → S ≡ T) → Answers {A = A} IsSpelled IsTextFault input (Ok x) → Answers {A = B} (ComesTo Gives) (IsFaultOf Tells) input r
+    answers_well x (Some bytes) r nothing outside only h = record {
+      told = outside_told r (IsFaultOf Tells (Some bytes)) outside;
+      given = λ output is. outside;
+      tells = λ fault told. elim (none_told bytes only nothing h.tells fault told) [ ];
+    }
+    answers_well x None r nothing outside only h = record { told = outside_told r (IsFaultOf Tells None) outside; given = tt; tells = tt }
+
+    told_fault : (input : Option (List ℕ)) (error : PlayError) → IsSpelled input S → ((fault : AsmError) → Tells S (Asm fault) → ⊥) → Tells S error → IsFaultOf Tells input error
+    told_fault input (Asm fault) found no_text told = elim (no_text fault told) [ ]
+    told_fault input other found no_text told = (S, found, told)
+
+    one_fault_told : (bytes : List ℕ) (error : PlayError) → ((fault : PlayError) → Tells S fault → error ≡ fault) → ((T : ScenarioContents) → Spells bytes T → S ≡ T) → ((fault : PlayError) → IsTextFault (Some bytes) fault → ⊥)
+        → (fault : PlayError) → IsFaultOf Tells (Some bytes) fault → error ≡ fault
+    one_fault_told bytes error one only sound (Asm fault) told = elim (sound (Asm fault) told) [ ]
+    one_fault_told bytes error one only sound other told = one other (subst (λ (T : ScenarioContents). Tells T other) (sym (only told.0 told.1.spelled)) told.2)
+
+    -- this one fault is told of it, and it comes to nothing
+    pub answers_told : {A B : Type 0} (x : A) (input : Option (List ℕ)) (error : PlayError) → Tells S error → ((fault : AsmError) → Tells S (Asm fault) → ⊥) → ((fault : PlayError) → Tells S fault → error ≡ fault)
+        → ((y : X) → Gives S y → ⊥) → IsSpelled input S → IfSome input (λ text. (T : ScenarioContents) → Spells text T → S ≡ T)
+        → Answers {A = A} IsSpelled IsTextFault input (Ok x) → Answers {A = B} (ComesTo Gives) (IsFaultOf Tells) input (Err error)
+    answers_told x (Some bytes) error told no_text one nothing found only h = record {
+      told = inl (told_fault (Some bytes) error found no_text told);
+      given = λ y is. absurd (nothing y (subst (λ (T : ScenarioContents). Gives T y) (sym (only is.0 is.1.spelled)) is.2));
+      tells = λ fault is. inl (one_fault_told bytes error one only h.tells fault is);
+    }
+    answers_told x None error told no_text one nothing found only h = record { told = inl (told_fault None error found no_text told); given = tt; tells = tt }
+
+-- Why a scenario isn't run.
 
 -- a scenario has one actor at most that is alone
-same_actor : (S : ScenarioContents) (a b : ActorContents) → S.actors ≡ a ∷ [] → S.actors ≡ b ∷ [] → a ≡ b
+pub same_actor : (S : ScenarioContents) (a b : ActorContents) → S.actors ≡ a ∷ [] → S.actors ≡ b ∷ [] → a ≡ b
 same_actor S a b first second = cc
 
+-- the actor that is first is the only one
+pub first-is : (actors : List ActorContents) (first actor : ActorContents) → first ≡ slice_index_or actors 0 first → actors ≡ actor ∷ [] → first ≡ actor
+first-is actors first actor at alone = at ∙ ap (λ (all : List ActorContents). slice_index_or all 0 first) alone
+
 -- a scenario that can be run isn't refused
-not_refused : (S : ScenarioContents) (error : PlayError) → CanRun S → IsRefused S error → ⊥
+pub not_refused : (S : ScenarioContents) (error : PlayError) → CanRun S → IsRefused S error → ⊥
 not_refused S Actors can other = other (ap length can.1.alone)
 not_refused S Full can many =
     let same = ap (λ (actor : ActorContents). length (expand actor)) (same_actor S can.0 many.0 can.1.alone many.1) in
@@ -150,7 +195,7 @@ not_refused S Full can many =
 not_refused S other can refused = elim refused [ ]
 
 -- it is refused for one reason alone
-refused_once : (S : ScenarioContents) (error fault : PlayError) → IsRefused S error → IsRefused S fault → error ≡ fault
+pub refused_once : (S : ScenarioContents) (error fault : PlayError) → IsRefused S error → IsRefused S fault → error ≡ fault
 refused_once S Actors Actors first second = refl
 refused_once S Actors Full first second = absurd (first (ap length second.1))
 refused_once S Full Actors first second = absurd (second (ap length first.1))
@@ -158,41 +203,3 @@ refused_once S Full Full first second = refl
 refused_once S Actors other first second = elim second [ ]
 refused_once S Full other first second = elim second [ ]
 refused_once S other fault first second = elim first [ ]
-
--- The text spells this scenario and no other.
-module _ (S : ScenarioContents) where
-  run_told : (bytes : List ℕ) → ((T : ScenarioContents) → Spells bytes T → S ≡ T) → CanRun S → ((fault : PlayError) → IsTextFault (Some bytes) fault → ⊥)
-      → (fault : PlayError) → IsRunFault (Some bytes) fault → ⊥
-  run_told bytes only can sound (Asm fault) told = sound (Asm fault) told
-  run_told bytes only can sound other refused = not_refused refused.0 other (subst CanRun (only refused.0 refused.1.spelled) can) refused.2
-
-  -- it can be run, and what follows fails for nothing in the text
-  pub run_ok : {A B : Type 0} (x : A) (input : Option (List ℕ)) (r : Result B PlayError) → CanRun S → IfErr r (λ error. IsOutside error)
-      → IfSome input (λ text. (T : ScenarioContents) → Spells text T → S ≡ T) → Answers {A = A} IsSpelled IsTextFault input (Ok x) → Answers {A = B} IsRun IsRunFault input r
-  run_ok x (Some bytes) r can outside only h = record {
-    told = outside_told r (IsRunFault (Some bytes)) outside;
-    given = λ output is. outside;
-    tells = λ fault told. elim (run_told bytes only can h.tells fault told) [ ];
-  }
-  run_ok x None r can outside only h = record { told = outside_told r (IsRunFault None) outside; given = tt; tells = tt }
-
-  refused_fault : (input : Option (List ℕ)) (error : PlayError) → IsSpelled input S → IsRefused S error → IsRunFault input error
-  refused_fault input Actors found refused = (S, found, refused)
-  refused_fault input Full found refused = (S, found, refused)
-  refused_fault input other found refused = elim refused [ ]
-
-  refused_told : (bytes : List ℕ) (error : PlayError) → IsRefused S error → ((T : ScenarioContents) → Spells bytes T → S ≡ T) → ((fault : PlayError) → IsTextFault (Some bytes) fault → ⊥)
-      → (fault : PlayError) → IsRunFault (Some bytes) fault → error ≡ fault
-  refused_told bytes error refused only sound (Asm fault) told = elim (sound (Asm fault) told) [ ]
-  refused_told bytes error refused only sound other told =
-      refused_once S error other refused (subst (λ (T : ScenarioContents). IsRefused T other) (sym (only told.0 told.1.spelled)) told.2)
-
-  -- it can't be run
-  pub run_refused : {A B : Type 0} (x : A) (input : Option (List ℕ)) (error : PlayError) → IsRefused S error → IsSpelled input S → IfSome input (λ text. (T : ScenarioContents) → Spells text T → S ≡ T)
-      → Answers {A = A} IsSpelled IsTextFault input (Ok x) → Answers {A = B} IsRun IsRunFault input (Err error)
-  run_refused x (Some bytes) error refused found only h = record {
-    told = inl (refused_fault (Some bytes) error found refused);
-    given = λ output is. absurd (not_refused is.0 error (is.2.0, is.2.1) (subst (λ (T : ScenarioContents). IsRefused T error) (only is.0 is.1.spelled) refused));
-    tells = λ fault told. inl (refused_told bytes error refused only h.tells fault told);
-  }
-  run_refused x None error refused found only h = record { told = inl (refused_fault None error found refused); given = tt; tells = tt }

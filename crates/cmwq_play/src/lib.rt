@@ -14,6 +14,6 @@ pub use cmwq_played::play;
 pub use cmwq_streams::{BlockWriter, Marked, PlayError, Sink, Source, put_all};
 pub use debugging::debug;
 pub use images::{from_image, to_image};
-pub use listing::list_text;
+pub use listing::{list_text, write_listing};
 pub use reading::{read_text, read_whole};
-pub use running::run;
+pub use running::{judge, print_actor, run};

@@ -34,7 +34,10 @@ pub fn list_text<R: Source, W: Sink>(
 }
 
 /// Writes the scenario's listing.
-pub(crate) fn write_listing<W: Sink>(
+///
+/// The only errors are `NoMemory`, and then nothing was written, and `Write`, exactly where the writer failed: what was written then is
+/// a front of the listing.
+pub fn write_listing<W: Sink>(
     alloc: Global,
     scenario: &Scenario,
     writer: &mut W,

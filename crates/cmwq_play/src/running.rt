@@ -1,8 +1,9 @@
 //! `run`: from a scenario's text to the lines that it prints.
 ghost use Rattle.cmwq_play.specs.Commands.{Answers, Reads, Writes};
 ghost use Rattle.cmwq_streams.specs.Sending.{IsSendError};
-ghost use Rattle.cmwq_play.specs.Runs.{CanRun, IsPrinted, IsRefused, IsRunOf};
+ghost use Rattle.cmwq_play.specs.Runs.{CanRun, IsPrinted, IsRefused};
 ghost use Rattle.cmwq_play.specs.Texts.{IsRun, IsRunFault};
+ghost use Rattle.cmwq_table.specs.Events.{events};
 ghost use Rattle.cmwq_table.specs.State.{start};
 ghost use Rattle.cmwq_types.specs.Faults.{IsValid};
 ghost use Rattle.cmwq_types.specs.Scenario.{expand, expand_lines};
@@ -41,8 +42,9 @@ pub fn run<R: Source, W: Sink>(
     load_and_play::<Plain, W>(alloc, scenario, writer)
 }
 
-/// Judges whether the scenario can be run: it has exactly one actor, of no more than 1,048,576 instructions.
-pub(crate) fn judge(scenario: &Scenario) -> Result<(), PlayError>
+/// Judges whether the scenario can be run: it has exactly one actor, of no more than 1,048,576 instructions. The only errors are
+/// `Actors` and `Full`, in this order.
+pub fn judge(scenario: &Scenario) -> Result<(), PlayError>
     ensures can { OnOk result (CanRun scenario.now) }
     ensures refused { IfErr result (λ error. IsRefused scenario.now error) }
 {
@@ -84,22 +86,24 @@ fn load_and_play<M: Machine, W: Sink>(
 {
     let scenario = Arc::new(alloc, scenario)?;
     let machine = M::begin(alloc, Arc::clone(&scenario)?)?;
-    play(alloc, &scenario, &scenario.actors[0], machine, writer)
+    print_actor(alloc, &scenario, &scenario.actors[0], machine, writer)
 }
 
-/// Issues the one actor's instructions on a machine at its start, and writes the lines of the replies.
-fn play<M: Machine, W: Sink>(
+/// Issues an actor's instructions on a machine at the scenario's start, and writes the lines of the replies as they come, a block at a
+/// time. The actor needs not be one of the scenario's.
+///
+/// The only errors are `Write`, exactly where the writer failed, and `NoMemory`. What was written then is a front of the lines.
+pub fn print_actor<M: Machine, W: Sink>(
     alloc: Global,
     scenario: &Scenario,
     actor: &Actor,
     machine: M,
     writer: &mut W,
 ) -> Result<(), PlayError>
-    requires runs { IsRunOf scenario.now actor.now }
     requires loaded { M.loaded machine ≡ scenario.now }
     requires start { M.state machine ≡ start scenario.now }
     requires sound { W.failed writer.old ≡ false }
-    ensures writes { Writes (IsPrinted scenario.now) (W.contents writer.old) (W.contents writer.new) (W.failed writer.new) result }
+    ensures writes { Writes (λ output. output ≡ events scenario.now (expand actor.now)) (W.contents writer.old) (W.contents writer.new) (W.failed writer.new) result }
     ensures why { IfErr result (λ error. IsSendError error) }
 {
     let mut session = Session {

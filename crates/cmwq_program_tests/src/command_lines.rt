@@ -4,6 +4,7 @@ use clap::error::ErrorKind;
 use cmwq_command::{Look, carry_out, tell};
 use cmwq_machine_tests::streams::{Output, reading_of, writing_to};
 use cmwq_play::Marked;
+use cmwq_words::drawing::DrawOptions;
 use cmwq_words::request::{Request, not_text, parse};
 use std::alloc::Global;
 use std::process::Abort;
@@ -20,7 +21,7 @@ fn words(rt: &impl Abort, alloc: Global, line: &str) -> Vec<String> {
         .expect(rt, "memory is left")
 }
 
-const REQUESTS: [(&str, Request<'_>); 11] = [
+const REQUESTS: [(&str, Request<'_>); 16] = [
     ("cmwq new", Request::New { file: None }),
     (
         "cmwq new a.cmwq",
@@ -28,7 +29,57 @@ const REQUESTS: [(&str, Request<'_>); 11] = [
             file: Some("a.cmwq"),
         },
     ),
-    ("cmwq run a.cmwq", Request::Run { file: "a.cmwq" }),
+    (
+        "cmwq run a.cmwq",
+        Request::Run {
+            file: "a.cmwq",
+            settle: false,
+        },
+    ),
+    (
+        "cmwq run --settle a.cmwq",
+        Request::Run {
+            file: "a.cmwq",
+            settle: true,
+        },
+    ),
+    ("cmwq settle a.cmwq", Request::Settle { file: "a.cmwq" }),
+    (
+        "cmwq draw a.cmwq",
+        Request::Draw {
+            file: "a.cmwq",
+            options: DrawOptions {
+                settle: false,
+                svg: false,
+                from: None,
+                to: None,
+            },
+        },
+    ),
+    (
+        "cmwq draw --settle --svg --from 0 --to 18446744073709551615 a.cmwq",
+        Request::Draw {
+            file: "a.cmwq",
+            options: DrawOptions {
+                settle: true,
+                svg: true,
+                from: Some(0),
+                to: Some(u64::MAX),
+            },
+        },
+    ),
+    (
+        "cmwq draw a.cmwq --to 9 --svg",
+        Request::Draw {
+            file: "a.cmwq",
+            options: DrawOptions {
+                settle: false,
+                svg: true,
+                from: None,
+                to: Some(9),
+            },
+        },
+    ),
     ("cmwq list a.cmwq", Request::List { file: "a.cmwq" }),
     (
         "cmwq asm a.cmwq a.image",
@@ -85,7 +136,7 @@ fn a_check_asks_for_each_of_its_files(rt: HostRuntime) {
 }
 
 /// Command lines that are no request, of which kind the answer is, and with which status the program ends.
-const NO_REQUESTS: [(&str, ErrorKind, i32); 18] = [
+const NO_REQUESTS: [(&str, ErrorKind, i32); 23] = [
     (
         "cmwq",
         ErrorKind::DisplayHelpOnMissingArgumentOrSubcommand,
@@ -102,6 +153,15 @@ const NO_REQUESTS: [(&str, ErrorKind, i32); 18] = [
     ("cmwq play a --capacity 0", ErrorKind::ValueValidation, 2),
     ("cmwq play a --capacity 4097", ErrorKind::ValueValidation, 2),
     ("cmwq play a --capacity many", ErrorKind::ValueValidation, 2),
+    ("cmwq run --fast a", ErrorKind::UnknownArgument, 2),
+    ("cmwq settle", ErrorKind::MissingRequiredArgument, 2),
+    ("cmwq draw --from a", ErrorKind::MissingRequiredArgument, 2),
+    ("cmwq draw --from ten a", ErrorKind::ValueValidation, 2),
+    (
+        "cmwq draw --to 18446744073709551616 a",
+        ErrorKind::ValueValidation,
+        2,
+    ),
     ("cmwq --help", ErrorKind::DisplayHelp, 0),
     ("cmwq -h", ErrorKind::DisplayHelp, 0),
     ("cmwq help", ErrorKind::DisplayHelp, 0),

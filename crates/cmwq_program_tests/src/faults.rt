@@ -29,7 +29,7 @@ const LONGEST: AsmError = AsmError::At {
     why: Why::MissingWord,
 };
 
-const TOLD: [Told; 18] = [
+const TOLD: [Told; 20] = [
     (
         PlayError::Asm(LONGEST),
         1,
@@ -61,6 +61,12 @@ const TOLD: [Told; 18] = [
     (PlayError::Image(ImageError::Extra), 1, b"image: Extra\n"),
     (PlayError::Actors, 1, b"actors\n"),
     (PlayError::TooLong, 1, b"too long\n"),
+    (PlayError::NeverQuiet, 1, b"never quiet\n"),
+    (
+        PlayError::TooWide,
+        2,
+        b"more than 500 columns: give --from and --to\n",
+    ),
     (PlayError::Read, 3, b"read\n"),
     (PlayError::Write, 3, b"write\n"),
     (PlayError::Full, 4, b"full\n"),

@@ -11,6 +11,7 @@ use cmwq_machine_tests::examples::{IMAGE_OF_STEPS_RUN_OUT as IMAGE, STEPS_RUN_OU
 use cmwq_machine_tests::streams::reading_of;
 use cmwq_play::{Marked, PlayError};
 use cmwq_types::Fault;
+use cmwq_words::drawing::DrawOptions;
 use cmwq_words::request::Request;
 use std::fs;
 use std::process::Abort;
@@ -146,7 +147,20 @@ fn each_command_reads_and_writes_files(rt: HostRuntime) {
     let file = "cmwq_commands/a.cmwq";
     let out = "cmwq_commands/a.image";
     put_file(&rt, file, STEPS_RUN_OUT.text);
-    check_answer(&rt, Request::Run { file }, Ok(()), STEPS_RUN_OUT.prints);
+    let never = Err(PlayError::NeverQuiet);
+    for (settle, result) in [(false, Ok(())), (true, never)] {
+        let run = Request::Run { file, settle };
+        check_answer(&rt, run, result, STEPS_RUN_OUT.prints);
+    }
+    check_answer(&rt, Request::Settle { file }, never, b"");
+    let options = DrawOptions {
+        settle: false,
+        svg: false,
+        from: None,
+        to: None,
+    };
+    let no_tick = b"     0\ncpu 0||\nactor||\n";
+    check_answer(&rt, Request::Draw { file, options }, Ok(()), no_tick);
     check_answer(&rt, Request::List { file }, Ok(()), STEPS_RUN_OUT.text);
     check_answer(&rt, Request::Asm { file, out }, Ok(()), b"");
     check_file(&rt, out, &IMAGE);
@@ -220,7 +234,14 @@ fn a_file_that_is_not_there_is_a_failed_read_or_write(rt: HostRuntime) {
     let file = "cmwq_no_folder/a.cmwq";
     let out = "cmwq_no_folder/a.image";
     for (request, fault) in [
-        (Request::Run { file }, PlayError::Read),
+        (
+            Request::Run {
+                file,
+                settle: false,
+            },
+            PlayError::Read,
+        ),
+        (Request::Settle { file }, PlayError::Read),
         (Request::List { file }, PlayError::Read),
         (Request::Show { image: out }, PlayError::Read),
         (Request::Debug { file }, PlayError::Read),

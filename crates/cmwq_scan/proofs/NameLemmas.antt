@@ -1,12 +1,19 @@
 -- Names as keys of a set: a test of a name, over the keys.
-use Rattle.std.proofs.Common.{◌≡◌, ℕ, suc, ◌+◌, Bool, true, false, not, cond, ◌||◌, List, [], ◌∷◌, ◌++◌, length, None, Some, ap, ◌∙◌, refl, position, nat_lt}
-use Rattle.std.specs.Prelude.{map}
-use Rattle.std.specs.List.{All, AllByRecursion, list_any, position_or_len}
+use Rattle.std.proofs.Common.{◌≡◌, ℕ, suc, ◌+◌, ◌<◌, Bool, true, false, not, cond, ◌||◌, List, [], ◌∷◌, ◌++◌, length, None, Some, get_or, ap, sym, ◌∙◌, refl, arith, position, nat_lt}
+use Rattle.std.specs.Prelude.{map, slice_get}
+use Rattle.std.specs.List.{All, AllByRecursion, IsDistinct, list_any, position_or_len}
+use Rattle.std.proofs.lemmas.Bool.Decides.{nat_tests}
+use Rattle.std.proofs.lemmas.List.Sums.{position_or_len_is}
+use Rattle.std.proofs.lemmas.Map.Keys.{apart_from_distinct}
+use Rattle.std.proofs.lemmas.Option.{get_or_from_slice_get, slice_get_within}
 use Rattle.std.proofs.lemmas.List.Elements.{recursion_from_All}
 use Rattle.std.specs.Str.{bytes_eq}
 use Rattle.std.proofs.lemmas.Cmp.{nat_list_eq_equiv}
 use Rattle.cmwq_types.specs.Name.{is_name}
 use Rattle.std.specs.Cmp.Lexicographic.{bytes_decides}
+
+lt_yes : (i n : ℕ) → i < n → nat_lt i n ≡ true
+lt_yes i n below = grind (arith, nat_tests)
 
 pub bytes_eq-sym : (a b : List ℕ) → bytes_eq a b ≡ bytes_eq b a
 bytes_eq-sym a b = nat_list_eq_equiv.symm a b
@@ -55,3 +62,26 @@ module _ {K : Type 0} (bytes : K → List ℕ) (name : List ℕ) where
       by : (keys : List K) → AllByRecursion (λ key. is_name (bytes key) ≡ true) keys → list_any (λ key. bytes_eq name (bytes key)) keys ≡ true → is_name name ≡ true
       by [] names there = cc
       by (key ∷ keys) names there = by_first (bytes_eq name (bytes key)) key keys refl names.0 (by keys names.1) there
+
+  -- the name of a key at a place, where no two keys have one name
+  pub position_at : (keys : List K) (i : ℕ) (key : K) → IsDistinct (λ x y. bytes_eq (bytes x) (bytes y)) keys → slice_get keys i ≡ Some key → bytes_eq (bytes key) name ≡ true → position (λ other. bytes_eq other name) (map bytes keys) ≡ Some i
+  position_at keys i key distinct there same =
+      let inside : i < length keys = slice_get_within keys i key there in
+      let named : bytes key ≡ name = (bytes_decides (bytes key) name).0 same in
+      let at : get_or keys i key ≡ key = get_or_from_slice_get keys i key key there in
+      let first : position_or_len (λ key. bytes_eq name (bytes key)) keys ≡ i =
+      position_or_len_is (λ key. bytes_eq name (bytes key)) keys i key (omega (arith, inside))
+      (λ k below.
+      bytes_eq-sym name (bytes (get_or keys k key)) ∙ ap (λ (n : List ℕ). bytes_eq (bytes (get_or keys k key)) n) (sym named ∙ ap bytes (sym at))
+      ∙ apart_from_distinct (λ x y. bytes_eq (bytes x) (bytes y)) keys k i key distinct below inside)
+      (λ _. ap (λ (x : K). bytes_eq name (bytes x)) at ∙ bytes_eq-sym name (bytes key) ∙ same) in
+      sym (position-keys keys)
+      ∙ ap (λ (n : ℕ). cond (nat_lt n (length keys)) (Some n) None) first
+      ∙ ap (λ (b : Bool). cond b (Some i) None) (lt_yes i (length keys) inside)
+
+  -- a key at a place is a name, since each of them is
+  pub name_at : (keys : List K) (i : ℕ) (key : K) → All (λ key. is_name (bytes key) ≡ true) keys → slice_get keys i ≡ Some key → bytes_eq (bytes key) name ≡ true → is_name name ≡ true
+  name_at keys i key names there same =
+      ap is_name (sym ((bytes_decides (bytes key) name).0 same))
+      ∙ ap (λ (k : K). is_name (bytes k)) (sym (get_or_from_slice_get keys i key key there))
+      ∙ names i key (slice_get_within keys i key there)

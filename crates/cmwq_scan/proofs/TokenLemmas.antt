@@ -1,20 +1,21 @@
 -- The words of a line, as they come from its pieces.
-use Rattle.std.proofs.Common.{◌≡◌, ℕ, ◌+◌, ◌<◌, Bool, true, false, cond, not, List, [], ◌∷◌, ◌++◌, length, Option, None, Some, refl, sym, ap, subst, ◌∙◌, append_assoc, append-nil, length-append, arith}
+use Rattle.std.proofs.Common.{◌≡◌, ℕ, ◌+◌, ◌<◌, ◌≤◌, Bool, true, false, cond, not, List, [], ◌∷◌, ◌++◌, length, Option, None, Some, refl, sym, ap, subst, ◌∙◌, append_assoc, append-nil, length-append, arith}
 use Rattle.std.specs.Prelude.{MatchOption}
 use Rattle.std.specs.List.{All, AllPairs, filter, slice_split}
 use Rattle.std.proofs.lemmas.List.{map-append}
 use Rattle.std.proofs.lemmas.List.Elements.{All-push}
 use Rattle.std.proofs.lemmas.List.Quantifiers.{all_pairs_push}
 use Rattle.cmwq_grammar.specs.Cutting.{is_blank, is_empty}
-use Rattle.cmwq_scan.specs.Words.{IsBefore, StandsIn, Word, word_if_filled, words_in}
+use Rattle.cmwq_scan.specs.Words.{IsBefore, StandsIn, Word, word_if_filled, words_in, words_left}
 
--- the words of these bytes, which have no comment
-abbrev pub words_between : List ℕ → List (List ℕ)
-words_between bytes = filter (λ word. not (is_empty word)) (slice_split is_blank bytes)
+abbrev pub words_in_rest : {A : Type 0} → (A → List ℕ) → Option A → List (List ℕ)
+words_in_rest bytes None = []
+words_in_rest bytes (Some rest) = words_left (bytes rest)
 
-abbrev pub words_left : {A : Type 0} → (A → List ℕ) → Option A → List (List ℕ)
-words_left bytes None = []
-words_left bytes (Some rest) = words_between (bytes rest)
+-- a rest, if there is one, has at most so many bytes
+abbrev pub IsWithin : {A : Type 0} → (A → List ℕ) → ℕ → Option A → Type 0
+IsWithin bytes n None = Unit {0}
+IsWithin bytes n (Some rest) = length (bytes rest) ≤ n
 
 -- how many steps are left at most
 abbrev pub steps_left : {A : Type 0} → (A → List ℕ) → Option A → ℕ
@@ -106,17 +107,17 @@ more_pieces word pieces = by (is_empty word.bytes)
     by false = refl
 
 pub next_words : {A : Type 0} (bytes : A → List ℕ) (words : List Word) (word : Word) (rest : List ℕ) (behind : Option A) (all : List (List ℕ))
-    → words_in words ++ words_between rest ≡ all
+    → words_in words ++ words_left rest ≡ all
     → MatchOption behind (slice_split is_blank rest ≡ word.bytes ∷ []) (λ more. slice_split is_blank rest ≡ word.bytes ∷ slice_split is_blank (bytes more))
-    → words_in (words ++ word_if_filled word) ++ words_left bytes behind ≡ all
+    → words_in (words ++ word_if_filled word) ++ words_in_rest bytes behind ≡ all
 next_words bytes words word rest None all so_far cut =
     append-nil (words_in (words ++ word_if_filled word))
     ∙ map-append (λ (w : Word). w.bytes) words (word_if_filled word)
     ∙ ap (λ (more : List (List ℕ)). words_in words ++ more) (one_piece word ∙ ap (λ (pieces : List (List ℕ)). filter (λ bytes. not (is_empty bytes)) pieces) (sym cut))
     ∙ so_far
 next_words bytes words word rest (Some more) all so_far cut =
-    ap (λ (front : List (List ℕ)). front ++ words_between (bytes more)) (map-append (λ (w : Word). w.bytes) words (word_if_filled word))
-    ∙ append_assoc (words_in words) (words_in (word_if_filled word)) (words_between (bytes more))
+    ap (λ (front : List (List ℕ)). front ++ words_left (bytes more)) (map-append (λ (w : Word). w.bytes) words (word_if_filled word))
+    ∙ append_assoc (words_in words) (words_in (word_if_filled word)) (words_left (bytes more))
     ∙ ap (λ (others : List (List ℕ)). words_in words ++ others) (more_pieces word (slice_split is_blank (bytes more)) ∙ ap (λ (pieces : List (List ℕ)). filter (λ bytes. not (is_empty bytes)) pieces) (sym cut))
     ∙ so_far
 

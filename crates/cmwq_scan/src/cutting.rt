@@ -122,7 +122,7 @@ fn next_low(bytes: &[u8], from: usize) -> usize
 }
 
 /// Whether the byte is a space or a tab.
-fn is_blank(byte: u8) -> bool
+pub(crate) fn is_blank(byte: u8) -> bool
     ensures { result ≡ is_blank byte }
 {
     byte == b' ' || byte == b'\t'

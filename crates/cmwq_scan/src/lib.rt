@@ -6,16 +6,21 @@ mod fields;
 mod lanes;
 mod misplaced;
 mod naming;
+mod numbers;
 mod text;
+mod token_fields;
 mod tokens;
+mod words;
 
 pub use cutting::{next_line, worded_part};
 pub use fields::{
-    Field, ended, is_word, read_declared, read_keyword, read_last_declared, read_last_new_name,
-    read_last_number_below, read_last_number_within, read_name, read_new_name, read_number,
-    read_number_within,
+    Field, ended, take_declared, take_keyword, take_last_declared, take_last_new_name,
+    take_last_number_below, take_last_number_within, take_new_name, take_number,
+    take_number_within,
 };
 pub use misplaced::refusal;
 pub use naming::{Named, Names};
 pub use text::is_text;
+pub use token_fields::read_last_number_within;
 pub use tokens::{Token, read_tokens};
+pub use words::{is_word, next_word};

@@ -6,7 +6,7 @@ ghost use Rattle.std.specs.List.{list_any};
 ghost use Rattle.std.specs.Prelude.{◌≡◌, map};
 ghost use Rattle.std.specs.Str.{bytes_eq};
 
-use crate::fields::is_word;
+use crate::words::is_word;
 use cmwq_grammar::Why;
 use cmwq_types::Mnemonic;
 

@@ -1,7 +1,7 @@
 //! Names in a text, and the names of one kind in the order of their declarations.
 ghost use Rattle.cmwq_types.specs.Name.{is_name};
 ghost use Rattle.std.specs.List.{list_any};
-ghost use Rattle.std.specs.Prelude.{◌≡◌, ◌++◌, ◌∷◌, [], IfSome, IsTrue, OnOk, false, position};
+ghost use Rattle.std.specs.Prelude.{◌≡◌, ◌<◌, ◌++◌, ◌∷◌, [], IfSome, IsTrue, OnOk, Some, false, position};
 ghost use Rattle.std.specs.Str.{bytes_eq};
 
 use cmwq_types::{Name, NoMemory};
@@ -95,11 +95,17 @@ impl<'t> Hash for Key<'t> {
     }
 }
 
+/// How many hints there are.
+const HINTS: usize = 1024;
+
 /// Distinct names of one kind (queues, works or actors), each with its bytes in the text. A name's place
 /// is its number.
 #[derive(Drop)]
 pub struct Names<'t> {
     names: IndexSet<Key<'t>>,
+    /// At a name's slot the number of the last name that was added there, so that few look-ups need the
+    /// set's hash. Nothing is claimed of them: a hint that doesn't lead to the name is passed over.
+    hints: [u8; HINTS],
 }
 
 impl<'t> Model for Names<'t> {
@@ -121,6 +127,7 @@ impl<'t> Names<'t> {
     {
         Names {
             names: IndexSet::new(alloc),
+            hints: [0; HINTS],
         }
     }
 
@@ -138,7 +145,27 @@ impl<'t> Names<'t> {
         ensures number { result ≡ position (λ other. bytes_eq other bytes.now) self.now }
         ensures name { IfSome result (λ number. IsTrue (is_name bytes.now)) }
     {
-        self.names.get_index_of(&Key { bytes })
+        match self.hinted(bytes) {
+            Some(number) => Some(number),
+            None => self.names.get_index_of(&Key { bytes }),
+        }
+    }
+
+    /// The number that the hint of these bytes leads to, if the name there is these bytes.
+    fn hinted(&self, bytes: &[u8]) -> Option<usize>
+        ensures number { IfSome result (λ number. position (λ other. bytes_eq other bytes.now) self.now ≡ Some number) }
+        ensures name { IfSome result (λ number. IsTrue (is_name bytes.now)) }
+    {
+        let number = usize::from(self.hints[slot_of(bytes)]);
+        if number >= self.names.len() {
+            return None;
+        }
+        let key = self.names.get_index(number)?;
+        if key.bytes == bytes {
+            Some(number)
+        } else {
+            None
+        }
     }
 
     /// Adds a name that isn't there yet.
@@ -146,9 +173,24 @@ impl<'t> Names<'t> {
         requires { list_any (λ other. bytes_eq other name.now) self.old ≡ false }
         ensures { OnOk result (self.new ≡ self.old ++ name.now ∷ []) }
     {
-        self.names.insert(Key {
-            bytes: name.bytes(),
-        })?;
+        let bytes = name.bytes();
+        self.hints[slot_of(bytes)] = (self.names.len() % 256) as u8;
+        self.names.insert(Key { bytes })?;
         Ok(())
     }
+}
+
+/// The slot of a name's hint. Names that are numbered differ in their last bytes.
+fn slot_of(name: &[u8]) -> usize
+    ensures { result < HINTS }
+{
+    let (first, third, second, last) = match name {
+        [] => (0, 0, 0, 0),
+        [last] => (0, 0, 0, *last),
+        [second, last] => (0, 0, *second, *last),
+        [third, second, last] => (0, *third, *second, *last),
+        [first, .., third, second, last] => (*first, *third, *second, *last),
+    };
+    let end = 256 * usize::from(third) + 16 * usize::from(second) + usize::from(last);
+    (5 * usize::from(first) + end) % HINTS
 }

@@ -33,6 +33,12 @@ pub enum PlayError {
     /// The commands of a session are longer than a text may be.
     #[error("too long")]
     TooLong,
+    /// The machine doesn't become quiet by `next` within the scenario's steps, nor within the instructions that one run issues.
+    #[error("never quiet")]
+    NeverQuiet,
+    /// A picture of the whole span would have more columns than are drawn unasked.
+    #[error("more than 500 columns: give --from and --to")]
+    TooWide,
     /// Memory ran out.
     #[error("no memory")]
     NoMemory,

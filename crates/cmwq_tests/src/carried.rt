@@ -4,6 +4,7 @@ ghost use Rattle.std.specs.Prelude.{◌≡◌, false};
 use cmwq_machine_tests::examples::MAX_ACTIVE_3;
 use cmwq_machine_tests::streams::{Input, Output, reading_of};
 use cmwq_play::{Marked, PlayError, debug, from_image, list_text, read_text, run, to_image};
+use cmwq_settle::{run_settled, settle_text};
 use std::alloc::Global;
 
 /// A command over a reader and a writer.
@@ -17,6 +18,10 @@ pub(crate) enum Command {
     Asm,
     /// List a scenario's image.
     Show,
+    /// List a settled scenario.
+    Settle,
+    /// Run a scenario's text until its machine is quiet.
+    RunSettled,
     /// Debug the kernel's document's works under `max_active` 3.
     Debug,
 }
@@ -48,6 +53,8 @@ pub(crate) fn carried_out(
         Command::List => list_text(alloc, &mut reader, &mut writer),
         Command::Asm => to_image(alloc, &mut reader, &mut writer),
         Command::Show => from_image(alloc, &mut reader, &mut writer),
+        Command::Settle => settle_text(alloc, &mut reader, &mut writer),
+        Command::RunSettled => run_settled(alloc, &mut reader, &mut writer),
         Command::Debug => debugged(alloc, &mut reader, &mut writer),
     };
     let output = writer.into_inner();

@@ -1,6 +1,7 @@
 //! The commands over memory: what they write, reads and writes that fail, and input that is refused.
 use crate::carried::{Command, Outcome, carried_out};
 use crate::checking::same;
+use crate::settling::UNSETTLED;
 use cmwq_asm::AsmError;
 use cmwq_grammar::Why;
 use cmwq_image::ImageError;
@@ -30,7 +31,7 @@ fn written(
 }
 
 /// Carries the command out on the bytes, and compares what it writes.
-fn check_written(
+pub(crate) fn check_written(
     rt: &impl Abort,
     alloc: Global,
     name: &str,
@@ -85,8 +86,10 @@ fn a_text_in_other_ways_is_run_and_the_worked_image_is_written(rt: HostRuntime) 
 }
 
 /// Commands and what they read.
-fn inputs() -> [(Command, &'static [u8]); 6] {
+fn inputs() -> [(Command, &'static [u8]); 8] {
     [
+        (Command::Settle, UNSETTLED),
+        (Command::RunSettled, UNSETTLED),
         (Command::Run, MAX_ACTIVE_3.text),
         (Command::List, MAX_ACTIVE_3.text),
         (Command::Asm, MAX_ACTIVE_3.text),
@@ -270,7 +273,13 @@ pub(crate) fn check_refused(
 
 /// Each command that reads a text refuses it so, and so does its reader.
 fn check_text_refused(rt: &impl Abort, alloc: Global, text: &[u8], want: PlayError) {
-    for command in [Command::Run, Command::List, Command::Asm] {
+    for command in [
+        Command::Run,
+        Command::List,
+        Command::Asm,
+        Command::Settle,
+        Command::RunSettled,
+    ] {
         check_refused(rt, alloc, command, reading_of(text, 4096), want);
     }
     let mut reader = Marked::new(reading_of(text, 4096));
@@ -283,8 +292,10 @@ fn a_text_is_refused_before_anything_is_written(rt: HostRuntime) {
         check_text_refused(&rt, rt.alloc(), text, at(line, why));
     }
     for text in NOT_ONE_ACTOR {
-        let input = reading_of(text, 4096);
-        check_refused(&rt, rt.alloc(), Command::Run, input, PlayError::Actors);
+        for command in [Command::Run, Command::Settle, Command::RunSettled] {
+            let input = reading_of(text, 4096);
+            check_refused(&rt, rt.alloc(), command, input, PlayError::Actors);
+        }
     }
 }
 
@@ -315,7 +326,9 @@ fn a_run_issues_1048576_instructions_and_no_more(rt: HostRuntime) {
     same(&rt, "all", whole.as_slice(), b"1048575 no\n");
     for (lines, last, want) in TOO_LONG {
         let text = long_run(&rt, alloc, lines, last);
-        check_refused(&rt, alloc, Command::Run, reading_of(&text, 4096), want);
+        for command in [Command::Run, Command::Settle, Command::RunSettled] {
+            check_refused(&rt, alloc, command, reading_of(&text, 4096), want);
+        }
     }
 }
 

@@ -12,4 +12,6 @@ mod debugging;
 #[cfg(test)]
 mod images;
 #[cfg(test)]
+mod settling;
+#[cfg(test)]
 mod texts;

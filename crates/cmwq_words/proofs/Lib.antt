@@ -1,1 +1,2 @@
+mod DrawLemmas
 mod RequestLemmas

@@ -21,7 +21,7 @@ use Rattle.std.specs.Box.{box_value}
 use Rattle.std.specs.Prelude.{Box, Option, None, option_map}
 use Rattle.clap.proofs.OnLiterals.{clap_on_literals}
 use Rattle.cmwq_words.specs.declared.request.Request.{Request}
-use Rattle.cmwq_words.specs.Request.{HasCapacity, IsCapacity, IsPlainWord, IsRead, IsRequestOf, IsVersionWord, asked_in, asked_of, command_line}
+use Rattle.cmwq_words.specs.Request.{HasCapacity, IsCapacity, IsPlainWord, IsRead, IsRequestOf, IsVersionWord, asked_in, asked_of, command_line, run_arguments}
 
 simple_line : is_simple command_line ≡ true
 unfolding clap_on_literals
@@ -52,6 +52,16 @@ plain_run : (name : Text) (first : ℕ) (rest : Text) → (first == 45) ≡ fals
     → IsRead (name ∷ codes "run" ∷ (first ∷ rest) ∷ []) (codes "run" ∷ (first ∷ rest) ∷ [])
 unfolding clap_on_literals
 plain_run name first rest e = (rw e (rw e refl), rw e (rw e refl), tt)
+
+plain_run_settled : (name : Text) (first : ℕ) (rest : Text) → (first == 45) ≡ false
+    → IsRead (name ∷ codes "run" ∷ run_arguments true (first ∷ rest)) (codes "run" ∷ run_arguments true (first ∷ rest))
+unfolding clap_on_literals
+plain_run_settled name first rest e = (rw e (rw e refl), rw e (rw e refl), tt)
+
+plain_settle : (name : Text) (first : ℕ) (rest : Text) → (first == 45) ≡ false
+    → IsRead (name ∷ codes "settle" ∷ (first ∷ rest) ∷ []) (codes "settle" ∷ (first ∷ rest) ∷ [])
+unfolding clap_on_literals
+plain_settle name first rest e = (rw e (rw e refl), rw e (rw e refl), tt)
 
 plain_list : (name : Text) (first : ℕ) (rest : Text) → (first == 45) ≡ false
     → IsRead (name ∷ codes "list" ∷ (first ∷ rest) ∷ []) (codes "list" ∷ (first ∷ rest) ∷ [])
@@ -88,7 +98,7 @@ plain_check_two : (name : Text) (first : ℕ) (rest : Text) (head : ℕ) (tail :
 unfolding clap_on_literals
 plain_check_two name first rest head tail e f = (rw e (rw e (rw f (rw f refl))), rw e (rw e (rw f (rw f refl))), tt)
 
-no_hyphen : (first : ℕ) → first ≢ 45 → (first == 45) ≡ false
+pub no_hyphen : (first : ℕ) → first ≢ 45 → (first == 45) ≡ false
 no_hyphen first plain = search rules
 
 pub version_asked : (words : List Text) (name word : Text) → words ≡ name ∷ word ∷ [] → IsVersionWord word → fault_of command_line words ≡ DisplayVersion ∷ []
@@ -126,6 +136,14 @@ pub run_read : (words : List Text) (name file : Text) → words ≡ name ∷ cod
     → IsRead words (codes "run" ∷ file ∷ [])
 run_read words name file are (first, rest, is, plain) = rw (are, is) (plain_run name first rest (no_hyphen first plain))
 
+pub run_settled_read : (words : List Text) (name file : Text) → words ≡ name ∷ codes "run" ∷ run_arguments true file → IsPlainWord file
+    → IsRead words (codes "run" ∷ run_arguments true file)
+run_settled_read words name file are (first, rest, is, plain) = rw (are, is) (plain_run_settled name first rest (no_hyphen first plain))
+
+pub settle_read : (words : List Text) (name file : Text) → words ≡ name ∷ codes "settle" ∷ file ∷ [] → IsPlainWord file
+    → IsRead words (codes "settle" ∷ file ∷ [])
+settle_read words name file are (first, rest, is, plain) = rw (are, is) (plain_settle name first rest (no_hyphen first plain))
+
 pub list_read : (words : List Text) (name file : Text) → words ≡ name ∷ codes "list" ∷ file ∷ [] → IsPlainWord file
     → IsRead words (codes "list" ∷ file ∷ [])
 list_read words name file are (first, rest, is, plain) = rw (are, is) (plain_list name first rest (no_hyphen first plain))
@@ -160,7 +178,7 @@ number_plain n fits = digits (decimal n) (decimal_nonempty n (omega (arith, fits
     digits [] some high = absurd (omega arith)
     digits (first ∷ rest) some high = (first, rest, refl, λ is. absurd (omega (arith, high, is)))
 
-numerals : IsNumeralModel (λ word. all_ascii_digits word ≡ true) (digits_value 10)
+pub numerals : IsNumeralModel (λ word. all_ascii_digits word ≡ true) (digits_value 10)
 numerals = numerals_by_value (λ word. all_ascii_digits word ≡ true) tells_all_ascii_digits
 
 -- and is read as that number

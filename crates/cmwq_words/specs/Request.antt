@@ -1,15 +1,17 @@
 -- The command line.
-use Rattle.std.specs.Prelude.{◌≡◌, ◌≢◌, ◌≤◌, ◌⊎◌, ℕ, List, [], ◌∷◌, ◌++◌, Bool, true, false, map, codes, if◌then◌else◌, Option, None, Some, option_and_then, option_map, option_to_list, Result, MatchResult}
+use Rattle.std.specs.Prelude.{◌≡◌, ◌≢◌, ◌≤◌, ◌^◌, ◌⊎◌, ℕ, List, [], ◌∷◌, ◌++◌, Bool, true, false, ◌&&◌, nat_lt, map, codes, if◌then◌else◌, Option, None, Some, option_and_then, option_map, option_to_list, Result, MatchResult}
 use Rattle.std.specs.Fmt.{decimal}
 use Rattle.std.specs.Str.{bytes_eq}
-use Rattle.clap.specs.Words.{App, Row, Rule, Text, all_of, first_of, kind_of, new_app, new_rule, subcommand_of, takes, with_rule, with_subcommand}
-use Rattle.clap.specs.declared.builder.action.ArgAction.TheVariants.{Append}
+use Rattle.std.specs.Str.Parse.{digits_value}
+use Rattle.clap.specs.Words.{App, Row, Rule, Text, all_of, first_of, kind_of, new_app, new_rule, one_of, subcommand_of, takes, with_rule, with_subcommand}
+use Rattle.clap.specs.declared.builder.action.ArgAction.TheVariants.{Append, SetTrue}
 use Rattle.clap.specs.declared.error.Error.{Error}
 use Rattle.clap.specs.declared.error.kind.ErrorKind.TheVariants.{OutOfMemory}
 use Rattle.cmwq_types.specs.declared.limits.TheConstants.{MAX_LINES}
+use Rattle.cmwq_words.specs.declared.drawing.DrawOptions.{DrawOptions}
 use Rattle.cmwq_words.specs.declared.request.Request.{Request}
 use Rattle.cmwq_words.specs.declared.help.TheConstants.{VERSION}
-use Rattle.cmwq_words.specs.declared.request.Request.TheVariants.{New, Run, List as list, Asm, Show, Debug, Play, Check, Version}
+use Rattle.cmwq_words.specs.declared.request.Request.TheVariants.{New, Run, Settle, List as list, Asm, Show, Debug, Draw, Play, Check, Version}
 
 -- how many entries a play's history may have room for: as many as an actor may have lines
 abbrev pub IsCapacity : ℕ → Type 0
@@ -38,9 +40,20 @@ bare_program =
 abbrev pub program : App
 program = with_subcommand bare_program new_command.top
 
--- `run FILE`, `list FILE`, `asm FILE OUT`, `show IMAGE`, `debug FILE` and `play FILE --capacity N`
+-- an option without a value
+abbrev pub flag_rule : Text → Rule
+flag_rule name = record (new_rule name) { long = Some name; action = Some SetTrue }
+
+-- an option that may be given, with its value
+abbrev pub value_rule : Text → Text → Rule
+value_rule id name = record (new_rule id) { long = Some name }
+
+-- `run [--settle] FILE`, `settle FILE`, `list FILE`, `asm FILE OUT`, `show IMAGE`, `debug FILE` and `play FILE --capacity N`
 abbrev pub run_command : App
-run_command = command_on (codes "run") (codes "FILE")
+run_command = with_rule (command_on (codes "run") (codes "FILE")) (flag_rule (codes "settle"))
+
+abbrev pub settle_command : App
+settle_command = command_on (codes "settle") (codes "FILE")
 
 abbrev pub list_command : App
 list_command = command_on (codes "list") (codes "FILE")
@@ -69,23 +82,68 @@ commands_on_files =
     show_command.top)
     debug_command.top
 
+-- `draw [--settle] [--svg] [--from T] [--to T] FILE`
+abbrev pub draw_command : App
+draw_command =
+    with_rule
+    (with_rule
+    (with_rule (with_rule (command_on (codes "draw") (codes "FILE")) (flag_rule (codes "settle"))) (flag_rule (codes "svg")))
+    (value_rule (codes "FROM") (codes "from")))
+    (value_rule (codes "TO") (codes "to"))
+
 -- `check FILE..`
 abbrev pub check_command : App
 check_command = with_rule (new_app (codes "check")) (record (required_rule (codes "FILE")) { action = Some Append })
 
 -- the program with its commands
 abbrev pub command_line : App
-command_line = with_subcommand (with_subcommand commands_on_files play_command.top) check_command.top
+command_line =
+    with_subcommand
+    (with_subcommand (with_subcommand (with_subcommand commands_on_files play_command.top) check_command.top) settle_command.top)
+    draw_command.top
+
+-- an option's word where it is given, and nothing else
+abbrev pub flag_words : Text → Bool → List Text
+flag_words word given = if given then word ∷ [] else []
+
+-- an option's word and its number, if it has one
+abbrev pub number_words : Text → Option ℕ → List Text
+number_words word (Some n) = word ∷ decimal n ∷ []
+number_words word None = []
+
+-- what stands behind `run`
+abbrev pub run_arguments : Bool → Text → List Text
+run_arguments settle file = flag_words (codes "--settle") settle ++ (file ∷ [])
+
+-- what stands behind `draw`
+abbrev pub draw_arguments : DrawOptions → Text → List Text
+draw_arguments options file =
+    flag_words (codes "--settle") options.settle
+    ++ (flag_words (codes "--svg") options.svg
+    ++ (number_words (codes "--from") options.from ++ (number_words (codes "--to") options.to ++ (file ∷ []))))
+
+-- a picture of all ticks
+abbrev pub whole : Bool → Bool → DrawOptions
+whole settle svg = record { settle = settle; svg = svg; from = None; to = None }
+
+-- one as text of the ticks from a time on, and one of those before it
+abbrev pub from_on : ℕ → DrawOptions
+from_on time = record { settle = false; svg = false; from = Some time; to = None }
+
+abbrev pub up_to : ℕ → DrawOptions
+up_to time = record { settle = false; svg = false; from = None; to = Some time }
 
 -- the words that ask for it
 abbrev pub words_of : Request → List Text
 words_of (New None) = codes "new" ∷ []
 words_of (New (Some file)) = codes "new" ∷ file.now ∷ []
-words_of (Run file) = codes "run" ∷ file.now ∷ []
+words_of (Run file settle) = codes "run" ∷ run_arguments settle file.now
+words_of (Settle file) = codes "settle" ∷ file.now ∷ []
 words_of (list file) = codes "list" ∷ file.now ∷ []
 words_of (Asm file out) = codes "asm" ∷ file.now ∷ out.now ∷ []
 words_of (Show image) = codes "show" ∷ image.now ∷ []
 words_of (Debug file) = codes "debug" ∷ file.now ∷ []
+words_of (Draw file options) = codes "draw" ∷ draw_arguments options file.now
 words_of (Play file capacity) = codes "play" ∷ file.now ∷ codes "--capacity" ∷ decimal capacity ∷ []
 words_of (Check files) = codes "check" ∷ map (λ file. file.now) files.items
 words_of Version = codes "--version" ∷ []
@@ -108,14 +166,57 @@ file_and_capacity rows =
 abbrev pub all_values : Text → Text → List Row → Option (List Text)
 all_values command id rows = option_map (λ values. command ∷ values) (all_of id rows)
 
+-- the flag of such a text
+abbrev pub flag_in : Option Text → Option Bool
+flag_in None = Some false
+flag_in (Some text) =
+    if bytes_eq text (codes "true") then Some true else if bytes_eq text (codes "false") then Some false else None
+
+abbrev pub flag_of : Text → List Row → Option Bool
+flag_of id rows = flag_in (one_of id rows)
+
+abbrev pub file_to_run : List Row → Option (List Text)
+file_to_run rows =
+    option_and_then (λ settle. option_map (λ file. codes "run" ∷ run_arguments settle file) (first_of (codes "FILE") rows)) (flag_of (codes "settle") rows)
+
+-- The number that a word spells: its own decimal digits, below 2^64.
+unfoldable pub number_in : Text → Option ℕ
+number_in word =
+    if bytes_eq word (decimal (digits_value 10 word)) && nat_lt (digits_value 10 word) (2 ^ 64) then Some (digits_value 10 word) else None
+
+-- the number of an option that may be given
+abbrev pub number_if_any : Option Text → Option (Option ℕ)
+number_if_any None = Some None
+number_if_any (Some word) = option_map Some (number_in word)
+
+-- the options of these values, if each is one
+abbrev pub options_from : Option Bool → Option Bool → Option (Option ℕ) → Option (Option ℕ) → Option DrawOptions
+options_from (Some settle) (Some svg) (Some from) (Some to) = Some (record { settle = settle; svg = svg; from = from; to = to })
+options_from settle svg from to = None
+
+abbrev pub options_of : List Row → Option DrawOptions
+options_of rows =
+    options_from (flag_of (codes "settle") rows) (flag_of (codes "svg") rows)
+    (number_if_any (first_of (codes "FROM") rows))
+    (number_if_any (first_of (codes "TO") rows))
+
+-- the words of a picture of this file
+abbrev pub words_to_draw : Option DrawOptions → Option Text → Option (List Text)
+words_to_draw options file = option_and_then (λ given. option_map (λ name. codes "draw" ∷ draw_arguments given name) file) options
+
+abbrev pub file_to_draw : List Row → Option (List Text)
+file_to_draw rows = words_to_draw (options_of rows) (first_of (codes "FILE") rows)
+
 abbrev pub asked_in : Text × List Row → Option (List Text)
 asked_in met =
     if bytes_eq met.0 (codes "new") then Some (value_if_any (codes "new") (codes "FILE") met.1)
-    else if bytes_eq met.0 (codes "run") then one_value (codes "run") (codes "FILE") met.1
+    else if bytes_eq met.0 (codes "run") then file_to_run met.1
+    else if bytes_eq met.0 (codes "settle") then one_value (codes "settle") (codes "FILE") met.1
     else if bytes_eq met.0 (codes "list") then one_value (codes "list") (codes "FILE") met.1
     else if bytes_eq met.0 (codes "asm") then two_values (codes "asm") (codes "FILE") (codes "OUT") met.1
     else if bytes_eq met.0 (codes "show") then one_value (codes "show") (codes "IMAGE") met.1
     else if bytes_eq met.0 (codes "debug") then one_value (codes "debug") (codes "FILE") met.1
+    else if bytes_eq met.0 (codes "draw") then file_to_draw met.1
     else if bytes_eq met.0 (codes "play") then file_and_capacity met.1
     else if bytes_eq met.0 (codes "check") then all_values (codes "check") (codes "FILE") met.1
     else None

@@ -8,6 +8,9 @@ pub const PROGRAM: &str = "\
 Examples:
   cmwq new first.cmwq
   cmwq run first.cmwq
+  cmwq draw first.cmwq
+  cmwq run --settle first.cmwq
+  cmwq settle first.cmwq
   cmwq list scenarios/max_active_3.cmwq
   cmwq asm scenarios/max_active_3.cmwq max_active_3.image
   cmwq show max_active_3.image
@@ -19,8 +22,8 @@ The formats of scenarios and images, the debugger's commands, and what each faul
 
 Exit status:
   0  the command did what it was asked
-  1  the file isn't a scenario's text or image, or the scenario hasn't as many actors as the command takes
-  2  the command line is wrong
+  1  the file isn't a scenario's text or image, the scenario hasn't as many actors as the command takes, or it never becomes quiet
+  2  the command line is wrong, or has to say which part of a long run to draw
   3  a file can't be opened, made, read or written
   4  memory ran out, or a history had no room for one more instruction";
 
@@ -36,17 +39,51 @@ Example:
   cmwq new first.cmwq";
 
 const RUN: &str = "\
-Prints a line for each thing that happens: the time, the work, and what it did.
+Prints a line for each thing that happens: the time, the work, and what it did. With --settle it goes on by `next` behind the
+actor's instructions, until no work is pending and none runs.
 
 Exit status:
   0  every instruction was carried out, or refused in a line of its own
-  1  `line 6: Duplicate`: the text's first fault; `actors`: there isn't exactly one actor
+  1  `line 6: Duplicate`: the text's first fault; `actors`: there isn't exactly one actor; `never quiet`: with --settle, the
+     scenario's steps or 1,048,576 instructions were over before the machine was quiet; what was printed is the run up to there
   2  the command line is wrong
   3  `read`: FILE can't be read; `write`: the output can't be written
   4  `full`: more than 1,048,576 instructions; `no memory`
 
+Examples:
+  cmwq run scenarios/max_active_3.cmwq
+  cmwq run --settle first.cmwq";
+
+const SETTLE: &str = "\
+Prints the scenario's canonical text, with lines of `next` behind the actor's: the fewest with which the run ends quiet, that is with
+no work pending and none running. Running it prints what `cmwq run --settle FILE` prints.
+
+Exit status:
+  0  the listing was written
+  1  `line 6: Duplicate`: the text's first fault; `actors`: there isn't exactly one actor; `never quiet`: the scenario's steps or
+     1,048,576 instructions were over before the machine was quiet
+  2  the command line is wrong
+  3  `read`: FILE can't be read; `write`: the output can't be written
+  4  `full`: more than 1,048,576 instructions, or more than 4,096 lines; `no memory`
+
 Example:
-  cmwq run scenarios/max_active_3.cmwq";
+  cmwq settle first.cmwq";
+
+const DRAW: &str = "\
+Prints a row for each work that was pending or ran, with a column for each tick, and below the rows of the CPUs and of the actor. The
+last line says what the signs mean. Where more than 500 columns would be drawn, --from and --to have to be given.
+
+Exit status:
+  0  the picture was written
+  1  `line 6: Duplicate`: the text's first fault; `actors`: there isn't exactly one actor; `never quiet`: with --settle, as for run
+  2  the command line is wrong; `more than 500 columns: give --from and --to`
+  3  `read`: FILE can't be read; `write`: the output can't be written
+  4  `full`: more than 1,048,576 instructions, or with --settle more than 4,096 lines; `no memory`
+
+Examples:
+  cmwq draw scenarios/max_active_3.cmwq
+  cmwq draw --settle --from 10 --to 20 first.cmwq
+  cmwq draw --svg scenarios/max_active_3.cmwq > max_active_3.svg";
 
 const LIST: &str = "\
 Prints the scenario's canonical text: one space between words, and no comments.
@@ -135,6 +172,8 @@ pub fn after_help_of(command: &str) -> &'static str {
     match command {
         "new" => NEW,
         "run" => RUN,
+        "settle" => SETTLE,
+        "draw" => DRAW,
         "list" => LIST,
         "asm" => ASM,
         "show" => SHOW,

@@ -2,11 +2,12 @@
 
 ghost use Rattle.clap.specs.Words.{App, Text, all_of, app_of, fault_of, first_of, found_of, kind_of, rows_of, rule_of, subcommand_rows_of, with_subcommand};
 ghost use Rattle.clap.specs.declared.builder.command.Command.TheViews.{out-Command as fields_of};
-ghost use Rattle.cmwq_words.specs.Request.{Asks, AsksVersion, HasCapacity, IsCapacity, IsPlainWord, IsRead, IsRequestOf, IsVersionWord, IsWithin, all_values, asked_in, asked_of, asm_command, bare_program, check_command, command_line, command_on, commands_on_files, file_and_capacity, list_command, new_command, one_value, play_command, program, required_rule, run_command, show_command, two_values, value_if_any, words_of};
+ghost use Rattle.cmwq_words.specs.Request.{Asks, AsksVersion, HasCapacity, IsCapacity, IsPlainWord, IsRead, IsRequestOf, IsVersionWord, IsWithin, all_values, asked_in, asked_of, asm_command, bare_program, check_command, command_line, command_on, commands_on_files, draw_arguments, file_and_capacity, file_to_run, from_on, list_command, new_command, one_value, play_command, program, required_rule, run_arguments, run_command, settle_command, show_command, two_values, up_to, value_if_any, whole, words_of};
 ghost use Rattle.std.specs.Fmt.{decimal};
 ghost use Rattle.std.specs.Str.{bytes_eq};
-ghost use Rattle.std.specs.Prelude.{◌≡◌, ◌↔◌, IsTrue, ℕ, List, [], ◌∷◌, IfOk, IfSome, Some, codes, false, map, option_map, string_bytes};
+ghost use Rattle.std.specs.Prelude.{◌≡◌, ◌↔◌, ◌<◌, ◌^◌, Bool, IsTrue, ℕ, List, [], ◌∷◌, IfOk, IfSome, Some, codes, false, map, option_map, string_bytes, true};
 
+use crate::drawing::{DrawOptions, draw_command, draw_request, flag, flag_of};
 use crate::help;
 use clap::error::ErrorKind;
 use clap::{Arg, ArgAction, ArgMatches, Command, Error};
@@ -23,6 +24,13 @@ pub enum Request<'a> {
     },
     /// Run the scenario whose text is in this file.
     Run {
+        /// The text's path.
+        file: &'a str,
+        /// Whether the run goes on by `next` until the machine is quiet.
+        settle: bool,
+    },
+    /// List the scenario whose text is in this file, with as many `next` more as make its machine quiet.
+    Settle {
         /// The text's path.
         file: &'a str,
     },
@@ -47,6 +55,13 @@ pub enum Request<'a> {
     Debug {
         /// The text's path.
         file: &'a str,
+    },
+    /// Draw the run of the scenario whose text is in this file.
+    Draw {
+        /// The text's path.
+        file: &'a str,
+        /// What the picture shows, and how.
+        options: DrawOptions,
     },
     /// Carry out all actors of the scenario whose text is in this file at once.
     Play {
@@ -76,6 +91,16 @@ pub fn parse<'a>(alloc: Global, words: &'a [String]) -> Result<Request<'a>, Erro
         → IsPlainWord file → Asks (codes "new" ∷ file ∷ []) result }
     ensures run { (name file : Text) → map string_bytes words.entry.now ≡ name ∷ codes "run" ∷ file ∷ []
         → IsPlainWord file → Asks (codes "run" ∷ file ∷ []) result }
+    ensures run_settled { (name file : Text) → map string_bytes words.entry.now ≡ name ∷ codes "run" ∷ run_arguments true file
+        → IsPlainWord file → Asks (codes "run" ∷ run_arguments true file) result }
+    ensures settle { (name file : Text) → map string_bytes words.entry.now ≡ name ∷ codes "settle" ∷ file ∷ []
+        → IsPlainWord file → Asks (codes "settle" ∷ file ∷ []) result }
+    ensures draw { (name file : Text) (settle svg : Bool) → map string_bytes words.entry.now ≡ name ∷ codes "draw" ∷ draw_arguments (whole settle svg) file
+        → IsPlainWord file → Asks (codes "draw" ∷ draw_arguments (whole settle svg) file) result }
+    ensures draw_from { (name file : Text) (time : ℕ) → map string_bytes words.entry.now ≡ name ∷ codes "draw" ∷ draw_arguments (from_on time) file
+        → IsPlainWord file → time < 2 ^ 64 → Asks (codes "draw" ∷ draw_arguments (from_on time) file) result }
+    ensures draw_to { (name file : Text) (time : ℕ) → map string_bytes words.entry.now ≡ name ∷ codes "draw" ∷ draw_arguments (up_to time) file
+        → IsPlainWord file → time < 2 ^ 64 → Asks (codes "draw" ∷ draw_arguments (up_to time) file) result }
     ensures list { (name file : Text) → map string_bytes words.entry.now ≡ name ∷ codes "list" ∷ file ∷ []
         → IsPlainWord file → Asks (codes "list" ∷ file ∷ []) result }
     ensures asm { (name file out : Text) → map string_bytes words.entry.now ≡ name ∷ codes "asm" ∷ file ∷ out ∷ []
@@ -116,10 +141,15 @@ fn request_met<'a>(
     };
     match request_of(alloc, &matches)? {
         Some(request) => Ok(request),
-        None => Err(command.error(
-            ErrorKind::ValueValidation,
-            "--capacity takes a number from 1 to 4096",
-        )?),
+        None => Err(command.error(ErrorKind::ValueValidation, wanted_numbers(&matches))?),
+    }
+}
+
+/// Which numbers the command that was met takes.
+fn wanted_numbers(matches: &ArgMatches<'_>) -> &'static str {
+    match matches.subcommand() {
+        Some(("draw", _)) => "--from and --to take a time in ticks",
+        _ => "--capacity takes a number from 1 to 4096",
     }
 }
 
@@ -193,10 +223,12 @@ fn request_on_file<'a>(name: &str, given: &ArgMatches<'a>) -> Option<Request<'a>
     match name {
         "new" => Some(new_request(given)),
         "run" => run_request(given),
+        "settle" => settle_request(given),
         "list" => list_request(given),
         "asm" => asm_request(given),
         "show" => show_request(given),
         "debug" => debug_request(given),
+        "draw" => draw_request(given),
         "play" => play_request(given),
         _ => None,
     }
@@ -213,11 +245,21 @@ fn new_request<'a>(given: &ArgMatches<'a>) -> Request<'a>
 
 /// What `run` asks for.
 fn run_request<'a>(given: &ArgMatches<'a>) -> Option<Request<'a>>
-    ensures words { option_map (λ request. words_of request) result ≡ one_value (codes "run") (codes "FILE") (rows_of (found_of given.now)) }
+    ensures words { (asked : List Text) → file_to_run (rows_of (found_of given.now)) ≡ Some asked → option_map (λ request. words_of request) result ≡ Some asked }
     ensures capacity { IfSome result (λ request. IsWithin request) }
 {
     let file = value_of(given, "FILE")?;
-    Some(Request::Run { file })
+    let settle = flag_of(given, "settle");
+    Some(Request::Run { file, settle })
+}
+
+/// What `settle` asks for.
+fn settle_request<'a>(given: &ArgMatches<'a>) -> Option<Request<'a>>
+    ensures words { option_map (λ request. words_of request) result ≡ one_value (codes "settle") (codes "FILE") (rows_of (found_of given.now)) }
+    ensures capacity { IfSome result (λ request. IsWithin request) }
+{
+    let file = value_of(given, "FILE")?;
+    Some(Request::Settle { file })
 }
 
 /// What `list` asks for.
@@ -280,7 +322,7 @@ fn capacity_of(word: &str) -> Option<u32>
 }
 
 /// The value of the argument.
-fn value_of<'a>(given: &ArgMatches<'a>, id: &str) -> Option<&'a str>
+pub(crate) fn value_of<'a>(given: &ArgMatches<'a>, id: &str) -> Option<&'a str>
     ensures { option_map (λ value. value.now) result ≡ first_of id.now (rows_of (found_of given.now)) }
 {
     given.get_str(id)
@@ -297,10 +339,29 @@ fn values_of<'m, 'a>(given: &'m ArgMatches<'a>, id: &str) -> Option<&'m [&'a str
 fn command<'a>(alloc: Global) -> Result<Command<'a>, AllocError>
     ensures { IfOk result (λ r. app_of r ≡ command_line) }
 {
+    joined(commands_with_settle(alloc), draw_command(alloc))
+}
+
+/// The program with all commands but the one that draws.
+fn commands_with_settle<'a>(alloc: Global) -> Result<Command<'a>, AllocError>
+    ensures { IfOk result (λ r. app_of r ≡ with_subcommand (with_subcommand (with_subcommand commands_on_files play_command.top) check_command.top) settle_command.top) }
+{
+    let settle = on_text(
+        alloc,
+        "settle",
+        "Writes a scenario's listing with as many `next` more as make the machine quiet",
+    );
+    joined(commands_with_check(alloc), settle)
+}
+
+/// The program with the command that takes any number of files.
+fn commands_with_check<'a>(alloc: Global) -> Result<Command<'a>, AllocError>
+    ensures { IfOk result (λ r. app_of r ≡ with_subcommand (with_subcommand commands_on_files play_command.top) check_command.top) }
+{
     joined(commands_with_play(alloc), check_command(alloc))
 }
 
-/// The program with all commands but the one that takes any number of files.
+/// The program with the commands on files, and the one that plays.
 fn commands_with_play<'a>(alloc: Global) -> Result<Command<'a>, AllocError>
     ensures { IfOk result (λ r. app_of r ≡ with_subcommand commands_on_files play_command.top) }
 {
@@ -349,12 +410,24 @@ fn printing_commands<'a>(alloc: Global) -> Result<Command<'a>, AllocError>
 fn program_that_runs<'a>(alloc: Global) -> Result<Command<'a>, AllocError>
     ensures { IfOk result (λ r. app_of r ≡ with_subcommand program run_command.top) }
 {
+    joined(program(alloc), run_command(alloc))
+}
+
+/// The command that runs a scenario.
+fn run_command<'a>(alloc: Global) -> Result<Command<'a>, AllocError>
+    ensures app { IfOk result (λ r. app_of r ≡ run_command) }
+    ensures local { IfOk result (λ r. (fields_of r).has_globals ≡ false) }
+{
     let run = on_text(
         alloc,
         "run",
         "Runs a scenario and writes its events to standard output",
-    );
-    joined(program(alloc), run)
+    )?;
+    run.arg(flag(
+        alloc,
+        "settle",
+        "Lets the run go on by `next` until the machine is quiet",
+    ))
 }
 
 /// The program with the command that needs no file.
@@ -459,7 +532,11 @@ fn check_command<'a>(alloc: Global) -> Result<Command<'a>, AllocError>
 }
 
 /// A command on the text of a scenario.
-fn on_text<'a>(alloc: Global, name: &'a str, about: &'a str) -> Result<Command<'a>, AllocError>
+pub(crate) fn on_text<'a>(
+    alloc: Global,
+    name: &'a str,
+    about: &'a str,
+) -> Result<Command<'a>, AllocError>
     ensures app { IfOk result (λ r. app_of r ≡ command_on name.entry.now (codes "FILE")) }
     ensures local { IfOk result (λ r. (fields_of r).has_globals ≡ false) }
 {

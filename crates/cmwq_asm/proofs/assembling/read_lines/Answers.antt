@@ -1,4 +1,4 @@
-use Rattle.std.proofs.Common.{◌+◌, ◌∙◌, ap, sym, length, arith}
+use Rattle.std.proofs.Common.{ℕ, ◌+◌, ◌∙◌, ap, sym, length, arith}
 use Rattle.cmwq_grammar.specs.Cutting.{lines_of}
 use Rattle.cmwq_grammar.specs.Meaning.{stage_after}
 use Rattle.cmwq_grammar.specs.Reasons.{judge}
@@ -19,11 +19,16 @@ pub loop-line-preserved : goal.loop-line-preserved
 loop-line-preserved c =
     let now = c.loop-line.lines + 1 in
     let lines = lines_of c.loop-line.rest.now in
+    let on = c.in_ok-reached.ensures.lines in
     record {
-      stage = sym (next_stage now lines c.in-Some.line.now (lines_of c.in-Some.behind.now) (stage_of c.loop-line.stage) (stage_of c.in-Ok.next) c.in-Some.ensures.lines c.in-Ok.ensures) ∙ c.loop-line.invariant.stage;
-      count = omega (arith, ap length c.in-Some.ensures.lines);
-      room = omega (arith, c.in-Some.ensures.ends);
-      text = λ known. (c.in-Some.ensures.utf8 (c.loop-line.invariant.text known)).1;
+      stage =
+          ap (λ (n : ℕ). stage_after n (lines_of c.in_ok-reached.left.now) (stage_of c.in_ok-reached.reached)) (omega arith)
+          ∙ sym (on.stage (now + 1))
+          ∙ sym (next_stage now lines c.in-Some.line.now (lines_of c.in-Some.behind.now) (stage_of c.loop-line.stage) (stage_of c.in-Ok.next) c.in-Some.ensures.lines c.in-Ok.ensures)
+          ∙ c.loop-line.invariant.stage;
+      count = omega (arith, on.counted, ap length c.in-Some.ensures.lines);
+      room = omega (arith, on.room, c.in-Some.ensures.ends);
+      text = c.in_ok-reached.ensures.text;
     }
 
 pub returns-clause-stage : goal.returns-clause-stage

@@ -1,4 +1,5 @@
-use Rattle.cmwq_words.proofs.RequestLemmas.{asm_read, check_read, check_two_read, debug_read, list_read, new_file_read, new_read, play_read, run_read, show_read, version_asked}
+use Rattle.cmwq_words.proofs.RequestLemmas.{asm_read, check_read, check_two_read, debug_read, list_read, new_file_read, new_read, play_read, run_read, run_settled_read, settle_read, show_read, version_asked}
+use Rattle.cmwq_words.proofs.DrawLemmas.{draw_read, from_read, to_read}
 use Rattle.cmwq_words.proofs.request.parse.Goals as goal
 
 pub returns : goal.returns
@@ -7,6 +8,11 @@ returns c =
       new = λ name are. c.request_met.ensures.asks _ (new_read _ name are);
       new_file = λ name file are plain. c.request_met.ensures.asks _ (new_file_read _ name file are plain);
       run = λ name file are plain. c.request_met.ensures.asks _ (run_read _ name file are plain);
+      run_settled = λ name file are plain. c.request_met.ensures.asks _ (run_settled_read _ name file are plain);
+      settle = λ name file are plain. c.request_met.ensures.asks _ (settle_read _ name file are plain);
+      draw = λ name file settle svg are plain. c.request_met.ensures.asks _ (draw_read _ name file settle svg are plain);
+      draw_from = λ name file time are plain small. c.request_met.ensures.asks _ (from_read _ name file time are plain small);
+      draw_to = λ name file time are plain small. c.request_met.ensures.asks _ (to_read _ name file time are plain small);
       list = λ name file are plain. c.request_met.ensures.asks _ (list_read _ name file are plain);
       asm = λ name file out are plain plain_out. c.request_met.ensures.asks _ (asm_read _ name file out are plain plain_out);
       show = λ name image are plain. c.request_met.ensures.asks _ (show_read _ name image are plain);

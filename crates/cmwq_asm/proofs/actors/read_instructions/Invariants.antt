@@ -1,0 +1,16 @@
+use Rattle.std.proofs.Common.{length}
+use Rattle.std.specs.Prelude.{IsTrue}
+use Rattle.std.specs.Str.{is_utf8}
+use Rattle.cmwq_asm.specs.Stages.{stage_in}
+use Rattle.cmwq_asm.specs.Texts.{LeadsOn}
+use Rattle.cmwq_asm.proofs.actors.read_instructions.Given as goal
+
+-- the lines so far lead to the actor as it is
+abbrev pub invariant-loop-line : goal.invariant-loop-line
+invariant-loop-line l = record {
+  lines : LeadsOn l.text (stage_in l.initial.actor.value) l.rest l.count (stage_in l.actor.value);
+  text : IsTrue (is_utf8 l.rest);
+}
+
+abbrev pub decreases-loop-line : goal.decreases-loop-line
+decreases-loop-line l = length l.rest

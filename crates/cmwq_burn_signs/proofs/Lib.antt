@@ -1,0 +1,3 @@
+pub mod Columns
+pub mod Conclusions
+pub mod Counting

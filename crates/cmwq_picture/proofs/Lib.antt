@@ -1,0 +1,7 @@
+pub mod AlikeLemmas
+pub mod EntryLemmas
+pub mod LawLemmas
+pub mod ListLemmas
+pub mod RecordingLemmas
+pub mod RowLemmas
+pub mod TickLemmas

@@ -1,0 +1,95 @@
+-- What a column keeps of a state, and what rows read off it. No public clause cites this module.
+use Rattle.std.specs.Prelude.{ℕ, Bool, false, List, [], ◌∷◌, ◌==◌, ◌&&◌, length, map, Option, Some, None, if◌then◌else◌, slice_index_or}
+use Rattle.std.specs.List.{filter, filter_map, find}
+use Rattle.cmwq_types.specs.Contents.{ScenarioContents}
+use Rattle.cmwq_types.specs.First.{by_least, first_below}
+use Rattle.cmwq_types.specs.declared.instr.WorkId.{WorkId}
+use Rattle.cmwq_table.specs.Counts.{burns, is_runnable, running_stamp, runs}
+use Rattle.cmwq_table.specs.State.{State, running_at}
+use Rattle.cmwq_table.specs.declared.state.Pending.{Pending}
+use Rattle.cmwq_table.specs.declared.state.Running.{Running}
+use Rattle.cmwq_picture.specs.Contents.{RowContents}
+use Rattle.cmwq_picture.specs.Picture.{act_cell, below, pending_sign, stands, stands_in, work_sign}
+use Rattle.cmwq_picture.specs.declared.cell.Cell.{Cell}
+use Rattle.cmwq_picture.specs.declared.cell.Cell.TheVariants.{Empty, Burner}
+use Rattle.cmwq_picture.specs.declared.column.Burning.{Burning}
+use Rattle.cmwq_picture.specs.declared.row.Title.{Title}
+use Rattle.cmwq_picture.specs.declared.row.Title.TheVariants as title
+
+-- what each work does and who burns, by number, and whether the actor did something
+pub record ColumnContents : Type 0 where
+  pub works : List Cell
+  pub pending : List Cell
+  pub burners : List Burning
+  pub acted : Bool
+
+-- a state of which just this is known
+abbrev pub state_of : List (Option Pending) → List (Option Running) → State
+state_of pending running =
+    record {
+      time = 0;
+      next = 0;
+      spent = 0;
+      frozen = false;
+      pressed = false;
+      max = [];
+      pending = pending;
+      running = running;
+      depth = [];
+      idle = [];
+      made = [];
+      flushes = [];
+    }
+
+-- the first runnable work of the pool, of these works
+abbrev pub head_of : List (Option Running) → ℕ → Option ℕ
+head_of running pool =
+    first_below (by_least (λ w. running_stamp (slice_index_or running w None)))
+    (λ w. runs (λ r. (r.pool == pool) && is_runnable r.mode) (slice_index_or running w None)) (length running)
+
+-- what the first of these entries has, if it is the work's
+abbrev pub first_entry : {A : Type 0} → ℕ → List (WorkId × A) → Option A
+first_entry w [] = None
+first_entry w (entry ∷ later) = if entry.0.0 == w then Some entry.1 else None
+
+-- where a running work burns
+abbrev pub burning_as : ℕ → Option Running → Option Burning
+burning_as w (Some r) = Some (record { work = record { 0 = w }; pool = r.pool; worker = r.worker })
+burning_as w None = None
+
+abbrev pub burning : ScenarioContents → State → ℕ → Option Burning
+burning S s w = if burns S s w (running_at s w) then burning_as w (running_at s w) else None
+
+abbrev pub column_of : ScenarioContents → State → Bool → ColumnContents
+column_of S s acted =
+    record {
+      works = map (work_sign S s) (below (length S.works));
+      pending = map (pending_sign s) (below (length S.works));
+      burners = filter_map (burning S s) (below (length S.works));
+      acted = acted;
+    }
+
+-- Rows.
+
+abbrev pub cell_of : Option Burning → Cell
+cell_of (Some b) = Burner b.work
+cell_of None = Empty
+
+abbrev pub burner_in : ScenarioContents → Title → List Burning → Cell
+burner_in S title burners = cell_of (find (λ b. stands_in S title b.work.0 b.pool b.worker) burners)
+
+-- the column's cell in a row
+abbrev pub shown : ScenarioContents → Title → ColumnContents → Cell
+shown S (title.Work w) column = slice_index_or column.works w.0 Empty
+shown S (title.Pending w) column = slice_index_or column.pending w.0 Empty
+shown S (title.Cpu cpu) column = burner_in S (title.Cpu cpu) column.burners
+shown S (title.Worker pool worker) column = burner_in S (title.Worker pool worker) column.burners
+shown S (title.Rescuer queue) column = burner_in S (title.Rescuer queue) column.burners
+shown S title.Actor column = act_cell column.acted
+
+abbrev pub cut : ScenarioContents → List ColumnContents → Title → RowContents
+cut S columns title = record { title = title; cells = map (shown S title) columns }
+
+-- these rows, as far as they stand
+abbrev pub cut_rows : ScenarioContents → List ColumnContents → List Title → List RowContents
+cut_rows S columns titles = filter stands (map (cut S columns) titles)

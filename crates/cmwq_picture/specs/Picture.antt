@@ -1,0 +1,208 @@
+-- What a picture of a run shows: a row for each work, CPU and worker, and a column for each tick.
+use Rattle.std.specs.Prelude.{◌≡◌, ℕ, ◌*◌, ◌/◌, Bool, true, false, not, ◌&&◌, ◌||◌, List, [], ◌∷◌, ◌++◌, length, map, Option, Some, None, is_none, Result, Ok, Err, if◌then◌else◌, nat_le, nat_lt, ◌==◌}
+use Rattle.std.specs.List.{filter, find, flat_map, list_any, range_with_len}
+use Rattle.cmwq_types.specs.Contents.{ScenarioContents}
+use Rattle.cmwq_types.specs.Scenario.{is_unbound, queue_of}
+use Rattle.cmwq_types.specs.declared.instr.Instr.{Instr}
+use Rattle.cmwq_types.specs.declared.instr.Instr.TheVariants as instr
+use Rattle.cmwq_types.specs.declared.reply.Mode.{Mode}
+use Rattle.cmwq_types.specs.declared.reply.Mode.TheVariants.{Runnable, Asleep}
+use Rattle.cmwq_types.specs.declared.reply.Place.{Place}
+use Rattle.cmwq_types.specs.declared.reply.Place.TheVariants as place
+use Rattle.cmwq_types.specs.declared.reply.Reply.{Reply}
+use Rattle.cmwq_types.specs.declared.reply.Reply.TheVariants as reply
+use Rattle.cmwq_table.specs.Counts.{burns, is_rescuer, runs}
+use Rattle.cmwq_table.specs.State.{State, pending_at, running_at, start}
+use Rattle.cmwq_table.specs.Table.{is_question, table}
+use Rattle.cmwq_table.specs.declared.state.Pending.{Pending}
+use Rattle.cmwq_table.specs.declared.state.Running.{Running}
+use Rattle.cmwq_picture.specs.Contents.{PictureContents, RowContents}
+use Rattle.cmwq_picture.specs.declared.cell.Cell.{Cell}
+use Rattle.cmwq_picture.specs.declared.cell.Cell.TheVariants.{Empty, Does, Burner, Acts}
+use Rattle.cmwq_picture.specs.declared.cell.Sign.{Sign}
+use Rattle.cmwq_picture.specs.declared.cell.Sign.TheVariants as sign
+use Rattle.cmwq_picture.specs.declared.error.PictureError.{PictureError}
+use Rattle.cmwq_picture.specs.declared.error.PictureError.TheVariants.{TooWide, NoMemory}
+use Rattle.cmwq_picture.specs.declared.row.Title.{Title}
+use Rattle.cmwq_picture.specs.declared.row.Title.TheVariants as title
+use Rattle.cmwq_picture.specs.declared.span.Span.{Span}
+use Rattle.cmwq_picture.specs.declared.span.TheConstants.{MAX_COLUMNS}
+
+-- the numbers below n
+abbrev pub below : ℕ → List ℕ
+below n = range_with_len 0 n
+
+-- Columns.
+
+-- the states just before each instruction that lets time pass, in order
+abbrev pub ticks_from : ScenarioContents → State → List Instr → List State
+ticks_from S s [] = []
+ticks_from S s (i ∷ is) =
+    (if nat_lt s.time (table S s i).0.time then s ∷ [] else []) ++ ticks_from S (table S s i).0 is
+
+-- the time from which on ticks are drawn
+abbrev pub from_time : Option ℕ → ℕ
+from_time (Some from) = from
+from_time None = 0
+
+abbrev pub is_before : ℕ → Option ℕ → Bool
+is_before time (Some to) = nat_lt time to
+is_before time None = true
+
+abbrev pub is_drawn : Span → ℕ → Bool
+is_drawn span time = nat_le (from_time span.from) time && is_before time span.to
+
+-- the states just before the ticks that are drawn
+abbrev pub columns : ScenarioContents → List Instr → Span → List State
+columns S instrs span = filter (λ s. is_drawn span s.time) (ticks_from S (start S) instrs)
+
+-- Signs.
+
+abbrev pub mode_sign : Mode → Sign
+mode_sign Runnable = sign.Waits
+mode_sign (Asleep until) = sign.Sleeps
+
+-- what a work does that runs so
+abbrev pub run_sign : ScenarioContents → State → ℕ → Running → Sign
+run_sign S s w r = if burns S s w (Some r) then sign.Burns else mode_sign r.mode
+
+-- what it does while it is pending there
+abbrev pub place_sign : Place → Sign
+place_sign (place.Timer due cpu) = sign.Timed
+place_sign (place.Inactive pool) = sign.Inactive
+place_sign (place.Listed pool) = sign.Listed
+place_sign (place.Deferred pool) = sign.Deferred
+
+abbrev pub pending_cell : Option Pending → Cell
+pending_cell (Some p) = Does (place_sign p.place)
+pending_cell None = Empty
+
+-- of a work: its run, else its pending instance
+abbrev pub run_or_pending : ScenarioContents → State → ℕ → Option Running → Cell
+run_or_pending S s w (Some r) = Does (run_sign S s w r)
+run_or_pending S s w None = pending_cell (pending_at s w)
+
+abbrev pub work_sign : ScenarioContents → State → ℕ → Cell
+work_sign S s w = run_or_pending S s w (running_at s w)
+
+-- the pending instance of a work that runs
+abbrev pub beside_run : Option Running → Option Pending → Cell
+beside_run (Some r) p = pending_cell p
+beside_run None p = Empty
+
+abbrev pub pending_sign : State → ℕ → Cell
+pending_sign s w = beside_run (running_at s w) (pending_at s w)
+
+-- Who burns.
+
+-- whether a work that burns in the pool, on the worker, stands in the row: on the CPU whose normal or high pool it is, on a
+-- worker of an unbound pool, or on its queue's rescuer there
+abbrev pub stands_in : ScenarioContents → Title → ℕ → ℕ → ℕ → Bool
+stands_in S (title.Cpu cpu) w pool worker = not (is_unbound S pool) && (pool / 2 == cpu)
+stands_in S (title.Worker unbound number) w pool worker = (pool == unbound) && (worker == number)
+stands_in S (title.Rescuer queue) w pool worker = is_unbound S pool && is_rescuer worker && (queue_of S w == queue.0)
+stands_in S other w pool worker = false
+
+abbrev pub burns_in : ScenarioContents → State → Title → ℕ → Bool
+burns_in S s title w = burns S s w (running_at s w) && runs (λ r. stands_in S title w r.pool r.worker) (running_at s w)
+
+abbrev pub burner_cell : Option ℕ → Cell
+burner_cell (Some w) = Burner (record { 0 = w })
+burner_cell None = Empty
+
+-- the work that burns there; the first by number, if there were several
+abbrev pub burner : ScenarioContents → State → Title → Cell
+burner S s title = burner_cell (find (burns_in S s title) (below (length S.works)))
+
+-- What the actor did.
+
+-- a move of the machine's own, which an actor only lets it make
+abbrev pub is_own_move : Instr → Bool
+is_own_move instr.Fire = true
+is_own_move (instr.Step pool) = true
+is_own_move instr.Tick = true
+is_own_move instr.Next = true
+is_own_move i = false
+
+abbrev pub is_refused : Reply → Bool
+is_refused (reply.Refused why) = true
+is_refused other = false
+
+-- the actor did something: it neither let the machine move, nor asked, nor was refused
+abbrev pub is_act : Instr → Reply → Bool
+is_act i answer = not (is_own_move i || is_question i || is_refused answer)
+
+-- the times at which the actor did something
+abbrev pub acts_from : ScenarioContents → State → List Instr → List ℕ
+acts_from S s [] = []
+acts_from S s (i ∷ is) = (if is_act i (table S s i).1 then s.time ∷ [] else []) ++ acts_from S (table S s i).0 is
+
+abbrev pub act_cell : Bool → Cell
+act_cell true = Acts
+act_cell false = Empty
+
+-- Rows.
+
+-- the cell of a row at the state just before a tick, where the actor did something at these times
+abbrev pub cell : ScenarioContents → List ℕ → Title → State → Cell
+cell S acts (title.Work w) s = work_sign S s w.0
+cell S acts (title.Pending w) s = pending_sign s w.0
+cell S acts (title.Cpu cpu) s = burner S s (title.Cpu cpu)
+cell S acts (title.Worker pool worker) s = burner S s (title.Worker pool worker)
+cell S acts (title.Rescuer queue) s = burner S s (title.Rescuer queue)
+cell S acts title.Actor s = act_cell (list_any (λ time. time == s.time) acts)
+
+abbrev pub row : ScenarioContents → List ℕ → List State → Title → RowContents
+row S acts states title = record { title = title; cells = map (cell S acts title) states }
+
+-- the row of a CPU and that of the actor always stand
+abbrev pub stands_empty : Title → Bool
+stands_empty (title.Cpu cpu) = true
+stands_empty title.Actor = true
+stands_empty other = false
+
+abbrev pub is_empty : Cell → Bool
+is_empty Empty = true
+is_empty other = false
+
+abbrev pub stands : RowContents → Bool
+stands row = stands_empty row.title || list_any (λ cell. not (is_empty cell)) row.cells
+
+abbrev pub work_titles : ℕ → List Title
+work_titles w = title.Work (record { 0 = w }) ∷ title.Pending (record { 0 = w }) ∷ []
+
+abbrev pub worker_titles : ScenarioContents → ℕ → List Title
+worker_titles S pool = map (λ worker. title.Worker pool worker) (below S.workers)
+
+-- all rows that can stand, from the top: works, CPUs, the workers of the two unbound pools, rescuers, and the actor
+abbrev pub titles : ScenarioContents → List Title
+titles S =
+    flat_map work_titles (below (length S.works)) ++ map (λ cpu. title.Cpu cpu) (below S.cpus)
+    ++ flat_map (worker_titles S) (range_with_len (2 * S.cpus) 2)
+    ++ map (λ queue. title.Rescuer (record { 0 = queue })) (below (length S.queues)) ++ title.Actor ∷ []
+
+-- these rows, over these columns
+abbrev pub rows : ScenarioContents → List ℕ → List State → List RowContents
+rows S acts states = filter stands (map (row S acts states) (titles S))
+
+-- one end of the span isn't given: then at most MAX_COLUMNS columns are drawn
+abbrev pub is_open : Span → Bool
+is_open span = is_none span.from || is_none span.to
+
+abbrev pub is_too_wide : ScenarioContents → List Instr → Span → Bool
+is_too_wide S instrs span = is_open span && nat_lt MAX_COLUMNS (length (columns S instrs span))
+
+-- the picture of the instructions' run
+abbrev pub picture : ScenarioContents → List Instr → Span → PictureContents
+picture S instrs span =
+    record {
+      from = from_time span.from;
+      ticks = length (columns S instrs span);
+      rows = rows S (acts_from S (start S) instrs) (columns S instrs span);
+    }
+
+-- what is answered: the picture, or why there is none
+abbrev pub Draws : ScenarioContents → List Instr → Span → Result PictureContents PictureError → Type 0
+Draws S instrs span (Ok drawn) = (drawn ≡ picture S instrs span) × (is_too_wide S instrs span ≡ false)
+Draws S instrs span (Err TooWide) = is_too_wide S instrs span ≡ true
+Draws S instrs span (Err NoMemory) = Unit {0}

@@ -1,0 +1,35 @@
+//! What a row shows in one tick.
+
+use cmwq_types::WorkId;
+
+/// What a work does in a tick.
+#[derive(Clone, Copy, Debug, PartialEq, Eq)]
+pub enum Sign {
+    /// It runs, and burns CPU time.
+    Burns,
+    /// It runs and is runnable, without the CPU.
+    Waits,
+    /// It runs, and sleeps.
+    Sleeps,
+    /// It is pending, on a worklist.
+    Listed,
+    /// It is pending, and waits for its queue's `max_active`.
+    Inactive,
+    /// It is pending, with a timer.
+    Timed,
+    /// It is pending, and waits for its own run to end.
+    Deferred,
+}
+
+/// What a row shows in one tick.
+#[derive(Clone, Copy, Debug, PartialEq, Eq)]
+pub enum Cell {
+    /// Nothing.
+    Empty,
+    /// What the work of the row does.
+    Does(Sign),
+    /// The work that burns there.
+    Burner(WorkId),
+    /// The actor did something.
+    Acts,
+}

@@ -1,0 +1,154 @@
+//! A scenario's run on a machine, recorded column by column.
+ghost use Rattle.cmwq_picture.specs.Column.{column_of};
+ghost use Rattle.cmwq_picture.specs.Recording.{begun, issued, issued_all, overflows};
+ghost use Rattle.cmwq_table.specs.State.{start};
+ghost use Rattle.cmwq_types.specs.Faults.{IsValid};
+ghost use Rattle.cmwq_types.specs.Scenario.{expand_lines};
+ghost use Rattle.cmwq_types.specs.Setting.{IsSetting};
+ghost use Rattle.cmwq_types.specs.declared.limits.TheConstants.{MAX_STEPS};
+ghost use Rattle.std.specs.Prelude.{◌≡◌, ◌<◌, ◌≤◌, [], ◌∷◌, ◌++◌, Err, OnOk, length, replicate, true};
+
+use crate::acting::is_act;
+use crate::column::Column;
+use crate::error::PictureError;
+use crate::moment::Moment;
+use crate::span::{MAX_COLUMNS, Span};
+use cmwq_table::Machine;
+use cmwq_types::{Instr, Line, Scenario};
+use std::alloc::Global;
+use std::marker::Model;
+
+/// A scenario's run on a machine, with a column for each tick that is drawn.
+#[derive(Drop)]
+pub(crate) struct Recorder<'s, M: Machine> {
+    scenario: &'s Scenario,
+    machine: M,
+    span: Span,
+    /// Whether the actor did something since the last tick.
+    acted: bool,
+    columns: Vec<Column>,
+}
+
+impl<'s, M: Machine> Model for Recorder<'s, M> {
+    ghost use Rattle.cmwq_picture.specs.Recording.{IsRecording, Recording, recording_of};
+    ghost use Rattle.std.specs.Prelude.{◌≡◌};
+
+    ghost Value = { Recording };
+
+    ghost view = { λ r. recording_of r.scenario.now r.span (M.state r.machine) r.acted r.columns.items };
+
+    ghost invariant = { λ r. IsRecording (recording_of r.scenario.now r.span (M.state r.machine) r.acted r.columns.items)
+        × (M.loaded r.machine ≡ r.scenario.now) };
+}
+
+impl<'s, M: Machine> Recorder<'s, M> {
+    ghost use Rattle.cmwq_picture.specs.Column.{column_of};
+    ghost use Rattle.cmwq_picture.specs.Picture.{is_open};
+    ghost use Rattle.cmwq_picture.specs.declared.span.TheConstants.{MAX_COLUMNS};
+    ghost use Rattle.cmwq_picture.specs.Recording.{begun, issued, issued_all, overflows};
+    ghost use Rattle.cmwq_table.specs.State.{start};
+    ghost use Rattle.cmwq_types.specs.Faults.{IsValid};
+    ghost use Rattle.cmwq_types.specs.Scenario.{expand_lines};
+    ghost use Rattle.cmwq_types.specs.Setting.{IsSetting};
+    ghost use Rattle.cmwq_types.specs.declared.limits.TheConstants.{MAX_STEPS};
+    ghost use Rattle.std.specs.Prelude.{◌<◌, ◌≤◌, [], ◌∷◌, ◌++◌, Err, OnOk, length, replicate, true};
+
+    /// Nothing is recorded yet.
+    pub(crate) fn new(
+        alloc: Global,
+        scenario: &'s Scenario,
+        machine: M,
+        span: Span,
+    ) -> Recorder<'s, M>
+        requires valid { IsValid scenario.now }
+        requires loaded { M.loaded machine ≡ scenario.now }
+        requires start { M.state machine ≡ start scenario.now }
+        ensures { result ≡ begun scenario.now span }
+    {
+        Recorder {
+            scenario,
+            machine,
+            span,
+            acted: false,
+            columns: Vec::new(alloc),
+        }
+    }
+
+    /// Issues the lines one after another.
+    ///
+    /// It answers `TooWide` as soon as it has come to one column too many.
+    pub(crate) fn issue_lines(&mut self, alloc: Global, lines: &[Line]) -> Result<(), PictureError>
+        ensures ok { OnOk result (self.new ≡ issued_all self.old (expand_lines lines.now)) }
+        ensures wide { result ≡ Err PictureError.TooWide → overflows (issued_all self.old (expand_lines lines.now)) ≡ true }
+    {
+        for line in lines {
+            self.issue_line(alloc, *line)?;
+        }
+        Ok(())
+    }
+
+    /// Issues the instruction as often as the line says.
+    fn issue_line(&mut self, alloc: Global, line: Line) -> Result<(), PictureError>
+        ensures ok { OnOk result (self.new ≡ issued_all self.old (replicate line.times line.instr)) }
+        ensures wide { result ≡ Err PictureError.TooWide → overflows (issued_all self.old (replicate line.times line.instr)) ≡ true }
+    {
+        for _turn in 0..line.times {
+            self.issue(alloc, line.instr)?;
+        }
+        Ok(())
+    }
+
+    /// Issues one instruction. Where it lets a tick pass that is drawn, there is one column more.
+    fn issue(&mut self, alloc: Global, instr: Instr) -> Result<(), PictureError>
+        ensures ok { OnOk result (self.new ≡ issued self.old instr) }
+        ensures wide { result ≡ Err PictureError.TooWide → overflows (issued self.old instr) ≡ true }
+    {
+        let time = self.machine.now();
+        let reply = self.machine.exec(instr);
+        let acted = self.acted || is_act(instr, reply);
+        if self.machine.now() == time {
+            self.acted = acted;
+            return Ok(());
+        }
+        self.acted = false;
+        let span = self.span;
+        if span.is_drawn(time) {
+            return self.draw(alloc, acted);
+        }
+        Ok(())
+    }
+
+    /// One column more, for the tick that has just passed: it has changed no sign.
+    fn draw(&mut self, alloc: Global, acted: bool) -> Result<(), PictureError>
+        requires later { length self.old.columns < self.old.state.time }
+        ensures ok { OnOk result (self.new ≡ record self.old { columns = self.old.columns ++ column_of self.old.scenario self.old.state acted ∷ [] }) }
+        ensures wide { result ≡ Err PictureError.TooWide → overflows (record self.old { columns = self.old.columns ++ column_of self.old.scenario self.old.state acted ∷ [] }) ≡ true }
+    {
+        let span = self.span;
+        if span.is_open() && self.columns.len() == MAX_COLUMNS {
+            return Err(PictureError::TooWide);
+        }
+        let view = self.machine.look()?;
+        let moment = Moment::new(alloc, self.scenario, &view)?;
+        let column = moment.column(alloc, acted)?;
+        self.columns.push(column)?;
+        Ok(())
+    }
+
+    /// The columns.
+    pub(crate) fn into_columns(self) -> Vec<Column>
+        ensures columns { result.items ≡ self.entry.columns }
+        ensures setting { IsSetting self.entry.scenario }
+        ensures few { length result.items ≤ MAX_STEPS }
+        ensures narrow { is_open self.entry.span ≡ true → length result.items ≤ MAX_COLUMNS }
+    {
+        let Recorder {
+            scenario: _,
+            machine: _,
+            span: _,
+            acted: _,
+            columns,
+        } = self;
+        columns
+    }
+}

@@ -1,0 +1,9 @@
+pub mod CountLemmas
+pub mod FlushLemmas
+pub mod MoverLemmas
+pub mod NextLemmas
+pub mod PendingRows
+pub mod RankLemmas
+pub mod RunningRows
+pub mod ThawLemmas
+pub mod TickLemmas

@@ -1,0 +1,329 @@
+-- The instance that a pool's next move moves says that it is next, and the step of the pool moves it.
+use Rattle.std.proofs.Common.{◌≡◌, ℕ, ◌<◌, Bool, true, false, cond, ◌&&◌, length, Option, Some, None, refl, sym, ap, ◌∙◌, subst}
+use Rattle.std.proofs.lemmas.Bool.{and_parts, eqb-true, lt-ltb}
+use Rattle.std.specs.Prelude.{◌==◌, is_none, nat_lt}
+use Rattle.cmwq_types.specs.Contents.{ScenarioContents}
+use Rattle.cmwq_types.specs.First.{by_least_two}
+use Rattle.cmwq_types.specs.Scenario.{op_at, pool_count, queue_of}
+use Rattle.cmwq_types.specs.declared.instr.Instr.TheVariants as instr
+use Rattle.cmwq_types.specs.declared.instr.WorkId.{WorkId}
+use Rattle.cmwq_types.specs.declared.moves.Move.{Move}
+use Rattle.cmwq_types.specs.declared.moves.Move.TheVariants.{Advance, Wake, Start, Defer, Rescue}
+use Rattle.cmwq_types.specs.declared.reply.Event.{Event}
+use Rattle.cmwq_types.specs.declared.reply.Event.TheVariants as event
+use Rattle.cmwq_types.specs.declared.reply.Place.{Place}
+use Rattle.cmwq_types.specs.declared.reply.Place.TheVariants.{Timer, Inactive, Listed, Deferred}
+use Rattle.cmwq_types.specs.declared.reply.Refusal.{Refusal}
+use Rattle.cmwq_types.specs.declared.reply.Refusal.TheVariants.{NoSuchPool, NothingToDo, Spent}
+use Rattle.cmwq_types.specs.declared.reply.Reply.{Reply}
+use Rattle.cmwq_types.specs.declared.reply.Reply.TheVariants as reply
+use Rattle.cmwq_types.specs.declared.scenario.Op.{Op}
+use Rattle.cmwq_types.specs.declared.scenario.Op.TheVariants as op
+use Rattle.cmwq_table.specs.declared.state.Pending.{Pending}
+use Rattle.cmwq_table.specs.declared.state.Running.{Running}
+use Rattle.cmwq_table.specs.State.{State, is_disabled, is_unbound, pending_at, running_at}
+use Rattle.cmwq_table.specs.Counts.{can_be_rescued, first_due, first_listed, first_ready, first_rescued, first_runnable, first_slept, has_free_rescuer, if_ready, is_deferred, is_due, is_listed, is_runnable, is_slept, may_start, or_else, pending_before, pending_due, pending_stamp, pends, ready_head, running_before, running_stamp, running_until, runs}
+use Rattle.cmwq_table.specs.Laws.{placed_in, reply_to}
+use Rattle.cmwq_table.specs.Moves.{advance, begin_again, carry_out, come_to_end, moved, moved_work, next_move, onward, queue_from_body, retire}
+use Rattle.cmwq_table.specs.Table.{answer, effect, fired_first, nothing_to_do, refusal, refuse_unless, spent_all, stepped, table}
+use Rattle.cmwq_reasons.specs.declared.reason.Instance.{Instance}
+use Rattle.cmwq_reasons.specs.declared.reason.Instance.TheVariants as instance
+use Rattle.cmwq_reasons.specs.declared.reason.Reason.{Reason}
+use Rattle.cmwq_reasons.specs.declared.reason.Reason.TheVariants as reason
+use Rattle.cmwq_reasons.specs.declared.reason.Turn.{Turn}
+use Rattle.cmwq_reasons.specs.declared.reason.Turn.TheVariants.{Starts, Defers, StartsOnRescuer}
+use Rattle.cmwq_reasons.specs.Laws.{InAnyState, IsFiredNext, IsHead, IsMovedNext, IsNextToMove, SaysFiresNext, SaysNext, StepMoves, instance_of, is_next, move_of, pool_if_pending, pool_if_running, takes_pending}
+use Rattle.cmwq_reasons.specs.Reasons.{moved_by, moved_instance, mover, pending_half, reason_if_pending, reason_if_running, reason_in_place, reason_of_running, running_half}
+use Rattle.cmwq_reasons.proofs.MoverLemmas.{MoveSays, due-first, is_due_now, is_listed_in, is_ready_in, is_runnable_in, is_slept_in, listed-first, moved_by-some, next_move-says, ready-first, rescued-first, runnable-first, slept-first, some-first}
+use Rattle.cmwq_reasons.proofs.PendingRows.{PlaceRow, fires_next-from, fires_next-to, free-to, place-row}
+use Rattle.cmwq_reasons.proofs.RunningRows.{RunRow, ready_next-to, run-row, runnable-is, wakes_next-to}
+
+-- Who says that it is next, is moved next.
+
+run-next : (S : ScenarioContents) (s : State) (w : ℕ) (r : Running) (a : Reason) → RunRow S s w r a → is_next a ≡ true → mover S s r.pool ≡ Some (running_half w)
+run-next S s w r a (RunRow.wakes_next slept moves) next = moves
+run-next S s w r a (RunRow.ready_next head left moves) next = moves
+run-next S s w r a row next = cc
+
+running-next : (S : ScenarioContents) (s : State) (w pool : ℕ) (a : Reason) (o : Option Running) → w < length S.works → running_at s w ≡ o
+    → reason_if_running S s w o ≡ Some a → is_next a ≡ true → pool_if_running o ≡ Some pool → mover S s pool ≡ Some (running_half w)
+running-next S s w pool a (Some r) there is told next in_pool =
+    let same : reason_of_running S s w r ≡ a = cc in
+    let pool_is : r.pool ≡ pool = cc in
+    subst (λ (q : ℕ). mover S s q ≡ Some (running_half w)) pool_is
+    (run-next S s w r (reason_of_running S s w r) (run-row S s w r there is) (ap is_next same ∙ next))
+running-next S s w pool a None there is told next in_pool = cc
+
+pub turn-moves : (turn : Turn) (w : ℕ) → moved_instance (move_of turn w) ≡ pending_half w
+turn-moves Starts w = refl
+turn-moves Defers w = refl
+turn-moves StartsOnRescuer w = refl
+
+place-next : (S : ScenarioContents) (s : State) (w pool : ℕ) (at : Place) (a : Reason) → PlaceRow S s w at a → is_next a ≡ true → placed_in at ≡ Some pool
+    → mover S s pool ≡ Some (pending_half w)
+place-next S s w pool at a (PlaceRow.free q turn is may moves) next in_pool =
+    let placed : Some q ≡ Some pool = sym (ap placed_in is) ∙ in_pool in
+    let pool_is : q ≡ pool = cc in
+    ap (mover S s) (sym pool_is) ∙ ap moved_by moves ∙ ap Some (turn-moves turn w)
+place-next S s w pool at a row next in_pool = cc
+
+pending-next : (S : ScenarioContents) (s : State) (w pool : ℕ) (a : Reason) (o : Option Pending) → w < length S.works → pending_at s w ≡ o
+    → reason_if_pending S s w o ≡ Some a → is_next a ≡ true → pool_if_pending o ≡ Some pool → mover S s pool ≡ Some (pending_half w)
+pending-next S s w pool a (Some p) there is told next in_pool =
+    let same : reason_in_place S s w p.place ≡ a = cc in
+    place-next S s w pool p.place (reason_in_place S s w p.place) (place-row S s w p there is) (ap is_next same ∙ next) in_pool
+pending-next S s w pool a None there is told next in_pool = cc
+
+says-moved : (S : ScenarioContents) (s : State) (pool : ℕ) (x : Instance) → SaysNext S s pool x → mover S s pool ≡ Some x
+says-moved S s pool (instance.Pending w) says = pending-next S s w.0 pool says.0 (pending_at s w.0) says.4 refl says.1 says.2 says.3
+says-moved S s pool (instance.Running w) says = running-next S s w.0 pool says.0 (running_at s w.0) says.4 refl says.1 says.2 says.3
+
+-- Who is moved next, says so.
+
+pub runs-some : (test : Running → Bool) (o : Option Running) → runs test o ≡ true → (r : Running) × (o ≡ Some r) × (test r ≡ true)
+runs-some test (Some r) e = (r, refl, e)
+runs-some test None e = cc
+
+pub pends-some : (test : Place → Bool) (o : Option Pending) → pends test o ≡ true → (p : Pending) × (o ≡ Some p) × (test p.place ≡ true)
+pends-some test (Some p) e = (p, refl, e)
+pends-some test None e = cc
+
+listed-is : (at : Place) (pool : ℕ) → is_listed at pool ≡ true → at ≡ Listed pool
+listed-is (Listed q) pool e = ap Listed (eqb-true q pool e)
+listed-is (Timer due cpu) pool e = cc
+listed-is (Inactive q) pool e = cc
+listed-is (Deferred q) pool e = cc
+
+-- a head with nothing left to burn
+record ReadyHead (S : ScenarioContents) (s : State) (pool w : ℕ) : Type 0 where
+  there : w < length S.works
+  r : Running
+  is : running_at s w ≡ Some r
+  pool_is : r.pool ≡ pool
+  head : IsHead S s w r
+  left : r.left ≡ 0
+
+ready-if : (s : State) (o : Option ℕ) (w : ℕ) → if_ready s o ≡ Some w → (o ≡ Some w) × (runs (λ r. r.left == 0) (running_at s w) ≡ true)
+ready-if s (Some v) w e = kept (runs (λ r. r.left == 0) (running_at s v)) refl e
+  where
+    kept : (b : Bool) → runs (λ r. r.left == 0) (running_at s v) ≡ b → cond b (Some v) None ≡ Some w
+        → (Some v ≡ Some w) × (runs (λ r. r.left == 0) (running_at s w) ≡ true)
+    kept true idle found = (let same : v ≡ w = cc in (found, ap (λ (k : ℕ). runs (λ r. r.left == 0) (running_at s k)) (sym same) ∙ idle))
+    kept false idle found = cc
+ready-if s None w e = cc
+
+head-is : (S : ScenarioContents) (s : State) (pool w : ℕ) (b : Bool) → is_unbound S pool ≡ b
+    → cond b (first_ready S s pool) (if_ready s (first_runnable S s pool)) ≡ Some w → ReadyHead S s pool w
+head-is S s pool w true unbound found =
+    let first = some-first (running_before s) (is_ready_in s pool) (length S.works) (first_ready S s pool) (ready-first S s pool) w found in
+    let run = runs-some (λ r. (r.pool == pool) && is_runnable r.mode && (r.left == 0)) (running_at s w) first.1 in
+    let both = and_parts ((run.0.pool == pool) && is_runnable run.0.mode) (run.0.left == 0) run.2 in
+    let here = and_parts (run.0.pool == pool) (is_runnable run.0.mode) both.0 in
+    let pool_is : run.0.pool ≡ pool = eqb-true run.0.pool pool here.0 in
+    record {
+      there = first.0;
+      r = run.0;
+      is = run.1;
+      pool_is = pool_is;
+      head = (runnable-is run.0.mode here.1, λ bound. absurd (cc (sym bound ∙ ap (is_unbound S) pool_is ∙ unbound)));
+      left = eqb-true run.0.left 0 both.1;
+    }
+head-is S s pool w false bound found =
+    let ready = ready-if s (first_runnable S s pool) w found in
+    let first = some-first (running_before s) (is_runnable_in s pool) (length S.works) (first_runnable S s pool) (runnable-first S s pool) w ready.0 in
+    let run = runs-some (λ r. (r.pool == pool) && is_runnable r.mode) (running_at s w) first.1 in
+    let here = and_parts (run.0.pool == pool) (is_runnable run.0.mode) run.2 in
+    let pool_is : run.0.pool ≡ pool = eqb-true run.0.pool pool here.0 in
+    let idle : (run.0.left == 0) ≡ true = sym (ap (runs (λ r. r.left == 0)) run.1) ∙ ready.1 in
+    record {
+      there = first.0;
+      r = run.0;
+      is = run.1;
+      pool_is = pool_is;
+      head = (runnable-is run.0.mode here.1, λ e. ap (first_runnable S s) pool_is ∙ ready.0);
+      left = eqb-true run.0.left 0 idle;
+    }
+
+advance-next : (S : ScenarioContents) (s : State) (pool : ℕ) (w : WorkId) → next_move S s pool ≡ Some (Advance w) → ready_head S s pool ≡ Some w.0
+    → SaysNext S s pool (instance.Running w)
+advance-next S s pool w moves found =
+    let ready : ReadyHead S s pool w.0 = head-is S s pool w.0 (is_unbound S pool) refl found in
+    let moved_next : mover S s ready.r.pool ≡ Some (running_half w.0) = ap (mover S s) ready.pool_is ∙ ap moved_by moves in
+    let told : reason_of_running S s w.0 ready.r ≡ reason.ReadyNext = ready_next-to S s w.0 ready.r (ready.head, ready.left, moved_next) in
+    (reason.ReadyNext, ap (reason_if_running S s w.0) ready.is ∙ ap Some told, refl, ap pool_if_running ready.is ∙ ap Some ready.pool_is, ready.there)
+
+wake-next : (S : ScenarioContents) (s : State) (pool : ℕ) (w : WorkId) → next_move S s pool ≡ Some (Wake w) → first_slept S s pool ≡ Some w.0
+    → SaysNext S s pool (instance.Running w)
+wake-next S s pool w moves found =
+    let first =
+    some-first (by_least_two (λ w. running_until (running_at s w)) (λ w. running_stamp (running_at s w))) (is_slept_in s pool) (length S.works) (first_slept S s pool)
+    (slept-first S s pool) w.0 found in
+    let run = runs-some (λ r. (r.pool == pool) && is_slept r.mode s.time) (running_at s w.0) first.1 in
+    let here = and_parts (run.0.pool == pool) (is_slept run.0.mode s.time) run.2 in
+    let pool_is : run.0.pool ≡ pool = eqb-true run.0.pool pool here.0 in
+    let moved_next : mover S s run.0.pool ≡ Some (running_half w.0) = ap (mover S s) pool_is ∙ ap moved_by moves in
+    let told : reason_of_running S s w.0 run.0 ≡ reason.WakesNext = wakes_next-to S s w.0 run.0 (here.1, moved_next) in
+    (reason.WakesNext, ap (reason_if_running S s w.0) run.1 ∙ ap Some told, refl, ap pool_if_running run.1 ∙ ap Some pool_is, first.0)
+
+turn-next : (S : ScenarioContents) (s : State) (pool : ℕ) (turn : Turn) (w : WorkId) → next_move S s pool ≡ Some (move_of turn w.0) → may_start S s pool ≡ true
+    → w.0 < length S.works → is_listed_in s pool w.0 ≡ true → SaysNext S s pool (instance.Pending w)
+turn-next S s pool turn w moves may there listed =
+    let pend = pends-some (λ place. is_listed place pool) (pending_at s w.0) listed in
+    let at : pend.0.place ≡ Listed pool = listed-is pend.0.place pool pend.2 in
+    let told : reason_in_place S s w.0 pend.0.place ≡ reason.Free pool turn = free-to S s w.0 pend.0.place pool turn (at, may, moves) in
+    (reason.Free pool turn, ap (reason_if_pending S s w.0) pend.1 ∙ ap Some told, refl, ap pool_if_pending pend.1 ∙ ap placed_in at, there)
+
+listed-next : (S : ScenarioContents) (s : State) (pool : ℕ) (turn : Turn) (w : WorkId) → next_move S s pool ≡ Some (move_of turn w.0) → may_start S s pool ≡ true
+    → first_listed S s pool ≡ Some w.0 → SaysNext S s pool (instance.Pending w)
+listed-next S s pool turn w moves may found =
+    let first = some-first (pending_before s) (is_listed_in s pool) (length S.works) (first_listed S s pool) (listed-first S s pool) w.0 found in
+    turn-next S s pool turn w moves may first.0 first.1
+
+rescued-next : (S : ScenarioContents) (s : State) (pool : ℕ) (w : WorkId) → next_move S s pool ≡ Some (Rescue w) → may_start S s pool ≡ true
+    → first_rescued S s pool ≡ Some w.0 → SaysNext S s pool (instance.Pending w)
+rescued-next S s pool w moves may found =
+    let first = some-first (pending_before s) (can_be_rescued S s pool) (length S.works) (first_rescued S s pool) (rescued-first S s pool) w.0 found in
+    let listed = (and_parts (is_listed_in s pool w.0) (is_none (running_at s w.0) && has_free_rescuer S s (queue_of S w.0)) first.1).0 in
+    turn-next S s pool StartsOnRescuer w moves may first.0 listed
+
+move-next : (S : ScenarioContents) (s : State) (pool : ℕ) (move : Move) → next_move S s pool ≡ Some move → MoveSays S s pool move
+    → SaysNext S s pool (moved_instance move)
+move-next S s pool (Advance w) moves says = advance-next S s pool w moves says
+move-next S s pool (Wake w) moves says = wake-next S s pool w moves says
+move-next S s pool (Start w) moves says = listed-next S s pool Starts w moves says.0 says.1
+move-next S s pool (Defer w) moves says = listed-next S s pool Defers w moves says.0 says.1
+move-next S s pool (Rescue w) moves says = rescued-next S s pool w moves says.0 says.1
+
+pub moved-says : (S : ScenarioContents) (s : State) (pool : ℕ) (x : Instance) → mover S s pool ≡ Some x → SaysNext S s pool x
+moved-says S s pool x e =
+    let found = moved_by-some (next_move S s pool) x e in
+    subst (SaysNext S s pool) found.2 (move-next S s pool found.0 found.1 (next_move-says S s pool found.0 found.1))
+
+pub is_next_to_move : InAnyState IsNextToMove
+unfolding IsNextToMove
+is_next_to_move S s pool x = (says-moved S s pool x, moved-says S s pool x)
+
+-- The step moves it.
+
+abbrev step-reply : ScenarioContents → State → ℕ → Option Move → Reply
+step-reply S s pool (Some move) = reply.Event (moved_work move) (moved S s pool move).1
+step-reply S s pool None = reply.Refused NothingToDo
+
+pub accepted : (b : Bool) (why : Refusal) → b ≡ true → refuse_unless b why ≡ None
+accepted true why e = refl
+accepted false why e = cc
+
+pub neither : (a b c : Option Refusal) → a ≡ None → b ≡ None → or_else a (or_else b c) ≡ c
+neither (Some x) b c first second = cc
+neither None (Some x) c first second = cc
+neither None None c first second = refl
+
+answered : (S : ScenarioContents) (s : State) (pool : ℕ) (o : Option Move) → (answer s (instr.Step pool) (nothing_to_do o) (stepped S s pool o)).1 ≡ step-reply S s pool o
+answered S s pool (Some move) = refl
+answered S s pool None = refl
+
+steps : (S : ScenarioContents) (s : State) (pool : ℕ) → s.spent < S.steps → pool < pool_count S → reply_to S s (instr.Step pool) ≡ step-reply S s pool (next_move S s pool)
+unfolding table
+steps S s pool more there =
+    let judged : refusal S s (instr.Step pool) ≡ nothing_to_do (next_move S s pool) =
+    neither (refuse_unless (nat_lt pool (pool_count S)) NoSuchPool) (spent_all S s (instr.Step pool)) (nothing_to_do (next_move S s pool))
+    (accepted (nat_lt pool (pool_count S)) NoSuchPool (lt-ltb pool (pool_count S) there)) (accepted (nat_lt s.spent S.steps) Spent (lt-ltb s.spent S.steps more)) in
+    ap (λ (o : Option Refusal). (answer s (instr.Step pool) o (effect S s (instr.Step pool))).1) judged ∙ answered S s pool (next_move S s pool)
+
+queues-run : (S : ScenarioContents) (s : State) (other : WorkId) (cpu : ℕ) (b : Bool) (p : Option Pending) → takes_pending (queue_from_body S s other cpu b p).1 ≡ false
+queues-run S s other cpu true p = refl
+queues-run S s other cpu false (Some p) = refl
+queues-run S s other cpu false None = refl
+
+ends-run-if : (b : Bool) (t u : State) → takes_pending (cond {A = State × Event} b (t, event.FinishesAndStarts) (u, event.Finishes)).1 ≡ false
+ends-run-if true t u = refl
+ends-run-if false t u = refl
+
+ends-run : (s : State) (w : ℕ) (r : Running) (p : Option Pending) → takes_pending (come_to_end s w r p).1 ≡ false
+ends-run s w r (Some p) = ends-run-if (is_deferred p.place) (begin_again s w r p) (retire s w r)
+ends-run s w r None = refl
+
+carries-run : (S : ScenarioContents) (s : State) (w : ℕ) (r : Running) (o : Op) → takes_pending (carry_out S s w r o).1 ≡ false
+carries-run S s w r (op.Burn ticks) = refl
+carries-run S s w r (op.Sleep ticks) = refl
+carries-run S s w r (op.Queue other cpu) = queues-run S (onward s w r) other cpu (is_disabled s other.0) (pending_at s other.0)
+carries-run S s w r op.Finish = ends-run s w r (pending_at s w)
+
+advances-run : (S : ScenarioContents) (s : State) (w : ℕ) (o : Option Running) → takes_pending (advance S s w o).1 ≡ false
+advances-run S s w (Some r) = carries-run S s w r (op_at S w r.pc)
+advances-run S s w None = refl
+
+-- a move's event is one of the instance that it moves
+tells-moved : (S : ScenarioContents) (s : State) (pool : ℕ) (move : Move) → instance_of (moved_work move) (moved S s pool move).1 ≡ moved_instance move
+tells-moved S s pool (Advance w) = ap (λ (b : Bool). cond b (instance.Pending w) (instance.Running w)) (advances-run S s w.0 (running_at s w.0))
+tells-moved S s pool (Wake w) = refl
+tells-moved S s pool (Start w) = refl
+tells-moved S s pool (Defer w) = refl
+tells-moved S s pool (Rescue w) = refl
+
+mover-steps : (S : ScenarioContents) (s : State) (pool : ℕ) (x : Instance) (o : Option Move) → reply_to S s (instr.Step pool) ≡ step-reply S s pool o
+    → moved_by o ≡ Some x → StepMoves S s pool x
+mover-steps S s pool x (Some move) told e =
+    let same : moved_instance move ≡ x = cc in
+    (moved_work move, (moved S s pool move).1, told, tells-moved S s pool move ∙ same)
+mover-steps S s pool x None told e = cc
+
+steps-mover : (S : ScenarioContents) (s : State) (pool : ℕ) (x : Instance) (o : Option Move) → reply_to S s (instr.Step pool) ≡ step-reply S s pool o
+    → StepMoves S s pool x → moved_by o ≡ Some x
+steps-mover S s pool x (Some move) told moves =
+    let same : reply.Event (moved_work move) (moved S s pool move).1 ≡ reply.Event moves.0 moves.1 = sym told ∙ moves.2 in
+    let work_is : moved_work move ≡ moves.0 = cc in
+    let event_is : (moved S s pool move).1 ≡ moves.1 = cc in
+    ap Some (sym (tells-moved S s pool move) ∙ ap (λ (w : WorkId). instance_of w (moved S s pool move).1) work_is ∙ ap (instance_of moves.0) event_is ∙ moves.3)
+steps-mover S s pool x None told moves = let same : reply.Refused NothingToDo ≡ reply.Event moves.0 moves.1 = sym told ∙ moves.2 in cc
+
+pub is_moved_next : InAnyState IsMovedNext
+unfolding IsMovedNext
+is_moved_next S s more pool x there =
+    let told = steps S s pool more there in (
+      λ says. mover-steps S s pool x (next_move S s pool) told (says-moved S s pool x says),
+      λ moves. moved-says S s pool x (steps-mover S s pool x (next_move S s pool) told moves),
+    )
+
+-- The timer that fires next.
+
+abbrev fire-reply : Option ℕ → Reply
+fire-reply (Some w) = reply.Event (record { 0 = w }) event.Fires
+fire-reply None = reply.Refused NothingToDo
+
+fires-answered : (S : ScenarioContents) (s : State) (o : Option ℕ) → (answer s instr.Fire (nothing_to_do o) (fired_first S s o)).1 ≡ fire-reply o
+fires-answered S s (Some w) = refl
+fires-answered S s None = refl
+
+fires : (S : ScenarioContents) (s : State) → s.spent < S.steps → reply_to S s instr.Fire ≡ fire-reply (first_due S s)
+unfolding table
+fires S s more =
+    let judged : refusal S s instr.Fire ≡ nothing_to_do (first_due S s) =
+    neither None (spent_all S s instr.Fire) (nothing_to_do (first_due S s)) refl (accepted (nat_lt s.spent S.steps) Spent (lt-ltb s.spent S.steps more)) in
+    ap (λ (o : Option Refusal). (answer s instr.Fire o (effect S s instr.Fire)).1) judged ∙ fires-answered S s (first_due S s)
+
+says-due : (S : ScenarioContents) (s : State) (w : ℕ) (o : Option Pending) → w < length S.works → pending_at s w ≡ o
+    → reason_if_pending S s w o ≡ Some reason.FiresNext → first_due S s ≡ Some w
+says-due S s w (Some p) there is told =
+    let same : reason_in_place S s w p.place ≡ reason.FiresNext = cc in
+    (fires_next-from S s w p.place (reason_in_place S s w p.place) (place-row S s w p there is) same).1
+says-due S s w None there is told = cc
+
+pub due-says : (S : ScenarioContents) (s : State) (w : WorkId) → first_due S s ≡ Some w.0 → SaysFiresNext S s w
+due-says S s w found =
+    let first =
+    some-first (by_least_two (λ w. pending_due (pending_at s w)) (λ w. pending_stamp (pending_at s w))) (is_due_now s) (length S.works) (first_due S s) (due-first S s) w.0 found in
+    let pend = pends-some (λ place. is_due place s.time) (pending_at s w.0) first.1 in
+    (ap (reason_if_pending S s w.0) pend.1 ∙ ap Some (fires_next-to S s w.0 pend.0.place (pend.2, found)), first.0)
+
+fire-is : (o : Option ℕ) (w : WorkId) → fire-reply o ≡ reply.Event w event.Fires → o ≡ Some w.0
+fire-is (Some v) w e = (let same : record { 0 = v } ≡ w = cc in ap (λ (x : WorkId). Some x.0) same)
+fire-is None w e = cc
+
+pub is_fired_next : InAnyState IsFiredNext
+unfolding IsFiredNext
+is_fired_next S s more w =
+    let told = fires S s more in (
+      λ says. told ∙ ap fire-reply (says-due S s w.0 (pending_at s w.0) says.1 refl says.0),
+      λ fired. due-says S s w (fire-is (first_due S s) w (sym told ∙ fired)),
+    )

@@ -1,0 +1,34 @@
+//! Words, one at a time from the front of what is left of a line.
+ghost use Rattle.cmwq_scan.specs.Words.{words_left};
+ghost use Rattle.std.specs.Prelude.{◌≡◌, ◌∷◌, ◌<◌, [], IfSome, MatchOption, length};
+ghost use Rattle.std.specs.Str.{bytes_eq};
+
+use crate::cutting::cut_at_blank;
+
+/// The next word, and what is left behind it; `None` where no word is left.
+pub fn next_word<'t>(rest: &'t [u8]) -> Option<(&'t [u8], &'t [u8])>
+    ensures words { MatchOption result
+        (words_left rest.now ≡ [])
+        (λ found. words_left rest.now ≡ found.0.now ∷ words_left found.1.now) }
+    ensures shorter { IfSome result (λ found. length found.1.now < length rest.now) }
+{
+    let mut left = Some(rest);
+    while let Some(part) = left {
+        let (word, behind) = cut_at_blank(part);
+        if !word.is_empty() {
+            return match behind {
+                Some(behind) => Some((word, behind)),
+                None => Some((word, &[])),
+            };
+        }
+        left = behind;
+    }
+    None
+}
+
+/// Whether the word is this one.
+pub fn is_word(word: &[u8], wanted: &[u8]) -> bool
+    ensures { result ≡ bytes_eq word.now wanted.now }
+{
+    word == wanted
+}

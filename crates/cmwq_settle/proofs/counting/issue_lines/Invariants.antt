@@ -1,0 +1,11 @@
+use Rattle.std.proofs.Common.{◌≡◌, take}
+use Rattle.cmwq_types.specs.Scenario.{expand_lines}
+use Rattle.cmwq_table.specs.Table.{after_all}
+use Rattle.cmwq_settle.proofs.counting.issue_lines.Given as goal
+
+-- the lines up to this one were issued
+abbrev pub invariant-loop-line : goal.invariant-loop-line
+invariant-loop-line g l = record {
+  loaded : g.M.Machine.loaded l.machine ≡ g.M.Machine.loaded l.fn.machine;
+  state : g.M.Machine.state l.machine ≡ after_all (g.M.Machine.loaded l.fn.machine) (g.M.Machine.state l.fn.machine) (expand_lines (take l.line-index l.lines));
+}

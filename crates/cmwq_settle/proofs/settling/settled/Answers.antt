@@ -1,0 +1,21 @@
+use Rattle.std.proofs.Common.{◌≡◌, ◌≤◌, ◌∙◌, ap, length, rules, subst}
+use Rattle.std.specs.Prelude.{slice_index_or}
+use Rattle.cmwq_types.specs.Contents.{ActorContents}
+use Rattle.cmwq_types.specs.declared.limits.TheConstants.{MAX_LINES}
+use Rattle.cmwq_settle.specs.Counting.{HasCounted}
+use Rattle.cmwq_settle.specs.Settled.{with_nexts}
+use Rattle.cmwq_settle.specs.declared.counting.Nexts.{Nexts}
+use Rattle.cmwq_play.proofs.TextLemmas.{first-is}
+use Rattle.cmwq_settle.proofs.SettlingLemmas.{settled-so-valid}
+use Rattle.cmwq_settle.proofs.settling.settled.Goals as goal
+
+pub returns-clause-valid : goal.returns-clause-valid
+returns-clause-valid c =
+    let S = c.args.scenario in
+    let n = c.in-Settle.n in
+    let counted = subst (λ (nexts : Nexts). HasCounted S nexts) c.in-Settle.is c.in_ok-n.ensures in
+    let at : c.index.result.now ≡ slice_index_or S.actors 0 c.index.result.now = search rules in
+    let first = first-is S.actors c.index.result.now counted.0 at counted.1.alone in
+    let longer = c.in_ok-actor.actor in
+    let few : length longer.lines ≤ MAX_LINES = search rules in
+    settled-so-valid S c.in_ok-with_actor.field-0 n longer counted (c.in_ok-actor.ensures ∙ ap (λ (actor : ActorContents). with_nexts n actor) first) few c.in_ok-with_actor.ensures c.requires.valid

@@ -1,0 +1,6 @@
+pub mod Counting
+pub mod Examples
+pub mod Quiet
+pub mod Settled
+pub mod Settling
+pub mod Watching

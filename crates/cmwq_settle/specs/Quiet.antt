@@ -1,0 +1,47 @@
+-- When a machine is quiet, and how many `next` it takes until it is.
+use Rattle.std.specs.Prelude.{◌≡◌, ℕ, ◌-◌, ◌<◌, ◌≤◌, min, Bool, true, false, ◌||◌, List, length, replicate, is_some, ◌==◌}
+use Rattle.cmwq_types.specs.Contents.{ScenarioContents}
+use Rattle.cmwq_types.specs.First.{count_below}
+use Rattle.cmwq_types.specs.declared.instr.Instr.{Instr}
+use Rattle.cmwq_types.specs.declared.instr.Instr.TheVariants as instr
+use Rattle.cmwq_types.specs.declared.limits.TheConstants.{MAX_HISTORY}
+use Rattle.cmwq_table.specs.State.{State, pending_at, running_at}
+use Rattle.cmwq_table.specs.Table.{after_all, run}
+
+-- the work is pending or runs (`work_busy`)
+abbrev pub pends_or_runs : State → ℕ → Bool
+pends_or_runs s w = is_some (pending_at s w) || is_some (running_at s w)
+
+-- no work is pending, and none runs
+abbrev pub is_quiet : ScenarioContents → State → Bool
+is_quiet S s = count_below (pends_or_runs s) (length S.works) == 0
+
+-- the state after so many `next`
+abbrev pub after_nexts : ScenarioContents → State → ℕ → State
+after_nexts S s n = after_all S s (replicate n instr.Next)
+
+abbrev pub is_quiet_after : ScenarioContents → State → ℕ → Bool
+is_quiet_after S s n = is_quiet S (after_nexts S s n)
+
+-- So many `next`, and at most so many can be issued, are the least after which a machine in this state is quiet.
+pub record SettlesWithin (S : ScenarioContents) (s : State) (most n : ℕ) : Type 0 where
+  pub within : n ≤ most
+  pub quiet : is_quiet_after S s n ≡ true
+  pub least : (j : ℕ) → j < n → is_quiet_after S s j ≡ false
+
+-- however many of them are issued, at most so many, the machine isn't quiet
+abbrev pub IsUnquietWithin : ScenarioContents → State → ℕ → Type 0
+IsUnquietWithin S s most = (n : ℕ) → n ≤ most → is_quiet_after S s n ≡ false
+
+-- how many `next` can be issued after the instructions: as many as steps are left, and no more instructions in all than one run
+-- issues
+abbrev pub nexts_left : ScenarioContents → List Instr → ℕ
+nexts_left S instrs = min (S.steps - (run S instrs).spent) (MAX_HISTORY - length instrs)
+
+-- after the instructions, so many `next` are the least after which the machine is quiet
+abbrev pub Settles : ScenarioContents → List Instr → ℕ → Type 0
+Settles S instrs n = SettlesWithin S (run S instrs) (nexts_left S instrs) n
+
+-- after the instructions no `next` that can be issued makes the machine quiet
+abbrev pub NeverQuiet : ScenarioContents → List Instr → Type 0
+NeverQuiet S instrs = IsUnquietWithin S (run S instrs) (nexts_left S instrs)

@@ -1,0 +1,109 @@
+-- Worked pictures as text, written by hand.
+use Rattle.std.specs.Prelude.{ℕ, List, [], ◌∷◌, ◌++◌, codes, replicate}
+use Rattle.std.specs.List.{flat_map}
+use Rattle.cmwq_types.specs.Contents.{ScenarioContents, WorkContents}
+use Rattle.cmwq_types.specs.Scenario.{plain_flags}
+use Rattle.cmwq_types.specs.declared.instr.WorkId.{WorkId}
+use Rattle.cmwq_picture.specs.Contents.{PictureContents, RowContents}
+use Rattle.cmwq_picture.specs.declared.cell.Cell.{Cell}
+use Rattle.cmwq_picture.specs.declared.cell.Cell.TheVariants.{Empty, Does, Burner, Acts}
+use Rattle.cmwq_picture.specs.declared.cell.Sign.{Sign}
+use Rattle.cmwq_picture.specs.declared.cell.Sign.TheVariants as sign
+use Rattle.cmwq_picture.specs.declared.row.Title.{Title}
+use Rattle.cmwq_picture.specs.declared.row.Title.TheVariants as title
+
+abbrev pub text : List (List ℕ) → List ℕ
+text lines = flat_map (λ line. line ++ 10 ∷ []) lines
+
+abbrev pub work : List ℕ → WorkContents
+work name = record { name = name; queue = record { 0 = 0 }; body = [] }
+
+-- a scenario with a queue q and these works
+abbrev pub names : List WorkContents → ScenarioContents
+names works =
+    record {
+      cpus = 1;
+      workers = 4;
+      steps = 1000;
+      flushes = 0;
+      queues = record { name = codes "q"; max = 3; flags = plain_flags } ∷ [];
+      works = works;
+      actors = [];
+    }
+
+abbrev pub row : Title → List Cell → RowContents
+row title cells = record { title = title; cells = cells }
+
+abbrev pub id : ℕ → WorkId
+id w = record { 0 = w }
+
+abbrev pub for : ℕ → Sign → List Cell
+for n s = replicate n (Does s)
+
+abbrev pub nothing : ℕ → List Cell
+nothing n = replicate n Empty
+
+-- the first table of the kernel's document
+abbrev pub three_works : ScenarioContents
+three_works = names (work (codes "w0") ∷ work (codes "w1") ∷ work (codes "w2") ∷ [])
+
+abbrev pub first_table : PictureContents
+first_table =
+    record {
+      from = 0;
+      ticks = 25;
+      rows =
+          row (title.Work (id 0)) (for 5 sign.Burns ++ for 10 sign.Sleeps ++ for 5 sign.Burns ++ nothing 5)
+          ∷ row (title.Work (id 1)) (for 5 sign.Listed ++ for 5 sign.Burns ++ for 10 sign.Sleeps ++ nothing 5)
+          ∷ row (title.Work (id 2)) (for 10 sign.Listed ++ for 5 sign.Burns ++ for 10 sign.Sleeps)
+          ∷ row (title.Cpu 0) (replicate 5 (Burner (id 0)) ++ replicate 5 (Burner (id 1)) ++ replicate 5 (Burner (id 2)) ++ replicate 5 (Burner (id 0)) ++ nothing 5)
+          ∷ row title.Actor (Acts ∷ nothing 24) ∷ [];
+    }
+
+abbrev pub first_table_text : List ℕ
+first_table_text =
+    text (
+    codes "     0    5    10   15   20   25" ∷
+    codes "w0   |#####..........#####     |" ∷
+    codes "w1   |-----#####..........     |" ∷
+    codes "w2   |----------#####..........|" ∷
+    codes "cpu 0|wwwwwwwwwwwwwwwwwwww     |" ∷
+    codes "actor|^                        |" ∷
+    codes "# burns  . asleep  - listed  ^ the actor acts" ∷ [])
+
+-- each sign, and each kind of row
+abbrev pub each_sign : PictureContents
+each_sign =
+    record {
+      from = 7;
+      ticks = 9;
+      rows =
+          row (title.Work (id 0)) (for 1 sign.Burns ++ for 1 sign.Waits ++ for 1 sign.Sleeps ++ for 1 sign.Listed ++ for 1 sign.Inactive ++ for 1 sign.Timed ++ nothing 3)
+          ∷ row (title.Pending (id 0)) (for 2 sign.Deferred ++ nothing 7)
+          ∷ row (title.Worker 2 11) (nothing 1 ++ replicate 2 (Burner (id 1)) ++ nothing 6)
+          ∷ row (title.Rescuer (record { 0 = 0 })) (nothing 8 ++ replicate 1 (Burner (id 0)))
+          ∷ row title.Actor (nothing 8 ++ Acts ∷ []) ∷ [];
+    }
+
+abbrev pub each_sign_text : List ℕ
+each_sign_text =
+    text (
+    codes "           7    12" ∷
+    codes "a          |#=.-x~   |" ∷
+    codes "a+         |++       |" ∷
+    codes "worker 2/11| bb      |" ∷
+    codes "rescuer q  |        a|" ∷
+    codes "actor      |        ^|" ∷
+    codes "# burns  = runnable, without the CPU  . asleep  - listed  x inactive  ~ on a timer  + deferred  ^ the actor acts" ∷ [])
+
+-- a row without a cell, whose times are these
+abbrev pub only_times : ℕ → ℕ → PictureContents
+only_times from ticks = record { from = from; ticks = ticks; rows = row (title.Cpu 0) [] ∷ [] }
+
+-- up to 9999 there is a time each 5 ticks
+abbrev pub short_times_text : List ℕ
+short_times_text = text (codes "     9979 9984 9989 9994 9999" ∷ codes "cpu 0||" ∷ [])
+
+-- from 10000 on each 20
+abbrev pub long_times_text : List ℕ
+long_times_text = text (codes "     9980                10000" ∷ codes "cpu 0||" ∷ [])

@@ -1,0 +1,53 @@
+-- What a legend says of the signs that a picture shows.
+use Rattle.std.specs.Prelude.{ℕ, Bool, List, [], ◌∷◌, ◌++◌, codes}
+use Rattle.std.specs.List.{filter, list_any}
+use Rattle.cmwq_picture.specs.Contents.{RowContents}
+use Rattle.cmwq_picture.specs.contracts.cell.CellPartialEq.TheImpl as cell_eq
+use Rattle.cmwq_picture.specs.declared.cell.Cell.{Cell}
+use Rattle.cmwq_picture.specs.declared.cell.Cell.TheVariants.{Empty, Does, Burner, Acts}
+use Rattle.cmwq_picture.specs.declared.cell.Sign.{Sign}
+use Rattle.cmwq_picture.specs.declared.cell.Sign.TheVariants as sign
+
+-- whether both cells show the same
+abbrev pub same_cell : Cell → Cell → Bool
+same_cell a b = cell_eq.ghosts.eq a b
+
+-- the byte that stands for a sign
+abbrev pub sign_mark : Sign → ℕ
+sign_mark sign.Burns = 35
+sign_mark sign.Waits = 61
+sign_mark sign.Sleeps = 46
+sign_mark sign.Listed = 45
+sign_mark sign.Inactive = 120
+sign_mark sign.Timed = 126
+sign_mark sign.Deferred = 43
+
+-- what it says
+abbrev pub sign_meaning : Sign → List ℕ
+sign_meaning sign.Burns = codes "burns"
+sign_meaning sign.Waits = codes "runnable, without the CPU"
+sign_meaning sign.Sleeps = codes "asleep"
+sign_meaning sign.Listed = codes "listed"
+sign_meaning sign.Inactive = codes "inactive"
+sign_meaning sign.Timed = codes "on a timer"
+sign_meaning sign.Deferred = codes "deferred"
+
+-- what a legend explains, in this order, where the picture shows it
+abbrev pub explicable : List Cell
+explicable =
+    Does sign.Burns ∷ Does sign.Waits ∷ Does sign.Sleeps ∷ Does sign.Listed ∷ Does sign.Inactive ∷ Does sign.Timed ∷ Does sign.Deferred
+    ∷ Acts ∷ []
+
+-- whether a row shows the cell somewhere
+abbrev pub is_shown : List RowContents → Cell → Bool
+is_shown rows cell = list_any (λ row. list_any (same_cell cell) row.cells) rows
+
+abbrev pub explained : List RowContents → List Cell
+explained rows = filter (is_shown rows) explicable
+
+-- what the legend says of a cell
+abbrev pub meaning : Cell → List ℕ
+meaning (Does sign) = sign_meaning sign
+meaning Acts = codes "the actor acts"
+meaning Empty = []
+meaning (Burner w) = []

@@ -1,0 +1,5 @@
+pub mod Examples
+pub mod Labels
+pub mod Legend
+pub mod Sketch
+pub mod Times

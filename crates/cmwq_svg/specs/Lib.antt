@@ -1,0 +1,4 @@
+pub mod Bars
+pub mod Laws
+pub mod Layout
+pub mod Svg
