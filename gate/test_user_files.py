@@ -55,7 +55,7 @@ def page_faults():
 
 def version_faults(program):
     """The version stands in one place, and the pages have it; the kit is the one that is here."""
-    version = re.search(r'VERSION: &str = "(\S+) \((.*)\)";', text_of("crates/cmwq_words/src/help.rt"))
+    version = re.search(r'VERSION: &str = "(\S+) \((.*)\)";', text_of("crates/cmwq_command_line/src/help.rt"))
     faults = [f"{page} is of another version" for page in PAGES if f'"cmwq {version[1]}"' not in text_of(page)]
     if shutil.which("rt") and said("rt", "version").strip() != version[2]:
         faults.append("help.rt names another kit than the one that is here")

@@ -2,7 +2,8 @@
 ghost use Rattle.cmwq_types.specs.Faults.{IsValid};
 ghost use Rattle.clap.specs.Words.{Text};
 ghost use Rattle.cmwq_command.specs.Telling.{Prints};
-ghost use Rattle.cmwq_words.specs.Request.{IsCapacity, IsVersionWord, IsWithin, version_line};
+ghost use Rattle.cmwq_command_line.specs.CommandLine.{version_line};
+ghost use Rattle.cmwq_words.specs.Request.{IsCapacity, IsVersionWord, IsWithin};
 ghost use Rattle.cmwq_command.specs.declared.telling.TheConstants.{GOOD};
 ghost use Rattle.std.specs.Prelude.{◌≡◌, ◌∷◌, [], Err, IfOk, MatchResult, Ok, OnOk, false, map, string_bytes};
 

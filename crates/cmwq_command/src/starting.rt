@@ -2,13 +2,13 @@
 
 ghost use Rattle.cmwq_command.specs.Starting.{HasWrittenFirst};
 ghost use Rattle.cmwq_streams.specs.Sending.{IsSendError};
-ghost use Rattle.cmwq_words.specs.Request.{version_line};
+ghost use Rattle.cmwq_command_line.specs.CommandLine.{version_line};
 ghost use Rattle.std.specs.Io.KnownBytes.{Appends};
 ghost use Rattle.std.specs.Prelude.{◌≡◌, ◌↔◌, Err, IfErr, OnOk, false, true};
 
 use cmwq_first::first_text;
 use cmwq_play::{PlayError, Sink, put_all};
-use cmwq_words::help::VERSION;
+use cmwq_command_line::help::VERSION;
 use std::alloc::Global;
 
 /// Writes the text of a scenario to start from. It fails only where the writer does.

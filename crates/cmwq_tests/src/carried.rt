@@ -1,6 +1,7 @@
 //! A command carried out over a reader and a writer.
 ghost use Rattle.std.specs.Prelude.{◌≡◌, false};
 
+use cmwq_draw::{Drawing, Span, draw};
 use cmwq_machine_tests::examples::MAX_ACTIVE_3;
 use cmwq_machine_tests::streams::{Input, Output, reading_of};
 use cmwq_play::{Marked, PlayError, debug, from_image, list_text, read_text, run, to_image};
@@ -22,6 +23,10 @@ pub(crate) enum Command {
     Settle,
     /// Run a scenario's text until its machine is quiet.
     RunSettled,
+    /// Draw the whole run of a settled scenario, as text.
+    Draw,
+    /// The same as SVG.
+    DrawSvg,
     /// Debug the kernel's document's works under `max_active` 3.
     Debug,
 }
@@ -55,6 +60,8 @@ pub(crate) fn carried_out(
         Command::Show => from_image(alloc, &mut reader, &mut writer),
         Command::Settle => settle_text(alloc, &mut reader, &mut writer),
         Command::RunSettled => run_settled(alloc, &mut reader, &mut writer),
+        Command::Draw => draw(alloc, whole(false), &mut reader, &mut writer),
+        Command::DrawSvg => draw(alloc, whole(true), &mut reader, &mut writer),
         Command::Debug => debugged(alloc, &mut reader, &mut writer),
     };
     let output = writer.into_inner();
@@ -63,6 +70,19 @@ pub(crate) fn carried_out(
         reads: reader.inner.calls,
         writes: output.calls,
         written: output.taken,
+    }
+}
+
+/// The drawing of all ticks of a settled scenario.
+fn whole(svg: bool) -> Drawing {
+    let span = Span {
+        from: None,
+        to: None,
+    };
+    Drawing {
+        settle: true,
+        svg,
+        span,
     }
 }
 

@@ -86,10 +86,12 @@ fn a_text_in_other_ways_is_run_and_the_worked_image_is_written(rt: HostRuntime) 
 }
 
 /// Commands and what they read.
-fn inputs() -> [(Command, &'static [u8]); 8] {
+fn inputs() -> [(Command, &'static [u8]); 10] {
     [
         (Command::Settle, UNSETTLED),
         (Command::RunSettled, UNSETTLED),
+        (Command::Draw, UNSETTLED),
+        (Command::DrawSvg, OTHER_WAYS),
         (Command::Run, MAX_ACTIVE_3.text),
         (Command::List, MAX_ACTIVE_3.text),
         (Command::Asm, MAX_ACTIVE_3.text),

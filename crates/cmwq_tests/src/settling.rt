@@ -36,9 +36,20 @@ queue w1 0
 queue w2 0
 ";
 
+/// The picture of their run, drawn by hand.
+const PICTURE: &[u8] = b"     0    5    10   15   20   25
+w0   |#####..........#####     |
+w1   |-----#####..........     |
+w2   |----------#####..........|
+cpu 0|wwwwwwwwwwwwwwwwwwww     |
+actor|^                        |
+# burns  . asleep  - listed  ^ the actor acts
+";
+
 #[test]
 fn works_finish_and_the_machine_is_quiet(rt: HostRuntime) {
-    let rows: [(&str, Command, &[u8], &[u8]); 4] = [
+    let rows: [(&str, Command, &[u8], &[u8]); 5] = [
+        ("unsettled", Command::Draw, UNSETTLED, PICTURE),
         ("unsettled", Command::Settle, UNSETTLED, MAX_ACTIVE_3.text),
         (
             "unsettled",

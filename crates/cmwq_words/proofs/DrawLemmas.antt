@@ -11,7 +11,8 @@ use Rattle.std.specs.Str.Parse.{ParsesUnsigned, digits_value}
 use Rattle.clap.specs.Words.{Text, subcommand_of, takes}
 use Rattle.clap.proofs.OnLiterals.{clap_on_literals}
 use Rattle.cmwq_words.proofs.RequestLemmas.{no_hyphen, numerals}
-use Rattle.cmwq_words.specs.Request.{IsPlainWord, IsRead, asked_of, command_line, draw_arguments, flag_words, from_on, number_if_any, number_in, options_from, up_to, whole, words_to_draw}
+use Rattle.cmwq_command_line.specs.CommandLine.{command_line}
+use Rattle.cmwq_words.specs.Request.{IsPlainWord, IsRead, asked_of, draw_arguments, flag_words, from_on, number_if_any, number_in, options_from, up_to, whole, words_to_draw}
 use Rattle.cmwq_words.specs.declared.drawing.DrawOptions.{DrawOptions}
 
 -- Numbers.

@@ -1,13 +1,11 @@
-//! `draw`: its command, and what its words ask for.
+//! What the words of `draw` ask for.
 
-ghost use Rattle.clap.specs.Words.{Text, app_of, first_of, found_of, one_of, rows_of, rule_of};
-ghost use Rattle.clap.specs.declared.builder.command.Command.TheViews.{out-Command as fields_of};
-ghost use Rattle.cmwq_words.specs.Request.{draw_command, flag_in, flag_rule, number_if_any, number_in, options_of, file_to_draw, IsWithin, value_rule, words_of};
-ghost use Rattle.std.specs.Prelude.{◌≡◌, ℕ, Bool, IfOk, IfSome, List, Option, Some, codes, false, option_map};
+ghost use Rattle.clap.specs.Words.{Text, first_of, found_of, one_of, rows_of};
+ghost use Rattle.cmwq_words.specs.Request.{flag_in, number_if_any, number_in, options_of, file_to_draw, IsWithin, words_of};
+ghost use Rattle.std.specs.Prelude.{◌≡◌, ℕ, Bool, IfSome, List, Option, Some, option_map};
 
-use crate::request::{Request, on_text, value_of};
-use clap::{Arg, ArgAction, ArgMatches, Command};
-use std::alloc::{AllocError, Global};
+use crate::request::{Request, value_of};
+use clap::ArgMatches;
 
 /// What a picture shows of a run, and how.
 #[derive(Clone, Copy, Debug, PartialEq, Eq)]
@@ -20,45 +18,6 @@ pub struct DrawOptions {
     pub from: Option<u64>,
     /// The tick before which the picture ends; where there is none, the run's end.
     pub to: Option<u64>,
-}
-
-/// The command that draws a run.
-pub(crate) fn draw_command<'a>(alloc: Global) -> Result<Command<'a>, AllocError>
-    ensures app { IfOk result (λ r. app_of r ≡ draw_command) }
-    ensures local { IfOk result (λ r. (fields_of r).has_globals ≡ false) }
-{
-    on_text(
-        alloc,
-        "draw",
-        "Draws a scenario's run: a row a work, a column a tick",
-    )?
-    .arg(flag(
-        alloc,
-        "settle",
-        "Lets the run go on by `next` until the machine is quiet",
-    ))?
-    .arg(flag(alloc, "svg", "Writes an SVG picture"))?
-    .arg(time(alloc, "FROM", "from", "The first tick to draw"))?
-    .arg(time(alloc, "TO", "to", "The tick before which to end"))
-}
-
-/// An option without a value.
-pub(crate) fn flag<'a>(alloc: Global, name: &'a str, help: &'a str) -> Arg<'a>
-    ensures rule { rule_of result ≡ flag_rule name.entry.now }
-    ensures local { result.global ≡ false }
-{
-    Arg::new(alloc, name)
-        .long(name)
-        .action(ArgAction::SetTrue)
-        .help(help)
-}
-
-/// An option that may be given, with a time.
-fn time<'a>(alloc: Global, id: &'a str, name: &'a str, help: &'a str) -> Arg<'a>
-    ensures rule { rule_of result ≡ value_rule id.entry.now name.entry.now }
-    ensures local { result.global ≡ false }
-{
-    Arg::new(alloc, id).long(name).help(help)
 }
 
 /// What `draw` asks for; nothing where a time isn't a number.

@@ -1,6 +1,5 @@
-//! The command line: which words ask for what.
+//! What the words of a command line ask for.
 #![tactic(auto)]
 
 pub mod drawing;
-pub mod help;
 pub mod request;

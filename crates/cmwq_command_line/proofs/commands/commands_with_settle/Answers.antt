@@ -1,4 +1,4 @@
-use Rattle.cmwq_words.proofs.request.commands_with_settle.Goals as goal
+use Rattle.cmwq_command_line.proofs.commands.commands_with_settle.Goals as goal
 
 pub returns : goal.returns
 returns c = c.joined.ensures _ _ c.commands_with_check.ensures c.on_text-settle.ensures.app
