@@ -117,6 +117,24 @@ def failed(*words):
     return ran.returncode, ran.stdout, ran.stderr
 
 
+SLEEPER = "cpus 1\nworkers 1\nsteps {}\nflushes 0\nqueue q max 1\nwork a q\nbody a\nsleep 65535\nsleep 10\nfinish\nactor t\nqueue a 0\n"
+SLEEPS = b"0 a starts\n0 a sleeps 65535\n65535 a wakes\n65535 a sleeps 10\n"
+
+
+def quiet_faults(program, room):
+    """What is wrong with a run that goes on longer than a line says `next`: 65,545 ticks and six moves; and where the steps end before."""
+    text = f"{room}/sleeper.cmwq"
+    with open(text, "w", encoding="utf-8") as it:
+        it.write(SLEEPER.format(65552))
+    faults = [] if said(program, "settle", text) == bytes_of(text) + b"next * 65535\nnext * 16\n" else ["settle: it isn't 65,551 times next"]
+    faults += [] if said(program, "run", "--settle", text) == SLEEPS + b"65545 a wakes\n65545 a finishes\n" else ["run --settle: not its lines"]
+    with open(text, "w", encoding="utf-8") as it:
+        it.write(SLEEPER.format(65551))
+    faults += [] if failed(program, "settle", text) == (1, b"", b"never quiet\n") else ["settle: the steps' end isn't told"]
+    spent = (1, SLEEPS + b"65545 a wakes\n", b"never quiet\n")
+    return faults + ([] if failed(program, "run", "--settle", text) == spent else ["run --settle: not the lines up to the steps' end"])
+
+
 def main(program, histories):
     plays = sorted({re.sub(r"\.play\d+$", ".cmwq", it) for it in glob.glob(f"{TOP}/scenarios/*.play*")})
     texts = sorted(set(glob.glob(f"{TOP}/scenarios/*.cmwq")).difference(plays))
@@ -126,7 +144,7 @@ def main(program, histories):
         faults += [fault for text in texts for fault in history_faults(histories, program, text)]
         faults += [fault for commands in sorted(glob.glob(f"{TOP}/scenarios/*.debug")) for fault in session_faults(program, commands)]
         faults += [fault for text in plays for fault in play_faults(program, text, room)]
-        faults += shown_faults(program, texts)
+        faults += shown_faults(program, texts) + quiet_faults(program, room)
         faults += [fault for drawing in drawings for fault in drawing_faults(program, drawing)]
         with open(f"{room}/faulty.cmwq", "w", encoding="utf-8") as it:
             it.write("cpus 17\n")
