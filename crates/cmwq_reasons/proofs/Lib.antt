@@ -1,5 +1,6 @@
 pub mod CountLemmas
 pub mod FlushLemmas
+pub mod MaxLemmas
 pub mod MoverLemmas
 pub mod NextLemmas
 pub mod PendingRows

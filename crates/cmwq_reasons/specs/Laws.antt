@@ -1,7 +1,7 @@
 -- What one may believe of reasons without reading their definition.
 use Rattle.std.specs.Prelude.{◌≡◌, ◌↔◌, ◌⊎◌, ℕ, ◌+◌, ◌-◌, ◌<◌, ◌≤◌, Bool, true, false, List, [], ◌∷◌, length, Option, Some, None, if◌then◌else◌}
 use Rattle.cmwq_types.specs.Contents.{ScenarioContents}
-use Rattle.cmwq_types.specs.Scenario.{pool_count, queue_of}
+use Rattle.cmwq_types.specs.Scenario.{flags_at, pool_count, queue_of}
 use Rattle.cmwq_types.specs.declared.instr.Instr.{Instr}
 use Rattle.cmwq_types.specs.declared.instr.Instr.TheVariants as instr
 use Rattle.cmwq_types.specs.declared.instr.WorkId.{WorkId}
@@ -142,6 +142,12 @@ unfoldable pub TellsFrozen : ScenarioContents → State → Type 0
 TellsFrozen S s =
     AtEachPending S s (λ w p. (pool : ℕ) → (reason_of_pending S s w (Some p) ≡ reason.Frozen pool)
     ↔ ((p.place ≡ place.Inactive pool) × (limit S s (queue_of S w) ≡ 0)))
+
+-- it is inactive, the machine is frozen, and its queue is freezable
+unfoldable pub FrozenByFreeze : ScenarioContents → State → Type 0
+FrozenByFreeze S s =
+    AtEachPending S s (λ w p. (pool : ℕ) → (reason_of_pending S s w (Some p) ≡ reason.Frozen pool)
+    ↔ ((p.place ≡ place.Inactive pool) × (s.frozen ≡ true) × ((flags_at S (queue_of S w)).freezable ≡ true)))
 
 -- it is inactive, and its queue may have some active works
 unfoldable pub TellsInactive : ScenarioContents → State → Type 0

@@ -2,7 +2,7 @@
 //!
 //! Each function's contract is a law, over each state of each scenario, or over those that runs come to where it says
 //! so. The functions do nothing: they carry the laws.
-ghost use Rattle.cmwq_reasons.specs.Laws.{BurnsInTick, HeldNamesCounted, InAnyState, InactiveNamesActive, IsFiredNext, IsMovedNext, IsNextToMove, MomentsPassFirst, NoWorkerIsFree, RanksCausesBelow, TellsAfter, TellsAsleep, TellsBehind, TellsBurns, TellsDeferred, TellsDisabled, TellsFiresAfter, TellsFiresNext, TellsFree, TellsFrozen, TellsHeld, TellsHighHas, TellsInactive, TellsNoWorker, TellsNotPending, TellsReadyAfter, TellsReadyNext, TellsTimer, TellsWakesAfter, TellsWakesNext, WaitsForThaw, WaitsUntilDone};
+ghost use Rattle.cmwq_reasons.specs.Laws.{BurnsInTick, FrozenByFreeze, HeldNamesCounted, InAnyState, InactiveNamesActive, IsFiredNext, IsMovedNext, IsNextToMove, MomentsPassFirst, NoWorkerIsFree, RanksCausesBelow, TellsAfter, TellsAsleep, TellsBehind, TellsBurns, TellsDeferred, TellsDisabled, TellsFiresAfter, TellsFiresNext, TellsFree, TellsFrozen, TellsHeld, TellsHighHas, TellsInactive, TellsNoWorker, TellsNotPending, TellsReadyAfter, TellsReadyNext, TellsTimer, TellsWakesAfter, TellsWakesNext, WaitsForThaw, WaitsUntilDone};
 ghost use Rattle.cmwq_table.specs.Laws.{InEveryState};
 
 use cmwq_table::laws::inactive_works_leave_no_room;
@@ -78,6 +78,12 @@ pub fn no_wait_goes_round()
 #[tactic(auto, using(crate::proofs::FlushLemmas::waits_until_done))]
 pub fn flushes_wait_until_they_are_done()
     ensures { InAnyState WaitsUntilDone }
+{}
+
+/// In every state of a run a work is told as frozen exactly where it is inactive, the machine is frozen, and its queue is freezable.
+#[tactic(auto, using(crate::proofs::MaxLemmas::frozen_by_freeze))]
+pub fn only_a_freeze_leaves_no_room_for_any_work()
+    ensures { InEveryState FrozenByFreeze }
 {}
 
 /// Where a work waits for its queue's `max_active`, the reason blames all instances that take it up in the pool: as many as
