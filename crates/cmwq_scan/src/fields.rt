@@ -93,6 +93,7 @@ fn not_declared(word: &[u8]) -> Why
 }
 
 /// A number: `0`, or 1 to 10 digits of which the first isn't `0`.
+#[inline(always)]
 pub fn take_number<'t>(rest: &'t [u8]) -> Field<'t, u64>
     ensures { Tells (λ field. (field.0, words_left field.1.now)) result (number_at (words_left rest.now)) }
 {
@@ -103,6 +104,8 @@ pub fn take_number<'t>(rest: &'t [u8]) -> Field<'t, u64>
 }
 
 /// A number, whatever stands before it.
+#[cold]
+#[inline(never)]
 #[tactic(auto, unfolding(cmwq_grammar::specs::Fields::number_at))]
 fn take_number_word<'t>(rest: &'t [u8]) -> Field<'t, u64>
     ensures { Tells (λ field. (field.0, words_left field.1.now)) result (number_at (words_left rest.now)) }
