@@ -15,6 +15,7 @@ use cmwq_scan::{
 use cmwq_types::{Instr, Line, MAX_TIMES, Mnemonic, QueueId, WorkId};
 
 /// The line that begins with this word.
+#[inline(always)]
 #[tactic(auto, unfolding(cmwq_grammar::specs::Instructions::line_at))]
 pub(crate) fn read_line(draft: &Draft, word: &[u8], rest: &[u8]) -> Result<Line, Why>
     ensures { Tells (λ line. line) result (line_at draft.now word.now (words_left rest.now)) }
@@ -24,6 +25,7 @@ pub(crate) fn read_line(draft: &Draft, word: &[u8], rest: &[u8]) -> Result<Line,
 }
 
 /// The line of this instruction, which stands once, or as often as `* N` says.
+#[inline(always)]
 fn read_times(instr: Instr, rest: &[u8]) -> Result<Line, Why>
     ensures { Tells (λ line. line) result (times_at instr (words_left rest.now)) }
 {
@@ -34,6 +36,7 @@ fn read_times(instr: Instr, rest: &[u8]) -> Result<Line, Why>
 }
 
 /// The line of this instruction behind which the word stands, which must be `*`.
+#[inline(always)]
 #[tactic(auto, using(cmwq_scan::proofs::LineSteps::line_steps))]
 fn read_repeated(instr: Instr, word: &[u8], rest: &[u8]) -> Result<Line, Why>
     ensures { Tells (λ line. line) result (times_at instr (word.now ∷ words_left rest.now)) }
@@ -46,6 +49,7 @@ fn read_repeated(instr: Instr, word: &[u8], rest: &[u8]) -> Result<Line, Why>
 }
 
 /// The instruction that begins with this word.
+#[inline(always)]
 #[tactic(auto, unfolding(cmwq_grammar::specs::Instructions::instr_at), using(cmwq_scan::proofs::LineSteps::line_steps))]
 fn read_instr<'t>(draft: &Draft, word: &[u8], rest: &'t [u8]) -> Field<'t, Instr>
     ensures { Tells (λ field. (field.0, words_left field.1.now)) result (instr_at draft.now word.now (words_left rest.now)) }
@@ -57,6 +61,7 @@ fn read_instr<'t>(draft: &Draft, word: &[u8], rest: &'t [u8]) -> Field<'t, Instr
 }
 
 /// The instruction of this word, and the words after its operands.
+#[inline(always)]
 fn read_operands<'t>(draft: &Draft, mnemonic: Mnemonic, rest: &'t [u8]) -> Field<'t, Instr>
     ensures { Tells (λ field. (field.0, words_left field.1.now)) result (operands_at draft.now (operands_of mnemonic) (words_left rest.now)) }
 {
@@ -103,6 +108,7 @@ fn read_operands<'t>(draft: &Draft, mnemonic: Mnemonic, rest: &'t [u8]) -> Field
 }
 
 /// The instruction of this word on this work, and the words after what stands behind the work.
+#[inline(always)]
 fn read_behind_work<'t>(mnemonic: Mnemonic, work: WorkId, rest: &'t [u8]) -> Field<'t, Instr>
     requires { IsOnWork (operands_of mnemonic) }
     ensures on_work { IsOnWork (operands_of mnemonic) }
@@ -144,6 +150,7 @@ fn read_behind_work<'t>(mnemonic: Mnemonic, work: WorkId, rest: &'t [u8]) -> Fie
 }
 
 /// A declared queue.
+#[inline(always)]
 fn read_queue<'t>(draft: &Draft, rest: &'t [u8]) -> Field<'t, QueueId>
     ensures { Tells (λ field. (field.0.0, words_left field.1.now)) result (declared_at (queue_names draft.now) (words_left rest.now)) }
 {
@@ -152,6 +159,7 @@ fn read_queue<'t>(draft: &Draft, rest: &'t [u8]) -> Field<'t, QueueId>
 }
 
 /// A declared work.
+#[inline(always)]
 fn read_work<'t>(draft: &Draft, rest: &'t [u8]) -> Field<'t, WorkId>
     ensures { Tells (λ field. (field.0.0, words_left field.1.now)) result (declared_at (work_names draft.now) (words_left rest.now)) }
 {
@@ -160,6 +168,7 @@ fn read_work<'t>(draft: &Draft, rest: &'t [u8]) -> Field<'t, WorkId>
 }
 
 /// A CPU, which the machine may not have, and how many ticks.
+#[inline(always)]
 fn read_cpu_ticks<'t>(rest: &'t [u8]) -> Field<'t, (u8, u32)>
     ensures { Tells (λ field. (field.0, words_left field.1.now)) result (cpu_ticks_at (words_left rest.now)) }
 {

@@ -1,5 +1,5 @@
 -- Numbers as words.
-use Rattle.std.proofs.Common.{◌≡◌, ℕ, ◌+◌, ◌-◌, ◌*◌, ◌<◌, ◌≤◌, Bool, true, false, cond, not, ◌&&◌, List, [], ◌∷◌, ◌++◌, Ok, length, length-take, take, drop, get_or, slice_index, slice_index_or, nat_le, append-nil, ap, refl, sym, ◌∙◌, arith}
+use Rattle.std.proofs.Common.{◌≡◌, ℕ, ◌+◌, ◌-◌, ◌*◌, ◌%◌, ◌<◌, ◌≤◌, Bool, true, false, cond, not, ◌&&◌, List, [], ◌∷◌, ◌++◌, Ok, length, length-take, take, drop, get_or, slice_index, slice_index_or, nat_le, append-nil, ap, refl, sym, ◌∙◌, arith}
 use Rattle.std.proofs.lemmas.List.{take-append-drop}
 use Rattle.std.proofs.lemmas.List.Splits.{slice_split_at, slice_split_none}
 use Rattle.std.proofs.lemmas.Bool.Decides.{nat_tests}
@@ -45,6 +45,30 @@ module _ (word : List ℕ) (k : ℕ) where
 
     pub digits-more : list_all is_ascii_digit (take k word) ≡ true → list_all is_ascii_digit (take (k + 1) word) ≡ true
     digits-more digits = list_all_more is_ascii_digit word k 0 inside ∙ ap (λ (b : Bool). b && is_ascii_digit (slice_index_or word k 0)) digits ∙ digit
+
+-- A byte less 48, which wraps below 0, is at most 9 exactly at a digit.
+module _ (byte : ℕ) (is_byte : byte < 256) where
+  abbrev less48 : ℕ
+  less48 = (byte + 18446744073709551568) % 18446744073709551616
+
+  pub low-digit : less48 ≤ 9 → is_ascii_digit byte ≡ true
+  low-digit few =
+      let from : 48 ≤ byte = omega (arith, is_byte, few) in
+      let to : byte ≤ 57 = omega (arith, is_byte, few) in
+      grind (arith, nat_tests)
+
+  pub low-value : less48 ≤ 9 → less48 ≡ byte - 48
+  low-value few = omega (arith, is_byte, few)
+
+  pub high-no_digit : 9 < less48 → is_ascii_digit byte ≡ false
+  high-no_digit many = by (is_ascii_digit byte) refl
+    where
+      by : (b : Bool) → is_ascii_digit byte ≡ b → b ≡ false
+      by false other = refl
+      by true digit =
+          let from : 48 ≤ byte = grind (arith, nat_tests) in
+          let to : byte ≤ 57 = grind (arith, nat_tests) in
+          absurd (omega (arith, is_byte, many, from, to))
 
 -- Numbers at the front of what is left of a line.
 

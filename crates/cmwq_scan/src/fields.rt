@@ -68,6 +68,7 @@ pub fn take_new_name<'t>(names: &Names, rest: &'t [u8]) -> Field<'t, Named<'t>>
 }
 
 /// The number of a name that is among these.
+#[inline(always)]
 #[tactic(auto, unfolding(cmwq_grammar::specs::Fields::declared_at, cmwq_grammar::specs::Fields::name_at))]
 pub fn take_declared<'t>(names: &Names, rest: &'t [u8]) -> Field<'t, usize>
     ensures number { Tells (λ field. (field.0, words_left field.1.now)) result (declared_at names.now (words_left rest.now)) }
@@ -92,6 +93,7 @@ fn not_declared(word: &[u8]) -> Why
 }
 
 /// A number: `0`, or 1 to 10 digits of which the first isn't `0`.
+#[inline(always)]
 pub fn take_number<'t>(rest: &'t [u8]) -> Field<'t, u64>
     ensures { Tells (λ field. (field.0, words_left field.1.now)) result (number_at (words_left rest.now)) }
 {
@@ -102,6 +104,8 @@ pub fn take_number<'t>(rest: &'t [u8]) -> Field<'t, u64>
 }
 
 /// A number, whatever stands before it.
+#[cold]
+#[inline(never)]
 #[tactic(auto, unfolding(cmwq_grammar::specs::Fields::number_at))]
 fn take_number_word<'t>(rest: &'t [u8]) -> Field<'t, u64>
     ensures { Tells (λ field. (field.0, words_left field.1.now)) result (number_at (words_left rest.now)) }
@@ -114,12 +118,30 @@ fn take_number_word<'t>(rest: &'t [u8]) -> Field<'t, u64>
 }
 
 /// A number from `low` to `high`, both included.
+#[inline(always)]
 #[tactic(auto, unfolding(cmwq_grammar::specs::Fields::number_where))]
 pub fn take_number_within<'t>(low: u32, high: u32, rest: &'t [u8]) -> Field<'t, u32>
     ensures number { Tells (λ field. (field.0, words_left field.1.now)) result (number_where (within low high) (words_left rest.now)) }
     ensures within { IfOk result (λ field. field.0 ≤ high) }
 {
-    let (number, rest) = take_number(rest)?;
+    let Some((number, rest)) = front_number(rest) else {
+        return take_word_within(low, high, rest);
+    };
+    if number < u64::from(low) || number > u64::from(high) {
+        return Err(Why::Fault(Fault::Range));
+    }
+    Ok((number as u32, rest))
+}
+
+/// A number from `low` to `high`, both included, whatever stands before it.
+#[cold]
+#[inline(never)]
+#[tactic(auto, unfolding(cmwq_grammar::specs::Fields::number_where))]
+fn take_word_within<'t>(low: u32, high: u32, rest: &'t [u8]) -> Field<'t, u32>
+    ensures number { Tells (λ field. (field.0, words_left field.1.now)) result (number_where (within low high) (words_left rest.now)) }
+    ensures within { IfOk result (λ field. field.0 ≤ high) }
+{
+    let (number, rest) = take_number_word(rest)?;
     if number < u64::from(low) || number > u64::from(high) {
         return Err(Why::Fault(Fault::Range));
     }
@@ -157,6 +179,7 @@ pub fn take_last_new_name<'t>(names: &Names, rest: &'t [u8]) -> Result<Named<'t>
 }
 
 /// A number from `low` to `high`, both included, in a line's last word.
+#[inline(always)]
 pub fn take_last_number_within(low: u32, high: u32, rest: &[u8]) -> Result<u32, Why>
     ensures number { Tells (λ n. n) result (last (number_where (within low high) (words_left rest.now))) }
     ensures within { IfOk result (λ n. n ≤ high) }

@@ -141,17 +141,29 @@ impl<'t> Names<'t> {
     }
 
     /// The number of the name that is these bytes, if it is there.
+    #[inline(always)]
     pub fn number_of(&self, bytes: &[u8]) -> Option<usize>
         ensures number { result ≡ position (λ other. bytes_eq other bytes.now) self.now }
         ensures name { IfSome result (λ number. IsTrue (is_name bytes.now)) }
     {
         match self.hinted(bytes) {
             Some(number) => Some(number),
-            None => self.names.get_index_of(&Key { bytes }),
+            None => self.searched(bytes),
         }
     }
 
+    /// The number of the name that is these bytes, if it is there, by the set's hash.
+    #[cold]
+    #[inline(never)]
+    fn searched(&self, bytes: &[u8]) -> Option<usize>
+        ensures number { result ≡ position (λ other. bytes_eq other bytes.now) self.now }
+        ensures name { IfSome result (λ number. IsTrue (is_name bytes.now)) }
+    {
+        self.names.get_index_of(&Key { bytes })
+    }
+
     /// The number that the hint of these bytes leads to, if the name there is these bytes.
+    #[inline(always)]
     fn hinted(&self, bytes: &[u8]) -> Option<usize>
         ensures number { IfSome result (λ number. position (λ other. bytes_eq other bytes.now) self.now ≡ Some number) }
         ensures name { IfSome result (λ number. IsTrue (is_name bytes.now)) }

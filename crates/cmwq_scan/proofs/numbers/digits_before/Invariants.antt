@@ -2,7 +2,7 @@ use Rattle.std.proofs.Common.{◌≡◌, take, true}
 use Rattle.std.specs.Char.{is_ascii_digit}
 use Rattle.std.specs.List.{list_all}
 use Rattle.std.specs.Str.Parse.{digits_value}
-use Rattle.cmwq_scan.proofs.numbers.leading_digits.Given as goal
+use Rattle.cmwq_scan.proofs.numbers.digits_before.Given as goal
 
 -- the number that the digits so far write
 abbrev pub invariant-loop-place : goal.invariant-loop-place

@@ -3,10 +3,10 @@ use Rattle.std.specs.Prelude.{IfSome, IsTrue, is_some, true, ◌≡◌}
 use Rattle.std.specs.Str.{bytes_eq}
 use Rattle.cmwq_types.specs.Name.{is_name}
 use Rattle.cmwq_scan.proofs.NameLemmas.{position-keys, key_is_name}
-use Rattle.cmwq_scan.proofs.naming.Names.number_of.Goals as goal
+use Rattle.cmwq_scan.proofs.naming.Names.searched.Goals as goal
 
-pub returns-in-None-clause-number : goal.returns-in-None-clause-number
-returns-in-None-clause-number c =
+pub returns-clause-number : goal.returns-clause-number
+returns-clause-number c =
     c.get_index_of.ensures.index
     ∙ position-keys (λ key. key.bytes.now) c.args.bytes.now c.self.inside.names.keys
     ∙ ap (λ names. position (λ other. bytes_eq other c.args.bytes.now) names) c.self.view_is
@@ -16,7 +16,7 @@ if_there None P there = tt
 if_there (Some x) P there = there refl
 
 -- each key is a name
-pub returns-in-None-clause-name : goal.returns-in-None-clause-name
-returns-in-None-clause-name c =
+pub returns-clause-name : goal.returns-clause-name
+returns-clause-name c =
     if_there c.get_index_of.result (IsTrue (is_name c.args.bytes.now))
     (λ found. key_is_name (λ key. key.bytes.now) c.args.bytes.now c.self.inside.names.keys c.self.invariant (sym c.get_index_of.ensures.found ∙ found))
