@@ -12,7 +12,7 @@ ghost use Rattle.cmwq_types.specs.declared.limits.TheConstants.{MAX_TEXT, MAX_WO
 ghost use Rattle.std.specs.Io.KnownBytes.{Appends, Consumes, IsAtEnd, Keeps};
 ghost use Rattle.std.specs.Prelude.{◌≡◌, ◌<◌, ◌≤◌, ◌+◌, ◌↔◌, ◌⊎◌, ◌++◌, Err, IfErr, IfOk, IfSome, List, Ok, OnErr, OnOk, drop, false, length, replicate, take, true, ℕ};
 
-use crate::reading::read_some;
+use crate::reading::{empty_chunk, read_some};
 use crate::running::judge;
 use cmwq_debug::Debugger;
 use cmwq_debug_lines::{answer, line_length};
@@ -108,7 +108,7 @@ fn talk<M: Machine, R: Source, W: Sink>(
     let mut text = Vec::new(alloc);
     let mut done = 0;
     for _turn in 0..MAX_TEXT + 2 {
-        if read_some(commands, &mut text)? == 0 {
+        if read_some(commands, &mut empty_chunk(), &mut text)? == 0 {
             return answer_rest(alloc, scenario, debugger, &text[done..], writer);
         }
         if text.len() > MAX_TEXT {

@@ -55,16 +55,21 @@ pub fn read_whole<R: Source>(alloc: Global, reader: &mut R) -> Result<Vec<u8>, P
     ensures other { IfErr result (λ error. (error ≡ PlayError.Read) ⊎ (error ≡ PlayError.NoMemory)) }
 {
     let mut text = Vec::new(alloc);
+    let mut chunk = empty_chunk();
     for _turn in 0..MAX_TEXT + 1 {
-        if read_some(reader, &mut text)? == 0 || text.len() > MAX_TEXT {
+        if read_some(reader, &mut chunk, &mut text)? == 0 || text.len() > MAX_TEXT {
             return Ok(text);
         }
     }
     unreachable!()
 }
 
-/// Reads some bytes more, and says how many: none only at the end.
-pub(crate) fn read_some<R: Source>(reader: &mut R, text: &mut Vec<u8>) -> Result<usize, PlayError>
+/// Reads some bytes more by way of the chunk, and says how many: none only at the end.
+pub(crate) fn read_some<R: Source>(
+    reader: &mut R,
+    chunk: &mut [u8; 4096],
+    text: &mut Vec<u8>,
+) -> Result<usize, PlayError>
     requires sound { R.failed reader.old ≡ false }
     requires short { length text.old.items ≤ MAX_TEXT }
     ensures read { IfOk result (λ n. (bytes : List ℕ) × (text.new.items ≡ text.old.items ++ bytes) × (length bytes ≡ n)
@@ -78,7 +83,6 @@ pub(crate) fn read_some<R: Source>(reader: &mut R, text: &mut Vec<u8>) -> Result
     ensures unread { result ≡ Err PlayError.Read → Keeps (R.remaining reader.old) (R.remaining reader.new) }
     ensures why { IfErr result (λ error. (error ≡ PlayError.Read) ⊎ (error ≡ PlayError.NoMemory)) }
 {
-    let mut chunk = empty_chunk();
     let room = (MAX_TEXT + 1 - text.len()).min(4096);
     match reader.pull(&mut chunk[..room]) {
         Ok(n) => {
@@ -89,7 +93,7 @@ pub(crate) fn read_some<R: Source>(reader: &mut R, text: &mut Vec<u8>) -> Result
     }
 }
 
-/// Room for what one read gives.
-fn empty_chunk() -> [u8; 4096] {
+/// Room for what one read gives. To clear it takes about as long as to read it, so a long text is read by one.
+pub(crate) fn empty_chunk() -> [u8; 4096] {
     [0u8; 4096]
 }
