@@ -83,7 +83,10 @@ fn stamped_from(
 }
 
 /// Puts a work in its place: before the first one of a later stamp.
-fn put_by_stamp(found: &mut Vec<(WorkId, Pending)>, entry: (WorkId, Pending)) -> Result<(), NoMemory>
+fn put_by_stamp(
+    found: &mut Vec<(WorkId, Pending)>,
+    entry: (WorkId, Pending),
+) -> Result<(), NoMemory>
     ensures { OnOk result (found.new.items ≡ put_by_stamp entry found.old.items) }
 {
     let mut at = 0;
