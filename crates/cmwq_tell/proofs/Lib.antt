@@ -1,2 +1,7 @@
+pub mod Becoming
+pub mod BelowLemmas
+pub mod KeptLines
+pub mod LawLemmas
+pub mod LineLemmas
 pub mod SessionLemmas
 pub mod TellLemmas

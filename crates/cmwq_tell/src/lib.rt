@@ -2,7 +2,9 @@
 #![tactic(auto)]
 
 mod change;
+pub mod examples;
 mod instr_line;
+pub mod laws;
 mod running;
 mod session;
 mod told;

@@ -1,0 +1,31 @@
+//! What one may believe of what is told, without reading how it is made up.
+//!
+//! Each function's contract is a law. The functions do nothing: they carry the laws.
+ghost use Rattle.cmwq_table.specs.Laws.{AtEveryInstruction};
+ghost use Rattle.cmwq_tell.specs.Laws.{HidesNothingAsked, HidesNothingRefused, KeepsTheRun, ListsEachInstruction};
+
+use cmwq_grammar::laws::text_spells_one_scenario;
+use cmwq_table::laws::{questions_change_nothing, refused_instructions_change_nothing};
+
+/// An instruction that is refused, and a question, has no hidden change.
+pub fn refusals_and_questions_hide_nothing()
+    ensures refused { AtEveryInstruction HidesNothingRefused }
+    ensures asked { AtEveryInstruction HidesNothingAsked }
+{
+    refused_instructions_change_nothing();
+    questions_change_nothing();
+}
+
+/// Whoever leaves out the lines that begin with `#` gets the lines of the run, byte for byte.
+pub fn unmarked_lines_are_the_run()
+    ensures { KeepsTheRun }
+{
+    text_spells_one_scenario();
+}
+
+/// Whoever keeps the lines that begin with `#` and aren't indented gets the actor's instructions, each `* N` written out.
+pub fn marked_lines_are_the_instructions()
+    ensures { ListsEachInstruction }
+{
+    text_spells_one_scenario();
+}
