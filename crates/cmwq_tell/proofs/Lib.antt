@@ -1,5 +1,6 @@
 pub mod Becoming
 pub mod BelowLemmas
+pub mod CountLemmas
 pub mod KeptLines
 pub mod LawLemmas
 pub mod LineLemmas
