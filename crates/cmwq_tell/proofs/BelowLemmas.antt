@@ -4,14 +4,14 @@ use Rattle.std.proofs.lemmas.Bool.Decides.{nat_tests}
 use Rattle.std.specs.Prelude.{◌==◌, nat_lt, slice_index_or, slice_set}
 use Rattle.cmwq_types.specs.Contents.{ScenarioContents}
 use Rattle.cmwq_types.specs.declared.instr.Instr.{Instr}
-use Rattle.cmwq_types.specs.declared.reply.Place.TheVariants.{Deferred, Listed}
+use Rattle.cmwq_types.specs.declared.reply.Place.TheVariants.{Deferred}
 use Rattle.cmwq_table.specs.State.{State, pending_at, start}
 use Rattle.cmwq_table.specs.Table.{after_all, run, table}
 use Rattle.cmwq_table.specs.View.{entries_from}
 use Rattle.cmwq_table.specs.declared.state.Pending.{Pending}
 use Rattle.cmwq_tell.specs.declared.change.Change.{Change}
 use Rattle.cmwq_tell.specs.declared.change.Change.TheVariants as change
-use Rattle.cmwq_tell.specs.Hidden.{change_of, hidden, passing, stamped_from}
+use Rattle.cmwq_tell.specs.Hidden.{change_of, hidden, stamped_from}
 use Rattle.cmwq_tell.proofs.Becoming.{Becomes, Goes, set_cases, table-goes}
 
 abbrev pub IsBelow : ℕ → Option Pending → Type 0

@@ -1,22 +1,24 @@
 -- How many lines tell an activation, a place, or that time passed.
-use Rattle.std.proofs.Common.{◌≡◌, ℕ, zero, suc, ◌+◌, ◌<◌, ◌≤◌, Bool, true, false, not, ◌&&◌, cond, List, [], ◌∷◌, ◌++◌, length, map, Option, Some, None, arith, refl, sym, ap, ◌∙◌, subst, inl, inr, ◌⊎◌}
+use Rattle.std.proofs.Common.{◌≡◌, ℕ, zero, suc, ◌+◌, ◌<◌, ◌≤◌, Bool, true, false, not, ◌&&◌, cond, List, [], ◌∷◌, ◌++◌, length, map, Option, Some, None, arith, refl, sym, ap, ◌∙◌, subst, inl, inr, ◌⊎◌, zero-add}
 use Rattle.std.proofs.lemmas.Bool.Decides.{nat_tests}
 use Rattle.std.specs.Prelude.{◌==◌, nat_lt, slice_index_or, slice_set}
 use Rattle.cmwq_types.specs.Contents.{ScenarioContents}
 use Rattle.cmwq_types.specs.First.{count_below}
-use Rattle.cmwq_types.specs.declared.instr.Instr.{Instr}
 use Rattle.cmwq_types.specs.declared.instr.WorkId.{WorkId}
 use Rattle.cmwq_types.specs.declared.reply.Place.{Place}
 use Rattle.cmwq_types.specs.declared.reply.Place.TheVariants.{Timer, Inactive, Listed, Deferred}
 use Rattle.cmwq_table.specs.Laws.{AtEveryInstruction, is_waiting, state_after}
 use Rattle.cmwq_table.specs.State.{State, pending_at}
-use Rattle.cmwq_table.specs.Table.{run}
 use Rattle.cmwq_table.specs.View.{entries_from}
 use Rattle.cmwq_table.specs.declared.state.Pending.{Pending}
+use Rattle.cmwq_table.specs.Table.{run, table}
+use Rattle.cmwq_burning.proofs.Happening.{Happens, table-does}
+use Rattle.cmwq_types.specs.declared.reply.Reply.{Reply}
+use Rattle.cmwq_table.specs.declared.state.Running.{Running}
 use Rattle.cmwq_tell.specs.declared.change.Change.{Change}
 use Rattle.cmwq_tell.specs.declared.change.Change.TheVariants as change
 use Rattle.cmwq_tell.specs.Hidden.{change_of, hidden, passing, pool_of, put_by_stamp, stamped_from}
-use Rattle.cmwq_tell.specs.Laws.{TellsActivations, TellsPlaces, count_changes, is_activation, is_born, is_on_list, tells_activation, tells_place}
+use Rattle.cmwq_tell.specs.Laws.{TellsActivations, TellsPlaces, TellsTicks, count_changes, is_activation, is_born, is_on_list, tells_activation, tells_place, tells_tick}
 use Rattle.cmwq_tell.proofs.Becoming.{Becomes, Goes, set_cases, table-goes}
 use Rattle.cmwq_tell.proofs.BelowLemmas.{AllBelow, IsBelow, run-below}
 
@@ -59,7 +61,7 @@ module _ (test : Change → Bool) (a b : Bool) (activates : (w : WorkId) (pool :
 
   count-stamped : (o : ℕ) (xs : List (Option Pending)) → counted (stamped_from next (entries_from o xs)) ≡ total (weight a b next) xs
   count-stamped o [] = refl
-  count-stamped o (None ∷ xs) = count-stamped (o + 1) xs
+  count-stamped o (None ∷ xs) = count-stamped (o + 1) xs ∙ sym (zero-add (total (weight a b next) xs))
   count-stamped o (Some p ∷ xs) =
       stamped-if (nat_lt p.stamp next) (record { 0 = o }, p) (stamped_from next (entries_from (o + 1) xs))
       ∙ ap (λ (n : ℕ). weight a b next (Some p) + n) (count-stamped (o + 1) xs)
@@ -236,3 +238,46 @@ tells_places S valid instrs i =
     let s = run S instrs in
     let t = state_after S s i in
     hidden-counts tells_place false true (λ w pool. refl) (λ w place. refl) (λ now. refl) s t (λ w. is_born s.next (pending_at t w)) (goes-place s t (run-below S instrs) (table-goes S s i))
+
+-- Time.
+
+time-goes : (S : ScenarioContents) (s : State) (running : List (Option Running)) (time : ℕ) (r : Reply) → Happens S s running time r → (time ≡ s.time) ⊎ (time ≡ s.time + 1)
+time-goes S s running time r (Happens.nothing runs still silent) = inl still
+time-goes S s running time r (Happens.passes settled runs on silent) = inr on
+time-goes S s running time r (Happens.moves w e q there runs still told changes) = inl still
+
+passing-counts : (before now : ℕ) → (now ≡ before) ⊎ (now ≡ before + 1) → count_changes tells_tick (passing before now) + before ≡ now
+passing-counts before now (inl e) =
+    let same : (now == before) ≡ true = grind (arith, nat_tests) in
+    let counts : count_changes tells_tick (passing before now) ≡ 0 = ap (λ (c : Bool). count_changes tells_tick (cond c [] (change.Now now ∷ []))) same in
+    omega (arith, counts, e)
+passing-counts before now (inr e) =
+    let apart : (now == before) ≡ false = grind (arith, nat_tests) in
+    let counts : count_changes tells_tick (passing before now) ≡ 1 = ap (λ (c : Bool). count_changes tells_tick (cond c [] (change.Now now ∷ []))) apart in
+    omega (arith, counts, e)
+
+nothing-if : (c d : Bool) → cond {A = ℕ} c 0 (cond {A = ℕ} (cond {A = Bool} d false false) 1 0) ≡ 0
+nothing-if true d = refl
+nothing-if false true = refl
+nothing-if false false = refl
+
+weighs-nothing : (next : ℕ) (o : Option Pending) → weight false false next o ≡ 0
+weighs-nothing next (Some p) = nothing-if (nat_lt p.stamp next) (nat_lt p.born next)
+weighs-nothing next None = refl
+
+none-below : (n : ℕ) → count_below (λ w. false) n ≡ 0
+none-below zero = refl
+none-below (suc n) = let before : count_below (λ w. false) n ≡ 0 = none-below n in omega (arith, before)
+
+pub tells_ticks : AtEveryInstruction TellsTicks
+unfolding TellsTicks
+tells_ticks S valid instrs i =
+    let s = run S instrs in
+    let t = state_after S s i in
+    let stamped = map (change_of s.next) (stamped_from s.next (entries_from 0 t.pending)) in
+    let passes : count_changes tells_tick (passing s.time t.time) + s.time ≡ t.time = passing-counts s.time t.time (time-goes S s t.running t.time (table S s i).1 (table-does S s i)) in
+    let sum : count_changes tells_tick (hidden s t) ≡ count_changes tells_tick (passing s.time t.time) + count_changes tells_tick stamped = count-append tells_tick (passing s.time t.time) stamped in
+    let counts : count_changes tells_tick stamped ≡ count_below (λ w. false) (length t.pending) =
+    count-stamped tells_tick false false (λ w pool. refl) (λ w place. refl) s.next 0 t.pending ∙ total-counts (weight false false s.next) (λ w. false) t.pending (λ w. weighs-nothing s.next (pending_at t w)) in
+    let nothing : count_below (λ w. false) (length t.pending) ≡ 0 = none-below (length t.pending) in
+    omega (arith, passes, sum, counts, nothing)

@@ -1,11 +1,10 @@
 -- Which lines of what is told are kept by a test that keeps each line of a kind, or none.
-use Rattle.std.proofs.Common.{◌≡◌, ℕ, Bool, true, false, not, ◌&&◌, cond, List, [], ◌∷◌, ◌++◌, map, codes, eqb, leb, Some, arith, refl, sym, ap, ◌∙◌, subst, append_assoc, append-nil}
+use Rattle.std.proofs.Common.{◌≡◌, ℕ, Bool, true, false, not, ◌&&◌, cond, List, [], ◌∷◌, ◌++◌, map, codes, arith, refl, sym, ap, ◌∙◌, subst, append_assoc}
 use Rattle.std.proofs.lemmas.Bool.Decides.{nat_tests}
 use Rattle.std.specs.Fmt.{decimal}
-use Rattle.std.specs.List.{filter, flat_map, join_with_byte, list_all}
+use Rattle.std.specs.List.{filter, list_all}
 use Rattle.std.specs.Prelude.{◌==◌, slice_index_or}
 use Rattle.cmwq_types.specs.Contents.{ActorContents, ScenarioContents}
-use Rattle.cmwq_types.specs.Listing.{instr_words}
 use Rattle.cmwq_types.specs.Scenario.{expand}
 use Rattle.cmwq_types.specs.Values.{IsScenario}
 use Rattle.cmwq_types.specs.declared.instr.Instr.{Instr}
@@ -17,12 +16,11 @@ use Rattle.cmwq_table.specs.Table.{table}
 use Rattle.cmwq_grammar.specs.Cutting.{lines_of}
 use Rattle.cmwq_grammar.specs.Grammar.{Spells}
 use Rattle.cmwq_grammar.proofs.CallerLemmas.{line_cut}
-use Rattle.cmwq_play.specs.Texts.{IsRun}
 use Rattle.cmwq_play.proofs.TextLemmas.{same_actor}
 use Rattle.cmwq_tell.specs.declared.change.Change.{Change}
 use Rattle.cmwq_tell.specs.Hidden.{change_line, change_text, hidden}
 use Rattle.cmwq_tell.specs.Laws.{KeepsTheRun, ListsEachInstruction, from_lines, instr_said, is_instr_line, is_marked, unmarked}
-use Rattle.cmwq_tell.specs.Telling.{IsToldRun, change_lines, instr_line, tell_from, tell_text, told_wholly}
+use Rattle.cmwq_tell.specs.Telling.{change_lines, instr_line, tell_from, tell_text}
 use Rattle.cmwq_tell.proofs.LineLemmas.{NoFeed, change-no_feed, glyphs, instr-no_feed, is_glyph, joint, literal, number, reply-no_feed}
 
 -- a line and what follows it

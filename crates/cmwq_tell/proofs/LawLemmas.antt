@@ -1,5 +1,4 @@
 -- A refused instruction and a question hide nothing, since they change nothing.
-use Rattle.std.proofs.Common.{◌≡◌, true}
 use Rattle.cmwq_table.specs.Laws.{AtEveryInstruction, ChangesNothingAsked, ChangesNothingRefused, state_after}
 use Rattle.cmwq_table.specs.Table.{run}
 use Rattle.cmwq_tell.specs.Laws.{HidesNothingAsked, HidesNothingRefused}

@@ -49,6 +49,11 @@ tells_place (change.Placed work place) = true
 tells_place (change.Activated work pool) = false
 tells_place (change.Now now) = false
 
+abbrev pub tells_tick : Change → Bool
+tells_tick (change.Now now) = true
+tells_tick (change.Activated work pool) = false
+tells_tick (change.Placed work place) = false
+
 abbrev pub is_on_list : Place → Bool
 is_on_list (Listed at) = true
 is_on_list (Timer due cpu) = false
@@ -77,6 +82,10 @@ unfoldable pub TellsPlaces : ScenarioContents → State → Instr → Type 0
 TellsPlaces S s i =
     count_changes tells_place (hidden s (state_after S s i))
     ≡ count_below (λ w. is_born s.next (pending_at (state_after S s i) w)) (length (state_after S s i).pending)
+
+-- As many lines tell a new time as ticks pass.
+unfoldable pub TellsTicks : ScenarioContents → State → Instr → Type 0
+TellsTicks S s i = count_changes tells_tick (hidden s (state_after S s i)) + s.time ≡ (state_after S s i).time
 
 -- Lines.
 

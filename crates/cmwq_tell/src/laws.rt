@@ -2,7 +2,7 @@
 //!
 //! Each function's contract is a law. The functions do nothing: they carry the laws.
 ghost use Rattle.cmwq_table.specs.Laws.{AtEveryInstruction};
-ghost use Rattle.cmwq_tell.specs.Laws.{HidesNothingAsked, HidesNothingRefused, KeepsTheRun, ListsEachInstruction, TellsActivations, TellsPlaces};
+ghost use Rattle.cmwq_tell.specs.Laws.{HidesNothingAsked, HidesNothingRefused, KeepsTheRun, ListsEachInstruction, TellsActivations, TellsPlaces, TellsTicks};
 
 use cmwq_grammar::laws::text_spells_one_scenario;
 use cmwq_table::laws::{questions_change_nothing, refused_instructions_change_nothing};
@@ -17,11 +17,12 @@ pub fn refusals_and_questions_hide_nothing()
 }
 
 /// As many lines `activated` stand behind an instruction as works go from inactive to listed at it, with the birth that they had; and as many
-/// works are told to be listed, inactive or on a timer as get a new birth.
-#[tactic(auto, using(crate::proofs::CountLemmas::tells_activations, crate::proofs::CountLemmas::tells_places))]
-pub fn each_activation_and_each_place_is_told()
+/// works are told to be listed, inactive or on a timer as get a new birth. And as many lines `now` stand there as ticks pass.
+#[tactic(auto, using(crate::proofs::CountLemmas::tells_activations, crate::proofs::CountLemmas::tells_places, crate::proofs::CountLemmas::tells_ticks))]
+pub fn each_hidden_change_is_told_once()
     ensures activations { AtEveryInstruction TellsActivations }
     ensures places { AtEveryInstruction TellsPlaces }
+    ensures ticks { AtEveryInstruction TellsTicks }
 {}
 
 /// Whoever leaves out the lines that begin with `#` gets the lines of the run, byte for byte.

@@ -1,10 +1,9 @@
-use Rattle.std.proofs.Common.{◌≡◌, [], ◌∷◌, ap, refl, rules, sym, ◌∙◌}
+use Rattle.std.proofs.Common.{◌≡◌, [], ◌∷◌, ap, refl, rules, ◌∙◌}
 use Rattle.std.proofs.lemmas.Result.{err_from_is_err_and}
 use Rattle.cmwq_types.specs.Contents.{ScenarioContents}
 use Rattle.cmwq_types.specs.declared.reply.Reply.{Reply}
 use Rattle.cmwq_table.specs.State.{State}
 use Rattle.cmwq_table.specs.Table.{table}
-use Rattle.cmwq_table.specs.View.{ViewContents}
 use Rattle.cmwq_tell.specs.Hidden.{hidden}
 use Rattle.cmwq_tell.proofs.SessionLemmas.{one_then, stopped_at_once}
 use Rattle.cmwq_tell.proofs.TellLemmas.{one-told}
