@@ -1,0 +1,60 @@
+-- Worked examples: small scenarios, and all that is told of their runs.
+use Rattle.std.specs.Prelude.{ℕ, List, [], ◌∷◌, codes}
+use Rattle.std.specs.List.{flat_map}
+use Rattle.cmwq_types.specs.Contents.{ScenarioContents}
+use Rattle.cmwq_types.specs.Scenario.{expand, plain_flags}
+use Rattle.cmwq_types.specs.declared.instr.Instr.TheVariants as instr
+use Rattle.cmwq_types.specs.declared.scenario.Op.TheVariants as op
+use Rattle.cmwq_examples.specs.Declare.{queue, work, freezable, mem_reclaim, queues, enqueue, delay, cancel, disable, flush, flush_queue, times, scenario}
+use Rattle.cmwq_examples.specs.Rows.{text}
+use Rattle.cmwq_tell.specs.Telling.{tell_text}
+
+-- all that is told of the scenario's actors, one after another; here each scenario has one
+abbrev pub told_of : ScenarioContents → List ℕ
+told_of S = flat_map (λ actor. tell_text S (expand actor)) S.actors
+
+-- memory is short, and the machine frozen: x has no worker, y a rescuer, and z a freezable queue; then memory isn't short, and the thaw comes
+abbrev pub outside : ScenarioContents
+outside =
+    record (scenario 100 (queue (codes "q") 1 plain_flags ∷ queue (codes "r") 1 mem_reclaim ∷ queue (codes "f") 1 freezable ∷ [])
+    (work (codes "x") 0 (op.Burn 1 ∷ op.Finish ∷ []) ∷ work (codes "y") 1 (op.Burn 1 ∷ op.Finish ∷ [])
+    ∷ work (codes "z") 2 (op.Burn 1 ∷ op.Finish ∷ []) ∷ [])
+    (times instr.Pressure 1 ∷ times instr.Freeze 1 ∷ enqueue 0 0 ∷ enqueue 1 0 ∷ enqueue 2 0 ∷ flush 0 ∷ flush_queue 2 ∷ times instr.Next 4
+    ∷ times instr.Relief 1 ∷ times instr.Next 4 ∷ times instr.Thaw 1 ∷ times instr.Next 4 ∷ [])) { workers = 2 }
+
+-- y starts on its rescuer, x after the relief, and the thaw activates z
+abbrev pub outside_told : List ℕ
+outside_told =
+    text (
+    codes "# pressure" ∷ codes "# freeze" ∷ codes "# queue x 0" ∷ codes "#   x listed 0" ∷ codes "# queue y 0" ∷
+    codes "#   y listed 0" ∷ codes "# queue z 0" ∷ codes "#   z inactive 0" ∷ codes "# flush x" ∷ codes "0 flush 0" ∷
+    codes "# flush_queue f" ∷ codes "0 flush 1" ∷ codes "# next" ∷ codes "0 y starts on rescuer" ∷ codes "# next" ∷
+    codes "0 y burns 1" ∷ codes "# next" ∷ codes "#   now 1" ∷ codes "# next" ∷ codes "1 y finishes" ∷
+    codes "# relief" ∷ codes "# next" ∷ codes "1 x starts" ∷ codes "# next" ∷ codes "1 x burns 1" ∷ codes "# next" ∷
+    codes "#   now 2" ∷ codes "# next" ∷ codes "2 x finishes" ∷ codes "# thaw" ∷ codes "#   z activated 0" ∷
+    codes "# next" ∷ codes "2 z starts" ∷ codes "# next" ∷ codes "2 z burns 1" ∷ codes "# next" ∷ codes "#   now 3" ∷
+    codes "# next" ∷ codes "3 z finishes" ∷ [])
+
+-- with one worker, a queues itself and sleeps, and b waits beside it; then a is cancelled, delayed and disabled
+abbrev pub again : ScenarioContents
+again =
+    record (scenario 100 (queue (codes "q") 2 plain_flags ∷ [])
+    (work (codes "a") 0 (queues 0 ∷ op.Sleep 2 ∷ op.Finish ∷ []) ∷ work (codes "b") 0 (op.Burn 1 ∷ op.Finish ∷ []) ∷ [])
+    (enqueue 0 0 ∷ times instr.Next 2 ∷ enqueue 1 0 ∷ flush 0 ∷ times instr.Next 7 ∷ cancel 0 ∷ delay 0 2 ∷ times instr.Next 9
+    ∷ disable 0 ∷ [])) { workers = 1; flushes = 1 }
+
+-- what finishes lets in the one that waits, a delay sets a timer, and what the timer places has no room
+abbrev pub again_told : List ℕ
+again_told =
+    text (
+    codes "# queue a 0" ∷ codes "#   a listed 0" ∷ codes "# next" ∷ codes "0 a starts" ∷ codes "# next" ∷
+    codes "0 a queues a" ∷ codes "#   a listed 0" ∷ codes "# queue b 0" ∷ codes "#   b inactive 0" ∷
+    codes "# flush a" ∷ codes "0 flush 0" ∷ codes "# next" ∷ codes "0 a sleeps 2" ∷ codes "# next" ∷
+    codes "0 a defers" ∷ codes "# next" ∷ codes "#   now 1" ∷ codes "# next" ∷ codes "#   now 2" ∷ codes "# next" ∷
+    codes "2 a wakes" ∷ codes "# next" ∷ codes "2 a finishes and starts" ∷ codes "#   b activated 0" ∷
+    codes "# next" ∷ codes "2 a queues a" ∷ codes "#   a inactive 0" ∷ codes "# cancel a" ∷ codes "2 cancelled" ∷
+    codes "# delay a 0 2" ∷ codes "#   a timer 4 cpu 0" ∷ codes "# next" ∷ codes "2 a sleeps 2" ∷ codes "# next" ∷
+    codes "#   now 3" ∷ codes "# next" ∷ codes "#   now 4" ∷ codes "# next" ∷ codes "4 a fires" ∷
+    codes "#   a inactive 0" ∷ codes "# next" ∷ codes "4 a wakes" ∷ codes "# next" ∷ codes "4 a finishes" ∷
+    codes "#   a activated 0" ∷ codes "# next" ∷ codes "4 b starts" ∷ codes "# next" ∷ codes "4 b burns 1" ∷
+    codes "# next" ∷ codes "#   now 5" ∷ codes "# disable a" ∷ codes "5 cancelled" ∷ [])

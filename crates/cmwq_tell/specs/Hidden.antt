@@ -1,0 +1,61 @@
+-- What an instruction changes that its reply doesn't tell, and the line of each such change.
+use Rattle.std.specs.Prelude.{ℕ, List, [], ◌∷◌, ◌++◌, map, codes, if◌then◌else◌, nat_lt, ◌==◌, Some}
+use Rattle.std.specs.Fmt.{decimal}
+use Rattle.cmwq_types.specs.Contents.{ScenarioContents}
+use Rattle.cmwq_types.specs.declared.instr.WorkId.{WorkId}
+use Rattle.cmwq_types.specs.declared.reply.Place.{Place}
+use Rattle.cmwq_types.specs.declared.reply.Place.TheVariants.{Timer, Inactive, Listed, Deferred}
+use Rattle.cmwq_table.specs.Events.{place_text, work_name}
+use Rattle.cmwq_table.specs.State.{State}
+use Rattle.cmwq_table.specs.View.{entries_from}
+use Rattle.cmwq_table.specs.declared.state.Pending.{Pending}
+use Rattle.cmwq_tell.specs.declared.change.Change.{Change}
+use Rattle.cmwq_tell.specs.declared.change.Change.TheVariants as change
+
+-- a pending work in its place among others: before the first one of a later stamp
+abbrev pub put_by_stamp : WorkId × Pending → List (WorkId × Pending) → List (WorkId × Pending)
+put_by_stamp entry [] = entry ∷ []
+put_by_stamp entry (other ∷ others) =
+    if nat_lt entry.1.stamp other.1.stamp then entry ∷ other ∷ others else other ∷ put_by_stamp entry others
+
+-- of these the ones whose stamp isn't below, by stamp
+abbrev pub stamped_from : ℕ → List (WorkId × Pending) → List (WorkId × Pending)
+stamped_from next [] = []
+stamped_from next (entry ∷ entries) =
+    if nat_lt entry.1.stamp next then stamped_from next entries else put_by_stamp entry (stamped_from next entries)
+
+-- the number of the pool in which a work is placed
+abbrev pub pool_of : Place → ℕ
+pool_of (Inactive pool) = pool
+pool_of (Listed pool) = pool
+pool_of (Deferred pool) = pool
+pool_of (Timer due cpu) = 0
+
+-- What became of a work that has a new stamp. It was pending before where its birth is older than that, and then it was inactive.
+abbrev pub change_of : ℕ → WorkId × Pending → Change
+change_of next entry =
+    if nat_lt entry.1.born next then change.Activated entry.0 (pool_of entry.1.place) else change.Placed entry.0 entry.1.place
+
+abbrev pub passing : ℕ → ℕ → List Change
+passing before now = if now == before then [] else change.Now now ∷ []
+
+-- The hidden changes from one state to the next: that time passed, and then by stamp each pending work that has a new one.
+abbrev pub hidden : State → State → List Change
+hidden s after = passing s.time after.time ++ map (change_of s.next) (stamped_from s.next (entries_from 0 after.pending))
+
+-- Their lines.
+
+-- the CPU of a timer
+abbrev pub cpu_text : Place → List ℕ
+cpu_text (Timer due cpu) = codes " cpu " ++ decimal cpu
+cpu_text (Inactive pool) = []
+cpu_text (Listed pool) = []
+cpu_text (Deferred pool) = []
+
+abbrev pub change_text : ScenarioContents → Change → List ℕ
+change_text S (change.Now now) = codes "now " ++ decimal now
+change_text S (change.Activated work pool) = work_name S work ++ codes " activated " ++ decimal pool
+change_text S (change.Placed work place) = work_name S work ++ codes " " ++ place_text (Some place) ++ cpu_text place
+
+abbrev pub change_line : ScenarioContents → Change → List ℕ
+change_line S change = codes "#   " ++ change_text S change ++ 10 ∷ []

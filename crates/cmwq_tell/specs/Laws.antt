@@ -1,0 +1,121 @@
+-- What one may believe of what is told, as laws.
+use Rattle.std.specs.Prelude.{◌≡◌, ℕ, Bool, true, false, not, ◌&&◌, List, [], ◌∷◌, ◌+◌, ◌++◌, length, map, codes, Option, Some, None, if◌then◌else◌, nat_lt, ◌==◌, slice_index_or}
+use Rattle.std.specs.List.{filter, flat_map, join_with_byte}
+use Rattle.cmwq_types.specs.Contents.{ActorContents, ScenarioContents}
+use Rattle.cmwq_types.specs.First.{count_below}
+use Rattle.cmwq_types.specs.Listing.{instr_words}
+use Rattle.cmwq_types.specs.Scenario.{expand}
+use Rattle.cmwq_types.specs.declared.instr.Instr.{Instr}
+use Rattle.cmwq_types.specs.declared.reply.Place.{Place}
+use Rattle.cmwq_types.specs.declared.reply.Place.TheVariants.{Timer, Inactive, Listed, Deferred}
+use Rattle.cmwq_types.specs.declared.reply.Refusal.{Refusal}
+use Rattle.cmwq_types.specs.declared.reply.Reply.TheVariants as reply
+use Rattle.cmwq_table.specs.Laws.{is_waiting, reply_to, state_after}
+use Rattle.cmwq_table.specs.State.{State, pending_at}
+use Rattle.cmwq_table.specs.Table.{is_question}
+use Rattle.cmwq_grammar.specs.Cutting.{lines_of}
+use Rattle.cmwq_grammar.specs.Grammar.{Spells}
+use Rattle.cmwq_play.specs.Texts.{IsRun}
+use Rattle.cmwq_table.specs.declared.state.Pending.{Pending}
+use Rattle.cmwq_tell.specs.declared.change.Change.{Change}
+use Rattle.cmwq_tell.specs.declared.change.Change.TheVariants as change
+use Rattle.cmwq_tell.specs.Hidden.{hidden}
+use Rattle.cmwq_tell.specs.Telling.{IsToldRun}
+
+-- Refusals and questions.
+
+-- An instruction that is refused has no hidden change.
+unfoldable pub HidesNothingRefused : ScenarioContents → State → Instr → Type 0
+HidesNothingRefused S s i = (why : Refusal) → reply_to S s i ≡ reply.Refused why → hidden s (state_after S s i) ≡ []
+
+-- A question has none, whatever the answer.
+unfoldable pub HidesNothingAsked : ScenarioContents → State → Instr → Type 0
+HidesNothingAsked S s i = is_question i ≡ true → hidden s (state_after S s i) ≡ []
+
+-- Counts.
+
+-- how many of the changes pass
+abbrev pub count_changes : (Change → Bool) → List Change → ℕ
+count_changes test [] = 0
+count_changes test (one ∷ more) = (if test one then 1 else 0) + count_changes test more
+
+abbrev pub tells_activation : Change → Bool
+tells_activation (change.Activated work pool) = true
+tells_activation (change.Placed work place) = false
+tells_activation (change.Now now) = false
+
+abbrev pub tells_place : Change → Bool
+tells_place (change.Placed work place) = true
+tells_place (change.Activated work pool) = false
+tells_place (change.Now now) = false
+
+abbrev pub tells_tick : Change → Bool
+tells_tick (change.Now now) = true
+tells_tick (change.Activated work pool) = false
+tells_tick (change.Placed work place) = false
+
+abbrev pub is_on_list : Place → Bool
+is_on_list (Listed at) = true
+is_on_list (Timer due cpu) = false
+is_on_list (Inactive at) = false
+is_on_list (Deferred at) = false
+
+-- what was inactive before is listed now, and has its birth still
+abbrev pub is_activation : (before now : Option Pending) → Bool
+is_activation (Some p) (Some q) = is_waiting p.place && is_on_list q.place && (q.born == p.born)
+is_activation (Some p) None = false
+is_activation None now = false
+
+-- the work pends with a birth that isn't below
+abbrev pub is_born : ℕ → Option Pending → Bool
+is_born next (Some p) = not (nat_lt p.born next)
+is_born next None = false
+
+-- As many lines tell an activation as works go from inactive to listed with the same birth.
+unfoldable pub TellsActivations : ScenarioContents → State → Instr → Type 0
+TellsActivations S s i =
+    count_changes tells_activation (hidden s (state_after S s i))
+    ≡ count_below (λ w. is_activation (pending_at s w) (pending_at (state_after S s i) w)) (length (state_after S s i).pending)
+
+-- As many lines tell a place as works pend with a birth that is new.
+unfoldable pub TellsPlaces : ScenarioContents → State → Instr → Type 0
+TellsPlaces S s i =
+    count_changes tells_place (hidden s (state_after S s i))
+    ≡ count_below (λ w. is_born s.next (pending_at (state_after S s i) w)) (length (state_after S s i).pending)
+
+-- As many lines tell a new time as ticks pass.
+unfoldable pub TellsTicks : ScenarioContents → State → Instr → Type 0
+TellsTicks S s i = count_changes tells_tick (hidden s (state_after S s i)) + s.time ≡ (state_after S s i).time
+
+-- Lines.
+
+-- the line begins with `#`
+abbrev pub is_marked : List ℕ → Bool
+is_marked [] = false
+is_marked (byte ∷ bytes) = byte == 35
+
+-- it does, and its third byte isn't a space
+abbrev pub is_instr_line : List ℕ → Bool
+is_instr_line line = is_marked line && not (slice_index_or line 2 32 == 32)
+
+-- the text of these lines
+abbrev pub from_lines : List (List ℕ) → List ℕ
+from_lines lines = flat_map (λ line. line ++ 10 ∷ []) lines
+
+-- the text without its lines that begin with `#`
+abbrev pub unmarked : List ℕ → List ℕ
+unmarked text = from_lines (filter (λ line. not (is_marked line)) (lines_of text))
+
+-- an instruction's line, without its end
+abbrev pub instr_said : ScenarioContents → Instr → List ℕ
+instr_said S instr = codes "# " ++ join_with_byte 32 (instr_words S instr)
+
+-- Without the lines that begin with `#` it is what the run prints.
+unfoldable pub KeepsTheRun : Type 0
+KeepsTheRun = (text told printed : List ℕ) → IsToldRun (Some text) told → IsRun (Some text) printed → unmarked told ≡ printed
+
+-- The lines that begin with `#` and aren't indented are the instructions of the one actor, in order, each as often as it is issued.
+unfoldable pub ListsEachInstruction : Type 0
+ListsEachInstruction =
+    (text told : List ℕ) (S : ScenarioContents) (actor : ActorContents) → IsToldRun (Some text) told → Spells text S → S.actors ≡ actor ∷ []
+    → filter is_instr_line (lines_of told) ≡ map (instr_said S) (expand actor)

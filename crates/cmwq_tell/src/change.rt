@@ -1,0 +1,94 @@
+//! A change that no reply tells, and its line.
+ghost use Rattle.cmwq_table.specs.Events.{work_name};
+ghost use Rattle.cmwq_tell.specs.Hidden.{change_line, change_text, cpu_text};
+ghost use Rattle.cmwq_tell.specs.Telling.{change_lines};
+ghost use Rattle.std.specs.Prelude.{◌≡◌, Some};
+
+use cmwq_table::PlaceWords;
+use cmwq_types::{Place, Scenario, WorkId};
+use std::fmt;
+
+/// A change that an instruction makes, and its reply doesn't tell.
+#[derive(Clone, Copy)]
+pub enum Change {
+    /// Time passed, and it is so many ticks now.
+    Now(u64),
+    /// The work was inactive, and is listed in this pool now.
+    Activated { work: WorkId, pool: u8 },
+    /// The work is pending from now on, here.
+    Placed { work: WorkId, place: Place },
+}
+
+/// The lines of changes, for a reader of the scenario. Each begins with `#   `.
+#[derive(Clone, Copy)]
+pub(crate) struct ChangeLines<'a> {
+    pub(crate) scenario: &'a Scenario,
+    pub(crate) changes: &'a [Change],
+}
+
+impl fmt::Display for ChangeLines<'_> {
+    ghost output = { λ lines. Some (change_lines lines.scenario.now lines.changes.now) };
+
+    fn fmt<W: fmt::Write>(&self, f: &mut fmt::Formatter<W>) -> fmt::Result {
+        for change in self.changes {
+            let words = ChangeWords {
+                scenario: self.scenario,
+                change: *change,
+            };
+            write!(f, "#   {words}\n")?;
+        }
+        Ok(())
+    }
+}
+
+/// What a change's line says.
+#[derive(Clone, Copy)]
+struct ChangeWords<'a> {
+    scenario: &'a Scenario,
+    change: Change,
+}
+
+impl fmt::Display for ChangeWords<'_> {
+    ghost output = { λ words. Some (change_text words.scenario.now words.change) };
+
+    fn fmt<W: fmt::Write>(&self, f: &mut fmt::Formatter<W>) -> fmt::Result {
+        match self.change {
+            Change::Now(now) => write!(f, "now {now}"),
+            Change::Activated { work, pool } => {
+                let work = work_name(self.scenario, work);
+                write!(f, "{work} activated {pool}")
+            }
+            Change::Placed { work, place } => {
+                let work = work_name(self.scenario, work);
+                let words = PlaceWords(Some(place));
+                let cpu = CpuWords(place);
+                write!(f, "{work} {words}{cpu}")
+            }
+        }
+    }
+}
+
+/// The CPU on which a timer runs, behind the words of its place.
+#[derive(Clone, Copy)]
+struct CpuWords(Place);
+
+impl fmt::Display for CpuWords {
+    ghost output = { λ words. Some (cpu_text words.0) };
+
+    fn fmt<W: fmt::Write>(&self, f: &mut fmt::Formatter<W>) -> fmt::Result {
+        match self.0 {
+            Place::Timer { cpu, .. } => write!(f, " cpu {cpu}"),
+            _ => Ok(()),
+        }
+    }
+}
+
+/// The name of a work, or no text where no work has the number.
+pub(crate) fn work_name(scenario: &Scenario, work: WorkId) -> &str
+    ensures { result.now ≡ work_name scenario.now work }
+{
+    match scenario.works.get(work.0 as usize) {
+        Some(declared) => declared.name.as_str(),
+        None => "",
+    }
+}

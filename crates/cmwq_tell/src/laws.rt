@@ -1,0 +1,40 @@
+//! What one may believe of what is told, without reading how it is made up.
+//!
+//! Each function's contract is a law. The functions do nothing: they carry the laws.
+ghost use Rattle.cmwq_table.specs.Laws.{AtEveryInstruction};
+ghost use Rattle.cmwq_tell.specs.Laws.{HidesNothingAsked, HidesNothingRefused, KeepsTheRun, ListsEachInstruction, TellsActivations, TellsPlaces, TellsTicks};
+
+use cmwq_grammar::laws::text_spells_one_scenario;
+use cmwq_table::laws::{questions_change_nothing, refused_instructions_change_nothing};
+
+/// An instruction that is refused, and a question, has no hidden change.
+pub fn refusals_and_questions_hide_nothing()
+    ensures refused { AtEveryInstruction HidesNothingRefused }
+    ensures asked { AtEveryInstruction HidesNothingAsked }
+{
+    refused_instructions_change_nothing();
+    questions_change_nothing();
+}
+
+/// As many lines `activated` stand behind an instruction as works go from inactive to listed at it, with the birth that they had; and as many
+/// works are told to be listed, inactive or on a timer as get a new birth. And as many lines `now` stand there as ticks pass.
+#[tactic(auto, using(crate::proofs::CountLemmas::tells_activations, crate::proofs::CountLemmas::tells_places, crate::proofs::CountLemmas::tells_ticks))]
+pub fn each_hidden_change_is_told_once()
+    ensures activations { AtEveryInstruction TellsActivations }
+    ensures places { AtEveryInstruction TellsPlaces }
+    ensures ticks { AtEveryInstruction TellsTicks }
+{}
+
+/// Whoever leaves out the lines that begin with `#` gets the lines of the run, byte for byte.
+pub fn unmarked_lines_are_the_run()
+    ensures { KeepsTheRun }
+{
+    text_spells_one_scenario();
+}
+
+/// Whoever keeps the lines that begin with `#` and aren't indented gets the actor's instructions, each `* N` written out.
+pub fn marked_lines_are_the_instructions()
+    ensures { ListsEachInstruction }
+{
+    text_spells_one_scenario();
+}

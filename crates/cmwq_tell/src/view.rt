@@ -1,0 +1,98 @@
+//! The hidden changes of an instruction, read off the state before and the state after it.
+ghost use Rattle.cmwq_table.specs.State.{State};
+ghost use Rattle.cmwq_table.specs.View.{view_of};
+ghost use Rattle.cmwq_tell.specs.Hidden.{change_of, hidden, pool_of, put_by_stamp, stamped_from};
+ghost use Rattle.std.specs.Prelude.{◌≡◌, ◌++◌, IfOk, OnOk, map};
+
+use crate::change::Change;
+use cmwq_table::{Pending, View};
+use cmwq_types::{NoMemory, Place, WorkId};
+use std::alloc::Global;
+
+/// The hidden changes that lead to the state that the view shows, from one of this time and next stamp.
+pub(crate) fn hidden(
+    alloc: Global,
+    time: u64,
+    next: u64,
+    after: &View,
+) -> Result<Vec<Change>, NoMemory>
+    ensures { IfOk result (λ changes. (s t : State) → time ≡ s.time → next ≡ s.next → after.now ≡ view_of t → changes.items ≡ hidden s t) }
+{
+    let mut changes = Vec::new(alloc);
+    if after.time != time {
+        changes.push(Change::Now(after.time))?;
+    }
+    let entries = stamped_from(alloc, next, &after.pending)?;
+    push_changes(&mut changes, next, &entries)?;
+    Ok(changes)
+}
+
+/// What became of each of these works.
+fn push_changes(
+    changes: &mut Vec<Change>,
+    next: u64,
+    entries: &[(WorkId, Pending)],
+) -> Result<(), NoMemory>
+    ensures { OnOk result (changes.new.items ≡ changes.old.items ++ map (change_of next) entries.now) }
+{
+    for entry in entries {
+        changes.push(change_of(next, *entry))?;
+    }
+    Ok(())
+}
+
+/// What became of a work that has a new stamp.
+fn change_of(next: u64, entry: (WorkId, Pending)) -> Change
+    ensures { result ≡ change_of next entry }
+{
+    let (work, pending) = entry;
+    let place = pending.place;
+    if pending.born < next {
+        let pool = pool_of(place);
+        return Change::Activated { work, pool };
+    }
+    Change::Placed { work, place }
+}
+
+/// The pool in which a work is placed.
+fn pool_of(place: Place) -> u8
+    ensures { result ≡ pool_of place }
+{
+    match place {
+        Place::Inactive(pool) | Place::Listed(pool) | Place::Deferred(pool) => pool,
+        Place::Timer { .. } => 0,
+    }
+}
+
+/// The pending works whose stamp isn't below, by stamp.
+fn stamped_from(
+    alloc: Global,
+    next: u64,
+    entries: &[(WorkId, Pending)],
+) -> Result<Vec<(WorkId, Pending)>, NoMemory>
+    ensures { IfOk result (λ found. found.items ≡ stamped_from next entries.now) }
+{
+    let mut found = Vec::new(alloc);
+    for at in (0..entries.len()).rev() {
+        let entry = entries[at];
+        if entry.1.stamp >= next {
+            put_by_stamp(&mut found, entry)?;
+        }
+    }
+    Ok(found)
+}
+
+/// Puts a work in its place: before the first one of a later stamp.
+fn put_by_stamp(
+    found: &mut Vec<(WorkId, Pending)>,
+    entry: (WorkId, Pending),
+) -> Result<(), NoMemory>
+    ensures { OnOk result (found.new.items ≡ put_by_stamp entry found.old.items) }
+{
+    let mut at = 0;
+    while at < found.len() && found[at].1.stamp <= entry.1.stamp {
+        at += 1;
+    }
+    found.insert(at, entry)?;
+    Ok(())
+}
