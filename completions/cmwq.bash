@@ -9,7 +9,7 @@ _cmwq() {
     elif [[ $word == -* ]]; then
         local options=--help
         case $command in
-            run) options='--settle --help' ;;
+            run) options='--settle --tell --help' ;;
             draw) options='--settle --svg --from --to --help' ;;
             play) options='--capacity --help' ;;
         esac

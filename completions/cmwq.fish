@@ -14,6 +14,7 @@ complete -c cmwq -n "not __fish_seen_subcommand_from $commands" -a check -d "Tel
 complete -c cmwq -n "not __fish_seen_subcommand_from $commands" -a help -d 'Say what there is, or what a command does'
 complete -c cmwq -n "__fish_seen_subcommand_from help" -f -a "$commands"
 complete -c cmwq -n "__fish_seen_subcommand_from run draw" -l settle -d 'Go on until the machine is quiet'
+complete -c cmwq -n "__fish_seen_subcommand_from run" -l tell -d 'Write instructions and unseen changes too'
 complete -c cmwq -n "__fish_seen_subcommand_from draw" -l svg -d 'Write an SVG picture'
 complete -c cmwq -n "__fish_seen_subcommand_from draw" -l from -x -d 'The first tick'
 complete -c cmwq -n "__fish_seen_subcommand_from draw" -l to -x -d 'The tick before which to end'

@@ -1,5 +1,5 @@
 """Runs each scenario of scenarios/ through a built program: what it prints is NAME.out; its listing prints the same; its image is
-shown as the listing. Its picture stands in scenarios/README.md, and is NAME.draw, where there is one. What a debugger says to NAME.debug is NAME.said. What a play of a scenario with several actors leaves is one of
+shown as the listing. What is told of its run is NAME.tell, where there is one, and without the marked lines what it prints. Its picture stands in scenarios/README.md, and is NAME.draw, where there is one. What a debugger says to NAME.debug is NAME.said. What a play of a scenario with several actors leaves is one of
 NAME.play1, NAME.play2 .., and run again it prints the lines that stand in it. The program's own stored run is one of them. Then faulty
 input: the status, and what each stream is given. And each scenario of one actor through an engine, by the program HISTORIES, which
 prints the history: each entry is compared.
@@ -30,7 +30,7 @@ def bytes_of(path):
 def faults_of(program, text, room):
     """What is wrong with a scenario's run, with its listing and with its image."""
     wanted, listing, image = bytes_of(f"{text.removesuffix('.cmwq')}.out"), f"{room}/listing.cmwq", f"{room}/image"
-    listed = said(program, "list", text)
+    listed, told, tell = said(program, "list", text), said(program, "run", "--tell", text), f"{text.removesuffix('.cmwq')}.tell"
     with open(listing, "wb") as it:
         it.write(listed or b"")
     checks = {
@@ -40,8 +40,15 @@ def faults_of(program, text, room):
         "the listing of its listing": said(program, "list", listing) == listed,
         "making its image": said(program, "asm", text, image) == b"",
         "its image shown": said(program, "show", image) == listed,
+        "what is told of it, without what is marked": unmarked(told) == wanted,
+        "what is told of it": not os.path.exists(tell) or told == bytes_of(tell),
     }
     return [f"{os.path.relpath(text, TOP)}: {what} is not as it should be" for what, is_well in checks.items() if not is_well]
+
+
+def unmarked(told):
+    """What is told, without the lines that begin with a hash."""
+    return b"".join(line for line in (told or b"#").splitlines(True) if not line.startswith(b"#"))
 
 
 def session_faults(program, commands):

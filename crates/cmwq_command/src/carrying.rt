@@ -13,9 +13,10 @@ use crate::telling::{GOOD, tell};
 use cmwq_draw::{Drawing, Span};
 use cmwq_play::{Marked, OpenGate, PlayError, Sink};
 use cmwq_settle::{run_settled, settle_text};
+use cmwq_tell::run_told;
 use cmwq_verdict::Look;
 use cmwq_words::drawing::DrawOptions;
-use cmwq_words::request::{Request, parse};
+use cmwq_words::request::{Request, RunKind, parse};
 use std::fs::File;
 use std::io::Read;
 use std::rt::Files;
@@ -67,7 +68,7 @@ where
 {
     match request {
         Request::New { file } => good(new(rt, output, file)),
-        Request::Run { file, settle } => good(run(rt, output, file, settle)),
+        Request::Run { file, kind } => good(run(rt, output, file, kind)),
         Request::Settle { file } => good(settle(rt, output, file)),
         Request::List { file } => good(list(rt, output, file)),
         Request::Asm { file, out } => good(asm(rt, file, out)),
@@ -139,20 +140,21 @@ fn new<R: Files, W: Sink>(rt: &R, writer: &mut W, file: Option<&str>) -> Result<
     }
 }
 
-/// Runs the scenario whose text is in the file, until its machine is quiet where that is asked for, and writes its events.
+/// Runs the scenario whose text is in the file so, and writes its events.
 fn run<R: Files + AllocGlobal, W: Sink>(
     rt: &R,
     writer: &mut W,
     file: &str,
-    settle: bool,
+    kind: RunKind,
 ) -> Result<(), PlayError>
     requires { W.failed writer.old ≡ false }
 {
     let mut reader = opened(rt, file)?;
-    if settle {
-        return run_settled(rt.alloc(), &mut reader, writer);
+    match kind {
+        RunKind::Plain => cmwq_play::run(rt.alloc(), &mut reader, writer),
+        RunKind::Settled => run_settled(rt.alloc(), &mut reader, writer),
+        RunKind::Told => run_told(rt.alloc(), &mut reader, writer),
     }
-    cmwq_play::run(rt.alloc(), &mut reader, writer)
 }
 
 /// Writes the listing of the scenario whose text is in the file, with the `next` that make its machine quiet.

@@ -35,9 +35,9 @@ flag_rule name = record (new_rule name) { long = Some name; action = Some SetTru
 abbrev pub value_rule : Text → Text → Rule
 value_rule id name = record (new_rule id) { long = Some name }
 
--- `run [--settle] FILE`, `settle FILE`, `list FILE`, `asm FILE OUT`, `show IMAGE`, `debug FILE` and `play FILE --capacity N`
+-- `run [--settle] [--tell] FILE`, `settle FILE`, `list FILE`, `asm FILE OUT`, `show IMAGE`, `debug FILE` and `play FILE --capacity N`
 abbrev pub run_command : App
-run_command = with_rule (command_on (codes "run") (codes "FILE")) (flag_rule (codes "settle"))
+run_command = with_rule (with_rule (command_on (codes "run") (codes "FILE")) (flag_rule (codes "settle"))) (flag_rule (codes "tell"))
 
 abbrev pub settle_command : App
 settle_command = command_on (codes "settle") (codes "FILE")

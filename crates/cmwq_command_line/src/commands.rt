@@ -101,6 +101,11 @@ fn run_command<'a>(alloc: Global) -> Result<Command<'a>, AllocError>
         alloc,
         "settle",
         "Lets the run go on by `next` until the machine is quiet",
+    ))?
+    .arg(flag(
+        alloc,
+        "tell",
+        "Writes each instruction, and what it changes unseen, in lines that begin with #",
     ))
 }
 

@@ -40,7 +40,8 @@ Example:
 
 const RUN: &str = "\
 Prints a line for each thing that happens: the time, the work, and what it did. With --settle it goes on by `next` behind the
-actor's instructions, until no work is pending and none runs.
+actor's instructions, until no work is pending and none runs. With --tell each instruction stands before its line, and behind it what
+it changed unseen: works placed or activated, timers set, time passed. These lines begin with #.
 
 Exit status:
   0  every instruction was carried out, or refused in a line of its own
@@ -52,7 +53,8 @@ Exit status:
 
 Examples:
   cmwq run scenarios/max_active_3.cmwq
-  cmwq run --settle first.cmwq";
+  cmwq run --settle first.cmwq
+  cmwq run --tell scenarios/max_active_1.cmwq";
 
 const SETTLE: &str = "\
 Prints the scenario's canonical text, with lines of `next` behind the actor's: the fewest with which the run ends quiet, that is with

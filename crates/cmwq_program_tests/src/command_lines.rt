@@ -5,7 +5,7 @@ use cmwq_command::{Look, carry_out, tell};
 use cmwq_machine_tests::streams::{Output, reading_of, writing_to};
 use cmwq_play::Marked;
 use cmwq_words::drawing::DrawOptions;
-use cmwq_words::request::{Request, not_text, parse};
+use cmwq_words::request::{Request, RunKind, not_text, parse};
 use std::alloc::Global;
 use std::process::Abort;
 use std::rt::Files;
@@ -33,14 +33,21 @@ const REQUESTS: [(&str, Request<'_>); 16] = [
         "cmwq run a.cmwq",
         Request::Run {
             file: "a.cmwq",
-            settle: false,
+            kind: RunKind::Plain,
         },
     ),
     (
         "cmwq run --settle a.cmwq",
         Request::Run {
             file: "a.cmwq",
-            settle: true,
+            kind: RunKind::Settled,
+        },
+    ),
+    (
+        "cmwq run a.cmwq --tell",
+        Request::Run {
+            file: "a.cmwq",
+            kind: RunKind::Told,
         },
     ),
     ("cmwq settle a.cmwq", Request::Settle { file: "a.cmwq" }),
@@ -154,6 +161,7 @@ const NO_REQUESTS: [(&str, ErrorKind, i32); 23] = [
     ("cmwq play a --capacity 4097", ErrorKind::ValueValidation, 2),
     ("cmwq play a --capacity many", ErrorKind::ValueValidation, 2),
     ("cmwq run --fast a", ErrorKind::UnknownArgument, 2),
+    ("cmwq run --settle --tell a", ErrorKind::ValueValidation, 2),
     ("cmwq settle", ErrorKind::MissingRequiredArgument, 2),
     ("cmwq draw --from a", ErrorKind::MissingRequiredArgument, 2),
     ("cmwq draw --from ten a", ErrorKind::ValueValidation, 2),

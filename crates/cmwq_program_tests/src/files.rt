@@ -12,7 +12,7 @@ use cmwq_machine_tests::streams::reading_of;
 use cmwq_play::{Marked, PlayError};
 use cmwq_types::Fault;
 use cmwq_words::drawing::DrawOptions;
-use cmwq_words::request::Request;
+use cmwq_words::request::{Request, RunKind};
 use std::fs;
 use std::process::Abort;
 use std::rt::Files;
@@ -141,6 +141,33 @@ fn check_verdicts<R: Files + AllocGlobal + Threads + Wait + Clock + Sync + Abort
     same(rt, "errors", errors.inner.as_slice(), told);
 }
 
+/// All that is told of the run whose steps run out.
+const STEPS_RUN_OUT_TOLD: &[u8] = b"# queue a 0
+#   a listed 0
+# next
+0 a starts
+# next
+0 a queues a
+#   a inactive 0
+# next
+0 a finishes
+#   a activated 0
+# next
+0 a starts
+# next
+0 a queues a
+#   a inactive 0
+# next
+0 a finishes
+#   a activated 0
+# next
+0 a starts
+# next
+0 refused Spent
+# state a
+0 a idle runs 0/0
+";
+
 #[test]
 fn each_command_reads_and_writes_files(rt: HostRuntime) {
     make_folder(&rt, "cmwq_commands");
@@ -148,9 +175,13 @@ fn each_command_reads_and_writes_files(rt: HostRuntime) {
     let out = "cmwq_commands/a.image";
     put_file(&rt, file, STEPS_RUN_OUT.text);
     let never = Err(PlayError::NeverQuiet);
-    for (settle, result) in [(false, Ok(())), (true, never)] {
-        let run = Request::Run { file, settle };
-        check_answer(&rt, run, result, STEPS_RUN_OUT.prints);
+    for (kind, result, prints) in [
+        (RunKind::Plain, Ok(()), STEPS_RUN_OUT.prints),
+        (RunKind::Settled, never, STEPS_RUN_OUT.prints),
+        (RunKind::Told, Ok(()), STEPS_RUN_OUT_TOLD),
+    ] {
+        let run = Request::Run { file, kind };
+        check_answer(&rt, run, result, prints);
     }
     check_answer(&rt, Request::Settle { file }, never, b"");
     let options = DrawOptions {
@@ -237,7 +268,7 @@ fn a_file_that_is_not_there_is_a_failed_read_or_write(rt: HostRuntime) {
         (
             Request::Run {
                 file,
-                settle: false,
+                kind: RunKind::Plain,
             },
             PlayError::Read,
         ),

@@ -6,6 +6,7 @@ use cmwq_machine_tests::examples::MAX_ACTIVE_3;
 use cmwq_machine_tests::streams::{Input, Output, reading_of};
 use cmwq_play::{Marked, PlayError, debug, from_image, list_text, read_text, run, to_image};
 use cmwq_settle::{run_settled, settle_text};
+use cmwq_tell::run_told;
 use std::alloc::Global;
 
 /// A command over a reader and a writer.
@@ -23,6 +24,8 @@ pub(crate) enum Command {
     Settle,
     /// Run a scenario's text until its machine is quiet.
     RunSettled,
+    /// Run a scenario's text, and tell each instruction and what it changes unseen.
+    RunTold,
     /// Draw the whole run of a settled scenario, as text.
     Draw,
     /// The same as SVG.
@@ -60,6 +63,7 @@ pub(crate) fn carried_out(
         Command::Show => from_image(alloc, &mut reader, &mut writer),
         Command::Settle => settle_text(alloc, &mut reader, &mut writer),
         Command::RunSettled => run_settled(alloc, &mut reader, &mut writer),
+        Command::RunTold => run_told(alloc, &mut reader, &mut writer),
         Command::Draw => draw(alloc, whole(false), &mut reader, &mut writer),
         Command::DrawSvg => draw(alloc, whole(true), &mut reader, &mut writer),
         Command::Debug => debugged(alloc, &mut reader, &mut writer),

@@ -86,10 +86,11 @@ fn a_text_in_other_ways_is_run_and_the_worked_image_is_written(rt: HostRuntime) 
 }
 
 /// Commands and what they read.
-fn inputs() -> [(Command, &'static [u8]); 10] {
+fn inputs() -> [(Command, &'static [u8]); 11] {
     [
         (Command::Settle, UNSETTLED),
         (Command::RunSettled, UNSETTLED),
+        (Command::RunTold, UNSETTLED),
         (Command::Draw, UNSETTLED),
         (Command::DrawSvg, OTHER_WAYS),
         (Command::Run, MAX_ACTIVE_3.text),

@@ -1,5 +1,5 @@
 -- What clap makes of the words of each command.
-use Rattle.std.proofs.Common.{rules, ap, sym, subst, Result, Ok, ◌^◌, ℕ, ◌<◌, arith, length, get_or, ◌≡◌, ◌∙◌, ◌≢◌, ◌==◌, List, [], ◌∷◌, true, false, Some, codes, refl, inl, inr, ◌⊎◌}
+use Rattle.std.proofs.Common.{rules, ap, sym, subst, Result, Ok, ◌^◌, ℕ, ◌<◌, arith, length, get_or, ◌≡◌, ◌∙◌, ◌≢◌, ◌==◌, Bool, List, [], ◌∷◌, true, false, Some, codes, refl, inl, inr, ◌⊎◌}
 use Rattle.std.proofs.lemmas.Fmt.{decimal_nonempty, digits_decimal, digits_value-decimal, first_decimal}
 use Rattle.std.proofs.lemmas.Str.Parse.{IsNumeralModel, numerals_by_value, parse_gives, tells_all_ascii_digits}
 use Rattle.std.specs.Str.{all_ascii_digits}
@@ -21,8 +21,10 @@ use Rattle.std.specs.Box.{box_value}
 use Rattle.std.specs.Prelude.{Box, Option, None, option_map}
 use Rattle.clap.proofs.OnLiterals.{clap_on_literals}
 use Rattle.cmwq_words.specs.declared.request.Request.{Request}
+use Rattle.cmwq_words.specs.declared.request.RunKind.{RunKind}
+use Rattle.cmwq_words.specs.declared.request.RunKind.TheVariants.{Settled, Told}
 use Rattle.cmwq_command_line.specs.CommandLine.{command_line}
-use Rattle.cmwq_words.specs.Request.{HasCapacity, IsCapacity, IsPlainWord, IsRead, IsRequestOf, IsVersionWord, asked_in, asked_of, run_arguments}
+use Rattle.cmwq_words.specs.Request.{HasCapacity, IsCapacity, IsPlainWord, IsRead, IsRequestOf, IsVersionWord, asked_in, asked_of, kind_from, kind_of_run, run_arguments, words_to_run}
 
 simple_line : is_simple command_line ≡ true
 unfolding clap_on_literals
@@ -55,9 +57,14 @@ unfolding clap_on_literals
 plain_run name first rest e = (rw e (rw e refl), rw e (rw e refl), tt)
 
 plain_run_settled : (name : Text) (first : ℕ) (rest : Text) → (first == 45) ≡ false
-    → IsRead (name ∷ codes "run" ∷ run_arguments true (first ∷ rest)) (codes "run" ∷ run_arguments true (first ∷ rest))
+    → IsRead (name ∷ codes "run" ∷ run_arguments Settled (first ∷ rest)) (codes "run" ∷ run_arguments Settled (first ∷ rest))
 unfolding clap_on_literals
 plain_run_settled name first rest e = (rw e (rw e refl), rw e (rw e refl), tt)
+
+plain_run_told : (name : Text) (first : ℕ) (rest : Text) → (first == 45) ≡ false
+    → IsRead (name ∷ codes "run" ∷ run_arguments Told (first ∷ rest)) (codes "run" ∷ run_arguments Told (first ∷ rest))
+unfolding clap_on_literals
+plain_run_told name first rest e = (rw e (rw e refl), rw e (rw e refl), tt)
 
 plain_settle : (name : Text) (first : ℕ) (rest : Text) → (first == 45) ≡ false
     → IsRead (name ∷ codes "settle" ∷ (first ∷ rest) ∷ []) (codes "settle" ∷ (first ∷ rest) ∷ [])
@@ -137,9 +144,13 @@ pub run_read : (words : List Text) (name file : Text) → words ≡ name ∷ cod
     → IsRead words (codes "run" ∷ file ∷ [])
 run_read words name file are (first, rest, is, plain) = rw (are, is) (plain_run name first rest (no_hyphen first plain))
 
-pub run_settled_read : (words : List Text) (name file : Text) → words ≡ name ∷ codes "run" ∷ run_arguments true file → IsPlainWord file
-    → IsRead words (codes "run" ∷ run_arguments true file)
+pub run_settled_read : (words : List Text) (name file : Text) → words ≡ name ∷ codes "run" ∷ run_arguments Settled file → IsPlainWord file
+    → IsRead words (codes "run" ∷ run_arguments Settled file)
 run_settled_read words name file are (first, rest, is, plain) = rw (are, is) (plain_run_settled name first rest (no_hyphen first plain))
+
+pub run_told_read : (words : List Text) (name file : Text) → words ≡ name ∷ codes "run" ∷ run_arguments Told file → IsPlainWord file
+    → IsRead words (codes "run" ∷ run_arguments Told file)
+run_told_read words name file are (first, rest, is, plain) = rw (are, is) (plain_run_told name first rest (no_hyphen first plain))
 
 pub settle_read : (words : List Text) (name file : Text) → words ≡ name ∷ codes "settle" ∷ file ∷ [] → IsPlainWord file
     → IsRead words (codes "settle" ∷ file ∷ [])
@@ -221,3 +232,17 @@ met_in m name rows asked = at (out-ArgMatches m).subcommand
 pub nothing_asked : (request : Option Request) (asked : List Text) → request ≡ None → IsRequestOf asked request → ⊥
 nothing_asked None asked none is = cc
 nothing_asked (Some request) asked none is = cc
+
+-- a run's words are of its kind and file
+pub run_met : (kind : Option RunKind) (file : Option Text) (asked : List Text) → words_to_run kind file ≡ Some asked
+    → (k : RunKind) × (name : Text) × (kind ≡ Some k) × (file ≡ Some name) × (codes "run" ∷ run_arguments k name ≡ asked)
+run_met (Some k) (Some name) asked e = let same : codes "run" ∷ run_arguments k name ≡ asked = cc in (k, name, refl, refl, same)
+run_met (Some k) None asked e = absurd cc
+run_met None file asked e = absurd cc
+
+-- and its kind is of its flags
+pub kind_met : (settle tell : Option Bool) (k : RunKind) → kind_from settle tell ≡ Some k
+    → (s t : Bool) × (settle ≡ Some s) × (tell ≡ Some t) × (kind_of_run s t ≡ Some k)
+kind_met (Some s) (Some t) k e = (s, t, refl, refl, e)
+kind_met None tell k e = absurd cc
+kind_met (Some s) None k e = absurd cc

@@ -10,6 +10,8 @@ use Rattle.clap.specs.declared.error.kind.ErrorKind.TheVariants.{OutOfMemory}
 use Rattle.cmwq_types.specs.declared.limits.TheConstants.{MAX_LINES}
 use Rattle.cmwq_words.specs.declared.drawing.DrawOptions.{DrawOptions}
 use Rattle.cmwq_words.specs.declared.request.Request.{Request}
+use Rattle.cmwq_words.specs.declared.request.RunKind.{RunKind}
+use Rattle.cmwq_words.specs.declared.request.RunKind.TheVariants.{Plain, Settled, Told}
 use Rattle.cmwq_words.specs.declared.request.Request.TheVariants.{New, Run, Settle, List as list, Asm, Show, Debug, Draw, Play, Check, Version}
 
 -- how many entries a play's history may have room for: as many as an actor may have lines
@@ -26,8 +28,10 @@ number_words word (Some n) = word ∷ decimal n ∷ []
 number_words word None = []
 
 -- what stands behind `run`
-abbrev pub run_arguments : Bool → Text → List Text
-run_arguments settle file = flag_words (codes "--settle") settle ++ (file ∷ [])
+abbrev pub run_arguments : RunKind → Text → List Text
+run_arguments Plain file = file ∷ []
+run_arguments Settled file = codes "--settle" ∷ file ∷ []
+run_arguments Told file = codes "--tell" ∷ file ∷ []
 
 -- what stands behind `draw`
 abbrev pub draw_arguments : DrawOptions → Text → List Text
@@ -51,7 +55,7 @@ up_to time = record { settle = false; svg = false; from = None; to = Some time }
 abbrev pub words_of : Request → List Text
 words_of (New None) = codes "new" ∷ []
 words_of (New (Some file)) = codes "new" ∷ file.now ∷ []
-words_of (Run file settle) = codes "run" ∷ run_arguments settle file.now
+words_of (Run file kind) = codes "run" ∷ run_arguments kind file.now
 words_of (Settle file) = codes "settle" ∷ file.now ∷ []
 words_of (list file) = codes "list" ∷ file.now ∷ []
 words_of (Asm file out) = codes "asm" ∷ file.now ∷ out.now ∷ []
@@ -89,9 +93,23 @@ flag_in (Some text) =
 abbrev pub flag_of : Text → List Row → Option Bool
 flag_of id rows = flag_in (one_of id rows)
 
+-- which run the flags settle and tell ask for; none where both are given
+abbrev pub kind_of_run : Bool → Bool → Option RunKind
+kind_of_run false false = Some Plain
+kind_of_run true false = Some Settled
+kind_of_run false true = Some Told
+kind_of_run true true = None
+
+abbrev pub kind_from : Option Bool → Option Bool → Option RunKind
+kind_from (Some settle) (Some tell) = kind_of_run settle tell
+kind_from settle tell = None
+
+-- the words of such a run of this file
+abbrev pub words_to_run : Option RunKind → Option Text → Option (List Text)
+words_to_run kind file = option_and_then (λ given. option_map (λ name. codes "run" ∷ run_arguments given name) file) kind
+
 abbrev pub file_to_run : List Row → Option (List Text)
-file_to_run rows =
-    option_and_then (λ settle. option_map (λ file. codes "run" ∷ run_arguments settle file) (first_of (codes "FILE") rows)) (flag_of (codes "settle") rows)
+file_to_run rows = words_to_run (kind_from (flag_of (codes "settle") rows) (flag_of (codes "tell") rows)) (first_of (codes "FILE") rows)
 
 -- The number that a word spells: its own decimal digits, below 2^64.
 unfoldable pub number_in : Text → Option ℕ

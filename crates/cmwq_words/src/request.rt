@@ -2,7 +2,8 @@
 
 ghost use Rattle.clap.specs.Words.{Text, all_of, app_of, fault_of, first_of, found_of, kind_of, rows_of, subcommand_rows_of};
 ghost use Rattle.cmwq_command_line.specs.CommandLine.{command_line};
-ghost use Rattle.cmwq_words.specs.Request.{Asks, AsksVersion, HasCapacity, IsCapacity, IsPlainWord, IsRead, IsRequestOf, IsVersionWord, IsWithin, all_values, asked_in, asked_of, draw_arguments, file_and_capacity, file_to_run, from_on, one_value, run_arguments, two_values, up_to, value_if_any, whole, words_of};
+ghost use Rattle.cmwq_words.specs.declared.request.RunKind.TheVariants.{Settled, Told};
+ghost use Rattle.cmwq_words.specs.Request.{Asks, AsksVersion, HasCapacity, IsCapacity, IsPlainWord, IsRead, IsRequestOf, IsVersionWord, IsWithin, all_values, asked_in, asked_of, draw_arguments, file_and_capacity, file_to_run, from_on, kind_of_run, one_value, run_arguments, two_values, up_to, value_if_any, whole, words_of};
 ghost use Rattle.std.specs.Fmt.{decimal};
 ghost use Rattle.std.specs.Str.{bytes_eq};
 ghost use Rattle.std.specs.Prelude.{◌≡◌, ◌↔◌, ◌<◌, ◌^◌, Bool, IsTrue, ℕ, List, [], ◌∷◌, IfOk, IfSome, Some, codes, false, map, option_map, string_bytes, true};
@@ -13,6 +14,17 @@ use clap::{ArgMatches, Command, Error};
 use cmwq_command_line::commands::command_line;
 use cmwq_types::MAX_LINES;
 use std::alloc::{AllocError, Global};
+
+/// How a scenario is run.
+#[derive(Clone, Copy, Debug, PartialEq, Eq)]
+pub enum RunKind {
+    /// As far as its actor's instructions go.
+    Plain,
+    /// On by `next` until the machine is quiet.
+    Settled,
+    /// As far as they go, with each instruction and what it changes unseen.
+    Told,
+}
 
 /// What the words ask for. The paths are as they were given.
 #[derive(Debug, PartialEq, Eq, Drop)]
@@ -26,8 +38,8 @@ pub enum Request<'a> {
     Run {
         /// The text's path.
         file: &'a str,
-        /// Whether the run goes on by `next` until the machine is quiet.
-        settle: bool,
+        /// How it is run.
+        kind: RunKind,
     },
     /// List the scenario whose text is in this file, with as many `next` more as make its machine quiet.
     Settle {
@@ -91,8 +103,10 @@ pub fn parse<'a>(alloc: Global, words: &'a [String]) -> Result<Request<'a>, Erro
         → IsPlainWord file → Asks (codes "new" ∷ file ∷ []) result }
     ensures run { (name file : Text) → map string_bytes words.entry.now ≡ name ∷ codes "run" ∷ file ∷ []
         → IsPlainWord file → Asks (codes "run" ∷ file ∷ []) result }
-    ensures run_settled { (name file : Text) → map string_bytes words.entry.now ≡ name ∷ codes "run" ∷ run_arguments true file
-        → IsPlainWord file → Asks (codes "run" ∷ run_arguments true file) result }
+    ensures run_settled { (name file : Text) → map string_bytes words.entry.now ≡ name ∷ codes "run" ∷ run_arguments Settled file
+        → IsPlainWord file → Asks (codes "run" ∷ run_arguments Settled file) result }
+    ensures run_told { (name file : Text) → map string_bytes words.entry.now ≡ name ∷ codes "run" ∷ run_arguments Told file
+        → IsPlainWord file → Asks (codes "run" ∷ run_arguments Told file) result }
     ensures settle { (name file : Text) → map string_bytes words.entry.now ≡ name ∷ codes "settle" ∷ file ∷ []
         → IsPlainWord file → Asks (codes "settle" ∷ file ∷ []) result }
     ensures draw { (name file : Text) (settle svg : Bool) → map string_bytes words.entry.now ≡ name ∷ codes "draw" ∷ draw_arguments (whole settle svg) file
@@ -141,13 +155,16 @@ fn request_met<'a>(
     };
     match request_of(alloc, &matches)? {
         Some(request) => Ok(request),
-        None => Err(command.error(ErrorKind::ValueValidation, wanted_numbers(&matches))?),
+        None => Err(command.error(ErrorKind::ValueValidation, wanted_words(&matches))?),
     }
 }
 
-/// Which numbers the command that was met takes.
-fn wanted_numbers(matches: &ArgMatches<'_>) -> &'static str {
+/// What the command that was met takes.
+fn wanted_words(matches: &ArgMatches<'_>) -> &'static str {
     match matches.subcommand() {
+        Some(("run", _)) => {
+            "--settle and --tell don't go together: `cmwq settle` writes the text to run with --tell"
+        }
         Some(("draw", _)) => "--from and --to take a time in ticks",
         _ => "--capacity takes a number from 1 to 4096",
     }
@@ -250,7 +267,21 @@ fn run_request<'a>(given: &ArgMatches<'a>) -> Option<Request<'a>>
 {
     let file = value_of(given, "FILE")?;
     let settle = flag_of(given, "settle");
-    Some(Request::Run { file, settle })
+    let tell = flag_of(given, "tell");
+    let kind = run_kind(settle, tell)?;
+    Some(Request::Run { file, kind })
+}
+
+/// Which run the flags ask for; nothing where both are given.
+fn run_kind(settle: bool, tell: bool) -> Option<RunKind>
+    ensures { result ≡ kind_of_run settle tell }
+{
+    match (settle, tell) {
+        (false, false) => Some(RunKind::Plain),
+        (true, false) => Some(RunKind::Settled),
+        (false, true) => Some(RunKind::Told),
+        (true, true) => None,
+    }
 }
 
 /// What `settle` asks for.

@@ -1,4 +1,4 @@
-use Rattle.cmwq_words.proofs.RequestLemmas.{asm_read, check_read, check_two_read, debug_read, list_read, new_file_read, new_read, play_read, run_read, run_settled_read, settle_read, show_read, version_asked}
+use Rattle.cmwq_words.proofs.RequestLemmas.{asm_read, check_read, check_two_read, debug_read, list_read, new_file_read, new_read, play_read, run_read, run_settled_read, run_told_read, settle_read, show_read, version_asked}
 use Rattle.cmwq_words.proofs.DrawLemmas.{draw_read, from_read, to_read}
 use Rattle.cmwq_words.proofs.request.parse.Goals as goal
 
@@ -9,6 +9,7 @@ returns c =
       new_file = λ name file are plain. c.request_met.ensures.asks _ (new_file_read _ name file are plain);
       run = λ name file are plain. c.request_met.ensures.asks _ (run_read _ name file are plain);
       run_settled = λ name file are plain. c.request_met.ensures.asks _ (run_settled_read _ name file are plain);
+      run_told = λ name file are plain. c.request_met.ensures.asks _ (run_told_read _ name file are plain);
       settle = λ name file are plain. c.request_met.ensures.asks _ (settle_read _ name file are plain);
       draw = λ name file settle svg are plain. c.request_met.ensures.asks _ (draw_read _ name file settle svg are plain);
       draw_from = λ name file time are plain small. c.request_met.ensures.asks _ (from_read _ name file time are plain small);
