@@ -95,7 +95,7 @@ impl Snapshot<'_> {
     }
 
     /// The stamp of the place of a pending work, and 0 of any other.
-    fn pending_stamp(&self, w: usize) -> u64
+    pub(crate) fn pending_stamp(&self, w: usize) -> u64
         ensures { result ≡ pending_stamp (pending_at self.now.state w) }
     {
         self.pending_of(w).map_or(0, |p| p.stamp)
@@ -109,7 +109,7 @@ impl Snapshot<'_> {
     }
 
     /// The stamp of a running work, and 0 of any other.
-    fn running_stamp(&self, w: usize) -> u64
+    pub(crate) fn running_stamp(&self, w: usize) -> u64
         ensures { result ≡ running_stamp (running_at self.now.state w) }
     {
         self.running_of(w).map_or(0, |r| r.stamp)

@@ -1,5 +1,5 @@
 //! What a scan of the works counts.
-ghost use Rattle.cmwq_table.specs.Counts.{active, counted, limit, may_start};
+ghost use Rattle.cmwq_table.specs.Counts.{active, is_counted, limit, may_start};
 ghost use Rattle.cmwq_types.specs.First.{count_below};
 ghost use Rattle.cmwq_types.specs.Scenario.{flags_at, queue_of};
 ghost use Rattle.cmwq_types.specs.declared.limits.TheConstants.{MAX_WORKS};
@@ -51,10 +51,7 @@ impl Snapshot<'_> {
                 scenario.queue_of(w) == queue
                     && matches!(self.running_of(w), Some(r) if r.pool == pool)
             }
-            Tally::Counted { pool } => {
-                matches!(self.running_of(w), Some(r) if r.pool == pool && r.mode.is_runnable())
-                    && !self.is_intensive(w)
-            }
+            Tally::Counted { pool } => self.counts_in(pool, w),
             Tally::Rescued { queue } => {
                 scenario.queue_of(w) == queue
                     && matches!(self.running_of(w), Some(r) if r.worker == RESCUER)
@@ -62,8 +59,16 @@ impl Snapshot<'_> {
         }
     }
 
+    /// Whether the work is a runnable one of the pool that counts towards its concurrency level.
+    pub(crate) fn counts_in(&self, pool: u8, w: usize) -> bool
+        ensures { result ≡ is_counted self.now.scenario self.now.state pool w }
+    {
+        matches!(self.running_of(w), Some(r) if r.pool == pool && r.mode.is_runnable())
+            && !self.is_intensive(w)
+    }
+
     /// Whether the work's queue is CPU-intensive.
-    pub(crate) fn is_intensive(&self, w: usize) -> bool
+    fn is_intensive(&self, w: usize) -> bool
         ensures { result ≡ (flags_at self.now.scenario (queue_of self.now.scenario w)).cpu_intensive }
     {
         let scenario = self.scenario();
