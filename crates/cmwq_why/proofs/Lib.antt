@@ -1,1 +1,3 @@
 pub mod AlikeLemmas
+pub mod TextAlikeLemmas
+pub mod TextLemmas

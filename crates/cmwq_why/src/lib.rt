@@ -1,15 +1,20 @@
 //! Why a work doesn't get on, read off what a machine shows of its state, and as text.
 #![tactic(auto)]
 
+mod causes;
 mod entries;
 mod going_first;
+mod group;
+mod items;
 mod moves;
+mod names;
 mod pending;
 mod reasons;
 mod running;
 mod snapshot;
 mod sought;
 mod tally;
+mod text;
 mod workers;
 
-pub use reasons::{pending_reason, running_reason};
+pub use reasons::{pending_reason, push_why, running_reason};
