@@ -3,6 +3,7 @@
 
 mod causes;
 mod entries;
+mod flushes;
 mod going_first;
 mod group;
 mod items;
@@ -15,6 +16,8 @@ mod snapshot;
 mod sought;
 mod tally;
 mod text;
+mod waiting;
 mod workers;
 
 pub use reasons::{pending_reason, push_why, running_reason};
+pub use waiting::{lacks_memory, lacks_thaw, waits};
