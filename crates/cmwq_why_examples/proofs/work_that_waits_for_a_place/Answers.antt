@@ -5,4 +5,12 @@ use Rattle.cmwq_why_examples.proofs.work_that_waits_for_a_place.Goals as goal
 
 pub returns : goal.returns
 unfolding table digits
-returns c = record { at_2 = refl }
+returns c = record {
+  at_0 = refl;
+  at_2 = refl;
+  at_4 = refl;
+  at_13 = refl;
+  at_17 = refl;
+  at_18 = refl;
+  at_19 = refl;
+}
