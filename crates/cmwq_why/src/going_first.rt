@@ -5,7 +5,7 @@ ghost use Rattle.std.specs.Prelude.{◌≡◌, ◌<◌, IfSome};
 
 use crate::snapshot::Snapshot;
 use cmwq_reasons::Instance;
-use cmwq_types::{Move, WorkId};
+use cmwq_types::Move;
 
 impl Snapshot<'_> {
     /// The instance that the pool's next move moves, if that is another one than this.
