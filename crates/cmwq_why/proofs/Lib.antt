@@ -1,0 +1,4 @@
+pub mod AlikeLemmas
+pub mod FlushAlikeLemmas
+pub mod TextAlikeLemmas
+pub mod TextLemmas

@@ -1,0 +1,80 @@
+//! Who goes first: the instance that a pool moves next, and the works that have the CPU.
+ghost use Rattle.cmwq_reasons.specs.Reasons.{is_same, moved_instance, mover, other_instance, other_work, work_above, work_before};
+ghost use Rattle.cmwq_types.specs.declared.limits.TheConstants.{MAX_WORKS};
+ghost use Rattle.std.specs.Prelude.{◌≡◌, ◌<◌, IfSome};
+
+use crate::snapshot::Snapshot;
+use cmwq_reasons::Instance;
+use cmwq_types::Move;
+
+impl Snapshot<'_> {
+    /// The instance that the pool's next move moves, if that is another one than this.
+    pub(crate) fn other_mover(&self, pool: u8, instance: Instance) -> Option<Instance>
+        ensures { result ≡ other_instance instance (mover self.now.scenario self.now.state pool) }
+    {
+        match self.mover(pool) {
+            Some(other) if !is_same(instance, other) => Some(other),
+            _ => None,
+        }
+    }
+
+    /// The instance that the pool's next move moves.
+    fn mover(&self, pool: u8) -> Option<Instance>
+        ensures { result ≡ mover self.now.scenario self.now.state pool }
+    {
+        self.next_move(pool).map(moved_instance)
+    }
+
+    /// The work that goes before this one on the CPU of a bound pool: the pool's first runnable one, if it is another one.
+    pub(crate) fn work_before(&self, w: usize, pool: u8) -> Option<usize>
+        ensures before { result ≡ work_before self.now.scenario self.now.state w pool }
+        ensures in_range { IfSome result (λ v. v < MAX_WORKS) }
+    {
+        if self.scenario().is_unbound(pool) {
+            return None;
+        }
+        other_work(w, self.first_runnable(pool))
+    }
+
+    /// The work that keeps the normal pool of a CPU from burning: the first runnable one of the CPU's high pool.
+    pub(crate) fn work_above(&self, pool: u8) -> Option<usize>
+        ensures above { result ≡ work_above self.now.scenario self.now.state pool }
+        ensures in_range { IfSome result (λ v. v < MAX_WORKS) }
+    {
+        if self.scenario().is_unbound(pool) || pool % 2 == 1 {
+            return None;
+        }
+        self.first_runnable(pool + 1)
+    }
+}
+
+/// The work, if it is another one than this.
+pub(crate) fn other_work(w: usize, found: Option<usize>) -> Option<usize>
+    requires { IfSome found (λ v. v < MAX_WORKS) }
+    ensures other { result ≡ other_work w found }
+    ensures in_range { IfSome result (λ v. v < MAX_WORKS) }
+{
+    match found {
+        Some(v) if v != w => Some(v),
+        _ => None,
+    }
+}
+
+fn is_same(one: Instance, other: Instance) -> bool
+    ensures { result ≡ is_same one other }
+{
+    match (one, other) {
+        (Instance::Pending(v), Instance::Pending(w)) => v.0 == w.0,
+        (Instance::Running(v), Instance::Running(w)) => v.0 == w.0,
+        _ => false,
+    }
+}
+
+fn moved_instance(next: Move) -> Instance
+    ensures { result ≡ moved_instance next }
+{
+    match next {
+        Move::Advance(w) | Move::Wake(w) => Instance::Running(w),
+        Move::Start(w) | Move::Defer(w) | Move::Rescue(w) => Instance::Pending(w),
+    }
+}

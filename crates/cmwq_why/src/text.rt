@@ -1,0 +1,259 @@
+//! Why a work isn't further, as text.
+ghost use Rattle.cmwq_reasons.specs.Reasons.{counted_works, running_half, work_of, works_on_workers};
+ghost use Rattle.cmwq_why.specs.Text.{beside_run, inactive_text, listed_text, name_of, items, pending_text, plain_text, reason_text, room_text, spaced_name, spent_text, timer_text, turn_text, why_text, worker_words};
+ghost use Rattle.cmwq_types.specs.Scenario.{queue_of};
+ghost use Rattle.std.specs.List.{flat_map};
+ghost use Rattle.std.specs.Prelude.{◌≡◌, ◌++◌, OnOk, codes, map, string_bytes};
+
+use crate::snapshot::Snapshot;
+use cmwq_reasons::{Instance, Reason, Turn};
+use cmwq_types::{NoMemory, WorkId};
+use std::alloc::Global;
+
+impl Snapshot<'_> {
+    /// Writes why the work isn't further: what runs of it and what pends of it, and whether the scenario's steps are spent.
+    pub(crate) fn push_why(
+        &self,
+        alloc: Global,
+        text: &mut String,
+        w: WorkId,
+    ) -> Result<(), NoMemory>
+        ensures { OnOk result (string_bytes text.new ≡ string_bytes text.old ++ why_text self.now.scenario self.now.state w.0) }
+    {
+        match self.running_reason(w) {
+            Some(reason) => {
+                self.push_reason(alloc, text, w, reason)?;
+                self.push_beside_run(alloc, text, w)?;
+            }
+            None => self.push_pending(alloc, text, w)?,
+        }
+        self.push_spent(text)
+    }
+
+    /// Writes what is told of the pending half of a work that runs.
+    fn push_beside_run(&self, alloc: Global, text: &mut String, w: WorkId) -> Result<(), NoMemory>
+        ensures { OnOk result (string_bytes text.new ≡ string_bytes text.old ++ beside_run self.now.scenario self.now.state w.0) }
+    {
+        if self.pending_of(w.0 as usize).is_none() && self.depth_of(w.0 as usize) == 0 {
+            return Ok(());
+        }
+        text.push_str("; ")?;
+        self.push_pending(alloc, text, w)
+    }
+
+    fn push_pending(&self, alloc: Global, text: &mut String, w: WorkId) -> Result<(), NoMemory>
+        ensures { OnOk result (string_bytes text.new ≡ string_bytes text.old ++ pending_text self.now.scenario self.now.state w.0) }
+    {
+        self.push_reason(alloc, text, w, self.pending_reason(w))
+    }
+
+    fn push_spent(&self, text: &mut String) -> Result<(), NoMemory>
+        ensures { OnOk result (string_bytes text.new ≡ string_bytes text.old ++ spent_text self.now.scenario self.now.state) }
+    {
+        if self.spent() >= self.scenario().steps {
+            text.push_str("; spent")?;
+        }
+        Ok(())
+    }
+
+    /// Writes the reason, which is one of the work's.
+    fn push_reason(
+        &self,
+        alloc: Global,
+        text: &mut String,
+        w: WorkId,
+        reason: Reason,
+    ) -> Result<(), NoMemory>
+        ensures { OnOk result (string_bytes text.new ≡ string_bytes text.old ++ reason_text self.now.scenario self.now.state w.0 reason) }
+    {
+        match reason {
+            Reason::Frozen(pool) => {
+                self.push_inactive(alloc, text, w, pool)?;
+                text.push_str(" is frozen")?;
+                Ok(())
+            }
+            Reason::Inactive(pool) => {
+                self.push_inactive(alloc, text, w, pool)?;
+                self.push_room(alloc, text, w, pool)
+            }
+            Reason::Held(pool) => self.push_held(alloc, text, w, pool),
+            Reason::Free { pool, turn } => {
+                self.push_listed(alloc, text, w, pool)?;
+                push_free(text, turn)
+            }
+            Reason::After { pool, first } => {
+                self.push_listed(alloc, text, w, pool)?;
+                self.push_named(text, "after ", first)
+            }
+            Reason::NoWorker(pool) => self.push_no_worker(alloc, text, w, pool),
+            _ => self.push_plain(text, reason),
+        }
+    }
+
+    /// Writes the reason of a work that doesn't wait in a pool.
+    fn push_plain(&self, text: &mut String, reason: Reason) -> Result<(), NoMemory>
+        ensures { OnOk result (string_bytes text.new ≡ string_bytes text.old ++ plain_text self.now.scenario reason) }
+    {
+        match reason {
+            Reason::Asleep(until) => write!(text, "asleep until {until}")?,
+            Reason::WakesNext => text.push_str("sleep is over, wakes next")?,
+            Reason::WakesAfter(x) => self.push_named(text, "sleep is over, after ", x)?,
+            Reason::Behind(v) => self.push_named(text, "runnable, behind ", Instance::Running(v))?,
+            Reason::ReadyNext => text.push_str("ready, goes on next")?,
+            Reason::ReadyAfter(x) => self.push_named(text, "ready, after ", x)?,
+            Reason::HighHas(v) => self.push_high(text, v)?,
+            Reason::Burns => text.push_str("burns")?,
+            Reason::Disabled(depth) => write!(text, "disabled {depth}")?,
+            Reason::NotPending => text.push_str("not pending")?,
+            Reason::Timer { due, cpu } => push_timer(text, due, cpu)?,
+            Reason::FiresNext => text.push_str("timer is due, fires next")?,
+            Reason::FiresAfter(v) => {
+                self.push_named(text, "timer is due, after ", Instance::Pending(v))?;
+            }
+            Reason::Deferred(pool) => write!(text, "deferred {pool}: it still runs")?,
+            _ => (),
+        }
+        Ok(())
+    }
+
+    /// Writes the words and the name of the instance's work.
+    fn push_named(&self, text: &mut String, words: &str, x: Instance) -> Result<(), NoMemory>
+        ensures { OnOk result (string_bytes text.new ≡ string_bytes text.old ++ (words.now ++ name_of self.now.scenario (work_of x))) }
+    {
+        text.push_str(words)?;
+        text.push_str(self.instance_name(x))?;
+        Ok(())
+    }
+
+    /// Writes that the high pool of the work's CPU has another work to run.
+    fn push_high(&self, text: &mut String, v: WorkId) -> Result<(), NoMemory>
+        ensures { OnOk result (string_bytes text.new ≡ string_bytes text.old ++ (codes "runnable, high " ++ name_of self.now.scenario v.0 ++ codes " has the CPU")) }
+    {
+        let name = self.name(v.0);
+        write!(text, "runnable, high {name} has the CPU")?;
+        Ok(())
+    }
+
+    /// Writes that the work is on the pool's worklist, and behind whom.
+    fn push_listed(
+        &self,
+        alloc: Global,
+        text: &mut String,
+        w: WorkId,
+        pool: u8,
+    ) -> Result<(), NoMemory>
+        ensures { OnOk result (string_bytes text.new ≡ string_bytes text.old ++ listed_text self.now.scenario self.now.state w.0 pool) }
+    {
+        let before = self.listed_before(alloc, w.0 as usize, pool)?;
+        write!(text, "listed {pool}")?;
+        self.push_ahead(text, &before)?;
+        text.push_str(": ")?;
+        Ok(())
+    }
+
+    /// Writes that the work waits in the pool for room in its queue, behind whom, and the queue's name.
+    fn push_inactive(
+        &self,
+        alloc: Global,
+        text: &mut String,
+        w: WorkId,
+        pool: u8,
+    ) -> Result<(), NoMemory>
+        ensures { OnOk result (string_bytes text.new ≡ string_bytes text.old ++ inactive_text self.now.scenario self.now.state w.0 pool) }
+    {
+        let before = self.inactive_before(alloc, w.0 as usize, pool)?;
+        write!(text, "inactive {pool}")?;
+        self.push_ahead(text, &before)?;
+        text.push_str(": ")?;
+        text.push_str(self.queue_name(w.0 as usize))?;
+        Ok(())
+    }
+
+    /// Writes how much of its queue's limit is taken up in the pool, and by whom.
+    fn push_room(
+        &self,
+        alloc: Global,
+        text: &mut String,
+        w: WorkId,
+        pool: u8,
+    ) -> Result<(), NoMemory>
+        ensures { OnOk result (string_bytes text.new ≡ string_bytes text.old ++ room_text self.now.scenario self.now.state (queue_of self.now.scenario w.0) pool) }
+    {
+        let queue = self.scenario().queue_of(w.0 as usize);
+        let holders = self.holders(alloc, queue, pool)?;
+        let active = self.active(queue, pool);
+        let limit = self.limit(queue);
+        write!(text, " has {active} of {limit} active")?;
+        self.push_items(text, &holders)
+    }
+
+    /// Writes that the work is held by the pool's concurrency level, and who makes it up.
+    fn push_held(
+        &self,
+        alloc: Global,
+        text: &mut String,
+        w: WorkId,
+        pool: u8,
+    ) -> Result<(), NoMemory>
+        ensures { OnOk result (string_bytes text.new ≡ string_bytes text.old ++ listed_text self.now.scenario self.now.state w.0 pool ++ codes "held by" ++ flat_map (spaced_name self.now.scenario) (counted_works self.now.scenario self.now.state pool)) }
+    {
+        let counted = self.counted_works(alloc, pool)?;
+        self.push_listed(alloc, text, w, pool)?;
+        text.push_str("held by")?;
+        self.push_names(text, &counted)
+    }
+
+    /// Writes that there is no free worker for the work, and who has those that there are.
+    fn push_no_worker(
+        &self,
+        alloc: Global,
+        text: &mut String,
+        w: WorkId,
+        pool: u8,
+    ) -> Result<(), NoMemory>
+        ensures { OnOk result (string_bytes text.new ≡ string_bytes text.old ++ listed_text self.now.scenario self.now.state w.0 pool ++ worker_words self.now.state ++ items self.now.scenario self.now.state (map running_half (works_on_workers self.now.scenario self.now.state (queue_of self.now.scenario w.0) pool))) }
+    {
+        let queue = self.scenario().queue_of(w.0 as usize);
+        let running = self.on_workers(alloc, queue, pool)?;
+        self.push_listed(alloc, text, w, pool)?;
+        text.push_str(self.worker_words())?;
+        self.push_items(text, &running)
+    }
+
+    fn worker_words(&self) -> &'static str
+        ensures { result.now ≡ worker_words self.now.state }
+    {
+        if self.is_pressed() {
+            "no free worker under pressure"
+        } else {
+            "no free worker"
+        }
+    }
+}
+
+/// Writes until when a timer runs, and on which CPU it places its work then.
+fn push_timer(text: &mut String, due: u64, cpu: u8) -> Result<(), NoMemory>
+    ensures { OnOk result (string_bytes text.new ≡ string_bytes text.old ++ timer_text due cpu) }
+{
+    write!(text, "timer until {due} cpu {cpu}")?;
+    Ok(())
+}
+
+/// Writes that a work is free to go, and what becomes of it.
+fn push_free(text: &mut String, turn: Turn) -> Result<(), NoMemory>
+    ensures { OnOk result (string_bytes text.new ≡ string_bytes text.old ++ codes "free to go, " ++ turn_text turn) }
+{
+    text.push_str("free to go, ")?;
+    text.push_str(turn_text(turn))?;
+    Ok(())
+}
+
+fn turn_text(turn: Turn) -> &'static str
+    ensures { result.now ≡ turn_text turn }
+{
+    match turn {
+        Turn::Starts => "starts next",
+        Turn::Defers => "defers next",
+        Turn::StartsOnRescuer => "starts next on rescuer",
+    }
+}
