@@ -21,7 +21,7 @@ fn words(rt: &impl Abort, alloc: Global, line: &str) -> Vec<String> {
         .expect(rt, "memory is left")
 }
 
-const REQUESTS: [(&str, Request<'_>); 16] = [
+const REQUESTS: [(&str, Request<'_>); 17] = [
     ("cmwq new", Request::New { file: None }),
     (
         "cmwq new a.cmwq",
@@ -143,7 +143,7 @@ fn a_check_asks_for_each_of_its_files(rt: HostRuntime) {
 }
 
 /// Command lines that are no request, of which kind the answer is, and with which status the program ends.
-const NO_REQUESTS: [(&str, ErrorKind, i32); 23] = [
+const NO_REQUESTS: [(&str, ErrorKind, i32); 24] = [
     (
         "cmwq",
         ErrorKind::DisplayHelpOnMissingArgumentOrSubcommand,
