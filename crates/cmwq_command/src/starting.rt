@@ -6,9 +6,9 @@ ghost use Rattle.cmwq_command_line.specs.CommandLine.{version_line};
 ghost use Rattle.std.specs.Io.KnownBytes.{Appends};
 ghost use Rattle.std.specs.Prelude.{◌≡◌, ◌↔◌, Err, IfErr, OnOk, false, true};
 
+use cmwq_command_line::help::VERSION;
 use cmwq_first::first_text;
 use cmwq_play::{PlayError, Sink, put_all};
-use cmwq_command_line::help::VERSION;
 use std::alloc::Global;
 
 /// Writes the text of a scenario to start from. It fails only where the writer does.

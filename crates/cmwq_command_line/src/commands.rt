@@ -231,11 +231,7 @@ fn draw_command<'a>(alloc: Global) -> Result<Command<'a>, AllocError>
 }
 
 /// A command on the text of a scenario.
-fn on_text<'a>(
-    alloc: Global,
-    name: &'a str,
-    about: &'a str,
-) -> Result<Command<'a>, AllocError>
+fn on_text<'a>(alloc: Global, name: &'a str, about: &'a str) -> Result<Command<'a>, AllocError>
     ensures app { IfOk result (λ r. app_of r ≡ command_on name.entry.now (codes "FILE")) }
     ensures local { IfOk result (λ r. (fields_of r).has_globals ≡ false) }
 {
