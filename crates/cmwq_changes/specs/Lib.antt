@@ -1,0 +1,4 @@
+pub mod Changes
+pub mod Course
+pub mod Session
+pub mod Telling
