@@ -1,11 +1,10 @@
 -- What is told of several instructions, and how far they come.
-use Rattle.std.proofs.Common.{◌≡◌, ℕ, zero, suc, ◌+◌, List, [], ◌∷◌, ◌++◌, length, Bool, true, false, ◌||◌, Option, refl, sym, ap, ◌∙◌, append_assoc, append-nil, arith}
+use Rattle.std.proofs.Common.{◌≡◌, ℕ, ◌+◌, List, [], ◌∷◌, ◌++◌, length, Bool, true, false, Option, refl, sym, ap, ◌∙◌, append_assoc, arith}
 use Rattle.cmwq_types.specs.Contents.{ScenarioContents}
 use Rattle.cmwq_types.specs.declared.instr.Instr.{Instr}
 use Rattle.cmwq_table.specs.State.{State}
-use Rattle.cmwq_table.specs.Table.{after_all}
 use Rattle.cmwq_changes.specs.declared.looks.Looks.{Looks}
-use Rattle.cmwq_changes.specs.Course.{Course, course_from, going_on, has_bytes, looked, looks_here, saying, told_from, told_here, line_here}
+use Rattle.cmwq_changes.specs.Course.{Course, course_from, going_on, looked, looks_here, saying, told_from, told_here}
 use Rattle.std.specs.Prelude.{if◌then◌else◌}
 
 module _ (says : ScenarioContents → State → Option (List ℕ)) (looks : Looks) (S : ScenarioContents) where

@@ -1,5 +1,5 @@
 -- A run that is told as it goes tells what is told at its positions.
-use Rattle.std.proofs.Common.{◌≡◌, ◌≤◌, ◌<◌, ℕ, zero, suc, ◌+◌, List, [], ◌∷◌, ◌++◌, length, take, Bool, true, false, ◌||◌, Option, Result, Ok, Err, IfOk, refl, sym, ap, ◌∙◌, subst, append-nil, arith, eq-eqb, eqb}
+use Rattle.std.proofs.Common.{◌≡◌, ◌≤◌, ◌<◌, ℕ, zero, suc, ◌+◌, List, [], ◌∷◌, ◌++◌, length, take, Bool, true, false, ◌||◌, Option, refl, sym, ap, ◌∙◌, append-nil, arith, eq-eqb}
 use Rattle.std.proofs.lemmas.Bool.{ne_eqb}
 use Rattle.std.proofs.lemmas.List.{take_all, take_more}
 use Rattle.std.specs.Prelude.{slice_index_or, if◌then◌else◌, ◌==◌}
@@ -10,7 +10,7 @@ use Rattle.cmwq_table.specs.State.{State, start}
 use Rattle.cmwq_table.specs.Table.{after_all, table}
 use Rattle.cmwq_table.proofs.RunLemmas.{after_all-append}
 use Rattle.cmwq_changes.specs.declared.looks.Looks.{Looks}
-use Rattle.cmwq_changes.specs.Changes.{changes_text, is_looked_at, line, looks_at, said_at, said_below, state_at, told_at, told_below}
+use Rattle.cmwq_changes.specs.Changes.{changes_text, said_below, state_at, told_at, told_below}
 use Rattle.cmwq_changes.specs.Course.{Course, course_from, course_start, course_wholly, going_on, has_bytes, line_here, looked, looks_here, saying, told_from, told_here, told_wholly}
 use Rattle.cmwq_changes.proofs.CourseLemmas.{course_from-append, told_from-append}
 

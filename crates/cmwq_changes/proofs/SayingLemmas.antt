@@ -31,8 +31,8 @@ module _ {M P W : Type 0} (loaded : M → ScenarioContents) (state : M → State
       → Stopped loaded state says contents failed a b (line_here (course loaded state says contents failed a) (Some text)) error
   said_stopped a b now text error r is_err new time same write why sent =
       let line_is =
-          ap (λ (n : ℕ). line_text a.position n text) time
-          ∙ sym (line_new a.position (state a.machine).time (words a.said) text new)
+      ap (λ (n : ℕ). line_text a.position n text) time
+      ∙ sym (line_new a.position (state a.machine).time (words a.said) text new)
       in
       record {
         same = same;

@@ -1,16 +1,15 @@
 -- Parts of a session, one after another.
-use Rattle.std.proofs.Common.{◌≡◌, ◌↔◌, ℕ, ◌+◌, List, [], ◌∷◌, ◌++◌, Bool, true, false, Option, Result, Ok, Err, IfErr, OnErr, OnOk, ap, refl, sym, ◌∙◌, subst, append_assoc, append-nil}
+use Rattle.std.proofs.Common.{◌≡◌, ◌↔◌, ℕ, List, [], ◌++◌, Bool, true, false, Option, Result, Ok, Err, ap, refl, sym, ◌∙◌, subst, append-nil}
 use Rattle.cmwq_types.specs.Contents.{ScenarioContents}
 use Rattle.cmwq_types.specs.declared.instr.Instr.{Instr}
 use Rattle.cmwq_table.specs.State.{State}
 use Rattle.std.specs.Io.KnownBytes.{Appends}
-use Rattle.cmwq_streams.specs.Blocks.{Sends, SendsFront, SharesSink, kept, sink}
+use Rattle.cmwq_streams.specs.Blocks.{Sends, kept, sink}
 use Rattle.cmwq_streams.specs.Sending.{IsSendError}
 use Rattle.cmwq_streams.specs.declared.block_writer.BlockWriter.{BlockWriter}
 use Rattle.cmwq_streams.specs.declared.error.PlayError.{PlayError}
 use Rattle.cmwq_streams.specs.declared.error.PlayError.TheVariants.{NoMemory, Write}
 use Rattle.cmwq_streams.proofs.CallerLemmas.{appends_none, front_more, front_then, sends_then}
-use Rattle.cmwq_changes.specs.declared.looks.Looks.{Looks}
 use Rattle.cmwq_changes.specs.declared.session.Request.{Request}
 use Rattle.cmwq_changes.specs.declared.session.Session.{Session}
 use Rattle.cmwq_changes.specs.Course.{Course, course_from, told_from, told_here, looked}
@@ -100,10 +99,10 @@ module _ {M P W : Type 0} (loaded : M → ScenarioContents) (state : M → State
       let mid = goes loaded state says contents failed a xs in
       let text = tells loaded state says contents failed a xs in
       let text_is : text ++ tells loaded state says contents failed b ys ≡ tells loaded state says contents failed a (xs ++ ys) =
-          ap (λ (more : List ℕ). text ++ more) (request_of a b text mid one ys) ∙ sym (told_from-append says_a q.looks q.scenario.now start xs ys)
+      ap (λ (more : List ℕ). text ++ more) (request_of a b text mid one ys) ∙ sym (told_from-append says_a q.looks q.scenario.now start xs ys)
       in
       let end_is : goes loaded state says contents failed b ys ≡ goes loaded state says contents failed a (xs ++ ys) =
-          goes_of a b text mid one ys ∙ sym (course_from-append says_a q.looks q.scenario.now start xs ys)
+      goes_of a b text mid one ys ∙ sym (course_from-append says_a q.looks q.scenario.now start xs ys)
       in
       subst (λ (t : List ℕ). Told loaded state says contents failed a c t (goes loaded state says contents failed a (xs ++ ys))) text_is
       (subst (λ (to : Course). Told loaded state says contents failed a c (text ++ tells loaded state says contents failed b ys) to) end_is
@@ -121,7 +120,7 @@ module _ {M P W : Type 0} (loaded : M → ScenarioContents) (state : M → State
       let mid = goes loaded state says contents failed a xs in
       let text = tells loaded state says contents failed a xs in
       let text_is : text ++ tells loaded state says contents failed b ys ≡ tells loaded state says contents failed a (xs ++ ys) =
-          ap (λ (more : List ℕ). text ++ more) (request_of a b text mid one ys) ∙ sym (told_from-append says_a q.looks q.scenario.now start xs ys)
+      ap (λ (more : List ℕ). text ++ more) (request_of a b text mid one ys) ∙ sym (told_from-append says_a q.looks q.scenario.now start xs ys)
       in
       let rest = told_from says_a q.looks q.scenario.now (goes loaded state says contents failed a (xs ++ ys)) more in
       subst (λ (t : List ℕ). Stopped loaded state says contents failed a c t error) (sym (told_from-append says_a q.looks q.scenario.now start (xs ++ ys) more))

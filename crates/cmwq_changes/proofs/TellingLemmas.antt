@@ -1,5 +1,5 @@
 -- What becomes of a request, by what was written.
-use Rattle.std.proofs.Common.{◌≡◌, ◌≢◌, ◌↔◌, ◌⊎◌, inl, inr, ℕ, List, [], ◌∷◌, ◌++◌, Bool, true, false, Option, Some, None, Result, Ok, Err, IfOk, IfErr, IsTrue, refl, sym, ap, ◌∙◌, subst, append-nil}
+use Rattle.std.proofs.Common.{◌≡◌, ◌≢◌, ◌⊎◌, inl, inr, ℕ, List, [], ◌∷◌, Bool, true, false, Option, Some, None, Result, Ok, Err, IfOk, IfErr, IsTrue, refl, sym, ap, ◌∙◌, subst, append-nil}
 use Rattle.std.specs.Io.KnownBytes.{Appends, Keeps}
 use Rattle.cmwq_types.specs.Contents.{ActorContents, ScenarioContents}
 use Rattle.cmwq_types.specs.Scenario.{expand}
@@ -13,7 +13,7 @@ use Rattle.cmwq_streams.specs.Sending.{HasSentFront, IsSendError}
 use Rattle.cmwq_streams.proofs.CallerLemmas.{appends_none}
 use Rattle.cmwq_streams.specs.declared.error.PlayError.{PlayError}
 use Rattle.cmwq_streams.specs.declared.error.PlayError.TheVariants.{Write, NoMemory}
-use Rattle.cmwq_changes.specs.declared.error.ChangesError.TheVariants.{PastEnd, NothingSaid, Play}
+use Rattle.cmwq_changes.specs.declared.error.ChangesError.TheVariants.{PastEnd}
 use Rattle.cmwq_changes.specs.declared.looks.Looks.{Looks}
 use Rattle.cmwq_changes.specs.Changes.{changes_text}
 use Rattle.cmwq_changes.specs.Course.{Course, answer, as_unit, course_start, course_wholly, has_bytes, told_wholly}

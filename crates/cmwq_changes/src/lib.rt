@@ -2,6 +2,7 @@
 #![tactic(auto)]
 
 mod error;
+pub mod examples;
 mod looks;
 mod sayer;
 mod session;

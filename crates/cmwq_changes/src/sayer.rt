@@ -26,12 +26,7 @@ pub trait Sayer: Drop {
         ensures said { IfOk result (λ said. (s : State) → view.now ≡ view_of s → words said ≡ says self.now scenario.now s) };
 
     /// Whether no timer is due and no pool has a move in the state that the view shows. The only error is want of memory.
-    fn is_settled(
-        &self,
-        alloc: Global,
-        scenario: &Scenario,
-        view: &View,
-    ) -> Result<bool, NoMemory>
+    fn is_settled(&self, alloc: Global, scenario: &Scenario, view: &View) -> Result<bool, NoMemory>
         requires valid { IsValid scenario.now }
         ensures settled { IfOk result (λ settled. (s : State) → view.now ≡ view_of s → settled ≡ is_settled scenario.now s) };
 }

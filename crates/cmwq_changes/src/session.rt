@@ -67,7 +67,9 @@ impl<'w, M: Machine, P: Sayer, W: Sink> Session<'_, 'w, M, P, W> {
         if is_last || !wants_settled(request.looks) {
             return Ok(false);
         }
-        let settled = request.sayer.is_settled(request.alloc, request.scenario, view)?;
+        let settled = request
+            .sayer
+            .is_settled(request.alloc, request.scenario, view)?;
         Ok(!settled)
     }
 

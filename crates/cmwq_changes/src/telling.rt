@@ -97,7 +97,15 @@ fn load_and_tell<M: Machine, P: Sayer, W: Sink>(
 {
     let scenario = Arc::new(alloc, scenario)?;
     let machine = M::begin(alloc, Arc::clone(&scenario)?)?;
-    tell_actor(alloc, &scenario, &scenario.actors[0], looks, sayer, machine, writer)
+    tell_actor(
+        alloc,
+        &scenario,
+        &scenario.actors[0],
+        looks,
+        sayer,
+        machine,
+        writer,
+    )
 }
 
 /// Issues the actor's instructions on a machine at the scenario's start, writes what is told as it comes, a block at a time, and

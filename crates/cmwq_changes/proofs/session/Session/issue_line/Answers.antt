@@ -1,4 +1,4 @@
-use Rattle.std.proofs.Common.{◌≡◌, ◌+◌, ◌-◌, ◌≤◌, ◌<◌, List, [], ◌∷◌, ◌++◌, arith, ap, length, replicate, subst, sym, ◌∙◌}
+use Rattle.std.proofs.Common.{◌≡◌, ◌+◌, ◌-◌, List, [], ◌∷◌, ◌++◌, arith, ap, replicate, subst, sym, ◌∙◌}
 use Rattle.std.proofs.lemmas.List.{length-replicate}
 use Rattle.std.proofs.lemmas.Result.{err_from_is_err_and}
 use Rattle.cmwq_types.specs.declared.instr.Instr.{Instr}
@@ -19,7 +19,7 @@ issue-requires-clause-room g c =
     let x = c.args.line.instr in
     let there = ap (λ (to : Course). to.position) c.loop-turn.invariant.reached in
     let passed = course_from-position (g.P.Sayer.says a.request.sayer.now) a.request.looks a.request.scenario.now
-        (course g.M.Machine.loaded g.M.Machine.state g.P.Sayer.says g.W.Write.contents g.W.Sink.failed a) (replicate k x)
+    (course g.M.Machine.loaded g.M.Machine.state g.P.Sayer.says g.W.Write.contents g.W.Sink.failed a) (replicate k x)
     in
     omega (arith, there, passed, length-replicate k x, c.requires.room)
 

@@ -1,5 +1,4 @@
-use Rattle.std.proofs.Common.{◌≡◌, ◌+◌, ◌≤◌, List, ◌++◌, arith, ap, drop, length, replicate, subst, sym, take, ◌∙◌}
-use Rattle.std.proofs.lemmas.List.{length-replicate}
+use Rattle.std.proofs.Common.{◌≡◌, ◌+◌, List, ◌++◌, arith, ap, drop, replicate, subst, sym, take, ◌∙◌}
 use Rattle.std.proofs.lemmas.Result.{err_from_is_err_and}
 use Rattle.std.specs.Prelude.{slice_index_or}
 use Rattle.cmwq_types.specs.Scenario.{expand_lines}
@@ -23,7 +22,7 @@ issue_line-requires-clause-room g c =
     let before : List Instr = expand_lines (take i lines) in
     let there = ap (λ (to : Course). to.position) c.loop-line.invariant.reached in
     let passed = course_from-position (g.P.Sayer.says a.request.sayer.now) a.request.looks a.request.scenario.now
-        (course g.M.Machine.loaded g.M.Machine.state g.P.Sayer.says g.W.Write.contents g.W.Sink.failed a) before
+    (course g.M.Machine.loaded g.M.Machine.state g.P.Sayer.says g.W.Write.contents g.W.Sink.failed a) before
     in
     let within = expand_lines-within lines i no_line (omega arith) in
     omega (arith, there, passed, within, c.requires.room)
