@@ -1,0 +1,5 @@
+pub mod Changes
+pub mod Course
+pub mod Examples
+pub mod Session
+pub mod Telling
