@@ -26,6 +26,10 @@ one_work =
 abbrev pub its_run : List Instr
 its_run = instr.Queue (record { 0 = 0 }) 0 ∷ instr.Next ∷ instr.Next ∷ instr.Next ∷ instr.Next ∷ []
 
+-- the same as far as the tick, behind which the work is to finish
+abbrev pub up_to_its_tick : List Instr
+up_to_its_tick = instr.Queue (record { 0 = 0 }) 0 ∷ instr.Next ∷ instr.Next ∷ instr.Next ∷ []
+
 -- the time is said
 abbrev pub says_time : ScenarioContents → State → Option (List ℕ)
 says_time S s = Some (codes "time " ++ decimal s.time ++ 10 ∷ [])
