@@ -35,7 +35,10 @@ pub fn status(fault: PlayError) -> u8
         | PlayError::Image(_)
         | PlayError::Actors
         | PlayError::TooLong
-        | PlayError::NeverQuiet => 1,
+        | PlayError::NeverQuiet
+        | PlayError::NoSuchWork
+        | PlayError::NoSuchFlush
+        | PlayError::PastEnd => 1,
     }
 }
 
@@ -93,6 +96,9 @@ fn line_of(fault: PlayError) -> Line
         PlayError::TooLong => told("too long"),
         PlayError::NeverQuiet => told("never quiet"),
         PlayError::TooWide => told("more than 500 columns: give --from and --to"),
+        PlayError::NoSuchWork => told("no such work"),
+        PlayError::NoSuchFlush => told("no such flush"),
+        PlayError::PastEnd => told("past the end"),
         PlayError::Read => told("read"),
         PlayError::Write => told("write"),
         PlayError::NoMemory

@@ -21,6 +21,9 @@ IsBeforeWriting (errors.Image fault) = Unit {0}
 IsBeforeWriting errors.Actors = Unit {0}
 IsBeforeWriting errors.Full = Unit {0}
 IsBeforeWriting errors.TooWide = Unit {0}
+IsBeforeWriting errors.NoSuchWork = Unit {0}
+IsBeforeWriting errors.NoSuchFlush = Unit {0}
+IsBeforeWriting errors.PastEnd = Unit {0}
 IsBeforeWriting error = ⊥
 
 -- Of a reader's input so much is left now. A failed read is told as such, and nothing else is; at most one

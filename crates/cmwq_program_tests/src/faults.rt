@@ -29,7 +29,7 @@ const LONGEST: AsmError = AsmError::At {
     why: Why::MissingWord,
 };
 
-const TOLD: [Told; 20] = [
+const TOLD: [Told; 23] = [
     (
         PlayError::Asm(LONGEST),
         1,
@@ -67,6 +67,9 @@ const TOLD: [Told; 20] = [
         2,
         b"more than 500 columns: give --from and --to\n",
     ),
+    (PlayError::NoSuchWork, 1, b"no such work\n"),
+    (PlayError::NoSuchFlush, 1, b"no such flush\n"),
+    (PlayError::PastEnd, 1, b"past the end\n"),
     (PlayError::Read, 3, b"read\n"),
     (PlayError::Write, 3, b"write\n"),
     (PlayError::Full, 4, b"full\n"),

@@ -39,6 +39,15 @@ pub enum PlayError {
     /// A picture of the whole span would have more columns than are drawn unasked.
     #[error("more than 500 columns: give --from and --to")]
     TooWide,
+    /// No work of the scenario has the name that is asked for.
+    #[error("no such work")]
+    NoSuchWork,
+    /// The flush that is asked for isn't given at the position that is asked for, or at none.
+    #[error("no such flush")]
+    NoSuchFlush,
+    /// The run ends before the position that is asked for.
+    #[error("past the end")]
+    PastEnd,
     /// Memory ran out.
     #[error("no memory")]
     NoMemory,
