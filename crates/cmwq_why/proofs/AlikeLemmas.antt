@@ -5,7 +5,7 @@ use Rattle.std.specs.Prelude.{◌==◌, is_none, is_some}
 use Rattle.cmwq_types.specs.Contents.{ScenarioContents}
 use Rattle.cmwq_types.specs.First.{by_greatest, by_least, by_least_two, count_below, first_below, or_else}
 use Rattle.cmwq_types.specs.Places.{is_due, is_listed, is_runnable, is_slept}
-use Rattle.cmwq_types.specs.Scenario.{flags_at, is_high, is_unbound, queue_of}
+use Rattle.cmwq_types.specs.Scenario.{flags_at, is_high, is_unbound, pool_count, queue_of}
 use Rattle.cmwq_types.specs.declared.moves.Move.{Move}
 use Rattle.cmwq_types.specs.declared.moves.Move.TheVariants.{Advance, Rescue, Wake}
 use Rattle.cmwq_types.specs.declared.reply.Mode.{Mode}
@@ -13,13 +13,14 @@ use Rattle.cmwq_types.specs.declared.reply.Mode.TheVariants as mode
 use Rattle.cmwq_types.specs.declared.reply.Place.{Place}
 use Rattle.cmwq_types.specs.declared.reply.Place.TheVariants as place
 use Rattle.cmwq_table.specs.Counts.{first_due, first_listed, first_ready, first_rescued, first_runnable, first_slept, free_worker, idle_stamp, if_ready, is_rescuer, last_idle, limit, may_start, new_worker, pending_due, pending_stamp, pends, ready_head, running_stamp, running_until, runs}
-use Rattle.cmwq_table.specs.Moves.{as_move, next_move, start_first, start_move, start_or_rescue, take_listed}
+use Rattle.cmwq_table.specs.Moves.{as_move, first_moving, next_move, start_first, start_move, start_or_rescue, take_listed}
 use Rattle.cmwq_table.specs.State.{State, pending_at, running_at}
 use Rattle.cmwq_table.specs.declared.state.Pending.{Pending}
 use Rattle.cmwq_table.specs.declared.state.Running.{Running}
 use Rattle.cmwq_dump.specs.Alike.{LooksLike}
-use Rattle.cmwq_reasons.specs.Reasons.{burns_unless, fires_unless, mover, moved_by, next_or_after, other_instance, other_work, reason_by_move, reason_if_running, reason_in_mode, reason_in_place, reason_of_head, reason_of_pending, reason_of_runnable, running_half, work_above, work_before}
+use Rattle.cmwq_reasons.specs.Reasons.{burns_unless, fires_unless, mover, moved_by, next_or_after, other_instance, other_work, reason_by_move, reason_if_pending, reason_if_running, reason_in_mode, reason_in_place, reason_of, reason_of_head, reason_of_pending, reason_of_runnable, running_half, work_above, work_before}
 use Rattle.cmwq_reasons.specs.declared.reason.Instance.{Instance}
+use Rattle.cmwq_reasons.specs.declared.reason.Instance.TheVariants as instance
 use Rattle.cmwq_reasons.specs.declared.reason.Reason.{Reason}
 use Rattle.cmwq_reasons.specs.declared.reason.Reason.TheVariants as reason
 
@@ -55,7 +56,7 @@ module _ (S : ScenarioContents) (s t : State) (h : LooksLike s t) where
       ∙ ap (λ (time : ℕ). first_below (by_least_two (λ w. running_until (running_at t w)) (λ w. running_stamp (running_at t w)))
       (λ w. runs (λ r. (r.pool == pool) && is_slept r.mode time) (running_at t w)) (length S.works)) h.time
 
-  due-alike : first_due S s ≡ first_due S t
+  pub due-alike : first_due S s ≡ first_due S t
   due-alike =
       ap (λ (at : ℕ → Option Pending). first_below (by_least_two (λ w. pending_due (at w)) (λ w. pending_stamp (at w)))
       (λ w. pends (λ place. is_due place s.time) (at w)) (length S.works)) pending
@@ -165,3 +166,20 @@ module _ (S : ScenarioContents) (s t : State) (h : LooksLike s t) where
 
   pub pending_reason-alike : (w : ℕ) → reason_of_pending S s w (pending_at s w) ≡ reason_of_pending S t w (pending_at t w)
   pending_reason-alike w = ap (λ (p : Option Pending). reason_of_pending S s w p) (h.pending w) ∙ of_pending-alike w (pending_at t w)
+
+  if_pending-alike : (w : ℕ) (p : Option Pending) → reason_if_pending S s w p ≡ reason_if_pending S t w p
+  if_pending-alike w (Some p) = ap (λ (reason : Reason). Some reason) (in_place-alike w p.place)
+  if_pending-alike w None = refl
+
+  pub reason_of-alike : (x : Instance) → reason_of S s x ≡ reason_of S t x
+  reason_of-alike (instance.Pending w) = ap (λ (p : Option Pending). reason_if_pending S s w.0 p) (h.pending w.0) ∙ if_pending-alike w.0 (pending_at t w.0)
+  reason_of-alike (instance.Running w) = running_reason-alike w.0
+
+  -- Whether something moves.
+
+  pub moving-alike : first_moving S s ≡ first_moving S t
+  moving-alike = ap (λ (move : ℕ → Option Move). first_below (by_least (λ pool. pool)) (λ pool. is_some (move pool)) (pool_count S)) (fun_ext next-alike)
+
+  pub settled-alike : (is_none (first_due S s) && is_none (first_moving S s)) ≡ (is_none (first_due S t) && is_none (first_moving S t))
+  settled-alike =
+      ap (λ (due : Option ℕ). is_none due && is_none (first_moving S s)) due-alike ∙ ap (λ (moving : Option ℕ). is_none (first_due S t) && is_none moving) moving-alike

@@ -15,12 +15,12 @@ use Rattle.cmwq_table.specs.declared.state.Pending.{Pending}
 use Rattle.cmwq_table.specs.declared.state.Running.{Running}
 use Rattle.cmwq_dump.specs.Alike.{LooksLike}
 use Rattle.cmwq_dump.specs.Order.{all_below}
-use Rattle.cmwq_reasons.specs.Reasons.{ahead, counted_works, holders, pending_half, pending_holders, reason_if_running, reason_of_pending, running_half, running_holders, work_of, works_on_workers}
+use Rattle.cmwq_reasons.specs.Reasons.{ahead, causes, counted_works, holders, pending_half, pending_holders, reason_if_running, reason_of_pending, running_half, running_holders, work_of, works_on_workers}
 use Rattle.cmwq_reasons.specs.declared.reason.Instance.{Instance}
 use Rattle.cmwq_reasons.specs.declared.reason.Instance.TheVariants as instance
 use Rattle.cmwq_reasons.specs.declared.reason.Reason.{Reason}
 use Rattle.cmwq_reasons.specs.declared.reason.Reason.TheVariants as reason
-use Rattle.cmwq_why.specs.Text.{ahead_text, beside_run, both_halves, inactive_text, item, items, listed_text, name_of, pending_text, place_text, queue_name, reason_text, room_text, run_text, spaced_name, spent_text, turn_text, why_text, worker_words}
+use Rattle.cmwq_why.specs.Text.{ahead_text, beside_run, both_halves, inactive_text, item, items, listed_text, name_of, pending_text, place_text, queue_name, reason_text, room_text, run_text, spaced_name, spent_text, turn_text, why_text, work_line, worker_words}
 use Rattle.cmwq_why.proofs.AlikeLemmas.{limit-alike, pending, pending_reason-alike, running, running_reason-alike}
 
 both : {A : Type 0} (join : A → A → A) (a b c d : A) → a ≡ b → c ≡ d → join a c ≡ join b d
@@ -108,7 +108,7 @@ module _ (S : ScenarioContents) (s t : State) (h : LooksLike s t) where
   worker_words-alike : worker_words s ≡ worker_words t
   worker_words-alike = ap (λ (pressed : Bool). cond pressed (codes "no free worker under pressure") (codes "no free worker")) h.pressed
 
-  reason_text-alike : (w : ℕ) (why : Reason) → reason_text S s w why ≡ reason_text S t w why
+  pub reason_text-alike : (w : ℕ) (why : Reason) → reason_text S s w why ≡ reason_text S t w why
   reason_text-alike w (reason.Frozen pool) = ap (λ (text : List ℕ). text ++ codes " is frozen") (inactive_text-alike w pool)
   reason_text-alike w (reason.Inactive pool) =
       both (λ (xs ys : List ℕ). xs ++ ys) (inactive_text S s w pool) (inactive_text S t w pool) (room_text S s (queue_of S w) pool) (room_text S t (queue_of S w) pool)
@@ -162,3 +162,30 @@ module _ (S : ScenarioContents) (s t : State) (h : LooksLike s t) where
       let halves = λ (u : State). both_halves S u w (reason_if_running S u w (running_at u w)) in
       both (λ (xs ys : List ℕ). xs ++ ys) (halves s) (halves t) (spent_text S s) (spent_text S t)
       (both-alike w (reason_if_running S s w (running_at s w)) ∙ ap (λ (why : Option Reason). both_halves S t w why) (running_reason-alike S s t h w)) spent-alike
+
+  pub line-alike : (w : ℕ) → work_line S s w ≡ work_line S t w
+  line-alike w = ap (λ (why : List ℕ). name_of S w ++ codes " " ++ why ++ codes "\n") (why-alike w)
+
+  -- Who is blamed.
+
+  pub causes-alike : (w : ℕ) (why : Reason) → causes S s w why ≡ causes S t w why
+  causes-alike w (reason.Inactive pool) = holders-alike (queue_of S w) pool
+  causes-alike w (reason.Held pool) = ap (λ (works : List ℕ). map running_half works) (counted-alike pool)
+  causes-alike w (reason.NoWorker pool) = ap (λ (works : List ℕ). map running_half works) (workers-alike (queue_of S w) pool)
+  causes-alike w (reason.WakesAfter x) = refl
+  causes-alike w (reason.Behind v) = refl
+  causes-alike w (reason.ReadyAfter x) = refl
+  causes-alike w (reason.HighHas v) = refl
+  causes-alike w (reason.Deferred pool) = refl
+  causes-alike w (reason.After pool x) = refl
+  causes-alike w (reason.Asleep until) = refl
+  causes-alike w reason.WakesNext = refl
+  causes-alike w reason.ReadyNext = refl
+  causes-alike w reason.Burns = refl
+  causes-alike w (reason.Disabled depth) = refl
+  causes-alike w reason.NotPending = refl
+  causes-alike w (reason.Timer due cpu) = refl
+  causes-alike w reason.FiresNext = refl
+  causes-alike w (reason.FiresAfter v) = refl
+  causes-alike w (reason.Frozen pool) = refl
+  causes-alike w (reason.Free pool turn) = refl

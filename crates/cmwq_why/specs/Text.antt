@@ -160,3 +160,7 @@ spent_text S s = if nat_lt s.spent S.steps then [] else codes "; spent"
 -- why the work isn't further in the state
 abbrev pub why_text : ScenarioContents → State → ℕ → List ℕ
 why_text S s w = both_halves S s w (reason_if_running S s w (running_at s w)) ++ spent_text S s
+
+-- a line: the work's name, and why it isn't further
+abbrev pub work_line : ScenarioContents → State → ℕ → List ℕ
+work_line S s w = name_of S w ++ codes " " ++ why_text S s w ++ codes "\n"

@@ -1,15 +1,49 @@
 //! Whom a reason names.
-ghost use Rattle.cmwq_reasons.specs.Reasons.{ahead, counted_works, holders, pending_half, running_half, works_on_workers};
+ghost use Rattle.cmwq_reasons.specs.Reasons.{ahead, causes, counted_works, holders, pending_half, running_half, works_on_workers};
 ghost use Rattle.cmwq_types.specs.declared.reply.Place.TheVariants as place;
-ghost use Rattle.std.specs.Prelude.{◌≡◌, ◌++◌, IfOk, OnOk, map};
+ghost use Rattle.std.specs.Prelude.{◌≡◌, ◌++◌, [], ◌∷◌, IfOk, OnOk, map};
 
 use crate::group::Group;
 use crate::snapshot::Snapshot;
-use cmwq_reasons::Instance;
+use cmwq_reasons::{Instance, Reason};
 use cmwq_types::{NoMemory, WorkId};
 use std::alloc::Global;
 
 impl Snapshot<'_> {
+    /// The instances that the reason blames, which is one of the work's, in the order in which it names them. The only error is
+    /// want of memory.
+    pub fn causes(
+        &self,
+        alloc: Global,
+        work: WorkId,
+        reason: Reason,
+    ) -> Result<Vec<Instance>, NoMemory>
+        ensures { IfOk result (λ instances. instances.items ≡ causes self.now.scenario self.now.state work.0 reason) }
+    {
+        let queue = self.scenario().queue_of(work.0 as usize);
+        match reason {
+            Reason::WakesAfter(first)
+            | Reason::ReadyAfter(first)
+            | Reason::After { pool: _, first } => one(alloc, first),
+            Reason::Behind(v) | Reason::HighHas(v) => one(alloc, Instance::Running(v)),
+            Reason::Deferred(_) => one(alloc, Instance::Running(work)),
+            Reason::Inactive(pool) => self.holders(alloc, queue, pool),
+            Reason::Held(pool) => self.level(alloc, pool),
+            Reason::NoWorker(pool) => self.on_workers(alloc, queue, pool),
+            _ => Ok(Vec::new(alloc)),
+        }
+    }
+
+    /// What runs of the works that make up the concurrency level of a bound pool.
+    fn level(&self, alloc: Global, pool: u8) -> Result<Vec<Instance>, NoMemory>
+        ensures { IfOk result (λ instances. instances.items ≡ map running_half (counted_works self.now.scenario self.now.state pool)) }
+    {
+        let counted = self.counted_works(alloc, pool)?;
+        let mut running = Vec::new(alloc);
+        push_running(&mut running, &counted)?;
+        Ok(running)
+    }
+
     /// The works that stand before this one on the pool's worklist.
     pub(crate) fn listed_before(
         &self,
@@ -77,6 +111,15 @@ impl Snapshot<'_> {
         push_running(&mut running, &rescued)?;
         Ok(running)
     }
+}
+
+/// This instance alone.
+fn one(alloc: Global, instance: Instance) -> Result<Vec<Instance>, NoMemory>
+    ensures { IfOk result (λ instances. instances.items ≡ instance ∷ []) }
+{
+    let mut instances = Vec::new(alloc);
+    instances.push(instance)?;
+    Ok(instances)
 }
 
 /// Pushes what runs of each of the works.

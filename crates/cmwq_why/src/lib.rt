@@ -7,6 +7,7 @@ mod flushes;
 mod going_first;
 mod group;
 mod items;
+pub mod laws;
 mod moves;
 mod names;
 mod pending;
@@ -16,8 +17,7 @@ mod snapshot;
 mod sought;
 mod tally;
 mod text;
-mod waiting;
 mod workers;
 
-pub use reasons::{pending_reason, push_why, running_reason};
-pub use waiting::{lacks_memory, lacks_thaw, waits};
+pub use reasons::{is_settled, work_text};
+pub use snapshot::Snapshot;

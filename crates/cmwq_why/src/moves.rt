@@ -1,14 +1,33 @@
 //! The next move of a worker pool.
 ghost use Rattle.cmwq_table.specs.Counts.{first_due, first_listed, first_runnable, free_worker, if_ready, ready_head};
-ghost use Rattle.cmwq_table.specs.Moves.{next_move, start_first, start_move};
+ghost use Rattle.cmwq_table.specs.Moves.{first_moving, next_move, start_first, start_move};
 ghost use Rattle.cmwq_types.specs.declared.limits.TheConstants.{MAX_WORKS};
-ghost use Rattle.std.specs.Prelude.{◌≡◌, ◌<◌, IfSome};
+ghost use Rattle.std.specs.Prelude.{◌≡◌, ◌&&◌, ◌<◌, IfSome, is_none};
 
 use crate::snapshot::Snapshot;
 use crate::sought::Sought;
 use cmwq_types::{Move, WorkId};
 
 impl Snapshot<'_> {
+    /// Whether no timer is due and no pool has a move.
+    pub(crate) fn is_settled(&self) -> bool
+        ensures { result ≡ (is_none (first_due self.now.scenario self.now.state) && is_none (first_moving self.now.scenario self.now.state)) }
+    {
+        self.first_due().is_none() && self.has_no_move()
+    }
+
+    /// Whether no pool has a move.
+    fn has_no_move(&self) -> bool
+        ensures { result ≡ is_none (first_moving self.now.scenario self.now.state) }
+    {
+        for pool in 0..self.scenario().pool_count() {
+            if self.next_move(pool).is_some() {
+                return false;
+            }
+        }
+        true
+    }
+
     /// The next move of the pool: advance, else wake, else start.
     pub(crate) fn next_move(&self, pool: u8) -> Option<Move>
         ensures { result ≡ next_move self.now.scenario self.now.state pool }

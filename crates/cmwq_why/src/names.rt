@@ -8,7 +8,7 @@ use cmwq_reasons::Instance;
 
 impl Snapshot<'_> {
     /// The name of a work, or no text where no work has the number.
-    pub(crate) fn name(&self, w: u16) -> &str
+    pub fn name(&self, w: u16) -> &str
         ensures { result.now ≡ name_of self.now.scenario w }
     {
         let scenario = self.scenario();

@@ -10,8 +10,8 @@ use cmwq_reasons::{Instance, Reason, Turn};
 use cmwq_types::{Move, Place, WorkId};
 
 impl Snapshot<'_> {
-    /// Why what is queued of the work isn't further, or why nothing is queued of it.
-    pub(crate) fn pending_reason(&self, w: WorkId) -> Reason
+    /// Why what is queued of the work isn't further, or why nothing is queued of it. The reasons are this project's own.
+    pub fn pending_reason(&self, w: WorkId) -> Reason
         ensures { result ≡ reason_of_pending self.now.scenario self.now.state w.0 (pending_at self.now.state w.0) }
     {
         match self.pending_of(w.0 as usize) {

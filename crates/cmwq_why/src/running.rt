@@ -1,5 +1,5 @@
 //! Why a work that runs isn't further.
-ghost use Rattle.cmwq_reasons.specs.Reasons.{burns_unless, reason_if_running, reason_of_head, reason_of_running};
+ghost use Rattle.cmwq_reasons.specs.Reasons.{burns_unless, reason_if_running, reason_of, reason_of_head, reason_of_running};
 ghost use Rattle.cmwq_table.specs.State.{running_at};
 ghost use Rattle.cmwq_types.specs.declared.limits.TheConstants.{MAX_WORKS};
 ghost use Rattle.std.specs.Prelude.{◌≡◌, ◌<◌, IfSome};
@@ -10,8 +10,21 @@ use cmwq_table::Running;
 use cmwq_types::{Mode, WorkId};
 
 impl Snapshot<'_> {
-    /// Why what runs of the work isn't further, if it runs.
-    pub(crate) fn running_reason(&self, w: WorkId) -> Option<Reason>
+    /// Why the instance isn't further, if there is such an instance. The reasons are this project's own.
+    pub fn reason(&self, instance: Instance) -> Option<Reason>
+        ensures { result ≡ reason_of self.now.scenario self.now.state instance }
+    {
+        match instance {
+            Instance::Pending(w) => {
+                self.pending_of(w.0 as usize)?;
+                Some(self.pending_reason(w))
+            }
+            Instance::Running(w) => self.running_reason(w),
+        }
+    }
+
+    /// Why what runs of the work isn't further, if it runs. The reasons are this project's own.
+    pub fn running_reason(&self, w: WorkId) -> Option<Reason>
         ensures { result ≡ reason_if_running self.now.scenario self.now.state w.0 (running_at self.now.state w.0) }
     {
         let r = self.running_of(w.0 as usize)?;

@@ -1,17 +1,19 @@
 //! The state that a view shows, read by number.
 ghost use Rattle.cmwq_types.specs.Setting.{IsSetting};
 ghost use Rattle.cmwq_types.specs.Faults.{IsValid};
-ghost use Rattle.std.specs.Prelude.{◌≡◌, IfOk};
+ghost use Rattle.std.specs.Prelude.{◌≡◌, IfOk, nat_lt, not, slice_get};
 
 use crate::entries::{idle_map, work_map};
-use cmwq_table::{Pending, Running, View};
+use cmwq_table::{FlushTarget, Pending, Running, View};
 use cmwq_types::{MAX_WORKERS, NoMemory, Scenario};
 use std::alloc::Global;
 use std::marker::Model;
 
 /// A scenario and the state that a view shows: what stands at a number is read there at once.
+///
+/// In the contracts it is a scenario and a state that looks like the one that the view shows; so it has the same reasons.
 #[derive(Drop)]
-pub(crate) struct Snapshot<'a> {
+pub struct Snapshot<'a> {
     scenario: &'a Scenario,
     view: &'a View,
     pending: Vec<Option<Pending>>,
@@ -51,9 +53,9 @@ impl<'a> Snapshot<'a> {
     ghost use Rattle.cmwq_table.specs.State.{State, depth_at, idle_at, made_at, max_at, pending_at, running_at};
     ghost use Rattle.cmwq_table.specs.View.{view_of};
 
-    /// The state that the view shows.
+    /// The state that the view shows. The only error is want of memory.
     #[tactic(auto, using(cmwq_dump::proofs::PictureLemmas::setting))]
-    pub(crate) fn new(
+    pub fn new(
         alloc: Global,
         scenario: &'a Scenario,
         view: &'a View,
@@ -74,7 +76,8 @@ impl<'a> Snapshot<'a> {
         })
     }
 
-    pub(crate) fn scenario(&self) -> &Scenario
+    /// The scenario.
+    pub fn scenario(&self) -> &Scenario
         ensures scenario { result.now ≡ self.now.scenario }
         ensures setting { IsSetting result.now }
     {
@@ -88,11 +91,26 @@ impl<'a> Snapshot<'a> {
         view.time
     }
 
-    pub(crate) fn spent(&self) -> u32
+    /// Whether the scenario's steps are spent, so that nothing moves any more.
+    pub fn is_spent(&self) -> bool
+        ensures { result ≡ not (nat_lt self.now.state.spent self.now.scenario.steps) }
+    {
+        self.spent() >= self.scenario().steps
+    }
+
+    fn spent(&self) -> u32
         ensures { result ≡ self.now.state.spent }
     {
         let view = self.view;
         view.spent
+    }
+
+    /// What the flush of this number waits for; `None` where no such flush was given.
+    pub fn flush(&self, number: usize) -> Option<FlushTarget>
+        ensures { result ≡ slice_get self.now.state.flushes number }
+    {
+        let view = self.view;
+        view.flushes.get(number).copied()
     }
 
     pub(crate) fn is_frozen(&self) -> bool

@@ -1,9 +1,9 @@
 //! Why a work isn't further, as text.
 ghost use Rattle.cmwq_reasons.specs.Reasons.{counted_works, running_half, work_of, works_on_workers};
-ghost use Rattle.cmwq_why.specs.Text.{beside_run, inactive_text, listed_text, name_of, items, pending_text, plain_text, reason_text, room_text, spaced_name, spent_text, timer_text, turn_text, why_text, worker_words};
+ghost use Rattle.cmwq_why.specs.Text.{beside_run, inactive_text, listed_text, name_of, items, pending_text, plain_text, reason_text, room_text, spaced_name, spent_text, timer_text, turn_text, why_text, work_line, worker_words};
 ghost use Rattle.cmwq_types.specs.Scenario.{queue_of};
 ghost use Rattle.std.specs.List.{flat_map};
-ghost use Rattle.std.specs.Prelude.{◌≡◌, ◌++◌, OnOk, codes, map, string_bytes};
+ghost use Rattle.std.specs.Prelude.{◌≡◌, ◌++◌, IfOk, OnOk, codes, map, string_bytes};
 
 use crate::snapshot::Snapshot;
 use cmwq_reasons::{Instance, Reason, Turn};
@@ -11,13 +11,19 @@ use cmwq_types::{NoMemory, WorkId};
 use std::alloc::Global;
 
 impl Snapshot<'_> {
+    /// The work's name, and why it isn't further, as a line.
+    pub(crate) fn work_line(&self, alloc: Global, w: WorkId) -> Result<String, NoMemory>
+        ensures { IfOk result (λ text. string_bytes text ≡ work_line self.now.scenario self.now.state w.0) }
+    {
+        let mut text = String::from_str(alloc, self.name(w.0))?;
+        text.push_str(" ")?;
+        self.push_why(alloc, &mut text, w)?;
+        text.push_str("\n")?;
+        Ok(text)
+    }
+
     /// Writes why the work isn't further: what runs of it and what pends of it, and whether the scenario's steps are spent.
-    pub(crate) fn push_why(
-        &self,
-        alloc: Global,
-        text: &mut String,
-        w: WorkId,
-    ) -> Result<(), NoMemory>
+    fn push_why(&self, alloc: Global, text: &mut String, w: WorkId) -> Result<(), NoMemory>
         ensures { OnOk result (string_bytes text.new ≡ string_bytes text.old ++ why_text self.now.scenario self.now.state w.0) }
     {
         match self.running_reason(w) {
@@ -50,14 +56,15 @@ impl Snapshot<'_> {
     fn push_spent(&self, text: &mut String) -> Result<(), NoMemory>
         ensures { OnOk result (string_bytes text.new ≡ string_bytes text.old ++ spent_text self.now.scenario self.now.state) }
     {
-        if self.spent() >= self.scenario().steps {
+        if self.is_spent() {
             text.push_str("; spent")?;
         }
         Ok(())
     }
 
-    /// Writes the reason, which is one of the work's.
-    fn push_reason(
+    /// Appends the text of the reason, which is one of the work's. The only error is want of memory; then a part of it may be
+    /// appended.
+    pub fn push_reason(
         &self,
         alloc: Global,
         text: &mut String,
