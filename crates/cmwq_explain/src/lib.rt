@@ -1,0 +1,9 @@
+//! Why a work isn't further, and what a flush waits for, told along a run.
+#![tactic(auto)]
+
+mod asking;
+mod command;
+
+pub use asking::Question;
+pub use cmwq_changes::Looks;
+pub use command::why;
