@@ -1,5 +1,5 @@
 -- A question is answered, or there is one reason why it isn't: so the command's answers follow from those of its text.
-use Rattle.std.proofs.Common.{◌≡◌, ◌≢◌, ◌⊎◌, inl, inr, ℕ, List, [], ◌∷◌, Bool, true, false, Option, Some, IfSome, Result, Ok, Err, IfErr, OnOk, refl, ap, ◌∙◌, sym, subst}
+use Rattle.std.proofs.Common.{◌≡◌, ◌≢◌, ◌⊎◌, inl, inr, ℕ, List, [], ◌∷◌, Bool, true, false, Option, Some, IfSome, Result, Ok, Err, IfErr, IsTrue, OnOk, refl, ap, ◌∙◌, sym, subst}
 use Rattle.std.specs.Io.KnownBytes.{Keeps}
 use Rattle.cmwq_types.specs.Contents.{ActorContents, ScenarioContents}
 use Rattle.cmwq_types.specs.Scenario.{expand}
@@ -19,6 +19,9 @@ use Rattle.cmwq_streams.specs.declared.error.PlayError.{PlayError}
 use Rattle.cmwq_streams.specs.declared.error.PlayError.TheVariants as errors
 use Rattle.cmwq_explain.specs.declared.asking.Question.{Question}
 use Rattle.cmwq_explain.specs.Explained.{Explains, IsAnswer, IsAsked, IsUnanswered, IsUnknown, said_to, told_along, told_as}
+
+pub not_unknown : (question : Question) (S : ScenarioContents) (b : Bool) → (IsUnknown question S → IsTrue b) → b ≡ false → IsUnknown question S → ⊥
+not_unknown question S b tells is unknown = let wrong = sym is ∙ tells unknown in cc
 
 module _ (question : Question) (looks : Looks) (S : ScenarioContents) where
   -- The reasons, each with what it says.
@@ -101,7 +104,7 @@ module _ (question : Question) (looks : Looks) (S : ScenarioContents) where
   }
 
   module _ (actor : ActorContents) (runs : IsRunOf S actor) (known : IsUnknown question S → ⊥) where
-    Told : Option (List ℕ) → Option (List ℕ) → Bool → Result (Unit {0}) ChangesError → Type 0
+    abbrev pub Told : Option (List ℕ) → Option (List ℕ) → Bool → Result (Unit {0}) ChangesError → Type 0
     Told before after failed result = TellsText (told_along question looks S actor) (IsPastEnd looks (expand actor)) before after failed result
 
     early : (before after : Option (List ℕ)) (failed : Bool) (why : ChangesError) (error : PlayError) → Told before after failed (Err why) → why ≢ changes.Play errors.Write → error ≢ errors.Write
@@ -149,7 +152,7 @@ module _ (question : Question) (looks : Looks) (S : ScenarioContents) where
 
   -- The command.
 
-  pub reads-nothing : {A : Type 0} (r : Result (Unit {0}) PlayError) → IfErr r (λ error. IsUnanswered question looks S error ⊎ IsSendError error) → r ≢ Err errors.Read
+  pub reads-nothing : (r : Result (Unit {0}) PlayError) → IfErr r (λ error. IsUnanswered question looks S error ⊎ IsSendError error) → r ≢ Err errors.Read
   reads-nothing (Ok done) why is = cc
   reads-nothing (Err error) (inl told) is = no_read (subst (λ (e : PlayError). IsUnanswered question looks S e) (let same : error ≡ errors.Read = cc in same) told)
   reads-nothing (Err error) (inr sent) is = let same : error ≡ errors.Read = cc in subst (λ (e : PlayError). IsSendError e) same sent

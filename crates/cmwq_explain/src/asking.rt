@@ -22,7 +22,7 @@ pub enum Question<'a> {
 impl Question<'_> {
     /// Whether it is after a work that isn't declared.
     pub(crate) fn is_unknown(self, scenario: &Scenario) -> bool
-        ensures { IsTrue result ↔ IsUnknown self scenario.now }
+        ensures { IsTrue result ↔ IsUnknown self.entry scenario.now }
     {
         match self {
             Question::Work(name) => work_named(scenario, name).is_none(),

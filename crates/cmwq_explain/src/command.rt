@@ -34,8 +34,8 @@ pub fn why<R: Source, W: Sink>(
     requires reader { R.failed reader.old ≡ false }
     requires writer { W.failed writer.old ≡ false }
     ensures reads { Reads (R.remaining reader.old) (R.remaining reader.new) (R.failed reader.new) result }
-    ensures answers { Answers (ComesTo (IsAnswer question looks)) (IsFaultOf (IsUnanswered question looks)) (R.remaining reader.old) result }
-    ensures writes { Writes (ComesTo (AreChanges (said_to question) looks) (R.remaining reader.old)) (W.contents writer.old) (W.contents writer.new) (W.failed writer.new) result }
+    ensures answers { Answers (ComesTo (IsAnswer question.entry looks)) (IsFaultOf (IsUnanswered question.entry looks)) (R.remaining reader.old) result }
+    ensures writes { Writes (ComesTo (AreChanges (said_to question.entry) looks) (R.remaining reader.old)) (W.contents writer.old) (W.contents writer.new) (W.failed writer.new) result }
 {
     let scenario = read_text(alloc, reader)?;
     explain::<Plain, W>(alloc, question, looks, scenario, writer)
@@ -51,7 +51,7 @@ fn explain<M: Machine, W: Sink>(
 ) -> Result<(), PlayError>
     requires valid { IsValid scenario }
     requires sound { W.failed writer.old ≡ false }
-    ensures { Explains question looks scenario (W.contents writer.old) (W.contents writer.new) (W.failed writer.new) result }
+    ensures { Explains question.entry looks scenario (W.contents writer.old) (W.contents writer.new) (W.failed writer.new) result }
 {
     judge(&scenario)?;
     if question.is_unknown(&scenario) {
