@@ -1,2 +1,3 @@
 mod DrawLemmas
 mod RequestLemmas
+mod WhyLemmas

@@ -3,11 +3,13 @@
 ghost use Rattle.clap.specs.Words.{Text, all_of, app_of, fault_of, first_of, found_of, kind_of, rows_of, subcommand_rows_of};
 ghost use Rattle.cmwq_command_line.specs.CommandLine.{command_line};
 ghost use Rattle.cmwq_words.specs.declared.request.RunKind.TheVariants.{Settled, Told};
-ghost use Rattle.cmwq_words.specs.Request.{Asks, AsksVersion, HasCapacity, IsCapacity, IsPlainWord, IsRead, IsRequestOf, IsVersionWord, IsWithin, all_values, asked_in, asked_of, draw_arguments, file_and_capacity, file_to_run, from_on, kind_of_run, one_value, run_arguments, two_values, up_to, value_if_any, whole, words_of};
+ghost use Rattle.cmwq_words.specs.Request.{Asks, AsksVersion, HasCapacity, IsCapacity, IsPlainWord, IsRead, IsRequestOf, IsVersionWord, IsWithin, HasShortNumber, IsShortNumber, all_values, asked_in, asked_of, draw_arguments, file_and_capacity, file_to_run, flush_arguments, from_on, kind_of_run, one_value, run_arguments, two_values, up_to, value_if_any, whole, words_of, work_arguments};
+ghost use Rattle.cmwq_words.specs.declared.asking.Positions.{Positions};
 ghost use Rattle.std.specs.Fmt.{decimal};
 ghost use Rattle.std.specs.Str.{bytes_eq};
 ghost use Rattle.std.specs.Prelude.{◌≡◌, ◌↔◌, ◌<◌, ◌^◌, Bool, IsTrue, ℕ, List, [], ◌∷◌, IfOk, IfSome, Some, codes, false, map, option_map, string_bytes, true};
 
+use crate::asking::{Positions, Subject, wanted_by_why, why_request};
 use crate::drawing::{DrawOptions, draw_request, flag_of};
 use clap::error::ErrorKind;
 use clap::{ArgMatches, Command, Error};
@@ -75,6 +77,15 @@ pub enum Request<'a> {
         /// What the picture shows, and how.
         options: DrawOptions,
     },
+    /// Tell why a work of the scenario whose text is in this file doesn't get on, or what a flush waits for.
+    Why {
+        /// The text's path.
+        file: &'a str,
+        /// The work or flush.
+        subject: Subject<'a>,
+        /// At which positions it is looked.
+        positions: Positions,
+    },
     /// Carry out all actors of the scenario whose text is in this file at once.
     Play {
         /// The text's path.
@@ -94,7 +105,7 @@ pub enum Request<'a> {
 /// Reads the words, of which the first is the program's name. The error is a usage fault, help that
 /// was asked for, or want of memory; it holds the text for the user. The version is a request.
 ///
-/// Each command's words ask for it, where no FILE, OUT or IMAGE is empty or begins with a hyphen;
+/// Each command's words ask for it, where no FILE, OUT, IMAGE or WORK is empty or begins with a hyphen;
 /// the call then fails only for want of memory.
 pub fn parse<'a>(alloc: Global, words: &'a [String]) -> Result<Request<'a>, Error>
     ensures new { (name : Text) → map string_bytes words.entry.now ≡ name ∷ codes "new" ∷ []
@@ -115,6 +126,10 @@ pub fn parse<'a>(alloc: Global, words: &'a [String]) -> Result<Request<'a>, Erro
         → IsPlainWord file → time < 2 ^ 64 → Asks (codes "draw" ∷ draw_arguments (from_on time) file) result }
     ensures draw_to { (name file : Text) (time : ℕ) → map string_bytes words.entry.now ≡ name ∷ codes "draw" ∷ draw_arguments (up_to time) file
         → IsPlainWord file → time < 2 ^ 64 → Asks (codes "draw" ∷ draw_arguments (up_to time) file) result }
+    ensures why_work { (name file work : Text) (positions : Positions) → map string_bytes words.entry.now ≡ name ∷ codes "why" ∷ work_arguments positions file work
+        → IsPlainWord file → IsPlainWord work → HasShortNumber positions → Asks (codes "why" ∷ work_arguments positions file work) result }
+    ensures why_flush { (name file : Text) (flush : ℕ) (positions : Positions) → map string_bytes words.entry.now ≡ name ∷ codes "why" ∷ flush_arguments positions flush file
+        → IsPlainWord file → IsShortNumber flush → HasShortNumber positions → Asks (codes "why" ∷ flush_arguments positions flush file) result }
     ensures list { (name file : Text) → map string_bytes words.entry.now ≡ name ∷ codes "list" ∷ file ∷ []
         → IsPlainWord file → Asks (codes "list" ∷ file ∷ []) result }
     ensures asm { (name file out : Text) → map string_bytes words.entry.now ≡ name ∷ codes "asm" ∷ file ∷ out ∷ []
@@ -166,6 +181,7 @@ fn wanted_words(matches: &ArgMatches<'_>) -> &'static str {
             "--settle and --tell don't go together: `cmwq settle` writes the text to run with --tell"
         }
         Some(("draw", _)) => "--from and --to take a time in ticks",
+        Some(("why", given)) => wanted_by_why(given),
         _ => "--capacity takes a number from 1 to 4096",
     }
 }
@@ -246,6 +262,7 @@ fn request_on_file<'a>(name: &str, given: &ArgMatches<'a>) -> Option<Request<'a>
         "show" => show_request(given),
         "debug" => debug_request(given),
         "draw" => draw_request(given),
+        "why" => why_request(given),
         "play" => play_request(given),
         _ => None,
     }
