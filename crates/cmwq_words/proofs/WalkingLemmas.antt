@@ -1,11 +1,11 @@
--- How clap goes over the words behind a command's name: an equation a word, since what all words come to at once takes too long to
--- compute where several of them aren't known.
+-- How clap goes over the words behind a command's name, an equation a word: what several words that aren't known come to takes too
+-- long to compute at once.
 use Rattle.std.proofs.Common.{ap, ap₂, sym, subst, ◌≡◌, ◌∙◌, ◌==◌, ◌&&◌, ◌||◌, ℕ, Bool, List, [], ◌∷◌, ◌++◌, true, false, Option, None, Some, codes, fold, refl}
 use Rattle.std.specs.Prelude.{find, is_some, unwrap_or}
 use Rattle.std.specs.List.{list_all}
 use Rattle.clap.specs.Walk.{Held, Names, Rule, Step, Text, Waiting, Walk, after_step, answers_to, finished, nothing_held, plain_word, walk, walk_from, walked, walked_from, word_met}
 use Rattle.clap.specs.Walk.Waiting.{idle, option, positional}
-use Rattle.clap.specs.Simple.{App, Shape, built, entered, is_simple, label_of, names_of, new_shape, subcommand_of}
+use Rattle.clap.specs.Simple.{Shape, built, entered, is_simple, label_of, names_of, new_shape, subcommand_of}
 use Rattle.clap.specs.Takes.{default_passes, entered_passes, is_valid, level_passes, settle_passes, step_passes, takes, turn_passes, walk_passes, word_passes}
 use Rattle.clap.proofs.OnLiterals.{clap_on_literals}
 use Rattle.clap.proofs.WalkLemmas.{walk_stopped}
@@ -13,48 +13,56 @@ use Rattle.cmwq_command_line.specs.CommandLine.{command_line}
 
 -- One word.
 
--- the walk after a word that is no option
+abbrev pub begins_with_hyphen : Text → Bool
+begins_with_hyphen [] = false
+begins_with_hyphen (first ∷ rest) = first == 45
+
+-- the walk after a word that doesn't
 abbrev pub plain_walked : List Rule → Walk → Text → Walk
 plain_walked c w word = after_step c word w (plain_word c w.waiting word w.held).0 (plain_word c w.waiting word w.held).1
 
 abbrev pub plain_passes : Shape → Walk → Text → Bool
 plain_passes s w word = step_passes s w.position (plain_word s.rules w.waiting word w.held).0 (plain_word s.rules w.waiting word w.held).1
 
-plain_met : (c : List Rule) (waiting : Waiting) (position : ℕ) (first : ℕ) (rest : Text) (h : Held) → (first == 45) ≡ false
-    → word_met c [] false waiting position (first ∷ rest) h ≡ plain_word c waiting (first ∷ rest) h
-plain_met c idle position first rest h e = rw e (rw e refl)
-plain_met c (option id) position first rest h e = rw e (rw e refl)
-plain_met c positional position first rest h e = rw e (rw e refl)
+plain_met : (c : List Rule) (waiting : Waiting) (position : ℕ) (word : Text) (h : Held) → begins_with_hyphen word ≡ false
+    → word_met c [] false waiting position word h ≡ plain_word c waiting word h
+plain_met c idle position [] h e = refl
+plain_met c (option id) position [] h e = refl
+plain_met c positional position [] h e = refl
+plain_met c idle position (first ∷ rest) h e = rw e (rw e refl)
+plain_met c (option id) position (first ∷ rest) h e = rw e (rw e refl)
+plain_met c positional position (first ∷ rest) h e = rw e (rw e refl)
 
-plain_word_passes : (s : Shape) (waiting : Waiting) (first : ℕ) (rest : Text) (h : Held) → (first == 45) ≡ false
-    → word_passes s [] false waiting (first ∷ rest) h ≡ true
-plain_word_passes s idle first rest h e = rw e (rw e refl)
-plain_word_passes s (option id) first rest h e = rw e (rw e refl)
-plain_word_passes s positional first rest h e = rw e (rw e refl)
+plain_word_passes : (s : Shape) (waiting : Waiting) (word : Text) (h : Held) → begins_with_hyphen word ≡ false
+    → word_passes s [] false waiting word h ≡ true
+plain_word_passes s idle [] h e = refl
+plain_word_passes s (option id) [] h e = refl
+plain_word_passes s positional [] h e = refl
+plain_word_passes s idle (first ∷ rest) h e = rw e (rw e refl)
+plain_word_passes s (option id) (first ∷ rest) h e = rw e (rw e refl)
+plain_word_passes s positional (first ∷ rest) h e = rw e (rw e refl)
 
-plain_is : (c : List Rule) (w : Walk) (first : ℕ) (rest : Text) → (first == 45) ≡ false → w.stopped ≡ None → w.is_trailing ≡ false
-    → walked c [] w (first ∷ rest) ≡ plain_walked c w (first ∷ rest)
+plain_is : (c : List Rule) (w : Walk) (word : Text) → begins_with_hyphen word ≡ false → w.stopped ≡ None → w.is_trailing ≡ false
+    → walked c [] w word ≡ plain_walked c w word
 unfolding walked
-plain_is c w first rest e none going =
-    let word = first ∷ rest in
+plain_is c w word e none going =
     ap (λ (o : Option (Text × List Text)). walked_from c [] o w word) none
     ∙ ap (λ (t : Bool). after_step c word w (word_met c [] t w.waiting w.position word w.held).0 (word_met c [] t w.waiting w.position word w.held).1) going
-    ∙ ap (λ (met : Held × Step). after_step c word w met.0 met.1) (plain_met c w.waiting w.position first rest w.held e)
+    ∙ ap (λ (met : Held × Step). after_step c word w met.0 met.1) (plain_met c w.waiting w.position word w.held e)
 
 either : (a b : Bool) → b ≡ true → (a || b) ≡ true
 either true b is = refl
 either false b is = is
 
-plain_turn : (s : Shape) (w : Walk) (first : ℕ) (rest : Text) → (first == 45) ≡ false → w.is_trailing ≡ false → plain_passes s w (first ∷ rest) ≡ true
-    → turn_passes s [] w (first ∷ rest) ≡ true
-plain_turn s w first rest e going passes =
-    let word = first ∷ rest in
+plain_turn : (s : Shape) (w : Walk) (word : Text) → begins_with_hyphen word ≡ false → w.is_trailing ≡ false → plain_passes s w word ≡ true
+    → turn_passes s [] w word ≡ true
+plain_turn s w word e going passes =
     let turn : Bool → Bool = λ t. word_passes s [] t w.waiting word w.held
     && step_passes s w.position (word_met s.rules [] t w.waiting w.position word w.held).0 (word_met s.rules [] t w.waiting w.position word w.held).1 in
     let at_met : turn false ≡ (true && plain_passes s w word) =
     ap₂ (λ (b : Bool) (met : Held × Step). b && step_passes s w.position met.0 met.1)
-    (plain_word_passes s w.waiting first rest w.held e)
-    (plain_met s.rules w.waiting w.position first rest w.held e) in
+    (plain_word_passes s w.waiting word w.held e)
+    (plain_met s.rules w.waiting w.position word w.held e) in
     either (is_some w.stopped) (turn w.is_trailing) (ap turn going ∙ at_met ∙ passes)
 
 -- All words.
@@ -74,12 +82,12 @@ pub on : (s : Shape) (w : Walk) (word : Text) (words : List Text) (end : Walk) �
 unfolding walk_passes
 on s w word words end turn it = record { walk_is = it.walk_is; passes = ap₂ (λ (a b : Bool). a && b) turn it.passes }
 
--- over one more word that is no option
-pub on_plain : (s : Shape) (w : Walk) (first : ℕ) (rest : Text) (words : List Text) (end : Walk) → (first == 45) ≡ false → w.stopped ≡ None → w.is_trailing ≡ false
-    → plain_passes s w (first ∷ rest) ≡ true → Goes s (plain_walked s.rules w (first ∷ rest)) words end → Goes s w ((first ∷ rest) ∷ words) end
-on_plain s w first rest words end e none going passes it =
-    on s w (first ∷ rest) words end (plain_turn s w first rest e going passes)
-    (subst (λ (v : Walk). Goes s v words end) (sym (plain_is s.rules w first rest e none going)) it)
+-- over one more word that doesn't begin with a hyphen
+pub on_plain : (s : Shape) (w : Walk) (word : Text) (words : List Text) (end : Walk) → begins_with_hyphen word ≡ false → w.stopped ≡ None → w.is_trailing ≡ false
+    → plain_passes s w word ≡ true → Goes s (plain_walked s.rules w word) words end → Goes s w (word ∷ words) end
+on_plain s w word words end e none going passes it =
+    on s w word words end (plain_turn s w word e going passes)
+    (subst (λ (v : Walk). Goes s v words end) (sym (plain_is s.rules w word e none going)) it)
 
 -- Behind the name of `why`.
 

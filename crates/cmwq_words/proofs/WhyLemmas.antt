@@ -1,16 +1,16 @@
 -- What clap makes of the words of `why`.
-use Rattle.std.proofs.Common.{arith, ap, sym, get_or, ◌^◌, ◌&&◌, ℕ, ◌<◌, ◌≤◌, ◌≢◌, length, nat_lt, if◌then◌else◌, ◌≡◌, ◌∙◌, ◌==◌, codes, Bool, List, [], ◌∷◌, true, false, Option, None, Some, refl, Result, Ok, Err}
+use Rattle.std.proofs.Common.{arith, ap, sym, get_or, ◌^◌, ◌&&◌, ℕ, ◌<◌, ◌≤◌, ◌≢◌, length, nat_lt, if◌then◌else◌, ◌≡◌, ◌∙◌, codes, Bool, List, [], ◌∷◌, true, false, Option, None, Some, refl, Result, Ok, Err, inl, inr, option_and_then}
 use Rattle.std.proofs.lemmas.Bool.Decides.{nat_tests}
 use Rattle.std.proofs.lemmas.Str.Parse.{parse_plain, digits_value_short}
 use Rattle.std.specs.Result.{result_ok}
 use Rattle.std.specs.Str.{all_ascii_digits}
 use Rattle.std.specs.Str.Parse.{ParsesUnsigned, digits_value}
-use Rattle.clap.specs.Words.{Text}
+use Rattle.clap.specs.Words.{Row, Text}
 use Rattle.cmwq_words.proofs.RequestLemmas.{no_hyphen, numerals}
 use Rattle.clap.specs.Walk.{Walk, finished, nothing_held, walk_from}
-use Rattle.cmwq_words.proofs.WalkingLemmas.{Goes, end_passes, ends, on, on_plain, taken, why_shape}
+use Rattle.cmwq_words.proofs.WalkingLemmas.{Goes, begins_with_hyphen, end_passes, ends, on, on_plain, taken, why_shape}
 use Rattle.cmwq_words.proofs.DrawLemmas.{IsWordOf, Takes, is_word_of}
-use Rattle.cmwq_words.specs.Request.{HasCapacity, HasShortNumber, IsPlainWord, IsRead, IsShortNumber, asked_from, asked_of, flush_arguments, plain_number, work_arguments}
+use Rattle.cmwq_words.specs.Request.{HasCapacity, HasShortNumber, IsMisuse, IsPlainWord, IsRead, IsShortNumber, IsValueWord, asked_from, asked_of, asked_why, file_to_ask, flag_of, flush_arguments, plain_number, work_arguments}
 use Rattle.cmwq_words.specs.declared.asking.Positions.{Positions}
 use Rattle.cmwq_words.specs.declared.asking.Positions.TheVariants.{Settled as AtSettled, Every, At}
 use Rattle.clap.proofs.OnLiterals.{clap_on_literals}
@@ -58,8 +58,8 @@ parsed_number {E} (Ok n) word parsed unsigned short =
     sym (number_if_digits word reads.0 reads.1 short ∙ ap Some (sym value))
 parsed_number {E} (Err error) word parsed unsigned short =
     sym (no_number_if_not word (λ digits some is_short.
-        parse_plain numerals {E = E} 64 word (Err error) parsed unsigned
-        (digits, some, omega (arith, digits_value_short numerals word 10 digits is_short))))
+    parse_plain numerals {E = E} 64 word (Err error) parsed unsigned
+    (digits, some, omega (arith, digits_value_short numerals word 10 digits is_short))))
 
 pub short_number : (n : ℕ) → IsShortNumber n → plain_number (decimal n) ≡ Some n
 short_number n short =
@@ -67,20 +67,18 @@ short_number n short =
     number_if_digits (decimal n) (digits_decimal numerals n small) (decimal_nonempty n small) (length-decimal-le 10 n (omega arith) short small)
     ∙ ap Some (digits_value-decimal numerals n small)
 
--- A short number's word, which begins with no hyphen.
-record IsShortWord (word : Text) (n : ℕ) : Type 0 where
-  head : ℕ
-  tail : Text
-  is : word ≡ head ∷ tail
-  no_option : (head == 45) ≡ false
-  spells : plain_number (head ∷ tail) ≡ Some n
-
-is_short_word : (n : ℕ) → IsShortNumber n → IsShortWord (decimal n) n
-is_short_word n short = by (decimal n) (is_word_of n (omega (arith, short))) (short_number n short)
+short_plain : (n : ℕ) → IsShortNumber n → begins_with_hyphen (decimal n) ≡ false
+short_plain n short = by (decimal n) (is_word_of n (omega (arith, short)))
   where
-    by : (word : Text) → IsWordOf word n → plain_number word ≡ Some n → IsShortWord word n
-    by word it spells =
-        record { head = it.head; tail = it.tail; is = it.is; no_option = it.no_option; spells = ap plain_number (sym it.is) ∙ spells }
+    by : (word : Text) → IsWordOf word n → begins_with_hyphen word ≡ false
+    by word it = ap begins_with_hyphen it.is ∙ it.no_option
+
+plain_begins : (word : Text) → IsPlainWord word → begins_with_hyphen word ≡ false
+plain_begins word (first, rest, is, plain) = ap begins_with_hyphen is ∙ no_hyphen first plain
+
+value_begins : (word : Text) → IsValueWord word → begins_with_hyphen word ≡ false
+value_begins word (inl empty) = ap begins_with_hyphen empty
+value_begins word (inr plain) = plain_begins word plain
 
 -- Words.
 
@@ -93,114 +91,178 @@ asks : (words : List Text) (asked : Option (List Text)) (end : Walk) → Goes wh
 asks words asked end goes passes is =
     record { takes = λ name. let met = taken name words end goes passes in (met.0, ap asked_of met.1 ∙ is) }
 
-of_work : (first : ℕ) (rest : Text) (head : ℕ) (tail : Text) → (first == 45) ≡ false → (head == 45) ≡ false
-    → Asks ((first ∷ rest) ∷ (head ∷ tail) ∷ []) (asked_from false None (Some (first ∷ rest)) (Some (head ∷ tail)) None)
+of_work : (file work : Text) → begins_with_hyphen file ≡ false → begins_with_hyphen work ≡ false
+    → Asks (file ∷ work ∷ []) (asked_from false None (Some file) (Some work) None)
 unfolding clap_on_literals why_shape
-of_work first rest head tail e h =
-    asks _ _ _
-    (on_plain why_shape _ first rest _ _ e refl refl refl
-    (on_plain why_shape _ head tail _ _ h refl refl refl (ends why_shape _)))
-    refl refl
+of_work file work f w =
+    asks _ _ _ (on_plain why_shape _ file _ _ f refl refl refl (on_plain why_shape _ work _ _ w refl refl refl (ends why_shape _))) refl refl
 
-of_work_every : (first : ℕ) (rest : Text) (head : ℕ) (tail : Text) → (first == 45) ≡ false → (head == 45) ≡ false
-    → Asks (codes "--every" ∷ (first ∷ rest) ∷ (head ∷ tail) ∷ []) (asked_from true None (Some (first ∷ rest)) (Some (head ∷ tail)) None)
+of_work_every : (file work : Text) → begins_with_hyphen file ≡ false → begins_with_hyphen work ≡ false
+    → Asks (codes "--every" ∷ file ∷ work ∷ []) (asked_from true None (Some file) (Some work) None)
 unfolding clap_on_literals why_shape
-of_work_every first rest head tail e h =
+of_work_every file work f w =
     asks _ _ _
     (on why_shape _ (codes "--every") _ _ refl
-    (on_plain why_shape _ first rest _ _ e refl refl refl
-    (on_plain why_shape _ head tail _ _ h refl refl refl (ends why_shape _))))
+    (on_plain why_shape _ file _ _ f refl refl refl (on_plain why_shape _ work _ _ w refl refl refl (ends why_shape _))))
     refl refl
 
-of_work_at : (digit : ℕ) (digits : Text) (first : ℕ) (rest : Text) (head : ℕ) (tail : Text) → (digit == 45) ≡ false → (first == 45) ≡ false → (head == 45) ≡ false
-    → Asks (codes "--at" ∷ (digit ∷ digits) ∷ (first ∷ rest) ∷ (head ∷ tail) ∷ [])
-    (asked_from false (Some (digit ∷ digits)) (Some (first ∷ rest)) (Some (head ∷ tail)) None)
+of_work_at : (place file work : Text) → begins_with_hyphen place ≡ false → begins_with_hyphen file ≡ false → begins_with_hyphen work ≡ false
+    → Asks (codes "--at" ∷ place ∷ file ∷ work ∷ []) (asked_from false (Some place) (Some file) (Some work) None)
 unfolding clap_on_literals why_shape
-of_work_at digit digits first rest head tail d e h =
+of_work_at place file work p f w =
     asks _ _ _
     (on why_shape _ (codes "--at") _ _ refl
-    (on_plain why_shape _ digit digits _ _ d refl refl refl
-    (on_plain why_shape _ first rest _ _ e refl refl refl
-    (on_plain why_shape _ head tail _ _ h refl refl refl (ends why_shape _)))))
+    (on_plain why_shape _ place _ _ p refl refl refl
+    (on_plain why_shape _ file _ _ f refl refl refl (on_plain why_shape _ work _ _ w refl refl refl (ends why_shape _)))))
     refl refl
 
-of_flush : (digit : ℕ) (digits : Text) (first : ℕ) (rest : Text) → (digit == 45) ≡ false → (first == 45) ≡ false
-    → Asks (codes "--flush" ∷ (digit ∷ digits) ∷ (first ∷ rest) ∷ []) (asked_from false None (Some (first ∷ rest)) None (Some (digit ∷ digits)))
+of_flush : (number file : Text) → begins_with_hyphen number ≡ false → begins_with_hyphen file ≡ false
+    → Asks (codes "--flush" ∷ number ∷ file ∷ []) (asked_from false None (Some file) None (Some number))
 unfolding clap_on_literals why_shape
-of_flush digit digits first rest d e =
+of_flush number file n f =
     asks _ _ _
     (on why_shape _ (codes "--flush") _ _ refl
-    (on_plain why_shape _ digit digits _ _ d refl refl refl
-    (on_plain why_shape _ first rest _ _ e refl refl refl (ends why_shape _))))
+    (on_plain why_shape _ number _ _ n refl refl refl (on_plain why_shape _ file _ _ f refl refl refl (ends why_shape _))))
     refl refl
 
-of_flush_every : (digit : ℕ) (digits : Text) (first : ℕ) (rest : Text) → (digit == 45) ≡ false → (first == 45) ≡ false
-    → Asks (codes "--flush" ∷ (digit ∷ digits) ∷ codes "--every" ∷ (first ∷ rest) ∷ [])
-    (asked_from true None (Some (first ∷ rest)) None (Some (digit ∷ digits)))
+of_flush_every : (number file : Text) → begins_with_hyphen number ≡ false → begins_with_hyphen file ≡ false
+    → Asks (codes "--flush" ∷ number ∷ codes "--every" ∷ file ∷ []) (asked_from true None (Some file) None (Some number))
 unfolding clap_on_literals why_shape
-of_flush_every digit digits first rest d e =
+of_flush_every number file n f =
     asks _ _ _
     (on why_shape _ (codes "--flush") _ _ refl
-    (on_plain why_shape _ digit digits _ _ d refl refl refl
-    (on why_shape _ (codes "--every") _ _ refl
-    (on_plain why_shape _ first rest _ _ e refl refl refl (ends why_shape _)))))
+    (on_plain why_shape _ number _ _ n refl refl refl
+    (on why_shape _ (codes "--every") _ _ refl (on_plain why_shape _ file _ _ f refl refl refl (ends why_shape _)))))
     refl refl
 
-of_flush_at : (digit : ℕ) (digits : Text) (cipher : ℕ) (ciphers : Text) (first : ℕ) (rest : Text) → (digit == 45) ≡ false → (cipher == 45) ≡ false → (first == 45) ≡ false
-    → Asks (codes "--flush" ∷ (digit ∷ digits) ∷ codes "--at" ∷ (cipher ∷ ciphers) ∷ (first ∷ rest) ∷ [])
-    (asked_from false (Some (cipher ∷ ciphers)) (Some (first ∷ rest)) None (Some (digit ∷ digits)))
+of_flush_at : (number place file : Text) → begins_with_hyphen number ≡ false → begins_with_hyphen place ≡ false → begins_with_hyphen file ≡ false
+    → Asks (codes "--flush" ∷ number ∷ codes "--at" ∷ place ∷ file ∷ []) (asked_from false (Some place) (Some file) None (Some number))
 unfolding clap_on_literals why_shape
-of_flush_at digit digits cipher ciphers first rest d c e =
+of_flush_at number place file n p f =
     asks _ _ _
     (on why_shape _ (codes "--flush") _ _ refl
-    (on_plain why_shape _ digit digits _ _ d refl refl refl
+    (on_plain why_shape _ number _ _ n refl refl refl
     (on why_shape _ (codes "--at") _ _ refl
-    (on_plain why_shape _ cipher ciphers _ _ c refl refl refl
-    (on_plain why_shape _ first rest _ _ e refl refl refl (ends why_shape _))))))
+    (on_plain why_shape _ place _ _ p refl refl refl (on_plain why_shape _ file _ _ f refl refl refl (ends why_shape _))))))
     refl refl
 
 -- Questions.
 
-as_read : {words : List Text} {given : Option (List Text)} → Asks words given → (asked : List Text) → given ≡ Some (codes "why" ∷ asked) → HasCapacity (codes "why" ∷ asked)
-    → (name : Text) → IsRead (name ∷ codes "why" ∷ words) (codes "why" ∷ asked)
-as_read it asked is fits name = let met = it.takes name in (met.0, met.1 ∙ is, fits)
+as_read : {given : List Text} {found : Option (List Text)} → Asks given found → (words asked : List Text) (name : Text) → words ≡ name ∷ codes "why" ∷ given
+    → found ≡ Some (codes "why" ∷ asked) → HasCapacity (codes "why" ∷ asked) → IsRead words (codes "why" ∷ asked)
+as_read it words asked name are is fits = let met = it.takes name in rw are (met.0, met.1 ∙ is, fits)
 
 pub work_read : (words : List Text) (name file work : Text) (positions : Positions) → words ≡ name ∷ codes "why" ∷ work_arguments positions file work
     → IsPlainWord file → IsPlainWord work → HasShortNumber positions → IsRead words (codes "why" ∷ work_arguments positions file work)
-work_read words name file work AtSettled are (first, rest, is, plain) (head, tail, is_work, plain_work) short =
-    rw (are, is, is_work) (as_read (of_work first rest head tail (no_hyphen first plain) (no_hyphen head plain_work)) _ refl tt name)
-work_read words name file work Every are (first, rest, is, plain) (head, tail, is_work, plain_work) short =
-    rw (are, is, is_work) (as_read (of_work_every first rest head tail (no_hyphen first plain) (no_hyphen head plain_work)) _ refl tt name)
-work_read words name file work (At k) are (first, rest, is, plain) (head, tail, is_work, plain_work) short =
-    rw (are, is, is_work) (by (decimal k) (is_short_word k short))
-  where
-    by : (word : Text) → IsShortWord word k
-        → IsRead (name ∷ codes "why" ∷ codes "--at" ∷ word ∷ (first ∷ rest) ∷ (head ∷ tail) ∷ []) (codes "why" ∷ work_arguments (At k) (first ∷ rest) (head ∷ tail))
-    by word it =
-        let met = of_work_at it.head it.tail first rest head tail it.no_option (no_hyphen first plain) (no_hyphen head plain_work) in
-        rw it.is (as_read met (work_arguments (At k) (first ∷ rest) (head ∷ tail)) (rw it.spells refl) tt name)
+work_read words name file work AtSettled are plain plain_work short =
+    as_read (of_work file work (plain_begins file plain) (plain_begins work plain_work)) words (work_arguments AtSettled file work) name are refl tt
+work_read words name file work Every are plain plain_work short =
+    as_read (of_work_every file work (plain_begins file plain) (plain_begins work plain_work)) words (work_arguments Every file work) name are refl tt
+work_read words name file work (At k) are plain plain_work short =
+    as_read (of_work_at (decimal k) file work (short_plain k short) (plain_begins file plain) (plain_begins work plain_work))
+    words (work_arguments (At k) file work) name are
+    (rw (short_number k short) refl) tt
 
 pub flush_read : (words : List Text) (name file : Text) (flush : ℕ) (positions : Positions) → words ≡ name ∷ codes "why" ∷ flush_arguments positions flush file
     → IsPlainWord file → IsShortNumber flush → HasShortNumber positions → IsRead words (codes "why" ∷ flush_arguments positions flush file)
-flush_read words name file flush AtSettled are (first, rest, is, plain) few short = rw (are, is) (by (decimal flush) (is_short_word flush few))
+flush_read words name file flush AtSettled are plain few short =
+    as_read (of_flush (decimal flush) file (short_plain flush few) (plain_begins file plain))
+    words (flush_arguments AtSettled flush file) name are
+    (rw (short_number flush few) refl) tt
+flush_read words name file flush Every are plain few short =
+    as_read (of_flush_every (decimal flush) file (short_plain flush few) (plain_begins file plain))
+    words (flush_arguments Every flush file) name are
+    (rw (short_number flush few) refl) tt
+flush_read words name file flush (At k) are plain few short =
+    as_read (of_flush_at (decimal flush) (decimal k) file (short_plain flush few) (short_plain k short) (plain_begins file plain))
+    words (flush_arguments (At k) flush file) name are
+    (rw (short_number flush few, short_number k short) refl) tt
+
+pub asked_met : (rows : List Row) (asked : List Text) → file_to_ask rows ≡ Some asked
+    → (every : Bool) × (flag_of (codes "every") rows ≡ Some every) × (asked_why every rows ≡ Some asked)
+asked_met rows asked = by (flag_of (codes "every") rows)
   where
-    by : (word : Text) → IsShortWord word flush
-        → IsRead (name ∷ codes "why" ∷ codes "--flush" ∷ word ∷ (first ∷ rest) ∷ []) (codes "why" ∷ flush_arguments AtSettled flush (first ∷ rest))
-    by word it =
-        let met = of_flush it.head it.tail first rest it.no_option (no_hyphen first plain) in
-        rw it.is (as_read met (flush_arguments AtSettled flush (first ∷ rest)) (rw it.spells refl) tt name)
-flush_read words name file flush Every are (first, rest, is, plain) few short = rw (are, is) (by (decimal flush) (is_short_word flush few))
-  where
-    by : (word : Text) → IsShortWord word flush
-        → IsRead (name ∷ codes "why" ∷ codes "--flush" ∷ word ∷ codes "--every" ∷ (first ∷ rest) ∷ []) (codes "why" ∷ flush_arguments Every flush (first ∷ rest))
-    by word it =
-        let met = of_flush_every it.head it.tail first rest it.no_option (no_hyphen first plain) in
-        rw it.is (as_read met (flush_arguments Every flush (first ∷ rest)) (rw it.spells refl) tt name)
-flush_read words name file flush (At k) are (first, rest, is, plain) few short =
-    rw (are, is) (by (decimal flush) (decimal k) (is_short_word flush few) (is_short_word k short))
-  where
-    by : (word place : Text) → IsShortWord word flush → IsShortWord place k
-        → IsRead (name ∷ codes "why" ∷ codes "--flush" ∷ word ∷ codes "--at" ∷ place ∷ (first ∷ rest) ∷ []) (codes "why" ∷ flush_arguments (At k) flush (first ∷ rest))
-    by word place it there =
-        let met = of_flush_at it.head it.tail there.head there.tail first rest it.no_option there.no_option (no_hyphen first plain) in
-        rw (it.is, there.is) (as_read met (flush_arguments (At k) flush (first ∷ rest)) (rw (it.spells, there.spells) refl) tt name)
+    by : (flag : Option Bool) → option_and_then (λ every. asked_why every rows) flag ≡ Some asked → (every : Bool) × (flag ≡ Some every) × (asked_why every rows ≡ Some asked)
+    by (Some every) e = (every, refl, e)
+    by None e = absurd cc
+
+-- Words that are no question.
+
+misused : (words : List Text) (end : Walk) (every : Bool) (found : Option (List Text)) → found ≡ None → Goes why_shape (walk_from nothing_held) words end
+    → end_passes end ≡ true → flag_of (codes "every") (finished why_shape.rules end.held) ≡ Some every → asked_why every (finished why_shape.rules end.held) ≡ found
+    → (name : Text) → IsMisuse (name ∷ codes "why" ∷ words)
+misused words end every found none goes passes flag finds name =
+    let met = taken name words end goes passes in
+    (met.0, (codes "why", finished why_shape.rules end.held), met.1, (refl, every, flag, finds ∙ none))
+
+neither : (file : Text) → begins_with_hyphen file ≡ false → (name : Text) → IsMisuse (name ∷ codes "why" ∷ file ∷ [])
+unfolding clap_on_literals why_shape
+neither file f = misused _ _ false _ refl (on_plain why_shape _ file _ _ f refl refl refl (ends why_shape _)) refl refl refl
+
+both : (number file work : Text) → begins_with_hyphen number ≡ false → begins_with_hyphen file ≡ false → begins_with_hyphen work ≡ false
+    → (name : Text) → IsMisuse (name ∷ codes "why" ∷ codes "--flush" ∷ number ∷ file ∷ work ∷ [])
+unfolding clap_on_literals why_shape
+both number file work n f w =
+    misused _ _ false _ refl
+    (on why_shape _ (codes "--flush") _ _ refl
+    (on_plain why_shape _ number _ _ n refl refl refl
+    (on_plain why_shape _ file _ _ f refl refl refl (on_plain why_shape _ work _ _ w refl refl refl (ends why_shape _)))))
+    refl refl refl
+
+asks_no_flush : (number file : Text) → plain_number number ≡ None → asked_from false None (Some file) None (Some number) ≡ None
+asks_no_flush number file none = rw none refl
+
+asks_no_place : (number file work : Text) → plain_number number ≡ None → asked_from false (Some number) (Some file) (Some work) None ≡ None
+asks_no_place number file work none = rw none refl
+
+no_flush : (number file : Text) → begins_with_hyphen number ≡ false → plain_number number ≡ None → begins_with_hyphen file ≡ false
+    → (name : Text) → IsMisuse (name ∷ codes "why" ∷ codes "--flush" ∷ number ∷ file ∷ [])
+unfolding clap_on_literals why_shape
+no_flush number file n none f =
+    misused _ _ false (asked_from false None (Some file) None (Some number)) (asks_no_flush number file none)
+    (on why_shape _ (codes "--flush") _ _ refl
+    (on_plain why_shape _ number _ _ n refl refl refl (on_plain why_shape _ file _ _ f refl refl refl (ends why_shape _))))
+    refl refl refl
+
+at_both : (number file work : Text) → begins_with_hyphen number ≡ false → begins_with_hyphen file ≡ false → begins_with_hyphen work ≡ false
+    → (name : Text) → IsMisuse (name ∷ codes "why" ∷ codes "--every" ∷ codes "--at" ∷ number ∷ file ∷ work ∷ [])
+unfolding clap_on_literals why_shape
+at_both number file work n f w =
+    misused _ _ true _ refl
+    (on why_shape _ (codes "--every") _ _ refl
+    (on why_shape _ (codes "--at") _ _ refl
+    (on_plain why_shape _ number _ _ n refl refl refl
+    (on_plain why_shape _ file _ _ f refl refl refl (on_plain why_shape _ work _ _ w refl refl refl (ends why_shape _))))))
+    refl refl refl
+
+no_place : (number file work : Text) → begins_with_hyphen number ≡ false → plain_number number ≡ None → begins_with_hyphen file ≡ false → begins_with_hyphen work ≡ false
+    → (name : Text) → IsMisuse (name ∷ codes "why" ∷ codes "--at" ∷ number ∷ file ∷ work ∷ [])
+unfolding clap_on_literals why_shape
+no_place number file work n none f w =
+    misused _ _ false (asked_from false (Some number) (Some file) (Some work) None) (asks_no_place number file work none)
+    (on why_shape _ (codes "--at") _ _ refl
+    (on_plain why_shape _ number _ _ n refl refl refl
+    (on_plain why_shape _ file _ _ f refl refl refl (on_plain why_shape _ work _ _ w refl refl refl (ends why_shape _)))))
+    refl refl refl
+
+pub neither_misused : (words : List Text) (name file : Text) → words ≡ name ∷ codes "why" ∷ file ∷ [] → IsPlainWord file → IsMisuse words
+neither_misused words name file are plain = rw are (neither file (plain_begins file plain) name)
+
+pub both_misused : (words : List Text) (name number file work : Text) → words ≡ name ∷ codes "why" ∷ codes "--flush" ∷ number ∷ file ∷ work ∷ []
+    → IsValueWord number → IsPlainWord file → IsPlainWord work → IsMisuse words
+both_misused words name number file work are value plain plain_work =
+    rw are (both number file work (value_begins number value) (plain_begins file plain) (plain_begins work plain_work) name)
+
+pub no_flush_misused : (words : List Text) (name number file : Text) → words ≡ name ∷ codes "why" ∷ codes "--flush" ∷ number ∷ file ∷ []
+    → IsValueWord number → plain_number number ≡ None → IsPlainWord file → IsMisuse words
+no_flush_misused words name number file are value none plain = rw are (no_flush number file (value_begins number value) none (plain_begins file plain) name)
+
+pub at_both_misused : (words : List Text) (name number file work : Text) → words ≡ name ∷ codes "why" ∷ codes "--every" ∷ codes "--at" ∷ number ∷ file ∷ work ∷ []
+    → IsValueWord number → IsPlainWord file → IsPlainWord work → IsMisuse words
+at_both_misused words name number file work are value plain plain_work =
+    rw are (at_both number file work (value_begins number value) (plain_begins file plain) (plain_begins work plain_work) name)
+
+pub no_place_misused : (words : List Text) (name number file work : Text) → words ≡ name ∷ codes "why" ∷ codes "--at" ∷ number ∷ file ∷ work ∷ []
+    → IsValueWord number → plain_number number ≡ None → IsPlainWord file → IsPlainWord work → IsMisuse words
+no_place_misused words name number file work are value none plain plain_work =
+    rw are (no_place number file work (value_begins number value) none (plain_begins file plain) (plain_begins work plain_work) name)

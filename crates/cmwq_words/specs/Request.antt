@@ -1,12 +1,12 @@
 -- What the words of a command line ask for.
-use Rattle.std.specs.Prelude.{◌≡◌, ◌≢◌, ◌≤◌, ◌<◌, ◌^◌, ◌⊎◌, ℕ, List, [], ◌∷◌, ◌++◌, Bool, true, false, ◌&&◌, length, nat_lt, map, codes, if◌then◌else◌, Option, None, Some, option_and_then, option_map, option_to_list, Result, MatchResult}
+use Rattle.std.specs.Prelude.{◌≡◌, ◌≢◌, ◌≤◌, ◌<◌, ◌^◌, ◌⊎◌, ℕ, List, [], ◌∷◌, ◌++◌, Bool, true, false, ◌&&◌, length, nat_lt, map, codes, if◌then◌else◌, Option, None, Some, option_and_then, option_map, option_to_list, Result, IsErrAnd, MatchResult}
 use Rattle.std.specs.Fmt.{decimal}
 use Rattle.std.specs.Str.{all_ascii_digits, bytes_eq}
 use Rattle.std.specs.Str.Parse.{digits_value}
 use Rattle.clap.specs.Words.{Row, Text, all_of, first_of, kind_of, one_of, subcommand_of, takes}
 use Rattle.cmwq_command_line.specs.CommandLine.{command_line}
 use Rattle.clap.specs.declared.error.Error.{Error}
-use Rattle.clap.specs.declared.error.kind.ErrorKind.TheVariants.{OutOfMemory}
+use Rattle.clap.specs.declared.error.kind.ErrorKind.TheVariants.{OutOfMemory, ValueValidation}
 use Rattle.cmwq_types.specs.declared.limits.TheConstants.{MAX_LINES}
 use Rattle.cmwq_words.specs.declared.asking.Positions.{Positions}
 use Rattle.cmwq_words.specs.declared.asking.Positions.TheVariants.{Settled as AtSettled, Every, At}
@@ -243,6 +243,14 @@ IsRequestOf asked request = option_map (λ r. words_of r) request ≡ Some asked
 abbrev pub IsRead : List Text → List Text → Type 0
 IsRead words asked = (takes command_line words ≡ true) × (asked_of (subcommand_of command_line words) ≡ Some asked) × HasCapacity asked
 
+-- what clap met asks for nothing: it is `why`, and with its values no question
+abbrev pub AsksNothing : Text × List Row → Type 0
+AsksNothing met = (met.0 ≡ codes "why") × (every : Bool) × (flag_of (codes "every") met.1 ≡ Some every) × (asked_why every met.1 ≡ None)
+
+-- clap takes the words, and what it meets asks for nothing
+abbrev pub IsMisuse : List Text → Type 0
+IsMisuse words = (takes command_line words ≡ true) × (met : Text × List Row) × (subcommand_of command_line words ≡ Some met) × AsksNothing met
+
 -- the word is no option: it isn't empty and doesn't begin with a hyphen (45)
 abbrev pub IsPlainWord : Text → Type 0
 IsPlainWord word = (first : ℕ) × (rest : Text) × (word ≡ first ∷ rest) × (first ≢ 45)
@@ -250,6 +258,14 @@ IsPlainWord word = (first : ℕ) × (rest : Text) × (word ≡ first ∷ rest) �
 -- the answer is the request of these words, unless memory ran out
 abbrev pub Asks : List Text → Result Request Error → Type 0
 Asks words r = MatchResult r (λ request. words_of request ≡ words) (λ e. kind_of e ≡ OutOfMemory)
+
+-- an option may have it as its value
+abbrev pub IsValueWord : Text → Type 0
+IsValueWord word = (word ≡ []) ⊎ IsPlainWord word
+
+-- the answer is a usage fault, unless memory ran out
+abbrev pub IsUsageFault : Result Request Error → Type 0
+IsUsageFault r = IsErrAnd r (λ e. (kind_of e ≡ ValueValidation) ⊎ (kind_of e ≡ OutOfMemory))
 
 -- the words that ask for the version
 abbrev pub IsVersionWord : Text → Type 0
