@@ -78,16 +78,29 @@ draw_command =
     (value_rule (codes "FROM") (codes "from")))
     (value_rule (codes "TO") (codes "to"))
 
+-- `why [--flush F] [--at K] [--every] FILE [WORK]`
+abbrev pub why_command : App
+why_command =
+    with_rule
+    (with_rule
+    (with_rule (with_rule (command_on (codes "why") (codes "FILE")) (new_rule (codes "WORK"))) (value_rule (codes "F") (codes "flush")))
+    (value_rule (codes "K") (codes "at")))
+    (flag_rule (codes "every"))
+
 -- `check FILE..`
 abbrev pub check_command : App
 check_command = with_rule (new_app (codes "check")) (record (required_rule (codes "FILE")) { action = Some Append })
 
--- the program with its commands
-abbrev pub command_line : App
-command_line =
+-- the program with its commands, before the last
+abbrev pub commands_with_draw : App
+commands_with_draw =
     with_subcommand
     (with_subcommand (with_subcommand (with_subcommand commands_on_files play_command.top) check_command.top) settle_command.top)
     draw_command.top
+
+-- the program with its commands
+abbrev pub command_line : App
+command_line = with_subcommand commands_with_draw why_command.top
 
 -- the line of the program's version
 abbrev pub version_line : List ℕ

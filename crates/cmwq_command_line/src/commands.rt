@@ -1,8 +1,8 @@
 //! The program's commands, and the words that they take.
 
-ghost use Rattle.clap.specs.Words.{App, app_of, rule_of, with_subcommand};
+ghost use Rattle.clap.specs.Words.{App, app_of, new_rule, rule_of, with_subcommand};
 ghost use Rattle.clap.specs.declared.builder.command.Command.TheViews.{out-Command as fields_of};
-ghost use Rattle.cmwq_command_line.specs.CommandLine.{asm_command, bare_program, check_command, command_line, command_on, commands_on_files, draw_command, flag_rule, list_command, new_command, play_command, program, required_rule, run_command, settle_command, show_command, value_rule};
+ghost use Rattle.cmwq_command_line.specs.CommandLine.{asm_command, bare_program, check_command, command_line, command_on, commands_on_files, commands_with_draw, draw_command, flag_rule, list_command, new_command, play_command, program, required_rule, run_command, settle_command, show_command, value_rule, why_command};
 ghost use Rattle.std.specs.Prelude.{◌≡◌, IfOk, codes, false};
 
 use crate::help;
@@ -13,10 +13,17 @@ use std::alloc::{AllocError, Global};
 pub fn command_line<'a>(alloc: Global) -> Result<Command<'a>, AllocError>
     ensures { IfOk result (λ r. app_of r ≡ command_line) }
 {
+    joined(commands_with_draw(alloc), why_command(alloc))
+}
+
+/// The program with all commands but the one that tells why works wait.
+fn commands_with_draw<'a>(alloc: Global) -> Result<Command<'a>, AllocError>
+    ensures { IfOk result (λ r. app_of r ≡ commands_with_draw) }
+{
     joined(commands_with_settle(alloc), draw_command(alloc))
 }
 
-/// The program with all commands but the one that draws.
+/// The program with all commands but the one that draws and the one that tells why works wait.
 fn commands_with_settle<'a>(alloc: Global) -> Result<Command<'a>, AllocError>
     ensures { IfOk result (λ r. app_of r ≡ with_subcommand (with_subcommand (with_subcommand commands_on_files play_command.top) check_command.top) settle_command.top) }
 {
@@ -147,7 +154,9 @@ fn new_command<'a>(alloc: Global) -> Result<Command<'a>, AllocError>
     ensures app { IfOk result (λ r. app_of r ≡ new_command) }
     ensures local { IfOk result (λ r. (fields_of r).has_globals ≡ false) }
 {
-    let file = Arg::new(alloc, "FILE").help(
+    let file = optional(
+        alloc,
+        "FILE",
         "The file to make, which must not be there yet; without it the scenario goes to standard output",
     );
     Command::new(alloc, "new")
@@ -226,8 +235,38 @@ fn draw_command<'a>(alloc: Global) -> Result<Command<'a>, AllocError>
         "Lets the run go on by `next` until the machine is quiet",
     ))?
     .arg(flag(alloc, "svg", "Writes an SVG picture"))?
-    .arg(time(alloc, "FROM", "from", "The first tick to draw"))?
-    .arg(time(alloc, "TO", "to", "The tick before which to end"))
+    .arg(valued(alloc, "FROM", "from", "The first tick to draw"))?
+    .arg(valued(alloc, "TO", "to", "The tick before which to end"))
+}
+
+/// The command that tells why a work or a flush waits.
+fn why_command<'a>(alloc: Global) -> Result<Command<'a>, AllocError>
+    ensures app { IfOk result (λ r. app_of r ≡ why_command) }
+    ensures local { IfOk result (λ r. (fields_of r).has_globals ≡ false) }
+{
+    let why = on_text(
+        alloc,
+        "why",
+        "Tells why a work doesn't get on, or what a flush waits for, wherever that changes",
+    )?;
+    why.arg(optional(
+        alloc,
+        "WORK",
+        "The work's name; without it --flush has to be given",
+    ))?
+    .arg(valued(
+        alloc,
+        "F",
+        "flush",
+        "The flush of this number, as the run tells it, in place of a work",
+    ))?
+    .arg(valued(
+        alloc,
+        "K",
+        "at",
+        "Looks at position K alone, behind the first K instructions",
+    ))?
+    .arg(flag(alloc, "every", "Looks at every position"))
 }
 
 /// A command on the text of a scenario.
@@ -249,6 +288,14 @@ fn argument<'a>(alloc: Global, id: &'a str, help: &'a str) -> Arg<'a>
     Arg::new(alloc, id).required(true).help(help)
 }
 
+/// An argument that may be left out.
+fn optional<'a>(alloc: Global, id: &'a str, help: &'a str) -> Arg<'a>
+    ensures rule { rule_of result ≡ new_rule id.entry.now }
+    ensures local { result.global ≡ false }
+{
+    Arg::new(alloc, id).help(help)
+}
+
 /// An option without a value.
 fn flag<'a>(alloc: Global, name: &'a str, help: &'a str) -> Arg<'a>
     ensures rule { rule_of result ≡ flag_rule name.entry.now }
@@ -260,8 +307,8 @@ fn flag<'a>(alloc: Global, name: &'a str, help: &'a str) -> Arg<'a>
         .help(help)
 }
 
-/// An option that may be given, with a time.
-fn time<'a>(alloc: Global, id: &'a str, name: &'a str, help: &'a str) -> Arg<'a>
+/// An option that may be given, with its value.
+fn valued<'a>(alloc: Global, id: &'a str, name: &'a str, help: &'a str) -> Arg<'a>
     ensures rule { rule_of result ≡ value_rule id.entry.now name.entry.now }
     ensures local { result.global ≡ false }
 {

@@ -9,6 +9,7 @@ Examples:
   cmwq new first.cmwq
   cmwq run first.cmwq
   cmwq draw first.cmwq
+  cmwq why first.cmwq b
   cmwq run --settle first.cmwq
   cmwq settle first.cmwq
   cmwq list scenarios/max_active_3.cmwq
@@ -86,6 +87,27 @@ Examples:
   cmwq draw scenarios/max_active_3.cmwq
   cmwq draw --settle --from 10 --to 20 first.cmwq
   cmwq draw --svg scenarios/max_active_3.cmwq > max_active_3.svg";
+
+const WHY: &str = "\
+Prints a line `at K now N WORK ..` that says why WORK doesn't get on at position K, behind the first K instructions, when it is tick N:
+for the first settled position, where no timer is due and no pool has a move, and for each further one at which that changed. The run's
+last position counts as one of them. With --every it looks at every position, and with --at K at position K alone.
+With --flush F it prints how many instances flush number F waits for, from the position on where it is given; below, what keeps each of
+these, and then what keeps those that were named.
+
+Exit status:
+  0  the lines were written
+  1  `line 6: Duplicate`: the text's first fault; `actors`: there isn't exactly one actor; `no such work`: no work has this name;
+     `past the end`: there are fewer than K instructions; `no such flush`: flush F isn't given, or not by position K
+  2  the command line is wrong: WORK and --flush are both given or both left out, --at and --every are both given, an option stands
+     twice, or F or K isn't a number of 1 to 10 digits
+  3  `read`: FILE can't be read; `write`: the output can't be written
+  4  `full`: more than 1,048,576 instructions; `no memory`
+
+Examples:
+  cmwq why scenarios/holds_the_limit.cmwq b
+  cmwq why --every scenarios/queued_between.cmwq a
+  cmwq why --flush 0 scenarios/holds_the_limit.cmwq";
 
 const LIST: &str = "\
 Prints the scenario's canonical text: one space between words, and no comments.
@@ -176,6 +198,7 @@ pub fn after_help_of(command: &str) -> &'static str {
         "run" => RUN,
         "settle" => SETTLE,
         "draw" => DRAW,
+        "why" => WHY,
         "list" => LIST,
         "asm" => ASM,
         "show" => SHOW,

@@ -57,7 +57,7 @@ pub record IsWordOf (word : Text) (n : ℕ) : Type 0 where
 digit_first : (head : ℕ) (tail : Text) → all_ascii_digits (head ∷ tail) ≡ true → (head == 45) ≡ false
 digit_first head tail e = grind (arith, nat_tests, e)
 
-is_word_of : (n : ℕ) → n < 2 ^ 64 → IsWordOf (decimal n) n
+pub is_word_of : (n : ℕ) → n < 2 ^ 64 → IsWordOf (decimal n) n
 is_word_of n small = by (decimal n) (decimal_nonempty n small) (digits_decimal numerals n small) (spelled n small)
   where
     by : (word : Text) → 0 < length word → all_ascii_digits word ≡ true → number_in word ≡ Some n → IsWordOf word n
@@ -67,7 +67,7 @@ is_word_of n small = by (decimal n) (decimal_nonempty n small) (digits_decimal n
 -- Words.
 
 -- clap takes the words, and these are read of them, if they are there
-abbrev Takes : List Text → Option (List Text) → Type 0
+abbrev pub Takes : List Text → Option (List Text) → Type 0
 Takes words asked = (takes command_line words ≡ true) × (asked_of (subcommand_of command_line words) ≡ asked)
 
 -- what is read of a picture's words, whose times are these

@@ -1,2 +1,4 @@
 mod DrawLemmas
 mod RequestLemmas
+mod WalkingLemmas
+mod WhyLemmas

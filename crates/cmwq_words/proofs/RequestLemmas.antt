@@ -211,12 +211,15 @@ play_read words name file n are plain fits = of_plain file (decimal n) plain (nu
     of_plain f number (first, rest, is, p) (head, tail, is_number, q) same digits =
         rw (same, is, is_number) (plain_play name first rest head tail (no_hyphen first p) (no_hyphen head q) (n, sym is_number ∙ digits, fits))
 
--- the matches have what was read
+-- the matches have what clap meets
+pub rows_met : (line : App) (words : List Text) (m : ArgMatches) → line ≡ command_line → HasMatchesOf line words m
+    → subcommand_rows_of m ≡ subcommand_of command_line words
+rows_met line words m line_is matches = (matches (ap is_simple line_is ∙ simple_line)).1 ∙ ap (λ a. subcommand_of a words) line_is
+
+-- and what was read
 pub read_met : (line : App) (words asked : List Text) (m : ArgMatches) → line ≡ command_line → HasMatchesOf line words m
     → IsRead words asked → asked_of (subcommand_rows_of m) ≡ Some asked
-read_met line words asked m line_is matches read =
-    let same = (matches (ap is_simple line_is ∙ simple_line)).1 ∙ ap (λ a. subcommand_of a words) line_is in
-    ap asked_of same ∙ read.1
+read_met line words asked m line_is matches read = ap asked_of (rows_met line words m line_is matches) ∙ read.1
 
 -- what was met is a command's name and its values
 pub met_in : (m : ArgMatches) (name : Text) (rows : List Row) (asked : List Text) → Some name ≡ subcommand_name_of m

@@ -1,18 +1,22 @@
 -- What the words of a command line ask for.
-use Rattle.std.specs.Prelude.{◌≡◌, ◌≢◌, ◌≤◌, ◌^◌, ◌⊎◌, ℕ, List, [], ◌∷◌, ◌++◌, Bool, true, false, ◌&&◌, nat_lt, map, codes, if◌then◌else◌, Option, None, Some, option_and_then, option_map, option_to_list, Result, MatchResult}
+use Rattle.std.specs.Prelude.{◌≡◌, ◌≢◌, ◌≤◌, ◌<◌, ◌^◌, ◌⊎◌, ℕ, List, [], ◌∷◌, ◌++◌, Bool, true, false, ◌&&◌, length, nat_lt, map, codes, if◌then◌else◌, Option, None, Some, option_and_then, option_map, option_to_list, Result, IsErrAnd, MatchResult}
 use Rattle.std.specs.Fmt.{decimal}
-use Rattle.std.specs.Str.{bytes_eq}
+use Rattle.std.specs.Str.{all_ascii_digits, bytes_eq}
 use Rattle.std.specs.Str.Parse.{digits_value}
 use Rattle.clap.specs.Words.{Row, Text, all_of, first_of, kind_of, one_of, subcommand_of, takes}
 use Rattle.cmwq_command_line.specs.CommandLine.{command_line}
 use Rattle.clap.specs.declared.error.Error.{Error}
-use Rattle.clap.specs.declared.error.kind.ErrorKind.TheVariants.{OutOfMemory}
+use Rattle.clap.specs.declared.error.kind.ErrorKind.TheVariants.{OutOfMemory, ValueValidation}
 use Rattle.cmwq_types.specs.declared.limits.TheConstants.{MAX_LINES}
+use Rattle.cmwq_words.specs.declared.asking.Positions.{Positions}
+use Rattle.cmwq_words.specs.declared.asking.Positions.TheVariants.{Settled as AtSettled, Every, At}
+use Rattle.cmwq_words.specs.declared.asking.Subject.{Subject}
+use Rattle.cmwq_words.specs.declared.asking.Subject.TheVariants.{Work, Flush}
 use Rattle.cmwq_words.specs.declared.drawing.DrawOptions.{DrawOptions}
 use Rattle.cmwq_words.specs.declared.request.Request.{Request}
 use Rattle.cmwq_words.specs.declared.request.RunKind.{RunKind}
 use Rattle.cmwq_words.specs.declared.request.RunKind.TheVariants.{Plain, Settled, Told}
-use Rattle.cmwq_words.specs.declared.request.Request.TheVariants.{New, Run, Settle, List as list, Asm, Show, Debug, Draw, Play, Check, Version}
+use Rattle.cmwq_words.specs.declared.request.Request.TheVariants.{New, Run, Settle, List as list, Asm, Show, Debug, Draw, Why, Play, Check, Version}
 
 -- how many entries a play's history may have room for: as many as an actor may have lines
 abbrev pub IsCapacity : ℕ → Type 0
@@ -40,6 +44,32 @@ draw_arguments options file =
     ++ (flag_words (codes "--svg") options.svg
     ++ (number_words (codes "--from") options.from ++ (number_words (codes "--to") options.to ++ (file ∷ []))))
 
+-- the words that say at which positions it is looked; none do where it is at the settled ones
+abbrev pub position_words : Positions → List Text
+position_words AtSettled = []
+position_words Every = codes "--every" ∷ []
+position_words (At k) = codes "--at" ∷ decimal k ∷ []
+
+-- what stands behind `why`, where it is asked of a work, and where of a flush
+abbrev pub work_arguments : Positions → Text → Text → List Text
+work_arguments positions file work = position_words positions ++ (file ∷ work ∷ [])
+
+abbrev pub flush_arguments : Positions → ℕ → Text → List Text
+flush_arguments positions flush file = codes "--flush" ∷ decimal flush ∷ (position_words positions ++ (file ∷ []))
+
+abbrev pub why_arguments : Subject → Positions → Text → List Text
+why_arguments (Work work) positions file = work_arguments positions file work.now
+why_arguments (Flush flush) positions file = flush_arguments positions flush file
+
+-- a number of at most ten digits
+abbrev pub IsShortNumber : ℕ → Type 0
+IsShortNumber n = n < 10 ^ 10
+
+-- that of a position is one
+abbrev pub HasShortNumber : Positions → Type 0
+HasShortNumber (At k) = IsShortNumber k
+HasShortNumber positions = Unit {0}
+
 -- a picture of all ticks
 abbrev pub whole : Bool → Bool → DrawOptions
 whole settle svg = record { settle = settle; svg = svg; from = None; to = None }
@@ -62,6 +92,7 @@ words_of (Asm file out) = codes "asm" ∷ file.now ∷ out.now ∷ []
 words_of (Show image) = codes "show" ∷ image.now ∷ []
 words_of (Debug file) = codes "debug" ∷ file.now ∷ []
 words_of (Draw file options) = codes "draw" ∷ draw_arguments options file.now
+words_of (Why file subject positions) = codes "why" ∷ why_arguments subject positions file.now
 words_of (Play file capacity) = codes "play" ∷ file.now ∷ codes "--capacity" ∷ decimal capacity ∷ []
 words_of (Check files) = codes "check" ∷ map (λ file. file.now) files.items
 words_of Version = codes "--version" ∷ []
@@ -139,6 +170,39 @@ words_to_draw options file = option_and_then (λ given. option_map (λ name. cod
 abbrev pub file_to_draw : List Row → Option (List Text)
 file_to_draw rows = words_to_draw (options_of rows) (first_of (codes "FILE") rows)
 
+-- The number that 1 to 10 digits spell.
+unfoldable pub plain_number : Text → Option ℕ
+plain_number word =
+    if all_ascii_digits word && (nat_lt 0 (length word) && nat_lt (length word) 11) then Some (digits_value 10 word) else None
+
+-- the positions, by whether --every is given, and by the word of --at; none where both are given, or the word isn't such a number
+abbrev pub positions_in : Bool → Option Text → Option Positions
+positions_in false None = Some AtSettled
+positions_in true None = Some Every
+positions_in false (Some word) = option_map At (plain_number word)
+positions_in true (Some word) = None
+
+-- the words of a question on a work, or on the flush whose number's word this is; none where both or neither are given
+abbrev pub question : Option Text → Option Text → Positions → Text → Option (List Text)
+question (Some work) None positions file = Some (work_arguments positions file work)
+question None (Some word) positions file = option_map (λ flush. flush_arguments positions flush file) (plain_number word)
+question None None positions file = None
+question (Some work) (Some word) positions file = None
+
+-- the words of such a question, where these are what stands for --every, --at, FILE, WORK and --flush
+abbrev pub asked_from : Bool → (at file work flush : Option Text) → Option (List Text)
+asked_from every at file work flush =
+    option_and_then
+    (λ name. option_and_then (λ positions. option_map (λ arguments. codes "why" ∷ arguments) (question work flush positions name)) (positions_in every at))
+    file
+
+abbrev pub asked_why : Bool → List Row → Option (List Text)
+asked_why every rows =
+    asked_from every (first_of (codes "K") rows) (first_of (codes "FILE") rows) (first_of (codes "WORK") rows) (first_of (codes "F") rows)
+
+abbrev pub file_to_ask : List Row → Option (List Text)
+file_to_ask rows = option_and_then (λ every. asked_why every rows) (flag_of (codes "every") rows)
+
 abbrev pub asked_in : Text × List Row → Option (List Text)
 asked_in met =
     if bytes_eq met.0 (codes "new") then Some (value_if_any (codes "new") (codes "FILE") met.1)
@@ -149,6 +213,7 @@ asked_in met =
     else if bytes_eq met.0 (codes "show") then one_value (codes "show") (codes "IMAGE") met.1
     else if bytes_eq met.0 (codes "debug") then one_value (codes "debug") (codes "FILE") met.1
     else if bytes_eq met.0 (codes "draw") then file_to_draw met.1
+    else if bytes_eq met.0 (codes "why") then file_to_ask met.1
     else if bytes_eq met.0 (codes "play") then file_and_capacity met.1
     else if bytes_eq met.0 (codes "check") then all_values (codes "check") (codes "FILE") met.1
     else None
@@ -178,6 +243,14 @@ IsRequestOf asked request = option_map (λ r. words_of r) request ≡ Some asked
 abbrev pub IsRead : List Text → List Text → Type 0
 IsRead words asked = (takes command_line words ≡ true) × (asked_of (subcommand_of command_line words) ≡ Some asked) × HasCapacity asked
 
+-- what clap met asks for nothing: it is `why`, and with its values no question
+abbrev pub AsksNothing : Text × List Row → Type 0
+AsksNothing met = (met.0 ≡ codes "why") × (every : Bool) × (flag_of (codes "every") met.1 ≡ Some every) × (asked_why every met.1 ≡ None)
+
+-- clap takes the words, and what it meets asks for nothing
+abbrev pub IsMisuse : List Text → Type 0
+IsMisuse words = (takes command_line words ≡ true) × (met : Text × List Row) × (subcommand_of command_line words ≡ Some met) × AsksNothing met
+
 -- the word is no option: it isn't empty and doesn't begin with a hyphen (45)
 abbrev pub IsPlainWord : Text → Type 0
 IsPlainWord word = (first : ℕ) × (rest : Text) × (word ≡ first ∷ rest) × (first ≢ 45)
@@ -185,6 +258,14 @@ IsPlainWord word = (first : ℕ) × (rest : Text) × (word ≡ first ∷ rest) �
 -- the answer is the request of these words, unless memory ran out
 abbrev pub Asks : List Text → Result Request Error → Type 0
 Asks words r = MatchResult r (λ request. words_of request ≡ words) (λ e. kind_of e ≡ OutOfMemory)
+
+-- an option may have it as its value
+abbrev pub IsValueWord : Text → Type 0
+IsValueWord word = (word ≡ []) ⊎ IsPlainWord word
+
+-- the answer is a usage fault, unless memory ran out
+abbrev pub IsUsageFault : Result Request Error → Type 0
+IsUsageFault r = IsErrAnd r (λ e. (kind_of e ≡ ValueValidation) ⊎ (kind_of e ≡ OutOfMemory))
 
 -- the words that ask for the version
 abbrev pub IsVersionWord : Text → Type 0

@@ -1,5 +1,6 @@
 //! What the words of a command line ask for.
 #![tactic(auto)]
 
+pub mod asking;
 pub mod drawing;
 pub mod request;

@@ -1,13 +1,15 @@
 //! The command line: which words ask for what.
 
-ghost use Rattle.clap.specs.Words.{Text, all_of, app_of, fault_of, first_of, found_of, kind_of, rows_of, subcommand_rows_of};
+ghost use Rattle.clap.specs.Words.{Row, Text, all_of, app_of, fault_of, first_of, found_of, kind_of, rows_of, subcommand_rows_of};
 ghost use Rattle.cmwq_command_line.specs.CommandLine.{command_line};
 ghost use Rattle.cmwq_words.specs.declared.request.RunKind.TheVariants.{Settled, Told};
-ghost use Rattle.cmwq_words.specs.Request.{Asks, AsksVersion, HasCapacity, IsCapacity, IsPlainWord, IsRead, IsRequestOf, IsVersionWord, IsWithin, all_values, asked_in, asked_of, draw_arguments, file_and_capacity, file_to_run, from_on, kind_of_run, one_value, run_arguments, two_values, up_to, value_if_any, whole, words_of};
+ghost use Rattle.cmwq_words.specs.Request.{Asks, AsksNothing, AsksVersion, HasCapacity, IsCapacity, IsPlainWord, IsRead, IsRequestOf, IsVersionWord, IsWithin, HasShortNumber, IsMisuse, IsShortNumber, IsUsageFault, IsValueWord, all_values, asked_in, asked_of, draw_arguments, file_and_capacity, file_to_run, flush_arguments, from_on, kind_of_run, one_value, plain_number, run_arguments, two_values, up_to, value_if_any, whole, words_of, work_arguments};
+ghost use Rattle.cmwq_words.specs.declared.asking.Positions.{Positions};
 ghost use Rattle.std.specs.Fmt.{decimal};
 ghost use Rattle.std.specs.Str.{bytes_eq};
-ghost use Rattle.std.specs.Prelude.{◌≡◌, ◌↔◌, ◌<◌, ◌^◌, Bool, IsTrue, ℕ, List, [], ◌∷◌, IfOk, IfSome, Some, codes, false, map, option_map, string_bytes, true};
+ghost use Rattle.std.specs.Prelude.{◌≡◌, ◌↔◌, ◌<◌, ◌^◌, Bool, IsTrue, ℕ, List, [], ◌∷◌, IfOk, IfSome, None, Some, codes, false, map, option_map, string_bytes, true};
 
+use crate::asking::{Positions, Subject, wanted_by_why, why_request};
 use crate::drawing::{DrawOptions, draw_request, flag_of};
 use clap::error::ErrorKind;
 use clap::{ArgMatches, Command, Error};
@@ -75,6 +77,15 @@ pub enum Request<'a> {
         /// What the picture shows, and how.
         options: DrawOptions,
     },
+    /// Tell why a work of the scenario whose text is in this file doesn't get on, or what a flush waits for.
+    Why {
+        /// The text's path.
+        file: &'a str,
+        /// The work or flush.
+        subject: Subject<'a>,
+        /// At which positions it is looked.
+        positions: Positions,
+    },
     /// Carry out all actors of the scenario whose text is in this file at once.
     Play {
         /// The text's path.
@@ -94,8 +105,9 @@ pub enum Request<'a> {
 /// Reads the words, of which the first is the program's name. The error is a usage fault, help that
 /// was asked for, or want of memory; it holds the text for the user. The version is a request.
 ///
-/// Each command's words ask for it, where no FILE, OUT or IMAGE is empty or begins with a hyphen;
-/// the call then fails only for want of memory.
+/// Each command's words ask for it, where no FILE, OUT, IMAGE or WORK is empty or begins with a hyphen;
+/// the call then fails only for want of memory. It is a usage fault where `why` is asked of neither or of both of a work and
+/// a flush, at positions of two kinds, or with a number that hasn't 1 to 10 digits.
 pub fn parse<'a>(alloc: Global, words: &'a [String]) -> Result<Request<'a>, Error>
     ensures new { (name : Text) → map string_bytes words.entry.now ≡ name ∷ codes "new" ∷ []
         → Asks (codes "new" ∷ []) result }
@@ -115,6 +127,20 @@ pub fn parse<'a>(alloc: Global, words: &'a [String]) -> Result<Request<'a>, Erro
         → IsPlainWord file → time < 2 ^ 64 → Asks (codes "draw" ∷ draw_arguments (from_on time) file) result }
     ensures draw_to { (name file : Text) (time : ℕ) → map string_bytes words.entry.now ≡ name ∷ codes "draw" ∷ draw_arguments (up_to time) file
         → IsPlainWord file → time < 2 ^ 64 → Asks (codes "draw" ∷ draw_arguments (up_to time) file) result }
+    ensures why_work { (name file work : Text) (positions : Positions) → map string_bytes words.entry.now ≡ name ∷ codes "why" ∷ work_arguments positions file work
+        → IsPlainWord file → IsPlainWord work → HasShortNumber positions → Asks (codes "why" ∷ work_arguments positions file work) result }
+    ensures why_flush { (name file : Text) (flush : ℕ) (positions : Positions) → map string_bytes words.entry.now ≡ name ∷ codes "why" ∷ flush_arguments positions flush file
+        → IsPlainWord file → IsShortNumber flush → HasShortNumber positions → Asks (codes "why" ∷ flush_arguments positions flush file) result }
+    ensures why_of_neither { (name file : Text) → map string_bytes words.entry.now ≡ name ∷ codes "why" ∷ file ∷ []
+        → IsPlainWord file → IsUsageFault result }
+    ensures why_of_both { (name number file work : Text) → map string_bytes words.entry.now ≡ name ∷ codes "why" ∷ codes "--flush" ∷ number ∷ file ∷ work ∷ []
+        → IsValueWord number → IsPlainWord file → IsPlainWord work → IsUsageFault result }
+    ensures why_of_no_number { (name number file : Text) → map string_bytes words.entry.now ≡ name ∷ codes "why" ∷ codes "--flush" ∷ number ∷ file ∷ []
+        → IsValueWord number → plain_number number ≡ None → IsPlainWord file → IsUsageFault result }
+    ensures why_at_both { (name number file work : Text) → map string_bytes words.entry.now ≡ name ∷ codes "why" ∷ codes "--every" ∷ codes "--at" ∷ number ∷ file ∷ work ∷ []
+        → IsValueWord number → IsPlainWord file → IsPlainWord work → IsUsageFault result }
+    ensures why_at_no_number { (name number file work : Text) → map string_bytes words.entry.now ≡ name ∷ codes "why" ∷ codes "--at" ∷ number ∷ file ∷ work ∷ []
+        → IsValueWord number → plain_number number ≡ None → IsPlainWord file → IsPlainWord work → IsUsageFault result }
     ensures list { (name file : Text) → map string_bytes words.entry.now ≡ name ∷ codes "list" ∷ file ∷ []
         → IsPlainWord file → Asks (codes "list" ∷ file ∷ []) result }
     ensures asm { (name file out : Text) → map string_bytes words.entry.now ≡ name ∷ codes "asm" ∷ file ∷ out ∷ []
@@ -145,6 +171,7 @@ fn request_met<'a>(
 ) -> Result<Request<'a>, Error>
     requires { app_of command.now ≡ command_line }
     ensures asks { (asked : List Text) → IsRead (map string_bytes words.entry.now) asked → Asks asked result }
+    ensures misuse { IsMisuse (map string_bytes words.entry.now) → IsUsageFault result }
     ensures version { fault_of command_line (map string_bytes words.entry.now) ≡ ErrorKind.DisplayVersion ∷ [] → AsksVersion result }
     ensures capacity { IfOk result (λ request. IsWithin request) }
 {
@@ -166,6 +193,7 @@ fn wanted_words(matches: &ArgMatches<'_>) -> &'static str {
             "--settle and --tell don't go together: `cmwq settle` writes the text to run with --tell"
         }
         Some(("draw", _)) => "--from and --to take a time in ticks",
+        Some(("why", given)) => wanted_by_why(given),
         _ => "--capacity takes a number from 1 to 4096",
     }
 }
@@ -194,6 +222,7 @@ fn request_of<'a>(
     matches: &ArgMatches<'a>,
 ) -> Result<Option<Request<'a>>, AllocError>
     ensures words { (asked : List Text) → asked_of (subcommand_rows_of matches.now) ≡ Some asked → HasCapacity asked → IfOk result (λ request. IsRequestOf asked request) }
+    ensures nothing { (met : Text × List Row) → subcommand_rows_of matches.now ≡ Some met → AsksNothing met → IfOk result (λ request. request ≡ None) }
     ensures capacity { IfOk result (λ found. IfSome found (λ request. IsWithin request)) }
 {
     match matches.subcommand() {
@@ -209,6 +238,7 @@ fn request_by<'a>(
     given: &ArgMatches<'a>,
 ) -> Result<Option<Request<'a>>, AllocError>
     ensures words { (asked : List Text) → asked_in (name.now, rows_of (found_of given.now)) ≡ Some asked → HasCapacity asked → IfOk result (λ request. IsRequestOf asked request) }
+    ensures nothing { AsksNothing (name.now, rows_of (found_of given.now)) → IfOk result (λ request. request ≡ None) }
     ensures capacity { IfOk result (λ found. IfSome found (λ request. IsWithin request)) }
 {
     if name == "check" {
@@ -235,6 +265,7 @@ fn check_of<'a>(alloc: Global, given: &ArgMatches<'a>) -> Result<Option<Request<
 fn request_on_file<'a>(name: &str, given: &ArgMatches<'a>) -> Option<Request<'a>>
     requires { bytes_eq name.now (codes "check") ≡ false }
     ensures words { (asked : List Text) → asked_in (name.now, rows_of (found_of given.now)) ≡ Some asked → HasCapacity asked → option_map (λ request. words_of request) result ≡ Some asked }
+    ensures nothing { AsksNothing (name.now, rows_of (found_of given.now)) → result ≡ None }
     ensures capacity { IfSome result (λ request. IsWithin request) }
 {
     match name {
@@ -246,6 +277,7 @@ fn request_on_file<'a>(name: &str, given: &ArgMatches<'a>) -> Option<Request<'a>
         "show" => show_request(given),
         "debug" => debug_request(given),
         "draw" => draw_request(given),
+        "why" => why_request(given),
         "play" => play_request(given),
         _ => None,
     }
