@@ -7,6 +7,7 @@ ghost use Rattle.cmwq_words.specs.Request.{IsCapacity, IsVersionWord, IsWithin};
 ghost use Rattle.cmwq_command.specs.declared.telling.TheConstants.{GOOD};
 ghost use Rattle.std.specs.Prelude.{◌≡◌, ◌∷◌, [], Err, IfOk, MatchResult, Ok, OnOk, false, map, string_bytes};
 
+use crate::asking::{looks_of, question_of};
 use crate::checking::{Judged, check_text, tell_unread};
 use crate::starting::{write_first, write_version};
 use crate::telling::{GOOD, tell};
@@ -15,6 +16,7 @@ use cmwq_play::{Marked, OpenGate, PlayError, Sink};
 use cmwq_settle::{run_settled, settle_text};
 use cmwq_tell::run_told;
 use cmwq_verdict::Look;
+use cmwq_words::asking::{Positions, Subject};
 use cmwq_words::drawing::DrawOptions;
 use cmwq_words::request::{Request, RunKind, parse};
 use std::fs::File;
@@ -75,6 +77,11 @@ where
         Request::Show { image } => good(show(rt, output, image)),
         Request::Debug { file } => good(debug(rt, input, output, file)),
         Request::Draw { file, options } => good(draw(rt, output, file, options)),
+        Request::Why {
+            file,
+            subject,
+            positions,
+        } => good(why(rt, output, file, subject, positions)),
         Request::Play { file, capacity } => good(play(rt, output, file, capacity)),
         Request::Check { files } => check(rt, look, output, errors, &files),
         Request::Version => good(write_version(rt.alloc(), output)),
@@ -189,6 +196,26 @@ fn draw<R: Files + AllocGlobal, W: Sink>(
     cmwq_draw::draw(
         rt.alloc(),
         Drawing { settle, svg, span },
+        &mut reader,
+        writer,
+    )
+}
+
+/// Tells why something waits in the run of the scenario whose text is in the file.
+fn why<R: Files + AllocGlobal, W: Sink>(
+    rt: &R,
+    writer: &mut W,
+    file: &str,
+    subject: Subject<'_>,
+    positions: Positions,
+) -> Result<(), PlayError>
+    requires { W.failed writer.old ≡ false }
+{
+    let mut reader = opened(rt, file)?;
+    cmwq_explain::why(
+        rt.alloc(),
+        question_of(subject),
+        looks_of(positions),
         &mut reader,
         writer,
     )

@@ -1,6 +1,7 @@
 //! How what the words ask is carried out on files, and how the program ends.
 #![tactic(auto)]
 
+mod asking;
 mod carrying;
 mod checking;
 pub mod fault;

@@ -1,0 +1,28 @@
+//! What the words of `why` ask of a run.
+
+ghost use Rattle.cmwq_command.specs.Asking.{looks_of, question_of};
+ghost use Rattle.std.specs.Prelude.{◌≡◌};
+
+use cmwq_explain::{Looks, Question};
+use cmwq_words::asking::{Positions, Subject};
+
+/// The question after the work or the flush.
+pub(crate) fn question_of(subject: Subject<'_>) -> Question<'_>
+    ensures { result ≡ question_of subject }
+{
+    match subject {
+        Subject::Work(name) => Question::Work(name),
+        Subject::Flush(flush) => Question::Flush(flush),
+    }
+}
+
+/// The positions that are looked at.
+pub(crate) fn looks_of(positions: Positions) -> Looks
+    ensures { result ≡ looks_of positions }
+{
+    match positions {
+        Positions::Settled => Looks::Settled,
+        Positions::Every => Looks::Every,
+        Positions::At(position) => Looks::At(position),
+    }
+}
