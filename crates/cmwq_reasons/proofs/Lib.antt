@@ -5,6 +5,7 @@ pub mod MoverLemmas
 pub mod NextLemmas
 pub mod PendingRows
 pub mod RankLemmas
+pub mod RestLemmas
 pub mod RunningRows
 pub mod ThawLemmas
 pub mod TickLemmas
