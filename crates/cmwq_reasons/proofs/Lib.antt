@@ -9,3 +9,4 @@ pub mod RestLemmas
 pub mod RunningRows
 pub mod ThawLemmas
 pub mod TickLemmas
+pub mod WorkerLemmas
