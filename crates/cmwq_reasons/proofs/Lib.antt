@@ -8,5 +8,6 @@ pub mod RankLemmas
 pub mod RestLemmas
 pub mod RunningRows
 pub mod ThawLemmas
+pub mod StaffLemmas
 pub mod TickLemmas
 pub mod WorkerLemmas
