@@ -3,6 +3,7 @@ pub mod FlushLemmas
 pub mod MaxLemmas
 pub mod MoverLemmas
 pub mod NextLemmas
+pub mod NoWorkerLemmas
 pub mod PendingRows
 pub mod RankLemmas
 pub mod RestLemmas

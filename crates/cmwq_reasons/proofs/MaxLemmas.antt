@@ -187,7 +187,7 @@ all-some S s (i ∷ instrs) all = all-some S (table S s i).0 instrs (table-some 
 
 -- At the start.
 
-first-none : (a b : Option Fault) → fault_of_two a b ≡ None → a ≡ None
+pub first-none : (a b : Option Fault) → fault_of_two a b ≡ None → a ≡ None
 first-none (Some fault) b e = cc
 first-none None b e = refl
 
@@ -195,7 +195,7 @@ second-none : (a b : Option Fault) → fault_of_two a b ≡ None → b ≡ None
 second-none (Some fault) b e = cc
 second-none None b e = e
 
-passes : (b : Bool) (fault : Fault) → fault_unless b fault ≡ None → b ≡ true
+pub passes : (b : Bool) (fault : Fault) → fault_unless b fault ≡ None → b ≡ true
 passes true fault e = refl
 passes false fault e = cc
 

@@ -101,7 +101,7 @@ none-of-three None (Some m) c e = cc
 none-of-three None None (Some m) e = cc
 none-of-three None None None e = (refl, refl, refl)
 
-as_move-none : (f : WorkId → Move) (o : Option ℕ) → as_move f o ≡ None → o ≡ None
+pub as_move-none : (f : WorkId → Move) (o : Option ℕ) → as_move f o ≡ None → o ≡ None
 as_move-none f (Some w) e = cc
 as_move-none f None e = refl
 

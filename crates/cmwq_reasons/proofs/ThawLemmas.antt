@@ -298,7 +298,7 @@ below-among S s queue bound (suc n) w there =
     ]
 
 -- where some number passes, the count isn't 0
-count-some : (f : ℕ → Bool) (n k : ℕ) → k < n → f k ≡ true → count_below f n ≡ 0 → ⊥
+pub count-some : (f : ℕ → Bool) (n k : ℕ) → k < n → f k ≡ true → count_below f n ≡ 0 → ⊥
 count-some f zero k h e none = absurd (omega arith)
 count-some f (suc n) k h e none =
     elim (cases_eq n k) [

@@ -2,19 +2,17 @@
 -- each change of workers keeps.
 use Rattle.std.proofs.Common.{◌≡◌, ℕ, zero, suc, ◌+◌, ◌*◌, ◌<◌, ◌≤◌, Bool, true, false, not, cond, ◌&&◌, List, [], ◌∷◌, length, Option, Some, None, arith, refl, sym, ap, ◌∙◌, subst, inl, inr}
 use Rattle.std.proofs.Math.ListN.{length-set}
-use Rattle.std.proofs.lemmas.Bool.{and_parts, cases_eq, cases_lt, cond-false, cond-true, eq-eqb, eqb-true, false_from_ne_true, ltb-true, ne_eqb, true_from_ne_false}
+use Rattle.std.proofs.lemmas.Bool.{cases_eq, cases_lt, cond-false, eq-eqb, eqb-true, false_from_ne_true, ltb-true, ne_eqb, true_from_ne_false}
 use Rattle.std.proofs.lemmas.List.{get_or-set_other, get_or-set_same, get_or_past}
 use Rattle.std.specs.Prelude.{is_some, nat_lt, slice_index_or, slice_set, ◌==◌}
 use Rattle.cmwq_types.specs.Contents.{ScenarioContents}
 use Rattle.cmwq_types.specs.First.{by_greatest, count_below}
-use Rattle.cmwq_types.specs.Setting.{IsSetting}
 use Rattle.cmwq_types.specs.declared.limits.TheConstants.{MAX_WORKERS, RESCUER}
 use Rattle.cmwq_types.proofs.FirstLemmas.{by_greatest-order, count_below-agree, first_below-is_first}
 use Rattle.cmwq_table.specs.declared.state.Pending.{Pending}
 use Rattle.cmwq_table.specs.declared.state.Running.{Running}
 use Rattle.cmwq_table.specs.State.{State, idle_at, made_at, pool_count, running_at, seat}
 use Rattle.cmwq_table.specs.Counts.{free_worker, idle_stamp, is_rescuer, last_idle, new_worker, or_else}
-use Rattle.cmwq_table.specs.Moves.{become_idle, begun, started_on}
 use Rattle.cmwq_reasons.proofs.MoverLemmas.{some-first}
 use Rattle.cmwq_reasons.proofs.RestLemmas.{rest}
 

@@ -28,7 +28,7 @@ use Rattle.cmwq_reasons.specs.declared.reason.Reason.{Reason}
 use Rattle.cmwq_reasons.specs.declared.reason.Reason.TheVariants as reason
 use Rattle.cmwq_reasons.specs.declared.reason.Turn.{Turn}
 use Rattle.cmwq_reasons.specs.declared.reason.Turn.TheVariants.{Starts, Defers, StartsOnRescuer}
-use Rattle.cmwq_reasons.specs.Reasons.{causes, lacks_thaw, mover, pending_half, reason_of, reason_of_pending, reason_of_running, running_half, waits, work_of}
+use Rattle.cmwq_reasons.specs.Reasons.{causes, lacks_memory, lacks_thaw, mover, pending_half, reason_of, reason_of_pending, reason_of_running, running_half, waits, work_of, works_on_pool_workers}
 
 -- Where a law holds: in whatever state, be it one that a run comes to or not.
 abbrev pub InAnyState : (ScenarioContents → State → Type 0) → Type 0
@@ -376,6 +376,15 @@ unfoldable pub NoWorkerIsFree : ScenarioContents → State → Type 0
 NoWorkerIsFree S s =
     AtEachPending S s (λ w p. (pool : ℕ) → reason_of_pending S s w (Some p) ≡ reason.NoWorker pool
     → HasNoIdleWorker S s pool × (s.pressed ≡ false → S.workers ≤ made_at s pool))
+
+-- Where a work has no worker, a work is blamed for each worker that the pool has made; these are all that it may make, or
+-- memory is short; and nobody at all is blamed exactly where the work lacks memory.
+unfoldable pub NoWorkerNamesAll : ScenarioContents → State → Type 0
+NoWorkerNamesAll S s =
+    AtEachPending S s (λ w p. (pool : ℕ) → reason_of_pending S s w (Some p) ≡ reason.NoWorker pool
+    → (length (works_on_pool_workers S s pool) ≡ made_at s pool)
+    × ((made_at s pool ≡ S.workers) ⊎ (s.pressed ≡ true))
+    × ((causes S s w (reason.NoWorker pool) ≡ []) ↔ (lacks_memory S s (pending_half w) ≡ true)))
 
 -- Not by itself.
 

@@ -2,10 +2,10 @@
 //!
 //! Each function's contract is a law, over each state of each scenario, or over those that runs come to where it says
 //! so. The functions do nothing: they carry the laws.
-ghost use Rattle.cmwq_reasons.specs.Laws.{BurnsInTick, FrozenByFreeze, HeldNamesCounted, InAnyState, InactiveNamesActive, IsFiredNext, IsMovedNext, IsNextToMove, MomentsPassFirst, NoWorkerIsFree, RanksCausesBelow, TellsAfter, TellsAsleep, TellsBehind, TellsBurns, TellsDeferred, TellsDisabled, TellsFiresAfter, TellsFiresNext, TellsFree, TellsFrozen, TellsHeld, TellsHighHas, TellsInactive, TellsNoWorker, TellsNotPending, TellsReadyAfter, TellsReadyNext, TellsTimer, TellsWakesAfter, TellsWakesNext, WaitsForThaw, WaitsUntilDone};
+ghost use Rattle.cmwq_reasons.specs.Laws.{BurnsInTick, FrozenByFreeze, HeldNamesCounted, InAnyState, InactiveNamesActive, IsFiredNext, IsMovedNext, IsNextToMove, MomentsPassFirst, NoWorkerIsFree, NoWorkerNamesAll, RanksCausesBelow, TellsAfter, TellsAsleep, TellsBehind, TellsBurns, TellsDeferred, TellsDisabled, TellsFiresAfter, TellsFiresNext, TellsFree, TellsFrozen, TellsHeld, TellsHighHas, TellsInactive, TellsNoWorker, TellsNotPending, TellsReadyAfter, TellsReadyNext, TellsTimer, TellsWakesAfter, TellsWakesNext, WaitsForThaw, WaitsUntilDone};
 ghost use Rattle.cmwq_table.specs.Laws.{InEveryState};
 
-use cmwq_table::laws::inactive_works_leave_no_room;
+use cmwq_table::laws::{inactive_works_leave_no_room, queues_have_at_most_one_rescuer, works_are_not_reentrant};
 
 /// Each work that runs has one reason why it isn't further, and each reason is given exactly where its condition holds.
 /// The reasons are this project's own.
@@ -106,6 +106,17 @@ pub fn held_works_name_the_counted_ones()
 pub fn works_without_a_worker_find_none_idle()
     ensures { InAnyState NoWorkerIsFree }
 {}
+
+/// Where a work has no worker, the reason blames as many works on workers of the pool as it has made; beside them it blames who
+/// has the rescuer of the work's queue. The pool has made all its workers, or memory is short. Nobody at all is blamed
+/// exactly where the work lacks memory.
+#[tactic(auto, using(crate::proofs::NoWorkerLemmas::no_worker_names_all))]
+pub fn works_without_a_worker_name_who_has_them()
+    ensures { InEveryState NoWorkerNamesAll }
+{
+    works_are_not_reentrant();
+    queues_have_at_most_one_rescuer();
+}
 
 /// A flush that waits for an instance that lacks a thaw isn't done by itself: whatever steps, timers and ticks come, it waits
 /// for it.
