@@ -1,6 +1,7 @@
 pub mod CountLemmas
 pub mod FlushLemmas
 pub mod MaxLemmas
+pub mod MemoryLemmas
 pub mod MoverLemmas
 pub mod NextLemmas
 pub mod NoWorkerLemmas

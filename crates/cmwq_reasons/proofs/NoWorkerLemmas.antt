@@ -115,7 +115,7 @@ starved-from true false made short none e = and_from (made == 0) true (eq-eqb ma
 starved-from true true made short none e = cc
 starved-from false reclaims made short none e = cc
 
-starved-parts : (pressed reclaims : Bool) (made : ℕ) → (pressed && ((made == 0) && not reclaims)) ≡ true → (pressed ≡ true) × (made ≡ 0) × (reclaims ≡ false)
+pub starved-parts : (pressed reclaims : Bool) (made : ℕ) → (pressed && ((made == 0) && not reclaims)) ≡ true → (pressed ≡ true) × (made ≡ 0) × (reclaims ≡ false)
 starved-parts pressed reclaims made e =
     let both = and_parts pressed ((made == 0) && not reclaims) e in
     let more = and_parts (made == 0) (not reclaims) both.1 in

@@ -317,32 +317,35 @@ stuck-here S s w (Some p) is lacks = placed p.place refl lacks
     placed (Deferred pool) at none = cc
 stuck-here S s w None is lacks = cc
 
--- what is placed now keeps its flush waiting then
+-- what pends as before keeps its flush waiting
 still-placed : (s t : State) (w : ℕ) (test : ℕ → Bool) → pending_at t w ≡ pending_at s w → placed_born test (pending_at s w) ≡ true → has_instance t w test ≡ true
 still-placed s t w test same placed =
     or_left (placed_born test (pending_at t w)) (runs (λ r. test r.born) (running_at t w)) (ap (placed_born test) same ∙ placed)
 
-waits-still : (S : ScenarioContents) (s t : State) (target : FlushTarget) (w : WorkId) → pending_at t w.0 ≡ pending_at s w.0
+-- what is placed, and is then still there, keeps its flush waiting
+pub waits-still : (S : ScenarioContents) (s t : State) (target : FlushTarget) (w : WorkId)
+    → ((test : ℕ → Bool) → placed_born test (pending_at s w.0) ≡ true → has_instance t w.0 test ≡ true)
     → IsAmong (instance.Pending w) (waits S s target) → is_done S t target ≡ false
-waits-still S s t (target.Instance work born) w same there =
+waits-still S s t (target.Instance work born) w stays there =
     elim (all-among s (instance.Pending w) (instances_born s (λ b. b == born) work.0) [] there) [
       | inl here ↦ (let found = born-among s (λ b. b == born) w work.0 here in
-          ap not (still-placed s t work.0 (λ b. b == born) (subst (λ (k : ℕ). pending_at t k ≡ pending_at s k) found.0 same) found.1))
+          ap not
+          (subst (λ (k : ℕ). placed_born (λ b. b == born) (pending_at s k) ≡ true → has_instance t k (λ b. b == born) ≡ true) found.0 (stays (λ b. b == born)) found.1))
       | inr none ↦ absurd none
     ]
-waits-still S s t (target.Queue queue bound) w same there =
+waits-still S s t (target.Queue queue bound) w stays there =
     let waited = below-among S s queue.0 bound (length S.works) w there in
-    let there_still : has_instance t w.0 (λ born. nat_lt born bound) ≡ true = still-placed s t w.0 (λ born. nat_lt born bound) same waited.placed in
+    let there_still : has_instance t w.0 (λ born. nat_lt born bound) ≡ true = stays (λ born. nat_lt born bound) waited.placed in
     let passes : ((queue_of S w.0 == queue.0) && has_instance t w.0 (λ born. nat_lt born bound)) ≡ true =
     and_from (queue_of S w.0 == queue.0) (has_instance t w.0 (λ born. nat_lt born bound)) waited.of_queue there_still in
     ne_eqb (queued_before S t queue.0 bound) 0
     (count-some (λ v. (queue_of S v == queue.0) && has_instance t v (λ born. nat_lt born bound)) (length S.works) w.0 waited.within passes)
-waits-still S s t target.Nothing w same there = absurd there
+waits-still S s t target.Nothing w stays there = absurd there
 
 pub waits_for_thaw : InAnyState WaitsForThaw
 unfolding WaitsForThaw
 waits_for_thaw S s target (instance.Pending w) there lacks later moves =
     let found = stuck-here S s w.0 (pending_at s w.0) refl lacks in
     let after : Stuck S w.0 found.0 found.1 (after_all S s later) = all-stuck S w.0 found.0 found.1 s later found.2 moves in
-    waits-still S s (after_all S s later) target w (after.is ∙ sym found.2.is) there
+    waits-still S s (after_all S s later) target w (λ test placed. still-placed s (after_all S s later) w.0 test (after.is ∙ sym found.2.is) placed) there
 waits_for_thaw S s target (instance.Running w) there lacks later moves = cc

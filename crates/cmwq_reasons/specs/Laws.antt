@@ -417,8 +417,16 @@ abbrev pub AreMoves : List Instr → Type 0
 AreMoves [] = Unit {0}
 AreMoves (i ∷ is) = (is_move i ≡ true) × AreMoves is
 
--- A flush that waits for an instance that lacks a thaw isn't done by anything that the machine does by itself.
-unfoldable pub WaitsForThaw : ScenarioContents → State → Type 0
-WaitsForThaw S s =
-    (target : FlushTarget) (x : Instance) → IsAmong x (waits S s target) → lacks_thaw S s x ≡ true → (later : List Instr) → AreMoves later
+-- A flush that waits for an instance that lacks this isn't done by anything that the machine does by itself.
+abbrev pub WaitsWhile : (ScenarioContents → State → Instance → Bool) → ScenarioContents → State → Type 0
+WaitsWhile lacks S s =
+    (target : FlushTarget) (x : Instance) → IsAmong x (waits S s target) → lacks S s x ≡ true → (later : List Instr) → AreMoves later
     → is_done S (after_all S s later) target ≡ false
+
+-- Where an instance lacks a thaw, its flush waits.
+unfoldable pub WaitsForThaw : ScenarioContents → State → Type 0
+WaitsForThaw S s = WaitsWhile lacks_thaw S s
+
+-- Where an instance lacks memory, its flush waits.
+unfoldable pub WaitsForRelief : ScenarioContents → State → Type 0
+WaitsForRelief S s = WaitsWhile lacks_memory S s

@@ -2,7 +2,7 @@
 //!
 //! Each function's contract is a law, over each state of each scenario, or over those that runs come to where it says
 //! so. The functions do nothing: they carry the laws.
-ghost use Rattle.cmwq_reasons.specs.Laws.{BurnsInTick, FrozenByFreeze, HeldNamesCounted, InAnyState, InactiveNamesActive, IsFiredNext, IsMovedNext, IsNextToMove, MomentsPassFirst, NoWorkerIsFree, NoWorkerNamesAll, RanksCausesBelow, TellsAfter, TellsAsleep, TellsBehind, TellsBurns, TellsDeferred, TellsDisabled, TellsFiresAfter, TellsFiresNext, TellsFree, TellsFrozen, TellsHeld, TellsHighHas, TellsInactive, TellsNoWorker, TellsNotPending, TellsReadyAfter, TellsReadyNext, TellsTimer, TellsWakesAfter, TellsWakesNext, WaitsForThaw, WaitsUntilDone};
+ghost use Rattle.cmwq_reasons.specs.Laws.{BurnsInTick, FrozenByFreeze, HeldNamesCounted, InAnyState, InactiveNamesActive, IsFiredNext, IsMovedNext, IsNextToMove, MomentsPassFirst, NoWorkerIsFree, NoWorkerNamesAll, RanksCausesBelow, TellsAfter, TellsAsleep, TellsBehind, TellsBurns, TellsDeferred, TellsDisabled, TellsFiresAfter, TellsFiresNext, TellsFree, TellsFrozen, TellsHeld, TellsHighHas, TellsInactive, TellsNoWorker, TellsNotPending, TellsReadyAfter, TellsReadyNext, TellsTimer, TellsWakesAfter, TellsWakesNext, WaitsForRelief, WaitsForThaw, WaitsUntilDone};
 ghost use Rattle.cmwq_table.specs.Laws.{InEveryState};
 
 use cmwq_table::laws::{inactive_works_leave_no_room, queues_have_at_most_one_rescuer, works_are_not_reentrant};
@@ -124,3 +124,13 @@ pub fn works_without_a_worker_name_who_has_them()
 pub fn no_flush_is_done_before_the_thaw()
     ensures { InAnyState WaitsForThaw }
 {}
+
+/// A flush that waits for an instance that lacks memory isn't done by itself: where memory is short, the pool has no worker and
+/// the queue no rescuer, whatever steps, timers and ticks come, no worker is made and the flush waits.
+#[tactic(auto, using(crate::proofs::MemoryLemmas::waits_for_relief))]
+pub fn no_flush_is_done_before_the_relief()
+    ensures { InEveryState WaitsForRelief }
+{
+    works_are_not_reentrant();
+    queues_have_at_most_one_rescuer();
+}
