@@ -321,15 +321,15 @@ WaitsUntilDone S s = (target : FlushTarget) → (waits S s target ≡ []) ↔ (i
 
 -- Ranks.
 
--- how far a reason may stand from what ends a wait
+-- how many instances a wait may have to its end, from one with such a reason on
 abbrev pub rank : Reason → ℕ
-rank (reason.Inactive pool) = 6
-rank (reason.Deferred pool) = 5
-rank (reason.NoWorker pool) = 5
-rank (reason.Held pool) = 5
-rank (reason.After pool x) = 5
-rank (reason.Behind v) = 4
-rank (reason.HighHas v) = 3
+rank (reason.Inactive pool) = 5
+rank (reason.Deferred pool) = 4
+rank (reason.NoWorker pool) = 4
+rank (reason.Held pool) = 4
+rank (reason.After pool x) = 4
+rank (reason.Behind v) = 3
+rank (reason.HighHas v) = 2
 rank (reason.ReadyAfter x) = 2
 rank (reason.WakesAfter x) = 2
 rank (reason.Asleep until) = 1
@@ -353,6 +353,23 @@ unfoldable pub RanksCausesBelow : ScenarioContents → State → Type 0
 RanksCausesBelow S s =
     (x y : Instance) (a b : Reason) → work_of x < length S.works → reason_of S s x ≡ Some a → reason_of S s y ≡ Some b
     → IsAmong y (causes S s (work_of x) a) → rank b < rank a
+
+-- Chains of blame.
+
+-- the next instance, if there is one, is one that the reason of the work w blames
+abbrev pub BlamesNext : ScenarioContents → State → ℕ → Reason → List Instance → Type 0
+BlamesNext S s w a [] = Unit {0}
+BlamesNext S s w a (y ∷ ys) = IsAmong y (causes S s w a)
+
+-- instances of the scenario's works, of which each has a reason that blames the next one
+abbrev pub IsChainOfBlame : ScenarioContents → State → List Instance → Type 0
+IsChainOfBlame S s [] = Unit {0}
+IsChainOfBlame S s (x ∷ xs) =
+    (a : Reason) × (work_of x < length S.works) × (reason_of S s x ≡ Some a) × BlamesNext S s (work_of x) a xs × IsChainOfBlame S s xs
+
+-- A chain of blame has at most five instances.
+unfoldable pub BlamesAtMostFive : ScenarioContents → State → Type 0
+BlamesAtMostFive S s = (chain : List Instance) → IsChainOfBlame S s chain → length chain ≤ 5
 
 -- Who is named.
 

@@ -2,7 +2,7 @@
 //!
 //! Each function's contract is a law, over each state of each scenario, or over those that runs come to where it says
 //! so. The functions do nothing: they carry the laws.
-ghost use Rattle.cmwq_reasons.specs.Laws.{BurnsInTick, FrozenByFreeze, HeldNamesCounted, InAnyState, InactiveNamesActive, IsFiredNext, IsMovedNext, IsNextToMove, MomentsPassFirst, NoWorkerIsFree, NoWorkerNamesAll, RanksCausesBelow, TellsAfter, TellsAsleep, TellsBehind, TellsBurns, TellsDeferred, TellsDisabled, TellsFiresAfter, TellsFiresNext, TellsFree, TellsFrozen, TellsHeld, TellsHighHas, TellsInactive, TellsNoWorker, TellsNotPending, TellsReadyAfter, TellsReadyNext, TellsTimer, TellsWakesAfter, TellsWakesNext, WaitsForRelief, WaitsForThaw, WaitsUntilDone};
+ghost use Rattle.cmwq_reasons.specs.Laws.{BlamesAtMostFive, BurnsInTick, FrozenByFreeze, HeldNamesCounted, InAnyState, InactiveNamesActive, IsFiredNext, IsMovedNext, IsNextToMove, MomentsPassFirst, NoWorkerIsFree, NoWorkerNamesAll, RanksCausesBelow, TellsAfter, TellsAsleep, TellsBehind, TellsBurns, TellsDeferred, TellsDisabled, TellsFiresAfter, TellsFiresNext, TellsFree, TellsFrozen, TellsHeld, TellsHighHas, TellsInactive, TellsNoWorker, TellsNotPending, TellsReadyAfter, TellsReadyNext, TellsTimer, TellsWakesAfter, TellsWakesNext, WaitsForRelief, WaitsForThaw, WaitsUntilDone};
 ghost use Rattle.cmwq_table.specs.Laws.{InEveryState};
 
 use cmwq_table::laws::{inactive_works_leave_no_room, queues_have_at_most_one_rescuer, works_are_not_reentrant};
@@ -67,11 +67,18 @@ pub fn burning_works_burn()
     ensures { InAnyState BurnsInTick }
 {}
 
-/// No wait goes round: an instance that a reason blames has a reason of lower rank. So whoever follows the blame comes in at
-/// most five instances to one that burns, sleeps or is next, or that waits for a thaw, or for a worker that nobody has.
+/// No wait goes round: an instance that a reason blames has a reason of lower rank. So whoever follows the blame comes to one
+/// that burns, sleeps or is next, or that waits for a thaw, or for a worker that nobody has.
 #[tactic(auto, using(crate::proofs::RankLemmas::ranks_causes_below))]
 pub fn no_wait_goes_round()
     ensures { InAnyState RanksCausesBelow }
+{}
+
+/// Whoever goes from an instance to one that its reason blames, and on from there, has met at most five when nobody is blamed
+/// any more: so there is no ring among them either.
+#[tactic(auto, using(crate::proofs::RankLemmas::blames_at_most_five))]
+pub fn chains_of_blame_have_at_most_five_instances()
+    ensures { InAnyState BlamesAtMostFive }
 {}
 
 /// A flush waits for no instance exactly where it is done.
