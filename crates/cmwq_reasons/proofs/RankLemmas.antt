@@ -93,7 +93,7 @@ rank-head S s w r =
 
 -- the first of a CPU's high pool is next, or burns: it moves before all others of the pool, and nothing stands above
 module _ (S : ScenarioContents) (s : State) (w : ℕ) (r : Running) (is : running_at s w ≡ Some r) (high : is_high r.pool ≡ true)
-  (bound : is_unbound S r.pool ≡ false) (first : first_runnable S s r.pool ≡ Some w) where
+    (bound : is_unbound S r.pool ≡ false) (first : first_runnable S s r.pool ≡ Some w) where
   first-moves : r.left ≡ 0 → mover S s r.pool ≡ Some (running_half w)
   first-moves left =
       ap (λ (o : Option ℕ). moved_by (or_else (as_move Advance o) (or_else (as_move Wake (first_slept S s r.pool)) (start_move S s r.pool))))

@@ -265,9 +265,9 @@ no-post q o is = ap (λ (p : Option Post). bit (is_in q p)) is
 
 -- A work starts on a free worker.
 module _ (S : ScenarioContents) (s : State) (few : S.workers ≤ MAX_WORKERS) (staffed : IsStaffed S s) (pool w worker made : ℕ) (r : Running)
-  (in_pool : r.pool ≡ pool) (on : r.worker ≡ worker) (in_range : pool < pool_count S) (declared : w < length S.works) (still : post_at s w ≡ None)
-  (free : Free S s pool worker made) (t : State) (running : t.running ≡ slice_set s.running w (Some r))
-  (idle : t.idle ≡ slice_set s.idle (seat pool worker) None) (wrote : t.made ≡ slice_set s.made pool made) where
+    (in_pool : r.pool ≡ pool) (on : r.worker ≡ worker) (in_range : pool < pool_count S) (declared : w < length S.works) (still : post_at s w ≡ None)
+    (free : Free S s pool worker made) (t : State) (running : t.running ≡ slice_set s.running w (Some r))
+    (idle : t.idle ≡ slice_set s.idle (seat pool worker) None) (wrote : t.made ≡ slice_set s.made pool made) where
   starts-small : worker < MAX_WORKERS
   starts-small = omega (arith, free.there)
 
@@ -381,8 +381,8 @@ module _ (S : ScenarioContents) (s : State) (few : S.workers ≤ MAX_WORKERS) (s
 
 -- A worker ends its work and becomes idle.
 module _ (S : ScenarioContents) (s : State) (few : S.workers ≤ MAX_WORKERS) (staffed : IsStaffed S s) (w pool worker stamp : ℕ)
-  (declared : w < length S.works) (works : post_at s w ≡ post_of pool worker) (t : State) (running : t.running ≡ slice_set s.running w None)
-  (idle : t.idle ≡ slice_set s.idle (seat pool worker) (Some stamp)) (same_made : t.made ≡ s.made) where
+    (declared : w < length S.works) (works : post_at s w ≡ post_of pool worker) (t : State) (running : t.running ≡ slice_set s.running w None)
+    (idle : t.idle ≡ slice_set s.idle (seat pool worker) (Some stamp)) (same_made : t.made ≡ s.made) where
   ends-made : (q : ℕ) → made_at t q ≡ made_at s q
   ends-made q = ap (λ (made : List ℕ). slice_index_or made q 0) same_made
 
@@ -451,10 +451,11 @@ module _ (S : ScenarioContents) (s : State) (few : S.workers ≤ MAX_WORKERS) (s
     ];
     runs = λ v q k is. (let was = ends-was v q k is in
         let still = staffed.runs v q k was.0 in
-        let most : made_at s q ≤ S.workers = staffed.most q in
-        (omega (arith, still.0, ends-made q),
-        seat-other s t pool worker (Some stamp) ends-small idle q k (omega (arith, still.0))
-        (λ in_it on. was.1 (staffed.apart v w pool worker (was.0 ∙ ap (λ (j : ℕ). post_of j k) in_it ∙ ap (post_of pool) on) works)) ∙ still.1));
+        let most : made_at s q ≤ S.workers = staffed.most q in (
+          omega (arith, still.0, ends-made q),
+          seat-other s t pool worker (Some stamp) ends-small idle q k (omega (arith, still.0))
+              (λ in_it on. was.1 (staffed.apart v w pool worker (was.0 ∙ ap (λ (j : ℕ). post_of j k) in_it ∙ ap (post_of pool) on) works)) ∙ still.1,
+        ));
     apart = λ v x q k one other. staffed.apart v x q k (ends-was v q k one).0 (ends-was x q k other).0;
     count = ends-counts;
   }

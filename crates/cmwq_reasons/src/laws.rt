@@ -5,7 +5,9 @@
 ghost use Rattle.cmwq_reasons.specs.Laws.{BlamesAtMostFive, BurnsInTick, FrozenByFreeze, HeldNamesCounted, InAnyState, InactiveNamesActive, IsFiredNext, IsMovedNext, IsNextToMove, MomentsPassFirst, NoWorkerIsFree, NoWorkerNamesAll, RanksCausesBelow, TellsAfter, TellsAsleep, TellsBehind, TellsBurns, TellsDeferred, TellsDisabled, TellsFiresAfter, TellsFiresNext, TellsFree, TellsFrozen, TellsHeld, TellsHighHas, TellsInactive, TellsNoWorker, TellsNotPending, TellsReadyAfter, TellsReadyNext, TellsTimer, TellsWakesAfter, TellsWakesNext, WaitsForRelief, WaitsForThaw, WaitsUntilDone};
 ghost use Rattle.cmwq_table.specs.Laws.{InEveryState};
 
-use cmwq_table::laws::{inactive_works_leave_no_room, queues_have_at_most_one_rescuer, works_are_not_reentrant};
+use cmwq_table::laws::{
+    inactive_works_leave_no_room, queues_have_at_most_one_rescuer, works_are_not_reentrant,
+};
 
 /// Each work that runs has one reason why it isn't further, and each reason is given exactly where its condition holds.
 /// The reasons are this project's own.
