@@ -1,3 +1,4 @@
+pub mod BlameLemmas
 pub mod CountLemmas
 pub mod FlushLemmas
 pub mod MaxLemmas

@@ -33,12 +33,12 @@ use Rattle.cmwq_reasons.proofs.RunningRows.{RunRow, head-reason, run-row, runnab
 
 -- Who is among a list.
 
-among-append : {A : Type 0} (x : A) (xs ys : List A) → IsAmong x (xs ++ ys) → IsAmong x xs ⊎ IsAmong x ys
+pub among-append : {A : Type 0} (x : A) (xs ys : List A) → IsAmong x (xs ++ ys) → IsAmong x xs ⊎ IsAmong x ys
 among-append x [] ys there = inr there
 among-append x (z ∷ xs) ys (inl is) = inl (inl is)
 among-append x (z ∷ xs) ys (inr later) = elim (among-append x xs ys later) [ inl there ↦ inl (inr there) | inr there ↦ inr there ]
 
-among-map : {A : Type 0} (f : ℕ → A) (x : A) (ws : List ℕ) → IsAmong x (map f ws) → (w : ℕ) × IsAmong w ws × (x ≡ f w)
+pub among-map : {A : Type 0} (f : ℕ → A) (x : A) (ws : List ℕ) → IsAmong x (map f ws) → (w : ℕ) × IsAmong w ws × (x ≡ f w)
 among-map f x [] there = absurd there
 among-map f x (w ∷ ws) (inl is) = (w, inl refl, is)
 among-map f x (w ∷ ws) (inr later) = (let found = among-map f x ws later in (found.0, inr found.1, found.2))
@@ -50,7 +50,7 @@ among-cond true k n m ms rest (inr there) later = inr there
 among-cond false k n m ms rest (inl is) later = inr (inl is)
 among-cond false k n m ms rest (inr there) later = elim (later there) [ inl is ↦ inl is | inr old ↦ inr (inr old) ]
 
-among-put : (before : ℕ → ℕ → Bool) (k n : ℕ) (ms : List ℕ) → IsAmong k (put_before before n ms) → (k ≡ n) ⊎ IsAmong k ms
+pub among-put : (before : ℕ → ℕ → Bool) (k n : ℕ) (ms : List ℕ) → IsAmong k (put_before before n ms) → (k ≡ n) ⊎ IsAmong k ms
 among-put before k n [] there = there
 among-put before k n (m ∷ ms) there = among-cond (before n m) k n m ms (put_before before n ms) there (among-put before k n ms)
 
@@ -60,7 +60,7 @@ among-if before test k n true ms e there below = elim (among-put before k n ms t
 among-if before test k n false ms e there below = below there
 
 -- who is listed passes
-among-all : (before : ℕ → ℕ → Bool) (test : ℕ → Bool) (k n : ℕ) → IsAmong k (all_below before test n) → test k ≡ true
+pub among-all : (before : ℕ → ℕ → Bool) (test : ℕ → Bool) (k n : ℕ) → IsAmong k (all_below before test n) → test k ≡ true
 among-all before test k zero there = absurd there
 among-all before test k (suc n) there =
     among-if before test k n (test n) (all_below before test n) refl there (among-all before test k n)
@@ -127,7 +127,7 @@ rank-mode S s w r (Asleep until) =
     rank-if (nat_lt s.time until) (reason.Asleep until) (next_or_after reason.WakesNext reason.WakesAfter (other_instance (running_half w) (mover S s r.pool))) 3 (omega arith)
     (more 2 3 (rank (next_or_after reason.WakesNext reason.WakesAfter (other_instance (running_half w) (mover S s r.pool)))) (rank-wakes (other_instance (running_half w) (mover S s r.pool))) (omega arith))
 
-some-is : (a b : Reason) → Some a ≡ Some b → a ≡ b
+pub some-is : (a b : Reason) → Some a ≡ Some b → a ≡ b
 some-is a b e = cc
 
 rank-running : (S : ScenarioContents) (s : State) (w : ℕ) (o : Option Running) (b : Reason) → reason_if_running S s w o ≡ Some b → rank b ≤ 3
@@ -216,13 +216,13 @@ holders-rank S s queue pool y b told there =
     ]
 
 -- the first of a pool that isn't unbound
-record First (S : ScenarioContents) (s : State) (pool w : ℕ) : Type 0 where
-  r : Running
-  is : running_at s w ≡ Some r
-  pool_is : r.pool ≡ pool
-  head : IsHead S s w r
+pub record First (S : ScenarioContents) (s : State) (pool w : ℕ) : Type 0 where
+  pub r : Running
+  pub is : running_at s w ≡ Some r
+  pub pool_is : r.pool ≡ pool
+  pub head : IsHead S s w r
 
-first-head : (S : ScenarioContents) (s : State) (pool w : ℕ) → first_runnable S s pool ≡ Some w → First S s pool w
+pub first-head : (S : ScenarioContents) (s : State) (pool w : ℕ) → first_runnable S s pool ≡ Some w → First S s pool w
 first-head S s pool w found =
     let first = some-first (running_before s) (is_runnable_in s pool) (length S.works) (first_runnable S s pool) (runnable-first S s pool) w found in
     let run = runs-some (λ r. (r.pool == pool) && is_runnable r.mode) (running_at s w) first.1 in
@@ -240,7 +240,7 @@ first-told : (S : ScenarioContents) (s : State) (pool w : ℕ) (b : Reason) (fir
 first-told S s pool w b first told =
     some-is b (reason_of_head S s w first.r) (sym told ∙ ap (reason_if_running S s w) first.is ∙ ap Some (head-reason S s w first.r first.head))
 
-one-named : (y x : Instance) → IsAmong y (x ∷ []) → y ≡ x
+pub one-named : (y x : Instance) → IsAmong y (x ∷ []) → y ≡ x
 one-named y x (inl is) = is
 one-named y x (inr none) = absurd none
 

@@ -371,6 +371,44 @@ IsChainOfBlame S s (x ∷ xs) =
 unfoldable pub BlamesAtMostFive : ScenarioContents → State → Type 0
 BlamesAtMostFive S s = (chain : List Instance) → IsChainOfBlame S s chain → length chain ≤ 5
 
+-- the instance is there, with a reason, and of one of the scenario's works
+abbrev pub IsThere : ScenarioContents → State → Instance → Type 0
+IsThere S s x = (work_of x < length S.works) × ((a : Reason) × (reason_of S s x ≡ Some a))
+
+-- Whom a reason blames, is there.
+unfoldable pub BlamesWhoIsThere : ScenarioContents → State → Type 0
+BlamesWhoIsThere S s =
+    (x y : Instance) (a : Reason) → work_of x < length S.works → reason_of S s x ≡ Some a → IsAmong y (causes S s (work_of x) a) → IsThere S s y
+
+-- the instance waits for no other one: it burns, sleeps or is next, or its timer or a thaw is to come
+abbrev pub waits_for_nobody : Reason → Bool
+waits_for_nobody (reason.Asleep until) = true
+waits_for_nobody reason.WakesNext = true
+waits_for_nobody reason.ReadyNext = true
+waits_for_nobody reason.Burns = true
+waits_for_nobody (reason.Timer due cpu) = true
+waits_for_nobody reason.FiresNext = true
+waits_for_nobody (reason.FiresAfter v) = true
+waits_for_nobody (reason.Frozen pool) = true
+waits_for_nobody (reason.Free pool turn) = true
+waits_for_nobody (reason.WakesAfter x) = false
+waits_for_nobody (reason.Behind v) = false
+waits_for_nobody (reason.ReadyAfter x) = false
+waits_for_nobody (reason.HighHas v) = false
+waits_for_nobody (reason.Disabled depth) = false
+waits_for_nobody reason.NotPending = false
+waits_for_nobody (reason.Deferred pool) = false
+waits_for_nobody (reason.Inactive pool) = false
+waits_for_nobody (reason.Held pool) = false
+waits_for_nobody (reason.After pool x) = false
+waits_for_nobody (reason.NoWorker pool) = false
+
+-- An instance whose reason blames nobody waits for no other one, or lacks memory.
+unfoldable pub EndsBlame : ScenarioContents → State → Type 0
+EndsBlame S s =
+    (x : Instance) (a : Reason) → work_of x < length S.works → reason_of S s x ≡ Some a → causes S s (work_of x) a ≡ []
+    → (waits_for_nobody a ≡ true) ⊎ (lacks_memory S s x ≡ true)
+
 -- Who is named.
 
 -- An inactive work blames as many instances as its queue has active ones in the pool: no fewer than its limit, which is its

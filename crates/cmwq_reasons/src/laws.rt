@@ -2,7 +2,7 @@
 //!
 //! Each function's contract is a law, over each state of each scenario, or over those that runs come to where it says
 //! so. The functions do nothing: they carry the laws.
-ghost use Rattle.cmwq_reasons.specs.Laws.{BlamesAtMostFive, BurnsInTick, FrozenByFreeze, HeldNamesCounted, InAnyState, InactiveNamesActive, IsFiredNext, IsMovedNext, IsNextToMove, MomentsPassFirst, NoWorkerIsFree, NoWorkerNamesAll, RanksCausesBelow, TellsAfter, TellsAsleep, TellsBehind, TellsBurns, TellsDeferred, TellsDisabled, TellsFiresAfter, TellsFiresNext, TellsFree, TellsFrozen, TellsHeld, TellsHighHas, TellsInactive, TellsNoWorker, TellsNotPending, TellsReadyAfter, TellsReadyNext, TellsTimer, TellsWakesAfter, TellsWakesNext, WaitsForRelief, WaitsForThaw, WaitsUntilDone};
+ghost use Rattle.cmwq_reasons.specs.Laws.{BlamesAtMostFive, BlamesWhoIsThere, BurnsInTick, EndsBlame, FrozenByFreeze, HeldNamesCounted, InAnyState, InactiveNamesActive, IsFiredNext, IsMovedNext, IsNextToMove, MomentsPassFirst, NoWorkerIsFree, NoWorkerNamesAll, RanksCausesBelow, TellsAfter, TellsAsleep, TellsBehind, TellsBurns, TellsDeferred, TellsDisabled, TellsFiresAfter, TellsFiresNext, TellsFree, TellsFrozen, TellsHeld, TellsHighHas, TellsInactive, TellsNoWorker, TellsNotPending, TellsReadyAfter, TellsReadyNext, TellsTimer, TellsWakesAfter, TellsWakesNext, WaitsForRelief, WaitsForThaw, WaitsUntilDone};
 ghost use Rattle.cmwq_table.specs.Laws.{InEveryState};
 
 use cmwq_table::laws::{
@@ -69,8 +69,7 @@ pub fn burning_works_burn()
     ensures { InAnyState BurnsInTick }
 {}
 
-/// No wait goes round: an instance that a reason blames has a reason of lower rank. So whoever follows the blame comes to one
-/// that burns, sleeps or is next, or that waits for a thaw, or for a worker that nobody has.
+/// No wait goes round: an instance that a reason blames has a reason of lower rank.
 #[tactic(auto, using(crate::proofs::RankLemmas::ranks_causes_below))]
 pub fn no_wait_goes_round()
     ensures { InAnyState RanksCausesBelow }
@@ -82,6 +81,18 @@ pub fn no_wait_goes_round()
 pub fn chains_of_blame_have_at_most_five_instances()
     ensures { InAnyState BlamesAtMostFive }
 {}
+
+/// In every state of a run blame goes on to its end: whom a reason blames, is there and has a reason; and an instance that blames
+/// nobody burns, sleeps or is next, or waits for its timer or for a thaw, or lacks memory.
+#[tactic(auto, using(crate::proofs::BlameLemmas::blames_who_is_there, crate::proofs::BlameLemmas::ends_blame))]
+pub fn blame_goes_on_to_its_end()
+    ensures there { InEveryState BlamesWhoIsThere }
+    ensures ends { InEveryState EndsBlame }
+{
+    inactive_works_leave_no_room();
+    queues_have_at_most_one_rescuer();
+    works_are_not_reentrant();
+}
 
 /// A flush waits for no instance exactly where it is done.
 #[tactic(auto, using(crate::proofs::FlushLemmas::waits_until_done))]
