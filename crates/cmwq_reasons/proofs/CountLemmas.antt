@@ -22,6 +22,7 @@ use Rattle.cmwq_dump.specs.Order.{all_below, put_before, put_if}
 use Rattle.cmwq_reasons.specs.declared.reason.Reason.TheVariants as reason
 use Rattle.cmwq_reasons.specs.Laws.{HeldNamesCounted, InAnyState, InactiveNamesActive, NoWorkerIsFree}
 use Rattle.cmwq_reasons.specs.Reasons.{causes, counted_works, deferred_holders, holders, listed_holders, pending_half, pending_holders, pending_works, reason_in_place, running_half, running_holders, running_works}
+use Rattle.cmwq_reasons.proofs.BelowLemmas.{bit, count-split}
 use Rattle.cmwq_reasons.proofs.MoverLemmas.{is_listed_in, listed-first, none-first}
 use Rattle.cmwq_reasons.proofs.PendingRows.{held-from, inactive-from, no_worker-from, place-row}
 use Rattle.cmwq_reasons.proofs.RunningRows.{not-zero}
@@ -43,16 +44,6 @@ length-if before n count false ms e = omega arith
 pub length-all : (before : ℕ → ℕ → Bool) (test : ℕ → Bool) (n : ℕ) → length (all_below before test n) ≡ count_below test n
 length-all before test zero = refl
 length-all before test (suc n) = length-if before n (count_below test n) (test n) (all_below before test n) (length-all before test n)
-
-abbrev bit : Bool → ℕ
-bit b = cond b 1 0
-
-count-split : (f g h : ℕ → Bool) (n : ℕ) → ((w : ℕ) → bit (f w) ≡ bit (g w) + bit (h w)) → count_below f n ≡ count_below g n + count_below h n
-count-split f g h zero split = refl
-count-split f g h (suc n) split =
-    let below : count_below f n ≡ count_below g n + count_below h n = count-split f g h n split in
-    let here : bit (f n) ≡ bit (g n) + bit (h n) = split n in
-    omega arith
 
 -- Holders.
 

@@ -1,3 +1,4 @@
+pub mod BelowLemmas
 pub mod BlameLemmas
 pub mod CountLemmas
 pub mod FlushLemmas

@@ -22,12 +22,12 @@ use Rattle.cmwq_table.specs.Table.{run}
 use Rattle.cmwq_reasons.specs.declared.reason.Reason.TheVariants as reason
 use Rattle.cmwq_reasons.specs.Laws.{NoWorkerIsFree, NoWorkerNamesAll}
 use Rattle.cmwq_reasons.specs.Reasons.{causes, has_relief_to_come, lacks_memory, pending_half, reason_in_place, running_half, works_on_pool_workers, works_on_rescuer, works_on_workers}
+use Rattle.cmwq_reasons.proofs.BelowLemmas.{count-some, counts-none}
 use Rattle.cmwq_reasons.proofs.CountLemmas.{last-none, length-all, listed-here, may-start, no-start, no_worker_is_free}
 use Rattle.cmwq_reasons.proofs.MaxLemmas.{first-none, passes}
 use Rattle.cmwq_reasons.proofs.MoverLemmas.{as_move-none, none-first, rescued-first}
 use Rattle.cmwq_reasons.proofs.PendingRows.{no_worker-from, place-row}
-use Rattle.cmwq_reasons.proofs.StaffLemmas.{counts-none, run-staffed}
-use Rattle.cmwq_reasons.proofs.ThawLemmas.{count-some}
+use Rattle.cmwq_reasons.proofs.StaffLemmas.{run-staffed}
 use Rattle.cmwq_reasons.proofs.WorkerLemmas.{IsStaffed, idle_count, is_idle, is_in, post, post_at, post_of, run_count}
 
 -- As many as the pool has made.

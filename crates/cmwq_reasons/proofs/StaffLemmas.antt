@@ -5,7 +5,7 @@ use Rattle.std.proofs.lemmas.List.{get_or_past, length-replicate}
 use Rattle.std.specs.Prelude.{is_none, is_some, nat_lt, slice_index_or, slice_set, ◌==◌}
 use Rattle.cmwq_types.specs.Contents.{ScenarioContents}
 use Rattle.cmwq_types.specs.Faults.{IsValid}
-use Rattle.cmwq_types.specs.First.{by_least, count_below}
+use Rattle.cmwq_types.specs.First.{by_least}
 use Rattle.cmwq_types.specs.Scenario.{op_at, queue_of}
 use Rattle.cmwq_types.specs.Setting.{IsSetting}
 use Rattle.cmwq_types.specs.declared.instr.Instr.{Instr}
@@ -28,6 +28,7 @@ use Rattle.cmwq_table.specs.State.{State, depth_at, is_disabled, made_at, pendin
 use Rattle.cmwq_table.specs.Counts.{burns, can_be_rescued, first_due, first_listed, first_rescued, free_worker, has_free_rescuer, is_deferred, is_rescuer, or_else, pending_before}
 use Rattle.cmwq_table.specs.Moves.{advance, become_idle, begin_again, burned, carry_out, come_to_end, deferred, fill, fill_everywhere, fill_freezable, fired, first_moving, moved, next_move, one_less, onward, queue_from_body, rescued, retire, started, taken_off, tick, with_depth, with_running, woken}
 use Rattle.cmwq_table.specs.Table.{after_all, answer, cancelled, delayed, effect, fired_first, modified, next, operands, queued, refuse_unless, run, situation, spent_all, step_or_tick, stepped, table}
+use Rattle.cmwq_reasons.proofs.BelowLemmas.{counts-none}
 use Rattle.cmwq_reasons.proofs.MoverLemmas.{MoveSays, is_listed_in, listed-first, next_move-says, rescued-first, some-first}
 use Rattle.cmwq_reasons.proofs.RestLemmas.{cancelled-rest, deferred-rest, delayed-rest, fill-rest, fill_everywhere-rest, fill_freezable-rest, fired-rest, fired_first-rest, modified-rest, queue_from_body-rest, queued-rest, rest, taken_off-rest}
 use Rattle.cmwq_reasons.proofs.WorkerLemmas.{IsStaffed, Leaves, ends-staffed, free-worker, idle_count, is_idle, is_in, leaves-staffed, post, post_at, post_of, rest-leaves, run_count, runs-leaves, starts-staffed}
@@ -224,13 +225,6 @@ same-anywhere : {A : Type 0} (x : A) (n i : ℕ) → slice_index_or (replicate n
 same-anywhere x zero i = refl
 same-anywhere x (suc n) zero = refl
 same-anywhere x (suc n) (suc i) = same-anywhere x n i
-
-pub counts-none : (f : ℕ → Bool) (n : ℕ) → ((k : ℕ) → f k ≡ false) → count_below f n ≡ 0
-counts-none f zero none = refl
-counts-none f (suc n) none =
-    let below : count_below f n ≡ 0 = counts-none f n none in
-    let here : cond {A = ℕ} (f n) 1 0 ≡ 0 = ap (λ (b : Bool). cond {A = ℕ} b 1 0) (none n) in
-    omega arith
 
 start-staffed : (S : ScenarioContents) → IsStaffed S (start S)
 start-staffed S = record {

@@ -1,10 +1,10 @@
 -- An inactive work of a queue that may have no active one stays inactive, whatever the machine does by itself.
 use Rattle.std.proofs.Common.{◌≡◌, ◌⊎◌, ℕ, zero, suc, ◌<◌, Bool, true, false, not, cond, ◌&&◌, List, [], ◌∷◌, ◌++◌, length, Option, Some, None, arith, refl, sym, ap, ◌∙◌, subst, inl, inr}
-use Rattle.std.proofs.lemmas.Bool.{and_from, and_parts, cases_eq, eqb-true, ltb-true, ne_eqb, or_left}
+use Rattle.std.proofs.lemmas.Bool.{and_from, and_parts, eqb-true, ltb-true, ne_eqb, or_left}
 use Rattle.std.proofs.lemmas.List.{get_or-set_other}
 use Rattle.std.specs.Prelude.{is_none, nat_lt, slice_index_or, ◌==◌}
 use Rattle.cmwq_types.specs.Contents.{ScenarioContents}
-use Rattle.cmwq_types.specs.First.{by_least_two, count_below}
+use Rattle.cmwq_types.specs.First.{by_least_two}
 use Rattle.cmwq_types.specs.Scenario.{flags_at, op_at, queue_of}
 use Rattle.cmwq_types.specs.declared.instr.Instr.{Instr}
 use Rattle.cmwq_types.specs.declared.instr.Instr.TheVariants as instr
@@ -33,6 +33,7 @@ use Rattle.cmwq_reasons.specs.declared.reason.Instance.{Instance}
 use Rattle.cmwq_reasons.specs.declared.reason.Instance.TheVariants as instance
 use Rattle.cmwq_reasons.specs.Laws.{AreMoves, InAnyState, IsAmong, WaitsForThaw, is_move}
 use Rattle.cmwq_reasons.specs.Reasons.{birth, has_thaw_to_come, instances_born, pending_half, put_all_by_birth, put_by_birth, running_half, waits, waits_below}
+use Rattle.cmwq_reasons.proofs.BelowLemmas.{count-some}
 use Rattle.cmwq_reasons.proofs.MoverLemmas.{MoveSays, due-first, is_due_now, is_listed_in, listed-first, next_move-says, rescued-first, some-first}
 use Rattle.cmwq_reasons.proofs.PendingRows.{pending-work}
 
@@ -295,15 +296,6 @@ below-among S s queue bound (suc n) w there =
     elim (all-among s (instance.Pending w) (cond (queue_of S n == queue) (instances_born s (λ born. nat_lt born bound) n) []) (waits_below S s queue bound n) there) [
       | inl here ↦ queue-among S s queue bound n w (queue_of S n == queue) refl here
       | inr later ↦ (let old = below-among S s queue bound n w later in record { within = omega (arith, old.within); of_queue = old.of_queue; placed = old.placed })
-    ]
-
--- where some number passes, the count isn't 0
-pub count-some : (f : ℕ → Bool) (n k : ℕ) → k < n → f k ≡ true → count_below f n ≡ 0 → ⊥
-count-some f zero k h e none = absurd (omega arith)
-count-some f (suc n) k h e none =
-    elim (cases_eq n k) [
-      | inl same ↦ (let here : cond {A = ℕ} (f n) 1 0 ≡ 1 = ap (λ (m : ℕ). cond {A = ℕ} (f m) 1 0) same ∙ ap (λ (b : Bool). cond {A = ℕ} b 1 0) e in omega arith)
-      | inr other ↦ count-some f n k (omega arith) e (omega arith)
     ]
 
 stuck-here : (S : ScenarioContents) (s : State) (w : ℕ) (o : Option Pending) → pending_at s w ≡ o → pends (has_thaw_to_come S s w) o ≡ true

@@ -13,6 +13,7 @@ use Rattle.cmwq_table.specs.declared.state.Pending.{Pending}
 use Rattle.cmwq_table.specs.declared.state.Running.{Running}
 use Rattle.cmwq_table.specs.State.{State, idle_at, made_at, pool_count, running_at, seat}
 use Rattle.cmwq_table.specs.Counts.{free_worker, idle_stamp, is_rescuer, last_idle, new_worker, or_else}
+use Rattle.cmwq_reasons.proofs.BelowLemmas.{bit, count-changed}
 use Rattle.cmwq_reasons.proofs.MoverLemmas.{some-first}
 use Rattle.cmwq_reasons.proofs.RestLemmas.{rest}
 
@@ -123,26 +124,6 @@ leaves-staffed S s t leaves staffed = record {
 
     idle : (pool worker : ℕ) → is_idle t pool worker ≡ is_idle s pool worker
     idle pool worker = ap (λ (idle : List (Option ℕ)). is_some (slice_index_or idle (seat pool worker) None)) leaves.idle
-
--- Counts.
-
-abbrev bit : Bool → ℕ
-bit b = cond b 1 0
-
--- tests that agree below n but at one number count alike but for that one
-count-changed : (f g : ℕ → Bool) (n w : ℕ) → w < n → ((v : ℕ) → v < n → (v ≡ w → ⊥) → f v ≡ g v) → count_below f n + bit (g w) ≡ count_below g n + bit (f w)
-count-changed f g zero w h same = absurd (omega arith)
-count-changed f g (suc n) w h same =
-    elim (cases_eq n w) [
-      | inl e ↦ (let below : count_below f n ≡ count_below g n = count_below-agree f g n (λ k less. same k (omega arith) (λ is. omega arith)) in
-          let before : bit (f n) ≡ bit (f w) = ap (λ (k : ℕ). bit (f k)) e in
-          let after : bit (g n) ≡ bit (g w) = ap (λ (k : ℕ). bit (g k)) e in
-          omega arith)
-      | inr ne ↦ (let below : count_below f n + bit (g w) ≡ count_below g n + bit (f w) =
-          count-changed f g n w (omega arith) (λ k less apart. same k (omega arith) apart) in
-          let here : bit (f n) ≡ bit (g n) = ap bit (same n (omega arith) ne) in
-          omega arith)
-    ]
 
 -- Seats.
 

@@ -75,8 +75,7 @@ pub fn no_wait_goes_round()
     ensures { InAnyState RanksCausesBelow }
 {}
 
-/// Whoever goes from an instance to one that its reason blames, and on from there, has met at most five when nobody is blamed
-/// any more: so there is no ring among them either.
+/// A chain of blame, of instances of which each has a reason that blames the next one, has at most five: so none goes round.
 #[tactic(auto, using(crate::proofs::RankLemmas::blames_at_most_five))]
 pub fn chains_of_blame_have_at_most_five_instances()
     ensures { InAnyState BlamesAtMostFive }
@@ -127,9 +126,9 @@ pub fn works_without_a_worker_find_none_idle()
     ensures { InAnyState NoWorkerIsFree }
 {}
 
-/// Where a work has no worker, the reason blames as many works on workers of the pool as it has made; beside them it blames who
-/// has the rescuer of the work's queue. The pool has made all its workers, or memory is short. Nobody at all is blamed
-/// exactly where the work lacks memory.
+/// In every state of a run, where a work has no worker, the reason blames as many works on workers of the pool as the pool has
+/// made, and beside them who of its queue is on the rescuer. The pool has made all its workers, or memory is short; and
+/// nobody at all is blamed exactly where the work lacks memory.
 #[tactic(auto, using(crate::proofs::NoWorkerLemmas::no_worker_names_all))]
 pub fn works_without_a_worker_name_who_has_them()
     ensures { InEveryState NoWorkerNamesAll }
@@ -145,8 +144,8 @@ pub fn no_flush_is_done_before_the_thaw()
     ensures { InAnyState WaitsForThaw }
 {}
 
-/// A flush that waits for an instance that lacks memory isn't done by itself: where memory is short, the pool has no worker and
-/// the queue no rescuer, whatever steps, timers and ticks come, no worker is made and the flush waits.
+/// In every state of a run a flush that waits for an instance that lacks memory isn't done by itself: memory is short, the pool has
+/// no worker and the queue no rescuer, and whatever steps, timers and ticks come, none is made and the flush waits.
 #[tactic(auto, using(crate::proofs::MemoryLemmas::waits_for_relief))]
 pub fn no_flush_is_done_before_the_relief()
     ensures { InEveryState WaitsForRelief }
