@@ -22,6 +22,7 @@ use Rattle.cmwq_dump.specs.Order.{all_below, put_before, put_if}
 use Rattle.cmwq_reasons.specs.declared.reason.Reason.TheVariants as reason
 use Rattle.cmwq_reasons.specs.Laws.{HeldNamesCounted, InAnyState, InactiveNamesActive, NoWorkerIsFree}
 use Rattle.cmwq_reasons.specs.Reasons.{causes, counted_works, deferred_holders, holders, listed_holders, pending_half, pending_holders, pending_works, reason_in_place, running_half, running_holders, running_works}
+use Rattle.cmwq_reasons.proofs.BelowLemmas.{bit, count-split}
 use Rattle.cmwq_reasons.proofs.MoverLemmas.{is_listed_in, listed-first, none-first}
 use Rattle.cmwq_reasons.proofs.PendingRows.{held-from, inactive-from, no_worker-from, place-row}
 use Rattle.cmwq_reasons.proofs.RunningRows.{not-zero}
@@ -40,19 +41,9 @@ length-if : (before : ℕ → ℕ → Bool) (n count : ℕ) (b : Bool) (ms : Lis
 length-if before n count true ms e = (let more : length (put_before before n ms) ≡ suc (length ms) = length-put before n ms in omega arith)
 length-if before n count false ms e = omega arith
 
-length-all : (before : ℕ → ℕ → Bool) (test : ℕ → Bool) (n : ℕ) → length (all_below before test n) ≡ count_below test n
+pub length-all : (before : ℕ → ℕ → Bool) (test : ℕ → Bool) (n : ℕ) → length (all_below before test n) ≡ count_below test n
 length-all before test zero = refl
 length-all before test (suc n) = length-if before n (count_below test n) (test n) (all_below before test n) (length-all before test n)
-
-abbrev bit : Bool → ℕ
-bit b = cond b 1 0
-
-count-split : (f g h : ℕ → Bool) (n : ℕ) → ((w : ℕ) → bit (f w) ≡ bit (g w) + bit (h w)) → count_below f n ≡ count_below g n + count_below h n
-count-split f g h zero split = refl
-count-split f g h (suc n) split =
-    let below : count_below f n ≡ count_below g n + count_below h n = count-split f g h n split in
-    let here : bit (f n) ≡ bit (g n) + bit (h n) = split n in
-    omega arith
 
 -- Holders.
 
@@ -130,7 +121,7 @@ held_names_counted S s w p there is pool told =
 
 -- Workers.
 
-last-none : (a b : Option Move) → or_else a b ≡ None → b ≡ None
+pub last-none : (a b : Option Move) → or_else a b ≡ None → b ≡ None
 last-none (Some x) b e = cc
 last-none None b e = e
 
@@ -149,12 +140,12 @@ not-first S s pool w worker (Some m) there listed first e = not-taken m (running
 not-first S s pool w worker None there listed first e =
     absurd (none-first (pending_before s) (is_listed_in s pool) (length S.works) (first_listed S s pool) (listed-first S s pool) first w there listed)
 
-no-start : (S : ScenarioContents) (s : State) (pool : ℕ) → next_move S s pool ≡ None → start_move S s pool ≡ None
+pub no-start : (S : ScenarioContents) (s : State) (pool : ℕ) → next_move S s pool ≡ None → start_move S s pool ≡ None
 no-start S s pool e =
     last-none (as_move Wake (first_slept S s pool)) (start_move S s pool)
     (last-none (as_move Advance (ready_head S s pool)) (or_else (as_move Wake (first_slept S s pool)) (start_move S s pool)) e)
 
-may-start : (b : Bool) (o : Option Move) → b ≡ true → cond b o None ≡ None → o ≡ None
+pub may-start : (b : Bool) (o : Option Move) → b ≡ true → cond b o None ≡ None → o ≡ None
 may-start true o may e = e
 may-start false o may e = cc
 
@@ -178,7 +169,7 @@ none-made made most true b test e ample = cc
 none-made made most false true test e ample = cc
 none-made made most false false test e ample = ltb-false made most test
 
-listed-here : (s : State) (w pool : ℕ) (p : Pending) → pending_at s w ≡ Some p → p.place ≡ Listed pool → is_listed_in s pool w ≡ true
+pub listed-here : (s : State) (w pool : ℕ) (p : Pending) → pending_at s w ≡ Some p → p.place ≡ Listed pool → is_listed_in s pool w ≡ true
 listed-here s w pool p is at = ap (pends (λ place. is_listed place pool)) is ∙ ap (λ (place : Place). is_listed place pool) at ∙ eq-eqb pool pool refl
 
 pub no_worker_is_free : InAnyState NoWorkerIsFree

@@ -1,10 +1,17 @@
+pub mod BelowLemmas
+pub mod BlameLemmas
 pub mod CountLemmas
 pub mod FlushLemmas
 pub mod MaxLemmas
+pub mod MemoryLemmas
 pub mod MoverLemmas
 pub mod NextLemmas
+pub mod NoWorkerLemmas
 pub mod PendingRows
 pub mod RankLemmas
+pub mod RestLemmas
 pub mod RunningRows
 pub mod ThawLemmas
+pub mod StaffLemmas
 pub mod TickLemmas
+pub mod WorkerLemmas

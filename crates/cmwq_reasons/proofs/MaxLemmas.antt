@@ -12,14 +12,11 @@ use Rattle.cmwq_types.specs.declared.check.Fault.{Fault}
 use Rattle.cmwq_types.specs.declared.check.Fault.TheVariants.{BadFlags, Duplicate}
 use Rattle.cmwq_types.specs.declared.instr.Instr.{Instr}
 use Rattle.cmwq_types.specs.declared.instr.Instr.TheVariants as instr
-use Rattle.cmwq_types.specs.declared.instr.WorkId.{WorkId}
 use Rattle.cmwq_types.specs.declared.limits.TheConstants.{MAX_MAX_ACTIVE}
 use Rattle.cmwq_types.specs.declared.moves.Move.{Move}
 use Rattle.cmwq_types.specs.declared.moves.Move.TheVariants.{Advance, Wake, Start, Defer, Rescue}
 use Rattle.cmwq_types.specs.declared.reply.Event.{Event}
 use Rattle.cmwq_types.specs.declared.reply.Event.TheVariants as event
-use Rattle.cmwq_types.specs.declared.reply.Place.{Place}
-use Rattle.cmwq_types.specs.declared.reply.Place.TheVariants.{Timer, Inactive, Listed, Deferred}
 use Rattle.cmwq_types.specs.declared.reply.Refusal.{Refusal}
 use Rattle.cmwq_types.specs.declared.reply.Refusal.TheVariants.{BadCount, NoSuchQueue}
 use Rattle.cmwq_types.specs.declared.scenario.Op.{Op}
@@ -28,56 +25,19 @@ use Rattle.cmwq_types.specs.declared.scenario.QueueDecl.{QueueDecl}
 use Rattle.cmwq_types.proofs.SettingLemmas.{IsSetting-valid}
 use Rattle.cmwq_table.specs.declared.state.Pending.{Pending}
 use Rattle.cmwq_table.specs.declared.state.Running.{Running}
-use Rattle.cmwq_table.specs.State.{State, depth_at, is_disabled, max_at, pending_at, pool_count, running_at, start}
-use Rattle.cmwq_table.specs.Counts.{first_due, first_inactive, free_worker, has_room, is_deferred, is_rescuer, or_else}
+use Rattle.cmwq_table.specs.State.{State, depth_at, is_disabled, max_at, pending_at, running_at, start}
+use Rattle.cmwq_table.specs.Counts.{first_due, free_worker, is_deferred, is_rescuer, or_else}
 use Rattle.cmwq_table.specs.Laws.{InEveryState}
-use Rattle.cmwq_table.specs.Moves.{advance, become_idle, begin_again, carry_out, come_to_end, deferred, enlist, fill, fill_everywhere, fill_freezable, fill_from, fill_one, fill_pools, fill_times, finish, fired, fired_to, first_moving, moved, next_move, onward, place_after, queue_from_body, rescued, retire, started, taken_off, with_depth, with_pending, with_running, woken}
+use Rattle.cmwq_table.specs.Moves.{advance, become_idle, begin_again, carry_out, come_to_end, deferred, fill, fill_everywhere, fill_freezable, finish, fired, first_moving, moved, next_move, onward, queue_from_body, rescued, retire, started, taken_off, with_depth, with_running, woken}
 use Rattle.cmwq_table.specs.Table.{after_all, answer, cancelled, delayed, effect, fired_first, modified, next, operands, queued, refuse_unless, situation, run, spent_all, step_or_tick, stepped, table}
 use Rattle.cmwq_reasons.specs.Laws.{FrozenByFreeze, TellsFrozen}
 use Rattle.cmwq_reasons.proofs.PendingRows.{tells_frozen}
+use Rattle.cmwq_reasons.proofs.RestLemmas.{cancelled-rest, deferred-rest, delayed-rest, fill-rest, fill_everywhere-rest, fill_freezable-rest, fired-rest, fired_first-rest, modified-rest, queue_from_body-rest, queued-rest, rest, taken_off-rest}
 
 -- What changes leave of each queue's max_active.
 
-enlist-max : (s : State) (pool : ℕ) (o : Option ℕ) → (enlist s pool o).max ≡ s.max
-enlist-max s pool (Some w) = refl
-enlist-max s pool None = refl
-
-fill_times-max : (S : ScenarioContents) (queue pool n : ℕ) (s : State) → (fill_times S queue pool n s).max ≡ s.max
-fill_times-max S queue pool zero s = refl
-fill_times-max S queue pool (suc n) s =
-    fill_times-max S queue pool n (fill_one S queue pool s) ∙ enlist-max s pool (cond (has_room S s queue pool) (first_inactive S s queue pool) None)
-
-fill-max : (S : ScenarioContents) (queue pool : ℕ) (s : State) → (fill S queue pool s).max ≡ s.max
-fill-max S queue pool s = fill_times-max S queue pool (length S.works) s
-
-fill_pools-max : (S : ScenarioContents) (queue n : ℕ) (s : State) → (fill_pools S queue n s).max ≡ s.max
-fill_pools-max S queue zero s = refl
-fill_pools-max S queue (suc n) s = fill-max S queue n (fill_pools S queue n s) ∙ fill_pools-max S queue n s
-
-fill_everywhere-max : (S : ScenarioContents) (queue : ℕ) (s : State) → (fill_everywhere S queue s).max ≡ s.max
-fill_everywhere-max S queue s = fill_pools-max S queue (pool_count S) s
-
-fill_if-max : (S : ScenarioContents) (queue : ℕ) (s : State) (b : Bool) → (cond b (fill_everywhere S queue s) s).max ≡ s.max
-fill_if-max S queue s true = fill_everywhere-max S queue s
-fill_if-max S queue s false = refl
-
-fill_freezable-max : (S : ScenarioContents) (n : ℕ) (s : State) → (fill_freezable S n s).max ≡ s.max
-fill_freezable-max S zero s = refl
-fill_freezable-max S (suc n) s = fill_if-max S n (fill_freezable S n s) (flags_at S n).freezable ∙ fill_freezable-max S n s
-
-place_after-max : (S : ScenarioContents) (s : State) (w cpu ticks : ℕ) → (place_after S s w cpu ticks).max ≡ s.max
-place_after-max S s w cpu zero = refl
-place_after-max S s w cpu (suc ticks) = refl
-
-fill_from-max : (S : ScenarioContents) (queue : ℕ) (at : Place) (s : State) → (fill_from S queue at s).max ≡ s.max
-fill_from-max S queue (Timer due cpu) s = refl
-fill_from-max S queue (Inactive pool) s = fill-max S queue pool s
-fill_from-max S queue (Listed pool) s = fill-max S queue pool s
-fill_from-max S queue (Deferred pool) s = fill-max S queue pool s
-
-taken_off-max : (S : ScenarioContents) (s : State) (w : ℕ) (o : Option Pending) → (taken_off S s w o).max ≡ s.max
-taken_off-max S s w (Some p) = fill_from-max S (queue_of S w) p.place (with_pending s w None)
-taken_off-max S s w None = refl
+max-of : (s t : State) → rest t ≡ rest s → t.max ≡ s.max
+max-of s t same = ap (λ (u : State). u.max) same
 
 retire-max : (s : State) (w : ℕ) (r : Running) (b : Bool) → (cond b (with_running s w None) (become_idle s w r)).max ≡ s.max
 retire-max s w r true = refl
@@ -94,17 +54,15 @@ come_to_end-max s w r None = retire-max s w r (is_rescuer r.worker)
 
 finish-max : (S : ScenarioContents) (s : State) (w : ℕ) (r : Running) → (finish S s w r).0.max ≡ s.max
 finish-max S s w r =
-    fill-max S (queue_of S w) r.pool (come_to_end s w r (pending_at s w)).0 ∙ come_to_end-max s w r (pending_at s w)
-
-queue_from_body-max : (S : ScenarioContents) (s : State) (other : WorkId) (cpu : ℕ) (b : Bool) (o : Option Pending) → (queue_from_body S s other cpu b o).0.max ≡ s.max
-queue_from_body-max S s other cpu true o = refl
-queue_from_body-max S s other cpu false (Some p) = refl
-queue_from_body-max S s other cpu false None = refl
+    let ended : State = (come_to_end s w r (pending_at s w)).0 in
+    max-of ended (fill S (queue_of S w) r.pool ended) (fill-rest S (queue_of S w) r.pool ended) ∙ come_to_end-max s w r (pending_at s w)
 
 carry_out-max : (S : ScenarioContents) (s : State) (w : ℕ) (r : Running) (o : Op) → (carry_out S s w r o).0.max ≡ s.max
 carry_out-max S s w r (op.Burn ticks) = refl
 carry_out-max S s w r (op.Sleep ticks) = refl
-carry_out-max S s w r (op.Queue other cpu) = queue_from_body-max S (onward s w r) other cpu (is_disabled s other.0) (pending_at s other.0)
+carry_out-max S s w r (op.Queue other cpu) =
+    max-of (onward s w r) (queue_from_body S (onward s w r) other cpu (is_disabled s other.0) (pending_at s other.0)).0
+    (queue_from_body-rest S (onward s w r) other cpu (is_disabled s other.0) (pending_at s other.0))
 carry_out-max S s w r op.Finish = finish-max S s w r
 
 advance-max : (S : ScenarioContents) (s : State) (w : ℕ) (o : Option Running) → (advance S s w o).0.max ≡ s.max
@@ -120,10 +78,6 @@ started-max s pool w (Some worker) (Some p) = refl
 started-max s pool w (Some worker) None = refl
 started-max s pool w None o = refl
 
-deferred-max : (s : State) (pool w : ℕ) (o : Option Pending) → (deferred s pool w o).max ≡ s.max
-deferred-max s pool w (Some p) = refl
-deferred-max s pool w None = refl
-
 rescued-max : (s : State) (pool w : ℕ) (o : Option Pending) → (rescued s pool w o).max ≡ s.max
 rescued-max s pool w (Some p) = refl
 rescued-max s pool w None = refl
@@ -132,24 +86,10 @@ moved-max : (S : ScenarioContents) (s : State) (pool : ℕ) (move : Move) → (m
 moved-max S s pool (Advance w) = advance-max S s w.0 (running_at s w.0)
 moved-max S s pool (Wake w) = woken-max s w.0 (running_at s w.0)
 moved-max S s pool (Start w) = started-max s pool w.0 (free_worker S s pool) (pending_at s w.0)
-moved-max S s pool (Defer w) = deferred-max s pool w.0 (pending_at s w.0)
+moved-max S s pool (Defer w) = max-of s (deferred s pool w.0 (pending_at s w.0)) (deferred-rest s pool w.0 (pending_at s w.0))
 moved-max S s pool (Rescue w) = rescued-max s pool w.0 (pending_at s w.0)
 
-fired_to-max : (S : ScenarioContents) (s : State) (w : ℕ) (at : Place) → (fired_to S s w at).max ≡ s.max
-fired_to-max S s w (Timer due cpu) = refl
-fired_to-max S s w (Inactive pool) = refl
-fired_to-max S s w (Listed pool) = refl
-fired_to-max S s w (Deferred pool) = refl
-
-fired-max : (S : ScenarioContents) (s : State) (w : ℕ) (o : Option Pending) → (fired S s w o).max ≡ s.max
-fired-max S s w (Some p) = fired_to-max S s w p.place
-fired-max S s w None = refl
-
 -- What instructions leave of it.
-
-fired_first-max : (S : ScenarioContents) (s : State) (o : Option ℕ) → (fired_first S s o).0.max ≡ s.max
-fired_first-max S s (Some w) = fired-max S s w (pending_at s w)
-fired_first-max S s None = refl
 
 stepped-max : (S : ScenarioContents) (s : State) (pool : ℕ) (o : Option Move) → (stepped S s pool o).0.max ≡ s.max
 stepped-max S s pool (Some move) = moved-max S s pool move
@@ -160,24 +100,8 @@ step_or_tick-max S s (Some pool) = stepped-max S s pool (next_move S s pool)
 step_or_tick-max S s None = refl
 
 next-max : (S : ScenarioContents) (s : State) (o : Option ℕ) → (next S s o).0.max ≡ s.max
-next-max S s (Some w) = fired_first-max S s (Some w)
+next-max S s (Some w) = max-of s (fired_first S s (Some w)).0 (fired_first-rest S s (Some w))
 next-max S s None = step_or_tick-max S s (first_moving S s)
-
-queued-max : (S : ScenarioContents) (s : State) (w cpu : ℕ) (o : Option Pending) → (queued S s w cpu o).0.max ≡ s.max
-queued-max S s w cpu (Some p) = refl
-queued-max S s w cpu None = refl
-
-delayed-max : (S : ScenarioContents) (s : State) (w cpu ticks : ℕ) (o : Option Pending) → (delayed S s w cpu ticks o).0.max ≡ s.max
-delayed-max S s w cpu ticks (Some p) = refl
-delayed-max S s w cpu ticks None = place_after-max S s w cpu ticks
-
-modified-max : (S : ScenarioContents) (s : State) (w cpu ticks : ℕ) (o : Option Pending) → (modified S s w cpu ticks o).0.max ≡ s.max
-modified-max S s w cpu ticks (Some p) = place_after-max S (taken_off S s w (Some p)) w cpu ticks ∙ taken_off-max S s w (Some p)
-modified-max S s w cpu ticks None = place_after-max S s w cpu ticks
-
-cancelled-max : (S : ScenarioContents) (s : State) (w : ℕ) (o : Option Pending) → (cancelled S s w o).0.max ≡ s.max
-cancelled-max S s w (Some p) = taken_off-max S s w (Some p)
-cancelled-max S s w None = refl
 
 -- each queue's max_active after the instruction
 max_after : State → Instr → List ℕ
@@ -186,25 +110,31 @@ max_after s i = s.max
 
 effect-max : (S : ScenarioContents) (s : State) (i : Instr) → (effect S s i).0.max ≡ max_after s i
 unfolding max_after
-effect-max S s (instr.Queue w cpu) = queued-max S s w.0 cpu (pending_at s w.0)
-effect-max S s (instr.Delay w cpu ticks) = delayed-max S s w.0 cpu ticks (pending_at s w.0)
-effect-max S s (instr.Mod w cpu ticks) = modified-max S s w.0 cpu ticks (pending_at s w.0)
-effect-max S s (instr.Cancel w) = cancelled-max S s w.0 (pending_at s w.0)
-effect-max S s (instr.CancelSync w) = taken_off-max S s w.0 (pending_at s w.0)
+effect-max S s (instr.Queue w cpu) = max-of s (queued S s w.0 cpu (pending_at s w.0)).0 (queued-rest S s w.0 cpu (pending_at s w.0))
+effect-max S s (instr.Delay w cpu ticks) = max-of s (delayed S s w.0 cpu ticks (pending_at s w.0)).0 (delayed-rest S s w.0 cpu ticks (pending_at s w.0))
+effect-max S s (instr.Mod w cpu ticks) = max-of s (modified S s w.0 cpu ticks (pending_at s w.0)).0 (modified-rest S s w.0 cpu ticks (pending_at s w.0))
+effect-max S s (instr.Cancel w) = max-of s (cancelled S s w.0 (pending_at s w.0)).0 (cancelled-rest S s w.0 (pending_at s w.0))
+effect-max S s (instr.CancelSync w) = max-of s (taken_off S s w.0 (pending_at s w.0)) (taken_off-rest S s w.0 (pending_at s w.0))
 effect-max S s (instr.Flush w) = refl
-effect-max S s (instr.FlushDelayed w) = fired-max S s w.0 (pending_at s w.0)
+effect-max S s (instr.FlushDelayed w) = max-of s (fired S s w.0 (pending_at s w.0)) (fired-rest S s w.0 (pending_at s w.0))
 effect-max S s (instr.FlushQueue q) = refl
-effect-max S s (instr.SetMax q max) = fill_everywhere-max S q.0 (record s { max = slice_set s.max q.0 max })
+effect-max S s (instr.SetMax q max) =
+    let limited = record s { max = slice_set s.max q.0 max } in
+    max-of limited (fill_everywhere S q.0 limited) (fill_everywhere-rest S q.0 limited)
 effect-max S s instr.Freeze = refl
-effect-max S s instr.Thaw = fill_freezable-max S (length S.queues) (record s { frozen = false })
-effect-max S s instr.Fire = fired_first-max S s (first_due S s)
+effect-max S s instr.Thaw =
+    let thawed = record s { frozen = false } in
+    max-of thawed (fill_freezable S (length S.queues) thawed) (fill_freezable-rest S (length S.queues) thawed)
+effect-max S s instr.Fire = max-of s (fired_first S s (first_due S s)).0 (fired_first-rest S s (first_due S s))
 effect-max S s (instr.Step pool) = stepped-max S s pool (next_move S s pool)
 effect-max S s instr.Tick = refl
 effect-max S s instr.Next = next-max S s (first_due S s)
 effect-max S s (instr.Ask flush) = refl
 effect-max S s instr.Busy = refl
 effect-max S s (instr.State w) = refl
-effect-max S s (instr.Disable w) = cancelled-max S (with_depth s w.0 (depth_at s w.0 + 1)) w.0 (pending_at s w.0)
+effect-max S s (instr.Disable w) =
+    let deeper = with_depth s w.0 (depth_at s w.0 + 1) in
+    max-of deeper (cancelled S deeper w.0 (pending_at s w.0)).0 (cancelled-rest S deeper w.0 (pending_at s w.0))
 effect-max S s (instr.Enable w) = refl
 effect-max S s instr.Pressure = refl
 effect-max S s instr.Relief = refl
@@ -257,7 +187,7 @@ all-some S s (i ∷ instrs) all = all-some S (table S s i).0 instrs (table-some 
 
 -- At the start.
 
-first-none : (a b : Option Fault) → fault_of_two a b ≡ None → a ≡ None
+pub first-none : (a b : Option Fault) → fault_of_two a b ≡ None → a ≡ None
 first-none (Some fault) b e = cc
 first-none None b e = refl
 
@@ -265,7 +195,7 @@ second-none : (a b : Option Fault) → fault_of_two a b ≡ None → b ≡ None
 second-none (Some fault) b e = cc
 second-none None b e = e
 
-passes : (b : Bool) (fault : Fault) → fault_unless b fault ≡ None → b ≡ true
+pub passes : (b : Bool) (fault : Fault) → fault_unless b fault ≡ None → b ≡ true
 passes true fault e = refl
 passes false fault e = cc
 

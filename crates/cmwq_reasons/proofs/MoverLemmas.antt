@@ -1,7 +1,7 @@
 -- What a pool's next move says of the instance that it moves, and which instances are sure that there is one.
 use Rattle.std.proofs.Common.{◌≡◌, ℕ, ◌<◌, Bool, true, false, cond, ◌&&◌, length, Option, Some, None, refl, ap, ◌∙◌, subst}
 use Rattle.std.proofs.lemmas.Bool.{and_from, cond-true, eq-eqb, eqb-true}
-use Rattle.std.specs.Prelude.{◌==◌}
+use Rattle.std.specs.Prelude.{is_some, ◌==◌}
 use Rattle.cmwq_types.specs.Contents.{ScenarioContents}
 use Rattle.cmwq_types.specs.First.{MatchFirst, by_least_two}
 use Rattle.cmwq_types.specs.declared.instr.WorkId.{WorkId}
@@ -101,7 +101,7 @@ none-of-three None (Some m) c e = cc
 none-of-three None None (Some m) e = cc
 none-of-three None None None e = (refl, refl, refl)
 
-as_move-none : (f : WorkId → Move) (o : Option ℕ) → as_move f o ≡ None → o ≡ None
+pub as_move-none : (f : WorkId → Move) (o : Option ℕ) → as_move f o ≡ None → o ≡ None
 as_move-none f (Some w) e = cc
 as_move-none f None e = refl
 
@@ -152,8 +152,8 @@ ready-moves S s w r there is head left e = head-moves S s w r there is head.0 le
 abbrev pub MoveSays : ScenarioContents → State → ℕ → Move → Type 0
 MoveSays S s pool (Advance w) = ready_head S s pool ≡ Some w.0
 MoveSays S s pool (Wake w) = first_slept S s pool ≡ Some w.0
-MoveSays S s pool (Start w) = (may_start S s pool ≡ true) × (first_listed S s pool ≡ Some w.0)
-MoveSays S s pool (Defer w) = (may_start S s pool ≡ true) × (first_listed S s pool ≡ Some w.0)
+MoveSays S s pool (Start w) = (may_start S s pool ≡ true) × (first_listed S s pool ≡ Some w.0) × (running_at s w.0 ≡ None)
+MoveSays S s pool (Defer w) = (may_start S s pool ≡ true) × (first_listed S s pool ≡ Some w.0) × (is_some (running_at s w.0) ≡ true)
 MoveSays S s pool (Rescue w) = (may_start S s pool ≡ true) × (first_rescued S s pool ≡ Some w.0)
 
 either : (P : Type 0) (a b : Option Move) (move : Move) → or_else a b ≡ Some move → (a ≡ Some move → P) → (b ≡ Some move → P) → P
@@ -165,18 +165,18 @@ as_move-some f (Some w) move e = (w, refl, cc)
 as_move-some f None move e = cc
 
 taken-says : (S : ScenarioContents) (s : State) (pool w : ℕ) (move : Move) → may_start S s pool ≡ true → first_listed S s pool ≡ Some w
-    → (r : Option Running) (worker : Option ℕ) → take_listed w r worker ≡ Some move → MoveSays S s pool move
-taken-says S s pool w move may first (Some r) worker e =
+    → (r : Option Running) (worker : Option ℕ) → running_at s w ≡ r → take_listed w r worker ≡ Some move → MoveSays S s pool move
+taken-says S s pool w move may first (Some r) worker runs e =
     let same : Defer (record { 0 = w }) ≡ move = cc in
-    subst (MoveSays S s pool) same (may, first)
-taken-says S s pool w move may first None (Some worker) e =
+    subst (MoveSays S s pool) same (may, first, ap is_some runs)
+taken-says S s pool w move may first None (Some worker) runs e =
     let same : Start (record { 0 = w }) ≡ move = cc in
-    subst (MoveSays S s pool) same (may, first)
-taken-says S s pool w move may first None None e = cc
+    subst (MoveSays S s pool) same (may, first, runs)
+taken-says S s pool w move may first None None runs e = cc
 
 first-says : (S : ScenarioContents) (s : State) (pool : ℕ) (move : Move) → may_start S s pool ≡ true → (o : Option ℕ) → first_listed S s pool ≡ o
     → (worker : Option ℕ) → start_first s o worker ≡ Some move → MoveSays S s pool move
-first-says S s pool move may (Some w) first worker e = taken-says S s pool w move may first (running_at s w) worker e
+first-says S s pool move may (Some w) first worker e = taken-says S s pool w move may first (running_at s w) worker refl e
 first-says S s pool move may None first worker e = cc
 
 rescue-says : (S : ScenarioContents) (s : State) (pool : ℕ) (move : Move) → may_start S s pool ≡ true → as_move Rescue (first_rescued S s pool) ≡ Some move

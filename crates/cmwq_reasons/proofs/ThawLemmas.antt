@@ -1,10 +1,10 @@
 -- An inactive work of a queue that may have no active one stays inactive, whatever the machine does by itself.
 use Rattle.std.proofs.Common.{◌≡◌, ◌⊎◌, ℕ, zero, suc, ◌<◌, Bool, true, false, not, cond, ◌&&◌, List, [], ◌∷◌, ◌++◌, length, Option, Some, None, arith, refl, sym, ap, ◌∙◌, subst, inl, inr}
-use Rattle.std.proofs.lemmas.Bool.{and_from, and_parts, cases_eq, eqb-true, ltb-true, ne_eqb, or_left}
+use Rattle.std.proofs.lemmas.Bool.{and_from, and_parts, eqb-true, ltb-true, ne_eqb, or_left}
 use Rattle.std.proofs.lemmas.List.{get_or-set_other}
 use Rattle.std.specs.Prelude.{is_none, nat_lt, slice_index_or, ◌==◌}
 use Rattle.cmwq_types.specs.Contents.{ScenarioContents}
-use Rattle.cmwq_types.specs.First.{by_least_two, count_below}
+use Rattle.cmwq_types.specs.First.{by_least_two}
 use Rattle.cmwq_types.specs.Scenario.{flags_at, op_at, queue_of}
 use Rattle.cmwq_types.specs.declared.instr.Instr.{Instr}
 use Rattle.cmwq_types.specs.declared.instr.Instr.TheVariants as instr
@@ -33,6 +33,7 @@ use Rattle.cmwq_reasons.specs.declared.reason.Instance.{Instance}
 use Rattle.cmwq_reasons.specs.declared.reason.Instance.TheVariants as instance
 use Rattle.cmwq_reasons.specs.Laws.{AreMoves, InAnyState, IsAmong, WaitsForThaw, is_move}
 use Rattle.cmwq_reasons.specs.Reasons.{birth, has_thaw_to_come, instances_born, pending_half, put_all_by_birth, put_by_birth, running_half, waits, waits_below}
+use Rattle.cmwq_reasons.proofs.BelowLemmas.{count-some}
 use Rattle.cmwq_reasons.proofs.MoverLemmas.{MoveSays, due-first, is_due_now, is_listed_in, listed-first, next_move-says, rescued-first, some-first}
 use Rattle.cmwq_reasons.proofs.PendingRows.{pending-work}
 
@@ -297,15 +298,6 @@ below-among S s queue bound (suc n) w there =
       | inr later ↦ (let old = below-among S s queue bound n w later in record { within = omega (arith, old.within); of_queue = old.of_queue; placed = old.placed })
     ]
 
--- where some number passes, the count isn't 0
-count-some : (f : ℕ → Bool) (n k : ℕ) → k < n → f k ≡ true → count_below f n ≡ 0 → ⊥
-count-some f zero k h e none = absurd (omega arith)
-count-some f (suc n) k h e none =
-    elim (cases_eq n k) [
-      | inl same ↦ (let here : cond {A = ℕ} (f n) 1 0 ≡ 1 = ap (λ (m : ℕ). cond {A = ℕ} (f m) 1 0) same ∙ ap (λ (b : Bool). cond {A = ℕ} b 1 0) e in omega arith)
-      | inr other ↦ count-some f n k (omega arith) e (omega arith)
-    ]
-
 stuck-here : (S : ScenarioContents) (s : State) (w : ℕ) (o : Option Pending) → pending_at s w ≡ o → pends (has_thaw_to_come S s w) o ≡ true
     → (pool : ℕ) × (p : Pending) × Stuck S w pool p s
 stuck-here S s w (Some p) is lacks = placed p.place refl lacks
@@ -317,32 +309,35 @@ stuck-here S s w (Some p) is lacks = placed p.place refl lacks
     placed (Deferred pool) at none = cc
 stuck-here S s w None is lacks = cc
 
--- what is placed now keeps its flush waiting then
+-- what pends as before keeps its flush waiting
 still-placed : (s t : State) (w : ℕ) (test : ℕ → Bool) → pending_at t w ≡ pending_at s w → placed_born test (pending_at s w) ≡ true → has_instance t w test ≡ true
 still-placed s t w test same placed =
     or_left (placed_born test (pending_at t w)) (runs (λ r. test r.born) (running_at t w)) (ap (placed_born test) same ∙ placed)
 
-waits-still : (S : ScenarioContents) (s t : State) (target : FlushTarget) (w : WorkId) → pending_at t w.0 ≡ pending_at s w.0
+-- what is placed, and is then still there, keeps its flush waiting
+pub waits-still : (S : ScenarioContents) (s t : State) (target : FlushTarget) (w : WorkId)
+    → ((test : ℕ → Bool) → placed_born test (pending_at s w.0) ≡ true → has_instance t w.0 test ≡ true)
     → IsAmong (instance.Pending w) (waits S s target) → is_done S t target ≡ false
-waits-still S s t (target.Instance work born) w same there =
+waits-still S s t (target.Instance work born) w stays there =
     elim (all-among s (instance.Pending w) (instances_born s (λ b. b == born) work.0) [] there) [
       | inl here ↦ (let found = born-among s (λ b. b == born) w work.0 here in
-          ap not (still-placed s t work.0 (λ b. b == born) (subst (λ (k : ℕ). pending_at t k ≡ pending_at s k) found.0 same) found.1))
+          ap not
+          (subst (λ (k : ℕ). placed_born (λ b. b == born) (pending_at s k) ≡ true → has_instance t k (λ b. b == born) ≡ true) found.0 (stays (λ b. b == born)) found.1))
       | inr none ↦ absurd none
     ]
-waits-still S s t (target.Queue queue bound) w same there =
+waits-still S s t (target.Queue queue bound) w stays there =
     let waited = below-among S s queue.0 bound (length S.works) w there in
-    let there_still : has_instance t w.0 (λ born. nat_lt born bound) ≡ true = still-placed s t w.0 (λ born. nat_lt born bound) same waited.placed in
+    let there_still : has_instance t w.0 (λ born. nat_lt born bound) ≡ true = stays (λ born. nat_lt born bound) waited.placed in
     let passes : ((queue_of S w.0 == queue.0) && has_instance t w.0 (λ born. nat_lt born bound)) ≡ true =
     and_from (queue_of S w.0 == queue.0) (has_instance t w.0 (λ born. nat_lt born bound)) waited.of_queue there_still in
     ne_eqb (queued_before S t queue.0 bound) 0
     (count-some (λ v. (queue_of S v == queue.0) && has_instance t v (λ born. nat_lt born bound)) (length S.works) w.0 waited.within passes)
-waits-still S s t target.Nothing w same there = absurd there
+waits-still S s t target.Nothing w stays there = absurd there
 
 pub waits_for_thaw : InAnyState WaitsForThaw
 unfolding WaitsForThaw
 waits_for_thaw S s target (instance.Pending w) there lacks later moves =
     let found = stuck-here S s w.0 (pending_at s w.0) refl lacks in
     let after : Stuck S w.0 found.0 found.1 (after_all S s later) = all-stuck S w.0 found.0 found.1 s later found.2 moves in
-    waits-still S s (after_all S s later) target w (after.is ∙ sym found.2.is) there
+    waits-still S s (after_all S s later) target w (λ test placed. still-placed s (after_all S s later) w.0 test (after.is ∙ sym found.2.is) placed) there
 waits_for_thaw S s target (instance.Running w) there lacks later moves = cc

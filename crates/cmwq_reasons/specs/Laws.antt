@@ -28,7 +28,7 @@ use Rattle.cmwq_reasons.specs.declared.reason.Reason.{Reason}
 use Rattle.cmwq_reasons.specs.declared.reason.Reason.TheVariants as reason
 use Rattle.cmwq_reasons.specs.declared.reason.Turn.{Turn}
 use Rattle.cmwq_reasons.specs.declared.reason.Turn.TheVariants.{Starts, Defers, StartsOnRescuer}
-use Rattle.cmwq_reasons.specs.Reasons.{causes, lacks_thaw, mover, pending_half, reason_of, reason_of_pending, reason_of_running, running_half, waits, work_of}
+use Rattle.cmwq_reasons.specs.Reasons.{causes, lacks_memory, lacks_thaw, mover, pending_half, reason_of, reason_of_pending, reason_of_running, running_half, waits, work_of, works_on_pool_workers}
 
 -- Where a law holds: in whatever state, be it one that a run comes to or not.
 abbrev pub InAnyState : (ScenarioContents → State → Type 0) → Type 0
@@ -321,15 +321,15 @@ WaitsUntilDone S s = (target : FlushTarget) → (waits S s target ≡ []) ↔ (i
 
 -- Ranks.
 
--- how far a reason may stand from what ends a wait
+-- how many instances a wait may have to its end, from one with such a reason on
 abbrev pub rank : Reason → ℕ
-rank (reason.Inactive pool) = 6
-rank (reason.Deferred pool) = 5
-rank (reason.NoWorker pool) = 5
-rank (reason.Held pool) = 5
-rank (reason.After pool x) = 5
-rank (reason.Behind v) = 4
-rank (reason.HighHas v) = 3
+rank (reason.Inactive pool) = 5
+rank (reason.Deferred pool) = 4
+rank (reason.NoWorker pool) = 4
+rank (reason.Held pool) = 4
+rank (reason.After pool x) = 4
+rank (reason.Behind v) = 3
+rank (reason.HighHas v) = 2
 rank (reason.ReadyAfter x) = 2
 rank (reason.WakesAfter x) = 2
 rank (reason.Asleep until) = 1
@@ -354,6 +354,61 @@ RanksCausesBelow S s =
     (x y : Instance) (a b : Reason) → work_of x < length S.works → reason_of S s x ≡ Some a → reason_of S s y ≡ Some b
     → IsAmong y (causes S s (work_of x) a) → rank b < rank a
 
+-- Chains of blame.
+
+-- the next instance, if there is one, is one that the reason of the work w blames
+abbrev pub BlamesNext : ScenarioContents → State → ℕ → Reason → List Instance → Type 0
+BlamesNext S s w a [] = Unit {0}
+BlamesNext S s w a (y ∷ ys) = IsAmong y (causes S s w a)
+
+-- instances of the scenario's works, of which each has a reason that blames the next one
+abbrev pub IsChainOfBlame : ScenarioContents → State → List Instance → Type 0
+IsChainOfBlame S s [] = Unit {0}
+IsChainOfBlame S s (x ∷ xs) =
+    (a : Reason) × (work_of x < length S.works) × (reason_of S s x ≡ Some a) × BlamesNext S s (work_of x) a xs × IsChainOfBlame S s xs
+
+-- A chain of blame has at most five instances.
+unfoldable pub BlamesAtMostFive : ScenarioContents → State → Type 0
+BlamesAtMostFive S s = (chain : List Instance) → IsChainOfBlame S s chain → length chain ≤ 5
+
+-- the instance is there, with a reason, and of one of the scenario's works
+abbrev pub IsThere : ScenarioContents → State → Instance → Type 0
+IsThere S s x = (work_of x < length S.works) × ((a : Reason) × (reason_of S s x ≡ Some a))
+
+-- Whom a reason blames, is there.
+unfoldable pub BlamesWhoIsThere : ScenarioContents → State → Type 0
+BlamesWhoIsThere S s =
+    (x y : Instance) (a : Reason) → work_of x < length S.works → reason_of S s x ≡ Some a → IsAmong y (causes S s (work_of x) a) → IsThere S s y
+
+-- the instance waits for no other one: it burns, sleeps or is next, or its timer or a thaw is to come
+abbrev pub waits_for_nobody : Reason → Bool
+waits_for_nobody (reason.Asleep until) = true
+waits_for_nobody reason.WakesNext = true
+waits_for_nobody reason.ReadyNext = true
+waits_for_nobody reason.Burns = true
+waits_for_nobody (reason.Timer due cpu) = true
+waits_for_nobody reason.FiresNext = true
+waits_for_nobody (reason.FiresAfter v) = true
+waits_for_nobody (reason.Frozen pool) = true
+waits_for_nobody (reason.Free pool turn) = true
+waits_for_nobody (reason.WakesAfter x) = false
+waits_for_nobody (reason.Behind v) = false
+waits_for_nobody (reason.ReadyAfter x) = false
+waits_for_nobody (reason.HighHas v) = false
+waits_for_nobody (reason.Disabled depth) = false
+waits_for_nobody reason.NotPending = false
+waits_for_nobody (reason.Deferred pool) = false
+waits_for_nobody (reason.Inactive pool) = false
+waits_for_nobody (reason.Held pool) = false
+waits_for_nobody (reason.After pool x) = false
+waits_for_nobody (reason.NoWorker pool) = false
+
+-- An instance whose reason blames nobody waits for no other one, or lacks memory.
+unfoldable pub EndsBlame : ScenarioContents → State → Type 0
+EndsBlame S s =
+    (x : Instance) (a : Reason) → work_of x < length S.works → reason_of S s x ≡ Some a → causes S s (work_of x) a ≡ []
+    → (waits_for_nobody a ≡ true) ⊎ (lacks_memory S s x ≡ true)
+
 -- Who is named.
 
 -- An inactive work blames as many instances as its queue has active ones in the pool: no fewer than its limit, which is its
@@ -376,6 +431,15 @@ unfoldable pub NoWorkerIsFree : ScenarioContents → State → Type 0
 NoWorkerIsFree S s =
     AtEachPending S s (λ w p. (pool : ℕ) → reason_of_pending S s w (Some p) ≡ reason.NoWorker pool
     → HasNoIdleWorker S s pool × (s.pressed ≡ false → S.workers ≤ made_at s pool))
+
+-- Where a work has no worker, a work is blamed for each worker that the pool has made; these are all that it may make, or
+-- memory is short; and nobody at all is blamed exactly where the work lacks memory.
+unfoldable pub NoWorkerNamesAll : ScenarioContents → State → Type 0
+NoWorkerNamesAll S s =
+    AtEachPending S s (λ w p. (pool : ℕ) → reason_of_pending S s w (Some p) ≡ reason.NoWorker pool
+    → (length (works_on_pool_workers S s pool) ≡ made_at s pool)
+    × ((made_at s pool ≡ S.workers) ⊎ (s.pressed ≡ true))
+    × ((causes S s w (reason.NoWorker pool) ≡ []) ↔ (lacks_memory S s (pending_half w) ≡ true)))
 
 -- Not by itself.
 
@@ -408,8 +472,16 @@ abbrev pub AreMoves : List Instr → Type 0
 AreMoves [] = Unit {0}
 AreMoves (i ∷ is) = (is_move i ≡ true) × AreMoves is
 
--- A flush that waits for an instance that lacks a thaw isn't done by anything that the machine does by itself.
-unfoldable pub WaitsForThaw : ScenarioContents → State → Type 0
-WaitsForThaw S s =
-    (target : FlushTarget) (x : Instance) → IsAmong x (waits S s target) → lacks_thaw S s x ≡ true → (later : List Instr) → AreMoves later
+-- A flush that waits for an instance that lacks this isn't done by anything that the machine does by itself.
+abbrev pub WaitsWhile : (ScenarioContents → State → Instance → Bool) → ScenarioContents → State → Type 0
+WaitsWhile lacks S s =
+    (target : FlushTarget) (x : Instance) → IsAmong x (waits S s target) → lacks S s x ≡ true → (later : List Instr) → AreMoves later
     → is_done S (after_all S s later) target ≡ false
+
+-- Where an instance lacks a thaw, its flush waits.
+unfoldable pub WaitsForThaw : ScenarioContents → State → Type 0
+WaitsForThaw S s = WaitsWhile lacks_thaw S s
+
+-- Where an instance lacks memory, its flush waits.
+unfoldable pub WaitsForRelief : ScenarioContents → State → Type 0
+WaitsForRelief S s = WaitsWhile lacks_memory S s

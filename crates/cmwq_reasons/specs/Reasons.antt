@@ -202,11 +202,16 @@ holders S s queue pool = running_holders S s queue pool ++ pending_holders S s q
 abbrev pub counted_works : ScenarioContents → State → ℕ → List ℕ
 counted_works S s pool = running_works S s (is_counted S s pool)
 
--- who has the workers that a listed work of the queue could have in the pool: those of the pool, and the queue's rescuer
+-- the works that run on workers of the pool, and those of the queue that run on its rescuer
+abbrev pub works_on_pool_workers : ScenarioContents → State → ℕ → List ℕ
+works_on_pool_workers S s pool = running_works S s (λ w. runs (λ r. (r.pool == pool) && not (is_rescuer r.worker)) (running_at s w))
+
+abbrev pub works_on_rescuer : ScenarioContents → State → ℕ → List ℕ
+works_on_rescuer S s queue = running_works S s (λ w. (queue_of S w == queue) && runs_on_rescuer s w)
+
+-- who has the workers that a listed work of the queue could have in the pool
 abbrev pub works_on_workers : ScenarioContents → State → ℕ → ℕ → List ℕ
-works_on_workers S s queue pool =
-    running_works S s (λ w. runs (λ r. (r.pool == pool) && not (is_rescuer r.worker)) (running_at s w))
-    ++ running_works S s (λ w. (queue_of S w == queue) && runs_on_rescuer s w)
+works_on_workers S s queue pool = works_on_pool_workers S s pool ++ works_on_rescuer S s queue
 
 -- the instances that a reason of the work w blames
 abbrev pub causes : ScenarioContents → State → ℕ → Reason → List Instance

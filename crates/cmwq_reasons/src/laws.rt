@@ -2,10 +2,12 @@
 //!
 //! Each function's contract is a law, over each state of each scenario, or over those that runs come to where it says
 //! so. The functions do nothing: they carry the laws.
-ghost use Rattle.cmwq_reasons.specs.Laws.{BurnsInTick, FrozenByFreeze, HeldNamesCounted, InAnyState, InactiveNamesActive, IsFiredNext, IsMovedNext, IsNextToMove, MomentsPassFirst, NoWorkerIsFree, RanksCausesBelow, TellsAfter, TellsAsleep, TellsBehind, TellsBurns, TellsDeferred, TellsDisabled, TellsFiresAfter, TellsFiresNext, TellsFree, TellsFrozen, TellsHeld, TellsHighHas, TellsInactive, TellsNoWorker, TellsNotPending, TellsReadyAfter, TellsReadyNext, TellsTimer, TellsWakesAfter, TellsWakesNext, WaitsForThaw, WaitsUntilDone};
+ghost use Rattle.cmwq_reasons.specs.Laws.{BlamesAtMostFive, BlamesWhoIsThere, BurnsInTick, EndsBlame, FrozenByFreeze, HeldNamesCounted, InAnyState, InactiveNamesActive, IsFiredNext, IsMovedNext, IsNextToMove, MomentsPassFirst, NoWorkerIsFree, NoWorkerNamesAll, RanksCausesBelow, TellsAfter, TellsAsleep, TellsBehind, TellsBurns, TellsDeferred, TellsDisabled, TellsFiresAfter, TellsFiresNext, TellsFree, TellsFrozen, TellsHeld, TellsHighHas, TellsInactive, TellsNoWorker, TellsNotPending, TellsReadyAfter, TellsReadyNext, TellsTimer, TellsWakesAfter, TellsWakesNext, WaitsForRelief, WaitsForThaw, WaitsUntilDone};
 ghost use Rattle.cmwq_table.specs.Laws.{InEveryState};
 
-use cmwq_table::laws::inactive_works_leave_no_room;
+use cmwq_table::laws::{
+    inactive_works_leave_no_room, queues_have_at_most_one_rescuer, works_are_not_reentrant,
+};
 
 /// Each work that runs has one reason why it isn't further, and each reason is given exactly where its condition holds.
 /// The reasons are this project's own.
@@ -67,12 +69,29 @@ pub fn burning_works_burn()
     ensures { InAnyState BurnsInTick }
 {}
 
-/// No wait goes round: an instance that a reason blames has a reason of lower rank. So whoever follows the blame comes in at
-/// most five instances to one that burns, sleeps or is next, or that waits for a thaw, or for a worker that nobody has.
+/// No wait goes round: an instance that a reason blames has a reason of lower rank.
 #[tactic(auto, using(crate::proofs::RankLemmas::ranks_causes_below))]
 pub fn no_wait_goes_round()
     ensures { InAnyState RanksCausesBelow }
 {}
+
+/// A chain of blame, of instances of which each has a reason that blames the next one, has at most five: so none goes round.
+#[tactic(auto, using(crate::proofs::RankLemmas::blames_at_most_five))]
+pub fn chains_of_blame_have_at_most_five_instances()
+    ensures { InAnyState BlamesAtMostFive }
+{}
+
+/// In every state of a run blame goes on to its end: whom a reason blames, is there and has a reason; and an instance that blames
+/// nobody burns, sleeps or is next, or waits for its timer or for a thaw, or lacks memory.
+#[tactic(auto, using(crate::proofs::BlameLemmas::blames_who_is_there, crate::proofs::BlameLemmas::ends_blame))]
+pub fn blame_goes_on_to_its_end()
+    ensures there { InEveryState BlamesWhoIsThere }
+    ensures ends { InEveryState EndsBlame }
+{
+    inactive_works_leave_no_room();
+    queues_have_at_most_one_rescuer();
+    works_are_not_reentrant();
+}
 
 /// A flush waits for no instance exactly where it is done.
 #[tactic(auto, using(crate::proofs::FlushLemmas::waits_until_done))]
@@ -107,9 +126,30 @@ pub fn works_without_a_worker_find_none_idle()
     ensures { InAnyState NoWorkerIsFree }
 {}
 
+/// In every state of a run, where a work has no worker, the reason blames as many works on workers of the pool as the pool has
+/// made, and beside them who of its queue is on the rescuer. The pool has made all its workers, or memory is short; and
+/// nobody at all is blamed exactly where the work lacks memory.
+#[tactic(auto, using(crate::proofs::NoWorkerLemmas::no_worker_names_all))]
+pub fn works_without_a_worker_name_who_has_them()
+    ensures { InEveryState NoWorkerNamesAll }
+{
+    works_are_not_reentrant();
+    queues_have_at_most_one_rescuer();
+}
+
 /// A flush that waits for an instance that lacks a thaw isn't done by itself: whatever steps, timers and ticks come, it waits
 /// for it.
 #[tactic(auto, using(crate::proofs::ThawLemmas::waits_for_thaw))]
 pub fn no_flush_is_done_before_the_thaw()
     ensures { InAnyState WaitsForThaw }
 {}
+
+/// In every state of a run a flush that waits for an instance that lacks memory isn't done by itself: memory is short, the pool has
+/// no worker and the queue no rescuer, and whatever steps, timers and ticks come, none is made and the flush waits.
+#[tactic(auto, using(crate::proofs::MemoryLemmas::waits_for_relief))]
+pub fn no_flush_is_done_before_the_relief()
+    ensures { InEveryState WaitsForRelief }
+{
+    works_are_not_reentrant();
+    queues_have_at_most_one_rescuer();
+}
