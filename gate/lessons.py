@@ -84,7 +84,7 @@ def answer_faults(program, stored):
 
 def asked(page):
     """The questions of a page: the words behind `./cmwq` of each, and the answer that stands there."""
-    return re.findall(r"^# .*\?\n\$ \./cmwq (why .*)\n((?:[^#$`\n].*\n)*)", page, re.M)
+    return re.findall(r"^# .*\?\n\$ \./cmwq (why .*)\n((?:(?![#$`]).*\n)*)", page, re.M)
 
 
 def question_faults(program, texts, room):
@@ -100,8 +100,8 @@ def question_faults(program, texts, room):
         if page.count("./cmwq why") != len(asked(page)):
             faults.append(f"{name}: not each `./cmwq why` stands behind a question, and before its answer")
     questions = "".join(f"{words} " for words, _answer in asked(pages["scenarios/README.md"]))
-    lessons = [os.path.basename(text).removesuffix("cmwq") for text in texts]
-    return faults + [f"scenarios/README.md: {name} isn't asked why it waits" for name in lessons if f"why scenarios/{name}" not in questions]
+    lessons = [os.path.basename(text).removesuffix(".cmwq") for text in texts]
+    return faults + [f"scenarios/README.md: {name} isn't asked why it waits" for name in lessons if f"why scenarios/{name}." not in questions]
 
 
 def instrs_of(listing):
