@@ -1,10 +1,12 @@
 """Runs each scenario of scenarios/ through a built program: what it prints is NAME.out; its listing prints the same; its image is
-shown as the listing. What is told of its run is NAME.tell, where there is one, and without the marked lines what it prints. Its picture stands in scenarios/README.md, and is NAME.draw, where there is one. What a debugger says to NAME.debug is NAME.said. What a play of a scenario with several actors leaves is one of
-NAME.play1, NAME.play2 .., and run again it prints the lines that stand in it. Why the work W waits is NAME.why_W, and what the flush F
-waits for NAME.flush_F, where there are such; with _every behind it, the same with --every. Of each lesson scenarios/README.md asks why it
-waits, in three parts: `# QUESTION?`, `$ ./cmwq why ..` and what that prints; README.md asks it of what the program's own `new` writes. The program's own stored run is one of them. Then faulty
-input: the status, and what each stream is given. And each scenario of one actor through an engine, by the program HISTORIES, which
-prints the history: each entry is compared.
+shown as the listing. What is told of its run is NAME.tell, where there is one, and without the marked lines what it prints. Its picture
+stands in scenarios/README.md, and is NAME.draw, where there is one. What a debugger says to NAME.debug is NAME.said. What a play of a
+scenario with several actors leaves is one of NAME.play1, NAME.play2 .., and run again it prints the lines that stand in it. Why work W
+waits is NAME.why_W, and what flush F waits for NAME.flush_F, where there are such; with _every behind it, the same at every position.
+scenarios/README.md asks of each lesson why something waits: a line `# QUESTION?`, a line `$ ./cmwq why ..`, and what that prints, up to
+the next question; README.md asks it of the scenario that `new` writes. The program's own stored run is one of these. Then faulty input:
+the status, and what each stream is given. And each scenario of one actor through an engine, by the program HISTORIES, which prints the
+history: each entry is compared.
 
     python3 gate/lessons.py PROGRAM HISTORIES"""
 import glob
@@ -95,13 +97,14 @@ def question_faults(program, texts, room):
     faults = [] if said(program, "new", first) == b"" else ["new: it isn't written"]
     for name, page in pages.items():
         for words, answer in asked(page):
-            if failed(program, *words.replace("/tmp/first.cmwq", first).replace("scenarios/", f"{TOP}/scenarios/").split()) != (0, answer.encode(), b""):
+            here = words.replace("/tmp/first.cmwq", first).replace("scenarios/", f"{TOP}/scenarios/").split()
+            if failed(program, *here) != (0, answer.encode(), b""):
                 faults.append(f"{name}: the answer to {words} is not as it should be")
         if page.count("./cmwq why") != len(asked(page)):
             faults.append(f"{name}: not each `./cmwq why` stands behind a question, and before its answer")
-    questions = "".join(f"{words} " for words, _answer in asked(pages["scenarios/README.md"]))
-    lessons = [os.path.basename(text).removesuffix(".cmwq") for text in texts]
-    return faults + [f"scenarios/README.md: {name} isn't asked why it waits" for name in lessons if f"why scenarios/{name}." not in questions]
+    lessons = {os.path.basename(text).partition(".")[0] for text in texts}
+    lessons -= {words.removeprefix("why scenarios/").partition(".")[0] for words, _answer in asked(pages["scenarios/README.md"])}
+    return faults + [f"scenarios/README.md: {name} isn't asked why it waits" for name in sorted(lessons)]
 
 
 def instrs_of(listing):
@@ -205,7 +208,7 @@ def main(program, histories):
     faults += [] if drawings else ["scenarios/: there is no picture to compare"]
     faults += [] if answers else ["scenarios/: there is no answer to compare"]
     print("".join(f"lessons: {fault}\n" for fault in faults), end="")
-    print(f"lessons: {len(texts) + len(plays)} scenarios and {len(drawings)} pictures compared, {len(faults)} faults")
+    print(f"lessons: {len(texts) + len(plays)} scenarios, {len(drawings)} pictures and {len(answers)} answers compared, {len(faults)} faults")
     return 1 if faults else 0
 
 
