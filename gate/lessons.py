@@ -85,8 +85,9 @@ def answer_faults(program, stored):
 
 
 def asked(page):
-    """The questions of a page: the words behind `./cmwq` of each, and the answer that stands there."""
-    return re.findall(r"^# .*\?\n\$ \./cmwq (why .*)\n((?:(?![#$`]).*\n)*)", page, re.M)
+    """The questions of a page: the words behind `./cmwq` of each, and the answer, up to the next question, with an empty line before it or
+    without one, or to the block's end."""
+    return re.findall(r"^# .*\?\n\$ \./cmwq (why .*)\n((?:(?![#$`]).*\n)*?)\n?(?=[#$`])", page, re.M)
 
 
 def question_faults(program, texts, room):
