@@ -242,11 +242,23 @@ const NO_REQUESTS: [(&str, ErrorKind, i32); 42] = [
     ("cmwq why a b c", ErrorKind::UnknownArgument, 2),
     ("cmwq why a b --at 1 --every", ErrorKind::ValueValidation, 2),
     ("cmwq why a b --at 1 --at 1", ErrorKind::ArgumentConflict, 2),
-    ("cmwq why a --flush 1 --flush 1", ErrorKind::ArgumentConflict, 2),
-    ("cmwq why a b --every --every", ErrorKind::ArgumentConflict, 2),
+    (
+        "cmwq why a --flush 1 --flush 1",
+        ErrorKind::ArgumentConflict,
+        2,
+    ),
+    (
+        "cmwq why a b --every --every",
+        ErrorKind::ArgumentConflict,
+        2,
+    ),
     ("cmwq why a b --at", ErrorKind::InvalidValue, 2),
     ("cmwq why a b --at x", ErrorKind::ValueValidation, 2),
-    ("cmwq why a b --at 12345678901", ErrorKind::ValueValidation, 2),
+    (
+        "cmwq why a b --at 12345678901",
+        ErrorKind::ValueValidation,
+        2,
+    ),
     ("cmwq why a b --at ", ErrorKind::ValueValidation, 2),
     ("cmwq why --at  a b", ErrorKind::ValueValidation, 2),
     ("cmwq why a --flush -1", ErrorKind::UnknownArgument, 2),
@@ -272,7 +284,7 @@ fn other_words_are_help_or_usage_faults(rt: HostRuntime) {
 }
 
 /// Command lines, the exit status, and what goes to standard output and to standard error.
-const TOLD: [(&str, u8, &[u8], &[u8]); 6] = [
+const TOLD: [(&str, u8, &[u8], &[u8]); 7] = [
     (
         "cmwq walk a",
         2,
@@ -295,6 +307,14 @@ const TOLD: [(&str, u8, &[u8], &[u8]); 6] = [
         b"",
         b"error: unexpected argument 'b' found\n\n\
           Usage: cmwq list <FILE>\n\n\
+          For more information, try '--help'.\n",
+    ),
+    (
+        "cmwq why a",
+        2,
+        b"",
+        b"error: why takes either a WORK or --flush\n\n\
+          Usage: cmwq <COMMAND>\n\n\
           For more information, try '--help'.\n",
     ),
     (
