@@ -151,7 +151,7 @@ Example:
 
 const DEBUG: &str = "\
 Commands are lines of standard input: step N, back N, goto K, run, break work W event E, break time T,
-break refusal, clear I, dump, dump pool P. Prints the answer to each before the next is read.
+break refusal, clear I, dump, dump pool P, why W, why flush F. Prints the answer to each before the next is read.
 
 Exit status:
   0  the input ended; refused and bad commands are answered in lines of their own
