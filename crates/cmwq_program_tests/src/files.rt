@@ -11,6 +11,7 @@ use cmwq_machine_tests::examples::{IMAGE_OF_STEPS_RUN_OUT as IMAGE, STEPS_RUN_OU
 use cmwq_machine_tests::streams::reading_of;
 use cmwq_play::{Marked, PlayError};
 use cmwq_types::Fault;
+use cmwq_words::asking::{Positions, Subject};
 use cmwq_words::drawing::DrawOptions;
 use cmwq_words::request::{Request, RunKind};
 use std::fs;
@@ -168,10 +169,86 @@ const STEPS_RUN_OUT_TOLD: &[u8] = b"# queue a 0
 0 a idle runs 0/0
 ";
 
+/// What is asked of the same run, where it is looked, the answer, and what is told. Settled are the start and, being the last, the end.
+const STEPS_RUN_OUT_WHY: [(Subject<'static>, Positions, Result<(), PlayError>, &[u8]); 7] = [
+    (
+        Subject::Work("a"),
+        Positions::Settled,
+        Ok(()),
+        b"at 0 now 0 a not pending\nat 10 now 0 a ready, goes on next; spent\n",
+    ),
+    (
+        Subject::Work("a"),
+        Positions::Every,
+        Ok(()),
+        b"at 0 now 0 a not pending
+at 1 now 0 a listed 0: free to go, starts next
+at 2 now 0 a ready, goes on next
+at 3 now 0 a ready, goes on next; inactive 0: q has 1 of 1 active: a runs
+at 4 now 0 a listed 0: free to go, starts next
+at 5 now 0 a ready, goes on next
+at 6 now 0 a ready, goes on next; inactive 0: q has 1 of 1 active: a runs
+at 7 now 0 a listed 0: free to go, starts next
+at 8 now 0 a ready, goes on next; spent
+",
+    ),
+    (
+        Subject::Work("a"),
+        Positions::At(6),
+        Ok(()),
+        b"at 6 now 0 a ready, goes on next; inactive 0: q has 1 of 1 active: a runs\n",
+    ),
+    (
+        Subject::Work("q"),
+        Positions::At(11),
+        Err(PlayError::NoSuchWork),
+        b"",
+    ),
+    (
+        Subject::Work("a"),
+        Positions::At(11),
+        Err(PlayError::PastEnd),
+        b"",
+    ),
+    (
+        Subject::Flush(0),
+        Positions::At(11),
+        Err(PlayError::PastEnd),
+        b"",
+    ),
+    (
+        Subject::Flush(0),
+        Positions::Every,
+        Err(PlayError::NoSuchFlush),
+        b"",
+    ),
+];
+
+/// A work is queued and waited for.
+const FLUSHED: &[u8] = b"cpus 1
+workers 1
+steps 8
+flushes 1
+queue q max 1
+work a q
+body a
+burn 1
+finish
+actor t
+queue a 0
+flush a
+next * 4
+";
+
+/// What its flush waits for.
+const FLUSHED_WAITS: &[u8] =
+    b"at 4 now 0 flush 0 waits for 1\n  a burns\nat 6 now 1 flush 0 done\n";
+
 #[test]
 fn each_command_reads_and_writes_files(rt: HostRuntime) {
     make_folder(&rt, "cmwq_commands");
     let file = "cmwq_commands/a.cmwq";
+    let other = "cmwq_commands/b.cmwq";
     let out = "cmwq_commands/a.image";
     put_file(&rt, file, STEPS_RUN_OUT.text);
     let never = Err(PlayError::NeverQuiet);
@@ -184,6 +261,21 @@ fn each_command_reads_and_writes_files(rt: HostRuntime) {
         check_answer(&rt, run, result, prints);
     }
     check_answer(&rt, Request::Settle { file }, never, b"");
+    for (subject, positions, result, prints) in STEPS_RUN_OUT_WHY {
+        let why = Request::Why {
+            file,
+            subject,
+            positions,
+        };
+        check_answer(&rt, why, result, prints);
+    }
+    put_file(&rt, other, FLUSHED);
+    let why = Request::Why {
+        file: other,
+        subject: Subject::Flush(0),
+        positions: Positions::Settled,
+    };
+    check_answer(&rt, why, Ok(()), FLUSHED_WAITS);
     let options = DrawOptions {
         settle: false,
         svg: false,
@@ -273,6 +365,14 @@ fn a_file_that_is_not_there_is_a_failed_read_or_write(rt: HostRuntime) {
             PlayError::Read,
         ),
         (Request::Settle { file }, PlayError::Read),
+        (
+            Request::Why {
+                file,
+                subject: Subject::Work("a"),
+                positions: Positions::Settled,
+            },
+            PlayError::Read,
+        ),
         (Request::List { file }, PlayError::Read),
         (Request::Show { image: out }, PlayError::Read),
         (Request::Debug { file }, PlayError::Read),

@@ -1,5 +1,5 @@
-//! `why`: what is told of whole runs, one position alone, and what is refused. The outputs were worked out by hand from what the
-//! reasons mean, never from a run.
+//! `why`: what is told of whole runs and of one position alone, and what is refused. What is told of whole runs comes from the examples
+//! with which the command was designed, the rest was worked out by hand: none comes from a run of the program.
 use crate::carried::{Command, Outcome, carried_out};
 use crate::checking::same;
 use crate::commands::{DEEPEST, check_refused, check_written};
