@@ -1,0 +1,60 @@
+-- What one may believe of a work's line from one instruction to the next.
+use Rattle.std.specs.Prelude.{◌≡◌, ℕ, true, Option, Some, None}
+use Rattle.cmwq_types.specs.Contents.{ScenarioContents}
+use Rattle.cmwq_types.specs.declared.instr.Instr.{Instr}
+use Rattle.cmwq_types.specs.declared.instr.Instr.TheVariants as instr
+use Rattle.cmwq_types.specs.declared.instr.WorkId.{WorkId}
+use Rattle.cmwq_types.specs.declared.reply.Refusal.{Refusal}
+use Rattle.cmwq_types.specs.declared.reply.Reply.TheVariants as reply
+use Rattle.cmwq_table.specs.State.{State}
+use Rattle.cmwq_table.specs.Laws.{reply_to, state_after}
+use Rattle.cmwq_table.specs.Table.{is_question}
+use Rattle.cmwq_reasons.specs.declared.reason.Instance.{Instance}
+use Rattle.cmwq_reasons.specs.declared.reason.Instance.TheVariants as instance
+use Rattle.cmwq_reasons.specs.declared.reason.Reason.{Reason}
+use Rattle.cmwq_reasons.specs.declared.reason.Reason.TheVariants as reason
+use Rattle.cmwq_reasons.specs.Laws.{IsDeclared}
+use Rattle.cmwq_reasons.specs.Reasons.{reason_of}
+use Rattle.cmwq_why.specs.Text.{why_text}
+
+-- Refusals and questions.
+
+-- each work has the same text after the instruction as before
+abbrev pub ChangesNoText : ScenarioContents → State → Instr → Type 0
+ChangesNoText S s i = (w : ℕ) → why_text S (state_after S s i) w ≡ why_text S s w
+
+-- An instruction that is refused changes no text.
+unfoldable pub ChangesNoTextRefused : ScenarioContents → State → Instr → Type 0
+ChangesNoTextRefused S s i = (why : Refusal) → reply_to S s i ≡ reply.Refused why → ChangesNoText S s i
+
+-- A question changes no text, whatever the answer.
+unfoldable pub ChangesNoTextAsked : ScenarioContents → State → Instr → Type 0
+ChangesNoTextAsked S s i = is_question i ≡ true → ChangesNoText S s i
+
+-- Ticks.
+
+-- what a reason may be after a tick
+pub data MayTurnInto : Reason → Reason → Type 0 where
+  stays : (a : Reason) → MayTurnInto a a
+  -- a timer has run out
+  fires_next : (due cpu : ℕ) → MayTurnInto (reason.Timer due cpu) reason.FiresNext
+  fires_after : (due cpu : ℕ) (v : WorkId) → MayTurnInto (reason.Timer due cpu) (reason.FiresAfter v)
+  -- a sleep is over
+  wakes_next : (until : ℕ) → MayTurnInto (reason.Asleep until) reason.WakesNext
+  wakes_after : (until : ℕ) (x : Instance) → MayTurnInto (reason.Asleep until) (reason.WakesAfter x)
+  -- the last tick was burned
+  ready_next : MayTurnInto reason.Burns reason.ReadyNext
+  ready_after : (x : Instance) → MayTurnInto reason.Burns (reason.ReadyAfter x)
+  -- a work that runs in the pool has burned its last tick, or its sleep is over
+  goes_after : (pool : ℕ) (v : WorkId) → MayTurnInto (reason.NoWorker pool) (reason.After pool (instance.Running v))
+
+-- the reason afterwards, by the one before: there is one exactly where there was one
+abbrev pub TurnsFew : Option Reason → Option Reason → Type 0
+TurnsFew (Some a) later = (b : Reason) × (later ≡ Some b) × MayTurnInto a b
+TurnsFew None later = later ≡ None
+
+-- In an accepted tick each instance keeps its reason, but for those few.
+unfoldable pub TurnsReasonsInTick : ScenarioContents → State → Type 0
+TurnsReasonsInTick S s =
+    reply_to S s instr.Tick ≡ reply.Done
+    → (x : Instance) → IsDeclared S s x → TurnsFew (reason_of S s x) (reason_of S (state_after S s instr.Tick) x)

@@ -1,0 +1,29 @@
+//! What one may believe of a work's line from one instruction to the next.
+//!
+//! Each function's contract is a law. The functions do nothing: they carry the laws.
+ghost use Rattle.cmwq_reasons.specs.Laws.{InAnyState};
+ghost use Rattle.cmwq_table.specs.Laws.{AtEveryInstruction};
+ghost use Rattle.cmwq_why_laws.specs.Laws.{ChangesNoTextAsked, ChangesNoTextRefused, TurnsReasonsInTick};
+
+use cmwq_reasons::laws::{burning_works_burn, moments_pass_before_time};
+use cmwq_table::laws::{questions_change_nothing, refused_instructions_change_nothing};
+
+/// An instruction that is refused changes no line, and neither does a question.
+#[tactic(auto, using(crate::proofs::QuestionLemmas::changes_no_text_refused, crate::proofs::QuestionLemmas::changes_no_text_asked))]
+pub fn refusals_and_questions_change_no_line()
+    ensures refused { AtEveryInstruction ChangesNoTextRefused }
+    ensures asked { AtEveryInstruction ChangesNoTextAsked }
+{
+    refused_instructions_change_nothing();
+    questions_change_nothing();
+}
+
+/// When time passes, a reason stays as it is, but that timers run out, sleeps come to their end, who burns has nothing left
+/// to burn, and a pool without a worker has one of its running works to move.
+#[tactic(auto, using(crate::proofs::TickLemmas::turns_reasons_in_tick))]
+pub fn ticks_turn_few_reasons()
+    ensures { InAnyState TurnsReasonsInTick }
+{
+    moments_pass_before_time();
+    burning_works_burn();
+}
