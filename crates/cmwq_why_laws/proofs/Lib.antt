@@ -1,2 +1,4 @@
 pub mod QuestionLemmas
 pub mod TickLemmas
+pub mod TickTextLemmas
+pub mod SpentLemmas

@@ -90,7 +90,7 @@ stamp-shown : (o : Option Running) → running_stamp (shown o) ≡ running_stamp
 stamp-shown (Some r) = refl
 stamp-shown None = refl
 
-abbrev shows : (ℕ → ℕ → Mode → Bool) → Option Running → Bool
+abbrev pub shows : (ℕ → ℕ → Mode → Bool) → Option Running → Bool
 shows test = runs (λ r. test r.pool r.worker r.mode)
 
 test-shown : (test : ℕ → ℕ → Mode → Bool) (o : Option Running) → shows test (shown o) ≡ shows test o

@@ -1,12 +1,12 @@
 -- What one may believe of a work's line from one instruction to the next.
-use Rattle.std.specs.Prelude.{◌≡◌, ℕ, true, Option, Some, None}
+use Rattle.std.specs.Prelude.{◌≡◌, ℕ, ◌<◌, true, List, Option, Some, None}
 use Rattle.cmwq_types.specs.Contents.{ScenarioContents}
 use Rattle.cmwq_types.specs.declared.instr.Instr.{Instr}
 use Rattle.cmwq_types.specs.declared.instr.Instr.TheVariants as instr
 use Rattle.cmwq_types.specs.declared.instr.WorkId.{WorkId}
 use Rattle.cmwq_types.specs.declared.reply.Refusal.{Refusal}
 use Rattle.cmwq_types.specs.declared.reply.Reply.TheVariants as reply
-use Rattle.cmwq_table.specs.State.{State}
+use Rattle.cmwq_table.specs.State.{State, running_at}
 use Rattle.cmwq_table.specs.Laws.{reply_to, state_after}
 use Rattle.cmwq_table.specs.Table.{is_question}
 use Rattle.cmwq_reasons.specs.declared.reason.Instance.{Instance}
@@ -14,8 +14,17 @@ use Rattle.cmwq_reasons.specs.declared.reason.Instance.TheVariants as instance
 use Rattle.cmwq_reasons.specs.declared.reason.Reason.{Reason}
 use Rattle.cmwq_reasons.specs.declared.reason.Reason.TheVariants as reason
 use Rattle.cmwq_reasons.specs.Laws.{IsDeclared}
-use Rattle.cmwq_reasons.specs.Reasons.{reason_of}
-use Rattle.cmwq_why.specs.Text.{why_text}
+use Rattle.cmwq_reasons.specs.Reasons.{pending_half, reason_if_running, reason_of, running_half}
+use Rattle.cmwq_why.specs.Text.{both_halves, why_text}
+
+-- what is told of a work's halves: its text, but for whether the scenario's steps are spent
+abbrev pub halves_text : ScenarioContents → State → ℕ → List ℕ
+halves_text S s w = both_halves S s w (reason_if_running S s w (running_at s w))
+
+-- the work has the same text after as before, but that the steps may be spent now
+abbrev pub KeepsText : ScenarioContents → State → State → ℕ → Type 0
+KeepsText S before after w =
+    (halves_text S after w ≡ halves_text S before w) × (after.spent < S.steps → why_text S after w ≡ why_text S before w)
 
 -- Refusals and questions.
 
@@ -58,3 +67,14 @@ unfoldable pub TurnsReasonsInTick : ScenarioContents → State → Type 0
 TurnsReasonsInTick S s =
     reply_to S s instr.Tick ≡ reply.Done
     → (x : Instance) → IsDeclared S s x → TurnsFew (reason_of S s x) (reason_of S (state_after S s instr.Tick) x)
+
+-- both halves of the work have the same reasons after as before
+abbrev pub KeepsReasons : ScenarioContents → State → State → ℕ → Type 0
+KeepsReasons S before after w =
+    (reason_of S after (pending_half w) ≡ reason_of S before (pending_half w)) × (reason_of S after (running_half w) ≡ reason_of S before (running_half w))
+
+-- In an accepted tick a work whose halves keep their reasons keeps its text: who stands before it and who holds it, too.
+unfoldable pub KeepsTextInTick : ScenarioContents → State → Type 0
+KeepsTextInTick S s =
+    reply_to S s instr.Tick ≡ reply.Done
+    → (w : ℕ) → KeepsReasons S s (state_after S s instr.Tick) w → KeepsText S s (state_after S s instr.Tick) w

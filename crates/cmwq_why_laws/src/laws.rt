@@ -3,7 +3,7 @@
 //! Each function's contract is a law. The functions do nothing: they carry the laws.
 ghost use Rattle.cmwq_reasons.specs.Laws.{InAnyState};
 ghost use Rattle.cmwq_table.specs.Laws.{AtEveryInstruction};
-ghost use Rattle.cmwq_why_laws.specs.Laws.{ChangesNoTextAsked, ChangesNoTextRefused, TurnsReasonsInTick};
+ghost use Rattle.cmwq_why_laws.specs.Laws.{ChangesNoTextAsked, ChangesNoTextRefused, KeepsTextInTick, TurnsReasonsInTick};
 
 use cmwq_reasons::laws::{burning_works_burn, moments_pass_before_time};
 use cmwq_table::laws::{questions_change_nothing, refused_instructions_change_nothing};
@@ -27,3 +27,9 @@ pub fn ticks_turn_few_reasons()
     moments_pass_before_time();
     burning_works_burn();
 }
+
+/// And a work whose reasons a tick doesn't change has the same line after it: nothing that it tells of others changes.
+#[tactic(auto, using(crate::proofs::TickTextLemmas::keeps_text_in_tick))]
+pub fn ticks_change_no_line_but_by_its_reasons()
+    ensures { InAnyState KeepsTextInTick }
+{}
