@@ -2,3 +2,5 @@ pub mod QuestionLemmas
 pub mod TickLemmas
 pub mod TickTextLemmas
 pub mod SpentLemmas
+pub mod AgreeLemmas
+pub mod PoolLemmas
