@@ -4,3 +4,5 @@ pub mod TickTextLemmas
 pub mod SpentLemmas
 pub mod AgreeLemmas
 pub mod PoolLemmas
+pub mod AroundLemmas
+pub mod AroundTextLemmas
