@@ -6,3 +6,4 @@ pub mod AgreeLemmas
 pub mod PoolLemmas
 pub mod AroundLemmas
 pub mod AroundTextLemmas
+pub mod StepLemmas

@@ -102,7 +102,7 @@ by_key test a b same j k at_j at_k = ap (λ (n : ℕ). nat_lt n (a k)) (same j a
 abbrev two_keys : ℕ → ℕ → ℕ → ℕ → Bool
 two_keys a b c d = nat_lt a b || ((a == b) && nat_lt c d)
 
-by_two : (test : ℕ → Bool) (a b c d : ℕ → ℕ) → ((k : ℕ) → test k ≡ true → a k ≡ b k) → ((k : ℕ) → test k ≡ true → c k ≡ d k) → Agrees test (by_least_two a c) (by_least_two b d)
+pub by_two : (test : ℕ → Bool) (a b c d : ℕ → ℕ) → ((k : ℕ) → test k ≡ true → a k ≡ b k) → ((k : ℕ) → test k ≡ true → c k ≡ d k) → Agrees test (by_least_two a c) (by_least_two b d)
 by_two test a b c d first second j k at_j at_k =
     ap (λ (n : ℕ). two_keys n (a k) (c j) (c k)) (first j at_j) ∙ ap (λ (n : ℕ). two_keys (b j) n (c j) (c k)) (first k at_k)
     ∙ ap (λ (n : ℕ). two_keys (b j) (b k) n (c k)) (second j at_j) ∙ ap (λ (n : ℕ). two_keys (b j) (b k) (d j) n) (second k at_k)

@@ -1,19 +1,22 @@
 -- What one may believe of a work's line from one instruction to the next.
-use Rattle.std.specs.Prelude.{◌≡◌, ℕ, ◌<◌, true, List, Option, Some, None}
+use Rattle.std.specs.Prelude.{◌≡◌, ℕ, ◌+◌, ◌<◌, Bool, true, false, List, length, Option, Some, None}
 use Rattle.cmwq_types.specs.Contents.{ScenarioContents}
+use Rattle.cmwq_types.specs.Scenario.{flags_at, is_high, is_unbound, queue_of}
 use Rattle.cmwq_types.specs.declared.instr.Instr.{Instr}
 use Rattle.cmwq_types.specs.declared.instr.Instr.TheVariants as instr
 use Rattle.cmwq_types.specs.declared.instr.WorkId.{WorkId}
+use Rattle.cmwq_types.specs.declared.reply.Event.{Event}
+use Rattle.cmwq_types.specs.declared.reply.Event.TheVariants as event
 use Rattle.cmwq_types.specs.declared.reply.Refusal.{Refusal}
 use Rattle.cmwq_types.specs.declared.reply.Reply.TheVariants as reply
 use Rattle.cmwq_table.specs.State.{State, running_at}
-use Rattle.cmwq_table.specs.Laws.{reply_to, state_after}
+use Rattle.cmwq_table.specs.Laws.{IsListedIn, reply_to, state_after}
 use Rattle.cmwq_table.specs.Table.{is_question}
 use Rattle.cmwq_reasons.specs.declared.reason.Instance.{Instance}
 use Rattle.cmwq_reasons.specs.declared.reason.Instance.TheVariants as instance
 use Rattle.cmwq_reasons.specs.declared.reason.Reason.{Reason}
 use Rattle.cmwq_reasons.specs.declared.reason.Reason.TheVariants as reason
-use Rattle.cmwq_reasons.specs.Laws.{IsDeclared}
+use Rattle.cmwq_reasons.specs.Laws.{IsDeclared, pool_of}
 use Rattle.cmwq_reasons.specs.Reasons.{pending_half, reason_if_running, reason_of, running_half}
 use Rattle.cmwq_why.specs.Text.{both_halves, why_text}
 
@@ -78,3 +81,44 @@ unfoldable pub KeepsTextInTick : ScenarioContents → State → Type 0
 KeepsTextInTick S s =
     reply_to S s instr.Tick ≡ reply.Done
     → (w : ℕ) → KeepsReasons S s (state_after S s instr.Tick) w → KeepsText S s (state_after S s instr.Tick) w
+
+-- Steps.
+
+-- by the event the moved work keeps its worker, if it has one, or is deferred, and no work is placed
+abbrev pub keeps_workers : Event → Bool
+keeps_workers (event.Burns ticks) = true
+keeps_workers (event.Sleeps ticks) = true
+keeps_workers event.Wakes = true
+keeps_workers event.Defers = true
+keeps_workers (event.Queues other already) = already
+keeps_workers (event.QueuesDisabled other) = true
+keeps_workers event.Starts = false
+keeps_workers event.StartsOnRescuer = false
+keeps_workers event.Finishes = false
+keeps_workers event.FinishesAndStarts = false
+keeps_workers event.Fires = false
+
+-- neither half of the work is in the pool
+abbrev pub IsOutside : State → ℕ → ℕ → Type 0
+IsOutside s pool w = (pool_of s (pending_half w) ≡ Some pool → ⊥) × (pool_of s (running_half w) ≡ Some pool → ⊥)
+
+-- the normal pool of the CPU whose high pool the other one is
+abbrev pub IsNormalBeside : ScenarioContents → ℕ → ℕ → Type 0
+IsNormalBeside S pool high = (is_unbound S pool ≡ false) × (is_high pool ≡ false) × (pool + 1 ≡ high)
+
+-- if the queue has a rescuer, the work isn't listed where one of the queue is
+abbrev pub SharesNoRescuer : ScenarioContents → State → ℕ → ℕ → Type 0
+SharesNoRescuer S s queue w =
+    (flags_at S queue).mem_reclaim ≡ true → (pool v : ℕ) → IsListedIn s w pool → IsListedIn s v pool → queue_of S v ≡ queue → ⊥
+
+-- the work w has nothing to do with a step of the pool that moves the work m: it isn't in the pool, doesn't run in the normal pool
+-- beside, and isn't listed where the rescuer of m is wanted
+abbrev pub IsApart : ScenarioContents → State → ℕ → ℕ → ℕ → Type 0
+IsApart S s pool m w =
+    IsOutside s pool w × ((beside : ℕ) → IsNormalBeside S beside pool → pool_of s (running_half w) ≡ Some beside → ⊥) × SharesNoRescuer S s (queue_of S m) w
+
+-- In a step of such an event a work that has nothing to do with it keeps its text.
+unfoldable pub KeepsTextInStep : ScenarioContents → State → Type 0
+KeepsTextInStep S s =
+    (pool : ℕ) (m : WorkId) (e : Event) → reply_to S s (instr.Step pool) ≡ reply.Event m e → keeps_workers e ≡ true
+    → (w : ℕ) → w < length S.works → IsApart S s pool m.0 w → KeepsText S s (state_after S s (instr.Step pool)) w

@@ -2,11 +2,13 @@
 //!
 //! Each function's contract is a law. The functions do nothing: they carry the laws.
 ghost use Rattle.cmwq_reasons.specs.Laws.{InAnyState};
-ghost use Rattle.cmwq_table.specs.Laws.{AtEveryInstruction};
-ghost use Rattle.cmwq_why_laws.specs.Laws.{ChangesNoTextAsked, ChangesNoTextRefused, KeepsTextInTick, TurnsReasonsInTick};
+ghost use Rattle.cmwq_table.specs.Laws.{AtEveryInstruction, InEveryState};
+ghost use Rattle.cmwq_why_laws.specs.Laws.{ChangesNoTextAsked, ChangesNoTextRefused, KeepsTextInStep, KeepsTextInTick, TurnsReasonsInTick};
 
 use cmwq_reasons::laws::{burning_works_burn, moments_pass_before_time};
-use cmwq_table::laws::{questions_change_nothing, refused_instructions_change_nothing};
+use cmwq_table::laws::{
+    questions_change_nothing, queues_have_at_most_one_rescuer, refused_instructions_change_nothing,
+};
 
 /// An instruction that is refused changes no line, and neither does a question.
 #[tactic(auto, using(crate::proofs::QuestionLemmas::changes_no_text_refused, crate::proofs::QuestionLemmas::changes_no_text_asked))]
@@ -33,3 +35,13 @@ pub fn ticks_turn_few_reasons()
 pub fn ticks_change_no_line_but_by_its_reasons()
     ensures { InAnyState KeepsTextInTick }
 {}
+
+/// In every state of a run a pool's step by which no worker begins or ends a work, and no work is placed, changes the lines of
+/// few: of works of that pool, of those that run in the normal pool beside it, and of those that are listed where the
+/// rescuer of the moved work is wanted.
+#[tactic(auto, using(crate::proofs::StepLemmas::keeps_text_in_step))]
+pub fn steps_change_few_lines()
+    ensures { InEveryState KeepsTextInStep }
+{
+    queues_have_at_most_one_rescuer();
+}
