@@ -1,13 +1,11 @@
 -- States that are alike around a work tell the same of it.
-use Rattle.std.proofs.Common.{◌≡◌, ℕ, ◌+◌, ◌<◌, Bool, true, false, not, ◌&&◌, ◌||◌, List, [], ◌∷◌, ◌++◌, length, map, Option, Some, None, cond, codes, refl, sym, ap, ◌∙◌, nat_lt}
+use Rattle.std.proofs.Common.{◌≡◌, ℕ, ◌<◌, Bool, true, false, not, ◌&&◌, List, [], ◌++◌, length, map, Option, Some, None, cond, codes, refl, ap, ◌∙◌, nat_lt}
 use Rattle.std.proofs.lemmas.Bool.{eq-eqb}
 use Rattle.std.specs.Fmt.{decimal}
 use Rattle.std.specs.List.{flat_map}
 use Rattle.std.specs.Prelude.{◌==◌, is_none}
-use Rattle.cmwq_types.proofs.FirstLemmas.{count_below-agree}
 use Rattle.cmwq_types.specs.Contents.{ScenarioContents}
-use Rattle.cmwq_types.specs.First.{count_below}
-use Rattle.cmwq_types.specs.Scenario.{flags_at, is_high, is_unbound, queue_of}
+use Rattle.cmwq_types.specs.Scenario.{is_unbound, queue_of}
 use Rattle.cmwq_types.specs.declared.instr.WorkId.{WorkId}
 use Rattle.cmwq_types.specs.declared.moves.Move.{Move}
 use Rattle.cmwq_types.specs.declared.moves.Move.TheVariants.{Advance, Wake, Start, Defer, Rescue}
@@ -18,7 +16,7 @@ use Rattle.cmwq_types.specs.declared.reply.Place.TheVariants as place
 use Rattle.cmwq_table.specs.declared.state.Pending.{Pending}
 use Rattle.cmwq_table.specs.declared.state.Running.{Running}
 use Rattle.cmwq_table.specs.State.{State, depth_at, pending_at, running_at}
-use Rattle.cmwq_table.specs.Counts.{active, first_due, is_active, is_deferred, is_inactive, is_listed, is_rescuer, is_runnable, limit, may_start, pending_before, pending_stamp, pends, running_before, running_stamp, runs, runs_on_rescuer}
+use Rattle.cmwq_table.specs.Counts.{active, first_due, is_listed, limit, may_start}
 use Rattle.cmwq_table.specs.Laws.{IsListedIn, placed_in}
 use Rattle.cmwq_table.specs.Moves.{next_move}
 use Rattle.cmwq_reasons.specs.declared.reason.Instance.{Instance}
@@ -28,9 +26,9 @@ use Rattle.cmwq_reasons.specs.declared.reason.Reason.TheVariants as reason
 use Rattle.cmwq_reasons.specs.declared.reason.Turn.{Turn}
 use Rattle.cmwq_reasons.specs.declared.reason.Turn.TheVariants.{Starts, Defers, StartsOnRescuer}
 use Rattle.cmwq_reasons.specs.Laws.{pool_if_pending, pool_if_running}
-use Rattle.cmwq_reasons.specs.Reasons.{ahead, burns_unless, counted_works, deferred_holders, fires_unless, free_or_after, holders, listed_holders, mover, next_or_after, other_instance, other_work, pending_half, pending_holders, pending_works, reason_by_move, reason_if_running, reason_in_mode, reason_in_place, reason_of_head, reason_of_none, reason_of_pending, reason_of_runnable, reason_of_running, running_half, running_holders, running_works, work_above, work_of, work_before, works_on_pool_workers, works_on_rescuer, works_on_workers}
+use Rattle.cmwq_reasons.specs.Reasons.{burns_unless, counted_works, fires_unless, holders, mover, next_or_after, other_instance, other_work, reason_by_move, reason_if_running, reason_in_mode, reason_in_place, reason_of_head, reason_of_none, reason_of_pending, reason_of_runnable, reason_of_running, running_half, work_above, work_of, work_before, works_on_workers}
 use Rattle.cmwq_reasons.proofs.RunningRows.{RunRow, run-row}
-use Rattle.cmwq_why.specs.Text.{ahead_text, beside_run, both_halves, inactive_text, item, items, later_item, listed_text, name_of, pending_text, place_text, queue_name, reason_text, room_text, run_text, spaced_name, turn_text, worker_words}
+use Rattle.cmwq_why.specs.Text.{ahead_text, beside_run, both_halves, inactive_text, items, listed_text, name_of, pending_text, queue_name, reason_text, room_text, spaced_name, turn_text, worker_words}
 use Rattle.cmwq_why_laws.specs.Laws.{halves_text}
 use Rattle.cmwq_why_laws.proofs.PoolLemmas.{SamePool, may-same, mover-same, next-same, runnable-same}
 use Rattle.cmwq_why_laws.proofs.AroundLemmas.{SameRescuer, active-same, counted-same, holder-text, inactive-ahead, listed-ahead, worker-text}

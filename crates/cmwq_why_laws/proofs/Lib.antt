@@ -1,9 +1,9 @@
-pub mod QuestionLemmas
-pub mod TickLemmas
-pub mod TickTextLemmas
-pub mod SpentLemmas
 pub mod AgreeLemmas
-pub mod PoolLemmas
 pub mod AroundLemmas
 pub mod AroundTextLemmas
+pub mod PoolLemmas
+pub mod QuestionLemmas
+pub mod SpentLemmas
 pub mod StepLemmas
+pub mod TickLemmas
+pub mod TickTextLemmas

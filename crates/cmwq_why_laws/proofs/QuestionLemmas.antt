@@ -1,8 +1,7 @@
 -- What changes nothing changes no text.
-use Rattle.std.proofs.Common.{◌≡◌, ap}
+use Rattle.std.proofs.Common.{ap}
 use Rattle.cmwq_table.specs.Laws.{AtEveryInstruction, ChangesNothingAsked, ChangesNothingRefused}
 use Rattle.cmwq_table.specs.State.{State}
-use Rattle.cmwq_table.specs.Table.{run}
 use Rattle.cmwq_why.specs.Text.{why_text}
 use Rattle.cmwq_why_laws.specs.Laws.{ChangesNoTextAsked, ChangesNoTextRefused}
 

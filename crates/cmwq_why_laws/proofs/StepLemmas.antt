@@ -1,12 +1,11 @@
 -- What a pool's step leaves as it was around a work that has nothing to do with it.
 use Rattle.std.proofs.Common.{◌≡◌, ◌⊎◌, ℕ, zero, suc, ◌+◌, ◌<◌, Bool, true, false, ◌&&◌, ◌||◌, List, [], ◌∷◌, length, Option, Some, None, cond, refl, sym, ap, ◌∙◌, subst, inl, inr}
-use Rattle.std.proofs.lemmas.Bool.{and_parts, cases_eq, eqb-true, ne_eqb, or_parts}
+use Rattle.std.proofs.lemmas.Bool.{and_parts, eqb-true, ne_eqb, or_parts}
 use Rattle.std.specs.Prelude.{◌==◌, is_none, slice_index_or, slice_set}
 use Rattle.cmwq_types.proofs.FirstLemmas.{count_below-agree}
 use Rattle.cmwq_types.specs.Contents.{ScenarioContents}
 use Rattle.cmwq_types.specs.First.{by_least_two}
 use Rattle.cmwq_types.specs.Scenario.{flags_at, is_high, is_unbound, op_at, queue_of}
-use Rattle.cmwq_types.specs.declared.instr.Instr.{Instr}
 use Rattle.cmwq_types.specs.declared.instr.Instr.TheVariants as instr
 use Rattle.cmwq_types.specs.declared.instr.WorkId.{WorkId}
 use Rattle.cmwq_types.specs.declared.moves.Move.{Move}
@@ -17,7 +16,6 @@ use Rattle.cmwq_types.specs.declared.reply.Mode.TheVariants as mode
 use Rattle.cmwq_types.specs.declared.reply.Place.{Place}
 use Rattle.cmwq_types.specs.declared.reply.Place.TheVariants as place
 use Rattle.cmwq_types.specs.declared.reply.Refusal.{Refusal}
-use Rattle.cmwq_types.specs.declared.reply.Reply.{Reply}
 use Rattle.cmwq_types.specs.declared.reply.Reply.TheVariants as reply
 use Rattle.cmwq_types.specs.declared.scenario.Op.{Op}
 use Rattle.cmwq_types.specs.declared.scenario.Op.TheVariants as op
@@ -26,14 +24,14 @@ use Rattle.cmwq_table.specs.declared.state.Running.{Running}
 use Rattle.cmwq_table.specs.State.{State, is_disabled, pending_at, running_at}
 use Rattle.cmwq_table.specs.Counts.{first_due, first_runnable, has_free_rescuer, is_deferred, is_due, is_listed, is_rescuer, pending_due, pending_stamp, pends, runs, runs_on_rescuer}
 use Rattle.cmwq_table.specs.Laws.{HasOneRescuer, InEveryState, IsListedIn, placed_in, reply_to, state_after}
-use Rattle.cmwq_table.specs.Moves.{advance, begin_again, carry_out, come_to_end, deferred, finish, moved, moved_work, next_move, onward, queue_from_body, retire, with_pending, woken}
+use Rattle.cmwq_table.specs.Moves.{advance, begin_again, carry_out, come_to_end, deferred, moved, moved_work, next_move, onward, queue_from_body, retire, woken}
 use Rattle.cmwq_table.specs.Table.{answer, effect, refusal, run, stepped, table}
 use Rattle.cmwq_reasons.specs.declared.reason.Instance.{Instance}
 use Rattle.cmwq_reasons.specs.declared.reason.Instance.TheVariants as instance
 use Rattle.cmwq_reasons.specs.Laws.{SaysNext, pool_if_pending, pool_if_running, pool_of}
-use Rattle.cmwq_reasons.specs.Reasons.{moved_by, moved_instance, mover, work_above}
+use Rattle.cmwq_reasons.specs.Reasons.{moved_by, mover, work_above}
 use Rattle.cmwq_reasons.proofs.NextLemmas.{moved-says}
-use Rattle.cmwq_why_laws.specs.Laws.{IsApart, IsOutside, KeepsText, KeepsTextInStep, SharesNoRescuer, keeps_workers}
+use Rattle.cmwq_why_laws.specs.Laws.{IsApart, KeepsText, KeepsTextInStep, keeps_workers}
 use Rattle.cmwq_why_laws.proofs.AgreeLemmas.{first-agrees}
 use Rattle.cmwq_why_laws.proofs.AroundLemmas.{SameRescuer}
 use Rattle.cmwq_why_laws.proofs.AroundTextLemmas.{SameAround, halves-same}
@@ -110,7 +108,7 @@ module _ (S : ScenarioContents) (s : State) (pool m next spent : ℕ) (r q : Run
       elim (set-at s.running m v (Some q)) [
         | inl same ↦ ap (run_in other) same
         | inr new ↦ run-elsewhere pool other (running_at (gone_on s m q next spent) v) q new.1 to apart
-        ∙ sym (run-elsewhere pool other (running_at s v) r (was v new.0) from apart)
+            ∙ sym (run-elsewhere pool other (running_at s v) r (was v new.0) from apart)
       ]
 
   rescuer-kept : (v : ℕ) → runs_on_rescuer (gone_on s m q next spent) v ≡ runs_on_rescuer s v
@@ -195,7 +193,7 @@ module _ (S : ScenarioContents) (s : State) (pool m spent : ℕ) (p q : Pending)
       elim (set-at s.pending m v (Some q)) [
         | inl same ↦ ap (pend_in other) same
         | inr new ↦ pend-elsewhere pool other (pending_at (put_off s m q spent) v) q new.1 to apart
-        ∙ sym (pend-elsewhere pool other (pending_at s v) p (waited v new.0) from apart)
+            ∙ sym (pend-elsewhere pool other (pending_at s v) p (waited v new.0) from apart)
       ]
 
   due-test : (v : ℕ) → pends (λ at. is_due at s.time) (pending_at (put_off s m q spent) v) ≡ pends (λ at. is_due at s.time) (pending_at s v)
@@ -252,7 +250,7 @@ module _ (S : ScenarioContents) (s : State) (pool m spent : ℕ) (p q : Pending)
       place_pool = λ other at. others-kept other (λ e. apart.0.0 (at ∙ ap Some (sym e)));
       run_pool = λ other at. others-kept other (λ e. apart.0.1 (at ∙ ap Some (sym e)));
       above = λ other at. refl;
-      rescuer = λ at listed. record { same = λ v. refl; runs = λ v passes. refl; };
+      rescuer = λ at listed. record { same = λ v. refl; runs = λ v passes. refl };
     }
 
 does-keeps : (S : ScenarioContents) (s t : State) (pool m w : ℕ) → HasOneRescuer S s → w < length S.works → IsApart S s pool m w → StepDoes s pool m t

@@ -1,5 +1,5 @@
 -- What a tick makes of each reason.
-use Rattle.std.proofs.Common.{◌≡◌, ◌⊎◌, ℕ, zero, suc, ◌+◌, ◌-◌, ◌<◌, Bool, true, false, cond, not, ◌&&◌, ◌||◌, List, [], ◌∷◌, length, Option, Some, None, arith, refl, sym, ap, ◌∙◌, subst, inl, inr, nat_lt}
+use Rattle.std.proofs.Common.{◌≡◌, ◌⊎◌, ℕ, zero, suc, ◌+◌, ◌-◌, ◌<◌, Bool, true, false, cond, not, ◌&&◌, ◌||◌, List, [], ◌∷◌, length, Option, Some, None, refl, sym, ap, ◌∙◌, subst, inl, inr, nat_lt}
 use std.Path.{fun_ext}
 use Rattle.std.proofs.lemmas.Bool.{cases_Bool, ltb-true}
 use Rattle.std.specs.Prelude.{◌==◌, is_none, slice_index_or}
@@ -31,7 +31,7 @@ use Rattle.cmwq_reasons.specs.declared.reason.Reason.TheVariants as reason
 use Rattle.cmwq_reasons.specs.declared.reason.Turn.{Turn}
 use Rattle.cmwq_reasons.specs.declared.reason.Turn.TheVariants.{Starts, Defers, StartsOnRescuer}
 use Rattle.cmwq_reasons.specs.Laws.{BurnsInTick, InAnyState, IsDeclared, IsUnsettled, MomentsPassFirst, is_moment, pool_if_running}
-use Rattle.cmwq_reasons.specs.Reasons.{burns_unless, fires_unless, free_or_after, mover, next_or_after, other_instance, other_work, reason_by_move, reason_if_pending, reason_if_running, reason_in_mode, reason_in_place, reason_of, reason_of_head, reason_of_runnable, reason_of_running, running_half, work_above, work_before}
+use Rattle.cmwq_reasons.specs.Reasons.{burns_unless, fires_unless, mover, next_or_after, other_instance, other_work, reason_by_move, reason_if_pending, reason_if_running, reason_in_mode, reason_in_place, reason_of, reason_of_head, reason_of_runnable, reason_of_running, running_half, work_above, work_before}
 use Rattle.cmwq_reasons.proofs.RunningRows.{RunRow, run-row}
 use Rattle.cmwq_why_laws.specs.Laws.{MayTurnInto, TurnsFew, TurnsReasonsInTick}
 
@@ -229,7 +229,7 @@ module _ (S : ScenarioContents) (s : State) (burning : InAnyState BurnsInTick) (
       let goes_on = λ (o : Option Running) (runs_so : running_at (state_after S s instr.Tick) w ≡ o). sym (ap (λ (t : State). running_at t w) (is_ticked S s done)) ∙ runs_so in
       elim (burns-or-not (reason_of_running S s w r)) [
         | inl burns ↦ left-turns S s w r (r.left - 1) (inr (none-above S s w r (reason_of_running S s w r) (run-row S s w r there is) burns)) quiet
-        (goes_on (Some (record r { left = r.left - 1 })) (law.0 burns).1)
+            (goes_on (Some (record r { left = r.left - 1 })) (law.0 burns).1)
         | inr other ↦ left-turns S s w r r.left (inl refl) quiet (goes_on (Some r) (law.1 other))
       ]
   running-turns w None there is within still =

@@ -7,21 +7,18 @@ use Rattle.std.specs.Prelude.{◌==◌, is_none}
 use Rattle.cmwq_types.specs.Contents.{ScenarioContents}
 use Rattle.cmwq_types.specs.First.{by_least, count_below}
 use Rattle.cmwq_types.specs.Scenario.{flags_at, queue_of}
-use Rattle.cmwq_types.specs.declared.instr.Instr.TheVariants as instr
 use Rattle.cmwq_types.specs.declared.reply.Mode.{Mode}
-use Rattle.cmwq_types.specs.declared.reply.Reply.TheVariants as reply
 use Rattle.cmwq_table.specs.declared.state.Pending.{Pending}
 use Rattle.cmwq_table.specs.declared.state.Running.{Running}
-use Rattle.cmwq_table.specs.State.{State, depth_at, is_disabled, pending_at, running_at}
-use Rattle.cmwq_table.specs.Counts.{active, is_active, is_rescuer, is_runnable, limit, pends, running_stamp, runs}
-use Rattle.cmwq_table.specs.Laws.{reply_to, state_after}
+use Rattle.cmwq_table.specs.State.{State, is_disabled, pending_at, running_at}
+use Rattle.cmwq_table.specs.Counts.{active, is_active, is_rescuer, is_runnable, limit, pends, running_stamp}
 use Rattle.cmwq_dump.specs.Order.{all_below}
 use Rattle.cmwq_reasons.specs.declared.reason.Instance.{Instance}
 use Rattle.cmwq_reasons.specs.declared.reason.Instance.TheVariants as instance
 use Rattle.cmwq_reasons.specs.declared.reason.Reason.{Reason}
 use Rattle.cmwq_reasons.specs.declared.reason.Reason.TheVariants as reason
 use Rattle.cmwq_reasons.specs.Laws.{InAnyState}
-use Rattle.cmwq_reasons.specs.Reasons.{counted_works, holders, pending_half, pending_holders, reason_if_pending, reason_if_running, reason_in_place, reason_of, reason_of_none, reason_of_pending, running_half, running_holders, running_works, works_on_pool_workers, works_on_rescuer, works_on_workers}
+use Rattle.cmwq_reasons.specs.Reasons.{counted_works, holders, pending_half, pending_holders, reason_if_pending, reason_if_running, reason_of, reason_of_pending, running_half, running_works, works_on_pool_workers, works_on_rescuer, works_on_workers}
 use Rattle.cmwq_why.specs.Text.{beside_run, both_halves, inactive_text, item, items, listed_text, name_of, pending_text, reason_text, room_text, run_text, spaced_name, worker_words}
 use Rattle.cmwq_why_laws.specs.Laws.{KeepsReasons, KeepsText, KeepsTextInTick, halves_text}
 use Rattle.cmwq_why_laws.proofs.SpentLemmas.{keeps}
