@@ -3,18 +3,19 @@ _cmwq() {
     local word=${COMP_WORDS[COMP_CWORD]} command=${COMP_WORDS[1]-}
     COMPREPLY=()
     if ((COMP_CWORD == 1)); then
-        mapfile -t COMPREPLY < <(compgen -W 'new run settle draw list asm show debug play check help --help --version' -- "$word")
+        mapfile -t COMPREPLY < <(compgen -W 'new run settle draw why list asm show debug play check help --help --version' -- "$word")
     elif [[ $command == help ]]; then
-        mapfile -t COMPREPLY < <(compgen -W 'new run settle draw list asm show debug play check help' -- "$word")
+        mapfile -t COMPREPLY < <(compgen -W 'new run settle draw why list asm show debug play check help' -- "$word")
     elif [[ $word == -* ]]; then
         local options=--help
         case $command in
             run) options='--settle --tell --help' ;;
             draw) options='--settle --svg --from --to --help' ;;
+            why) options='--flush --at --every --help' ;;
             play) options='--capacity --help' ;;
         esac
         mapfile -t COMPREPLY < <(compgen -W "$options" -- "$word")
-    elif [[ ${COMP_WORDS[COMP_CWORD - 1]} != @(--capacity|--from|--to) ]]; then
+    elif [[ ${COMP_WORDS[COMP_CWORD - 1]} != @(--capacity|--from|--to|--flush|--at) ]]; then
         compopt -o filenames 2> /dev/null
         mapfile -t COMPREPLY < <(compgen -f -- "$word")
     fi

@@ -1,10 +1,11 @@
 # Completion of cmwq for fish: put it into ~/.config/fish/completions.
-set -l commands new run settle draw list asm show debug play check help
+set -l commands new run settle draw why list asm show debug play check help
 complete -c cmwq -n "not __fish_seen_subcommand_from $commands" -f
 complete -c cmwq -n "not __fish_seen_subcommand_from $commands" -a new -d 'Write a scenario to start from, with comments'
 complete -c cmwq -n "not __fish_seen_subcommand_from $commands" -a run -d 'Run a scenario and write its events'
 complete -c cmwq -n "not __fish_seen_subcommand_from $commands" -a settle -d "Write a scenario's listing with the next that make it quiet"
 complete -c cmwq -n "not __fish_seen_subcommand_from $commands" -a draw -d "Draw a scenario's run"
+complete -c cmwq -n "not __fish_seen_subcommand_from $commands" -a why -d 'Tell why a work or a flush waits'
 complete -c cmwq -n "not __fish_seen_subcommand_from $commands" -a list -d "Write a scenario's listing"
 complete -c cmwq -n "not __fish_seen_subcommand_from $commands" -a asm -d 'Make the image of a scenario'
 complete -c cmwq -n "not __fish_seen_subcommand_from $commands" -a show -d "Write the listing of an image's scenario"
@@ -18,6 +19,9 @@ complete -c cmwq -n "__fish_seen_subcommand_from run" -l tell -d 'Write instruct
 complete -c cmwq -n "__fish_seen_subcommand_from draw" -l svg -d 'Write an SVG picture'
 complete -c cmwq -n "__fish_seen_subcommand_from draw" -l from -x -d 'The first tick'
 complete -c cmwq -n "__fish_seen_subcommand_from draw" -l to -x -d 'The tick before which to end'
+complete -c cmwq -n "__fish_seen_subcommand_from why" -l flush -x -d 'A flush, in place of a work'
+complete -c cmwq -n "__fish_seen_subcommand_from why" -l at -x -d 'Look at this position alone'
+complete -c cmwq -n "__fish_seen_subcommand_from why" -l every -d 'Look at every position'
 complete -c cmwq -n "__fish_seen_subcommand_from play" -l capacity -x -d 'How many instructions can be issued in all'
 complete -c cmwq -n "not __fish_seen_subcommand_from $commands" -s V -l version -d 'Print version'
 complete -c cmwq -s h -l help -d 'Print help'

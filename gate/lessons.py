@@ -1,8 +1,12 @@
 """Runs each scenario of scenarios/ through a built program: what it prints is NAME.out; its listing prints the same; its image is
-shown as the listing. What is told of its run is NAME.tell, where there is one, and without the marked lines what it prints. Its picture stands in scenarios/README.md, and is NAME.draw, where there is one. What a debugger says to NAME.debug is NAME.said. What a play of a scenario with several actors leaves is one of
-NAME.play1, NAME.play2 .., and run again it prints the lines that stand in it. The program's own stored run is one of them. Then faulty
-input: the status, and what each stream is given. And each scenario of one actor through an engine, by the program HISTORIES, which
-prints the history: each entry is compared.
+shown as the listing. What is told of its run is NAME.tell, where there is one, and without the marked lines what it prints. Its picture
+stands in scenarios/README.md, and is NAME.draw, where there is one. What a debugger says to NAME.debug is NAME.said. What a play of a
+scenario with several actors leaves is one of NAME.play1, NAME.play2 .., and run again it prints the lines that stand in it. Why work W
+waits is NAME.why_W, and what flush F waits for NAME.flush_F, where there are such; with _every behind it, the same at every position.
+scenarios/README.md asks of each lesson why something waits: a line `# QUESTION?`, a line `$ ./cmwq why ..`, and what that prints, up to
+the next question; README.md asks it of the scenario that `new` writes. The program's own stored run is one of these. Then faulty input:
+the status, and what each stream is given. And each scenario of one actor through an engine, by the program HISTORIES, which prints the
+history: each entry is compared.
 
     python3 gate/lessons.py PROGRAM HISTORIES"""
 import glob
@@ -71,6 +75,37 @@ def shown_faults(program, texts):
     lessons = {os.path.basename(text).removesuffix(".cmwq"): text for text in texts}
     faults = [name for name, text in lessons.items() if said(program, "draw", text) != shown.get(name, "").encode()]
     return [f"scenarios/README.md: the picture of {name} is not as it should be" for name in [*faults, *sorted(shown.keys() - lessons.keys())]]
+
+
+def answer_faults(program, stored):
+    """What is wrong with a stored answer: why the work waits, or what the flush waits for, that its name tells."""
+    name, kind, what, every = re.fullmatch(r"(.*)\.(why|flush)_(\w+?)(_every)?", stored).groups()
+    words = [f"{name}.cmwq", *(["--flush"] if kind == "flush" else []), what, *(["--every"] if every else [])]
+    return [] if said(program, "why", *words) == bytes_of(stored) else [f"{os.path.relpath(stored, TOP)}: it is not as it should be"]
+
+
+def asked(page):
+    """The questions of a page: the words behind `./cmwq` of each, and the answer, up to the next question, with an empty line before it or
+    without one, or to the block's end."""
+    return re.findall(r"^# .*\?\n\$ \./cmwq (why .*)\n((?:(?![#$`]).*\n)*?)\n?(?=[#$`])", page, re.M)
+
+
+def question_faults(program, texts, room):
+    """What is wrong with the questions why something waits: an answer that isn't the program's, a command that stands there in
+    another form, a lesson that isn't asked."""
+    pages = {name: bytes_of(f"{TOP}/{name}").decode() for name in ("README.md", "scenarios/README.md")}
+    first = f"{room}/first.cmwq"
+    faults = [] if said(program, "new", first) == b"" else ["new: it isn't written"]
+    for name, page in pages.items():
+        for words, answer in asked(page):
+            here = words.replace("/tmp/first.cmwq", first).replace("scenarios/", f"{TOP}/scenarios/").split()
+            if failed(program, *here) != (0, answer.encode(), b""):
+                faults.append(f"{name}: the answer to {words} is not as it should be")
+        if page.count("./cmwq why") != len(asked(page)):
+            faults.append(f"{name}: not each `./cmwq why` stands behind a question, and before its answer")
+    lessons = {os.path.basename(text).partition(".")[0] for text in texts}
+    lessons -= {words.removeprefix("why scenarios/").partition(".")[0] for words, _answer in asked(pages["scenarios/README.md"])}
+    return faults + [f"scenarios/README.md: {name} isn't asked why it waits" for name in sorted(lessons)]
 
 
 def instrs_of(listing):
@@ -146,12 +181,14 @@ def main(program, histories):
     plays = sorted({re.sub(r"\.play\d+$", ".cmwq", it) for it in glob.glob(f"{TOP}/scenarios/*.play*")})
     texts = sorted(set(glob.glob(f"{TOP}/scenarios/*.cmwq")).difference(plays))
     drawings = sorted(glob.glob(f"{TOP}/scenarios/*.draw"))
+    answers = sorted(glob.glob(f"{TOP}/scenarios/*.why_*") + glob.glob(f"{TOP}/scenarios/*.flush_*"))
     with tempfile.TemporaryDirectory(prefix="lessons-") as room:
         faults = [fault for text in texts for fault in faults_of(program, text, room)]
         faults += [fault for text in texts for fault in history_faults(histories, program, text)]
         faults += [fault for commands in sorted(glob.glob(f"{TOP}/scenarios/*.debug")) for fault in session_faults(program, commands)]
         faults += [fault for text in plays for fault in play_faults(program, text, room)]
-        faults += shown_faults(program, texts) + quiet_faults(program, room)
+        faults += shown_faults(program, texts) + quiet_faults(program, room) + question_faults(program, texts + plays, room)
+        faults += [fault for stored in answers for fault in answer_faults(program, stored)]
         faults += [fault for drawing in drawings for fault in drawing_faults(program, drawing)]
         with open(f"{room}/faulty.cmwq", "w", encoding="utf-8") as it:
             it.write("cpus 17\n")
@@ -170,8 +207,9 @@ def main(program, histories):
         faults.append("crates/cmwq_histories/stdin: it is no lesson")
     faults += [] if texts else ["scenarios/: there is nothing to compare"]
     faults += [] if drawings else ["scenarios/: there is no picture to compare"]
+    faults += [] if answers else ["scenarios/: there is no answer to compare"]
     print("".join(f"lessons: {fault}\n" for fault in faults), end="")
-    print(f"lessons: {len(texts) + len(plays)} scenarios and {len(drawings)} pictures compared, {len(faults)} faults")
+    print(f"lessons: {len(texts) + len(plays)} scenarios, {len(drawings)} pictures and {len(answers)} answers compared, {len(faults)} faults")
     return 1 if faults else 0
 
 

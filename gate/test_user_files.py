@@ -126,7 +126,7 @@ def completion_faults(commands):
     shells = {"bash": bash_completes, "zsh": zsh_completes, "fish": fish_completes}
     shells = {shell: completes for shell, completes in shells.items() if shutil.which(shell)}
     faults = [f"{COMPLETIONS[shell]}: {shell} says {out}" for shell in shells if (out := said(shell, "-n", COMPLETIONS[shell]))]
-    for words, want in [(("ru",), ["run"]), (("run", "docs/FORM"), ["docs/FORMATS.md"]), (("play", "--c"), ["--capacity"]), (("help", "de"), ["debug"]), (("--v",), ["--version"])]:
+    for words, want in [(("ru",), ["run"]), (("run", "docs/FORM"), ["docs/FORMATS.md"]), (("play", "--c"), ["--capacity"]), (("why", "--fl"), ["--flush"]), (("help", "de"), ["debug"]), (("--v",), ["--version"])]:
         faults += [f"{shell} completes {words} as {found}" for shell, completes in shells.items() if (found := completes(*words)) != want]
     if not commands <= set(bash_completes("")):
         faults.append("bash doesn't offer each command")

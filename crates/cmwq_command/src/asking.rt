@@ -8,7 +8,7 @@ use cmwq_words::asking::{Positions, Subject};
 
 /// The question after the work or the flush.
 pub(crate) fn question_of(subject: Subject<'_>) -> Question<'_>
-    ensures { result ≡ question_of subject }
+    ensures { result ≡ question_of subject.entry }
 {
     match subject {
         Subject::Work(name) => Question::Work(name),

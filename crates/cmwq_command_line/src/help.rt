@@ -23,7 +23,8 @@ The formats of scenarios and images, the debugger's commands, and what each faul
 
 Exit status:
   0  the command did what it was asked
-  1  the file isn't a scenario's text or image, the scenario hasn't as many actors as the command takes, or it never becomes quiet
+  1  the file isn't a scenario's text or image, the scenario hasn't as many actors as the command takes, it never becomes quiet, or
+     it hasn't the work, the flush or the position that is asked for
   2  the command line is wrong, or has to say which part of a long run to draw
   3  a file can't be opened, made, read or written
   4  memory ran out, or a history had no room for one more instruction";
@@ -89,11 +90,11 @@ Examples:
   cmwq draw --svg scenarios/max_active_3.cmwq > max_active_3.svg";
 
 const WHY: &str = "\
-Prints a line `at K now N WORK ..` that says why WORK doesn't get on at position K, behind the first K instructions, when it is tick N:
-for the first settled position, where no timer is due and no pool has a move, and for each further one at which that changed. The run's
-last position counts as one of them. With --every it looks at every position, and with --at K at position K alone.
-With --flush F it prints how many instances flush number F waits for, from the position on where it is given; below, what keeps each of
-these, and then what keeps those that were named.
+Prints why WORK doesn't get on, as `at K now N WORK REASON`: K instructions have been carried out, and it is tick N. There is a line for
+the first settled position, where no timer is due and no pool has a move, and one for each further one at which the reason changed; the
+run's last position is looked at too. With --every each position is, and with --at K position K alone.
+With --flush F it prints what flush number F waits for, wherever that changed: how many instances, in a line each what keeps it, and in
+lines further in what keeps those that were named.
 
 Exit status:
   0  the lines were written
@@ -150,7 +151,7 @@ Example:
 
 const DEBUG: &str = "\
 Commands are lines of standard input: step N, back N, goto K, run, break work W event E, break time T,
-break refusal, clear I, dump, dump pool P. Prints the answer to each before the next is read.
+break refusal, clear I, dump, dump pool P, why W, why flush F. Prints the answer to each before the next is read.
 
 Exit status:
   0  the input ended; refused and bad commands are answered in lines of their own

@@ -14,6 +14,8 @@ use Rattle.cmwq_table.specs.Table.{run, table}
 use Rattle.cmwq_table.specs.declared.machine.LoadError.{LoadError}
 use Rattle.cmwq_table.specs.declared.machine.LoadError.TheVariants as load
 use Rattle.cmwq_dump.specs.Dump.{dump, pool_lines}
+use Rattle.cmwq_why.specs.Text.{work_line}
+use Rattle.cmwq_waits.specs.Text.{flush_lines}
 use Rattle.cmwq_debug.specs.Breaks.{break_at, free, lowest, said_of}
 use Rattle.cmwq_debug.specs.declared.breaks.TheConstants.{MAX_BREAKS}
 use Rattle.cmwq_debug.specs.declared.breaks.Break.{Break}
@@ -127,6 +129,17 @@ dumps_pool d pool =
     if nat_lt pool (pool_count d.scenario) then says d (Text (pool_lines d.scenario (state_at d d.position) pool))
     else refuses d error.NoSuchPool
 
+-- why the work isn't further, in a line
+abbrev pub tells_why : Session → ℕ → Outcome
+tells_why d w =
+    if nat_lt w (length d.scenario.works) then says d (Text (work_line d.scenario (state_at d d.position) w))
+    else refuses d error.NoSuchWork
+
+-- what a flush waits for, if it was given by then
+abbrev pub tells_waits : Session → Option (List ℕ) → Outcome
+tells_waits d (Some lines) = says d (Text lines)
+tells_waits d None = refuses d error.NoSuchFlush
+
 -- the command is carried out
 abbrev pub does : Session → Command → Outcome
 does d (command.Step n) = goes d (d.position + n)
@@ -139,6 +152,8 @@ does d (command.Clear i) = removed d i (break_at d.breaks i)
 does d command.Run = runs d
 does d command.Dump = says d (Text (dump d.scenario (state_at d d.position)))
 does d (command.DumpPool pool) = dumps_pool d pool
+does d (command.Why work) = tells_why d work.0
+does d (command.WhyFlush flush) = tells_waits d (flush_lines d.scenario (state_at d d.position) flush)
 
 -- what is said to each of these, one after another, by what one of them does
 abbrev pub said_to_each : {A B : Type 0} → (Session → A → Session × B) → Session → List A → List B

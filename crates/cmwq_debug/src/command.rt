@@ -32,6 +32,11 @@ pub enum Command {
     Dump,
     /// Tells of the state what is in the worker pool. Refused, as `NoSuchPool`, where no pool has the number.
     DumpPool(u8),
+    /// Tells why the work isn't further in the state. Refused, as `NoSuchWork`, where no work has the number.
+    Why(WorkId),
+    /// Tells of the state what the flush of this number waits for, and why. Refused, as `NoSuchFlush`, where no such
+    /// flush was given by the position.
+    WhyFlush(u32),
 }
 
 /// A kind of event. An event `FinishesAndStarts` is of two kinds.
@@ -68,7 +73,7 @@ pub enum Said {
     Broke(u8),
     /// The break of this number is removed.
     Cleared(u8),
-    /// The dump text, or a pool's part of it, as bytes.
+    /// The dump text, a pool's part of it, or why a work isn't further or a flush isn't done, as bytes.
     Text(Vec<u8>),
 }
 
@@ -81,6 +86,9 @@ pub enum DebugError {
     /// No worker pool has the number.
     #[error("NoSuchPool")]
     NoSuchPool,
+    /// No flush of the number was given by the position.
+    #[error("NoSuchFlush")]
+    NoSuchFlush,
     /// No break has the number.
     #[error("NoSuchBreak")]
     NoSuchBreak,

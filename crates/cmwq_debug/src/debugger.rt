@@ -1,18 +1,23 @@
 //! The debugger.
-ghost use Rattle.cmwq_debug.specs.Debugging.{Answer, At, Meets, Opens, answer_of, breaks_on, breaks_on_work, does, dumps_pool, goes, goes_back, opened, removed, run_end, runs, says, state_at, stop, time_at, Text};
+ghost use Rattle.cmwq_debug.specs.Debugging.{Answer, At, Meets, Opens, answer_of, breaks_on, breaks_on_work, does, dumps_pool, goes, goes_back, opened, removed, run_end, runs, says, state_at, stop, tells_waits, tells_why, time_at, Text};
 ghost use Rattle.cmwq_debug.specs.Breaks.{break_at};
 ghost use Rattle.cmwq_dump.specs.Dump.{dump, pool_lines};
+ghost use Rattle.cmwq_waits.specs.Text.{flush_lines};
+ghost use Rattle.cmwq_why.specs.Text.{work_line};
+ghost use Rattle.cmwq_table.specs.View.{view_of};
 ghost use Rattle.cmwq_types.specs.Faults.{IsValid};
 ghost use Rattle.cmwq_types.specs.Scenario.{pool_count};
 ghost use Rattle.cmwq_types.specs.declared.limits.TheConstants.{MAX_HISTORY};
-ghost use Rattle.std.specs.Prelude.{◌≡◌, ◌+◌, ◌⊎◌, ◌<◌, ◌≤◌, Err, IfErr, IfOk, IfSome, Ok, OnErr, OnOk, length};
+ghost use Rattle.std.specs.Prelude.{◌≡◌, ◌+◌, ◌⊎◌, ◌<◌, ◌≤◌, Err, IfErr, IfOk, IfSome, MatchOption, None, Ok, OnErr, OnOk, Some, length, string_bytes};
 
 use crate::breaks::{Break, MAX_BREAKS, free};
 use crate::command::{Command, DebugError, EventKind, Said};
 use crate::moving::{carry_out, run_on};
 use cmwq_dump::{dump_text, pool_text};
-use cmwq_table::{LoadError, Machine};
+use cmwq_table::{LoadError, Machine, View};
 use cmwq_types::{Instr, NoMemory, Scenario, WorkId};
+use cmwq_waits::flush_text;
+use cmwq_why::work_text;
 use std::alloc::Global;
 use std::marker::Model;
 use std::sync::Arc;
@@ -87,6 +92,8 @@ impl<M: Machine> Debugger<M> {
             Command::Run => self.run(),
             Command::Dump => self.dump(),
             Command::DumpPool(pool) => self.dump_pool(pool),
+            Command::Why(work) => self.why(work),
+            Command::WhyFlush(flush) => self.why_flush(flush),
         }
     }
 
@@ -280,19 +287,63 @@ impl<M: Machine> Debugger<M> {
         self.scenario.pool_count()
     }
 
+    /// What the machine shows of the state at the position.
+    fn view(&self) -> Result<View, NoMemory>
+        ensures { IfOk result (λ view. view ≡ view_of (state_at self.now self.now.position)) }
+    {
+        self.machine.look()
+    }
+
     /// The dump text of the state at the position.
     fn state_text(&self) -> Result<Vec<u8>, NoMemory>
         ensures { IfOk result (λ text. text.items ≡ dump self.now.scenario (state_at self.now self.now.position)) }
     {
-        let view = self.machine.look()?;
+        let view = self.view()?;
         dump_text(self.alloc, &self.scenario, &view)
+    }
+
+    fn why(&self, work: WorkId) -> Result<Said, DebugError>
+        ensures { Meets (tells_why self.now work.0) self.now self.now result }
+    {
+        if (work.0 as usize) < self.scenario.works.len() {
+            let line = self.why_line(work)?;
+            Ok(Said::Text(line.into_bytes()))
+        } else {
+            Err(DebugError::NoSuchWork)
+        }
+    }
+
+    fn why_flush(&self, flush: u32) -> Result<Said, DebugError>
+        ensures { Meets (tells_waits self.now (flush_lines self.now.scenario (state_at self.now self.now.position) flush)) self.now self.now result }
+    {
+        match self.flush_lines(flush)? {
+            Some(lines) => Ok(Said::Text(lines.into_bytes())),
+            None => Err(DebugError::NoSuchFlush),
+        }
     }
 
     /// The pool's part of that text.
     fn pool_text(&self, pool: u8) -> Result<Vec<u8>, NoMemory>
         ensures { IfOk result (λ text. text.items ≡ pool_lines self.now.scenario (state_at self.now self.now.position) pool) }
     {
-        let view = self.machine.look()?;
+        let view = self.view()?;
         pool_text(self.alloc, &self.scenario, &view, pool)
+    }
+
+    /// Why the work isn't further in the state at the position.
+    fn why_line(&self, work: WorkId) -> Result<String, NoMemory>
+        ensures { IfOk result (λ text. string_bytes text ≡ work_line self.now.scenario (state_at self.now self.now.position) work.0) }
+    {
+        let view = self.view()?;
+        work_text(self.alloc, &self.scenario, &view, work)
+    }
+
+    /// What the flush waits for in the state at the position, if it was given by then.
+    fn flush_lines(&self, flush: u32) -> Result<Option<String>, NoMemory>
+        ensures { IfOk result (λ lines. MatchOption lines (flush_lines self.now.scenario (state_at self.now self.now.position) flush ≡ None)
+            (λ lines. flush_lines self.now.scenario (state_at self.now self.now.position) flush ≡ Some (string_bytes lines))) }
+    {
+        let view = self.view()?;
+        flush_text(self.alloc, &self.scenario, &view, flush as usize)
     }
 }

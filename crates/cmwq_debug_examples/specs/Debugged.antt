@@ -171,3 +171,40 @@ many_breaks_answers =
     Ok (Broke 0) ∷ Ok (Broke 1) ∷ Ok (Broke 2) ∷ Ok (Broke 3) ∷ Ok (Broke 4) ∷ Ok (Broke 5) ∷ Ok (Broke 6) ∷ Ok (Broke 7)
     ∷ Ok (Broke 8) ∷ Ok (Broke 9) ∷ Ok (Broke 10) ∷ Ok (Broke 11) ∷ Ok (Broke 12) ∷ Ok (Broke 13) ∷ Ok (Broke 14) ∷ Ok (Broke 15)
     ∷ Err error.TooManyBreaks ∷ Err error.NoSuchWork ∷ Ok (Cleared 7) ∷ Ok (Broke 7) ∷ Err error.NoSuchPool ∷ []
+
+-- Why a flush isn't done, and works aren't further. y waits for x's place in its queue, x for the concurrency level, d for c, and c for u.
+
+-- `why W`
+abbrev pub why : ℕ → Command
+why w = command.Why (record { 0 = w })
+
+abbrev pub chain_questions : List Command
+chain_questions = command.Goto 14 ∷ command.WhyFlush 0 ∷ command.Step 1 ∷ command.WhyFlush 0 ∷ why 2 ∷ why 5 ∷ command.WhyFlush 1 ∷ []
+
+abbrev pub chain_at_15 : List ℕ
+chain_at_15 =
+    text (
+    codes "flush 0 waits for 1" ∷ codes "  y inactive 0: q has 1 of 1 active: x listed" ∷ codes "    x listed 0: held by c d" ∷
+    codes "    c runnable, high u has the CPU" ∷ codes "    d runnable, behind c" ∷ codes "    u burns" ∷ [])
+
+-- the flush is the last instruction, and there are five works
+abbrev pub chain_answers : List (Result Answer DebugError)
+chain_answers =
+    at 14 2 ∷ Err error.NoSuchFlush ∷ at 15 2 ∷ Ok (Text chain_at_15) ∷ Ok (Text (text (codes "x listed 0: held by c d" ∷ [])))
+    ∷ Err error.NoSuchWork ∷ Err error.NoSuchFlush ∷ []
+
+-- b waits for a's place in their queue.
+
+abbrev pub hold_questions : List Command
+hold_questions = command.Goto 13 ∷ command.WhyFlush 0 ∷ command.Goto 21 ∷ command.WhyFlush 0 ∷ why 1 ∷ command.Back 3 ∷ why 1 ∷ why 0 ∷ []
+
+abbrev pub hold_at_13 : List ℕ
+hold_at_13 =
+    text (
+    codes "flush 0 waits for 2" ∷ codes "  a asleep until 5" ∷ codes "  b inactive 0: q has 1 of 1 active: a asleep until 5" ∷ [])
+
+abbrev pub hold_answers : List (Result Answer DebugError)
+hold_answers =
+    at 13 3 ∷ Ok (Text hold_at_13) ∷ at 21 6 ∷ Ok (Text (text (codes "flush 0 done" ∷ [])))
+    ∷ Ok (Text (text (codes "b not pending" ∷ []))) ∷ at 18 5 ∷ Ok (Text (text (codes "b ready, goes on next" ∷ [])))
+    ∷ Ok (Text (text (codes "a not pending" ∷ []))) ∷ []

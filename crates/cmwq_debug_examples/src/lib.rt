@@ -2,9 +2,10 @@
 //! one dump reads, or what is said to some commands. No other crate stands on this one.
 #![tactic(auto)]
 
-ghost use Rattle.cmwq_debug_examples.specs.Debugged.{debugged, disabled_breaks, disabled_breaks_answers, each_event, each_event_answers, each_event_breaks, event_breaks, event_breaks_answers, instrs_of, many_breaks, many_breaks_answers, refusal_breaks, refusal_breaks_answers, refusals, rescuer_breaks, rescuer_breaks_answers, there_and_back, there_and_back_answers};
+ghost use Rattle.cmwq_debug_examples.specs.Debugged.{debugged, chain_answers, chain_questions, disabled_breaks, disabled_breaks_answers, each_event, each_event_answers, each_event_breaks, event_breaks, event_breaks_answers, hold_answers, hold_questions, instrs_of, many_breaks, many_breaks_answers, refusal_breaks, refusal_breaks_answers, refusals, rescuer_breaks, rescuer_breaks_answers, there_and_back, there_and_back_answers};
 ghost use Rattle.cmwq_debug_examples.specs.Dumps.{dumped, many_kinds, many_kinds_dump, many_kinds_lines, many_kinds_pool_1, pool_dumped, two_cpus, two_cpus_dump, two_cpus_lines};
 ghost use Rattle.cmwq_examples.specs.Rows.{disabled_twice, pressed, queues_itself, three_works};
+ghost use Rattle.cmwq_reason_examples.specs.Waiting.{chain, hold};
 ghost use Rattle.cmwq_types.specs.Faults.{IsValid};
 ghost use Rattle.std.specs.Prelude.{◌≡◌, []};
 
@@ -64,6 +65,17 @@ pub fn refused_instruction_makes_no_time()
 /// There are sixteen places for breaks; a work that isn't there is told before that they are taken.
 pub fn seventeenth_break_is_refused()
     ensures { debugged queues_itself [] many_breaks ≡ many_breaks_answers }
+{}
+
+/// A flush that wasn't given yet is refused; then its lines go down the chain of waits, and a work's line is one of them.
+pub fn flush_waits_in_a_chain()
+    ensures { debugged chain (instrs_of chain) chain_questions ≡ chain_answers }
+{}
+
+/// A flush waits for two works while the first one has its queue's place, and is done when both have ended. Looking back tells
+/// of the state there.
+pub fn flush_is_done()
+    ensures { debugged hold (instrs_of hold) hold_questions ≡ hold_answers }
 {}
 
 /// The scenarios that stand here are valid.

@@ -80,6 +80,18 @@ abbrev pub dump_order : List (List ℕ) → Order
 dump_order [] = Do command.Dump
 dump_order (word ∷ rest) = if bytes_eq word (codes "pool") then with_number command.DumpPool 255 rest else Bad
 
+-- why this work isn't further
+abbrev pub why_work : Option ℕ → Order
+why_work (Some w) = Do (command.Why (record { 0 = w }))
+why_work None = NoWork
+
+-- behind `why`: the name of a work alone, which may be `flush`, or the number of a flush behind that word
+abbrev pub why_order : ScenarioContents → List (List ℕ) → Order
+why_order S [] = Bad
+why_order S (name ∷ []) = why_work (work_named S name)
+why_order S (word ∷ number ∷ rest) =
+    if bytes_eq word (codes "flush") then with_number command.WhyFlush 4294967295 (number ∷ rest) else Bad
+
 -- what a line of these words tells
 abbrev pub order_of : ScenarioContents → List (List ℕ) → Order
 order_of S [] = Nothing
@@ -91,4 +103,5 @@ order_of S (word ∷ rest) =
     else if bytes_eq word (codes "clear") then with_number command.Clear 255 rest
     else if bytes_eq word (codes "run") then alone command.Run rest
     else if bytes_eq word (codes "dump") then dump_order rest
+    else if bytes_eq word (codes "why") then why_order S rest
     else Bad

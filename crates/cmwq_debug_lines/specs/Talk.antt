@@ -25,6 +25,7 @@ answer_text (Text text) = text
 abbrev pub error_name : DebugError → List ℕ
 error_name error.NoSuchWork = codes "NoSuchWork"
 error_name error.NoSuchPool = codes "NoSuchPool"
+error_name error.NoSuchFlush = codes "NoSuchFlush"
 error_name error.NoSuchBreak = codes "NoSuchBreak"
 error_name error.PastEnd = codes "PastEnd"
 error_name error.PastStart = codes "PastStart"

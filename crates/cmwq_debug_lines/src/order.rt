@@ -9,7 +9,7 @@ pub enum Order {
     Nothing,
     /// It isn't a command.
     Bad,
-    /// To break on a work that isn't declared.
+    /// To break on a work that isn't declared, or to tell why it isn't further.
     NoWork,
     /// To carry out the command.
     Do(Command),

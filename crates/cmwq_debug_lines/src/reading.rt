@@ -1,5 +1,5 @@
 //! Reading an order off the words of a line.
-ghost use Rattle.cmwq_debug_lines.specs.Orders.{alone, break_order, dump_order, event_break, kind_of, named_break, on_work, order_of, with_number, work_break, work_named};
+ghost use Rattle.cmwq_debug_lines.specs.Orders.{alone, break_order, dump_order, event_break, kind_of, named_break, on_work, order_of, why_order, why_work, with_number, work_break, work_named};
 ghost use Rattle.cmwq_debug.specs.declared.command.Command.TheVariants as command;
 ghost use Rattle.cmwq_types.specs.declared.limits.TheConstants.{MAX_WORKS};
 ghost use Rattle.cmwq_scan.specs.Words.{words_in};
@@ -33,6 +33,8 @@ pub(crate) fn order_of(scenario: &Scenario, words: &[Token]) -> Order
         alone(Command::Run, rest)
     } else if is_word(word, b"dump") {
         dump_order(rest)
+    } else if is_word(word, b"why") {
+        why_order(scenario, rest)
     } else {
         Order::Bad
     }
@@ -106,6 +108,39 @@ fn dumps_pool(words: &[Token]) -> Order
 {
     match read_last_number_within(0, 255, words) {
         Ok(pool) => Order::Do(Command::DumpPool(pool as u8)),
+        Err(_) => Order::Bad,
+    }
+}
+
+/// Behind `why`: a work's name, which may be `flush`, or that word and the number of a flush.
+fn why_order(scenario: &Scenario, words: &[Token]) -> Order
+    requires { length scenario.now.works ≤ MAX_WORKS }
+    ensures { result ≡ why_order scenario.now (words_in words.now) }
+{
+    match words {
+        [name] => why_work(scenario, name.bytes()),
+        [word, rest @ ..] if is_word(word.bytes(), b"flush") => why_flush(rest),
+        _ => Order::Bad,
+    }
+}
+
+/// Behind `why` and a name alone.
+fn why_work(scenario: &Scenario, name: &[u8]) -> Order
+    requires { length scenario.now.works ≤ MAX_WORKS }
+    ensures { result ≡ why_work (work_named scenario.now name.now) }
+{
+    match work_named(scenario, name) {
+        Some(w) => Order::Do(Command::Why(WorkId(w as u16))),
+        None => Order::NoWork,
+    }
+}
+
+/// Behind `why flush`.
+fn why_flush(words: &[Token]) -> Order
+    ensures { result ≡ with_number command.WhyFlush 4294967295 (words_in words.now) }
+{
+    match read_last_number_within(0, u32::MAX, words) {
+        Ok(flush) => Order::Do(Command::WhyFlush(flush)),
         Err(_) => Order::Bad,
     }
 }

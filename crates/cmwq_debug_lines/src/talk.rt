@@ -112,6 +112,7 @@ fn error_name(why: DebugError) -> &'static str
     match why {
         DebugError::NoSuchWork => "NoSuchWork",
         DebugError::NoSuchPool => "NoSuchPool",
+        DebugError::NoSuchFlush => "NoSuchFlush",
         DebugError::NoSuchBreak => "NoSuchBreak",
         DebugError::PastEnd => "PastEnd",
         DebugError::PastStart => "PastStart",

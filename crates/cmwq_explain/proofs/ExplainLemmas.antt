@@ -1,5 +1,5 @@
 -- A question is answered, or there is one reason why it isn't: so the command's answers follow from those of its text.
-use Rattle.std.proofs.Common.{◌≡◌, ◌≢◌, ◌⊎◌, inl, inr, ℕ, List, [], ◌∷◌, Bool, true, false, Option, Some, IfSome, Result, Ok, Err, IfErr, IsTrue, OnOk, refl, ap, ◌∙◌, sym, subst}
+use Rattle.std.proofs.Common.{◌≡◌, ◌≢◌, ◌⊎◌, inl, inr, ℕ, List, [], Bool, false, Option, IfSome, Result, Ok, Err, IfErr, IsTrue, refl, ap, ◌∙◌, sym, subst}
 use Rattle.std.specs.Io.KnownBytes.{Keeps}
 use Rattle.cmwq_types.specs.Contents.{ActorContents, ScenarioContents}
 use Rattle.cmwq_types.specs.Scenario.{expand}
@@ -12,7 +12,7 @@ use Rattle.cmwq_changes.specs.declared.looks.Looks.{Looks}
 use Rattle.cmwq_play.specs.Commands.{Answers, IsOutside, Writes}
 use Rattle.cmwq_play.specs.Runs.{CanRun, IsRefused, IsRunOf}
 use Rattle.cmwq_play.specs.Texts.{ComesTo, IsFaultOf, IsSpelled, IsTextFault}
-use Rattle.cmwq_play.proofs.CommandLemmas.{answers_outside, keeps_same, writes_err, writes_front, writes_more}
+use Rattle.cmwq_play.proofs.CommandLemmas.{answers_outside, writes_err, writes_front, writes_more}
 use Rattle.cmwq_play.proofs.TextLemmas.{answers_told, answers_well, not_refused, refused_once, same_actor}
 use Rattle.cmwq_streams.specs.Sending.{IsSendError}
 use Rattle.cmwq_streams.specs.declared.error.PlayError.{PlayError}

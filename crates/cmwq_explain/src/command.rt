@@ -1,10 +1,11 @@
 //! `why`: from a scenario's text to what is said of its run.
 ghost use Rattle.cmwq_changes.specs.Telling.{AreChanges};
 ghost use Rattle.cmwq_explain.specs.Explained.{Explains, IsAnswer, IsUnanswered, said_to, told_as};
+ghost use Rattle.cmwq_explain.specs.Laws.{IsAfterFlush};
 ghost use Rattle.cmwq_play.specs.Commands.{Answers, Reads, Writes};
 ghost use Rattle.cmwq_play.specs.Texts.{ComesTo, IsFaultOf};
 ghost use Rattle.cmwq_types.specs.Faults.{IsValid};
-ghost use Rattle.std.specs.Prelude.{◌≡◌, false};
+ghost use Rattle.std.specs.Prelude.{◌≡◌, Err, false};
 
 use crate::asking::Question;
 use cmwq_changes::{ChangesError, Looks, tell_changes};
@@ -22,8 +23,8 @@ use std::alloc::Global;
 /// It answers `Asm` with the text's fault exactly where the text spells no scenario; `Actors` exactly where the scenario hasn't one
 /// actor; `Full` exactly where that one has more than 1,048,576 instructions; then `NoSuchWork` exactly where no work has the name;
 /// then `PastEnd` exactly where the run ends before the one position that is asked for; and then `NoSuchFlush` exactly where nothing
-/// is told at any position. Nothing was written then, nor on `Read`; on `Write` and `NoMemory` what was written is a front of the
-/// lines. At most one byte more is read than the 4,194,304 that a text may have.
+/// is told at any position, which is so of flushes alone. Nothing was written then, nor on `Read`; on `Write` and `NoMemory` what was
+/// written is a front of the lines. At most one byte more is read than the 4,194,304 that a text may have.
 pub fn why<R: Source, W: Sink>(
     alloc: Global,
     question: Question<'_>,
@@ -35,6 +36,7 @@ pub fn why<R: Source, W: Sink>(
     requires writer { W.failed writer.old ≡ false }
     ensures reads { Reads (R.remaining reader.old) (R.remaining reader.new) (R.failed reader.new) result }
     ensures answers { Answers (ComesTo (IsAnswer question.entry looks)) (IsFaultOf (IsUnanswered question.entry looks)) (R.remaining reader.old) result }
+    ensures after_flush { result ≡ Err PlayError.NoSuchFlush → IsAfterFlush question.entry }
     ensures writes { Writes (ComesTo (AreChanges (said_to question.entry) looks) (R.remaining reader.old)) (W.contents writer.old) (W.contents writer.new) (W.failed writer.new) result }
 {
     let scenario = read_text(alloc, reader)?;

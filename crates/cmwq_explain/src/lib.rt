@@ -3,6 +3,7 @@
 
 mod asking;
 mod command;
+pub mod laws;
 
 pub use asking::Question;
 pub use cmwq_changes::Looks;

@@ -69,6 +69,15 @@ const OTHER_LINES: Talk = Talk {
         ("break work w3 event wakes", b"refused NoSuchWork\n"),
         ("break work W0 event wakes", b"refused NoSuchWork\n"),
         ("break work w3 event waking", b"bad command\n"),
+        ("why", b"bad command\n"),
+        ("why w3", b"refused NoSuchWork\n"),
+        ("why w1 w2", b"bad command\n"),
+        ("why flush", b"refused NoSuchWork\n"),
+        ("why flush 0", b"refused NoSuchFlush\n"),
+        ("why flush 4294967295", b"refused NoSuchFlush\n"),
+        ("why flush 4294967296", b"bad command\n"),
+        ("why flush w1", b"bad command\n"),
+        ("why flush 0 0", b"bad command\n"),
         ("break time 20", b"break 0\n"),
         ("run", b"at 34 now 20 break 0\n"),
         ("clear 0", b"cleared 0\n"),
@@ -181,6 +190,49 @@ flush 1 yes
     ],
 };
 
+/// A work that waits for another one's place in their queue, which is called as the command's word for flushes is.
+const A_FLUSH: &[u8] = b"cpus 1
+workers 2
+steps 100
+flushes 1
+queue q max 1
+work a q
+work flush q
+body a
+burn 1
+finish
+body flush
+burn 1
+finish
+actor t
+queue a 0
+queue flush 0
+flush flush
+next * 2
+";
+
+/// A work and a flush are told apart by what stands behind `why flush`.
+const A_WORK_CALLED_FLUSH: Talk = Talk {
+    name: "a work called flush",
+    lines: &[
+        ("why flush", b"flush not pending\n"),
+        ("why flush 0", b"refused NoSuchFlush\n"),
+        ("goto 5", b"at 5 now 0\n"),
+        (
+            "why flush # the work",
+            b"flush inactive 0: q has 1 of 1 active: a runs\n",
+        ),
+        (
+            "why flush 0",
+            b"flush 0 waits for 1
+  flush inactive 0: q has 1 of 1 active: a runs
+    a burns
+",
+        ),
+        ("why flush 1", b"refused NoSuchFlush\n"),
+    ],
+};
+
 /// The instructions of the scenario's first actor, in order.
 pub(crate) fn instrs_of(rt: &impl Abort, alloc: Global, scenario: &Scenario) -> Vec<Instr> {
     let mut instrs = Vec::new(alloc);
@@ -237,4 +289,5 @@ fn each_command_line_is_answered(rt: HostRuntime) {
     check_text::<Plain>(&rt, rt.alloc(), MAX_ACTIVE_3.text, THERE_AND_BACK);
     check_text::<Plain>(&rt, rt.alloc(), MAX_ACTIVE_3.text, OTHER_LINES);
     check_text::<Plain>(&rt, rt.alloc(), MANY_KINDS, EVERY_KIND);
+    check_text::<Plain>(&rt, rt.alloc(), A_FLUSH, A_WORK_CALLED_FLUSH);
 }

@@ -4,6 +4,7 @@ use clap::error::ErrorKind;
 use cmwq_command::{Look, carry_out, tell};
 use cmwq_machine_tests::streams::{Output, reading_of, writing_to};
 use cmwq_play::Marked;
+use cmwq_words::asking::{Positions, Subject};
 use cmwq_words::drawing::DrawOptions;
 use cmwq_words::request::{Request, RunKind, not_text, parse};
 use std::alloc::Global;
@@ -21,7 +22,7 @@ fn words(rt: &impl Abort, alloc: Global, line: &str) -> Vec<String> {
         .expect(rt, "memory is left")
 }
 
-const REQUESTS: [(&str, Request<'_>); 17] = [
+const REQUESTS: [(&str, Request<'_>); 25] = [
     ("cmwq new", Request::New { file: None }),
     (
         "cmwq new a.cmwq",
@@ -87,6 +88,70 @@ const REQUESTS: [(&str, Request<'_>); 17] = [
             },
         },
     ),
+    (
+        "cmwq why a.cmwq a",
+        Request::Why {
+            file: "a.cmwq",
+            subject: Subject::Work("a"),
+            positions: Positions::Settled,
+        },
+    ),
+    (
+        "cmwq why a.cmwq a --every",
+        Request::Why {
+            file: "a.cmwq",
+            subject: Subject::Work("a"),
+            positions: Positions::Every,
+        },
+    ),
+    (
+        "cmwq why --at 0 a.cmwq a",
+        Request::Why {
+            file: "a.cmwq",
+            subject: Subject::Work("a"),
+            positions: Positions::At(0),
+        },
+    ),
+    (
+        "cmwq why a.cmwq a.b --at 9999999999",
+        Request::Why {
+            file: "a.cmwq",
+            subject: Subject::Work("a.b"),
+            positions: Positions::At(9_999_999_999),
+        },
+    ),
+    (
+        "cmwq why a.cmwq ",
+        Request::Why {
+            file: "a.cmwq",
+            subject: Subject::Work(""),
+            positions: Positions::Settled,
+        },
+    ),
+    (
+        "cmwq why a.cmwq --flush 0",
+        Request::Why {
+            file: "a.cmwq",
+            subject: Subject::Flush(0),
+            positions: Positions::Settled,
+        },
+    ),
+    (
+        "cmwq why --every --flush 0000000007 a.cmwq",
+        Request::Why {
+            file: "a.cmwq",
+            subject: Subject::Flush(7),
+            positions: Positions::Every,
+        },
+    ),
+    (
+        "cmwq why a.cmwq --at 31 --flush 9999999999",
+        Request::Why {
+            file: "a.cmwq",
+            subject: Subject::Flush(9_999_999_999),
+            positions: Positions::At(31),
+        },
+    ),
     ("cmwq list a.cmwq", Request::List { file: "a.cmwq" }),
     (
         "cmwq asm a.cmwq a.image",
@@ -143,7 +208,7 @@ fn a_check_asks_for_each_of_its_files(rt: HostRuntime) {
 }
 
 /// Command lines that are no request, of which kind the answer is, and with which status the program ends.
-const NO_REQUESTS: [(&str, ErrorKind, i32); 24] = [
+const NO_REQUESTS: [(&str, ErrorKind, i32); 42] = [
     (
         "cmwq",
         ErrorKind::DisplayHelpOnMissingArgumentOrSubcommand,
@@ -170,6 +235,36 @@ const NO_REQUESTS: [(&str, ErrorKind, i32); 24] = [
         ErrorKind::ValueValidation,
         2,
     ),
+    ("cmwq why", ErrorKind::MissingRequiredArgument, 2),
+    ("cmwq why a", ErrorKind::ValueValidation, 2),
+    ("cmwq why a --every", ErrorKind::ValueValidation, 2),
+    ("cmwq why a b --flush 0", ErrorKind::ValueValidation, 2),
+    ("cmwq why a b c", ErrorKind::UnknownArgument, 2),
+    ("cmwq why a b --at 1 --every", ErrorKind::ValueValidation, 2),
+    ("cmwq why a b --at 1 --at 1", ErrorKind::ArgumentConflict, 2),
+    (
+        "cmwq why a --flush 1 --flush 1",
+        ErrorKind::ArgumentConflict,
+        2,
+    ),
+    (
+        "cmwq why a b --every --every",
+        ErrorKind::ArgumentConflict,
+        2,
+    ),
+    ("cmwq why a b --at", ErrorKind::InvalidValue, 2),
+    ("cmwq why a b --at x", ErrorKind::ValueValidation, 2),
+    (
+        "cmwq why a b --at 12345678901",
+        ErrorKind::ValueValidation,
+        2,
+    ),
+    ("cmwq why a b --at ", ErrorKind::ValueValidation, 2),
+    ("cmwq why --at  a b", ErrorKind::ValueValidation, 2),
+    ("cmwq why a --flush -1", ErrorKind::UnknownArgument, 2),
+    ("cmwq why a --flush +1", ErrorKind::ValueValidation, 2),
+    ("cmwq why a --flush 1x", ErrorKind::ValueValidation, 2),
+    ("cmwq why a --flush ", ErrorKind::ValueValidation, 2),
     ("cmwq --help", ErrorKind::DisplayHelp, 0),
     ("cmwq -h", ErrorKind::DisplayHelp, 0),
     ("cmwq help", ErrorKind::DisplayHelp, 0),
@@ -189,7 +284,7 @@ fn other_words_are_help_or_usage_faults(rt: HostRuntime) {
 }
 
 /// Command lines, the exit status, and what goes to standard output and to standard error.
-const TOLD: [(&str, u8, &[u8], &[u8]); 6] = [
+const TOLD: [(&str, u8, &[u8], &[u8]); 7] = [
     (
         "cmwq walk a",
         2,
@@ -212,6 +307,14 @@ const TOLD: [(&str, u8, &[u8], &[u8]); 6] = [
         b"",
         b"error: unexpected argument 'b' found\n\n\
           Usage: cmwq list <FILE>\n\n\
+          For more information, try '--help'.\n",
+    ),
+    (
+        "cmwq why a",
+        2,
+        b"",
+        b"error: why takes either a WORK or --flush\n\n\
+          Usage: cmwq <COMMAND>\n\n\
           For more information, try '--help'.\n",
     ),
     (

@@ -2,6 +2,7 @@
 ghost use Rattle.std.specs.Prelude.{◌≡◌, false};
 
 use cmwq_draw::{Drawing, Span, draw};
+use cmwq_explain::{Looks, Question, why};
 use cmwq_machine_tests::examples::MAX_ACTIVE_3;
 use cmwq_machine_tests::streams::{Input, Output, reading_of};
 use cmwq_play::{Marked, PlayError, debug, from_image, list_text, read_text, run, to_image};
@@ -26,6 +27,8 @@ pub(crate) enum Command {
     RunSettled,
     /// Run a scenario's text, and tell each instruction and what it changes unseen.
     RunTold,
+    /// Tell why a work of a scenario's text isn't further, or what a flush waits for.
+    Why(Question<'static>, Looks),
     /// Draw the whole run of a settled scenario, as text.
     Draw,
     /// The same as SVG.
@@ -64,6 +67,7 @@ pub(crate) fn carried_out(
         Command::Settle => settle_text(alloc, &mut reader, &mut writer),
         Command::RunSettled => run_settled(alloc, &mut reader, &mut writer),
         Command::RunTold => run_told(alloc, &mut reader, &mut writer),
+        Command::Why(question, looks) => why(alloc, question, looks, &mut reader, &mut writer),
         Command::Draw => draw(alloc, whole(false), &mut reader, &mut writer),
         Command::DrawSvg => draw(alloc, whole(true), &mut reader, &mut writer),
         Command::Debug => debugged(alloc, &mut reader, &mut writer),

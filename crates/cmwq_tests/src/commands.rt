@@ -1,8 +1,10 @@
 //! The commands over memory: what they write, reads and writes that fail, and input that is refused.
 use crate::carried::{Command, Outcome, carried_out};
 use crate::checking::same;
+use crate::explaining::{CHAIN, HOLD};
 use crate::settling::UNSETTLED;
 use cmwq_asm::AsmError;
+use cmwq_explain::{Looks, Question};
 use cmwq_grammar::Why;
 use cmwq_image::ImageError;
 use cmwq_machine_tests::examples::{
@@ -86,11 +88,15 @@ fn a_text_in_other_ways_is_run_and_the_worked_image_is_written(rt: HostRuntime) 
 }
 
 /// Commands and what they read.
-fn inputs() -> [(Command, &'static [u8]); 11] {
+fn inputs() -> [(Command, &'static [u8]); 15] {
     [
         (Command::Settle, UNSETTLED),
         (Command::RunSettled, UNSETTLED),
         (Command::RunTold, UNSETTLED),
+        (Command::Why(Question::Work("b"), Looks::Settled), HOLD),
+        (Command::Why(Question::Work("b"), Looks::Every), HOLD),
+        (Command::Why(Question::Flush(0), Looks::Settled), CHAIN),
+        (Command::Why(Question::Flush(0), Looks::Every), HOLD),
         (Command::Draw, UNSETTLED),
         (Command::DrawSvg, OTHER_WAYS),
         (Command::Run, MAX_ACTIVE_3.text),
@@ -251,6 +257,15 @@ const NOT_ONE_ACTOR: [&[u8]; 2] = [
     b"cpus 1\nworkers 1\nsteps 8\nflushes 0\nactor t\nactor u\n",
 ];
 
+/// Commands that run a text. Of what the last two ask about nothing is there, so another fault is told before.
+const RUNNING: [Command; 5] = [
+    Command::Run,
+    Command::Settle,
+    Command::RunSettled,
+    Command::Why(Question::Work("none"), Looks::At(u64::MAX)),
+    Command::Why(Question::Flush(0), Looks::At(u64::MAX)),
+];
+
 /// The error of a text whose first fault is at this line.
 fn at(line: u32, why: Why) -> PlayError {
     PlayError::Asm(AsmError::At { line, why })
@@ -276,13 +291,10 @@ pub(crate) fn check_refused(
 
 /// Each command that reads a text refuses it so, and so does its reader.
 fn check_text_refused(rt: &impl Abort, alloc: Global, text: &[u8], want: PlayError) {
-    for command in [
-        Command::Run,
-        Command::List,
-        Command::Asm,
-        Command::Settle,
-        Command::RunSettled,
-    ] {
+    for command in RUNNING {
+        check_refused(rt, alloc, command, reading_of(text, 4096), want);
+    }
+    for command in [Command::List, Command::Asm] {
         check_refused(rt, alloc, command, reading_of(text, 4096), want);
     }
     let mut reader = Marked::new(reading_of(text, 4096));
@@ -295,7 +307,7 @@ fn a_text_is_refused_before_anything_is_written(rt: HostRuntime) {
         check_text_refused(&rt, rt.alloc(), text, at(line, why));
     }
     for text in NOT_ONE_ACTOR {
-        for command in [Command::Run, Command::Settle, Command::RunSettled] {
+        for command in RUNNING {
             let input = reading_of(text, 4096);
             check_refused(&rt, rt.alloc(), command, input, PlayError::Actors);
         }
@@ -327,16 +339,23 @@ fn a_run_issues_1048576_instructions_and_no_more(rt: HostRuntime) {
     let text = long_run(&rt, alloc, 16, b"next * 15\nbusy\n");
     let whole = written(&rt, alloc, "all", Command::Run, &text, (4096, 4096));
     same(&rt, "all", whole.as_slice(), b"1048575 no\n");
+    for (position, want) in [
+        (1_048_576, PlayError::NoSuchFlush),
+        (1_048_577, PlayError::PastEnd),
+    ] {
+        let command = Command::Why(Question::Flush(0), Looks::At(position));
+        check_refused(&rt, alloc, command, reading_of(&text, 4096), want);
+    }
     for (lines, last, want) in TOO_LONG {
         let text = long_run(&rt, alloc, lines, last);
-        for command in [Command::Run, Command::Settle, Command::RunSettled] {
+        for command in RUNNING {
             check_refused(&rt, alloc, command, reading_of(&text, 4096), want);
         }
     }
 }
 
 /// A work that is disabled 65,536 times, and then enabled.
-const DEEPEST: &[u8] =
+pub(crate) const DEEPEST: &[u8] =
     b"cpus 1\nworkers 1\nsteps 70000\nflushes 0\nqueue q max 1\nwork a q\nbody a\nfinish\n\
     actor t\ndisable a * 65535\ndisable a\nenable a\n";
 

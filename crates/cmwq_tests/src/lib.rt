@@ -10,6 +10,8 @@ mod commands;
 #[cfg(test)]
 mod debugging;
 #[cfg(test)]
+mod explaining;
+#[cfg(test)]
 mod images;
 #[cfg(test)]
 mod settling;

@@ -1,2 +1,3 @@
 pub mod AlikeLemmas
+pub mod ReachLemmas
 pub mod TextLemmas

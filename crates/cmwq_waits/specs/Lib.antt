@@ -1,2 +1,3 @@
+pub mod Laws
 pub mod Text
 pub mod Waits

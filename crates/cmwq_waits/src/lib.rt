@@ -2,6 +2,7 @@
 #![tactic(auto)]
 
 mod flush;
+pub mod laws;
 mod needs;
 mod reaching;
 mod telling;

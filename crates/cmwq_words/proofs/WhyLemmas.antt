@@ -10,7 +10,7 @@ use Rattle.cmwq_words.proofs.RequestLemmas.{no_hyphen, numerals}
 use Rattle.clap.specs.Walk.{Walk, finished, nothing_held, walk_from}
 use Rattle.cmwq_words.proofs.WalkingLemmas.{Goes, begins_with_hyphen, end_passes, ends, on, on_plain, taken, why_shape}
 use Rattle.cmwq_words.proofs.DrawLemmas.{IsWordOf, Takes, is_word_of}
-use Rattle.cmwq_words.specs.Request.{HasCapacity, HasShortNumber, IsMisuse, IsPlainWord, IsRead, IsShortNumber, IsValueWord, asked_from, asked_of, asked_why, file_to_ask, flag_of, flush_arguments, plain_number, work_arguments}
+use Rattle.cmwq_words.specs.Request.{HasCapacity, HasShortNumber, IsMisuse, IsPlainWord, IsRead, IsShortNumber, IsValueWord, asked_from, asked_of, asked_why, file_to_ask, flag_of, flush_arguments, plain_number, position_words, work_arguments}
 use Rattle.cmwq_words.specs.declared.asking.Positions.{Positions}
 use Rattle.cmwq_words.specs.declared.asking.Positions.TheVariants.{Settled as AtSettled, Every, At}
 use Rattle.clap.proofs.OnLiterals.{clap_on_literals}
@@ -146,6 +146,57 @@ of_flush_at number place file n p f =
     (on_plain why_shape _ place _ _ p refl refl refl (on_plain why_shape _ file _ _ f refl refl refl (ends why_shape _))))))
     refl refl
 
+-- The same with FILE first.
+
+work_every : (file work : Text) → begins_with_hyphen file ≡ false → begins_with_hyphen work ≡ false
+    → Asks (file ∷ work ∷ codes "--every" ∷ []) (asked_from true None (Some file) (Some work) None)
+unfolding clap_on_literals why_shape
+work_every file work f w =
+    asks _ _ _
+    (on_plain why_shape _ file _ _ f refl refl refl
+    (on_plain why_shape _ work _ _ w refl refl refl (on why_shape _ (codes "--every") _ _ refl (ends why_shape _))))
+    refl refl
+
+work_at : (place file work : Text) → begins_with_hyphen place ≡ false → begins_with_hyphen file ≡ false → begins_with_hyphen work ≡ false
+    → Asks (file ∷ work ∷ codes "--at" ∷ place ∷ []) (asked_from false (Some place) (Some file) (Some work) None)
+unfolding clap_on_literals why_shape
+work_at place file work p f w =
+    asks _ _ _
+    (on_plain why_shape _ file _ _ f refl refl refl
+    (on_plain why_shape _ work _ _ w refl refl refl
+    (on why_shape _ (codes "--at") _ _ refl (on_plain why_shape _ place _ _ p refl refl refl (ends why_shape _)))))
+    refl refl
+
+flush_alone : (number file : Text) → begins_with_hyphen number ≡ false → begins_with_hyphen file ≡ false
+    → Asks (file ∷ codes "--flush" ∷ number ∷ []) (asked_from false None (Some file) None (Some number))
+unfolding clap_on_literals why_shape
+flush_alone number file n f =
+    asks _ _ _
+    (on_plain why_shape _ file _ _ f refl refl refl
+    (on why_shape _ (codes "--flush") _ _ refl (on_plain why_shape _ number _ _ n refl refl refl (ends why_shape _))))
+    refl refl
+
+flush_every : (number file : Text) → begins_with_hyphen number ≡ false → begins_with_hyphen file ≡ false
+    → Asks (file ∷ codes "--flush" ∷ number ∷ codes "--every" ∷ []) (asked_from true None (Some file) None (Some number))
+unfolding clap_on_literals why_shape
+flush_every number file n f =
+    asks _ _ _
+    (on_plain why_shape _ file _ _ f refl refl refl
+    (on why_shape _ (codes "--flush") _ _ refl
+    (on_plain why_shape _ number _ _ n refl refl refl (on why_shape _ (codes "--every") _ _ refl (ends why_shape _)))))
+    refl refl
+
+flush_at : (number place file : Text) → begins_with_hyphen number ≡ false → begins_with_hyphen place ≡ false → begins_with_hyphen file ≡ false
+    → Asks (file ∷ codes "--flush" ∷ number ∷ codes "--at" ∷ place ∷ []) (asked_from false (Some place) (Some file) None (Some number))
+unfolding clap_on_literals why_shape
+flush_at number place file n p f =
+    asks _ _ _
+    (on_plain why_shape _ file _ _ f refl refl refl
+    (on why_shape _ (codes "--flush") _ _ refl
+    (on_plain why_shape _ number _ _ n refl refl refl
+    (on why_shape _ (codes "--at") _ _ refl (on_plain why_shape _ place _ _ p refl refl refl (ends why_shape _))))))
+    refl refl
+
 -- Questions.
 
 as_read : {given : List Text} {found : Option (List Text)} → Asks given found → (words asked : List Text) (name : Text) → words ≡ name ∷ codes "why" ∷ given
@@ -175,6 +226,33 @@ flush_read words name file flush Every are plain few short =
     (rw (short_number flush few) refl) tt
 flush_read words name file flush (At k) are plain few short =
     as_read (of_flush_at (decimal flush) (decimal k) file (short_plain flush few) (short_plain k short) (plain_begins file plain))
+    words (flush_arguments (At k) flush file) name are
+    (rw (short_number flush few, short_number k short) refl) tt
+
+pub work_first_read : (words : List Text) (name file work : Text) (positions : Positions) → words ≡ name ∷ codes "why" ∷ file ∷ work ∷ position_words positions
+    → IsPlainWord file → IsPlainWord work → HasShortNumber positions → IsRead words (codes "why" ∷ work_arguments positions file work)
+work_first_read words name file work AtSettled are plain plain_work short =
+    as_read (of_work file work (plain_begins file plain) (plain_begins work plain_work)) words (work_arguments AtSettled file work) name are refl tt
+work_first_read words name file work Every are plain plain_work short =
+    as_read (work_every file work (plain_begins file plain) (plain_begins work plain_work)) words (work_arguments Every file work) name are refl tt
+work_first_read words name file work (At k) are plain plain_work short =
+    as_read (work_at (decimal k) file work (short_plain k short) (plain_begins file plain) (plain_begins work plain_work))
+    words (work_arguments (At k) file work) name are
+    (rw (short_number k short) refl) tt
+
+pub flush_first_read : (words : List Text) (name file : Text) (flush : ℕ) (positions : Positions)
+    → words ≡ name ∷ codes "why" ∷ file ∷ codes "--flush" ∷ decimal flush ∷ position_words positions → IsPlainWord file → IsShortNumber flush → HasShortNumber positions
+    → IsRead words (codes "why" ∷ flush_arguments positions flush file)
+flush_first_read words name file flush AtSettled are plain few short =
+    as_read (flush_alone (decimal flush) file (short_plain flush few) (plain_begins file plain))
+    words (flush_arguments AtSettled flush file) name are
+    (rw (short_number flush few) refl) tt
+flush_first_read words name file flush Every are plain few short =
+    as_read (flush_every (decimal flush) file (short_plain flush few) (plain_begins file plain))
+    words (flush_arguments Every flush file) name are
+    (rw (short_number flush few) refl) tt
+flush_first_read words name file flush (At k) are plain few short =
+    as_read (flush_at (decimal flush) (decimal k) file (short_plain flush few) (short_plain k short) (plain_begins file plain))
     words (flush_arguments (At k) flush file) name are
     (rw (short_number flush few, short_number k short) refl) tt
 

@@ -71,11 +71,14 @@ fn subject_of<'a>(given: &ArgMatches<'a>) -> Option<Subject<'a>>
     }
 }
 
+/// How many digits a number has at most.
+const MOST_DIGITS: usize = 10;
+
 /// The number that 1 to 10 digits spell; nothing where the word is anything else.
 fn number_of(word: &str) -> Option<u64>
     ensures { result ≡ plain_number word.now }
 {
-    if word.len() > 10 || word.starts_with('+') {
+    if word.len() > MOST_DIGITS || word.starts_with('+') {
         return None;
     }
     word.parse().ok()

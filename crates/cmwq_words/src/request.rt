@@ -3,7 +3,7 @@
 ghost use Rattle.clap.specs.Words.{Row, Text, all_of, app_of, fault_of, first_of, found_of, kind_of, rows_of, subcommand_rows_of};
 ghost use Rattle.cmwq_command_line.specs.CommandLine.{command_line};
 ghost use Rattle.cmwq_words.specs.declared.request.RunKind.TheVariants.{Settled, Told};
-ghost use Rattle.cmwq_words.specs.Request.{Asks, AsksNothing, AsksVersion, HasCapacity, IsCapacity, IsPlainWord, IsRead, IsRequestOf, IsVersionWord, IsWithin, HasShortNumber, IsMisuse, IsShortNumber, IsUsageFault, IsValueWord, all_values, asked_in, asked_of, draw_arguments, file_and_capacity, file_to_run, flush_arguments, from_on, kind_of_run, one_value, plain_number, run_arguments, two_values, up_to, value_if_any, whole, words_of, work_arguments};
+ghost use Rattle.cmwq_words.specs.Request.{Asks, AsksNothing, AsksVersion, HasCapacity, IsCapacity, IsPlainWord, IsRead, IsRequestOf, IsVersionWord, IsWithin, HasShortNumber, IsMisuse, IsShortNumber, IsUsageFault, IsValueWord, all_values, asked_in, asked_of, draw_arguments, file_and_capacity, file_to_run, flush_arguments, from_on, kind_of_run, one_value, plain_number, position_words, run_arguments, two_values, up_to, value_if_any, whole, words_of, work_arguments};
 ghost use Rattle.cmwq_words.specs.declared.asking.Positions.{Positions};
 ghost use Rattle.std.specs.Fmt.{decimal};
 ghost use Rattle.std.specs.Str.{bytes_eq};
@@ -130,6 +130,10 @@ pub fn parse<'a>(alloc: Global, words: &'a [String]) -> Result<Request<'a>, Erro
     ensures why_work { (name file work : Text) (positions : Positions) → map string_bytes words.entry.now ≡ name ∷ codes "why" ∷ work_arguments positions file work
         → IsPlainWord file → IsPlainWord work → HasShortNumber positions → Asks (codes "why" ∷ work_arguments positions file work) result }
     ensures why_flush { (name file : Text) (flush : ℕ) (positions : Positions) → map string_bytes words.entry.now ≡ name ∷ codes "why" ∷ flush_arguments positions flush file
+        → IsPlainWord file → IsShortNumber flush → HasShortNumber positions → Asks (codes "why" ∷ flush_arguments positions flush file) result }
+    ensures why_work_first { (name file work : Text) (positions : Positions) → map string_bytes words.entry.now ≡ name ∷ codes "why" ∷ file ∷ work ∷ position_words positions
+        → IsPlainWord file → IsPlainWord work → HasShortNumber positions → Asks (codes "why" ∷ work_arguments positions file work) result }
+    ensures why_flush_first { (name file : Text) (flush : ℕ) (positions : Positions) → map string_bytes words.entry.now ≡ name ∷ codes "why" ∷ file ∷ codes "--flush" ∷ decimal flush ∷ position_words positions
         → IsPlainWord file → IsShortNumber flush → HasShortNumber positions → Asks (codes "why" ∷ flush_arguments positions flush file) result }
     ensures why_of_neither { (name file : Text) → map string_bytes words.entry.now ≡ name ∷ codes "why" ∷ file ∷ []
         → IsPlainWord file → IsUsageFault result }

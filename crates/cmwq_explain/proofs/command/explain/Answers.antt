@@ -1,6 +1,6 @@
 use Rattle.std.proofs.Common.{sym, subst, Result}
 use Rattle.cmwq_streams.specs.declared.error.PlayError.{PlayError}
-use Rattle.cmwq_explain.specs.Explained.{Explains, IsUnknown}
+use Rattle.cmwq_explain.specs.Explained.{Explains}
 use Rattle.cmwq_explain.proofs.ExplainLemmas.{explains-told, not_unknown}
 use Rattle.cmwq_explain.proofs.command.explain.Goals as goal
 

@@ -1,10 +1,10 @@
-use Rattle.std.proofs.Common.{Err, ap}
 use Rattle.std.proofs.lemmas.Result.{err_from_is_err_and}
 use Rattle.cmwq_changes.specs.Telling.{AreChanges}
 use Rattle.cmwq_play.specs.Texts.{ComesTo}
-use Rattle.cmwq_play.proofs.CommandLemmas.{reads_err, reads_ok, writes_err, writes_more}
+use Rattle.cmwq_play.proofs.CommandLemmas.{reads_ok, writes_more}
 use Rattle.cmwq_play.proofs.TextLemmas.{answers_unread}
 use Rattle.cmwq_explain.specs.Explained.{IsAnswer, IsUnanswered, said_to}
+use Rattle.cmwq_explain.proofs.AnswerLemmas.{after_flush}
 use Rattle.cmwq_explain.proofs.ExplainLemmas.{answers-explained, reads-nothing}
 use Rattle.cmwq_explain.proofs.command.why.Goals as goal
 
@@ -22,6 +22,9 @@ pub returns-clause-answers : goal.returns-clause-answers
 returns-clause-answers g c =
     let S = c.in_ok-scenario.scenario in
     answers-explained c.args.question c.args.looks S S (g.R.Read.remaining c.args.reader.now) _ _ _ c.explain.result c.explain.ensures c.in_ok-scenario.ensures.found c.in_ok-scenario.ensures.only c.in_ok-scenario.ensures.answers
+
+pub returns-clause-after_flush : goal.returns-clause-after_flush
+returns-clause-after_flush g c = after_flush c.args.question c.args.looks c.in_ok-scenario.scenario _ _ _ c.explain.result c.explain.ensures
 
 pub returns-clause-writes : goal.returns-clause-writes
 returns-clause-writes g c =

@@ -1,13 +1,13 @@
 use Rattle.std.proofs.Common.{rules, sym, get_or, ◌≢◌, ◌∙◌}
 use Rattle.cmwq_words.proofs.WhyLemmas.{no_number_if_long, no_number_if_signed, parsed_number}
-use Rattle.cmwq_words.proofs.asking.number_of.Goals.{then-word-gt10-via-then-word-gt10, then-word-gt10-via-else-word-gt10+then-starts_with}
+use Rattle.cmwq_words.proofs.asking.number_of.Goals.{then-word-gt-MOST_DIGITS-via-then-word-gt-MOST_DIGITS, then-word-gt-MOST_DIGITS-via-else-word-gt-MOST_DIGITS+then-starts_with}
 use Rattle.cmwq_words.proofs.asking.number_of.Goals as goal
 
-pub returns-then-word-gt10 : goal.returns-then-word-gt10
-returns-then-word-gt10 c =
-    elim c.then-word-gt10.branch [
-      | then-word-gt10-via-then-word-gt10 w ↦ sym (no_number_if_long c.args.word.now (search rules))
-      | then-word-gt10-via-else-word-gt10+then-starts_with w ↦ sym (no_number_if_signed c.args.word.now (search rules))
+pub returns-then-word-gt-MOST_DIGITS : goal.returns-then-word-gt-MOST_DIGITS
+returns-then-word-gt-MOST_DIGITS c =
+    elim c.then-word-gt-MOST_DIGITS.branch [
+      | then-word-gt-MOST_DIGITS-via-then-word-gt-MOST_DIGITS w ↦ sym (no_number_if_long c.args.word.now (search rules))
+      | then-word-gt-MOST_DIGITS-via-else-word-gt-MOST_DIGITS+then-starts_with w ↦ sym (no_number_if_signed c.args.word.now (search rules))
     ]
 
 pub returns : goal.returns

@@ -1,6 +1,6 @@
 use Rattle.cmwq_words.proofs.RequestLemmas.{asm_read, check_read, check_two_read, debug_read, list_read, new_file_read, new_read, play_read, run_read, run_settled_read, run_told_read, settle_read, show_read, version_asked}
 use Rattle.cmwq_words.proofs.DrawLemmas.{draw_read, from_read, to_read}
-use Rattle.cmwq_words.proofs.WhyLemmas.{at_both_misused, both_misused, flush_read, neither_misused, no_flush_misused, no_place_misused, work_read}
+use Rattle.cmwq_words.proofs.WhyLemmas.{at_both_misused, both_misused, flush_first_read, flush_read, neither_misused, no_flush_misused, no_place_misused, work_first_read, work_read}
 use Rattle.cmwq_words.proofs.request.parse.Goals as goal
 
 pub returns : goal.returns
@@ -17,6 +17,8 @@ returns c =
       draw_to = λ name file time are plain small. c.request_met.ensures.asks _ (to_read _ name file time are plain small);
       why_work = λ name file work positions are plain plain_work short. c.request_met.ensures.asks _ (work_read _ name file work positions are plain plain_work short);
       why_flush = λ name file flush positions are plain few short. c.request_met.ensures.asks _ (flush_read _ name file flush positions are plain few short);
+      why_work_first = λ name file work positions are plain plain_work short. c.request_met.ensures.asks _ (work_first_read _ name file work positions are plain plain_work short);
+      why_flush_first = λ name file flush positions are plain few short. c.request_met.ensures.asks _ (flush_first_read _ name file flush positions are plain few short);
       why_of_neither = λ name file are plain. c.request_met.ensures.misuse (neither_misused _ name file are plain);
       why_of_both = λ name number file work are value plain plain_work. c.request_met.ensures.misuse (both_misused _ name number file work are value plain plain_work);
       why_of_no_number = λ name number file are value none plain. c.request_met.ensures.misuse (no_flush_misused _ name number file are value none plain);

@@ -10,4 +10,4 @@ returns g c =
     let d = c.args.self.now in
     let of : c.deref.result.now ≡ d.scenario = search rules in
     let is : c.in_ok-view.view ≡ view_of (state_at d d.position) = search rules in
-    shown (λ text. text.items) c.pool_text.result c.in_ok-view.view (λ S s. pool_lines S s c.args.pool) c.deref.result.now d.scenario (state_at d d.position) of is c.pool_text.ensures.text
+    shown (λ text S s. text.items ≡ pool_lines S s c.args.pool) c.pool_text.result c.in_ok-view.view c.deref.result.now d.scenario (state_at d d.position) of is c.pool_text.ensures.text

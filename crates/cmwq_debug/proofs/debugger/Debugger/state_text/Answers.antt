@@ -10,4 +10,4 @@ returns g c =
     let d = c.args.self.now in
     let of : c.deref.result.now ≡ d.scenario = search rules in
     let is : c.in_ok-view.view ≡ view_of (state_at d d.position) = search rules in
-    shown (λ text. text.items) c.dump_text.result c.in_ok-view.view dump c.deref.result.now d.scenario (state_at d d.position) of is c.dump_text.ensures.text
+    shown (λ text S s. text.items ≡ dump S s) c.dump_text.result c.in_ok-view.view c.deref.result.now d.scenario (state_at d d.position) of is c.dump_text.ensures.text
