@@ -30,7 +30,8 @@ pub fn ticks_turn_few_reasons()
     burning_works_burn();
 }
 
-/// And a work whose reasons a tick doesn't change has the same line after it: nothing that it tells of others changes.
+/// And a work whose reasons a tick doesn't change has the same line after it: nothing that it tells of others changes. Only
+/// `; spent` is new where the tick spends the last step.
 #[tactic(auto, using(crate::proofs::TickTextLemmas::keeps_text_in_tick))]
 pub fn ticks_change_no_line_but_by_its_reasons()
     ensures { InAnyState KeepsTextInTick }
@@ -38,7 +39,7 @@ pub fn ticks_change_no_line_but_by_its_reasons()
 
 /// In every state of a run a pool's step by which no worker begins or ends a work, and no work is placed, changes the lines of
 /// few: of works of that pool, of those that run in the normal pool beside it, and of those that are listed where the
-/// rescuer of the moved work is wanted.
+/// rescuer of the moved work is wanted. Only `; spent` is new on each line where the step spends the last one.
 #[tactic(auto, using(crate::proofs::StepLemmas::keeps_text_in_step))]
 pub fn steps_change_few_lines()
     ensures { InEveryState KeepsTextInStep }
