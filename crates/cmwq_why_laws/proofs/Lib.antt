@@ -1,0 +1,9 @@
+pub mod AgreeLemmas
+pub mod AroundLemmas
+pub mod AroundTextLemmas
+pub mod PoolLemmas
+pub mod QuestionLemmas
+pub mod SpentLemmas
+pub mod StepLemmas
+pub mod TickLemmas
+pub mod TickTextLemmas
