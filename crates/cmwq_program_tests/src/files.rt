@@ -365,14 +365,6 @@ fn a_file_that_is_not_there_is_a_failed_read_or_write(rt: HostRuntime) {
             PlayError::Read,
         ),
         (Request::Settle { file }, PlayError::Read),
-        (
-            Request::Why {
-                file,
-                subject: Subject::Work("a"),
-                positions: Positions::Settled,
-            },
-            PlayError::Read,
-        ),
         (Request::List { file }, PlayError::Read),
         (Request::Show { image: out }, PlayError::Read),
         (Request::Debug { file }, PlayError::Read),
@@ -382,6 +374,12 @@ fn a_file_that_is_not_there_is_a_failed_read_or_write(rt: HostRuntime) {
     ] {
         check_answer(&rt, request, Err(fault), b"");
     }
+    let why = Request::Why {
+        file,
+        subject: Subject::Work("a"),
+        positions: Positions::Settled,
+    };
+    check_answer(&rt, why, Err(PlayError::Read), b"");
 }
 
 #[test]
