@@ -156,12 +156,47 @@ fn run<R: Files + AllocGlobal, W: Sink>(
 ) -> Result<(), PlayError>
     requires { W.failed writer.old ≡ false }
 {
-    let mut reader = opened(rt, file)?;
     match kind {
-        RunKind::Plain => cmwq_play::run(rt.alloc(), &mut reader, writer),
-        RunKind::Settled => run_settled(rt.alloc(), &mut reader, writer),
-        RunKind::Told => run_told(rt.alloc(), &mut reader, writer),
+        RunKind::Plain => run_plain(rt, writer, file),
+        RunKind::Settled => run_until_quiet(rt, writer, file),
+        RunKind::Told => run_and_tell(rt, writer, file),
     }
+}
+
+/// Runs the scenario whose text is in the file, and writes its events.
+fn run_plain<R: Files + AllocGlobal, W: Sink>(
+    rt: &R,
+    writer: &mut W,
+    file: &str,
+) -> Result<(), PlayError>
+    requires { W.failed writer.old ≡ false }
+{
+    let mut reader = opened(rt, file)?;
+    cmwq_play::run(rt.alloc(), &mut reader, writer)
+}
+
+/// Runs the scenario whose text is in the file until its machine is quiet, and writes its events.
+fn run_until_quiet<R: Files + AllocGlobal, W: Sink>(
+    rt: &R,
+    writer: &mut W,
+    file: &str,
+) -> Result<(), PlayError>
+    requires { W.failed writer.old ≡ false }
+{
+    let mut reader = opened(rt, file)?;
+    run_settled(rt.alloc(), &mut reader, writer)
+}
+
+/// Runs the scenario whose text is in the file, and writes its instructions, its events and what it changes unseen.
+fn run_and_tell<R: Files + AllocGlobal, W: Sink>(
+    rt: &R,
+    writer: &mut W,
+    file: &str,
+) -> Result<(), PlayError>
+    requires { W.failed writer.old ≡ false }
+{
+    let mut reader = opened(rt, file)?;
+    run_told(rt.alloc(), &mut reader, writer)
 }
 
 /// Writes the listing of the scenario whose text is in the file, with the `next` that make its machine quiet.

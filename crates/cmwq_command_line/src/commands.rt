@@ -1,8 +1,8 @@
 //! The program's commands, and the words that they take.
 
-ghost use Rattle.clap.specs.Words.{App, app_of, new_rule, rule_of, with_subcommand};
+ghost use Rattle.clap.specs.Words.{App, app_of, new_rule, rule_of, with_rule, with_subcommand};
 ghost use Rattle.clap.specs.declared.builder.command.Command.TheViews.{out-Command as fields_of};
-ghost use Rattle.cmwq_command_line.specs.CommandLine.{asm_command, bare_program, check_command, command_line, command_on, commands_on_files, commands_with_draw, draw_command, flag_rule, list_command, new_command, play_command, program, required_rule, run_command, settle_command, show_command, value_rule, why_command};
+ghost use Rattle.cmwq_command_line.specs.CommandLine.{asm_command, bare_program, check_command, command_line, command_on, commands_on_files, commands_with_draw, draw_command, flag_rule, list_command, new_command, option_rule, play_command, program, required_rule, run_command, settle_command, show_command, value_rule, why_command};
 ghost use Rattle.std.specs.Prelude.{◌≡◌, IfOk, codes, false};
 
 use crate::help;
@@ -103,17 +103,19 @@ fn run_command<'a>(alloc: Global) -> Result<Command<'a>, AllocError>
         alloc,
         "run",
         "Runs a scenario and writes its events to standard output",
-    )?;
-    run.arg(flag(
+    );
+    let run = with_flag(
+        run,
         alloc,
         "settle",
         "Lets the run go on by `next` until the machine is quiet",
-    ))?
-    .arg(flag(
+    );
+    with_flag(
+        run,
         alloc,
         "tell",
         "Writes each instruction, and what it changes unseen, in lines that begin with #",
-    ))
+    )
 }
 
 /// The program with the command that needs no file.
@@ -133,8 +135,54 @@ fn joined<'a>(
     ensures { (before more : App) → IfOk program.entry (λ given. app_of given ≡ before) → IfOk command.entry (λ added. app_of added ≡ more)
         → IfOk result (λ r. app_of r ≡ with_subcommand before more.top) }
 {
+    let command = command?;
+    with_command(program, command)
+}
+
+/// The program with this command more, which is there. The error is want of memory.
+fn with_command<'a>(
+    program: Result<Command<'a>, AllocError>,
+    command: Command<'a>,
+) -> Result<Command<'a>, AllocError>
+    requires local { (fields_of command).has_globals ≡ false }
+    ensures { (before : App) → IfOk program.entry (λ given. app_of given ≡ before)
+        → IfOk result (λ r. app_of r ≡ with_subcommand before (app_of command.entry).top) }
+{
     let program = program?;
-    program.subcommand(command?)
+    program.subcommand(command)
+}
+
+/// The command with this option more, which has no value. The error is want of memory.
+fn with_flag<'a>(
+    command: Result<Command<'a>, AllocError>,
+    alloc: Global,
+    name: &'a str,
+    help: &'a str,
+) -> Result<Command<'a>, AllocError>
+    ensures app { (before : App) → IfOk command.entry (λ given. app_of given ≡ before)
+        → IfOk result (λ r. app_of r ≡ with_rule before (flag_rule name.entry.now)) }
+    ensures local { IfOk command.entry (λ given. (fields_of given).has_globals ≡ false)
+        → IfOk result (λ r. (fields_of r).has_globals ≡ false) }
+{
+    let command = command?;
+    command.arg(flag(alloc, name, help))
+}
+
+/// The command with this option more, which may be given with a value. The error is want of memory.
+fn with_option<'a>(
+    command: Result<Command<'a>, AllocError>,
+    alloc: Global,
+    id: &'a str,
+    name: &'a str,
+    help: &'a str,
+) -> Result<Command<'a>, AllocError>
+    ensures app { (before : App) → IfOk command.entry (λ given. app_of given ≡ before)
+        → IfOk result (λ r. app_of r ≡ with_rule before (value_rule id.entry.now name.entry.now)) }
+    ensures local { IfOk command.entry (λ given. (fields_of given).has_globals ≡ false)
+        → IfOk result (λ r. (fields_of r).has_globals ≡ false) }
+{
+    let command = command?;
+    command.arg(valued(alloc, id, name, help))
 }
 
 /// The program without its commands.
@@ -199,12 +247,12 @@ fn play_command<'a>(alloc: Global) -> Result<Command<'a>, AllocError>
         "play",
         "Carries out all actors of a scenario at once, and writes the order that came out, as a scenario of one actor",
     )?;
-    let capacity = argument(
+    play.arg(required_option(
         alloc,
         "N",
+        "capacity",
         "How many instructions the machine takes at most, 1 to 4096",
-    );
-    play.arg(capacity.long("capacity"))
+    ))
 }
 
 /// The command that tells files' verdicts.
@@ -224,24 +272,47 @@ fn draw_command<'a>(alloc: Global) -> Result<Command<'a>, AllocError>
     ensures app { IfOk result (λ r. app_of r ≡ draw_command) }
     ensures local { IfOk result (λ r. (fields_of r).has_globals ≡ false) }
 {
-    on_text(
+    let draw = on_text(
         alloc,
         "draw",
         "Draws a scenario's run: a row a work, a column a tick",
-    )?
-    .arg(flag(
+    );
+    let draw = with_flag(
+        draw,
         alloc,
         "settle",
         "Lets the run go on by `next` until the machine is quiet",
-    ))?
-    .arg(flag(alloc, "svg", "Writes an SVG picture"))?
-    .arg(valued(alloc, "FROM", "from", "The first tick to draw"))?
-    .arg(valued(alloc, "TO", "to", "The tick before which to end"))
+    );
+    let draw = with_flag(draw, alloc, "svg", "Writes an SVG picture");
+    let draw = with_option(draw, alloc, "FROM", "from", "The first tick to draw");
+    with_option(draw, alloc, "TO", "to", "The tick before which to end")
 }
 
 /// The command that tells why a work or a flush waits.
 fn why_command<'a>(alloc: Global) -> Result<Command<'a>, AllocError>
     ensures app { IfOk result (λ r. app_of r ≡ why_command) }
+    ensures local { IfOk result (λ r. (fields_of r).has_globals ≡ false) }
+{
+    let why = with_option(
+        why_on_work(alloc),
+        alloc,
+        "F",
+        "flush",
+        "The flush of this number, as the run tells it, in place of a work",
+    );
+    let why = with_option(
+        why,
+        alloc,
+        "K",
+        "at",
+        "Looks at position K alone, behind the first K instructions",
+    );
+    with_flag(why, alloc, "every", "Looks at every position")
+}
+
+/// The command that tells why a work waits, without its options.
+fn why_on_work<'a>(alloc: Global) -> Result<Command<'a>, AllocError>
+    ensures app { IfOk result (λ r. app_of r ≡ with_rule (command_on (codes "why") (codes "FILE")) (new_rule (codes "WORK"))) }
     ensures local { IfOk result (λ r. (fields_of r).has_globals ≡ false) }
 {
     let why = on_text(
@@ -253,20 +324,7 @@ fn why_command<'a>(alloc: Global) -> Result<Command<'a>, AllocError>
         alloc,
         "WORK",
         "The work's name; without it --flush has to be given",
-    ))?
-    .arg(valued(
-        alloc,
-        "F",
-        "flush",
-        "The flush of this number, as the run tells it, in place of a work",
-    ))?
-    .arg(valued(
-        alloc,
-        "K",
-        "at",
-        "Looks at position K alone, behind the first K instructions",
-    ))?
-    .arg(flag(alloc, "every", "Looks at every position"))
+    ))
 }
 
 /// A command on the text of a scenario.
@@ -286,6 +344,14 @@ fn argument<'a>(alloc: Global, id: &'a str, help: &'a str) -> Arg<'a>
     ensures local { result.global ≡ false }
 {
     Arg::new(alloc, id).required(true).help(help)
+}
+
+/// An option that has to be given, with its value.
+fn required_option<'a>(alloc: Global, id: &'a str, name: &'a str, help: &'a str) -> Arg<'a>
+    ensures rule { rule_of result ≡ option_rule id.entry.now name.entry.now }
+    ensures local { result.global ≡ false }
+{
+    argument(alloc, id, help).long(name)
 }
 
 /// An argument that may be left out.

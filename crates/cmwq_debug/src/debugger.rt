@@ -3,7 +3,7 @@ ghost use Rattle.cmwq_debug.specs.Debugging.{Answer, At, Meets, Opens, answer_of
 ghost use Rattle.cmwq_debug.specs.Breaks.{break_at};
 ghost use Rattle.cmwq_dump.specs.Dump.{dump, pool_lines};
 ghost use Rattle.cmwq_waits.specs.Text.{flush_lines};
-ghost use Rattle.cmwq_why.specs.Text.{work_line};
+ghost use Rattle.cmwq_why_text.specs.Text.{work_line};
 ghost use Rattle.cmwq_table.specs.View.{view_of};
 ghost use Rattle.cmwq_types.specs.Faults.{IsValid};
 ghost use Rattle.cmwq_types.specs.Scenario.{pool_count};
@@ -17,7 +17,7 @@ use cmwq_dump::{dump_text, pool_text};
 use cmwq_table::{LoadError, Machine, View};
 use cmwq_types::{Instr, NoMemory, Scenario, WorkId};
 use cmwq_waits::flush_text;
-use cmwq_why::work_text;
+use cmwq_why_text::work_text;
 use std::alloc::Global;
 use std::marker::Model;
 use std::sync::Arc;

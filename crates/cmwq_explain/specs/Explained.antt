@@ -3,7 +3,7 @@ use Rattle.std.specs.Prelude.{◌≡◌, ◌≢◌, ◌⊎◌, ℕ, Bool, List, 
 use Rattle.cmwq_types.specs.Contents.{ActorContents, ScenarioContents}
 use Rattle.cmwq_types.specs.Scenario.{expand}
 use Rattle.cmwq_table.specs.State.{State}
-use Rattle.cmwq_why.specs.Text.{work_line}
+use Rattle.cmwq_why_text.specs.Text.{work_line}
 use Rattle.cmwq_waits.specs.Text.{flush_lines}
 use Rattle.cmwq_debug_lines.specs.Orders.{work_named}
 use Rattle.cmwq_changes.specs.Changes.{changes_text}

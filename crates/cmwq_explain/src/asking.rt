@@ -7,7 +7,8 @@ use cmwq_changes::Sayer;
 use cmwq_table::View;
 use cmwq_types::{NoMemory, Scenario, WorkId};
 use cmwq_waits::flush_text;
-use cmwq_why::{is_settled, work_text};
+use cmwq_why::is_settled;
+use cmwq_why_text::work_text;
 use std::alloc::Global;
 
 /// What is asked of a run.

@@ -6,7 +6,7 @@ ghost use Rattle.cmwq_types.specs.Faults.{IsValid};
 ghost use Rattle.cmwq_types.specs.Scenario.{expand_lines};
 ghost use Rattle.cmwq_types.specs.Setting.{IsSetting};
 ghost use Rattle.cmwq_types.specs.declared.limits.TheConstants.{MAX_STEPS};
-ghost use Rattle.std.specs.Prelude.{◌≡◌, ◌<◌, ◌≤◌, [], ◌∷◌, ◌++◌, Err, OnOk, length, replicate, true};
+ghost use Rattle.std.specs.Prelude.{◌≡◌, ◌<◌, ◌≤◌, [], ◌∷◌, ◌++◌, Err, IfOk, OnOk, length, replicate, true};
 
 use crate::acting::is_act;
 use crate::column::Column;
@@ -14,7 +14,7 @@ use crate::error::PictureError;
 use crate::moment::Moment;
 use crate::span::{MAX_COLUMNS, Span};
 use cmwq_table::Machine;
-use cmwq_types::{Instr, Line, Scenario};
+use cmwq_types::{Instr, Line, NoMemory, Scenario};
 use std::alloc::Global;
 use std::marker::Model;
 
@@ -128,9 +128,7 @@ impl<'s, M: Machine> Recorder<'s, M> {
         if span.is_open() && self.columns.len() == MAX_COLUMNS {
             return Err(PictureError::TooWide);
         }
-        let view = self.machine.look()?;
-        let moment = Moment::new(alloc, self.scenario, &view)?;
-        let column = moment.column(alloc, acted)?;
+        let column = column(alloc, self.scenario, &self.machine, acted)?;
         self.columns.push(column)?;
         Ok(())
     }
@@ -151,4 +149,20 @@ impl<'s, M: Machine> Recorder<'s, M> {
         } = self;
         columns
     }
+}
+
+/// The column of the tick that has just passed on the machine.
+fn column<M: Machine>(
+    alloc: Global,
+    scenario: &Scenario,
+    machine: &M,
+    acted: bool,
+) -> Result<Column, NoMemory>
+    requires { IsSetting scenario.now }
+    ensures { IfOk result (λ column. column ≡ column_of scenario.now (M.state machine.now) acted) }
+{
+    let view = machine.look()?;
+    let moment = Moment::new(alloc, scenario, &view)?;
+    let column = moment.column(alloc, acted)?;
+    Ok(column)
 }

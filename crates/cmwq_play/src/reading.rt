@@ -5,7 +5,7 @@ ghost use Rattle.cmwq_play.specs.Texts.{IsSpelled, IsTextFault};
 ghost use Rattle.cmwq_types.specs.Contents.{ScenarioContents};
 ghost use Rattle.cmwq_types.specs.declared.limits.TheConstants.{MAX_TEXT};
 ghost use Rattle.std.specs.Io.KnownBytes.{Consumes, IsAtEnd, Keeps};
-ghost use Rattle.std.specs.Prelude.{◌≡◌, ◌≤◌, ◌+◌, ◌↔◌, ◌⊎◌, ◌≢◌, ◌++◌, Err, IfErr, IfOk, IfSome, List, Ok, OnErr, Some, false, length, true, ℕ};
+ghost use Rattle.std.specs.Prelude.{◌≡◌, ◌≤◌, ◌+◌, ◌↔◌, ◌⊎◌, ◌≢◌, ◌++◌, Err, IfErr, IfOk, IfSome, List, Ok, OnErr, OnOk, Some, [], false, length, true, ℕ};
 
 use cmwq_asm::{AsmError, assemble};
 use cmwq_streams::{PlayError, Source};
@@ -55,10 +55,27 @@ pub fn read_whole<R: Source>(alloc: Global, reader: &mut R) -> Result<Vec<u8>, P
     ensures other { IfErr result (λ error. (error ≡ PlayError.Read) ⊎ (error ≡ PlayError.NoMemory)) }
 {
     let mut text = Vec::new(alloc);
-    let mut chunk = empty_chunk();
+    read_to_end(reader, &mut empty_chunk(), &mut text)?;
+    Ok(text)
+}
+
+/// Reads all that the source has by way of the chunk: at most one byte more than a text may have.
+fn read_to_end<R: Source>(
+    reader: &mut R,
+    chunk: &mut [u8; 4096],
+    text: &mut Vec<u8>,
+) -> Result<(), PlayError>
+    requires sound { R.failed reader.old ≡ false }
+    requires empty { text.old.items ≡ [] }
+    ensures whole { OnOk result (length text.new.items ≤ MAX_TEXT → IfSome (R.remaining reader.old) (λ input. input ≡ text.new.items)) }
+    ensures bounded { OnOk result (length text.new.items ≤ MAX_TEXT + 1) }
+    ensures front { OnOk result (Consumes (R.remaining reader.old) (R.remaining reader.new) text.new.items) }
+    ensures reads { Reads (R.remaining reader.old) (R.remaining reader.new) (R.failed reader.new) result }
+    ensures other { IfErr result (λ error. (error ≡ PlayError.Read) ⊎ (error ≡ PlayError.NoMemory)) }
+{
     for _turn in 0..MAX_TEXT + 1 {
-        if read_some(reader, &mut chunk, &mut text)? == 0 || text.len() > MAX_TEXT {
-            return Ok(text);
+        if read_some(reader, chunk, text)? == 0 || text.len() > MAX_TEXT {
+            return Ok(());
         }
     }
     unreachable!()

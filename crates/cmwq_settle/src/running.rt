@@ -58,8 +58,7 @@ fn count_and_print<M: Machine, W: Sink>(
     ensures writes { Writes (IsFollowedOutput scenario) (W.contents writer.old) (W.contents writer.new) (W.failed writer.new) result }
     ensures why { IfErr result (λ error. (error ≡ PlayError.NeverQuiet) ⊎ IsSendError error) }
 {
-    let scenario = Arc::new(alloc, scenario)?;
-    let (nexts, machine) = prepared::<M>(alloc, &scenario)?;
+    let (scenario, nexts, machine) = prepared::<M>(alloc, scenario)?;
     print_followed(
         alloc,
         &scenario,
@@ -70,8 +69,25 @@ fn count_and_print<M: Machine, W: Sink>(
     )
 }
 
+/// The scenario; how many `next` are to follow its one actor's instructions, as a machine tells; and another machine at its start.
+fn prepared<M: Machine>(
+    alloc: Global,
+    scenario: Scenario,
+) -> Result<(Arc<Scenario>, Nexts, M), NoMemory>
+    requires valid { IsValid scenario }
+    requires can { CanRun scenario }
+    ensures same { IfOk result (λ r. r.0.value ≡ scenario) }
+    ensures counted { IfOk result (λ r. HasCounted scenario r.1) }
+    ensures loaded { IfOk result (λ r. M.loaded r.2 ≡ scenario) }
+    ensures start { IfOk result (λ r. M.state r.2 ≡ start scenario) }
+{
+    let scenario = Arc::new(alloc, scenario)?;
+    let (nexts, machine) = counted_on::<M>(alloc, &scenario)?;
+    Ok((scenario, nexts, machine))
+}
+
 /// How many `next` are to follow the one actor's instructions, as a machine tells, and another machine at its start.
-fn prepared<M: Machine>(alloc: Global, scenario: &Arc<Scenario>) -> Result<(Nexts, M), NoMemory>
+fn counted_on<M: Machine>(alloc: Global, scenario: &Arc<Scenario>) -> Result<(Nexts, M), NoMemory>
     requires valid { IsValid scenario.now.value }
     requires can { CanRun scenario.now.value }
     ensures counted { IfOk result (λ r. HasCounted scenario.now.value r.0) }

@@ -7,14 +7,14 @@ ghost use Rattle.cmwq_table.specs.State.{start};
 ghost use Rattle.cmwq_tell.specs.Telling.{IsTold, IsToldRun, tell_text};
 ghost use Rattle.cmwq_types.specs.Faults.{IsValid};
 ghost use Rattle.cmwq_types.specs.Scenario.{expand};
-ghost use Rattle.std.specs.Prelude.{◌≡◌, IfErr, false};
+ghost use Rattle.std.specs.Prelude.{◌≡◌, IfErr, IfOk, false};
 
 use crate::session::Session;
 use cmwq_plain::Plain;
 use cmwq_play::{judge, read_text};
 use cmwq_streams::{BlockWriter, PlayError, Sink, Source};
 use cmwq_table::Machine;
-use cmwq_types::{Actor, Scenario};
+use cmwq_types::{Actor, NoMemory, Scenario};
 use std::alloc::Global;
 use std::sync::Arc;
 
@@ -54,9 +54,20 @@ fn load_and_tell<M: Machine, W: Sink>(
     ensures writes { Writes (IsTold scenario) (W.contents writer.old) (W.contents writer.new) (W.failed writer.new) result }
     ensures why { IfErr result (λ error. IsSendError error) }
 {
+    let (scenario, machine) = loaded::<M>(alloc, scenario)?;
+    tell_actor(alloc, &scenario, &scenario.actors[0], machine, writer)
+}
+
+/// The scenario, and a new machine at its start, which shares it.
+fn loaded<M: Machine>(alloc: Global, scenario: Scenario) -> Result<(Arc<Scenario>, M), NoMemory>
+    requires { IsValid scenario }
+    ensures same { IfOk result (λ r. r.0.value ≡ scenario) }
+    ensures loaded { IfOk result (λ r. M.loaded r.1 ≡ scenario) }
+    ensures start { IfOk result (λ r. M.state r.1 ≡ start scenario) }
+{
     let scenario = Arc::new(alloc, scenario)?;
     let machine = M::begin(alloc, Arc::clone(&scenario)?)?;
-    tell_actor(alloc, &scenario, &scenario.actors[0], machine, writer)
+    Ok((scenario, machine))
 }
 
 /// Issues an actor's instructions on a machine at the scenario's start, and writes all that is told as it comes, a block at a time.

@@ -13,8 +13,9 @@ use Rattle.cmwq_reasons.specs.declared.reason.Instance.{Instance}
 use Rattle.cmwq_reasons.specs.declared.reason.Reason.{Reason}
 use Rattle.cmwq_why.proofs.AlikeLemmas.{reason_of-alike}
 use Rattle.cmwq_why.proofs.FlushAlikeLemmas.{lacks_memory-alike, lacks_thaw-alike, waits-alike}
-use Rattle.cmwq_why.proofs.TextAlikeLemmas.{causes-alike, reason_text-alike}
-use Rattle.cmwq_why.specs.Text.{name_of}
+use Rattle.cmwq_why.proofs.CausesAlikeLemmas.{causes-alike}
+use Rattle.cmwq_why_text.proofs.TextAlikeLemmas.{reason_text-alike}
+use Rattle.cmwq_why_text.specs.Text.{name_of}
 use Rattle.cmwq_waits.specs.declared.needs.Needs.{Needs}
 use Rattle.cmwq_waits.specs.Text.{flush_lines, head_text, line, line_for, lines, lines_of, needs_of, needs_text, waiting_text, waits_text}
 use Rattle.cmwq_waits.specs.Waits.{blamed, blamed_for, blamed_if_any, reached, with_blamed, with_blamed_below, with_instances}

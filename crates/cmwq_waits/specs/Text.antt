@@ -7,7 +7,7 @@ use Rattle.cmwq_table.specs.State.{State}
 use Rattle.cmwq_reasons.specs.Reasons.{lacks_memory, lacks_thaw, reason_of, waits, work_of}
 use Rattle.cmwq_reasons.specs.declared.reason.Instance.{Instance}
 use Rattle.cmwq_reasons.specs.declared.reason.Reason.{Reason}
-use Rattle.cmwq_why.specs.Text.{name_of, reason_text}
+use Rattle.cmwq_why_text.specs.Text.{name_of, reason_text}
 use Rattle.cmwq_waits.specs.Waits.{reached}
 use Rattle.cmwq_waits.specs.declared.needs.Needs.{Needs}
 

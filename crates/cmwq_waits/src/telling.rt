@@ -10,6 +10,7 @@ use crate::reaching::work_of;
 use cmwq_reasons::Instance;
 use cmwq_types::NoMemory;
 use cmwq_why::Snapshot;
+use cmwq_why_text::Wording;
 use std::alloc::Global;
 
 /// A state of which is told what flushes wait for in it.
@@ -20,6 +21,17 @@ pub(crate) struct Telling<'a> {
 }
 
 impl Telling<'_> {
+    /// How reasons are worded.
+    fn wording(&self) -> Wording<'_>
+        ensures alloc { result.alloc ≡ self.now.alloc }
+        ensures snapshot { result.snapshot.now ≡ self.now.snapshot }
+    {
+        Wording {
+            alloc: self.alloc,
+            snapshot: &self.snapshot,
+        }
+    }
+
     /// What is written of the flush of this number; `None` where none was given.
     pub(crate) fn flush_lines(&self, flush: usize) -> Result<Option<String>, NoMemory>
         ensures { IfOk result (λ text. MatchOption text (flush_lines self.now.snapshot.scenario self.now.snapshot.state flush ≡ None)
@@ -123,9 +135,9 @@ impl Telling<'_> {
             return Ok(());
         };
         text.push_str(indent)?;
-        text.push_str(self.snapshot.name(work.0))?;
+        text.push_str(self.wording().name(work.0))?;
         text.push_str(" ")?;
-        self.snapshot.push_reason(self.alloc, text, work, reason)?;
+        self.wording().push_reason(text, work, reason)?;
         text.push_str("\n")?;
         Ok(())
     }

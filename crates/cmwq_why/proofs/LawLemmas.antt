@@ -1,8 +1,8 @@
 -- States that look alike are told alike.
-use Rattle.cmwq_why.specs.Laws.{HasSameCauses, HasSameReasons, HasSameTexts, HasSameWaits, InAlikeStates}
+use Rattle.cmwq_why.specs.Laws.{HasSameCauses, HasSameReasons, HasSameWaits, InAlikeStates}
 use Rattle.cmwq_why.proofs.AlikeLemmas.{reason_of-alike}
 use Rattle.cmwq_why.proofs.FlushAlikeLemmas.{lacks_memory-alike, lacks_thaw-alike, waits-alike}
-use Rattle.cmwq_why.proofs.TextAlikeLemmas.{causes-alike, line-alike, reason_text-alike}
+use Rattle.cmwq_why.proofs.CausesAlikeLemmas.{causes-alike}
 
 pub has_same_reasons : InAlikeStates HasSameReasons
 unfolding HasSameReasons
@@ -11,10 +11,6 @@ has_same_reasons S s t h = reason_of-alike S s t h
 pub has_same_causes : InAlikeStates HasSameCauses
 unfolding HasSameCauses
 has_same_causes S s t h = causes-alike S s t h
-
-pub has_same_texts : InAlikeStates HasSameTexts
-unfolding HasSameTexts
-has_same_texts S s t h = (reason_text-alike S s t h, line-alike S s t h)
 
 pub has_same_waits : InAlikeStates HasSameWaits
 unfolding HasSameWaits

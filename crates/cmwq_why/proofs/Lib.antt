@@ -1,5 +1,4 @@
 pub mod AlikeLemmas
+pub mod CausesAlikeLemmas
 pub mod FlushAlikeLemmas
 pub mod LawLemmas
-pub mod TextAlikeLemmas
-pub mod TextLemmas

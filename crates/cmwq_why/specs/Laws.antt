@@ -7,7 +7,6 @@ use Rattle.cmwq_dump.specs.Alike.{LooksLike}
 use Rattle.cmwq_reasons.specs.declared.reason.Instance.{Instance}
 use Rattle.cmwq_reasons.specs.declared.reason.Reason.{Reason}
 use Rattle.cmwq_reasons.specs.Reasons.{causes, lacks_memory, lacks_thaw, reason_of, waits}
-use Rattle.cmwq_why.specs.Text.{reason_text, work_line}
 
 -- in any two states that look alike
 abbrev pub InAlikeStates : (ScenarioContents → State → State → Type 0) → Type 0
@@ -20,10 +19,6 @@ HasSameReasons S s t = (x : Instance) → reason_of S s x ≡ reason_of S t x
 -- each reason blames the same instances
 unfoldable pub HasSameCauses : ScenarioContents → State → State → Type 0
 HasSameCauses S s t = (w : ℕ) (why : Reason) → causes S s w why ≡ causes S t w why
-
--- each reason has the same text, and each work the same line
-unfoldable pub HasSameTexts : ScenarioContents → State → State → Type 0
-HasSameTexts S s t = ((w : ℕ) (why : Reason) → reason_text S s w why ≡ reason_text S t w why) × ((w : ℕ) → work_line S s w ≡ work_line S t w)
 
 -- each flush waits for the same instances, and each instance lacks the same
 unfoldable pub HasSameWaits : ScenarioContents → State → State → Type 0

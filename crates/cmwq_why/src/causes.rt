@@ -45,7 +45,7 @@ impl Snapshot<'_> {
     }
 
     /// The works that stand before this one on the pool's worklist.
-    pub(crate) fn listed_before(
+    pub fn listed_before(
         &self,
         alloc: Global,
         w: usize,
@@ -57,7 +57,7 @@ impl Snapshot<'_> {
     }
 
     /// The works that wait before this one in the pool for room in its queue.
-    pub(crate) fn inactive_before(
+    pub fn inactive_before(
         &self,
         alloc: Global,
         w: usize,
@@ -69,14 +69,14 @@ impl Snapshot<'_> {
     }
 
     /// The works that make up the concurrency level of a bound pool.
-    pub(crate) fn counted_works(&self, alloc: Global, pool: u8) -> Result<Vec<u16>, NoMemory>
+    pub fn counted_works(&self, alloc: Global, pool: u8) -> Result<Vec<u16>, NoMemory>
         ensures { IfOk result (λ works. works.items ≡ counted_works self.now.scenario self.now.state pool) }
     {
         self.members(alloc, Group::Counted(pool))
     }
 
     /// The active instances of the queue in the pool: those that run, are deferred, are listed.
-    pub(crate) fn holders(
+    pub fn holders(
         &self,
         alloc: Global,
         queue: u8,
@@ -96,7 +96,7 @@ impl Snapshot<'_> {
 
     /// What runs on the workers that a listed work of the queue could have in the pool: those of the pool, and the queue's
     /// rescuer.
-    pub(crate) fn on_workers(
+    pub fn on_workers(
         &self,
         alloc: Global,
         queue: u8,

@@ -1,4 +1,4 @@
-//! Why a work doesn't get on, read off what a machine shows of its state, and as text.
+//! Why a work doesn't get on, and what a flush waits for, read off what a machine shows of its state.
 #![tactic(auto)]
 
 mod causes;
@@ -6,18 +6,15 @@ mod entries;
 mod flushes;
 mod going_first;
 mod group;
-mod items;
 pub mod laws;
 mod moves;
-mod names;
 mod pending;
-mod reasons;
 mod running;
+mod settled;
 mod snapshot;
 mod sought;
 mod tally;
-mod text;
 mod workers;
 
-pub use reasons::{is_settled, work_text};
+pub use settled::is_settled;
 pub use snapshot::Snapshot;

@@ -120,7 +120,8 @@ impl<'a> Snapshot<'a> {
         view.frozen
     }
 
-    pub(crate) fn is_pressed(&self) -> bool
+    /// Whether memory is short.
+    pub fn is_pressed(&self) -> bool
         ensures { result ≡ self.now.state.pressed }
     {
         let view = self.view;
@@ -128,27 +129,29 @@ impl<'a> Snapshot<'a> {
     }
 
     /// The `max_active` that the queue has now, and 0 where there is no such queue.
-    pub(crate) fn max_of(&self, queue: u8) -> u16
+    pub fn max_of(&self, queue: u8) -> u16
         ensures { result ≡ max_at self.now.state queue }
     {
         let view = self.view;
         view.max.get(queue as usize).copied().unwrap_or(0)
     }
 
-    pub(crate) fn pending_of(&self, w: usize) -> Option<Pending>
+    /// What pends of the work, if something does.
+    pub fn pending_of(&self, w: usize) -> Option<Pending>
         ensures { result ≡ pending_at self.now.state w }
     {
         self.pending.get(w).copied().unwrap_or(None)
     }
 
-    pub(crate) fn running_of(&self, w: usize) -> Option<Running>
+    /// What runs of the work, if it runs.
+    pub fn running_of(&self, w: usize) -> Option<Running>
         ensures { result ≡ running_at self.now.state w }
     {
         self.running.get(w).copied().unwrap_or(None)
     }
 
     /// How much more often the work was disabled than enabled, and 0 where there is no such work.
-    pub(crate) fn depth_of(&self, w: usize) -> u16
+    pub fn depth_of(&self, w: usize) -> u16
         ensures { result ≡ depth_at self.now.state w }
     {
         let view = self.view;

@@ -83,7 +83,7 @@ impl Snapshot<'_> {
     }
 
     /// How many works of the queue may be active in a pool.
-    pub(crate) fn limit(&self, queue: u8) -> u16
+    pub fn limit(&self, queue: u8) -> u16
         ensures { result ≡ limit self.now.scenario self.now.state queue }
     {
         if self.is_frozen() && self.scenario().flags_of(queue).freezable {
@@ -94,7 +94,7 @@ impl Snapshot<'_> {
     }
 
     /// How many instances of the queue are active in the pool: listed, deferred or running.
-    pub(crate) fn active(&self, queue: u8, pool: u8) -> usize
+    pub fn active(&self, queue: u8, pool: u8) -> usize
         ensures { result ≡ active self.now.scenario self.now.state queue pool }
     {
         self.count(Tally::ActivePending { queue, pool })

@@ -3,7 +3,7 @@ use Rattle.std.specs.Prelude.{ℕ, List, Option}
 use Rattle.cmwq_types.specs.Contents.{ScenarioContents}
 use Rattle.cmwq_reason_examples.specs.Waiting.{at}
 use Rattle.cmwq_waits.specs.Text.{flush_lines}
-use Rattle.cmwq_why.specs.Text.{why_text}
+use Rattle.cmwq_why_text.specs.Text.{why_text}
 
 abbrev pub line : ScenarioContents → ℕ → ℕ → List ℕ
 line S position w = why_text S (at S position) w

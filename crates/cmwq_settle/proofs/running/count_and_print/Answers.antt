@@ -29,8 +29,8 @@ returns-clause-writes g c =
 
 pub print_followed-requires-clause-runs : goal.print_followed-requires-clause-runs
 print_followed-requires-clause-runs g c =
-    let S = c.in_ok-scenario.scenario.value in
-    let counted = c.in_ok-nexts.ensures.counted in
+    let S = c.args.scenario in
+    let counted = c.in_ok-scenario.ensures.counted in
     let actor = c.index.result.now in
     let at : actor ≡ slice_index_or S.actors 0 actor = search rules in
     let same : c.deref.result.now ≡ S = search rules in
@@ -39,10 +39,10 @@ print_followed-requires-clause-runs g c =
 
 pub print_followed-requires-clause-counted : goal.print_followed-requires-clause-counted
 print_followed-requires-clause-counted g c =
-    let S = c.in_ok-scenario.scenario.value in
-    let counted = c.in_ok-nexts.ensures.counted in
+    let S = c.args.scenario in
+    let counted = c.in_ok-scenario.ensures.counted in
     let actor = c.index.result.now in
     let at : actor ≡ slice_index_or S.actors 0 actor = search rules in
     let same : c.deref.result.now ≡ S = search rules in
-    subst (λ (T : ScenarioContents). IsCounted T actor c.in_ok-nexts.nexts) (sym same)
-    (subst (λ (a : ActorContents). IsCounted S a c.in_ok-nexts.nexts) (sym (first-is S.actors actor counted.0 at counted.1.alone)) counted.2)
+    subst (λ (T : ScenarioContents). IsCounted T actor c.in_ok-scenario.nexts) (sym same)
+    (subst (λ (a : ActorContents). IsCounted S a c.in_ok-scenario.nexts) (sym (first-is S.actors actor counted.0 at counted.1.alone)) counted.2)

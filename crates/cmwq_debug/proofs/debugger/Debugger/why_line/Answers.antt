@@ -1,6 +1,6 @@
 use Rattle.std.proofs.Common.{◌≡◌, rules}
 use Rattle.std.specs.Prelude.{string_bytes}
-use Rattle.cmwq_why.specs.Text.{work_line}
+use Rattle.cmwq_why_text.specs.Text.{work_line}
 use Rattle.cmwq_table.specs.View.{view_of}
 use Rattle.cmwq_debug.specs.Debugging.{state_at}
 use Rattle.cmwq_debug.proofs.ScenarioLemmas.{shown}

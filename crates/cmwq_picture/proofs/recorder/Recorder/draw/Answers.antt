@@ -1,9 +1,6 @@
 use Rattle.std.proofs.Common.{◌≡◌, List, [], ◌∷◌, ◌++◌, ap, subst, ◌∙◌}
-use Rattle.cmwq_types.specs.Contents.{ScenarioContents}
-use Rattle.cmwq_table.specs.State.{State}
 use Rattle.cmwq_picture.specs.Column.{ColumnContents, column_of}
 use Rattle.cmwq_picture.specs.Recording.{Recording, recording_of}
-use Rattle.cmwq_picture.proofs.AlikeLemmas.{column-dense}
 use Rattle.cmwq_picture.proofs.recorder.Recorder.draw.Goals as goal
 
 pub returns-clause-ok : goal.returns-clause-ok
@@ -12,11 +9,8 @@ returns-clause-ok g c =
     let S = inside.scenario.now in
     let s = g.M.Machine.state inside.machine in
     let acted = c.args.acted in
-    let moment = c.in_ok-moment.moment in
     let old = inside.columns.items in
-    let column : c.in_ok-column.column ≡ column_of S s acted =
-    c.in_ok-column.ensures ∙ ap (λ (T : ScenarioContents). column_of T moment.state acted) c.in_ok-moment.ensures.scenario
-    ∙ ap (λ (t : State). column_of S t acted) (c.in_ok-moment.ensures.state s c.in_ok-view.ensures.view) ∙ column-dense S s acted in
-    let pushed : c.push.new.self.items ≡ old ++ column_of S s acted ∷ [] = c.in_ok-push.ensures.items ∙ ap (λ (one : ColumnContents). old ++ one ∷ []) column in
+    let pushed : c.push.new.self.items ≡ old ++ column_of S s acted ∷ [] =
+    c.in_ok-push.ensures.items ∙ ap (λ (one : ColumnContents). old ++ one ∷ []) c.in_ok-column.ensures in
     subst (λ (r : Recording). recording_of S inside.span s inside.acted c.push.new.self.items ≡ record r { columns = r.columns ++ column_of r.scenario r.state acted ∷ [] })
     c.self.view_is (ap (recording_of S inside.span s inside.acted) pushed)

@@ -1,7 +1,0 @@
-use Rattle.std.proofs.Common.{◌≡◌, ◌++◌, string_bytes, take}
-use Rattle.std.specs.List.{flat_map}
-use Rattle.cmwq_why.specs.Text.{spaced_name}
-use Rattle.cmwq_why.proofs.snapshot.Snapshot.push_names.Given as goal
-
-abbrev pub invariant-loop-w : goal.invariant-loop-w
-invariant-loop-w l = string_bytes l.text ≡ string_bytes l.fn.text ++ flat_map (spaced_name l.self.scenario) (take l.w-index l.works)

@@ -1,0 +1,3 @@
+pub mod LawLemmas
+pub mod TextAlikeLemmas
+pub mod TextLemmas

@@ -1,0 +1,121 @@
+//! What the instances do that a reason names, as text.
+ghost use Rattle.cmwq_why_text.specs.Text.{ahead_text, item, items, later_item, mode_text, place_text, rescuer_text, run_text, spaced_name};
+ghost use Rattle.std.specs.List.{flat_map};
+ghost use Rattle.std.specs.Prelude.{◌≡◌, ◌++◌, OnOk, string_bytes};
+
+use crate::wording::Wording;
+use cmwq_reasons::Instance;
+use cmwq_table::{Pending, Running};
+use cmwq_types::{Mode, NoMemory, RESCUER};
+
+impl Wording<'_> {
+    /// Writes the instances, the first behind a colon and each other one behind a comma; nothing where there are none.
+    pub(crate) fn push_items(
+        &self,
+        text: &mut String,
+        instances: &[Instance],
+    ) -> Result<(), NoMemory>
+        ensures { OnOk result (string_bytes text.new ≡ string_bytes text.old ++ items self.now.snapshot.now.scenario self.now.snapshot.now.state instances.now) }
+    {
+        let Some((first, later)) = instances.split_first() else {
+            return Ok(());
+        };
+        text.push_str(": ")?;
+        self.push_item(text, *first)?;
+        self.push_later_items(text, later)
+    }
+
+    fn push_later_items(&self, text: &mut String, instances: &[Instance]) -> Result<(), NoMemory>
+        ensures { OnOk result (string_bytes text.new ≡ string_bytes text.old ++ flat_map (later_item self.now.snapshot.now.scenario self.now.snapshot.now.state) instances.now) }
+    {
+        for instance in instances {
+            text.push_str(", ")?;
+            self.push_item(text, *instance)?;
+        }
+        Ok(())
+    }
+
+    fn push_item(&self, text: &mut String, instance: Instance) -> Result<(), NoMemory>
+        ensures { OnOk result (string_bytes text.new ≡ string_bytes text.old ++ item self.now.snapshot.now.scenario self.now.snapshot.now.state instance) }
+    {
+        text.push_str(self.instance_name(instance))?;
+        match instance {
+            Instance::Pending(w) => push_place(text, self.snapshot.pending_of(w.0 as usize)),
+            Instance::Running(w) => push_run(text, self.snapshot.running_of(w.0 as usize)),
+        }
+    }
+
+    /// Writes who stands before a work, behind a space; nothing where nobody does.
+    pub(crate) fn push_ahead(&self, text: &mut String, works: &[u16]) -> Result<(), NoMemory>
+        ensures { OnOk result (string_bytes text.new ≡ string_bytes text.old ++ ahead_text self.now.snapshot.now.scenario works.now) }
+    {
+        let Some((first, later)) = works.split_first() else {
+            return Ok(());
+        };
+        text.push_str(" ahead")?;
+        self.push_spaced_name(text, *first)?;
+        self.push_names(text, later)
+    }
+
+    /// Writes the name of each work, behind a space.
+    pub(crate) fn push_names(&self, text: &mut String, works: &[u16]) -> Result<(), NoMemory>
+        ensures { OnOk result (string_bytes text.new ≡ string_bytes text.old ++ flat_map (spaced_name self.now.snapshot.now.scenario) works.now) }
+    {
+        for w in works {
+            self.push_spaced_name(text, *w)?;
+        }
+        Ok(())
+    }
+
+    fn push_spaced_name(&self, text: &mut String, w: u16) -> Result<(), NoMemory>
+        ensures { OnOk result (string_bytes text.new ≡ string_bytes text.old ++ spaced_name self.now.snapshot.now.scenario w) }
+    {
+        text.push_str(" ")?;
+        text.push_str(self.name(w))?;
+        Ok(())
+    }
+}
+
+/// Writes where a pending instance is that takes up a place of its queue.
+fn push_place(text: &mut String, pending: Option<Pending>) -> Result<(), NoMemory>
+    ensures { OnOk result (string_bytes text.new ≡ string_bytes text.old ++ place_text pending) }
+{
+    if let Some(p) = pending {
+        text.push_str(if p.place.is_deferred() {
+            " deferred"
+        } else {
+            " listed"
+        })?;
+    }
+    Ok(())
+}
+
+/// Writes how an instance runs.
+fn push_run(text: &mut String, running: Option<Running>) -> Result<(), NoMemory>
+    ensures { OnOk result (string_bytes text.new ≡ string_bytes text.old ++ run_text running) }
+{
+    if let Some(r) = running {
+        push_mode(text, r.mode)?;
+        push_rescuer(text, r.worker)?;
+    }
+    Ok(())
+}
+
+fn push_mode(text: &mut String, mode: Mode) -> Result<(), NoMemory>
+    ensures { OnOk result (string_bytes text.new ≡ string_bytes text.old ++ mode_text mode) }
+{
+    match mode {
+        Mode::Runnable => text.push_str(" runs")?,
+        Mode::Asleep(until) => write!(text, " asleep until {until}")?,
+    }
+    Ok(())
+}
+
+fn push_rescuer(text: &mut String, worker: u8) -> Result<(), NoMemory>
+    ensures { OnOk result (string_bytes text.new ≡ string_bytes text.old ++ rescuer_text worker) }
+{
+    if worker == RESCUER {
+        text.push_str(" on rescuer")?;
+    }
+    Ok(())
+}

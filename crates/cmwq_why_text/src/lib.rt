@@ -1,0 +1,12 @@
+//! Why a work doesn't get on, as text.
+#![tactic(auto)]
+
+mod items;
+pub mod laws;
+mod line;
+mod names;
+mod text;
+mod wording;
+
+pub use line::work_text;
+pub use wording::Wording;
