@@ -45,24 +45,14 @@ impl Snapshot<'_> {
     }
 
     /// The works that stand before this one on the pool's worklist.
-    pub fn listed_before(
-        &self,
-        alloc: Global,
-        w: usize,
-        pool: u8,
-    ) -> Result<Vec<u16>, NoMemory>
+    pub fn listed_before(&self, alloc: Global, w: usize, pool: u8) -> Result<Vec<u16>, NoMemory>
         ensures { IfOk result (λ works. works.items ≡ ahead self.now.scenario self.now.state w (place.Listed pool)) }
     {
         self.members(alloc, Group::ListedBefore { pool, work: w })
     }
 
     /// The works that wait before this one in the pool for room in its queue.
-    pub fn inactive_before(
-        &self,
-        alloc: Global,
-        w: usize,
-        pool: u8,
-    ) -> Result<Vec<u16>, NoMemory>
+    pub fn inactive_before(&self, alloc: Global, w: usize, pool: u8) -> Result<Vec<u16>, NoMemory>
         ensures { IfOk result (λ works. works.items ≡ ahead self.now.scenario self.now.state w (place.Inactive pool)) }
     {
         self.members(alloc, Group::InactiveBefore { pool, work: w })
@@ -76,12 +66,7 @@ impl Snapshot<'_> {
     }
 
     /// The active instances of the queue in the pool: those that run, are deferred, are listed.
-    pub fn holders(
-        &self,
-        alloc: Global,
-        queue: u8,
-        pool: u8,
-    ) -> Result<Vec<Instance>, NoMemory>
+    pub fn holders(&self, alloc: Global, queue: u8, pool: u8) -> Result<Vec<Instance>, NoMemory>
         ensures { IfOk result (λ instances. instances.items ≡ holders self.now.scenario self.now.state queue pool) }
     {
         let running = self.members(alloc, Group::RunningOf { queue, pool })?;
@@ -96,12 +81,7 @@ impl Snapshot<'_> {
 
     /// What runs on the workers that a listed work of the queue could have in the pool: those of the pool, and the queue's
     /// rescuer.
-    pub fn on_workers(
-        &self,
-        alloc: Global,
-        queue: u8,
-        pool: u8,
-    ) -> Result<Vec<Instance>, NoMemory>
+    pub fn on_workers(&self, alloc: Global, queue: u8, pool: u8) -> Result<Vec<Instance>, NoMemory>
         ensures { IfOk result (λ running. running.items ≡ map running_half (works_on_workers self.now.scenario self.now.state queue pool)) }
     {
         let own = self.members(alloc, Group::OnWorkers(pool))?;

@@ -39,7 +39,9 @@ impl Wording<'_> {
     fn push_beside_run(&self, text: &mut String, w: WorkId) -> Result<(), NoMemory>
         ensures { OnOk result (string_bytes text.new ≡ string_bytes text.old ++ beside_run self.now.snapshot.now.scenario self.now.snapshot.now.state w.0) }
     {
-        if self.snapshot.pending_of(w.0 as usize).is_none() && self.snapshot.depth_of(w.0 as usize) == 0 {
+        if self.snapshot.pending_of(w.0 as usize).is_none()
+            && self.snapshot.depth_of(w.0 as usize) == 0
+        {
             return Ok(());
         }
         text.push_str("; ")?;
@@ -63,12 +65,7 @@ impl Wording<'_> {
 
     /// Appends the text of the reason, which is one of the work's. The only error is want of memory; then a part of it may be
     /// appended.
-    pub fn push_reason(
-        &self,
-        text: &mut String,
-        w: WorkId,
-        reason: Reason,
-    ) -> Result<(), NoMemory>
+    pub fn push_reason(&self, text: &mut String, w: WorkId, reason: Reason) -> Result<(), NoMemory>
         ensures { OnOk result (string_bytes text.new ≡ string_bytes text.old ++ reason_text self.now.snapshot.now.scenario self.now.snapshot.now.state w.0 reason) }
     {
         match reason {
@@ -140,12 +137,7 @@ impl Wording<'_> {
     }
 
     /// Writes that the work is on the pool's worklist, and behind whom.
-    fn push_listed(
-        &self,
-        text: &mut String,
-        w: WorkId,
-        pool: u8,
-    ) -> Result<(), NoMemory>
+    fn push_listed(&self, text: &mut String, w: WorkId, pool: u8) -> Result<(), NoMemory>
         ensures { OnOk result (string_bytes text.new ≡ string_bytes text.old ++ listed_text self.now.snapshot.now.scenario self.now.snapshot.now.state w.0 pool) }
     {
         let before = self.snapshot.listed_before(self.alloc, w.0 as usize, pool)?;
@@ -156,15 +148,12 @@ impl Wording<'_> {
     }
 
     /// Writes that the work waits in the pool for room in its queue, behind whom, and the queue's name.
-    fn push_inactive(
-        &self,
-        text: &mut String,
-        w: WorkId,
-        pool: u8,
-    ) -> Result<(), NoMemory>
+    fn push_inactive(&self, text: &mut String, w: WorkId, pool: u8) -> Result<(), NoMemory>
         ensures { OnOk result (string_bytes text.new ≡ string_bytes text.old ++ inactive_text self.now.snapshot.now.scenario self.now.snapshot.now.state w.0 pool) }
     {
-        let before = self.snapshot.inactive_before(self.alloc, w.0 as usize, pool)?;
+        let before = self
+            .snapshot
+            .inactive_before(self.alloc, w.0 as usize, pool)?;
         write!(text, "inactive {pool}")?;
         self.push_ahead(text, &before)?;
         text.push_str(": ")?;
@@ -173,12 +162,7 @@ impl Wording<'_> {
     }
 
     /// Writes how much of its queue's limit is taken up in the pool, and by whom.
-    fn push_room(
-        &self,
-        text: &mut String,
-        w: WorkId,
-        pool: u8,
-    ) -> Result<(), NoMemory>
+    fn push_room(&self, text: &mut String, w: WorkId, pool: u8) -> Result<(), NoMemory>
         ensures { OnOk result (string_bytes text.new ≡ string_bytes text.old ++ room_text self.now.snapshot.now.scenario self.now.snapshot.now.state (queue_of self.now.snapshot.now.scenario w.0) pool) }
     {
         let queue = self.snapshot.scenario().queue_of(w.0 as usize);
@@ -190,12 +174,7 @@ impl Wording<'_> {
     }
 
     /// Writes that the work is held by the pool's concurrency level, and who makes it up.
-    fn push_held(
-        &self,
-        text: &mut String,
-        w: WorkId,
-        pool: u8,
-    ) -> Result<(), NoMemory>
+    fn push_held(&self, text: &mut String, w: WorkId, pool: u8) -> Result<(), NoMemory>
         ensures { OnOk result (string_bytes text.new ≡ string_bytes text.old ++ listed_text self.now.snapshot.now.scenario self.now.snapshot.now.state w.0 pool ++ codes "held by" ++ flat_map (spaced_name self.now.snapshot.now.scenario) (counted_works self.now.snapshot.now.scenario self.now.snapshot.now.state pool)) }
     {
         let counted = self.snapshot.counted_works(self.alloc, pool)?;
@@ -205,12 +184,7 @@ impl Wording<'_> {
     }
 
     /// Writes that there is no free worker for the work, and who has those that there are.
-    fn push_no_worker(
-        &self,
-        text: &mut String,
-        w: WorkId,
-        pool: u8,
-    ) -> Result<(), NoMemory>
+    fn push_no_worker(&self, text: &mut String, w: WorkId, pool: u8) -> Result<(), NoMemory>
         ensures { OnOk result (string_bytes text.new ≡ string_bytes text.old ++ listed_text self.now.snapshot.now.scenario self.now.snapshot.now.state w.0 pool ++ worker_words self.now.snapshot.now.state ++ items self.now.snapshot.now.scenario self.now.snapshot.now.state (map running_half (works_on_workers self.now.snapshot.now.scenario self.now.snapshot.now.state (queue_of self.now.snapshot.now.scenario w.0) pool))) }
     {
         let queue = self.snapshot.scenario().queue_of(w.0 as usize);
