@@ -1,7 +1,8 @@
 //! The program `cmwq`: words in, status out.
 #![tactic(auto)]
 
-use cmwq_command::{Look, carry_out, fault, tell};
+use cmwq_command::carry_out;
+use cmwq_outcome::{Look, fault, tell};
 use cmwq_play::{Marked, PlayError};
 use cmwq_words::request;
 use std::io::IsTerminal;

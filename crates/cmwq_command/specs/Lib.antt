@@ -1,5 +1,1 @@
 pub mod Asking
-pub mod Checking
-pub mod Fault
-pub mod Starting
-pub mod Telling

@@ -1,21 +1,18 @@
 //! What the words ask for, carried out on files.
 ghost use Rattle.cmwq_types.specs.Faults.{IsValid};
 ghost use Rattle.clap.specs.Words.{Text};
-ghost use Rattle.cmwq_command.specs.Telling.{Prints};
+ghost use Rattle.cmwq_outcome.specs.Telling.{Prints};
 ghost use Rattle.cmwq_command_line.specs.CommandLine.{version_line};
 ghost use Rattle.cmwq_words.specs.Request.{IsCapacity, IsVersionWord, IsWithin};
-ghost use Rattle.cmwq_command.specs.declared.telling.TheConstants.{GOOD};
+ghost use Rattle.cmwq_outcome.specs.declared.telling.TheConstants.{GOOD};
 ghost use Rattle.std.specs.Prelude.{◌≡◌, ◌∷◌, [], Err, IfOk, MatchResult, Ok, OnOk, false, map, string_bytes};
 
 use crate::asking::{looks_of, question_of};
-use crate::checking::{Judged, check_text, tell_unread};
-use crate::starting::{write_first, write_version};
-use crate::telling::{GOOD, tell};
 use cmwq_draw::{Drawing, Span};
+use cmwq_outcome::{GOOD, Judged, Look, check_text, tell, tell_unread, write_first, write_version};
 use cmwq_play::{Marked, OpenGate, PlayError, Sink};
 use cmwq_settle::{run_settled, settle_text};
 use cmwq_tell::run_told;
-use cmwq_verdict::Look;
 use cmwq_words::asking::{Positions, Subject};
 use cmwq_words::drawing::DrawOptions;
 use cmwq_words::request::{Request, RunKind, parse};
@@ -301,7 +298,7 @@ fn debug<R: Files + AllocGlobal, I: Read + Drop, W: Sink>(
     let mut reader = opened(rt, file)?;
     let scenario = cmwq_play::read_text(rt.alloc(), &mut reader)?;
     let mut commands = Marked::new(input);
-    cmwq_play::debug(rt.alloc(), &scenario, &mut commands, writer)
+    cmwq_talk::debug(rt.alloc(), &scenario, &mut commands, writer)
 }
 
 /// Carries out all actors of the scenario whose text is in the file at once, and writes the text that is left.

@@ -3,5 +3,3 @@ pub mod SessionLemmas
 pub mod TextLemmas
 pub mod CommandLemmas
 pub mod ImageLemmas
-pub mod ToldLemmas
-pub mod TalkLemmas

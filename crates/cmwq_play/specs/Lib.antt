@@ -3,4 +3,3 @@ pub mod Images
 pub mod Runs
 pub mod Session
 pub mod Texts
-pub mod Told

@@ -1,7 +1,6 @@
 //! The commands of the program as functions over readers and writers.
 #![tactic(auto)]
 
-mod debugging;
 mod images;
 pub mod laws;
 mod listing;
@@ -12,8 +11,7 @@ mod session;
 pub use cmwq_actors::{Gate, OpenGate};
 pub use cmwq_played::play;
 pub use cmwq_streams::{BlockWriter, Marked, PlayError, Sink, Source, put_all};
-pub use debugging::debug;
 pub use images::{from_image, to_image};
 pub use listing::{list_text, write_listing};
-pub use reading::{read_text, read_whole};
+pub use reading::{empty_chunk, read_some, read_text, read_whole};
 pub use running::{judge, print_actor, run};

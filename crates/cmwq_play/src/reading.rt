@@ -81,8 +81,11 @@ fn read_to_end<R: Source>(
     unreachable!()
 }
 
-/// Reads some bytes more by way of the chunk, and says how many: none only at the end.
-pub(crate) fn read_some<R: Source>(
+/// Reads some bytes more behind the text by way of the chunk, and says how many: none only at the end. The text has at most 4,194,304
+/// bytes before, and one more behind that at most.
+///
+/// The error is `Read` exactly where the source failed, and else `NoMemory`; the text is then as it was.
+pub fn read_some<R: Source>(
     reader: &mut R,
     chunk: &mut [u8; 4096],
     text: &mut Vec<u8>,
@@ -111,6 +114,6 @@ pub(crate) fn read_some<R: Source>(
 }
 
 /// Room for what one read gives. To clear it takes about as long as to read it, so a long text is read by one.
-pub(crate) fn empty_chunk() -> [u8; 4096] {
+pub fn empty_chunk() -> [u8; 4096] {
     [0u8; 4096]
 }

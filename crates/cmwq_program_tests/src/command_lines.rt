@@ -1,8 +1,9 @@
 //! Command lines: the requests that they are, and help and usage faults.
 use crate::checking::same;
 use clap::error::ErrorKind;
-use cmwq_command::{Look, carry_out, tell};
+use cmwq_command::carry_out;
 use cmwq_machine_tests::streams::{Output, reading_of, writing_to};
+use cmwq_outcome::{Look, tell};
 use cmwq_play::Marked;
 use cmwq_words::asking::{Positions, Subject};
 use cmwq_words::drawing::DrawOptions;

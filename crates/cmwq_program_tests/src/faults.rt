@@ -1,10 +1,10 @@
 //! The exit status and the line of each kind of fault.
 use crate::checking::same;
 use cmwq_asm::AsmError;
-use cmwq_command::fault::end;
 use cmwq_grammar::Why;
 use cmwq_image::ImageError;
 use cmwq_machine_tests::streams::{Output, writing_to};
+use cmwq_outcome::fault::end;
 use cmwq_play::{Marked, PlayError};
 use cmwq_types::Fault;
 use std::alloc::Global;

@@ -3,12 +3,13 @@ ghost use Rattle.cmwq_words.specs.Request.{IsWithin};
 
 use crate::checking::same;
 use cmwq_asm::AsmError;
-use cmwq_command::{Look, answer};
+use cmwq_command::answer;
 use cmwq_first::first_text;
 use cmwq_grammar::Why;
 use cmwq_image::ImageError;
 use cmwq_machine_tests::examples::{IMAGE_OF_STEPS_RUN_OUT as IMAGE, STEPS_RUN_OUT};
 use cmwq_machine_tests::streams::reading_of;
+use cmwq_outcome::Look;
 use cmwq_play::{Marked, PlayError};
 use cmwq_types::Fault;
 use cmwq_words::asking::{Positions, Subject};

@@ -5,8 +5,9 @@ use cmwq_draw::{Drawing, Span, draw};
 use cmwq_explain::{Looks, Question, why};
 use cmwq_machine_tests::examples::MAX_ACTIVE_3;
 use cmwq_machine_tests::streams::{Input, Output, reading_of};
-use cmwq_play::{Marked, PlayError, debug, from_image, list_text, read_text, run, to_image};
+use cmwq_play::{Marked, PlayError, from_image, list_text, read_text, run, to_image};
 use cmwq_settle::{run_settled, settle_text};
+use cmwq_talk::debug;
 use cmwq_tell::run_told;
 use std::alloc::Global;
 

@@ -2,8 +2,8 @@ use Rattle.std.proofs.Common.{List, OnErr, OnOk, arith, length, subst, sym, ℕ,
 use Rattle.std.proofs.lemmas.Grind.{common_steps}
 use Rattle.std.specs.Io.KnownBytes.{Appends}
 use Rattle.cmwq_streams.specs.Sending.{HasSentFront}
-use Rattle.cmwq_play.proofs.ToldLemmas.{last_said}
-use Rattle.cmwq_play.proofs.debugging.answer_rest.Goals as goal
+use Rattle.cmwq_talk.proofs.ToldLemmas.{last_said}
+use Rattle.cmwq_talk.proofs.debugging.answer_rest.Goals as goal
 
 pub returns-clause-ok : goal.returns-clause-ok
 returns-clause-ok g c =

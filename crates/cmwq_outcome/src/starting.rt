@@ -1,6 +1,6 @@
 //! What is written without a file: the scenario that a newcomer starts from, and the program's version.
 
-ghost use Rattle.cmwq_command.specs.Starting.{HasWrittenFirst};
+ghost use Rattle.cmwq_outcome.specs.Starting.{HasWrittenFirst};
 ghost use Rattle.cmwq_streams.specs.Sending.{IsSendError};
 ghost use Rattle.cmwq_command_line.specs.CommandLine.{version_line};
 ghost use Rattle.std.specs.Io.KnownBytes.{Appends};
@@ -8,7 +8,7 @@ ghost use Rattle.std.specs.Prelude.{◌≡◌, ◌↔◌, Err, IfErr, OnOk, fals
 
 use cmwq_command_line::help::VERSION;
 use cmwq_first::first_text;
-use cmwq_play::{PlayError, Sink, put_all};
+use cmwq_streams::{PlayError, Sink, put_all};
 use std::alloc::Global;
 
 /// Writes the text of a scenario to start from. It fails only where the writer does.

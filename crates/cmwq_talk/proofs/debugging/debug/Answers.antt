@@ -6,9 +6,9 @@ use Rattle.cmwq_grammar.specs.Cutting.{lines_of}
 use Rattle.cmwq_debug.specs.Debugging.{Session}
 use Rattle.cmwq_debug_lines.specs.Talk.{lines_said}
 use Rattle.cmwq_streams.specs.Sending.{HasSentFront}
-use Rattle.cmwq_play.specs.Told.{HasAnswered}
-use Rattle.cmwq_play.proofs.ToldLemmas.{opened_is}
-use Rattle.cmwq_play.proofs.debugging.debug.Goals as goal
+use Rattle.cmwq_talk.specs.Told.{HasAnswered}
+use Rattle.cmwq_talk.proofs.ToldLemmas.{opened_is}
+use Rattle.cmwq_talk.proofs.debugging.debug.Goals as goal
 
 pub returns-clause-told : goal.returns-clause-told
 returns-clause-told g c =

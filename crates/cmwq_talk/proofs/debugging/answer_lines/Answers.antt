@@ -1,9 +1,9 @@
 use Rattle.std.proofs.Common.{◌+◌, ◌-◌, ◌∷◌, ◌++◌, List, ℕ, arith, drop, length, rules, subst, take}
 use Rattle.std.proofs.lemmas.List.{take_rest}
 use Rattle.std.proofs.lemmas.Result.{err_from_is_err_and}
-use Rattle.cmwq_play.specs.Told.{ToldFront}
-use Rattle.cmwq_play.proofs.ToldLemmas.{front_line, line_within, told_step, told_then_front}
-use Rattle.cmwq_play.proofs.debugging.answer_lines.Goals as goal
+use Rattle.cmwq_talk.specs.Told.{ToldFront}
+use Rattle.cmwq_talk.proofs.ToldLemmas.{front_line, line_within, told_step, told_then_front}
+use Rattle.cmwq_talk.proofs.debugging.answer_lines.Goals as goal
 
 pub returns-in_err-answer_line-clause-front : goal.returns-in_err-answer_line-clause-front
 returns-in_err-answer_line-clause-front g c =

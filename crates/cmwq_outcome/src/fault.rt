@@ -1,6 +1,6 @@
 //! How the program ends: its exit status, and the line that tells a fault on standard error.
 
-ghost use Rattle.cmwq_command.specs.Fault.{line_of, status_of, told};
+ghost use Rattle.cmwq_outcome.specs.Fault.{line_of, status_of, told};
 ghost use Rattle.cmwq_verdict.specs.Names.{fault_name, why_name};
 ghost use Rattle.cmwq_streams.specs.Sending.{HasSentFront};
 ghost use Rattle.std.specs.Fmt.{decimal};
@@ -12,7 +12,7 @@ use arrayvec::ArrayString;
 use cmwq_asm::AsmError;
 use cmwq_grammar::Why;
 use cmwq_image::ImageError;
-use cmwq_play::{PlayError, Sink, put_all};
+use cmwq_streams::{PlayError, Sink, put_all};
 use cmwq_types::Fault;
 use cmwq_verdict::{fault_name, why_name};
 use itoa::Buffer;

@@ -1,6 +1,6 @@
 use Rattle.std.proofs.Common.{◌≡◌, ◌-◌, ◌≤◌, false, length, take}
-use Rattle.cmwq_play.specs.Told.{Told}
-use Rattle.cmwq_play.proofs.debugging.answer_lines.Given as goal
+use Rattle.cmwq_talk.specs.Told.{Told}
+use Rattle.cmwq_talk.proofs.debugging.answer_lines.Given as goal
 
 -- the lines so far were answered
 abbrev pub invariant-loop-len : goal.invariant-loop-len

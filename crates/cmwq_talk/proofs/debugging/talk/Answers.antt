@@ -2,9 +2,9 @@ use Rattle.std.proofs.Common.{◌≡◌, ◌<◌, ◌≤◌, ◌+◌, ◌-◌, �
 use Rattle.std.proofs.lemmas.Grind.{common_steps}
 use Rattle.std.proofs.lemmas.Result.{err_from_is_err_and}
 use Rattle.cmwq_types.specs.declared.limits.TheConstants.{MAX_TEXT}
-use Rattle.cmwq_play.proofs.TalkLemmas.{talks_cut_short, talks_to_the_end, talks_too_long, talks_unheard}
-use Rattle.cmwq_play.proofs.ToldLemmas.{answered_more, lent_is, reads_more}
-use Rattle.cmwq_play.proofs.debugging.talk.Goals as goal
+use Rattle.cmwq_talk.proofs.TalkLemmas.{talks_cut_short, talks_to_the_end, talks_too_long, talks_unheard}
+use Rattle.cmwq_talk.proofs.ToldLemmas.{answered_more, lent_is, reads_more}
+use Rattle.cmwq_talk.proofs.debugging.talk.Goals as goal
 
 pub returns-in_err-read_some : goal.returns-in_err-read_some
 returns-in_err-read_some g c =

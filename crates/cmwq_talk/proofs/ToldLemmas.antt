@@ -17,7 +17,7 @@ use Rattle.cmwq_play.specs.Commands.{Reads}
 use Rattle.cmwq_streams.specs.Sending.{HasSentFront}
 use Rattle.cmwq_streams.specs.declared.error.PlayError.{PlayError}
 use Rattle.cmwq_streams.specs.declared.error.PlayError.TheVariants.{Read}
-use Rattle.cmwq_play.specs.Told.{HasNoLine, IsAnswered, Told, ToldFront}
+use Rattle.cmwq_talk.specs.Told.{HasNoLine, IsAnswered, Told, ToldFront}
 use Rattle.cmwq_streams.proofs.CallerLemmas.{appends_both, appends_none, front_of_more}
 
 -- Cutting off a line.

@@ -3,7 +3,7 @@ ghost use Rattle.cmwq_debug_lines.specs.Talk.{line_said, lines_said};
 ghost use Rattle.cmwq_grammar.specs.Cutting.{lines_of};
 ghost use Rattle.cmwq_streams.specs.Sending.{HasSentFront, IsSendError};
 ghost use Rattle.cmwq_play.specs.Commands.{Reads};
-ghost use Rattle.cmwq_play.specs.Told.{HasNoLine, IsFrontTold, IsTalkError, IsTalked, IsTold, Talks, Told, ToldFront};
+ghost use Rattle.cmwq_talk.specs.Told.{HasNoLine, IsFrontTold, IsTalkError, IsTalked, IsTold, Talks, Told, ToldFront};
 ghost use Rattle.cmwq_play.specs.Runs.{CanRun, IsRefused, IsRunOf};
 ghost use Rattle.cmwq_debug.specs.Debugging.{opened};
 ghost use Rattle.cmwq_types.specs.Faults.{IsValid};
@@ -12,11 +12,10 @@ ghost use Rattle.cmwq_types.specs.declared.limits.TheConstants.{MAX_TEXT, MAX_WO
 ghost use Rattle.std.specs.Io.KnownBytes.{Appends, Consumes, IsAtEnd, Keeps};
 ghost use Rattle.std.specs.Prelude.{◌≡◌, ◌<◌, ◌≤◌, ◌+◌, ◌↔◌, ◌⊎◌, ◌++◌, Err, IfErr, IfOk, IfSome, List, Ok, OnErr, OnOk, drop, false, length, replicate, take, true, ℕ};
 
-use crate::reading::{empty_chunk, read_some};
-use crate::running::judge;
 use cmwq_debug::Debugger;
 use cmwq_debug_lines::{answer, line_length};
 use cmwq_plain::Plain;
+use cmwq_play::{empty_chunk, judge, read_some};
 use cmwq_streams::{PlayError, Sink, Source, put_all};
 use cmwq_table::{LoadError, Machine};
 use cmwq_types::{Actor, Instr, Line, MAX_TEXT, NoMemory, Scenario};

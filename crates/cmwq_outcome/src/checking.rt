@@ -1,12 +1,13 @@
 //! The verdict of a file's text, told.
 
-ghost use Rattle.cmwq_command.specs.Checking.{HasTold, HasToldOf, IsToldOfUnread, status_of_judged};
+ghost use Rattle.cmwq_outcome.specs.Checking.{HasTold, HasToldOf, IsToldOfUnread, status_of_judged};
 ghost use Rattle.cmwq_streams.specs.Sending.{IsSendError};
 ghost use Rattle.cmwq_verdict.specs.Verdicts.{ok_line};
 ghost use Rattle.std.specs.Io.KnownBytes.{Appends};
 ghost use Rattle.std.specs.Prelude.{◌≡◌, IfErr, IfOk, OnOk, false};
 
-use cmwq_play::{PlayError, Sink, Source, put_all, read_whole};
+use cmwq_play::read_whole;
+use cmwq_streams::{PlayError, Sink, Source, put_all};
 use cmwq_verdict::{Look, ok_line, read_line, verdict};
 use std::alloc::Global;
 
@@ -100,12 +101,8 @@ fn tell_good<O: Sink>(alloc: Global, file: &str, output: &mut O) -> Result<Judge
     Ok(Judged::Good)
 }
 
-/// Tells that the file can't be read. The error is `Write` or `NoMemory`.
-pub(crate) fn tell_unread<E: Sink>(
-    alloc: Global,
-    file: &str,
-    errors: &mut E,
-) -> Result<Judged, PlayError>
+/// Tells on the writer for faults that the file can't be read, as `FILE: read`. The error is `Write` or `NoMemory`.
+pub fn tell_unread<E: Sink>(alloc: Global, file: &str, errors: &mut E) -> Result<Judged, PlayError>
     requires { E.failed errors.old ≡ false }
     ensures told { IfOk result (λ judged. IsToldOfUnread file.now (E.contents errors.old) (E.contents errors.new) judged) }
     ensures errors { OnOk result (E.failed errors.new ≡ false) }

@@ -11,9 +11,9 @@ use Rattle.cmwq_streams.specs.Sending.{HasSentFront, IsSendError}
 use Rattle.cmwq_streams.specs.declared.error.PlayError.{PlayError}
 use Rattle.cmwq_streams.specs.declared.error.PlayError.TheVariants.{Read, Write, TooLong, NoMemory}
 use Rattle.cmwq_play.specs.Commands.{Reads}
-use Rattle.cmwq_play.specs.Told.{IsAnswered, IsTalkError, Talks, ToldFront}
+use Rattle.cmwq_talk.specs.Told.{IsAnswered, IsTalkError, Talks, ToldFront}
 use Rattle.cmwq_play.proofs.CommandLemmas.{err_is, reads_err, reads_ok, sending_no_read}
-use Rattle.cmwq_play.proofs.ToldLemmas.{consumes_more, front_more_heard, front_so_far, front_whole, long_known, told_whole}
+use Rattle.cmwq_talk.proofs.ToldLemmas.{consumes_more, front_more_heard, front_so_far, front_whole, long_known, told_whole}
 
 consumes_kept : (input mid left : Option (List ℕ)) (text : List ℕ) → Consumes input mid text → Keeps mid left → Consumes input left text
 consumes_kept None mid left text heard kept = tt

@@ -1,11 +1,11 @@
 //! How help, the version and usage faults are told.
 
-ghost use Rattle.cmwq_command.specs.Telling.{is_asked_for, status_of_kind};
+ghost use Rattle.cmwq_outcome.specs.Telling.{is_asked_for, status_of_kind};
 ghost use Rattle.std.specs.Io.KnownBytes.{Appends};
 ghost use Rattle.std.specs.Prelude.{◌≡◌, ◌↔◌, Err, IfOk, IfSome, OnErr, OnOk, ◌⊎◌, false, true};
 
 use clap::error::ErrorKind;
-use cmwq_play::{PlayError, Sink, put_all};
+use cmwq_streams::{PlayError, Sink, put_all};
 use std::alloc::Global;
 use std::fmt::Display;
 

@@ -1,6 +1,6 @@
 use Rattle.std.proofs.Common.{◌≡◌, ◌≤◌, false, length}
-use Rattle.cmwq_play.specs.Told.{IsAnswered}
-use Rattle.cmwq_play.proofs.debugging.talk.Given as goal
+use Rattle.cmwq_talk.specs.Told.{IsAnswered}
+use Rattle.cmwq_talk.proofs.debugging.talk.Given as goal
 
 -- what was heard has been answered, and at least a byte was heard a turn
 abbrev pub invariant-loop-turn : goal.invariant-loop-turn

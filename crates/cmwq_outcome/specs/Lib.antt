@@ -1,0 +1,4 @@
+pub mod Checking
+pub mod Fault
+pub mod Starting
+pub mod Telling
