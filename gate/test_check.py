@@ -64,6 +64,17 @@ def copied(skipped):
         return [os.path.relpath(it, copy) for it in check.files_of(copy)]
 
 
+def layout(said, status=0):
+    """What `layout.py` finds in two crates where `rt fmt` says this and ends so."""
+    with tempfile.TemporaryDirectory() as room:
+        made(room)
+        write(room, "bin/rt", f"#!/bin/sh\necho '{said}'\nexit {status}\n")
+        os.chmod(f"{room}/bin/rt", 0o755)
+        words = [sys.executable, f"{TOP}/gate/layout.py", room, "low", "side"]
+        ran = subprocess.run(words, env={**os.environ, "PATH": f"{room}/bin:/usr/bin:/bin"}, stdout=subprocess.PIPE, text=True)
+        return ran.returncode, ran.stdout.splitlines()
+
+
 LOW = FILES["crates/low/must-fail/low_is_high.edit"]
 for path, text, want in [
     ("docs/GATE.md", "words\n", []),
@@ -90,4 +101,8 @@ assert len(faults("crates/gone/must-fail/low_is_side.edit", LOW)) == 1, "an edit
 
 assert sorted(copied([])) == sorted(FILES)
 assert sorted(set(FILES) - set(copied(["low"]))) == ["crates/low/must-fail/low_is_high.edit"]
+
+assert layout("") == (0, [])
+for said, status in [("rt: formatted src/lib.rt", 0), ("rt: note: must-fail/a.edit cannot be applied", 0), ("no such crate", 2)]:
+    assert layout(said, status) == (1, [f"layout: {name}: {said}" for name in ("low", "side")]), said
 print("gate/test_check.py: ok")
