@@ -321,7 +321,7 @@ const TOLD: [(&str, u8, &[u8], &[u8]); 7] = [
     (
         "cmwq --version",
         0,
-        b"cmwq 0.1.0 (rattle-kit-13b logic dac8208d650f15bf)\n",
+        b"cmwq 0.1.0 (rattle-kit-13f logic dac8208d650f15bf)\n",
         b"",
     ),
     (
