@@ -1,7 +1,4 @@
 mod AssembleLemmas
-mod BodyLemmas
-mod DraftLemmas
 mod HeaderLemmas
-mod OperandLemmas
 mod Refused
 mod TextLemmas

@@ -1,10 +1,8 @@
--- A reason told as it is, and steps that went well.
-use Rattle.std.proofs.Common.{◌≡◌, Bool, true, false, cond, refl, sym, ap, subst}
+-- A reason told as it is.
+use Rattle.std.proofs.Common.{◌≡◌, sym, subst}
 use Rattle.std.specs.Prelude.{Result, Ok, Err, IsErrAnd}
-use Rattle.cmwq_grammar.specs.Fields.{◌>>=◌}
 use Rattle.cmwq_grammar.specs.declared.why.Why.{Why}
 use Rattle.cmwq_asm.specs.Answers.{Gives}
-use Rattle.cmwq_scan.specs.Answers.{Tells}
 use Rattle.cmwq_asm.specs.declared.fault.LineError.{LineError}
 use Rattle.cmwq_asm.specs.declared.fault.LineError.TheVariants as error
 
@@ -12,27 +10,3 @@ module _ {A B : Type 0} (view : A → B) where
   pub refused : (answer : Result A LineError) (said : Result B Why) (reason : Why) → IsErrAnd answer (λ e. e ≡ error.Why reason) → said ≡ Err reason → Gives view answer said
   refused (Ok found) said reason told why = absurd told
   refused (Err e) said reason told why = subst (λ given. Gives view (Err given) said) (sym told) why
-
-  pub not_there : (answer : Result A Why) (said : Result B Why) (reason : Why) → IsErrAnd answer (λ e. e ≡ reason) → said ≡ Err reason → Tells view answer said
-  not_there (Ok found) said reason told why = absurd told
-  not_there (Err e) said reason told why = subst (λ given. Tells view (Err given) said) (sym told) why
-
--- a step that went well, and what follows it
-pub then_ok : {A B E : Type 0} (r : Result A E) (next : A → Result B E) (found : A) → r ≡ Ok found → (r >>= next) ≡ next found
-then_ok {A = A} {B = B} {E = E} r next found e = ap (λ (given : Result A E). given >>= next) e
-
--- a fault of a field doesn't depend on what follows
-pub fails_alike : {A B C E : Type 0} (r : Result A E) (f : A → Result B E) (g : A → Result C E) (error : E) → ((found : A) → f found ≡ Err error → g found ≡ Err error) → (r >>= f) ≡ Err error → (r >>= g) ≡ Err error
-fails_alike (Ok found) f g error alike e = alike found e
-fails_alike (Err other) f g error alike e = cc
-
--- the first test holds
-pub first : {A : Type 0} (b : Bool) (x y : A) → b ≡ true → cond b x y ≡ x
-first true x y holds = refl
-first false x y holds = cc
-
--- the second of two tests holds
-pub second : {A : Type 0} (b c : Bool) (x y z : A) → b ≡ false → c ≡ true → cond b x (cond c y z) ≡ y
-second true c x y z first then = cc
-second false true x y z first then = refl
-second false false x y z first then = cc

@@ -1,9 +1,5 @@
 pub mod Answers
-pub mod Declarations
 pub mod Header
-pub mod Instructions
-pub mod Operations
-pub mod Parts
 pub mod Stages
 pub mod Steps
 pub mod Texts

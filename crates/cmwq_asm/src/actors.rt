@@ -9,11 +9,10 @@ ghost use Rattle.cmwq_types.specs.declared.limits.TheConstants.{MAX_TEXT};
 ghost use Rattle.std.specs.Prelude.{◌≡◌, ◌≤◌, IfOk, IfSome, IsTrue, Ok, length};
 ghost use Rattle.std.specs.Str.{is_utf8};
 
-use crate::draft::Draft;
 use crate::fault::LineError;
-use crate::instructions::read_line;
 use crate::open::OpenActor;
 use crate::stage::Stage;
+use cmwq_draft::{Draft, read_line};
 use cmwq_grammar::Why;
 use cmwq_scan::{is_word, next_line, next_word, take_last_new_name, worded_part};
 use cmwq_types::{Fault, Line, MAX_ACTORS, MAX_LINES, NoMemory};

@@ -8,9 +8,9 @@ ghost use Rattle.cmwq_grammar.specs.Reasons.{step};
 ghost use Rattle.cmwq_grammar.specs.Stages as stage;
 ghost use Rattle.std.specs.Prelude.{◌≤◌, ◌∷◌, IfOk};
 
-use crate::draft::Draft;
 use crate::fault::LineError;
 use crate::stage::Stage;
+use cmwq_draft::Draft;
 use cmwq_grammar::Why;
 use cmwq_scan::{is_word, refusal, take_last_number_within};
 use cmwq_types::{MAX_CPUS, MAX_FLUSHES, MAX_STEPS, MAX_WORKERS};

@@ -3,12 +3,8 @@
 
 mod actors;
 mod assembling;
-mod bodies;
-mod declarations;
-mod draft;
 mod fault;
 mod header;
-mod instructions;
 mod next;
 mod open;
 mod operations;

@@ -7,10 +7,10 @@ ghost use Rattle.cmwq_grammar.specs.Stages as stage;
 ghost use Rattle.std.specs.Prelude.{◌≡◌, ◌≤◌, MatchResult, Ok, length};
 
 use crate::assembling::read_lines;
-use crate::draft::Draft;
 use crate::fault::AsmError;
 use crate::open::{OpenActor, OpenBody};
 use crate::stage::Stage;
+use cmwq_draft::Draft;
 use cmwq_grammar::Next;
 use cmwq_types::{MAX_ACTORS, MAX_LINES, MAX_OPS, MAX_QUEUES, MAX_TEXT, MAX_WORKS};
 use std::alloc::Global;

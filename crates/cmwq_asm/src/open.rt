@@ -4,8 +4,7 @@ ghost use Rattle.std.specs.List.{list_any};
 ghost use Rattle.std.specs.Prelude.{◌≡◌, ◌<◌, false, length};
 ghost use Rattle.std.specs.Str.{bytes_eq};
 
-use crate::bodies::Bodies;
-use crate::draft::Draft;
+use cmwq_draft::{Bodies, Draft};
 use cmwq_scan::Named;
 use cmwq_types::{Line, Op};
 

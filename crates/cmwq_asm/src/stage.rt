@@ -9,12 +9,11 @@ ghost use Rattle.std.specs.Prelude.{◌∷◌, ◌≤◌, IfOk, IsTrue, length};
 ghost use Rattle.std.specs.Str.{is_utf8};
 
 use crate::actors::{close_actor, read_instructions};
-use crate::bodies::Bodies;
-use crate::draft::Draft;
 use crate::fault::LineError;
 use crate::header::{read_cpus, read_flushes, read_steps, read_workers};
 use crate::open::{OpenActor, OpenBody};
 use crate::steps::{between_bodies, end_between_bodies, in_actor, in_body, in_queues, in_works};
+use cmwq_draft::{Bodies, Draft};
 use cmwq_grammar::Why;
 use cmwq_types::{Fault, NoMemory, Scenario};
 use std::alloc::Global;

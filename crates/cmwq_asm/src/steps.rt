@@ -10,15 +10,13 @@ ghost use Rattle.std.specs.Prelude.{◌∷◌, IsTrue};
 ghost use Rattle.std.specs.Str.{is_utf8};
 
 use crate::actors::{add_line, close_actor, open_actor};
-use crate::bodies::Bodies;
-use crate::draft::Draft;
 use crate::fault::LineError;
-use crate::instructions::read_line;
 use crate::open::{OpenActor, OpenBody};
-use crate::operations::{add_op, open_body, read_op};
+use crate::operations::{add_op, open_body};
 use crate::queues::declare_queue;
 use crate::stage::Stage;
 use crate::works::declare_work;
+use cmwq_draft::{Bodies, Draft, read_line, read_op};
 use cmwq_grammar::Why;
 use cmwq_scan::{is_text, is_word, next_word, refusal, worded_part};
 use cmwq_types::Scenario;

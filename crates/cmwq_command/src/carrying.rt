@@ -8,9 +8,10 @@ ghost use Rattle.cmwq_outcome.specs.declared.telling.TheConstants.{GOOD};
 ghost use Rattle.std.specs.Prelude.{◌≡◌, ◌∷◌, [], Err, IfOk, MatchResult, Ok, OnOk, false, map, string_bytes};
 
 use crate::asking::{looks_of, question_of};
+use cmwq_actors::OpenGate;
 use cmwq_draw::{Drawing, Span};
 use cmwq_outcome::{GOOD, Judged, Look, check_text, tell, tell_unread, write_first, write_version};
-use cmwq_play::{Marked, OpenGate, PlayError, Sink};
+use cmwq_play::{Marked, PlayError, Sink};
 use cmwq_settle::{run_settled, settle_text};
 use cmwq_tell::run_told;
 use cmwq_words::asking::{Positions, Subject};
@@ -313,7 +314,7 @@ fn play<R: Files + AllocGlobal + Threads + Wait + Clock + Sync, W: Sink>(
 {
     let mut reader = opened(rt, file)?;
     let scenario = cmwq_play::read_text(rt.alloc(), &mut reader)?;
-    cmwq_play::play(rt, rt.alloc(), &scenario, capacity, &OpenGate, writer)
+    cmwq_played::play(rt, rt.alloc(), &scenario, capacity, &OpenGate, writer)
 }
 
 /// The file, opened to be read.

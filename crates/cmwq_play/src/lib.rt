@@ -2,14 +2,11 @@
 #![tactic(auto)]
 
 mod images;
-pub mod laws;
 mod listing;
 mod reading;
 mod running;
 mod session;
 
-pub use cmwq_actors::{Gate, OpenGate};
-pub use cmwq_played::play;
 pub use cmwq_streams::{BlockWriter, Marked, PlayError, Sink, Source, put_all};
 pub use images::{from_image, to_image};
 pub use listing::{list_text, write_listing};

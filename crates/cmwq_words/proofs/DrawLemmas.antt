@@ -1,5 +1,5 @@
 -- What clap makes of the words of `draw`.
-use Rattle.std.proofs.Common.{arith, ap, sym, subst, option_map, ◌^◌, ◌&&◌, ℕ, ◌<◌, length, nat_lt, bytes_eq, if◌then◌else◌, ◌≡◌, ◌∙◌, ◌==◌, Bool, List, [], ◌∷◌, ◌++◌, true, false, Option, None, Some, codes, refl, Ok}
+use Rattle.std.proofs.Common.{arith, ap, ap₂, sym, subst, option_map, ◌^◌, ◌&&◌, ℕ, ◌<◌, nat_lt, bytes_eq, if◌then◌else◌, ◌≡◌, ◌∙◌, ◌==◌, Bool, List, [], ◌∷◌, ◌++◌, true, false, Option, None, Some, codes, refl, Ok}
 use Rattle.std.proofs.lemmas.Bool.Decides.{nat_tests}
 use Rattle.std.proofs.lemmas.Fmt.{decimal_nonempty, digits_decimal, digits_value-decimal}
 use Rattle.std.proofs.lemmas.Str.Parse.{parse_gives}
@@ -9,10 +9,12 @@ use Rattle.std.specs.Fmt.{decimal}
 use Rattle.std.specs.Str.{all_ascii_digits}
 use Rattle.std.specs.Str.Parse.{ParsesUnsigned, digits_value}
 use Rattle.clap.specs.Words.{Text, subcommand_of, takes}
+use Rattle.clap.specs.Walk.{Walk, finished, nothing_held, walk_from}
 use Rattle.clap.proofs.OnLiterals.{clap_on_literals}
 use Rattle.cmwq_words.proofs.RequestLemmas.{no_hyphen, numerals}
+use Rattle.cmwq_words.proofs.WalkingLemmas.{Goes, begins_with_hyphen, draw_shape, end_passes, ends, has_draw, on, on_plain, taken}
 use Rattle.cmwq_command_line.specs.CommandLine.{command_line}
-use Rattle.cmwq_words.specs.Request.{IsPlainWord, IsRead, asked_of, draw_arguments, flag_words, from_on, number_if_any, number_in, options_from, up_to, whole, words_to_draw}
+use Rattle.cmwq_words.specs.Request.{HasCapacity, HasTimes, IsPlainWord, IsRead, IsTimeIfAny, asked_of, draw_arguments, flag_words, number_if_any, number_in, number_words, options_from, words_to_draw}
 use Rattle.cmwq_words.specs.declared.drawing.DrawOptions.{DrawOptions}
 
 -- Numbers.
@@ -45,24 +47,21 @@ time_read {E} r word n parsed is =
     parse_gives numerals 64 (decimal n) r (subst (λ (w : Text). ParsesUnsigned {E = E} 64 10 w r) spelt parsed) (digits_decimal numerals n small) (decimal_nonempty n small) (grind (arith, value, small)) in
     read ∙ ap Ok value
 
--- A number's word begins with no hyphen.
-pub record IsWordOf (word : Text) (n : ℕ) : Type 0 where
-  pub head : ℕ
-  pub tail : Text
-  pub is : word ≡ head ∷ tail
-  pub no_option : (head == 45) ≡ false
-  pub spells : number_in (head ∷ tail) ≡ Some n
+-- Words that begin with no hyphen.
 
 -- a digit is no hyphen
 digit_first : (head : ℕ) (tail : Text) → all_ascii_digits (head ∷ tail) ≡ true → (head == 45) ≡ false
 digit_first head tail e = grind (arith, nat_tests, e)
 
-pub is_word_of : (n : ℕ) → n < 2 ^ 64 → IsWordOf (decimal n) n
-is_word_of n small = by (decimal n) (decimal_nonempty n small) (digits_decimal numerals n small) (spelled n small)
+pub decimal_begins : (n : ℕ) → n < 2 ^ 64 → begins_with_hyphen (decimal n) ≡ false
+decimal_begins n small = by (decimal n) (digits_decimal numerals n small)
   where
-    by : (word : Text) → 0 < length word → all_ascii_digits word ≡ true → number_in word ≡ Some n → IsWordOf word n
-    by [] some digits spells = absurd (omega arith)
-    by (head ∷ tail) some digits spells = record { head = head; tail = tail; is = refl; no_option = digit_first head tail digits; spells = spells }
+    by : (word : Text) → all_ascii_digits word ≡ true → begins_with_hyphen word ≡ false
+    by [] digits = refl
+    by (head ∷ tail) digits = digit_first head tail digits
+
+pub plain_begins : (word : Text) → IsPlainWord word → begins_with_hyphen word ≡ false
+plain_begins word (first, rest, is, plain) = ap begins_with_hyphen is ∙ no_hyphen first plain
 
 -- Words.
 
@@ -70,68 +69,140 @@ is_word_of n small = by (decimal n) (decimal_nonempty n small) (digits_decimal n
 abbrev pub Takes : List Text → Option (List Text) → Type 0
 Takes words asked = (takes command_line words ≡ true) × (asked_of (subcommand_of command_line words) ≡ asked)
 
--- what is read of a picture's words, whose times are these
-abbrev read_with : Bool → Bool → Option (Option ℕ) → Option (Option ℕ) → Text → Option (List Text)
-read_with settle svg from to file = words_to_draw (options_from (Some settle) (Some svg) from to) (Some file)
+-- clap takes these behind the command's name, whatever the program's
+record IsDrawn (words : List Text) (asked : Option (List Text)) : Type 0 where
+  takes : (name : Text) → Takes (name ∷ codes "draw" ∷ words) asked
 
--- the words of a picture, with these in place of the times' words and the file
-abbrev with_words : Bool → Bool → List Text → List Text
-with_words settle svg words = codes "draw" ∷ (flag_words (codes "--settle") settle ++ (flag_words (codes "--svg") svg ++ words))
+as_drawn : (words : List Text) (asked : Option (List Text)) (end : Walk) → Goes draw_shape (walk_from nothing_held) words end → end_passes draw_shape end ≡ true
+    → asked_of (Some (codes "draw", finished draw_shape.rules end.held)) ≡ asked → IsDrawn words asked
+as_drawn words asked end goes passes is =
+    record { takes = λ name. let met = taken has_draw name words end goes passes in (met.0, ap asked_of met.1 ∙ is) }
 
-plain : (name : Text) (settle svg : Bool) (first : ℕ) (rest : Text) → (first == 45) ≡ false
-    → Takes (name ∷ with_words settle svg ((first ∷ rest) ∷ [])) (read_with settle svg (Some None) (Some None) (first ∷ rest))
-unfolding clap_on_literals
-plain name false false first rest e = (rw e (rw e refl), rw e (rw e refl))
-plain name false true first rest e = (rw e (rw e refl), rw e (rw e refl))
-plain name true false first rest e = (rw e (rw e refl), rw e (rw e refl))
-plain name true true first rest e = (rw e (rw e refl), rw e (rw e refl))
+-- an option's word and its time's, if it has one, which doesn't begin with a hyphen
+abbrev time_words : Text → Option Text → List Text
+time_words word (Some time) = word ∷ time ∷ []
+time_words word None = []
 
--- the words with one time, which stands as letters
-with_from : (name : Text) (first : ℕ) (rest : Text) (head : ℕ) (tail : Text) → (first == 45) ≡ false → (head == 45) ≡ false
-    → Takes (name ∷ with_words false false (codes "--from" ∷ (head ∷ tail) ∷ (first ∷ rest) ∷ []))
-    (read_with false false (number_if_any (Some (head ∷ tail))) (Some None) (first ∷ rest))
-unfolding clap_on_literals
-with_from name first rest head tail e h = (rw h (rw h (rw e (rw e refl))), rw h (rw h (rw e (rw e refl))))
+abbrev BeginsPlain : Option Text → Type 0
+BeginsPlain (Some word) = begins_with_hyphen word ≡ false
+BeginsPlain None = Unit {0}
 
-with_to : (name : Text) (first : ℕ) (rest : Text) (head : ℕ) (tail : Text) → (first == 45) ≡ false → (head == 45) ≡ false
-    → Takes (name ∷ with_words false false (codes "--to" ∷ (head ∷ tail) ∷ (first ∷ rest) ∷ []))
-    (read_with false false (Some None) (number_if_any (Some (head ∷ tail))) (first ∷ rest))
-unfolding clap_on_literals
-with_to name first rest head tail e h = (rw h (rw h (rw e (rw e refl))), rw h (rw h (rw e (rw e refl))))
+-- the words behind the command's name
+abbrev words_behind : Bool → Bool → List Text → List Text → Text → List Text
+words_behind settle svg from to file = flag_words (codes "--settle") settle ++ (flag_words (codes "--svg") svg ++ (from ++ (to ++ (file ∷ []))))
 
--- a time's word that spells it
-time_is : (word : Text) (n : ℕ) → number_in word ≡ Some n → number_if_any (Some word) ≡ Some (Some n)
-time_is word n is = ap (option_map Some) is
+drawn : (settle svg : Bool) (from to : Option Text) (file : Text) → BeginsPlain from → BeginsPlain to → begins_with_hyphen file ≡ false
+    → IsDrawn (words_behind settle svg (time_words (codes "--from") from) (time_words (codes "--to") to) file)
+    (words_to_draw (options_from (Some settle) (Some svg) (number_if_any from) (number_if_any to)) (Some file))
+unfolding clap_on_literals draw_shape
+drawn false false None None file no_from no_to p =
+    as_drawn _ _ _
+    (on_plain draw_shape _ file _ _ p refl refl refl (ends draw_shape _))
+    refl refl
+drawn false true None None file no_from no_to p =
+    as_drawn _ _ _
+    (on draw_shape _ (codes "--svg") _ _ refl (on_plain draw_shape _ file _ _ p refl refl refl (ends draw_shape _)))
+    refl refl
+drawn true false None None file no_from no_to p =
+    as_drawn _ _ _
+    (on draw_shape _ (codes "--settle") _ _ refl (on_plain draw_shape _ file _ _ p refl refl refl (ends draw_shape _)))
+    refl refl
+drawn true true None None file no_from no_to p =
+    as_drawn _ _ _
+    (on draw_shape _ (codes "--settle") _ _ refl (on draw_shape _ (codes "--svg") _ _ refl (on_plain draw_shape _ file _ _ p refl refl refl (ends draw_shape _))))
+    refl refl
+drawn false false None (Some last) file no_from l p =
+    as_drawn _ _ _
+    (on draw_shape _ (codes "--to") _ _ refl (on_plain draw_shape _ last _ _ l refl refl refl (on_plain draw_shape _ file _ _ p refl refl refl (ends draw_shape _))))
+    refl refl
+drawn false true None (Some last) file no_from l p =
+    as_drawn _ _ _
+    (on draw_shape _ (codes "--svg") _ _ refl (on draw_shape _ (codes "--to") _ _ refl (on_plain draw_shape _ last _ _ l refl refl refl (on_plain draw_shape _ file _ _ p refl refl refl (ends draw_shape _)))))
+    refl refl
+drawn true false None (Some last) file no_from l p =
+    as_drawn _ _ _
+    (on draw_shape _ (codes "--settle") _ _ refl (on draw_shape _ (codes "--to") _ _ refl (on_plain draw_shape _ last _ _ l refl refl refl (on_plain draw_shape _ file _ _ p refl refl refl (ends draw_shape _)))))
+    refl refl
+drawn true true None (Some last) file no_from l p =
+    as_drawn _ _ _
+    (on draw_shape _ (codes "--settle") _ _ refl (on draw_shape _ (codes "--svg") _ _ refl (on draw_shape _ (codes "--to") _ _ refl (on_plain draw_shape _ last _ _ l refl refl refl (on_plain draw_shape _ file _ _ p refl refl refl (ends draw_shape _))))))
+    refl refl
+drawn false false (Some first) None file f no_to p =
+    as_drawn _ _ _
+    (on draw_shape _ (codes "--from") _ _ refl (on_plain draw_shape _ first _ _ f refl refl refl (on_plain draw_shape _ file _ _ p refl refl refl (ends draw_shape _))))
+    refl refl
+drawn false true (Some first) None file f no_to p =
+    as_drawn _ _ _
+    (on draw_shape _ (codes "--svg") _ _ refl (on draw_shape _ (codes "--from") _ _ refl (on_plain draw_shape _ first _ _ f refl refl refl (on_plain draw_shape _ file _ _ p refl refl refl (ends draw_shape _)))))
+    refl refl
+drawn true false (Some first) None file f no_to p =
+    as_drawn _ _ _
+    (on draw_shape _ (codes "--settle") _ _ refl (on draw_shape _ (codes "--from") _ _ refl (on_plain draw_shape _ first _ _ f refl refl refl (on_plain draw_shape _ file _ _ p refl refl refl (ends draw_shape _)))))
+    refl refl
+drawn true true (Some first) None file f no_to p =
+    as_drawn _ _ _
+    (on draw_shape _ (codes "--settle") _ _ refl (on draw_shape _ (codes "--svg") _ _ refl (on draw_shape _ (codes "--from") _ _ refl (on_plain draw_shape _ first _ _ f refl refl refl (on_plain draw_shape _ file _ _ p refl refl refl (ends draw_shape _))))))
+    refl refl
+drawn false false (Some first) (Some last) file f l p =
+    as_drawn _ _ _
+    (on draw_shape _ (codes "--from") _ _ refl (on_plain draw_shape _ first _ _ f refl refl refl (on draw_shape _ (codes "--to") _ _ refl (on_plain draw_shape _ last _ _ l refl refl refl (on_plain draw_shape _ file _ _ p refl refl refl (ends draw_shape _))))))
+    refl refl
+drawn false true (Some first) (Some last) file f l p =
+    as_drawn _ _ _
+    (on draw_shape _ (codes "--svg") _ _ refl (on draw_shape _ (codes "--from") _ _ refl (on_plain draw_shape _ first _ _ f refl refl refl (on draw_shape _ (codes "--to") _ _ refl (on_plain draw_shape _ last _ _ l refl refl refl (on_plain draw_shape _ file _ _ p refl refl refl (ends draw_shape _)))))))
+    refl refl
+drawn true false (Some first) (Some last) file f l p =
+    as_drawn _ _ _
+    (on draw_shape _ (codes "--settle") _ _ refl (on draw_shape _ (codes "--from") _ _ refl (on_plain draw_shape _ first _ _ f refl refl refl (on draw_shape _ (codes "--to") _ _ refl (on_plain draw_shape _ last _ _ l refl refl refl (on_plain draw_shape _ file _ _ p refl refl refl (ends draw_shape _)))))))
+    refl refl
+drawn true true (Some first) (Some last) file f l p =
+    as_drawn _ _ _
+    (on draw_shape _ (codes "--settle") _ _ refl (on draw_shape _ (codes "--svg") _ _ refl (on draw_shape _ (codes "--from") _ _ refl (on_plain draw_shape _ first _ _ f refl refl refl (on draw_shape _ (codes "--to") _ _ refl (on_plain draw_shape _ last _ _ l refl refl refl (on_plain draw_shape _ file _ _ p refl refl refl (ends draw_shape _))))))))
+    refl refl
 
-pub draw_read : (words : List Text) (name file : Text) (settle svg : Bool) → words ≡ name ∷ codes "draw" ∷ draw_arguments (whole settle svg) file → IsPlainWord file
-    → IsRead words (codes "draw" ∷ draw_arguments (whole settle svg) file)
-draw_read words name file settle svg are (first, rest, is, plain_word) = rw (are, is) (by settle svg)
-  where
-    by : (settle svg : Bool) → IsRead (name ∷ codes "draw" ∷ draw_arguments (whole settle svg) (first ∷ rest)) (codes "draw" ∷ draw_arguments (whole settle svg) (first ∷ rest))
-    by false false = let met = plain name false false first rest (no_hyphen first plain_word) in (met.0, met.1, tt)
-    by false true = let met = plain name false true first rest (no_hyphen first plain_word) in (met.0, met.1, tt)
-    by true false = let met = plain name true false first rest (no_hyphen first plain_word) in (met.0, met.1, tt)
-    by true true = let met = plain name true true first rest (no_hyphen first plain_word) in (met.0, met.1, tt)
+-- the time's word, if there is one, and what is read of it
+abbrev word_if_any : Option ℕ → Option Text
+word_if_any (Some time) = Some (decimal time)
+word_if_any None = None
 
-pub from_read : (words : List Text) (name file : Text) (time : ℕ) → words ≡ name ∷ codes "draw" ∷ draw_arguments (from_on time) file → IsPlainWord file
-    → time < 2 ^ 64 → IsRead words (codes "draw" ∷ draw_arguments (from_on time) file)
-from_read words name file time are (first, rest, is, plain_word) small = rw (are, is) (by (decimal time) (is_word_of time small))
-  where
-    by : (word : Text) → IsWordOf word time
-        → IsRead (name ∷ with_words false false (codes "--from" ∷ word ∷ (first ∷ rest) ∷ [])) (codes "draw" ∷ draw_arguments (from_on time) (first ∷ rest))
-    by word it =
-        let met = with_from name first rest it.head it.tail (no_hyphen first plain_word) it.no_option in
-        rw it.is (met.0, met.1 ∙ ap (λ t. read_with false false t (Some None) (first ∷ rest)) (time_is _ time it.spells), tt)
+number_of_time : (time : Option ℕ) → IsTimeIfAny time → number_if_any (word_if_any time) ≡ Some time
+number_of_time (Some time) small = ap (option_map Some) (spelled time small)
+number_of_time None small = refl
 
-pub to_read : (words : List Text) (name file : Text) (time : ℕ) → words ≡ name ∷ codes "draw" ∷ draw_arguments (up_to time) file → IsPlainWord file
-    → time < 2 ^ 64 → IsRead words (codes "draw" ∷ draw_arguments (up_to time) file)
-to_read words name file time are (first, rest, is, plain_word) small = rw (are, is) (by (decimal time) (is_word_of time small))
-  where
-    by : (word : Text) → IsWordOf word time
-        → IsRead (name ∷ with_words false false (codes "--to" ∷ word ∷ (first ∷ rest) ∷ [])) (codes "draw" ∷ draw_arguments (up_to time) (first ∷ rest))
-    by word it =
-        let met = with_to name first rest it.head it.tail (no_hyphen first plain_word) it.no_option in
-        rw it.is (met.0, met.1 ∙ ap (λ t. read_with false false (Some None) t (first ∷ rest)) (time_is _ time it.spells), tt)
+time_begins : (time : Option ℕ) → IsTimeIfAny time → BeginsPlain (word_if_any time)
+time_begins (Some time) small = decimal_begins time small
+time_begins None small = tt
+
+words_of_time : (word : Text) (time : Option ℕ) → number_words word time ≡ time_words word (word_if_any time)
+words_of_time word (Some time) = refl
+words_of_time word None = refl
+
+-- no play is asked for
+no_capacity : (words : List Text) → HasCapacity (codes "draw" ∷ words)
+no_capacity [] = tt
+no_capacity (a ∷ []) = tt
+no_capacity (a ∷ b ∷ []) = tt
+no_capacity (a ∷ b ∷ c ∷ []) = tt
+no_capacity (a ∷ b ∷ c ∷ d ∷ more) = tt
+
+pub draw_read : (words : List Text) (name file : Text) (options : DrawOptions) → words ≡ name ∷ codes "draw" ∷ draw_arguments options file → IsPlainWord file
+    → HasTimes options → IsRead words (codes "draw" ∷ draw_arguments options file)
+draw_read words name file options are plain (from_small, to_small) =
+    let settle = options.settle in
+    let svg = options.svg in
+    let from = options.from in
+    let to = options.to in
+    let spelt : draw_arguments options file ≡ words_behind settle svg (time_words (codes "--from") (word_if_any from)) (time_words (codes "--to") (word_if_any to)) file =
+    ap₂ (λ (a b : List Text). words_behind settle svg a b file) (words_of_time (codes "--from") from) (words_of_time (codes "--to") to) in
+    let it = drawn settle svg (word_if_any from) (word_if_any to) file (time_begins from from_small) (time_begins to to_small) (plain_begins file plain) in
+    let met = it.takes name in
+    let all : words ≡ name ∷ codes "draw" ∷ words_behind settle svg (time_words (codes "--from") (word_if_any from)) (time_words (codes "--to") (word_if_any to)) file =
+    are ∙ ap (λ (behind : List Text). name ∷ codes "draw" ∷ behind) spelt in
+    let read : asked_of (subcommand_of command_line words) ≡ Some (codes "draw" ∷ draw_arguments options file) =
+    ap (λ (given : List Text). asked_of (subcommand_of command_line given)) all
+    ∙ met.1
+    ∙ ap₂ (λ (a b : Option (Option ℕ)). words_to_draw (options_from (Some settle) (Some svg) a b) (Some file)) (number_of_time from from_small) (number_of_time to to_small) in
+    (ap (λ (given : List Text). takes command_line given) all ∙ met.0, read, no_capacity (draw_arguments options file))
 
 -- Options.
 

@@ -2,7 +2,8 @@
 use Rattle.std.proofs.Common.{rules, ap, sym, subst, Result, Ok, ◌^◌, ℕ, ◌<◌, arith, length, get_or, ◌≡◌, ◌∙◌, ◌≢◌, ◌==◌, Bool, List, [], ◌∷◌, true, false, Some, codes, refl, inl, inr, ◌⊎◌}
 use Rattle.std.proofs.lemmas.Fmt.{decimal_nonempty, digits_decimal, digits_value-decimal, first_decimal}
 use Rattle.std.proofs.lemmas.Str.Parse.{IsNumeralModel, numerals_by_value, parse_gives, tells_all_ascii_digits}
-use Rattle.std.specs.Str.{all_ascii_digits}
+use Rattle.std.specs.Cmp.Lexicographic.{bytes_decides}
+use Rattle.std.specs.Str.{all_ascii_digits, bytes_eq}
 use Rattle.std.specs.Str.Parse.{ParsesUnsigned, digits_value}
 use Rattle.std.specs.Fmt.{decimal}
 use Rattle.clap.specs.Words.{App, HasMatchesOf, Text, fault_of, is_simple, is_simple_and_free, subcommand_of, subcommand_rows_of}
@@ -24,7 +25,7 @@ use Rattle.cmwq_words.specs.declared.request.Request.{Request}
 use Rattle.cmwq_words.specs.declared.request.RunKind.{RunKind}
 use Rattle.cmwq_words.specs.declared.request.RunKind.TheVariants.{Settled, Told}
 use Rattle.cmwq_command_line.specs.CommandLine.{command_line}
-use Rattle.cmwq_words.specs.Request.{HasCapacity, IsCapacity, IsPlainWord, IsRead, IsRequestOf, IsVersionWord, asked_in, asked_of, kind_from, kind_of_run, run_arguments, words_to_run}
+use Rattle.cmwq_words.specs.Request.{HasCapacity, IsCapacity, IsPlainWord, IsRead, IsRequestOf, IsVersionWord, asked_in, asked_of, asked_of_run, kind_from, kind_of_run, run_arguments, words_to_run}
 
 simple_line : is_simple command_line ≡ true
 unfolding clap_on_literals
@@ -230,6 +231,20 @@ met_in m name rows asked = at (out-ArgMatches m).subcommand
         → Some rows ≡ option_map (λ p. p.1) (subcommand_rows o) → asked_of (subcommand_rows o) ≡ Some asked → asked_in (name, rows) ≡ Some asked
     at None is_name are_rows is = cc
     at (Some b) is_name are_rows is = cc
+
+other_name : (a b : Text) → a ≢ b → bytes_eq a b ≡ false
+other_name a b apart = by (bytes_eq a b) refl
+  where
+    by : (same : Bool) → bytes_eq a b ≡ same → same ≡ false
+    by true is = absurd (apart ((bytes_decides a b).0 is))
+    by false is = refl
+
+-- a name that is none of the first ones is judged by those behind them
+pub asked_behind : (name : Text) (rows : List Row) → name ≢ codes "new" → name ≢ codes "run" → name ≢ codes "settle" → name ≢ codes "list" → name ≢ codes "asm" → name ≢ codes "show"
+    → asked_in (name, rows) ≡ asked_of_run (name, rows)
+asked_behind name rows new run settle list asm show =
+    let none : (word : Text) → name ≢ word → bytes_eq name word ≡ false = other_name name in
+    rw (none _ new, none _ run, none _ settle, none _ list, none _ asm, none _ show) refl
 
 -- where nothing is asked for, no words are
 pub nothing_asked : (request : Option Request) (asked : List Text) → request ≡ None → IsRequestOf asked request → ⊥

@@ -89,36 +89,11 @@ on_plain s w word words end e none going passes it =
     on s w word words end (plain_turn s w word e going passes)
     (subst (λ (v : Walk). Goes s v words end) (sym (plain_is s.rules w word e none going)) it)
 
--- Behind the name of `why`.
+-- Behind a command's name.
 
-unfoldable pub why_shape : Shape
-why_shape = unwrap_or (find (λ s. answers_to (codes "why") (label_of s)) (built command_line).subs) (new_shape [])
-
--- the words behind it are left to it
-abbrev stopped : List Text → Walk
-stopped words = record (walk_from nothing_held) { stopped = Some (codes "why", words) }
-
-first_met : walked (built command_line).top.rules (names_of (built command_line)) (walk_from nothing_held) (codes "why") ≡ stopped []
-unfolding clap_on_literals
-first_met = refl
-
-walk_to : (words : List Text) → walk (built command_line).top.rules (names_of (built command_line)) nothing_held (codes "why" ∷ words) ≡ stopped words
-walk_to words = ap (λ (w : Walk). fold (walked (built command_line).top.rules (names_of (built command_line))) w words) first_met
-    ∙ sym (walk_stopped _ _ (walk_from nothing_held) (codes "why") [] words)
-
-stopped_passes : (s : Shape) (names : Names) (w : Walk) (name : Text) (seen words : List Text)
-    → walk_passes s names (record w { stopped = Some (name, seen) }) words ≡ true
-unfolding walked walk_passes
-stopped_passes s names w name seen [] = refl
-stopped_passes s names w name seen (word ∷ words) = stopped_passes s names w name (seen ++ word ∷ []) words
-
-passes_to : (words : List Text) → walk_passes (built command_line).top (names_of (built command_line)) (walk_from nothing_held) (codes "why" ∷ words) ≡ true
-unfolding clap_on_literals
-passes_to words = stopped_passes (built command_line).top (names_of (built command_line)) (walk_from nothing_held) (codes "why") [] words
-
-simple_line : is_simple command_line ≡ true
-unfolding clap_on_literals
-simple_line = refl
+-- the words behind it are left to the command
+abbrev stopped : Text → List Text → Walk
+stopped command words = record (walk_from nothing_held) { stopped = Some (command, words) }
 
 -- what of a walk makes that the words pass
 abbrev passes_at : Walk → Bool → Bool
@@ -129,33 +104,75 @@ passes_at end passes =
     && (settle_passes line.top.rules line.top.args_override_self end.held
     && (list_all default_passes line.top.rules && is_valid line.top (finished line.top.rules end.held) (is_some (entered line end.stopped)))))
 
-passes_there : (words : List Text) → level_passes why_shape [] nothing_held words false ≡ true → passes_at (stopped words) true ≡ true
-unfolding why_shape
-passes_there words level = rw level refl
+-- the line has a command of this name and shape
+pub record HasCommand (command : Text) (shape : Shape) : Type 0 where
+  stops : walked (built command_line).top.rules (names_of (built command_line)) (walk_from nothing_held) command ≡ stopped command []
+  passes : (words : List Text) → walk_passes (built command_line).top (names_of (built command_line)) (walk_from nothing_held) (command ∷ words) ≡ true
+  ends : (words : List Text) → level_passes shape [] nothing_held words false ≡ true → passes_at (stopped command words) true ≡ true
+  enters : (words : List Text) → entered (built command_line) (Some (command, words)) ≡ Some (command, finished shape.rules (walk shape.rules [] nothing_held words).held)
 
-takes_if : (name : Text) (words : List Text) → level_passes why_shape [] nothing_held words false ≡ true → takes command_line (name ∷ codes "why" ∷ words) ≡ true
-takes_if name words level =
-    ap₂ (λ (a b : Bool). a && b) simple_line (ap₂ passes_at (walk_to words) (passes_to words) ∙ passes_there words level)
+stopped_passes : (s : Shape) (names : Names) (w : Walk) (name : Text) (seen words : List Text)
+    → walk_passes s names (record w { stopped = Some (name, seen) }) words ≡ true
+unfolding walked walk_passes
+stopped_passes s names w name seen [] = refl
+stopped_passes s names w name seen (word ∷ words) = stopped_passes s names w name (seen ++ word ∷ []) words
 
-entered_there : (words : List Text) → entered (built command_line) (Some (codes "why", words)) ≡ Some (codes "why", finished why_shape.rules (walk why_shape.rules [] nothing_held words).held)
-unfolding why_shape
-entered_there words = refl
+simple_line : is_simple command_line ≡ true
+unfolding clap_on_literals
+simple_line = refl
 
-entered_is : (name : Text) (words : List Text)
-    → subcommand_of command_line (name ∷ codes "why" ∷ words) ≡ Some (codes "why", finished why_shape.rules (walk why_shape.rules [] nothing_held words).held)
-entered_is name words = ap (λ (w : Walk). entered (built command_line) w.stopped) (walk_to words) ∙ entered_there words
+-- what is left to see once a command's walk has ended
+abbrev pub end_passes : Shape → Walk → Bool
+end_passes shape end =
+    settle_passes shape.rules shape.args_override_self end.held
+    && (list_all default_passes shape.rules && is_valid shape (finished shape.rules end.held) false)
 
--- what is left to see once the walk has ended
-abbrev pub end_passes : Walk → Bool
-end_passes end =
-    settle_passes why_shape.rules why_shape.args_override_self end.held
-    && (list_all default_passes why_shape.rules && is_valid why_shape (finished why_shape.rules end.held) false)
+module _ {command : Text} {shape : Shape} (has : HasCommand command shape) where
+  walk_to : (words : List Text) → walk (built command_line).top.rules (names_of (built command_line)) nothing_held (command ∷ words) ≡ stopped command words
+  walk_to words = ap (λ (w : Walk). fold (walked (built command_line).top.rules (names_of (built command_line))) w words) has.stops
+      ∙ sym (walk_stopped _ _ (walk_from nothing_held) command [] words)
 
--- such words are taken, and this is met
-pub taken : (name : Text) (words : List Text) (end : Walk) → Goes why_shape (walk_from nothing_held) words end → end_passes end ≡ true
-    → (takes command_line (name ∷ codes "why" ∷ words) ≡ true)
-    × (subcommand_of command_line (name ∷ codes "why" ∷ words) ≡ Some (codes "why", finished why_shape.rules end.held))
-taken name words end goes passes =
-    let level : level_passes why_shape [] nothing_held words false ≡ (true && end_passes end) =
-    ap₂ (λ (b : Bool) (w : Walk). b && end_passes w) goes.passes goes.walk_is in
-    (takes_if name words (level ∙ passes), entered_is name words ∙ ap (λ (w : Walk). Some (codes "why", finished why_shape.rules w.held)) goes.walk_is)
+  takes_if : (name : Text) (words : List Text) → level_passes shape [] nothing_held words false ≡ true → takes command_line (name ∷ command ∷ words) ≡ true
+  takes_if name words level =
+      ap₂ (λ (a b : Bool). a && b) simple_line (ap₂ passes_at (walk_to words) (has.passes words) ∙ has.ends words level)
+
+  entered_is : (name : Text) (words : List Text)
+      → subcommand_of command_line (name ∷ command ∷ words) ≡ Some (command, finished shape.rules (walk shape.rules [] nothing_held words).held)
+  entered_is name words = ap (λ (w : Walk). entered (built command_line) w.stopped) (walk_to words) ∙ has.enters words
+
+  -- such words are taken, and this is met
+  pub taken : (name : Text) (words : List Text) (end : Walk) → Goes shape (walk_from nothing_held) words end → end_passes shape end ≡ true
+      → (takes command_line (name ∷ command ∷ words) ≡ true) × (subcommand_of command_line (name ∷ command ∷ words) ≡ Some (command, finished shape.rules end.held))
+  taken name words end goes passes =
+      let level : level_passes shape [] nothing_held words false ≡ (true && end_passes shape end) =
+      ap₂ (λ (b : Bool) (w : Walk). b && end_passes shape w) goes.passes goes.walk_is in
+      (takes_if name words (level ∙ passes), entered_is name words ∙ ap (λ (w : Walk). Some (command, finished shape.rules w.held)) goes.walk_is)
+
+-- Both commands that take several options.
+
+abbrev shape_of : Text → Shape
+shape_of command = unwrap_or (find (λ s. answers_to command (label_of s)) (built command_line).subs) (new_shape [])
+
+unfoldable pub why_shape : Shape
+why_shape = shape_of (codes "why")
+
+unfoldable pub draw_shape : Shape
+draw_shape = shape_of (codes "draw")
+
+pub has_why : HasCommand (codes "why") why_shape
+unfolding clap_on_literals why_shape
+has_why = record {
+  stops = refl;
+  passes = λ words. stopped_passes (built command_line).top (names_of (built command_line)) (walk_from nothing_held) (codes "why") [] words;
+  ends = λ words level. rw level refl;
+  enters = λ words. refl;
+}
+
+pub has_draw : HasCommand (codes "draw") draw_shape
+unfolding clap_on_literals draw_shape
+has_draw = record {
+  stops = refl;
+  passes = λ words. stopped_passes (built command_line).top (names_of (built command_line)) (walk_from nothing_held) (codes "draw") [] words;
+  ends = λ words level. rw level refl;
+  enters = λ words. refl;
+}

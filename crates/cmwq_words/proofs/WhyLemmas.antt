@@ -6,10 +6,10 @@ use Rattle.std.specs.Result.{result_ok}
 use Rattle.std.specs.Str.{all_ascii_digits}
 use Rattle.std.specs.Str.Parse.{ParsesUnsigned, digits_value}
 use Rattle.clap.specs.Words.{Row, Text}
-use Rattle.cmwq_words.proofs.RequestLemmas.{no_hyphen, numerals}
+use Rattle.cmwq_words.proofs.RequestLemmas.{numerals}
 use Rattle.clap.specs.Walk.{Walk, finished, nothing_held, walk_from}
-use Rattle.cmwq_words.proofs.WalkingLemmas.{Goes, begins_with_hyphen, end_passes, ends, on, on_plain, taken, why_shape}
-use Rattle.cmwq_words.proofs.DrawLemmas.{IsWordOf, Takes, is_word_of}
+use Rattle.cmwq_words.proofs.WalkingLemmas.{Goes, begins_with_hyphen, end_passes, ends, has_why, on, on_plain, taken, why_shape}
+use Rattle.cmwq_words.proofs.DrawLemmas.{Takes, decimal_begins, plain_begins}
 use Rattle.cmwq_words.specs.Request.{HasCapacity, HasShortNumber, IsMisuse, IsPlainWord, IsRead, IsShortNumber, IsValueWord, asked_from, asked_of, asked_why, file_to_ask, flag_of, flush_arguments, plain_number, position_words, work_arguments}
 use Rattle.cmwq_words.specs.declared.asking.Positions.{Positions}
 use Rattle.cmwq_words.specs.declared.asking.Positions.TheVariants.{Settled as AtSettled, Every, At}
@@ -68,13 +68,7 @@ short_number n short =
     ∙ ap Some (digits_value-decimal numerals n small)
 
 short_plain : (n : ℕ) → IsShortNumber n → begins_with_hyphen (decimal n) ≡ false
-short_plain n short = by (decimal n) (is_word_of n (omega (arith, short)))
-  where
-    by : (word : Text) → IsWordOf word n → begins_with_hyphen word ≡ false
-    by word it = ap begins_with_hyphen it.is ∙ it.no_option
-
-plain_begins : (word : Text) → IsPlainWord word → begins_with_hyphen word ≡ false
-plain_begins word (first, rest, is, plain) = ap begins_with_hyphen is ∙ no_hyphen first plain
+short_plain n short = decimal_begins n (omega (arith, short))
 
 value_begins : (word : Text) → IsValueWord word → begins_with_hyphen word ≡ false
 value_begins word (inl empty) = ap begins_with_hyphen empty
@@ -86,10 +80,10 @@ value_begins word (inr plain) = plain_begins word plain
 record Asks (words : List Text) (asked : Option (List Text)) : Type 0 where
   takes : (name : Text) → Takes (name ∷ codes "why" ∷ words) asked
 
-asks : (words : List Text) (asked : Option (List Text)) (end : Walk) → Goes why_shape (walk_from nothing_held) words end → end_passes end ≡ true
+asks : (words : List Text) (asked : Option (List Text)) (end : Walk) → Goes why_shape (walk_from nothing_held) words end → end_passes why_shape end ≡ true
     → asked_of (Some (codes "why", finished why_shape.rules end.held)) ≡ asked → Asks words asked
 asks words asked end goes passes is =
-    record { takes = λ name. let met = taken name words end goes passes in (met.0, ap asked_of met.1 ∙ is) }
+    record { takes = λ name. let met = taken has_why name words end goes passes in (met.0, ap asked_of met.1 ∙ is) }
 
 of_work : (file work : Text) → begins_with_hyphen file ≡ false → begins_with_hyphen work ≡ false
     → Asks (file ∷ work ∷ []) (asked_from false None (Some file) (Some work) None)
@@ -267,10 +261,10 @@ asked_met rows asked = by (flag_of (codes "every") rows)
 -- Words that are no question.
 
 misused : (words : List Text) (end : Walk) (every : Bool) (found : Option (List Text)) → found ≡ None → Goes why_shape (walk_from nothing_held) words end
-    → end_passes end ≡ true → flag_of (codes "every") (finished why_shape.rules end.held) ≡ Some every → asked_why every (finished why_shape.rules end.held) ≡ found
+    → end_passes why_shape end ≡ true → flag_of (codes "every") (finished why_shape.rules end.held) ≡ Some every → asked_why every (finished why_shape.rules end.held) ≡ found
     → (name : Text) → IsMisuse (name ∷ codes "why" ∷ words)
 misused words end every found none goes passes flag finds name =
-    let met = taken name words end goes passes in
+    let met = taken has_why name words end goes passes in
     (met.0, (codes "why", finished why_shape.rules end.held), met.1, (refl, every, flag, finds ∙ none))
 
 neither : (file : Text) → begins_with_hyphen file ≡ false → (name : Text) → IsMisuse (name ∷ codes "why" ∷ file ∷ [])

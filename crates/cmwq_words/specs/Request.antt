@@ -70,16 +70,13 @@ abbrev pub HasShortNumber : Positions → Type 0
 HasShortNumber (At k) = IsShortNumber k
 HasShortNumber positions = Unit {0}
 
--- a picture of all ticks
-abbrev pub whole : Bool → Bool → DrawOptions
-whole settle svg = record { settle = settle; svg = svg; from = None; to = None }
+-- a time that an option may have is a number below 2^64
+abbrev pub IsTimeIfAny : Option ℕ → Type 0
+IsTimeIfAny (Some time) = time < 2 ^ 64
+IsTimeIfAny None = Unit {0}
 
--- one as text of the ticks from a time on, and one of those before it
-abbrev pub from_on : ℕ → DrawOptions
-from_on time = record { settle = false; svg = false; from = Some time; to = None }
-
-abbrev pub up_to : ℕ → DrawOptions
-up_to time = record { settle = false; svg = false; from = None; to = Some time }
+abbrev pub HasTimes : DrawOptions → Type 0
+HasTimes options = IsTimeIfAny options.from × IsTimeIfAny options.to
 
 -- the words that ask for it
 abbrev pub words_of : Request → List Text
@@ -203,6 +200,16 @@ asked_why every rows =
 abbrev pub file_to_ask : List Row → Option (List Text)
 file_to_ask rows = option_and_then (λ every. asked_why every rows) (flag_of (codes "every") rows)
 
+-- those of the commands that look into a run
+abbrev pub asked_of_run : Text × List Row → Option (List Text)
+asked_of_run met =
+    if bytes_eq met.0 (codes "debug") then one_value (codes "debug") (codes "FILE") met.1
+    else if bytes_eq met.0 (codes "draw") then file_to_draw met.1
+    else if bytes_eq met.0 (codes "why") then file_to_ask met.1
+    else if bytes_eq met.0 (codes "play") then file_and_capacity met.1
+    else if bytes_eq met.0 (codes "check") then all_values (codes "check") (codes "FILE") met.1
+    else None
+
 abbrev pub asked_in : Text × List Row → Option (List Text)
 asked_in met =
     if bytes_eq met.0 (codes "new") then Some (value_if_any (codes "new") (codes "FILE") met.1)
@@ -211,12 +218,7 @@ asked_in met =
     else if bytes_eq met.0 (codes "list") then one_value (codes "list") (codes "FILE") met.1
     else if bytes_eq met.0 (codes "asm") then two_values (codes "asm") (codes "FILE") (codes "OUT") met.1
     else if bytes_eq met.0 (codes "show") then one_value (codes "show") (codes "IMAGE") met.1
-    else if bytes_eq met.0 (codes "debug") then one_value (codes "debug") (codes "FILE") met.1
-    else if bytes_eq met.0 (codes "draw") then file_to_draw met.1
-    else if bytes_eq met.0 (codes "why") then file_to_ask met.1
-    else if bytes_eq met.0 (codes "play") then file_and_capacity met.1
-    else if bytes_eq met.0 (codes "check") then all_values (codes "check") (codes "FILE") met.1
-    else None
+    else asked_of_run met
 
 abbrev pub asked_of : Option (Text × List Row) → Option (List Text)
 asked_of met = option_and_then asked_in met

@@ -3,8 +3,9 @@
 ghost use Rattle.clap.specs.Words.{Row, Text, all_of, app_of, fault_of, first_of, found_of, kind_of, rows_of, subcommand_rows_of};
 ghost use Rattle.cmwq_command_line.specs.CommandLine.{command_line};
 ghost use Rattle.cmwq_words.specs.declared.request.RunKind.TheVariants.{Settled, Told};
-ghost use Rattle.cmwq_words.specs.Request.{Asks, AsksNothing, AsksVersion, HasCapacity, IsCapacity, IsPlainWord, IsRead, IsRequestOf, IsVersionWord, IsWithin, HasShortNumber, IsMisuse, IsShortNumber, IsUsageFault, IsValueWord, all_values, asked_in, asked_of, draw_arguments, file_and_capacity, file_to_run, flush_arguments, from_on, kind_of_run, one_value, plain_number, position_words, run_arguments, two_values, up_to, value_if_any, whole, words_of, work_arguments};
+ghost use Rattle.cmwq_words.specs.Request.{Asks, AsksNothing, AsksVersion, HasCapacity, HasTimes, IsCapacity, IsPlainWord, IsRead, IsRequestOf, IsVersionWord, IsWithin, HasShortNumber, IsMisuse, IsShortNumber, IsUsageFault, IsValueWord, all_values, asked_in, asked_of, asked_of_run, draw_arguments, file_and_capacity, file_to_run, flush_arguments, kind_of_run, one_value, plain_number, position_words, run_arguments, two_values, value_if_any, words_of, work_arguments};
 ghost use Rattle.cmwq_words.specs.declared.asking.Positions.{Positions};
+ghost use Rattle.cmwq_words.specs.declared.drawing.DrawOptions.{DrawOptions};
 ghost use Rattle.std.specs.Fmt.{decimal};
 ghost use Rattle.std.specs.Str.{bytes_eq};
 ghost use Rattle.std.specs.Prelude.{◌≡◌, ◌↔◌, ◌<◌, ◌^◌, Bool, IsTrue, ℕ, List, [], ◌∷◌, IfOk, IfSome, None, Some, codes, false, map, option_map, string_bytes, true};
@@ -121,12 +122,8 @@ pub fn parse<'a>(alloc: Global, words: &'a [String]) -> Result<Request<'a>, Erro
         → IsPlainWord file → Asks (codes "run" ∷ run_arguments Told file) result }
     ensures settle { (name file : Text) → map string_bytes words.entry.now ≡ name ∷ codes "settle" ∷ file ∷ []
         → IsPlainWord file → Asks (codes "settle" ∷ file ∷ []) result }
-    ensures draw { (name file : Text) (settle svg : Bool) → map string_bytes words.entry.now ≡ name ∷ codes "draw" ∷ draw_arguments (whole settle svg) file
-        → IsPlainWord file → Asks (codes "draw" ∷ draw_arguments (whole settle svg) file) result }
-    ensures draw_from { (name file : Text) (time : ℕ) → map string_bytes words.entry.now ≡ name ∷ codes "draw" ∷ draw_arguments (from_on time) file
-        → IsPlainWord file → time < 2 ^ 64 → Asks (codes "draw" ∷ draw_arguments (from_on time) file) result }
-    ensures draw_to { (name file : Text) (time : ℕ) → map string_bytes words.entry.now ≡ name ∷ codes "draw" ∷ draw_arguments (up_to time) file
-        → IsPlainWord file → time < 2 ^ 64 → Asks (codes "draw" ∷ draw_arguments (up_to time) file) result }
+    ensures draw { (name file : Text) (options : DrawOptions) → map string_bytes words.entry.now ≡ name ∷ codes "draw" ∷ draw_arguments options file
+        → IsPlainWord file → HasTimes options → Asks (codes "draw" ∷ draw_arguments options file) result }
     ensures why_work { (name file work : Text) (positions : Positions) → map string_bytes words.entry.now ≡ name ∷ codes "why" ∷ work_arguments positions file work
         → IsPlainWord file → IsPlainWord work → HasShortNumber positions → Asks (codes "why" ∷ work_arguments positions file work) result }
     ensures why_flush { (name file : Text) (flush : ℕ) (positions : Positions) → map string_bytes words.entry.now ≡ name ∷ codes "why" ∷ flush_arguments positions flush file
@@ -279,6 +276,18 @@ fn request_on_file<'a>(name: &str, given: &ArgMatches<'a>) -> Option<Request<'a>
         "list" => list_request(given),
         "asm" => asm_request(given),
         "show" => show_request(given),
+        _ => request_on_run(name, given),
+    }
+}
+
+/// What the command of this name, which looks into a run, asks for.
+fn request_on_run<'a>(name: &str, given: &ArgMatches<'a>) -> Option<Request<'a>>
+    requires { bytes_eq name.now (codes "check") ≡ false }
+    ensures words { (asked : List Text) → asked_of_run (name.now, rows_of (found_of given.now)) ≡ Some asked → HasCapacity asked → option_map (λ request. words_of request) result ≡ Some asked }
+    ensures nothing { AsksNothing (name.now, rows_of (found_of given.now)) → result ≡ None }
+    ensures capacity { IfSome result (λ request. IsWithin request) }
+{
+    match name {
         "debug" => debug_request(given),
         "draw" => draw_request(given),
         "why" => why_request(given),

@@ -1,5 +1,5 @@
 use Rattle.cmwq_words.proofs.RequestLemmas.{asm_read, check_read, check_two_read, debug_read, list_read, new_file_read, new_read, play_read, run_read, run_settled_read, run_told_read, settle_read, show_read, version_asked}
-use Rattle.cmwq_words.proofs.DrawLemmas.{draw_read, from_read, to_read}
+use Rattle.cmwq_words.proofs.DrawLemmas.{draw_read}
 use Rattle.cmwq_words.proofs.WhyLemmas.{at_both_misused, both_misused, flush_first_read, flush_read, neither_misused, no_flush_misused, no_place_misused, work_first_read, work_read}
 use Rattle.cmwq_words.proofs.request.parse.Goals as goal
 
@@ -12,9 +12,7 @@ returns c =
       run_settled = λ name file are plain. c.request_met.ensures.asks _ (run_settled_read _ name file are plain);
       run_told = λ name file are plain. c.request_met.ensures.asks _ (run_told_read _ name file are plain);
       settle = λ name file are plain. c.request_met.ensures.asks _ (settle_read _ name file are plain);
-      draw = λ name file settle svg are plain. c.request_met.ensures.asks _ (draw_read _ name file settle svg are plain);
-      draw_from = λ name file time are plain small. c.request_met.ensures.asks _ (from_read _ name file time are plain small);
-      draw_to = λ name file time are plain small. c.request_met.ensures.asks _ (to_read _ name file time are plain small);
+      draw = λ name file options are plain times. c.request_met.ensures.asks _ (draw_read _ name file options are plain times);
       why_work = λ name file work positions are plain plain_work short. c.request_met.ensures.asks _ (work_read _ name file work positions are plain plain_work short);
       why_flush = λ name file flush positions are plain few short. c.request_met.ensures.asks _ (flush_read _ name file flush positions are plain few short);
       why_work_first = λ name file work positions are plain plain_work short. c.request_met.ensures.asks _ (work_first_read _ name file work positions are plain plain_work short);

@@ -1,0 +1,4 @@
+mod BodyLemmas
+mod DraftLemmas
+mod OperandLemmas
+mod Refused

@@ -1,0 +1,4 @@
+pub mod Declarations
+pub mod Instructions
+pub mod Operations
+pub mod Parts

@@ -1,0 +1,18 @@
+//! What a scenario's text has told so far, and what a line says against it.
+#![tactic(auto)]
+
+mod bodies;
+mod declarations;
+mod draft;
+mod instructions;
+mod operations;
+mod queues;
+mod works;
+
+pub use bodies::Bodies;
+pub use declarations::{QueueLine, WorkLine};
+pub use draft::Draft;
+pub use instructions::read_line;
+pub use operations::{read_next, read_op};
+pub use queues::{fits_flags, read_queue_line};
+pub use works::read_work_line;
