@@ -1,3 +1,2 @@
 pub mod ExecLemmas
-pub mod FillLemmas
 pub mod StartLemmas

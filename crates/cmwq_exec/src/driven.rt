@@ -3,8 +3,8 @@ ghost use Rattle.cmwq_table.specs.State.{start};
 ghost use Rattle.cmwq_types.specs.Faults.{IsValid};
 ghost use Rattle.std.specs.Prelude.{◌≡◌, IfOk};
 
-use crate::going::Going;
-use crate::parts::Parts;
+use crate::performing::exec;
+use cmwq_parts::{Going, Parts};
 use cmwq_table::{LoadError, Machine, View};
 use cmwq_types::{Instr, NoMemory, Reply, Scenario};
 use std::alloc::Global;
@@ -51,7 +51,7 @@ impl<P: Parts> Machine for Driven<P> {
     }
 
     fn exec(&mut self, instr: Instr) -> Reply {
-        self.going.exec(instr)
+        exec(&mut self.going, instr)
     }
 
     fn copy(&self) -> Result<Self, NoMemory> {

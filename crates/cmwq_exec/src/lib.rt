@@ -5,13 +5,7 @@
 mod disabling;
 mod driven;
 mod flushing;
-mod going;
-mod limits;
-mod moving;
-mod parts;
 mod performing;
-mod placing;
 mod refusing;
 
 pub use driven::Driven;
-pub use parts::Parts;

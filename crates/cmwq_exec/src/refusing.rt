@@ -6,8 +6,7 @@ ghost use Rattle.cmwq_types.specs.declared.limits.TheConstants.{MAX_MAX_ACTIVE};
 ghost use Rattle.cmwq_types.specs.declared.reply.Refusal.TheVariants.{BadCount, NoSuchQueue};
 ghost use Rattle.std.specs.Prelude.{◌≡◌, length, nat_lt};
 
-use crate::going::Going;
-use crate::parts::Parts;
+use cmwq_parts::{Going, Parts};
 use cmwq_types::{Instr, MAX_MAX_ACTIVE, QueueId, Refusal, Scenario, WorkId};
 
 /// Whether the instruction is a question, which is never spent and changes nothing.
@@ -17,46 +16,44 @@ pub(crate) fn is_question(instr: Instr) -> bool
     matches!(instr, Instr::Ask(_) | Instr::Busy | Instr::State(_))
 }
 
-impl<P: Parts> Going<P> {
-    /// What the instruction's operands are refused for, and else whether the steps are spent.
-    pub(crate) fn refused_at_once(&self, instr: Instr) -> Option<Refusal>
-        ensures { result ≡ or_else (operands self.now.scenario self.now.state instr) (spent_all self.now.scenario self.now.state instr) }
-    {
-        if let Some(why) = self.operands(instr) {
-            return Some(why);
-        }
-        if !is_question(instr) && self.parts.spent() >= self.parts.scenario().steps {
-            return Some(Refusal::Spent);
-        }
-        None
+/// What the instruction's operands are refused for, and else whether the steps are spent.
+pub(crate) fn refused_at_once<P: Parts>(going: &Going<P>, instr: Instr) -> Option<Refusal>
+    ensures { result ≡ or_else (operands going.now.scenario going.now.state instr) (spent_all going.now.scenario going.now.state instr) }
+{
+    if let Some(why) = operands(going, instr) {
+        return Some(why);
     }
+    if !is_question(instr) && going.parts().spent() >= going.parts().scenario().steps {
+        return Some(Refusal::Spent);
+    }
+    None
+}
 
-    /// What the operands are refused for, judged from left to right.
-    fn operands(&self, instr: Instr) -> Option<Refusal>
-        ensures { result ≡ operands self.now.scenario self.now.state instr }
-    {
-        let scenario = self.parts.scenario();
-        match instr {
-            Instr::Queue(w, cpu) | Instr::Delay(w, cpu, _) | Instr::Mod(w, cpu, _) => {
-                no_work_or_cpu(scenario, w, cpu)
-            }
-            Instr::Cancel(w)
-            | Instr::CancelSync(w)
-            | Instr::Flush(w)
-            | Instr::FlushDelayed(w)
-            | Instr::State(w)
-            | Instr::Disable(w)
-            | Instr::Enable(w) => no_work(scenario, w),
-            Instr::FlushQueue(q) if q.0 as usize >= scenario.queues.len() => {
-                Some(Refusal::NoSuchQueue)
-            }
-            Instr::SetMax(q, max) => no_queue_or_count(scenario, q, max),
-            Instr::Step(pool) if pool >= scenario.pool_count() => Some(Refusal::NoSuchPool),
-            Instr::Ask(flush) if flush as usize >= self.parts.flush_count() => {
-                Some(Refusal::NoSuchFlush)
-            }
-            _ => None,
+/// What the operands are refused for, judged from left to right.
+fn operands<P: Parts>(going: &Going<P>, instr: Instr) -> Option<Refusal>
+    ensures { result ≡ operands going.now.scenario going.now.state instr }
+{
+    let scenario = going.parts().scenario();
+    match instr {
+        Instr::Queue(w, cpu) | Instr::Delay(w, cpu, _) | Instr::Mod(w, cpu, _) => {
+            no_work_or_cpu(scenario, w, cpu)
         }
+        Instr::Cancel(w)
+        | Instr::CancelSync(w)
+        | Instr::Flush(w)
+        | Instr::FlushDelayed(w)
+        | Instr::State(w)
+        | Instr::Disable(w)
+        | Instr::Enable(w) => no_work(scenario, w),
+        Instr::FlushQueue(q) if q.0 as usize >= scenario.queues.len() => {
+            Some(Refusal::NoSuchQueue)
+        }
+        Instr::SetMax(q, max) => no_queue_or_count(scenario, q, max),
+        Instr::Step(pool) if pool >= scenario.pool_count() => Some(Refusal::NoSuchPool),
+        Instr::Ask(flush) if flush as usize >= going.parts().flush_count() => {
+            Some(Refusal::NoSuchFlush)
+        }
+        _ => None,
     }
 }
 

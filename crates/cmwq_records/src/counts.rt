@@ -5,7 +5,7 @@ ghost use Rattle.std.specs.Prelude.{◌≡◌, ◌<◌, IfSome, length};
 use crate::records::Records;
 use crate::sought::Sought;
 use crate::tally::Tally;
-use cmwq_exec::Parts;
+use cmwq_parts::Parts;
 
 impl Records {
     /// How many works of the queue may be active in a pool.

@@ -3,7 +3,7 @@ ghost use Rattle.cmwq_table.specs.Counts.{has_instance};
 ghost use Rattle.std.specs.Prelude.{◌≡◌, ◌==◌, nat_lt};
 
 use crate::records::Records;
-use cmwq_exec::Parts;
+use cmwq_parts::Parts;
 
 impl Records {
     /// Whether the work has a placed or a running instance of this birth.

@@ -8,7 +8,7 @@ use crate::burning::burn;
 use crate::looking::{entries, idle_workers};
 use crate::sought::Sought;
 use crate::tally::Tally;
-use cmwq_exec::Parts;
+use cmwq_parts::Parts;
 use cmwq_table::{FlushTarget, Pending, Running, View};
 use cmwq_types::{MAX_WORKERS, Mode, NoMemory, Place, RESCUER, Scenario};
 use std::alloc::Global;

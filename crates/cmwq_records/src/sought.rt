@@ -7,7 +7,7 @@ ghost use Rattle.cmwq_types.specs.Scenario.{queue_of};
 ghost use Rattle.std.specs.Prelude.{◌≡◌, ◌<◌, ◌==◌, ◌&&◌, ◌||◌, IfSome, length, nat_lt, true};
 
 use crate::records::Records;
-use cmwq_exec::Parts;
+use cmwq_parts::Parts;
 
 /// What a scan of the works looks for.
 #[derive(Clone, Copy)]

@@ -6,7 +6,7 @@ ghost use Rattle.cmwq_types.specs.declared.limits.TheConstants.{MAX_WORKS};
 ghost use Rattle.std.specs.Prelude.{◌≡◌, ◌≤◌, length};
 
 use crate::records::Records;
-use cmwq_exec::Parts;
+use cmwq_parts::Parts;
 use cmwq_types::RESCUER;
 
 /// What a scan of the works counts.

@@ -6,7 +6,7 @@ ghost use Rattle.std.specs.Prelude.{◌≡◌, ◌<◌, IfSome, true};
 
 use crate::records::Records;
 use crate::tally::Tally;
-use cmwq_exec::Parts;
+use cmwq_parts::Parts;
 
 impl Records {
     /// The pool's idle worker of greatest stamp.

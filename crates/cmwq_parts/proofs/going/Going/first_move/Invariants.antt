@@ -2,7 +2,7 @@ use Rattle.std.proofs.Common.{◌≡◌, None}
 use Rattle.std.specs.Prelude.{is_some}
 use Rattle.cmwq_types.specs.First.{first_below, by_least}
 use Rattle.cmwq_table.specs.Moves.{next_move}
-use Rattle.cmwq_exec.proofs.going.Going.first_move.Given as goal
+use Rattle.cmwq_parts.proofs.going.Going.first_move.Given as goal
 
 -- none of the pools so far has a move
 abbrev pub invariant-loop-pool : goal.invariant-loop-pool

@@ -1,5 +1,5 @@
 //! The moves of a worker pool: which one is next, and what each does.
-ghost use Rattle.cmwq_exec.specs.Moves.{IsFirstMove, IsFound, if_found, move_of};
+ghost use Rattle.cmwq_parts.specs.Moves.{IsFirstMove, IsFound, if_found, move_of};
 ghost use Rattle.cmwq_table.specs.Counts.{first_listed, first_rescued, free_worker, ready_head};
 ghost use Rattle.cmwq_table.specs.Moves.{advance, carry_out, come_to_end, finish, moved, next_move, queue_from_body, rescued, start_first, start_move, started};
 ghost use Rattle.cmwq_table.specs.Ready.{Takes};
@@ -15,7 +15,7 @@ use cmwq_types::{Event, Op, WorkId};
 
 /// The next move of a worker pool, as it was found.
 #[derive(Clone, Copy)]
-pub(crate) enum Found {
+pub enum Found {
     /// The work carries out the operation that it has come to.
     Advance(WorkId),
     /// The work's sleep is over.
@@ -30,7 +30,7 @@ pub(crate) enum Found {
 
 impl<P: Parts> Going<P> {
     /// The next move of the pool: advance, else wake, else start.
-    pub(crate) fn next_move(&self, pool: u8) -> Option<Found>
+    pub fn next_move(&self, pool: u8) -> Option<Found>
         requires pool { pool < pool_count self.now.scenario }
         ensures next { if_found result ≡ next_move self.now.scenario self.now.state pool }
         ensures fits { IfSome result (IsFound self.now.scenario self.now.state pool) }
@@ -77,7 +77,7 @@ impl<P: Parts> Going<P> {
     }
 
     /// The least pool that has a move, and its move.
-    pub(crate) fn first_move(&self) -> Option<(u8, Found)>
+    pub fn first_move(&self) -> Option<(u8, Found)>
         ensures first { IsFirstMove self.now.scenario self.now.state result }
         ensures pool { IfSome result (λ found. found.0 < pool_count self.now.scenario) }
         ensures fits { IfSome result (λ first. IsFound self.now.scenario self.now.state first.0 first.1) }
@@ -91,7 +91,7 @@ impl<P: Parts> Going<P> {
     }
 
     /// Makes the pool's move, and says what it did.
-    pub(crate) fn make_move(&mut self, pool: u8, next: Found) -> Event
+    pub fn make_move(&mut self, pool: u8, next: Found) -> Event
         requires pool { pool < pool_count self.old.scenario }
         requires fits { IsFound self.old.scenario self.old.state pool next }
         requires time { self.old.state.time < 2 ^ 60 }

@@ -1,7 +1,7 @@
 //! A machine amid an instruction: its parts, ready to be gone on from.
 ghost use Rattle.cmwq_table.specs.Counts.{first_inactive, first_listed, first_rescued, first_slept, free_worker, is_deferred, ready_head};
 ghost use Rattle.cmwq_table.specs.Moves.{begin_again, begin_on, deferred, enlist, newborn, retire, started_on, taking, tick, with_depth, with_flush, with_pending, with_pressed, with_running, woken};
-ghost use Rattle.cmwq_table.specs.Ready.{IsPlaceReady};
+ghost use Rattle.cmwq_table.specs.Ready.{IsPlaceReady, IsReady};
 ghost use Rattle.cmwq_table.specs.State.{pending_at, running_at, start};
 ghost use Rattle.cmwq_table.specs.View.{view_of};
 ghost use Rattle.cmwq_types.specs.Scenario.{pool_count};
@@ -23,7 +23,7 @@ use std::sync::Arc;
 /// change wants stamps below 2^63, a fill below 2^62, a fill of each pool below 2^61, and an instruction below
 /// 2^60. No run comes near that.
 #[derive(Drop)]
-pub(crate) struct Going<P: Parts> {
+pub struct Going<P: Parts> {
     pub(crate) parts: P,
 }
 
@@ -40,7 +40,7 @@ impl<P: Parts> Model for Going<P> {
 impl<P: Parts> Going<P> {
     /// The start state of the scenario.
     #[tactic(auto, using(cmwq_table::proofs::ReadyLemmas::keeps_ready))]
-    pub(crate) fn begin(alloc: Global, scenario: Arc<Scenario>) -> Result<Self, NoMemory>
+    pub fn begin(alloc: Global, scenario: Arc<Scenario>) -> Result<Self, NoMemory>
         requires { IsSetting scenario.value }
         ensures { IfOk result (λ going. going ≡ record { scenario = scenario.value; state = start scenario.value }) }
     {
@@ -49,7 +49,7 @@ impl<P: Parts> Going<P> {
     }
 
     /// The same state, apart from this one.
-    pub(crate) fn copy(&self) -> Result<Self, NoMemory>
+    pub fn copy(&self) -> Result<Self, NoMemory>
         ensures { IfOk result (λ copy. copy ≡ self.now) }
     {
         let parts = self.parts.copy()?;
@@ -57,14 +57,22 @@ impl<P: Parts> Going<P> {
     }
 
     /// Every part of the state.
-    pub(crate) fn look(&self) -> Result<View, NoMemory>
+    pub fn look(&self) -> Result<View, NoMemory>
         ensures { IfOk result (λ view. view ≡ view_of self.now.state) }
     {
         self.parts.look()
     }
 
+    /// The parts, which answer the questions on the state.
+    pub fn parts(&self) -> &P
+        ensures held { P.held result.now ≡ self.now }
+        ensures ready { IsReady self.now.scenario self.now.state }
+    {
+        &self.parts
+    }
+
     /// The time, in ticks since the start.
-    pub(crate) fn time(&self) -> u64
+    pub fn time(&self) -> u64
         ensures { result ≡ self.now.state.time }
     {
         self.parts.time()
@@ -72,7 +80,7 @@ impl<P: Parts> Going<P> {
 
     /// Makes a new instance of a work that isn't pending, and puts it at the place.
     #[tactic(auto, using(cmwq_table::proofs::ReadyLemmas::keeps_ready))]
-    pub(crate) fn bear(&mut self, w: usize, place: Place)
+    pub fn bear(&mut self, w: usize, place: Place)
         requires work { w < length self.old.scenario.works }
         requires idle { pending_at self.old.state w ≡ None }
         requires place { IsPlaceReady self.old.scenario place }
@@ -84,7 +92,7 @@ impl<P: Parts> Going<P> {
 
     /// Takes the pending work off.
     #[tactic(auto, using(cmwq_table::proofs::ReadyLemmas::keeps_ready))]
-    pub(crate) fn unpend(&mut self, w: usize, p: Pending)
+    pub fn unpend(&mut self, w: usize, p: Pending)
         requires work { w < length self.old.scenario.works }
         requires pending { pending_at self.old.state w ≡ Some p }
         ensures { self.new ≡ record self.old { state = with_pending self.old.state w None } }
@@ -94,7 +102,7 @@ impl<P: Parts> Going<P> {
 
     /// Lists the queue's first inactive work in the pool.
     #[tactic(auto, using(cmwq_table::proofs::ReadyLemmas::keeps_ready))]
-    pub(crate) fn enlist(&mut self, queue: u8, pool: u8, w: usize)
+    pub fn enlist(&mut self, queue: u8, pool: u8, w: usize)
         requires queue { queue < length self.old.scenario.queues }
         requires pool { pool < pool_count self.old.scenario }
         requires work { w < length self.old.scenario.works }
@@ -107,7 +115,7 @@ impl<P: Parts> Going<P> {
 
     /// Puts off the pool's first listed work, which runs.
     #[tactic(auto, using(cmwq_table::proofs::ReadyLemmas::keeps_ready))]
-    pub(crate) fn defer(&mut self, pool: u8, w: usize)
+    pub fn defer(&mut self, pool: u8, w: usize)
         requires pool { pool < pool_count self.old.scenario }
         requires work { w < length self.old.scenario.works }
         requires first { first_listed self.old.scenario self.old.state pool ≡ Some w }
@@ -119,7 +127,7 @@ impl<P: Parts> Going<P> {
 
     /// Starts the pool's first listed work, which doesn't run, on the free worker.
     #[tactic(auto, using(cmwq_table::proofs::ReadyLemmas::keeps_ready))]
-    pub(crate) fn start_on(&mut self, pool: u8, w: usize, worker: u8, p: Pending)
+    pub fn start_on(&mut self, pool: u8, w: usize, worker: u8, p: Pending)
         requires pool { pool < pool_count self.old.scenario }
         requires work { w < length self.old.scenario.works }
         requires worker { worker < self.old.scenario.workers }
@@ -135,7 +143,7 @@ impl<P: Parts> Going<P> {
 
     /// Starts the pool's first listed work that its queue's rescuer can take, on that rescuer.
     #[tactic(auto, using(cmwq_table::proofs::ReadyLemmas::keeps_ready))]
-    pub(crate) fn rescue(&mut self, pool: u8, w: usize, p: Pending)
+    pub fn rescue(&mut self, pool: u8, w: usize, p: Pending)
         requires pool { pool < pool_count self.old.scenario }
         requires work { w < length self.old.scenario.works }
         requires first { first_rescued self.old.scenario self.old.state pool ≡ Some w }
@@ -148,7 +156,7 @@ impl<P: Parts> Going<P> {
 
     /// The running work goes on to the next operation, with so many ticks to burn first.
     #[tactic(auto, using(cmwq_table::proofs::ReadyLemmas::keeps_ready))]
-    pub(crate) fn go_on(&mut self, w: usize, r: Running, left: u32)
+    pub fn go_on(&mut self, w: usize, r: Running, left: u32)
         requires work { w < length self.old.scenario.works }
         requires running { running_at self.old.state w ≡ Some r }
         requires head { ready_head self.old.scenario self.old.state r.pool ≡ Some w }
@@ -160,7 +168,7 @@ impl<P: Parts> Going<P> {
 
     /// The running work goes on to the next operation, and sleeps until this time first.
     #[tactic(auto, using(cmwq_table::proofs::ReadyLemmas::keeps_ready))]
-    pub(crate) fn sleep(&mut self, w: usize, r: Running, until: u64)
+    pub fn sleep(&mut self, w: usize, r: Running, until: u64)
         requires work { w < length self.old.scenario.works }
         requires running { running_at self.old.state w ≡ Some r }
         requires head { ready_head self.old.scenario self.old.state r.pool ≡ Some w }
@@ -172,7 +180,7 @@ impl<P: Parts> Going<P> {
 
     /// Wakes the pool's first sleeper whose sleep is over.
     #[tactic(auto, using(cmwq_table::proofs::ReadyLemmas::keeps_ready))]
-    pub(crate) fn wake(&mut self, pool: u8, w: usize)
+    pub fn wake(&mut self, pool: u8, w: usize)
         requires pool { pool < pool_count self.old.scenario }
         requires work { w < length self.old.scenario.works }
         requires first { first_slept self.old.scenario self.old.state pool ≡ Some w }
@@ -184,7 +192,7 @@ impl<P: Parts> Going<P> {
 
     /// The running work ends, and its deferred instance begins on the same worker.
     #[tactic(auto, using(cmwq_table::proofs::ReadyLemmas::keeps_ready))]
-    pub(crate) fn begin_again(&mut self, w: usize, r: Running, p: Pending)
+    pub fn begin_again(&mut self, w: usize, r: Running, p: Pending)
         requires work { w < length self.old.scenario.works }
         requires running { running_at self.old.state w ≡ Some r }
         requires pending { pending_at self.old.state w ≡ Some p }
@@ -197,7 +205,7 @@ impl<P: Parts> Going<P> {
 
     /// The running work ends, and its worker is idle, or the rescuer is free.
     #[tactic(auto, using(cmwq_table::proofs::ReadyLemmas::keeps_ready))]
-    pub(crate) fn retire(&mut self, w: usize, r: Running)
+    pub fn retire(&mut self, w: usize, r: Running)
         requires work { w < length self.old.scenario.works }
         requires running { running_at self.old.state w ≡ Some r }
         requires stamps { self.old.state.next < 2 ^ 63 }
@@ -208,7 +216,7 @@ impl<P: Parts> Going<P> {
 
     /// Lets one tick of time pass.
     #[tactic(auto, using(cmwq_table::proofs::ReadyLemmas::keeps_ready))]
-    pub(crate) fn tick(&mut self)
+    pub fn tick(&mut self)
         requires time { self.old.state.time < 2 ^ 63 }
         ensures { self.new ≡ record self.old { state = tick self.old.scenario self.old.state } }
     {
@@ -217,7 +225,7 @@ impl<P: Parts> Going<P> {
 
     /// Sets how much more often the work was disabled than enabled.
     #[tactic(auto, using(cmwq_table::proofs::ReadyLemmas::keeps_ready))]
-    pub(crate) fn set_depth(&mut self, w: usize, depth: u16)
+    pub fn set_depth(&mut self, w: usize, depth: u16)
         requires work { w < length self.old.scenario.works }
         ensures { self.new ≡ record self.old { state = with_depth self.old.state w depth } }
     {
@@ -226,7 +234,7 @@ impl<P: Parts> Going<P> {
 
     /// Sets the queue's `max_active`.
     #[tactic(auto, using(cmwq_table::proofs::ReadyLemmas::keeps_ready))]
-    pub(crate) fn set_max(&mut self, queue: u8, max: u16)
+    pub fn set_max(&mut self, queue: u8, max: u16)
         requires queue { queue < length self.old.scenario.queues }
         ensures { self.new ≡ record self.old { state = record self.old.state { max = slice_set self.old.state.max queue max } } }
     {
@@ -235,7 +243,7 @@ impl<P: Parts> Going<P> {
 
     /// Sets whether there is a freeze.
     #[tactic(auto, using(cmwq_table::proofs::ReadyLemmas::keeps_ready))]
-    pub(crate) fn set_frozen(&mut self, frozen: bool)
+    pub fn set_frozen(&mut self, frozen: bool)
         ensures { self.new ≡ record self.old { state = record self.old.state { frozen = frozen } } }
     {
         self.parts.set_frozen(frozen);
@@ -243,7 +251,7 @@ impl<P: Parts> Going<P> {
 
     /// Sets whether there is memory pressure.
     #[tactic(auto, using(cmwq_table::proofs::ReadyLemmas::keeps_ready))]
-    pub(crate) fn set_pressed(&mut self, pressed: bool)
+    pub fn set_pressed(&mut self, pressed: bool)
         ensures { self.new ≡ record self.old { state = with_pressed self.old.state pressed } }
     {
         self.parts.set_pressed(pressed);
@@ -251,7 +259,7 @@ impl<P: Parts> Going<P> {
 
     /// Gives a flush on the target.
     #[tactic(auto, using(cmwq_table::proofs::ReadyLemmas::keeps_ready))]
-    pub(crate) fn push_flush(&mut self, target: FlushTarget)
+    pub fn push_flush(&mut self, target: FlushTarget)
         requires room { length self.old.state.flushes < self.old.scenario.flushes }
         ensures { self.new ≡ record self.old { state = with_flush self.old.state target } }
     {
@@ -260,7 +268,7 @@ impl<P: Parts> Going<P> {
 
     /// Counts one more instruction as spent.
     #[tactic(auto, using(cmwq_table::proofs::ReadyLemmas::keeps_ready))]
-    pub(crate) fn spend(&mut self)
+    pub fn spend(&mut self)
         requires left { self.old.state.spent < self.old.scenario.steps }
         ensures { self.new ≡ record self.old { state = record self.old.state { spent = self.old.state.spent + 1 } } }
     {

@@ -1,7 +1,7 @@
 use Rattle.std.proofs.Common.{◌≡◌, ◌≤◌, ◌+◌, ◌*◌}
 use Rattle.cmwq_table.specs.Moves.{fill_pools}
 use Rattle.cmwq_types.specs.declared.limits.TheConstants.{MAX_WORKS}
-use Rattle.cmwq_exec.proofs.going.Going.fill_everywhere.Given as goal
+use Rattle.cmwq_parts.proofs.going.Going.fill_everywhere.Given as goal
 
 -- the pools so far are filled
 abbrev pub invariant-loop-pool : goal.invariant-loop-pool

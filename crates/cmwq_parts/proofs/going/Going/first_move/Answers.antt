@@ -3,8 +3,8 @@ use Rattle.std.specs.Prelude.{is_some}
 use Rattle.cmwq_types.specs.Scenario.{pool_count}
 use Rattle.cmwq_types.proofs.FirstLemmas.{first_below-from}
 use Rattle.cmwq_table.specs.Moves.{next_move}
-use Rattle.cmwq_exec.specs.Moves.{if_found, move_of}
-use Rattle.cmwq_exec.proofs.going.Going.first_move.Goals as goal
+use Rattle.cmwq_parts.specs.Moves.{if_found, move_of}
+use Rattle.cmwq_parts.proofs.going.Going.first_move.Goals as goal
 
 pub returns-in-Some-clause-first : goal.returns-in-Some-clause-first
 returns-in-Some-clause-first g c =

@@ -11,7 +11,7 @@ use cmwq_types::Flags;
 
 impl<P: Parts> Going<P> {
     /// How many worker pools there are.
-    pub(crate) fn pool_count(&self) -> u8
+    pub fn pool_count(&self) -> u8
         ensures count { result ≡ pool_count self.now.scenario }
         ensures few { result ≤ 2 * MAX_CPUS + 2 }
     {
@@ -19,21 +19,21 @@ impl<P: Parts> Going<P> {
     }
 
     /// How many queues there are.
-    pub(crate) fn queue_count(&self) -> u8
+    pub fn queue_count(&self) -> u8
         ensures { result ≡ length self.now.scenario.queues }
     {
         self.parts.scenario().queues.len() as u8
     }
 
     /// The flags of the queue.
-    pub(crate) fn flags_of(&self, queue: u8) -> Flags
+    pub fn flags_of(&self, queue: u8) -> Flags
         ensures { result ≡ flags_at self.now.scenario queue }
     {
         self.parts.scenario().flags_of(queue)
     }
 
     /// Sets the queue's `max`, and activates what has room now. Nothing that is active is thrown out.
-    pub(crate) fn set_max_active(&mut self, queue: u8, max: u16)
+    pub fn set_max_active(&mut self, queue: u8, max: u16)
         requires queue { queue < length self.old.scenario.queues }
         requires stamps { self.old.state.next < 2 ^ 61 }
         ensures { self.new ≡ record self.old { state = set_max self.old.scenario self.old.state queue max } }
@@ -43,14 +43,14 @@ impl<P: Parts> Going<P> {
     }
 
     /// Freezes: nothing of a freezable queue is activated until the thaw.
-    pub(crate) fn freeze(&mut self)
+    pub fn freeze(&mut self)
         ensures { self.new ≡ record self.old { state = freeze self.old.state } }
     {
         self.set_frozen(true);
     }
 
     /// Ends the freeze, and activates what has room now.
-    pub(crate) fn thaw(&mut self)
+    pub fn thaw(&mut self)
         requires stamps { self.old.state.next < 2 ^ 60 }
         ensures { self.new ≡ record self.old { state = thaw self.old.scenario self.old.state } }
     {

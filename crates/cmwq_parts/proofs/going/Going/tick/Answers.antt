@@ -1,5 +1,5 @@
 use Rattle.cmwq_table.proofs.ReadyLemmas.{tick-ready}
-use Rattle.cmwq_exec.proofs.going.Going.tick.Goals as goal
+use Rattle.cmwq_parts.proofs.going.Going.tick.Goals as goal
 
 pub invariant_of-self : goal.invariant_of-self
 invariant_of-self g c = rw c.tick.ensures (tick-ready _ _ c.self.invariant)

@@ -1,6 +1,6 @@
 use Rattle.std.proofs.Common.{◌≡◌, ◌≤◌, ◌+◌, ◌-◌, length}
 use Rattle.cmwq_table.specs.Moves.{fill, fill_times}
-use Rattle.cmwq_exec.proofs.going.Going.fill.Given as goal
+use Rattle.cmwq_parts.proofs.going.Going.fill.Given as goal
 
 -- the turns that are left lead to the whole
 abbrev pub invariant-loop-turn : goal.invariant-loop-turn

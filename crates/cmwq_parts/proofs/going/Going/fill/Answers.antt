@@ -3,8 +3,8 @@ use Rattle.cmwq_table.specs.Ready.{Loaded}
 use Rattle.cmwq_types.specs.Setting.{IsSetting}
 use Rattle.cmwq_table.specs.Moves.{fill, fill_one}
 use Rattle.cmwq_table.proofs.CounterLemmas.{fill-takes}
-use Rattle.cmwq_exec.proofs.FillLemmas.{loaded-is, fill_times-done, fill_times-stays, fill_times-turn}
-use Rattle.cmwq_exec.proofs.going.Going.fill.Goals as goal
+use Rattle.cmwq_parts.proofs.FillLemmas.{loaded-is, fill_times-done, fill_times-stays, fill_times-turn}
+use Rattle.cmwq_parts.proofs.going.Going.fill.Goals as goal
 
 pub loop-turn-preserved : goal.loop-turn-preserved
 loop-turn-preserved g c =

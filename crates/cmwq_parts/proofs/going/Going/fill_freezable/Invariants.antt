@@ -1,7 +1,7 @@
 use Rattle.std.proofs.Common.{◌≡◌, ◌≤◌, ◌+◌, ◌*◌}
 use Rattle.cmwq_table.specs.Moves.{fill_freezable}
 use Rattle.cmwq_table.specs.Ready.{most_everywhere}
-use Rattle.cmwq_exec.proofs.going.Going.fill_freezable.Given as goal
+use Rattle.cmwq_parts.proofs.going.Going.fill_freezable.Given as goal
 
 -- the freezable queues so far are filled
 abbrev pub invariant-loop-queue : goal.invariant-loop-queue

@@ -6,8 +6,8 @@ use Rattle.cmwq_types.specs.declared.moves.Move.TheVariants.{Advance, Wake, Star
 use Rattle.cmwq_table.specs.Counts.{first_listed, first_rescued, first_slept, free_worker, ready_head}
 use Rattle.cmwq_table.specs.Moves.{first_moving, next_move}
 use Rattle.cmwq_table.specs.State.{State, running_at}
-use Rattle.cmwq_exec.specs.declared.moving.Found.{Found}
-use Rattle.cmwq_exec.specs.declared.moving.Found.TheVariants as found
+use Rattle.cmwq_parts.specs.declared.moving.Found.{Found}
+use Rattle.cmwq_parts.specs.declared.moving.Found.TheVariants as found
 
 -- the move is of the work that it is to be of, and starts it on the worker that is free
 abbrev pub IsFound : ScenarioContents → State → ℕ → Found → Type 0

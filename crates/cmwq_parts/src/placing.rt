@@ -1,7 +1,7 @@
 //! Placing works in worker pools, and filling what has room.
 ghost use Rattle.cmwq_table.specs.Moves.{fill, fill_from, fill_one, fire, place, place_after, pool_for, take_off};
 ghost use Rattle.cmwq_table.specs.Ready.{IsPendingReady, IsPlaceReady, IsRunningReady, Takes};
-ghost use Rattle.cmwq_table.specs.State.{pending_at, running_at};
+ghost use Rattle.cmwq_table.specs.State.{is_disabled, pending_at, running_at};
 ghost use Rattle.cmwq_types.specs.Scenario.{pool_count, queue_of};
 ghost use Rattle.cmwq_types.specs.declared.limits.TheConstants.{MAX_WORKS};
 ghost use Rattle.std.specs.Prelude.{◌≡◌, ◌<◌, ◌≤◌, ◌+◌, ◌^◌, IsFalse, None, length};
@@ -9,11 +9,11 @@ ghost use Rattle.std.specs.Prelude.{◌≡◌, ◌<◌, ◌≤◌, ◌+◌, ◌^
 use crate::going::Going;
 use crate::parts::Parts;
 use cmwq_table::{Pending, Running};
-use cmwq_types::Place;
+use cmwq_types::{Place, WorkId};
 
 impl<P: Parts> Going<P> {
     /// The pending instance of the work, if it has one.
-    pub(crate) fn pending_of(&self, w: usize) -> Option<Pending>
+    pub fn pending_of(&self, w: usize) -> Option<Pending>
         ensures pending { result ≡ pending_at self.now.state w }
         ensures ready { IsPendingReady self.now.scenario result }
     {
@@ -21,15 +21,22 @@ impl<P: Parts> Going<P> {
     }
 
     /// The running instance of the work, if it has one.
-    pub(crate) fn running_of(&self, w: usize) -> Option<Running>
+    pub fn running_of(&self, w: usize) -> Option<Running>
         ensures running { result ≡ running_at self.now.state w }
         ensures ready { IsRunningReady self.now.scenario result }
     {
         self.parts.running_of(w)
     }
 
+    /// Whether the work was disabled more often than enabled.
+    pub fn is_disabled(&self, w: WorkId) -> bool
+        ensures { result ≡ is_disabled self.now.state w.0 }
+    {
+        self.parts.depth_of(w.0 as usize) != 0
+    }
+
     /// The queue of the work.
-    pub(crate) fn queue_of(&self, w: usize) -> u8
+    pub fn queue_of(&self, w: usize) -> u8
         requires work { w < length self.now.scenario.works }
         ensures queue { result ≡ queue_of self.now.scenario w }
         ensures in_range { result < length self.now.scenario.queues }
@@ -38,7 +45,7 @@ impl<P: Parts> Going<P> {
     }
 
     /// How many works there are.
-    pub(crate) fn work_count(&self) -> usize
+    pub fn work_count(&self) -> usize
         ensures { result ≡ length self.now.scenario.works }
     {
         self.parts.scenario().works.len()
@@ -60,7 +67,7 @@ impl<P: Parts> Going<P> {
     }
 
     /// Places the work: it is listed if its queue has room in the pool, else inactive.
-    pub(crate) fn place(&mut self, w: usize, cpu: u8)
+    pub fn place(&mut self, w: usize, cpu: u8)
         requires work { w < length self.old.scenario.works }
         requires cpu { cpu < self.old.scenario.cpus }
         requires idle { pending_at self.old.state w ≡ None }
@@ -77,7 +84,7 @@ impl<P: Parts> Going<P> {
     }
 
     /// Places the work after so many ticks, at once after none.
-    pub(crate) fn place_after(&mut self, w: usize, cpu: u8, ticks: u32)
+    pub fn place_after(&mut self, w: usize, cpu: u8, ticks: u32)
         requires work { w < length self.old.scenario.works }
         requires cpu { cpu < self.old.scenario.cpus }
         requires idle { pending_at self.old.state w ≡ None }
@@ -116,7 +123,7 @@ impl<P: Parts> Going<P> {
     }
 
     /// While the queue has room in the pool, lists its first inactive work there.
-    pub(crate) fn fill(&mut self, queue: u8, pool: u8)
+    pub fn fill(&mut self, queue: u8, pool: u8)
         requires queue { queue < length self.old.scenario.queues }
         requires pool { pool < pool_count self.old.scenario }
         requires stamps { self.old.state.next < 2 ^ 62 }
@@ -149,7 +156,7 @@ impl<P: Parts> Going<P> {
 
     /// Takes the work off, if it is pending, and fills what it leaves.
     #[tactic(auto, using(cmwq_table::proofs::IdleLemmas::unpended))]
-    pub(crate) fn take_off(&mut self, w: usize)
+    pub fn take_off(&mut self, w: usize)
         requires work { w < length self.old.scenario.works }
         requires stamps { self.old.state.next < 2 ^ 62 }
         ensures taken { self.new ≡ record self.old { state = take_off self.old.scenario self.old.state w } }
@@ -165,7 +172,7 @@ impl<P: Parts> Going<P> {
 
     /// Fires the work's timer, if it has one: the work is placed on the timer's CPU.
     #[tactic(auto, using(cmwq_table::proofs::IdleLemmas::unpended))]
-    pub(crate) fn fire(&mut self, w: usize)
+    pub fn fire(&mut self, w: usize)
         requires work { w < length self.old.scenario.works }
         requires stamps { self.old.state.next < 2 ^ 63 }
         ensures { self.new ≡ record self.old { state = fire self.old.scenario self.old.state w } }
