@@ -3,7 +3,7 @@ ghost use Rattle.cmwq_table.specs.Moves.{begun};
 ghost use Rattle.cmwq_table.specs.State.{seat};
 ghost use Rattle.std.specs.Prelude.{◌≡◌};
 
-use crate::beginning::{declared_max, filled};
+use crate::beginning::{PoolVectors, WorkVectors, copied_flushes, declared_max};
 use crate::burning::burn;
 use crate::looking::{entries, idle_workers};
 use crate::sought::Sought;
@@ -69,15 +69,16 @@ impl Parts for Records {
     ghost held = { λ r. r };
 
     fn begin(alloc: Global, scenario: Arc<Scenario>) -> Result<Self, NoMemory> {
-        let works = scenario.works.len();
-        let pools = scenario.pool_count() as usize;
         let max = declared_max(alloc, &scenario.queues)?;
-        let pending = filled(alloc, None, works)?;
-        let running = filled(alloc, None, works)?;
-        let depth = filled(alloc, 0, works)?;
-        let idle = filled(alloc, None, MAX_WORKERS as usize * pools)?;
-        let made = filled(alloc, 0, pools)?;
         let flushes = Vec::with_capacity(alloc, scenario.flushes as usize)?;
+        let works = WorkVectors::at_rest(alloc, scenario.works.len())?;
+        let pools = PoolVectors::at_rest(alloc, scenario.pool_count())?;
+        let WorkVectors {
+            pending,
+            running,
+            depth,
+        } = works;
+        let PoolVectors { idle, made } = pools;
         Ok(Records {
             scenario,
             time: 0,
@@ -99,13 +100,15 @@ impl Parts for Records {
         let alloc = *self.max.allocator();
         let scenario = Arc::clone(&self.scenario)?;
         let max = Vec::from_slice(alloc, &self.max)?;
-        let pending = Vec::from_slice(alloc, &self.pending)?;
-        let running = Vec::from_slice(alloc, &self.running)?;
-        let depth = Vec::from_slice(alloc, &self.depth)?;
-        let idle = Vec::from_slice(alloc, &self.idle)?;
-        let made = Vec::from_slice(alloc, &self.made)?;
-        let mut flushes = Vec::with_capacity(alloc, self.scenario.flushes as usize)?;
-        flushes.extend_from_slice(&self.flushes)?;
+        let flushes = copied_flushes(alloc, &self.flushes, self.scenario.flushes as usize)?;
+        let works = WorkVectors::copied(alloc, &self.pending, &self.running, &self.depth)?;
+        let pools = PoolVectors::copied(alloc, &self.idle, &self.made)?;
+        let WorkVectors {
+            pending,
+            running,
+            depth,
+        } = works;
+        let PoolVectors { idle, made } = pools;
         Ok(Records {
             scenario,
             time: self.time,
