@@ -63,25 +63,25 @@ pub(crate) fn close_actor<'t>(actor: Box<OpenActor<'t>>) -> Result<Draft<'t>, No
 /// without fault. Tells what is left of the text, and how many lines were added. Most lines of a large text
 /// are such: none of them makes a stage by itself.
 pub(crate) fn read_instructions<'t>(
-    mut actor: Box<OpenActor<'t>>,
+    actor: &mut OpenActor<'t>,
     text: &'t [u8],
-) -> Result<(Box<OpenActor<'t>>, &'t [u8], u32), NoMemory>
+) -> Result<(&'t [u8], u32), NoMemory>
     requires text { IsTrue (is_utf8 text.now) }
     requires few { length text.now ≤ MAX_TEXT }
-    ensures lines { IfOk result (λ read. LeadsOn text.now (stage_in actor.entry.value) read.1.now read.2 (stage_in read.0.value)) }
-    ensures text { IfOk result (λ read. IsTrue (is_utf8 read.1.now)) }
+    ensures lines { IfOk result (λ read. LeadsOn text.now (stage_in actor.old) read.0.now read.1 (stage_in actor.new)) }
+    ensures text { IfOk result (λ read. IsTrue (is_utf8 read.0.now)) }
 {
     let mut rest = text;
     let mut count = 0;
     while let Some((line, behind)) = next_line(rest) {
-        match instruction_of(&actor, line) {
+        match instruction_of(actor, line) {
             Some(instruction) => actor.lines.push(instruction)?,
-            None => return Ok((actor, rest, count)),
+            None => return Ok((rest, count)),
         }
         rest = behind;
         count += 1;
     }
-    Ok((actor, rest, count))
+    Ok((rest, count))
 }
 
 /// The line that this is of the actor, where it is an instruction without fault, and there is room for it.

@@ -2,14 +2,16 @@
 ghost use Rattle.cmwq_asm.specs.Answers.{Gives};
 ghost use Rattle.cmwq_asm.specs.Stages.{stage_of};
 ghost use Rattle.cmwq_grammar.specs.Reasons.{add_op, open_body};
+ghost use Rattle.cmwq_grammar.specs.Stages.{with_body};
 ghost use Rattle.cmwq_scan.specs.Words.{words_left};
+ghost use Rattle.std.specs.Prelude.{◌≡◌, IfOk};
 
 use crate::fault::LineError;
 use crate::open::OpenBody;
 use crate::stage::Stage;
 use cmwq_draft::{Bodies, read_next};
 use cmwq_grammar::Why;
-use cmwq_types::{Fault, MAX_OPS, Op};
+use cmwq_types::{Fault, MAX_OPS, NoMemory, Op};
 use std::alloc::Global;
 
 /// Opens the body of the next work, which what is behind the word `body` must name.
@@ -40,6 +42,14 @@ pub(crate) fn add_op<'t>(mut body: Box<OpenBody<'t>>, op: Op) -> Result<Stage<'t
     if !is_last {
         return Ok(Stage::Body(body));
     }
+    Ok(Stage::Bodies(close_body(body)?))
+}
+
+/// The bodies so far, with this one, which has no further operations.
+fn close_body<'t>(body: Box<OpenBody<'t>>) -> Result<Bodies<'t>, NoMemory>
+    ensures { IfOk result (λ bodies. bodies
+        ≡ record { told = body.entry.value.bodies.told; done = with_body body.entry.value.bodies.told body.entry.value.bodies.done body.entry.value.ops.items }) }
+{
     let OpenBody { bodies, ops } = Box::into_inner(body);
-    Ok(Stage::Bodies(bodies.with_body(ops)?))
+    bodies.with_body(ops)
 }

@@ -94,8 +94,8 @@ impl<'t> Stage<'t> {
             return Ok((self, text, 0));
         }
         match self {
-            Stage::Actor(actor) => {
-                let (actor, rest, count) = read_instructions(actor, text)?;
+            Stage::Actor(mut actor) => {
+                let (rest, count) = read_instructions(&mut actor, text)?;
                 Ok((Stage::Actor(actor), rest, count))
             }
             other => Ok((other, text, 0)),

@@ -8,7 +8,7 @@ use Rattle.cmwq_asm.proofs.actors.read_instructions.Given as goal
 -- the lines so far lead to the actor as it is
 abbrev pub invariant-loop-line : goal.invariant-loop-line
 invariant-loop-line l = record {
-  lines : LeadsOn l.text (stage_in l.initial.actor.value) l.rest l.count (stage_in l.actor.value);
+  lines : LeadsOn l.text (stage_in l.initial.actor) l.rest l.count (stage_in l.actor);
   text : IsTrue (is_utf8 l.rest);
 }
 
