@@ -72,11 +72,7 @@ impl PoolVectors {
     }
 
     /// With these entries.
-    pub(crate) fn copied(
-        alloc: Global,
-        idle: &[Option<u64>],
-        made: &[u8],
-    ) -> Result<Self, NoMemory>
+    pub(crate) fn copied(alloc: Global, idle: &[Option<u64>], made: &[u8]) -> Result<Self, NoMemory>
         ensures idle { IfOk result (λ v. v.idle.items ≡ idle.now) }
         ensures made { IfOk result (λ v. v.made.items ≡ made.now) }
     {
