@@ -90,11 +90,19 @@ assert changed("docs/GATE.md", "words\n", "another kit") == ["high", "low", "sid
 
 with tempfile.TemporaryDirectory() as room:
     made(room)
+    check.Edits(room, "another kit").write(["low", "side"])
+    write(room, "crates/high/src/lib.rt", "fn high()  {}\n")
+    check.Edits(room, "another kit").write(["high"])
+    assert check.Edits(room, "another kit").plan("00")[0] == []
+    assert check.Edits(room, "a kit").plan("00")[0] == ["high"], "the sums of another kit are kept as far as they hold"
+
+with tempfile.TemporaryDirectory() as room:
+    made(room)
     chosen = [check.Edits(room, "a kit").plan(commit)[2] for commit in ("0", "1", "2", "3")]
     assert chosen == [["high"], ["low"], ["side"], ["high"]], "one of the skipped is tried all the same"
 
 assert faults("docs/GATE.md", "words\n") == []
-assert len(faults("gate/edits.sums", "gone 00\n")) == 1, "a sum that no crate has"
+assert len(faults("gate/edits.sums", "gone 00 a kit\n")) == 1, "a sum that no crate has"
 assert len(faults("crates/low/must-fail/deep/low_is_side.edit", LOW)) == 1, "an edit in a folder"
 assert len(faults("crates/low/low_is_side.edit", LOW)) == 1, "an edit beside the folder"
 assert len(faults("crates/gone/must-fail/low_is_side.edit", LOW)) == 1, "an edit of no crate"

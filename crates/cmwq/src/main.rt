@@ -1,7 +1,7 @@
 //! The program `cmwq`: words in, status out.
 #![tactic(auto)]
 
-use cmwq_command::carry_out;
+use cmwq_command::{Setting, carry_out};
 use cmwq_outcome::{Look, fault, tell};
 use cmwq_play::{Marked, PlayError};
 use cmwq_words::request;
@@ -9,11 +9,17 @@ use std::io::IsTerminal;
 use std::process::ExitCode;
 use std::{env, io};
 
+/// The kit that the program is proved with, as `rt version` tells it; the gate compares the two.
+const KIT: &str = "rattle-kit-13b logic dac8208d650f15bf";
+
 fn main(rt: HostRuntime) -> ExitCode {
     let outcome = match words(&rt) {
         Ok(Some(words)) => carry_out(
             &rt,
-            look(&rt),
+            Setting {
+                kit: KIT,
+                look: look(&rt),
+            },
             words.as_slice(),
             rt.stdin(),
             &mut Marked::new(rt.stdout()),

@@ -24,12 +24,21 @@ use std::sync::Wait;
 use std::thread::Threads;
 use std::time::Clock;
 
+/// What `main` knows of the program that runs.
+#[derive(Clone, Copy, Debug)]
+pub struct Setting<'a> {
+    /// The kit that it is proved with, as `rt version` tells it.
+    pub kit: &'a str,
+    /// How verdicts look on standard error.
+    pub look: Look,
+}
+
 /// Does what the words ask, of which the first is the program's name, and gives the exit status. Commands of a
 /// debugger come from `input`. Events, listings, pictures, what a debugger says, what a play leaves, verdicts of good files, the version and
 /// help go to `output`, and other verdicts, which look as they are to, and usage faults to `errors`. A play may wait forever.
 pub fn carry_out<R, I: Read + Drop, O: Sink, E: Sink>(
     rt: &R,
-    look: Look,
+    setting: Setting<'_>,
     words: &[String],
     input: I,
     output: &mut O,
@@ -41,10 +50,10 @@ where
     requires errors { E.failed errors.old ≡ false }
     // `--version` and `-V` print the version's line.
     ensures version { (name word : Text) → map string_bytes words.now ≡ name ∷ word ∷ [] → IsVersionWord word
-        → Prints version_line (O.contents output.old) (O.contents output.new) result }
+        → Prints (version_line setting.kit.now) (O.contents output.old) (O.contents output.new) result }
 {
     match parse(rt.alloc(), words) {
-        Ok(request) => answer(rt, look, input, output, errors, request),
+        Ok(request) => answer(rt, setting, input, output, errors, request),
         Err(error) => tell(rt.alloc(), output, errors, error.kind(), &error),
     }
 }
@@ -53,7 +62,7 @@ where
 /// says, what a play leaves, verdicts of good files and the version go to `output`, and other verdicts to `errors`.
 pub fn answer<R, I: Read + Drop, O: Sink, E: Sink>(
     rt: &R,
-    look: Look,
+    setting: Setting<'_>,
     input: I,
     output: &mut O,
     errors: &mut E,
@@ -64,7 +73,7 @@ where
     requires within { IsWithin request }
     requires output { O.failed output.old ≡ false }
     requires errors { E.failed errors.old ≡ false }
-    ensures version { request.entry ≡ Request.Version → Prints version_line (O.contents output.old) (O.contents output.new) result }
+    ensures version { request.entry ≡ Request.Version → Prints (version_line setting.kit.now) (O.contents output.old) (O.contents output.new) result }
 {
     match request {
         Request::New { file } => good(new(rt, output, file)),
@@ -81,8 +90,8 @@ where
             positions,
         } => good(why(rt, output, file, subject, positions)),
         Request::Play { file, capacity } => good(play(rt, output, file, capacity)),
-        Request::Check { files } => check(rt, look, output, errors, &files),
-        Request::Version => good(write_version(rt.alloc(), output)),
+        Request::Check { files } => check(rt, setting.look, output, errors, &files),
+        Request::Version => good(write_version(rt.alloc(), setting.kit, output)),
     }
 }
 

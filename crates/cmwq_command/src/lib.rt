@@ -4,4 +4,4 @@
 mod asking;
 mod carrying;
 
-pub use carrying::{answer, carry_out};
+pub use carrying::{Setting, answer, carry_out};

@@ -102,6 +102,6 @@ commands_with_draw =
 abbrev pub command_line : App
 command_line = with_subcommand commands_with_draw why_command.top
 
--- the line of the program's version
-abbrev pub version_line : List ℕ
-version_line = codes "cmwq " ++ VERSION.now ++ 10 ∷ []
+-- the line of the program's version, and of the kit that it is proved with
+abbrev pub version_line : (kit : List ℕ) → List ℕ
+version_line kit = codes "cmwq " ++ VERSION.now ++ codes " (" ++ kit ++ codes ")" ++ 10 ∷ []

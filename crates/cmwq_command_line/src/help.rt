@@ -1,7 +1,7 @@
 //! What help says of the program and of each command.
 
-/// The program's version, and the kit that it is proved with.
-pub const VERSION: &str = "0.1.0 (rattle-kit-13f logic dac8208d650f15bf)";
+/// The program's version.
+pub const VERSION: &str = "0.1.0";
 
 /// What follows the program's help.
 pub const PROGRAM: &str = "\

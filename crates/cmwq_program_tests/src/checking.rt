@@ -1,4 +1,6 @@
-//! The one assertion. A row of a table costs less to prove where it only calls this.
+//! What the rows share: the one assertion, since a row of a table costs less to prove where it only calls this, and the setting of commands.
+use cmwq_command::Setting;
+use cmwq_outcome::Look;
 use std::fmt::Debug;
 use std::process::Abort;
 
@@ -10,4 +12,12 @@ pub(crate) fn same<C: Debug + Drop, T: Debug + PartialEq + Drop>(
     want: T,
 ) {
     assert_eq!(rt; got, want, "{case:?}");
+}
+
+/// The setting in which commands are carried out here.
+pub(crate) fn setting_with(look: Look) -> Setting<'static> {
+    Setting {
+        kit: "the kit",
+        look,
+    }
 }

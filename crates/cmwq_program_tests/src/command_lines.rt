@@ -1,5 +1,5 @@
 //! Command lines: the requests that they are, and help and usage faults.
-use crate::checking::same;
+use crate::checking::{same, setting_with};
 use clap::error::ErrorKind;
 use cmwq_command::carry_out;
 use cmwq_machine_tests::streams::{Output, reading_of, writing_to};
@@ -321,7 +321,7 @@ const TOLD: [(&str, u8, &[u8], &[u8]); 7] = [
     (
         "cmwq --version",
         0,
-        b"cmwq 0.1.0 (rattle-kit-13f logic dac8208d650f15bf)\n",
+        b"cmwq 0.1.0 (the kit)\n",
         b"",
     ),
     (
@@ -374,7 +374,7 @@ fn check_told<R: Files + AllocGlobal + Threads + Wait + Clock + Sync + Abort>(
     let mut errors = Marked::new(writing_to(rt.alloc(), 4096));
     let result = carry_out(
         rt,
-        Look::Plain,
+        setting_with(Look::Plain),
         given.as_slice(),
         reading_of(b"", 1),
         &mut output,

@@ -1,7 +1,7 @@
 //! Each command on real files, as the program carries it out.
 ghost use Rattle.cmwq_words.specs.Request.{IsWithin};
 
-use crate::checking::same;
+use crate::checking::{same, setting_with};
 use cmwq_asm::AsmError;
 use cmwq_command::answer;
 use cmwq_first::first_text;
@@ -64,7 +64,8 @@ fn check_talk<R: Files + AllocGlobal + Threads + Wait + Clock + Sync + Abort>(
     let mut output = Marked::new(Vec::new(rt.alloc()));
     let mut errors = Marked::new(Vec::new(rt.alloc()));
     let input = reading_of(commands, 4096);
-    let result = answer(rt, Look::Plain, input, &mut output, &mut errors, request);
+    let setting = setting_with(Look::Plain);
+    let result = answer(rt, setting, input, &mut output, &mut errors, request);
     same(rt, printed, result, want.map(|()| 0));
     same(rt, printed, output.inner.as_slice(), printed);
     same(rt, printed, errors.inner.as_slice(), b"".as_slice());
@@ -131,7 +132,7 @@ fn check_verdicts<R: Files + AllocGlobal + Threads + Wait + Clock + Sync + Abort
     let request = Request::Check { files };
     let result = answer(
         rt,
-        look,
+        setting_with(look),
         reading_of(b"", 1),
         &mut output,
         &mut errors,
