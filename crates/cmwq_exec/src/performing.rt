@@ -1,7 +1,7 @@
 //! The instructions: each one's situation is judged and its effect carried out together, so that what was
 //! found for the one serves the other.
 ghost use Rattle.cmwq_parts.specs.Moves.{IsFound, move_of};
-ghost use Rattle.cmwq_exec.specs.Performing.{performed};
+ghost use Rattle.cmwq_exec.specs.Performing.{is_on_work, performed};
 ghost use Rattle.cmwq_table.specs.Counts.{first_due, is_busy, is_done};
 ghost use Rattle.cmwq_table.specs.Moves.{first_moving, moved_work};
 ghost use Rattle.cmwq_table.specs.Ready.{HasCounters};
@@ -10,7 +10,7 @@ ghost use Rattle.cmwq_table.specs.Table.{cancelled, fired_first, found, next, op
 ghost use Rattle.cmwq_types.specs.Scenario.{pool_count};
 ghost use Rattle.cmwq_types.specs.declared.instr.Instr.TheVariants as instr;
 ghost use Rattle.cmwq_types.specs.declared.limits.TheConstants.{MAX_MAX_ACTIVE};
-ghost use Rattle.std.specs.Prelude.{◌≡◌, ◌<◌, ◌≤◌, ◌^◌, None, Some, length};
+ghost use Rattle.std.specs.Prelude.{◌≡◌, ◌<◌, ◌≤◌, ◌^◌, None, Some, false, length, true};
 
 use crate::disabling::{disable, enable};
 use crate::flushing::{cancel_sync, flush_delayed, flush_last, flush_queue};
@@ -49,6 +49,41 @@ fn perform<P: Parts>(going: &mut Going<P>, instr: Instr) -> Result<Reply, Refusa
     ensures state { going.new ≡ record going.old { state = (performed going.old.scenario going.old.state instr).0 } }
     ensures answer { result ≡ (performed going.old.scenario going.old.state instr).1 }
 {
+    if is_on_work(instr) {
+        perform_on_work(going, instr)
+    } else {
+        perform_on_machine(going, instr)
+    }
+}
+
+/// Whether the instruction is on a work.
+fn is_on_work(instr: Instr) -> bool
+    ensures { result ≡ is_on_work instr }
+{
+    matches!(
+        instr,
+        Instr::Queue(..)
+            | Instr::Delay(..)
+            | Instr::Mod(..)
+            | Instr::Cancel(_)
+            | Instr::CancelSync(_)
+            | Instr::Flush(_)
+            | Instr::FlushDelayed(_)
+            | Instr::State(_)
+            | Instr::Disable(_)
+            | Instr::Enable(_)
+    )
+}
+
+/// The same of an instruction on a work.
+fn perform_on_work<P: Parts>(going: &mut Going<P>, instr: Instr) -> Result<Reply, Refusal>
+    requires kind { is_on_work instr ≡ true }
+    requires operands { operands going.old.scenario going.old.state instr ≡ None }
+    requires time { going.old.state.time < 2 ^ 60 }
+    requires stamps { going.old.state.next < 2 ^ 60 }
+    ensures state { going.new ≡ record going.old { state = (performed going.old.scenario going.old.state instr).0 } }
+    ensures answer { result ≡ (performed going.old.scenario going.old.state instr).1 }
+{
     match instr {
         Instr::Queue(w, cpu) => queue(going, w, cpu),
         Instr::Delay(w, cpu, ticks) => delay(going, w, cpu, ticks),
@@ -57,6 +92,23 @@ fn perform<P: Parts>(going: &mut Going<P>, instr: Instr) -> Result<Reply, Refusa
         Instr::CancelSync(w) => cancel_sync(going, w),
         Instr::Flush(w) => flush_last(going, w),
         Instr::FlushDelayed(w) => flush_delayed(going, w),
+        Instr::State(w) => Ok(found(going, w.0 as usize)),
+        Instr::Disable(w) => disable(going, w),
+        Instr::Enable(w) => enable(going, w),
+        _ => unreachable!(),
+    }
+}
+
+/// The same of an instruction on a queue, a pool, a flush, or the machine as a whole.
+fn perform_on_machine<P: Parts>(going: &mut Going<P>, instr: Instr) -> Result<Reply, Refusal>
+    requires kind { is_on_work instr ≡ false }
+    requires operands { operands going.old.scenario going.old.state instr ≡ None }
+    requires time { going.old.state.time < 2 ^ 60 }
+    requires stamps { going.old.state.next < 2 ^ 60 }
+    ensures state { going.new ≡ record going.old { state = (performed going.old.scenario going.old.state instr).0 } }
+    ensures answer { result ≡ (performed going.old.scenario going.old.state instr).1 }
+{
+    match instr {
         Instr::FlushQueue(queue) => flush_queue(going, queue),
         Instr::SetMax(q, max) => change_max(going, q, max),
         Instr::Freeze => begin_freeze(going),
@@ -67,11 +119,9 @@ fn perform<P: Parts>(going: &mut Going<P>, instr: Instr) -> Result<Reply, Refusa
         Instr::Next => Ok(next(going)),
         Instr::Ask(flush) => Ok(ask(going, flush)),
         Instr::Busy => Ok(busy(going)),
-        Instr::State(w) => Ok(found(going, w.0 as usize)),
-        Instr::Disable(w) => disable(going, w),
-        Instr::Enable(w) => enable(going, w),
         Instr::Pressure => press(going),
         Instr::Relief => relieve(going),
+        _ => unreachable!(),
     }
 }
 
