@@ -67,7 +67,7 @@ const OTHER_LINES: Talk = Talk {
         ("dump pool 4", b"refused NoSuchPool\n"),
         ("dump pool 1", b"pool 1 counted 0 made 0 idle\n"),
         ("break work w3 event wakes", b"refused NoSuchWork\n"),
-        ("break work W0 event wakes", b"refused NoSuchWork\n"),
+        ("break work A event wakes", b"refused NoSuchWork\n"),
         ("break work w3 event waking", b"bad command\n"),
         ("why", b"bad command\n"),
         ("why w3", b"refused NoSuchWork\n"),
