@@ -6,7 +6,6 @@ use Rattle.std.specs.List.{flat_map}
 use Rattle.std.specs.Prelude.{◌==◌, is_none, slice_index_or}
 use Rattle.cmwq_types.specs.Contents.{ScenarioContents}
 use Rattle.cmwq_types.specs.Scenario.{queue_of}
-use Rattle.cmwq_types.specs.declared.reply.Place.TheVariants as place
 use Rattle.cmwq_table.specs.Counts.{active, limit}
 use Rattle.cmwq_table.specs.State.{State, pending_at, running_at}
 use Rattle.cmwq_table.specs.declared.state.Pending.{Pending}

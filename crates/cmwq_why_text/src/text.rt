@@ -2,6 +2,7 @@
 ghost use Rattle.cmwq_reasons.specs.Reasons.{counted_works, running_half, work_of, works_on_workers};
 ghost use Rattle.cmwq_why_text.specs.Text.{beside_run, inactive_text, listed_text, name_of, items, pending_text, plain_text, reason_text, room_text, spaced_name, spent_text, timer_text, turn_text, why_text, work_line, worker_words};
 ghost use Rattle.cmwq_types.specs.Scenario.{queue_of};
+ghost use Rattle.std.specs.Fmt.{decimal};
 ghost use Rattle.std.specs.List.{flat_map};
 ghost use Rattle.std.specs.Prelude.{◌≡◌, ◌++◌, IfOk, OnOk, codes, map, string_bytes};
 
@@ -97,25 +98,24 @@ impl Wording<'_> {
         ensures { OnOk result (string_bytes text.new ≡ string_bytes text.old ++ plain_text self.now.snapshot.now.scenario reason) }
     {
         match reason {
-            Reason::Asleep(until) => write!(text, "asleep until {until}")?,
-            Reason::WakesNext => text.push_str("sleep is over, wakes next")?,
-            Reason::WakesAfter(x) => self.push_named(text, "sleep is over, after ", x)?,
-            Reason::Behind(v) => self.push_named(text, "runnable, behind ", Instance::Running(v))?,
-            Reason::ReadyNext => text.push_str("ready, goes on next")?,
-            Reason::ReadyAfter(x) => self.push_named(text, "ready, after ", x)?,
-            Reason::HighHas(v) => self.push_high(text, v)?,
-            Reason::Burns => text.push_str("burns")?,
-            Reason::Disabled(depth) => write!(text, "disabled {depth}")?,
-            Reason::NotPending => text.push_str("not pending")?,
-            Reason::Timer { due, cpu } => push_timer(text, due, cpu)?,
-            Reason::FiresNext => text.push_str("timer is due, fires next")?,
+            Reason::Asleep(until) => push_number(text, "asleep until ", until),
+            Reason::WakesNext => push_words(text, "sleep is over, wakes next"),
+            Reason::WakesAfter(x) => self.push_named(text, "sleep is over, after ", x),
+            Reason::Behind(v) => self.push_named(text, "runnable, behind ", Instance::Running(v)),
+            Reason::ReadyNext => push_words(text, "ready, goes on next"),
+            Reason::ReadyAfter(x) => self.push_named(text, "ready, after ", x),
+            Reason::HighHas(v) => self.push_high(text, v),
+            Reason::Burns => push_words(text, "burns"),
+            Reason::Disabled(depth) => push_number(text, "disabled ", u64::from(depth)),
+            Reason::NotPending => push_words(text, "not pending"),
+            Reason::Timer { due, cpu } => push_timer(text, due, cpu),
+            Reason::FiresNext => push_words(text, "timer is due, fires next"),
             Reason::FiresAfter(v) => {
-                self.push_named(text, "timer is due, after ", Instance::Pending(v))?;
+                self.push_named(text, "timer is due, after ", Instance::Pending(v))
             }
-            Reason::Deferred(pool) => write!(text, "deferred {pool}: it still runs")?,
-            _ => (),
+            Reason::Deferred(pool) => push_deferred(text, pool),
+            _ => Ok(()),
         }
-        Ok(())
     }
 
     /// Writes the words and the name of the instance's work.
@@ -203,6 +203,30 @@ impl Wording<'_> {
             "no free worker"
         }
     }
+}
+
+/// Writes the words.
+fn push_words(text: &mut String, words: &str) -> Result<(), NoMemory>
+    ensures { OnOk result (string_bytes text.new ≡ string_bytes text.old ++ words.now) }
+{
+    text.push_str(words)?;
+    Ok(())
+}
+
+/// Writes the words and the number.
+fn push_number(text: &mut String, words: &str, number: u64) -> Result<(), NoMemory>
+    ensures { OnOk result (string_bytes text.new ≡ string_bytes text.old ++ (words.now ++ decimal number)) }
+{
+    write!(text, "{words}{number}")?;
+    Ok(())
+}
+
+/// Writes that the work waits for its own end.
+fn push_deferred(text: &mut String, pool: u8) -> Result<(), NoMemory>
+    ensures { OnOk result (string_bytes text.new ≡ string_bytes text.old ++ (codes "deferred " ++ decimal pool ++ codes ": it still runs")) }
+{
+    write!(text, "deferred {pool}: it still runs")?;
+    Ok(())
 }
 
 /// Writes until when a timer runs, and on which CPU it places its work then.
