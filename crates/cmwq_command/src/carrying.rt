@@ -50,7 +50,7 @@ where
     requires errors { E.failed errors.old ≡ false }
     // `--version` and `-V` print the version's line.
     ensures version { (name word : Text) → map string_bytes words.now ≡ name ∷ word ∷ [] → IsVersionWord word
-        → Prints (version_line setting.kit.now) (O.contents output.old) (O.contents output.new) result }
+        → Prints (version_line setting.entry.kit.now) (O.contents output.old) (O.contents output.new) result }
 {
     match parse(rt.alloc(), words) {
         Ok(request) => answer(rt, setting, input, output, errors, request),
@@ -73,7 +73,7 @@ where
     requires within { IsWithin request }
     requires output { O.failed output.old ≡ false }
     requires errors { E.failed errors.old ≡ false }
-    ensures version { request.entry ≡ Request.Version → Prints (version_line setting.kit.now) (O.contents output.old) (O.contents output.new) result }
+    ensures version { request.entry ≡ Request.Version → Prints (version_line setting.entry.kit.now) (O.contents output.old) (O.contents output.new) result }
 {
     match request {
         Request::New { file } => good(new(rt, output, file)),
