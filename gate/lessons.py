@@ -5,10 +5,10 @@ scenario with several actors leaves is one of NAME.play1, NAME.play2 .., and run
 waits is NAME.why_W, and what flush F waits for NAME.flush_F, where there are such; with _every behind it, the same at every position.
 scenarios/README.md asks of each lesson why something waits: a line `# QUESTION?`, a line `$ ./cmwq why ..`, and what that prints, up to
 the next question; README.md asks it of the scenario that `new` writes. The program's own stored run is one of these. Then faulty input:
-the status, and what each stream is given. And each scenario of one actor through an engine, by the program HISTORIES, which prints the
-history: each entry is compared.
+the status, and what each stream is given. And each scenario of one actor through an engine, by the program HISTORIES, where it is named: it
+prints the history, of which each entry is compared.
 
-    python3 gate/lessons.py PROGRAM HISTORIES"""
+    python3 gate/lessons.py PROGRAM [HISTORIES]"""
 import glob
 import itertools
 import os
@@ -177,14 +177,14 @@ def quiet_faults(program, room):
     return faults + ([] if failed(program, "run", "--settle", text) == spent else ["run --settle: not the lines up to the steps' end"])
 
 
-def main(program, histories):
+def main(program, histories=None):
     plays = sorted({re.sub(r"\.play\d+$", ".cmwq", it) for it in glob.glob(f"{TOP}/scenarios/*.play*")})
     texts = sorted(set(glob.glob(f"{TOP}/scenarios/*.cmwq")).difference(plays))
     drawings = sorted(glob.glob(f"{TOP}/scenarios/*.draw"))
     answers = sorted(glob.glob(f"{TOP}/scenarios/*.why_*") + glob.glob(f"{TOP}/scenarios/*.flush_*"))
     with tempfile.TemporaryDirectory(prefix="lessons-") as room:
         faults = [fault for text in texts for fault in faults_of(program, text, room)]
-        faults += [fault for text in texts for fault in history_faults(histories, program, text)]
+        faults += [fault for text in texts if histories for fault in history_faults(histories, program, text)]
         faults += [fault for commands in sorted(glob.glob(f"{TOP}/scenarios/*.debug")) for fault in session_faults(program, commands)]
         faults += [fault for text in plays for fault in play_faults(program, text, room)]
         faults += shown_faults(program, texts) + quiet_faults(program, room) + question_faults(program, texts + plays, room)
