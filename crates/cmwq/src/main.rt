@@ -10,7 +10,7 @@ use std::process::ExitCode;
 use std::{env, io};
 
 /// The kit that the program is proved with, as `rt version` tells it; the gate compares the two.
-const KIT: &str = "rattle-kit-13b logic dac8208d650f15bf";
+const KIT: &str = "rattle-kit-13f logic dac8208d650f15bf";
 
 fn main(rt: HostRuntime) -> ExitCode {
     let outcome = match words(&rt) {
