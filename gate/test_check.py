@@ -56,11 +56,11 @@ def faults(path, text):
         return check.Edits(room, "a kit").faults
 
 
-def copied(skipped):
+def copied():
     with tempfile.TemporaryDirectory() as room, tempfile.TemporaryDirectory() as copy:
         made(room)
         subprocess.run(["git", "init", "-q"], cwd=room, check=True)
-        check.copy_without(room, copy, skipped)
+        check.copy_of(room, copy)
         return [os.path.relpath(it, copy) for it in check.files_of(copy)]
 
 
@@ -107,8 +107,7 @@ assert len(faults("crates/low/must-fail/deep/low_is_side.edit", LOW)) == 1, "an 
 assert len(faults("crates/low/low_is_side.edit", LOW)) == 1, "an edit beside the folder"
 assert len(faults("crates/gone/must-fail/low_is_side.edit", LOW)) == 1, "an edit of no crate"
 
-assert sorted(copied([])) == sorted(FILES)
-assert sorted(set(FILES) - set(copied(["low"]))) == ["crates/low/must-fail/low_is_high.edit"]
+assert sorted(copied()) == sorted(FILES)
 
 assert layout("") == (0, [])
 for said, status in [("rt: formatted src/lib.rt", 0), ("rt: note: must-fail/a.edit cannot be applied", 0), ("no such crate", 2)]:

@@ -1,0 +1,192 @@
+"""Tries wrong bodies in rounds: one check of a crate in which many functions have a wrong body each, and which tells of each of them.
+
+A round has one wrong body of a function at most. A wrong body changes no contract, so what each other function owes is what it owed before,
+and the check goes past what is refused (`rt check --allow-holes`). A body is refused where the prover refuses a goal of the function that
+the body's file is named for. An edit of specs/, and what a round doesn't tell, is tried alone, by `rt must-fail`."""
+import collections
+import concurrent.futures
+import dataclasses
+import os
+import pathlib
+import re
+import shutil
+import subprocess
+import tempfile
+
+NAMELESS = re.compile(r"has no field|is not in scope|has no `|was not admitted|only because a proof file names")
+PARTS = ("src", "specs", "proofs")
+
+
+@dataclasses.dataclass(frozen=True)
+class Body:
+    """A must-fail edit: the function that it is named for, and in each of its files what it puts for what."""
+
+    crate: str
+    path: pathlib.Path
+    pairs: tuple
+
+    @classmethod
+    def read(cls, crate, path):
+        file = old = None
+        pairs = []
+        for line in path.read_text("utf-8").splitlines():
+            word, _, rest = line.partition(":")
+            rest = rest.removeprefix(" ")
+            if word == "file":
+                file = rest.strip()
+            elif word == "old":
+                old = rest
+            elif word == "new":
+                pairs.append((file, old, rest))
+        return cls(crate, path, tuple(pairs))
+
+    @property
+    def label(self):
+        return f"{self.crate}/{self.path.name}"
+
+    @property
+    def place(self):
+        """The file and the name of the function, or none where the edit isn't of one file of src/."""
+        files = {file for file, _, _ in self.pairs}
+        return (*files, self.path.name.partition(".")[0]) if len(files) == 1 and min(files).startswith("src/") else None
+
+    def is_of(self, name):
+        """Whether the check's name of a function, as `cmwq_lists::lists::Lists::front`, is that of the function that is changed."""
+        file, function = self.place
+        module = [self.crate, *re.sub(r"(/mod|(^|/)lib)?\.rt$", "", file.removeprefix("src/")).split("/")]
+        *rest, last = name.split("::")
+        module = [it for it in module if it]
+        return last == function and rest[: len(module)] == module and len(rest) <= len(module) + 1
+
+    def put_into(self, folder):
+        for file, old, new in self.pairs:
+            at = folder / file
+            text = at.read_text("utf-8")
+            if text.count(old) != 1:
+                raise ValueError(f"{self.label}: its old text stands in {file} {text.count(old)} times")
+            at.unlink()
+            at.write_text(text.replace(old, new), "utf-8")
+
+
+def rounds_of(bodies):
+    """The bodies in rounds, each with one of a function at most, and those that are tried alone."""
+    of_function = collections.defaultdict(list)
+    for body in bodies:
+        of_function[body.place].append(body)
+    alone = of_function.pop(None, [])
+    length = max(map(len, of_function.values()), default=0)
+    return [[group[at] for group in of_function.values() if at < len(group)] for at in range(length)], alone
+
+
+def refusals(said):
+    """For each function at a goal of which the prover refuses the crate, what it says of one."""
+    told, found = {}, {}
+    for line in said.splitlines():
+        if at := re.match(r"(?:\./)?proofs/(\S+)/\w+\.antt:\d+:\d+: error: (.*)", line):
+            if not NAMELESS.search(at[2]):
+                told.setdefault(at[1], at[2])
+        elif at := re.match(r"fn (\S+): (no proof: expected .*)", line):
+            found[at[1]] = at[2]
+        elif at := re.match(r"fn (\S+): not proved", line):
+            if reason := told.get("/".join(at[1].split("::")[1:])):
+                found[at[1]] = reason
+    return found
+
+
+def linked(folder, to):
+    """Copies a folder that the kit keeps, if it is there: by second names those files that the kit replaces and never writes into."""
+
+    def copy(one, other):
+        try:
+            (os.link if one.endswith(".oantt") or "/rlib/" in one else shutil.copy2)(one, other)
+        except OSError:
+            shutil.copy2(one, other)
+
+    if os.path.isdir(folder):
+        shutil.copytree(folder, to, copy_function=copy, dirs_exist_ok=True)
+
+
+class Rounds:
+    """The wrong bodies of some crates of a tree, and a room beside it in which each crate is proved once, and then each round over that."""
+
+    def __init__(self, root, crates, below, names, room):
+        self.root, self.crates, self.below, self.room = pathlib.Path(root), crates, below, pathlib.Path(room)
+        self.names, self.proved, self.refused = names, {}, {}
+        self.planned = {name: rounds_of([Body.read(name, it) for it in sorted(self.root.glob(f"crates/{name}/must-fail/*.edit"))]) for name in names}
+
+    def furnish(self, name, over):
+        """A folder of its own with the crate, the libraries below it as they were built, and what a check of the crate kept."""
+        at = pathlib.Path(tempfile.mkdtemp(prefix=f"{name}-", dir=self.room))
+        every = self.below(self.crates, name)
+        (at / "crates.txt").write_text("".join(f"{self.crates[it][0]}\n" for it in every), "utf-8")
+        shutil.copy2(self.root / "HANDLES", at)
+        for it in every:
+            for part in PARTS:
+                if (self.root / "crates" / it / part).is_dir():
+                    shutil.copytree(self.root / "crates" / it / part, at / "crates" / it / part)
+            linked(self.proved.get(it, self.root) / "crates" / it / "out/rlib", at / "crates" / it / "out/rlib")
+        linked(over / "crates" / name / "out/incremental", at / "crates" / name / "out/incremental")
+        return at
+
+    def prove(self, name):
+        """Proves the crate and builds its library. Returns what was said if it failed."""
+        at = self.furnish(name, self.root)
+        ran = self.run(at / "crates" / name, "lib", "--jobs", "1")
+        self.proved.update({} if ran.returncode else {name: at})
+        return ran.stdout if ran.returncode else ""
+
+    def run(self, at, *words):
+        return subprocess.run(["rt", *words], cwd=at, stdout=subprocess.PIPE, stderr=subprocess.STDOUT, text=True, errors="replace", env={**os.environ, "RT_JOBS": "1"})
+
+    def try_round(self, name, bodies):
+        """Tries a round. Returns those of its bodies of which it doesn't tell that they are refused."""
+        at = self.furnish(name, self.proved[name])
+        for body in bodies:
+            body.put_into(at / "crates" / name)
+        found = refusals(self.run(at / "crates" / name, "check", "--allow-holes", "--jobs", "1").stdout)
+        shutil.rmtree(at)
+        left = []
+        for body in bodies:
+            reasons = [reason for function, reason in found.items() if body.is_of(function)]
+            left += [] if reasons else [body]
+            self.refused.update({body: reasons[0][:160]} if reasons else {})
+        return left
+
+    def try_alone(self, name, bodies):
+        """Tries these bodies one at a time. Returns what was said, if one of them isn't refused for a goal."""
+        at = self.furnish(name, self.proved[name])
+        os.makedirs(at / "crates" / name / "must-fail")
+        for body in bodies:
+            shutil.copy2(body.path, at / "crates" / name / "must-fail")
+        lines = self.run(at, "must-fail", name).stdout.splitlines()
+        shutil.rmtree(at)
+        for body in bodies:
+            reason = next((line.partition(" refused, as it must be: ")[2] for line in lines if f"must-fail {body.label}: " in line), "")
+            self.refused.update({body: reason[:160]} if reason and not NAMELESS.search(reason) else {})
+        return "\n".join(lines) if any(body not in self.refused for body in bodies) else ""
+
+    def try_crate(self, name):
+        """Tries all bodies of a crate. Returns what was said of those that aren't refused."""
+        planned, alone = self.planned[name]
+        left = [*alone, *(body for bodies in planned for body in self.try_round(name, bodies))]
+        return self.try_alone(name, left) if left else ""
+
+    def carry_out(self, lanes):
+        """Proves each crate once those below it are proved, and then tries its bodies, as many crates side by side as there are lanes. Gives what
+        was said of each crate that was tried or isn't proved, as it ends: nothing, where all its bodies are refused."""
+        needed = {it for name in self.names for it in self.below(self.crates, name)}
+        waiting, running = [(self.prove, it) for it in sorted(needed, key=lambda it: (len(self.below(self.crates, it)), it))], {}
+        with concurrent.futures.ThreadPoolExecutor(lanes) as pool:
+            while waiting or running:
+                ready = [it for it in waiting if it[0] == self.try_crate or all(dep in self.proved for dep in self.below(self.crates, it[1])[:-1])]
+                for task in ready[: lanes - len(running)]:
+                    waiting.remove(task)
+                    running[pool.submit(*task)] = task
+                for done in concurrent.futures.wait(running, return_when="FIRST_COMPLETED").done:
+                    call, name = running.pop(done)
+                    if call == self.try_crate or done.result():
+                        yield name, done.result()
+                    if call == self.prove and done.result():
+                        waiting.clear()
+                    elif call == self.prove and name in self.names:
+                        waiting.append((self.try_crate, name))
