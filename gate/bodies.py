@@ -2,7 +2,8 @@
 
 A round has one wrong body of a function at most. A wrong body changes no contract, so what each other function owes is what it owed before,
 and the check goes past what is refused (`rt check --allow-holes`). A body is refused where the prover refuses a goal of the function that
-the body's file is named for. An edit of specs/, and what a round doesn't tell, is tried alone, by `rt must-fail`."""
+the body's file is named for. An edit that changes anything else than this function's lines, and what a round doesn't tell, is tried alone, by
+`rt must-fail`."""
 import collections
 import concurrent.futures
 import dataclasses
@@ -13,6 +14,7 @@ import shutil
 import subprocess
 import tempfile
 
+HEAD = re.compile(r"^( *)(?:pub(?:\(\w+\))? )?(?:const |unsafe )*fn (\w+)", re.M)
 NAMELESS = re.compile(r"has no field|is not in scope|has no `|was not admitted|only because a proof file names")
 PARTS = ("src", "specs", "proofs")
 
@@ -45,18 +47,26 @@ class Body:
         return f"{self.crate}/{self.path.name}"
 
     @property
+    def function(self):
+        return self.path.name.partition(".")[0]
+
+    @property
     def place(self):
-        """The file and the name of the function, or none where the edit isn't of one file of src/."""
+        """The file and the name of the function, or none where the edit changes anything else than lines of this function."""
         files = {file for file, _, _ in self.pairs}
-        return (*files, self.path.name.partition(".")[0]) if len(files) == 1 and min(files).startswith("src/") else None
+        text = (self.path.parents[1] / min(files)).read_text("utf-8")
+        for _, old, new in self.pairs:
+            if not is_in_function(text, old, self.function):
+                return None
+            text = text.replace(old, new)
+        return (*files, self.function) if len(files) == 1 and min(files).startswith("src/") else None
 
     def is_of(self, name):
         """Whether the check's name of a function, as `cmwq_lists::lists::Lists::front`, is that of the function that is changed."""
-        file, function = self.place
-        module = [self.crate, *re.sub(r"(/mod|(^|/)lib)?\.rt$", "", file.removeprefix("src/")).split("/")]
+        file = self.pairs[0][0]
+        module = [it for it in [self.crate, *re.sub(r"(/mod|(^|/)lib)?\.rt$", "", file.removeprefix("src/")).split("/")] if it]
         *rest, last = name.split("::")
-        module = [it for it in module if it]
-        return last == function and rest[: len(module)] == module and len(rest) <= len(module) + 1
+        return last == self.function and rest[: len(module)] == module and len(rest) <= len(module) + 1
 
     def put_into(self, folder):
         for file, old, new in self.pairs:
@@ -66,6 +76,14 @@ class Body:
                 raise ValueError(f"{self.label}: its old text stands in {file} {text.count(old)} times")
             at.unlink()
             at.write_text(text.replace(old, new), "utf-8")
+
+
+def is_in_function(text, old, function):
+    """Whether a text stands in the lines of a function: the last head of a function up to its end is this one's, and it is in it or deeper."""
+    at = text.find(old)
+    heads = HEAD.findall(text[: at + len(old)])
+    line = text[text.rfind("\n", 0, at) + 1 :]
+    return bool(heads) and heads[-1][1] == function and (bool(HEAD.search(old)) or len(line) - len(line.lstrip(" ")) > len(heads[-1][0]) or bool(HEAD.match(line)))
 
 
 def rounds_of(bodies):

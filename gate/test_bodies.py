@@ -7,23 +7,41 @@ sys.dont_write_bytecode = True
 import bodies
 
 
-def body(name, file="src/lists.rt", old="a", new="b", more=""):
-    with tempfile.TemporaryDirectory() as room:
-        path = pathlib.Path(room, f"{name}.edit")
-        path.write_text(f"file: {file}\nold: {old}\nnew: {new}\n{more}", "utf-8")
-        return bodies.Body.read("low", path)
+ROOM = tempfile.TemporaryDirectory()
+CRATE = pathlib.Path(ROOM.name, "low")
+FILES = {
+    "src/lists.rt": "const MOST: u8 = 1;\n\nimpl Lists {\n    pub fn front(&self) {\n        a\n    }\n\n    fn back() { a2 }\n}\n\nconst LEAST: u8 = 2;\n",
+    "src/lib.rt": "pub(crate) fn f() {\n    c\n}\n",
+    "src/a/mod.rt": "fn f() {\n    c\n}\n",
+    "src/a/b.rt": "fn f() {\n    c\n}\n",
+    "specs/Words.antt": "def word = c\n",
+}
+for name, text in FILES.items():
+    (CRATE / name).parent.mkdir(parents=True, exist_ok=True)
+    (CRATE / name).write_text(text, "utf-8")
+(CRATE / "must-fail").mkdir()
+
+
+def body(name, file="src/lists.rt", old="        a", new="        b", more=""):
+    path = CRATE / "must-fail" / f"{name}.edit"
+    path.write_text(f"file: {file}\nold: {old}\nnew: {new}\n{more}", "utf-8")
+    return bodies.Body.read("low", path)
 
 
 FRONT = body("front.is_the_back")
-ALSO = body("front.is_the_second")
-BACK = body("back.is_the_front")
-WORD = body("word.is_another", "specs/Words.antt")
-BOTH = body("front.and_back", more="file: src/lib.rt\nold: c\nnew: d\n")
+ALSO = body("front.is_the_second", old="        a", new="        c")
+BACK = body("back.is_the_front", old="fn back() { a2 }", new="fn back() { b2 }")
+WORD = body("word.is_another", "specs/Words.antt", "c", "d")
+BOTH = body("front.and_back", more="old: { a2 }\nnew: { b2 }\n")
+MOST = body("front.has_another_limit", old="MOST: u8 = 1", new="MOST: u8 = 2")
+LEAST = body("back.has_another_limit", old="LEAST: u8 = 2", new="LEAST: u8 = 1")
+FILES_OF_TWO = body("f.of_two_files", "src/lib.rt", "    c", "    d", "file: src/a/b.rt\nold:     c\nnew:     d\n")
 
-assert bodies.rounds_of([FRONT, ALSO, BACK, WORD, BOTH]) == ([[FRONT, BACK], [ALSO]], [WORD, BOTH])
+ALONE = [WORD, BOTH, MOST, LEAST, FILES_OF_TWO]
+assert bodies.rounds_of([FRONT, ALSO, BACK, *ALONE]) == ([[FRONT, BACK], [ALSO]], ALONE)
 assert bodies.rounds_of([]) == ([], [])
-assert body("f.x", new="").pairs == (("src/lists.rt", "a", ""),), "a text may be nothing"
-assert body("f.x", old=" a: b").pairs == (("src/lists.rt", " a: b", "b"),), "of the space behind the colon alone is left out"
+assert body("f.x", old="a", new="").pairs == (("src/lists.rt", "a", ""),), "a text may be nothing"
+assert body("f.x", old=" a: b", new="b").pairs == (("src/lists.rt", " a: b", "b"),), "one space behind the colon is left out, and no more"
 
 assert FRONT.is_of("low::lists::Lists::front") and FRONT.is_of("low::lists::front")
 for name in ["low::lists::Lists::front_of", "low::front", "high::lists::front", "low::lists::deep::Lists::front", "low::lists::front::back"]:
@@ -44,14 +62,12 @@ fn low::lists::push: no proof: it calls `low::lists::is_full`, which is not prov
 assert list(bodies.refusals(SAID)) == ["low::lists::Lists::front", "low::lists::is_full"], "a goal, no missing name, and no call of what isn't proved"
 assert bodies.refusals(SAID)["low::lists::Lists::front"] == "`returns`: the two types differ"
 
-with tempfile.TemporaryDirectory() as room:
-    at = pathlib.Path(room, "src/lists.rt")
-    at.parent.mkdir()
-    for text, want in [("x a\n", "x b\n"), ("a a\n", None), ("x\n", None)]:
-        at.write_text(text, "utf-8")
-        try:
-            FRONT.put_into(pathlib.Path(room))
-            assert at.read_text("utf-8") == want, text
-        except ValueError:
-            assert want is None and at.read_text("utf-8") == text, "an edit that can't be applied changes nothing"
+at = CRATE / "src/lists.rt"
+for text, want in [("x        a\n", "x        b\n"), ("        a        a\n", None), ("x\n", None)]:
+    at.write_text(text, "utf-8")
+    try:
+        FRONT.put_into(CRATE)
+        assert at.read_text("utf-8") == want, text
+    except ValueError:
+        assert want is None and at.read_text("utf-8") == text, "an edit that can't be applied changes nothing"
 print("gate/test_bodies.py: ok")
