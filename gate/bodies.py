@@ -79,11 +79,13 @@ class Body:
 
 
 def is_in_function(text, old, function):
-    """Whether a text stands in the lines of a function: the last head of a function up to its end is this one's, and it is in it or deeper."""
+    """Whether a text is of the lines of a function: the last head of a function up to the text's end is this one's, and the text has it, or its
+    line is further in."""
     at = text.find(old)
     heads = HEAD.findall(text[: at + len(old)])
     line = text[text.rfind("\n", 0, at) + 1 :]
-    return bool(heads) and heads[-1][1] == function and (bool(HEAD.search(old)) or len(line) - len(line.lstrip(" ")) > len(heads[-1][0]) or bool(HEAD.match(line)))
+    is_further_in = bool(heads) and len(line) - len(line.lstrip(" ")) > len(heads[-1][0])
+    return bool(heads) and heads[-1][1] == function and (is_further_in or bool(HEAD.search(old) or HEAD.match(line)))
 
 
 def rounds_of(bodies):
@@ -103,7 +105,7 @@ def refusals(said):
         if at := re.match(r"(?:\./)?proofs/(\S+)/\w+\.antt:\d+:\d+: error: (.*)", line):
             if not NAMELESS.search(at[2]):
                 told.setdefault(at[1], at[2])
-        elif at := re.match(r"fn (\S+): (no proof: expected .*)", line):
+        elif at := re.match(r"fn (\S+): no proof: expected answers in \S+ (`search` did not prove .*)", line):
             found[at[1]] = at[2]
         elif at := re.match(r"fn (\S+): not proved", line):
             if reason := told.get("/".join(at[1].split("::")[1:])):
@@ -192,8 +194,8 @@ class Rounds:
     def carry_out(self, lanes):
         """Proves each crate once those below it are proved, and then tries its bodies, as many crates side by side as there are lanes. Gives what
         was said of each crate that was tried or isn't proved, as it ends: nothing, where all its bodies are refused."""
-        needed = {it for name in self.names for it in self.below(self.crates, name)}
-        waiting, running = [(self.prove, it) for it in sorted(needed, key=lambda it: (len(self.below(self.crates, it)), it))], {}
+        above = collections.Counter(it for name in self.names for it in self.below(self.crates, name))
+        waiting, running = [(self.prove, it) for it, _ in above.most_common()], {}
         with concurrent.futures.ThreadPoolExecutor(lanes) as pool:
             while waiting or running:
                 ready = [it for it in waiting if it[0] == self.try_crate or all(dep in self.proved for dep in self.below(self.crates, it[1])[:-1])]

@@ -57,6 +57,7 @@ fn low::lists::Lists::front: not proved; it stands on `returns`, which antt refu
 fn low::lists::Lists::back: not proved
 fn low::lists::Lists::room: no holes
 fn low::lists::is_full: no proof: expected answers in ./proofs/lists/is_full/Answers.antt; `search` did not prove `returns`
+fn low::lists::swap: no proof: expected a proof in ./proofs/lists/swap/Proof.antt
 fn low::lists::push: no proof: it calls `low::lists::is_full`, which is not proved
 """
 assert list(bodies.refusals(SAID)) == ["low::lists::Lists::front", "low::lists::is_full"], "a goal, no missing name, and no call of what isn't proved"
