@@ -55,11 +55,8 @@ class Body:
         """The file and the name of the function, or none where the edit changes anything else than lines of this function."""
         files = {file for file, _, _ in self.pairs}
         text = (self.path.parents[1] / min(files)).read_text("utf-8")
-        for _, old, new in self.pairs:
-            if not is_in_function(text, old, self.function):
-                return None
-            text = text.replace(old, new)
-        return (*files, self.function) if len(files) == 1 and min(files).startswith("src/") else None
+        is_one = len(files) == 1 and min(files).startswith("src/") and all(text.count(old) == 1 for _, old, _ in self.pairs)
+        return (*files, self.function) if is_one and all(is_in_function(text, old, self.function) for _, old, _ in self.pairs) else None
 
     def is_of(self, name):
         """Whether the check's name of a function, as `cmwq_lists::lists::Lists::front`, is that of the function that is changed."""
@@ -68,14 +65,17 @@ class Body:
         *rest, last = name.split("::")
         return last == self.function and rest[: len(module)] == module and len(rest) <= len(module) + 1
 
-    def put_into(self, folder):
-        for file, old, new in self.pairs:
-            at = folder / file
-            text = at.read_text("utf-8")
-            if text.count(old) != 1:
-                raise ValueError(f"{self.label}: its old text stands in {file} {text.count(old)} times")
-            at.unlink()
-            at.write_text(text.replace(old, new), "utf-8")
+
+def put_into(folder, bodies):
+    """Puts bodies that share a round into a crate's files, each in the place where its old text stands in the file as it is."""
+    pairs = collections.defaultdict(list)
+    for file, old, new in (pair for body in bodies for pair in body.pairs):
+        pairs[folder / file].append((old, new))
+    for file, changes in pairs.items():
+        text = file.read_text("utf-8")
+        for at, old, new in sorted(((text.index(old), old, new) for old, new in changes), reverse=True):
+            text = text[:at] + new + text[at + len(old) :]
+        file.write_text(text, "utf-8")
 
 
 def is_in_function(text, old, function):
@@ -161,8 +161,7 @@ class Rounds:
     def try_round(self, name, bodies):
         """Tries a round. Returns those of its bodies of which it doesn't tell that they are refused."""
         at = self.furnish(name, self.proved[name])
-        for body in bodies:
-            body.put_into(at / "crates" / name)
+        put_into(at / "crates" / name, bodies)
         found = refusals(self.run(at / "crates" / name, "check", "--allow-holes", "--jobs", "1").stdout)
         shutil.rmtree(at)
         left = []
@@ -204,9 +203,10 @@ class Rounds:
                     running[pool.submit(*task)] = task
                 for done in concurrent.futures.wait(running, return_when="FIRST_COMPLETED").done:
                     call, name = running.pop(done)
-                    if call == self.try_crate or done.result():
-                        yield name, done.result()
-                    if call == self.prove and done.result():
+                    said = f"{done.exception() or done.result()}"
+                    if call == self.try_crate or said:
+                        yield name, said
+                    if call == self.prove and said:
                         waiting.clear()
                     elif call == self.prove and name in self.names:
                         waiting.append((self.try_crate, name))

@@ -32,12 +32,13 @@ FRONT = body("front.is_the_back")
 ALSO = body("front.is_the_second", old="        a", new="        c")
 BACK = body("back.is_the_front", old="fn back() { a2 }", new="fn back() { b2 }")
 WORD = body("word.is_another", "specs/Words.antt", "c", "d")
+TWICE = body("front.a_text_that_stands_twice", old="a", new="b")
 BOTH = body("front.and_back", more="old: { a2 }\nnew: { b2 }\n")
 MOST = body("front.has_another_limit", old="MOST: u8 = 1", new="MOST: u8 = 2")
 LEAST = body("back.has_another_limit", old="LEAST: u8 = 2", new="LEAST: u8 = 1")
 FILES_OF_TWO = body("f.of_two_files", "src/lib.rt", "    c", "    d", "file: src/a/b.rt\nold:     c\nnew:     d\n")
 
-ALONE = [WORD, BOTH, MOST, LEAST, FILES_OF_TWO]
+ALONE = [WORD, TWICE, BOTH, MOST, LEAST, FILES_OF_TWO]
 assert bodies.rounds_of([FRONT, ALSO, BACK, *ALONE]) == ([[FRONT, BACK], [ALSO]], ALONE)
 assert bodies.rounds_of([]) == ([], [])
 assert body("f.x", old="a", new="").pairs == (("src/lists.rt", "a", ""),), "a text may be nothing"
@@ -63,12 +64,6 @@ fn low::lists::push: no proof: it calls `low::lists::is_full`, which is not prov
 assert list(bodies.refusals(SAID)) == ["low::lists::Lists::front", "low::lists::is_full"], "a goal, no missing name, and no call of what isn't proved"
 assert bodies.refusals(SAID)["low::lists::Lists::front"] == "`returns`: the two types differ"
 
-at = CRATE / "src/lists.rt"
-for text, want in [("x        a\n", "x        b\n"), ("        a        a\n", None), ("x\n", None)]:
-    at.write_text(text, "utf-8")
-    try:
-        FRONT.put_into(CRATE)
-        assert at.read_text("utf-8") == want, text
-    except ValueError:
-        assert want is None and at.read_text("utf-8") == text, "an edit that can't be applied changes nothing"
+bodies.put_into(CRATE, [body("front.is_further_on", new="        { a2 }"), BACK])
+assert (CRATE / "src/lists.rt").read_text("utf-8") == FILES["src/lists.rt"].replace("        a\n", "        { a2 }\n").replace("{ a2 }\n}", "{ b2 }\n}")
 print("gate/test_bodies.py: ok")
