@@ -186,9 +186,14 @@ class Rounds:
 
     def try_crate(self, name):
         """Tries all bodies of a crate. Returns what was said of those that aren't refused."""
-        planned, alone = self.planned[name]
-        left = [*alone, *(body for bodies in planned for body in self.try_round(name, bodies))]
-        return self.try_alone(name, left) if left else ""
+        rounds, alone = self.planned[name]
+        left = before = []
+        while rounds and (not before or len(left) < len(before)):
+            # (of a function the check may tell only that it calls another one that has a wrong body too, so what is left has a round again)
+            before = [body for bodies in rounds for body in bodies]
+            left = [body for bodies in rounds for body in self.try_round(name, bodies)]
+            rounds = rounds_of(left)[0]
+        return self.try_alone(name, [*alone, *left]) if alone or left else ""
 
     def carry_out(self, lanes):
         """Proves each crate once those below it are proved, and then tries its bodies, as many crates side by side as there are lanes. Gives what
