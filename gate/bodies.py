@@ -1,6 +1,6 @@
 """Tries wrong bodies in rounds: one check of a crate in which many functions have a wrong body each, and which tells of each of them.
 
-A round has one wrong body of a function at most. A wrong body changes no contract, so what each other function owes is what it owed before,
+A round has at most one wrong body of the functions of a name. A wrong body changes no contract, so what each other function owes is what it owed before,
 and the check goes past what is refused (`rt check --allow-holes`). A body is refused where the prover refuses a goal of the function that
 the body's file is named for. An edit that changes anything else than this function's lines, and what a round doesn't tell, is tried alone, by
 `rt must-fail`."""
@@ -51,19 +51,12 @@ class Body:
         return self.path.name.partition(".")[0]
 
     @property
-    def place(self):
-        """The file and the name of the function, or none where the edit changes anything else than lines of this function."""
+    def is_of_its_function(self):
+        """Whether the edit changes nothing but lines of one file of src/ that are of the function that it is named for."""
         files = {file for file, _, _ in self.pairs}
         text = (self.path.parents[1] / min(files)).read_text("utf-8")
-        is_one = len(files) == 1 and min(files).startswith("src/") and all(text.count(old) == 1 for _, old, _ in self.pairs)
-        return (*files, self.function) if is_one and all(is_in_function(text, old, self.function) for _, old, _ in self.pairs) else None
-
-    def is_of(self, name):
-        """Whether the check's name of a function, as `cmwq_lists::lists::Lists::front`, is that of the function that is changed."""
-        file = self.pairs[0][0]
-        module = [it for it in [self.crate, *re.sub(r"(/mod|(^|/)lib)?\.rt$", "", file.removeprefix("src/")).split("/")] if it]
-        *rest, last = name.split("::")
-        return last == self.function and rest[: len(module)] == module and len(rest) <= len(module) + 1
+        is_plain = len(files) == 1 and min(files).startswith("src/") and all(text.count(old) == 1 for _, old, _ in self.pairs)
+        return is_plain and all(is_in_function(text, old, self.function) for _, old, _ in self.pairs)
 
 
 def put_into(folder, bodies):
@@ -89,27 +82,27 @@ def is_in_function(text, old, function):
 
 
 def rounds_of(bodies):
-    """The bodies in rounds, each with one of a function at most, and those that are tried alone."""
+    """The bodies in rounds, each with one of the functions of a name at most, and those that are tried alone."""
     of_function = collections.defaultdict(list)
     for body in bodies:
-        of_function[body.place].append(body)
-    alone = of_function.pop(None, [])
+        of_function[body.is_of_its_function and body.function].append(body)
+    alone = of_function.pop(False, [])
     length = max(map(len, of_function.values()), default=0)
     return [[group[at] for group in of_function.values() if at < len(group)] for at in range(length)], alone
 
 
 def refusals(said):
-    """For each function at a goal of which the prover refuses the crate, what it says of one."""
+    """By their names, the functions of which the prover refuses a goal, and what it says of one."""
     told, found = {}, {}
     for line in said.splitlines():
         if at := re.match(r"(?:\./)?proofs/(\S+)/\w+\.antt:\d+:\d+: error: (.*)", line):
             if not NAMELESS.search(at[2]):
                 told.setdefault(at[1], at[2])
-        elif at := re.match(r"fn (\S+): no proof: expected answers in \S+ (`search` did not prove .*)", line):
+        elif at := re.match(r"fn \S*?(\w+): no proof: expected answers in \S+ (`search` did not prove .*)", line):
             found[at[1]] = at[2]
-        elif at := re.match(r"fn (\S+): not proved", line):
-            if reason := told.get("/".join(at[1].split("::")[1:])):
-                found[at[1]] = reason
+        elif at := re.match(r"fn \w+::(\S+): not proved", line):
+            if reason := told.get(at[1].replace("::", "/")):
+                found[at[1].rpartition("::")[2]] = reason
     return found
 
 
@@ -166,9 +159,9 @@ class Rounds:
         shutil.rmtree(at)
         left = []
         for body in bodies:
-            reasons = [reason for function, reason in found.items() if body.is_of(function)]
-            left += [] if reasons else [body]
-            self.refused.update({body: reasons[0][:160]} if reasons else {})
+            reason = found.get(body.function)
+            left += [] if reason else [body]
+            self.refused.update({body: reason[:160]} if reason else {})
         return left
 
     def try_alone(self, name, bodies):

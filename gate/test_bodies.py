@@ -38,17 +38,14 @@ MOST = body("front.has_another_limit", old="MOST: u8 = 1", new="MOST: u8 = 2")
 LEAST = body("back.has_another_limit", old="LEAST: u8 = 2", new="LEAST: u8 = 1")
 FILES_OF_TWO = body("f.of_two_files", "src/lib.rt", "    c", "    d", "file: src/a/b.rt\nold:     c\nnew:     d\n")
 
+ELSEWHERE = body("f.x", "src/lib.rt", "    c", "    d")
+ALSO_F = body("f.y", "src/a/b.rt", "    c", "    d")
 ALONE = [WORD, TWICE, BOTH, MOST, LEAST, FILES_OF_TWO]
 assert bodies.rounds_of([FRONT, ALSO, BACK, *ALONE]) == ([[FRONT, BACK], [ALSO]], ALONE)
+assert bodies.rounds_of([ELSEWHERE, ALSO_F]) == ([[ELSEWHERE], [ALSO_F]], []), "functions of one name aren't told apart"
 assert bodies.rounds_of([]) == ([], [])
 assert body("f.x", old="a", new="").pairs == (("src/lists.rt", "a", ""),), "a text may be nothing"
 assert body("f.x", old=" a: b", new="b").pairs == (("src/lists.rt", " a: b", "b"),), "one space behind the colon is left out, and no more"
-
-assert FRONT.is_of("low::lists::Lists::front") and FRONT.is_of("low::lists::front")
-for name in ["low::lists::Lists::front_of", "low::front", "high::lists::front", "low::lists::deep::Lists::front", "low::lists::front::back"]:
-    assert not FRONT.is_of(name), name
-assert body("f.x", "src/lib.rt").is_of("low::f") and body("f.x", "src/lib.rt").is_of("low::Low::f")
-assert body("f.x", "src/a/mod.rt").is_of("low::a::f") and body("f.x", "src/a/b.rt").is_of("low::a::b::f")
 
 SAID = """\
 ./proofs/lists/Lists/front/Answers.antt:8:70: error: `returns`: the two types differ
@@ -61,8 +58,8 @@ fn low::lists::is_full: no proof: expected answers in ./proofs/lists/is_full/Ans
 fn low::lists::swap: no proof: expected a proof in ./proofs/lists/swap/Proof.antt
 fn low::lists::push: no proof: it calls `low::lists::is_full`, which is not proved
 """
-assert list(bodies.refusals(SAID)) == ["low::lists::Lists::front", "low::lists::is_full"], "a goal, no missing name, and no call of what isn't proved"
-assert bodies.refusals(SAID)["low::lists::Lists::front"] == "`returns`: the two types differ"
+assert list(bodies.refusals(SAID)) == ["front", "is_full"], "a goal, no missing name, and no call of what isn't proved"
+assert bodies.refusals(SAID)["front"] == "`returns`: the two types differ"
 
 bodies.put_into(CRATE, [body("front.is_further_on", new="        { a2 }"), BACK])
 assert (CRATE / "src/lists.rt").read_text("utf-8") == FILES["src/lists.rt"].replace("        a\n", "        { a2 }\n").replace("{ a2 }\n}", "{ b2 }\n}")
