@@ -15,6 +15,7 @@ import subprocess
 import tempfile
 
 HEAD = re.compile(r"^( *)(?:pub(?:\(\w+\))? )?(?:const |unsafe )*fn (\w+)", re.M)
+CLAUSE = re.compile(r"\b(?:requires|ensures|ghost|invariant)\b")
 NAMELESS = re.compile(r"has no field|is not in scope|has no `|was not admitted|only because a proof file names")
 PARTS = ("src", "specs", "proofs")
 
@@ -52,11 +53,12 @@ class Body:
 
     @property
     def is_of_its_function(self):
-        """Whether the edit changes nothing but lines of one file of src/ that are of the function that it is named for."""
+        """Whether the edit changes nothing but lines of one file of src/ that are of the function that it is named for, and no clause."""
         files = {file for file, _, _ in self.pairs}
         text = (self.path.parents[1] / min(files)).read_text("utf-8")
-        is_plain = len(files) == 1 and min(files).startswith("src/") and all(text.count(old) == 1 for _, old, _ in self.pairs)
-        return is_plain and all(is_in_function(text, old, self.function) for _, old, _ in self.pairs)
+        is_one = len(files) == 1 and min(files).startswith("src/") and all(text.count(old) == 1 for _, old, _ in self.pairs)
+        has_clause = any(CLAUSE.search(old + new) for _, old, new in self.pairs)
+        return is_one and not has_clause and all(is_in_function(text, old, self.function) for _, old, _ in self.pairs)
 
 
 def put_into(folder, bodies):

@@ -34,13 +34,14 @@ BACK = body("back.is_the_front", old="fn back() { a2 }", new="fn back() { b2 }")
 WORD = body("word.is_another", "specs/Words.antt", "c", "d")
 TWICE = body("front.a_text_that_stands_twice", old="a", new="b")
 BOTH = body("front.and_back", more="old: { a2 }\nnew: { b2 }\n")
+CLAUSE = body("front.promises_less", new="        b requires { c }")
 MOST = body("front.has_another_limit", old="MOST: u8 = 1", new="MOST: u8 = 2")
 LEAST = body("back.has_another_limit", old="LEAST: u8 = 2", new="LEAST: u8 = 1")
 FILES_OF_TWO = body("f.of_two_files", "src/lib.rt", "    c", "    d", "file: src/a/b.rt\nold:     c\nnew:     d\n")
 
 ELSEWHERE = body("f.x", "src/lib.rt", "    c", "    d")
 ALSO_F = body("f.y", "src/a/b.rt", "    c", "    d")
-ALONE = [WORD, TWICE, BOTH, MOST, LEAST, FILES_OF_TWO]
+ALONE = [WORD, CLAUSE, TWICE, BOTH, MOST, LEAST, FILES_OF_TWO]
 assert bodies.rounds_of([FRONT, ALSO, BACK, *ALONE]) == ([[FRONT, BACK], [ALSO]], ALONE)
 assert bodies.rounds_of([ELSEWHERE, ALSO_F]) == ([[ELSEWHERE], [ALSO_F]], []), "functions of one name aren't told apart"
 assert bodies.rounds_of([]) == ([], [])
