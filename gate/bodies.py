@@ -159,6 +159,9 @@ class Rounds:
         put_into(at / "crates" / name, bodies)
         found = refusals(self.run(at / "crates" / name, "check", "--allow-holes", "--jobs", "1").stdout)
         shutil.rmtree(at)
+        if not found.keys() <= {body.function for body in bodies}:
+            # (a goal of a function that is as it was: then the round tells nothing)
+            return bodies
         left = []
         for body in bodies:
             reason = found.get(body.function)
