@@ -62,6 +62,32 @@ fn low::lists::push: no proof: it calls `low::lists::is_full`, which is not prov
 assert list(bodies.refusals(SAID)) == ["front", "is_full"], "a goal, no missing name, and no call of what isn't proved"
 assert bodies.refusals(SAID)["front"] == "`returns`: the two types differ"
 
+REFUSED = [
+    "rt: must-fail low/front.is_the_back.edit: refused, as it must be: ./src/lists.rt:5:9: error: `returns`: the two types differ",
+    "rt: must-fail low/front.is_nameless.edit: refused, as it must be: ./proofs/lists/Shared.antt:8:70: error: `now` has no field `back`",
+    "rt: must-fail low/front.takes_a_name.edit: refused, as it must be (only because a proof file names what the edit took away): error",
+    "rt: must-fail low/front.is_the_same.edit: NOT REFUSED: the crate is still proved with this edit",
+    "rt: must-fail low/front.is_no_code.edit: BAD EDIT: it did not reach the prover",
+]
+assert bodies.reasons(REFUSED) == {"low/front.is_the_back.edit": "./src/lists.rt:5:9: error: `returns`: the two types differ"}
+
+
+def save_time(names, count, every):
+    """Whether rounds save time for so many bodies of each of these crates, of a tree with these."""
+    with tempfile.TemporaryDirectory() as room:
+        for path in [pathlib.Path(room, "crates", name, "must-fail", f"f.{it}.edit") for name in names for it in range(count)]:
+            path.parent.mkdir(parents=True, exist_ok=True)
+            path.write_text("file: src/lib.rt\nold: a\nnew: b\n", "utf-8")
+            path.parents[1].joinpath("src").mkdir(exist_ok=True)
+            path.parents[1].joinpath("src/lib.rt").write_text("fn f() {\n    a\n}\n", "utf-8")
+        return bodies.Rounds(room, every, names, room).save_time
+
+
+TOWER = {"low": ("low:", []), "mid": ("mid: low", ["low"]), "high": ("high: mid", ["mid"])}
+assert save_time(["low"], 1, TOWER), "nothing below is proved for it"
+assert not save_time(["high"], 10, TOWER) and save_time(["high"], 11, TOWER), "two crates are proved for it"
+assert save_time(["low", "high"], 3, TOWER), "one crate is proved for them"
+
 bodies.put_into(CRATE, [body("front.is_further_on", new="        { a2 }"), BACK])
 assert (CRATE / "src/lists.rt").read_text("utf-8") == FILES["src/lists.rt"].replace("        a\n", "        { a2 }\n").replace("{ a2 }\n}", "{ b2 }\n}")
 print("gate/test_bodies.py: ok")
