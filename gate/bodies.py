@@ -160,12 +160,9 @@ class Rounds:
         return at
 
     def prove(self, name):
-        """Proves the crate and builds its library, of statements alone, over which a check takes half the time. Returns what was said if it failed."""
+        """Proves the crate and builds its library. Returns what was said if it failed."""
         at = self.furnish(name, self.root)
-        ran = self.run(at / "crates" / name, "lib", "--jobs", "1", "--statements")
-        if ran.returncode:
-            # (an older kit builds whole libraries alone)
-            ran = self.run(at / "crates" / name, "lib", "--jobs", "1")
+        ran = self.run(at / "crates" / name, "lib", "--jobs", "1")
         self.proved.update({} if ran.returncode else {name: at})
         return ran.stdout if ran.returncode else ""
 
