@@ -5,7 +5,7 @@ ghost use Rattle.std.specs.Prelude.{◌≡◌, IfOk};
 
 use crate::performing::exec;
 use cmwq_parts::{Going, Parts};
-use cmwq_table::{LoadError, Machine, View};
+use cmwq_table::{FlushTarget, LoadError, Machine, Pending, Reads, Running, View};
 use cmwq_types::{Instr, NoMemory, Reply, Scenario};
 use std::alloc::Global;
 use std::marker::Model;
@@ -29,11 +29,61 @@ impl<P: Parts> Model for Driven<P> {
     ghost invariant = { λ m. IsKept m.going };
 }
 
-impl<P: Parts> Machine for Driven<P> {
+impl<P: Parts> Reads for Driven<P> {
     ghost loaded = { λ m. m.scenario };
 
     ghost state = { λ m. m.state };
 
+    fn scenario(&self) -> &Scenario {
+        self.going.parts().scenario()
+    }
+
+    fn time(&self) -> u64 {
+        self.going.parts().time()
+    }
+
+    fn spent(&self) -> u32 {
+        self.going.parts().spent()
+    }
+
+    fn is_frozen(&self) -> bool {
+        self.going.parts().is_frozen()
+    }
+
+    fn is_pressed(&self) -> bool {
+        self.going.parts().is_pressed()
+    }
+
+    fn max_of(&self, queue: u8) -> u16 {
+        self.going.parts().max_of(queue)
+    }
+
+    fn pending_of(&self, w: usize) -> Option<Pending> {
+        self.going.parts().pending_of(w)
+    }
+
+    fn running_of(&self, w: usize) -> Option<Running> {
+        self.going.parts().running_of(w)
+    }
+
+    fn depth_of(&self, w: usize) -> u16 {
+        self.going.parts().depth_of(w)
+    }
+
+    fn idle_of(&self, pool: u8, worker: u8) -> Option<u64> {
+        self.going.parts().idle_of(pool, worker)
+    }
+
+    fn made_of(&self, pool: u8) -> u8 {
+        self.going.parts().made_of(pool)
+    }
+
+    fn flush_of(&self, number: usize) -> Option<FlushTarget> {
+        self.going.parts().flush_of(number)
+    }
+}
+
+impl<P: Parts> Machine for Driven<P> {
     fn load(alloc: Global, scenario: &Scenario) -> Result<Self, LoadError> {
         if let Err(fault) = scenario.check() {
             return Err(LoadError::Fault(fault));

@@ -16,6 +16,7 @@ use crate::disabling::{disable, enable};
 use crate::flushing::{cancel_sync, flush_delayed, flush_last, flush_queue};
 use crate::refusing::{is_question, refused_at_once};
 use cmwq_parts::{Found, Going, Parts};
+use cmwq_reads::flush_target;
 use cmwq_types::{Cause, Event, Instr, QueueId, Refusal, Reply, WorkId, WorkRun, WorkState};
 
 /// The line of an instruction: a refusal changes nothing, and what is accepted is spent, questions
@@ -369,7 +370,7 @@ fn step_or_tick<P: Parts>(going: &mut Going<P>) -> Reply
 fn ask<P: Parts>(going: &Going<P>, flush: u16) -> Reply
     ensures { result ≡ yes_or_no (is_done going.now.scenario going.now.state (target_at going.now.state flush)) }
 {
-    if going.parts().is_done(going.parts().flush_target(flush)) {
+    if going.parts().is_done(flush_target(going.parts(), flush)) {
         Reply::Yes
     } else {
         Reply::No

@@ -28,13 +28,13 @@ pub struct Going<P: Parts> {
 }
 
 impl<P: Parts> Model for Going<P> {
-    ghost use Rattle.cmwq_table.specs.Ready.{IsReady, Loaded};
+    ghost use Rattle.cmwq_table.specs.Ready.{IsReady, Loaded, holding};
 
     ghost Value = { Loaded };
 
-    ghost view = { λ m. P.held m.parts };
+    ghost view = { λ m. holding (P.loaded m.parts) (P.state m.parts) };
 
-    ghost invariant = { λ m. IsReady (P.held m.parts).scenario (P.held m.parts).state };
+    ghost invariant = { λ m. IsReady (P.loaded m.parts) (P.state m.parts) };
 }
 
 impl<P: Parts> Going<P> {
@@ -65,7 +65,8 @@ impl<P: Parts> Going<P> {
 
     /// The parts, which answer the questions on the state.
     pub fn parts(&self) -> &P
-        ensures held { P.held result.now ≡ self.now }
+        ensures loaded { P.loaded result.now ≡ self.now.scenario }
+        ensures state { P.state result.now ≡ self.now.state }
         ensures ready { IsReady self.now.scenario self.now.state }
     {
         &self.parts

@@ -6,6 +6,7 @@ ghost use Rattle.cmwq_types.specs.Scenario.{pool_count};
 ghost use Rattle.std.specs.Prelude.{◌≡◌, slice_index_or};
 
 use crate::records::Records;
+use cmwq_reads::{Sought, first};
 use cmwq_table::Running;
 use cmwq_types::{MAX_CPUS, Mode};
 
@@ -19,7 +20,7 @@ impl Records {
     {
         let mut heads = [None; MAX_POOLS];
         for pool in 0..self.scenario.pool_count() {
-            heads[pool as usize] = self.first_runnable(pool);
+            heads[pool as usize] = first(self, Sought::Runnable { pool });
         }
         heads
     }

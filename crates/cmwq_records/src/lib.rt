@@ -4,12 +4,7 @@
 
 mod beginning;
 mod burning;
-mod counts;
-mod flushes;
 mod looking;
 mod records;
-mod sought;
-mod tally;
-mod workers;
 
 pub use records::Records;

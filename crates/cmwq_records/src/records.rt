@@ -6,10 +6,8 @@ ghost use Rattle.std.specs.Prelude.{◌≡◌};
 use crate::beginning::{PoolVectors, WorkVectors, copied_flushes, declared_max};
 use crate::burning::burn;
 use crate::looking::{entries, idle_workers};
-use crate::sought::Sought;
-use crate::tally::Tally;
 use cmwq_parts::Parts;
-use cmwq_table::{FlushTarget, Pending, Running, View};
+use cmwq_table::{FlushTarget, Pending, Reads, Running, View};
 use cmwq_types::{MAX_WORKERS, Mode, NoMemory, Place, RESCUER, Scenario};
 use std::alloc::Global;
 use std::marker::Model;
@@ -65,9 +63,61 @@ impl Model for Records {
     ghost invariant = { λ r. IsLaidOut r.scenario.value r.max.items r.pending.items r.running.items r.depth.items r.idle.items r.made.items (vec_capacity r.flushes) };
 }
 
-impl Parts for Records {
-    ghost held = { λ r. r };
+impl Reads for Records {
+    ghost loaded = { λ r. r.scenario };
 
+    ghost state = { λ r. r.state };
+
+    fn scenario(&self) -> &Scenario {
+        &self.scenario
+    }
+
+    fn time(&self) -> u64 {
+        self.time
+    }
+
+    fn spent(&self) -> u32 {
+        self.spent
+    }
+
+    fn is_frozen(&self) -> bool {
+        self.frozen
+    }
+
+    fn is_pressed(&self) -> bool {
+        self.pressed
+    }
+
+    fn max_of(&self, queue: u8) -> u16 {
+        self.max.get(queue as usize).copied().unwrap_or(0)
+    }
+
+    fn pending_of(&self, w: usize) -> Option<Pending> {
+        self.pending.get(w).copied().unwrap_or(None)
+    }
+
+    fn running_of(&self, w: usize) -> Option<Running> {
+        self.running.get(w).copied().unwrap_or(None)
+    }
+
+    fn depth_of(&self, w: usize) -> u16 {
+        self.depth.get(w).copied().unwrap_or(0)
+    }
+
+    fn idle_of(&self, pool: u8, worker: u8) -> Option<u64> {
+        self.idle.get(seat(pool, worker)).copied().unwrap_or(None)
+    }
+
+    fn made_of(&self, pool: u8) -> u8 {
+        self.made.get(pool as usize).copied().unwrap_or(0)
+    }
+
+    fn flush_of(&self, number: usize) -> Option<FlushTarget> {
+        self.flushes.get(number).copied()
+    }
+}
+
+impl Parts for Records {
     fn begin(alloc: Global, scenario: Arc<Scenario>) -> Result<Self, NoMemory> {
         let max = declared_max(alloc, &scenario.queues)?;
         let flushes = Vec::with_capacity(alloc, scenario.flushes as usize)?;
@@ -151,109 +201,12 @@ impl Parts for Records {
         })
     }
 
-    fn scenario(&self) -> &Scenario {
-        &self.scenario
-    }
-
-    fn time(&self) -> u64 {
-        self.time
-    }
-
     fn next_stamp(&self) -> u64 {
         self.next
     }
 
-    fn spent(&self) -> u32 {
-        self.spent
-    }
-
-    fn is_frozen(&self) -> bool {
-        self.frozen
-    }
-
-    fn is_pressed(&self) -> bool {
-        self.pressed
-    }
-
     fn flush_count(&self) -> usize {
         self.flushes.len()
-    }
-
-    fn flush_target(&self, flush: u16) -> FlushTarget {
-        self.flushes
-            .get(flush as usize)
-            .copied()
-            .unwrap_or(FlushTarget::Nothing)
-    }
-
-    fn pending_of(&self, w: usize) -> Option<Pending> {
-        self.pending.get(w).copied().unwrap_or(None)
-    }
-
-    fn running_of(&self, w: usize) -> Option<Running> {
-        self.running.get(w).copied().unwrap_or(None)
-    }
-
-    fn depth_of(&self, w: usize) -> u16 {
-        self.depth.get(w).copied().unwrap_or(0)
-    }
-
-    fn has_room(&self, queue: u8, pool: u8) -> bool {
-        self.active(queue, pool) < self.limit(queue) as usize
-    }
-
-    fn is_busy(&self) -> bool {
-        self.count(Tally::Busy) != 0
-    }
-
-    fn is_done(&self, target: FlushTarget) -> bool {
-        match target {
-            FlushTarget::Instance { work, born } => !self.has_instance_born(work.0 as usize, born),
-            FlushTarget::Queue { queue, bound } => {
-                let queue = queue.0;
-                self.count(Tally::QueuedBefore { queue, bound }) == 0
-            }
-            FlushTarget::Nothing => true,
-        }
-    }
-
-    fn may_start(&self, pool: u8) -> bool {
-        self.scenario.is_unbound(pool) || self.count(Tally::Counted { pool }) == 0
-    }
-
-    fn first_inactive(&self, queue: u8, pool: u8) -> Option<usize> {
-        self.first(Sought::Inactive { queue, pool })
-    }
-
-    fn first_listed(&self, pool: u8) -> Option<usize> {
-        self.first(Sought::Listed { pool })
-    }
-
-    fn first_rescued(&self, pool: u8) -> Option<usize> {
-        self.first(Sought::Rescued { pool })
-    }
-
-    fn first_due(&self) -> Option<usize> {
-        self.first(Sought::Due)
-    }
-
-    fn first_slept(&self, pool: u8) -> Option<usize> {
-        self.first(Sought::Slept { pool })
-    }
-
-    fn ready_head(&self, pool: u8) -> Option<usize> {
-        if self.scenario.is_unbound(pool) {
-            self.first(Sought::Ready { pool })
-        } else {
-            self.if_ready(self.first_runnable(pool))
-        }
-    }
-
-    fn free_worker(&self, pool: u8) -> Option<u8> {
-        match self.last_idle(pool) {
-            Some(worker) => Some(worker),
-            None => self.new_worker(pool),
-        }
     }
 
     fn bear(&mut self, w: usize, place: Place) {
@@ -363,7 +316,6 @@ impl Parts for Records {
 
 impl Records {
     ghost use Rattle.cmwq_table.specs.Moves.{taking};
-    ghost use Rattle.cmwq_table.specs.State.{idle_at, made_at, max_at};
     ghost use Rattle.std.specs.Prelude.{◌≡◌, ◌<◌, ◌^◌};
 
     /// The next stamp, which is taken: the one after it is next.
@@ -375,27 +327,6 @@ impl Records {
         let stamp = self.next;
         self.next += 1;
         stamp
-    }
-
-    /// The `max_active` that the queue has now, and 0 where there is no such queue.
-    pub(crate) fn max_of(&self, queue: u8) -> u16
-        ensures { result ≡ max_at self.now.state queue }
-    {
-        self.max.get(queue as usize).copied().unwrap_or(0)
-    }
-
-    /// The stamp from which on the worker of the pool is idle, if it is.
-    pub(crate) fn idle_of(&self, pool: u8, worker: u8) -> Option<u64>
-        ensures { result ≡ idle_at self.now.state pool worker }
-    {
-        self.idle.get(seat(pool, worker)).copied().unwrap_or(None)
-    }
-
-    /// How many workers the pool has made: they are the numbers from 0 on. 0 where there is no such pool.
-    pub(crate) fn made_of(&self, pool: u8) -> u8
-        ensures { result ≡ made_at self.now.state pool }
-    {
-        self.made.get(pool as usize).copied().unwrap_or(0)
     }
 }
 

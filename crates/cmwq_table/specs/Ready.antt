@@ -62,6 +62,9 @@ pub record Loaded : Type 0 where
   pub scenario : ScenarioContents
   pub state : State
 
+abbrev pub holding : ScenarioContents → State → Loaded
+holding S s = record { scenario = S; state = s }
+
 -- what holds of every state that a valid scenario comes to
 pub record IsKept (m : Loaded) : Type 0 where
   pub setting : IsSetting m.scenario

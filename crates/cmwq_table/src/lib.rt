@@ -4,11 +4,13 @@
 mod equality;
 pub mod laws;
 mod machine;
+mod reads;
 mod reply_line;
 mod state;
 mod view;
 
 pub use machine::{LoadError, Machine};
+pub use reads::Reads;
 pub use reply_line::{PlaceWords, ReplyLine, RunWords, WorkerWords, refusal_name};
 pub use state::{FlushTarget, Pending, Running};
 pub use view::{IdleWorker, View};

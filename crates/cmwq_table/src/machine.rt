@@ -1,12 +1,12 @@
 //! What a machine is: a body that carries out the instruction table.
-ghost use Rattle.cmwq_table.specs.State.{State, start};
+ghost use Rattle.cmwq_table.specs.State.{start};
 ghost use Rattle.cmwq_table.specs.Machine.{Loads};
 ghost use Rattle.cmwq_table.specs.Table.{table};
-ghost use Rattle.cmwq_types.specs.Contents.{ScenarioContents};
 ghost use Rattle.cmwq_types.specs.Faults.{IsValid};
 ghost use Rattle.cmwq_table.specs.View.{view_of};
 ghost use Rattle.std.specs.Prelude.{◌≡◌, IfOk};
 
+use crate::reads::Reads;
 use crate::view::View;
 use cmwq_types::{Fault, Instr, NoMemory, Reply, Scenario};
 use std::alloc::{AllocError, Global};
@@ -24,29 +24,23 @@ pub enum LoadError {
     NoMemory,
 }
 
-/// A machine that carries out the instruction table on a scenario.
+/// A machine that carries out the instruction table on a scenario, and answers what is asked of its state.
 ///
 /// Every machine answers alike, however it keeps its state. The table is this project's profile of
 /// the kernel's workqueue.
-pub trait Machine: Drop {
-    /// The scenario that was loaded.
-    ghost loaded: { Self → ScenarioContents };
-
-    /// The whole state.
-    ghost state: { Self → State };
-
+pub trait Machine: Reads + Drop {
     /// A machine in the scenario's start state, with room for all that can come.
     ///
     /// Answers `Fault` exactly where the scenario has one, and else may answer `NoMemory`.
     fn load(alloc: Global, scenario: &Scenario) -> Result<Self, LoadError>
-        ensures { Loads loaded state scenario.now result };
+        ensures { Loads Self.loaded Self.state scenario.now result };
 
     /// A machine in the start state of a scenario that is known to be valid, with room for all that can
     /// come. The scenario is shared, and isn't judged again.
     fn begin(alloc: Global, scenario: Arc<Scenario>) -> Result<Self, NoMemory>
         requires { IsValid scenario.value }
-        ensures scenario { IfOk result (λ machine. loaded machine ≡ scenario.value) }
-        ensures state { IfOk result (λ machine. state machine ≡ start scenario.value) };
+        ensures scenario { IfOk result (λ machine. Self.loaded machine ≡ scenario.value) }
+        ensures state { IfOk result (λ machine. Self.state machine ≡ start scenario.value) };
 
     /// Carries out one instruction, and answers it. It takes no memory.
     ///
@@ -54,20 +48,20 @@ pub trait Machine: Drop {
     /// to right (numbers that nothing has, and a `max` outside 1 to 512); then `Spent`; then what the state
     /// doesn't allow.
     fn exec(&mut self, instr: Instr) -> Reply
-        ensures exact { (state self.new, result) ≡ table (loaded self.old) (state self.old) instr }
-        ensures scenario { loaded self.new ≡ loaded self.old };
+        ensures exact { (Self.state self.new, result) ≡ table (Self.loaded self.old) (Self.state self.old) instr }
+        ensures scenario { Self.loaded self.new ≡ Self.loaded self.old };
 
     /// A machine in the same state, with the same room, and independent of this one but for the scenario,
     /// which they share.
     fn copy(&self) -> Result<Self, NoMemory>
-        ensures scenario { IfOk result (λ copy. loaded copy ≡ loaded self.now) }
-        ensures state { IfOk result (λ copy. state copy ≡ state self.now) };
+        ensures scenario { IfOk result (λ copy. Self.loaded copy ≡ Self.loaded self.now) }
+        ensures state { IfOk result (λ copy. Self.state copy ≡ Self.state self.now) };
 
     /// Every part of the state.
     fn look(&self) -> Result<View, NoMemory>
-        ensures view { IfOk result (λ view. view ≡ view_of (state self.now)) };
+        ensures view { IfOk result (λ view. view ≡ view_of (Self.state self.now)) };
 
     /// The time, in ticks since the scenario was loaded.
     fn now(&self) -> u64
-        ensures { result ≡ (state self.now).time };
+        ensures { result ≡ (Self.state self.now).time };
 }

@@ -1,0 +1,15 @@
+//! What the instruction table counts and seeks in a machine's state, by scans over whatever can be asked of it. It is written
+//! once, for machines and for whoever looks at one.
+#![tactic(auto)]
+
+mod flushes;
+mod moves;
+mod sought;
+mod tally;
+mod workers;
+
+pub use flushes::{flush_target, is_done};
+pub use moves::{has_no_move, is_settled, next_move, ready_head};
+pub use sought::{Sought, first, running_stamp};
+pub use tally::{Tally, active, count, has_room, is_busy, is_counted, limit, may_start};
+pub use workers::{free_worker, has_free_rescuer, last_idle, new_worker};
