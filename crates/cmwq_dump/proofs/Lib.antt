@@ -1,5 +1,1 @@
-pub mod AlikeLemmas
 pub mod LawLemmas
-pub mod MapLemmas
-pub mod Maps
-pub mod PictureLemmas

@@ -1,4 +1,3 @@
-pub mod Alike
 pub mod Dump
 pub mod Laws
 pub mod Order

@@ -1,38 +1,39 @@
 //! The lines of a dump.
 ghost use Rattle.cmwq_dump.specs.Dump.{asleep_line, at_worker, clock_line, cpu_of, disabled_line, dump, flush_line, group_lines, idle_workers, left_of, name_line, pc_of, pool_line, pool_lines, pressed_line, queue_line, run_line, spaced, timer_cpu, timer_line, work_line, worker_of, yes_or_no};
 ghost use Rattle.cmwq_dump.specs.Order.{each_below};
+ghost use Rattle.cmwq_table.specs.Counts.{pending_due, running_until};
 ghost use Rattle.cmwq_types.specs.Contents.{ScenarioContents};
 ghost use Rattle.cmwq_types.specs.Scenario.{pool_count, queue_at, work_at};
 ghost use Rattle.std.specs.List.{flat_map};
 ghost use Rattle.std.specs.Prelude.{◌≡◌, ◌<◌, ◌++◌, OnOk, Some, length, string_bytes};
 
-use crate::group::{Group, due, until};
-use crate::picture::Picture;
-use cmwq_table::{Pending, Running, WorkerWords};
+use crate::dumping::Dumping;
+use crate::group::Group;
+use cmwq_reads::{flush_target, is_done, level};
+use cmwq_table::{Pending, Reads, Running, WorkerWords};
 use cmwq_types::{NoMemory, Place, Scenario};
-use std::alloc::Global;
 use std::fmt;
 
-impl Picture<'_> {
+impl<R: Reads> Dumping<'_, R> {
     /// Writes the whole dump.
-    pub(crate) fn push_dump(&self, alloc: Global, text: &mut String) -> Result<(), NoMemory>
+    pub(crate) fn push_dump(&self, text: &mut String) -> Result<(), NoMemory>
         ensures { OnOk result (string_bytes text.new ≡ string_bytes text.old ++ dump self.now.scenario self.now.state) }
     {
         self.push_clock(text)?;
         self.push_pressed(text)?;
         self.push_queues(text)?;
-        self.push_pools(alloc, text)?;
-        self.push_group(alloc, text, Group::Timed)?;
-        self.push_group(alloc, text, Group::Disabled)?;
+        self.push_pools(text)?;
+        self.push_group(text, Group::Timed)?;
+        self.push_group(text, Group::Disabled)?;
         self.push_flushes(text)
     }
 
     fn push_clock(&self, text: &mut String) -> Result<(), NoMemory>
         ensures { OnOk result (string_bytes text.new ≡ string_bytes text.old ++ clock_line self.now.state) }
     {
-        let time = self.time();
-        let spent = self.spent();
-        let frozen = yes_or_no(self.is_frozen());
+        let time = self.machine.time();
+        let spent = self.machine.spent();
+        let frozen = yes_or_no(self.machine.is_frozen());
         write!(text, "now {time} spent {spent} frozen {frozen}\n")?;
         Ok(())
     }
@@ -41,7 +42,7 @@ impl Picture<'_> {
     fn push_pressed(&self, text: &mut String) -> Result<(), NoMemory>
         ensures { OnOk result (string_bytes text.new ≡ string_bytes text.old ++ pressed_line self.now.state) }
     {
-        if self.is_pressed() {
+        if self.machine.is_pressed() {
             text.push_str("pressed\n")?;
         }
         Ok(())
@@ -51,55 +52,50 @@ impl Picture<'_> {
         ensures { OnOk result (string_bytes text.new ≡ string_bytes text.old
             ++ each_below (queue_line self.now.scenario self.now.state) (length self.now.scenario.queues)) }
     {
-        for queue in 0..self.scenario().queues.len() {
+        for queue in 0..self.machine.scenario().queues.len() as u8 {
             self.push_queue(text, queue)?;
         }
         Ok(())
     }
 
-    fn push_queue(&self, text: &mut String, queue: usize) -> Result<(), NoMemory>
+    fn push_queue(&self, text: &mut String, queue: u8) -> Result<(), NoMemory>
         ensures { OnOk result (string_bytes text.new ≡ string_bytes text.old ++ queue_line self.now.scenario self.now.state queue) }
     {
-        let name = queue_name(self.scenario(), queue);
-        let max = self.max_of(queue);
+        let name = queue_name(self.machine.scenario(), queue as usize);
+        let max = self.machine.max_of(queue);
         write!(text, "queue {name} max {max}\n")?;
         Ok(())
     }
 
-    fn push_pools(&self, alloc: Global, text: &mut String) -> Result<(), NoMemory>
+    fn push_pools(&self, text: &mut String) -> Result<(), NoMemory>
         ensures { OnOk result (string_bytes text.new ≡ string_bytes text.old
             ++ each_below (pool_lines self.now.scenario self.now.state) (pool_count self.now.scenario)) }
     {
-        for pool in 0..self.scenario().pool_count() {
-            self.push_pool(alloc, text, pool)?;
+        for pool in 0..self.machine.scenario().pool_count() {
+            self.push_pool(text, pool)?;
         }
         Ok(())
     }
 
     /// Writes the lines of one pool.
-    pub(crate) fn push_pool(
-        &self,
-        alloc: Global,
-        text: &mut String,
-        pool: u8,
-    ) -> Result<(), NoMemory>
+    pub(crate) fn push_pool(&self, text: &mut String, pool: u8) -> Result<(), NoMemory>
         ensures { OnOk result (string_bytes text.new ≡ string_bytes text.old ++ pool_lines self.now.scenario self.now.state pool) }
     {
-        self.push_workers(alloc, text, pool)?;
-        self.push_group(alloc, text, Group::Running(pool))?;
-        self.push_group(alloc, text, Group::Asleep(pool))?;
-        self.push_group(alloc, text, Group::Listed(pool))?;
-        self.push_group(alloc, text, Group::Deferred(pool))?;
-        self.push_group(alloc, text, Group::Inactive(pool))
+        self.push_workers(text, pool)?;
+        self.push_group(text, Group::Running(pool))?;
+        self.push_group(text, Group::Asleep(pool))?;
+        self.push_group(text, Group::Listed(pool))?;
+        self.push_group(text, Group::Deferred(pool))?;
+        self.push_group(text, Group::Inactive(pool))
     }
 
     /// Writes the pool's own line: its concurrency level and its workers.
-    fn push_workers(&self, alloc: Global, text: &mut String, pool: u8) -> Result<(), NoMemory>
+    fn push_workers(&self, text: &mut String, pool: u8) -> Result<(), NoMemory>
         ensures { OnOk result (string_bytes text.new ≡ string_bytes text.old ++ pool_line self.now.scenario self.now.state pool) }
     {
-        let counted = self.counted(pool);
-        let made = self.made_of(pool);
-        let idle = self.idle_workers(alloc, pool)?;
+        let counted = level(self.machine, pool);
+        let made = self.machine.made_of(pool);
+        let idle = self.idle_workers(pool)?;
         write!(text, "pool {pool} counted {counted} made {made} idle")?;
         push_numbers(text, &idle)?;
         text.push_str("\n")?;
@@ -107,10 +103,10 @@ impl Picture<'_> {
     }
 
     /// Writes the line of each work of the group, in order.
-    fn push_group(&self, alloc: Global, text: &mut String, group: Group) -> Result<(), NoMemory>
+    fn push_group(&self, text: &mut String, group: Group) -> Result<(), NoMemory>
         ensures { OnOk result (string_bytes text.new ≡ string_bytes text.old ++ group_lines self.now.scenario self.now.state group) }
     {
-        let works = self.members(alloc, group)?;
+        let works = self.members(group)?;
         self.push_works(text, group, &works)
     }
 
@@ -142,8 +138,8 @@ impl Picture<'_> {
     fn push_run(&self, text: &mut String, w: usize) -> Result<(), NoMemory>
         ensures { OnOk result (string_bytes text.new ≡ string_bytes text.old ++ run_line self.now.scenario self.now.state w) }
     {
-        let name = work_name(self.scenario(), w);
-        let running = self.running_of(w);
+        let name = work_name(self.machine.scenario(), w);
+        let running = self.machine.running_of(w);
         let worker = AtWorker(running);
         let left = left_of(running);
         write!(text, "run {name}{worker} {left}\n")?;
@@ -153,8 +149,8 @@ impl Picture<'_> {
     fn push_asleep(&self, text: &mut String, w: usize) -> Result<(), NoMemory>
         ensures { OnOk result (string_bytes text.new ≡ string_bytes text.old ++ asleep_line self.now.scenario self.now.state w) }
     {
-        let name = work_name(self.scenario(), w);
-        let running = self.running_of(w);
+        let name = work_name(self.machine.scenario(), w);
+        let running = self.machine.running_of(w);
         let worker = AtWorker(running);
         let until = until(running);
         write!(text, "asleep {name}{worker} {until}\n")?;
@@ -165,7 +161,7 @@ impl Picture<'_> {
     fn push_name(&self, text: &mut String, word: &str, w: usize) -> Result<(), NoMemory>
         ensures { OnOk result (string_bytes text.new ≡ string_bytes text.old ++ name_line self.now.scenario word.now w) }
     {
-        let name = work_name(self.scenario(), w);
+        let name = work_name(self.machine.scenario(), w);
         write!(text, "{word}{name}\n")?;
         Ok(())
     }
@@ -173,8 +169,8 @@ impl Picture<'_> {
     fn push_timer(&self, text: &mut String, w: usize) -> Result<(), NoMemory>
         ensures { OnOk result (string_bytes text.new ≡ string_bytes text.old ++ timer_line self.now.scenario self.now.state w) }
     {
-        let name = work_name(self.scenario(), w);
-        let pending = self.pending_of(w);
+        let name = work_name(self.machine.scenario(), w);
+        let pending = self.machine.pending_of(w);
         let cpu = timer_cpu(pending);
         let due = due(pending);
         write!(text, "timer {name} {cpu} {due}\n")?;
@@ -184,8 +180,8 @@ impl Picture<'_> {
     fn push_disabled(&self, text: &mut String, w: usize) -> Result<(), NoMemory>
         ensures { OnOk result (string_bytes text.new ≡ string_bytes text.old ++ disabled_line self.now.scenario self.now.state w) }
     {
-        let name = work_name(self.scenario(), w);
-        let depth = self.depth_of(w);
+        let name = work_name(self.machine.scenario(), w);
+        let depth = self.machine.depth_of(w);
         write!(text, "disabled {name} {depth}\n")?;
         Ok(())
     }
@@ -194,7 +190,7 @@ impl Picture<'_> {
         ensures { OnOk result (string_bytes text.new ≡ string_bytes text.old
             ++ each_below (flush_line self.now.scenario self.now.state) (length self.now.state.flushes)) }
     {
-        for flush in 0..self.flush_count() {
+        for flush in 0..self.machine.flush_count() {
             self.push_flush(text, flush)?;
         }
         Ok(())
@@ -203,7 +199,7 @@ impl Picture<'_> {
     fn push_flush(&self, text: &mut String, flush: usize) -> Result<(), NoMemory>
         ensures { OnOk result (string_bytes text.new ≡ string_bytes text.old ++ flush_line self.now.scenario self.now.state flush) }
     {
-        let done = yes_or_no(self.is_done(self.flush_target(flush)));
+        let done = yes_or_no(is_done(self.machine, flush_target(self.machine, flush)));
         write!(text, "flush {flush} {done}\n")?;
         Ok(())
     }
@@ -231,6 +227,20 @@ impl fmt::Display for AtWorker {
         let pc = pc_of(self.0);
         write!(f, " {worker} {pc}")
     }
+}
+
+/// The tick at which the work's timer runs out, and 0 where it waits for none.
+fn due(pending: Option<Pending>) -> u64
+    ensures { result ≡ pending_due pending }
+{
+    pending.map_or(0, |p| p.place.due())
+}
+
+/// The tick until which the work sleeps, and 0 where it doesn't.
+fn until(running: Option<Running>) -> u64
+    ensures { result ≡ running_until running }
+{
+    running.map_or(0, |r| r.mode.until())
 }
 
 fn worker_of(running: Option<Running>) -> u8

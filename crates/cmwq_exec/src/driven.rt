@@ -78,6 +78,10 @@ impl<P: Parts> Reads for Driven<P> {
         self.going.parts().made_of(pool)
     }
 
+    fn flush_count(&self) -> usize {
+        self.going.parts().flush_count()
+    }
+
     fn flush_of(&self, number: usize) -> Option<FlushTarget> {
         self.going.parts().flush_of(number)
     }

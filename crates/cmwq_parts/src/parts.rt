@@ -40,10 +40,6 @@ pub trait Parts: Reads + Drop {
     fn next_stamp(&self) -> u64
         ensures { result ≡ (Self.state self.now).next };
 
-    /// How many flushes were given: the number of the next one.
-    fn flush_count(&self) -> usize
-        ensures { result ≡ length (Self.state self.now).flushes };
-
     /// Whether one more work of the queue may be active in the pool.
     fn has_room(&self, queue: u8, pool: u8) -> bool
         requires queue { queue < length (Self.loaded self.now).queues }

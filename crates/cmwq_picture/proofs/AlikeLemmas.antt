@@ -1,7 +1,6 @@
 -- States whose works differ in what they have left to burn alone have the same column.
 use Rattle.std.proofs.Common.{◌≡◌, ℕ, zero, suc, ◌+◌, ◌<◌, ◌≤◌, Bool, true, false, cond, ◌&&◌, ◌||◌, List, [], ◌∷◌, length, map, Option, Some, None, arith, refl, sym, subst, ap, ◌∙◌}
 use std.Path.{fun_ext}
-use Rattle.std.proofs.lemmas.List.FromFn.{get_or-map-range_with_len}
 use Rattle.std.specs.Prelude.{is_none, nat_lt, slice_index_or, ◌==◌}
 use Rattle.cmwq_types.specs.Contents.{ScenarioContents}
 use Rattle.cmwq_types.specs.First.{by_least, first_below, first_with}
@@ -13,7 +12,7 @@ use Rattle.cmwq_table.specs.Moves.{burned, one_less, tick}
 use Rattle.cmwq_table.specs.State.{State, pending_at, running_at}
 use Rattle.cmwq_table.specs.declared.state.Pending.{Pending}
 use Rattle.cmwq_table.specs.declared.state.Running.{Running}
-use Rattle.cmwq_picture.specs.Column.{burning, burning_as, column_of, state_of}
+use Rattle.cmwq_picture.specs.Column.{burning, burning_as, column_of}
 use Rattle.cmwq_picture.specs.Picture.{below, beside_run, mode_sign, pending_cell, pending_sign, run_or_pending, run_sign, work_sign}
 use Rattle.cmwq_picture.specs.declared.cell.Cell.{Cell}
 use Rattle.cmwq_picture.specs.declared.cell.Cell.TheVariants.{Does}
@@ -159,22 +158,3 @@ pub column-ticks : (S : ScenarioContents) (s t : State) (acted : Bool) → IsTic
 column-ticks S s t acted ticked =
     let after : State = record (tick S s) { spent = ticked.0 } in
     ap (λ (u : State). column_of S u acted) ticked.1 ∙ column-alike S s after (tick-alike S s ticked.0 (length S.works)) acted
-
--- A state of which just the works that there are is known.
-
-itself : (r : Option Running) → RunsAlike r r
-itself (Some r) = (refl, refl, refl, refl)
-itself None = tt
-
-dense-alike : (works : ℕ) (s : State) → LooksAlike works s (state_of (map (pending_at s) (below works)) (map (running_at s) (below works)))
-dense-alike works s = record {
-  pending = λ w less. get_or-map-range_with_len (pending_at s) 0 works w w None less (omega arith);
-  running = λ w less.
-      subst (λ (r : Option Running). RunsAlike (running_at s w) r) (sym (get_or-map-range_with_len (running_at s) 0 works w w None less (omega arith))) (itself (running_at s w));
-}
-
--- a moment has the column of its state
-pub column-dense : (S : ScenarioContents) (s : State) (acted : Bool)
-    → column_of S (state_of (map (pending_at s) (below (length S.works))) (map (running_at s) (below (length S.works)))) acted ≡ column_of S s acted
-column-dense S s acted =
-    column-alike S s (state_of (map (pending_at s) (below (length S.works))) (map (running_at s) (below (length S.works)))) (dense-alike (length S.works) s) acted

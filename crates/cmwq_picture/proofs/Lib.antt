@@ -1,5 +1,4 @@
 pub mod AlikeLemmas
-pub mod EntryLemmas
 pub mod LawLemmas
 pub mod ListLemmas
 pub mod RecordingLemmas

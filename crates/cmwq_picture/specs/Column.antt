@@ -1,12 +1,9 @@
 -- What a column keeps of a state, and what rows read off it. No public clause cites this module.
-use Rattle.std.specs.Prelude.{ℕ, Bool, false, List, [], ◌∷◌, ◌==◌, ◌&&◌, length, map, Option, Some, None, if◌then◌else◌, slice_index_or}
+use Rattle.std.specs.Prelude.{ℕ, Bool, List, length, map, Option, Some, None, if◌then◌else◌, slice_index_or}
 use Rattle.std.specs.List.{filter, filter_map, find}
 use Rattle.cmwq_types.specs.Contents.{ScenarioContents}
-use Rattle.cmwq_types.specs.First.{by_least, first_below}
-use Rattle.cmwq_types.specs.declared.instr.WorkId.{WorkId}
-use Rattle.cmwq_table.specs.Counts.{burns, is_runnable, running_stamp, runs}
+use Rattle.cmwq_table.specs.Counts.{burns}
 use Rattle.cmwq_table.specs.State.{State, running_at}
-use Rattle.cmwq_table.specs.declared.state.Pending.{Pending}
 use Rattle.cmwq_table.specs.declared.state.Running.{Running}
 use Rattle.cmwq_picture.specs.Contents.{RowContents}
 use Rattle.cmwq_picture.specs.Picture.{act_cell, below, pending_sign, stands, stands_in, work_sign}
@@ -22,35 +19,6 @@ pub record ColumnContents : Type 0 where
   pub pending : List Cell
   pub burners : List Burning
   pub acted : Bool
-
--- a state of which just this is known
-abbrev pub state_of : List (Option Pending) → List (Option Running) → State
-state_of pending running =
-    record {
-      time = 0;
-      next = 0;
-      spent = 0;
-      frozen = false;
-      pressed = false;
-      max = [];
-      pending = pending;
-      running = running;
-      depth = [];
-      idle = [];
-      made = [];
-      flushes = [];
-    }
-
--- the first runnable work of the pool, of these works
-abbrev pub head_of : List (Option Running) → ℕ → Option ℕ
-head_of running pool =
-    first_below (by_least (λ w. running_stamp (slice_index_or running w None)))
-    (λ w. runs (λ r. (r.pool == pool) && is_runnable r.mode) (slice_index_or running w None)) (length running)
-
--- what the first of these entries has, if it is the work's
-abbrev pub first_entry : {A : Type 0} → ℕ → List (WorkId × A) → Option A
-first_entry w [] = None
-first_entry w (entry ∷ later) = if entry.0.0 == w then Some entry.1 else None
 
 -- where a running work burns
 abbrev pub burning_as : ℕ → Option Running → Option Burning

@@ -1,81 +1,54 @@
-//! The works of a machine at one moment, by number.
-ghost use Rattle.cmwq_picture.specs.Column.{burning, burning_as, column_of, first_entry, head_of, state_of};
-ghost use Rattle.cmwq_picture.specs.Picture.{below, beside_run, mode_sign, pending_cell, pending_sign, place_sign, run_sign, work_sign};
-ghost use Rattle.cmwq_table.specs.Counts.{burns, first_runnable, is_runnable, running_stamp, runs};
-ghost use Rattle.cmwq_table.specs.State.{State, pending_at, running_at};
-ghost use Rattle.cmwq_table.specs.View.{entries_from, view_of};
-ghost use Rattle.cmwq_types.specs.First.{by_least, first_below, first_with};
+//! What a column keeps of a machine at one moment.
+ghost use Rattle.cmwq_picture.specs.Picture.{below, mode_sign, pending_cell, place_sign};
+ghost use Rattle.cmwq_table.specs.Counts.{first_runnable};
 ghost use Rattle.cmwq_types.specs.Scenario.{pool_count};
-ghost use Rattle.cmwq_types.specs.Setting.{IsSetting};
-ghost use Rattle.std.specs.Prelude.{◌≡◌, ◌<◌, ◌==◌, ◌&&◌, ℕ, IfOk, List, None, Option, Some, drop, length, map, nat_lt, slice_index_or, true};
+ghost use Rattle.std.specs.Prelude.{◌≡◌, IfOk, map};
 
 use crate::cell::{Cell, Sign};
 use crate::column::{Burning, Column};
-use cmwq_table::{Pending, Running, View};
-use cmwq_types::{Mode, NoMemory, Place, Scenario, WorkId};
+use cmwq_reads::{Sought, first};
+use cmwq_table::{Pending, Reads, Running};
+use cmwq_types::{Mode, NoMemory, Place, WorkId};
 use std::alloc::Global;
 use std::marker::Model;
 
-/// Where the works of a scenario are pending and run at one moment, by number.
+/// A machine at one moment, and the first runnable work of each of its pools.
 #[derive(Drop)]
-pub(crate) struct Moment<'a> {
-    scenario: &'a Scenario,
-    pending: Vec<Option<Pending>>,
-    running: Vec<Option<Running>>,
-    /// The first runnable work of each pool.
+pub(crate) struct Moment<'a, R: Reads> {
+    machine: &'a R,
     heads: Vec<Option<usize>>,
 }
 
-impl<'a> Model for Moment<'a> {
-    ghost use Rattle.cmwq_picture.specs.Column.{state_of};
+impl<'a, R: Reads> Model for Moment<'a, R> {
     ghost use Rattle.cmwq_picture.specs.Picture.{below};
     ghost use Rattle.cmwq_table.specs.Counts.{first_runnable};
-    ghost use Rattle.cmwq_table.specs.Ready.{Loaded};
+    ghost use Rattle.cmwq_table.specs.Ready.{Loaded, holding};
     ghost use Rattle.cmwq_types.specs.Scenario.{pool_count};
-    ghost use Rattle.cmwq_types.specs.Setting.{IsSetting};
     ghost use Rattle.std.specs.Prelude.{◌≡◌, map};
 
     ghost Value = { Loaded };
 
-    ghost view = { λ m. record { scenario = m.scenario.now; state = state_of m.pending.items m.running.items } };
+    ghost view = { λ m. holding (R.loaded m.machine.now) (R.state m.machine.now) };
 
-    ghost invariant = { λ m. IsSetting m.scenario.now
-        × (m.heads.items ≡ map (first_runnable m.scenario.now (state_of m.pending.items m.running.items)) (below (pool_count m.scenario.now))) };
+    ghost invariant = { λ m. m.heads.items ≡ map (first_runnable (R.loaded m.machine.now) (R.state m.machine.now)) (below (pool_count (R.loaded m.machine.now))) };
 }
 
-impl<'a> Moment<'a> {
-    ghost use Rattle.cmwq_picture.specs.Column.{burning, column_of, state_of};
+impl<'a, R: Reads> Moment<'a, R> {
+    ghost use Rattle.cmwq_picture.specs.Column.{burning, column_of};
     ghost use Rattle.cmwq_picture.specs.Picture.{below, pending_sign, run_sign, work_sign};
     ghost use Rattle.cmwq_table.specs.Counts.{burns, first_runnable};
-    ghost use Rattle.cmwq_table.specs.State.{State, pending_at, running_at};
-    ghost use Rattle.cmwq_table.specs.View.{view_of};
+    ghost use Rattle.cmwq_table.specs.Ready.{holding};
     ghost use Rattle.cmwq_types.specs.Scenario.{pool_count};
-    ghost use Rattle.cmwq_types.specs.Setting.{IsSetting};
     ghost use Rattle.cmwq_types.specs.declared.limits.TheConstants.{MAX_WORKS};
     ghost use Rattle.std.specs.List.{cons_option, filter_map};
     ghost use Rattle.std.specs.Prelude.{◌<◌, ◌≤◌, ◌++◌, [], OnOk, Some, length, map};
 
-    /// The moment that the view shows.
-    pub(crate) fn new(
-        alloc: Global,
-        scenario: &'a Scenario,
-        view: &View,
-    ) -> Result<Moment<'a>, NoMemory>
-        requires { IsSetting scenario.now }
-        ensures scenario { IfOk result (λ moment. moment.scenario ≡ scenario.now) }
-        ensures state { IfOk result (λ moment. (s : State) → view.now ≡ view_of s
-            → moment.state ≡ state_of (map (pending_at s) (below (length scenario.now.works))) (map (running_at s) (below (length scenario.now.works)))) }
+    /// The moment at which the machine is.
+    pub(crate) fn new(alloc: Global, machine: &'a R) -> Result<Moment<'a, R>, NoMemory>
+        ensures { IfOk result (λ moment. moment ≡ holding (R.loaded machine.now) (R.state machine.now)) }
     {
-        let works = scenario.works.len();
-        let pending = by_work(alloc, &view.pending, works)?;
-        let running = by_work(alloc, &view.running, works)?;
-        let heads = heads(alloc, &running, scenario.pool_count())?;
-        Ok(Moment {
-            scenario,
-            pending,
-            running,
-            heads,
-        })
+        let heads = heads(alloc, machine)?;
+        Ok(Moment { machine, heads })
     }
 
     /// What is kept of a tick that begins then.
@@ -138,29 +111,16 @@ impl<'a> Moment<'a> {
         ensures count { result ≡ length self.now.scenario.works }
         ensures few { result ≤ MAX_WORKS }
     {
-        let scenario = self.scenario;
-        scenario.works.len()
-    }
-
-    fn pending_of(&self, w: usize) -> Option<Pending>
-        ensures { result ≡ pending_at self.now.state w }
-    {
-        self.pending.get(w).copied().unwrap_or(None)
-    }
-
-    fn running_of(&self, w: usize) -> Option<Running>
-        ensures { result ≡ running_at self.now.state w }
-    {
-        self.running.get(w).copied().unwrap_or(None)
+        self.machine.scenario().works.len()
     }
 
     /// What the work does: its run, or where it is pending if it doesn't run.
     fn work_sign(&self, w: usize) -> Cell
         ensures { result ≡ work_sign self.now.scenario self.now.state w }
     {
-        match self.running_of(w) {
+        match self.machine.running_of(w) {
             Some(r) => Cell::Does(self.run_sign(w, r)),
-            None => pending_cell(self.pending_of(w)),
+            None => pending_cell(self.machine.pending_of(w)),
         }
     }
 
@@ -168,8 +128,8 @@ impl<'a> Moment<'a> {
     fn pending_sign(&self, w: usize) -> Cell
         ensures { result ≡ pending_sign self.now.state w }
     {
-        match self.running_of(w) {
-            Some(_) => pending_cell(self.pending_of(w)),
+        match self.machine.running_of(w) {
+            Some(_) => pending_cell(self.machine.pending_of(w)),
             None => Cell::Empty,
         }
     }
@@ -189,7 +149,7 @@ impl<'a> Moment<'a> {
         requires { w < MAX_WORKS }
         ensures { result ≡ burning self.now.scenario self.now.state w }
     {
-        match self.running_of(w) {
+        match self.machine.running_of(w) {
             Some(r) if self.burns(w, r) => Some(Burning {
                 work: WorkId(w as u16),
                 pool: r.pool,
@@ -204,8 +164,7 @@ impl<'a> Moment<'a> {
     fn burns(&self, w: usize, r: Running) -> bool
         ensures { result ≡ burns self.now.scenario self.now.state w (Some r) }
     {
-        let scenario = self.scenario;
-        if scenario.is_unbound(r.pool) {
+        if self.machine.scenario().is_unbound(r.pool) {
             return r.mode.is_runnable();
         }
         self.head(r.pool) == Some(w) && (r.pool % 2 == 1 || self.head(r.pool + 1).is_none())
@@ -220,90 +179,15 @@ impl<'a> Moment<'a> {
     }
 }
 
-/// The map that has these entries, for so many works.
-fn by_work<T: Copy>(
-    alloc: Global,
-    entries: &[(WorkId, T)],
-    works: usize,
-) -> Result<Vec<Option<T>>, NoMemory>
-    ensures long { IfOk result (λ at. length at.items ≡ works) }
-    ensures exact { IfOk result (λ at. (xs : List (Option T)) → entries.now ≡ entries_from 0 xs
-        → at.items ≡ map (λ w. slice_index_or xs w None) (below works)) }
-{
-    let mut at = Vec::new(alloc);
-    let mut next = 0;
-    for w in 0..works {
-        let x = entry_at(entries, next, w);
-        if x.is_some() {
-            next += 1;
-        }
-        at.push(x)?;
-    }
-    Ok(at)
-}
-
-/// What the entry at this place has, if it is the work's.
-fn entry_at<T: Copy>(entries: &[(WorkId, T)], at: usize, w: usize) -> Option<T>
-    ensures { result ≡ first_entry w (drop at entries.now) }
-{
-    match entries.get(at) {
-        Some((work, x)) if work.0 as usize == w => Some(*x),
-        _ => None,
-    }
-}
-
-/// The first runnable work of each of so many pools.
-fn heads(
-    alloc: Global,
-    running: &[Option<Running>],
-    pools: u8,
-) -> Result<Vec<Option<usize>>, NoMemory>
-    ensures { IfOk result (λ heads. heads.items ≡ map (λ pool. head_of running.now pool) (below pools)) }
+/// The first runnable work of each of the machine's pools.
+fn heads<R: Reads>(alloc: Global, machine: &R) -> Result<Vec<Option<usize>>, NoMemory>
+    ensures { IfOk result (λ heads. heads.items ≡ map (first_runnable (R.loaded machine.now) (R.state machine.now)) (below (pool_count (R.loaded machine.now)))) }
 {
     let mut heads = Vec::new(alloc);
-    for pool in 0..pools {
-        heads.push(head_of(running, pool))?;
+    for pool in 0..machine.scenario().pool_count() {
+        heads.push(first(machine, Sought::Runnable { pool }))?;
     }
     Ok(heads)
-}
-
-/// The first runnable work of the pool: that of the least stamp.
-fn head_of(running: &[Option<Running>], pool: u8) -> Option<usize>
-    ensures { result ≡ head_of running.now pool }
-{
-    let mut head = None;
-    for w in 0..running.len() {
-        if is_runnable_in(running[w], pool) {
-            head = sooner(running, head, w);
-        }
-    }
-    head
-}
-
-fn is_runnable_in(running: Option<Running>, pool: u8) -> bool
-    ensures { result ≡ runs (λ r. (r.pool == pool) && is_runnable r.mode) running }
-{
-    matches!(running, Some(r) if r.pool == pool && r.mode.is_runnable())
-}
-
-/// The work, or the head so far where the work doesn't come before it.
-fn sooner(running: &[Option<Running>], head: Option<usize>, w: usize) -> Option<usize>
-    ensures { result ≡ first_with (by_least (λ v. running_stamp (slice_index_or running.now v None))) w true head }
-{
-    match head {
-        Some(v) if stamp_of(running, w) >= stamp_of(running, v) => Some(v),
-        _ => Some(w),
-    }
-}
-
-/// The stamp of a work that runs, and 0 of any other.
-fn stamp_of(running: &[Option<Running>], w: usize) -> u64
-    ensures { result ≡ running_stamp (slice_index_or running.now w None) }
-{
-    match running.get(w) {
-        Some(Some(r)) => r.stamp,
-        _ => 0,
-    }
 }
 
 fn pending_cell(pending: Option<Pending>) -> Cell

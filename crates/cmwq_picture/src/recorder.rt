@@ -13,7 +13,7 @@ use crate::column::Column;
 use crate::error::PictureError;
 use crate::moment::Moment;
 use crate::span::{MAX_COLUMNS, Span};
-use cmwq_table::Machine;
+use cmwq_table::{Machine, Reads};
 use cmwq_types::{Instr, Line, NoMemory, Scenario};
 use std::alloc::Global;
 use std::marker::Model;
@@ -128,7 +128,7 @@ impl<'s, M: Machine> Recorder<'s, M> {
         if span.is_open() && self.columns.len() == MAX_COLUMNS {
             return Err(PictureError::TooWide);
         }
-        let column = column(alloc, self.scenario, &self.machine, acted)?;
+        let column = column(alloc, &self.machine, acted)?;
         self.columns.push(column)?;
         Ok(())
     }
@@ -152,17 +152,10 @@ impl<'s, M: Machine> Recorder<'s, M> {
 }
 
 /// The column of the tick that has just passed on the machine.
-fn column<M: Machine>(
-    alloc: Global,
-    scenario: &Scenario,
-    machine: &M,
-    acted: bool,
-) -> Result<Column, NoMemory>
-    requires { IsSetting scenario.now }
-    ensures { IfOk result (λ column. column ≡ column_of scenario.now (M.state machine.now) acted) }
+fn column<R: Reads>(alloc: Global, machine: &R, acted: bool) -> Result<Column, NoMemory>
+    ensures { IfOk result (λ column. column ≡ column_of (R.loaded machine.now) (R.state machine.now) acted) }
 {
-    let view = machine.look()?;
-    let moment = Moment::new(alloc, scenario, &view)?;
+    let moment = Moment::new(alloc, machine)?;
     let column = moment.column(alloc, acted)?;
     Ok(column)
 }

@@ -64,6 +64,10 @@ impl Reads for Plain {
         self.driven.made_of(pool)
     }
 
+    fn flush_count(&self) -> usize {
+        self.driven.flush_count()
+    }
+
     fn flush_of(&self, number: usize) -> Option<FlushTarget> {
         self.driven.flush_of(number)
     }

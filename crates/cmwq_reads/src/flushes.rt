@@ -7,12 +7,10 @@ use crate::tally::{Tally, count};
 use cmwq_table::{FlushTarget, Reads};
 
 /// What the flush of this number waits for: nothing where no such flush was given.
-pub fn flush_target<R: Reads>(machine: &R, flush: u16) -> FlushTarget
+pub fn flush_target<R: Reads>(machine: &R, flush: usize) -> FlushTarget
     ensures { result ≡ target_at (R.state machine.now) flush }
 {
-    machine
-        .flush_of(flush as usize)
-        .unwrap_or(FlushTarget::Nothing)
+    machine.flush_of(flush).unwrap_or(FlushTarget::Nothing)
 }
 
 /// Whether a flush on the target is done.

@@ -1,8 +1,8 @@
 //! What a scan of the works looks for, and the first that it finds.
 ghost use Rattle.cmwq_reads.specs.Sought.{comes_before, is_sought};
-ghost use Rattle.cmwq_table.specs.Counts.{pending_due, pending_stamp, running_stamp, running_until};
+ghost use Rattle.cmwq_table.specs.Counts.{pending_before, pending_due, pending_stamp, running_before, running_stamp, running_until};
 ghost use Rattle.cmwq_table.specs.State.{pending_at, running_at};
-ghost use Rattle.cmwq_types.specs.First.{first_below, first_with};
+ghost use Rattle.cmwq_types.specs.First.{by_least_two, first_below, first_with};
 ghost use Rattle.cmwq_types.specs.Scenario.{queue_of};
 ghost use Rattle.cmwq_types.specs.declared.limits.TheConstants.{MAX_WORKS};
 ghost use Rattle.std.specs.Prelude.{◌≡◌, ◌<◌, ◌==◌, ◌&&◌, ◌||◌, IfSome, length, nat_lt, true};
@@ -90,14 +90,40 @@ fn comes_before<R: Reads>(machine: &R, sought: Sought, v: usize, w: usize) -> bo
 {
     match sought {
         Sought::Inactive { .. } | Sought::Listed { .. } | Sought::Rescued { .. } => {
-            pending_stamp(machine, v) < pending_stamp(machine, w)
+            pending_before(machine, v, w)
         }
-        Sought::Due => is_less(firing_key(machine, v), firing_key(machine, w)),
-        Sought::Slept { .. } => is_less(waking_key(machine, v), waking_key(machine, w)),
-        Sought::Runnable { .. } | Sought::Ready { .. } => {
-            running_stamp(machine, v) < running_stamp(machine, w)
-        }
+        Sought::Due => fires_before(machine, v, w),
+        Sought::Slept { .. } => wakes_before(machine, v, w),
+        Sought::Runnable { .. } | Sought::Ready { .. } => running_before(machine, v, w),
     }
+}
+
+/// Whether the one pending work has its place for longer than the other.
+pub fn pending_before<R: Reads>(machine: &R, v: usize, w: usize) -> bool
+    ensures { result ≡ pending_before (R.state machine.now) v w }
+{
+    pending_stamp(machine, v) < pending_stamp(machine, w)
+}
+
+/// Whether the timer of the one work fires before that of the other.
+pub fn fires_before<R: Reads>(machine: &R, v: usize, w: usize) -> bool
+    ensures { result ≡ by_least_two (λ w. pending_due (pending_at (R.state machine.now) w)) (λ w. pending_stamp (pending_at (R.state machine.now) w)) v w }
+{
+    is_less(firing_key(machine, v), firing_key(machine, w))
+}
+
+/// Whether the one work started or woke before the other.
+pub fn running_before<R: Reads>(machine: &R, v: usize, w: usize) -> bool
+    ensures { result ≡ running_before (R.state machine.now) v w }
+{
+    running_stamp(machine, v) < running_stamp(machine, w)
+}
+
+/// Whether the one work that sleeps wakes before the other.
+pub fn wakes_before<R: Reads>(machine: &R, v: usize, w: usize) -> bool
+    ensures { result ≡ by_least_two (λ w. running_until (running_at (R.state machine.now) w)) (λ w. running_stamp (running_at (R.state machine.now) w)) v w }
+{
+    is_less(waking_key(machine, v), waking_key(machine, w))
 }
 
 /// The stamp of the place of a pending work, and 0 of any other.
@@ -115,7 +141,7 @@ fn firing_key<R: Reads>(machine: &R, w: usize) -> (u64, u64)
 }
 
 /// The stamp of a running work, and 0 of any other.
-pub fn running_stamp<R: Reads>(machine: &R, w: usize) -> u64
+fn running_stamp<R: Reads>(machine: &R, w: usize) -> u64
     ensures { result ≡ running_stamp (running_at (R.state machine.now) w) }
 {
     machine.running_of(w).map_or(0, |r| r.stamp)

@@ -1,6 +1,6 @@
 //! What a scan of the works counts.
 ghost use Rattle.cmwq_reads.specs.Tally.{is_counted_by};
-ghost use Rattle.cmwq_table.specs.Counts.{active, has_room, is_busy, is_busy_work, is_counted, limit, may_start};
+ghost use Rattle.cmwq_table.specs.Counts.{active, counted, has_room, is_busy, is_busy_work, is_counted, limit, may_start};
 ghost use Rattle.cmwq_types.specs.First.{count_below};
 ghost use Rattle.cmwq_types.specs.Scenario.{flags_at, queue_of};
 ghost use Rattle.cmwq_types.specs.declared.limits.TheConstants.{MAX_WORKS};
@@ -91,6 +91,16 @@ fn is_intensive<R: Reads>(machine: &R, w: usize) -> bool
 {
     let scenario = machine.scenario();
     scenario.flags_of(scenario.queue_of(w)).cpu_intensive
+}
+
+/// The concurrency level of the pool: 0 where it is unbound.
+pub fn level<R: Reads>(machine: &R, pool: u8) -> usize
+    ensures { result ≡ counted (R.loaded machine.now) (R.state machine.now) pool }
+{
+    if machine.scenario().is_unbound(pool) {
+        return 0;
+    }
+    count(machine, Tally::Counted { pool })
 }
 
 /// Whether the pool may start a work: it is unbound, or its concurrency level is 0.

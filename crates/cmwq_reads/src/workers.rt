@@ -44,7 +44,8 @@ fn later<R: Reads>(machine: &R, pool: u8, last: Option<u8>, worker: u8) -> Optio
     }
 }
 
-fn idle_since<R: Reads>(machine: &R, pool: u8, worker: u8) -> u64
+/// The stamp from which on the worker of the pool is idle, and 0 of a worker that isn't.
+pub fn idle_since<R: Reads>(machine: &R, pool: u8, worker: u8) -> u64
     ensures { result ≡ idle_stamp (idle_at (R.state machine.now) pool worker) }
 {
     machine.idle_of(pool, worker).unwrap_or(0)

@@ -112,6 +112,10 @@ impl Reads for Records {
         self.made.get(pool as usize).copied().unwrap_or(0)
     }
 
+    fn flush_count(&self) -> usize {
+        self.flushes.len()
+    }
+
     fn flush_of(&self, number: usize) -> Option<FlushTarget> {
         self.flushes.get(number).copied()
     }
@@ -203,10 +207,6 @@ impl Parts for Records {
 
     fn next_stamp(&self) -> u64 {
         self.next
-    }
-
-    fn flush_count(&self) -> usize {
-        self.flushes.len()
     }
 
     fn bear(&mut self, w: usize, place: Place) {

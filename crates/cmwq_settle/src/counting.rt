@@ -7,11 +7,11 @@ ghost use Rattle.cmwq_table.specs.Table.{after_all, run};
 ghost use Rattle.cmwq_types.specs.Faults.{IsValid};
 ghost use Rattle.cmwq_types.specs.Scenario.{expand, expand_lines};
 ghost use Rattle.cmwq_types.specs.declared.limits.TheConstants.{MAX_HISTORY};
-ghost use Rattle.std.specs.Prelude.{◌≡◌, ◌≤◌, ◌-◌, IfOk, length, min, replicate};
+ghost use Rattle.std.specs.Prelude.{◌≡◌, ◌≤◌, ◌-◌, length, min, replicate};
 
 use crate::watch::Watch;
-use cmwq_table::Machine;
-use cmwq_types::{Actor, Line, MAX_HISTORY, NoMemory, Scenario, WorkId};
+use cmwq_table::{Machine, Reads};
+use cmwq_types::{Actor, Line, MAX_HISTORY, Scenario};
 
 /// How many `next` are to be issued behind an actor's instructions.
 #[derive(Clone, Copy)]
@@ -34,28 +34,23 @@ impl Nexts {
 }
 
 /// How many `next` are to be issued behind the actor's instructions, on a machine at its start.
-pub(crate) fn count_nexts<M: Machine>(
-    machine: M,
-    scenario: &Scenario,
-    actor: &Actor,
-) -> Result<Nexts, NoMemory>
+pub(crate) fn count_nexts<M: Machine>(machine: M, scenario: &Scenario, actor: &Actor) -> Nexts
     requires valid { IsValid scenario.now }
     requires runs { IsRunOf scenario.now actor.now }
     requires loaded { M.loaded machine ≡ scenario.now }
     requires start { M.state machine ≡ start scenario.now }
-    ensures { IfOk result (λ nexts. IsCounted scenario.now actor.now nexts) }
+    ensures { IsCounted scenario.now actor.now result }
 {
     let mut machine = machine;
     issue_lines(&mut machine, &actor.lines);
-    let most = nexts_left(&machine, scenario, &actor.lines)?;
+    let most = nexts_left(&machine, &actor.lines);
     let mut watch = Watch {
         machine,
-        works: scenario.works.len() as u16,
-        witness: WorkId(0),
+        witness: 0,
     };
     match watch.settle(most) {
-        Some(n) => Ok(Nexts::Settle(n)),
-        None => Ok(Nexts::Never(most)),
+        Some(n) => Nexts::Settle(n),
+        None => Nexts::Never(most),
     }
 }
 
@@ -80,12 +75,12 @@ fn issue_line<M: Machine>(machine: &mut M, line: Line)
 }
 
 /// How many `next` can be issued on the machine, on which these lines were issued.
-fn nexts_left<M: Machine>(machine: &M, scenario: &Scenario, lines: &[Line]) -> Result<u32, NoMemory>
+fn nexts_left<R: Reads>(machine: &R, lines: &[Line]) -> u32
     requires few { length (expand_lines lines.now) ≤ MAX_HISTORY }
-    ensures { IfOk result (λ n. n ≡ min (scenario.now.steps - (M.state machine.now).spent) (MAX_HISTORY - length (expand_lines lines.now))) }
+    ensures { result ≡ min ((R.loaded machine.now).steps - (R.state machine.now).spent) (MAX_HISTORY - length (expand_lines lines.now)) }
 {
-    let steps = scenario.steps.saturating_sub(machine.look()?.spent);
-    Ok(steps.min(room_behind(lines)))
+    let steps = machine.scenario().steps.saturating_sub(machine.spent());
+    steps.min(room_behind(lines))
 }
 
 /// How many instructions more one run issues behind these lines.

@@ -95,7 +95,7 @@ fn counted_on<M: Machine>(alloc: Global, scenario: &Arc<Scenario>) -> Result<(Ne
     ensures start { IfOk result (λ r. M.state r.1 ≡ start scenario.now.value) }
 {
     let machine = M::begin(alloc, Arc::clone(scenario)?)?;
-    let nexts = count_nexts(machine, scenario, &scenario.actors[0])?;
+    let nexts = count_nexts(machine, scenario, &scenario.actors[0]);
     let machine = M::begin(alloc, Arc::clone(scenario)?)?;
     Ok((nexts, machine))
 }

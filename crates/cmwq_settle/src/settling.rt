@@ -72,7 +72,7 @@ fn counted<M: Machine>(alloc: Global, scenario: &Scenario) -> Result<Nexts, NoMe
     ensures { IfOk result (λ nexts. HasCounted scenario.now nexts) }
 {
     let machine = M::begin(alloc, Arc::new(alloc, scenario.copy()?)?)?;
-    count_nexts(machine, scenario, &scenario.actors[0])
+    Ok(count_nexts(machine, scenario, &scenario.actors[0]))
 }
 
 /// The same scenario with this one actor.

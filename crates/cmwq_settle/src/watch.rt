@@ -1,25 +1,22 @@
 //! A machine that is watched for being quiet.
 ghost use Rattle.cmwq_settle.specs.Quiet.{IsUnquietWithin, SettlesWithin, is_quiet};
-ghost use Rattle.cmwq_settle.specs.Watching.{IsWatched, StaysAsItWas, is_at_work, tells_work};
+ghost use Rattle.cmwq_settle.specs.Watching.{is_at_work};
 ghost use Rattle.std.specs.Prelude.{◌≡◌, MatchOption, true};
 
-use cmwq_table::Machine;
-use cmwq_types::{Instr, Reply, WorkId};
+use cmwq_table::{Machine, Reads};
+use cmwq_types::Instr;
 
 /// A machine that is watched for being quiet.
 #[derive(Drop)]
 pub(crate) struct Watch<M: Drop> {
     pub(crate) machine: M,
-    /// How many works the scenario has.
-    pub(crate) works: u16,
-    /// The work that was last seen pending or running. It is asked first: mostly it still is, and then no other has to be asked.
-    pub(crate) witness: WorkId,
+    /// The work that was last seen pending or running. It is looked at first: mostly it still is, and then no other has to be.
+    pub(crate) witness: usize,
 }
 
 impl<M: Machine> Watch<M> {
     /// Issues `next` until the machine is quiet, at most so often, and tells how often that was; `None` where it isn't quiet then.
     pub(crate) fn settle(&mut self, most: u32) -> Option<u32>
-        requires { IsWatched M.loaded self.old }
         ensures { MatchOption result (IsUnquietWithin (M.loaded self.old.machine) (M.state self.old.machine) most)
             (λ n. SettlesWithin (M.loaded self.old.machine) (M.state self.old.machine) most n) }
     {
@@ -34,53 +31,39 @@ impl<M: Machine> Watch<M> {
 
     /// Whether the machine is quiet.
     fn is_quiet(&mut self) -> bool
-        requires { IsWatched M.loaded self.old }
         ensures quiet { result ≡ is_quiet (M.loaded self.old.machine) (M.state self.old.machine) }
-        ensures same { StaysAsItWas M.loaded M.state self.old self.new }
+        ensures same { self.new.machine ≡ self.old.machine }
     {
-        if self.is_at_work(self.witness) {
+        if is_at_work(&self.machine, self.witness) {
             return false;
         }
-        match self.first_at_work() {
-            Some(work) => {
-                self.witness = work;
+        match first_at_work(&self.machine) {
+            Some(w) => {
+                self.witness = w;
                 false
             }
             None => true,
         }
     }
-
-    /// The first work that is pending or runs, if there is one.
-    fn first_at_work(&mut self) -> Option<WorkId>
-        requires { IsWatched M.loaded self.old }
-        ensures first { MatchOption result (is_quiet (M.loaded self.old.machine) (M.state self.old.machine) ≡ true)
-            (λ work. is_at_work (M.loaded self.old.machine) (M.state self.old.machine) work.0 ≡ true) }
-        ensures same { StaysAsItWas M.loaded M.state self.old self.new }
-    {
-        for number in 0..self.works {
-            let work = WorkId(number);
-            if self.is_at_work(work) {
-                return Some(work);
-            }
-        }
-        None
-    }
-
-    /// Whether there is such a work, and it is pending or runs.
-    fn is_at_work(&mut self, work: WorkId) -> bool
-        ensures told { result ≡ is_at_work (M.loaded self.old.machine) (M.state self.old.machine) work.0 }
-        ensures same { StaysAsItWas M.loaded M.state self.old self.new }
-    {
-        tells_work(self.machine.exec(Instr::State(work)))
-    }
 }
 
-/// Whether the answer tells of a work that is pending or runs.
-fn tells_work(reply: Reply) -> bool
-    ensures { result ≡ tells_work reply }
+/// The first work that is pending or runs, if there is one.
+fn first_at_work<R: Reads>(machine: &R) -> Option<usize>
+    ensures { MatchOption result (is_quiet (R.loaded machine.now) (R.state machine.now) ≡ true)
+        (λ w. is_at_work (R.loaded machine.now) (R.state machine.now) w ≡ true) }
 {
-    match reply {
-        Reply::Found(state) => state.place.is_some() || state.run.is_some(),
-        _ => false,
+    for w in 0..machine.scenario().works.len() {
+        if is_at_work(machine, w) {
+            return Some(w);
+        }
     }
+    None
+}
+
+/// Whether there is such a work, and it is pending or runs.
+fn is_at_work<R: Reads>(machine: &R, w: usize) -> bool
+    ensures { result ≡ is_at_work (R.loaded machine.now) (R.state machine.now) w }
+{
+    w < machine.scenario().works.len()
+        && (machine.pending_of(w).is_some() || machine.running_of(w).is_some())
 }

@@ -2,7 +2,7 @@
 ghost use Rattle.cmwq_table.specs.State.{State, depth_at, idle_at, made_at, max_at, pending_at, running_at};
 ghost use Rattle.cmwq_types.specs.Contents.{ScenarioContents};
 ghost use Rattle.cmwq_types.specs.Setting.{IsSetting};
-ghost use Rattle.std.specs.Prelude.{◌≡◌, slice_get};
+ghost use Rattle.std.specs.Prelude.{◌≡◌, length, slice_get};
 
 use crate::state::{FlushTarget, Pending, Running};
 use cmwq_types::Scenario;
@@ -63,6 +63,10 @@ pub trait Reads {
     /// How many workers the pool has made: they are the numbers from 0 on. 0 where there is no such pool.
     fn made_of(&self, pool: u8) -> u8
         ensures { result ≡ made_at (state self.now) pool };
+
+    /// How many flushes were given: the number of the next one.
+    fn flush_count(&self) -> usize
+        ensures { result ≡ length (state self.now).flushes };
 
     /// What the flush of this number waits for; `None` where no such flush was given.
     fn flush_of(&self, number: usize) -> Option<FlushTarget>

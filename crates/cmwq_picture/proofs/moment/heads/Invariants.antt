@@ -1,7 +1,7 @@
 use Rattle.std.proofs.Common.{◌≡◌, map}
-use Rattle.cmwq_picture.specs.Column.{head_of}
+use Rattle.cmwq_table.specs.Counts.{first_runnable}
 use Rattle.cmwq_picture.specs.Picture.{below}
 use Rattle.cmwq_picture.proofs.moment.heads.Given as goal
 
 abbrev pub invariant-loop-pool : goal.invariant-loop-pool
-invariant-loop-pool l = l.heads.items ≡ map (head_of l.running) (below l.pool)
+invariant-loop-pool g l = l.heads.items ≡ map (first_runnable (g.R.Reads.loaded l.machine) (g.R.Reads.state l.machine)) (below l.pool)

@@ -6,8 +6,8 @@ use Rattle.cmwq_settle.proofs.counting.issue_line.Goals as goal
 
 pub loop-turn-preserved : goal.loop-turn-preserved
 loop-turn-preserved g c =
-    let loaded = g.M.Machine.loaded in
-    let state = g.M.Machine.state in
+    let loaded = g.M.Reads.loaded in
+    let state = g.M.Reads.state in
     let before = c.loop-turn.invariant in
     record {
       loaded = c.exec.ensures.scenario ∙ before.loaded;

@@ -6,8 +6,8 @@ use Rattle.cmwq_settle.proofs.counting.issue_lines.Goals as goal
 pub loop-line-preserved : goal.loop-line-preserved
 unfolding no_line
 loop-line-preserved g c =
-    let loaded = g.M.Machine.loaded in
-    let state = g.M.Machine.state in
+    let loaded = g.M.Reads.loaded in
+    let state = g.M.Reads.state in
     let before = c.loop-line.invariant in
     let lines = c.args.lines.now in
     record {

@@ -6,7 +6,7 @@ use Rattle.cmwq_picture.proofs.ListLemmas.{filter_map-more}
 use Rattle.cmwq_picture.proofs.moment.Moment.burners.Goals as goal
 
 pub loop-w-preserved : goal.loop-w-preserved
-loop-w-preserved c =
+loop-w-preserved g c =
     let burns = burning c.args.self.now.scenario c.args.self.now.state in
     let w = c.loop-w.w in
     c.in_ok-push_burner.ensures ∙ ap (λ (front : List Burning). front ++ cons_option (burns w) []) c.loop-w.invariant ∙ sym (filter_map-more burns w)

@@ -4,17 +4,16 @@ use Rattle.std.specs.Prelude.{slice_index_or}
 use Rattle.cmwq_types.specs.Scenario.{pool_count}
 use Rattle.cmwq_table.specs.Counts.{first_runnable}
 use Rattle.cmwq_table.specs.Ready.{Loaded}
-use Rattle.cmwq_picture.specs.Column.{state_of}
 use Rattle.cmwq_picture.proofs.moment.Moment.head.Goals as goal
 
 pub returns : goal.returns
-returns c =
+returns g c =
     let inside = c.self.inside in
-    let S = inside.scenario.now in
-    let s = state_of inside.pending.items inside.running.items in
+    let S = g.R.Reads.loaded inside.machine.now in
+    let s = g.R.Reads.state inside.machine.now in
     let pool = c.args.pool in
     let there : pool < pool_count S = subst (λ (m : Loaded). pool < pool_count m.scenario) (sym c.self.view_is) c.requires in
     let found : c.unwrap_or.result ≡ slice_index_or inside.heads.items pool None = search rules in
-    found ∙ ap (λ (heads : List (Option ℕ)). slice_index_or heads pool None) c.self.invariant.1
+    found ∙ ap (λ (heads : List (Option ℕ)). slice_index_or heads pool None) c.self.invariant
     ∙ get_or-map-range_with_len (first_runnable S s) 0 (pool_count S) pool pool None there (omega arith)
     ∙ ap (λ (m : Loaded). first_runnable m.scenario m.state pool) c.self.view_is

@@ -1,4 +1,5 @@
 use Rattle.std.proofs.Common.{◌≡◌, List, [], ◌∷◌, ◌++◌, ap, subst, ◌∙◌}
+use Rattle.cmwq_types.specs.Contents.{ScenarioContents}
 use Rattle.cmwq_picture.specs.Column.{ColumnContents, column_of}
 use Rattle.cmwq_picture.specs.Recording.{Recording, recording_of}
 use Rattle.cmwq_picture.proofs.recorder.Recorder.draw.Goals as goal
@@ -7,10 +8,11 @@ pub returns-clause-ok : goal.returns-clause-ok
 returns-clause-ok g c =
     let inside = c.self.inside in
     let S = inside.scenario.now in
-    let s = g.M.Machine.state inside.machine in
+    let s = g.M.Reads.state inside.machine in
     let acted = c.args.acted in
     let old = inside.columns.items in
     let pushed : c.push.new.self.items ≡ old ++ column_of S s acted ∷ [] =
-    c.in_ok-push.ensures.items ∙ ap (λ (one : ColumnContents). old ++ one ∷ []) c.in_ok-column.ensures in
+    c.in_ok-push.ensures.items
+    ∙ ap (λ (one : ColumnContents). old ++ one ∷ []) (c.in_ok-column.ensures ∙ ap (λ (T : ScenarioContents). column_of T s acted) c.self.invariant.1) in
     subst (λ (r : Recording). recording_of S inside.span s inside.acted c.push.new.self.items ≡ record r { columns = r.columns ++ column_of r.scenario r.state acted ∷ [] })
     c.self.view_is (ap (recording_of S inside.span s inside.acted) pushed)

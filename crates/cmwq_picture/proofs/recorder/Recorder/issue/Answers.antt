@@ -11,7 +11,7 @@ pub invariant_of-self : goal.invariant_of-self
 invariant_of-self g c =
     let inside = c.self.inside in
     let S = inside.scenario.now in
-    let s = g.M.Machine.state inside.machine in
+    let s = g.M.Reads.state inside.machine in
     let exact = c.exec-reply.ensures.exact ∙ ap (λ (T : ScenarioContents). table T s c.args.instr) c.self.invariant.1 in (
       kept-after (recording_of S inside.span s inside.acted inside.columns.items) c.args.instr _ _ c.if-self.acted c.self.invariant.0 exact,
       c.exec-reply.ensures.scenario ∙ c.self.invariant.1,
@@ -21,7 +21,7 @@ pub invariant_of-self-then-is_drawn : goal.invariant_of-self-then-is_drawn
 invariant_of-self-then-is_drawn g c =
     let inside = c.self.inside in
     let S = inside.scenario.now in
-    let s = g.M.Machine.state inside.machine in
+    let s = g.M.Reads.state inside.machine in
     let exact = c.exec-reply.ensures.exact ∙ ap (λ (T : ScenarioContents). table T s c.args.instr) c.self.invariant.1 in (
       kept-after (recording_of S inside.span s inside.acted inside.columns.items) c.args.instr _ _ false c.self.invariant.0 exact,
       c.exec-reply.ensures.scenario ∙ c.self.invariant.1,
@@ -31,7 +31,7 @@ pub invariant_of-self-else-is_drawn : goal.invariant_of-self-else-is_drawn
 invariant_of-self-else-is_drawn g c =
     let inside = c.self.inside in
     let S = inside.scenario.now in
-    let s = g.M.Machine.state inside.machine in
+    let s = g.M.Reads.state inside.machine in
     let exact = c.exec-reply.ensures.exact ∙ ap (λ (T : ScenarioContents). table T s c.args.instr) c.self.invariant.1 in (
       kept-after (recording_of S inside.span s inside.acted inside.columns.items) c.args.instr _ _ false c.self.invariant.0 exact,
       c.exec-reply.ensures.scenario ∙ c.self.invariant.1,
@@ -41,8 +41,8 @@ pub draw-requires : goal.draw-requires
 draw-requires g c =
     let inside = c.self.inside in
     let S = inside.scenario.now in
-    let s = g.M.Machine.state inside.machine in
-    let t = g.M.Machine.state c.exec-reply.new.self in
+    let s = g.M.Reads.state inside.machine in
+    let t = g.M.Reads.state c.exec-reply.new.self in
     let exact = c.exec-reply.ensures.exact ∙ ap (λ (T : ScenarioContents). table T s c.args.instr) c.self.invariant.1 in
     let differs : t.time ≢ s.time = λ same. c.if-now-time.false (c.now.ensures ∙ same ∙ sym c.now-time.ensures) in
     record { later = room-after (recording_of S inside.span s inside.acted inside.columns.items) c.args.instr t _ c.self.invariant.0 exact differs }
@@ -51,8 +51,8 @@ pub returns-then-is_drawn-clause-ok : goal.returns-then-is_drawn-clause-ok
 returns-then-is_drawn-clause-ok g c =
     let inside = c.self.inside in
     let S = inside.scenario.now in
-    let s = g.M.Machine.state inside.machine in
-    let t = g.M.Machine.state c.exec-reply.new.self in
+    let s = g.M.Reads.state inside.machine in
+    let t = g.M.Reads.state c.exec-reply.new.self in
     let x = c.args.instr in
     let answer = c.exec-reply.result in
     let exact = c.exec-reply.ensures.exact ∙ ap (λ (T : ScenarioContents). table T s x) c.self.invariant.1 in
@@ -71,8 +71,8 @@ pub returns-then-is_drawn-clause-wide : goal.returns-then-is_drawn-clause-wide
 returns-then-is_drawn-clause-wide g c = λ wide.
     let inside = c.self.inside in
     let S = inside.scenario.now in
-    let s = g.M.Machine.state inside.machine in
-    let t = g.M.Machine.state c.exec-reply.new.self in
+    let s = g.M.Reads.state inside.machine in
+    let t = g.M.Reads.state c.exec-reply.new.self in
     let x = c.args.instr in
     let answer = c.exec-reply.result in
     let exact = c.exec-reply.ensures.exact ∙ ap (λ (T : ScenarioContents). table T s x) c.self.invariant.1 in
@@ -91,8 +91,8 @@ pub returns-clause-ok : goal.returns-clause-ok
 returns-clause-ok g c =
     let inside = c.self.inside in
     let S = inside.scenario.now in
-    let s = g.M.Machine.state inside.machine in
-    let t = g.M.Machine.state c.exec-reply.new.self in
+    let s = g.M.Reads.state inside.machine in
+    let t = g.M.Reads.state c.exec-reply.new.self in
     let x = c.args.instr in
     let exact = c.exec-reply.ensures.exact ∙ ap (λ (T : ScenarioContents). table T s x) c.self.invariant.1 in
     let differs : t.time ≢ s.time = λ same. c.if-now-time.false (c.now.ensures ∙ same ∙ sym c.now-time.ensures) in

@@ -1,0 +1,8 @@
+use Rattle.std.proofs.Common.{◌≡◌}
+use Rattle.cmwq_types.specs.First.{count_below}
+use Rattle.cmwq_settle.specs.Quiet.{pends_or_runs}
+use Rattle.cmwq_settle.proofs.watch.first_at_work.Given as goal
+
+-- no work below this one is pending or runs
+abbrev pub invariant-loop-w : goal.invariant-loop-w
+invariant-loop-w g l = count_below (pends_or_runs (g.R.Reads.state l.machine)) l.w ≡ 0
