@@ -3,7 +3,7 @@ ghost use Rattle.cmwq_dump.specs.Dump.{asleep_line, at_worker, clock_line, cpu_o
 ghost use Rattle.cmwq_dump.specs.Order.{each_below};
 ghost use Rattle.cmwq_table.specs.Counts.{pending_due, running_until};
 ghost use Rattle.cmwq_types.specs.Contents.{ScenarioContents};
-ghost use Rattle.cmwq_types.specs.Scenario.{pool_count, queue_at, work_at};
+ghost use Rattle.cmwq_types.specs.Scenario.{pool_count};
 ghost use Rattle.std.specs.List.{flat_map};
 ghost use Rattle.std.specs.Prelude.{◌≡◌, ◌<◌, ◌++◌, OnOk, Some, length, string_bytes};
 
@@ -61,7 +61,7 @@ impl<R: Reads> Dumping<'_, R> {
     fn push_queue(&self, text: &mut String, queue: u8) -> Result<(), NoMemory>
         ensures { OnOk result (string_bytes text.new ≡ string_bytes text.old ++ queue_line self.now.scenario self.now.state queue) }
     {
-        let name = queue_name(self.machine.scenario(), queue as usize);
+        let name = self.machine.scenario().queue_name(queue);
         let max = self.machine.max_of(queue);
         write!(text, "queue {name} max {max}\n")?;
         Ok(())
@@ -138,7 +138,7 @@ impl<R: Reads> Dumping<'_, R> {
     fn push_run(&self, text: &mut String, w: usize) -> Result<(), NoMemory>
         ensures { OnOk result (string_bytes text.new ≡ string_bytes text.old ++ run_line self.now.scenario self.now.state w) }
     {
-        let name = work_name(self.machine.scenario(), w);
+        let name = self.machine.scenario().work_name(w);
         let running = self.machine.running_of(w);
         let worker = AtWorker(running);
         let left = left_of(running);
@@ -149,7 +149,7 @@ impl<R: Reads> Dumping<'_, R> {
     fn push_asleep(&self, text: &mut String, w: usize) -> Result<(), NoMemory>
         ensures { OnOk result (string_bytes text.new ≡ string_bytes text.old ++ asleep_line self.now.scenario self.now.state w) }
     {
-        let name = work_name(self.machine.scenario(), w);
+        let name = self.machine.scenario().work_name(w);
         let running = self.machine.running_of(w);
         let worker = AtWorker(running);
         let until = until(running);
@@ -161,7 +161,7 @@ impl<R: Reads> Dumping<'_, R> {
     fn push_name(&self, text: &mut String, word: &str, w: usize) -> Result<(), NoMemory>
         ensures { OnOk result (string_bytes text.new ≡ string_bytes text.old ++ name_line self.now.scenario word.now w) }
     {
-        let name = work_name(self.machine.scenario(), w);
+        let name = self.machine.scenario().work_name(w);
         write!(text, "{word}{name}\n")?;
         Ok(())
     }
@@ -169,7 +169,7 @@ impl<R: Reads> Dumping<'_, R> {
     fn push_timer(&self, text: &mut String, w: usize) -> Result<(), NoMemory>
         ensures { OnOk result (string_bytes text.new ≡ string_bytes text.old ++ timer_line self.now.scenario self.now.state w) }
     {
-        let name = work_name(self.machine.scenario(), w);
+        let name = self.machine.scenario().work_name(w);
         let pending = self.machine.pending_of(w);
         let cpu = timer_cpu(pending);
         let due = due(pending);
@@ -180,7 +180,7 @@ impl<R: Reads> Dumping<'_, R> {
     fn push_disabled(&self, text: &mut String, w: usize) -> Result<(), NoMemory>
         ensures { OnOk result (string_bytes text.new ≡ string_bytes text.old ++ disabled_line self.now.scenario self.now.state w) }
     {
-        let name = work_name(self.machine.scenario(), w);
+        let name = self.machine.scenario().work_name(w);
         let depth = self.machine.depth_of(w);
         write!(text, "disabled {name} {depth}\n")?;
         Ok(())
@@ -293,24 +293,4 @@ fn yes_or_no(holds: bool) -> &'static str
     ensures { result.now ≡ yes_or_no holds }
 {
     if holds { "yes" } else { "no" }
-}
-
-/// The name of a queue, or no text where no queue has the number.
-fn queue_name(scenario: &Scenario, queue: usize) -> &str
-    ensures { result.now ≡ (queue_at scenario.now queue).name }
-{
-    match scenario.queues.get(queue) {
-        Some(declared) => declared.name.as_str(),
-        None => "",
-    }
-}
-
-/// The name of a work, or no text where no work has the number.
-fn work_name(scenario: &Scenario, w: usize) -> &str
-    ensures { result.now ≡ (work_at scenario.now w).name }
-{
-    match scenario.works.get(w) {
-        Some(declared) => declared.name.as_str(),
-        None => "",
-    }
 }

@@ -1,10 +1,9 @@
 //! How the rows of a picture are named.
 ghost use Rattle.cmwq_sketch.specs.Labels.{label, longest};
-ghost use Rattle.cmwq_types.specs.Scenario.{queue_at, work_at};
 ghost use Rattle.std.specs.Prelude.{◌≡◌, IfOk, Some, max};
 
 use cmwq_picture::{Row, Title};
-use cmwq_types::{NoMemory, QueueId, Scenario, WorkId};
+use cmwq_types::{NoMemory, Scenario};
 use std::alloc::Global;
 use std::fmt;
 
@@ -25,15 +24,15 @@ impl fmt::Display for Label<'_> {
 
     fn fmt<W: fmt::Write>(&self, f: &mut fmt::Formatter<W>) -> fmt::Result {
         match self.title {
-            Title::Work(work) => f.write_str(work_name(self.scenario, work)),
+            Title::Work(work) => f.write_str(self.scenario.work_name(work.0 as usize)),
             Title::Pending(work) => {
-                let name = work_name(self.scenario, work);
+                let name = self.scenario.work_name(work.0 as usize);
                 write!(f, "{name}+")
             }
             Title::Cpu(cpu) => write!(f, "cpu {cpu}"),
             Title::Worker { pool, worker } => write!(f, "worker {pool}/{worker}"),
             Title::Rescuer(queue) => {
-                let name = queue_name(self.scenario, queue);
+                let name = self.scenario.queue_name(queue.0);
                 write!(f, "rescuer {name}")
             }
             Title::Actor => f.write_str("actor"),
@@ -55,24 +54,4 @@ pub fn label_width(alloc: Global, scenario: &Scenario, rows: &[Row]) -> Result<u
         width = width.max(text.as_bytes().len());
     }
     Ok(width)
-}
-
-/// The name of a work, or no text where no work has the number.
-pub fn work_name(scenario: &Scenario, work: WorkId) -> &str
-    ensures { result.now ≡ (work_at scenario.now work.0).name }
-{
-    match scenario.works.get(work.0 as usize) {
-        Some(declared) => declared.name.as_str(),
-        None => "",
-    }
-}
-
-/// The name of a queue, or no text where no queue has the number.
-fn queue_name(scenario: &Scenario, queue: QueueId) -> &str
-    ensures { result.now ≡ (queue_at scenario.now queue.0).name }
-{
-    match scenario.queues.get(queue.0 as usize) {
-        Some(declared) => declared.name.as_str(),
-        None => "",
-    }
 }

@@ -7,7 +7,7 @@ mod legend;
 mod text;
 mod times;
 
-pub use label::{Label, label_width, work_name};
+pub use label::{Label, label_width};
 pub use legend::{explained, meaning, sign_meaning};
 pub use text::sketch;
 pub use times::{ticks_before, time_at, time_count};

@@ -10,9 +10,7 @@ use crate::bars::{Bar, begun, goes_on, grown};
 use crate::layout::{full_height, full_width, left, x_of, y_of};
 use crate::shapes::{GridLine, Rectangle, TimeWords, Words, class_of, push_head};
 use cmwq_picture::{Cell, Picture, Row};
-use cmwq_sketch::{
-    Label, explained, label_width, meaning, ticks_before, time_at, time_count, work_name,
-};
+use cmwq_sketch::{Label, explained, label_width, meaning, ticks_before, time_at, time_count};
 use cmwq_types::{NoMemory, Scenario};
 use std::alloc::Global;
 
@@ -159,7 +157,7 @@ impl Frame<'_> {
         let Cell::Burner(work) = bar.cell else {
             return Ok(());
         };
-        let name = work_name(self.scenario, work);
+        let name = self.scenario.work_name(work.0 as usize);
         let ticks = (bar.to - bar.from) as u128;
         if 8 * name.len() as u128 <= 10 * ticks {
             let words = Words {

@@ -1,5 +1,5 @@
 //! The line that a reply prints.
-ghost use Rattle.cmwq_table.specs.Events.{already_text, asked_name, event_text, event_verb, is_silent, place_text, refusal_text, reply_line, reply_words, run_text, was_text, work_name, worker_number};
+ghost use Rattle.cmwq_table.specs.Events.{already_text, asked_name, event_text, event_verb, is_silent, place_text, refusal_text, reply_line, reply_words, run_text, was_text, worker_number};
 ghost use Rattle.std.specs.Prelude.{◌≡◌, Some};
 
 use cmwq_types::{Event, Instr, Mode, Place, RESCUER, Refusal, Reply, Scenario, WorkId, WorkRun};
@@ -78,7 +78,7 @@ impl fmt::Display for ReplyWords<'_> {
                 write!(f, "{work} {place} {run}")
             }
             Reply::Event { work, event } => {
-                let work = work_name(self.scenario, work);
+                let work = self.scenario.work_name(work.0 as usize);
                 let words = EventWords {
                     scenario: self.scenario,
                     event,
@@ -108,12 +108,12 @@ impl fmt::Display for EventWords<'_> {
         match self.event {
             Event::Burns(ticks) | Event::Sleeps(ticks) => write!(f, " {ticks}"),
             Event::Queues { other, already } => {
-                let other = work_name(self.scenario, other);
+                let other = self.scenario.work_name(other.0 as usize);
                 let already = already_text(already);
                 write!(f, " {other}{already}")
             }
             Event::QueuesDisabled { other } => {
-                let other = work_name(self.scenario, other);
+                let other = self.scenario.work_name(other.0 as usize);
                 write!(f, " {other} disabled")
             }
             _ => Ok(()),
@@ -214,7 +214,7 @@ fn asked_name(scenario: &Scenario, instr: Instr) -> &str
     ensures { result.now ≡ asked_name scenario.now instr }
 {
     match instr {
-        Instr::State(work) => work_name(scenario, work),
+        Instr::State(work) => scenario.work_name(work.0 as usize),
         _ => "",
     }
 }
@@ -242,15 +242,5 @@ pub fn refusal_name(why: Refusal) -> &'static str
         Refusal::NotDisabled => "NotDisabled",
         Refusal::AlreadyPressed => "AlreadyPressed",
         Refusal::NotPressed => "NotPressed",
-    }
-}
-
-/// The name of a work, or no text where no work has the number.
-fn work_name(scenario: &Scenario, work: WorkId) -> &str
-    ensures { result.now ≡ work_name scenario.now work }
-{
-    match scenario.works.get(work.0 as usize) {
-        Some(declared) => declared.name.as_str(),
-        None => "",
     }
 }

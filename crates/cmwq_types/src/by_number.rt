@@ -1,5 +1,5 @@
 //! The parts of a scenario by their numbers.
-ghost use Rattle.cmwq_types.specs.Scenario.{flags_at, is_unbound, op_at, pool_count, queue_of, target};
+ghost use Rattle.cmwq_types.specs.Scenario.{flags_at, is_unbound, op_at, pool_count, queue_at, queue_of, target, work_at};
 ghost use Rattle.cmwq_types.specs.Setting.{IsSetting};
 ghost use Rattle.cmwq_types.specs.declared.scenario.Op.TheVariants as op;
 ghost use Rattle.std.specs.Prelude.{◌≡◌, ◌<◌, slice_index_or};
@@ -25,6 +25,26 @@ impl Scenario {
         match self.works.get(work) {
             Some(declared) => declared.queue.0,
             None => 0,
+        }
+    }
+
+    /// The name of the work of this number, from 0, and no text where there is no such work.
+    pub fn work_name(&self, work: usize) -> &str
+        ensures { result.now ≡ (work_at self.now work).name }
+    {
+        match self.works.get(work) {
+            Some(work) => work.name.as_str(),
+            None => "",
+        }
+    }
+
+    /// The name of the queue of this number, from 0, and no text where there is no such queue.
+    pub fn queue_name(&self, queue: u8) -> &str
+        ensures { result.now ≡ (queue_at self.now queue).name }
+    {
+        match self.queues.get(usize::from(queue)) {
+            Some(queue) => queue.name.as_str(),
+            None => "",
         }
     }
 
