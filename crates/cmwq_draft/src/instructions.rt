@@ -114,7 +114,8 @@ fn read_fields<'t>(draft: &Draft, shape: Shape, rest: &'t [u8]) -> Field<'t, Fie
 }
 
 /// The number of a declared queue.
-#[inline(always)]
+#[cold]
+#[inline(never)]
 fn read_queue<'t>(draft: &Draft, rest: &'t [u8]) -> Field<'t, u16>
     ensures number { Tells (λ field. (field.0, words_left field.1.now)) result (declared_at (queue_names draft.now) (words_left rest.now)) }
     ensures small { IfOk result (λ field. field.0 ≤ 255) }

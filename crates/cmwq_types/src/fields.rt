@@ -113,7 +113,9 @@ pub fn fields_of(instr: Instr) -> Fields
 {
     match instr {
         Instr::Queue(work, cpu) => Fields::new(cpu, work.0, 0),
-        Instr::Delay(work, cpu, ticks) | Instr::Mod(work, cpu, ticks) => Fields::new(cpu, work.0, ticks),
+        Instr::Delay(work, cpu, ticks) | Instr::Mod(work, cpu, ticks) => Fields::new(
+            cpu, work.0, ticks,
+        ),
         Instr::Cancel(work)
         | Instr::CancelSync(work)
         | Instr::Flush(work)
