@@ -1,4 +1,3 @@
 mod BodyLemmas
 mod DraftLemmas
-mod OperandLemmas
 mod Refused

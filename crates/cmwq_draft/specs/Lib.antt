@@ -1,4 +1,3 @@
 pub mod Declarations
-pub mod Instructions
 pub mod Operations
 pub mod Parts

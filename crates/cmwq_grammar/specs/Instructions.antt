@@ -3,14 +3,17 @@ use Rattle.std.specs.Prelude.{ℕ, List, [], ◌∷◌, ◌++◌, Option, Some, 
 use Rattle.std.specs.List.{list_any}
 use Rattle.std.specs.Str.{bytes_eq}
 use Rattle.cmwq_types.specs.Contents.{ScenarioContents}
+pub use Rattle.cmwq_types.specs.Fields.{queue_id, work_id}
+use Rattle.cmwq_types.specs.Fields.{fields, instr_of, shape_of}
 use Rattle.cmwq_types.specs.Mnemonics.{mnemonic_of, mnemonics, spelling}
+use Rattle.cmwq_types.specs.declared.fields.Fields.{Fields}
+use Rattle.cmwq_types.specs.declared.fields.Shape.{Shape}
+use Rattle.cmwq_types.specs.declared.fields.Shape.TheVariants as shape
 use Rattle.cmwq_types.specs.declared.instr.Instr.{Instr}
-use Rattle.cmwq_types.specs.declared.instr.Instr.TheVariants as instr
 use Rattle.cmwq_types.specs.declared.instr.QueueId.{QueueId}
 use Rattle.cmwq_types.specs.declared.instr.WorkId.{WorkId}
 use Rattle.cmwq_types.specs.declared.limits.TheConstants.{MAX_TIMES}
 use Rattle.cmwq_types.specs.declared.mnemonic.Mnemonic.{Mnemonic}
-use Rattle.cmwq_types.specs.declared.mnemonic.Mnemonic.TheVariants as mnemonic
 use Rattle.cmwq_types.specs.declared.scenario.Line.{Line}
 use Rattle.cmwq_grammar.specs.Fields.{◌>>=◌, declared_at, made_last, number_within}
 use Rattle.cmwq_grammar.specs.declared.why.Why.{Why}
@@ -25,12 +28,6 @@ work_names S = map (λ work. work.name) S.works
 abbrev pub actor_names : ScenarioContents → List (List ℕ)
 actor_names S = map (λ actor. actor.name) S.actors
 
-abbrev pub work_id : ℕ → WorkId
-work_id work = record { 0 = work }
-
-abbrev pub queue_id : ℕ → QueueId
-queue_id queue = record { 0 = queue }
-
 -- What stands behind the word of an instruction.
 pub data Operands : Type 0 where
   -- nothing more: this is the instruction
@@ -40,48 +37,20 @@ pub data Operands : Type 0 where
   OfQueue : (next : QueueId → Operands) → Operands
   OfNumber : (high : ℕ) (next : ℕ → Operands) → Operands
 
-abbrev pub of_work : (WorkId → Instr) → Operands
-of_work instr = OfWork (λ work. Makes (instr work))
+-- what stands behind a word of this shape: its operands are made into the instruction
+abbrev pub operands_in : Shape → (Fields → Instr) → Operands
+operands_in shape.Alone make = Makes (make (fields 0 0 0))
+operands_in shape.Work make = OfWork (λ work. Makes (make (fields 0 work.0 0)))
+operands_in shape.WorkCpu make = OfWork (λ work. OfNumber 255 (λ cpu. Makes (make (fields cpu work.0 0))))
+operands_in shape.WorkCpuTicks make = OfWork (λ work. OfNumber 255 (λ cpu. OfNumber 4294967295 (λ ticks. Makes (make (fields cpu work.0 ticks)))))
+operands_in shape.Queue make = OfQueue (λ queue. Makes (make (fields 0 queue.0 0)))
+operands_in shape.QueueNumber make = OfQueue (λ queue. OfNumber 4294967295 (λ n. Makes (make (fields 0 queue.0 n))))
+operands_in shape.Pool make = OfNumber 255 (λ pool. Makes (make (fields pool 0 0)))
+operands_in shape.Flush make = OfNumber 65535 (λ flush. Makes (make (fields 0 flush 0)))
 
-abbrev pub of_queue : (QueueId → Instr) → Operands
-of_queue instr = OfQueue (λ queue. Makes (instr queue))
-
-abbrev pub of_number : ℕ → (ℕ → Instr) → Operands
-of_number high instr = OfNumber high (λ n. Makes (instr n))
-
-abbrev pub of_work_cpu : (WorkId → ℕ → Instr) → Operands
-of_work_cpu instr = OfWork (λ work. of_number 255 (instr work))
-
-abbrev pub of_work_cpu_ticks : (WorkId → ℕ → ℕ → Instr) → Operands
-of_work_cpu_ticks instr = OfWork (λ work. OfNumber 255 (λ cpu. of_number 4294967295 (instr work cpu)))
-
-abbrev pub of_queue_max : (QueueId → ℕ → Instr) → Operands
-of_queue_max instr = OfQueue (λ queue. of_number 4294967295 (instr queue))
-
--- The instructions, by their words: what stands behind each.
+-- the instructions, by their words: what stands behind each
 abbrev pub operands_of : Mnemonic → Operands
-operands_of mnemonic.Queue = of_work_cpu instr.Queue
-operands_of mnemonic.Delay = of_work_cpu_ticks instr.Delay
-operands_of mnemonic.Mod = of_work_cpu_ticks instr.Mod
-operands_of mnemonic.Cancel = of_work instr.Cancel
-operands_of mnemonic.CancelSync = of_work instr.CancelSync
-operands_of mnemonic.Flush = of_work instr.Flush
-operands_of mnemonic.FlushDelayed = of_work instr.FlushDelayed
-operands_of mnemonic.FlushQueue = of_queue instr.FlushQueue
-operands_of mnemonic.SetMax = of_queue_max instr.SetMax
-operands_of mnemonic.Freeze = Makes instr.Freeze
-operands_of mnemonic.Thaw = Makes instr.Thaw
-operands_of mnemonic.Fire = Makes instr.Fire
-operands_of mnemonic.Step = of_number 255 instr.Step
-operands_of mnemonic.Tick = Makes instr.Tick
-operands_of mnemonic.Next = Makes instr.Next
-operands_of mnemonic.Ask = of_number 65535 instr.Ask
-operands_of mnemonic.Busy = Makes instr.Busy
-operands_of mnemonic.State = of_work instr.State
-operands_of mnemonic.Disable = of_work instr.Disable
-operands_of mnemonic.Enable = of_work instr.Enable
-operands_of mnemonic.Pressure = Makes instr.Pressure
-operands_of mnemonic.Relief = Makes instr.Relief
+operands_of mnemonic = operands_in (shape_of mnemonic) (instr_of mnemonic)
 
 -- the words that other lines begin with; an operation and a queue's line begin with an instruction's word, `queue`
 abbrev pub other_words : List (List ℕ)

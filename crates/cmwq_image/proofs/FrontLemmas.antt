@@ -8,7 +8,7 @@ use Rattle.std.specs.Str.{bytes_eq}
 use Rattle.cmwq_types.specs.Contents.{ScenarioContents}
 use Rattle.cmwq_types.specs.Faults.{first_fault, IsValid}
 use Rattle.cmwq_image.specs.Image.{all_flags, magic}
-use Rattle.cmwq_image.specs.ImageFault.{Place, Reader, ◌>>=◌, hand_on, done, many, field, accepted, behind, if_within, read_number, read_version, read_name, name_of, read_queue, read_op_tag, op_tag_of, op_room, read_op, read_instr_tag, instr_tag_in, instr_room, read_instr, read_work, read_line, read_actor, read_head, scenario_at, judged, unless_faulty, from_there, reading}
+use Rattle.cmwq_image.specs.ImageFault.{Place, Reader, ◌>>=◌, hand_on, done, many, field, accepted, behind, if_within, read_number, read_version, read_name, name_of, read_queue, read_op_tag, op_tag_of, op_room, read_op, read_instr_tag, tagged, instr_room, read_instr, read_work, read_line, read_actor, read_head, scenario_at, judged, unless_faulty, from_there, reading}
 use Rattle.cmwq_image.specs.Limits.{HasSize}
 use Rattle.cmwq_image.specs.Versions.{IsImageOf}
 use Rattle.cmwq_types.specs.Values.{IsScenario}
@@ -161,7 +161,7 @@ near_op =
 near_instr : (version : ℕ) → Near (read_instr version) 8 Any
 unfolding read_instr
 near_instr version =
-    near_then (read_instr_tag version) _ 1 7 Any Any (near_field errors.BadField 1 (λ bytes. instr_tag_in version (from_be_bytes w8 bytes)) Any (λ bytes x e. tt))
+    near_then (read_instr_tag version) _ 1 7 Any Any (near_field errors.BadField 1 (λ bytes. tagged version (from_be_bytes w8 bytes)) Any (λ bytes x e. tt))
     (λ tag fits. byte_then 0 (instr_room tag).cpu _ 6 (λ cpu c. short_then 0 (instr_room tag).a _ 4 (λ a b. long_then 0 (instr_room tag).n _ 0 (λ n m. near_done _ Any tt))))
 
 -- a name, two bytes, and at most 64 operations of 8 bytes

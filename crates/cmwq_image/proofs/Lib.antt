@@ -4,6 +4,7 @@ pub mod FlagLemmas
 pub mod LoopLemmas
 pub mod NameLemmas
 pub mod SizeLemmas
+mod TagLemmas
 pub mod VersionLemmas
 pub mod WordCodecs
 pub mod PartCodecs

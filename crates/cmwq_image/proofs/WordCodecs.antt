@@ -1,5 +1,5 @@
 -- The words of operations and instructions: what is read of each is what is written.
-use Rattle.std.proofs.Common.{◌≡◌, ℕ, ◌<◌, ◌≤◌, Bool, true, false, cond, eqb, [], ◌∷◌, ◌++◌, Option, Some, None, refl, sym, ap, subst, ◌∙◌, arith}
+use Rattle.std.proofs.Common.{◌≡◌, ℕ, ◌<◌, ◌≤◌, Bool, true, false, cond, eqb, List, [], ◌∷◌, ◌++◌, Option, Some, None, refl, sym, ap, subst, ◌∙◌, arith}
 use Rattle.std.specs.Int.{w8, w16, w32, from_be_bytes}
 use Rattle.std.specs.Prelude.{nat_le}
 use Rattle.std.proofs.lemmas.Bool.{eqb-true}
@@ -8,12 +8,18 @@ use Rattle.cmwq_types.specs.declared.instr.Instr.{Instr}
 use Rattle.cmwq_types.specs.declared.instr.Instr.TheVariants as instr
 use Rattle.cmwq_types.specs.declared.scenario.Op.{Op}
 use Rattle.cmwq_types.specs.declared.scenario.Op.TheVariants as op
-use Rattle.cmwq_image.specs.Image.{in_order, number, word, word_image, op_word, instr_word, last_tag}
-use Rattle.cmwq_image.specs.ImageFault.{◌>>=◌, done, field, read_number, op_tag_of, op_room, op_of, read_op, instr_tag_of, instr_tag_in, instr_room, instr_of, read_instr}
-use Rattle.cmwq_types.specs.Values.{IsOp, IsInstr}
+use Rattle.cmwq_image.specs.Image.{in_order, number, word, word_image, op_word, instr_word, last_tag, tag_of}
+use Rattle.cmwq_image.specs.ImageFault.{◌>>=◌, done, field, read_number, op_tag_of, op_room, op_of, read_op, first_tagged, tagged, instr_room, shape_room, read_instr}
+use Rattle.cmwq_types.proofs.FieldLemmas.{word_again}
+use Rattle.cmwq_types.specs.Fields.{fields, fields_of, instr_of, shape_of, word_of}
+use Rattle.cmwq_types.specs.Mnemonics.{mnemonics}
+use Rattle.cmwq_types.specs.Values.{AreFields, IsOp, IsInstr}
+use Rattle.cmwq_types.specs.declared.fields.Fields.{Fields}
+use Rattle.cmwq_types.specs.declared.fields.Shape.{Shape}
+use Rattle.cmwq_types.specs.declared.fields.Shape.TheVariants as shape
+use Rattle.cmwq_types.specs.declared.mnemonic.Mnemonic.{Mnemonic}
+use Rattle.cmwq_types.specs.declared.mnemonic.Mnemonic.TheVariants as mnemonic
 use Rattle.cmwq_image.specs.declared.error.ImageError.TheVariants as errors
-use Rattle.cmwq_image.specs.declared.tags.InstrTag.{InstrTag}
-use Rattle.cmwq_image.specs.declared.tags.InstrTag.TheVariants as instr_tag
 use Rattle.cmwq_image.specs.declared.tags.OpTag.{OpTag}
 use Rattle.cmwq_image.specs.declared.tags.OpTag.TheVariants as op_tag
 use Rattle.cmwq_image.specs.declared.word.Room.{Room}
@@ -267,333 +273,93 @@ ops = words op_code op_tag_of op_room op_of op_tag_is op_word IsOp op_laws
 
 -- ---- instructions
 
-abbrev instr_code : InstrTag → ℕ
-instr_code instr_tag.Queue = 16
-instr_code instr_tag.Delay = 17
-instr_code instr_tag.Mod = 18
-instr_code instr_tag.Cancel = 19
-instr_code instr_tag.CancelSync = 20
-instr_code instr_tag.Flush = 21
-instr_code instr_tag.FlushDelayed = 22
-instr_code instr_tag.FlushQueue = 23
-instr_code instr_tag.SetMax = 24
-instr_code instr_tag.Freeze = 25
-instr_code instr_tag.Thaw = 26
-instr_code instr_tag.Fire = 27
-instr_code instr_tag.Step = 28
-instr_code instr_tag.Tick = 29
-instr_code instr_tag.Next = 30
-instr_code instr_tag.Ask = 31
-instr_code instr_tag.Busy = 32
-instr_code instr_tag.State = 33
-instr_code instr_tag.Disable = 34
-instr_code instr_tag.Enable = 35
-instr_code instr_tag.Pressure = 36
-instr_code instr_tag.Relief = 37
+-- each line of these tables by the same steps
 
-abbrev instr_tag_is : Instr → InstrTag
-instr_tag_is (instr.Queue work cpu) = instr_tag.Queue
-instr_tag_is (instr.Delay work cpu ticks) = instr_tag.Delay
-instr_tag_is (instr.Mod work cpu ticks) = instr_tag.Mod
-instr_tag_is (instr.Cancel work) = instr_tag.Cancel
-instr_tag_is (instr.CancelSync work) = instr_tag.CancelSync
-instr_tag_is (instr.Flush work) = instr_tag.Flush
-instr_tag_is (instr.FlushDelayed work) = instr_tag.FlushDelayed
-instr_tag_is (instr.FlushQueue queue) = instr_tag.FlushQueue
-instr_tag_is (instr.SetMax queue max) = instr_tag.SetMax
-instr_tag_is instr.Freeze = instr_tag.Freeze
-instr_tag_is instr.Thaw = instr_tag.Thaw
-instr_tag_is instr.Fire = instr_tag.Fire
-instr_tag_is (instr.Step pool) = instr_tag.Step
-instr_tag_is instr.Tick = instr_tag.Tick
-instr_tag_is instr.Next = instr_tag.Next
-instr_tag_is (instr.Ask flush) = instr_tag.Ask
-instr_tag_is instr.Busy = instr_tag.Busy
-instr_tag_is (instr.State work) = instr_tag.State
-instr_tag_is (instr.Disable work) = instr_tag.Disable
-instr_tag_is (instr.Enable work) = instr_tag.Enable
-instr_tag_is instr.Pressure = instr_tag.Pressure
-instr_tag_is instr.Relief = instr_tag.Relief
+instr_small : (m : Mnemonic) → tag_of m < 256
+instr_small mnemonic.Queue = omega arith
+instr_small _ = omega arith
 
-instr_small : (t : InstrTag) → instr_code t < 256
-instr_small instr_tag.Queue = omega arith
-instr_small instr_tag.Delay = omega arith
-instr_small instr_tag.Mod = omega arith
-instr_small instr_tag.Cancel = omega arith
-instr_small instr_tag.CancelSync = omega arith
-instr_small instr_tag.Flush = omega arith
-instr_small instr_tag.FlushDelayed = omega arith
-instr_small instr_tag.FlushQueue = omega arith
-instr_small instr_tag.SetMax = omega arith
-instr_small instr_tag.Freeze = omega arith
-instr_small instr_tag.Thaw = omega arith
-instr_small instr_tag.Fire = omega arith
-instr_small instr_tag.Step = omega arith
-instr_small instr_tag.Tick = omega arith
-instr_small instr_tag.Next = omega arith
-instr_small instr_tag.Ask = omega arith
-instr_small instr_tag.Busy = omega arith
-instr_small instr_tag.State = omega arith
-instr_small instr_tag.Disable = omega arith
-instr_small instr_tag.Enable = omega arith
-instr_small instr_tag.Pressure = omega arith
-instr_small instr_tag.Relief = omega arith
+instr_found : (m : Mnemonic) → first_tagged mnemonics (tag_of m) ≡ Some m
+instr_found mnemonic.Queue = refl
+instr_found _ = refl
 
-instr_found : (t : InstrTag) → instr_tag_of (instr_code t) ≡ Some t
-instr_found instr_tag.Queue = refl
-instr_found instr_tag.Delay = refl
-instr_found instr_tag.Mod = refl
-instr_found instr_tag.Cancel = refl
-instr_found instr_tag.CancelSync = refl
-instr_found instr_tag.Flush = refl
-instr_found instr_tag.FlushDelayed = refl
-instr_found instr_tag.FlushQueue = refl
-instr_found instr_tag.SetMax = refl
-instr_found instr_tag.Freeze = refl
-instr_found instr_tag.Thaw = refl
-instr_found instr_tag.Fire = refl
-instr_found instr_tag.Step = refl
-instr_found instr_tag.Tick = refl
-instr_found instr_tag.Next = refl
-instr_found instr_tag.Ask = refl
-instr_found instr_tag.Busy = refl
-instr_found instr_tag.State = refl
-instr_found instr_tag.Disable = refl
-instr_found instr_tag.Enable = refl
-instr_found instr_tag.Pressure = refl
-instr_found instr_tag.Relief = refl
+instr_is_room : (m : Mnemonic) → IsRoom (instr_room m)
+instr_is_room mnemonic.Queue = record { cpu_fits = omega arith; a_fits = omega arith; n_fits = omega arith }
+instr_is_room _ = record { cpu_fits = omega arith; a_fits = omega arith; n_fits = omega arith }
 
-instr_is_room : (t : InstrTag) → IsRoom (instr_room t)
-instr_is_room instr_tag.Queue = record { cpu_fits = omega arith; a_fits = omega arith; n_fits = omega arith }
-instr_is_room instr_tag.Delay = record { cpu_fits = omega arith; a_fits = omega arith; n_fits = omega arith }
-instr_is_room instr_tag.Mod = record { cpu_fits = omega arith; a_fits = omega arith; n_fits = omega arith }
-instr_is_room instr_tag.Cancel = record { cpu_fits = omega arith; a_fits = omega arith; n_fits = omega arith }
-instr_is_room instr_tag.CancelSync = record { cpu_fits = omega arith; a_fits = omega arith; n_fits = omega arith }
-instr_is_room instr_tag.Flush = record { cpu_fits = omega arith; a_fits = omega arith; n_fits = omega arith }
-instr_is_room instr_tag.FlushDelayed = record { cpu_fits = omega arith; a_fits = omega arith; n_fits = omega arith }
-instr_is_room instr_tag.FlushQueue = record { cpu_fits = omega arith; a_fits = omega arith; n_fits = omega arith }
-instr_is_room instr_tag.SetMax = record { cpu_fits = omega arith; a_fits = omega arith; n_fits = omega arith }
-instr_is_room instr_tag.Freeze = record { cpu_fits = omega arith; a_fits = omega arith; n_fits = omega arith }
-instr_is_room instr_tag.Thaw = record { cpu_fits = omega arith; a_fits = omega arith; n_fits = omega arith }
-instr_is_room instr_tag.Fire = record { cpu_fits = omega arith; a_fits = omega arith; n_fits = omega arith }
-instr_is_room instr_tag.Step = record { cpu_fits = omega arith; a_fits = omega arith; n_fits = omega arith }
-instr_is_room instr_tag.Tick = record { cpu_fits = omega arith; a_fits = omega arith; n_fits = omega arith }
-instr_is_room instr_tag.Next = record { cpu_fits = omega arith; a_fits = omega arith; n_fits = omega arith }
-instr_is_room instr_tag.Ask = record { cpu_fits = omega arith; a_fits = omega arith; n_fits = omega arith }
-instr_is_room instr_tag.Busy = record { cpu_fits = omega arith; a_fits = omega arith; n_fits = omega arith }
-instr_is_room instr_tag.State = record { cpu_fits = omega arith; a_fits = omega arith; n_fits = omega arith }
-instr_is_room instr_tag.Disable = record { cpu_fits = omega arith; a_fits = omega arith; n_fits = omega arith }
-instr_is_room instr_tag.Enable = record { cpu_fits = omega arith; a_fits = omega arith; n_fits = omega arith }
-instr_is_room instr_tag.Pressure = record { cpu_fits = omega arith; a_fits = omega arith; n_fits = omega arith }
-instr_is_room instr_tag.Relief = record { cpu_fits = omega arith; a_fits = omega arith; n_fits = omega arith }
-
-instr_tagged : (x : Instr) → (instr_word x).tag ≡ instr_code (instr_tag_is x)
-instr_tagged (instr.Queue work cpu) = refl
-instr_tagged (instr.Delay work cpu ticks) = refl
-instr_tagged (instr.Mod work cpu ticks) = refl
-instr_tagged (instr.Cancel work) = refl
-instr_tagged (instr.CancelSync work) = refl
-instr_tagged (instr.Flush work) = refl
-instr_tagged (instr.FlushDelayed work) = refl
-instr_tagged (instr.FlushQueue queue) = refl
-instr_tagged (instr.SetMax queue max) = refl
-instr_tagged instr.Freeze = refl
-instr_tagged instr.Thaw = refl
-instr_tagged instr.Fire = refl
-instr_tagged (instr.Step pool) = refl
-instr_tagged instr.Tick = refl
-instr_tagged instr.Next = refl
-instr_tagged (instr.Ask flush) = refl
-instr_tagged instr.Busy = refl
-instr_tagged (instr.State work) = refl
-instr_tagged (instr.Disable work) = refl
-instr_tagged (instr.Enable work) = refl
-instr_tagged instr.Pressure = refl
-instr_tagged instr.Relief = refl
-
-instr_within : (x : Instr) → IsInstr x → Within (instr_room (instr_tag_is x)) (instr_word x).cpu (instr_word x).a (instr_word x).n
+instr_within : (x : Instr) → IsInstr x → Within (instr_room (word_of x)) (instr_word x).cpu (instr_word x).a (instr_word x).n
 instr_within (instr.Queue work cpu) h = record { cpu_fits = omega arith; a_fits = omega arith; n_fits = omega arith }
-instr_within (instr.Delay work cpu ticks) h = record { cpu_fits = omega arith; a_fits = omega arith; n_fits = omega arith }
-instr_within (instr.Mod work cpu ticks) h = record { cpu_fits = omega arith; a_fits = omega arith; n_fits = omega arith }
-instr_within (instr.Cancel work) h = record { cpu_fits = omega arith; a_fits = omega arith; n_fits = omega arith }
-instr_within (instr.CancelSync work) h = record { cpu_fits = omega arith; a_fits = omega arith; n_fits = omega arith }
-instr_within (instr.Flush work) h = record { cpu_fits = omega arith; a_fits = omega arith; n_fits = omega arith }
-instr_within (instr.FlushDelayed work) h = record { cpu_fits = omega arith; a_fits = omega arith; n_fits = omega arith }
-instr_within (instr.FlushQueue queue) h = record { cpu_fits = omega arith; a_fits = omega arith; n_fits = omega arith }
-instr_within (instr.SetMax queue max) h = record { cpu_fits = omega arith; a_fits = omega arith; n_fits = omega arith }
-instr_within instr.Freeze h = record { cpu_fits = omega arith; a_fits = omega arith; n_fits = omega arith }
-instr_within instr.Thaw h = record { cpu_fits = omega arith; a_fits = omega arith; n_fits = omega arith }
-instr_within instr.Fire h = record { cpu_fits = omega arith; a_fits = omega arith; n_fits = omega arith }
-instr_within (instr.Step pool) h = record { cpu_fits = omega arith; a_fits = omega arith; n_fits = omega arith }
-instr_within instr.Tick h = record { cpu_fits = omega arith; a_fits = omega arith; n_fits = omega arith }
-instr_within instr.Next h = record { cpu_fits = omega arith; a_fits = omega arith; n_fits = omega arith }
-instr_within (instr.Ask flush) h = record { cpu_fits = omega arith; a_fits = omega arith; n_fits = omega arith }
-instr_within instr.Busy h = record { cpu_fits = omega arith; a_fits = omega arith; n_fits = omega arith }
-instr_within (instr.State work) h = record { cpu_fits = omega arith; a_fits = omega arith; n_fits = omega arith }
-instr_within (instr.Disable work) h = record { cpu_fits = omega arith; a_fits = omega arith; n_fits = omega arith }
-instr_within (instr.Enable work) h = record { cpu_fits = omega arith; a_fits = omega arith; n_fits = omega arith }
-instr_within instr.Pressure h = record { cpu_fits = omega arith; a_fits = omega arith; n_fits = omega arith }
-instr_within instr.Relief h = record { cpu_fits = omega arith; a_fits = omega arith; n_fits = omega arith }
+instr_within _ h = record { cpu_fits = omega arith; a_fits = omega arith; n_fits = omega arith }
 
-instr_fits : (x : Instr) → Within (instr_room (instr_tag_is x)) (instr_word x).cpu (instr_word x).a (instr_word x).n → IsInstr x
-instr_fits (instr.Queue work cpu) h = (omega (arith, h.a_fits), omega (arith, h.cpu_fits))
-instr_fits (instr.Delay work cpu ticks) h = (omega (arith, h.a_fits), omega (arith, h.cpu_fits), omega (arith, h.n_fits))
-instr_fits (instr.Mod work cpu ticks) h = (omega (arith, h.a_fits), omega (arith, h.cpu_fits), omega (arith, h.n_fits))
-instr_fits (instr.Cancel work) h = omega (arith, h.a_fits)
-instr_fits (instr.CancelSync work) h = omega (arith, h.a_fits)
-instr_fits (instr.Flush work) h = omega (arith, h.a_fits)
-instr_fits (instr.FlushDelayed work) h = omega (arith, h.a_fits)
-instr_fits (instr.FlushQueue queue) h = omega (arith, h.a_fits)
-instr_fits (instr.SetMax queue max) h = (omega (arith, h.a_fits), omega (arith, h.n_fits))
-instr_fits instr.Freeze h = tt
-instr_fits instr.Thaw h = tt
-instr_fits instr.Fire h = tt
-instr_fits (instr.Step pool) h = omega (arith, h.cpu_fits)
-instr_fits instr.Tick h = tt
-instr_fits instr.Next h = tt
-instr_fits (instr.Ask flush) h = omega (arith, h.a_fits)
-instr_fits instr.Busy h = tt
-instr_fits (instr.State work) h = omega (arith, h.a_fits)
-instr_fits (instr.Disable work) h = omega (arith, h.a_fits)
-instr_fits (instr.Enable work) h = omega (arith, h.a_fits)
-instr_fits instr.Pressure h = tt
-instr_fits instr.Relief h = tt
+-- what has room behind a word of this shape is operands of the shape
+shape_fits : (s : Shape) (f : Fields) → Within (shape_room s) f.cpu f.id f.number → AreFields s f
+shape_fits shape.Alone f h = tt
+shape_fits shape.Work f h = omega (arith, h.a_fits)
+shape_fits shape.WorkCpu f h = (omega (arith, h.a_fits), omega (arith, h.cpu_fits))
+shape_fits shape.WorkCpuTicks f h = (omega (arith, h.a_fits), omega (arith, h.cpu_fits), omega (arith, h.n_fits))
+shape_fits shape.Queue f h = omega (arith, h.a_fits)
+shape_fits shape.QueueNumber f h = (omega (arith, h.a_fits), omega (arith, h.n_fits))
+shape_fits shape.Pool f h = omega (arith, h.cpu_fits)
+shape_fits shape.Flush f h = omega (arith, h.a_fits)
 
-instr_made_tag : (t : InstrTag) (cpu a n : ℕ) → instr_tag_is (instr_of t cpu a n) ≡ t
-instr_made_tag instr_tag.Queue cpu a n = refl
-instr_made_tag instr_tag.Delay cpu a n = refl
-instr_made_tag instr_tag.Mod cpu a n = refl
-instr_made_tag instr_tag.Cancel cpu a n = refl
-instr_made_tag instr_tag.CancelSync cpu a n = refl
-instr_made_tag instr_tag.Flush cpu a n = refl
-instr_made_tag instr_tag.FlushDelayed cpu a n = refl
-instr_made_tag instr_tag.FlushQueue cpu a n = refl
-instr_made_tag instr_tag.SetMax cpu a n = refl
-instr_made_tag instr_tag.Freeze cpu a n = refl
-instr_made_tag instr_tag.Thaw cpu a n = refl
-instr_made_tag instr_tag.Fire cpu a n = refl
-instr_made_tag instr_tag.Step cpu a n = refl
-instr_made_tag instr_tag.Tick cpu a n = refl
-instr_made_tag instr_tag.Next cpu a n = refl
-instr_made_tag instr_tag.Ask cpu a n = refl
-instr_made_tag instr_tag.Busy cpu a n = refl
-instr_made_tag instr_tag.State cpu a n = refl
-instr_made_tag instr_tag.Disable cpu a n = refl
-instr_made_tag instr_tag.Enable cpu a n = refl
-instr_made_tag instr_tag.Pressure cpu a n = refl
-instr_made_tag instr_tag.Relief cpu a n = refl
+instr_fits : (x : Instr) → Within (instr_room (word_of x)) (instr_word x).cpu (instr_word x).a (instr_word x).n → IsInstr x
+instr_fits x h = shape_fits (shape_of (word_of x)) (fields_of x) h
 
-instr_made_word : (t : InstrTag) (cpu a n : ℕ) → Within (instr_room t) cpu a n → instr_word (instr_of t cpu a n) ≡ word (instr_code t) cpu a n
-instr_made_word instr_tag.Queue cpu a n h = plain 16 cpu a 0 cpu a n (omega (arith, h.cpu_fits)) (omega (arith, h.a_fits)) (omega (arith, h.n_fits))
-instr_made_word instr_tag.Delay cpu a n h = plain 17 cpu a n cpu a n (omega (arith, h.cpu_fits)) (omega (arith, h.a_fits)) (omega (arith, h.n_fits))
-instr_made_word instr_tag.Mod cpu a n h = plain 18 cpu a n cpu a n (omega (arith, h.cpu_fits)) (omega (arith, h.a_fits)) (omega (arith, h.n_fits))
-instr_made_word instr_tag.Cancel cpu a n h = plain 19 0 a 0 cpu a n (omega (arith, h.cpu_fits)) (omega (arith, h.a_fits)) (omega (arith, h.n_fits))
-instr_made_word instr_tag.CancelSync cpu a n h = plain 20 0 a 0 cpu a n (omega (arith, h.cpu_fits)) (omega (arith, h.a_fits)) (omega (arith, h.n_fits))
-instr_made_word instr_tag.Flush cpu a n h = plain 21 0 a 0 cpu a n (omega (arith, h.cpu_fits)) (omega (arith, h.a_fits)) (omega (arith, h.n_fits))
-instr_made_word instr_tag.FlushDelayed cpu a n h = plain 22 0 a 0 cpu a n (omega (arith, h.cpu_fits)) (omega (arith, h.a_fits)) (omega (arith, h.n_fits))
-instr_made_word instr_tag.FlushQueue cpu a n h = plain 23 0 a 0 cpu a n (omega (arith, h.cpu_fits)) (omega (arith, h.a_fits)) (omega (arith, h.n_fits))
-instr_made_word instr_tag.SetMax cpu a n h = plain 24 0 a n cpu a n (omega (arith, h.cpu_fits)) (omega (arith, h.a_fits)) (omega (arith, h.n_fits))
-instr_made_word instr_tag.Freeze cpu a n h = plain 25 0 0 0 cpu a n (omega (arith, h.cpu_fits)) (omega (arith, h.a_fits)) (omega (arith, h.n_fits))
-instr_made_word instr_tag.Thaw cpu a n h = plain 26 0 0 0 cpu a n (omega (arith, h.cpu_fits)) (omega (arith, h.a_fits)) (omega (arith, h.n_fits))
-instr_made_word instr_tag.Fire cpu a n h = plain 27 0 0 0 cpu a n (omega (arith, h.cpu_fits)) (omega (arith, h.a_fits)) (omega (arith, h.n_fits))
-instr_made_word instr_tag.Step cpu a n h = plain 28 cpu 0 0 cpu a n (omega (arith, h.cpu_fits)) (omega (arith, h.a_fits)) (omega (arith, h.n_fits))
-instr_made_word instr_tag.Tick cpu a n h = plain 29 0 0 0 cpu a n (omega (arith, h.cpu_fits)) (omega (arith, h.a_fits)) (omega (arith, h.n_fits))
-instr_made_word instr_tag.Next cpu a n h = plain 30 0 0 0 cpu a n (omega (arith, h.cpu_fits)) (omega (arith, h.a_fits)) (omega (arith, h.n_fits))
-instr_made_word instr_tag.Ask cpu a n h = plain 31 0 a 0 cpu a n (omega (arith, h.cpu_fits)) (omega (arith, h.a_fits)) (omega (arith, h.n_fits))
-instr_made_word instr_tag.Busy cpu a n h = plain 32 0 0 0 cpu a n (omega (arith, h.cpu_fits)) (omega (arith, h.a_fits)) (omega (arith, h.n_fits))
-instr_made_word instr_tag.State cpu a n h = plain 33 0 a 0 cpu a n (omega (arith, h.cpu_fits)) (omega (arith, h.a_fits)) (omega (arith, h.n_fits))
-instr_made_word instr_tag.Disable cpu a n h = plain 34 0 a 0 cpu a n (omega (arith, h.cpu_fits)) (omega (arith, h.a_fits)) (omega (arith, h.n_fits))
-instr_made_word instr_tag.Enable cpu a n h = plain 35 0 a 0 cpu a n (omega (arith, h.cpu_fits)) (omega (arith, h.a_fits)) (omega (arith, h.n_fits))
-instr_made_word instr_tag.Pressure cpu a n h = plain 36 0 0 0 cpu a n (omega (arith, h.cpu_fits)) (omega (arith, h.a_fits)) (omega (arith, h.n_fits))
-instr_made_word instr_tag.Relief cpu a n h = plain 37 0 0 0 cpu a n (omega (arith, h.cpu_fits)) (omega (arith, h.a_fits)) (omega (arith, h.n_fits))
+instr_made_tag : (m : Mnemonic) (cpu a n : ℕ) → word_of (instr_of m (fields cpu a n)) ≡ m
+instr_made_tag m cpu a n = word_again m (fields cpu a n)
 
-instr_again : (x : Instr) → instr_of (instr_tag_is x) (instr_word x).cpu (instr_word x).a (instr_word x).n ≡ x
+instr_made_word : (m : Mnemonic) (cpu a n : ℕ) → Within (instr_room m) cpu a n → instr_word (instr_of m (fields cpu a n)) ≡ word (tag_of m) cpu a n
+instr_made_word mnemonic.Queue cpu a n h = plain (tag_of mnemonic.Queue) cpu a 0 cpu a n (omega (arith, h.cpu_fits)) (omega (arith, h.a_fits)) (omega (arith, h.n_fits))
+instr_made_word _ cpu a n h = plain _ _ _ _ cpu a n (omega (arith, h.cpu_fits)) (omega (arith, h.a_fits)) (omega (arith, h.n_fits))
+
+instr_again : (x : Instr) → instr_of (word_of x) (fields (instr_word x).cpu (instr_word x).a (instr_word x).n) ≡ x
 instr_again (instr.Queue work cpu) = refl
-instr_again (instr.Delay work cpu ticks) = refl
-instr_again (instr.Mod work cpu ticks) = refl
-instr_again (instr.Cancel work) = refl
-instr_again (instr.CancelSync work) = refl
-instr_again (instr.Flush work) = refl
-instr_again (instr.FlushDelayed work) = refl
-instr_again (instr.FlushQueue queue) = refl
-instr_again (instr.SetMax queue max) = refl
-instr_again instr.Freeze = refl
-instr_again instr.Thaw = refl
-instr_again instr.Fire = refl
-instr_again (instr.Step pool) = refl
-instr_again instr.Tick = refl
-instr_again instr.Next = refl
-instr_again (instr.Ask flush) = refl
-instr_again instr.Busy = refl
-instr_again (instr.State work) = refl
-instr_again (instr.Disable work) = refl
-instr_again (instr.Enable work) = refl
-instr_again instr.Pressure = refl
-instr_again instr.Relief = refl
+instr_again _ = refl
 
-instr_known : (n : ℕ) (t : InstrTag) → instr_tag_of n ≡ Some t → n ≡ instr_code t
-instr_known n t =
-    pick instr_code n 16 instr_tag.Queue t _ refl (
-    pick instr_code n 17 instr_tag.Delay t _ refl (
-    pick instr_code n 18 instr_tag.Mod t _ refl (
-    pick instr_code n 19 instr_tag.Cancel t _ refl (
-    pick instr_code n 20 instr_tag.CancelSync t _ refl (
-    pick instr_code n 21 instr_tag.Flush t _ refl (
-    pick instr_code n 22 instr_tag.FlushDelayed t _ refl (
-    pick instr_code n 23 instr_tag.FlushQueue t _ refl (
-    pick instr_code n 24 instr_tag.SetMax t _ refl (
-    pick instr_code n 25 instr_tag.Freeze t _ refl (
-    pick instr_code n 26 instr_tag.Thaw t _ refl (
-    pick instr_code n 27 instr_tag.Fire t _ refl (
-    pick instr_code n 28 instr_tag.Step t _ refl (
-    pick instr_code n 29 instr_tag.Tick t _ refl (
-    pick instr_code n 30 instr_tag.Next t _ refl (
-    pick instr_code n 31 instr_tag.Ask t _ refl (
-    pick instr_code n 32 instr_tag.Busy t _ refl (
-    pick instr_code n 33 instr_tag.State t _ refl (
-    pick instr_code n 34 instr_tag.Disable t _ refl (
-    pick instr_code n 35 instr_tag.Enable t _ refl (
-    pick instr_code n 36 instr_tag.Pressure t _ refl (
-    pick instr_code n 37 instr_tag.Relief t _ refl (
-    λ never. absurd cc))))))))))))))))))))))
+first_known : (ms : List Mnemonic) (n : ℕ) (m : Mnemonic) → first_tagged ms n ≡ Some m → n ≡ tag_of m
+first_known [] n m e = absurd cc
+first_known (x ∷ ms) n m e = pick tag_of n (tag_of x) x m (first_tagged ms n) refl (first_known ms n m) e
+
+abbrev made_of : Mnemonic → (cpu a n : ℕ) → Instr
+made_of m cpu a n = instr_of m (fields cpu a n)
 
 -- the instruction of a version
 abbrev pub InstrFits : ℕ → Instr → Type 0
 InstrFits version i = IsInstr i × ((instr_word i).tag ≤ last_tag version)
 
 -- what the version has is in the table, up to its last tag
-found_in : (version n : ℕ) (t : InstrTag) → instr_tag_in version n ≡ Some t → (instr_tag_of n ≡ Some t) × (n ≤ last_tag version)
+found_in : (version n : ℕ) (t : Mnemonic) → tagged version n ≡ Some t → (first_tagged mnemonics n ≡ Some t) × (n ≤ last_tag version)
 found_in version n t e = go (nat_le n (last_tag version)) refl e
   where
-    go : (b : Bool) → nat_le n (last_tag version) ≡ b → cond b (instr_tag_of n) None ≡ Some t → (instr_tag_of n ≡ Some t) × (n ≤ last_tag version)
+    go : (b : Bool) → nat_le n (last_tag version) ≡ b → cond b (first_tagged mnemonics n) None ≡ Some t → (first_tagged mnemonics n ≡ Some t) × (n ≤ last_tag version)
     go true small h = (h, at_most n (last_tag version) small)
     go false large h = absurd cc
 
-is_found_in : (version n : ℕ) → n ≤ last_tag version → instr_tag_in version n ≡ instr_tag_of n
-is_found_in version n small = ap (λ b. cond b (instr_tag_of n) None) (is_at_most n (last_tag version) small)
+is_found_in : (version n : ℕ) → n ≤ last_tag version → tagged version n ≡ first_tagged mnemonics n
+is_found_in version n small = ap (λ b. cond b (first_tagged mnemonics n) None) (is_at_most n (last_tag version) small)
 
 -- each version has the first tag
-queue_found : (version : ℕ) → instr_tag_in version 16 ≡ Some instr_tag.Queue
+queue_found : (version : ℕ) → tagged version 16 ≡ Some mnemonic.Queue
 queue_found version = go (eqb version 1) (eqb version 2)
   where
-    go : (b c : Bool) → cond (nat_le 16 (cond b 33 (cond c 35 37))) (instr_tag_of 16) None ≡ Some instr_tag.Queue
+    go : (b c : Bool) → cond (nat_le 16 (cond b 33 (cond c 35 37))) (first_tagged mnemonics 16) None ≡ Some mnemonic.Queue
     go true c = refl
     go false true = refl
     go false false = refl
 
-instr_laws : (version : ℕ) → WordLaws instr_code (instr_tag_in version) instr_room instr_of instr_tag_is instr_word (InstrFits version)
+instr_laws : (version : ℕ) → WordLaws tag_of (tagged version) instr_room made_of word_of instr_word (InstrFits version)
 instr_laws version = record {
   small = instr_small;
-  known = λ n t e. instr_known n t (found_in version n t e).0;
-  some = instr_tag.Queue;
+  known = λ n t e. first_known mnemonics n t (found_in version n t e).0;
+  some = mnemonic.Queue;
   some_found = queue_found version;
   is_room = instr_is_room;
-  tagged = instr_tagged;
-  found = λ x h. is_found_in version (instr_code (instr_tag_is x)) (subst (λ n. n ≤ last_tag version) (instr_tagged x) h.1) ∙ instr_found (instr_tag_is x);
+  tagged = λ x. refl;
+  found = λ x h. is_found_in version (tag_of (word_of x)) (h.1) ∙ instr_found (word_of x);
   within = λ x h. instr_within x h.0;
   fits = λ x found h. (
     instr_fits x h,
-    subst (λ n. n ≤ last_tag version) (sym (instr_tagged x)) (found_in version (instr_code (instr_tag_is x)) (instr_tag_is x) found).1,
+    (found_in version (tag_of (word_of x)) (word_of x) found).1,
   );
   made_tag = instr_made_tag;
   made_word = instr_made_word;
@@ -602,4 +368,4 @@ instr_laws version = record {
 
 pub instrs : (version : ℕ) → Codec (read_instr version) (λ x. word_image (instr_word x)) (InstrFits version)
 unfolding read_instr
-instrs version = words instr_code (instr_tag_in version) instr_room instr_of instr_tag_is instr_word (InstrFits version) (instr_laws version)
+instrs version = words tag_of (tagged version) instr_room made_of word_of instr_word (InstrFits version) (instr_laws version)

@@ -3,9 +3,11 @@ use Rattle.std.specs.Prelude.{ℕ, ◌+◌, Bool, List, [], ◌∷◌, ◌++◌,
 use Rattle.std.specs.Int.{Width, w8, w16, w32, to_be_bytes}
 use Rattle.std.specs.List.{flat_map}
 use Rattle.cmwq_types.specs.Contents.{ScenarioContents, WorkContents, ActorContents}
+use Rattle.cmwq_types.specs.Fields.{fields_of, word_of}
 use Rattle.cmwq_types.specs.Name.{padded}
 use Rattle.cmwq_types.specs.declared.instr.Instr.{Instr}
-use Rattle.cmwq_types.specs.declared.instr.Instr.TheVariants as instr
+use Rattle.cmwq_types.specs.declared.mnemonic.Mnemonic.{Mnemonic}
+use Rattle.cmwq_types.specs.declared.mnemonic.Mnemonic.TheVariants as mnemonic
 use Rattle.cmwq_types.specs.declared.scenario.Flags.{Flags}
 use Rattle.cmwq_types.specs.declared.scenario.Line.{Line}
 use Rattle.cmwq_types.specs.declared.scenario.Op.{Op}
@@ -60,29 +62,34 @@ op_word (op.Sleep ticks) = word 2 0 0 ticks
 op_word (op.Queue work cpu) = word 3 cpu work.0 0
 op_word op.Finish = word 4 0 0 0
 
+-- the tag of an instruction's word
+abbrev pub tag_of : Mnemonic → ℕ
+tag_of mnemonic.Queue = 16
+tag_of mnemonic.Delay = 17
+tag_of mnemonic.Mod = 18
+tag_of mnemonic.Cancel = 19
+tag_of mnemonic.CancelSync = 20
+tag_of mnemonic.Flush = 21
+tag_of mnemonic.FlushDelayed = 22
+tag_of mnemonic.FlushQueue = 23
+tag_of mnemonic.SetMax = 24
+tag_of mnemonic.Freeze = 25
+tag_of mnemonic.Thaw = 26
+tag_of mnemonic.Fire = 27
+tag_of mnemonic.Step = 28
+tag_of mnemonic.Tick = 29
+tag_of mnemonic.Next = 30
+tag_of mnemonic.Ask = 31
+tag_of mnemonic.Busy = 32
+tag_of mnemonic.State = 33
+tag_of mnemonic.Disable = 34
+tag_of mnemonic.Enable = 35
+tag_of mnemonic.Pressure = 36
+tag_of mnemonic.Relief = 37
+
+-- behind the tag stand the operands
 abbrev pub instr_word : Instr → Word
-instr_word (instr.Queue work cpu) = word 16 cpu work.0 0
-instr_word (instr.Delay work cpu ticks) = word 17 cpu work.0 ticks
-instr_word (instr.Mod work cpu ticks) = word 18 cpu work.0 ticks
-instr_word (instr.Cancel work) = word 19 0 work.0 0
-instr_word (instr.CancelSync work) = word 20 0 work.0 0
-instr_word (instr.Flush work) = word 21 0 work.0 0
-instr_word (instr.FlushDelayed work) = word 22 0 work.0 0
-instr_word (instr.FlushQueue queue) = word 23 0 queue.0 0
-instr_word (instr.SetMax queue max) = word 24 0 queue.0 max
-instr_word instr.Freeze = word 25 0 0 0
-instr_word instr.Thaw = word 26 0 0 0
-instr_word instr.Fire = word 27 0 0 0
-instr_word (instr.Step pool) = word 28 pool 0 0
-instr_word instr.Tick = word 29 0 0 0
-instr_word instr.Next = word 30 0 0 0
-instr_word (instr.Ask flush) = word 31 0 flush 0
-instr_word instr.Busy = word 32 0 0 0
-instr_word (instr.State work) = word 33 0 work.0 0
-instr_word (instr.Disable work) = word 34 0 work.0 0
-instr_word (instr.Enable work) = word 35 0 work.0 0
-instr_word instr.Pressure = word 36 0 0 0
-instr_word instr.Relief = word 37 0 0 0
+instr_word instr = let f = fields_of instr in word (tag_of (word_of instr)) f.cpu f.id f.number
 
 -- the last tag of an instruction that a version has
 abbrev pub last_tag : ℕ → ℕ

@@ -4,22 +4,24 @@ use Rattle.std.specs.Int.{Width, w8, w16, w32, byte_len, from_be_bytes}
 use Rattle.std.specs.Str.{bytes_eq}
 use Rattle.cmwq_types.specs.Contents.{ScenarioContents, WorkContents, ActorContents}
 use Rattle.cmwq_types.specs.Faults.{first_fault, within}
+use Rattle.cmwq_types.specs.Fields.{fields, instr_of, shape_of}
+use Rattle.cmwq_types.specs.Mnemonics.{mnemonics}
 use Rattle.cmwq_types.specs.Name.{is_name}
 use Rattle.cmwq_types.specs.declared.check.Fault.{Fault}
+use Rattle.cmwq_types.specs.declared.fields.Shape.{Shape}
+use Rattle.cmwq_types.specs.declared.fields.Shape.TheVariants as shape
 use Rattle.cmwq_types.specs.declared.instr.Instr.{Instr}
-use Rattle.cmwq_types.specs.declared.instr.Instr.TheVariants as instr
 use Rattle.cmwq_types.specs.declared.limits.TheConstants.{MAX_QUEUES, MAX_WORKS, MAX_ACTORS, MAX_OPS, MAX_LINES}
+use Rattle.cmwq_types.specs.declared.mnemonic.Mnemonic.{Mnemonic}
 use Rattle.cmwq_types.specs.declared.scenario.Flags.{Flags}
 use Rattle.cmwq_types.specs.declared.scenario.Line.{Line}
 use Rattle.cmwq_types.specs.declared.scenario.Op.{Op}
 use Rattle.cmwq_types.specs.declared.scenario.Op.TheVariants as op
 use Rattle.cmwq_types.specs.declared.scenario.QueueDecl.{QueueDecl}
-use Rattle.cmwq_image.specs.Image.{all_flags, last_tag, magic, name_field}
+use Rattle.cmwq_image.specs.Image.{all_flags, last_tag, magic, name_field, tag_of}
 use Rattle.cmwq_image.specs.declared.error.ImageError.{ImageError}
 use Rattle.cmwq_image.specs.declared.error.ImageError.TheVariants as errors
 use Rattle.cmwq_image.specs.declared.head.Head.{Head}
-use Rattle.cmwq_image.specs.declared.tags.InstrTag.{InstrTag}
-use Rattle.cmwq_image.specs.declared.tags.InstrTag.TheVariants as instr_tag
 use Rattle.cmwq_image.specs.declared.tags.OpTag.{OpTag}
 use Rattle.cmwq_image.specs.declared.tags.OpTag.TheVariants as op_tag
 use Rattle.cmwq_image.specs.declared.version.TheConstants.{FIRST_VERSION, VERSION}
@@ -160,96 +162,39 @@ read_op = do
   n ← read_number w32 0 (op_room tag).n
   done (op_of tag cpu a n)
 
-abbrev pub instr_tag_of : ℕ → Option InstrTag
-instr_tag_of n =
-    if n == 16 then Some instr_tag.Queue
-    else (if n == 17 then Some instr_tag.Delay
-    else (if n == 18 then Some instr_tag.Mod
-    else (if n == 19 then Some instr_tag.Cancel
-    else (if n == 20 then Some instr_tag.CancelSync
-    else (if n == 21 then Some instr_tag.Flush
-    else (if n == 22 then Some instr_tag.FlushDelayed
-    else (if n == 23 then Some instr_tag.FlushQueue
-    else (if n == 24 then Some instr_tag.SetMax
-    else (if n == 25 then Some instr_tag.Freeze
-    else (if n == 26 then Some instr_tag.Thaw
-    else (if n == 27 then Some instr_tag.Fire
-    else (if n == 28 then Some instr_tag.Step
-    else (if n == 29 then Some instr_tag.Tick
-    else (if n == 30 then Some instr_tag.Next
-    else (if n == 31 then Some instr_tag.Ask
-    else (if n == 32 then Some instr_tag.Busy
-    else (if n == 33 then Some instr_tag.State
-    else (if n == 34 then Some instr_tag.Disable
-    else (if n == 35 then Some instr_tag.Enable
-    else (if n == 36 then Some instr_tag.Pressure
-    else (if n == 37 then Some instr_tag.Relief
-    else None)))))))))))))))))))))
+-- the first of these words that has the tag
+abbrev pub first_tagged : List Mnemonic → ℕ → Option Mnemonic
+first_tagged [] n = None
+first_tagged (first ∷ others) n = if n == tag_of first then Some first else first_tagged others n
 
--- the tag, if the version has it
-abbrev pub instr_tag_in : (version n : ℕ) → Option InstrTag
-instr_tag_in version n = if nat_le n (last_tag version) then instr_tag_of n else None
+-- the word with this tag, if the version has it
+abbrev pub tagged : (version n : ℕ) → Option Mnemonic
+tagged version n = if nat_le n (last_tag version) then first_tagged mnemonics n else None
 
--- a queue's number has one byte in a scenario
-abbrev pub instr_room : InstrTag → Room
-instr_room instr_tag.Queue = room 255 65535 0
-instr_room instr_tag.Delay = room 255 65535 4294967295
-instr_room instr_tag.Mod = room 255 65535 4294967295
-instr_room instr_tag.Cancel = room 0 65535 0
-instr_room instr_tag.CancelSync = room 0 65535 0
-instr_room instr_tag.Flush = room 0 65535 0
-instr_room instr_tag.FlushDelayed = room 0 65535 0
-instr_room instr_tag.FlushQueue = room 0 255 0
-instr_room instr_tag.SetMax = room 0 255 4294967295
-instr_room instr_tag.Freeze = room 0 0 0
-instr_room instr_tag.Thaw = room 0 0 0
-instr_room instr_tag.Fire = room 0 0 0
-instr_room instr_tag.Step = room 255 0 0
-instr_room instr_tag.Tick = room 0 0 0
-instr_room instr_tag.Next = room 0 0 0
-instr_room instr_tag.Ask = room 0 65535 0
-instr_room instr_tag.Busy = room 0 0 0
-instr_room instr_tag.State = room 0 65535 0
-instr_room instr_tag.Disable = room 0 65535 0
-instr_room instr_tag.Enable = room 0 65535 0
-instr_room instr_tag.Pressure = room 0 0 0
-instr_room instr_tag.Relief = room 0 0 0
+-- behind a word of this shape; a queue's number has one byte in a scenario
+abbrev pub shape_room : Shape → Room
+shape_room shape.Alone = room 0 0 0
+shape_room shape.Work = room 0 65535 0
+shape_room shape.WorkCpu = room 255 65535 0
+shape_room shape.WorkCpuTicks = room 255 65535 4294967295
+shape_room shape.Queue = room 0 255 0
+shape_room shape.QueueNumber = room 0 255 4294967295
+shape_room shape.Pool = room 255 0 0
+shape_room shape.Flush = room 0 65535 0
 
--- the instruction of a tag, with the fields of its word
-abbrev pub instr_of : InstrTag → (cpu a n : ℕ) → Instr
-instr_of instr_tag.Queue cpu a n = instr.Queue (record { 0 = a }) cpu
-instr_of instr_tag.Delay cpu a n = instr.Delay (record { 0 = a }) cpu n
-instr_of instr_tag.Mod cpu a n = instr.Mod (record { 0 = a }) cpu n
-instr_of instr_tag.Cancel cpu a n = instr.Cancel (record { 0 = a })
-instr_of instr_tag.CancelSync cpu a n = instr.CancelSync (record { 0 = a })
-instr_of instr_tag.Flush cpu a n = instr.Flush (record { 0 = a })
-instr_of instr_tag.FlushDelayed cpu a n = instr.FlushDelayed (record { 0 = a })
-instr_of instr_tag.FlushQueue cpu a n = instr.FlushQueue (record { 0 = a })
-instr_of instr_tag.SetMax cpu a n = instr.SetMax (record { 0 = a }) n
-instr_of instr_tag.Freeze cpu a n = instr.Freeze
-instr_of instr_tag.Thaw cpu a n = instr.Thaw
-instr_of instr_tag.Fire cpu a n = instr.Fire
-instr_of instr_tag.Step cpu a n = instr.Step cpu
-instr_of instr_tag.Tick cpu a n = instr.Tick
-instr_of instr_tag.Next cpu a n = instr.Next
-instr_of instr_tag.Ask cpu a n = instr.Ask a
-instr_of instr_tag.Busy cpu a n = instr.Busy
-instr_of instr_tag.State cpu a n = instr.State (record { 0 = a })
-instr_of instr_tag.Disable cpu a n = instr.Disable (record { 0 = a })
-instr_of instr_tag.Enable cpu a n = instr.Enable (record { 0 = a })
-instr_of instr_tag.Pressure cpu a n = instr.Pressure
-instr_of instr_tag.Relief cpu a n = instr.Relief
+abbrev pub instr_room : Mnemonic → Room
+instr_room mnemonic = shape_room (shape_of mnemonic)
 
-abbrev pub read_instr_tag : ℕ → Reader InstrTag
-read_instr_tag version = field errors.BadField 1 (λ bytes. instr_tag_in version (from_be_bytes w8 bytes))
+abbrev pub read_instr_tag : ℕ → Reader Mnemonic
+read_instr_tag version = field errors.BadField 1 (λ bytes. tagged version (from_be_bytes w8 bytes))
 
 unfoldable pub read_instr : ℕ → Reader Instr
 read_instr version = do
-  tag ← read_instr_tag version
-  cpu ← read_number w8 0 (instr_room tag).cpu
-  a ← read_number w16 0 (instr_room tag).a
-  n ← read_number w32 0 (instr_room tag).n
-  done (instr_of tag cpu a n)
+  word ← read_instr_tag version
+  cpu ← read_number w8 0 (instr_room word).cpu
+  a ← read_number w16 0 (instr_room word).a
+  n ← read_number w32 0 (instr_room word).n
+  done (instr_of word (fields cpu a n))
 
 -- Works and actors.
 

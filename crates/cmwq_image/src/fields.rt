@@ -6,9 +6,9 @@ ghost use Rattle.std.specs.Prelude.{◌≡◌, ◌+◌, ◌≤◌, ◌==◌, IfO
 ghost use Rattle.cmwq_image.specs.declared.error.ImageError.TheVariants as errors;
 
 use crate::error::ImageError;
-use crate::tags::{InstrTag, OpTag};
+use crate::tags::{OpTag, tagged};
 use crate::version::{FIRST_VERSION, VERSION};
-use cmwq_types::{MAX_NAME, Name};
+use cmwq_types::{MAX_NAME, Mnemonic, Name};
 use std::marker::Model;
 
 /// What is left of the bytes of an image.
@@ -145,15 +145,15 @@ impl<'a> Fields<'a> {
         OpTag::of(u8::from_be_bytes([bytes[0]])).ok_or(ImageError::BadField(at))
     }
 
-    /// The tag of an instruction that the version has.
-    pub(crate) fn instr_tag(&mut self, version: u16) -> Result<InstrTag, ImageError>
+    /// The word of an instruction whose tag the version has.
+    pub(crate) fn instr_tag(&mut self, version: u16) -> Result<Mnemonic, ImageError>
         requires { self.old.at + 1 ≤ u32.MAX }
         ensures read { GivesRead (λ tag. (tag, self.new)) result (read_instr_tag version self.old) }
         ensures ahead { OnOk result (self.new.at ≡ self.old.at + 1) }
     {
         let at = self.at;
         let bytes = self.take(1)?;
-        InstrTag::of(version, u8::from_be_bytes([bytes[0]])).ok_or(ImageError::BadField(at))
+        tagged(version, u8::from_be_bytes([bytes[0]])).ok_or(ImageError::BadField(at))
     }
 }
 

@@ -7,10 +7,11 @@ ghost use Rattle.std.specs.Prelude.{◌≡◌, ◌+◌, ◌*◌, ◌≤◌, ◌<
 use crate::error::ImageError;
 use crate::fields::Fields;
 use crate::head::Head;
+use crate::tags::instr_room;
 use crate::version::SECOND_VERSION;
 use cmwq_types::{
     Actor, Flags, Instr, Line, MAX_ACTORS, MAX_LINES, MAX_OPS, MAX_QUEUES, MAX_WORKS, Op,
-    QueueDecl, QueueId, WorkDecl,
+    QueueDecl, QueueId, WorkDecl, instr_of,
 };
 use std::alloc::Global;
 
@@ -188,12 +189,12 @@ impl<'a> Fields<'a> {
         ensures read { GivesRead (λ instr. (instr, self.new)) result (read_instr version self.old) }
         ensures ahead { OnOk result (self.new.at ≡ self.old.at + 8) }
     {
-        let tag = self.instr_tag(version)?;
-        let room = tag.room();
+        let word = self.instr_tag(version)?;
+        let room = instr_room(word);
         let cpu = self.byte(0, room.cpu)?;
         let a = self.short(0, room.a)?;
         let n = self.long(0, room.n)?;
-        Ok(tag.with(cpu, a, n))
+        Ok(instr_of(word, cmwq_types::Fields::new(cpu, a, n)))
     }
 }
 

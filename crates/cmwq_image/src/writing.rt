@@ -10,10 +10,13 @@ ghost use Rattle.std.specs.Int.{w8, w16, w32};
 ghost use Rattle.std.specs.List.{All, flat_map};
 ghost use Rattle.std.specs.Prelude.{◌≡◌, ◌∷◌, ◌++◌, ◌≤◌, ◌<◌, ◌^◌, [], IfOk, IsTrue, OnOk, length};
 
-use crate::tags::{InstrTag, OpTag};
+use crate::tags::{OpTag, tag_of};
 use crate::version::VERSION;
 use crate::word::Word;
-use cmwq_types::{Actor, Flags, Instr, Line, Name, NoMemory, Op, QueueDecl, Scenario, WorkDecl};
+use cmwq_types::{
+    Actor, Fields, Flags, Instr, Line, Name, NoMemory, Op, QueueDecl, Scenario, WorkDecl,
+    fields_of, word_of,
+};
 use std::alloc::Global;
 
 /// The image of a valid scenario, at most 923,058 bytes: a head, then each queue, each work with its operations and
@@ -247,28 +250,6 @@ fn instr_word(instr: Instr) -> Word
     ensures image { result ≡ instr_word instr }
     ensures instr { IsInstr instr }
 {
-    match instr {
-        Instr::Queue(work, cpu) => Word::new(InstrTag::Queue as u8, cpu, work.0, 0),
-        Instr::Delay(work, cpu, ticks) => Word::new(InstrTag::Delay as u8, cpu, work.0, ticks),
-        Instr::Mod(work, cpu, ticks) => Word::new(InstrTag::Mod as u8, cpu, work.0, ticks),
-        Instr::Cancel(work) => Word::new(InstrTag::Cancel as u8, 0, work.0, 0),
-        Instr::CancelSync(work) => Word::new(InstrTag::CancelSync as u8, 0, work.0, 0),
-        Instr::Flush(work) => Word::new(InstrTag::Flush as u8, 0, work.0, 0),
-        Instr::FlushDelayed(work) => Word::new(InstrTag::FlushDelayed as u8, 0, work.0, 0),
-        Instr::FlushQueue(queue) => Word::new(InstrTag::FlushQueue as u8, 0, u16::from(queue.0), 0),
-        Instr::SetMax(queue, max) => Word::new(InstrTag::SetMax as u8, 0, u16::from(queue.0), max),
-        Instr::Freeze => Word::new(InstrTag::Freeze as u8, 0, 0, 0),
-        Instr::Thaw => Word::new(InstrTag::Thaw as u8, 0, 0, 0),
-        Instr::Fire => Word::new(InstrTag::Fire as u8, 0, 0, 0),
-        Instr::Step(pool) => Word::new(InstrTag::Step as u8, pool, 0, 0),
-        Instr::Tick => Word::new(InstrTag::Tick as u8, 0, 0, 0),
-        Instr::Next => Word::new(InstrTag::Next as u8, 0, 0, 0),
-        Instr::Ask(flush) => Word::new(InstrTag::Ask as u8, 0, flush, 0),
-        Instr::Busy => Word::new(InstrTag::Busy as u8, 0, 0, 0),
-        Instr::State(work) => Word::new(InstrTag::State as u8, 0, work.0, 0),
-        Instr::Disable(work) => Word::new(InstrTag::Disable as u8, 0, work.0, 0),
-        Instr::Enable(work) => Word::new(InstrTag::Enable as u8, 0, work.0, 0),
-        Instr::Pressure => Word::new(InstrTag::Pressure as u8, 0, 0, 0),
-        Instr::Relief => Word::new(InstrTag::Relief as u8, 0, 0, 0),
-    }
+    let Fields { cpu, id, number } = fields_of(instr);
+    Word::new(tag_of(word_of(instr)), cpu, id, number)
 }

@@ -63,6 +63,7 @@ impl LineEnd {
     }
 
     /// Puts a space and the number before what is there.
+    #[inline(always)]
     pub(crate) fn put_number(&mut self, n: u32)
         requires { 11 + length self.old ≤ ROOM }
         ensures text { self.new ≡ 32 ∷ decimal n ++ self.old }

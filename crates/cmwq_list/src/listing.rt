@@ -1,8 +1,7 @@
 //! The listing of a scenario: its canonical text.
 ghost use Rattle.cmwq_grammar.specs.Grammar.{Spells};
 ghost use Rattle.cmwq_types.specs.Faults.{IsValid};
-ghost use Rattle.cmwq_types.specs.Listing.{Flagged, actor_line, actor_lines, body_lines, flag_words, instr_words, line_text, listing, op_line, queue_line, times_words, word_if, work_line, written_text};
-ghost use Rattle.cmwq_types.specs.Mnemonics.{spelling};
+ghost use Rattle.cmwq_types.specs.Listing.{Flagged, actor_line, actor_lines, body_lines, flag_words, instr_words, line_text, listing, op_line, operand_words, queue_line, times_words, word_if, work_line, written_text};
 ghost use Rattle.cmwq_types.specs.Name.{is_name};
 ghost use Rattle.cmwq_types.specs.Scenario.{queue_at, work_at};
 ghost use Rattle.cmwq_types.specs.declared.limits.TheConstants.{MAX_NAME};
@@ -15,8 +14,8 @@ use crate::line_end::LineEnd;
 use crate::lines::{push_line, push_others, push_words};
 use cmwq_grammar::laws::listing_spells_its_scenario;
 use cmwq_types::{
-    Actor, Flags, Instr, Line, MAX_NAME, Mnemonic, NoMemory, Op, QueueDecl, QueueId, Scenario,
-    WorkDecl, WorkId,
+    Actor, Fields, Flags, Instr, Line, MAX_NAME, NoMemory, Op, QueueDecl, Scenario, Shape,
+    WorkDecl, fields_of, shape_of, word_of,
 };
 use itoa::Buffer;
 use std::alloc::Global;
@@ -134,7 +133,7 @@ fn push_works(text: &mut Vec<u8>, scenario: &Scenario) -> Result<(), NoMemory>
     ensures queues { OnOk result (All (λ work. work.queue.0 < 2 ^ 8) scenario.now.works) }
 {
     for work in &scenario.works {
-        let queue = queue_name(scenario, work.queue);
+        let queue = queue_name(scenario, u16::from(work.queue.0));
         push_line(text, b"work", &[work.name.as_bytes(), queue])?;
     }
     Ok(())
@@ -187,12 +186,9 @@ fn put_op(text: &mut LineEnd, scenario: &Scenario, op: Op)
             text.put(b"sleep");
         }
         Op::Queue(work, cpu) => {
-            put_of_name(
-                text,
-                Mnemonic::Queue,
-                work_name(scenario, work),
-                u32::from(cpu),
-            );
+            text.put_number(u32::from(cpu));
+            text.put_word(work_name(scenario, work.0));
+            text.put(b"queue");
         }
         Op::Finish => text.put(b"finish"),
     }
@@ -236,92 +232,38 @@ fn put_instr(text: &mut LineEnd, scenario: &Scenario, instr: Instr)
     ensures text { text.new ≡ join_with_byte 32 (instr_words scenario.now instr) ++ text.old }
     ensures instr { IsInstr instr }
 {
-    match instr {
-        Instr::Queue(work, cpu) => {
-            let work = work_name(scenario, work);
-            put_of_name(text, Mnemonic::Queue, work, u32::from(cpu))
+    let word = word_of(instr);
+    put_operands(text, scenario, shape_of(word), fields_of(instr));
+    text.put(word.as_bytes());
+}
+
+/// Puts a space and each operand before what is there.
+fn put_operands(text: &mut LineEnd, scenario: &Scenario, shape: Shape, fields: Fields)
+    requires { length text.old ≤ 14 }
+    ensures text { text.new ≡ flat_map (λ word. 32 ∷ word) (operand_words scenario.now shape fields) ++ text.old }
+    ensures short { length text.new ≤ 52 }
+{
+    let Fields { cpu, id, number } = fields;
+    match shape {
+        Shape::Alone => {}
+        Shape::Work => text.put_word(work_name(scenario, id)),
+        Shape::WorkCpu => {
+            text.put_number(u32::from(cpu));
+            text.put_word(work_name(scenario, id));
         }
-        Instr::Delay(work, cpu, ticks) => {
-            put_delayed(text, Mnemonic::Delay, work_name(scenario, work), cpu, ticks)
+        Shape::WorkCpuTicks => {
+            text.put_number(number);
+            text.put_number(u32::from(cpu));
+            text.put_word(work_name(scenario, id));
         }
-        Instr::Mod(work, cpu, ticks) => {
-            put_delayed(text, Mnemonic::Mod, work_name(scenario, work), cpu, ticks)
+        Shape::Queue => text.put_word(queue_name(scenario, id)),
+        Shape::QueueNumber => {
+            text.put_number(number);
+            text.put_word(queue_name(scenario, id));
         }
-        Instr::Cancel(work) => put_named(text, Mnemonic::Cancel, work_name(scenario, work)),
-        Instr::CancelSync(work) => {
-            put_named(text, Mnemonic::CancelSync, work_name(scenario, work))
-        }
-        Instr::Flush(work) => put_named(text, Mnemonic::Flush, work_name(scenario, work)),
-        Instr::FlushDelayed(work) => {
-            put_named(text, Mnemonic::FlushDelayed, work_name(scenario, work))
-        }
-        Instr::FlushQueue(queue) => {
-            put_named(text, Mnemonic::FlushQueue, queue_name(scenario, queue))
-        }
-        Instr::SetMax(queue, max) => {
-            put_of_name(text, Mnemonic::SetMax, queue_name(scenario, queue), max)
-        }
-        Instr::Freeze => put_alone(text, Mnemonic::Freeze),
-        Instr::Thaw => put_alone(text, Mnemonic::Thaw),
-        Instr::Fire => put_alone(text, Mnemonic::Fire),
-        Instr::Step(pool) => put_counted(text, Mnemonic::Step, u32::from(pool)),
-        Instr::Tick => put_alone(text, Mnemonic::Tick),
-        Instr::Next => put_alone(text, Mnemonic::Next),
-        Instr::Ask(flush) => put_counted(text, Mnemonic::Ask, u32::from(flush)),
-        Instr::Busy => put_alone(text, Mnemonic::Busy),
-        Instr::State(work) => put_named(text, Mnemonic::State, work_name(scenario, work)),
-        Instr::Disable(work) => put_named(text, Mnemonic::Disable, work_name(scenario, work)),
-        Instr::Enable(work) => put_named(text, Mnemonic::Enable, work_name(scenario, work)),
-        Instr::Pressure => put_alone(text, Mnemonic::Pressure),
-        Instr::Relief => put_alone(text, Mnemonic::Relief),
+        Shape::Pool => text.put_number(u32::from(cpu)),
+        Shape::Flush => text.put_number(u32::from(id)),
     }
-}
-
-/// Puts the word of an instruction that has no operands.
-fn put_alone(text: &mut LineEnd, mnemonic: Mnemonic)
-    requires { length text.old ≤ 52 }
-    ensures { text.new ≡ spelling mnemonic ++ text.old }
-{
-    text.put(mnemonic.as_bytes());
-}
-
-/// Puts an instruction on a work or queue of this name.
-fn put_named(text: &mut LineEnd, mnemonic: Mnemonic, name: &[u8])
-    requires end { length text.old ≤ 36 }
-    requires name { length name.now ≤ MAX_NAME }
-    ensures { text.new ≡ join_with_byte 32 (spelling mnemonic ∷ name.now ∷ []) ++ text.old }
-{
-    text.put_word(name);
-    put_alone(text, mnemonic);
-}
-
-/// Puts an instruction on a work or queue of this name, and a number.
-fn put_of_name(text: &mut LineEnd, mnemonic: Mnemonic, name: &[u8], n: u32)
-    requires end { length text.old ≤ 25 }
-    requires name { length name.now ≤ MAX_NAME }
-    ensures { text.new ≡ join_with_byte 32 (spelling mnemonic ∷ name.now ∷ decimal n ∷ []) ++ text.old }
-{
-    text.put_number(n);
-    put_named(text, mnemonic, name);
-}
-
-/// Puts an instruction on a number.
-fn put_counted(text: &mut LineEnd, mnemonic: Mnemonic, n: u32)
-    requires { length text.old ≤ 25 }
-    ensures { text.new ≡ join_with_byte 32 (spelling mnemonic ∷ decimal n ∷ []) ++ text.old }
-{
-    text.put_number(n);
-    put_alone(text, mnemonic);
-}
-
-/// Puts an instruction on a work of this name, a CPU and how many ticks.
-fn put_delayed(text: &mut LineEnd, mnemonic: Mnemonic, work: &[u8], cpu: u8, ticks: u32)
-    requires end { length text.old ≤ 14 }
-    requires name { length work.now ≤ MAX_NAME }
-    ensures { text.new ≡ join_with_byte 32 (spelling mnemonic ∷ work.now ∷ decimal cpu ∷ decimal ticks ∷ []) ++ text.old }
-{
-    text.put_number(ticks);
-    put_of_name(text, mnemonic, work, u32::from(cpu));
 }
 
 /// Puts `* N` behind a space, unless the line stands once.
@@ -337,23 +279,22 @@ fn put_times(text: &mut LineEnd, times: u32)
 }
 
 /// The name of a queue, or no bytes where no queue has the number.
-fn queue_name(scenario: &Scenario, queue: QueueId) -> &[u8]
-    ensures name { result.now ≡ (queue_at scenario.now queue.0).name }
+fn queue_name(scenario: &Scenario, queue: u16) -> &[u8]
+    ensures name { result.now ≡ (queue_at scenario.now queue).name }
     ensures short { length result.now ≤ MAX_NAME }
-    ensures number { queue.0 < 2 ^ 8 }
 {
-    match scenario.queues.get(queue.0 as usize) {
+    match scenario.queues.get(queue as usize) {
         Some(declared) => declared.name.as_bytes(),
         None => &[],
     }
 }
 
 /// The name of a work, or no bytes where no work has the number.
-fn work_name(scenario: &Scenario, work: WorkId) -> &[u8]
-    ensures name { result.now ≡ (work_at scenario.now work.0).name }
+fn work_name(scenario: &Scenario, work: u16) -> &[u8]
+    ensures name { result.now ≡ (work_at scenario.now work).name }
     ensures short { length result.now ≤ MAX_NAME }
 {
-    match scenario.works.get(work.0 as usize) {
+    match scenario.works.get(work as usize) {
         Some(declared) => declared.name.as_bytes(),
         None => &[],
     }

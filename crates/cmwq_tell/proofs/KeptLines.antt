@@ -126,27 +126,7 @@ module _ (S : ScenarioContents) (scenario : IsScenario S) where
 
   instr-passes : (i : Instr) → is_instr_line (instr_said S i) ≡ true
   instr-passes (instr.Queue w cpu) = refl
-  instr-passes (instr.Delay w cpu ticks) = refl
-  instr-passes (instr.Mod w cpu ticks) = refl
-  instr-passes (instr.Cancel w) = refl
-  instr-passes (instr.CancelSync w) = refl
-  instr-passes (instr.Flush w) = refl
-  instr-passes (instr.FlushDelayed w) = refl
-  instr-passes (instr.FlushQueue q) = refl
-  instr-passes (instr.SetMax q max) = refl
-  instr-passes instr.Freeze = refl
-  instr-passes instr.Thaw = refl
-  instr-passes instr.Fire = refl
-  instr-passes (instr.Step pool) = refl
-  instr-passes instr.Tick = refl
-  instr-passes instr.Next = refl
-  instr-passes (instr.Ask flush) = refl
-  instr-passes instr.Busy = refl
-  instr-passes (instr.State w) = refl
-  instr-passes (instr.Disable w) = refl
-  instr-passes (instr.Enable w) = refl
-  instr-passes instr.Pressure = refl
-  instr-passes instr.Relief = refl
+  instr-passes _ = refl
 
   instr-reply : (now : ℕ) (i : Instr) (r : Reply) (b : Bool) (rest : List ℕ) → kept is_instr_line (cond b [] (line_at now (reply_words S i r)) ++ rest) ≡ kept is_instr_line rest
   instr-reply now i r true rest = refl

@@ -6,14 +6,21 @@ use Rattle.std.specs.Fmt.{decimal, digit_glyph, digits, digits_onto}
 use Rattle.std.specs.List.{AllByRecursion, join_with_byte, list_all}
 use Rattle.std.specs.Prelude.{◌/◌, ◌%◌, ◌==◌, nat_lt}
 use Rattle.cmwq_types.specs.Contents.{ScenarioContents, WorkContents}
-use Rattle.cmwq_types.specs.Listing.{instr_words}
+use Rattle.cmwq_types.specs.Fields.{fields_of, queue_id, shape_of, word_of, work_id}
+use Rattle.cmwq_types.specs.Listing.{instr_words, operand_words}
+use Rattle.cmwq_types.specs.Mnemonics.{spelling}
 use Rattle.cmwq_types.specs.Name.{is_lowercase, is_name, is_name_byte}
 use Rattle.cmwq_types.specs.Scenario.{plain_flags}
 use Rattle.cmwq_types.specs.Values.{IsQueueDecl, IsScenario, IsWorkDecl}
+use Rattle.cmwq_types.specs.declared.fields.Fields.{Fields}
+use Rattle.cmwq_types.specs.declared.fields.Shape.{Shape}
+use Rattle.cmwq_types.specs.declared.fields.Shape.TheVariants as shape
 use Rattle.cmwq_types.specs.declared.instr.Instr.{Instr}
 use Rattle.cmwq_types.specs.declared.instr.Instr.TheVariants as instr
 use Rattle.cmwq_types.specs.declared.instr.QueueId.{QueueId}
 use Rattle.cmwq_types.specs.declared.instr.WorkId.{WorkId}
+use Rattle.cmwq_types.specs.declared.mnemonic.Mnemonic.{Mnemonic}
+use Rattle.cmwq_types.specs.declared.mnemonic.Mnemonic.TheVariants as mnemonic
 use Rattle.cmwq_types.specs.declared.reply.Event.{Event}
 use Rattle.cmwq_types.specs.declared.reply.Event.TheVariants as event
 use Rattle.cmwq_types.specs.declared.reply.Mode.{Mode}
@@ -134,29 +141,22 @@ module _ (S : ScenarioContents) (scenario : IsScenario S) where
 
   -- Instructions.
 
+  operands-are-words : (s : Shape) (f : Fields) → AreWords (operand_words S s f)
+  operands-are-words shape.Alone f = tt
+  operands-are-words shape.Work f = (work (work_id f.id), tt)
+  operands-are-words shape.WorkCpu f = (work (work_id f.id), (number f.cpu, tt))
+  operands-are-words shape.WorkCpuTicks f = (work (work_id f.id), (number f.cpu, (number f.number, tt)))
+  operands-are-words shape.Queue f = (queue (queue_id f.id), tt)
+  operands-are-words shape.QueueNumber f = (queue (queue_id f.id), (number f.number, tt))
+  operands-are-words shape.Pool f = (number f.cpu, tt)
+  operands-are-words shape.Flush f = (number f.id, tt)
+
+  spelled-no_feed : (m : Mnemonic) → NoFeed (spelling m)
+  spelled-no_feed mnemonic.Queue = record { whole = refl }
+  spelled-no_feed _ = record { whole = refl }
+
   are-words : (i : Instr) → AreWords (instr_words S i)
-  are-words (instr.Queue w cpu) = (literal (codes "queue") refl, (work w, (number cpu, tt)))
-  are-words (instr.Delay w cpu ticks) = (literal (codes "delay") refl, (work w, (number cpu, (number ticks, tt))))
-  are-words (instr.Mod w cpu ticks) = (literal (codes "mod") refl, (work w, (number cpu, (number ticks, tt))))
-  are-words (instr.Cancel w) = (literal (codes "cancel") refl, (work w, tt))
-  are-words (instr.CancelSync w) = (literal (codes "cancel_sync") refl, (work w, tt))
-  are-words (instr.Flush w) = (literal (codes "flush") refl, (work w, tt))
-  are-words (instr.FlushDelayed w) = (literal (codes "flush_delayed") refl, (work w, tt))
-  are-words (instr.FlushQueue q) = (literal (codes "flush_queue") refl, (queue q, tt))
-  are-words (instr.SetMax q max) = (literal (codes "set_max") refl, (queue q, (number max, tt)))
-  are-words instr.Freeze = (literal (codes "freeze") refl, tt)
-  are-words instr.Thaw = (literal (codes "thaw") refl, tt)
-  are-words instr.Fire = (literal (codes "fire") refl, tt)
-  are-words (instr.Step pool) = (literal (codes "step") refl, (number pool, tt))
-  are-words instr.Tick = (literal (codes "tick") refl, tt)
-  are-words instr.Next = (literal (codes "next") refl, tt)
-  are-words (instr.Ask flush) = (literal (codes "ask") refl, (number flush, tt))
-  are-words instr.Busy = (literal (codes "busy") refl, tt)
-  are-words (instr.State w) = (literal (codes "state") refl, (work w, tt))
-  are-words (instr.Disable w) = (literal (codes "disable") refl, (work w, tt))
-  are-words (instr.Enable w) = (literal (codes "enable") refl, (work w, tt))
-  are-words instr.Pressure = (literal (codes "pressure") refl, tt)
-  are-words instr.Relief = (literal (codes "relief") refl, tt)
+  are-words i = (spelled-no_feed (word_of i), operands-are-words (shape_of (word_of i)) (fields_of i))
 
   pub instr-no_feed : (i : Instr) → NoFeed (join_with_byte 32 (instr_words S i))
   instr-no_feed i = spaced (instr_words S i) (are-words i)

@@ -1,3 +1,4 @@
+pub mod FieldLemmas
 pub mod FirstLemmas
 mod NameLemmas
 pub mod SettingLemmas

@@ -3,11 +3,13 @@ use Rattle.std.specs.Prelude.{◌≡◌, ℕ, ◌-◌, Bool, true, false, ◌&&�
 use Rattle.std.specs.List.{list_any}
 use Rattle.std.specs.Str.{bytes_eq}
 use Rattle.cmwq_types.specs.Contents.{ScenarioContents, WorkContents, ActorContents}
+use Rattle.cmwq_types.specs.Fields.{fields_of, shape_of, word_of}
 pub use Rattle.cmwq_types.specs.First.{or_else}
 use Rattle.cmwq_types.specs.declared.check.Fault.{Fault}
 use Rattle.cmwq_types.specs.declared.check.Fault.TheVariants.{Range, TooMany, Duplicate, Unknown, BadBody, BadFlags}
+use Rattle.cmwq_types.specs.declared.fields.Shape.{Shape}
+use Rattle.cmwq_types.specs.declared.fields.Shape.TheVariants as shape
 use Rattle.cmwq_types.specs.declared.instr.Instr.{Instr}
-use Rattle.cmwq_types.specs.declared.instr.Instr.TheVariants as instr
 use Rattle.cmwq_types.specs.declared.scenario.Line.{Line}
 use Rattle.cmwq_types.specs.declared.scenario.Op.{Op}
 use Rattle.cmwq_types.specs.declared.scenario.Op.TheVariants as op
@@ -88,29 +90,19 @@ work_fault s before work =
 
 -- Actors. CPU and pool numbers are judged when the instruction is carried out.
 
+-- the work or queue of this number is declared, where the shape has one
+abbrev pub is_declared : ScenarioContents → Shape → ℕ → Bool
+is_declared s shape.Alone id = true
+is_declared s shape.Work id = nat_lt id (length s.works)
+is_declared s shape.WorkCpu id = nat_lt id (length s.works)
+is_declared s shape.WorkCpuTicks id = nat_lt id (length s.works)
+is_declared s shape.Queue id = nat_lt id (length s.queues)
+is_declared s shape.QueueNumber id = nat_lt id (length s.queues)
+is_declared s shape.Pool id = true
+is_declared s shape.Flush id = true
+
 abbrev pub names_declared : ScenarioContents → Instr → Bool
-names_declared s (instr.Queue work cpu) = nat_lt work.0 (length s.works)
-names_declared s (instr.Delay work cpu ticks) = nat_lt work.0 (length s.works)
-names_declared s (instr.Mod work cpu ticks) = nat_lt work.0 (length s.works)
-names_declared s (instr.Cancel work) = nat_lt work.0 (length s.works)
-names_declared s (instr.CancelSync work) = nat_lt work.0 (length s.works)
-names_declared s (instr.Flush work) = nat_lt work.0 (length s.works)
-names_declared s (instr.FlushDelayed work) = nat_lt work.0 (length s.works)
-names_declared s (instr.FlushQueue queue) = nat_lt queue.0 (length s.queues)
-names_declared s (instr.SetMax queue max) = nat_lt queue.0 (length s.queues)
-names_declared s instr.Freeze = true
-names_declared s instr.Thaw = true
-names_declared s instr.Fire = true
-names_declared s (instr.Step pool) = true
-names_declared s instr.Tick = true
-names_declared s instr.Next = true
-names_declared s (instr.Ask flush) = true
-names_declared s instr.Busy = true
-names_declared s (instr.State work) = nat_lt work.0 (length s.works)
-names_declared s (instr.Disable work) = nat_lt work.0 (length s.works)
-names_declared s (instr.Enable work) = nat_lt work.0 (length s.works)
-names_declared s instr.Pressure = true
-names_declared s instr.Relief = true
+names_declared s instr = is_declared s (shape_of (word_of instr)) (fields_of instr).id
 
 abbrev pub line_fault : ScenarioContents → Line → Option Fault
 line_fault s line =

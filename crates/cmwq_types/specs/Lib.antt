@@ -2,6 +2,7 @@ pub mod Contents
 pub mod Equality
 pub mod ExactEquality
 pub mod Faults
+pub mod Fields
 pub mod First
 pub mod Listing
 pub mod Mnemonics

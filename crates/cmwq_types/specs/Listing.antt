@@ -3,11 +3,13 @@ use Rattle.std.specs.Prelude.{ℕ, Bool, List, [], ◌∷◌, ◌++◌, map, cod
 use Rattle.std.specs.Fmt.{decimal}
 use Rattle.std.specs.List.{flat_map, join_with_byte}
 use Rattle.cmwq_types.specs.Contents.{ScenarioContents, WorkContents, ActorContents}
+use Rattle.cmwq_types.specs.Fields.{fields_of, shape_of, word_of}
 use Rattle.cmwq_types.specs.Mnemonics.{spelling}
 use Rattle.cmwq_types.specs.Scenario.{queue_at, work_at}
+use Rattle.cmwq_types.specs.declared.fields.Fields.{Fields}
+use Rattle.cmwq_types.specs.declared.fields.Shape.{Shape}
+use Rattle.cmwq_types.specs.declared.fields.Shape.TheVariants as shape
 use Rattle.cmwq_types.specs.declared.instr.Instr.{Instr}
-use Rattle.cmwq_types.specs.declared.instr.Instr.TheVariants as instr
-use Rattle.cmwq_types.specs.declared.mnemonic.Mnemonic.TheVariants as mnemonic
 use Rattle.cmwq_types.specs.declared.scenario.Flags.{Flags}
 use Rattle.cmwq_types.specs.declared.scenario.Line.{Line}
 use Rattle.cmwq_types.specs.declared.scenario.Op.{Op}
@@ -53,29 +55,19 @@ op_line S op.Finish = Words (codes "finish" ∷ [])
 abbrev pub body_lines : ScenarioContents → WorkContents → List WrittenLine
 body_lines S work = Words (codes "body" ∷ work.name ∷ []) ∷ map (op_line S) work.body
 
+-- what stands behind the word of an instruction
+abbrev pub operand_words : ScenarioContents → Shape → Fields → List (List ℕ)
+operand_words S shape.Alone f = []
+operand_words S shape.Work f = (work_at S f.id).name ∷ []
+operand_words S shape.WorkCpu f = (work_at S f.id).name ∷ decimal f.cpu ∷ []
+operand_words S shape.WorkCpuTicks f = (work_at S f.id).name ∷ decimal f.cpu ∷ decimal f.number ∷ []
+operand_words S shape.Queue f = (queue_at S f.id).name ∷ []
+operand_words S shape.QueueNumber f = (queue_at S f.id).name ∷ decimal f.number ∷ []
+operand_words S shape.Pool f = decimal f.cpu ∷ []
+operand_words S shape.Flush f = decimal f.id ∷ []
+
 abbrev pub instr_words : ScenarioContents → Instr → List (List ℕ)
-instr_words S (instr.Queue work cpu) = spelling mnemonic.Queue ∷ (work_at S work.0).name ∷ decimal cpu ∷ []
-instr_words S (instr.Delay work cpu ticks) = spelling mnemonic.Delay ∷ (work_at S work.0).name ∷ decimal cpu ∷ decimal ticks ∷ []
-instr_words S (instr.Mod work cpu ticks) = spelling mnemonic.Mod ∷ (work_at S work.0).name ∷ decimal cpu ∷ decimal ticks ∷ []
-instr_words S (instr.Cancel work) = spelling mnemonic.Cancel ∷ (work_at S work.0).name ∷ []
-instr_words S (instr.CancelSync work) = spelling mnemonic.CancelSync ∷ (work_at S work.0).name ∷ []
-instr_words S (instr.Flush work) = spelling mnemonic.Flush ∷ (work_at S work.0).name ∷ []
-instr_words S (instr.FlushDelayed work) = spelling mnemonic.FlushDelayed ∷ (work_at S work.0).name ∷ []
-instr_words S (instr.FlushQueue queue) = spelling mnemonic.FlushQueue ∷ (queue_at S queue.0).name ∷ []
-instr_words S (instr.SetMax queue max) = spelling mnemonic.SetMax ∷ (queue_at S queue.0).name ∷ decimal max ∷ []
-instr_words S instr.Freeze = spelling mnemonic.Freeze ∷ []
-instr_words S instr.Thaw = spelling mnemonic.Thaw ∷ []
-instr_words S instr.Fire = spelling mnemonic.Fire ∷ []
-instr_words S (instr.Step pool) = spelling mnemonic.Step ∷ decimal pool ∷ []
-instr_words S instr.Tick = spelling mnemonic.Tick ∷ []
-instr_words S instr.Next = spelling mnemonic.Next ∷ []
-instr_words S (instr.Ask flush) = spelling mnemonic.Ask ∷ decimal flush ∷ []
-instr_words S instr.Busy = spelling mnemonic.Busy ∷ []
-instr_words S (instr.State work) = spelling mnemonic.State ∷ (work_at S work.0).name ∷ []
-instr_words S (instr.Disable work) = spelling mnemonic.Disable ∷ (work_at S work.0).name ∷ []
-instr_words S (instr.Enable work) = spelling mnemonic.Enable ∷ (work_at S work.0).name ∷ []
-instr_words S instr.Pressure = spelling mnemonic.Pressure ∷ []
-instr_words S instr.Relief = spelling mnemonic.Relief ∷ []
+instr_words S instr = spelling (word_of instr) ∷ operand_words S (shape_of (word_of instr)) (fields_of instr)
 
 abbrev pub actor_line : ScenarioContents → Line → WrittenLine
 actor_line S line = Repeated (instr_words S line.instr) line.times

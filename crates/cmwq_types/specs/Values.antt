@@ -1,10 +1,13 @@
 -- What holds of the contents of every value, valid or not: names are names, and each number fits its type.
-use Rattle.std.specs.Prelude.{ℕ, ◌<◌, ◌^◌, IsTrue}
+use Rattle.std.specs.Prelude.{◌<◌, ◌^◌, IsTrue}
 use Rattle.std.specs.List.{AllByRecursion}
 use Rattle.cmwq_types.specs.Contents.{ScenarioContents, WorkContents, ActorContents}
+use Rattle.cmwq_types.specs.Fields.{fields_of, shape_of, word_of}
 use Rattle.cmwq_types.specs.Name.{is_name}
+use Rattle.cmwq_types.specs.declared.fields.Fields.{Fields}
+use Rattle.cmwq_types.specs.declared.fields.Shape.{Shape}
+use Rattle.cmwq_types.specs.declared.fields.Shape.TheVariants as shape
 use Rattle.cmwq_types.specs.declared.instr.Instr.{Instr}
-use Rattle.cmwq_types.specs.declared.instr.Instr.TheVariants as instr
 use Rattle.cmwq_types.specs.declared.scenario.Line.{Line}
 use Rattle.cmwq_types.specs.declared.scenario.Op.{Op}
 use Rattle.cmwq_types.specs.declared.scenario.Op.TheVariants as op
@@ -25,29 +28,19 @@ pub record IsWorkDecl (work : WorkContents) : Type 0 where
   pub queue : work.queue.0 < 2 ^ 8
   pub body : AllByRecursion IsOp work.body
 
+-- the operands of a shape
+abbrev pub AreFields : Shape → Fields → Type 0
+AreFields shape.Alone f = Unit {0}
+AreFields shape.Work f = f.id < 2 ^ 16
+AreFields shape.WorkCpu f = (f.id < 2 ^ 16) × (f.cpu < 2 ^ 8)
+AreFields shape.WorkCpuTicks f = (f.id < 2 ^ 16) × (f.cpu < 2 ^ 8) × (f.number < 2 ^ 32)
+AreFields shape.Queue f = f.id < 2 ^ 8
+AreFields shape.QueueNumber f = (f.id < 2 ^ 8) × (f.number < 2 ^ 32)
+AreFields shape.Pool f = f.cpu < 2 ^ 8
+AreFields shape.Flush f = f.id < 2 ^ 16
+
 abbrev pub IsInstr : Instr → Type 0
-IsInstr (instr.Queue work cpu) = (work.0 < 2 ^ 16) × (cpu < 2 ^ 8)
-IsInstr (instr.Delay work cpu ticks) = (work.0 < 2 ^ 16) × (cpu < 2 ^ 8) × (ticks < 2 ^ 32)
-IsInstr (instr.Mod work cpu ticks) = (work.0 < 2 ^ 16) × (cpu < 2 ^ 8) × (ticks < 2 ^ 32)
-IsInstr (instr.Cancel work) = work.0 < 2 ^ 16
-IsInstr (instr.CancelSync work) = work.0 < 2 ^ 16
-IsInstr (instr.Flush work) = work.0 < 2 ^ 16
-IsInstr (instr.FlushDelayed work) = work.0 < 2 ^ 16
-IsInstr (instr.FlushQueue queue) = queue.0 < 2 ^ 8
-IsInstr (instr.SetMax queue max) = (queue.0 < 2 ^ 8) × (max < 2 ^ 32)
-IsInstr instr.Freeze = Unit {0}
-IsInstr instr.Thaw = Unit {0}
-IsInstr instr.Fire = Unit {0}
-IsInstr (instr.Step pool) = pool < 2 ^ 8
-IsInstr instr.Tick = Unit {0}
-IsInstr instr.Next = Unit {0}
-IsInstr (instr.Ask flush) = flush < 2 ^ 16
-IsInstr instr.Busy = Unit {0}
-IsInstr (instr.State work) = work.0 < 2 ^ 16
-IsInstr (instr.Disable work) = work.0 < 2 ^ 16
-IsInstr (instr.Enable work) = work.0 < 2 ^ 16
-IsInstr instr.Pressure = Unit {0}
-IsInstr instr.Relief = Unit {0}
+IsInstr instr = AreFields (shape_of (word_of instr)) (fields_of instr)
 
 pub record IsLine (line : Line) : Type 0 where
   pub instr : IsInstr line.instr

@@ -1,9 +1,10 @@
 //! The first fault of a scenario.
-ghost use Rattle.cmwq_types.specs.Faults.{Judges, actor_fault, body_fault, counts_fault, first_along, first_fault, fits_flags, is_body, is_finish, is_some_finish, line_fault, names_declared, numbers_fault, op_fault, queue_fault, work_fault};
+ghost use Rattle.cmwq_types.specs.Faults.{Judges, actor_fault, body_fault, counts_fault, first_along, first_fault, fits_flags, is_body, is_declared, is_finish, is_some_finish, line_fault, names_declared, numbers_fault, op_fault, queue_fault, work_fault};
 ghost use Rattle.std.specs.List.{list_any};
 ghost use Rattle.std.specs.Prelude.{◌≡◌, ◌-◌, [], IfErr, OnOk, length, slice_get};
 ghost use Rattle.std.specs.Str.{bytes_eq};
 
+use crate::fields::{Shape, fields_of, shape_of, word_of};
 use crate::instr::Instr;
 use crate::limits::{
     MAX_ACTORS, MAX_CPUS, MAX_FLUSHES, MAX_LINES, MAX_MAX_ACTIVE, MAX_OPS, MAX_QUEUES, MAX_STEPS,
@@ -185,30 +186,17 @@ impl Scenario {
     fn declares_names_of(&self, instr: Instr) -> bool
         ensures { result ≡ names_declared self.now instr }
     {
-        match instr {
-            Instr::Queue(work, _)
-            | Instr::Delay(work, _, _)
-            | Instr::Mod(work, _, _)
-            | Instr::Cancel(work)
-            | Instr::CancelSync(work)
-            | Instr::Flush(work)
-            | Instr::FlushDelayed(work)
-            | Instr::State(work)
-            | Instr::Disable(work)
-            | Instr::Enable(work) => (work.0 as usize) < self.works.len(),
-            Instr::FlushQueue(queue) | Instr::SetMax(queue, _) => {
-                (queue.0 as usize) < self.queues.len()
-            }
-            Instr::Freeze
-            | Instr::Thaw
-            | Instr::Fire
-            | Instr::Step(_)
-            | Instr::Tick
-            | Instr::Next
-            | Instr::Ask(_)
-            | Instr::Busy
-            | Instr::Pressure
-            | Instr::Relief => true,
+        self.declares(shape_of(word_of(instr)), fields_of(instr).id)
+    }
+
+    /// Whether the work or queue of this number is declared, where the shape has one.
+    fn declares(&self, shape: Shape, id: u16) -> bool
+        ensures { result ≡ is_declared self.now shape id }
+    {
+        match shape {
+            Shape::Work | Shape::WorkCpu | Shape::WorkCpuTicks => (id as usize) < self.works.len(),
+            Shape::Queue | Shape::QueueNumber => (id as usize) < self.queues.len(),
+            Shape::Alone | Shape::Pool | Shape::Flush => true,
         }
     }
 }

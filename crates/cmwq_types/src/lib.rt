@@ -6,7 +6,9 @@ mod by_number;
 mod check;
 mod copying;
 mod equality;
+mod fields;
 mod instr;
+pub mod laws;
 mod limits;
 mod memory;
 mod mnemonic;
@@ -16,6 +18,7 @@ mod reply;
 mod scenario;
 
 pub use check::Fault;
+pub use fields::{Fields, Shape, fields_of, instr_of, shape_of, word_of};
 pub use instr::{Instr, QueueId, WorkId};
 pub use limits::{
     MAX_ACTORS, MAX_CPUS, MAX_DEPTH, MAX_FLUSHES, MAX_HISTORY, MAX_LINES, MAX_MAX_ACTIVE, MAX_NAME,

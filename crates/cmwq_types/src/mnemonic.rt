@@ -77,33 +77,40 @@ impl Mnemonic {
         word == self.as_bytes()
     }
 
-    /// How it is spelled.
+    /// How it is spelled, as bytes.
     pub fn as_bytes(self) -> &'static [u8]
         ensures { result.now ≡ spelling self }
     {
+        self.as_str().as_bytes()
+    }
+
+    /// How it is spelled.
+    pub fn as_str(self) -> &'static str
+        ensures { result.now ≡ spelling self }
+    {
         match self {
-            Mnemonic::Queue => b"queue",
-            Mnemonic::Delay => b"delay",
-            Mnemonic::Mod => b"mod",
-            Mnemonic::Cancel => b"cancel",
-            Mnemonic::CancelSync => b"cancel_sync",
-            Mnemonic::Flush => b"flush",
-            Mnemonic::FlushDelayed => b"flush_delayed",
-            Mnemonic::FlushQueue => b"flush_queue",
-            Mnemonic::SetMax => b"set_max",
-            Mnemonic::Freeze => b"freeze",
-            Mnemonic::Thaw => b"thaw",
-            Mnemonic::Fire => b"fire",
-            Mnemonic::Step => b"step",
-            Mnemonic::Tick => b"tick",
-            Mnemonic::Next => b"next",
-            Mnemonic::Ask => b"ask",
-            Mnemonic::Busy => b"busy",
-            Mnemonic::State => b"state",
-            Mnemonic::Disable => b"disable",
-            Mnemonic::Enable => b"enable",
-            Mnemonic::Pressure => b"pressure",
-            Mnemonic::Relief => b"relief",
+            Mnemonic::Queue => "queue",
+            Mnemonic::Delay => "delay",
+            Mnemonic::Mod => "mod",
+            Mnemonic::Cancel => "cancel",
+            Mnemonic::CancelSync => "cancel_sync",
+            Mnemonic::Flush => "flush",
+            Mnemonic::FlushDelayed => "flush_delayed",
+            Mnemonic::FlushQueue => "flush_queue",
+            Mnemonic::SetMax => "set_max",
+            Mnemonic::Freeze => "freeze",
+            Mnemonic::Thaw => "thaw",
+            Mnemonic::Fire => "fire",
+            Mnemonic::Step => "step",
+            Mnemonic::Tick => "tick",
+            Mnemonic::Next => "next",
+            Mnemonic::Ask => "ask",
+            Mnemonic::Busy => "busy",
+            Mnemonic::State => "state",
+            Mnemonic::Disable => "disable",
+            Mnemonic::Enable => "enable",
+            Mnemonic::Pressure => "pressure",
+            Mnemonic::Relief => "relief",
         }
     }
 }

@@ -8,7 +8,7 @@ ghost use Rattle.std.specs.List.{filter};
 ghost use Rattle.std.specs.Prelude.{◌≡◌, ◌++◌, IfOk, OnOk, map};
 
 use cmwq_grammar::Next;
-use cmwq_types::{Mnemonic, NoMemory};
+use cmwq_types::{Mnemonic, NoMemory, Shape, shape_of};
 use std::alloc::Global;
 
 /// The first word of a line.
@@ -163,18 +163,9 @@ fn push_named(
 fn has_named(mnemonic: Mnemonic, works: bool, queues: bool) -> bool
     ensures { result ≡ has_named works queues (operands_of mnemonic) }
 {
-    match mnemonic {
-        Mnemonic::FlushQueue | Mnemonic::SetMax => queues,
-        Mnemonic::Freeze
-        | Mnemonic::Thaw
-        | Mnemonic::Fire
-        | Mnemonic::Step
-        | Mnemonic::Tick
-        | Mnemonic::Next
-        | Mnemonic::Ask
-        | Mnemonic::Busy
-        | Mnemonic::Pressure
-        | Mnemonic::Relief => true,
-        _ => works,
+    match shape_of(mnemonic) {
+        Shape::Work | Shape::WorkCpu | Shape::WorkCpuTicks => works,
+        Shape::Queue | Shape::QueueNumber => queues,
+        Shape::Alone | Shape::Pool | Shape::Flush => true,
     }
 }

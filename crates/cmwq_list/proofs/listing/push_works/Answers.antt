@@ -18,5 +18,5 @@ loop-work-preserved c =
     record {
       text = grind (arith, common_steps);
       names = All-more named works i x less c.loop-work.invariant.names (subst named is (search rules));
-      queues = All-more queued works i x less c.loop-work.invariant.queues (subst queued is (subst queued c.work.view_is c.queue_name-queue.ensures.number));
+      queues = All-more queued works i x less c.loop-work.invariant.queues (subst queued is (search rules));
     }
