@@ -1,28 +1,25 @@
 -- What a recording comes to: the picture's columns.
-use Rattle.std.proofs.Common.{◌≡◌, ◌≢◌, ℕ, zero, suc, ◌+◌, ◌<◌, ◌≤◌, Bool, true, false, cond, ◌&&◌, ◌||◌, List, [], ◌∷◌, ◌++◌, length, map, replicate, take, length-append, append_assoc, append-nil, Result, Ok, Err, OnOk, arith, refl, sym, subst, ap, ◌∙◌}
+use Rattle.std.proofs.Common.{◌≡◌, ◌≢◌, ℕ, ◌+◌, ◌<◌, ◌≤◌, Bool, true, false, cond, ◌&&◌, ◌||◌, List, [], ◌∷◌, ◌++◌, length, map, length-append, append_assoc, append-nil, Result, Ok, Err, OnOk, arith, refl, sym, subst, ap, ◌∙◌}
 use Rattle.std.proofs.lemmas.Bool.Decides.{nat_tests}
 use Rattle.std.proofs.lemmas.List.{length-map}
 use Rattle.std.specs.List.{filter, list_any}
-use Rattle.std.specs.Prelude.{nat_lt, slice_index_or, ◌==◌}
+use Rattle.std.specs.Prelude.{nat_lt, ◌==◌}
 use Rattle.cmwq_types.specs.Contents.{ScenarioContents}
-use Rattle.cmwq_types.specs.Scenario.{expand_lines}
 use Rattle.cmwq_types.specs.Setting.{IsSetting}
 use Rattle.cmwq_types.specs.declared.instr.Instr.{Instr}
-use Rattle.cmwq_types.specs.declared.instr.Instr.TheVariants.{Queue}
 use Rattle.cmwq_types.specs.declared.reply.Reply.{Reply}
-use Rattle.cmwq_types.specs.declared.scenario.Line.{Line}
 use Rattle.cmwq_table.proofs.CounterLemmas.{table-counters}
 use Rattle.cmwq_table.specs.State.{State, start}
 use Rattle.cmwq_table.specs.Table.{table}
 use Rattle.cmwq_picture.specs.Column.{ColumnContents, column_of, cut_rows}
-use Rattle.cmwq_picture.specs.Contents.{PictureContents, RowContents}
+use Rattle.cmwq_picture.specs.Contents.{RowContents}
 use Rattle.cmwq_picture.specs.Picture as specs
 use Rattle.cmwq_picture.specs.Picture.{Draws, acts_from, columns, from_time, is_act, is_drawn, is_open, is_too_wide, ticks_from, titles}
 use Rattle.cmwq_picture.specs.declared.error.PictureError.{PictureError}
 use Rattle.cmwq_picture.specs.declared.error.PictureError.TheVariants.{TooWide, NoMemory}
 use Rattle.cmwq_picture.specs.declared.span.TheConstants.{MAX_COLUMNS}
 use Rattle.cmwq_picture.proofs.RowLemmas.{rows-cut}
-use Rattle.cmwq_picture.specs.Recording.{IsRecording, Recording, begun, issued, issued_all, new_columns, overflows, recording_of, went_on}
+use Rattle.cmwq_picture.specs.Recording.{IsRecording, Recording, begun, issued, issued_all, new_columns, overflows}
 use Rattle.cmwq_picture.specs.declared.span.Span.{Span}
 use Rattle.cmwq_picture.proofs.TickLemmas.{time-goes_on, time-ticks}
 use Rattle.cmwq_picture.proofs.AlikeLemmas.{column-ticks}
@@ -139,25 +136,6 @@ room-after r i t answer holds is differs =
     let least = time-goes_on r.scenario r.state i holds.setting in
     omega (arith, at, least, differs, holds.few)
 
--- Turns and lines.
-
-pub turns-more : (a b : Recording) (x : Instr) (k : ℕ) → b ≡ issued_all a (replicate k x) → issued b x ≡ issued_all a (replicate (k + 1) x)
-turns-more a b x zero is = ap (λ (r : Recording). issued r x) is
-turns-more a b x (suc k) is =
-    let next : suc k + 1 ≡ suc (k + 1) = omega arith in
-    turns-more (issued a x) b x k is ∙ ap (λ (n : ℕ). issued_all a (replicate n x)) (sym next)
-
-pub lines-more : (a b c : Recording) (lines : List Line) (i : ℕ) (d : Line) → i < length lines → b ≡ issued_all a (expand_lines (take i lines))
-    → c ≡ issued_all b (replicate (slice_index_or lines i d).times (slice_index_or lines i d).instr) → c ≡ issued_all a (expand_lines (take (i + 1) lines))
-lines-more a b c [] i d less is next = absurd (omega arith)
-lines-more a b c (line ∷ lines) zero d less is next =
-    next ∙ ap (λ (r : Recording). issued_all r (replicate line.times line.instr)) is ∙ ap (issued_all a) (sym (append-nil (replicate line.times line.instr)))
-lines-more a b c (line ∷ lines) (suc i) d less is next =
-    let these = replicate line.times line.instr in
-    let more : suc i + 1 ≡ suc (i + 1) = omega arith in
-    lines-more (issued_all a these) b c lines i d (omega arith) (is ∙ issued_all-append a these (expand_lines (take i lines))) next
-    ∙ sym (issued_all-append a these (expand_lines (take (i + 1) lines))) ∙ ap (λ (n : ℕ). issued_all a (expand_lines (take n (line ∷ lines)))) (sym more)
-
 -- what overflows once overflows ever after
 pub overflows-stays : (r : Recording) (instrs : List Instr) → overflows r ≡ true → overflows (issued_all r instrs) ≡ true
 overflows-stays r [] wide = wide
@@ -165,27 +143,6 @@ overflows-stays r (i ∷ is) wide =
     let next = table r.scenario r.state i in
     let acted = r.acted || is_act i next.1 in
     overflows-stays (issued r i) is (overflows-longer r (new_columns r next.0 acted) next.0 (cond (nat_lt r.state.time next.0.time) false acted) wide)
-
-pub turns-overflow : (a b : Recording) (x : Instr) (k n : ℕ) → b ≡ issued_all a (replicate k x) → k < n → overflows (issued b x) ≡ true → overflows (issued_all a (replicate n x)) ≡ true
-turns-overflow a b x k zero is less wide = absurd (omega arith)
-turns-overflow a b x zero (suc n) is less wide = overflows-stays (issued a x) (replicate n x) (ap (λ (r : Recording). overflows (issued r x)) (sym is) ∙ wide)
-turns-overflow a b x (suc k) (suc n) is less wide = turns-overflow (issued a x) b x k n is (omega arith) wide
-
-pub lines-overflow : (a b : Recording) (lines : List Line) (i : ℕ) (d : Line) → i < length lines → b ≡ issued_all a (expand_lines (take i lines))
-    → overflows (issued_all b (replicate (slice_index_or lines i d).times (slice_index_or lines i d).instr)) ≡ true → overflows (issued_all a (expand_lines lines)) ≡ true
-lines-overflow a b [] i d less is wide = absurd (omega arith)
-lines-overflow a b (line ∷ lines) zero d less is wide =
-    let these = replicate line.times line.instr in
-    ap overflows (issued_all-append a these (expand_lines lines))
-    ∙ overflows-stays (issued_all a these) (expand_lines lines) (ap (λ (r : Recording). overflows (issued_all r these)) (sym is) ∙ wide)
-lines-overflow a b (line ∷ lines) (suc i) d less is wide =
-    let these = replicate line.times line.instr in
-    ap overflows (issued_all-append a these (expand_lines lines))
-    ∙ lines-overflow (issued_all a these) b lines i d (omega arith) (is ∙ issued_all-append a these (expand_lines (take i lines))) wide
-
--- the plainest line
-unfoldable pub no_line : Line
-no_line = record { instr = Queue (record { 0 = 0 }) 0; times = 0 }
 
 -- Times.
 

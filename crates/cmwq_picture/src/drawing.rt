@@ -33,7 +33,7 @@ pub fn picture<M: Machine>(
     ensures picture { Draws scenario.now (expand_lines lines.now) span result }
 {
     let mut recorder = Recorder::new(alloc, scenario, machine, span);
-    recorder.issue_lines(alloc, lines)?;
+    recorder.issue_all(alloc, lines)?;
     let columns = recorder.into_columns();
     let rows = rows(alloc, scenario, &columns)?;
     Ok(Picture {

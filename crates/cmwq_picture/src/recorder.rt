@@ -6,13 +6,14 @@ ghost use Rattle.cmwq_types.specs.Faults.{IsValid};
 ghost use Rattle.cmwq_types.specs.Scenario.{expand_lines};
 ghost use Rattle.cmwq_types.specs.Setting.{IsSetting};
 ghost use Rattle.cmwq_types.specs.declared.limits.TheConstants.{MAX_STEPS};
-ghost use Rattle.std.specs.Prelude.{◌≡◌, ◌<◌, ◌≤◌, [], ◌∷◌, ◌++◌, Err, IfOk, OnOk, length, replicate, true};
+ghost use Rattle.std.specs.Prelude.{◌≡◌, ◌<◌, ◌≤◌, [], ◌∷◌, ◌++◌, Err, IfOk, OnOk, length, true};
 
 use crate::acting::is_act;
 use crate::column::Column;
 use crate::error::PictureError;
 use crate::moment::Moment;
 use crate::span::{MAX_COLUMNS, Span};
+use cmwq_runs::Instructions;
 use cmwq_table::{Machine, Reads};
 use cmwq_types::{Instr, Line, NoMemory, Scenario};
 use std::alloc::Global;
@@ -51,7 +52,7 @@ impl<'s, M: Machine> Recorder<'s, M> {
     ghost use Rattle.cmwq_types.specs.Scenario.{expand_lines};
     ghost use Rattle.cmwq_types.specs.Setting.{IsSetting};
     ghost use Rattle.cmwq_types.specs.declared.limits.TheConstants.{MAX_STEPS};
-    ghost use Rattle.std.specs.Prelude.{◌<◌, ◌≤◌, [], ◌∷◌, ◌++◌, Err, OnOk, length, replicate, true};
+    ghost use Rattle.std.specs.Prelude.{◌<◌, ◌≤◌, [], ◌∷◌, ◌++◌, Err, OnOk, length, true};
 
     /// Nothing is recorded yet.
     pub(crate) fn new(
@@ -74,26 +75,15 @@ impl<'s, M: Machine> Recorder<'s, M> {
         }
     }
 
-    /// Issues the lines one after another.
+    /// Issues the lines' instructions.
     ///
     /// It answers `TooWide` as soon as it has come to one column too many.
-    pub(crate) fn issue_lines(&mut self, alloc: Global, lines: &[Line]) -> Result<(), PictureError>
+    pub(crate) fn issue_all(&mut self, alloc: Global, lines: &[Line]) -> Result<(), PictureError>
         ensures ok { OnOk result (self.new ≡ issued_all self.old (expand_lines lines.now)) }
         ensures wide { result ≡ Err PictureError.TooWide → overflows (issued_all self.old (expand_lines lines.now)) ≡ true }
     {
-        for line in lines {
-            self.issue_line(alloc, *line)?;
-        }
-        Ok(())
-    }
-
-    /// Issues the instruction as often as the line says.
-    fn issue_line(&mut self, alloc: Global, line: Line) -> Result<(), PictureError>
-        ensures ok { OnOk result (self.new ≡ issued_all self.old (replicate line.times line.instr)) }
-        ensures wide { result ≡ Err PictureError.TooWide → overflows (issued_all self.old (replicate line.times line.instr)) ≡ true }
-    {
-        for _turn in 0..line.times {
-            self.issue(alloc, line.instr)?;
+        for instr in Instructions::of(lines) {
+            self.issue(alloc, instr)?;
         }
         Ok(())
     }

@@ -41,6 +41,12 @@ answers_err First Then Tells (Some bytes) error of h = record {
   tells = λ fault told. h.tells fault told;
 }
 
+-- what an input comes to, in other words
+pub answers_same : {A X : Type 0} (Gives Same : Option (List ℕ) → X → Type 0) (Tells : Option (List ℕ) → PlayError → Type 0) (input : Option (List ℕ)) (r : Result A PlayError)
+    → ((known : Option (List ℕ)) (x : X) → Same known x → Gives known x) → Answers Gives Tells input r → Answers Same Tells input r
+answers_same Gives Same Tells None r same h = record { told = h.told; given = tt; tells = tt }
+answers_same Gives Same Tells (Some bytes) r same h = record { told = h.told; given = λ x is. h.given x (same (Some bytes) x is); tells = h.tells }
+
 pub outside_told : {A : Type 0} (r : Result A PlayError) (P : PlayError → Type 0) → IfErr r (λ error. IsOutside error) → IfErr r (λ error. P error ⊎ IsOutside error)
 outside_told (Ok x) P outside = tt
 outside_told (Err error) P outside = inr outside

@@ -3,3 +3,4 @@ pub mod SessionLemmas
 pub mod TextLemmas
 pub mod CommandLemmas
 pub mod ImageLemmas
+pub mod TellerLemmas

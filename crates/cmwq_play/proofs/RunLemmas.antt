@@ -1,62 +1,41 @@
--- Runs of several parts.
-use Rattle.std.proofs.Common.{◌≡◌, ℕ, zero, suc, ◌+◌, ◌-◌, ◌<◌, List, [], ◌∷◌, ◌++◌, replicate, refl, sym, ap, ◌∙◌, append_assoc, append-nil, zero-add, ◌≤◌, length, length-append, take, drop, arith}
-use Rattle.std.proofs.lemmas.Grind.{flat_map-append}
-use Rattle.std.proofs.lemmas.List.{length-replicate, take-append-drop, take_more}
-use Rattle.std.specs.Prelude.{slice_index_or}
-use Rattle.cmwq_types.specs.Scenario.{expand_lines}
-use Rattle.cmwq_types.specs.declared.scenario.Line.{Line}
-use Rattle.cmwq_types.specs.Contents.{ScenarioContents}
+-- What a teller tells of a run, in other words.
+use Rattle.std.proofs.Common.{◌≡◌, ℕ, List, [], ◌∷◌, ◌++◌, Bool, Option, Result, refl, sym, ap, ◌∙◌, append-nil}
+use Rattle.cmwq_types.specs.Contents.{ActorContents, ScenarioContents}
+use Rattle.cmwq_types.specs.Scenario.{expand}
 use Rattle.cmwq_types.specs.declared.instr.Instr.{Instr}
-use Rattle.cmwq_types.specs.declared.instr.Instr.TheVariants.{Queue}
 use Rattle.cmwq_table.specs.Events.{events_from, told}
-use Rattle.cmwq_table.specs.State.{State}
-use Rattle.cmwq_table.specs.Table.{after_all, table}
-
-pub events_from-append : (S : ScenarioContents) (s : State) (xs ys : List Instr) → events_from S s (xs ++ ys) ≡ events_from S s xs ++ events_from S (after_all S s xs) ys
-events_from-append S s [] ys = refl
-events_from-append S s (x ∷ xs) ys =
-    let next = (table S s x).0 in
-    ap (λ (more : List ℕ). told S x (table S s x) ++ more) (events_from-append S next xs ys)
-    ∙ sym (append_assoc (told S x (table S s x)) (events_from S next xs) (events_from S (after_all S next xs) ys))
-
--- the instructions of a line in two parts
-pub replicate_add : {A : Type 0} (m n : ℕ) (x : A) → replicate (m + n) x ≡ replicate m x ++ replicate n x
-replicate_add zero n x = ap (λ (k : ℕ). replicate k x) (zero-add n)
-replicate_add (suc m) n x =
-    let next : suc m + n ≡ suc (m + n) = omega arith in
-    ap (λ (k : ℕ). replicate k x) next ∙ ap (λ xs. x ∷ xs) (replicate_add m n x)
+use Rattle.cmwq_table.specs.State.{State, start}
+use Rattle.cmwq_table.specs.Table.{table}
+use Rattle.cmwq_streams.specs.declared.error.PlayError.{PlayError}
+use Rattle.cmwq_play.specs.Commands.{Answers, Writes}
+use Rattle.cmwq_play.specs.Runs.{IsRunOf}
+use Rattle.cmwq_play.specs.Telling.{IsToldOf, told_from}
+use Rattle.cmwq_play.specs.Texts.{ComesTo, IsRunFault}
+use Rattle.cmwq_play.proofs.CommandLemmas.{answers_same, writes_more}
+pub use Rattle.cmwq_runs.proofs.LineLemmas.{expand_lines-more, expand_lines-rest, expand_lines-within, no_line, replicate_add, replicate_rest}
 
 -- one instruction prints its line
 pub events_from_one : (S : ScenarioContents) (s : State) (x : Instr) → events_from S s (x ∷ []) ≡ told S x (table S s x)
 events_from_one S s x = append-nil (told S x (table S s x))
 
--- so many of an instruction, and what is left of them
-pub replicate_rest : {A : Type 0} (k n : ℕ) (x : A) → k ≤ n → replicate n x ≡ replicate k x ++ replicate (n - k) x
-replicate_rest k n x within =
-    let whole : n ≡ k + (n - k) = omega arith in
-    ap (λ (m : ℕ). replicate m x) whole ∙ replicate_add k (n - k) x
+-- a teller of the lines of replies tells what the run prints
+pub replies-told : {T : Type 0} (teller : T) (S : ScenarioContents) (s : State) (instrs : List Instr)
+    → told_from (λ _ (S : ScenarioContents) (s : State) (instr : Instr). told S instr (table S s instr)) (λ (t : T) _ _ _. t) teller S s instrs ≡ events_from S s instrs
+replies-told teller S s [] = refl
+replies-told teller S s (instr ∷ instrs) = ap (λ (more : List ℕ). told S instr (table S s instr) ++ more) (replies-told teller S (table S s instr).0 instrs)
 
--- the instructions of one line more
-pub expand_lines-more : (lines : List Line) (i : ℕ) (d : Line) → i < length lines → expand_lines (take (i + 1) lines) ≡ expand_lines (take i lines) ++ replicate (slice_index_or lines i d).times (slice_index_or lines i d).instr
-expand_lines-more lines i d within =
-    let line = slice_index_or lines i d in
-    ap expand_lines (take_more lines i d within)
-    ∙ flat_map-append (λ l. replicate l.times l.instr) (take i lines) (line ∷ [])
-    ∙ ap (λ (more : List Instr). expand_lines (take i lines) ++ more) (append-nil (replicate line.times line.instr))
+-- What is told of a run from its start on is this text.
+module _ {T : Type 0} (told : T → ScenarioContents → State → Instr → List ℕ) (keeps : T → ScenarioContents → State → Instr → T) (teller : T) (text : ScenarioContents → List Instr → List ℕ)
+    (same : (S : ScenarioContents) (instrs : List Instr) → told_from told keeps teller S (start S) instrs ≡ text S instrs) where
+  abbrev IsText : ScenarioContents → List ℕ → Type 0
+  IsText S output = (actor : ActorContents) × IsRunOf S actor × (output ≡ text S (expand actor))
 
--- and those of the lines that are left
-pub expand_lines-rest : (lines : List Line) (i : ℕ) → expand_lines lines ≡ expand_lines (take i lines) ++ expand_lines (drop i lines)
-expand_lines-rest lines i = ap expand_lines (sym (take-append-drop i lines)) ∙ flat_map-append (λ line. replicate line.times line.instr) (take i lines) (drop i lines)
+  pub run_answers : {A : Type 0} (input : Option (List ℕ)) (r : Result A PlayError) → Answers (ComesTo (IsToldOf told keeps teller)) IsRunFault input r → Answers (ComesTo IsText) IsRunFault input r
+  run_answers input r =
+      answers_same (ComesTo (IsToldOf told keeps teller)) (ComesTo IsText) IsRunFault input r
+      (λ known output is. (is.0, is.1, (is.2.0, is.2.1, is.2.2 ∙ sym (same is.0 (expand is.2.0)))))
 
--- the lines up to one and that line are no more instructions than all
-pub expand_lines-within : (lines : List Line) (i : ℕ) (d : Line) → i < length lines → length (expand_lines (take i lines)) + (slice_index_or lines i d).times ≤ length (expand_lines lines)
-expand_lines-within lines i d within =
-    let line = slice_index_or lines i d in
-    let these = replicate line.times line.instr in
-    let more = ap length (expand_lines-more lines i d within) ∙ length-append (expand_lines (take i lines)) these in
-    let all = ap length (expand_lines-rest lines (i + 1)) ∙ length-append (expand_lines (take (i + 1) lines)) (expand_lines (drop (i + 1) lines)) in
-    omega (arith, more, all, length-replicate line.times line.instr)
-
--- the plainest line
-unfoldable pub no_line : Line
-no_line = record { instr = Queue (record { 0 = 0 }) 0; times = 0 }
+  pub run_writes : (input before after : Option (List ℕ)) (failed : Bool) (r : Result (Unit {0}) PlayError) → Writes (ComesTo (IsToldOf told keeps teller) input) before after failed r → Writes (ComesTo IsText input) before after failed r
+  run_writes input before after failed r =
+      writes_more (ComesTo (IsToldOf told keeps teller) input) (ComesTo IsText input) before after failed r
+      (λ output is. (is.0, is.1, (is.2.0, is.2.1, is.2.2 ∙ same is.0 (expand is.2.0))))

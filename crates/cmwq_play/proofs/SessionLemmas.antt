@@ -1,85 +1,114 @@
--- Instructions that a session issues one part after another.
-use Rattle.std.proofs.Common.{◌≡◌, ℕ, List, ◌++◌, Bool, Option, Result, ap, sym, ◌∙◌, subst}
-use Rattle.cmwq_types.specs.Contents.{ActorContents, ScenarioContents}
-use Rattle.cmwq_types.specs.Scenario.{expand}
+-- Instructions that a session issues one after another.
+use Rattle.std.proofs.Common.{◌≡◌, ℕ, List, [], ◌∷◌, ◌++◌, Bool, Option, refl, sym, ap, ◌∙◌, subst, append_assoc, append-nil}
+use Rattle.cmwq_types.specs.Contents.{ScenarioContents}
 use Rattle.cmwq_types.specs.declared.instr.Instr.{Instr}
-use Rattle.cmwq_table.specs.Events.{events, events_from}
-use Rattle.cmwq_table.specs.State.{State, start}
-use Rattle.cmwq_table.specs.Table.{after_all}
-use Rattle.cmwq_table.proofs.RunLemmas.{after_all-append}
-use Rattle.cmwq_streams.specs.Blocks.{Sends, SendsFront, kept, sink}
-use Rattle.cmwq_play.specs.Session.{Issued, Stopped, prints}
-use Rattle.cmwq_play.specs.Commands.{Writes}
-use Rattle.cmwq_play.proofs.CommandLemmas.{writes_more}
+use Rattle.cmwq_table.specs.State.{State}
+use Rattle.cmwq_table.specs.Table.{after_all, table}
+use Rattle.cmwq_streams.specs.Blocks.{Sends, SendsFront, SharesSink, kept, sink}
 use Rattle.cmwq_streams.specs.declared.error.PlayError.{PlayError}
+use Rattle.cmwq_streams.proofs.CallerLemmas.{appends_none, front_more, front_then, sends_then}
+use Rattle.cmwq_play.specs.Session.{CanIssue, Issued, Stopped}
+use Rattle.cmwq_play.specs.Telling.{kept_from, told_from}
 use Rattle.cmwq_play.specs.declared.session.Session.{Session}
-use Rattle.cmwq_play.proofs.RunLemmas.{events_from-append}
-use Rattle.cmwq_streams.proofs.CallerLemmas.{front_more, front_then, sends_then}
 
-module _ {M W : Type 0} (loaded : M → ScenarioContents) (state : M → State) (contents : W → Option (List ℕ)) (failed : W → Bool) where
-  -- what is printed from where a session came to
-  prints_then : (a b : Session M W) (xs ys : List Instr) → Issued loaded state contents failed a b xs → prints loaded state contents failed a (xs ++ ys) ≡ prints loaded state contents failed a xs ++ prints loaded state contents failed b ys
-  prints_then a b xs ys first =
-      let S = a.scenario.now in
-      let start = state a.machine in
-      events_from-append S start xs ys
-      ∙ ap (λ (s : State). events_from S start xs ++ events_from S s ys) (sym first.reached)
-      ∙ ap (λ (T : ScenarioContents). events_from S start xs ++ events_from T (state b.machine) ys) (sym first.scenario)
+module _ {M W T : Type 0} (loaded : M → ScenarioContents) (state : M → State) (contents : W → Option (List ℕ)) (failed : W → Bool)
+    (told : T → ScenarioContents → State → Instr → List ℕ) (keeps : T → ScenarioContents → State → Instr → T) where
+  -- Of these instructions so many are left. What was written, and what is told of the ones that are left, make the whole.
+  pub record IsUnderWay (old here : Session M W) (first teller : T) (all left : List Instr) : Type 0 where
+    pub ready : CanIssue loaded state contents failed here
+    pub scenario : here.scenario.now ≡ old.scenario.now
+    pub same : SharesSink old.lines here.lines
+    pub reached : after_all old.scenario.now (state here.machine) left ≡ after_all old.scenario.now (state old.machine) all
+    pub kept : kept_from told keeps teller old.scenario.now (state here.machine) left ≡ kept_from told keeps first old.scenario.now (state old.machine) all
+    pub text : List ℕ
+    pub sent : Sends contents old.lines here.lines text
+    pub whole : text ++ told_from told keeps teller old.scenario.now (state here.machine) left ≡ told_from told keeps first old.scenario.now (state old.machine) all
 
-  pub issued_then : (a b c : Session M W) (xs ys : List Instr) → Issued loaded state contents failed a b xs → Issued loaded state contents failed b c ys → Issued loaded state contents failed a c (xs ++ ys)
-  issued_then a b c xs ys first second =
-      let S = a.scenario.now in
-      let start = state a.machine in
-      let sent = sends_then (contents (sink a.lines)) (contents (sink b.lines)) (contents (sink c.lines)) (kept a.lines) (kept b.lines) (kept c.lines)
-      (prints loaded state contents failed a xs) (prints loaded state contents failed b ys) first.sent second.sent
-      in
-      record {
-        ready = second.ready;
-        scenario = second.scenario ∙ first.scenario;
-        same = second.same ∙ first.same;
-        reached =
-            second.reached
-            ∙ ap (λ (T : ScenarioContents). after_all T (state b.machine) ys) first.scenario
-            ∙ ap (λ (s : State). after_all S s ys) first.reached
-            ∙ sym (after_all-append S start xs ys);
-        sent =
-            subst (λ (lines : List ℕ). Sends contents a.lines c.lines lines)
-            (sym (prints_then a b xs ys first)) sent;
-      }
+  pub begins : (old : Session M W) (teller : T) (all left : List Instr) → left ≡ all → CanIssue loaded state contents failed old → IsUnderWay old old teller teller all left
+  begins old teller all left is ready = record {
+    ready = ready;
+    scenario = refl;
+    same = refl;
+    reached = ap (λ (instrs : List Instr). after_all old.scenario.now (state old.machine) instrs) is;
+    kept = ap (λ (instrs : List Instr). kept_from told keeps teller old.scenario.now (state old.machine) instrs) is;
+    text = [];
+    sent = ([], appends_none (contents (sink old.lines)), sym (append-nil (kept old.lines)));
+    whole = ap (λ (instrs : List Instr). told_from told keeps teller old.scenario.now (state old.machine) instrs) is;
+  }
 
-  -- the writing stopped at the second part
-  pub stopped_then : (a b c : Session M W) (xs ys : List Instr) (error : PlayError) → Issued loaded state contents failed a b xs → Stopped loaded state contents failed b c ys error → Stopped loaded state contents failed a c (xs ++ ys) error
-  stopped_then a b c xs ys error first second =
-      let sent = front_then (contents (sink a.lines)) (contents (sink b.lines)) (contents (sink c.lines)) (kept a.lines) (kept b.lines)
-      (prints loaded state contents failed a xs) (prints loaded state contents failed b ys) first.sent second.sent
-      in
-      record {
-        same = second.same ∙ first.same;
-        sent =
-            subst (λ (lines : List ℕ). SendsFront contents a.lines c.lines lines)
-            (sym (prints_then a b xs ys first)) sent;
-        write = second.write;
-        why = second.why;
-      }
+  -- one instruction more
+  module _ (old here : Session M W) (first teller : T) (all left : List Instr) (instr : Instr) (more : List Instr) (next : left ≡ instr ∷ more) (way : IsUnderWay old here first teller all left) where
+    abbrev here_told : List ℕ
+    here_told = told teller old.scenario.now (state here.machine) instr
 
-  -- and there were more to come
-  pub stopped_more : (a c : Session M W) (xs more : List Instr) (error : PlayError) → Stopped loaded state contents failed a c xs error → Stopped loaded state contents failed a c (xs ++ more) error
-  stopped_more a c xs more error stopped =
-      let S = a.scenario.now in
-      let start = state a.machine in
-      record {
-        same = stopped.same;
-        sent =
-            subst (λ (lines : List ℕ). SendsFront contents a.lines c.lines lines)
-            (sym (events_from-append S start xs more))
-            (front_more (contents (sink a.lines)) (contents (sink c.lines)) (kept a.lines) (events_from S start xs) (events_from S (after_all S start xs) more) stopped.sent);
-        write = stopped.write;
-        why = stopped.why;
-      }
+    told_here : told teller here.scenario.now (state here.machine) instr ≡ here_told
+    told_here = ap (λ (S : ScenarioContents). told teller S (state here.machine) instr) way.scenario
 
--- what a session writes from the start on is what the actor prints
-pub writes_events : (S : ScenarioContents) (actor : ActorContents) (s : State) (before after : Option (List ℕ)) (failed : Bool) (r : Result (Unit {0}) PlayError) → s ≡ start S
-    → Writes (λ output. output ≡ events_from S s (expand actor)) before after failed r → Writes (λ output. output ≡ events S (expand actor)) before after failed r
-writes_events S actor s before after failed r begins h =
-    writes_more (λ output. output ≡ events_from S s (expand actor)) (λ output. output ≡ events S (expand actor)) before after failed r
-    (λ output is. is ∙ ap (λ (t : State). events_from S t (expand actor)) begins) h
+    whole_here : (way.text ++ here_told) ++ told_from told keeps (keeps teller old.scenario.now (state here.machine) instr) old.scenario.now (table old.scenario.now (state here.machine) instr).0 more
+        ≡ told_from told keeps first old.scenario.now (state old.machine) all
+    whole_here =
+        append_assoc way.text here_told (told_from told keeps (keeps teller old.scenario.now (state here.machine) instr) old.scenario.now (table old.scenario.now (state here.machine) instr).0 more)
+        ∙ ap (λ (instrs : List Instr). way.text ++ told_from told keeps teller old.scenario.now (state here.machine) instrs) (sym next)
+        ∙ way.whole
+
+    pub goes_on : (new : Session M W) (after : T) → Issued loaded state contents failed here new (table here.scenario.now (state here.machine) instr).0 (told teller here.scenario.now (state here.machine) instr)
+        → after ≡ keeps teller here.scenario.now (state here.machine) instr → IsUnderWay old new first after all more
+    goes_on new after issued keeping =
+        let S = old.scenario.now in
+        let s = state here.machine in
+        let to : state new.machine ≡ (table S s instr).0 = issued.reached ∙ ap (λ (T : ScenarioContents). (table T s instr).0) way.scenario in
+        let kept_is : after ≡ keeps teller S s instr = keeping ∙ ap (λ (T : ScenarioContents). keeps teller T s instr) way.scenario in
+        record {
+          ready = issued.ready;
+          scenario = issued.scenario ∙ way.scenario;
+          same = issued.same ∙ way.same;
+          reached =
+              ap (λ (t : State). after_all S t more) to
+              ∙ ap (λ (instrs : List Instr). after_all S s instrs) (sym next)
+              ∙ way.reached;
+          kept =
+              ap (λ (t : State). kept_from told keeps after S t more) to
+              ∙ ap (λ (u : T). kept_from told keeps u S (table S s instr).0 more) kept_is
+              ∙ ap (λ (instrs : List Instr). kept_from told keeps teller S s instrs) (sym next)
+              ∙ way.kept;
+          text = way.text ++ here_told;
+          sent =
+              sends_then (contents (sink old.lines)) (contents (sink here.lines)) (contents (sink new.lines)) (kept old.lines) (kept here.lines) (kept new.lines) way.text here_told way.sent
+              (subst (λ (text : List ℕ). Sends contents here.lines new.lines text) told_here issued.sent);
+          whole =
+              ap (λ (t : State). (way.text ++ here_told) ++ told_from told keeps after S t more) to
+              ∙ ap (λ (u : T). (way.text ++ here_told) ++ told_from told keeps u S (table S s instr).0 more) kept_is
+              ∙ whole_here;
+        }
+
+    pub stops : (new : Session M W) (error : PlayError) → Stopped loaded state contents failed here new (told teller here.scenario.now (state here.machine) instr) error
+        → Stopped loaded state contents failed old new (told_from told keeps first old.scenario.now (state old.machine) all) error
+    stops new error stopped =
+        let rest = told_from told keeps (keeps teller old.scenario.now (state here.machine) instr) old.scenario.now (table old.scenario.now (state here.machine) instr).0 more in
+        let front = front_then (contents (sink old.lines)) (contents (sink here.lines)) (contents (sink new.lines)) (kept old.lines) (kept here.lines) way.text here_told way.sent
+        (subst (λ (text : List ℕ). SendsFront contents here.lines new.lines text) told_here stopped.sent)
+        in
+        record {
+          same = stopped.same ∙ way.same;
+          sent =
+              subst (λ (text : List ℕ). SendsFront contents old.lines new.lines text) whole_here
+              (front_more (contents (sink old.lines)) (contents (sink new.lines)) (kept old.lines) (way.text ++ here_told) rest front);
+          write = stopped.write;
+          why = stopped.why;
+        }
+
+  -- none is left
+  module _ (old here : Session M W) (first teller : T) (all left : List Instr) (none : left ≡ []) (way : IsUnderWay old here first teller all left) where
+    pub ends : Issued loaded state contents failed old here (after_all old.scenario.now (state old.machine) all) (told_from told keeps first old.scenario.now (state old.machine) all)
+    ends = record {
+      ready = way.ready;
+      scenario = way.scenario;
+      same = way.same;
+      reached = ap (λ (instrs : List Instr). after_all old.scenario.now (state here.machine) instrs) (sym none) ∙ way.reached;
+      sent =
+          subst (λ (text : List ℕ). Sends contents old.lines here.lines text)
+          (sym (append-nil way.text) ∙ ap (λ (instrs : List Instr). way.text ++ told_from told keeps teller old.scenario.now (state here.machine) instrs) (sym none) ∙ way.whole) way.sent;
+    }
+
+    pub kept_at_end : teller ≡ kept_from told keeps first old.scenario.now (state old.machine) all
+    kept_at_end = ap (λ (instrs : List Instr). kept_from told keeps teller old.scenario.now (state here.machine) instrs) (sym none) ∙ way.kept

@@ -2,4 +2,5 @@ pub mod Commands
 pub mod Images
 pub mod Runs
 pub mod Session
+pub mod Telling
 pub mod Texts

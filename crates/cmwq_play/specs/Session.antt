@@ -1,10 +1,7 @@
 -- What a session issues and writes.
 use Rattle.std.specs.Prelude.{◌≡◌, ◌↔◌, ℕ, List, Option, Bool, false, true, Result, MatchResult}
 use Rattle.cmwq_types.specs.Contents.{ScenarioContents}
-use Rattle.cmwq_types.specs.declared.instr.Instr.{Instr}
-use Rattle.cmwq_table.specs.Events.{events_from}
 use Rattle.cmwq_table.specs.State.{State}
-use Rattle.cmwq_table.specs.Table.{after_all}
 use Rattle.cmwq_streams.specs.Blocks.{Sends, SendsFront, SharesSink, sink}
 use Rattle.cmwq_streams.specs.Sending.{IsSendError}
 use Rattle.cmwq_streams.specs.declared.error.PlayError.{PlayError}
@@ -17,25 +14,21 @@ module _ {M W : Type 0} (loaded : M → ScenarioContents) (state : M → State) 
     pub has_scenario : loaded session.machine ≡ session.scenario.now
     pub is_sound : failed (sink session.lines) ≡ false
 
-  -- what these instructions print from here on
-  abbrev pub prints : Session M W → List Instr → List ℕ
-  prints session instrs = events_from session.scenario.now (state session.machine) instrs
-
-  -- these instructions were issued, and what they print was written
-  pub record Issued (old new : Session M W) (instrs : List Instr) : Type 0 where
+  -- the machine came to this state, and this text was written
+  pub record Issued (old new : Session M W) (to : State) (text : List ℕ) : Type 0 where
     pub ready : CanIssue new
     pub scenario : new.scenario.now ≡ old.scenario.now
     pub same : SharesSink old.lines new.lines
-    pub reached : state new.machine ≡ after_all old.scenario.now (state old.machine) instrs
-    pub sent : Sends contents old.lines new.lines (prints old instrs)
+    pub reached : state new.machine ≡ to
+    pub sent : Sends contents old.lines new.lines text
 
-  -- a front of what these instructions print was written
-  pub record Stopped (old new : Session M W) (instrs : List Instr) (error : PlayError) : Type 0 where
+  -- a front of this text was written
+  pub record Stopped (old new : Session M W) (text : List ℕ) (error : PlayError) : Type 0 where
     pub same : SharesSink old.lines new.lines
-    pub sent : SendsFront contents old.lines new.lines (prints old instrs)
+    pub sent : SendsFront contents old.lines new.lines text
     pub write : (error ≡ Write) ↔ (failed (sink new.lines) ≡ true)
     pub why : IsSendError error
 
-  -- these instructions were issued, unless the writing failed
-  abbrev pub Issues : Session M W → Session M W → List Instr → Result (Unit {0}) PlayError → Type 0
-  Issues old new instrs result = MatchResult result (λ _. Issued old new instrs) (λ error. Stopped old new instrs error)
+  -- the machine came to this state, and this text was written, unless the writing failed
+  abbrev pub Issues : Session M W → Session M W → State → List ℕ → Result (Unit {0}) PlayError → Type 0
+  Issues old new to text result = MatchResult result (λ _. Issued old new to text) (λ error. Stopped old new text error)

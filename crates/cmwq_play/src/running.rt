@@ -1,21 +1,25 @@
-//! `run`: from a scenario's text to the lines that it prints.
+//! `run`: from a scenario's text to what is told of its run.
 ghost use Rattle.cmwq_play.specs.Commands.{Answers, Reads, Writes};
+ghost use Rattle.cmwq_play.specs.Runs.{CanRun, IsRefused};
+ghost use Rattle.cmwq_play.specs.Telling.{IsToldOf, told_from};
+ghost use Rattle.cmwq_play.specs.Texts.{ComesTo, IsRun, IsRunFault};
 ghost use Rattle.cmwq_streams.specs.Sending.{IsSendError};
-ghost use Rattle.cmwq_play.specs.Runs.{CanRun, IsPrinted, IsRefused};
-ghost use Rattle.cmwq_play.specs.Texts.{IsRun, IsRunFault};
 ghost use Rattle.cmwq_table.specs.Events.{events};
 ghost use Rattle.cmwq_table.specs.State.{start};
+ghost use Rattle.cmwq_types.specs.Contents.{ScenarioContents};
 ghost use Rattle.cmwq_types.specs.Faults.{IsValid};
-ghost use Rattle.cmwq_types.specs.Scenario.{expand, expand_lines};
-ghost use Rattle.cmwq_types.specs.declared.limits.TheConstants.{MAX_HISTORY};
-ghost use Rattle.std.specs.Prelude.{◌≡◌, IfErr, OnOk, false, length, nat_lt};
+ghost use Rattle.cmwq_types.specs.Scenario.{expand};
+ghost use Rattle.std.specs.Prelude.{◌≡◌, IfErr, OnOk, false};
 
 use crate::reading::read_text;
+use crate::replies::Replies;
 use crate::session::Session;
+use crate::teller::Teller;
 use cmwq_plain::Plain;
+use cmwq_runs::room_behind;
 use cmwq_streams::{BlockWriter, PlayError, Sink, Source};
 use cmwq_table::Machine;
-use cmwq_types::{Actor, Line, MAX_HISTORY, Scenario};
+use cmwq_types::{Actor, Scenario};
 use std::alloc::Global;
 use std::sync::Arc;
 
@@ -37,9 +41,27 @@ pub fn run<R: Source, W: Sink>(
     ensures answers { Answers IsRun IsRunFault (R.remaining reader.old) result }
     ensures writes { Writes (IsRun (R.remaining reader.old)) (W.contents writer.old) (W.contents writer.new) (W.failed writer.new) result }
 {
+    tell_run::<Plain, Replies, R, W>(alloc, Replies, reader, writer)
+}
+
+/// Reads a scenario's text, issues its one actor's instructions on a machine, and writes what the teller tells of them as it comes, a
+/// block at a time. Its answers and errors are those of `run`.
+pub fn tell_run<M: Machine, T: Teller, R: Source, W: Sink>(
+    alloc: Global,
+    teller: T,
+    reader: &mut R,
+    writer: &mut W,
+) -> Result<(), PlayError>
+    requires reader { R.failed reader.old ≡ false }
+    requires writer { W.failed writer.old ≡ false }
+    requires fits { (S : ScenarioContents) → T.fits teller (start S) }
+    ensures reads { Reads (R.remaining reader.old) (R.remaining reader.new) (R.failed reader.new) result }
+    ensures answers { Answers (ComesTo (IsToldOf T.told T.keeps teller)) IsRunFault (R.remaining reader.old) result }
+    ensures writes { Writes (ComesTo (IsToldOf T.told T.keeps teller) (R.remaining reader.old)) (W.contents writer.old) (W.contents writer.new) (W.failed writer.new) result }
+{
     let scenario = read_text(alloc, reader)?;
     judge(&scenario)?;
-    load_and_play::<Plain, W>(alloc, scenario, writer)
+    load_and_tell::<M, T, W>(alloc, scenario, teller, writer)
 }
 
 /// Judges whether the scenario can be run: it has exactly one actor, of no more than 1,048,576 instructions. The only errors are
@@ -51,42 +73,37 @@ pub fn judge(scenario: &Scenario) -> Result<(), PlayError>
     if scenario.actors.len() != 1 {
         return Err(PlayError::Actors);
     }
-    if are_too_many(&scenario.actors[0].lines) {
-        return Err(PlayError::Full);
+    match room_behind(&scenario.actors[0].lines) {
+        Some(_room) => Ok(()),
+        None => Err(PlayError::Full),
     }
-    Ok(())
 }
 
-/// Whether the lines stand for more instructions than one run issues.
-fn are_too_many(lines: &[Line]) -> bool
-    ensures { result ≡ nat_lt MAX_HISTORY (length (expand_lines lines.now)) }
-{
-    let mut left = MAX_HISTORY;
-    for line in lines {
-        if line.times > left {
-            return true;
-        }
-        left -= line.times;
-    }
-    false
-}
-
-/// Issues the one actor's instructions on a new machine, and writes the lines of the replies. The text's
-/// reader has judged the scenario already.
-fn load_and_play<M: Machine, W: Sink>(
+/// Issues the one actor's instructions on a new machine, and writes what the teller tells of them. The text's reader has judged the
+/// scenario already.
+fn load_and_tell<M: Machine, T: Teller, W: Sink>(
     alloc: Global,
     scenario: Scenario,
+    teller: T,
     writer: &mut W,
 ) -> Result<(), PlayError>
     requires valid { IsValid scenario }
     requires can { CanRun scenario }
     requires sound { W.failed writer.old ≡ false }
-    ensures writes { Writes (IsPrinted scenario) (W.contents writer.old) (W.contents writer.new) (W.failed writer.new) result }
+    requires fits { T.fits teller (start scenario) }
+    ensures writes { Writes (IsToldOf T.told T.keeps teller scenario) (W.contents writer.old) (W.contents writer.new) (W.failed writer.new) result }
     ensures why { IfErr result (λ error. IsSendError error) }
 {
     let scenario = Arc::new(alloc, scenario)?;
     let machine = M::begin(alloc, Arc::clone(&scenario)?)?;
-    print_actor(alloc, &scenario, &scenario.actors[0], machine, writer)
+    tell_actor(
+        alloc,
+        &scenario,
+        &scenario.actors[0],
+        machine,
+        teller,
+        writer,
+    )
 }
 
 /// Issues an actor's instructions on a machine at the scenario's start, and writes the lines of the replies as they come, a block at a
@@ -106,12 +123,33 @@ pub fn print_actor<M: Machine, W: Sink>(
     ensures writes { Writes (λ output. output ≡ events scenario.now (expand actor.now)) (W.contents writer.old) (W.contents writer.new) (W.failed writer.new) result }
     ensures why { IfErr result (λ error. IsSendError error) }
 {
+    tell_actor(alloc, scenario, actor, machine, Replies, writer)
+}
+
+/// Issues an actor's instructions on a machine at the scenario's start, and writes what the teller tells of them as it comes, a block
+/// at a time.
+fn tell_actor<M: Machine, T: Teller, W: Sink>(
+    alloc: Global,
+    scenario: &Scenario,
+    actor: &Actor,
+    machine: M,
+    teller: T,
+    writer: &mut W,
+) -> Result<(), PlayError>
+    requires loaded { M.loaded machine ≡ scenario.now }
+    requires start { M.state machine ≡ start scenario.now }
+    requires sound { W.failed writer.old ≡ false }
+    requires fits { T.fits teller (start scenario.now) }
+    ensures writes { Writes (λ output. output ≡ told_from T.told T.keeps teller scenario.now (start scenario.now) (expand actor.now)) (W.contents writer.old) (W.contents writer.new) (W.failed writer.new) result }
+    ensures why { IfErr result (λ error. IsSendError error) }
+{
+    let mut teller = teller;
     let mut session = Session {
         scenario,
         machine,
         lines: BlockWriter::new(alloc, writer),
     };
-    let outcome = session.play(actor);
+    let outcome = session.send_all(&mut teller, &actor.lines);
     let writer = session.into_writer();
     let _ = &*writer;
     outcome

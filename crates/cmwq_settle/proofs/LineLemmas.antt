@@ -1,5 +1,5 @@
 -- Lines of `next`, and the instructions that they stand for.
-use Rattle.std.proofs.Common.{◌≡◌, ℕ, zero, suc, ◌+◌, ◌*◌, ◌/◌, ◌%◌, List, [], ◌∷◌, ◌++◌, replicate, arith, refl, sym, ap, ◌∙◌, append-nil}
+use Rattle.std.proofs.Common.{◌≡◌, ℕ, zero, suc, ◌+◌, ◌*◌, ◌/◌, ◌%◌, List, ◌++◌, replicate, arith, refl, sym, ap, ◌∙◌, append-nil}
 use Rattle.std.proofs.lemmas.Grind.{flat_map-append}
 use Rattle.cmwq_types.specs.Contents.{ActorContents}
 use Rattle.cmwq_types.specs.Scenario.{expand, expand_lines}
@@ -7,7 +7,7 @@ use Rattle.cmwq_types.specs.declared.instr.Instr.{Instr}
 use Rattle.cmwq_types.specs.declared.instr.Instr.TheVariants as instr
 use Rattle.cmwq_types.specs.declared.limits.TheConstants.{MAX_TIMES}
 use Rattle.cmwq_types.specs.declared.scenario.Line.{Line}
-use Rattle.cmwq_play.proofs.RunLemmas.{replicate_add}
+use Rattle.cmwq_runs.proofs.LineLemmas.{replicate_add}
 use Rattle.cmwq_settle.specs.Settled.{next_line, next_lines, rest_lines, with_nexts}
 use Rattle.cmwq_settle.specs.Settling.{followed}
 

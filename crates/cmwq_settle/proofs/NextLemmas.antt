@@ -1,24 +1,22 @@
 -- Machines on which `next` is issued again and again.
-use Rattle.std.proofs.Common.{◌≡◌, ℕ, zero, suc, ◌+◌, ◌-◌, ◌<◌, ◌≤◌, min, Bool, true, false, Option, None, List, [], ◌∷◌, ◌++◌, ◌⊎◌, inl, inr, length, replicate, take, arith, below_more, refl, sym, ap, ◌∙◌, subst}
+use Rattle.std.proofs.Common.{◌≡◌, ℕ, zero, suc, ◌+◌, ◌-◌, ◌<◌, ◌≤◌, min, Bool, true, false, None, List, [], ◌∷◌, ◌++◌, ◌⊎◌, inl, inr, length, replicate, arith, below_more, refl, sym, ap, ◌∙◌, subst}
 use Rattle.std.proofs.lemmas.Bool.Decides.{nat_tests}
 use Rattle.std.proofs.lemmas.Bool.{cases_lt}
-use Rattle.std.specs.Prelude.{nat_lt, slice_index_or}
+use Rattle.std.specs.Prelude.{nat_lt}
 use Rattle.cmwq_types.specs.Contents.{ScenarioContents}
 use Rattle.cmwq_types.specs.Faults.{IsValid}
 use Rattle.cmwq_types.specs.First.{or_else}
-use Rattle.cmwq_types.specs.Scenario.{expand_lines}
 use Rattle.cmwq_types.specs.Setting.{IsSetting}
 use Rattle.cmwq_types.specs.declared.instr.Instr.{Instr}
 use Rattle.cmwq_types.specs.declared.instr.Instr.TheVariants as instr
 use Rattle.cmwq_types.specs.declared.limits.TheConstants.{MAX_HISTORY}
 use Rattle.cmwq_types.specs.declared.reply.Refusal.TheVariants.{Spent}
-use Rattle.cmwq_types.specs.declared.scenario.Line.{Line}
 use Rattle.cmwq_types.proofs.SettingLemmas.{IsSetting-valid}
 use Rattle.cmwq_table.specs.State.{State}
 use Rattle.cmwq_table.specs.Table.{after_all, answer, effect, refuse_unless, run, table}
 use Rattle.cmwq_table.proofs.CounterLemmas.{effect-spent, has_counters}
 use Rattle.cmwq_table.proofs.RunLemmas.{after_all-append}
-use Rattle.cmwq_play.proofs.RunLemmas.{expand_lines-more, replicate_add}
+use Rattle.cmwq_runs.proofs.LineLemmas.{replicate_add}
 use Rattle.cmwq_settle.specs.Quiet.{IsUnquietWithin, NeverQuiet, Settles, SettlesWithin, after_nexts, is_quiet, is_quiet_after, nexts_left}
 
 -- one instruction of a kind more
@@ -148,17 +146,8 @@ unquiet-more S T s t n loaded state unquiet below =
     below_more (λ (j : ℕ). is_quiet_after S s j ≡ false) n below
     (sym (unquiet ∙ ap (λ (U : ScenarioContents). is_quiet U t) loaded ∙ ap (λ (u : State). is_quiet S u) state))
 
--- One instruction more on a machine, and one line more.
-
+-- one instruction more on a machine
 pub state-more : (S T : ScenarioContents) (s t u : State) (i : Instr) (n : ℕ) → T ≡ S → t ≡ after_all S s (replicate n i) → u ≡ (table T t i).0
     → u ≡ after_all S s (replicate (n + 1) i)
 state-more S T s t u i n loaded state is =
     is ∙ ap (λ (U : ScenarioContents). (table U t i).0) loaded ∙ ap (λ (v : State). (table S v i).0) state ∙ sym (after_times-more S s i n)
-
-pub line-more : (S T : ScenarioContents) (s t u : State) (lines : List Line) (k : ℕ) (d : Line) → k < length lines → T ≡ S → t ≡ after_all S s (expand_lines (take k lines))
-    → u ≡ after_all T t (replicate (slice_index_or lines k d).times (slice_index_or lines k d).instr) → u ≡ after_all S s (expand_lines (take (k + 1) lines))
-line-more S T s t u lines k d within loaded state is =
-    let line = slice_index_or lines k d in
-    let these : List Instr = replicate line.times line.instr in
-    is ∙ ap (λ (U : ScenarioContents). after_all U t these) loaded ∙ ap (λ (v : State). after_all S v these) state
-    ∙ sym (after_all-append S s (expand_lines (take k lines)) these) ∙ ap (λ (is : List Instr). after_all S s is) (sym (expand_lines-more lines k d within))

@@ -3,15 +3,15 @@ ghost use Rattle.cmwq_play.specs.Runs.{IsRunOf};
 ghost use Rattle.cmwq_settle.specs.Counting.{IsCounted, number};
 ghost use Rattle.cmwq_settle.specs.Quiet.{nexts_left};
 ghost use Rattle.cmwq_table.specs.State.{start};
-ghost use Rattle.cmwq_table.specs.Table.{after_all, run};
 ghost use Rattle.cmwq_types.specs.Faults.{IsValid};
-ghost use Rattle.cmwq_types.specs.Scenario.{expand, expand_lines};
+ghost use Rattle.cmwq_types.specs.Scenario.{expand_lines};
 ghost use Rattle.cmwq_types.specs.declared.limits.TheConstants.{MAX_HISTORY};
-ghost use Rattle.std.specs.Prelude.{◌≡◌, ◌≤◌, ◌-◌, length, min, replicate};
+ghost use Rattle.std.specs.Prelude.{◌≡◌, ◌-◌, length, min};
 
 use crate::watch::Watch;
+use cmwq_runs::{issue_all, room_behind};
 use cmwq_table::{Machine, Reads};
-use cmwq_types::{Actor, Line, MAX_HISTORY, Scenario};
+use cmwq_types::{Actor, Line, Scenario};
 
 /// How many `next` are to be issued behind an actor's instructions.
 #[derive(Clone, Copy)]
@@ -42,7 +42,7 @@ pub(crate) fn count_nexts<M: Machine>(machine: M, scenario: &Scenario, actor: &A
     ensures { IsCounted scenario.now actor.now result }
 {
     let mut machine = machine;
-    issue_lines(&mut machine, &actor.lines);
+    issue_all(&mut machine, &actor.lines);
     let most = nexts_left(&machine, &actor.lines);
     let mut watch = Watch {
         machine,
@@ -54,43 +54,11 @@ pub(crate) fn count_nexts<M: Machine>(machine: M, scenario: &Scenario, actor: &A
     }
 }
 
-/// Issues the lines one after another.
-fn issue_lines<M: Machine>(machine: &mut M, lines: &[Line])
-    ensures loaded { M.loaded machine.new ≡ M.loaded machine.old }
-    ensures state { M.state machine.new ≡ after_all (M.loaded machine.old) (M.state machine.old) (expand_lines lines.now) }
-{
-    for line in lines {
-        issue_line(machine, *line);
-    }
-}
-
-/// Issues the instruction as often as the line says.
-fn issue_line<M: Machine>(machine: &mut M, line: Line)
-    ensures loaded { M.loaded machine.new ≡ M.loaded machine.old }
-    ensures state { M.state machine.new ≡ after_all (M.loaded machine.old) (M.state machine.old) (replicate line.times line.instr) }
-{
-    for _turn in 0..line.times {
-        let _ = machine.exec(line.instr);
-    }
-}
-
 /// How many `next` can be issued on the machine, on which these lines were issued.
 fn nexts_left<R: Reads>(machine: &R, lines: &[Line]) -> u32
-    requires few { length (expand_lines lines.now) ≤ MAX_HISTORY }
     ensures { result ≡ min ((R.loaded machine.now).steps - (R.state machine.now).spent) (MAX_HISTORY - length (expand_lines lines.now)) }
 {
     let steps = machine.scenario().steps.saturating_sub(machine.spent());
-    steps.min(room_behind(lines))
-}
-
-/// How many instructions more one run issues behind these lines.
-fn room_behind(lines: &[Line]) -> u32
-    requires { length (expand_lines lines.now) ≤ MAX_HISTORY }
-    ensures { result ≡ MAX_HISTORY - length (expand_lines lines.now) }
-{
-    let mut room = MAX_HISTORY;
-    for line in lines {
-        room -= line.times;
-    }
-    room
+    let room = room_behind(lines).unwrap_or(0);
+    steps.min(room)
 }

@@ -4,5 +4,4 @@ pub mod CountLemmas
 pub mod KeptLines
 pub mod LawLemmas
 pub mod LineLemmas
-pub mod SessionLemmas
 pub mod TellLemmas

@@ -6,7 +6,6 @@ pub mod examples;
 mod instr_line;
 pub mod laws;
 mod running;
-mod session;
 mod told;
 mod view;
 

@@ -1,12 +1,56 @@
 //! All that is told of one instruction.
 ghost use Rattle.cmwq_table.specs.Events.{reply_line};
-ghost use Rattle.cmwq_tell.specs.Telling.{change_lines, instr_line};
-ghost use Rattle.std.specs.Prelude.{◌++◌, Some};
+ghost use Rattle.cmwq_table.specs.Table.{table};
+ghost use Rattle.cmwq_tell.specs.Telling.{change_lines, instr_line, told_wholly};
+ghost use Rattle.std.specs.Prelude.{◌≡◌, ◌++◌, Some};
 
 use crate::change::{Change, ChangeLines};
 use crate::instr_line::InstrWords;
-use cmwq_table::ReplyLine;
+use crate::view::hidden;
+use cmwq_play::{Session, Teller};
+use cmwq_streams::{PlayError, Sink};
+use cmwq_table::{Machine, ReplyLine};
+use cmwq_types::Instr;
+use std::alloc::Global;
 use std::fmt;
+
+/// Tells each instruction, its reply, if it has one, and its hidden changes.
+#[derive(Drop)]
+pub(crate) struct Whole {
+    pub(crate) alloc: Global,
+    /// The machine's next stamp.
+    pub(crate) next: u64,
+}
+
+impl Teller for Whole {
+    ghost fits = { λ whole s. whole.next ≡ s.next };
+
+    ghost told = { λ _ S s instr. told_wholly S s instr (table S s instr) };
+
+    ghost keeps = { λ whole S s instr. record whole { next = (table S s instr).0.next } };
+
+    fn issue<M: Machine, W: Sink>(
+        &mut self,
+        session: &mut Session<'_, '_, M, W>,
+        instr: Instr,
+    ) -> Result<(), PlayError> {
+        let before = session.machine.now();
+        let reply = session.machine.exec(instr);
+        let view = session.machine.look()?;
+        let changes = hidden(self.alloc, before, self.next, &view)?;
+        self.next = view.next;
+        let told = Told {
+            answer: ReplyLine {
+                scenario: session.scenario,
+                time: session.machine.now(),
+                instr,
+                reply,
+            },
+            changes: &changes,
+        };
+        write!(session.lines, "{told}")
+    }
+}
 
 /// The line of an instruction, then that of its reply, if it has one, and then those of its hidden changes.
 #[derive(Clone, Copy)]

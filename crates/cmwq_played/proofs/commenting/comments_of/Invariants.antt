@@ -6,8 +6,8 @@ use Rattle.cmwq_played.proofs.commenting.comments_of.Given as goal
 -- so many lines are written, and what is left makes the whole
 abbrev pub invariant-loop-instr : goal.invariant-loop-instr
 invariant-loop-instr g l = record {
-  loaded : g.M.Machine.loaded l.machine ≡ l.scenario;
-  text : string_bytes l.text ++ comments (events_from l.scenario (g.M.Machine.state l.machine) (drop l.instr-index l.instrs))
-      ≡ comments (events_from l.scenario (g.M.Machine.state l.fn.machine) l.instrs);
+  loaded : g.M.Reads.loaded l.machine ≡ l.scenario;
+  text : string_bytes l.text ++ comments (events_from l.scenario (g.M.Reads.state l.machine) (drop l.instr-index l.instrs))
+      ≡ comments (events_from l.scenario (g.M.Reads.state l.fn.machine) l.instrs);
   short : length (string_bytes l.text) ≤ 256 * l.instr-index;
 }

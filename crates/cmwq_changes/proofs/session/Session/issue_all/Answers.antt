@@ -10,8 +10,8 @@ use Rattle.cmwq_changes.proofs.session.Session.issue_all.Goals as goal
 
 pub returns-in_err-issue_lines : goal.returns-in_err-issue_lines
 returns-in_err-issue_lines g c =
-    let loaded = g.M.Machine.loaded in
-    let state = g.M.Machine.state in
+    let loaded = g.M.Reads.loaded in
+    let state = g.M.Reads.state in
     let says = g.P.Sayer.says in
     let contents = g.W.Write.contents in
     let failed = g.W.Sink.failed in
@@ -26,8 +26,8 @@ returns-in_err-issue_lines g c =
 
 pub returns : goal.returns
 returns g c =
-    let loaded = g.M.Machine.loaded in
-    let state = g.M.Machine.state in
+    let loaded = g.M.Reads.loaded in
+    let state = g.M.Reads.state in
     let says = g.P.Sayer.says in
     let contents = g.W.Write.contents in
     let failed = g.W.Sink.failed in

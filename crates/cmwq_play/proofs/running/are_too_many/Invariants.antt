@@ -1,8 +1,0 @@
-use Rattle.std.proofs.Common.{◌≡◌, ◌+◌, length, take}
-use Rattle.cmwq_types.specs.Scenario.{expand_lines}
-use Rattle.cmwq_types.specs.declared.limits.TheConstants.{MAX_HISTORY}
-use Rattle.cmwq_play.proofs.running.are_too_many.Given as goal
-
--- so many are left, the lines up to this one taken off
-abbrev pub invariant-loop-line : goal.invariant-loop-line
-invariant-loop-line l = l.left + length (expand_lines (take l.line-index l.lines)) ≡ MAX_HISTORY

@@ -1,0 +1,39 @@
+//! What is told of a run's instructions.
+ghost use Rattle.cmwq_play.specs.Session.{CanIssue, Issues};
+ghost use Rattle.cmwq_table.specs.State.{State};
+ghost use Rattle.cmwq_table.specs.Table.{table};
+ghost use Rattle.cmwq_types.specs.Contents.{ScenarioContents};
+ghost use Rattle.cmwq_types.specs.declared.instr.Instr.{Instr};
+ghost use Rattle.std.specs.Prelude.{◌≡◌, List, OnOk, ℕ};
+
+use crate::session::Session;
+use cmwq_streams::{PlayError, Sink};
+use cmwq_table::Machine;
+use cmwq_types::Instr;
+
+/// Who issues a run's instructions one by one, and tells something of each.
+pub trait Teller: Drop {
+    /// What the teller keeps is so of this state.
+    ghost fits: { Self → State → Type 0 };
+
+    /// What is told of an instruction that is issued in this state.
+    ghost told: { Self → ScenarioContents → State → Instr → List ℕ };
+
+    /// What the teller keeps from then on.
+    ghost keeps: { Self → ScenarioContents → State → Instr → Self };
+
+    /// Issues the instruction on the session's machine, and writes what is told of it. The only errors are `Write`, exactly where the
+    /// writer failed, and `NoMemory`; what was written then is a front of what is told.
+    fn issue<M: Machine, W: Sink>(
+        &mut self,
+        session: &mut Session<'_, '_, M, W>,
+        instr: Instr,
+    ) -> Result<(), PlayError>
+        requires ready { CanIssue M.loaded M.state W.contents W.failed session.old }
+        requires fits { fits self.old (M.state session.old.machine) }
+        ensures told { Issues M.loaded M.state W.contents W.failed session.old session.new
+            (table session.old.scenario.now (M.state session.old.machine) instr).0
+            (told self.old session.old.scenario.now (M.state session.old.machine) instr) result }
+        ensures keeps { OnOk result (self.new ≡ keeps self.old session.old.scenario.now (M.state session.old.machine) instr) }
+        ensures fits { OnOk result (fits self.new (M.state session.new.machine)) };
+}

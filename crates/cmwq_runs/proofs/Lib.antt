@@ -1,0 +1,2 @@
+pub mod InstructionsLemmas
+pub mod LineLemmas

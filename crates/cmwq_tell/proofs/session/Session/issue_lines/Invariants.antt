@@ -1,8 +1,0 @@
-use Rattle.std.proofs.Common.{take}
-use Rattle.cmwq_types.specs.Scenario.{expand_lines}
-use Rattle.cmwq_tell.specs.Session.{Told}
-use Rattle.cmwq_tell.proofs.session.Session.issue_lines.Given as goal
-
--- the lines up to this one were issued
-abbrev pub invariant-loop-line : goal.invariant-loop-line
-invariant-loop-line g l = Told g.M.Machine.loaded g.M.Machine.state g.W.Write.contents g.W.Sink.failed l.fn.self l.self (expand_lines (take l.line-index l.lines))
