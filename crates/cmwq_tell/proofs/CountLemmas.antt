@@ -22,12 +22,12 @@ use Rattle.cmwq_tell.specs.Laws.{TellsActivations, TellsPlaces, TellsTicks, coun
 use Rattle.cmwq_tell.proofs.Becoming.{Becomes, Goes, set_cases, table-goes}
 use Rattle.cmwq_tell.proofs.BelowLemmas.{AllBelow, IsBelow, run-below}
 
-count-append : (test : Change → Bool) (xs ys : List Change) → count_changes test (xs ++ ys) ≡ count_changes test xs + count_changes test ys
+pub count-append : (test : Change → Bool) (xs ys : List Change) → count_changes test (xs ++ ys) ≡ count_changes test xs + count_changes test ys
 count-append test [] ys = omega arith
 count-append test (x ∷ xs) ys = let later : count_changes test (xs ++ ys) ≡ count_changes test xs + count_changes test ys = count-append test xs ys in omega (arith, later)
 
 -- What one work adds: nothing where its stamp is old, and else by whether its birth is.
-abbrev weight : Bool → Bool → ℕ → Option Pending → ℕ
+abbrev pub weight : Bool → Bool → ℕ → Option Pending → ℕ
 weight a b next (Some p) = cond (nat_lt p.stamp next) 0 (cond (cond (nat_lt p.born next) a b) 1 0)
 weight a b next None = 0
 
@@ -177,7 +177,7 @@ placing a b o q below (Becomes.activated p stamp pool is x y) =
     none (moved-up false true a (record { born = p.born; stamp = stamp; place = Listed pool }) x below.0) fails
 
 -- a deferred work has its old stamp, and isn't listed
-abbrev Tells : (Option Pending → ℕ) → (Option Pending → Option Pending → Bool) → State → State → ℕ → Type 0
+abbrev pub Tells : (Option Pending → ℕ) → (Option Pending → Option Pending → Bool) → State → State → ℕ → Type 0
 Tells h g s t w = h (pending_at t w) ≡ cond (g (pending_at s w) (pending_at t w)) 1 0
 
 deferred-tells : (h : Option Pending → ℕ) (g : Option Pending → Option Pending → Bool) (s t : State) (w v : ℕ) (p q : Pending) → t.pending ≡ slice_set s.pending w (Some q) → pending_at s w ≡ Some p
@@ -197,7 +197,7 @@ deferred-not (Timer due cpu) pool b = refl
 deferred-not (Listed at) pool b = refl
 deferred-not (Deferred at) pool b = refl
 
-goes-activation : (s t : State) → AllBelow s → Goes s t → (w : ℕ) → Tells (weight true false s.next) is_activation s t w
+pub goes-activation : (s t : State) → AllBelow s → Goes s t → (w : ℕ) → Tells (weight true false s.next) is_activation s t w
 goes-activation s t below (inl moves) w = activation s.next t.next (pending_at s w) (pending_at t w) (below w) (moves.works w)
 goes-activation s t below (inr d) w =
     let was : IsBelow s.next (Some d.p) = subst (λ (o : Option Pending). IsBelow s.next o) d.was (below d.w) in
@@ -205,14 +205,14 @@ goes-activation s t below (inr d) w =
     deferred-tells (weight true false s.next) is_activation s t d.w w d.p q d.pending d.was (λ u. stays-activation s.next (pending_at s u) (below u))
     (none (old true false s.next q was.1) (deferred-not d.p.place d.pool (d.p.born == d.p.born)))
 
-goes-place : (s t : State) → AllBelow s → Goes s t → (w : ℕ) → Tells (weight false true s.next) (λ before now. is_born s.next now) s t w
+pub goes-place : (s t : State) → AllBelow s → Goes s t → (w : ℕ) → Tells (weight false true s.next) (λ before now. is_born s.next now) s t w
 goes-place s t below (inl moves) w = placing s.next t.next (pending_at s w) (pending_at t w) (below w) (moves.works w)
 goes-place s t below (inr d) w =
     let was : IsBelow s.next (Some d.p) = subst (λ (o : Option Pending). IsBelow s.next o) d.was (below d.w) in
     let q : Pending = record d.p { place = Deferred d.pool } in
     deferred-tells (weight false true s.next) (λ before now. is_born s.next now) s t d.w w d.p q d.pending d.was (λ u. stays-place s.next (pending_at s u) (below u)) (stays-place s.next (Some q) (was.0, was.1))
 
-passing-none : (test : Change → Bool) (b : Bool) (now : ℕ) → test (change.Now now) ≡ false → count_changes test (cond b [] (change.Now now ∷ [])) ≡ 0
+pub passing-none : (test : Change → Bool) (b : Bool) (now : ℕ) → test (change.Now now) ≡ false → count_changes test (cond b [] (change.Now now ∷ [])) ≡ 0
 passing-none test true now e = refl
 passing-none test false now e = ap (λ (c : Bool). cond c 1 0 + 0) e
 

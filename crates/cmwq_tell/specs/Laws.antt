@@ -71,6 +71,12 @@ abbrev pub is_born : ℕ → Option Pending → Bool
 is_born next (Some p) = not (nat_lt p.born next)
 is_born next None = false
 
+-- the change tells another time than this
+abbrev pub is_time_but : ℕ → Change → Bool
+is_time_but time (change.Now now) = not (now == time)
+is_time_but time (change.Activated work pool) = false
+is_time_but time (change.Placed work place) = false
+
 -- As many lines tell an activation as works go from inactive to listed with the same birth.
 unfoldable pub TellsActivations : ScenarioContents → State → Instr → Type 0
 TellsActivations S s i =
@@ -82,6 +88,56 @@ unfoldable pub TellsPlaces : ScenarioContents → State → Instr → Type 0
 TellsPlaces S s i =
     count_changes tells_place (hidden s (state_after S s i))
     ≡ count_below (λ w. is_born s.next (pending_at (state_after S s i) w)) (length (state_after S s i).pending)
+
+-- What is told of one work.
+
+-- the change tells that this work was placed, where the test of its place is met
+abbrev pub tells_placing : ℕ → (Place → Bool) → Change → Bool
+tells_placing w test (change.Placed work place) = (work.0 == w) && test place
+tells_placing w test (change.Activated work pool) = false
+tells_placing w test (change.Now now) = false
+
+-- the change tells that this work was activated, in a pool whose test is met
+abbrev pub tells_activating : ℕ → (ℕ → Bool) → Change → Bool
+tells_activating w test (change.Activated work pool) = (work.0 == w) && test pool
+tells_activating w test (change.Placed work place) = false
+tells_activating w test (change.Now now) = false
+
+-- the work pends with a birth that isn't below, at a place whose test is met
+abbrev pub is_born_at : ℕ → (Place → Bool) → Option Pending → Bool
+is_born_at next test (Some p) = not (nat_lt p.born next) && test p.place
+is_born_at next test None = false
+
+abbrev pub is_listed_where : (ℕ → Bool) → Place → Bool
+is_listed_where test (Listed at) = test at
+is_listed_where test (Timer due cpu) = false
+is_listed_where test (Inactive at) = false
+is_listed_where test (Deferred at) = false
+
+-- what was inactive before is listed now, in a pool whose test is met, and has its birth still
+abbrev pub is_activation_in : (ℕ → Bool) → (before now : Option Pending) → Bool
+is_activation_in test (Some p) (Some q) = is_waiting p.place && is_listed_where test q.place && (q.born == p.born)
+is_activation_in test (Some p) None = false
+is_activation_in test None now = false
+
+-- A line tells a place of a work exactly where the work has a new birth, and then it is that place; and one such line at most.
+unfoldable pub TellsEachPlace : ScenarioContents → State → Instr → Type 0
+TellsEachPlace S s i =
+    (w : ℕ) (test : Place → Bool)
+    → count_changes (tells_placing w test) (hidden s (state_after S s i)) ≡ (if is_born_at s.next test (pending_at (state_after S s i) w) then 1 else 0)
+
+-- A line tells an activation of a work exactly where the work goes from inactive to listed with the same birth, and then in that pool;
+-- and one such line at most.
+unfoldable pub TellsEachActivation : ScenarioContents → State → Instr → Type 0
+TellsEachActivation S s i =
+    (w : ℕ) (test : ℕ → Bool)
+    → count_changes (tells_activating w test) (hidden s (state_after S s i))
+    ≡ (if is_activation_in test (pending_at s w) (pending_at (state_after S s i) w) then 1 else 0)
+
+-- A line that tells a time tells the one that it is then.
+unfoldable pub TellsTheTime : ScenarioContents → State → Instr → Type 0
+TellsTheTime S s i =
+    count_changes (λ told. is_time_but (state_after S s i).time told) (hidden s (state_after S s i)) ≡ 0
 
 -- As many lines tell a new time as ticks pass.
 unfoldable pub TellsTicks : ScenarioContents → State → Instr → Type 0

@@ -2,7 +2,7 @@
 //!
 //! Each function's contract is a law. The functions do nothing: they carry the laws.
 ghost use Rattle.cmwq_table.specs.Laws.{AtEveryInstruction};
-ghost use Rattle.cmwq_tell.specs.Laws.{HidesNothingAsked, HidesNothingRefused, KeepsTheRun, ListsEachInstruction, TellsActivations, TellsPlaces, TellsTicks};
+ghost use Rattle.cmwq_tell.specs.Laws.{HidesNothingAsked, HidesNothingRefused, KeepsTheRun, ListsEachInstruction, TellsActivations, TellsEachActivation, TellsEachPlace, TellsPlaces, TellsTheTime, TellsTicks};
 
 use cmwq_grammar::laws::text_spells_one_scenario;
 use cmwq_table::laws::{questions_change_nothing, refused_instructions_change_nothing};
@@ -23,6 +23,15 @@ pub fn each_hidden_change_is_told_once()
     ensures activations { AtEveryInstruction TellsActivations }
     ensures places { AtEveryInstruction TellsPlaces }
     ensures ticks { AtEveryInstruction TellsTicks }
+{}
+
+/// What the lines say of a work is so: a work is told to be at a place exactly where it has a new birth there, and activated exactly where it
+/// goes from inactive to listed in that pool with the birth that it had, in one line each; and a line `now` has the time that it is.
+#[tactic(auto, using(crate::proofs::EachLemmas::tells_each_place, crate::proofs::EachLemmas::tells_each_activation, crate::proofs::EachLemmas::tells_the_time))]
+pub fn each_line_says_what_changed()
+    ensures places { AtEveryInstruction TellsEachPlace }
+    ensures activations { AtEveryInstruction TellsEachActivation }
+    ensures time { AtEveryInstruction TellsTheTime }
 {}
 
 /// Whoever leaves out the lines that begin with `#` gets the lines of the run, byte for byte.
