@@ -280,11 +280,10 @@ impl<M: Machine> Debugger<M> {
         Ok(Said::Text(text))
     }
 
-    #[tactic(auto, using(crate::proofs::ScenarioLemmas::setting))]
     fn pool_count(&self) -> u8
         ensures { result ≡ pool_count self.now.scenario }
     {
-        self.scenario.pool_count()
+        self.machine.scenario().pool_count()
     }
 
     /// What the machine shows of the state at the position.
@@ -334,8 +333,7 @@ impl<M: Machine> Debugger<M> {
     fn why_line(&self, work: WorkId) -> Result<String, NoMemory>
         ensures { IfOk result (λ text. string_bytes text ≡ work_line self.now.scenario (state_at self.now self.now.position) work.0) }
     {
-        let view = self.view()?;
-        work_text(self.alloc, &self.scenario, &view, work)
+        work_text(self.alloc, &self.machine, work)
     }
 
     /// What the flush waits for in the state at the position, if it was given by then.
@@ -343,7 +341,6 @@ impl<M: Machine> Debugger<M> {
         ensures { IfOk result (λ lines. MatchOption lines (flush_lines self.now.scenario (state_at self.now self.now.position) flush ≡ None)
             (λ lines. flush_lines self.now.scenario (state_at self.now self.now.position) flush ≡ Some (string_bytes lines))) }
     {
-        let view = self.view()?;
-        flush_text(self.alloc, &self.scenario, &view, flush as usize)
+        flush_text(self.alloc, &self.machine, flush as usize)
     }
 }

@@ -5,6 +5,6 @@ use Rattle.cmwq_debug.proofs.moving.carry_out.Given as goal
 -- the instructions up to here were carried out
 abbrev pub invariant-loop-k : goal.invariant-loop-k
 invariant-loop-k g l = record {
-  state : g.M.Machine.state l.machine ≡ run (g.M.Machine.loaded l.fn.machine) (take l.k l.instrs);
-  scenario : g.M.Machine.loaded l.machine ≡ g.M.Machine.loaded l.fn.machine;
+  state : g.M.Reads.state l.machine ≡ run (g.M.Reads.loaded l.fn.machine) (take l.k l.instrs);
+  scenario : g.M.Reads.loaded l.machine ≡ g.M.Reads.loaded l.fn.machine;
 }

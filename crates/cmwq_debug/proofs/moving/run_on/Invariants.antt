@@ -8,7 +8,7 @@ use Rattle.cmwq_debug.proofs.moving.run_on.Given as goal
 -- the instructions up to here were carried out, and no break matched
 abbrev pub invariant-loop-k : goal.invariant-loop-k
 invariant-loop-k g l = record {
-  state : g.M.Machine.state l.machine ≡ run (g.M.Machine.loaded l.fn.machine) (take l.k l.instrs);
-  scenario : g.M.Machine.loaded l.machine ≡ g.M.Machine.loaded l.fn.machine;
-  none : lowest (λ k. nat_le l.from k && is_some (break_of (session_of (g.M.Machine.loaded l.fn.machine) l.instrs l.from l.breaks) k)) l.k ≡ None;
+  state : g.M.Reads.state l.machine ≡ run (g.M.Reads.loaded l.fn.machine) (take l.k l.instrs);
+  scenario : g.M.Reads.loaded l.machine ≡ g.M.Reads.loaded l.fn.machine;
+  none : lowest (λ k. nat_le l.from k && is_some (break_of (session_of (g.M.Reads.loaded l.fn.machine) l.instrs l.from l.breaks) k)) l.k ≡ None;
 }
