@@ -1,3 +1,2 @@
 pub mod LowestLemmas
 pub mod MovingLemmas
-pub mod ScenarioLemmas

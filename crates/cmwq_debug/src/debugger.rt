@@ -4,7 +4,6 @@ ghost use Rattle.cmwq_debug.specs.Breaks.{break_at};
 ghost use Rattle.cmwq_dump.specs.Dump.{dump, pool_lines};
 ghost use Rattle.cmwq_waits.specs.Text.{flush_lines};
 ghost use Rattle.cmwq_why_text.specs.Text.{work_line};
-ghost use Rattle.cmwq_table.specs.View.{view_of};
 ghost use Rattle.cmwq_types.specs.Faults.{IsValid};
 ghost use Rattle.cmwq_types.specs.Scenario.{pool_count};
 ghost use Rattle.cmwq_types.specs.declared.limits.TheConstants.{MAX_HISTORY};
@@ -14,7 +13,7 @@ use crate::breaks::{Break, MAX_BREAKS, free};
 use crate::command::{Command, DebugError, EventKind, Said};
 use crate::moving::{carry_out, run_on};
 use cmwq_dump::{dump_text, pool_text};
-use cmwq_table::{LoadError, Machine, View};
+use cmwq_table::{LoadError, Machine};
 use cmwq_types::{Instr, NoMemory, Scenario, WorkId};
 use cmwq_waits::flush_text;
 use cmwq_why_text::work_text;
@@ -280,26 +279,17 @@ impl<M: Machine> Debugger<M> {
         Ok(Said::Text(text))
     }
 
-    #[tactic(auto, using(crate::proofs::ScenarioLemmas::setting))]
     fn pool_count(&self) -> u8
         ensures { result ≡ pool_count self.now.scenario }
     {
-        self.scenario.pool_count()
-    }
-
-    /// What the machine shows of the state at the position.
-    fn view(&self) -> Result<View, NoMemory>
-        ensures { IfOk result (λ view. view ≡ view_of (state_at self.now self.now.position)) }
-    {
-        self.machine.look()
+        self.machine.scenario().pool_count()
     }
 
     /// The dump text of the state at the position.
     fn state_text(&self) -> Result<Vec<u8>, NoMemory>
         ensures { IfOk result (λ text. text.items ≡ dump self.now.scenario (state_at self.now self.now.position)) }
     {
-        let view = self.view()?;
-        dump_text(self.alloc, &self.scenario, &view)
+        dump_text(self.alloc, &self.machine)
     }
 
     fn why(&self, work: WorkId) -> Result<Said, DebugError>
@@ -326,16 +316,14 @@ impl<M: Machine> Debugger<M> {
     fn pool_text(&self, pool: u8) -> Result<Vec<u8>, NoMemory>
         ensures { IfOk result (λ text. text.items ≡ pool_lines self.now.scenario (state_at self.now self.now.position) pool) }
     {
-        let view = self.view()?;
-        pool_text(self.alloc, &self.scenario, &view, pool)
+        pool_text(self.alloc, &self.machine, pool)
     }
 
     /// Why the work isn't further in the state at the position.
     fn why_line(&self, work: WorkId) -> Result<String, NoMemory>
         ensures { IfOk result (λ text. string_bytes text ≡ work_line self.now.scenario (state_at self.now self.now.position) work.0) }
     {
-        let view = self.view()?;
-        work_text(self.alloc, &self.scenario, &view, work)
+        work_text(self.alloc, &self.machine, work)
     }
 
     /// What the flush waits for in the state at the position, if it was given by then.
@@ -343,7 +331,6 @@ impl<M: Machine> Debugger<M> {
         ensures { IfOk result (λ lines. MatchOption lines (flush_lines self.now.scenario (state_at self.now self.now.position) flush ≡ None)
             (λ lines. flush_lines self.now.scenario (state_at self.now self.now.position) flush ≡ Some (string_bytes lines))) }
     {
-        let view = self.view()?;
-        flush_text(self.alloc, &self.scenario, &view, flush as usize)
+        flush_text(self.alloc, &self.machine, flush as usize)
     }
 }

@@ -9,7 +9,7 @@ mod tally;
 mod workers;
 
 pub use flushes::{flush_target, is_done};
-pub use moves::{has_no_move, is_settled, next_move, ready_head};
+pub use moves::{has_no_move, is_settled, is_spent, next_move, ready_head};
 pub use sought::{Sought, fires_before, first, pending_before, running_before, wakes_before};
 pub use tally::{Tally, active, count, has_room, is_busy, is_counted, level, limit, may_start};
 pub use workers::{free_worker, has_free_rescuer, idle_since, last_idle, new_worker};

@@ -2,13 +2,20 @@
 ghost use Rattle.cmwq_table.specs.Counts.{first_due, first_listed, first_runnable, free_worker, if_ready, ready_head};
 ghost use Rattle.cmwq_table.specs.Moves.{first_moving, next_move, start_first, start_move};
 ghost use Rattle.cmwq_types.specs.declared.limits.TheConstants.{MAX_WORKS};
-ghost use Rattle.std.specs.Prelude.{◌≡◌, ◌&&◌, ◌<◌, IfSome, is_none, length};
+ghost use Rattle.std.specs.Prelude.{◌≡◌, ◌&&◌, ◌<◌, IfSome, is_none, length, nat_lt, not};
 
 use crate::sought::{Sought, first};
 use crate::tally::may_start;
 use crate::workers::free_worker;
 use cmwq_table::Reads;
 use cmwq_types::{Move, WorkId};
+
+/// Whether the scenario's steps are spent, so that nothing moves any more.
+pub fn is_spent<R: Reads>(machine: &R) -> bool
+    ensures { result ≡ not (nat_lt (R.state machine.now).spent (R.loaded machine.now).steps) }
+{
+    machine.spent() >= machine.scenario().steps
+}
 
 /// Whether no timer is due and no pool has a move.
 pub fn is_settled<R: Reads>(machine: &R) -> bool

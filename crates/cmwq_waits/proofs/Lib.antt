@@ -1,3 +1,2 @@
-pub mod AlikeLemmas
 pub mod ReachLemmas
 pub mod TextLemmas

@@ -1,4 +1,4 @@
-//! What a flush waits for, read off what a machine shows of its state, as text.
+//! What a flush waits for, asked of a machine, as text.
 #![tactic(auto)]
 
 mod flush;

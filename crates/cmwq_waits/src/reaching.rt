@@ -4,42 +4,55 @@ ghost use Rattle.cmwq_waits.specs.Waits.{blamed, reached, with_blamed, with_inst
 ghost use Rattle.std.specs.List.{list_any};
 ghost use Rattle.std.specs.Prelude.{◌≡◌, IfOk, OnOk};
 
-use crate::telling::Telling;
 use cmwq_reasons::Instance;
+use cmwq_table::Reads;
 use cmwq_types::{NoMemory, WorkId};
+use cmwq_why::{causes, is_same, reason_of};
+use std::alloc::Global;
 
-impl Telling<'_> {
-    /// These instances, then those whom they blame, and so on, each once.
-    pub(crate) fn reached(&self, instances: &[Instance]) -> Result<Vec<Instance>, NoMemory>
-        ensures { IfOk result (λ all. all.items ≡ reached self.now.snapshot.scenario self.now.snapshot.state instances.now) }
-    {
-        let mut all = Vec::new(self.alloc);
-        all.extend_from_slice(instances)?;
-        for place in 0..2 * self.snapshot.scenario().works.len() {
-            self.add_blamed(&mut all, place)?;
-        }
-        Ok(all)
+/// These instances, then those whom they blame, and so on, each once.
+pub(crate) fn reached<R: Reads>(
+    alloc: Global,
+    machine: &R,
+    instances: &[Instance],
+) -> Result<Vec<Instance>, NoMemory>
+    ensures { IfOk result (λ all. all.items ≡ reached (R.loaded machine.now) (R.state machine.now) instances.now) }
+{
+    let mut all = Vec::new(alloc);
+    all.extend_from_slice(instances)?;
+    for place in 0..2 * machine.scenario().works.len() {
+        add_blamed(alloc, machine, &mut all, place)?;
     }
+    Ok(all)
+}
 
-    /// Adds those whom the instance at the place blames, if there is one.
-    fn add_blamed(&self, all: &mut Vec<Instance>, place: usize) -> Result<(), NoMemory>
-        ensures { OnOk result (all.new.items ≡ with_blamed self.now.snapshot.scenario self.now.snapshot.state all.old.items place) }
-    {
-        let Some(instance) = all.get(place).copied() else {
-            return Ok(());
-        };
-        let blamed = self.blamed(instance)?;
-        add_all(all, &blamed)
-    }
+/// Adds those whom the instance at the place blames, if there is one.
+fn add_blamed<R: Reads>(
+    alloc: Global,
+    machine: &R,
+    all: &mut Vec<Instance>,
+    place: usize,
+) -> Result<(), NoMemory>
+    ensures { OnOk result (all.new.items ≡ with_blamed (R.loaded machine.now) (R.state machine.now) all.old.items place) }
+{
+    let Some(instance) = all.get(place).copied() else {
+        return Ok(());
+    };
+    let blamed = blamed(alloc, machine, instance)?;
+    add_all(all, &blamed)
+}
 
-    /// Those whom the instance blames.
-    fn blamed(&self, instance: Instance) -> Result<Vec<Instance>, NoMemory>
-        ensures { IfOk result (λ instances. instances.items ≡ blamed self.now.snapshot.scenario self.now.snapshot.state instance) }
-    {
-        match self.snapshot.reason(instance) {
-            Some(reason) => self.snapshot.causes(self.alloc, work_of(instance), reason),
-            None => Ok(Vec::new(self.alloc)),
-        }
+/// Those whom the instance blames.
+fn blamed<R: Reads>(
+    alloc: Global,
+    machine: &R,
+    instance: Instance,
+) -> Result<Vec<Instance>, NoMemory>
+    ensures { IfOk result (λ instances. instances.items ≡ blamed (R.loaded machine.now) (R.state machine.now) instance) }
+{
+    match reason_of(machine, instance) {
+        Some(reason) => causes(alloc, machine, work_of(instance), reason),
+        None => Ok(Vec::new(alloc)),
     }
 }
 
@@ -67,16 +80,6 @@ fn has(all: &[Instance], instance: Instance) -> bool
     ensures { result ≡ list_any (is_same instance) all.now }
 {
     all.iter().any(|other| is_same(instance, *other))
-}
-
-fn is_same(one: Instance, other: Instance) -> bool
-    ensures { result ≡ is_same one other }
-{
-    match (one, other) {
-        (Instance::Pending(v), Instance::Pending(w)) => v.0 == w.0,
-        (Instance::Running(v), Instance::Running(w)) => v.0 == w.0,
-        _ => false,
-    }
 }
 
 /// The instance's work.

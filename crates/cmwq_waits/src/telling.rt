@@ -1,146 +1,131 @@
 //! The lines of what a flush waits for.
 ghost use Rattle.cmwq_reasons.specs.Reasons.{lacks_memory, lacks_thaw};
-ghost use Rattle.cmwq_waits.specs.Text.{flush_lines, head_text, line, lines, lines_of, needs_of, waiting_text, waits_text};
+ghost use Rattle.cmwq_waits.specs.Text.{head_text, line, lines, lines_of, needs_of, waiting_text, waits_text};
 ghost use Rattle.std.specs.Fmt.{decimal};
 ghost use Rattle.std.specs.List.{list_any};
-ghost use Rattle.std.specs.Prelude.{◌≡◌, ◌++◌, IfOk, MatchOption, None, OnOk, Some, codes, drop, string_bytes};
+ghost use Rattle.std.specs.Prelude.{◌≡◌, ◌++◌, IfOk, OnOk, codes, drop, string_bytes};
 
 use crate::needs::Needs;
-use crate::reaching::work_of;
+use crate::reaching::{reached, work_of};
+use cmwq_reads::is_spent;
 use cmwq_reasons::Instance;
+use cmwq_table::Reads;
 use cmwq_types::NoMemory;
-use cmwq_why::Snapshot;
+use cmwq_why::{lacks_memory, lacks_thaw, reason_of};
 use cmwq_why_text::Wording;
-use std::alloc::Global;
 
-/// A state of which is told what flushes wait for in it.
-#[derive(Drop)]
-pub(crate) struct Telling<'a> {
-    pub(crate) alloc: Global,
-    pub(crate) snapshot: Snapshot<'a>,
+/// What is written of a flush of this number that waits for these instances.
+pub(crate) fn lines_of<R: Reads>(
+    wording: &Wording<'_, R>,
+    flush: usize,
+    waits: &[Instance],
+) -> Result<String, NoMemory>
+    ensures { IfOk result (λ text. string_bytes text ≡ lines_of (R.loaded wording.now.machine.now) (R.state wording.now.machine.now) flush waits.now) }
+{
+    let mut text = String::new(wording.alloc);
+    push_number(&mut text, "flush ", flush)?;
+    push_waits(wording, &mut text, waits)?;
+    Ok(text)
 }
 
-impl Telling<'_> {
-    /// How reasons are worded.
-    fn wording(&self) -> Wording<'_>
-        ensures alloc { result.alloc ≡ self.now.alloc }
-        ensures snapshot { result.snapshot.now ≡ self.now.snapshot }
-    {
-        Wording {
-            alloc: self.alloc,
-            snapshot: &self.snapshot,
-        }
+/// Appends what is told of a flush that waits for these instances.
+fn push_waits<R: Reads>(
+    wording: &Wording<'_, R>,
+    text: &mut String,
+    waits: &[Instance],
+) -> Result<(), NoMemory>
+    ensures { OnOk result (string_bytes text.new ≡ string_bytes text.old ++ waits_text (R.loaded wording.now.machine.now) (R.state wording.now.machine.now) waits.now) }
+{
+    if waits.is_empty() {
+        text.push_str(" done\n")?;
+        return Ok(());
     }
+    push_waiting(wording, text, waits)
+}
 
-    /// What is written of the flush of this number; `None` where none was given.
-    pub(crate) fn flush_lines(&self, flush: usize) -> Result<Option<String>, NoMemory>
-        ensures { IfOk result (λ text. MatchOption text (flush_lines self.now.snapshot.scenario self.now.snapshot.state flush ≡ None)
-            (λ text. flush_lines self.now.snapshot.scenario self.now.snapshot.state flush ≡ Some (string_bytes text))) }
-    {
-        let Some(target) = self.snapshot.flush(flush) else {
-            return Ok(None);
-        };
-        let waits = self.snapshot.waits(self.alloc, target)?;
-        let text = self.lines_of(flush, &waits)?;
-        Ok(Some(text))
-    }
+/// The same of a flush that isn't done: the lines of these instances, and those of all others that these wait for.
+fn push_waiting<R: Reads>(
+    wording: &Wording<'_, R>,
+    text: &mut String,
+    waits: &[Instance],
+) -> Result<(), NoMemory>
+    ensures { OnOk result (string_bytes text.new ≡ string_bytes text.old ++ waiting_text (R.loaded wording.now.machine.now) (R.state wording.now.machine.now) waits.now) }
+{
+    let all = reached(wording.alloc, wording.machine, waits)?;
+    push_head(wording.machine, text, waits)?;
+    push_lines(wording, text, "  ", waits)?;
+    push_lines(wording, text, "    ", others(&all, waits.len()))
+}
 
-    /// What is written of a flush of this number that waits for these instances.
-    fn lines_of(&self, flush: usize, waits: &[Instance]) -> Result<String, NoMemory>
-        ensures { IfOk result (λ text. string_bytes text ≡ lines_of self.now.snapshot.scenario self.now.snapshot.state flush waits.now) }
-    {
-        let mut text = String::new(self.alloc);
-        push_number(&mut text, "flush ", flush)?;
-        self.push_waits(&mut text, waits)?;
-        Ok(text)
-    }
+/// Appends how many instances a flush waits for, and what has to come from outside.
+fn push_head<R: Reads>(machine: &R, text: &mut String, waits: &[Instance]) -> Result<(), NoMemory>
+    ensures { OnOk result (string_bytes text.new ≡ string_bytes text.old ++ head_text (R.loaded machine.now) (R.state machine.now) waits.now) }
+{
+    push_number(text, " waits for ", waits.len())?;
+    needs(machine, waits).push(text)?;
+    text.push_str("\n")?;
+    Ok(())
+}
 
-    /// Appends what is told of a flush that waits for these instances.
-    fn push_waits(&self, text: &mut String, waits: &[Instance]) -> Result<(), NoMemory>
-        ensures { OnOk result (string_bytes text.new ≡ string_bytes text.old ++ waits_text self.now.snapshot.scenario self.now.snapshot.state waits.now) }
-    {
-        if waits.is_empty() {
-            text.push_str(" done\n")?;
-            return Ok(());
-        }
-        self.push_waiting(text, waits)
+/// What has to come from outside before a flush that waits for these instances is done.
+fn needs<R: Reads>(machine: &R, waits: &[Instance]) -> Needs
+    ensures { result ≡ needs_of (R.loaded machine.now) (R.state machine.now) waits.now }
+{
+    Needs {
+        thaw: lack_thaw(machine, waits),
+        memory: lack_memory(machine, waits),
+        steps: is_spent(machine),
     }
+}
 
-    /// The same of a flush that isn't done: the lines of these instances, and those of all others that these wait for.
-    fn push_waiting(&self, text: &mut String, waits: &[Instance]) -> Result<(), NoMemory>
-        ensures { OnOk result (string_bytes text.new ≡ string_bytes text.old ++ waiting_text self.now.snapshot.scenario self.now.snapshot.state waits.now) }
-    {
-        let all = self.reached(waits)?;
-        self.push_head(text, waits)?;
-        self.push_lines(text, "  ", waits)?;
-        self.push_lines(text, "    ", others(&all, waits.len()))
-    }
+/// Whether one of the instances waits for a thaw.
+fn lack_thaw<R: Reads>(machine: &R, waits: &[Instance]) -> bool
+    ensures { result ≡ list_any (lacks_thaw (R.loaded machine.now) (R.state machine.now)) waits.now }
+{
+    waits.iter().any(|x| lacks_thaw(machine, *x))
+}
 
-    /// Appends how many instances a flush waits for, and what has to come from outside.
-    fn push_head(&self, text: &mut String, waits: &[Instance]) -> Result<(), NoMemory>
-        ensures { OnOk result (string_bytes text.new ≡ string_bytes text.old ++ head_text self.now.snapshot.scenario self.now.snapshot.state waits.now) }
-    {
-        push_number(text, " waits for ", waits.len())?;
-        self.needs(waits).push(text)?;
-        text.push_str("\n")?;
-        Ok(())
-    }
+/// Whether one of the instances waits for the end of the shortage of memory.
+fn lack_memory<R: Reads>(machine: &R, waits: &[Instance]) -> bool
+    ensures { result ≡ list_any (lacks_memory (R.loaded machine.now) (R.state machine.now)) waits.now }
+{
+    waits.iter().any(|x| lacks_memory(machine, *x))
+}
 
-    /// What has to come from outside before a flush that waits for these instances is done.
-    fn needs(&self, waits: &[Instance]) -> Needs
-        ensures { result ≡ needs_of self.now.snapshot.scenario self.now.snapshot.state waits.now }
-    {
-        Needs {
-            thaw: self.lack_thaw(waits),
-            memory: self.lack_memory(waits),
-            steps: self.snapshot.is_spent(),
-        }
+/// Appends a line for each instance.
+fn push_lines<R: Reads>(
+    wording: &Wording<'_, R>,
+    text: &mut String,
+    indent: &str,
+    instances: &[Instance],
+) -> Result<(), NoMemory>
+    ensures { OnOk result (string_bytes text.new ≡ string_bytes text.old ++ lines (R.loaded wording.now.machine.now) (R.state wording.now.machine.now) indent.now instances.now) }
+{
+    for instance in instances {
+        push_line(wording, text, indent, *instance)?;
     }
+    Ok(())
+}
 
-    /// Whether one of the instances waits for a thaw.
-    fn lack_thaw(&self, waits: &[Instance]) -> bool
-        ensures { result ≡ list_any (lacks_thaw self.now.snapshot.scenario self.now.snapshot.state) waits.now }
-    {
-        waits.iter().any(|x| self.snapshot.lacks_thaw(*x))
-    }
-
-    /// Whether one of the instances waits for the end of the shortage of memory.
-    fn lack_memory(&self, waits: &[Instance]) -> bool
-        ensures { result ≡ list_any (lacks_memory self.now.snapshot.scenario self.now.snapshot.state) waits.now }
-    {
-        waits.iter().any(|x| self.snapshot.lacks_memory(*x))
-    }
-
-    /// Appends a line for each instance.
-    fn push_lines(
-        &self,
-        text: &mut String,
-        indent: &str,
-        instances: &[Instance],
-    ) -> Result<(), NoMemory>
-        ensures { OnOk result (string_bytes text.new ≡ string_bytes text.old ++ lines self.now.snapshot.scenario self.now.snapshot.state indent.now instances.now) }
-    {
-        for instance in instances {
-            self.push_line(text, indent, *instance)?;
-        }
-        Ok(())
-    }
-
-    /// Appends the line of the instance, if there is such a one.
-    fn push_line(&self, text: &mut String, indent: &str, instance: Instance) -> Result<(), NoMemory>
-        ensures { OnOk result (string_bytes text.new ≡ string_bytes text.old ++ line self.now.snapshot.scenario self.now.snapshot.state indent.now instance) }
-    {
-        let work = work_of(instance);
-        let Some(reason) = self.snapshot.reason(instance) else {
-            return Ok(());
-        };
-        text.push_str(indent)?;
-        text.push_str(self.wording().name(work.0))?;
-        text.push_str(" ")?;
-        self.wording().push_reason(text, work, reason)?;
-        text.push_str("\n")?;
-        Ok(())
-    }
+/// Appends the line of the instance, if there is such a one.
+fn push_line<R: Reads>(
+    wording: &Wording<'_, R>,
+    text: &mut String,
+    indent: &str,
+    instance: Instance,
+) -> Result<(), NoMemory>
+    ensures { OnOk result (string_bytes text.new ≡ string_bytes text.old ++ line (R.loaded wording.now.machine.now) (R.state wording.now.machine.now) indent.now instance) }
+{
+    let work = work_of(instance);
+    let Some(reason) = reason_of(wording.machine, instance) else {
+        return Ok(());
+    };
+    text.push_str(indent)?;
+    text.push_str(wording.name(work.0))?;
+    text.push_str(" ")?;
+    wording.push_reason(text, work, reason)?;
+    text.push_str("\n")?;
+    Ok(())
 }
 
 /// Appends the words and the number.

@@ -1,4 +1,0 @@
-pub mod AlikeLemmas
-pub mod CausesAlikeLemmas
-pub mod FlushAlikeLemmas
-pub mod LawLemmas

@@ -3,49 +3,48 @@ ghost use Rattle.cmwq_reasons.specs.Reasons.{is_same, moved_instance, mover, oth
 ghost use Rattle.cmwq_types.specs.declared.limits.TheConstants.{MAX_WORKS};
 ghost use Rattle.std.specs.Prelude.{◌≡◌, ◌<◌, IfSome};
 
-use crate::snapshot::Snapshot;
+use cmwq_reads::{Sought, first, next_move};
 use cmwq_reasons::Instance;
+use cmwq_table::Reads;
 use cmwq_types::Move;
 
-impl Snapshot<'_> {
-    /// The instance that the pool's next move moves, if that is another one than this.
-    pub(crate) fn other_mover(&self, pool: u8, instance: Instance) -> Option<Instance>
-        ensures { result ≡ other_instance instance (mover self.now.scenario self.now.state pool) }
-    {
-        match self.mover(pool) {
-            Some(other) if !is_same(instance, other) => Some(other),
-            _ => None,
-        }
+/// The instance that the pool's next move moves, if that is another one than this.
+pub(crate) fn other_mover<R: Reads>(machine: &R, pool: u8, instance: Instance) -> Option<Instance>
+    ensures { result ≡ other_instance instance (mover (R.loaded machine.now) (R.state machine.now) pool) }
+{
+    match mover(machine, pool) {
+        Some(other) if !is_same(instance, other) => Some(other),
+        _ => None,
     }
+}
 
-    /// The instance that the pool's next move moves.
-    fn mover(&self, pool: u8) -> Option<Instance>
-        ensures { result ≡ mover self.now.scenario self.now.state pool }
-    {
-        self.next_move(pool).map(moved_instance)
-    }
+/// The instance that the pool's next move moves.
+fn mover<R: Reads>(machine: &R, pool: u8) -> Option<Instance>
+    ensures { result ≡ mover (R.loaded machine.now) (R.state machine.now) pool }
+{
+    next_move(machine, pool).map(moved_instance)
+}
 
-    /// The work that goes before this one on the CPU of a bound pool: the pool's first runnable one, if it is another one.
-    pub(crate) fn work_before(&self, w: usize, pool: u8) -> Option<usize>
-        ensures before { result ≡ work_before self.now.scenario self.now.state w pool }
-        ensures in_range { IfSome result (λ v. v < MAX_WORKS) }
-    {
-        if self.scenario().is_unbound(pool) {
-            return None;
-        }
-        other_work(w, self.first_runnable(pool))
+/// The work that goes before this one on the CPU of a bound pool: the pool's first runnable one, if it is another one.
+pub(crate) fn work_before<R: Reads>(machine: &R, w: usize, pool: u8) -> Option<usize>
+    ensures before { result ≡ work_before (R.loaded machine.now) (R.state machine.now) w pool }
+    ensures in_range { IfSome result (λ v. v < MAX_WORKS) }
+{
+    if machine.scenario().is_unbound(pool) {
+        return None;
     }
+    other_work(w, first(machine, Sought::Runnable { pool }))
+}
 
-    /// The work that keeps the normal pool of a CPU from burning: the first runnable one of the CPU's high pool.
-    pub(crate) fn work_above(&self, pool: u8) -> Option<usize>
-        ensures above { result ≡ work_above self.now.scenario self.now.state pool }
-        ensures in_range { IfSome result (λ v. v < MAX_WORKS) }
-    {
-        if self.scenario().is_unbound(pool) || pool % 2 == 1 {
-            return None;
-        }
-        self.first_runnable(pool + 1)
+/// The work that keeps the normal pool of a CPU from burning: the first runnable one of the CPU's high pool.
+pub(crate) fn work_above<R: Reads>(machine: &R, pool: u8) -> Option<usize>
+    ensures above { result ≡ work_above (R.loaded machine.now) (R.state machine.now) pool }
+    ensures in_range { IfSome result (λ v. v < MAX_WORKS) }
+{
+    if machine.scenario().is_unbound(pool) || pool % 2 == 1 {
+        return None;
     }
+    first(machine, Sought::Runnable { pool: pool + 1 })
 }
 
 /// The work, if it is another one than this.
@@ -60,7 +59,8 @@ pub(crate) fn other_work(w: usize, found: Option<usize>) -> Option<usize>
     }
 }
 
-fn is_same(one: Instance, other: Instance) -> bool
+/// Whether they are one instance.
+pub fn is_same(one: Instance, other: Instance) -> bool
     ensures { result ≡ is_same one other }
 {
     match (one, other) {

@@ -1,20 +1,15 @@
-//! Why a work doesn't get on, and what a flush waits for, read off what a machine shows of its state.
+//! Why a work doesn't get on, and what a flush waits for, asked of a machine.
 #![tactic(auto)]
 
-mod causes;
-mod entries;
+mod blame;
 mod flushes;
 mod going_first;
 mod group;
-pub mod laws;
-mod moves;
 mod pending;
 mod running;
-mod settled;
-mod snapshot;
-mod sought;
-mod tally;
-mod workers;
 
-pub use settled::is_settled;
-pub use snapshot::Snapshot;
+pub use blame::{causes, counted_works, holders, inactive_before, listed_before, on_workers};
+pub use flushes::{lacks_memory, lacks_thaw, waits};
+pub use going_first::is_same;
+pub use pending::pending_reason;
+pub use running::{reason_of, running_reason};

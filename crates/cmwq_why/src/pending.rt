@@ -5,38 +5,37 @@ ghost use Rattle.cmwq_types.specs.declared.limits.TheConstants.{MAX_WORKS};
 ghost use Rattle.std.specs.Prelude.{◌≡◌, ◌<◌, IfSome};
 
 use crate::going_first::other_work;
-use crate::snapshot::Snapshot;
+use cmwq_reads::{Sought, first, limit, may_start, next_move};
 use cmwq_reasons::{Instance, Reason, Turn};
+use cmwq_table::Reads;
 use cmwq_types::{Move, Place, WorkId};
 
-impl Snapshot<'_> {
-    /// Why what is queued of the work isn't further, or why nothing is queued of it. The reasons are this project's own.
-    pub fn pending_reason(&self, w: WorkId) -> Reason
-        ensures { result ≡ reason_of_pending self.now.scenario self.now.state w.0 (pending_at self.now.state w.0) }
-    {
-        match self.pending_of(w.0 as usize) {
-            Some(p) => self.reason_in_place(w, p.place),
-            None => reason_of_none(self.depth_of(w.0 as usize)),
-        }
+/// Why what is queued of the work isn't further, or why nothing is queued of it. The reasons are this project's own.
+pub fn pending_reason<R: Reads>(machine: &R, w: WorkId) -> Reason
+    ensures { result ≡ reason_of_pending (R.loaded machine.now) (R.state machine.now) w.0 (pending_at (R.state machine.now) w.0) }
+{
+    match machine.pending_of(w.0 as usize) {
+        Some(p) => reason_in_place(machine, w, p.place),
+        None => reason_of_none(machine.depth_of(w.0 as usize)),
     }
+}
 
-    /// Why the work, which pends there, isn't further.
-    fn reason_in_place(&self, w: WorkId, place: Place) -> Reason
-        ensures { result ≡ reason_in_place self.now.scenario self.now.state w.0 place }
-    {
-        match place {
-            Place::Timer { due, cpu } if self.time() < due => Reason::Timer { due, cpu },
-            Place::Timer { .. } => fires_unless(other_work(w.0 as usize, self.first_due())),
-            Place::Inactive(pool) if self.limit(self.scenario().queue_of(w.0 as usize)) == 0 => {
-                Reason::Frozen(pool)
-            }
-            Place::Inactive(pool) => Reason::Inactive(pool),
-            Place::Listed(pool) if self.may_start(pool) => {
-                reason_by_move(w, pool, self.next_move(pool))
-            }
-            Place::Listed(pool) => Reason::Held(pool),
-            Place::Deferred(pool) => Reason::Deferred(pool),
+/// Why the work, which pends there, isn't further.
+fn reason_in_place<R: Reads>(machine: &R, w: WorkId, place: Place) -> Reason
+    ensures { result ≡ reason_in_place (R.loaded machine.now) (R.state machine.now) w.0 place }
+{
+    match place {
+        Place::Timer { due, cpu } if machine.time() < due => Reason::Timer { due, cpu },
+        Place::Timer { .. } => fires_unless(other_work(w.0 as usize, first(machine, Sought::Due))),
+        Place::Inactive(pool) if limit(machine, machine.scenario().queue_of(w.0 as usize)) == 0 => {
+            Reason::Frozen(pool)
         }
+        Place::Inactive(pool) => Reason::Inactive(pool),
+        Place::Listed(pool) if may_start(machine, pool) => {
+            reason_by_move(w, pool, next_move(machine, pool))
+        }
+        Place::Listed(pool) => Reason::Held(pool),
+        Place::Deferred(pool) => Reason::Deferred(pool),
     }
 }
 

@@ -4,61 +4,60 @@ ghost use Rattle.cmwq_table.specs.State.{running_at};
 ghost use Rattle.cmwq_types.specs.declared.limits.TheConstants.{MAX_WORKS};
 ghost use Rattle.std.specs.Prelude.{◌≡◌, ◌<◌, IfSome};
 
-use crate::snapshot::Snapshot;
+use crate::going_first::{other_mover, work_above, work_before};
+use crate::pending::pending_reason;
 use cmwq_reasons::{Instance, Reason};
-use cmwq_table::Running;
+use cmwq_table::{Reads, Running};
 use cmwq_types::{Mode, WorkId};
 
-impl Snapshot<'_> {
-    /// Why the instance isn't further, if there is such an instance. The reasons are this project's own.
-    pub fn reason(&self, instance: Instance) -> Option<Reason>
-        ensures { result ≡ reason_of self.now.scenario self.now.state instance }
-    {
-        match instance {
-            Instance::Pending(w) => {
-                self.pending_of(w.0 as usize)?;
-                Some(self.pending_reason(w))
-            }
-            Instance::Running(w) => self.running_reason(w),
+/// Why the instance isn't further, if there is such an instance. The reasons are this project's own.
+pub fn reason_of<R: Reads>(machine: &R, instance: Instance) -> Option<Reason>
+    ensures { result ≡ reason_of (R.loaded machine.now) (R.state machine.now) instance }
+{
+    match instance {
+        Instance::Pending(w) => {
+            machine.pending_of(w.0 as usize)?;
+            Some(pending_reason(machine, w))
         }
+        Instance::Running(w) => running_reason(machine, w),
     }
+}
 
-    /// Why what runs of the work isn't further, if it runs. The reasons are this project's own.
-    pub fn running_reason(&self, w: WorkId) -> Option<Reason>
-        ensures { result ≡ reason_if_running self.now.scenario self.now.state w.0 (running_at self.now.state w.0) }
-    {
-        let r = self.running_of(w.0 as usize)?;
-        Some(self.reason_of_running(w, r))
+/// Why what runs of the work isn't further, if it runs. The reasons are this project's own.
+pub fn running_reason<R: Reads>(machine: &R, w: WorkId) -> Option<Reason>
+    ensures { result ≡ reason_if_running (R.loaded machine.now) (R.state machine.now) w.0 (running_at (R.state machine.now) w.0) }
+{
+    let r = machine.running_of(w.0 as usize)?;
+    Some(reason_of_running(machine, w, r))
+}
+
+/// Why the work, which runs so, isn't further.
+fn reason_of_running<R: Reads>(machine: &R, w: WorkId, r: Running) -> Reason
+    ensures { result ≡ reason_of_running (R.loaded machine.now) (R.state machine.now) w.0 r }
+{
+    match r.mode {
+        Mode::Runnable => match work_before(machine, w.0 as usize, r.pool) {
+            Some(v) => Reason::Behind(WorkId(v as u16)),
+            None => reason_of_head(machine, w, r),
+        },
+        Mode::Asleep(until) if machine.time() < until => Reason::Asleep(until),
+        Mode::Asleep(_) => match other_mover(machine, r.pool, Instance::Running(w)) {
+            Some(other) => Reason::WakesAfter(other),
+            None => Reason::WakesNext,
+        },
     }
+}
 
-    /// Why the work, which runs so, isn't further.
-    fn reason_of_running(&self, w: WorkId, r: Running) -> Reason
-        ensures { result ≡ reason_of_running self.now.scenario self.now.state w.0 r }
-    {
-        match r.mode {
-            Mode::Runnable => match self.work_before(w.0 as usize, r.pool) {
-                Some(v) => Reason::Behind(WorkId(v as u16)),
-                None => self.reason_of_head(w, r),
-            },
-            Mode::Asleep(until) if self.time() < until => Reason::Asleep(until),
-            Mode::Asleep(_) => match self.other_mover(r.pool, Instance::Running(w)) {
-                Some(other) => Reason::WakesAfter(other),
-                None => Reason::WakesNext,
-            },
-        }
+/// Why the work isn't further, which is runnable, and which none goes before on its CPU.
+fn reason_of_head<R: Reads>(machine: &R, w: WorkId, r: Running) -> Reason
+    ensures { result ≡ reason_of_head (R.loaded machine.now) (R.state machine.now) w.0 r }
+{
+    if r.left != 0 {
+        return burns_unless(work_above(machine, r.pool));
     }
-
-    /// Why the work isn't further, which is runnable, and which none goes before on its CPU.
-    fn reason_of_head(&self, w: WorkId, r: Running) -> Reason
-        ensures { result ≡ reason_of_head self.now.scenario self.now.state w.0 r }
-    {
-        if r.left != 0 {
-            return burns_unless(self.work_above(r.pool));
-        }
-        match self.other_mover(r.pool, Instance::Running(w)) {
-            Some(other) => Reason::ReadyAfter(other),
-            None => Reason::ReadyNext,
-        }
+    match other_mover(machine, r.pool, Instance::Running(w)) {
+        Some(other) => Reason::ReadyAfter(other),
+        None => Reason::ReadyNext,
     }
 }
 

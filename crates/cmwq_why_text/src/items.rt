@@ -5,17 +5,17 @@ ghost use Rattle.std.specs.Prelude.{◌≡◌, ◌++◌, OnOk, string_bytes};
 
 use crate::wording::Wording;
 use cmwq_reasons::Instance;
-use cmwq_table::{Pending, Running};
+use cmwq_table::{Pending, Reads, Running};
 use cmwq_types::{Mode, NoMemory, RESCUER};
 
-impl Wording<'_> {
+impl<R: Reads> Wording<'_, R> {
     /// Writes the instances, the first behind a colon and each other one behind a comma; nothing where there are none.
     pub(crate) fn push_items(
         &self,
         text: &mut String,
         instances: &[Instance],
     ) -> Result<(), NoMemory>
-        ensures { OnOk result (string_bytes text.new ≡ string_bytes text.old ++ items self.now.snapshot.now.scenario self.now.snapshot.now.state instances.now) }
+        ensures { OnOk result (string_bytes text.new ≡ string_bytes text.old ++ items (R.loaded self.now.machine.now) (R.state self.now.machine.now) instances.now) }
     {
         let Some((first, later)) = instances.split_first() else {
             return Ok(());
@@ -26,7 +26,7 @@ impl Wording<'_> {
     }
 
     fn push_later_items(&self, text: &mut String, instances: &[Instance]) -> Result<(), NoMemory>
-        ensures { OnOk result (string_bytes text.new ≡ string_bytes text.old ++ flat_map (later_item self.now.snapshot.now.scenario self.now.snapshot.now.state) instances.now) }
+        ensures { OnOk result (string_bytes text.new ≡ string_bytes text.old ++ flat_map (later_item (R.loaded self.now.machine.now) (R.state self.now.machine.now)) instances.now) }
     {
         for instance in instances {
             text.push_str(", ")?;
@@ -36,18 +36,18 @@ impl Wording<'_> {
     }
 
     fn push_item(&self, text: &mut String, instance: Instance) -> Result<(), NoMemory>
-        ensures { OnOk result (string_bytes text.new ≡ string_bytes text.old ++ item self.now.snapshot.now.scenario self.now.snapshot.now.state instance) }
+        ensures { OnOk result (string_bytes text.new ≡ string_bytes text.old ++ item (R.loaded self.now.machine.now) (R.state self.now.machine.now) instance) }
     {
         text.push_str(self.instance_name(instance))?;
         match instance {
-            Instance::Pending(w) => push_place(text, self.snapshot.pending_of(w.0 as usize)),
-            Instance::Running(w) => push_run(text, self.snapshot.running_of(w.0 as usize)),
+            Instance::Pending(w) => push_place(text, self.machine.pending_of(w.0 as usize)),
+            Instance::Running(w) => push_run(text, self.machine.running_of(w.0 as usize)),
         }
     }
 
     /// Writes who stands before a work, behind a space; nothing where nobody does.
     pub(crate) fn push_ahead(&self, text: &mut String, works: &[u16]) -> Result<(), NoMemory>
-        ensures { OnOk result (string_bytes text.new ≡ string_bytes text.old ++ ahead_text self.now.snapshot.now.scenario works.now) }
+        ensures { OnOk result (string_bytes text.new ≡ string_bytes text.old ++ ahead_text (R.loaded self.now.machine.now) works.now) }
     {
         let Some((first, later)) = works.split_first() else {
             return Ok(());
@@ -59,7 +59,7 @@ impl Wording<'_> {
 
     /// Writes the name of each work, behind a space.
     pub(crate) fn push_names(&self, text: &mut String, works: &[u16]) -> Result<(), NoMemory>
-        ensures { OnOk result (string_bytes text.new ≡ string_bytes text.old ++ flat_map (spaced_name self.now.snapshot.now.scenario) works.now) }
+        ensures { OnOk result (string_bytes text.new ≡ string_bytes text.old ++ flat_map (spaced_name (R.loaded self.now.machine.now)) works.now) }
     {
         for w in works {
             self.push_spaced_name(text, *w)?;
@@ -68,7 +68,7 @@ impl Wording<'_> {
     }
 
     fn push_spaced_name(&self, text: &mut String, w: u16) -> Result<(), NoMemory>
-        ensures { OnOk result (string_bytes text.new ≡ string_bytes text.old ++ spaced_name self.now.snapshot.now.scenario w) }
+        ensures { OnOk result (string_bytes text.new ≡ string_bytes text.old ++ spaced_name (R.loaded self.now.machine.now) w) }
     {
         text.push_str(" ")?;
         text.push_str(self.name(w))?;

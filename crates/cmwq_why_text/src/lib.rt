@@ -2,7 +2,6 @@
 #![tactic(auto)]
 
 mod items;
-pub mod laws;
 mod line;
 mod names;
 mod text;

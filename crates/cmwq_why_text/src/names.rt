@@ -5,13 +5,14 @@ ghost use Rattle.std.specs.Prelude.{◌≡◌};
 
 use crate::wording::Wording;
 use cmwq_reasons::Instance;
+use cmwq_table::Reads;
 
-impl Wording<'_> {
+impl<R: Reads> Wording<'_, R> {
     /// The name of a work, or no text where no work has the number.
     pub fn name(&self, w: u16) -> &str
-        ensures { result.now ≡ name_of self.now.snapshot.now.scenario w }
+        ensures { result.now ≡ name_of (R.loaded self.now.machine.now) w }
     {
-        let scenario = self.snapshot.scenario();
+        let scenario = self.machine.scenario();
         match scenario.works.get(w as usize) {
             Some(declared) => declared.name.as_str(),
             None => "",
@@ -20,7 +21,7 @@ impl Wording<'_> {
 
     /// The name of the instance's work.
     pub(crate) fn instance_name(&self, instance: Instance) -> &str
-        ensures { result.now ≡ name_of self.now.snapshot.now.scenario (work_of instance) }
+        ensures { result.now ≡ name_of (R.loaded self.now.machine.now) (work_of instance) }
     {
         match instance {
             Instance::Pending(w) | Instance::Running(w) => self.name(w.0),
@@ -29,9 +30,9 @@ impl Wording<'_> {
 
     /// The name of a work's queue, or no text where there is none.
     pub(crate) fn queue_name(&self, w: usize) -> &str
-        ensures { result.now ≡ queue_name self.now.snapshot.now.scenario w }
+        ensures { result.now ≡ queue_name (R.loaded self.now.machine.now) w }
     {
-        let scenario = self.snapshot.scenario();
+        let scenario = self.machine.scenario();
         match scenario.queues.get(scenario.queue_of(w) as usize) {
             Some(declared) => declared.name.as_str(),
             None => "",

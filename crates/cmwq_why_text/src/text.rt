@@ -1,32 +1,27 @@
 //! Why a work isn't further, as text.
 ghost use Rattle.cmwq_reasons.specs.Reasons.{counted_works, running_half, work_of, works_on_workers};
-ghost use Rattle.cmwq_why_text.specs.Text.{beside_run, inactive_text, listed_text, name_of, items, pending_text, plain_text, reason_text, room_text, spaced_name, spent_text, timer_text, turn_text, why_text, work_line, worker_words};
+ghost use Rattle.cmwq_why_text.specs.Text.{beside_run, inactive_text, listed_text, name_of, items, pending_text, plain_text, reason_text, room_text, spaced_name, spent_text, timer_text, turn_text, why_text, worker_words};
 ghost use Rattle.cmwq_types.specs.Scenario.{queue_of};
 ghost use Rattle.std.specs.Fmt.{decimal};
 ghost use Rattle.std.specs.List.{flat_map};
-ghost use Rattle.std.specs.Prelude.{◌≡◌, ◌++◌, IfOk, OnOk, codes, map, string_bytes};
+ghost use Rattle.std.specs.Prelude.{◌≡◌, ◌++◌, OnOk, codes, map, string_bytes};
 
 use crate::wording::Wording;
+use cmwq_reads::{active, is_spent, limit};
 use cmwq_reasons::{Instance, Reason, Turn};
+use cmwq_table::Reads;
 use cmwq_types::{NoMemory, WorkId};
+use cmwq_why::{
+    counted_works, holders, inactive_before, listed_before, on_workers, pending_reason,
+    running_reason,
+};
 
-impl Wording<'_> {
-    /// The work's name, and why it isn't further, as a line.
-    pub(crate) fn work_line(&self, w: WorkId) -> Result<String, NoMemory>
-        ensures { IfOk result (λ text. string_bytes text ≡ work_line self.now.snapshot.now.scenario self.now.snapshot.now.state w.0) }
-    {
-        let mut text = String::from_str(self.alloc, self.name(w.0))?;
-        text.push_str(" ")?;
-        self.push_why(&mut text, w)?;
-        text.push_str("\n")?;
-        Ok(text)
-    }
-
+impl<R: Reads> Wording<'_, R> {
     /// Writes why the work isn't further: what runs of it and what pends of it, and whether the scenario's steps are spent.
-    fn push_why(&self, text: &mut String, w: WorkId) -> Result<(), NoMemory>
-        ensures { OnOk result (string_bytes text.new ≡ string_bytes text.old ++ why_text self.now.snapshot.now.scenario self.now.snapshot.now.state w.0) }
+    pub(crate) fn push_why(&self, text: &mut String, w: WorkId) -> Result<(), NoMemory>
+        ensures { OnOk result (string_bytes text.new ≡ string_bytes text.old ++ why_text (R.loaded self.now.machine.now) (R.state self.now.machine.now) w.0) }
     {
-        match self.snapshot.running_reason(w) {
+        match running_reason(self.machine, w) {
             Some(reason) => {
                 self.push_reason(text, w, reason)?;
                 self.push_beside_run(text, w)?;
@@ -38,10 +33,10 @@ impl Wording<'_> {
 
     /// Writes what is told of the pending half of a work that runs.
     fn push_beside_run(&self, text: &mut String, w: WorkId) -> Result<(), NoMemory>
-        ensures { OnOk result (string_bytes text.new ≡ string_bytes text.old ++ beside_run self.now.snapshot.now.scenario self.now.snapshot.now.state w.0) }
+        ensures { OnOk result (string_bytes text.new ≡ string_bytes text.old ++ beside_run (R.loaded self.now.machine.now) (R.state self.now.machine.now) w.0) }
     {
-        if self.snapshot.pending_of(w.0 as usize).is_none()
-            && self.snapshot.depth_of(w.0 as usize) == 0
+        if self.machine.pending_of(w.0 as usize).is_none()
+            && self.machine.depth_of(w.0 as usize) == 0
         {
             return Ok(());
         }
@@ -50,15 +45,15 @@ impl Wording<'_> {
     }
 
     fn push_pending(&self, text: &mut String, w: WorkId) -> Result<(), NoMemory>
-        ensures { OnOk result (string_bytes text.new ≡ string_bytes text.old ++ pending_text self.now.snapshot.now.scenario self.now.snapshot.now.state w.0) }
+        ensures { OnOk result (string_bytes text.new ≡ string_bytes text.old ++ pending_text (R.loaded self.now.machine.now) (R.state self.now.machine.now) w.0) }
     {
-        self.push_reason(text, w, self.snapshot.pending_reason(w))
+        self.push_reason(text, w, pending_reason(self.machine, w))
     }
 
     fn push_spent(&self, text: &mut String) -> Result<(), NoMemory>
-        ensures { OnOk result (string_bytes text.new ≡ string_bytes text.old ++ spent_text self.now.snapshot.now.scenario self.now.snapshot.now.state) }
+        ensures { OnOk result (string_bytes text.new ≡ string_bytes text.old ++ spent_text (R.loaded self.now.machine.now) (R.state self.now.machine.now)) }
     {
-        if self.snapshot.is_spent() {
+        if is_spent(self.machine) {
             text.push_str("; spent")?;
         }
         Ok(())
@@ -67,7 +62,7 @@ impl Wording<'_> {
     /// Appends the text of the reason, which is one of the work's. The only error is want of memory; then a part of it may be
     /// appended.
     pub fn push_reason(&self, text: &mut String, w: WorkId, reason: Reason) -> Result<(), NoMemory>
-        ensures { OnOk result (string_bytes text.new ≡ string_bytes text.old ++ reason_text self.now.snapshot.now.scenario self.now.snapshot.now.state w.0 reason) }
+        ensures { OnOk result (string_bytes text.new ≡ string_bytes text.old ++ reason_text (R.loaded self.now.machine.now) (R.state self.now.machine.now) w.0 reason) }
     {
         match reason {
             Reason::Frozen(pool) => {
@@ -95,7 +90,7 @@ impl Wording<'_> {
 
     /// Writes the reason of a work that doesn't wait in a pool.
     fn push_plain(&self, text: &mut String, reason: Reason) -> Result<(), NoMemory>
-        ensures { OnOk result (string_bytes text.new ≡ string_bytes text.old ++ plain_text self.now.snapshot.now.scenario reason) }
+        ensures { OnOk result (string_bytes text.new ≡ string_bytes text.old ++ plain_text (R.loaded self.now.machine.now) reason) }
     {
         match reason {
             Reason::Asleep(until) => push_number(text, "asleep until ", until),
@@ -120,7 +115,7 @@ impl Wording<'_> {
 
     /// Writes the words and the name of the instance's work.
     fn push_named(&self, text: &mut String, words: &str, x: Instance) -> Result<(), NoMemory>
-        ensures { OnOk result (string_bytes text.new ≡ string_bytes text.old ++ (words.now ++ name_of self.now.snapshot.now.scenario (work_of x))) }
+        ensures { OnOk result (string_bytes text.new ≡ string_bytes text.old ++ (words.now ++ name_of (R.loaded self.now.machine.now) (work_of x))) }
     {
         text.push_str(words)?;
         text.push_str(self.instance_name(x))?;
@@ -129,7 +124,7 @@ impl Wording<'_> {
 
     /// Writes that the high pool of the work's CPU has another work to run.
     fn push_high(&self, text: &mut String, v: WorkId) -> Result<(), NoMemory>
-        ensures { OnOk result (string_bytes text.new ≡ string_bytes text.old ++ (codes "runnable, high " ++ name_of self.now.snapshot.now.scenario v.0 ++ codes " has the CPU")) }
+        ensures { OnOk result (string_bytes text.new ≡ string_bytes text.old ++ (codes "runnable, high " ++ name_of (R.loaded self.now.machine.now) v.0 ++ codes " has the CPU")) }
     {
         let name = self.name(v.0);
         write!(text, "runnable, high {name} has the CPU")?;
@@ -138,9 +133,9 @@ impl Wording<'_> {
 
     /// Writes that the work is on the pool's worklist, and behind whom.
     fn push_listed(&self, text: &mut String, w: WorkId, pool: u8) -> Result<(), NoMemory>
-        ensures { OnOk result (string_bytes text.new ≡ string_bytes text.old ++ listed_text self.now.snapshot.now.scenario self.now.snapshot.now.state w.0 pool) }
+        ensures { OnOk result (string_bytes text.new ≡ string_bytes text.old ++ listed_text (R.loaded self.now.machine.now) (R.state self.now.machine.now) w.0 pool) }
     {
-        let before = self.snapshot.listed_before(self.alloc, w.0 as usize, pool)?;
+        let before = listed_before(self.alloc, self.machine, w.0 as usize, pool)?;
         write!(text, "listed {pool}")?;
         self.push_ahead(text, &before)?;
         text.push_str(": ")?;
@@ -149,11 +144,9 @@ impl Wording<'_> {
 
     /// Writes that the work waits in the pool for room in its queue, behind whom, and the queue's name.
     fn push_inactive(&self, text: &mut String, w: WorkId, pool: u8) -> Result<(), NoMemory>
-        ensures { OnOk result (string_bytes text.new ≡ string_bytes text.old ++ inactive_text self.now.snapshot.now.scenario self.now.snapshot.now.state w.0 pool) }
+        ensures { OnOk result (string_bytes text.new ≡ string_bytes text.old ++ inactive_text (R.loaded self.now.machine.now) (R.state self.now.machine.now) w.0 pool) }
     {
-        let before = self
-            .snapshot
-            .inactive_before(self.alloc, w.0 as usize, pool)?;
+        let before = inactive_before(self.alloc, self.machine, w.0 as usize, pool)?;
         write!(text, "inactive {pool}")?;
         self.push_ahead(text, &before)?;
         text.push_str(": ")?;
@@ -163,21 +156,21 @@ impl Wording<'_> {
 
     /// Writes how much of its queue's limit is taken up in the pool, and by whom.
     fn push_room(&self, text: &mut String, w: WorkId, pool: u8) -> Result<(), NoMemory>
-        ensures { OnOk result (string_bytes text.new ≡ string_bytes text.old ++ room_text self.now.snapshot.now.scenario self.now.snapshot.now.state (queue_of self.now.snapshot.now.scenario w.0) pool) }
+        ensures { OnOk result (string_bytes text.new ≡ string_bytes text.old ++ room_text (R.loaded self.now.machine.now) (R.state self.now.machine.now) (queue_of (R.loaded self.now.machine.now) w.0) pool) }
     {
-        let queue = self.snapshot.scenario().queue_of(w.0 as usize);
-        let holders = self.snapshot.holders(self.alloc, queue, pool)?;
-        let active = self.snapshot.active(queue, pool);
-        let limit = self.snapshot.limit(queue);
+        let queue = self.machine.scenario().queue_of(w.0 as usize);
+        let holders = holders(self.alloc, self.machine, queue, pool)?;
+        let active = active(self.machine, queue, pool);
+        let limit = limit(self.machine, queue);
         write!(text, " has {active} of {limit} active")?;
         self.push_items(text, &holders)
     }
 
     /// Writes that the work is held by the pool's concurrency level, and who makes it up.
     fn push_held(&self, text: &mut String, w: WorkId, pool: u8) -> Result<(), NoMemory>
-        ensures { OnOk result (string_bytes text.new ≡ string_bytes text.old ++ listed_text self.now.snapshot.now.scenario self.now.snapshot.now.state w.0 pool ++ codes "held by" ++ flat_map (spaced_name self.now.snapshot.now.scenario) (counted_works self.now.snapshot.now.scenario self.now.snapshot.now.state pool)) }
+        ensures { OnOk result (string_bytes text.new ≡ string_bytes text.old ++ listed_text (R.loaded self.now.machine.now) (R.state self.now.machine.now) w.0 pool ++ codes "held by" ++ flat_map (spaced_name (R.loaded self.now.machine.now)) (counted_works (R.loaded self.now.machine.now) (R.state self.now.machine.now) pool)) }
     {
-        let counted = self.snapshot.counted_works(self.alloc, pool)?;
+        let counted = counted_works(self.alloc, self.machine, pool)?;
         self.push_listed(text, w, pool)?;
         text.push_str("held by")?;
         self.push_names(text, &counted)
@@ -185,19 +178,19 @@ impl Wording<'_> {
 
     /// Writes that there is no free worker for the work, and who has those that there are.
     fn push_no_worker(&self, text: &mut String, w: WorkId, pool: u8) -> Result<(), NoMemory>
-        ensures { OnOk result (string_bytes text.new ≡ string_bytes text.old ++ listed_text self.now.snapshot.now.scenario self.now.snapshot.now.state w.0 pool ++ worker_words self.now.snapshot.now.state ++ items self.now.snapshot.now.scenario self.now.snapshot.now.state (map running_half (works_on_workers self.now.snapshot.now.scenario self.now.snapshot.now.state (queue_of self.now.snapshot.now.scenario w.0) pool))) }
+        ensures { OnOk result (string_bytes text.new ≡ string_bytes text.old ++ listed_text (R.loaded self.now.machine.now) (R.state self.now.machine.now) w.0 pool ++ worker_words (R.state self.now.machine.now) ++ items (R.loaded self.now.machine.now) (R.state self.now.machine.now) (map running_half (works_on_workers (R.loaded self.now.machine.now) (R.state self.now.machine.now) (queue_of (R.loaded self.now.machine.now) w.0) pool))) }
     {
-        let queue = self.snapshot.scenario().queue_of(w.0 as usize);
-        let running = self.snapshot.on_workers(self.alloc, queue, pool)?;
+        let queue = self.machine.scenario().queue_of(w.0 as usize);
+        let running = on_workers(self.alloc, self.machine, queue, pool)?;
         self.push_listed(text, w, pool)?;
         text.push_str(self.worker_words())?;
         self.push_items(text, &running)
     }
 
     fn worker_words(&self) -> &'static str
-        ensures { result.now ≡ worker_words self.now.snapshot.now.state }
+        ensures { result.now ≡ worker_words (R.state self.now.machine.now) }
     {
-        if self.snapshot.is_pressed() {
+        if self.machine.is_pressed() {
             "no free worker under pressure"
         } else {
             "no free worker"
