@@ -61,7 +61,7 @@ impl<R: Reads> Dumping<'_, R> {
     fn push_queue(&self, text: &mut String, queue: u8) -> Result<(), NoMemory>
         ensures { OnOk result (string_bytes text.new ≡ string_bytes text.old ++ queue_line self.now.scenario self.now.state queue) }
     {
-        let name = self.machine.scenario().queue_name(queue);
+        let name = self.machine.scenario().queue_name(queue as usize);
         let max = self.machine.max_of(queue);
         write!(text, "queue {name} max {max}\n")?;
         Ok(())

@@ -32,7 +32,7 @@ impl fmt::Display for Label<'_> {
             Title::Cpu(cpu) => write!(f, "cpu {cpu}"),
             Title::Worker { pool, worker } => write!(f, "worker {pool}/{worker}"),
             Title::Rescuer(queue) => {
-                let name = self.scenario.queue_name(queue.0);
+                let name = self.scenario.queue_name(queue.0 as usize);
                 write!(f, "rescuer {name}")
             }
             Title::Actor => f.write_str("actor"),

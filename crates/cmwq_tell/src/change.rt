@@ -1,5 +1,4 @@
 //! A change that no reply tells, and its line.
-ghost use Rattle.cmwq_table.specs.Events.{work_name};
 ghost use Rattle.cmwq_tell.specs.Hidden.{change_line, change_text, cpu_text};
 ghost use Rattle.cmwq_tell.specs.Telling.{change_lines};
 ghost use Rattle.std.specs.Prelude.{◌≡◌, Some};
@@ -55,11 +54,11 @@ impl fmt::Display for ChangeWords<'_> {
         match self.change {
             Change::Now(now) => write!(f, "now {now}"),
             Change::Activated { work, pool } => {
-                let work = work_name(self.scenario, work);
+                let work = self.scenario.work_name(work.0 as usize);
                 write!(f, "{work} activated {pool}")
             }
             Change::Placed { work, place } => {
-                let work = work_name(self.scenario, work);
+                let work = self.scenario.work_name(work.0 as usize);
                 let words = PlaceWords(Some(place));
                 let cpu = CpuWords(place);
                 write!(f, "{work} {words}{cpu}")
@@ -80,15 +79,5 @@ impl fmt::Display for CpuWords {
             Place::Timer { cpu, .. } => write!(f, " cpu {cpu}"),
             _ => Ok(()),
         }
-    }
-}
-
-/// The name of a work, or no text where no work has the number.
-pub(crate) fn work_name(scenario: &Scenario, work: WorkId) -> &str
-    ensures { result.now ≡ work_name scenario.now work }
-{
-    match scenario.works.get(work.0 as usize) {
-        Some(declared) => declared.name.as_str(),
-        None => "",
     }
 }

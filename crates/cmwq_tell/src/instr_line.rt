@@ -1,11 +1,9 @@
 //! An instruction in the words of the listing.
 ghost use Rattle.cmwq_types.specs.Listing.{instr_words, operand_words};
-ghost use Rattle.cmwq_types.specs.Scenario.{queue_at};
 ghost use Rattle.std.specs.List.{flat_map, join_with_byte};
 ghost use Rattle.std.specs.Prelude.{◌≡◌, ◌∷◌, Some};
 
-use crate::change::work_name;
-use cmwq_types::{Fields, Instr, Scenario, Shape, WorkId, fields_of, shape_of, word_of};
+use cmwq_types::{Fields, Instr, Scenario, Shape, fields_of, shape_of, word_of};
 use std::fmt;
 
 /// An instruction as the listing of the scenario has it, without `* N` and a line's end.
@@ -46,25 +44,15 @@ impl fmt::Display for Operands<'_> {
         let Fields { cpu, id, number } = self.fields;
         match self.shape {
             Shape::Alone => f.write_str(""),
-            Shape::Work => write!(f, " {}", work_name(scenario, WorkId(id))),
-            Shape::WorkCpu => write!(f, " {} {cpu}", work_name(scenario, WorkId(id))),
+            Shape::Work => write!(f, " {}", scenario.work_name(id as usize)),
+            Shape::WorkCpu => write!(f, " {} {cpu}", scenario.work_name(id as usize)),
             Shape::WorkCpuTicks => {
-                write!(f, " {} {cpu} {number}", work_name(scenario, WorkId(id)))
+                write!(f, " {} {cpu} {number}", scenario.work_name(id as usize))
             }
-            Shape::Queue => write!(f, " {}", queue_name(scenario, id)),
-            Shape::QueueNumber => write!(f, " {} {number}", queue_name(scenario, id)),
+            Shape::Queue => write!(f, " {}", scenario.queue_name(id as usize)),
+            Shape::QueueNumber => write!(f, " {} {number}", scenario.queue_name(id as usize)),
             Shape::Pool => write!(f, " {cpu}"),
             Shape::Flush => write!(f, " {id}"),
         }
-    }
-}
-
-/// The name of a queue, or no text where no queue has the number.
-fn queue_name(scenario: &Scenario, queue: u16) -> &str
-    ensures { result.now ≡ (queue_at scenario.now queue).name }
-{
-    match scenario.queues.get(queue as usize) {
-        Some(declared) => declared.name.as_str(),
-        None => "",
     }
 }

@@ -39,10 +39,10 @@ impl Scenario {
     }
 
     /// The name of the queue of this number, from 0, and no text where there is no such queue.
-    pub fn queue_name(&self, queue: u8) -> &str
+    pub fn queue_name(&self, queue: usize) -> &str
         ensures { result.now ≡ (queue_at self.now queue).name }
     {
-        match self.queues.get(usize::from(queue)) {
+        match self.queues.get(queue) {
             Some(queue) => queue.name.as_str(),
             None => "",
         }

@@ -12,11 +12,7 @@ impl<R: Reads> Wording<'_, R> {
     pub fn name(&self, w: u16) -> &str
         ensures { result.now ≡ name_of (R.loaded self.now.machine.now) w }
     {
-        let scenario = self.machine.scenario();
-        match scenario.works.get(w as usize) {
-            Some(declared) => declared.name.as_str(),
-            None => "",
-        }
+        self.machine.scenario().work_name(w as usize)
     }
 
     /// The name of the instance's work.
@@ -33,9 +29,6 @@ impl<R: Reads> Wording<'_, R> {
         ensures { result.now ≡ queue_name (R.loaded self.now.machine.now) w }
     {
         let scenario = self.machine.scenario();
-        match scenario.queues.get(scenario.queue_of(w) as usize) {
-            Some(declared) => declared.name.as_str(),
-            None => "",
-        }
+        scenario.queue_name(scenario.queue_of(w) as usize)
     }
 }
