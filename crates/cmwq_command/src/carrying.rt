@@ -7,16 +7,12 @@ ghost use Rattle.cmwq_words.specs.Request.{IsCapacity, IsVersionWord, IsWithin};
 ghost use Rattle.cmwq_outcome.specs.declared.telling.TheConstants.{GOOD};
 ghost use Rattle.std.specs.Prelude.{◌≡◌, ◌∷◌, [], Err, IfOk, MatchResult, Ok, OnOk, false, map, string_bytes};
 
-use crate::asking::{looks_of, question_of};
+use crate::asking::{drawing_of, looks_of, question_of};
+use crate::task::Task;
 use cmwq_actors::OpenGate;
-use cmwq_draw::{Drawing, Span};
 use cmwq_outcome::{GOOD, Judged, Look, check_text, tell, tell_unread, write_first, write_version};
 use cmwq_play::{Marked, PlayError, Sink};
-use cmwq_settle::{run_settled, settle_text};
-use cmwq_tell::run_told;
-use cmwq_words::asking::{Positions, Subject};
-use cmwq_words::drawing::DrawOptions;
-use cmwq_words::request::{Request, RunKind, parse};
+use cmwq_words::request::{Request, parse};
 use std::fs::File;
 use std::io::Read;
 use std::rt::Files;
@@ -77,18 +73,28 @@ where
 {
     match request {
         Request::New { file } => good(new(rt, output, file)),
-        Request::Run { file, kind } => good(run(rt, output, file, kind)),
-        Request::Settle { file } => good(settle(rt, output, file)),
-        Request::List { file } => good(list(rt, output, file)),
+        Request::Run { file, kind } => good(on_file(rt, output, file, Task::Run(kind))),
+        Request::Settle { file } => good(on_file(rt, output, file, Task::Settle)),
+        Request::List { file } => good(on_file(rt, output, file, Task::List)),
         Request::Asm { file, out } => good(asm(rt, file, out)),
-        Request::Show { image } => good(show(rt, output, image)),
+        Request::Show { image } => good(on_file(rt, output, image, Task::Show)),
         Request::Debug { file } => good(debug(rt, input, output, file)),
-        Request::Draw { file, options } => good(draw(rt, output, file, options)),
+        Request::Draw { file, options } => good(on_file(
+            rt,
+            output,
+            file,
+            Task::Draw(drawing_of(options)),
+        )),
         Request::Why {
             file,
             subject,
             positions,
-        } => good(why(rt, output, file, subject, positions)),
+        } => good(on_file(
+            rt,
+            output,
+            file,
+            Task::Why(question_of(subject), looks_of(positions)),
+        )),
         Request::Play { file, capacity } => good(play(rt, output, file, capacity)),
         Request::Check { files } => check(rt, setting.look, output, errors, &files),
         Request::Version => good(write_version(rt.alloc(), setting.kit, output)),
@@ -154,125 +160,17 @@ fn new<R: Files, W: Sink>(rt: &R, writer: &mut W, file: Option<&str>) -> Result<
     }
 }
 
-/// Runs the scenario whose text is in the file so, and writes its events.
-fn run<R: Files + AllocGlobal, W: Sink>(
+/// Carries the task out on the file, and writes what comes of it.
+fn on_file<R: Files + AllocGlobal, W: Sink>(
     rt: &R,
     writer: &mut W,
     file: &str,
-    kind: RunKind,
-) -> Result<(), PlayError>
-    requires { W.failed writer.old ≡ false }
-{
-    match kind {
-        RunKind::Plain => run_plain(rt, writer, file),
-        RunKind::Settled => run_until_quiet(rt, writer, file),
-        RunKind::Told => run_and_tell(rt, writer, file),
-    }
-}
-
-/// Runs the scenario whose text is in the file, and writes its events.
-fn run_plain<R: Files + AllocGlobal, W: Sink>(
-    rt: &R,
-    writer: &mut W,
-    file: &str,
+    task: Task<'_>,
 ) -> Result<(), PlayError>
     requires { W.failed writer.old ≡ false }
 {
     let mut reader = opened(rt, file)?;
-    cmwq_play::run(rt.alloc(), &mut reader, writer)
-}
-
-/// Runs the scenario whose text is in the file until its machine is quiet, and writes its events.
-fn run_until_quiet<R: Files + AllocGlobal, W: Sink>(
-    rt: &R,
-    writer: &mut W,
-    file: &str,
-) -> Result<(), PlayError>
-    requires { W.failed writer.old ≡ false }
-{
-    let mut reader = opened(rt, file)?;
-    run_settled(rt.alloc(), &mut reader, writer)
-}
-
-/// Runs the scenario whose text is in the file, and writes its instructions, its events and what it changes unseen.
-fn run_and_tell<R: Files + AllocGlobal, W: Sink>(
-    rt: &R,
-    writer: &mut W,
-    file: &str,
-) -> Result<(), PlayError>
-    requires { W.failed writer.old ≡ false }
-{
-    let mut reader = opened(rt, file)?;
-    run_told(rt.alloc(), &mut reader, writer)
-}
-
-/// Writes the listing of the scenario whose text is in the file, with the `next` that make its machine quiet.
-fn settle<R: Files + AllocGlobal, W: Sink>(
-    rt: &R,
-    writer: &mut W,
-    file: &str,
-) -> Result<(), PlayError>
-    requires { W.failed writer.old ≡ false }
-{
-    let mut reader = opened(rt, file)?;
-    settle_text(rt.alloc(), &mut reader, writer)
-}
-
-/// Draws the run of the scenario whose text is in the file.
-fn draw<R: Files + AllocGlobal, W: Sink>(
-    rt: &R,
-    writer: &mut W,
-    file: &str,
-    options: DrawOptions,
-) -> Result<(), PlayError>
-    requires { W.failed writer.old ≡ false }
-{
-    let DrawOptions {
-        settle,
-        svg,
-        from,
-        to,
-    } = options;
-    let span = Span { from, to };
-    let mut reader = opened(rt, file)?;
-    cmwq_draw::draw(
-        rt.alloc(),
-        Drawing { settle, svg, span },
-        &mut reader,
-        writer,
-    )
-}
-
-/// Tells why something waits in the run of the scenario whose text is in the file.
-fn why<R: Files + AllocGlobal, W: Sink>(
-    rt: &R,
-    writer: &mut W,
-    file: &str,
-    subject: Subject<'_>,
-    positions: Positions,
-) -> Result<(), PlayError>
-    requires { W.failed writer.old ≡ false }
-{
-    let mut reader = opened(rt, file)?;
-    cmwq_explain::why(
-        rt.alloc(),
-        question_of(subject),
-        looks_of(positions),
-        &mut reader,
-        writer,
-    )
-}
-
-/// Writes the listing of the scenario whose text is in the file.
-fn list<R: Files + AllocGlobal, W: Sink>(
-    rt: &R,
-    writer: &mut W,
-    file: &str,
-) -> Result<(), PlayError>
-    requires { W.failed writer.old ≡ false }
-{
-    let mut reader = opened(rt, file)?;
-    cmwq_play::list_text(rt.alloc(), &mut reader, writer)
+    task.carry_out(rt.alloc(), &mut reader, writer)
 }
 
 /// Makes the image file of the scenario whose text is in the file. The image file is made anew
@@ -282,18 +180,6 @@ fn asm<R: Files + AllocGlobal>(rt: &R, file: &str, out: &str) -> Result<(), Play
     let mut writer = Marked::new(made);
     let mut reader = opened(rt, file)?;
     cmwq_play::to_image(rt.alloc(), &mut reader, &mut writer)
-}
-
-/// Writes the listing of the scenario whose image is in the file.
-fn show<R: Files + AllocGlobal, W: Sink>(
-    rt: &R,
-    writer: &mut W,
-    image: &str,
-) -> Result<(), PlayError>
-    requires { W.failed writer.old ≡ false }
-{
-    let mut reader = opened(rt, image)?;
-    cmwq_play::from_image(rt.alloc(), &mut reader, writer)
 }
 
 /// Debugs the scenario whose text is in the file, by the commands of the input, and writes what is said to each.

@@ -3,5 +3,7 @@
 
 mod asking;
 mod carrying;
+mod task;
 
 pub use carrying::{Setting, answer, carry_out};
+pub use task::Task;
