@@ -10,8 +10,8 @@ use Rattle.cmwq_changes.proofs.session.Session.issue_all.Goals as goal
 
 pub returns-in_err-issue_lines : goal.returns-in_err-issue_lines
 returns-in_err-issue_lines g c =
-    let loaded = g.M.Machine.loaded in
-    let state = g.M.Machine.state in
+    let loaded = g.M.Reads.loaded in
+    let state = g.M.Reads.state in
     let says = g.P.Sayer.says in
     let contents = g.W.Write.contents in
     let failed = g.W.Sink.failed in
@@ -22,12 +22,12 @@ returns-in_err-issue_lines g c =
     let stopped = subst (λ (ls : List Line). Stopped loaded state says contents failed a c.issue_lines.new.self (tells loaded state says contents failed a (expand_lines ls)) error) lines c.in_err-issue_lines.ensures in
     let p = err_from_is_err_and c.from_residual.result c.from_residual.ensures.1 in
     rw (p.1, p.2) (stopped_more loaded state says contents failed a c.issue_lines.new.self (tells loaded state says contents failed a instrs)
-    (told_here (spoken loaded state says contents failed a) a.request.looks a.request.scenario.now true (goes loaded state says contents failed a instrs)) error stopped)
+    (told_here (spoken loaded state says contents failed a) a.request.looks (loaded a.machine) true (goes loaded state says contents failed a instrs)) error stopped)
 
 pub returns : goal.returns
 returns g c =
-    let loaded = g.M.Machine.loaded in
-    let state = g.M.Machine.state in
+    let loaded = g.M.Reads.loaded in
+    let state = g.M.Reads.state in
     let says = g.P.Sayer.says in
     let contents = g.W.Write.contents in
     let failed = g.W.Sink.failed in

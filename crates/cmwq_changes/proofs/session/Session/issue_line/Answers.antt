@@ -18,15 +18,15 @@ issue-requires-clause-room g c =
     let k = c.loop-turn._turn in
     let x = c.args.line.instr in
     let there = ap (λ (to : Course). to.position) c.loop-turn.invariant.reached in
-    let passed = course_from-position (g.P.Sayer.says a.request.sayer.now) a.request.looks a.request.scenario.now
-    (course g.M.Machine.loaded g.M.Machine.state g.P.Sayer.says g.W.Write.contents g.W.Sink.failed a) (replicate k x)
+    let passed = course_from-position (g.P.Sayer.says a.request.sayer.now) a.request.looks (g.M.Reads.loaded a.machine)
+    (course g.M.Reads.loaded g.M.Reads.state g.P.Sayer.says g.W.Write.contents g.W.Sink.failed a) (replicate k x)
     in
     omega (arith, there, passed, length-replicate k x, c.requires.room)
 
 pub returns-in_err-issue : goal.returns-in_err-issue
 returns-in_err-issue g c =
-    let loaded = g.M.Machine.loaded in
-    let state = g.M.Machine.state in
+    let loaded = g.M.Reads.loaded in
+    let state = g.M.Reads.state in
     let says = g.P.Sayer.says in
     let contents = g.W.Write.contents in
     let failed = g.W.Sink.failed in
@@ -44,8 +44,8 @@ returns-in_err-issue g c =
 
 pub loop-turn-preserved : goal.loop-turn-preserved
 loop-turn-preserved g c =
-    let loaded = g.M.Machine.loaded in
-    let state = g.M.Machine.state in
+    let loaded = g.M.Reads.loaded in
+    let state = g.M.Reads.state in
     let says = g.P.Sayer.says in
     let contents = g.W.Write.contents in
     let failed = g.W.Sink.failed in

@@ -21,8 +21,8 @@ issue_line-requires-clause-room g c =
     let lines = c.args.lines.now in
     let before : List Instr = expand_lines (take i lines) in
     let there = ap (λ (to : Course). to.position) c.loop-line.invariant.reached in
-    let passed = course_from-position (g.P.Sayer.says a.request.sayer.now) a.request.looks a.request.scenario.now
-    (course g.M.Machine.loaded g.M.Machine.state g.P.Sayer.says g.W.Write.contents g.W.Sink.failed a) before
+    let passed = course_from-position (g.P.Sayer.says a.request.sayer.now) a.request.looks (g.M.Reads.loaded a.machine)
+    (course g.M.Reads.loaded g.M.Reads.state g.P.Sayer.says g.W.Write.contents g.W.Sink.failed a) before
     in
     let within = expand_lines-within lines i no_line (omega arith) in
     omega (arith, there, passed, within, c.requires.room)
@@ -30,8 +30,8 @@ issue_line-requires-clause-room g c =
 pub returns-in_err-issue_line : goal.returns-in_err-issue_line
 unfolding no_line
 returns-in_err-issue_line g c =
-    let loaded = g.M.Machine.loaded in
-    let state = g.M.Machine.state in
+    let loaded = g.M.Reads.loaded in
+    let state = g.M.Reads.state in
     let says = g.P.Sayer.says in
     let contents = g.W.Write.contents in
     let failed = g.W.Sink.failed in
@@ -53,8 +53,8 @@ returns-in_err-issue_line g c =
 pub loop-line-preserved : goal.loop-line-preserved
 unfolding no_line
 loop-line-preserved g c =
-    let loaded = g.M.Machine.loaded in
-    let state = g.M.Machine.state in
+    let loaded = g.M.Reads.loaded in
+    let state = g.M.Reads.state in
     let says = g.P.Sayer.says in
     let contents = g.W.Write.contents in
     let failed = g.W.Sink.failed in

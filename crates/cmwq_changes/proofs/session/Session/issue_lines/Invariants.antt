@@ -6,6 +6,6 @@ use Rattle.cmwq_changes.proofs.session.Session.issue_lines.Given as goal
 -- the lines up to this one were issued
 abbrev pub invariant-loop-line : goal.invariant-loop-line
 invariant-loop-line g l =
-    Told g.M.Machine.loaded g.M.Machine.state g.P.Sayer.says g.W.Write.contents g.W.Sink.failed l.fn.self l.self
-    (tells g.M.Machine.loaded g.M.Machine.state g.P.Sayer.says g.W.Write.contents g.W.Sink.failed l.fn.self (expand_lines (take l.line-index l.lines)))
-    (goes g.M.Machine.loaded g.M.Machine.state g.P.Sayer.says g.W.Write.contents g.W.Sink.failed l.fn.self (expand_lines (take l.line-index l.lines)))
+    Told g.M.Reads.loaded g.M.Reads.state g.P.Sayer.says g.W.Write.contents g.W.Sink.failed l.fn.self l.self
+    (tells g.M.Reads.loaded g.M.Reads.state g.P.Sayer.says g.W.Write.contents g.W.Sink.failed l.fn.self (expand_lines (take l.line-index l.lines)))
+    (goes g.M.Reads.loaded g.M.Reads.state g.P.Sayer.says g.W.Write.contents g.W.Sink.failed l.fn.self (expand_lines (take l.line-index l.lines)))

@@ -9,8 +9,8 @@ use Rattle.cmwq_changes.proofs.session.Session.tell_said.Goals as goal
 
 pub returns-in_err-write_line : goal.returns-in_err-write_line
 returns-in_err-write_line g c =
-    let loaded = g.M.Machine.loaded in
-    let state = g.M.Machine.state in
+    let loaded = g.M.Reads.loaded in
+    let state = g.M.Reads.state in
     let says = g.P.Sayer.says in
     let contents = g.W.Write.contents in
     let failed = g.W.Sink.failed in
