@@ -1,19 +1,19 @@
 -- Parts of a session, one after another.
-use Rattle.std.proofs.Common.{◌≡◌, ◌↔◌, ℕ, List, [], ◌++◌, Bool, true, false, Option, Result, Ok, Err, ap, refl, sym, ◌∙◌, subst, append-nil}
+use Rattle.std.proofs.Common.{◌≡◌, ℕ, List, [], ◌++◌, Bool, true, false, Option, Result, Ok, Err, ap, refl, sym, ◌∙◌, subst}
 use Rattle.cmwq_types.specs.Contents.{ScenarioContents}
 use Rattle.cmwq_types.specs.declared.instr.Instr.{Instr}
 use Rattle.cmwq_table.specs.State.{State}
 use Rattle.std.specs.Io.KnownBytes.{Appends}
-use Rattle.cmwq_streams.specs.Blocks.{Sends, kept, sink}
+use Rattle.cmwq_streams.specs.Blocks.{kept, sink}
 use Rattle.cmwq_streams.specs.Sending.{IsSendError}
 use Rattle.cmwq_streams.specs.declared.block_writer.BlockWriter.{BlockWriter}
 use Rattle.cmwq_streams.specs.declared.error.PlayError.{PlayError}
-use Rattle.cmwq_streams.specs.declared.error.PlayError.TheVariants.{NoMemory, Write}
+use Rattle.cmwq_streams.specs.declared.error.PlayError.TheVariants.{NoMemory}
 use Rattle.cmwq_streams.proofs.CallerLemmas.{appends_none, front_more, front_then, sends_then}
 use Rattle.cmwq_changes.specs.declared.session.Request.{Request}
 use Rattle.cmwq_changes.specs.declared.session.Session.{Session}
 use Rattle.cmwq_changes.specs.Course.{Course, course_from, told_from, told_here, looked}
-use Rattle.cmwq_changes.specs.Session.{CanTell, Stopped, Tells, Told, course, goes, goes_wholly, looked_now, spoken, tells, tells_wholly, told_now}
+use Rattle.cmwq_changes.specs.Session.{Stopped, Tells, Told, course, goes, goes_wholly, looked_now, spoken, tells, tells_wholly, told_now}
 use Rattle.cmwq_changes.proofs.CourseLemmas.{course_from-append, told_from-append}
 
 module _ {M P W : Type 0} (loaded : M → ScenarioContents) (state : M → State) (says : P → ScenarioContents → State → Option (List ℕ)) (contents : W → Option (List ℕ)) (failed : W → Bool) where
@@ -22,6 +22,7 @@ module _ {M P W : Type 0} (loaded : M → ScenarioContents) (state : M → State
   then_told a b c first second mid end one two = record {
     ready = two.ready;
     request = two.request ∙ one.request;
+    scenario = two.scenario ∙ one.scenario;
     same = two.same ∙ one.same;
     reached = two.reached;
     sent = sends_then (contents (sink a.lines)) (contents (sink b.lines)) (contents (sink c.lines)) (kept a.lines) (kept b.lines) (kept c.lines) first second one.sent two.sent;
@@ -60,33 +61,22 @@ module _ {M P W : Type 0} (loaded : M → ScenarioContents) (state : M → State
     why = subst IsSendError (sym is) tt;
   }
 
-  -- nothing was to be told
-  pub told_nothing : (a c : Session M P W) (to : Course) → CanTell loaded state says contents failed c → c.request ≡ a.request → c.lines ≡ a.lines → course loaded state says contents failed c ≡ to → Told loaded state says contents failed a c [] to
-  told_nothing a c to ready request same reached = record {
-    ready = ready;
-    request = request;
-    same = ap (λ (lines : BlockWriter W). lines.writer.ghost_name) same;
-    reached = reached;
-    sent = subst (λ (lines : BlockWriter W). Sends contents a.lines lines []) (sym same) ([], appends_none (contents (sink a.lines)), sym (append-nil (kept a.lines)));
-  }
+  -- What is told from where a session came to.
 
-  pub sound_then : (v : Bool) (r : Result (Unit {0}) PlayError) → r ≡ Ok tt → (r ≡ Err Write) ↔ (v ≡ true) → v ≡ false
-  sound_then true r is write = let wrong = sym is ∙ write.1 refl in cc
-  sound_then false r is write = refl
-
-  -- What is told of instructions from where a session came to.
+  of_first : {X : Type 0} (f : Request P → ScenarioContents → Course → X) (a b : Session M P W) (text : List ℕ) (mid : Course) → Told loaded state says contents failed a b text mid
+      → f b.request (loaded b.machine) (course loaded state says contents failed b) ≡ f a.request (loaded a.machine) mid
+  of_first f a b text mid one =
+      let to = course loaded state says contents failed b in
+      ap (λ (q : Request P). f q (loaded b.machine) to) one.request ∙ ap (λ (S : ScenarioContents). f a.request S to) one.scenario
+      ∙ ap (λ (c : Course). f a.request (loaded a.machine) c) one.reached
 
   request_of : (a b : Session M P W) (text : List ℕ) (mid : Course) → Told loaded state says contents failed a b text mid → (ys : List Instr)
-      → tells loaded state says contents failed b ys ≡ told_from (spoken loaded state says contents failed a) a.request.looks a.request.scenario.now mid ys
-  request_of a b text mid one ys =
-      ap (λ (q : Request P). told_from (says q.sayer.now) q.looks q.scenario.now (course loaded state says contents failed b) ys) one.request
-      ∙ ap (λ (c : Course). told_from (says a.request.sayer.now) a.request.looks a.request.scenario.now c ys) one.reached
+      → tells loaded state says contents failed b ys ≡ told_from (spoken loaded state says contents failed a) a.request.looks (loaded a.machine) mid ys
+  request_of a b text mid one ys = of_first (λ q S c. told_from (says q.sayer.now) q.looks S c ys) a b text mid one
 
   goes_of : (a b : Session M P W) (text : List ℕ) (mid : Course) → Told loaded state says contents failed a b text mid → (ys : List Instr)
-      → goes loaded state says contents failed b ys ≡ course_from (spoken loaded state says contents failed a) a.request.looks a.request.scenario.now mid ys
-  goes_of a b text mid one ys =
-      ap (λ (q : Request P). course_from (says q.sayer.now) q.looks q.scenario.now (course loaded state says contents failed b) ys) one.request
-      ∙ ap (λ (c : Course). course_from (says a.request.sayer.now) a.request.looks a.request.scenario.now c ys) one.reached
+      → goes loaded state says contents failed b ys ≡ course_from (spoken loaded state says contents failed a) a.request.looks (loaded a.machine) mid ys
+  goes_of a b text mid one ys = of_first (λ q S c. course_from (says q.sayer.now) q.looks S c ys) a b text mid one
 
   pub instrs_told : (a b c : Session M P W) (xs ys : List Instr)
       → Told loaded state says contents failed a b (tells loaded state says contents failed a xs) (goes loaded state says contents failed a xs)
@@ -99,10 +89,10 @@ module _ {M P W : Type 0} (loaded : M → ScenarioContents) (state : M → State
       let mid = goes loaded state says contents failed a xs in
       let text = tells loaded state says contents failed a xs in
       let text_is : text ++ tells loaded state says contents failed b ys ≡ tells loaded state says contents failed a (xs ++ ys) =
-      ap (λ (more : List ℕ). text ++ more) (request_of a b text mid one ys) ∙ sym (told_from-append says_a q.looks q.scenario.now start xs ys)
+      ap (λ (more : List ℕ). text ++ more) (request_of a b text mid one ys) ∙ sym (told_from-append says_a q.looks (loaded a.machine) start xs ys)
       in
       let end_is : goes loaded state says contents failed b ys ≡ goes loaded state says contents failed a (xs ++ ys) =
-      goes_of a b text mid one ys ∙ sym (course_from-append says_a q.looks q.scenario.now start xs ys)
+      goes_of a b text mid one ys ∙ sym (course_from-append says_a q.looks (loaded a.machine) start xs ys)
       in
       subst (λ (t : List ℕ). Told loaded state says contents failed a c t (goes loaded state says contents failed a (xs ++ ys))) text_is
       (subst (λ (to : Course). Told loaded state says contents failed a c (text ++ tells loaded state says contents failed b ys) to) end_is
@@ -120,10 +110,10 @@ module _ {M P W : Type 0} (loaded : M → ScenarioContents) (state : M → State
       let mid = goes loaded state says contents failed a xs in
       let text = tells loaded state says contents failed a xs in
       let text_is : text ++ tells loaded state says contents failed b ys ≡ tells loaded state says contents failed a (xs ++ ys) =
-      ap (λ (more : List ℕ). text ++ more) (request_of a b text mid one ys) ∙ sym (told_from-append says_a q.looks q.scenario.now start xs ys)
+      ap (λ (more : List ℕ). text ++ more) (request_of a b text mid one ys) ∙ sym (told_from-append says_a q.looks (loaded a.machine) start xs ys)
       in
-      let rest = told_from says_a q.looks q.scenario.now (goes loaded state says contents failed a (xs ++ ys)) more in
-      subst (λ (t : List ℕ). Stopped loaded state says contents failed a c t error) (sym (told_from-append says_a q.looks q.scenario.now start (xs ++ ys) more))
+      let rest = told_from says_a q.looks (loaded a.machine) (goes loaded state says contents failed a (xs ++ ys)) more in
+      subst (λ (t : List ℕ). Stopped loaded state says contents failed a c t error) (sym (told_from-append says_a q.looks (loaded a.machine) start (xs ++ ys) more))
       (stopped_more a c (tells loaded state says contents failed a (xs ++ ys)) rest error
       (subst (λ (t : List ℕ). Stopped loaded state says contents failed a c t error) text_is
       (then_stopped a b c text (tells loaded state says contents failed b ys) mid error one two)))
@@ -131,16 +121,12 @@ module _ {M P W : Type 0} (loaded : M → ScenarioContents) (state : M → State
   -- The last look, from where a session came to.
 
   last_text : (a b : Session M P W) (text : List ℕ) (mid : Course) → Told loaded state says contents failed a b text mid
-      → told_now loaded state says contents failed true b ≡ told_here (spoken loaded state says contents failed a) a.request.looks a.request.scenario.now true mid
-  last_text a b text mid one =
-      ap (λ (q : Request P). told_here (says q.sayer.now) q.looks q.scenario.now true (course loaded state says contents failed b)) one.request
-      ∙ ap (λ (c : Course). told_here (says a.request.sayer.now) a.request.looks a.request.scenario.now true c) one.reached
+      → told_now loaded state says contents failed true b ≡ told_here (spoken loaded state says contents failed a) a.request.looks (loaded a.machine) true mid
+  last_text a b text mid one = of_first (λ q S c. told_here (says q.sayer.now) q.looks S true c) a b text mid one
 
   last_course : (a b : Session M P W) (text : List ℕ) (mid : Course) → Told loaded state says contents failed a b text mid
-      → looked_now loaded state says contents failed true b ≡ looked (spoken loaded state says contents failed a) a.request.looks a.request.scenario.now true mid
-  last_course a b text mid one =
-      ap (λ (q : Request P). looked (says q.sayer.now) q.looks q.scenario.now true (course loaded state says contents failed b)) one.request
-      ∙ ap (λ (c : Course). looked (says a.request.sayer.now) a.request.looks a.request.scenario.now true c) one.reached
+      → looked_now loaded state says contents failed true b ≡ looked (spoken loaded state says contents failed a) a.request.looks (loaded a.machine) true mid
+  last_course a b text mid one = of_first (λ q S c. looked (says q.sayer.now) q.looks S true c) a b text mid one
 
   pub then_looks : (a b c : Session M P W) (xs : List Instr) (r : Result (Unit {0}) PlayError)
       → Told loaded state says contents failed a b (tells loaded state says contents failed a xs) (goes loaded state says contents failed a xs)

@@ -1,15 +1,14 @@
 -- How far a run has come that is told as it goes. No public clause cites this.
-use Rattle.std.specs.Prelude.{ℕ, ◌+◌, Bool, true, false, not, ◌||◌, ◌==◌, List, [], ◌∷◌, ◌++◌, Option, None, Result, Ok, Err, if◌then◌else◌}
+use Rattle.std.specs.Prelude.{ℕ, ◌+◌, Bool, true, false, ◌||◌, List, [], ◌∷◌, ◌++◌, Option, None, Result, Ok, Err, if◌then◌else◌}
 use Rattle.cmwq_types.specs.Contents.{ScenarioContents}
 use Rattle.cmwq_types.specs.declared.instr.Instr.{Instr}
 use Rattle.cmwq_table.specs.State.{State, start}
 use Rattle.cmwq_table.specs.Table.{table}
 use Rattle.cmwq_changes.specs.declared.looks.Looks.{Looks}
-use Rattle.cmwq_changes.specs.declared.looks.Looks.TheVariants.{Settled, Every, At}
 use Rattle.cmwq_changes.specs.declared.error.ChangesError.{ChangesError}
 use Rattle.cmwq_changes.specs.declared.error.ChangesError.TheVariants.{NothingSaid, Play}
 use Rattle.cmwq_streams.specs.declared.error.PlayError.{PlayError}
-use Rattle.cmwq_changes.specs.Changes.{is_looked_at, is_settled, line}
+use Rattle.cmwq_changes.specs.Changes.{is_looked_at, line}
 
 pub record Course : Type 0 where
   pub state : State
@@ -35,20 +34,6 @@ saying c said = record c { said = said; told = c.told || has_bytes (line_here c 
 
 abbrev pub going_on : ScenarioContents → Course → Instr → Course
 going_on S c instr = record c { state = (table S c.state instr).0; position = c.position + 1 }
-
--- whether a position may be looked at, whatever the state; and whether it is passed in this state
-abbrev pub may_look : Looks → ℕ → Bool
-may_look (At wanted) k = k == wanted
-may_look Settled k = true
-may_look Every k = true
-
-abbrev pub wants_settled : Looks → Bool
-wants_settled Settled = true
-wants_settled Every = false
-wants_settled (At wanted) = false
-
-abbrev pub passes : Looks → ScenarioContents → Bool → State → Bool
-passes looks S is_last s = if is_last || not (wants_settled looks) then false else not (is_settled S s)
 
 module _ (says : ScenarioContents → State → Option (List ℕ)) (looks : Looks) (S : ScenarioContents) where
   abbrev pub looks_here : Bool → Course → Bool

@@ -1,7 +1,6 @@
 -- What a run that is told as it goes has written. No public clause cites this.
 use Rattle.std.specs.Prelude.{◌≡◌, ◌↔◌, ℕ, List, Option, Bool, false, true, Result, MatchResult}
 use Rattle.cmwq_types.specs.Contents.{ScenarioContents}
-use Rattle.cmwq_types.specs.Faults.{IsValid}
 use Rattle.cmwq_types.specs.declared.instr.Instr.{Instr}
 use Rattle.cmwq_table.specs.State.{State}
 use Rattle.cmwq_streams.specs.Blocks.{Sends, SendsFront, SharesSink, sink}
@@ -18,16 +17,15 @@ module _ {M P W : Type 0} (loaded : M → ScenarioContents) (state : M → State
   course session =
       record { state = state session.machine; position = session.position; said = words session.said; told = session.has_told }
 
-  -- the machine has the scenario, which is valid, and no write failed yet
-  pub record CanTell (session : Session M P W) : Type 0 where
-    pub valid : IsValid session.request.scenario.now
-    pub has_scenario : loaded session.machine ≡ session.request.scenario.now
-    pub is_sound : failed (sink session.lines) ≡ false
+  -- no write failed yet
+  abbrev pub CanTell : Session M P W → Type 0
+  CanTell session = failed (sink session.lines) ≡ false
 
   -- it came so far, and this was written on the way
   pub record Told (old new : Session M P W) (text : List ℕ) (to : Course) : Type 0 where
     pub ready : CanTell new
     pub request : new.request ≡ old.request
+    pub scenario : loaded new.machine ≡ loaded old.machine
     pub same : SharesSink old.lines new.lines
     pub reached : course new ≡ to
     pub sent : Sends contents old.lines new.lines text
@@ -49,22 +47,22 @@ module _ {M P W : Type 0} (loaded : M → ScenarioContents) (state : M → State
   spoken session = says session.request.sayer.now
 
   abbrev pub looks_now : Bool → Session M P W → Bool
-  looks_now is_last session = looks_here (spoken session) session.request.looks session.request.scenario.now is_last (course session)
+  looks_now is_last session = looks_here (spoken session) session.request.looks (loaded session.machine) is_last (course session)
 
   abbrev pub told_now : Bool → Session M P W → List ℕ
-  told_now is_last session = told_here (spoken session) session.request.looks session.request.scenario.now is_last (course session)
+  told_now is_last session = told_here (spoken session) session.request.looks (loaded session.machine) is_last (course session)
 
   abbrev pub looked_now : Bool → Session M P W → Course
-  looked_now is_last session = looked (spoken session) session.request.looks session.request.scenario.now is_last (course session)
+  looked_now is_last session = looked (spoken session) session.request.looks (loaded session.machine) is_last (course session)
 
   abbrev pub tells : Session M P W → List Instr → List ℕ
-  tells session instrs = told_from (spoken session) session.request.looks session.request.scenario.now (course session) instrs
+  tells session instrs = told_from (spoken session) session.request.looks (loaded session.machine) (course session) instrs
 
   abbrev pub goes : Session M P W → List Instr → Course
-  goes session instrs = course_from (spoken session) session.request.looks session.request.scenario.now (course session) instrs
+  goes session instrs = course_from (spoken session) session.request.looks (loaded session.machine) (course session) instrs
 
   abbrev pub tells_wholly : Session M P W → List Instr → List ℕ
-  tells_wholly session instrs = told_wholly (spoken session) session.request.looks session.request.scenario.now (course session) instrs
+  tells_wholly session instrs = told_wholly (spoken session) session.request.looks (loaded session.machine) (course session) instrs
 
   abbrev pub goes_wholly : Session M P W → List Instr → Course
-  goes_wholly session instrs = course_wholly (spoken session) session.request.looks session.request.scenario.now (course session) instrs
+  goes_wholly session instrs = course_wholly (spoken session) session.request.looks (loaded session.machine) (course session) instrs

@@ -1,27 +1,26 @@
 //! A run on a machine that is told as it goes: what is said of its states goes to a writer wherever it changes.
 ghost use Rattle.cmwq_changes.specs.Changes.{is_new, line_text, words};
-ghost use Rattle.cmwq_changes.specs.Course.{as_unit, line_here, may_look, passes, saying, wants_settled};
+ghost use Rattle.cmwq_changes.specs.Course.{as_unit, line_here, saying};
 ghost use Rattle.cmwq_changes.specs.Session.{CanTell, Tells, course, goes, goes_wholly, looked_now, looks_now, tells, tells_wholly, told_now};
 ghost use Rattle.cmwq_streams.specs.Blocks.{Sends, SendsFront, SharesSink, WritesTo, kept, sink};
 ghost use Rattle.cmwq_streams.specs.Sending.{IsSendError};
 ghost use Rattle.cmwq_play.specs.Commands.{Writes};
-ghost use Rattle.cmwq_table.specs.View.{view_of};
 ghost use Rattle.cmwq_types.specs.Scenario.{expand_lines};
 ghost use Rattle.cmwq_types.specs.declared.limits.TheConstants.{MAX_HISTORY};
-ghost use Rattle.std.specs.Prelude.{◌≡◌, ◌<◌, ◌≤◌, ◌+◌, [], ◌∷◌, ◌↔◌, Err, IfErr, IfOk, MatchOption, OnErr, OnOk, false, length, replicate, true};
+ghost use Rattle.std.specs.Prelude.{◌≡◌, ◌<◌, ◌≤◌, ◌+◌, [], ◌∷◌, ◌↔◌, Err, IfErr, IfOk, OnErr, OnOk, false, length, replicate, true};
 
 use crate::looks::Looks;
 use crate::sayer::Sayer;
+use cmwq_reads::is_settled;
 use cmwq_streams::{BlockWriter, PlayError, Sink};
-use cmwq_table::{Machine, View};
-use cmwq_types::{Actor, Instr, Line, NoMemory, Scenario};
+use cmwq_table::Machine;
+use cmwq_types::{Actor, Instr, Line, NoMemory};
 use std::alloc::Global;
 
-/// What is to be told of which scenario.
+/// What is to be told.
 #[derive(Drop)]
 pub(crate) struct Request<'s, P> {
     pub(crate) alloc: Global,
-    pub(crate) scenario: &'s Scenario,
     pub(crate) looks: Looks,
     pub(crate) sayer: &'s P,
 }
@@ -41,46 +40,23 @@ pub(crate) struct Session<'s, 'w, M: Drop, P, W> {
 }
 
 impl<'w, M: Machine, P: Sayer, W: Sink> Session<'_, 'w, M, P, W> {
-    /// The machine's state, where the position is one that is looked at.
-    fn view_here(&self, is_last: bool) -> Result<Option<View>, NoMemory>
-        requires { CanTell M.loaded M.state P.says W.contents W.failed self.now }
-        ensures { IfOk result (λ view. MatchOption view (looks_now M.loaded M.state P.says W.contents W.failed is_last self.now ≡ false)
-            (λ view. (looks_now M.loaded M.state P.says W.contents W.failed is_last self.now ≡ true) × (view ≡ view_of (M.state self.now.machine)))) }
+    /// Whether the position is one that is looked at.
+    fn is_looked_at(&self, is_last: bool) -> bool
+        ensures { result ≡ looks_now M.loaded M.state P.says W.contents W.failed is_last self.now }
     {
-        if !may_look(self.request.looks, self.position) {
-            return Ok(None);
+        match self.request.looks {
+            Looks::Settled => is_last || is_settled(&self.machine),
+            Looks::Every => true,
+            Looks::At(position) => self.position == position,
         }
-        let view = self.machine.look()?;
-        if self.is_passed(is_last, &view)? {
-            return Ok(None);
-        }
-        Ok(Some(view))
-    }
-
-    /// Whether the position is passed since it isn't settled, and not the last one.
-    fn is_passed(&self, is_last: bool, view: &View) -> Result<bool, NoMemory>
-        requires can { CanTell M.loaded M.state P.says W.contents W.failed self.now }
-        requires view { view.now ≡ view_of (M.state self.now.machine) }
-        ensures { IfOk result (λ passed. passed ≡ passes self.now.request.looks self.now.request.scenario.now is_last (M.state self.now.machine)) }
-    {
-        let request = &self.request;
-        if is_last || !wants_settled(request.looks) {
-            return Ok(false);
-        }
-        let settled = request
-            .sayer
-            .is_settled(request.alloc, request.scenario, view)?;
-        Ok(!settled)
     }
 
     /// What is said of the machine's state.
-    fn said_of(&self, view: &View) -> Result<Option<String>, NoMemory>
-        requires can { CanTell M.loaded M.state P.says W.contents W.failed self.now }
-        requires view { view.now ≡ view_of (M.state self.now.machine) }
-        ensures { IfOk result (λ said. words said ≡ P.says self.now.request.sayer.now self.now.request.scenario.now (M.state self.now.machine)) }
+    fn said_here(&self) -> Result<Option<String>, NoMemory>
+        ensures { IfOk result (λ said. words said ≡ P.says self.now.request.sayer.now (M.loaded self.now.machine) (M.state self.now.machine)) }
     {
         let request = &self.request;
-        request.sayer.say(request.alloc, request.scenario, view)
+        request.sayer.say(request.alloc, &self.machine)
     }
 
     /// Whether something else was said where it was last looked, or nothing.
@@ -123,10 +99,10 @@ impl<'w, M: Machine, P: Sayer, W: Sink> Session<'_, 'w, M, P, W> {
             (told_now M.loaded M.state P.says W.contents W.failed is_last self.old)
             (looked_now M.loaded M.state P.says W.contents W.failed is_last self.old) result }
     {
-        let Some(view) = self.view_here(is_last)? else {
+        if !self.is_looked_at(is_last) {
             return Ok(());
-        };
-        let said = self.said_of(&view)?;
+        }
+        let said = self.said_here()?;
         self.tell_said(said)
     }
 
@@ -232,21 +208,4 @@ fn write_line<W: Sink>(
     ensures why { IfErr result (λ error. IsSendError error) }
 {
     write!(lines, "at {position} now {now} {text}")
-}
-
-/// Whether a position may be looked at, whatever the state.
-fn may_look(looks: Looks, position: u64) -> bool
-    ensures { result ≡ may_look looks position }
-{
-    match looks {
-        Looks::At(wanted) => position == wanted,
-        Looks::Settled | Looks::Every => true,
-    }
-}
-
-/// Whether only settled positions are looked at, and the last one.
-fn wants_settled(looks: Looks) -> bool
-    ensures { result ≡ wants_settled looks }
-{
-    matches!(looks, Looks::Settled)
 }

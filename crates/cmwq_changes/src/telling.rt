@@ -97,44 +97,32 @@ fn load_and_tell<M: Machine, P: Sayer, W: Sink>(
 {
     let scenario = Arc::new(alloc, scenario)?;
     let machine = M::begin(alloc, Arc::clone(&scenario)?)?;
-    tell_actor(
+    let request = Request {
         alloc,
-        &scenario,
-        &scenario.actors[0],
         looks,
         sayer,
-        machine,
-        writer,
-    )
+    };
+    tell_actor(request, machine, &scenario.actors[0], writer)
 }
 
-/// Issues the actor's instructions on a machine at the scenario's start, writes what is told as it comes, a block at a time, and
+/// Issues the actor's instructions on a machine at its scenario's start, writes what is told as it comes, a block at a time, and
 /// answers whether anything was told.
 fn tell_actor<M: Machine, P: Sayer, W: Sink>(
-    alloc: Global,
-    scenario: &Scenario,
-    actor: &Actor,
-    looks: Looks,
-    sayer: &P,
+    request: Request<'_, P>,
     machine: M,
+    actor: &Actor,
     writer: &mut W,
 ) -> Result<bool, PlayError>
-    requires valid { IsValid scenario.now }
+    requires start { M.state machine ≡ start (M.loaded machine) }
     requires few { length (expand_lines actor.now.lines) ≤ MAX_HISTORY }
-    requires loaded { M.loaded machine ≡ scenario.now }
-    requires start { M.state machine ≡ start scenario.now }
     requires sound { W.failed writer.old ≡ false }
-    ensures writes { Writes (λ output. output ≡ changes_text (P.says sayer.now) looks scenario.now (expand_lines actor.now.lines)) (W.contents writer.old) (W.contents writer.new) (W.failed writer.new) (as_unit result) }
-    ensures told { IfOk result (λ has_told. has_told ≡ has_bytes (changes_text (P.says sayer.now) looks scenario.now (expand_lines actor.now.lines))) }
+    ensures writes { Writes (λ output. output ≡ changes_text (P.says request.entry.sayer.now) request.entry.looks (M.loaded machine) (expand_lines actor.now.lines)) (W.contents writer.old) (W.contents writer.new) (W.failed writer.new) (as_unit result) }
+    ensures told { IfOk result (λ has_told. has_told ≡ has_bytes (changes_text (P.says request.entry.sayer.now) request.entry.looks (M.loaded machine) (expand_lines actor.now.lines))) }
     ensures why { IfErr result (λ error. IsSendError error) }
 {
+    let alloc = request.alloc;
     let mut session = Session {
-        request: Request {
-            alloc,
-            scenario,
-            looks,
-            sayer,
-        },
+        request,
         machine,
         position: 0,
         said: None,

@@ -4,10 +4,9 @@ ghost use Rattle.cmwq_explain.specs.Explained.{IsUnknown};
 ghost use Rattle.std.specs.Prelude.{◌≡◌, ◌<◌, ◌↔◌, IfSome, IsTrue, length};
 
 use cmwq_changes::Sayer;
-use cmwq_table::View;
+use cmwq_table::Reads;
 use cmwq_types::{NoMemory, Scenario, WorkId};
 use cmwq_waits::flush_text;
-use cmwq_why::is_settled;
 use cmwq_why_text::work_text;
 use std::alloc::Global;
 
@@ -37,28 +36,14 @@ impl Sayer for Question<'_> {
 
     ghost says = { λ question S s. said_to question S s };
 
-    fn say(
-        &self,
-        alloc: Global,
-        scenario: &Scenario,
-        view: &View,
-    ) -> Result<Option<String>, NoMemory> {
+    fn say<R: Reads>(&self, alloc: Global, machine: &R) -> Result<Option<String>, NoMemory> {
         match *self {
-            Question::Work(name) => match work_named(scenario, name) {
-                Some(w) => Ok(Some(work_text(alloc, scenario, view, WorkId(w as u16))?)),
+            Question::Work(name) => match work_named(machine.scenario(), name) {
+                Some(w) => Ok(Some(work_text(alloc, machine, WorkId(w as u16))?)),
                 None => Ok(None),
             },
-            Question::Flush(flush) => flush_text(alloc, scenario, view, flush as usize),
+            Question::Flush(flush) => flush_text(alloc, machine, flush as usize),
         }
-    }
-
-    fn is_settled(
-        &self,
-        alloc: Global,
-        scenario: &Scenario,
-        view: &View,
-    ) -> Result<bool, NoMemory> {
-        is_settled(alloc, scenario, view)
     }
 }
 

@@ -22,7 +22,7 @@ returns-in_err-issue_lines g c =
     let stopped = subst (λ (ls : List Line). Stopped loaded state says contents failed a c.issue_lines.new.self (tells loaded state says contents failed a (expand_lines ls)) error) lines c.in_err-issue_lines.ensures in
     let p = err_from_is_err_and c.from_residual.result c.from_residual.ensures.1 in
     rw (p.1, p.2) (stopped_more loaded state says contents failed a c.issue_lines.new.self (tells loaded state says contents failed a instrs)
-    (told_here (spoken loaded state says contents failed a) a.request.looks a.request.scenario.now true (goes loaded state says contents failed a instrs)) error stopped)
+    (told_here (spoken loaded state says contents failed a) a.request.looks (loaded a.machine) true (goes loaded state says contents failed a instrs)) error stopped)
 
 pub returns : goal.returns
 returns g c =

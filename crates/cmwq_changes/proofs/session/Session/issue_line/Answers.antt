@@ -18,7 +18,7 @@ issue-requires-clause-room g c =
     let k = c.loop-turn._turn in
     let x = c.args.line.instr in
     let there = ap (λ (to : Course). to.position) c.loop-turn.invariant.reached in
-    let passed = course_from-position (g.P.Sayer.says a.request.sayer.now) a.request.looks a.request.scenario.now
+    let passed = course_from-position (g.P.Sayer.says a.request.sayer.now) a.request.looks (g.M.Reads.loaded a.machine)
     (course g.M.Reads.loaded g.M.Reads.state g.P.Sayer.says g.W.Write.contents g.W.Sink.failed a) (replicate k x)
     in
     omega (arith, there, passed, length-replicate k x, c.requires.room)

@@ -21,7 +21,7 @@ issue_line-requires-clause-room g c =
     let lines = c.args.lines.now in
     let before : List Instr = expand_lines (take i lines) in
     let there = ap (λ (to : Course). to.position) c.loop-line.invariant.reached in
-    let passed = course_from-position (g.P.Sayer.says a.request.sayer.now) a.request.looks a.request.scenario.now
+    let passed = course_from-position (g.P.Sayer.says a.request.sayer.now) a.request.looks (g.M.Reads.loaded a.machine)
     (course g.M.Reads.loaded g.M.Reads.state g.P.Sayer.says g.W.Write.contents g.W.Sink.failed a) before
     in
     let within = expand_lines-within lines i no_line (omega arith) in
