@@ -2,6 +2,7 @@
 ghost use Rattle.cmwq_grammar.specs.Comments.{comments, listing_room};
 ghost use Rattle.cmwq_grammar.specs.FaultLaw.{Begins, IsFault};
 ghost use Rattle.cmwq_grammar.specs.Grammar.{Spells};
+ghost use Rattle.cmwq_grammar.specs.Instructions.{Makes, OfNumber, OfQueue, OfWork, operands_of};
 ghost use Rattle.cmwq_grammar.specs.Meaning.{FaultAt, reads};
 ghost use Rattle.cmwq_grammar.specs.Offers.{GoesOnWith, IsNextAfter, words_of_next};
 ghost use Rattle.cmwq_grammar.specs.declared.next.Next.{Next};
@@ -9,7 +10,9 @@ ghost use Rattle.cmwq_types.specs.Contents.{ScenarioContents};
 ghost use Rattle.cmwq_types.specs.Faults.{IsValid};
 ghost use Rattle.cmwq_types.specs.Listing.{listing};
 ghost use Rattle.cmwq_types.specs.Values.{IsScenario};
+ghost use Rattle.cmwq_types.specs.declared.instr.Instr.TheVariants as instr;
 ghost use Rattle.cmwq_types.specs.declared.limits.TheConstants.{MAX_TEXT};
+ghost use Rattle.cmwq_types.specs.declared.mnemonic.Mnemonic.TheVariants as mnemonic;
 ghost use Rattle.std.specs.List.{list_any};
 ghost use Rattle.std.specs.Prelude.{◌≡◌, ◌≤◌, ◌+◌, ◌↔◌, ◌++◌, ℕ, Err, IsTrue, List, Ok, length};
 ghost use Rattle.std.specs.Str.{IsUtf8, bytes_eq};
@@ -55,4 +58,16 @@ pub fn table_has_the_words_that_go_on()
     ensures there { (lines : List (List ℕ)) → Begins lines → (next : Next) × IsNextAfter lines next }
     ensures words { (lines : List (List ℕ)) (next : Next) (word : List ℕ) → Begins lines → IsNextAfter lines next
         → IsTrue (list_any (bytes_eq word) (words_of_next next)) ↔ GoesOnWith lines word }
+{}
+
+/// What stands behind a word of each shape, and the instruction that it makes.
+pub fn operands_go_by_the_shape()
+    ensures alone { operands_of mnemonic.Freeze ≡ Makes instr.Freeze }
+    ensures work { operands_of mnemonic.Cancel ≡ OfWork (λ w. Makes (instr.Cancel w)) }
+    ensures work_cpu { operands_of mnemonic.Queue ≡ OfWork (λ w. OfNumber 255 (λ cpu. Makes (instr.Queue w cpu))) }
+    ensures work_cpu_ticks { operands_of mnemonic.Delay ≡ OfWork (λ w. OfNumber 255 (λ cpu. OfNumber 4294967295 (λ ticks. Makes (instr.Delay w cpu ticks)))) }
+    ensures queue { operands_of mnemonic.FlushQueue ≡ OfQueue (λ q. Makes (instr.FlushQueue q)) }
+    ensures queue_number { operands_of mnemonic.SetMax ≡ OfQueue (λ q. OfNumber 4294967295 (λ max. Makes (instr.SetMax q max))) }
+    ensures pool { operands_of mnemonic.Step ≡ OfNumber 255 (λ pool. Makes (instr.Step pool)) }
+    ensures flush { operands_of mnemonic.Ask ≡ OfNumber 65535 (λ flush. Makes (instr.Ask flush)) }
 {}

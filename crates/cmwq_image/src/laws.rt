@@ -1,6 +1,6 @@
 //! Laws of images, each the contract of a function with an empty body.
 ghost use Rattle.cmwq_image.specs.FaultMeaning.{Means};
-ghost use Rattle.cmwq_image.specs.Image.{image};
+ghost use Rattle.cmwq_image.specs.Image.{image, instr_word, word};
 ghost use Rattle.cmwq_image.specs.ImageFault.{GivesRead, reading};
 ghost use Rattle.cmwq_image.specs.Limits.{AreBytes, HasSize};
 ghost use Rattle.cmwq_image.specs.Versions.{HasVersion, IsImageOf, MemoryIsAmple, NeverDisables};
@@ -11,6 +11,7 @@ ghost use Rattle.cmwq_image.specs.declared.error.ImageError.TheVariants as error
 ghost use Rattle.cmwq_image.specs.declared.version.TheConstants.{FIRST_VERSION, SECOND_VERSION, VERSION};
 ghost use Rattle.cmwq_types.specs.Contents.{ScenarioContents};
 ghost use Rattle.cmwq_types.specs.Faults.{IsValid};
+ghost use Rattle.cmwq_types.specs.Fields.{queue_id, work_id};
 ghost use Rattle.cmwq_types.specs.declared.check.Fault.TheVariants.{Range};
 ghost use Rattle.cmwq_types.specs.declared.instr.Instr.TheVariants as instr;
 ghost use Rattle.std.specs.Prelude.{◌≡◌, ◌↔◌, ◌≤◌, ◌<◌, ◌++◌, ◌∷◌, [], Err, List, Ok, length, slice_set, take, ℕ};
@@ -76,6 +77,18 @@ pub fn image_is_at_most_923058_bytes()
 #[tactic(auto, using(crate::proofs::FrontLemmas::far_bytes))]
 pub fn far_bytes_change_no_reading()
     ensures { (n : ℕ) (bytes : List ℕ) → 923058 < n → reading (take n bytes) ≡ reading bytes }
+{}
+
+/// The word of an instruction of each shape: its tag, its operands, and zeros.
+pub fn instructions_are_words()
+    ensures alone { instr_word instr.Freeze ≡ word 25 0 0 0 }
+    ensures work { (w : ℕ) → instr_word (instr.Cancel (work_id w)) ≡ word 19 0 w 0 }
+    ensures work_cpu { (w cpu : ℕ) → instr_word (instr.Queue (work_id w) cpu) ≡ word 16 cpu w 0 }
+    ensures work_cpu_ticks { (w cpu ticks : ℕ) → instr_word (instr.Delay (work_id w) cpu ticks) ≡ word 17 cpu w ticks }
+    ensures queue { (q : ℕ) → instr_word (instr.FlushQueue (queue_id q)) ≡ word 23 0 q 0 }
+    ensures queue_number { (q max : ℕ) → instr_word (instr.SetMax (queue_id q) max) ≡ word 24 0 q max }
+    ensures pool { (pool : ℕ) → instr_word (instr.Step pool) ≡ word 28 pool 0 0 }
+    ensures flush { (flush : ℕ) → instr_word (instr.Ask flush) ≡ word 31 0 flush 0 }
 {}
 
 /// The worked image is the image of the worked scenario, which is valid; with 1 or 2 in its byte 5 it is that of an

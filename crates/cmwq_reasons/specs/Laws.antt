@@ -449,24 +449,7 @@ is_move (instr.Step pool) = true
 is_move instr.Fire = true
 is_move instr.Tick = true
 is_move instr.Next = true
-is_move (instr.Queue w cpu) = false
-is_move (instr.Delay w cpu ticks) = false
-is_move (instr.Mod w cpu ticks) = false
-is_move (instr.Cancel w) = false
-is_move (instr.CancelSync w) = false
-is_move (instr.Flush w) = false
-is_move (instr.FlushDelayed w) = false
-is_move (instr.FlushQueue q) = false
-is_move (instr.SetMax q max) = false
-is_move instr.Freeze = false
-is_move instr.Thaw = false
-is_move (instr.Ask flush) = false
-is_move instr.Busy = false
-is_move (instr.State w) = false
-is_move (instr.Disable w) = false
-is_move (instr.Enable w) = false
-is_move instr.Pressure = false
-is_move instr.Relief = false
+is_move _ = false
 
 abbrev pub AreMoves : List Instr → Type 0
 AreMoves [] = Unit {0}
