@@ -1,6 +1,5 @@
 -- What an issue adds to what a pass has issued.
-use Rattle.std.proofs.Common.{◌≡◌, ◌==◌, ℕ, ◌+◌, ◌-◌, ◌≤◌, List, [], ◌∷◌, ◌++◌, length, filter, replicate, sym, ◌∙◌, ap, subst, arith, append_assoc, length-append}
-use Rattle.std.proofs.lemmas.List.{replicate-append-replicate}
+use Rattle.std.proofs.Common.{◌≡◌, ◌==◌, ℕ, ◌+◌, ◌-◌, ◌≤◌, List, [], ◌∷◌, ◌++◌, length, filter, sym, ◌∙◌, ap, subst, arith, length-append}
 use Rattle.std.proofs.lemmas.List.Sums.{length-filter, count_by-le-length}
 use Rattle.cmwq_types.specs.declared.instr.Instr.{Instr}
 use Rattle.cmwq_lock.specs.Views.{SameKnowledge, caller_of, mine_of, seen_of}
@@ -33,26 +32,16 @@ one_more_fits from v w new place turn entered =
     let longer : length (mine_of w) ≡ length (mine_of v) + 1 = ap length entered.mine ∙ length-append (mine_of v) (new ∷ []) in
     let fits = own_calls_fit from v w turn in omega arith
 
--- who has issued an instruction k times, and nothing since, has issued a front of issuing it n times
-pub stops_in_front :
-    (v w : EngineView) (before : List Instr) (k n : ℕ) (x : Instr)
-    → issued_with v ≡ before ++ replicate k x → k ≤ n → mine_of w ≡ mine_of v
-    → IsFrontOf (issued_with w) (before ++ replicate n x)
-stops_in_front v w before k n x issued few same =
-    let is : issued_with w ≡ before ++ replicate k x = ap instrs_of same ∙ issued in
-    let whole : (before ++ replicate k x) ++ replicate (n - k) x ≡ before ++ replicate n x =
-    append_assoc before (replicate k x) (replicate (n - k) x)
-    ∙ ap (λ xs. before ++ xs) (replicate-append-replicate k (n - k) x ∙ ap (λ i. replicate i x) (omega arith))
-    in
-    let front = front_of_longer (before ++ replicate k x) (replicate (n - k) x) in
-    let P = λ (xs : List Instr). IsFrontOf xs (before ++ replicate n x) in
-    subst P (sym is) (subst (λ (ys : List Instr). IsFrontOf (before ++ replicate k x) ys) whole front)
+-- who has issued some instructions, and nothing since, has issued a front of them and more
+pub stops_in_front : (v w : EngineView) (left all : List Instr) → issued_with v ++ left ≡ all → mine_of w ≡ mine_of v → IsFrontOf (issued_with w) all
+stops_in_front v w left all whole same =
+    subst (λ (xs : List Instr). IsFrontOf xs all) (sym (ap instrs_of same))
+    (subst (λ (ys : List Instr). IsFrontOf (issued_with v) ys) whole (front_of_longer (issued_with v) left))
 
--- who was refused the next of n times has ended so
+-- who was refused the next instruction has ended so
 pub stop_ends :
-    (from : Setting) (v w : EngineView) (before : List Instr) (k n : ℕ) (x : Instr) (why : IssueError)
-    → issued_with v ≡ before ++ replicate k x → k ≤ n → IfFull why (HasFoundFull from v w)
-    → IfExhausted why (SameKnowledge v w)
-    → HasEnded from.capacity (seen_of w) (issued_with w) (before ++ replicate n x) (stopped_by why)
-stop_ends from v w before k n x Full issued few full same = (stops_in_front v w before k n x issued few full.mine, full.full)
-stop_ends from v w before k n x Exhausted issued few full same = stops_in_front v w before k n x issued few same.same_mine
+    (from : Setting) (v w : EngineView) (left all : List Instr) (why : IssueError)
+    → issued_with v ++ left ≡ all → IfFull why (HasFoundFull from v w) → IfExhausted why (SameKnowledge v w)
+    → HasEnded from.capacity (seen_of w) (issued_with w) all (stopped_by why)
+stop_ends from v w left all Full whole full same = (stops_in_front v w left all whole full.mine, full.full)
+stop_ends from v w left all Exhausted whole full same = stops_in_front v w left all whole same.same_mine

@@ -1,5 +1,5 @@
 //! One actor's part: its instructions, issued one after the other.
-ghost use Rattle.std.specs.Prelude.{◌≡◌, ◌≤◌, [], ◌++◌, length, replicate};
+ghost use Rattle.std.specs.Prelude.{◌≡◌, ◌≤◌, []};
 ghost use Rattle.cmwq_types.specs.Scenario.{expand_lines};
 ghost use Rattle.cmwq_types.specs.declared.limits.TheConstants.{MAX_HISTORY};
 ghost use Rattle.cmwq_lock.specs.Tokens.{pass_view};
@@ -12,6 +12,7 @@ use crate::ending::Ending;
 use crate::gate::Gate;
 use cmwq_engine::{Engine, Shared};
 use cmwq_lock::{Kept, Pass};
+use cmwq_runs::Instructions;
 use cmwq_table::Machine;
 use cmwq_types::Line;
 use std::sync::{OnceLock, Wait};
@@ -62,7 +63,7 @@ impl<'a, R: Threads + Wait + Clock, M: Machine, G: Gate> Stage<'a, R, M, G> {
         }
     }
 
-    /// Issues the lines, each as often as it stands, up to the first that can't be.
+    /// Issues the lines' instructions up to the first that can't be issued.
     fn play_lines(
         &self,
         actor: u8,
@@ -78,43 +79,13 @@ impl<'a, R: Threads + Wait + Clock, M: Machine, G: Gate> Stage<'a, R, M, G> {
             (issued_with (pass_view result.0)) (expand_lines lines.now) result.1 }
     {
         let mut pass = pass;
-        let mut calls = 0;
-        for line in lines {
-            let (back, ending) = self.play_line(actor, line, pass, &mut calls);
-            pass = back;
-            match ending {
-                Ending::Done => {}
-                Ending::Full | Ending::Exhausted => return (pass, ending),
-            }
-        }
-        (pass, Ending::Done)
-    }
-
-    /// Issues one line as often as it stands, up to the first time that it can't be.
-    fn play_line(
-        &self,
-        actor: u8,
-        line: &Line,
-        pass: Pass<Engine<M>>,
-        calls: &mut u32,
-    ) -> (Pass<Engine<M>>, Ending)
-        requires small { (setting_of self.now.shared).capacity ≤ MAX_HISTORY }
-        requires pass { IsPassOf self.now.shared pass }
-        requires counted { calls.old ≡ length (mine_of (pass_view pass)) }
-        ensures token { IsPassOf self.now.shared result.0 }
-        ensures caller { caller_of (pass_view result.0) ≡ caller_of (pass_view pass) }
-        ensures counted { calls.new ≡ length (mine_of (pass_view result.0)) }
-        ensures ended { HasEnded (setting_of self.now.shared).capacity (seen_of (pass_view result.0))
-            (issued_with (pass_view result.0))
-            (issued_with (pass_view pass) ++ replicate line.now.times line.now.instr) result.1 }
-    {
-        let mut pass = pass;
-        for _ in 0..line.times {
-            self.gate.before(self.rt, actor, *calls);
-            let (back, outcome) = self.shared.issue(self.rt, pass, line.instr);
+        let mut calls = 0u32;
+        for instr in Instructions::of(lines) {
+            self.gate.before(self.rt, actor, calls);
+            let (back, outcome) = self.shared.issue(self.rt, pass, instr);
             pass = back;
             match outcome {
-                Ok(_receipt) => *calls += 1,
+                Ok(_receipt) => calls += 1,
                 Err(why) => return (pass, Ending::from(why)),
             }
         }

@@ -4,6 +4,7 @@ ghost use Rattle.std.specs.Prelude.{◌≡◌, ◌≤◌, [], IfOk};
 
 use cmwq_engine::Engine;
 use cmwq_play::PlayError;
+use cmwq_runs::expanded;
 use cmwq_table::{LoadError, Machine};
 use cmwq_types::{Instr, MAX_HISTORY, Scenario};
 use std::alloc::Global;
@@ -11,13 +12,7 @@ use std::alloc::Global;
 /// The instructions of the scenario's first actor, in order. `Actors` where it has none.
 pub(crate) fn instrs_of(alloc: Global, scenario: &Scenario) -> Result<Vec<Instr>, PlayError> {
     let actor = scenario.actors.first().ok_or(PlayError::Actors)?;
-    let mut instrs = Vec::new(alloc);
-    for line in &actor.lines {
-        for _turn in 0..line.times {
-            instrs.push(line.instr)?;
-        }
-    }
-    Ok(instrs)
+    Ok(expanded(alloc, &actor.lines)?)
 }
 
 /// An engine of the scenario, whose history has room for so many entries.

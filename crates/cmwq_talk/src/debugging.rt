@@ -7,18 +7,19 @@ ghost use Rattle.cmwq_talk.specs.Told.{HasNoLine, IsFrontTold, IsTalkError, IsTa
 ghost use Rattle.cmwq_play.specs.Runs.{CanRun, IsRefused, IsRunOf};
 ghost use Rattle.cmwq_debug.specs.Debugging.{opened};
 ghost use Rattle.cmwq_types.specs.Faults.{IsValid};
-ghost use Rattle.cmwq_types.specs.Scenario.{expand, expand_lines};
+ghost use Rattle.cmwq_types.specs.Scenario.{expand};
 ghost use Rattle.cmwq_types.specs.declared.limits.TheConstants.{MAX_TEXT, MAX_WORKS};
 ghost use Rattle.std.specs.Io.KnownBytes.{Appends, Consumes, IsAtEnd, Keeps};
-ghost use Rattle.std.specs.Prelude.{◌≡◌, ◌<◌, ◌≤◌, ◌+◌, ◌↔◌, ◌⊎◌, ◌++◌, Err, IfErr, IfOk, IfSome, List, Ok, OnErr, OnOk, drop, false, length, replicate, take, true, ℕ};
+ghost use Rattle.std.specs.Prelude.{◌≡◌, ◌<◌, ◌≤◌, ◌+◌, ◌↔◌, ◌⊎◌, Err, IfErr, IfOk, IfSome, List, Ok, OnErr, OnOk, drop, false, length, take, true, ℕ};
 
 use cmwq_debug::Debugger;
 use cmwq_debug_lines::{answer, line_length};
 use cmwq_plain::Plain;
 use cmwq_play::{empty_chunk, judge, read_some};
+use cmwq_runs::expanded;
 use cmwq_streams::{PlayError, Sink, Source, put_all};
 use cmwq_table::{LoadError, Machine};
-use cmwq_types::{Actor, Instr, Line, MAX_TEXT, NoMemory, Scenario};
+use cmwq_types::{Actor, MAX_TEXT, NoMemory, Scenario};
 use std::alloc::Global;
 
 /// Carries out one command line, and writes what is said to it.
@@ -165,24 +166,4 @@ fn opened<M: Machine>(
         Err(LoadError::NoMemory) => Err(NoMemory),
         Err(LoadError::Fault(_)) => unreachable!(),
     }
-}
-
-/// The instructions of the lines, each as often as its line says.
-fn expanded(alloc: Global, lines: &[Line]) -> Result<Vec<Instr>, NoMemory>
-    ensures { IfOk result (λ instrs. instrs.items ≡ expand_lines lines.now) }
-{
-    let mut instrs = Vec::new(alloc);
-    for line in lines {
-        push_times(&mut instrs, line.instr, line.times)?;
-    }
-    Ok(instrs)
-}
-
-fn push_times(instrs: &mut Vec<Instr>, instr: Instr, times: u32) -> Result<(), NoMemory>
-    ensures { OnOk result (instrs.new.items ≡ instrs.old.items ++ replicate times instr) }
-{
-    for _turn in 0..times {
-        instrs.push(instr)?;
-    }
-    Ok(())
 }

@@ -1,4 +1,5 @@
-use Rattle.std.proofs.Common.{◌≡◌, length, take}
+use Rattle.std.proofs.Common.{◌≡◌, ◌++◌, length}
+use Rattle.cmwq_runs.specs.Instructions.{left}
 use Rattle.cmwq_types.specs.Scenario.{expand_lines}
 use Rattle.cmwq_lock.specs.Tokens.{pass_view}
 use Rattle.cmwq_lock.specs.Views.{caller_of, mine_of}
@@ -6,10 +7,10 @@ use Rattle.cmwq_engine.specs.Shared.{IsPassOf}
 use Rattle.cmwq_actors.specs.Playing.{issued_with}
 use Rattle.cmwq_actors.proofs.part.Stage.play_lines.Given as goal
 
-abbrev pub invariant-loop-line : goal.invariant-loop-line
-invariant-loop-line g l = record {
+abbrev pub invariant-loop-instr : goal.invariant-loop-instr
+invariant-loop-instr g l = record {
   token : IsPassOf l.self.shared l.pass;
   caller : caller_of (pass_view l.pass) ≡ caller_of (pass_view l.fn.pass);
   counted : l.calls ≡ length (mine_of (pass_view l.pass));
-  issued : issued_with (pass_view l.pass) ≡ expand_lines (take l.line-index l.lines);
+  issued : issued_with (pass_view l.pass) ++ left l.instr-iterator ≡ expand_lines l.lines;
 }
