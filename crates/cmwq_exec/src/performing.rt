@@ -370,7 +370,10 @@ fn step_or_tick<P: Parts>(going: &mut Going<P>) -> Reply
 fn ask<P: Parts>(going: &Going<P>, flush: u16) -> Reply
     ensures { result ≡ yes_or_no (is_done going.now.scenario going.now.state (target_at going.now.state flush)) }
 {
-    if going.parts().is_done(flush_target(going.parts(), flush as usize)) {
+    if going
+        .parts()
+        .is_done(flush_target(going.parts(), flush as usize))
+    {
         Reply::Yes
     } else {
         Reply::No
