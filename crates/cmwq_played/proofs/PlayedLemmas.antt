@@ -7,12 +7,14 @@ use Rattle.std.specs.List.{All, AllByRecursion, list_any}
 use Rattle.std.specs.Prelude.{IsTrue}
 use Rattle.std.specs.Str.{bytes_eq}
 use Rattle.cmwq_types.specs.Contents.{ActorContents, ScenarioContents, WorkContents}
-use Rattle.cmwq_types.specs.Faults.{IsValid, actor_fault, body_fault, counts_fault, fault_if, fault_unless, first_along, first_fault, is_body, line_fault, names_declared, numbers_fault, op_fault, or_else, queue_fault, within, work_fault}
+use Rattle.cmwq_types.specs.Faults.{IsValid, actor_fault, body_fault, counts_fault, fault_if, fault_unless, first_along, first_fault, is_body, is_declared, line_fault, names_declared, numbers_fault, op_fault, or_else, queue_fault, within, work_fault}
+use Rattle.cmwq_types.specs.Fields.{fields_of, shape_of, word_of}
 use Rattle.cmwq_types.specs.Scenario.{expand}
 use Rattle.cmwq_types.specs.declared.check.Fault.{Fault}
 use Rattle.cmwq_types.specs.declared.check.Fault.TheVariants as fault
+use Rattle.cmwq_types.specs.declared.fields.Shape.{Shape}
+use Rattle.cmwq_types.specs.declared.fields.Shape.TheVariants as shape
 use Rattle.cmwq_types.specs.declared.instr.Instr.{Instr}
-use Rattle.cmwq_types.specs.declared.instr.Instr.TheVariants as instr
 use Rattle.cmwq_types.specs.declared.limits.TheConstants.{MAX_ACTORS, MAX_LINES, MAX_OPS, MAX_QUEUES, MAX_TIMES, MAX_WORKS}
 use Rattle.cmwq_types.specs.declared.scenario.Line.{Line}
 use Rattle.cmwq_types.specs.declared.scenario.Op.{Op}
@@ -67,32 +69,15 @@ module _ (S : ScenarioContents) (instrs : List Instr) where
       (or_else (fault_unless (leb (length work.body) MAX_OPS) fault.TooMany) (or_else (fault_unless (is_body work.body) fault.BadBody) ops))))
       (same_along (λ before o. op_fault (played S instrs) o) (λ before o. op_fault S o) (λ before o. same_op o) [] work.body)
 
+  same_declared : (s : Shape) (id : ℕ) → is_declared (played S instrs) s id ≡ is_declared S s id
+  same_declared shape.Work id = refl
+  same_declared _ id = refl
+
   declared_line : (i : Instr) → names_declared S i ≡ true → line_fault (played S instrs) (once i) ≡ None
   declared_line i declared = none_first (fault_unless (names_declared (played S instrs) i) fault.Unknown) None (unless_none (names_declared (played S instrs) i) fault.Unknown (same_names i ∙ declared)) refl
     where
       same_names : (j : Instr) → names_declared (played S instrs) j ≡ names_declared S j
-      same_names (instr.Queue work cpu) = refl
-      same_names (instr.Delay work cpu ticks) = refl
-      same_names (instr.Mod work cpu ticks) = refl
-      same_names (instr.Cancel work) = refl
-      same_names (instr.CancelSync work) = refl
-      same_names (instr.Flush work) = refl
-      same_names (instr.FlushDelayed work) = refl
-      same_names (instr.FlushQueue queue) = refl
-      same_names (instr.SetMax queue max) = refl
-      same_names instr.Freeze = refl
-      same_names instr.Thaw = refl
-      same_names instr.Fire = refl
-      same_names (instr.Step pool) = refl
-      same_names instr.Tick = refl
-      same_names instr.Next = refl
-      same_names (instr.Ask flush) = refl
-      same_names instr.Busy = refl
-      same_names (instr.State work) = refl
-      same_names (instr.Disable work) = refl
-      same_names (instr.Enable work) = refl
-      same_names instr.Pressure = refl
-      same_names instr.Relief = refl
+      same_names j = same_declared (shape_of (word_of j)) (fields_of j).id
 
   declared_lines : (before : List Line) (is : List Instr) → AllByRecursion (λ i. names_declared S i ≡ true) is
       → first_along (λ before line. line_fault (played S instrs) line) before (map once is) ≡ None
