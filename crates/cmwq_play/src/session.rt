@@ -1,4 +1,4 @@
-//! A scenario's run on a machine, of which what is told goes to a writer.
+//! A scenario's run on a machine, and the writer to which a teller writes what it tells of it.
 ghost use Rattle.cmwq_play.specs.Commands.{Writes};
 ghost use Rattle.cmwq_play.specs.Session.{CanIssue, Issues};
 ghost use Rattle.cmwq_play.specs.Telling.{kept_from, told_from};
@@ -14,14 +14,14 @@ use cmwq_streams::{BlockWriter, PlayError, Sink};
 use cmwq_table::Machine;
 use cmwq_types::{Line, Scenario};
 
-/// A scenario's run on a machine, of which what is told goes to a writer.
+/// A scenario's run on a machine. A teller issues its instructions one by one, and writes what it tells of them to the writer.
 #[derive(Drop)]
 pub struct Session<'s, 'w, M: Drop, W> {
     /// What the machine has loaded.
     pub scenario: &'s Scenario,
     /// The machine on which the instructions are issued.
     pub machine: M,
-    /// What is told goes here.
+    /// The writer.
     pub lines: BlockWriter<'w, W>,
 }
 

@@ -1,4 +1,4 @@
-//! What is told of a run's instructions.
+//! Who tells something of each instruction of a run.
 ghost use Rattle.cmwq_play.specs.Session.{CanIssue, Issues};
 ghost use Rattle.cmwq_table.specs.State.{State};
 ghost use Rattle.cmwq_table.specs.Table.{table};
@@ -11,15 +11,15 @@ use cmwq_streams::{PlayError, Sink};
 use cmwq_table::Machine;
 use cmwq_types::Instr;
 
-/// Who issues a run's instructions one by one, and tells something of each.
+/// Issues a run's instructions one by one, and tells something of each.
 pub trait Teller: Drop {
-    /// What the teller keeps is so of this state.
+    /// What the teller keeps is right for a machine in this state.
     ghost fits: { Self → State → Type 0 };
 
-    /// What is told of an instruction that is issued in this state.
+    /// What the teller tells of an instruction that is issued in this state.
     ghost told: { Self → ScenarioContents → State → Instr → List ℕ };
 
-    /// What the teller keeps from then on.
+    /// What the teller keeps once the instruction was issued.
     ghost keeps: { Self → ScenarioContents → State → Instr → Self };
 
     /// Issues the instruction on the session's machine, and writes what is told of it. The only errors are `Write`, exactly where the
