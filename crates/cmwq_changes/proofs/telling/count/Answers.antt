@@ -2,7 +2,7 @@ use Rattle.std.proofs.Common.{ap, arith, length, length-append, replicate, take,
 use Rattle.std.proofs.lemmas.List.{length-replicate}
 use Rattle.std.specs.Prelude.{slice_index_or}
 use Rattle.cmwq_types.specs.Scenario.{expand_lines}
-use Rattle.cmwq_play.proofs.RunLemmas.{expand_lines-more, expand_lines-within, no_line}
+use Rattle.cmwq_runs.proofs.LineLemmas.{expand_lines-more, expand_lines-within, no_line}
 use Rattle.cmwq_changes.proofs.telling.count.Goals as goal
 
 pub overflow_add-count : goal.overflow_add-count

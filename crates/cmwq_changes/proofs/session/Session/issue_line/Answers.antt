@@ -4,7 +4,7 @@ use Rattle.std.proofs.lemmas.Result.{err_from_is_err_and}
 use Rattle.cmwq_types.specs.declared.instr.Instr.{Instr}
 use Rattle.cmwq_changes.specs.Course.{Course}
 use Rattle.cmwq_changes.specs.Session.{Told, Stopped, course, goes, tells}
-use Rattle.cmwq_play.proofs.RunLemmas.{replicate_add, replicate_rest}
+use Rattle.cmwq_runs.proofs.LineLemmas.{replicate_add, replicate_rest}
 use Rattle.cmwq_changes.proofs.CourseLemmas.{course_from-position}
 use Rattle.cmwq_changes.proofs.SessionLemmas.{instrs_told, instrs_stopped}
 use Rattle.cmwq_changes.proofs.session.Session.issue_line.Goals as goal

@@ -5,7 +5,7 @@ use Rattle.cmwq_types.specs.Scenario.{expand_lines}
 use Rattle.cmwq_types.specs.declared.instr.Instr.{Instr}
 use Rattle.cmwq_changes.specs.Course.{Course}
 use Rattle.cmwq_changes.specs.Session.{Told, Stopped, course, goes, tells}
-use Rattle.cmwq_play.proofs.RunLemmas.{expand_lines-more, expand_lines-rest, expand_lines-within, no_line}
+use Rattle.cmwq_runs.proofs.LineLemmas.{expand_lines-more, expand_lines-rest, expand_lines-within, no_line}
 use Rattle.cmwq_changes.proofs.CourseLemmas.{course_from-position}
 use Rattle.cmwq_changes.proofs.SessionLemmas.{instrs_told, instrs_stopped}
 use Rattle.cmwq_changes.proofs.session.Session.issue_lines.Goals as goal
