@@ -13,35 +13,35 @@ use Rattle.cmwq_streams.specs.declared.error.PlayError.{PlayError}
 use Rattle.cmwq_tell.specs.Telling.{IsToldRun}
 use Rattle.cmwq_words.specs.declared.request.RunKind.TheVariants.{Plain, Settled, Told}
 
--- the input comes to this
+-- what the input comes to
 abbrev pub IsGoalOf : Task → Option (List ℕ) → List ℕ → Type 0
-IsGoalOf (Run Plain) input output = IsRun input output
-IsGoalOf (Run Settled) input output = IsSettledRun input output
-IsGoalOf (Run Told) input output = IsToldRun input output
-IsGoalOf Settle input output = IsSettledText input output
-IsGoalOf Listing input output = IsOutput listing input output
-IsGoalOf Show input output = IsShown input output
-IsGoalOf (Draw drawing) input output = IsDrawnText drawing input output
-IsGoalOf (Why question looks) input output = ComesTo (IsAnswer question looks) input output
+IsGoalOf (Run Plain) = IsRun
+IsGoalOf (Run Settled) = IsSettledRun
+IsGoalOf (Run Told) = IsToldRun
+IsGoalOf Settle = IsSettledText
+IsGoalOf Listing = IsOutput listing
+IsGoalOf Show = IsShown
+IsGoalOf (Draw drawing) = IsDrawnText drawing
+IsGoalOf (Why question looks) = ComesTo (IsAnswer question looks)
 
--- this is told of the input
+-- what is told of the input
 abbrev pub IsFaultOf : Task → Option (List ℕ) → PlayError → Type 0
-IsFaultOf (Run Plain) input error = IsRunFault input error
-IsFaultOf (Run Settled) input error = IsUnsettledRun input error
-IsFaultOf (Run Told) input error = IsRunFault input error
-IsFaultOf Settle input error = IsUnsettledText input error
-IsFaultOf Listing input error = IsTextFault input error
-IsFaultOf Show input error = IsImageFault input error
-IsFaultOf (Draw drawing) input error = IsDrawFault drawing input error
-IsFaultOf (Why question looks) input error = IsTextFaultOf (IsUnanswered question looks) input error
+IsFaultOf (Run Plain) = IsRunFault
+IsFaultOf (Run Settled) = IsUnsettledRun
+IsFaultOf (Run Told) = IsRunFault
+IsFaultOf Settle = IsUnsettledText
+IsFaultOf Listing = IsTextFault
+IsFaultOf Show = IsImageFault
+IsFaultOf (Draw drawing) = IsDrawFault drawing
+IsFaultOf (Why question looks) = IsTextFaultOf (IsUnanswered question looks)
 
--- this is written: the goal, or where there is none, what comes before that is known
+-- what is written: the goal; where a machine never is quiet, its lines all the same; and to a question nothing where nothing is said
 abbrev pub IsWrittenBy : Task → Option (List ℕ) → List ℕ → Type 0
-IsWrittenBy (Run Plain) input output = IsRun input output
-IsWrittenBy (Run Settled) input output = IsFollowedRun input output
-IsWrittenBy (Run Told) input output = IsToldRun input output
-IsWrittenBy Settle input output = IsSettledText input output
-IsWrittenBy Listing input output = IsOutput listing input output
-IsWrittenBy Show input output = IsShown input output
-IsWrittenBy (Draw drawing) input output = IsDrawnText drawing input output
-IsWrittenBy (Why question looks) input output = ComesTo (AreChanges (said_to question) looks) input output
+IsWrittenBy (Run Plain) = IsRun
+IsWrittenBy (Run Settled) = IsFollowedRun
+IsWrittenBy (Run Told) = IsToldRun
+IsWrittenBy Settle = IsSettledText
+IsWrittenBy Listing = IsOutput listing
+IsWrittenBy Show = IsShown
+IsWrittenBy (Draw drawing) = IsDrawnText drawing
+IsWrittenBy (Why question looks) = ComesTo (AreChanges (said_to question) looks)
