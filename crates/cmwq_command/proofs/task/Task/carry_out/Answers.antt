@@ -16,22 +16,22 @@ written : (t u : Task) (input before after : Option (List ℕ)) (failed : Bool) 
 written t u input before after failed result e known = subst (λ (x : Task). Writes (IsWrittenBy x input) before after failed result) (sym e) known
 
 pub returns-in-Run-Plain-clause-answers : goal.returns-in-Run-Plain-clause-answers
-returns-in-Run-Plain-clause-answers g c = answered _ _ _ _ (c.in-Run-Plain.is ∙ ap (λ (kind : RunKind). Run kind) c.in-Run-Plain.field-0-is) c.run.ensures.answers
+returns-in-Run-Plain-clause-answers g c = answered _ _ _ _ (c.in-Run-Plain.is ∙ ap (λ (kind : RunKind). Run kind) (sym c.in-Run-Plain.field-0-is)) c.run.ensures.answers
 
 pub returns-in-Run-Plain-clause-writes : goal.returns-in-Run-Plain-clause-writes
-returns-in-Run-Plain-clause-writes g c = written _ _ _ _ _ _ _ (c.in-Run-Plain.is ∙ ap (λ (kind : RunKind). Run kind) c.in-Run-Plain.field-0-is) c.run.ensures.writes
+returns-in-Run-Plain-clause-writes g c = written _ _ _ _ _ _ _ (c.in-Run-Plain.is ∙ ap (λ (kind : RunKind). Run kind) (sym c.in-Run-Plain.field-0-is)) c.run.ensures.writes
 
 pub returns-in-Run-Settled-clause-answers : goal.returns-in-Run-Settled-clause-answers
-returns-in-Run-Settled-clause-answers g c = answered _ _ _ _ (c.in-Run-Settled.is ∙ ap (λ (kind : RunKind). Run kind) c.in-Run-Settled.field-0-is) c.run_settled.ensures.answers
+returns-in-Run-Settled-clause-answers g c = answered _ _ _ _ (c.in-Run-Settled.is ∙ ap (λ (kind : RunKind). Run kind) (sym c.in-Run-Settled.field-0-is)) c.run_settled.ensures.answers
 
 pub returns-in-Run-Settled-clause-writes : goal.returns-in-Run-Settled-clause-writes
-returns-in-Run-Settled-clause-writes g c = written _ _ _ _ _ _ _ (c.in-Run-Settled.is ∙ ap (λ (kind : RunKind). Run kind) c.in-Run-Settled.field-0-is) c.run_settled.ensures.writes
+returns-in-Run-Settled-clause-writes g c = written _ _ _ _ _ _ _ (c.in-Run-Settled.is ∙ ap (λ (kind : RunKind). Run kind) (sym c.in-Run-Settled.field-0-is)) c.run_settled.ensures.writes
 
 pub returns-in-Run-Told-clause-answers : goal.returns-in-Run-Told-clause-answers
-returns-in-Run-Told-clause-answers g c = answered _ _ _ _ (c.in-Run-Told.is ∙ ap (λ (kind : RunKind). Run kind) c.in-Run-Told.field-0-is) c.run_told.ensures.answers
+returns-in-Run-Told-clause-answers g c = answered _ _ _ _ (c.in-Run-Told.is ∙ ap (λ (kind : RunKind). Run kind) (sym c.in-Run-Told.field-0-is)) c.run_told.ensures.answers
 
 pub returns-in-Run-Told-clause-writes : goal.returns-in-Run-Told-clause-writes
-returns-in-Run-Told-clause-writes g c = written _ _ _ _ _ _ _ (c.in-Run-Told.is ∙ ap (λ (kind : RunKind). Run kind) c.in-Run-Told.field-0-is) c.run_told.ensures.writes
+returns-in-Run-Told-clause-writes g c = written _ _ _ _ _ _ _ (c.in-Run-Told.is ∙ ap (λ (kind : RunKind). Run kind) (sym c.in-Run-Told.field-0-is)) c.run_told.ensures.writes
 
 pub returns-in-Settle-clause-answers : goal.returns-in-Settle-clause-answers
 returns-in-Settle-clause-answers g c = answered _ _ _ _ (c.in-Settle.is) c.settle_text.ensures.answers
