@@ -1,5 +1,6 @@
 //! The commands that read one input and write one output: what each of them does.
 ghost use Rattle.cmwq_command.specs.Tasks.{IsFaultOf, IsGoalOf, IsWrittenBy};
+ghost use Rattle.cmwq_command.specs.declared.task.Task.TheVariants.{Run};
 ghost use Rattle.cmwq_play.specs.Commands.{Answers, Reads, Writes};
 ghost use Rattle.std.specs.Prelude.{◌≡◌, false};
 
@@ -46,14 +47,32 @@ impl Task<'_> {
         ensures writes { Writes (IsWrittenBy self.entry (R.remaining reader.old)) (W.contents writer.old) (W.contents writer.new) (W.failed writer.new) result }
     {
         match self {
-            Task::Run(RunKind::Plain) => run(alloc, reader, writer),
-            Task::Run(RunKind::Settled) => run_settled(alloc, reader, writer),
-            Task::Run(RunKind::Told) => run_told(alloc, reader, writer),
+            Task::Run(kind) => run_as(kind, alloc, reader, writer),
             Task::Settle => settle_text(alloc, reader, writer),
             Task::List => list_text(alloc, reader, writer),
             Task::Show => from_image(alloc, reader, writer),
             Task::Draw(drawing) => draw(alloc, drawing, reader, writer),
             Task::Why(question, looks) => why(alloc, question, looks, reader, writer),
         }
+    }
+}
+
+/// Runs the scenario whose text the reader has, so.
+fn run_as<R: Source, W: Sink>(
+    kind: RunKind,
+    alloc: Global,
+    reader: &mut R,
+    writer: &mut W,
+) -> Result<(), PlayError>
+    requires reader { R.failed reader.old ≡ false }
+    requires writer { W.failed writer.old ≡ false }
+    ensures reads { Reads (R.remaining reader.old) (R.remaining reader.new) (R.failed reader.new) result }
+    ensures answers { Answers (IsGoalOf (Run kind)) (IsFaultOf (Run kind)) (R.remaining reader.old) result }
+    ensures writes { Writes (IsWrittenBy (Run kind) (R.remaining reader.old)) (W.contents writer.old) (W.contents writer.new) (W.failed writer.new) result }
+{
+    match kind {
+        RunKind::Plain => run(alloc, reader, writer),
+        RunKind::Settled => run_settled(alloc, reader, writer),
+        RunKind::Told => run_told(alloc, reader, writer),
     }
 }
