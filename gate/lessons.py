@@ -1,11 +1,11 @@
 """Runs each scenario of scenarios/ through a built program: what it prints is NAME.out; its listing prints the same; its image is
-shown as the listing. What is told of its run is NAME.tell, where there is one, and without the marked lines what it prints. Its picture
-stands in scenarios/README.md, and is NAME.draw, where there is one. What a debugger says to NAME.debug is NAME.said. What a play of a
+shown as the listing. What is told of its run is NAME.tell, where there is one, and without the marked lines what it prints. Its picture, if
+a tick passes, stands in scenarios/README.md below its name, and is NAME.draw, where there is one. What a debugger says to NAME.debug is NAME.said. What a play of a
 scenario with several actors leaves is one of NAME.play1, NAME.play2 .., and run again it prints the lines that stand in it. Why work W
 waits is NAME.why_W, and what flush F waits for NAME.flush_F, where there are such; with _every behind it, the same at every position.
-scenarios/README.md asks of each lesson why something waits: a line `# QUESTION?`, a line `$ ./cmwq why ..`, and what that prints, up to
-the next question; README.md asks it of the scenario that `new` writes. The program's own stored run is one of these. Then faulty input:
-the status, and what each stream is given. And each scenario of one actor through an engine, by the program HISTORIES, where it is named: it
+scenarios/README.md asks of each lesson why something waits: a line **QUESTION?**, a line `./cmwq why ..`, and behind it, folded away, what that
+prints. README.md's commands stand behind `$`, each with what it prints, and its picture is docs/max_active_3.svg. The program's
+own stored run is one of these. Then faulty input: the status, and what each stream is given. And each scenario of one actor through an engine, by the program HISTORIES, where it is named: it
 prints the history, of which each entry is compared.
 
     python3 gate/lessons.py PROGRAM [HISTORIES]"""
@@ -70,11 +70,12 @@ def drawing_faults(program, drawing):
 
 
 def shown_faults(program, texts):
-    """Which lessons' pictures aren't those that scenarios/README.md shows."""
-    shown = dict(re.findall(r"^### `(\w+)`\n\n```text\n(.*?)^```$", bytes_of(f"{TOP}/scenarios/README.md").decode(), re.S | re.M))
-    lessons = {os.path.basename(text).removesuffix(".cmwq"): text for text in texts}
-    faults = [name for name, text in lessons.items() if said(program, "draw", text) != shown.get(name, "").encode()]
-    return [f"scenarios/README.md: the picture of {name} is not as it should be" for name in [*faults, *sorted(shown.keys() - lessons.keys())]]
+    """Which lessons' pictures aren't those that scenarios/README.md shows below their names: of each in whose run a tick passes."""
+    shown = dict(re.findall(r"^### `(\w+)`\n(?:(?!#|```|\*\*).*\n)*```text\n((?:(?!```).*\n)*)```$", bytes_of(f"{TOP}/scenarios/README.md").decode(), re.M))
+    lessons = {os.path.basename(text).removesuffix(".cmwq"): said(program, "draw", text) for text in texts}
+    drawn = {name: picture and ("" if picture.endswith(b"\nactor||\n") else picture.decode()) for name, picture in lessons.items()}
+    faults = [name for name in sorted(drawn.keys() | shown.keys()) if shown.get(name, "") != drawn.get(name, "")]
+    return [f"scenarios/README.md: the picture of {name} is not as it should be" for name in faults]
 
 
 def answer_faults(program, stored):
@@ -85,27 +86,39 @@ def answer_faults(program, stored):
 
 
 def asked(page):
-    """The questions of a page: the words behind `./cmwq` of each, and the answer, up to the next question, with an empty line before it or
-    without one, or to the block's end."""
-    return re.findall(r"^# .*\?\n\$ \./cmwq (why .*)\n((?:(?![#$`]).*\n)*?)\n?(?=[#$`])", page, re.M)
+    """The questions of a page: the words behind `./cmwq` of each, and the answer that is folded away behind it."""
+    folded = r"\n\n<details><summary>Answer</summary>\n\n```text\n((?:(?!```).*\n)*)```\n\n</details>$"
+    return re.findall(r"^\*\*.*\?\*\*\n`\./cmwq (why [^`\n]*)`" + folded, page, re.M)
 
 
-def question_faults(program, texts, room):
-    """What is wrong with the questions why something waits: an answer that isn't the program's, a command that stands there in
+def question_faults(program, texts):
+    """What is wrong with the lessons' questions why something waits: an answer that isn't the program's, a command that stands there in
     another form, a lesson that isn't asked."""
-    pages = {name: bytes_of(f"{TOP}/{name}").decode() for name in ("README.md", "scenarios/README.md")}
-    first = f"{room}/first.cmwq"
-    faults = [] if said(program, "new", first) == b"" else ["new: it isn't written"]
-    for name, page in pages.items():
-        for words, answer in asked(page):
-            here = words.replace("/tmp/first.cmwq", first).replace("scenarios/", f"{TOP}/scenarios/").split()
-            if failed(program, *here) != (0, answer.encode(), b""):
-                faults.append(f"{name}: the answer to {words} is not as it should be")
-        if page.count("./cmwq why") != len(asked(page)):
-            faults.append(f"{name}: not each `./cmwq why` stands behind a question, and before its answer")
+    page, faults = bytes_of(f"{TOP}/scenarios/README.md").decode(), []
+    for words, answer in asked(page):
+        if failed(program, *words.replace("scenarios/", f"{TOP}/scenarios/").split()) != (0, answer.encode(), b""):
+            faults.append(f"scenarios/README.md: the answer to {words} is not as it should be")
+    if page.count("./cmwq why") != len(asked(page)):
+        faults.append("scenarios/README.md: not each `./cmwq why` stands behind a question, and before its answer")
     lessons = {os.path.basename(text).partition(".")[0] for text in texts}
-    lessons -= {words.removeprefix("why scenarios/").partition(".")[0] for words, _answer in asked(pages["scenarios/README.md"])}
+    lessons -= {words.removeprefix("why scenarios/").partition(".")[0] for words, _answer in asked(page)}
     return faults + [f"scenarios/README.md: {name} isn't asked why it waits" for name in sorted(lessons)]
+
+
+def session_of_page_faults(program, room):
+    """What is wrong with the commands that README.md shows behind `$`, each with what it prints; and with its picture."""
+    page, faults = bytes_of(f"{TOP}/README.md").decode(), []
+    commands = re.findall(r"^\$ (.*)\n((?:(?!\$ |```).*\n)*)", page, re.M)
+    for command, printed in commands:
+        here = command.replace("./cmwq", program).replace("/tmp/", f"{room}/")
+        ran = subprocess.run(["bash", "-c", here], cwd=TOP, stdout=subprocess.PIPE, stderr=subprocess.STDOUT, timeout=120)
+        if (ran.returncode, ran.stdout) != (0, printed.encode()):
+            faults.append(f"README.md: {command} doesn't print that")
+    shown = {word for command, _printed in commands for word in re.findall(r"\./cmwq (\w+)", command)}
+    faults += [f"README.md: no `{word}` is shown" for word in sorted({"new", "run", "draw", "why", "debug"} - shown)]
+    if said(program, "draw", "--svg", f"{TOP}/scenarios/max_active_3.cmwq") != bytes_of(f"{TOP}/docs/max_active_3.svg"):
+        faults.append("docs/max_active_3.svg: it isn't the lesson's picture")
+    return faults
 
 
 def instrs_of(listing):
@@ -187,7 +200,8 @@ def main(program, histories=None):
         faults += [fault for text in texts if histories for fault in history_faults(histories, program, text)]
         faults += [fault for commands in sorted(glob.glob(f"{TOP}/scenarios/*.debug")) for fault in session_faults(program, commands)]
         faults += [fault for text in plays for fault in play_faults(program, text, room)]
-        faults += shown_faults(program, texts) + quiet_faults(program, room) + question_faults(program, texts + plays, room)
+        faults += shown_faults(program, texts) + quiet_faults(program, room) + question_faults(program, texts + plays)
+        faults += session_of_page_faults(os.path.abspath(program), room)
         faults += [fault for stored in answers for fault in answer_faults(program, stored)]
         faults += [fault for drawing in drawings for fault in drawing_faults(program, drawing)]
         with open(f"{room}/faulty.cmwq", "w", encoding="utf-8") as it:

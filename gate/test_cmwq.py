@@ -7,6 +7,7 @@ import subprocess
 import sys
 import tempfile
 import time
+import types
 
 sys.dont_write_bytecode = True
 TOP = os.path.dirname(os.path.dirname(os.path.realpath(__file__)))
@@ -100,19 +101,29 @@ def check_faults(room):
     assert call(room, "--package")[0] == 130, "what isn't proved isn't packed"
 
 
-def check_progress():
+def check_progress(prove):
     """What is said of a proof, by the lines of `rt`."""
-    sys.path.insert(0, f"{TOP}/tools")
-    import prove
-
     said = io.StringIO()
-    progress = prove.Progress(["cmwq_plain", "cmwq"], said)
-    for crate, lines in [("cmwq_plain", ["so far: 41 of 73 functions checked", "fn cmwq_plain::x: proved"]), ("cmwq", ["logic=proved functions=6 sum=0"])]:
-        progress.begin(crate)
-        for line in lines:
-            progress.read(f"{line}\n")
-    wanted = ["cmwq_plain: crate 1 of 2", "cmwq_plain: 41 of 73 functions", "cmwq: crate 2 of 2", "all crates are proved; the program is compiled"]
+    progress = prove.Progress(2, said)
+    progress.begin("cmwq_plain")
+    progress.read("cmwq_plain", "so far: 41 of 73 functions checked\n")
+    progress.end("cmwq_plain")
+    progress.begin("cmwq")
+    wanted = ["0 of 2 crates are proved; cmwq_plain", "1 of 2 crates are proved; cmwq"]
     assert said.getvalue().splitlines() == wanted, said.getvalue()
+
+
+def check_order(prove):
+    """A crate is proved once those below it are, and none once one has failed."""
+    below = {"low": [], "left": ["low"], "right": ["low"], "top": ["left", "right"]}
+    crates = {}
+    for name, deps in below.items():
+        crates[name] = types.SimpleNamespace(name=name, below=lambda deps=deps: [crates[dep] for dep in deps])
+    for failing, status in (("", 0), ("left", 1)):
+        began = []
+        prove.prove_library = lambda crate, *_: began.append(crate.name) or (int(crate.name == failing), [])
+        assert prove.prove_libraries(list(crates.values()), None, None)[0] == status
+        assert began[0] == "low" and ("top" in began) == (began[-1] == "top") == (not status), began
 
 
 for check in (check_builds, check_faults):
@@ -120,5 +131,9 @@ for check in (check_builds, check_faults):
         made(room)
         check(os.path.realpath(room))
 if shutil.which("rt"):
-    check_progress()
+    sys.path.insert(0, f"{TOP}/tools")
+    import prove
+
+    check_progress(prove)
+    check_order(prove)
 print("gate/test_cmwq.py: ok")

@@ -2,7 +2,7 @@
 
 use cmwq_grammar::Why;
 use cmwq_types::NoMemory;
-use std::alloc::{AllocError, AllocFailed};
+use std::alloc::AllocFailed;
 use thiserror::Error;
 
 /// Why a text gives no scenario.
@@ -56,17 +56,6 @@ impl From<NoMemory> for LineError {
     ghost from_gives = { λ _ e. e ≡ error.NoMemory };
 
     fn from(_refused: NoMemory) -> LineError {
-        LineError::NoMemory
-    }
-}
-
-impl From<AllocError> for LineError {
-    ghost use Rattle.cmwq_asm.specs.declared.fault.LineError.TheVariants as error;
-    ghost use Rattle.std.specs.Prelude.{◌≡◌};
-
-    ghost from_gives = { λ _ e. e ≡ error.NoMemory };
-
-    fn from(_refused: AllocError) -> LineError {
         LineError::NoMemory
     }
 }

@@ -3,15 +3,13 @@
 
 mod actors;
 mod assembling;
+mod declarations;
 mod fault;
-mod header;
 mod next;
 mod open;
 mod operations;
-mod queues;
 mod stage;
 mod steps;
-mod works;
 
 pub use assembling::{assemble, assemble_again};
 pub use cmwq_grammar::{Next, Why};

@@ -8,9 +8,7 @@ ghost use Rattle.std.specs.Prelude.{◌≡◌, ◌≤◌, MatchResult, Ok, lengt
 
 use crate::assembling::read_lines;
 use crate::fault::AsmError;
-use crate::open::{OpenActor, OpenBody};
 use crate::stage::Stage;
-use cmwq_draft::Draft;
 use cmwq_grammar::Next;
 use cmwq_types::{MAX_ACTORS, MAX_LINES, MAX_OPS, MAX_QUEUES, MAX_TEXT, MAX_WORKS};
 use std::alloc::Global;
@@ -37,51 +35,23 @@ fn next_of(stage: &Stage<'_>) -> Next
         Stage::Cpus(_) => Next::Workers,
         Stage::Workers(_, _) => Next::Steps,
         Stage::Steps(_, _, _) => Next::Flushes,
-        Stage::Queues(draft) => behind_queues(draft),
+        Stage::Queues(draft) => Next::Declaration {
+            room: draft.queues().len() < MAX_QUEUES,
+            queues: !draft.queues().is_empty(),
+        },
         Stage::Works(draft) => Next::Work {
             room: draft.works().len() < MAX_WORKS,
         },
-        Stage::Bodies(bodies) => {
-            if bodies.are_complete() {
-                Next::Actor
-            } else {
-                Next::Body
-            }
-        }
-        Stage::Body(body) => in_body(body),
-        Stage::Actor(actor) => in_actor(actor),
-    }
-}
-
-/// Behind the head, or behind a queue.
-fn behind_queues(draft: &Draft<'_>) -> Next
-    ensures { result ≡ next_of (stage.Queues draft.now) }
-{
-    let queues = draft.queues().len();
-    Next::Declaration {
-        room: queues < MAX_QUEUES,
-        queues: queues > 0,
-    }
-}
-
-/// In an open body.
-fn in_body(body: &OpenBody<'_>) -> Next
-    ensures { result ≡ next_of (stage.Body body.now.bodies.told body.now.bodies.done body.now.ops.items) }
-{
-    Next::Operation {
-        room: body.ops.len() + 1 < MAX_OPS,
-    }
-}
-
-/// Behind an actor's first line.
-fn in_actor(actor: &OpenActor<'_>) -> Next
-    ensures { result ≡ next_of (stage.Actor actor.now.draft actor.now.name actor.now.lines.items) }
-{
-    let draft = &actor.draft;
-    Next::Instruction {
-        room: actor.lines.len() < MAX_LINES,
-        works: !draft.works().is_empty(),
-        queues: !draft.queues().is_empty(),
-        actor: draft.actors().len() + 1 < MAX_ACTORS,
+        Stage::Bodies(bodies) if bodies.are_complete() => Next::Actor,
+        Stage::Bodies(_) => Next::Body,
+        Stage::Body(body) => Next::Operation {
+            room: body.ops.len() + 1 < MAX_OPS,
+        },
+        Stage::Actor(actor) => Next::Instruction {
+            room: actor.lines.len() < MAX_LINES,
+            works: !actor.draft.works().is_empty(),
+            queues: !actor.draft.queues().is_empty(),
+            actor: actor.draft.actors().len() + 1 < MAX_ACTORS,
+        },
     }
 }

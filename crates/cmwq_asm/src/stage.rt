@@ -10,12 +10,11 @@ ghost use Rattle.std.specs.Str.{is_utf8};
 
 use crate::actors::{close_actor, read_instructions};
 use crate::fault::LineError;
-use crate::header::{read_cpus, read_flushes, read_steps, read_workers};
 use crate::open::{OpenActor, OpenBody};
-use crate::steps::{between_bodies, end_between_bodies, in_actor, in_body, in_queues, in_works};
+use crate::steps::{between_bodies, in_actor, in_body, in_queues, in_works, read_head_number};
 use cmwq_draft::{Bodies, Draft};
 use cmwq_grammar::Why;
-use cmwq_types::{Fault, NoMemory, Scenario};
+use cmwq_types::{Fault, MAX_CPUS, MAX_FLUSHES, MAX_STEPS, MAX_WORKERS, NoMemory, Scenario};
 use std::alloc::Global;
 
 /// What a text's lines so far have told.
@@ -55,6 +54,7 @@ impl<'t> Drop for Stage<'t> {
 
 impl<'t> Stage<'t> {
     /// The stage after a line that begins with this word.
+    #[tactic(auto, using(crate::proofs::HeaderLemmas::head_steps), unfolding(cmwq_grammar::specs::Reasons::step))]
     pub(crate) fn after(
         self,
         alloc: Global,
@@ -64,11 +64,22 @@ impl<'t> Stage<'t> {
         ensures { Gives stage_of result (step (stage_of self.entry) (word.now ∷ words_left rest.now)) }
     {
         match self {
-            Stage::Start => read_cpus(word, rest),
-            Stage::Cpus(cpus) => read_workers(cpus, word, rest),
-            Stage::Workers(cpus, workers) => read_steps(cpus, workers, word, rest),
+            Stage::Start => {
+                let cpus = read_head_number(b"cpus", 1, u32::from(MAX_CPUS), word, rest)?;
+                Ok(Stage::Cpus(cpus as u8))
+            }
+            Stage::Cpus(cpus) => {
+                let workers = read_head_number(b"workers", 1, u32::from(MAX_WORKERS), word, rest)?;
+                Ok(Stage::Workers(cpus, workers as u8))
+            }
+            Stage::Workers(cpus, workers) => {
+                let steps = read_head_number(b"steps", 1, MAX_STEPS, word, rest)?;
+                Ok(Stage::Steps(cpus, workers, steps))
+            }
             Stage::Steps(cpus, workers, steps) => {
-                read_flushes(alloc, cpus, workers, steps, word, rest)
+                let flushes = read_head_number(b"flushes", 0, u32::from(MAX_FLUSHES), word, rest)?;
+                let draft = Draft::new(alloc, cpus, workers, steps, flushes as u16)?;
+                Ok(Stage::Queues(draft))
             }
             Stage::Queues(draft) => in_queues(alloc, draft, word, rest),
             Stage::Works(draft) => in_works(alloc, draft, word, rest),
@@ -109,7 +120,9 @@ impl<'t> Stage<'t> {
     {
         match self {
             Stage::Queues(draft) => Ok(draft.into_scenario()),
-            Stage::Bodies(bodies) => end_between_bodies(bodies),
+            Stage::Bodies(bodies) if bodies.are_complete() => Ok(
+                bodies.into_draft().into_scenario(),
+            ),
             Stage::Body(_) => Err(LineError::Why(Why::Fault(Fault::BadBody))),
             Stage::Actor(actor) => Ok(close_actor(actor)?.into_scenario()),
             _ => Err(LineError::Why(Why::MissingWord)),

@@ -1,30 +1,28 @@
 //! What each line adds at the stage where it stands.
 ghost use Rattle.cmwq_asm.specs.Answers.{Gives};
+ghost use Rattle.cmwq_asm.specs.Header.{head_number};
 ghost use Rattle.cmwq_scan.specs.Answers.{Tells};
 ghost use Rattle.cmwq_scan.specs.Words.{words_left};
 ghost use Rattle.cmwq_asm.specs.Stages.{stage_of};
-ghost use Rattle.cmwq_asm.specs.Steps.{text_words};
-ghost use Rattle.cmwq_grammar.specs.Reasons.{at_end, judge, step};
+ghost use Rattle.cmwq_grammar.specs.Reasons.{judge, step};
 ghost use Rattle.cmwq_grammar.specs.Stages as stage;
-ghost use Rattle.std.specs.Prelude.{◌∷◌, IsTrue};
+ghost use Rattle.std.specs.Prelude.{◌≤◌, ◌∷◌, IfOk, IsTrue};
 ghost use Rattle.std.specs.Str.{is_utf8};
 
 use crate::actors::{add_line, close_actor, open_actor};
+use crate::declarations::{declare_queue, declare_work};
 use crate::fault::LineError;
 use crate::open::{OpenActor, OpenBody};
 use crate::operations::{add_op, open_body};
-use crate::queues::declare_queue;
 use crate::stage::Stage;
-use crate::works::declare_work;
 use cmwq_draft::{Bodies, Draft, read_line, read_op};
 use cmwq_grammar::Why;
-use cmwq_scan::{is_text, is_word, next_word, refusal, worded_part};
-use cmwq_types::Scenario;
+use cmwq_scan::{is_text, is_word, next_word, refusal, take_last_number_within, worded_part};
 use std::alloc::Global;
 
 /// The stage after this line, or the first reason against it. Whether the line is text is judged here,
-/// unless it is known to be.
-#[tactic(auto, unfolding(cmwq_grammar::specs::Reasons::judge))]
+/// unless it is known to be. A line without words tells nothing.
+#[tactic(auto, unfolding(cmwq_grammar::specs::Reasons::judge, cmwq_grammar::specs::Reasons::step))]
 pub(crate) fn judge<'t>(
     alloc: Global,
     stage: Stage<'t>,
@@ -34,30 +32,31 @@ pub(crate) fn judge<'t>(
     requires { IsTrue is_known_text → IsTrue (is_utf8 line.now) }
     ensures { Gives stage_of result (judge (stage_of stage.entry) line.now) }
 {
-    let words = read_words(line, is_known_text)?;
-    step(alloc, stage, words)
-}
-
-/// The part of the line that has its words, if the line is text.
-fn read_words<'t>(line: &'t [u8], is_known_text: bool) -> Result<&'t [u8], Why>
-    requires { IsTrue is_known_text → IsTrue (is_utf8 line.now) }
-    ensures { Tells (λ words. words_left words.now) result (text_words line.now) }
-{
     if !is_known_text && !is_text(line) {
-        return Err(Why::BadUtf8);
+        return Err(LineError::Why(Why::BadUtf8));
     }
-    Ok(worded_part(line))
-}
-
-/// The stage after a line of these words. A line without words tells nothing.
-#[tactic(auto, unfolding(cmwq_grammar::specs::Reasons::step))]
-fn step<'t>(alloc: Global, stage: Stage<'t>, words: &'t [u8]) -> Result<Stage<'t>, LineError>
-    ensures { Gives stage_of result (step (stage_of stage.entry) (words_left words.now)) }
-{
-    match next_word(words) {
+    match next_word(worded_part(line)) {
         None => Ok(stage),
         Some((word, rest)) => stage.after(alloc, word, rest),
     }
+}
+
+/// The number of a line at a text's head, which must be this word and a number from `low` to `high`.
+#[tactic(auto, using(cmwq_scan::proofs::LineSteps::line_steps))]
+pub(crate) fn read_head_number(
+    wanted: &[u8],
+    low: u32,
+    high: u32,
+    word: &[u8],
+    rest: &[u8],
+) -> Result<u32, Why>
+    ensures number { Tells (λ n. n) result (head_number wanted.now low high word.now (words_left rest.now)) }
+    ensures within { IfOk result (λ n. n ≤ high) }
+{
+    if !is_word(word, wanted) {
+        return Err(refusal(Why::Misplaced, word));
+    }
+    take_last_number_within(low, high, rest)
 }
 
 /// A line behind the head, or behind a queue.
@@ -149,15 +148,4 @@ pub(crate) fn in_actor<'t>(
     }
     let line = read_line(&actor.draft, word, rest)?;
     add_line(actor, line)
-}
-
-/// The scenario of a text that ends where no body is open.
-#[tactic(auto, unfolding(cmwq_grammar::specs::Reasons::at_end))]
-pub(crate) fn end_between_bodies(bodies: Bodies) -> Result<Scenario, LineError>
-    ensures { Gives (λ scenario. scenario) result (at_end (stage.Bodies bodies.entry.told bodies.entry.done)) }
-{
-    if !bodies.are_complete() {
-        return Err(LineError::Why(Why::MissingWord));
-    }
-    Ok(bodies.into_draft().into_scenario())
 }

@@ -1,5 +1,3 @@
-pub mod CourseLemmas
+pub mod LookingLemmas
 pub mod PositionLemmas
-pub mod SayingLemmas
-pub mod SessionLemmas
 pub mod TellingLemmas

@@ -1,5 +1,5 @@
 -- What is said of the states of a run, told wherever it changes.
-use Rattle.std.specs.Prelude.{ℕ, zero, suc, Bool, true, not, ◌&&◌, ◌||◌, ◌==◌, List, [], ◌++◌, codes, length, take, Option, None, Some, if◌then◌else◌, is_none, string_bytes, String}
+use Rattle.std.specs.Prelude.{ℕ, zero, suc, Bool, true, false, not, ◌&&◌, ◌||◌, ◌==◌, List, [], ◌∷◌, ◌++◌, codes, length, take, Option, None, Some, if◌then◌else◌, is_none, string_bytes, String}
 use Rattle.std.specs.Fmt.{decimal}
 use Rattle.std.specs.Str.{bytes_eq}
 use Rattle.cmwq_types.specs.Contents.{ScenarioContents}
@@ -8,8 +8,8 @@ use Rattle.cmwq_table.specs.Counts.{first_due}
 use Rattle.cmwq_table.specs.Moves.{first_moving}
 use Rattle.cmwq_table.specs.State.{State}
 use Rattle.cmwq_table.specs.Table.{run}
-use Rattle.cmwq_changes.specs.declared.looks.Looks.{Looks}
-use Rattle.cmwq_changes.specs.declared.looks.Looks.TheVariants.{Settled, Every, At}
+use Rattle.cmwq_asked.specs.declared.question.Looks.{Looks}
+use Rattle.cmwq_asked.specs.declared.question.Looks.TheVariants.{Settled, Every, At}
 
 -- What a sayer gives: a text, or nothing.
 abbrev pub words : {A : Type 0} → Option (String A) → Option (List ℕ)
@@ -29,6 +29,10 @@ is_looked_at Every S is_last k s = true
 is_looked_at (At position) S is_last k s = k == position
 
 -- What is told.
+
+abbrev pub has_bytes : List ℕ → Bool
+has_bytes [] = false
+has_bytes (byte ∷ bytes) = true
 
 -- something else was said before, or nothing
 abbrev pub is_new : Option (List ℕ) → List ℕ → Bool

@@ -1,5 +1,4 @@
 pub mod Changes
-pub mod Course
 pub mod Examples
-pub mod Session
+pub mod Looking
 pub mod Telling

@@ -1,7 +1,7 @@
 //! Worked examples of the definitions, as theorems: at which positions of a small run something is told.
 ghost use Rattle.cmwq_changes.specs.Changes.{changes_text};
 ghost use Rattle.cmwq_changes.specs.Examples.{its_run, one_work, says_later, says_nothing, says_time, up_to_its_tick};
-ghost use Rattle.cmwq_changes.specs.declared.looks.Looks.TheVariants as looks;
+ghost use Rattle.cmwq_asked.specs.declared.question.Looks.TheVariants as looks;
 ghost use Rattle.std.specs.Prelude.{◌≡◌, [], codes};
 
 /// The time is told at the first position, though it isn't settled, and where it has passed.

@@ -7,9 +7,9 @@ ghost use Rattle.cmwq_words.specs.Request.{IsCapacity, IsVersionWord, IsWithin};
 ghost use Rattle.cmwq_outcome.specs.declared.telling.TheConstants.{GOOD};
 ghost use Rattle.std.specs.Prelude.{◌≡◌, ◌∷◌, [], Err, IfOk, MatchResult, Ok, OnOk, false, map, string_bytes};
 
-use crate::asking::{drawing_of, looks_of, question_of};
-use crate::task::Task;
+use crate::task::do_task;
 use cmwq_actors::OpenGate;
+use cmwq_asked::Task;
 use cmwq_outcome::{GOOD, Judged, Look, check_text, tell, tell_unread, write_first, write_version};
 use cmwq_play::{Marked, PlayError, Sink};
 use cmwq_words::request::{Request, parse};
@@ -73,28 +73,9 @@ where
 {
     match request {
         Request::New { file } => good(new(rt, output, file)),
-        Request::Run { file, kind } => good(on_file(rt, output, file, Task::Run(kind))),
-        Request::Settle { file } => good(on_file(rt, output, file, Task::Settle)),
-        Request::List { file } => good(on_file(rt, output, file, Task::List)),
+        Request::Do { file, task } => good(on_file(rt, output, file, task)),
         Request::Asm { file, out } => good(asm(rt, file, out)),
-        Request::Show { image } => good(on_file(rt, output, image, Task::Show)),
         Request::Debug { file } => good(debug(rt, input, output, file)),
-        Request::Draw { file, options } => good(on_file(
-            rt,
-            output,
-            file,
-            Task::Draw(drawing_of(options)),
-        )),
-        Request::Why {
-            file,
-            subject,
-            positions,
-        } => good(on_file(
-            rt,
-            output,
-            file,
-            Task::Why(question_of(subject), looks_of(positions)),
-        )),
         Request::Play { file, capacity } => good(play(rt, output, file, capacity)),
         Request::Check { files } => check(rt, setting.look, output, errors, &files),
         Request::Version => good(write_version(rt.alloc(), setting.kit, output)),
@@ -170,7 +151,7 @@ fn on_file<R: Files + AllocGlobal, W: Sink>(
     requires { W.failed writer.old ≡ false }
 {
     let mut reader = opened(rt, file)?;
-    task.carry_out(rt.alloc(), &mut reader, writer)
+    do_task(task, rt.alloc(), &mut reader, writer)
 }
 
 /// Makes the image file of the scenario whose text is in the file. The image file is made anew

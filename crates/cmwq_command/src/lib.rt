@@ -1,9 +1,8 @@
 //! How what the words ask is carried out on files.
 #![tactic(auto)]
 
-mod asking;
 mod carrying;
 mod task;
 
 pub use carrying::{Setting, answer, carry_out};
-pub use task::Task;
+pub use task::do_task;

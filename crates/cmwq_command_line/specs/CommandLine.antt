@@ -1,31 +1,23 @@
 -- The command line: its commands, what each takes, and the line of its version.
-use Rattle.std.specs.Prelude.{ℕ, List, [], ◌∷◌, ◌++◌, true, codes, Some}
-use Rattle.clap.specs.Words.{App, Rule, Text, new_app, new_rule, with_rule, with_subcommand}
+use Rattle.std.specs.Prelude.{◌≡◌, ℕ, List, [], ◌∷◌, ◌++◌, false, true, codes, Some}
+use Rattle.clap.specs.Words.{App, Rule, Text, app_of, new_app, new_rule, rule_of, with_rule, with_subcommand}
+use Rattle.clap.specs.declared.builder.arg.Arg.{Arg}
+use Rattle.clap.specs.declared.builder.command.Command.{Command}
+use Rattle.clap.specs.declared.builder.command.Command.TheViews.{out-Command as fields_of}
 use Rattle.clap.specs.declared.builder.action.ArgAction.TheVariants.{Append, SetTrue}
 use Rattle.cmwq_command_line.specs.declared.help.TheConstants.{VERSION}
+
+-- the argument obeys this rule, in its own command alone
+abbrev pub IsArgument : Rule → Arg → Type 0
+IsArgument rule arg = (rule_of arg ≡ rule) × (arg.global ≡ false)
+
+-- it is this command, none of whose arguments holds in another one
+abbrev pub IsCommand : App → Command → Type 0
+IsCommand app command = (app_of command ≡ app) × ((fields_of command).has_globals ≡ false)
 
 -- an argument that has to be given
 abbrev pub required_rule : Text → Rule
 required_rule id = record (new_rule id) { required = true }
-
--- a command that takes one argument
-abbrev pub command_on : Text → Text → App
-command_on name id = with_rule (new_app name) (required_rule id)
-
--- `new [FILE]`
-abbrev pub new_command : App
-new_command = with_rule (new_app (codes "new")) (new_rule (codes "FILE"))
-
--- the program with no command
-abbrev pub bare_program : App
-bare_program =
-    record (new_app (codes "cmwq")) {
-      top = record (new_app (codes "cmwq")).top { has_version = true; arg_required_else_help = true; subcommand_required = true };
-    }
-
--- the program, before the commands that have a file
-abbrev pub program : App
-program = with_subcommand bare_program new_command.top
 
 -- an option without a value
 abbrev pub flag_rule : Text → Rule
@@ -35,12 +27,17 @@ flag_rule name = record (new_rule name) { long = Some name; action = Some SetTru
 abbrev pub value_rule : Text → Text → Rule
 value_rule id name = record (new_rule id) { long = Some name }
 
--- `run [--settle] [--tell] FILE`, `settle FILE`, `list FILE`, `asm FILE OUT`, `show IMAGE`, `debug FILE` and `play FILE --capacity N`
+-- a command that takes one argument
+abbrev pub command_on : Text → Text → App
+command_on name id = with_rule (new_app name) (required_rule id)
+
+-- `new [FILE]`
+abbrev pub new_command : App
+new_command = with_rule (new_app (codes "new")) (new_rule (codes "FILE"))
+
+-- `run [--settle] [--tell] FILE`, `list FILE`, `asm FILE OUT`, `show IMAGE`, `debug FILE` and `play FILE --capacity N`
 abbrev pub run_command : App
 run_command = with_rule (with_rule (command_on (codes "run") (codes "FILE")) (flag_rule (codes "settle"))) (flag_rule (codes "tell"))
-
-abbrev pub settle_command : App
-settle_command = command_on (codes "settle") (codes "FILE")
 
 abbrev pub list_command : App
 list_command = command_on (codes "list") (codes "FILE")
@@ -54,20 +51,17 @@ show_command = command_on (codes "show") (codes "IMAGE")
 abbrev pub debug_command : App
 debug_command = command_on (codes "debug") (codes "FILE")
 
--- an option that has to be given, with its value
-abbrev pub option_rule : Text → Text → Rule
-option_rule id name = record (required_rule id) { long = Some name }
-
 abbrev pub play_command : App
-play_command = with_rule (command_on (codes "play") (codes "FILE")) (option_rule (codes "N") (codes "capacity"))
+play_command =
+    with_rule (command_on (codes "play") (codes "FILE")) (record (required_rule (codes "N")) { long = Some (codes "capacity") })
 
--- the program with the commands that take files alone
-abbrev pub commands_on_files : App
-commands_on_files =
-    with_subcommand
-    (with_subcommand (with_subcommand (with_subcommand (with_subcommand program run_command.top) list_command.top) asm_command.top)
-    show_command.top)
-    debug_command.top
+-- `check FILE..`
+abbrev pub check_command : App
+check_command = with_rule (new_app (codes "check")) (record (required_rule (codes "FILE")) { action = Some Append })
+
+-- `settle FILE`
+abbrev pub settle_command : App
+settle_command = command_on (codes "settle") (codes "FILE")
 
 -- `draw [--settle] [--svg] [--from T] [--to T] FILE`
 abbrev pub draw_command : App
@@ -87,20 +81,27 @@ why_command =
     (value_rule (codes "K") (codes "at")))
     (flag_rule (codes "every"))
 
--- `check FILE..`
-abbrev pub check_command : App
-check_command = with_rule (new_app (codes "check")) (record (required_rule (codes "FILE")) { action = Some Append })
+-- the program with no command
+abbrev pub bare_program : App
+bare_program =
+    record (new_app (codes "cmwq")) {
+      top = record (new_app (codes "cmwq")).top { has_version = true; arg_required_else_help = true; subcommand_required = true };
+    }
 
--- the program with its commands, before the last
-abbrev pub commands_with_draw : App
-commands_with_draw =
-    with_subcommand
-    (with_subcommand (with_subcommand (with_subcommand commands_on_files play_command.top) check_command.top) settle_command.top)
-    draw_command.top
+-- one command after the other
+abbrev pub with_commands : App → List App → App
+with_commands program [] = program
+with_commands program (command ∷ commands) = with_commands (with_subcommand program command.top) commands
 
--- the program with its commands
+-- the program with its first four commands, with its first eight, and with all
+abbrev pub four_commands : App
+four_commands = with_commands bare_program (new_command ∷ run_command ∷ list_command ∷ asm_command ∷ [])
+
+abbrev pub eight_commands : App
+eight_commands = with_commands four_commands (show_command ∷ debug_command ∷ play_command ∷ check_command ∷ [])
+
 abbrev pub command_line : App
-command_line = with_subcommand commands_with_draw why_command.top
+command_line = with_commands eight_commands (settle_command ∷ draw_command ∷ why_command ∷ [])
 
 -- the line of the program's version, and of the kit that it is proved with
 abbrev pub version_line : (kit : List ℕ) → List ℕ

@@ -1,9 +1,8 @@
 //! The program's commands, and the words that they take.
 
-ghost use Rattle.clap.specs.Words.{App, app_of, new_rule, rule_of, with_rule, with_subcommand};
-ghost use Rattle.clap.specs.declared.builder.command.Command.TheViews.{out-Command as fields_of};
-ghost use Rattle.cmwq_command_line.specs.CommandLine.{asm_command, bare_program, check_command, command_line, command_on, commands_on_files, commands_with_draw, draw_command, flag_rule, list_command, new_command, option_rule, play_command, program, required_rule, run_command, settle_command, show_command, value_rule, why_command};
-ghost use Rattle.std.specs.Prelude.{◌≡◌, IfOk, codes, false};
+ghost use Rattle.clap.specs.Words.{app_of, new_app, new_rule};
+ghost use Rattle.cmwq_command_line.specs.CommandLine.{IsArgument, IsCommand, asm_command, bare_program, check_command, command_line, command_on, draw_command, eight_commands, flag_rule, four_commands, new_command, play_command, required_rule, run_command, show_command, value_rule, why_command};
+ghost use Rattle.std.specs.Prelude.{◌≡◌, IfOk, codes};
 
 use crate::help;
 use clap::{Arg, ArgAction, Command};
@@ -13,176 +12,50 @@ use std::alloc::{AllocError, Global};
 pub fn command_line<'a>(alloc: Global) -> Result<Command<'a>, AllocError>
     ensures { IfOk result (λ r. app_of r ≡ command_line) }
 {
-    joined(commands_with_draw(alloc), why_command(alloc))
-}
-
-/// The program with all commands but the one that tells why works wait.
-fn commands_with_draw<'a>(alloc: Global) -> Result<Command<'a>, AllocError>
-    ensures { IfOk result (λ r. app_of r ≡ commands_with_draw) }
-{
-    joined(commands_with_settle(alloc), draw_command(alloc))
-}
-
-/// The program with all commands but the one that draws and the one that tells why works wait.
-fn commands_with_settle<'a>(alloc: Global) -> Result<Command<'a>, AllocError>
-    ensures { IfOk result (λ r. app_of r ≡ with_subcommand (with_subcommand (with_subcommand commands_on_files play_command.top) check_command.top) settle_command.top) }
-{
     let settle = on_text(
         alloc,
         "settle",
         "Writes a scenario's listing with as many `next` more as make the machine quiet",
     );
-    joined(commands_with_check(alloc), settle)
+    let program = eight_commands(alloc)?
+        .subcommand(settle?)?
+        .subcommand(draw_command(alloc)?)?
+        .subcommand(why_command(alloc)?)?;
+    Ok(program)
 }
 
-/// The program with the command that takes any number of files.
-fn commands_with_check<'a>(alloc: Global) -> Result<Command<'a>, AllocError>
-    ensures { IfOk result (λ r. app_of r ≡ with_subcommand (with_subcommand commands_on_files play_command.top) check_command.top) }
-{
-    joined(commands_with_play(alloc), check_command(alloc))
-}
-
-/// The program with the commands on files, and the one that plays.
-fn commands_with_play<'a>(alloc: Global) -> Result<Command<'a>, AllocError>
-    ensures { IfOk result (λ r. app_of r ≡ with_subcommand commands_on_files play_command.top) }
-{
-    joined(commands_on_files(alloc), play_command(alloc))
-}
-
-/// The program with the commands that take files alone.
-fn commands_on_files<'a>(alloc: Global) -> Result<Command<'a>, AllocError>
-    ensures { IfOk result (λ r. app_of r ≡ commands_on_files) }
+/// The program with its first eight commands.
+fn eight_commands<'a>(alloc: Global) -> Result<Command<'a>, AllocError>
+    ensures { IfOk result (λ r. app_of r ≡ eight_commands) }
 {
     let debug = on_text(
         alloc,
         "debug",
         "Carries out commands of standard input on a scenario's run, forwards and back",
     );
-    joined(commands_on_one_file(alloc), debug)
+    let program = four_commands(alloc)?
+        .subcommand(show_command(alloc)?)?
+        .subcommand(debug?)?
+        .subcommand(play_command(alloc)?)?
+        .subcommand(check_command(alloc)?)?;
+    Ok(program)
 }
 
-/// The program with the commands that read nothing but a file.
-fn commands_on_one_file<'a>(alloc: Global) -> Result<Command<'a>, AllocError>
-    ensures { IfOk result (λ r. app_of r ≡ with_subcommand (with_subcommand (with_subcommand (with_subcommand program run_command.top) list_command.top) asm_command.top) show_command.top) }
-{
-    joined(commands_on_texts(alloc), show_command(alloc))
-}
-
-/// The program with the commands that read a text.
-fn commands_on_texts<'a>(alloc: Global) -> Result<Command<'a>, AllocError>
-    ensures { IfOk result (λ r. app_of r ≡ with_subcommand (with_subcommand (with_subcommand program run_command.top) list_command.top) asm_command.top) }
-{
-    joined(printing_commands(alloc), asm_command(alloc))
-}
-
-/// The program with the commands that print something of a text.
-fn printing_commands<'a>(alloc: Global) -> Result<Command<'a>, AllocError>
-    ensures { IfOk result (λ r. app_of r ≡ with_subcommand (with_subcommand program run_command.top) list_command.top) }
+/// The program with its first four commands.
+fn four_commands<'a>(alloc: Global) -> Result<Command<'a>, AllocError>
+    ensures { IfOk result (λ r. app_of r ≡ four_commands) }
 {
     let list = on_text(
         alloc,
         "list",
         "Writes a scenario's listing to standard output",
     );
-    joined(program_that_runs(alloc), list)
-}
-
-/// The program with the command that runs a scenario.
-fn program_that_runs<'a>(alloc: Global) -> Result<Command<'a>, AllocError>
-    ensures { IfOk result (λ r. app_of r ≡ with_subcommand program run_command.top) }
-{
-    joined(program(alloc), run_command(alloc))
-}
-
-/// The command that runs a scenario.
-fn run_command<'a>(alloc: Global) -> Result<Command<'a>, AllocError>
-    ensures app { IfOk result (λ r. app_of r ≡ run_command) }
-    ensures local { IfOk result (λ r. (fields_of r).has_globals ≡ false) }
-{
-    let run = on_text(
-        alloc,
-        "run",
-        "Runs a scenario and writes its events to standard output",
-    );
-    let run = with_flag(
-        run,
-        alloc,
-        "settle",
-        "Lets the run go on by `next` until the machine is quiet",
-    );
-    with_flag(
-        run,
-        alloc,
-        "tell",
-        "Writes each instruction, and what it changes unseen, in lines that begin with #",
-    )
-}
-
-/// The program with the command that needs no file.
-fn program<'a>(alloc: Global) -> Result<Command<'a>, AllocError>
-    ensures { IfOk result (λ r. app_of r ≡ program) }
-{
-    let new = new_command(alloc)?;
-    bare_program(alloc).subcommand(new)
-}
-
-/// The program with this command more. The error is want of memory.
-fn joined<'a>(
-    program: Result<Command<'a>, AllocError>,
-    command: Result<Command<'a>, AllocError>,
-) -> Result<Command<'a>, AllocError>
-    requires local { IfOk command (λ added. (fields_of added).has_globals ≡ false) }
-    ensures { (before more : App) → IfOk program.entry (λ given. app_of given ≡ before) → IfOk command.entry (λ added. app_of added ≡ more)
-        → IfOk result (λ r. app_of r ≡ with_subcommand before more.top) }
-{
-    let command = command?;
-    with_command(program, command)
-}
-
-/// The program with this command more, which is there. The error is want of memory.
-fn with_command<'a>(
-    program: Result<Command<'a>, AllocError>,
-    command: Command<'a>,
-) -> Result<Command<'a>, AllocError>
-    requires local { (fields_of command).has_globals ≡ false }
-    ensures { (before : App) → IfOk program.entry (λ given. app_of given ≡ before)
-        → IfOk result (λ r. app_of r ≡ with_subcommand before (app_of command.entry).top) }
-{
-    let program = program?;
-    program.subcommand(command)
-}
-
-/// The command with this option more, which has no value. The error is want of memory.
-fn with_flag<'a>(
-    command: Result<Command<'a>, AllocError>,
-    alloc: Global,
-    name: &'a str,
-    help: &'a str,
-) -> Result<Command<'a>, AllocError>
-    ensures app { (before : App) → IfOk command.entry (λ given. app_of given ≡ before)
-        → IfOk result (λ r. app_of r ≡ with_rule before (flag_rule name.entry.now)) }
-    ensures local { IfOk command.entry (λ given. (fields_of given).has_globals ≡ false)
-        → IfOk result (λ r. (fields_of r).has_globals ≡ false) }
-{
-    let command = command?;
-    command.arg(flag(alloc, name, help))
-}
-
-/// The command with this option more, which may be given with a value. The error is want of memory.
-fn with_option<'a>(
-    command: Result<Command<'a>, AllocError>,
-    alloc: Global,
-    id: &'a str,
-    name: &'a str,
-    help: &'a str,
-) -> Result<Command<'a>, AllocError>
-    ensures app { (before : App) → IfOk command.entry (λ given. app_of given ≡ before)
-        → IfOk result (λ r. app_of r ≡ with_rule before (value_rule id.entry.now name.entry.now)) }
-    ensures local { IfOk command.entry (λ given. (fields_of given).has_globals ≡ false)
-        → IfOk result (λ r. (fields_of r).has_globals ≡ false) }
-{
-    let command = command?;
-    command.arg(valued(alloc, id, name, help))
+    let program = bare_program(alloc)
+        .subcommand(new_command(alloc)?)?
+        .subcommand(run_command(alloc)?)?
+        .subcommand(list?)?
+        .subcommand(asm_command(alloc)?)?;
+    Ok(program)
 }
 
 /// The program without its commands.
@@ -199,27 +72,47 @@ fn bare_program<'a>(alloc: Global) -> Command<'a>
 
 /// The command that writes a scenario to start from.
 fn new_command<'a>(alloc: Global) -> Result<Command<'a>, AllocError>
-    ensures app { IfOk result (λ r. app_of r ≡ new_command) }
-    ensures local { IfOk result (λ r. (fields_of r).has_globals ≡ false) }
+    ensures { IfOk result (IsCommand new_command) }
 {
     let file = optional(
         alloc,
         "FILE",
         "The file to make, which must not be there yet; without it the scenario goes to standard output",
     );
-    Command::new(alloc, "new")
-        .about("Writes a scenario to start from, with comments")
-        .after_help(help::after_help_of("new"))
-        .arg(file)
+    command(
+        alloc,
+        "new",
+        "Writes a scenario to start from, with comments",
+    )
+    .arg(file)
+}
+
+/// The command that runs a scenario.
+fn run_command<'a>(alloc: Global) -> Result<Command<'a>, AllocError>
+    ensures { IfOk result (IsCommand run_command) }
+{
+    on_text(
+        alloc,
+        "run",
+        "Runs a scenario and writes its events to standard output",
+    )?
+    .arg(flag(
+        alloc,
+        "settle",
+        "Lets the run go on by `next` until the machine is quiet",
+    ))?
+    .arg(flag(
+        alloc,
+        "tell",
+        "Writes each instruction, and what it changes unseen, in lines that begin with #",
+    ))
 }
 
 /// The command that makes an image.
 fn asm_command<'a>(alloc: Global) -> Result<Command<'a>, AllocError>
-    ensures app { IfOk result (λ r. app_of r ≡ asm_command) }
-    ensures local { IfOk result (λ r. (fields_of r).has_globals ≡ false) }
+    ensures { IfOk result (IsCommand asm_command) }
 {
-    let asm = on_text(alloc, "asm", "Makes the image of a scenario")?;
-    asm.arg(argument(
+    on_text(alloc, "asm", "Makes the image of a scenario")?.arg(argument(
         alloc,
         "OUT",
         "The image file to make. What it held is lost, even where FILE has a fault: asm FILE FILE destroys its input",
@@ -228,144 +121,128 @@ fn asm_command<'a>(alloc: Global) -> Result<Command<'a>, AllocError>
 
 /// The command that lists an image.
 fn show_command<'a>(alloc: Global) -> Result<Command<'a>, AllocError>
-    ensures app { IfOk result (λ r. app_of r ≡ show_command) }
-    ensures local { IfOk result (λ r. (fields_of r).has_globals ≡ false) }
+    ensures { IfOk result (IsCommand show_command) }
 {
-    Command::new(alloc, "show")
-        .about("Writes the listing of an image's scenario to standard output")
-        .after_help(help::after_help_of("show"))
-        .arg(argument(alloc, "IMAGE", "The scenario's image"))
+    command(
+        alloc,
+        "show",
+        "Writes the listing of an image's scenario to standard output",
+    )
+    .arg(argument(alloc, "IMAGE", "The scenario's image"))
 }
 
 /// The command that carries out all actors at once.
 fn play_command<'a>(alloc: Global) -> Result<Command<'a>, AllocError>
-    ensures app { IfOk result (λ r. app_of r ≡ play_command) }
-    ensures local { IfOk result (λ r. (fields_of r).has_globals ≡ false) }
+    ensures { IfOk result (IsCommand play_command) }
 {
-    let play = on_text(
+    let capacity = argument(
+        alloc,
+        "N",
+        "How many instructions the machine takes at most, 1 to 4096",
+    );
+    on_text(
         alloc,
         "play",
         "Carries out all actors of a scenario at once, and writes the order that came out, as a scenario of one actor",
-    )?;
-    play.arg(required_option(
-        alloc,
-        "N",
-        "capacity",
-        "How many instructions the machine takes at most, 1 to 4096",
-    ))
+    )?
+    .arg(capacity.long("capacity"))
 }
 
 /// The command that tells files' verdicts.
 fn check_command<'a>(alloc: Global) -> Result<Command<'a>, AllocError>
-    ensures app { IfOk result (λ r. app_of r ≡ check_command) }
-    ensures local { IfOk result (λ r. (fields_of r).has_globals ≡ false) }
+    ensures { IfOk result (IsCommand check_command) }
 {
     let files = argument(alloc, "FILE", "The scenarios' texts");
-    Command::new(alloc, "check")
-        .about("Tells of each scenario's text whether it is good, or where its first fault is")
-        .after_help(help::after_help_of("check"))
-        .arg(files.action(ArgAction::Append))
+    command(
+        alloc,
+        "check",
+        "Tells of each scenario's text whether it is good, or where its first fault is",
+    )
+    .arg(files.action(ArgAction::Append))
 }
 
 /// The command that draws a run.
 fn draw_command<'a>(alloc: Global) -> Result<Command<'a>, AllocError>
-    ensures app { IfOk result (λ r. app_of r ≡ draw_command) }
-    ensures local { IfOk result (λ r. (fields_of r).has_globals ≡ false) }
+    ensures { IfOk result (IsCommand draw_command) }
 {
-    let draw = on_text(
+    on_text(
         alloc,
         "draw",
         "Draws a scenario's run: a row a work, a column a tick",
-    );
-    let draw = with_flag(
-        draw,
+    )?
+    .arg(flag(
         alloc,
         "settle",
         "Lets the run go on by `next` until the machine is quiet",
-    );
-    let draw = with_flag(draw, alloc, "svg", "Writes an SVG picture");
-    let draw = with_option(draw, alloc, "FROM", "from", "The first tick to draw");
-    with_option(draw, alloc, "TO", "to", "The tick before which to end")
+    ))?
+    .arg(flag(alloc, "svg", "Writes an SVG picture"))?
+    .arg(valued(alloc, "FROM", "from", "The first tick to draw"))?
+    .arg(valued(alloc, "TO", "to", "The tick before which to end"))
 }
 
 /// The command that tells why a work or a flush waits.
 fn why_command<'a>(alloc: Global) -> Result<Command<'a>, AllocError>
-    ensures app { IfOk result (λ r. app_of r ≡ why_command) }
-    ensures local { IfOk result (λ r. (fields_of r).has_globals ≡ false) }
+    ensures { IfOk result (IsCommand why_command) }
 {
-    let why = with_option(
-        why_on_work(alloc),
+    let work = optional(
+        alloc,
+        "WORK",
+        "The work's name; without it --flush has to be given",
+    );
+    on_text(
+        alloc,
+        "why",
+        "Tells why a work doesn't get on, or what a flush waits for, wherever that changes",
+    )?
+    .arg(work)?
+    .arg(valued(
         alloc,
         "F",
         "flush",
         "The flush of this number, as the run tells it, in place of a work",
-    );
-    let why = with_option(
-        why,
+    ))?
+    .arg(valued(
         alloc,
         "K",
         "at",
         "Looks at position K alone, behind the first K instructions",
-    );
-    with_flag(why, alloc, "every", "Looks at every position")
-}
-
-/// The command that tells why a work waits, without its options.
-fn why_on_work<'a>(alloc: Global) -> Result<Command<'a>, AllocError>
-    ensures app { IfOk result (λ r. app_of r ≡ with_rule (command_on (codes "why") (codes "FILE")) (new_rule (codes "WORK"))) }
-    ensures local { IfOk result (λ r. (fields_of r).has_globals ≡ false) }
-{
-    let why = on_text(
-        alloc,
-        "why",
-        "Tells why a work doesn't get on, or what a flush waits for, wherever that changes",
-    )?;
-    why.arg(optional(
-        alloc,
-        "WORK",
-        "The work's name; without it --flush has to be given",
-    ))
+    ))?
+    .arg(flag(alloc, "every", "Looks at every position"))
 }
 
 /// A command on the text of a scenario.
 fn on_text<'a>(alloc: Global, name: &'a str, about: &'a str) -> Result<Command<'a>, AllocError>
-    ensures app { IfOk result (λ r. app_of r ≡ command_on name.entry.now (codes "FILE")) }
-    ensures local { IfOk result (λ r. (fields_of r).has_globals ≡ false) }
+    ensures { IfOk result (IsCommand (command_on name.entry.now (codes "FILE"))) }
+{
+    command(alloc, name, about).arg(argument(alloc, "FILE", "The scenario's text"))
+}
+
+/// A command that takes nothing.
+fn command<'a>(alloc: Global, name: &'a str, about: &'a str) -> Command<'a>
+    ensures { IsCommand (new_app name.entry.now) result }
 {
     Command::new(alloc, name)
         .about(about)
         .after_help(help::after_help_of(name))
-        .arg(argument(alloc, "FILE", "The scenario's text"))
 }
 
 /// An argument that has to be given.
 fn argument<'a>(alloc: Global, id: &'a str, help: &'a str) -> Arg<'a>
-    ensures rule { rule_of result ≡ required_rule id.entry.now }
-    ensures local { result.global ≡ false }
+    ensures { IsArgument (required_rule id.entry.now) result }
 {
     Arg::new(alloc, id).required(true).help(help)
 }
 
-/// An option that has to be given, with its value.
-fn required_option<'a>(alloc: Global, id: &'a str, name: &'a str, help: &'a str) -> Arg<'a>
-    ensures rule { rule_of result ≡ option_rule id.entry.now name.entry.now }
-    ensures local { result.global ≡ false }
-{
-    argument(alloc, id, help).long(name)
-}
-
 /// An argument that may be left out.
 fn optional<'a>(alloc: Global, id: &'a str, help: &'a str) -> Arg<'a>
-    ensures rule { rule_of result ≡ new_rule id.entry.now }
-    ensures local { result.global ≡ false }
+    ensures { IsArgument (new_rule id.entry.now) result }
 {
     Arg::new(alloc, id).help(help)
 }
 
 /// An option without a value.
 fn flag<'a>(alloc: Global, name: &'a str, help: &'a str) -> Arg<'a>
-    ensures rule { rule_of result ≡ flag_rule name.entry.now }
-    ensures local { result.global ≡ false }
+    ensures { IsArgument (flag_rule name.entry.now) result }
 {
     Arg::new(alloc, name)
         .long(name)
@@ -375,8 +252,7 @@ fn flag<'a>(alloc: Global, name: &'a str, help: &'a str) -> Arg<'a>
 
 /// An option that may be given, with its value.
 fn valued<'a>(alloc: Global, id: &'a str, name: &'a str, help: &'a str) -> Arg<'a>
-    ensures rule { rule_of result ≡ value_rule id.entry.now name.entry.now }
-    ensures local { result.global ≡ false }
+    ensures { IsArgument (value_rule id.entry.now name.entry.now) result }
 {
     Arg::new(alloc, id).long(name).help(help)
 }

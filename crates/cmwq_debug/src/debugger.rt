@@ -57,13 +57,8 @@ impl<M: Machine> Debugger<M> {
         requires { length instrs.items ≤ MAX_HISTORY }
         ensures { Opens (λ debugger. debugger) scenario.now instrs.items result }
     {
-        if let Err(fault) = scenario.check() {
-            return Err(LoadError::Fault(fault));
-        }
-        match Debugger::of_copy(alloc, scenario, instrs) {
-            Ok(debugger) => Ok(debugger),
-            Err(NoMemory) => Err(LoadError::NoMemory),
-        }
+        scenario.check().map_err(LoadError::Fault)?;
+        Debugger::of_copy(alloc, scenario, instrs).map_err(|_| LoadError::NoMemory)
     }
 
     /// Carries out the command, and says what it came to.
@@ -265,38 +260,23 @@ impl<M: Machine> Debugger<M> {
     fn dump(&self) -> Result<Said, DebugError>
         ensures { Meets (says self.now (Text (dump self.now.scenario (state_at self.now self.now.position)))) self.now self.now result }
     {
-        let text = self.state_text()?;
-        Ok(Said::Text(text))
+        Ok(Said::Text(dump_text(self.alloc, &self.machine)?))
     }
 
     fn dump_pool(&self, pool: u8) -> Result<Said, DebugError>
         ensures { Meets (dumps_pool self.now pool) self.now self.now result }
     {
-        if pool >= self.pool_count() {
+        if pool >= self.machine.scenario().pool_count() {
             return Err(DebugError::NoSuchPool);
         }
-        let text = self.pool_text(pool)?;
-        Ok(Said::Text(text))
-    }
-
-    fn pool_count(&self) -> u8
-        ensures { result ≡ pool_count self.now.scenario }
-    {
-        self.machine.scenario().pool_count()
-    }
-
-    /// The dump text of the state at the position.
-    fn state_text(&self) -> Result<Vec<u8>, NoMemory>
-        ensures { IfOk result (λ text. text.items ≡ dump self.now.scenario (state_at self.now self.now.position)) }
-    {
-        dump_text(self.alloc, &self.machine)
+        Ok(Said::Text(pool_text(self.alloc, &self.machine, pool)?))
     }
 
     fn why(&self, work: WorkId) -> Result<Said, DebugError>
         ensures { Meets (tells_why self.now work.0) self.now self.now result }
     {
         if (work.0 as usize) < self.scenario.works.len() {
-            let line = self.why_line(work)?;
+            let line = work_text(self.alloc, &self.machine, work)?;
             Ok(Said::Text(line.into_bytes()))
         } else {
             Err(DebugError::NoSuchWork)
@@ -306,31 +286,9 @@ impl<M: Machine> Debugger<M> {
     fn why_flush(&self, flush: u32) -> Result<Said, DebugError>
         ensures { Meets (tells_waits self.now (flush_lines self.now.scenario (state_at self.now self.now.position) flush)) self.now self.now result }
     {
-        match self.flush_lines(flush)? {
+        match flush_text(self.alloc, &self.machine, flush as usize)? {
             Some(lines) => Ok(Said::Text(lines.into_bytes())),
             None => Err(DebugError::NoSuchFlush),
         }
-    }
-
-    /// The pool's part of that text.
-    fn pool_text(&self, pool: u8) -> Result<Vec<u8>, NoMemory>
-        ensures { IfOk result (λ text. text.items ≡ pool_lines self.now.scenario (state_at self.now self.now.position) pool) }
-    {
-        pool_text(self.alloc, &self.machine, pool)
-    }
-
-    /// Why the work isn't further in the state at the position.
-    fn why_line(&self, work: WorkId) -> Result<String, NoMemory>
-        ensures { IfOk result (λ text. string_bytes text ≡ work_line self.now.scenario (state_at self.now self.now.position) work.0) }
-    {
-        work_text(self.alloc, &self.machine, work)
-    }
-
-    /// What the flush waits for in the state at the position, if it was given by then.
-    fn flush_lines(&self, flush: u32) -> Result<Option<String>, NoMemory>
-        ensures { IfOk result (λ lines. MatchOption lines (flush_lines self.now.scenario (state_at self.now self.now.position) flush ≡ None)
-            (λ lines. flush_lines self.now.scenario (state_at self.now self.now.position) flush ≡ Some (string_bytes lines))) }
-    {
-        flush_text(self.alloc, &self.machine, flush as usize)
     }
 }

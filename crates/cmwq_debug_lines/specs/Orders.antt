@@ -51,20 +51,10 @@ on_work work None = Bad
 on_work None (Some event) = NoWork
 on_work (Some w) (Some event) = Do (command.BreakWork (record { 0 = w }) event)
 
--- behind `break work W event`
-abbrev pub event_break : Option ℕ → List (List ℕ) → Order
-event_break work [] = Bad
-event_break work (event ∷ rest) = only (on_work work (kind_of event)) rest
-
--- behind `break work W`
-abbrev pub named_break : Option ℕ → List (List ℕ) → Order
-named_break work [] = Bad
-named_break work (word ∷ rest) = if bytes_eq word (codes "event") then event_break work rest else Bad
-
 -- behind `break work`
 abbrev pub work_break : ScenarioContents → List (List ℕ) → Order
-work_break S [] = Bad
-work_break S (name ∷ rest) = named_break (work_named S name) rest
+work_break S (name ∷ word ∷ event ∷ []) = if bytes_eq word (codes "event") then on_work (work_named S name) (kind_of event) else Bad
+work_break S _ = Bad
 
 -- behind `break`
 abbrev pub break_order : ScenarioContents → List (List ℕ) → Order

@@ -1,13 +1,13 @@
 //! Reading an order off the words of a line.
-ghost use Rattle.cmwq_debug_lines.specs.Orders.{alone, break_order, dump_order, event_break, kind_of, named_break, on_work, order_of, why_order, why_work, with_number, work_break, work_named};
-ghost use Rattle.cmwq_debug.specs.declared.command.Command.TheVariants as command;
+ghost use Rattle.cmwq_debug_lines.specs.Orders.{alone, break_order, dump_order, kind_of, on_work, order_of, why_order, why_work, with_number, work_break, work_named};
+ghost use Rattle.cmwq_debug.specs.declared.command.Command.{Command};
 ghost use Rattle.cmwq_types.specs.declared.limits.TheConstants.{MAX_WORKS};
 ghost use Rattle.cmwq_scan.specs.Words.{words_in};
-ghost use Rattle.std.specs.Prelude.{◌≡◌, ◌<◌, ◌≤◌, IfSome, length};
+ghost use Rattle.std.specs.Prelude.{◌≡◌, ◌<◌, ◌≤◌, ℕ, IfSome, length};
 
 use crate::order::Order;
 use cmwq_debug::{Command, EventKind};
-use cmwq_scan::{Token, is_word, read_last_number_within};
+use cmwq_scan::{Token, is_word, number_in};
 use cmwq_types::{Scenario, WorkId};
 
 /// What a line of these words tells.
@@ -20,15 +20,15 @@ pub(crate) fn order_of(scenario: &Scenario, words: &[Token]) -> Order
     };
     let word = word.bytes();
     if is_word(word, b"step") {
-        steps(rest)
+        numbered(Command::Step, u32::MAX, rest)
     } else if is_word(word, b"back") {
-        goes_back(rest)
+        numbered(Command::Back, u32::MAX, rest)
     } else if is_word(word, b"goto") {
-        goes(rest)
+        numbered(Command::Goto, u32::MAX, rest)
     } else if is_word(word, b"break") {
         break_order(scenario, rest)
     } else if is_word(word, b"clear") {
-        clears(rest)
+        numbered(|number| Command::Clear(number as u8), 255, rest)
     } else if is_word(word, b"run") {
         alone(Command::Run, rest)
     } else if is_word(word, b"dump") {
@@ -40,42 +40,14 @@ pub(crate) fn order_of(scenario: &Scenario, words: &[Token]) -> Order
     }
 }
 
-/// Behind `step`.
-fn steps(words: &[Token]) -> Order
-    ensures { result ≡ with_number command.Step 4294967295 (words_in words.now) }
+/// The command with the number that these words are, which is at most this high.
+fn numbered<F: FnOnce(u32) -> Command>(command: F, high: u32, words: &[Token]) -> Order
+    requires { (n : ℕ) → n ≤ high → F.pre command n }
+    ensures { (made : ℕ → Command) → ((n : ℕ) → (told : Command) → n ≤ high → F.post command n told → told ≡ made n)
+        → result ≡ with_number made high (words_in words.now) }
 {
-    match read_last_number_within(0, u32::MAX, words) {
-        Ok(n) => Order::Do(Command::Step(n)),
-        Err(_) => Order::Bad,
-    }
-}
-
-/// Behind `back`.
-fn goes_back(words: &[Token]) -> Order
-    ensures { result ≡ with_number command.Back 4294967295 (words_in words.now) }
-{
-    match read_last_number_within(0, u32::MAX, words) {
-        Ok(n) => Order::Do(Command::Back(n)),
-        Err(_) => Order::Bad,
-    }
-}
-
-/// Behind `goto`.
-fn goes(words: &[Token]) -> Order
-    ensures { result ≡ with_number command.Goto 4294967295 (words_in words.now) }
-{
-    match read_last_number_within(0, u32::MAX, words) {
-        Ok(position) => Order::Do(Command::Goto(position)),
-        Err(_) => Order::Bad,
-    }
-}
-
-/// Behind `clear`.
-fn clears(words: &[Token]) -> Order
-    ensures { result ≡ with_number command.Clear 255 (words_in words.now) }
-{
-    match read_last_number_within(0, 255, words) {
-        Ok(number) => Order::Do(Command::Clear(number as u8)),
+    match number_in(words, high) {
+        Ok(n) => Order::Do(command(n)),
         Err(_) => Order::Bad,
     }
 }
@@ -97,18 +69,10 @@ fn dump_order(words: &[Token]) -> Order
 {
     match words {
         [] => Order::Do(Command::Dump),
-        [word, rest @ ..] if is_word(word.bytes(), b"pool") => dumps_pool(rest),
+        [word, rest @ ..] if is_word(word.bytes(), b"pool") => {
+            numbered(|pool| Command::DumpPool(pool as u8), 255, rest)
+        }
         _ => Order::Bad,
-    }
-}
-
-/// Behind `dump pool`.
-fn dumps_pool(words: &[Token]) -> Order
-    ensures { result ≡ with_number command.DumpPool 255 (words_in words.now) }
-{
-    match read_last_number_within(0, 255, words) {
-        Ok(pool) => Order::Do(Command::DumpPool(pool as u8)),
-        Err(_) => Order::Bad,
     }
 }
 
@@ -119,7 +83,9 @@ fn why_order(scenario: &Scenario, words: &[Token]) -> Order
 {
     match words {
         [name] => why_work(scenario, name.bytes()),
-        [word, rest @ ..] if is_word(word.bytes(), b"flush") => why_flush(rest),
+        [word, rest @ ..] if is_word(word.bytes(), b"flush") => {
+            numbered(Command::WhyFlush, u32::MAX, rest)
+        }
         _ => Order::Bad,
     }
 }
@@ -135,16 +101,6 @@ fn why_work(scenario: &Scenario, name: &[u8]) -> Order
     }
 }
 
-/// Behind `why flush`.
-fn why_flush(words: &[Token]) -> Order
-    ensures { result ≡ with_number command.WhyFlush 4294967295 (words_in words.now) }
-{
-    match read_last_number_within(0, u32::MAX, words) {
-        Ok(flush) => Order::Do(Command::WhyFlush(flush)),
-        Err(_) => Order::Bad,
-    }
-}
-
 /// Behind `break`.
 fn break_order(scenario: &Scenario, words: &[Token]) -> Order
     requires { length scenario.now.works ≤ MAX_WORKS }
@@ -157,7 +113,7 @@ fn break_order(scenario: &Scenario, words: &[Token]) -> Order
     if is_word(word, b"work") {
         work_break(scenario, rest)
     } else if is_word(word, b"time") {
-        breaks_on_time(rest)
+        numbered(Command::BreakTime, u32::MAX, rest)
     } else if is_word(word, b"refusal") {
         alone(Command::BreakRefusal, rest)
     } else {
@@ -165,45 +121,15 @@ fn break_order(scenario: &Scenario, words: &[Token]) -> Order
     }
 }
 
-/// Behind `break time`.
-fn breaks_on_time(words: &[Token]) -> Order
-    ensures { result ≡ with_number command.BreakTime 4294967295 (words_in words.now) }
-{
-    match read_last_number_within(0, u32::MAX, words) {
-        Ok(time) => Order::Do(Command::BreakTime(time)),
-        Err(_) => Order::Bad,
-    }
-}
-
-/// Behind `break work`.
+/// Behind `break work`: a work's name, `event`, and the word of an event.
 fn work_break(scenario: &Scenario, words: &[Token]) -> Order
     requires { length scenario.now.works ≤ MAX_WORKS }
     ensures { result ≡ work_break scenario.now (words_in words.now) }
 {
     match words {
-        [name, rest @ ..] => named_break(scenario, name.bytes(), rest),
-        [] => Order::Bad,
-    }
-}
-
-/// Behind `break work` and the name.
-fn named_break(scenario: &Scenario, name: &[u8], words: &[Token]) -> Order
-    requires { length scenario.now.works ≤ MAX_WORKS }
-    ensures { result ≡ named_break (work_named scenario.now name.now) (words_in words.now) }
-{
-    match words {
-        [word, rest @ ..] if is_word(word.bytes(), b"event") => event_break(scenario, name, rest),
-        _ => Order::Bad,
-    }
-}
-
-/// Behind `break work`, the name and `event`.
-fn event_break(scenario: &Scenario, name: &[u8], words: &[Token]) -> Order
-    requires { length scenario.now.works ≤ MAX_WORKS }
-    ensures { result ≡ event_break (work_named scenario.now name.now) (words_in words.now) }
-{
-    match words {
-        [event] => on_work(scenario, name, kind_of(event.bytes())),
+        [name, word, event] if is_word(word.bytes(), b"event") => {
+            on_work(scenario, name.bytes(), kind_of(event.bytes()))
+        }
         _ => Order::Bad,
     }
 }

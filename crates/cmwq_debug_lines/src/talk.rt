@@ -1,17 +1,16 @@
 //! What is said to a command line.
 ghost use Rattle.cmwq_debug.specs.Debugging.{At, answer_of, does};
-ghost use Rattle.cmwq_debug_lines.specs.Talk.{answer_text, by_text, error_name, line_said, ordered, refused_text, told};
+ghost use Rattle.cmwq_debug_lines.specs.Talk.{answer_text, error_name, line_said, ordered, refused_text, told};
 ghost use Rattle.cmwq_types.specs.declared.limits.TheConstants.{MAX_WORKS};
-ghost use Rattle.std.specs.Prelude.{◌≡◌, ◌≤◌, IfOk, OnOk, Some, length};
+ghost use Rattle.std.specs.Prelude.{◌≡◌, ◌≤◌, IfOk, OnOk, length};
 
 use crate::order::Order;
 use crate::reading::order_of;
 use cmwq_debug::{Command, DebugError, Debugger, Said};
-use cmwq_scan::read_tokens;
+use cmwq_scan::{Tokens, read_tokens};
 use cmwq_table::Machine;
 use cmwq_types::{NoMemory, Scenario};
 use std::alloc::Global;
-use std::fmt;
 
 /// Carries out what the command line tells the debugger, and gives what is said to it, as bytes. The names of works
 /// are the scenario's.
@@ -28,7 +27,7 @@ pub fn answer<M: Machine>(
     ensures debugger { OnOk result (debugger.new ≡ (line_said scenario.now debugger.old line.now).0) }
     ensures text { IfOk result (λ text. text.items ≡ (line_said scenario.now debugger.old line.now).1) }
 {
-    let mut words = Vec::new(alloc);
+    let mut words = Tokens::new(alloc);
     read_tokens(&mut words, line)?;
     obey(alloc, debugger, order_of(scenario, &words))
 }
@@ -80,8 +79,11 @@ fn said_text(alloc: Global, said: Said) -> Result<Vec<u8>, NoMemory>
 fn at_text(alloc: Global, position: u32, now: u64, by: Option<u8>) -> Result<Vec<u8>, NoMemory>
     ensures { IfOk result (λ text. text.items ≡ answer_text (At position now by)) }
 {
-    let by = By(by);
-    Ok(format!(in alloc; "at {position} now {now}{by}\n")?.into_bytes())
+    let text = match by {
+        Some(number) => format!(in alloc; "at {position} now {now} break {number}\n")?,
+        None => format!(in alloc; "at {position} now {now}\n")?,
+    };
+    Ok(text.into_bytes())
 }
 
 fn refused_text(alloc: Global, why: DebugError) -> Result<Vec<u8>, NoMemory>
@@ -89,21 +91,6 @@ fn refused_text(alloc: Global, why: DebugError) -> Result<Vec<u8>, NoMemory>
 {
     let name = error_name(why);
     Ok(format!(in alloc; "refused {name}\n")?.into_bytes())
-}
-
-/// The break that stopped a run.
-#[derive(Clone, Copy)]
-struct By(Option<u8>);
-
-impl fmt::Display for By {
-    ghost output = { λ by. Some (by_text by.0) };
-
-    fn fmt<W: fmt::Write>(&self, f: &mut fmt::Formatter<W>) -> fmt::Result {
-        match self.0 {
-            Some(number) => write!(f, " break {number}"),
-            None => Ok(()),
-        }
-    }
 }
 
 fn error_name(why: DebugError) -> &'static str

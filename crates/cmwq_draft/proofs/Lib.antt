@@ -1,3 +1,2 @@
 mod BodyLemmas
-mod DraftLemmas
 mod Refused

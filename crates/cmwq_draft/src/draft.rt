@@ -12,78 +12,19 @@ use cmwq_types::{
 use std::alloc::Global;
 use std::marker::Model;
 
-/// What is told so far, with the names by their numbers.
+/// The scenario that is told so far, with the names by their numbers.
+#[derive(Drop)]
 struct Parts<'t> {
-    cpus: u8,
-    workers: u8,
-    steps: u32,
-    flushes: u16,
-    queues: Vec<QueueDecl>,
-    works: Vec<WorkDecl>,
-    actors: Vec<Actor>,
+    scenario: Scenario,
     queue_names: Names<'t>,
     work_names: Names<'t>,
     actor_names: Names<'t>,
 }
 
-/// Parts are dropped by one call, wherever that is.
-impl<'t> Drop for Parts<'t> {
-    fn drop(self) {
-        let Parts {
-            cpus: _,
-            workers: _,
-            steps: _,
-            flushes: _,
-            queues: _queues,
-            works: _works,
-            actors: _actors,
-            queue_names: _queue_names,
-            work_names: _work_names,
-            actor_names: _actor_names,
-        } = self;
-    }
-}
-
-impl<'t> Parts<'t> {
-    /// The scenario of these parts.
-    fn into_scenario(self) -> Scenario
-        ensures { result ≡ record {
-          cpus = self.entry.cpus;
-          workers = self.entry.workers;
-          steps = self.entry.steps;
-          flushes = self.entry.flushes;
-          queues = self.entry.queues.items;
-          works = self.entry.works.items;
-          actors = self.entry.actors.items;
-        } }
-    {
-        let Parts {
-            cpus,
-            workers,
-            steps,
-            flushes,
-            queues,
-            works,
-            actors,
-            queue_names: _queue_names,
-            work_names: _work_names,
-            actor_names: _actor_names,
-        } = self;
-        Scenario {
-            cpus,
-            workers,
-            steps,
-            flushes,
-            queues,
-            works,
-            actors,
-        }
-    }
-}
-
-/// The parts of a scenario that are told so far. Contracts see the scenario of these parts.
+/// The scenario that is told so far. Contracts see it alone.
 ///
 /// The parts lie in a box, so that a draft is moved at small cost.
+#[derive(Drop)]
 pub struct Draft<'t> {
     parts: Box<Parts<'t>>,
 }
@@ -94,31 +35,16 @@ impl<'t> Model for Draft<'t> {
 
     ghost Value = { ScenarioContents };
 
-    ghost view = { λ d. record {
-      cpus = d.parts.value.cpus;
-      workers = d.parts.value.workers;
-      steps = d.parts.value.steps;
-      flushes = d.parts.value.flushes;
-      queues = d.parts.value.queues.items;
-      works = d.parts.value.works.items;
-      actors = d.parts.value.actors.items;
-    } };
+    ghost view = { λ d. d.parts.value.scenario };
 
     ghost use Rattle.cmwq_types.specs.declared.limits.TheConstants.{MAX_QUEUES, MAX_WORKS};
     ghost use Rattle.std.specs.Prelude.{◌≤◌, length};
 
     ghost invariant = { λ d.
-        (length d.parts.value.queues.items ≤ MAX_QUEUES) × (length d.parts.value.works.items ≤ MAX_WORKS)
-        × (d.parts.value.queue_names ≡ map (λ queue. queue.name) d.parts.value.queues.items)
-        × (d.parts.value.work_names ≡ map (λ work. work.name) d.parts.value.works.items)
-        × (d.parts.value.actor_names ≡ map (λ actor. actor.name) d.parts.value.actors.items) };
-}
-
-/// A draft is dropped as one: whoever drops it needs to know nothing of its parts.
-impl<'t> Drop for Draft<'t> {
-    fn drop(self) {
-        let Draft { parts: _parts } = self;
-    }
+        (length d.parts.value.scenario.queues ≤ MAX_QUEUES) × (length d.parts.value.scenario.works ≤ MAX_WORKS)
+        × (d.parts.value.queue_names ≡ map (λ queue. queue.name) d.parts.value.scenario.queues)
+        × (d.parts.value.work_names ≡ map (λ work. work.name) d.parts.value.scenario.works)
+        × (d.parts.value.actor_names ≡ map (λ actor. actor.name) d.parts.value.scenario.actors) };
 }
 
 impl<'t> Draft<'t> {
@@ -132,7 +58,7 @@ impl<'t> Draft<'t> {
     ) -> Result<Draft<'t>, NoMemory>
         ensures { IfOk result (λ draft. draft ≡ head_of cpus workers steps flushes) }
     {
-        let parts = Parts {
+        let scenario = Scenario {
             cpus,
             workers,
             steps,
@@ -140,6 +66,9 @@ impl<'t> Draft<'t> {
             queues: Vec::new(alloc),
             works: Vec::new(alloc),
             actors: Vec::new(alloc),
+        };
+        let parts = Parts {
+            scenario,
             queue_names: Names::new(alloc),
             work_names: Names::new(alloc),
             actor_names: Names::new(alloc),
@@ -151,25 +80,25 @@ impl<'t> Draft<'t> {
     pub fn cpus(&self) -> u8
         ensures { result ≡ self.now.cpus }
     {
-        self.parts.cpus
+        self.parts.scenario.cpus
     }
 
     pub fn queues(&self) -> &[QueueDecl]
         ensures { result.now ≡ self.now.queues }
     {
-        &self.parts.queues
+        &self.parts.scenario.queues
     }
 
     pub fn works(&self) -> &[WorkDecl]
         ensures { result.now ≡ self.now.works }
     {
-        &self.parts.works
+        &self.parts.scenario.works
     }
 
     pub fn actors(&self) -> &[Actor]
         ensures { result.now ≡ self.now.actors }
     {
-        &self.parts.actors
+        &self.parts.scenario.actors
     }
 
     /// The queues' names, by their numbers.
@@ -204,7 +133,7 @@ impl<'t> Draft<'t> {
     {
         let Draft { mut parts } = self;
         parts.queue_names.add(name)?;
-        parts.queues.push(QueueDecl {
+        parts.scenario.queues.push(QueueDecl {
             name: name.name(),
             max,
             flags,
@@ -226,7 +155,7 @@ impl<'t> Draft<'t> {
     {
         let Draft { mut parts } = self;
         parts.work_names.add(name)?;
-        parts.works.push(WorkDecl {
+        parts.scenario.works.push(WorkDecl {
             name: name.name(),
             queue,
             body: Vec::new(alloc),
@@ -242,7 +171,7 @@ impl<'t> Draft<'t> {
     {
         let Draft { mut parts } = self;
         parts.actor_names.add(name)?;
-        parts.actors.push(Actor {
+        parts.scenario.actors.push(Actor {
             name: name.name(),
             lines,
         })?;
@@ -256,7 +185,7 @@ impl<'t> Draft<'t> {
         ensures { result ≡ record self.entry { works = works.items } }
     {
         let Draft { mut parts } = self;
-        parts.works = works;
+        parts.scenario.works = works;
         Draft { parts }
     }
 
@@ -265,6 +194,6 @@ impl<'t> Draft<'t> {
         ensures { result ≡ self.entry }
     {
         let Draft { parts } = self;
-        Box::into_inner(parts).into_scenario()
+        Box::into_inner(parts).scenario
     }
 }

@@ -6,13 +6,9 @@ mod declarations;
 mod draft;
 mod instructions;
 mod operations;
-mod queues;
-mod works;
 
 pub use bodies::Bodies;
-pub use declarations::{QueueLine, WorkLine};
+pub use declarations::{QueueLine, WorkLine, fits_flags, read_queue_line, read_work_line};
 pub use draft::Draft;
 pub use instructions::read_line;
 pub use operations::{read_next, read_op};
-pub use queues::{fits_flags, read_queue_line};
-pub use works::read_work_line;

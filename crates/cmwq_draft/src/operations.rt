@@ -1,11 +1,8 @@
 //! What the lines of a body say: `body NAME`, and its operations.
 ghost use Rattle.cmwq_draft.specs.Operations.{next_at, queued_at};
-ghost use Rattle.cmwq_grammar.specs.Fields.{number_within};
 ghost use Rattle.cmwq_grammar.specs.Reasons.{not_in_body, op_at_line};
 ghost use Rattle.cmwq_scan.specs.Answers.{Tells};
-ghost use Rattle.cmwq_scan.specs.LastFields.{last};
 ghost use Rattle.cmwq_scan.specs.Words.{words_left};
-ghost use Rattle.cmwq_types.specs.declared.limits.TheConstants.{MAX_TICKS};
 ghost use Rattle.std.specs.Prelude.{◌≡◌, ◌<◌, OnOk, length};
 
 use crate::bodies::Bodies;
@@ -34,10 +31,10 @@ pub fn read_op(draft: &Draft, word: &[u8], rest: &[u8]) -> Result<Op, Why>
     ensures { Tells (λ op. op) result (op_at_line draft.now word.now (words_left rest.now)) }
 {
     if is_word(word, b"burn") {
-        return Ok(Op::Burn(read_ticks(rest)?));
+        return Ok(Op::Burn(take_last_number_within(1, MAX_TICKS, rest)?));
     }
     if is_word(word, b"sleep") {
-        return Ok(Op::Sleep(read_ticks(rest)?));
+        return Ok(Op::Sleep(take_last_number_within(1, MAX_TICKS, rest)?));
     }
     if is_word(word, b"queue") {
         return read_queued(draft, rest);
@@ -46,13 +43,6 @@ pub fn read_op(draft: &Draft, word: &[u8], rest: &[u8]) -> Result<Op, Why>
         return ended(Op::Finish, rest);
     }
     Err(refusal(not_in_body(word), word))
-}
-
-/// So many ticks, in a line's last word.
-fn read_ticks(rest: &[u8]) -> Result<u32, Why>
-    ensures { Tells (λ n. n) result (last (number_within 1 MAX_TICKS (words_left rest.now))) }
-{
-    take_last_number_within(1, MAX_TICKS, rest)
 }
 
 /// A work, and the CPU on which it is queued.

@@ -8,7 +8,7 @@ use Rattle.cmwq_sketch.specs.Sketch.{picture_text}
 use Rattle.cmwq_streams.specs.declared.error.PlayError.{PlayError}
 use Rattle.cmwq_streams.specs.declared.error.PlayError.TheVariants as errors
 use Rattle.cmwq_svg.specs.Svg.{svg_text}
-use Rattle.cmwq_draw.specs.declared.drawing.Drawing.{Drawing}
+use Rattle.cmwq_asked.specs.declared.drawing.Drawing.{Drawing}
 
 -- the picture as SVG, or as text
 abbrev pub rendered : (svg : Bool) → ScenarioContents → PictureContents → List ℕ

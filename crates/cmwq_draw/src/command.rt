@@ -1,13 +1,12 @@
 //! `draw`: from a scenario's text to a picture of its run.
 ghost use Rattle.cmwq_draw.specs.Drawn.{IsChosen, IsDrawFault, IsDrawing, IsDrawnText, IsRefusedFirst, IsUndrawable};
 ghost use Rattle.cmwq_play.specs.Commands.{Answers, Reads, Writes};
-ghost use Rattle.cmwq_streams.specs.Sending.{IsSendError};
 ghost use Rattle.cmwq_types.specs.Faults.{IsValid};
 ghost use Rattle.std.specs.Io.KnownBytes.{Keeps};
-ghost use Rattle.std.specs.Prelude.{◌≡◌, ◌≢◌, ◌⊎◌, Err, IfErr, IfOk, false, length};
+ghost use Rattle.std.specs.Prelude.{◌≡◌, ◌⊎◌, Err, IfErr, IfOk, false, length};
 
-use crate::drawing::Drawing;
 use crate::rendering::drawing_of;
+use cmwq_asked::Drawing;
 use cmwq_plain::Plain;
 use cmwq_play::{judge, read_text};
 use cmwq_settle::settled;
@@ -41,17 +40,7 @@ pub fn draw<R: Source, W: Sink>(
 {
     let scenario = read_text(alloc, reader)?;
     let text = drawn::<Plain>(alloc, drawing, scenario)?;
-    write_text(&text, writer)
-}
-
-/// Writes the text.
-fn write_text<W: Sink>(text: &[u8], writer: &mut W) -> Result<(), PlayError>
-    requires { W.failed writer.old ≡ false }
-    ensures writes { Writes (λ output. output ≡ text.now) (W.contents writer.old) (W.contents writer.new) (W.failed writer.new) result }
-    ensures why { IfErr result (λ error. IsSendError error) }
-    ensures no_memory { result ≢ Err PlayError.NoMemory }
-{
-    put_all(writer, text)
+    put_all(writer, &text)
 }
 
 /// The drawing of the run of a scenario's one actor, or of the settled scenario's where that is asked.

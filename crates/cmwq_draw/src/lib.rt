@@ -2,10 +2,7 @@
 #![tactic(auto)]
 
 mod command;
-mod drawing;
 mod rendering;
 
-pub use cmwq_picture::Span;
 pub use command::draw;
-pub use drawing::Drawing;
 pub use rendering::drawing_of;

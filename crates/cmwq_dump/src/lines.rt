@@ -97,7 +97,9 @@ impl<R: Reads> Dumping<'_, R> {
         let made = self.machine.made_of(pool);
         let idle = self.idle_workers(pool)?;
         write!(text, "pool {pool} counted {counted} made {made} idle")?;
-        push_numbers(text, &idle)?;
+        for worker in &idle {
+            write!(text, " {worker}")?;
+        }
         text.push_str("\n")?;
         Ok(())
     }
@@ -107,14 +109,7 @@ impl<R: Reads> Dumping<'_, R> {
         ensures { OnOk result (string_bytes text.new ≡ string_bytes text.old ++ group_lines self.now.scenario self.now.state group) }
     {
         let works = self.members(group)?;
-        self.push_works(text, group, &works)
-    }
-
-    /// Writes the line of each of these works.
-    fn push_works(&self, text: &mut String, group: Group, works: &[usize]) -> Result<(), NoMemory>
-        ensures { OnOk result (string_bytes text.new ≡ string_bytes text.old ++ flat_map (work_line self.now.scenario self.now.state group) works.now) }
-    {
-        for w in works {
+        for w in &works {
             self.push_work(text, group, *w)?;
         }
         Ok(())
@@ -205,16 +200,6 @@ impl<R: Reads> Dumping<'_, R> {
     }
 }
 
-/// Writes each number behind a space.
-fn push_numbers(text: &mut String, numbers: &[u8]) -> Result<(), NoMemory>
-    ensures { OnOk result (string_bytes text.new ≡ string_bytes text.old ++ flat_map spaced numbers.now) }
-{
-    for number in numbers {
-        write!(text, " {number}")?;
-    }
-    Ok(())
-}
-
 /// The worker of a running work, or `rescuer`, and its place in the body, each behind a space.
 #[derive(Clone, Copy)]
 struct AtWorker(Option<Running>);
@@ -246,38 +231,26 @@ fn until(running: Option<Running>) -> u64
 fn worker_of(running: Option<Running>) -> u8
     ensures { result ≡ worker_of running }
 {
-    match running {
-        Some(r) => r.worker,
-        None => 0,
-    }
+    running.map_or(0, |r| r.worker)
 }
 
 fn pc_of(running: Option<Running>) -> u8
     ensures { result ≡ pc_of running }
 {
-    match running {
-        Some(r) => r.pc,
-        None => 0,
-    }
+    running.map_or(0, |r| r.pc)
 }
 
 fn left_of(running: Option<Running>) -> u32
     ensures { result ≡ left_of running }
 {
-    match running {
-        Some(r) => r.left,
-        None => 0,
-    }
+    running.map_or(0, |r| r.left)
 }
 
 /// The CPU of the timer for which the work waits, and 0 where it waits for none.
 fn timer_cpu(pending: Option<Pending>) -> u8
     ensures { result ≡ timer_cpu pending }
 {
-    match pending {
-        Some(p) => cpu_of(p.place),
-        None => 0,
-    }
+    pending.map_or(0, |p| cpu_of(p.place))
 }
 
 fn cpu_of(place: Place) -> u8

@@ -35,73 +35,74 @@ impl<P: Parts> Reads for Driven<P> {
     ghost state = { λ m. m.state };
 
     fn scenario(&self) -> &Scenario {
-        self.going.parts().scenario()
+        self.going.parts.scenario()
     }
 
     fn time(&self) -> u64 {
-        self.going.parts().time()
+        self.going.parts.time()
+    }
+
+    fn next_stamp(&self) -> u64 {
+        self.going.parts.next_stamp()
     }
 
     fn spent(&self) -> u32 {
-        self.going.parts().spent()
+        self.going.parts.spent()
     }
 
     fn is_frozen(&self) -> bool {
-        self.going.parts().is_frozen()
+        self.going.parts.is_frozen()
     }
 
     fn is_pressed(&self) -> bool {
-        self.going.parts().is_pressed()
+        self.going.parts.is_pressed()
     }
 
     fn max_of(&self, queue: u8) -> u16 {
-        self.going.parts().max_of(queue)
+        self.going.parts.max_of(queue)
     }
 
     fn pending_of(&self, w: usize) -> Option<Pending> {
-        self.going.parts().pending_of(w)
+        self.going.parts.pending_of(w)
     }
 
     fn running_of(&self, w: usize) -> Option<Running> {
-        self.going.parts().running_of(w)
+        self.going.parts.running_of(w)
     }
 
     fn depth_of(&self, w: usize) -> u16 {
-        self.going.parts().depth_of(w)
+        self.going.parts.depth_of(w)
     }
 
     fn idle_of(&self, pool: u8, worker: u8) -> Option<u64> {
-        self.going.parts().idle_of(pool, worker)
+        self.going.parts.idle_of(pool, worker)
     }
 
     fn made_of(&self, pool: u8) -> u8 {
-        self.going.parts().made_of(pool)
+        self.going.parts.made_of(pool)
     }
 
     fn flush_count(&self) -> usize {
-        self.going.parts().flush_count()
+        self.going.parts.flush_count()
     }
 
     fn flush_of(&self, number: usize) -> Option<FlushTarget> {
-        self.going.parts().flush_of(number)
+        self.going.parts.flush_of(number)
     }
 }
 
 impl<P: Parts> Machine for Driven<P> {
     fn load(alloc: Global, scenario: &Scenario) -> Result<Self, LoadError> {
-        if let Err(fault) = scenario.check() {
-            return Err(LoadError::Fault(fault));
-        }
-        match Driven::of_copy(alloc, scenario) {
-            Ok(machine) => Ok(machine),
-            Err(NoMemory) => Err(LoadError::NoMemory),
-        }
+        scenario.check().map_err(LoadError::Fault)?;
+        Driven::of_copy(alloc, scenario).map_err(|_| LoadError::NoMemory)
     }
 
     #[tactic(auto, using(crate::proofs::StartLemmas::starts))]
     fn begin(alloc: Global, scenario: Arc<Scenario>) -> Result<Self, NoMemory> {
-        let going = Going::begin(alloc, scenario)?;
-        Ok(Driven { going })
+        let parts = P::begin(alloc, scenario)?;
+        Ok(Driven {
+            going: Going { parts },
+        })
     }
 
     fn exec(&mut self, instr: Instr) -> Reply {
@@ -109,16 +110,18 @@ impl<P: Parts> Machine for Driven<P> {
     }
 
     fn copy(&self) -> Result<Self, NoMemory> {
-        let going = self.going.copy()?;
-        Ok(Driven { going })
+        let parts = self.going.parts.copy()?;
+        Ok(Driven {
+            going: Going { parts },
+        })
     }
 
     fn look(&self) -> Result<View, NoMemory> {
-        self.going.look()
+        self.going.parts.look()
     }
 
     fn now(&self) -> u64 {
-        self.going.time()
+        self.going.parts.time()
     }
 }
 

@@ -1,100 +1,73 @@
 //! The instructions that give a flush, and what each one is on.
-ghost use Rattle.cmwq_exec.specs.Performing.{performed};
+ghost use Rattle.cmwq_exec.specs.Performing.{Performs};
 ghost use Rattle.cmwq_table.specs.Moves.{last_instance, running_instance};
 ghost use Rattle.cmwq_table.specs.State.{pending_at, running_at};
-ghost use Rattle.cmwq_table.specs.Table.{flushed, no_more_flushes};
+ghost use Rattle.cmwq_table.specs.Table.{no_more_flushes};
 ghost use Rattle.cmwq_types.specs.declared.instr.Instr.TheVariants as instr;
-ghost use Rattle.std.specs.Prelude.{◌≡◌, ◌<◌, ◌^◌, length};
+ghost use Rattle.std.specs.Prelude.{◌≡◌, ◌<◌, ◌^◌, IfErr, IfOk, None, Some, length};
 
 use cmwq_parts::{Going, Parts};
 use cmwq_table::FlushTarget;
 use cmwq_types::{QueueId, Refusal, Reply, WorkId};
 
-/// What a flush is refused for where no further one can be given.
-fn no_more_flushes<P: Parts>(going: &Going<P>) -> Option<Refusal>
-    ensures { result ≡ no_more_flushes going.now.scenario going.now.state }
+/// The number of the next flush, if a further one can be given.
+fn next_flush<P: Parts>(going: &Going<P>) -> Result<u16, Refusal>
+    ensures room { IfOk result (λ _. length going.now.state.flushes < going.now.scenario.flushes) }
+    ensures number { IfOk result (λ flush. flush ≡ length going.now.state.flushes) }
+    ensures given { IfOk result (λ _. no_more_flushes going.now.scenario going.now.state ≡ None) }
+    ensures refused { IfErr result (λ why. no_more_flushes going.now.scenario going.now.state ≡ Some why) }
 {
-    if going.parts().flush_count() < going.parts().scenario().flushes as usize {
-        None
+    let count = going.parts.flush_count();
+    if count < going.parts.scenario().flushes as usize {
+        Ok(count as u16)
     } else {
-        Some(Refusal::TooManyFlushes)
+        Err(Refusal::TooManyFlushes)
     }
-}
-
-/// How many flushes were given: the number of the next one.
-fn flush_count<P: Parts>(going: &Going<P>) -> u16
-    requires room { length going.now.state.flushes < going.now.scenario.flushes }
-    ensures { result ≡ length going.now.state.flushes }
-{
-    going.parts().flush_count() as u16
-}
-
-/// Gives a flush, and tells its number.
-fn give_flush<P: Parts>(going: &mut Going<P>, target: FlushTarget) -> Reply
-    requires room { length going.old.state.flushes < going.old.scenario.flushes }
-    ensures state { going.new ≡ record going.old { state = (flushed going.old.state target).0 } }
-    ensures reply { result ≡ (flushed going.old.state target).1 }
-{
-    let flush = flush_count(going);
-    going.push_flush(target);
-    Reply::Flush(flush)
 }
 
 /// Takes a pending work off, and gives a flush on the running instance.
 pub(crate) fn cancel_sync<P: Parts>(going: &mut Going<P>, w: WorkId) -> Result<Reply, Refusal>
     requires work { w.0 < length going.old.scenario.works }
     requires stamps { going.old.state.next < 2 ^ 60 }
-    ensures state { going.new ≡ record going.old { state = (performed going.old.scenario going.old.state (instr.CancelSync w)).0 } }
-    ensures answer { result ≡ (performed going.old.scenario going.old.state (instr.CancelSync w)).1 }
+    ensures { Performs going.old (instr.CancelSync w) going.new result }
 {
-    if let Some(why) = no_more_flushes(going) {
-        return Err(why);
-    }
-    let was = going.pending_of(w.0 as usize).is_some();
+    let flush = next_flush(going)?;
+    let was = going.parts.pending_of(w.0 as usize).is_some();
     going.take_off(w.0 as usize);
-    let flush = flush_count(going);
     let target = running_instance(going, w);
-    going.push_flush(target);
+    going.parts.push_flush(target);
     Ok(Reply::Sync { was, flush })
 }
 
 /// Gives a flush on the last instance of the work.
 pub(crate) fn flush_last<P: Parts>(going: &mut Going<P>, w: WorkId) -> Result<Reply, Refusal>
-    ensures state { going.new ≡ record going.old { state = (performed going.old.scenario going.old.state (instr.Flush w)).0 } }
-    ensures answer { result ≡ (performed going.old.scenario going.old.state (instr.Flush w)).1 }
+    ensures { Performs going.old (instr.Flush w) going.new result }
 {
-    if let Some(why) = no_more_flushes(going) {
-        return Err(why);
-    }
+    let flush = next_flush(going)?;
     let target = last_instance(going, w);
-    Ok(give_flush(going, target))
+    going.parts.push_flush(target);
+    Ok(Reply::Flush(flush))
 }
 
 /// Fires the work's timer, if it has one, and gives a flush on its last instance.
 pub(crate) fn flush_delayed<P: Parts>(going: &mut Going<P>, w: WorkId) -> Result<Reply, Refusal>
     requires work { w.0 < length going.old.scenario.works }
     requires stamps { going.old.state.next < 2 ^ 60 }
-    ensures state { going.new ≡ record going.old { state = (performed going.old.scenario going.old.state (instr.FlushDelayed w)).0 } }
-    ensures answer { result ≡ (performed going.old.scenario going.old.state (instr.FlushDelayed w)).1 }
+    ensures { Performs going.old (instr.FlushDelayed w) going.new result }
 {
-    if let Some(why) = no_more_flushes(going) {
-        return Err(why);
-    }
+    next_flush(going)?;
     going.fire(w.0 as usize);
-    let target = last_instance(going, w);
-    Ok(give_flush(going, target))
+    flush_last(going, w)
 }
 
 /// Gives a flush on what was queued on the queue so far.
 pub(crate) fn flush_queue<P: Parts>(going: &mut Going<P>, queue: QueueId) -> Result<Reply, Refusal>
-    ensures state { going.new ≡ record going.old { state = (performed going.old.scenario going.old.state (instr.FlushQueue queue)).0 } }
-    ensures answer { result ≡ (performed going.old.scenario going.old.state (instr.FlushQueue queue)).1 }
+    ensures { Performs going.old (instr.FlushQueue queue) going.new result }
 {
-    if let Some(why) = no_more_flushes(going) {
-        return Err(why);
-    }
-    let bound = going.parts().next_stamp();
-    Ok(give_flush(going, FlushTarget::Queue { queue, bound }))
+    let flush = next_flush(going)?;
+    let bound = going.parts.next_stamp();
+    going.parts.push_flush(FlushTarget::Queue { queue, bound });
+    Ok(Reply::Flush(flush))
 }
 
 /// The running instance of the work, by its birth, as what a flush waits for; nothing where it
@@ -102,7 +75,7 @@ pub(crate) fn flush_queue<P: Parts>(going: &mut Going<P>, queue: QueueId) -> Res
 fn running_instance<P: Parts>(going: &Going<P>, w: WorkId) -> FlushTarget
     ensures { result ≡ running_instance w.0 (running_at going.now.state w.0) }
 {
-    match going.running_of(w.0 as usize) {
+    match going.parts.running_of(w.0 as usize) {
         Some(r) => FlushTarget::Instance {
             work: w,
             born: r.born,
@@ -116,7 +89,7 @@ fn running_instance<P: Parts>(going: &Going<P>, w: WorkId) -> FlushTarget
 fn last_instance<P: Parts>(going: &Going<P>, w: WorkId) -> FlushTarget
     ensures { result ≡ last_instance w.0 (pending_at going.now.state w.0) (running_at going.now.state w.0) }
 {
-    match going.pending_of(w.0 as usize) {
+    match going.parts.pending_of(w.0 as usize) {
         Some(p) if p.place.is_placed() => FlushTarget::Instance {
             work: w,
             born: p.born,

@@ -6,6 +6,5 @@ mod disabling;
 mod driven;
 mod flushing;
 mod performing;
-mod refusing;
 
 pub use driven::Driven;

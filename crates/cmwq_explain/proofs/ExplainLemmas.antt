@@ -1,27 +1,35 @@
 -- A question is answered, or there is one reason why it isn't: so the command's answers follow from those of its text.
-use Rattle.std.proofs.Common.{◌≡◌, ◌≢◌, ◌⊎◌, inl, inr, ℕ, List, [], Bool, false, Option, IfSome, Result, Ok, Err, IfErr, IsTrue, refl, ap, ◌∙◌, sym, subst}
-use Rattle.std.specs.Io.KnownBytes.{Keeps}
+use Rattle.std.proofs.Common.{◌≡◌, ◌≢◌, ◌⊎◌, inl, inr, ℕ, List, [], ◌∷◌, Bool, true, false, Option, None, Some, IfSome, Result, Ok, Err, IfErr, IsTrue, refl, ap, ◌∙◌, sym, subst, append-nil}
+use Rattle.std.specs.Io.KnownBytes.{Appends, Keeps}
 use Rattle.cmwq_types.specs.Contents.{ActorContents, ScenarioContents}
 use Rattle.cmwq_types.specs.Scenario.{expand}
 use Rattle.cmwq_asm.specs.declared.fault.AsmError.{AsmError}
 use Rattle.cmwq_grammar.specs.Grammar.{Spells}
-use Rattle.cmwq_changes.specs.Telling.{AreChanges, IsPastEnd, TellsText}
-use Rattle.cmwq_changes.specs.declared.error.ChangesError.{ChangesError}
-use Rattle.cmwq_changes.specs.declared.error.ChangesError.TheVariants as changes
-use Rattle.cmwq_changes.specs.declared.looks.Looks.{Looks}
+use Rattle.cmwq_changes.specs.Changes.{has_bytes}
+use Rattle.cmwq_changes.specs.Telling.{AreChanges, IsPastEnd, IsTellError, TellsText}
+use Rattle.cmwq_asked.specs.declared.question.Looks.{Looks}
 use Rattle.cmwq_play.specs.Commands.{Answers, IsOutside, Writes}
 use Rattle.cmwq_play.specs.Runs.{CanRun, IsRefused, IsRunOf}
 use Rattle.cmwq_play.specs.Texts.{ComesTo, IsFaultOf, IsSpelled, IsTextFault}
-use Rattle.cmwq_play.proofs.CommandLemmas.{answers_outside, writes_err, writes_front, writes_more}
+use Rattle.cmwq_play.proofs.CommandLemmas.{answers_outside, writes_err, writes_more}
 use Rattle.cmwq_play.proofs.TextLemmas.{answers_told, answers_well, not_refused, refused_once, same_actor}
 use Rattle.cmwq_streams.specs.Sending.{IsSendError}
 use Rattle.cmwq_streams.specs.declared.error.PlayError.{PlayError}
 use Rattle.cmwq_streams.specs.declared.error.PlayError.TheVariants as errors
-use Rattle.cmwq_explain.specs.declared.asking.Question.{Question}
-use Rattle.cmwq_explain.specs.Explained.{Explains, IsAnswer, IsAsked, IsUnanswered, IsUnknown, said_to, told_along, told_as}
+use Rattle.cmwq_asked.specs.declared.question.Question.{Question}
+use Rattle.cmwq_explain.specs.Explained.{Explains, IsAnswer, IsAsked, IsUnanswered, IsUnknown, said_to, told_along}
 
 pub not_unknown : (question : Question) (S : ScenarioContents) (b : Bool) → (IsUnknown question S → IsTrue b) → b ≡ false → IsUnknown question S → ⊥
 not_unknown question S b tells is unknown = let wrong = sym is ∙ tells unknown in cc
+
+empty : (text : List ℕ) → false ≡ has_bytes text → text ≡ []
+empty [] is = refl
+empty (x ∷ xs) is = let wrong = is in cc
+
+kept_so : (before after : Option (List ℕ)) → Appends before after [] → Keeps before after
+kept_so None after h = tt
+kept_so (Some b) None h = absurd h
+kept_so (Some b) (Some a) h = h ∙ append-nil b
 
 module _ (question : Question) (looks : Looks) (S : ScenarioContents) where
   -- The reasons, each with what it says.
@@ -104,51 +112,52 @@ module _ (question : Question) (looks : Looks) (S : ScenarioContents) where
   }
 
   module _ (actor : ActorContents) (runs : IsRunOf S actor) (known : IsUnknown question S → ⊥) where
-    abbrev pub Told : Option (List ℕ) → Option (List ℕ) → Bool → Result (Unit {0}) ChangesError → Type 0
+    abbrev pub Told : Option (List ℕ) → Option (List ℕ) → Bool → Result Bool PlayError → Type 0
     Told before after failed result = TellsText (told_along question looks S actor) (IsPastEnd looks (expand actor)) before after failed result
 
-    early : (before after : Option (List ℕ)) (failed : Bool) (why : ChangesError) (error : PlayError) → Told before after failed (Err why) → why ≢ changes.Play errors.Write → error ≢ errors.Write
-        → (why ≡ changes.PastEnd) ⊎ (why ≡ changes.NothingSaid) → Writes (AreChanges (said_to question) looks S) before after failed (Err error)
-    early before after failed why error told other differs which = record {
-      wrote = tt;
-      write = (λ is. let wrong : error ≡ errors.Write = cc in absurd (differs wrong), λ broken. let wrong : why ≡ changes.Play errors.Write = let e = told.write.1 broken in cc in absurd (other wrong));
-      front = λ is. let wrong : error ≡ errors.Write = cc in absurd (differs wrong);
-      no_memory = λ is. inl (kept which);
-      silent = λ before_writing. kept which;
-    } where
-      kept : (why ≡ changes.PastEnd) ⊎ (why ≡ changes.NothingSaid) → Keeps before after
-      kept (inl is) = told.silent (inl (ap Err is))
-      kept (inr is) = told.silent (inr (ap Err is))
+    asked : (before after : Option (List ℕ)) (failed : Bool) (r : Result Bool PlayError) → Told before after failed r → r ≢ Err errors.PastEnd → IsAsked question looks S actor
+    asked before after failed r told other = record { runs = runs; known = known; within = λ gone. other (told.past_end.1 gone) }
 
-    pub explains-told : (before after : Option (List ℕ)) (failed : Bool) (r : Result (Unit {0}) ChangesError) → Told before after failed r → Explains question looks S before after failed (told_as r)
-    explains-told before after failed (Ok done) told = record {
-      writes = record {
-        wrote = (told_along question looks S actor, (actor, runs, refl), told.wrote);
-        write = (λ is. cc, λ broken. let wrong = told.write.1 broken in cc);
-        front = λ is. cc;
-        no_memory = λ is. cc;
-        silent = tt;
-      };
-      answered = (actor, record { runs = runs; known = known; within = λ gone. let wrong = told.past_end.1 gone in cc }, told.something);
+    changes : (before after : Option (List ℕ)) (failed : Bool) (r : Result (Unit {0}) PlayError) → Writes (λ output. output ≡ told_along question looks S actor) before after failed r
+        → Writes (AreChanges (said_to question) looks S) before after failed r
+    changes before after failed r h = writes_more (λ output. output ≡ told_along question looks S actor) (AreChanges (said_to question) looks S) before after failed r (λ output is. (actor, runs, is)) h
+
+    -- something was told
+    pub explains-told : (before after : Option (List ℕ)) (failed : Bool) → Told before after failed (Ok true) → Explains question looks S before after failed (Ok tt)
+    explains-told before after failed told = record {
+      writes = changes before after failed (Ok tt) told.writes;
+      answered = (actor, asked before after failed (Ok true) told (λ is. cc), λ none. let wrong : true ≡ false = told.told ∙ ap has_bytes none in cc);
       why = tt;
     }
-    explains-told before after failed (Err changes.PastEnd) told = record {
-      writes = early before after failed changes.PastEnd errors.PastEnd told (λ is. cc) (λ is. cc) (inl refl);
+
+    -- nothing was
+    pub explains-silent : (before after : Option (List ℕ)) (failed : Bool) → Told before after failed (Ok false) → Explains question looks S before after failed (Err errors.NoSuchFlush)
+    explains-silent before after failed told = record {
+      writes = record {
+        wrote = tt;
+        write = (λ is. cc, λ broken. let wrong = told.writes.write.1 broken in cc);
+        front = λ is. cc;
+        no_memory = λ is. cc;
+        silent = λ before_writing. kept_so before after (subst (λ (t : List ℕ). Appends before after t) (told.writes.wrote.1 ∙ nothing) told.writes.wrote.2);
+      };
       answered = tt;
-      why = inl (actor, runs, known, told.past_end.0 refl);
-    }
-    explains-told before after failed (Err changes.NothingSaid) told = record {
-      writes = early before after failed changes.NothingSaid errors.NoSuchFlush told (λ is. cc) (λ is. cc) (inr refl);
+      why = inl (actor, asked before after failed (Ok false) told (λ is. cc), nothing);
+    } where
+      nothing : told_along question looks S actor ≡ []
+      nothing = empty (told_along question looks S actor) told.told
+
+    -- the position is past the end, or the sending failed
+    pub explains-failed : (before after : Option (List ℕ)) (failed : Bool) (error : PlayError) → Told before after failed (Err error) → Explains question looks S before after failed (Err error)
+    explains-failed before after failed error told = record {
+      writes = changes before after failed (Err error) told.writes;
       answered = tt;
-      why = inl (actor, record { runs = runs; known = known; within = λ gone. let wrong = told.past_end.1 gone in cc }, told.nothing refl);
-    }
-    explains-told before after failed (Err (changes.Play error)) told = record {
-      writes =
-          writes_more (λ o. o ≡ told_along question looks S actor) (AreChanges (said_to question) looks S) before after failed (Err error) (λ output is. (actor, runs, is))
-          (writes_front before after failed error (told_along question looks S actor) told.front (λ is. told.write.0 (ap (λ (e : PlayError). Err (changes.Play e)) is), λ broken. let e = told.write.1 broken in cc) told.why);
-      answered = tt;
-      why = inr told.why;
-    }
+      why = by error told.why (λ is. told.past_end.0 (ap Err is));
+    } where
+      by : (e : PlayError) → IsTellError e → (e ≡ errors.PastEnd → IsPastEnd looks (expand actor)) → IsUnanswered question looks S e ⊎ IsSendError e
+      by errors.PastEnd tell gone = inl (actor, runs, known, gone refl)
+      by errors.Write tell gone = inr tell
+      by errors.NoMemory tell gone = inr tell
+      by other tell gone = elim tell [ ]
 
   -- The command.
 

@@ -1,5 +1,5 @@
 -- What is answered to the question why something waits, and why nothing is.
-use Rattle.std.specs.Prelude.{◌≡◌, ◌≢◌, ◌⊎◌, ℕ, Bool, List, [], Option, Some, None, Result, Ok, Err, IfErr, OnOk}
+use Rattle.std.specs.Prelude.{◌≡◌, ◌≢◌, ◌⊎◌, ℕ, Bool, List, [], Option, Some, None, Result, IfErr, OnOk}
 use Rattle.cmwq_types.specs.Contents.{ActorContents, ScenarioContents}
 use Rattle.cmwq_types.specs.Scenario.{expand}
 use Rattle.cmwq_table.specs.State.{State}
@@ -8,16 +8,14 @@ use Rattle.cmwq_waits.specs.Text.{flush_lines}
 use Rattle.cmwq_debug_lines.specs.Orders.{work_named}
 use Rattle.cmwq_changes.specs.Changes.{changes_text}
 use Rattle.cmwq_changes.specs.Telling.{AreChanges, IsPastEnd}
-use Rattle.cmwq_changes.specs.declared.error.ChangesError.{ChangesError}
-use Rattle.cmwq_changes.specs.declared.error.ChangesError.TheVariants as changes
-use Rattle.cmwq_changes.specs.declared.looks.Looks.{Looks}
+use Rattle.cmwq_asked.specs.declared.question.Looks.{Looks}
 use Rattle.cmwq_play.specs.Commands.{Writes}
 use Rattle.cmwq_play.specs.Runs.{CanRun, IsRefused, IsRunOf}
 use Rattle.cmwq_streams.specs.Sending.{IsSendError}
 use Rattle.cmwq_streams.specs.declared.error.PlayError.{PlayError}
 use Rattle.cmwq_streams.specs.declared.error.PlayError.TheVariants as errors
-use Rattle.cmwq_explain.specs.declared.asking.Question.{Question}
-use Rattle.cmwq_explain.specs.declared.asking.Question.TheVariants.{Work, Flush}
+use Rattle.cmwq_asked.specs.declared.question.Question.{Question}
+use Rattle.cmwq_asked.specs.declared.question.Question.TheVariants.{Work, Flush}
 
 abbrev pub line_of_work : ScenarioContents → State → Option ℕ → Option (List ℕ)
 line_of_work S s (Some w) = Some (work_line S s w)
@@ -56,13 +54,6 @@ IsUnanswered question looks S errors.PastEnd =
 IsUnanswered question looks S errors.NoSuchFlush =
     (actor : ActorContents) × IsAsked question looks S actor × (told_along question looks S actor ≡ [])
 IsUnanswered question looks S error = IsRefused S error
-
--- the command's answer, by that of the telling
-abbrev pub told_as : Result (Unit {0}) ChangesError → Result (Unit {0}) PlayError
-told_as (Ok done) = Ok done
-told_as (Err changes.PastEnd) = Err errors.PastEnd
-told_as (Err changes.NothingSaid) = Err errors.NoSuchFlush
-told_as (Err (changes.Play error)) = Err error
 
 -- What becomes of the question to a scenario's run.
 pub record Explains (question : Question) (looks : Looks) (S : ScenarioContents) (before after : Option (List ℕ)) (failed : Bool) (result : Result (Unit {0}) PlayError) : Type 0 where

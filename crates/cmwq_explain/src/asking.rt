@@ -1,8 +1,9 @@
-//! What is asked of a run, and what is said of its states.
+//! What is said of a state, to a question.
 ghost use Rattle.cmwq_debug_lines.specs.Orders.{work_named};
 ghost use Rattle.cmwq_explain.specs.Explained.{IsUnknown};
 ghost use Rattle.std.specs.Prelude.{◌≡◌, ◌<◌, ◌↔◌, IfSome, IsTrue, length};
 
+use cmwq_asked::Question;
 use cmwq_changes::Sayer;
 use cmwq_table::Reads;
 use cmwq_types::{NoMemory, Scenario, WorkId};
@@ -10,34 +11,27 @@ use cmwq_waits::flush_text;
 use cmwq_why_text::work_text;
 use std::alloc::Global;
 
-/// What is asked of a run.
-#[derive(Clone, Copy, Debug, PartialEq, Eq)]
-pub enum Question<'a> {
-    /// Why the work of this name isn't further.
-    Work(&'a str),
-    /// What the flush of this number, from 0, waits for.
-    Flush(u64),
-}
-
-impl Question<'_> {
-    /// Whether it is after a work that isn't declared.
-    pub(crate) fn is_unknown(self, scenario: &Scenario) -> bool
-        ensures { IsTrue result ↔ IsUnknown self.entry scenario.now }
-    {
-        match self {
-            Question::Work(name) => work_named(scenario, name).is_none(),
-            Question::Flush(_) => false,
-        }
+/// Whether the question is after a work that isn't declared.
+pub(crate) fn is_unknown(question: Question<'_>, scenario: &Scenario) -> bool
+    ensures { IsTrue result ↔ IsUnknown question.entry scenario.now }
+{
+    match question {
+        Question::Work(name) => work_named(scenario, name).is_none(),
+        Question::Flush(_) => false,
     }
 }
 
-impl Sayer for Question<'_> {
+/// Says of each state what is to be answered to the question.
+#[derive(Clone, Copy)]
+pub(crate) struct Asked<'a>(pub(crate) Question<'a>);
+
+impl Sayer for Asked<'_> {
     ghost use Rattle.cmwq_explain.specs.Explained.{said_to};
 
-    ghost says = { λ question S s. said_to question S s };
+    ghost says = { λ asked S s. said_to asked.0 S s };
 
     fn say<R: Reads>(&self, alloc: Global, machine: &R) -> Result<Option<String>, NoMemory> {
-        match *self {
+        match self.0 {
             Question::Work(name) => match work_named(machine.scenario(), name) {
                 Some(w) => Ok(Some(work_text(alloc, machine, WorkId(w as u16))?)),
                 None => Ok(None),

@@ -1,14 +1,15 @@
 //! `why`: from a scenario's text to what is said of its run.
 ghost use Rattle.cmwq_changes.specs.Telling.{AreChanges};
-ghost use Rattle.cmwq_explain.specs.Explained.{Explains, IsAnswer, IsUnanswered, said_to, told_as};
+ghost use Rattle.cmwq_explain.specs.Explained.{Explains, IsAnswer, IsUnanswered, said_to};
 ghost use Rattle.cmwq_explain.specs.Laws.{IsAfterFlush};
 ghost use Rattle.cmwq_play.specs.Commands.{Answers, Reads, Writes};
 ghost use Rattle.cmwq_play.specs.Texts.{ComesTo, IsFaultOf};
 ghost use Rattle.cmwq_types.specs.Faults.{IsValid};
 ghost use Rattle.std.specs.Prelude.{◌≡◌, Err, false};
 
-use crate::asking::Question;
-use cmwq_changes::{ChangesError, Looks, tell_changes};
+use crate::asking::{Asked, is_unknown};
+use cmwq_asked::{Looks, Question};
+use cmwq_changes::tell_changes;
 use cmwq_plain::Plain;
 use cmwq_play::{judge, read_text};
 use cmwq_streams::{PlayError, Sink, Source};
@@ -56,20 +57,13 @@ fn explain<M: Machine, W: Sink>(
     ensures { Explains question.entry looks scenario (W.contents writer.old) (W.contents writer.new) (W.failed writer.new) result }
 {
     judge(&scenario)?;
-    if question.is_unknown(&scenario) {
+    if is_unknown(question, &scenario) {
         return Err(PlayError::NoSuchWork);
     }
-    told_as(tell_changes::<M, Question<'_>, W>(alloc, scenario, looks, &question, writer))
-}
-
-/// The command's answer, by that of the telling.
-fn told_as(told: Result<(), ChangesError>) -> Result<(), PlayError>
-    ensures { result ≡ told_as told }
-{
-    match told {
-        Ok(()) => Ok(()),
-        Err(ChangesError::PastEnd) => Err(PlayError::PastEnd),
-        Err(ChangesError::NothingSaid) => Err(PlayError::NoSuchFlush),
-        Err(ChangesError::Play(error)) => Err(error),
+    let asked = Asked(question);
+    let is_answered = tell_changes::<M, Asked<'_>, W>(alloc, scenario, looks, &asked, writer)?;
+    if !is_answered {
+        return Err(PlayError::NoSuchFlush);
     }
+    Ok(())
 }

@@ -5,6 +5,4 @@ mod asking;
 mod command;
 pub mod laws;
 
-pub use asking::Question;
-pub use cmwq_changes::Looks;
 pub use command::why;

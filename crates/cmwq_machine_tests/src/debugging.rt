@@ -59,6 +59,7 @@ const OTHER_LINES: Talk = Talk {
         ("step", b"bad command\n"),
         ("step 01", b"bad command\n"),
         ("step 4294967296", b"bad command\n"),
+        ("step 1 2 3 4 5 6 7 8 9 10 11", b"bad command\n"),
         ("step 4294967295", b"refused PastEnd\n"),
         ("clear 256", b"bad command\n"),
         ("clear 255", b"refused NoSuchBreak\n"),

@@ -1,19 +1,16 @@
 //! How the program ends: its exit status, and the line that tells a fault on standard error.
 
 ghost use Rattle.cmwq_outcome.specs.Fault.{line_of, status_of, told};
-ghost use Rattle.cmwq_verdict.specs.Names.{fault_name, why_name};
 ghost use Rattle.cmwq_streams.specs.Sending.{HasSentFront};
-ghost use Rattle.std.specs.Fmt.{decimal};
 ghost use Rattle.std.specs.Io.KnownBytes.{Appends};
-ghost use Rattle.std.specs.Prelude.{◌≡◌, ◌≤◌, ◌↔◌, ◌++◌, Err, IfErr, IfOk, OnErr, OnOk, codes, false, length, true};
+ghost use Rattle.std.specs.List.{flat_map};
+ghost use Rattle.std.specs.Prelude.{◌≡◌, ◌≤◌, ◌↔◌, Err, IfErr, IfOk, OnErr, OnOk, false, length, true};
 ghost use Rattle.std.specs.Process.{exit_status};
 
 use arrayvec::ArrayString;
 use cmwq_asm::AsmError;
-use cmwq_grammar::Why;
 use cmwq_image::ImageError;
 use cmwq_streams::{PlayError, Sink, put_all};
-use cmwq_types::Fault;
 use cmwq_verdict::{fault_name, why_name};
 use itoa::Buffer;
 use std::process::ExitCode;
@@ -83,72 +80,43 @@ fn line_of(fault: PlayError) -> Line
     ensures { result.bytes ≡ line_of fault }
 {
     match fault {
-        PlayError::Asm(AsmError::At { line, why }) => line_of_text(line, why),
-        PlayError::Image(ImageError::Magic) => told("image: Magic"),
-        PlayError::Image(ImageError::Version) => told("image: Version"),
-        PlayError::Image(ImageError::Truncated) => told("image: Truncated"),
-        PlayError::Image(ImageError::Extra) => told("image: Extra"),
-        PlayError::Image(ImageError::BadField(offset)) => line_of_field(offset),
-        PlayError::Image(ImageError::Fault(fault)) => line_of_image(fault),
-        PlayError::Actors => told("actors"),
-        PlayError::Full => told("full"),
-        PlayError::Tickets => told("tickets"),
-        PlayError::TooLong => told("too long"),
-        PlayError::NeverQuiet => told("never quiet"),
-        PlayError::TooWide => told("more than 500 columns: give --from and --to"),
-        PlayError::NoSuchWork => told("no such work"),
-        PlayError::NoSuchFlush => told("no such flush"),
-        PlayError::PastEnd => told("past the end"),
-        PlayError::Read => told("read"),
-        PlayError::Write => told("write"),
+        PlayError::Asm(AsmError::At { line, why }) => {
+            told(&["line ", Buffer::new().format(line), ": ", why_name(why)])
+        }
+        PlayError::Image(ImageError::Magic) => told(&["image: Magic"]),
+        PlayError::Image(ImageError::Version) => told(&["image: Version"]),
+        PlayError::Image(ImageError::Truncated) => told(&["image: Truncated"]),
+        PlayError::Image(ImageError::Extra) => told(&["image: Extra"]),
+        PlayError::Image(ImageError::BadField(offset)) => {
+            told(&["image: BadField ", Buffer::new().format(offset)])
+        }
+        PlayError::Image(ImageError::Fault(fault)) => told(&["image: ", fault_name(fault)]),
+        PlayError::Actors => told(&["actors"]),
+        PlayError::Full => told(&["full"]),
+        PlayError::Tickets => told(&["tickets"]),
+        PlayError::TooLong => told(&["too long"]),
+        PlayError::NeverQuiet => told(&["never quiet"]),
+        PlayError::TooWide => told(&["more than 500 columns: give --from and --to"]),
+        PlayError::NoSuchWork => told(&["no such work"]),
+        PlayError::NoSuchFlush => told(&["no such flush"]),
+        PlayError::PastEnd => told(&["past the end"]),
+        PlayError::Read => told(&["read"]),
+        PlayError::Write => told(&["write"]),
         PlayError::NoMemory
         | PlayError::Asm(AsmError::NoMemory)
-        | PlayError::Image(ImageError::NoMemory) => told("no memory"),
+        | PlayError::Image(ImageError::NoMemory) => told(&["no memory"]),
     }
 }
 
-/// The line that tells why a line of a text is refused.
-fn line_of_text(line: u32, why: Why) -> Line
-    ensures { result.bytes ≡ told (codes "line " ++ decimal line ++ codes ": " ++ why_name why) }
-{
-    let mut text = Line::new();
-    text.push_str("line ");
-    text.push_str(Buffer::new().format(line));
-    text.push_str(": ");
-    text.push_str(why_name(why));
-    text.push_str("\n");
-    text
-}
-
-/// The line that tells which field of an image is bad.
-fn line_of_field(offset: u32) -> Line
-    ensures { result.bytes ≡ told (codes "image: BadField " ++ decimal offset) }
-{
-    let mut text = Line::new();
-    text.push_str("image: BadField ");
-    text.push_str(Buffer::new().format(offset));
-    text.push_str("\n");
-    text
-}
-
-/// The line that tells the fault of an image's scenario.
-fn line_of_image(fault: Fault) -> Line
-    ensures { result.bytes ≡ told (codes "image: " ++ fault_name fault) }
-{
-    let mut text = Line::new();
-    text.push_str("image: ");
-    text.push_str(fault_name(fault));
-    text.push_str("\n");
-    text
-}
-
-/// The line of this text.
-fn told(text: &str) -> Line
-    requires { length text.now ≤ 63 }
-    ensures { result.bytes ≡ told text.now }
+/// The line of these texts.
+fn told(texts: &[&str]) -> Line
+    requires { length (flat_map (λ text. text.now) texts.now) ≤ 63 }
+    ensures { result.bytes ≡ told (flat_map (λ text. text.now) texts.now) }
 {
     let mut line = Line::new();
-    line.push_str(text);
+    for text in texts {
+        line.push_str(text);
+    }
     line.push_str("\n");
     line
 }

@@ -1,17 +1,18 @@
 //! The moves of a worker pool: which one is next, and what each does.
 ghost use Rattle.cmwq_parts.specs.Moves.{IsFirstMove, IsFound, if_found, move_of};
 ghost use Rattle.cmwq_table.specs.Counts.{first_listed, first_rescued, free_worker, ready_head};
-ghost use Rattle.cmwq_table.specs.Moves.{advance, carry_out, come_to_end, finish, moved, next_move, queue_from_body, rescued, start_first, start_move, started};
+ghost use Rattle.cmwq_table.specs.Moves.{advance, carry_out, come_to_end, finish, next_move, queue_from_body, rescued, start_first, start_move, started};
 ghost use Rattle.cmwq_table.specs.Ready.{Takes};
 ghost use Rattle.cmwq_table.specs.State.{is_disabled, pending_at, running_at};
-ghost use Rattle.cmwq_types.specs.Scenario.{op_at, pool_count};
-ghost use Rattle.cmwq_types.specs.Setting.{IsOpInRange, IsPcInRange};
+ghost use Rattle.cmwq_table.specs.Table.{stepped};
+ghost use Rattle.cmwq_types.specs.Scenario.{op_at};
+ghost use Rattle.cmwq_types.specs.declared.reply.Reply.TheVariants as reply;
 ghost use Rattle.std.specs.Prelude.{◌≡◌, ◌<◌, ◌^◌, IfSome, None, Some, length};
 
 use crate::going::Going;
 use crate::parts::Parts;
 use cmwq_table::Running;
-use cmwq_types::{Event, Op, WorkId};
+use cmwq_types::{Event, Op, Reply, WorkId};
 
 /// The next move of a worker pool, as it was found.
 #[derive(Clone, Copy)]
@@ -31,7 +32,6 @@ pub enum Found {
 impl<P: Parts> Going<P> {
     /// The next move of the pool: advance, else wake, else start.
     pub fn next_move(&self, pool: u8) -> Option<Found>
-        requires pool { pool < pool_count self.now.scenario }
         ensures next { if_found result ≡ next_move self.now.scenario self.now.state pool }
         ensures fits { IfSome result (IsFound self.now.scenario self.now.state pool) }
     {
@@ -47,7 +47,6 @@ impl<P: Parts> Going<P> {
     /// The move that takes a listed work, if the pool may start one: the first listed work, else the first
     /// that a rescuer can take.
     fn start_move(&self, pool: u8) -> Option<Found>
-        requires pool { pool < pool_count self.now.scenario }
         ensures next { if_found result ≡ start_move self.now.scenario self.now.state pool }
         ensures fits { IfSome result (IsFound self.now.scenario self.now.state pool) }
     {
@@ -64,7 +63,6 @@ impl<P: Parts> Going<P> {
 
     /// The move that takes the first listed work. A work that runs is deferred; any other wants a worker.
     fn start_first(&self, pool: u8) -> Option<Found>
-        requires pool { pool < pool_count self.now.scenario }
         ensures next { if_found result ≡ start_first self.now.state (first_listed self.now.scenario self.now.state pool) (free_worker self.now.scenario self.now.state pool) }
         ensures fits { IfSome result (IsFound self.now.scenario self.now.state pool) }
     {
@@ -79,10 +77,9 @@ impl<P: Parts> Going<P> {
     /// The least pool that has a move, and its move.
     pub fn first_move(&self) -> Option<(u8, Found)>
         ensures first { IsFirstMove self.now.scenario self.now.state result }
-        ensures pool { IfSome result (λ found. found.0 < pool_count self.now.scenario) }
         ensures fits { IfSome result (λ first. IsFound self.now.scenario self.now.state first.0 first.1) }
     {
-        for pool in 0..self.pool_count() {
+        for pool in 0..self.parts.scenario().pool_count() {
             if let Some(next) = self.next_move(pool) {
                 return Some((pool, next));
             }
@@ -90,32 +87,34 @@ impl<P: Parts> Going<P> {
         None
     }
 
-    /// Makes the pool's move, and says what it did.
-    pub fn make_move(&mut self, pool: u8, next: Found) -> Event
-        requires pool { pool < pool_count self.old.scenario }
+    /// Makes the pool's move, and tells what it did.
+    pub fn make_move(&mut self, pool: u8, next: Found) -> Reply
         requires fits { IsFound self.old.scenario self.old.state pool next }
         requires time { self.old.state.time < 2 ^ 60 }
         requires stamps { self.old.state.next < 2 ^ 60 }
-        ensures state { self.new ≡ record self.old { state = (moved self.old.scenario self.old.state pool (move_of next)).0 } }
-        ensures event { result ≡ (moved self.old.scenario self.old.state pool (move_of next)).1 }
+        ensures state { self.new ≡ record self.old { state = (stepped self.old.scenario self.old.state pool (Some (move_of next))).0 } }
+        ensures reply { result ≡ (stepped self.old.scenario self.old.state pool (Some (move_of next))).1 }
     {
         match next {
-            Found::Advance(w) => self.advance(pool, w.0 as usize),
-            Found::Wake(w) => {
-                self.wake(pool, w.0 as usize);
-                Event::Wakes
+            Found::Advance(work) => {
+                let event = self.advance(pool, work.0 as usize);
+                told(work, event)
             }
-            Found::Start(w, worker) => {
-                self.start(pool, w.0 as usize, worker);
-                Event::Starts
+            Found::Wake(work) => {
+                self.parts.wake(pool, work.0 as usize);
+                told(work, Event::Wakes)
             }
-            Found::Defer(w) => {
-                self.defer(pool, w.0 as usize);
-                Event::Defers
+            Found::Start(work, worker) => {
+                self.start(pool, work.0 as usize, worker);
+                told(work, Event::Starts)
             }
-            Found::Rescue(w) => {
-                self.take_to_rescuer(pool, w.0 as usize);
-                Event::StartsOnRescuer
+            Found::Defer(work) => {
+                self.parts.defer(pool, work.0 as usize);
+                told(work, Event::Defers)
+            }
+            Found::Rescue(work) => {
+                self.take_to_rescuer(pool, work.0 as usize);
+                told(work, Event::StartsOnRescuer)
             }
         }
     }
@@ -130,43 +129,34 @@ impl<P: Parts> Going<P> {
         ensures state { self.new ≡ record self.old { state = (advance self.old.scenario self.old.state w (running_at self.old.state w)).0 } }
         ensures event { result ≡ (advance self.old.scenario self.old.state w (running_at self.old.state w)).1 }
     {
-        match self.running_of(w) {
+        match self.parts.running_of(w) {
             Some(r) => self.carry_out(w, r),
             None => Event::Finishes,
         }
     }
 
-    /// The operation at the place of the work's body.
-    fn op_of(&self, w: usize, pc: u8) -> Op
-        ensures op { result ≡ op_at self.now.scenario w pc }
-        ensures in_range { IsOpInRange self.now.scenario result }
-        ensures pc { IsPcInRange result pc }
-    {
-        self.parts.scenario().op_of(w, pc)
-    }
-
+    /// The running work carries out the operation that it has come to.
     fn carry_out(&mut self, w: usize, r: Running) -> Event
         requires work { w < length self.old.scenario.works }
         requires running { running_at self.old.state w ≡ Some r }
         requires head { ready_head self.old.scenario self.old.state r.pool ≡ Some w }
-        requires pool { r.pool < pool_count self.old.scenario }
         requires time { self.old.state.time < 2 ^ 60 }
         requires stamps { self.old.state.next < 2 ^ 60 }
         ensures state { self.new ≡ record self.old { state = (carry_out self.old.scenario self.old.state w r (op_at self.old.scenario w r.pc)).0 } }
         ensures event { result ≡ (carry_out self.old.scenario self.old.state w r (op_at self.old.scenario w r.pc)).1 }
     {
-        match self.op_of(w, r.pc) {
+        match self.parts.scenario().op_of(w, r.pc) {
             Op::Burn(ticks) => {
-                self.go_on(w, r, ticks);
+                self.parts.go_on(w, r, ticks);
                 Event::Burns(ticks)
             }
             Op::Sleep(ticks) => {
                 let until = self.parts.time() + u64::from(ticks);
-                self.sleep(w, r, until);
+                self.parts.sleep(w, r, until);
                 Event::Sleeps(ticks)
             }
             Op::Queue(other, cpu) => {
-                self.go_on(w, r, r.left);
+                self.parts.go_on(w, r, r.left);
                 self.queue_from_body(other, cpu)
             }
             Op::Finish => self.finish(w, r),
@@ -184,7 +174,7 @@ impl<P: Parts> Going<P> {
         if self.is_disabled(other) {
             return Event::QueuesDisabled { other };
         }
-        let already = self.pending_of(other.0 as usize).is_some();
+        let already = self.parts.pending_of(other.0 as usize).is_some();
         if !already {
             self.place(other.0 as usize, cpu);
         }
@@ -195,12 +185,11 @@ impl<P: Parts> Going<P> {
     fn finish(&mut self, w: usize, r: Running) -> Event
         requires work { w < length self.old.scenario.works }
         requires running { running_at self.old.state w ≡ Some r }
-        requires pool { r.pool < pool_count self.old.scenario }
         requires stamps { self.old.state.next < 2 ^ 61 }
         ensures state { self.new ≡ record self.old { state = (finish self.old.scenario self.old.state w r).0 } }
         ensures event { result ≡ (finish self.old.scenario self.old.state w r).1 }
     {
-        let queue = self.queue_of(w);
+        let queue = self.parts.scenario().queue_of(w);
         let event = self.come_to_end(w, r);
         self.fill(queue, r.pool);
         event
@@ -217,13 +206,13 @@ impl<P: Parts> Going<P> {
         ensures event { result ≡ (come_to_end self.old.state w r (pending_at self.old.state w)).1 }
         ensures takes { Takes 1 self.old.state self.new.state }
     {
-        match self.pending_of(w) {
+        match self.parts.pending_of(w) {
             Some(p) if p.place.is_deferred() => {
-                self.begin_again(w, r, p);
+                self.parts.begin_again(w, r, p);
                 Event::FinishesAndStarts
             }
             _ => {
-                self.retire(w, r);
+                self.parts.retire(w, r);
                 Event::Finishes
             }
         }
@@ -231,7 +220,6 @@ impl<P: Parts> Going<P> {
 
     /// The free worker of the pool takes its first listed work.
     fn start(&mut self, pool: u8, w: usize, worker: u8)
-        requires pool { pool < pool_count self.old.scenario }
         requires work { w < length self.old.scenario.works }
         requires worker { worker < self.old.scenario.workers }
         requires free { free_worker self.old.scenario self.old.state pool ≡ Some worker }
@@ -241,20 +229,25 @@ impl<P: Parts> Going<P> {
         ensures { self.new ≡ record self.old { state = started self.old.state pool w (free_worker self.old.scenario self.old.state pool) (pending_at self.old.state w) } }
     {
         if let Some(p) = self.parts.pending_of(w) {
-            self.start_on(pool, w, worker, p);
+            self.parts.start_on(pool, w, worker, p);
         }
     }
 
     /// The rescuer of the work's queue takes the work, the first of the pool that one can take.
     fn take_to_rescuer(&mut self, pool: u8, w: usize)
-        requires pool { pool < pool_count self.old.scenario }
         requires work { w < length self.old.scenario.works }
         requires first { first_rescued self.old.scenario self.old.state pool ≡ Some w }
         requires stamps { self.old.state.next < 2 ^ 63 }
         ensures { self.new ≡ record self.old { state = rescued self.old.state pool w (pending_at self.old.state w) } }
     {
         if let Some(p) = self.parts.pending_of(w) {
-            self.rescue(pool, w, p);
+            self.parts.rescue(pool, w, p);
         }
     }
+}
+
+fn told(work: WorkId, event: Event) -> Reply
+    ensures { result ≡ reply.Event work event }
+{
+    Reply::Event { work, event }
 }

@@ -1,12 +1,12 @@
 //! What the instruction table asks of a machine's own structure.
+ghost use Rattle.cmwq_parts.specs.Cpus.{HasCpu};
 ghost use Rattle.cmwq_table.specs.Counts.{first_due, first_inactive, first_listed, first_rescued, first_slept, free_worker, has_room, is_busy, is_deferred, is_done, may_start, ready_head};
 ghost use Rattle.cmwq_table.specs.Moves.{begin_again, begin_on, deferred, enlist, newborn, retire, started_on, taking, tick, with_depth, with_flush, with_pending, with_pressed, with_running, woken};
-ghost use Rattle.cmwq_table.specs.Ready.{IsPlaceReady, IsRunningReady, holding};
+ghost use Rattle.cmwq_table.specs.Ready.{holding};
 ghost use Rattle.cmwq_table.specs.State.{pending_at, running_at, start};
 ghost use Rattle.cmwq_table.specs.View.{view_of};
-ghost use Rattle.cmwq_types.specs.Scenario.{pool_count};
 ghost use Rattle.cmwq_types.specs.Setting.{IsSetting};
-ghost use Rattle.cmwq_types.specs.declared.limits.TheConstants.{MAX_OPS, RESCUER};
+ghost use Rattle.cmwq_types.specs.declared.limits.TheConstants.{MAX_OPS, MAX_WORKS, RESCUER};
 ghost use Rattle.cmwq_types.specs.declared.reply.Mode.TheVariants.{Asleep};
 ghost use Rattle.std.specs.Prelude.{◌≡◌, ◌<◌, ◌+◌, ◌^◌, IfOk, IfSome, None, Some, is_some, length, slice_set, true};
 
@@ -19,9 +19,9 @@ use std::sync::Arc;
 /// A machine's own structure: a loaded scenario and the state of its works, workers and flushes.
 ///
 /// It answers what the instruction table asks, by scans unless the structure has a quicker answer of its own, and makes
-/// each single change that the table knows, from one state in which the machine can go on to the next. A fresh stamp is
-/// always the next one, so a list by stamps is only ever appended to. Works, queues and pools are named by their numbers,
-/// from 0.
+/// each single change that the table knows. A fresh stamp is always the next one, so a list by stamps is only ever appended
+/// to. Works, queues and pools are named by their numbers, from 0; of a queue or a pool that isn't there an answer is what
+/// the table's word says of the number.
 pub trait Parts: Reads + Drop {
     /// The start state of the scenario, with room for all that can come.
     fn begin(alloc: Global, scenario: Arc<Scenario>) -> Result<Self, NoMemory>
@@ -36,14 +36,8 @@ pub trait Parts: Reads + Drop {
     fn look(&self) -> Result<View, NoMemory>
         ensures { IfOk result (λ view. view ≡ view_of (Self.state self.now)) };
 
-    /// The next stamp: how many were given out, from 0.
-    fn next_stamp(&self) -> u64
-        ensures { result ≡ (Self.state self.now).next };
-
     /// Whether one more work of the queue may be active in the pool.
     fn has_room(&self, queue: u8, pool: u8) -> bool
-        requires queue { queue < length (Self.loaded self.now).queues }
-        requires pool { pool < pool_count (Self.loaded self.now) }
         ensures { result ≡ has_room (Self.loaded self.now) (Self.state self.now) queue pool }
     {
         cmwq_reads::has_room(self, queue, pool)
@@ -65,7 +59,6 @@ pub trait Parts: Reads + Drop {
 
     /// Whether the pool may start a work: it is unbound, or its concurrency level is 0.
     fn may_start(&self, pool: u8) -> bool
-        requires pool { pool < pool_count (Self.loaded self.now) }
         ensures { result ≡ may_start (Self.loaded self.now) (Self.state self.now) pool }
     {
         cmwq_reads::may_start(self, pool)
@@ -73,8 +66,6 @@ pub trait Parts: Reads + Drop {
 
     /// The queue's first inactive work in the pool.
     fn first_inactive(&self, queue: u8, pool: u8) -> Option<usize>
-        requires queue { queue < length (Self.loaded self.now).queues }
-        requires pool { pool < pool_count (Self.loaded self.now) }
         ensures first { result ≡ first_inactive (Self.loaded self.now) (Self.state self.now) queue pool }
         ensures in_range { IfSome result (λ w. w < length (Self.loaded self.now).works) }
     {
@@ -83,18 +74,18 @@ pub trait Parts: Reads + Drop {
 
     /// The pool's first listed work.
     fn first_listed(&self, pool: u8) -> Option<usize>
-        requires pool { pool < pool_count (Self.loaded self.now) }
         ensures first { result ≡ first_listed (Self.loaded self.now) (Self.state self.now) pool }
         ensures in_range { IfSome result (λ w. w < length (Self.loaded self.now).works) }
+        ensures few { IfSome result (λ w. w < MAX_WORKS) }
     {
         cmwq_reads::first(self, Sought::Listed { pool })
     }
 
     /// The pool's first listed work that doesn't run, and whose queue has a free rescuer.
     fn first_rescued(&self, pool: u8) -> Option<usize>
-        requires pool { pool < pool_count (Self.loaded self.now) }
         ensures first { result ≡ first_rescued (Self.loaded self.now) (Self.state self.now) pool }
         ensures in_range { IfSome result (λ w. w < length (Self.loaded self.now).works) }
+        ensures few { IfSome result (λ w. w < MAX_WORKS) }
     {
         cmwq_reads::first(self, Sought::Rescued { pool })
     }
@@ -103,31 +94,31 @@ pub trait Parts: Reads + Drop {
     fn first_due(&self) -> Option<usize>
         ensures first { result ≡ first_due (Self.loaded self.now) (Self.state self.now) }
         ensures in_range { IfSome result (λ w. w < length (Self.loaded self.now).works) }
+        ensures few { IfSome result (λ w. w < MAX_WORKS) }
     {
         cmwq_reads::first(self, Sought::Due)
     }
 
     /// The pool's first sleeper whose sleep is over.
     fn first_slept(&self, pool: u8) -> Option<usize>
-        requires pool { pool < pool_count (Self.loaded self.now) }
         ensures first { result ≡ first_slept (Self.loaded self.now) (Self.state self.now) pool }
         ensures in_range { IfSome result (λ w. w < length (Self.loaded self.now).works) }
+        ensures few { IfSome result (λ w. w < MAX_WORKS) }
     {
         cmwq_reads::first(self, Sought::Slept { pool })
     }
 
     /// The first of the pool's heads with no tick left to burn.
     fn ready_head(&self, pool: u8) -> Option<usize>
-        requires pool { pool < pool_count (Self.loaded self.now) }
         ensures first { result ≡ ready_head (Self.loaded self.now) (Self.state self.now) pool }
         ensures in_range { IfSome result (λ w. w < length (Self.loaded self.now).works) }
+        ensures few { IfSome result (λ w. w < MAX_WORKS) }
     {
         cmwq_reads::ready_head(self, pool)
     }
 
     /// The worker of the pool that takes the next work: the one that became idle last, else a new one.
     fn free_worker(&self, pool: u8) -> Option<u8>
-        requires pool { pool < pool_count (Self.loaded self.now) }
         ensures worker { result ≡ free_worker (Self.loaded self.now) (Self.state self.now) pool }
         ensures in_range { IfSome result (λ worker. worker < (Self.loaded self.now).workers) }
     {
@@ -139,20 +130,19 @@ pub trait Parts: Reads + Drop {
     fn bear(&mut self, w: usize, place: Place)
         requires work { w < length (Self.loaded self.old).works }
         requires idle { pending_at (Self.state self.old) w ≡ None }
-        requires place { IsPlaceReady (Self.loaded self.old) place }
+        requires cpu { HasCpu (Self.loaded self.old) place }
         requires stamps { (Self.state self.old).next < 2 ^ 63 }
         ensures { holding (Self.loaded self.new) (Self.state self.new) ≡ holding (Self.loaded self.old) (taking (with_pending (Self.state self.old) w (newborn (Self.state self.old) place))) };
 
-    /// Takes the pending work off.
+    /// Takes the pending work off. Where it had a timer, the timer's CPU is there.
     fn unpend(&mut self, w: usize, p: Pending)
         requires work { w < length (Self.loaded self.old).works }
         requires pending { pending_at (Self.state self.old) w ≡ Some p }
-        ensures { holding (Self.loaded self.new) (Self.state self.new) ≡ holding (Self.loaded self.old) (with_pending (Self.state self.old) w None) };
+        ensures cpu { HasCpu (Self.loaded self.old) p.place }
+        ensures unpended { holding (Self.loaded self.new) (Self.state self.new) ≡ holding (Self.loaded self.old) (with_pending (Self.state self.old) w None) };
 
     /// Lists the queue's first inactive work in the pool, under a fresh stamp.
     fn enlist(&mut self, queue: u8, pool: u8, w: usize)
-        requires queue { queue < length (Self.loaded self.old).queues }
-        requires pool { pool < pool_count (Self.loaded self.old) }
         requires work { w < length (Self.loaded self.old).works }
         requires first { first_inactive (Self.loaded self.old) (Self.state self.old) queue pool ≡ Some w }
         requires stamps { (Self.state self.old).next < 2 ^ 63 }
@@ -160,7 +150,6 @@ pub trait Parts: Reads + Drop {
 
     /// Puts off the pool's first listed work, which runs: it waits where it runs. Its stamp stays.
     fn defer(&mut self, pool: u8, w: usize)
-        requires pool { pool < pool_count (Self.loaded self.old) }
         requires work { w < length (Self.loaded self.old).works }
         requires first { first_listed (Self.loaded self.old) (Self.state self.old) pool ≡ Some w }
         requires runs { is_some (running_at (Self.state self.old) w) ≡ true }
@@ -168,7 +157,6 @@ pub trait Parts: Reads + Drop {
 
     /// Starts the pool's first listed work, which doesn't run, on the free worker.
     fn start_on(&mut self, pool: u8, w: usize, worker: u8, p: Pending)
-        requires pool { pool < pool_count (Self.loaded self.old) }
         requires work { w < length (Self.loaded self.old).works }
         requires worker { worker < (Self.loaded self.old).workers }
         requires first { first_listed (Self.loaded self.old) (Self.state self.old) pool ≡ Some w }
@@ -181,7 +169,6 @@ pub trait Parts: Reads + Drop {
     /// Starts the pool's first listed work that doesn't run and whose queue has a free rescuer, on that
     /// rescuer.
     fn rescue(&mut self, pool: u8, w: usize, p: Pending)
-        requires pool { pool < pool_count (Self.loaded self.old) }
         requires work { w < length (Self.loaded self.old).works }
         requires first { first_rescued (Self.loaded self.old) (Self.state self.old) pool ≡ Some w }
         requires pending { pending_at (Self.state self.old) w ≡ Some p }
@@ -193,7 +180,6 @@ pub trait Parts: Reads + Drop {
     fn go_on(&mut self, w: usize, r: Running, left: u32)
         requires work { w < length (Self.loaded self.old).works }
         requires running { running_at (Self.state self.old) w ≡ Some r }
-        requires ready { IsRunningReady (Self.loaded self.old) (Some r) }
         requires head { ready_head (Self.loaded self.old) (Self.state self.old) r.pool ≡ Some w }
         requires pc { r.pc < MAX_OPS }
         ensures { holding (Self.loaded self.new) (Self.state self.new) ≡ holding (Self.loaded self.old) (with_running (Self.state self.old) w (Some (record r { pc = r.pc + 1; left = left }))) };
@@ -203,14 +189,12 @@ pub trait Parts: Reads + Drop {
     fn sleep(&mut self, w: usize, r: Running, until: u64)
         requires work { w < length (Self.loaded self.old).works }
         requires running { running_at (Self.state self.old) w ≡ Some r }
-        requires ready { IsRunningReady (Self.loaded self.old) (Some r) }
         requires head { ready_head (Self.loaded self.old) (Self.state self.old) r.pool ≡ Some w }
         requires pc { r.pc < MAX_OPS }
         ensures { holding (Self.loaded self.new) (Self.state self.new) ≡ holding (Self.loaded self.old) (with_running (Self.state self.old) w (Some (record r { pc = r.pc + 1; mode = Asleep until }))) };
 
     /// Wakes the pool's first sleeper whose sleep is over, under a fresh stamp.
     fn wake(&mut self, pool: u8, w: usize)
-        requires pool { pool < pool_count (Self.loaded self.old) }
         requires work { w < length (Self.loaded self.old).works }
         requires first { first_slept (Self.loaded self.old) (Self.state self.old) pool ≡ Some w }
         requires stamps { (Self.state self.old).next < 2 ^ 63 }
@@ -220,7 +204,6 @@ pub trait Parts: Reads + Drop {
     fn begin_again(&mut self, w: usize, r: Running, p: Pending)
         requires work { w < length (Self.loaded self.old).works }
         requires running { running_at (Self.state self.old) w ≡ Some r }
-        requires ready { IsRunningReady (Self.loaded self.old) (Some r) }
         requires pending { pending_at (Self.state self.old) w ≡ Some p }
         requires deferred { is_deferred p.place ≡ true }
         requires stamps { (Self.state self.old).next < 2 ^ 63 }
@@ -231,7 +214,6 @@ pub trait Parts: Reads + Drop {
     fn retire(&mut self, w: usize, r: Running)
         requires work { w < length (Self.loaded self.old).works }
         requires running { running_at (Self.state self.old) w ≡ Some r }
-        requires ready { IsRunningReady (Self.loaded self.old) (Some r) }
         requires stamps { (Self.state self.old).next < 2 ^ 63 }
         ensures { holding (Self.loaded self.new) (Self.state self.new) ≡ holding (Self.loaded self.old) (retire (Self.state self.old) w r) };
 

@@ -1,33 +1,16 @@
 //! Placing works in worker pools, and filling what has room.
 ghost use Rattle.cmwq_table.specs.Moves.{fill, fill_from, fill_one, fire, place, place_after, pool_for, take_off};
-ghost use Rattle.cmwq_table.specs.Ready.{IsPendingReady, IsPlaceReady, IsRunningReady, Takes};
-ghost use Rattle.cmwq_table.specs.State.{is_disabled, pending_at, running_at};
-ghost use Rattle.cmwq_types.specs.Scenario.{pool_count, queue_of};
+ghost use Rattle.cmwq_table.specs.Ready.{Takes};
+ghost use Rattle.cmwq_table.specs.State.{is_disabled, pending_at};
+ghost use Rattle.cmwq_types.specs.Setting.{IsSetting};
 ghost use Rattle.cmwq_types.specs.declared.limits.TheConstants.{MAX_WORKS};
 ghost use Rattle.std.specs.Prelude.{◌≡◌, ◌<◌, ◌≤◌, ◌+◌, ◌^◌, IsFalse, None, length};
 
 use crate::going::Going;
 use crate::parts::Parts;
-use cmwq_table::{Pending, Running};
 use cmwq_types::{Place, WorkId};
 
 impl<P: Parts> Going<P> {
-    /// The pending instance of the work, if it has one.
-    pub fn pending_of(&self, w: usize) -> Option<Pending>
-        ensures pending { result ≡ pending_at self.now.state w }
-        ensures ready { IsPendingReady self.now.scenario result }
-    {
-        self.parts.pending_of(w)
-    }
-
-    /// The running instance of the work, if it has one.
-    pub fn running_of(&self, w: usize) -> Option<Running>
-        ensures running { result ≡ running_at self.now.state w }
-        ensures ready { IsRunningReady self.now.scenario result }
-    {
-        self.parts.running_of(w)
-    }
-
     /// Whether the work was disabled more often than enabled.
     pub fn is_disabled(&self, w: WorkId) -> bool
         ensures { result ≡ is_disabled self.now.state w.0 }
@@ -35,29 +18,12 @@ impl<P: Parts> Going<P> {
         self.parts.depth_of(w.0 as usize) != 0
     }
 
-    /// The queue of the work.
-    pub fn queue_of(&self, w: usize) -> u8
-        requires work { w < length self.now.scenario.works }
-        ensures queue { result ≡ queue_of self.now.scenario w }
-        ensures in_range { result < length self.now.scenario.queues }
-    {
-        self.parts.scenario().queue_of(w)
-    }
-
-    /// How many works there are.
-    pub fn work_count(&self) -> usize
-        ensures { result ≡ length self.now.scenario.works }
-    {
-        self.parts.scenario().works.len()
-    }
-
     /// The pool in which the work is placed: where it runs, else its target pool.
     fn pool_for(&self, w: usize, cpu: u8) -> u8
-        requires cpu { cpu < self.now.scenario.cpus }
-        ensures pool { result ≡ pool_for self.now.scenario self.now.state w cpu }
-        ensures in_range { result < pool_count self.now.scenario }
+        requires { cpu < self.now.scenario.cpus }
+        ensures { result ≡ pool_for self.now.scenario self.now.state w cpu }
     {
-        match self.running_of(w) {
+        match self.parts.running_of(w) {
             Some(r) => r.pool,
             None => {
                 let scenario = self.parts.scenario();
@@ -75,11 +41,11 @@ impl<P: Parts> Going<P> {
         ensures { self.new ≡ record self.old { state = place self.old.scenario self.old.state w cpu } }
     {
         let pool = self.pool_for(w, cpu);
-        let queue = self.queue_of(w);
+        let queue = self.parts.scenario().queue_of(w);
         if self.parts.has_room(queue, pool) {
-            self.bear(w, Place::Listed(pool));
+            self.parts.bear(w, Place::Listed(pool));
         } else {
-            self.bear(w, Place::Inactive(pool));
+            self.parts.bear(w, Place::Inactive(pool));
         }
     }
 
@@ -96,16 +62,14 @@ impl<P: Parts> Going<P> {
             self.place(w, cpu);
         } else {
             let due = self.parts.time() + u64::from(ticks);
-            self.bear(w, Place::Timer { due, cpu });
+            self.parts.bear(w, Place::Timer { due, cpu });
         }
     }
 
     /// Lists the queue's first inactive work in the pool, if there is room. Answers whether there was one.
     #[tactic(auto, using(cmwq_table::proofs::CounterLemmas::takes))]
     fn fill_one(&mut self, queue: u8, pool: u8) -> bool
-        requires queue { queue < length self.old.scenario.queues }
-        requires pool { pool < pool_count self.old.scenario }
-        requires stamps { self.old.state.next < 2 ^ 63 }
+        requires { self.old.state.next < 2 ^ 63 }
         ensures filled { self.new ≡ record self.old { state = fill_one self.old.scenario queue pool self.old.state } }
         ensures stamps { self.new.state.next ≤ self.old.state.next + 1 }
         ensures unchanged { IsFalse result → self.new ≡ self.old }
@@ -115,22 +79,27 @@ impl<P: Parts> Going<P> {
         }
         match self.parts.first_inactive(queue, pool) {
             Some(w) => {
-                self.enlist(queue, pool, w);
+                self.parts.enlist(queue, pool, w);
                 true
             }
             None => false,
         }
     }
 
+    /// How many works there are.
+    fn work_count(&self) -> usize
+        ensures count { result ≡ length self.now.scenario.works }
+        ensures setting { IsSetting self.now.scenario }
+    {
+        self.parts.scenario().works.len()
+    }
+
     /// While the queue has room in the pool, lists its first inactive work there.
     pub fn fill(&mut self, queue: u8, pool: u8)
-        requires queue { queue < length self.old.scenario.queues }
-        requires pool { pool < pool_count self.old.scenario }
-        requires stamps { self.old.state.next < 2 ^ 62 }
+        requires { self.old.state.next < 2 ^ 62 }
         ensures filled { self.new ≡ record self.old { state = fill self.old.scenario queue pool self.old.state } }
         ensures takes { Takes MAX_WORKS self.old.state self.new.state }
     {
-        let _ = &self.parts;
         for _turn in 0..self.work_count() {
             if !self.fill_one(queue, pool) {
                 break;
@@ -140,9 +109,7 @@ impl<P: Parts> Going<P> {
 
     /// Fills what a pending work left: nothing where it had a timer.
     fn fill_from(&mut self, queue: u8, place: Place)
-        requires queue { queue < length self.old.scenario.queues }
-        requires place { IsPlaceReady self.old.scenario place }
-        requires stamps { self.old.state.next < 2 ^ 62 }
+        requires { self.old.state.next < 2 ^ 62 }
         ensures filled { self.new ≡ record self.old { state = fill_from self.old.scenario queue place self.old.state } }
         ensures takes { Takes MAX_WORKS self.old.state self.new.state }
     {
@@ -163,9 +130,9 @@ impl<P: Parts> Going<P> {
         ensures takes { Takes MAX_WORKS self.old.state self.new.state }
         ensures idle { pending_at self.new.state w ≡ None }
     {
-        if let Some(p) = self.pending_of(w) {
-            let queue = self.queue_of(w);
-            self.unpend(w, p);
+        if let Some(p) = self.parts.pending_of(w) {
+            let queue = self.parts.scenario().queue_of(w);
+            self.parts.unpend(w, p);
             self.fill_from(queue, p.place);
         }
     }
@@ -177,11 +144,11 @@ impl<P: Parts> Going<P> {
         requires stamps { self.old.state.next < 2 ^ 63 }
         ensures { self.new ≡ record self.old { state = fire self.old.scenario self.old.state w } }
     {
-        let Some(p) = self.pending_of(w) else {
+        let Some(p) = self.parts.pending_of(w) else {
             return;
         };
         if let Place::Timer { cpu, .. } = p.place {
-            self.unpend(w, p);
+            self.parts.unpend(w, p);
             self.place(w, cpu);
         }
     }

@@ -14,13 +14,13 @@ use Rattle.cmwq_table.specs.Table.{table}
 use Rattle.cmwq_picture.specs.Column.{ColumnContents, column_of, cut_rows}
 use Rattle.cmwq_picture.specs.Contents.{RowContents}
 use Rattle.cmwq_picture.specs.Picture as specs
-use Rattle.cmwq_picture.specs.Picture.{Draws, acts_from, columns, from_time, is_act, is_drawn, is_open, is_too_wide, ticks_from, titles}
-use Rattle.cmwq_picture.specs.declared.error.PictureError.{PictureError}
-use Rattle.cmwq_picture.specs.declared.error.PictureError.TheVariants.{TooWide, NoMemory}
+use Rattle.cmwq_picture.specs.Picture.{Draws, IsDrawError, acts_from, columns, from_time, is_act, is_drawn, is_open, is_too_wide, ticks_from, titles}
+use Rattle.cmwq_streams.specs.declared.error.PlayError.{PlayError}
+use Rattle.cmwq_streams.specs.declared.error.PlayError.TheVariants.{TooWide, NoMemory}
 use Rattle.cmwq_picture.specs.declared.span.TheConstants.{MAX_COLUMNS}
 use Rattle.cmwq_picture.proofs.RowLemmas.{rows-cut}
 use Rattle.cmwq_picture.specs.Recording.{IsRecording, Recording, begun, issued, issued_all, new_columns, overflows}
-use Rattle.cmwq_picture.specs.declared.span.Span.{Span}
+use Rattle.cmwq_asked.specs.declared.drawing.Span.{Span}
 use Rattle.cmwq_picture.proofs.TickLemmas.{time-goes_on, time-ticks}
 use Rattle.cmwq_picture.proofs.AlikeLemmas.{column-ticks}
 
@@ -350,11 +350,12 @@ overflows-is S span instrs setting =
     ap (λ (at : Span). is_open at && nat_lt MAX_COLUMNS (length (issued_all (begun S span) instrs).columns)) (span-stays (begun S span) instrs)
     ∙ ap (λ (n : ℕ). is_open span && nat_lt MAX_COLUMNS n) many
 
-pub refused : (S : ScenarioContents) (span : Span) (instrs : List Instr) (r : Recording) (why : PictureError) → IsSetting S → r ≡ begun S span
+pub refused : (S : ScenarioContents) (span : Span) (instrs : List Instr) (r : Recording) (why : PlayError) → IsSetting S → r ≡ begun S span → IsDrawError why
     → (why ≡ TooWide → overflows (issued_all r instrs) ≡ true) → Draws S instrs span (Err why)
-refused S span instrs r TooWide setting is wide =
+refused S span instrs r TooWide setting is of wide =
     sym (overflows-is S span instrs setting) ∙ ap (λ (q : Recording). overflows (issued_all q instrs)) (sym is) ∙ wide refl
-refused S span instrs r NoMemory setting is wide = tt
+refused S span instrs r NoMemory setting is of wide = tt
+refused S span instrs r other setting is of wide = of
 
 narrow-if : (b : Bool) (n : ℕ) → (b ≡ true → n ≤ MAX_COLUMNS) → (b && nat_lt MAX_COLUMNS n) ≡ false
 narrow-if true n few = (let most : n ≤ MAX_COLUMNS = few refl in grind (arith, nat_tests))

@@ -21,11 +21,11 @@ use Rattle.cmwq_picture.specs.declared.cell.Cell.{Cell}
 use Rattle.cmwq_picture.specs.declared.cell.Cell.TheVariants.{Empty, Does, Burner, Acts}
 use Rattle.cmwq_picture.specs.declared.cell.Sign.{Sign}
 use Rattle.cmwq_picture.specs.declared.cell.Sign.TheVariants as sign
-use Rattle.cmwq_picture.specs.declared.error.PictureError.{PictureError}
-use Rattle.cmwq_picture.specs.declared.error.PictureError.TheVariants.{TooWide, NoMemory}
+use Rattle.cmwq_streams.specs.declared.error.PlayError.{PlayError}
+use Rattle.cmwq_streams.specs.declared.error.PlayError.TheVariants.{TooWide, NoMemory}
 use Rattle.cmwq_picture.specs.declared.row.Title.{Title}
 use Rattle.cmwq_picture.specs.declared.row.Title.TheVariants as title
-use Rattle.cmwq_picture.specs.declared.span.Span.{Span}
+use Rattle.cmwq_asked.specs.declared.drawing.Span.{Span}
 use Rattle.cmwq_picture.specs.declared.span.TheConstants.{MAX_COLUMNS}
 
 -- the numbers below n
@@ -201,8 +201,15 @@ picture S instrs span =
       rows = rows S (acts_from S (start S) instrs) (columns S instrs span);
     }
 
+-- there is no picture for one of these reasons
+abbrev pub IsDrawError : PlayError → Type 0
+IsDrawError TooWide = Unit {0}
+IsDrawError NoMemory = Unit {0}
+IsDrawError other = ⊥
+
 -- what is answered: the picture, or why there is none
-abbrev pub Draws : ScenarioContents → List Instr → Span → Result PictureContents PictureError → Type 0
+abbrev pub Draws : ScenarioContents → List Instr → Span → Result PictureContents PlayError → Type 0
 Draws S instrs span (Ok drawn) = (drawn ≡ picture S instrs span) × (is_too_wide S instrs span ≡ false)
 Draws S instrs span (Err TooWide) = is_too_wide S instrs span ≡ true
 Draws S instrs span (Err NoMemory) = Unit {0}
+Draws S instrs span (Err other) = ⊥

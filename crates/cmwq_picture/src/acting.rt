@@ -1,8 +1,8 @@
 //! Which instructions are the actor's own doing.
 ghost use Rattle.cmwq_picture.specs.Picture.{is_act, is_own_move, is_refused};
-ghost use Rattle.cmwq_table.specs.Table.{is_question};
 ghost use Rattle.std.specs.Prelude.{◌≡◌};
 
+use cmwq_reads::is_question;
 use cmwq_types::{Instr, Reply};
 
 /// Whether the actor did something: it neither let the machine move, nor asked, nor was refused.
@@ -19,12 +19,6 @@ fn is_own_move(instr: Instr) -> bool
         instr,
         Instr::Fire | Instr::Step(_) | Instr::Tick | Instr::Next
     )
-}
-
-fn is_question(instr: Instr) -> bool
-    ensures { result ≡ is_question instr }
-{
-    matches!(instr, Instr::Ask(_) | Instr::Busy | Instr::State(_))
 }
 
 fn is_refused(reply: Reply) -> bool

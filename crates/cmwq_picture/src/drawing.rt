@@ -5,11 +5,12 @@ ghost use Rattle.cmwq_types.specs.Faults.{IsValid};
 ghost use Rattle.cmwq_types.specs.Scenario.{expand_lines};
 ghost use Rattle.std.specs.Prelude.{◌≡◌};
 
-use crate::error::PictureError;
 use crate::recorder::Recorder;
 use crate::row::Picture;
 use crate::rows::rows;
-use crate::span::Span;
+use crate::span::from_time;
+use cmwq_asked::Span;
+use cmwq_streams::PlayError;
 use cmwq_table::Machine;
 use cmwq_types::{Line, Scenario};
 use std::alloc::Global;
@@ -26,7 +27,7 @@ pub fn picture<M: Machine>(
     machine: M,
     lines: &[Line],
     span: Span,
-) -> Result<Picture, PictureError>
+) -> Result<Picture, PlayError>
     requires valid { IsValid scenario.now }
     requires loaded { M.loaded machine ≡ scenario.now }
     requires start { M.state machine ≡ start scenario.now }
@@ -37,7 +38,7 @@ pub fn picture<M: Machine>(
     let columns = recorder.into_columns();
     let rows = rows(alloc, scenario, &columns)?;
     Ok(Picture {
-        from: span.start(),
+        from: from_time(span.from),
         ticks: columns.len() as u32,
         rows,
     })

@@ -5,7 +5,6 @@ mod acting;
 mod cell;
 mod column;
 mod drawing;
-mod error;
 pub mod laws;
 mod moment;
 mod recorder;
@@ -15,6 +14,5 @@ mod span;
 
 pub use cell::{Cell, Sign};
 pub use drawing::picture;
-pub use error::PictureError;
 pub use row::{Picture, Row, Title};
-pub use span::{MAX_COLUMNS, Span};
+pub use span::MAX_COLUMNS;

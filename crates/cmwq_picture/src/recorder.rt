@@ -1,21 +1,23 @@
 //! A scenario's run on a machine, recorded column by column.
 ghost use Rattle.cmwq_picture.specs.Column.{column_of};
+ghost use Rattle.cmwq_picture.specs.Picture.{IsDrawError};
 ghost use Rattle.cmwq_picture.specs.Recording.{begun, issued, issued_all, overflows};
 ghost use Rattle.cmwq_table.specs.State.{start};
 ghost use Rattle.cmwq_types.specs.Faults.{IsValid};
 ghost use Rattle.cmwq_types.specs.Scenario.{expand_lines};
 ghost use Rattle.cmwq_types.specs.Setting.{IsSetting};
 ghost use Rattle.cmwq_types.specs.declared.limits.TheConstants.{MAX_STEPS};
-ghost use Rattle.std.specs.Prelude.{◌≡◌, ◌<◌, ◌≤◌, [], ◌∷◌, ◌++◌, Err, IfOk, OnOk, length, true};
+ghost use Rattle.std.specs.Prelude.{◌≡◌, ◌<◌, ◌≤◌, [], ◌∷◌, ◌++◌, Err, IfErr, IfOk, OnOk, length, true};
 
 use crate::acting::is_act;
 use crate::column::Column;
-use crate::error::PictureError;
 use crate::moment::Moment;
-use crate::span::{MAX_COLUMNS, Span};
+use crate::span::{MAX_COLUMNS, is_drawn, is_open};
+use cmwq_asked::Span;
 use cmwq_runs::Instructions;
-use cmwq_table::{Machine, Reads};
-use cmwq_types::{Instr, Line, NoMemory, Scenario};
+use cmwq_streams::PlayError;
+use cmwq_table::Machine;
+use cmwq_types::{Instr, Line, Scenario};
 use std::alloc::Global;
 use std::marker::Model;
 
@@ -44,7 +46,7 @@ impl<'s, M: Machine> Model for Recorder<'s, M> {
 
 impl<'s, M: Machine> Recorder<'s, M> {
     ghost use Rattle.cmwq_picture.specs.Column.{column_of};
-    ghost use Rattle.cmwq_picture.specs.Picture.{is_open};
+    ghost use Rattle.cmwq_picture.specs.Picture.{IsDrawError, is_open};
     ghost use Rattle.cmwq_picture.specs.declared.span.TheConstants.{MAX_COLUMNS};
     ghost use Rattle.cmwq_picture.specs.Recording.{begun, issued, issued_all, overflows};
     ghost use Rattle.cmwq_table.specs.State.{start};
@@ -52,7 +54,7 @@ impl<'s, M: Machine> Recorder<'s, M> {
     ghost use Rattle.cmwq_types.specs.Scenario.{expand_lines};
     ghost use Rattle.cmwq_types.specs.Setting.{IsSetting};
     ghost use Rattle.cmwq_types.specs.declared.limits.TheConstants.{MAX_STEPS};
-    ghost use Rattle.std.specs.Prelude.{◌<◌, ◌≤◌, [], ◌∷◌, ◌++◌, Err, OnOk, length, true};
+    ghost use Rattle.std.specs.Prelude.{◌<◌, ◌≤◌, [], ◌∷◌, ◌++◌, Err, IfErr, OnOk, length, true};
 
     /// Nothing is recorded yet.
     pub(crate) fn new(
@@ -78,9 +80,10 @@ impl<'s, M: Machine> Recorder<'s, M> {
     /// Issues the lines' instructions.
     ///
     /// It answers `TooWide` as soon as it has come to one column too many.
-    pub(crate) fn issue_all(&mut self, alloc: Global, lines: &[Line]) -> Result<(), PictureError>
+    pub(crate) fn issue_all(&mut self, alloc: Global, lines: &[Line]) -> Result<(), PlayError>
         ensures ok { OnOk result (self.new ≡ issued_all self.old (expand_lines lines.now)) }
-        ensures wide { result ≡ Err PictureError.TooWide → overflows (issued_all self.old (expand_lines lines.now)) ≡ true }
+        ensures why { IfErr result (λ error. IsDrawError error) }
+        ensures wide { result ≡ Err PlayError.TooWide → overflows (issued_all self.old (expand_lines lines.now)) ≡ true }
     {
         for instr in Instructions::of(lines) {
             self.issue(alloc, instr)?;
@@ -89,9 +92,10 @@ impl<'s, M: Machine> Recorder<'s, M> {
     }
 
     /// Issues one instruction. Where it lets a tick pass that is drawn, there is one column more.
-    fn issue(&mut self, alloc: Global, instr: Instr) -> Result<(), PictureError>
+    fn issue(&mut self, alloc: Global, instr: Instr) -> Result<(), PlayError>
         ensures ok { OnOk result (self.new ≡ issued self.old instr) }
-        ensures wide { result ≡ Err PictureError.TooWide → overflows (issued self.old instr) ≡ true }
+        ensures why { IfErr result (λ error. IsDrawError error) }
+        ensures wide { result ≡ Err PlayError.TooWide → overflows (issued self.old instr) ≡ true }
     {
         let time = self.machine.now();
         let reply = self.machine.exec(instr);
@@ -101,24 +105,24 @@ impl<'s, M: Machine> Recorder<'s, M> {
             return Ok(());
         }
         self.acted = false;
-        let span = self.span;
-        if span.is_drawn(time) {
+        if is_drawn(self.span, time) {
             return self.draw(alloc, acted);
         }
         Ok(())
     }
 
     /// One column more, for the tick that has just passed: it has changed no sign.
-    fn draw(&mut self, alloc: Global, acted: bool) -> Result<(), PictureError>
+    fn draw(&mut self, alloc: Global, acted: bool) -> Result<(), PlayError>
         requires later { length self.old.columns < self.old.state.time }
         ensures ok { OnOk result (self.new ≡ record self.old { columns = self.old.columns ++ column_of self.old.scenario self.old.state acted ∷ [] }) }
-        ensures wide { result ≡ Err PictureError.TooWide → overflows (record self.old { columns = self.old.columns ++ column_of self.old.scenario self.old.state acted ∷ [] }) ≡ true }
+        ensures why { IfErr result (λ error. IsDrawError error) }
+        ensures wide { result ≡ Err PlayError.TooWide → overflows (record self.old { columns = self.old.columns ++ column_of self.old.scenario self.old.state acted ∷ [] }) ≡ true }
     {
-        let span = self.span;
-        if span.is_open() && self.columns.len() == MAX_COLUMNS {
-            return Err(PictureError::TooWide);
+        if is_open(self.span) && self.columns.len() == MAX_COLUMNS {
+            return Err(PlayError::TooWide);
         }
-        let column = column(alloc, &self.machine, acted)?;
+        let moment = Moment::new(alloc, &self.machine)?;
+        let column = moment.column(alloc, acted)?;
         self.columns.push(column)?;
         Ok(())
     }
@@ -139,13 +143,4 @@ impl<'s, M: Machine> Recorder<'s, M> {
         } = self;
         columns
     }
-}
-
-/// The column of the tick that has just passed on the machine.
-fn column<R: Reads>(alloc: Global, machine: &R, acted: bool) -> Result<Column, NoMemory>
-    ensures { IfOk result (λ column. column ≡ column_of (R.loaded machine.now) (R.state machine.now) acted) }
-{
-    let moment = Moment::new(alloc, machine)?;
-    let column = moment.column(alloc, acted)?;
-    Ok(column)
 }

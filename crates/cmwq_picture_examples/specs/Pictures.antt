@@ -13,7 +13,7 @@ use Rattle.cmwq_picture.specs.declared.cell.Cell.TheVariants.{Empty, Does, Burne
 use Rattle.cmwq_picture.specs.declared.cell.Sign.TheVariants.{Burns, Waits, Sleeps, Listed, Inactive, Timed, Deferred}
 use Rattle.cmwq_picture.specs.declared.row.Title.{Title}
 use Rattle.cmwq_picture.specs.declared.row.Title.TheVariants as title
-use Rattle.cmwq_picture.specs.declared.span.Span.{Span}
+use Rattle.cmwq_asked.specs.declared.drawing.Span.{Span}
 
 -- Short words for pictures.
 

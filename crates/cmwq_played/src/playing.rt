@@ -89,11 +89,7 @@ fn left(alloc: Global, scenario: &Scenario, history: &[Entry]) -> Result<Vec<u8>
 fn instrs_of(alloc: Global, history: &[Entry]) -> Result<Vec<Instr>, NoMemory>
     ensures { IfOk result (λ instrs. instrs.items ≡ instrs_of history.now) }
 {
-    let mut instrs = Vec::with_capacity(alloc, history.len())?;
-    for entry in history {
-        instrs.push(entry.instr)?;
-    }
-    Ok(instrs)
+    Ok(history.iter().map(|entry| entry.instr).collect(alloc)?)
 }
 
 /// How a play ends, by how its actors end.

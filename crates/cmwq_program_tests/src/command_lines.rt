@@ -1,13 +1,12 @@
 //! Command lines: the requests that they are, and help and usage faults.
 use crate::checking::{same, setting_with};
 use clap::error::ErrorKind;
+use cmwq_asked::{Drawing, Looks, Question, RunKind, Span, Task};
 use cmwq_command::carry_out;
 use cmwq_machine_tests::streams::{Output, reading_of, writing_to};
 use cmwq_outcome::{Look, tell};
 use cmwq_play::Marked;
-use cmwq_words::asking::{Positions, Subject};
-use cmwq_words::drawing::DrawOptions;
-use cmwq_words::request::{Request, RunKind, not_text, parse};
+use cmwq_words::request::{Request, not_text, parse};
 use std::alloc::Global;
 use std::process::Abort;
 use std::rt::Files;
@@ -33,127 +32,137 @@ const REQUESTS: [(&str, Request<'_>); 25] = [
     ),
     (
         "cmwq run a.cmwq",
-        Request::Run {
+        Request::Do {
             file: "a.cmwq",
-            kind: RunKind::Plain,
+            task: Task::Run(RunKind::Plain),
         },
     ),
     (
         "cmwq run --settle a.cmwq",
-        Request::Run {
+        Request::Do {
             file: "a.cmwq",
-            kind: RunKind::Settled,
+            task: Task::Run(RunKind::Settled),
         },
     ),
     (
         "cmwq run a.cmwq --tell",
-        Request::Run {
+        Request::Do {
             file: "a.cmwq",
-            kind: RunKind::Told,
+            task: Task::Run(RunKind::Told),
         },
     ),
-    ("cmwq settle a.cmwq", Request::Settle { file: "a.cmwq" }),
+    (
+        "cmwq settle a.cmwq",
+        Request::Do {
+            file: "a.cmwq",
+            task: Task::Settle,
+        },
+    ),
     (
         "cmwq draw a.cmwq",
-        Request::Draw {
+        Request::Do {
             file: "a.cmwq",
-            options: DrawOptions {
+            task: Task::Draw(Drawing {
                 settle: false,
                 svg: false,
-                from: None,
-                to: None,
-            },
+                span: Span {
+                    from: None,
+                    to: None,
+                },
+            }),
         },
     ),
     (
         "cmwq draw --settle --svg --from 0 --to 18446744073709551615 a.cmwq",
-        Request::Draw {
+        Request::Do {
             file: "a.cmwq",
-            options: DrawOptions {
+            task: Task::Draw(Drawing {
                 settle: true,
                 svg: true,
-                from: Some(0),
-                to: Some(u64::MAX),
-            },
+                span: Span {
+                    from: Some(0),
+                    to: Some(u64::MAX),
+                },
+            }),
         },
     ),
     (
         "cmwq draw a.cmwq --to 9 --svg",
-        Request::Draw {
+        Request::Do {
             file: "a.cmwq",
-            options: DrawOptions {
+            task: Task::Draw(Drawing {
                 settle: false,
                 svg: true,
-                from: None,
-                to: Some(9),
-            },
+                span: Span {
+                    from: None,
+                    to: Some(9),
+                },
+            }),
         },
     ),
     (
         "cmwq why a.cmwq a",
-        Request::Why {
+        Request::Do {
             file: "a.cmwq",
-            subject: Subject::Work("a"),
-            positions: Positions::Settled,
+            task: Task::Why(Question::Work("a"), Looks::Settled),
         },
     ),
     (
         "cmwq why a.cmwq a --every",
-        Request::Why {
+        Request::Do {
             file: "a.cmwq",
-            subject: Subject::Work("a"),
-            positions: Positions::Every,
+            task: Task::Why(Question::Work("a"), Looks::Every),
         },
     ),
     (
         "cmwq why --at 0 a.cmwq a",
-        Request::Why {
+        Request::Do {
             file: "a.cmwq",
-            subject: Subject::Work("a"),
-            positions: Positions::At(0),
+            task: Task::Why(Question::Work("a"), Looks::At(0)),
         },
     ),
     (
         "cmwq why a.cmwq a.b --at 9999999999",
-        Request::Why {
+        Request::Do {
             file: "a.cmwq",
-            subject: Subject::Work("a.b"),
-            positions: Positions::At(9_999_999_999),
+            task: Task::Why(Question::Work("a.b"), Looks::At(9_999_999_999)),
         },
     ),
     (
         "cmwq why a.cmwq ",
-        Request::Why {
+        Request::Do {
             file: "a.cmwq",
-            subject: Subject::Work(""),
-            positions: Positions::Settled,
+            task: Task::Why(Question::Work(""), Looks::Settled),
         },
     ),
     (
         "cmwq why a.cmwq --flush 0",
-        Request::Why {
+        Request::Do {
             file: "a.cmwq",
-            subject: Subject::Flush(0),
-            positions: Positions::Settled,
+            task: Task::Why(Question::Flush(0), Looks::Settled),
         },
     ),
     (
         "cmwq why --every --flush 0000000007 a.cmwq",
-        Request::Why {
+        Request::Do {
             file: "a.cmwq",
-            subject: Subject::Flush(7),
-            positions: Positions::Every,
+            task: Task::Why(Question::Flush(7), Looks::Every),
         },
     ),
     (
         "cmwq why a.cmwq --at 31 --flush 9999999999",
-        Request::Why {
+        Request::Do {
             file: "a.cmwq",
-            subject: Subject::Flush(9_999_999_999),
-            positions: Positions::At(31),
+            task: Task::Why(Question::Flush(9_999_999_999), Looks::At(31)),
         },
     ),
-    ("cmwq list a.cmwq", Request::List { file: "a.cmwq" }),
+    (
+        "cmwq list a.cmwq",
+        Request::Do {
+            file: "a.cmwq",
+            task: Task::List,
+        },
+    ),
     (
         "cmwq asm a.cmwq a.image",
         Request::Asm {
@@ -161,7 +170,13 @@ const REQUESTS: [(&str, Request<'_>); 25] = [
             out: "a.image",
         },
     ),
-    ("cmwq show a.image", Request::Show { image: "a.image" }),
+    (
+        "cmwq show a.image",
+        Request::Do {
+            file: "a.image",
+            task: Task::Show,
+        },
+    ),
     ("cmwq debug a.cmwq", Request::Debug { file: "a.cmwq" }),
     (
         "cmwq play a.cmwq --capacity 4096",

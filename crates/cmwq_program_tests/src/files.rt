@@ -2,6 +2,7 @@
 ghost use Rattle.cmwq_words.specs.Request.{IsWithin};
 
 use crate::checking::{same, setting_with};
+use cmwq_asked::{Drawing, Looks, Question, RunKind, Span, Task};
 use cmwq_asm::AsmError;
 use cmwq_command::answer;
 use cmwq_first::first_text;
@@ -12,9 +13,7 @@ use cmwq_machine_tests::streams::reading_of;
 use cmwq_outcome::Look;
 use cmwq_play::{Marked, PlayError};
 use cmwq_types::Fault;
-use cmwq_words::asking::{Positions, Subject};
-use cmwq_words::drawing::DrawOptions;
-use cmwq_words::request::{Request, RunKind};
+use cmwq_words::request::Request;
 use std::fs;
 use std::process::Abort;
 use std::rt::Files;
@@ -72,7 +71,7 @@ fn check_talk<R: Files + AllocGlobal + Threads + Wait + Clock + Sync + Abort>(
 }
 
 /// Files, and what they have.
-const CHECKED: [(&str, &[u8]); 5] = [
+const CHECKED: [(&str, &[u8]); 6] = [
     (
         "cmwq_checks/a.cmwq",
         b"cpus 1\nworkers 1\nsteps 1\nflushes 0\n",
@@ -90,6 +89,10 @@ const CHECKED: [(&str, &[u8]); 5] = [
         "cmwq_checks/e.cmwq",
         b"cpus 1\nworkers 1\nsteps 1\nflushes 0\nqueue q max 1\nactor t\ncancel a\n",
     ),
+    (
+        "cmwq_checks/f.cmwq",
+        b"cpus 1\nworkers 1\nsteps 1\nflushes 0\nqueue q max 1 highpri unbound cpu_intensive freezable ordered mem_reclaim fast\n",
+    ),
 ];
 
 /// What is told of them, and of one that isn't there.
@@ -97,14 +100,16 @@ const VERDICTS: &[u8] = b"cmwq_checks/none.cmwq: read\n\
     cmwq_checks/b.cmwq:3:10: 65: Range\n  a line here may begin with: workers\n\
     cmwq_checks/c.cmwq:2:8: end of line: MissingWord\n  a line here may begin with: workers\n\
     cmwq_checks/d.cmwq:6:1: quue: BadWord\n  a line here may begin with: queue, work, actor\n\
-    cmwq_checks/e.cmwq:7:8: a: Unknown\n  a line here may begin with: flush_queue, set_max, freeze, thaw, fire, step, tick, next, ask, busy, pressure, relief, actor\n";
+    cmwq_checks/e.cmwq:7:8: a: Unknown\n  a line here may begin with: flush_queue, set_max, freeze, thaw, fire, step, tick, next, ask, busy, pressure, relief, actor\n\
+    cmwq_checks/f.cmwq:5:75: fast: BadWord\n  a line here may begin with: queue, actor\n";
 
 /// The same at a terminal.
 const SHOWN: &[u8] = b"cmwq_checks/none.cmwq: read\n\
     cmwq_checks/b.cmwq:3:10: 65: \x1b[1;31mRange\x1b[0m\n  workers\t 65 # too many\n         \t ^\n  a line here may begin with: workers\n\
     cmwq_checks/c.cmwq:2:8: end of line: \x1b[1;31mMissingWord\x1b[0m\n  workers \n         ^\n  a line here may begin with: workers\n\
     cmwq_checks/d.cmwq:6:1: quue: \x1b[1;31mBadWord\x1b[0m\n  quue\n  ^\n  a line here may begin with: queue, work, actor\n\
-    cmwq_checks/e.cmwq:7:8: a: \x1b[1;31mUnknown\x1b[0m\n  cancel a\n         ^\n  a line here may begin with: flush_queue, set_max, freeze, thaw, fire, step, tick, next, ask, busy, pressure, relief, actor\n";
+    cmwq_checks/e.cmwq:7:8: a: \x1b[1;31mUnknown\x1b[0m\n  cancel a\n         ^\n  a line here may begin with: flush_queue, set_max, freeze, thaw, fire, step, tick, next, ask, busy, pressure, relief, actor\n\
+    cmwq_checks/f.cmwq:5:75: fast: \x1b[1;31mBadWord\x1b[0m\n  queue q max 1 highpri unbound cpu_intensive freezable ordered mem_reclaim fast\n                                                                            ^\n  a line here may begin with: queue, actor\n";
 
 #[test]
 fn a_check_tells_each_files_verdict(rt: HostRuntime) {
@@ -172,16 +177,16 @@ const STEPS_RUN_OUT_TOLD: &[u8] = b"# queue a 0
 ";
 
 /// What is asked of the same run, where it is looked, the answer, and what is told. Settled are the start and, being the last, the end.
-const STEPS_RUN_OUT_WHY: [(Subject<'static>, Positions, Result<(), PlayError>, &[u8]); 7] = [
+const STEPS_RUN_OUT_WHY: [(Question<'static>, Looks, Result<(), PlayError>, &[u8]); 7] = [
     (
-        Subject::Work("a"),
-        Positions::Settled,
+        Question::Work("a"),
+        Looks::Settled,
         Ok(()),
         b"at 0 now 0 a not pending\nat 10 now 0 a ready, goes on next; spent\n",
     ),
     (
-        Subject::Work("a"),
-        Positions::Every,
+        Question::Work("a"),
+        Looks::Every,
         Ok(()),
         b"at 0 now 0 a not pending
 at 1 now 0 a listed 0: free to go, starts next
@@ -195,32 +200,32 @@ at 8 now 0 a ready, goes on next; spent
 ",
     ),
     (
-        Subject::Work("a"),
-        Positions::At(6),
+        Question::Work("a"),
+        Looks::At(6),
         Ok(()),
         b"at 6 now 0 a ready, goes on next; inactive 0: q has 1 of 1 active: a runs\n",
     ),
     (
-        Subject::Work("q"),
-        Positions::At(11),
+        Question::Work("q"),
+        Looks::At(11),
         Err(PlayError::NoSuchWork),
         b"",
     ),
     (
-        Subject::Work("a"),
-        Positions::At(11),
+        Question::Work("a"),
+        Looks::At(11),
         Err(PlayError::PastEnd),
         b"",
     ),
     (
-        Subject::Flush(0),
-        Positions::At(11),
+        Question::Flush(0),
+        Looks::At(11),
         Err(PlayError::PastEnd),
         b"",
     ),
     (
-        Subject::Flush(0),
-        Positions::Every,
+        Question::Flush(0),
+        Looks::Every,
         Err(PlayError::NoSuchFlush),
         b"",
     ),
@@ -259,39 +264,60 @@ fn each_command_reads_and_writes_files(rt: HostRuntime) {
         (RunKind::Settled, never, STEPS_RUN_OUT.prints),
         (RunKind::Told, Ok(()), STEPS_RUN_OUT_TOLD),
     ] {
-        let run = Request::Run { file, kind };
+        let run = Request::Do {
+            file,
+            task: Task::Run(kind),
+        };
         check_answer(&rt, run, result, prints);
     }
-    check_answer(&rt, Request::Settle { file }, never, b"");
-    for (subject, positions, result, prints) in STEPS_RUN_OUT_WHY {
-        let why = Request::Why {
+    check_answer(
+        &rt,
+        Request::Do {
             file,
-            subject,
-            positions,
-        };
+            task: Task::Settle,
+        },
+        never,
+        b"",
+    );
+    for (question, looks, result, prints) in STEPS_RUN_OUT_WHY {
+        let task = Task::Why(question, looks);
+        let why = Request::Do { file, task };
         check_answer(&rt, why, result, prints);
     }
     put_file(&rt, other, FLUSHED);
-    let why = Request::Why {
+    let why = Request::Do {
         file: other,
-        subject: Subject::Flush(0),
-        positions: Positions::Settled,
+        task: Task::Why(Question::Flush(0), Looks::Settled),
     };
     check_answer(&rt, why, Ok(()), FLUSHED_WAITS);
-    let options = DrawOptions {
-        settle: false,
-        svg: false,
+    let span = Span {
         from: None,
         to: None,
     };
+    let task = Task::Draw(Drawing {
+        settle: false,
+        svg: false,
+        span,
+    });
     let no_tick = b"     0\ncpu 0||\nactor||\n";
-    check_answer(&rt, Request::Draw { file, options }, Ok(()), no_tick);
-    check_answer(&rt, Request::List { file }, Ok(()), STEPS_RUN_OUT.text);
+    check_answer(&rt, Request::Do { file, task }, Ok(()), no_tick);
+    check_answer(
+        &rt,
+        Request::Do {
+            file,
+            task: Task::List,
+        },
+        Ok(()),
+        STEPS_RUN_OUT.text,
+    );
     check_answer(&rt, Request::Asm { file, out }, Ok(()), b"");
     check_file(&rt, out, &IMAGE);
     check_answer(
         &rt,
-        Request::Show { image: out },
+        Request::Do {
+            file: out,
+            task: Task::Show,
+        },
         Ok(()),
         STEPS_RUN_OUT.text,
     );
@@ -360,15 +386,33 @@ fn a_file_that_is_not_there_is_a_failed_read_or_write(rt: HostRuntime) {
     let out = "cmwq_no_folder/a.image";
     for (request, fault) in [
         (
-            Request::Run {
+            Request::Do {
                 file,
-                kind: RunKind::Plain,
+                task: Task::Run(RunKind::Plain),
             },
             PlayError::Read,
         ),
-        (Request::Settle { file }, PlayError::Read),
-        (Request::List { file }, PlayError::Read),
-        (Request::Show { image: out }, PlayError::Read),
+        (
+            Request::Do {
+                file,
+                task: Task::Settle,
+            },
+            PlayError::Read,
+        ),
+        (
+            Request::Do {
+                file,
+                task: Task::List,
+            },
+            PlayError::Read,
+        ),
+        (
+            Request::Do {
+                file: out,
+                task: Task::Show,
+            },
+            PlayError::Read,
+        ),
         (Request::Debug { file }, PlayError::Read),
         (Request::Play { file, capacity: 1 }, PlayError::Read),
         (Request::Asm { file, out }, PlayError::Write),
@@ -376,10 +420,9 @@ fn a_file_that_is_not_there_is_a_failed_read_or_write(rt: HostRuntime) {
     ] {
         check_answer(&rt, request, Err(fault), b"");
     }
-    let why = Request::Why {
+    let why = Request::Do {
         file,
-        subject: Subject::Work("a"),
-        positions: Positions::Settled,
+        task: Task::Why(Question::Work("a"), Looks::Settled),
     };
     check_answer(&rt, why, Err(PlayError::Read), b"");
 }
@@ -398,7 +441,10 @@ fn a_faulty_image_is_told(rt: HostRuntime) {
         put_file(&rt, image, bytes);
         check_answer(
             &rt,
-            Request::Show { image },
+            Request::Do {
+                file: image,
+                task: Task::Show,
+            },
             Err(PlayError::Image(fault)),
             b"",
         );

@@ -1,15 +1,17 @@
-//! What the instruction table counts and seeks in a machine's state, by scans over whatever can be asked of it. It is written
-//! once, for machines and for whoever looks at one.
+//! What the instruction table counts and seeks in a machine's state, by scans over whatever can be asked of it, and what it refuses an
+//! instruction for at once. It is written once, for machines and for whoever looks at one.
 #![tactic(auto)]
 
 mod flushes;
 mod moves;
+mod refusing;
 mod sought;
 mod tally;
 mod workers;
 
 pub use flushes::{flush_target, is_done};
 pub use moves::{has_no_move, is_settled, is_spent, next_move, ready_head};
+pub use refusing::{is_question, refused_at_once};
 pub use sought::{Sought, fires_before, first, pending_before, running_before, wakes_before};
 pub use tally::{Tally, active, count, has_room, is_busy, is_counted, level, limit, may_start};
 pub use workers::{free_worker, has_free_rescuer, idle_since, last_idle, new_worker};

@@ -1,9 +1,9 @@
 //! The state as vectors that are scanned, read and written by number.
 ghost use Rattle.cmwq_table.specs.Moves.{begun};
 ghost use Rattle.cmwq_table.specs.State.{seat};
-ghost use Rattle.std.specs.Prelude.{◌≡◌};
+ghost use Rattle.std.specs.Prelude.{◌≡◌, slice_set};
 
-use crate::beginning::{PoolVectors, WorkVectors, copied_flushes, declared_max};
+use crate::beginning::{copied_flushes, declared_max, filled};
 use crate::burning::burn;
 use crate::looking::{entries, idle_workers};
 use cmwq_parts::Parts;
@@ -76,6 +76,10 @@ impl Reads for Records {
         self.time
     }
 
+    fn next_stamp(&self) -> u64 {
+        self.next
+    }
+
     fn spent(&self) -> u32 {
         self.spent
     }
@@ -121,92 +125,63 @@ impl Reads for Records {
     }
 }
 
+#[tactic(auto, using(crate::proofs::TimerLemmas::keeps_timers))]
 impl Parts for Records {
     fn begin(alloc: Global, scenario: Arc<Scenario>) -> Result<Self, NoMemory> {
-        let max = declared_max(alloc, &scenario.queues)?;
-        let flushes = Vec::with_capacity(alloc, scenario.flushes as usize)?;
-        let works = WorkVectors::at_rest(alloc, scenario.works.len())?;
-        let pools = PoolVectors::at_rest(alloc, scenario.pool_count())?;
-        let WorkVectors {
-            pending,
-            running,
-            depth,
-        } = works;
-        let PoolVectors { idle, made } = pools;
+        let works = scenario.works.len();
+        let pools = scenario.pool_count() as usize;
         Ok(Records {
-            scenario,
             time: 0,
             next: 0,
             spent: 0,
             frozen: false,
             pressed: false,
-            max,
-            pending,
-            running,
-            depth,
-            idle,
-            made,
-            flushes,
+            max: declared_max(alloc, &scenario.queues)?,
+            pending: filled(alloc, None, works)?,
+            running: filled(alloc, None, works)?,
+            depth: filled(alloc, 0, works)?,
+            idle: filled(alloc, None, MAX_WORKERS as usize * pools)?,
+            made: filled(alloc, 0, pools)?,
+            flushes: Vec::with_capacity(alloc, scenario.flushes as usize)?,
+            scenario,
         })
     }
 
     fn copy(&self) -> Result<Self, NoMemory> {
         let alloc = *self.max.allocator();
-        let scenario = Arc::clone(&self.scenario)?;
-        let max = Vec::from_slice(alloc, &self.max)?;
-        let flushes = copied_flushes(alloc, &self.flushes, self.scenario.flushes as usize)?;
-        let works = WorkVectors::copied(alloc, &self.pending, &self.running, &self.depth)?;
-        let pools = PoolVectors::copied(alloc, &self.idle, &self.made)?;
-        let WorkVectors {
-            pending,
-            running,
-            depth,
-        } = works;
-        let PoolVectors { idle, made } = pools;
         Ok(Records {
-            scenario,
+            scenario: Arc::clone(&self.scenario)?,
             time: self.time,
             next: self.next,
             spent: self.spent,
             frozen: self.frozen,
             pressed: self.pressed,
-            max,
-            pending,
-            running,
-            depth,
-            idle,
-            made,
-            flushes,
+            max: Vec::from_slice(alloc, &self.max)?,
+            pending: Vec::from_slice(alloc, &self.pending)?,
+            running: Vec::from_slice(alloc, &self.running)?,
+            depth: Vec::from_slice(alloc, &self.depth)?,
+            idle: Vec::from_slice(alloc, &self.idle)?,
+            made: Vec::from_slice(alloc, &self.made)?,
+            flushes: copied_flushes(alloc, &self.flushes, self.scenario.flushes as usize)?,
         })
     }
 
     fn look(&self) -> Result<View, NoMemory> {
         let alloc = *self.max.allocator();
-        let max = Vec::from_slice(alloc, &self.max)?;
-        let pending = entries(alloc, &self.pending)?;
-        let running = entries(alloc, &self.running)?;
-        let depth = Vec::from_slice(alloc, &self.depth)?;
-        let idle = idle_workers(alloc, &self.idle)?;
-        let made = Vec::from_slice(alloc, &self.made)?;
-        let flushes = Vec::from_slice(alloc, &self.flushes)?;
         Ok(View {
             time: self.time,
             next: self.next,
             spent: self.spent,
             frozen: self.frozen,
             pressed: self.pressed,
-            max,
-            pending,
-            running,
-            depth,
-            idle,
-            made,
-            flushes,
+            max: Vec::from_slice(alloc, &self.max)?,
+            pending: entries(alloc, &self.pending)?,
+            running: entries(alloc, &self.running)?,
+            depth: Vec::from_slice(alloc, &self.depth)?,
+            idle: idle_workers(alloc, &self.idle)?,
+            made: Vec::from_slice(alloc, &self.made)?,
+            flushes: Vec::from_slice(alloc, &self.flushes)?,
         })
-    }
-
-    fn next_stamp(&self) -> u64 {
-        self.next
     }
 
     fn bear(&mut self, w: usize, place: Place) {
@@ -234,12 +209,13 @@ impl Parts for Records {
     }
 
     fn start_on(&mut self, pool: u8, w: usize, worker: u8, p: Pending) {
+        let made = self.made_of(pool);
         let stamp = self.take_stamp();
         self.pending[w] = None;
         self.running[w] = Some(begun(p.born, pool, worker, stamp));
-        self.idle[seat(pool, worker)] = None;
-        let made = self.made[pool as usize];
-        self.made[pool as usize] = if worker == made { worker + 1 } else { made };
+        set(&mut self.idle, seat(pool, worker), None);
+        let most = if worker == made { worker + 1 } else { made };
+        set(&mut self.made, pool as usize, most);
     }
 
     fn rescue(&mut self, pool: u8, w: usize, p: Pending) {
@@ -279,7 +255,7 @@ impl Parts for Records {
             return;
         }
         let stamp = self.take_stamp();
-        self.idle[seat(r.pool, r.worker)] = Some(stamp);
+        set(&mut self.idle, seat(r.pool, r.worker), Some(stamp));
     }
 
     fn tick(&mut self) {
@@ -335,6 +311,16 @@ fn seat(pool: u8, worker: u8) -> usize
     ensures { result ≡ seat pool worker }
 {
     MAX_WORKERS as usize * pool as usize + worker as usize
+}
+
+/// Writes the value at the place, if there is such a place.
+#[tactic(auto, using(std::proofs::lemmas::List::set_past))]
+fn set<T: Copy>(values: &mut [T], place: usize, value: T)
+    ensures { values.new ≡ slice_set values.old place value }
+{
+    if place < values.len() {
+        values[place] = value;
+    }
 }
 
 /// An instance born then, at the beginning of its body.

@@ -148,18 +148,6 @@ fn take_word_within<'t>(low: u32, high: u32, rest: &'t [u8]) -> Field<'t, u32>
     Ok((number as u32, rest))
 }
 
-/// A number below the limit.
-#[tactic(auto, unfolding(cmwq_grammar::specs::Fields::number_where))]
-fn take_number_below<'t>(limit: u8, rest: &'t [u8]) -> Field<'t, u8>
-    ensures { Tells (λ field. (field.0, words_left field.1.now)) result (number_where (λ n. nat_lt n limit) (words_left rest.now)) }
-{
-    let (number, rest) = take_number(rest)?;
-    if number >= u64::from(limit) {
-        return Err(Why::Fault(Fault::Range));
-    }
-    Ok((number as u8, rest))
-}
-
 /// The number of a name that is among these, in a line's last word.
 pub fn take_last_declared(names: &Names, rest: &[u8]) -> Result<usize, Why>
     ensures number { Tells (λ n. n) result (last (declared_at names.now (words_left rest.now))) }
@@ -189,11 +177,15 @@ pub fn take_last_number_within(low: u32, high: u32, rest: &[u8]) -> Result<u32, 
 }
 
 /// A number below the limit, in a line's last word.
+#[tactic(auto, unfolding(cmwq_grammar::specs::Fields::number_where))]
 pub fn take_last_number_below(limit: u8, rest: &[u8]) -> Result<u8, Why>
     ensures { Tells (λ n. n) result (last (number_where (λ n. nat_lt n limit) (words_left rest.now))) }
 {
-    let (number, rest) = take_number_below(limit, rest)?;
-    ended(number, rest)
+    let (number, rest) = take_number(rest)?;
+    if number >= u64::from(limit) {
+        return Err(Why::Fault(Fault::Range));
+    }
+    ended(number as u8, rest)
 }
 
 /// What is left behind this word, which must stand here.

@@ -8,7 +8,6 @@ mod misplaced;
 mod naming;
 mod numbers;
 mod text;
-mod token_fields;
 mod tokens;
 mod words;
 
@@ -21,6 +20,5 @@ pub use fields::{
 pub use misplaced::refusal;
 pub use naming::{Named, Names};
 pub use text::is_text;
-pub use token_fields::read_last_number_within;
-pub use tokens::{Token, read_tokens};
+pub use tokens::{Token, Tokens, number_in, read_tokens};
 pub use words::{is_word, next_word};

@@ -1,15 +1,21 @@
 //! The words of a line, each with its column.
 ghost use Rattle.cmwq_grammar.specs.Cutting.{words_of};
+ghost use Rattle.cmwq_grammar.specs.Fields.{number_within};
+ghost use Rattle.cmwq_scan.specs.Answers.{Tells};
+ghost use Rattle.cmwq_scan.specs.LastFields.{last};
 ghost use Rattle.cmwq_scan.specs.Words.{IsBefore, StandsIn, word_if_filled, words_in, worded_part};
 ghost use Rattle.std.specs.List.{All, AllPairs};
-ghost use Rattle.std.specs.Prelude.{◌≡◌, ◌++◌, OnOk};
+ghost use Rattle.std.specs.Prelude.{◌≡◌, ◌++◌, ◌≤◌, IfOk, OnOk};
 
 use crate::cutting::{cut_at_blank, worded_part};
-use cmwq_types::NoMemory;
+use crate::numbers::number_of;
+use cmwq_grammar::Why;
+use cmwq_types::{Fault, NoMemory};
+use smallvec::SmallVec;
 use std::marker::Model;
 
 /// A word of a line.
-#[derive(Debug, Drop)]
+#[derive(Debug, Default, Drop)]
 pub struct Token<'t> {
     bytes: &'t [u8],
     column: usize,
@@ -39,8 +45,12 @@ impl<'t> Token<'t> {
     }
 }
 
-/// Leaves the words of the line in the vector, and nothing else. Its room serves each line.
-pub fn read_tokens<'t>(tokens: &mut Vec<Token<'t>>, line: &'t [u8]) -> Result<(), NoMemory>
+/// The words of a line. Ten of them need no allocation: no good line has more, as `queue NAME max N` with six flags has ten, and
+/// no command of the debugger has more than five.
+pub type Tokens<'t> = SmallVec<Token<'t>, 10>;
+
+/// Leaves the words of the line in the list, and nothing else.
+pub fn read_tokens<'t>(tokens: &mut Tokens<'t>, line: &'t [u8]) -> Result<(), NoMemory>
     ensures words { OnOk result (words_in tokens.new.items ≡ words_of line.now) }
     // Each word stands at its column, and they stand in order; none stands in a comment.
     ensures columns { OnOk result (All (StandsIn (worded_part line.now)) tokens.new.items) }
@@ -59,11 +69,7 @@ pub fn read_tokens<'t>(tokens: &mut Vec<Token<'t>>, line: &'t [u8]) -> Result<()
 }
 
 /// Adds the word at this column, unless it is empty.
-fn push_filled<'t>(
-    tokens: &mut Vec<Token<'t>>,
-    bytes: &'t [u8],
-    column: usize,
-) -> Result<(), NoMemory>
+fn push_filled<'t>(tokens: &mut Tokens<'t>, bytes: &'t [u8], column: usize) -> Result<(), NoMemory>
     ensures { OnOk result (tokens.new.items
         ≡ tokens.old.items ++ word_if_filled (record { bytes = bytes.now; column = column })) }
 {
@@ -71,4 +77,25 @@ fn push_filled<'t>(
         tokens.push(Token { bytes, column })?;
     }
     Ok(())
+}
+
+/// The number that these words are, from 0 to `high`, or why they aren't one.
+#[tactic(auto, unfolding(cmwq_grammar::specs::Fields::word_at, cmwq_grammar::specs::Fields::number_at, cmwq_grammar::specs::Fields::number_where, cmwq_grammar::specs::Fields::ended))]
+pub fn number_in(words: &[Token], high: u32) -> Result<u32, Why>
+    ensures number { Tells (λ n. n) result (last (number_within 0 high (words_in words.now))) }
+    ensures within { IfOk result (λ n. n ≤ high) }
+{
+    let [word, rest @ ..] = words else {
+        return Err(Why::MissingWord);
+    };
+    let Some(number) = number_of(word.bytes()) else {
+        return Err(Why::BadNumber);
+    };
+    if number > u64::from(high) {
+        return Err(Why::Fault(Fault::Range));
+    }
+    if !rest.is_empty() {
+        return Err(Why::ExtraWord);
+    }
+    Ok(number as u32)
 }

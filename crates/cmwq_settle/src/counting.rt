@@ -1,17 +1,19 @@
 //! How many `next` it takes until a machine is quiet.
-ghost use Rattle.cmwq_play.specs.Runs.{IsRunOf};
-ghost use Rattle.cmwq_settle.specs.Counting.{IsCounted, number};
+ghost use Rattle.cmwq_play.specs.Runs.{CanRun, IsRunOf};
+ghost use Rattle.cmwq_settle.specs.Counting.{HasCounted, IsCounted, number};
 ghost use Rattle.cmwq_settle.specs.Quiet.{nexts_left};
 ghost use Rattle.cmwq_table.specs.State.{start};
 ghost use Rattle.cmwq_types.specs.Faults.{IsValid};
 ghost use Rattle.cmwq_types.specs.Scenario.{expand_lines};
 ghost use Rattle.cmwq_types.specs.declared.limits.TheConstants.{MAX_HISTORY};
-ghost use Rattle.std.specs.Prelude.{◌≡◌, ◌-◌, length, min};
+ghost use Rattle.std.specs.Prelude.{◌≡◌, ◌-◌, IfOk, length, min};
 
 use crate::watch::Watch;
 use cmwq_runs::{issue_all, room_behind};
 use cmwq_table::{Machine, Reads};
-use cmwq_types::{Actor, Line, Scenario};
+use cmwq_types::{Actor, Line, NoMemory, Scenario};
+use std::alloc::Global;
+use std::sync::Arc;
 
 /// How many `next` are to be issued behind an actor's instructions.
 #[derive(Clone, Copy)]
@@ -33,8 +35,21 @@ impl Nexts {
     }
 }
 
+/// How many `next` are to be issued behind the instructions of the scenario's one actor, as a machine of its own tells.
+pub(crate) fn counted<M: Machine>(
+    alloc: Global,
+    scenario: &Arc<Scenario>,
+) -> Result<Nexts, NoMemory>
+    requires valid { IsValid scenario.now.value }
+    requires can { CanRun scenario.now.value }
+    ensures { IfOk result (λ nexts. HasCounted scenario.now.value nexts) }
+{
+    let machine = M::begin(alloc, Arc::clone(scenario)?)?;
+    Ok(count_nexts(machine, scenario, &scenario.actors[0]))
+}
+
 /// How many `next` are to be issued behind the actor's instructions, on a machine at its start.
-pub(crate) fn count_nexts<M: Machine>(machine: M, scenario: &Scenario, actor: &Actor) -> Nexts
+fn count_nexts<M: Machine>(machine: M, scenario: &Scenario, actor: &Actor) -> Nexts
     requires valid { IsValid scenario.now }
     requires runs { IsRunOf scenario.now actor.now }
     requires loaded { M.loaded machine ≡ scenario.now }

@@ -1,20 +1,20 @@
 //! `run --settle`: from a scenario's text to the lines that it prints until its machine is quiet.
 ghost use Rattle.cmwq_play.specs.Commands.{Answers, Reads, Writes};
 ghost use Rattle.cmwq_play.specs.Runs.{CanRun, IsRunOf};
-ghost use Rattle.cmwq_settle.specs.Counting.{HasCounted, IsCounted};
+ghost use Rattle.cmwq_settle.specs.Counting.{IsCounted};
 ghost use Rattle.cmwq_settle.specs.Settling.{IsEndlessOutput, IsEndlessRun, IsFollowedOutput, IsFollowedRun, IsSettledOutput, IsSettledRun, IsUnsettledRun, Wrote};
 ghost use Rattle.cmwq_streams.specs.Sending.{IsSendError};
 ghost use Rattle.cmwq_table.specs.State.{start};
 ghost use Rattle.cmwq_types.specs.Faults.{IsValid};
-ghost use Rattle.std.specs.Prelude.{◌≡◌, ◌⊎◌, Err, IfErr, IfOk, OnOk, false};
+ghost use Rattle.std.specs.Prelude.{◌≡◌, ◌⊎◌, Err, IfErr, OnOk, false};
 
-use crate::counting::{Nexts, count_nexts};
+use crate::counting::{Nexts, counted};
 use crate::extending::with_nexts;
 use cmwq_plain::Plain;
 use cmwq_play::{judge, print_actor, read_text};
 use cmwq_streams::{PlayError, Sink, Source};
 use cmwq_table::Machine;
-use cmwq_types::{Actor, NoMemory, Scenario};
+use cmwq_types::{Actor, Scenario};
 use std::alloc::Global;
 use std::sync::Arc;
 
@@ -58,7 +58,9 @@ fn count_and_print<M: Machine, W: Sink>(
     ensures writes { Writes (IsFollowedOutput scenario) (W.contents writer.old) (W.contents writer.new) (W.failed writer.new) result }
     ensures why { IfErr result (λ error. (error ≡ PlayError.NeverQuiet) ⊎ IsSendError error) }
 {
-    let (scenario, nexts, machine) = prepared::<M>(alloc, scenario)?;
+    let scenario = Arc::new(alloc, scenario)?;
+    let nexts = counted::<M>(alloc, &scenario)?;
+    let machine = M::begin(alloc, Arc::clone(&scenario)?)?;
     print_followed(
         alloc,
         &scenario,
@@ -67,37 +69,6 @@ fn count_and_print<M: Machine, W: Sink>(
         machine,
         writer,
     )
-}
-
-/// The scenario; how many `next` are to follow its one actor's instructions, as a machine tells; and another machine at its start.
-fn prepared<M: Machine>(
-    alloc: Global,
-    scenario: Scenario,
-) -> Result<(Arc<Scenario>, Nexts, M), NoMemory>
-    requires valid { IsValid scenario }
-    requires can { CanRun scenario }
-    ensures same { IfOk result (λ r. r.0.value ≡ scenario) }
-    ensures counted { IfOk result (λ r. HasCounted scenario r.1) }
-    ensures loaded { IfOk result (λ r. M.loaded r.2 ≡ scenario) }
-    ensures start { IfOk result (λ r. M.state r.2 ≡ start scenario) }
-{
-    let scenario = Arc::new(alloc, scenario)?;
-    let (nexts, machine) = counted_on::<M>(alloc, &scenario)?;
-    Ok((scenario, nexts, machine))
-}
-
-/// How many `next` are to follow the one actor's instructions, as a machine tells, and another machine at its start.
-fn counted_on<M: Machine>(alloc: Global, scenario: &Arc<Scenario>) -> Result<(Nexts, M), NoMemory>
-    requires valid { IsValid scenario.now.value }
-    requires can { CanRun scenario.now.value }
-    ensures counted { IfOk result (λ r. HasCounted scenario.now.value r.0) }
-    ensures loaded { IfOk result (λ r. M.loaded r.1 ≡ scenario.now.value) }
-    ensures start { IfOk result (λ r. M.state r.1 ≡ start scenario.now.value) }
-{
-    let machine = M::begin(alloc, Arc::clone(scenario)?)?;
-    let nexts = count_nexts(machine, scenario, &scenario.actors[0]);
-    let machine = M::begin(alloc, Arc::clone(scenario)?)?;
-    Ok((nexts, machine))
 }
 
 /// Issues the actor's instructions on a machine at its start, and behind them so many `next`, and writes the lines of the replies.

@@ -1,19 +1,17 @@
 //! `settle`: from a scenario's text to the listing of the settled scenario.
 ghost use Rattle.cmwq_play.specs.Commands.{Answers, Reads, Writes};
-ghost use Rattle.cmwq_play.specs.Runs.{CanRun};
-ghost use Rattle.cmwq_settle.specs.Counting.{HasCounted, with_actor};
+ghost use Rattle.cmwq_settle.specs.Counting.{with_actor};
 ghost use Rattle.cmwq_settle.specs.Settled.{IsSettled, IsUnsettleable};
 ghost use Rattle.cmwq_settle.specs.Settling.{IsSettledText, IsUnsettledText};
 ghost use Rattle.cmwq_types.specs.Faults.{IsValid};
 ghost use Rattle.std.specs.Io.KnownBytes.{Keeps};
 ghost use Rattle.std.specs.Prelude.{◌≡◌, ◌⊎◌, Err, IfErr, IfOk, false};
 
-use crate::counting::{Nexts, count_nexts};
+use crate::counting::{Nexts, counted};
 use crate::extending::with_nexts;
 use cmwq_plain::Plain;
 use cmwq_play::{judge, read_text, write_listing};
 use cmwq_streams::{PlayError, Sink, Source};
-use cmwq_table::Machine;
 use cmwq_types::{Actor, MAX_LINES, NoMemory, Scenario};
 use std::alloc::Global;
 use std::sync::Arc;
@@ -55,7 +53,8 @@ pub fn settled(alloc: Global, scenario: Scenario) -> Result<Scenario, PlayError>
     ensures why { IfErr result (λ error. IsUnsettleable scenario error ⊎ (error ≡ PlayError.NoMemory)) }
 {
     judge(&scenario)?;
-    let Nexts::Settle(n) = counted::<Plain>(alloc, &scenario)? else {
+    let shared = Arc::new(alloc, scenario.copy()?)?;
+    let Nexts::Settle(n) = counted::<Plain>(alloc, &shared)? else {
         return Err(PlayError::NeverQuiet);
     };
     let actor = with_nexts(alloc, &scenario.actors[0], n)?;
@@ -63,16 +62,6 @@ pub fn settled(alloc: Global, scenario: Scenario) -> Result<Scenario, PlayError>
         return Err(PlayError::Full);
     }
     Ok(with_actor(alloc, scenario, actor)?)
-}
-
-/// How many `next` are to be issued behind the one actor's instructions, as a machine of its own tells.
-fn counted<M: Machine>(alloc: Global, scenario: &Scenario) -> Result<Nexts, NoMemory>
-    requires valid { IsValid scenario.now }
-    requires can { CanRun scenario.now }
-    ensures { IfOk result (λ nexts. HasCounted scenario.now nexts) }
-{
-    let machine = M::begin(alloc, Arc::new(alloc, scenario.copy()?)?)?;
-    Ok(count_nexts(machine, scenario, &scenario.actors[0]))
 }
 
 /// The same scenario with this one actor.

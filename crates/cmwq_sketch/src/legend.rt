@@ -24,21 +24,13 @@ const EXPLICABLE: [Cell; 8] = [
 pub fn explained(alloc: Global, rows: &[Row]) -> Result<Vec<Cell>, NoMemory>
     ensures { IfOk result (λ cells. cells.items ≡ explained rows.now) }
 {
-    shown_among(alloc, rows, &EXPLICABLE)
-}
-
-/// Those of the cells that a row shows somewhere.
-#[tactic(auto, using(std::proofs::lemmas::List::Elements::filter_more))]
-fn shown_among(alloc: Global, rows: &[Row], cells: &[Cell]) -> Result<Vec<Cell>, NoMemory>
-    ensures { IfOk result (λ shown. shown.items ≡ filter (is_shown rows.now) cells.now) }
-{
-    let mut shown = Vec::new(alloc);
-    for cell in cells {
-        if is_shown(rows, *cell) {
-            shown.push(*cell)?;
-        }
-    }
-    Ok(shown)
+    Ok(
+        EXPLICABLE
+            .iter()
+            .copied()
+            .filter(|cell| is_shown(rows, *cell))
+            .collect(alloc)?,
+    )
 }
 
 /// Whether a row shows the cell somewhere.

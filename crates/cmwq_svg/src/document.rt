@@ -1,7 +1,7 @@
 //! The SVG text of a picture.
 ghost use Rattle.cmwq_sketch.specs.Labels.{longest};
 ghost use Rattle.cmwq_svg.specs.Bars.{bars, ended};
-ghost use Rattle.cmwq_svg.specs.Svg.{bar_svg, burner_name, drawing, key_svg, legend_svg, row_svg, rows_svg, svg_text, time_marks};
+ghost use Rattle.cmwq_svg.specs.Svg.{bar_svg, burner_name, key_svg, legend_svg, row_svg, rows_svg, svg_text, time_marks};
 ghost use Rattle.std.specs.List.{flat_map};
 ghost use Rattle.std.specs.Prelude.{◌≡◌, ◌≤◌, ◌^◌, ◌++◌, IfOk, IfSome, OnOk, string_bytes};
 ghost use Rattle.cmwq_sketch.specs.Times.{time_count};
@@ -24,8 +24,14 @@ pub fn svg(alloc: Global, scenario: &Scenario, picture: &Picture) -> Result<Vec<
 {
     let width = label_width(alloc, scenario, &picture.rows)?;
     let frame = Frame { scenario, width };
+    let cells = explained(alloc, &picture.rows)?;
+    let height = full_height(picture.rows.len(), cells.len());
     let mut text = String::new(alloc);
-    frame.push_drawing(alloc, &mut text, picture)?;
+    push_head(&mut text, full_width(width, picture.ticks), height)?;
+    frame.push_times(&mut text, picture)?;
+    frame.push_rows(alloc, &mut text, &picture.rows)?;
+    frame.push_legend(&mut text, picture.rows.len(), &cells)?;
+    text.push_str("</svg>\n")?;
     Ok(text.into_bytes())
 }
 
@@ -37,26 +43,6 @@ struct Frame<'a> {
 }
 
 impl Frame<'_> {
-    /// Writes the whole picture.
-    fn push_drawing(
-        &self,
-        alloc: Global,
-        text: &mut String,
-        picture: &Picture,
-    ) -> Result<(), NoMemory>
-        ensures { OnOk result (string_bytes text.new ≡ string_bytes text.old ++ drawing self.now.scenario.now picture.now self.now.width) }
-    {
-        let cells = explained(alloc, &picture.rows)?;
-        let width = full_width(self.width, picture.ticks);
-        let height = full_height(picture.rows.len(), cells.len());
-        push_head(text, width, height)?;
-        self.push_times(text, picture)?;
-        self.push_rows(alloc, text, &picture.rows)?;
-        self.push_legend(text, picture.rows.len(), &cells)?;
-        text.push_str("</svg>\n")?;
-        Ok(())
-    }
-
     /// Writes a line and a time for each time of the picture.
     fn push_times(&self, text: &mut String, picture: &Picture) -> Result<(), NoMemory>
         ensures { OnOk result (string_bytes text.new ≡ string_bytes text.old ++ time_marks picture.now self.now.width (time_count picture.now)) }
@@ -116,29 +102,21 @@ impl Frame<'_> {
             if goes_on(last, *cell) {
                 last = grown(last, at + 1);
             } else {
-                self.push_ended(text, row, last)?;
+                self.push_bar(text, row, last)?;
                 last = begun(*cell, at);
             }
         }
-        self.push_ended(text, row, last)
+        self.push_bar(text, row, last)
     }
 
-    /// Writes the rectangle that has come to its end, if there is one.
-    fn push_ended(&self, text: &mut String, row: usize, last: Option<Bar>) -> Result<(), NoMemory>
+    /// Writes the rectangle that has come to its end, if there is one, and the name of who burns.
+    fn push_bar(&self, text: &mut String, row: usize, last: Option<Bar>) -> Result<(), NoMemory>
         requires { IfSome last (λ bar. bar.from ≤ bar.to) }
         ensures { OnOk result (string_bytes text.new ≡ string_bytes text.old ++ flat_map (bar_svg self.now.scenario.now self.now.width row) (ended last)) }
     {
-        match last {
-            Some(bar) => self.push_bar(text, row, bar),
-            None => Ok(()),
-        }
-    }
-
-    /// Writes a rectangle, and the name of who burns.
-    fn push_bar(&self, text: &mut String, row: usize, bar: Bar) -> Result<(), NoMemory>
-        requires { bar.from ≤ bar.to }
-        ensures { OnOk result (string_bytes text.new ≡ string_bytes text.old ++ bar_svg self.now.scenario.now self.now.width row bar) }
-    {
+        let Some(bar) = last else {
+            return Ok(());
+        };
         let rectangle = Rectangle {
             class: class_of(bar.cell),
             x: x_of(self.width, bar.from as u128),

@@ -2,5 +2,4 @@ pub mod CounterLemmas
 pub mod HeadLemmas
 pub mod IdleLemmas
 mod LawLemmas
-pub mod ReadyLemmas
 pub mod RunLemmas

@@ -117,27 +117,7 @@ was_text false = codes "not pending"
 -- the work that an instruction names, if it names one
 abbrev pub asked_name : ScenarioContents → Instr → List ℕ
 asked_name S (instr.State work) = work_name S work
-asked_name S (instr.Queue work cpu) = []
-asked_name S (instr.Delay work cpu ticks) = []
-asked_name S (instr.Mod work cpu ticks) = []
-asked_name S (instr.Cancel work) = []
-asked_name S (instr.CancelSync work) = []
-asked_name S (instr.Flush work) = []
-asked_name S (instr.FlushDelayed work) = []
-asked_name S (instr.FlushQueue queue) = []
-asked_name S (instr.SetMax queue max) = []
-asked_name S instr.Freeze = []
-asked_name S instr.Thaw = []
-asked_name S instr.Fire = []
-asked_name S (instr.Step pool) = []
-asked_name S instr.Tick = []
-asked_name S instr.Next = []
-asked_name S (instr.Ask flush) = []
-asked_name S instr.Busy = []
-asked_name S (instr.Disable work) = []
-asked_name S (instr.Enable work) = []
-asked_name S instr.Pressure = []
-asked_name S instr.Relief = []
+asked_name S asked = []
 
 -- what was queued or done without a word has no line
 abbrev pub is_silent : Reply → Bool

@@ -1,14 +1,12 @@
--- What holds whenever a machine can go on: of each pending and each running work, and of the counters.
-use Rattle.std.specs.Prelude.{◌≡◌, ◌⊎◌, ℕ, ◌+◌, ◌*◌, ◌<◌, ◌≤◌, Option, Some, None}
+-- What holds whenever a machine can go on: of places, and of the counters.
+use Rattle.std.specs.Prelude.{◌≡◌, ℕ, ◌+◌, ◌*◌, ◌<◌, ◌≤◌}
 use Rattle.cmwq_types.specs.Contents.{ScenarioContents}
 use Rattle.cmwq_types.specs.Scenario.{pool_count}
 use Rattle.cmwq_types.specs.Setting.{IsSetting}
-use Rattle.cmwq_types.specs.declared.limits.TheConstants.{MAX_CPUS, MAX_DEPTH, MAX_OPS, MAX_QUEUES, MAX_WORKERS, MAX_WORKS, RESCUER}
+use Rattle.cmwq_types.specs.declared.limits.TheConstants.{MAX_CPUS, MAX_DEPTH, MAX_QUEUES, MAX_WORKS}
 use Rattle.cmwq_types.specs.declared.reply.Place.{Place}
 use Rattle.cmwq_types.specs.declared.reply.Place.TheVariants.{Timer, Inactive, Listed, Deferred}
-use Rattle.cmwq_table.specs.State.{State, pending_at, running_at, depth_at}
-use Rattle.cmwq_table.specs.declared.state.Pending.{Pending}
-use Rattle.cmwq_table.specs.declared.state.Running.{Running}
+use Rattle.cmwq_table.specs.State.{State, depth_at}
 
 -- a place's CPU or pool is there
 abbrev pub IsPlaceReady : ScenarioContents → Place → Type 0
@@ -16,22 +14,6 @@ IsPlaceReady S (Timer due cpu) = cpu < S.cpus
 IsPlaceReady S (Inactive pool) = pool < pool_count S
 IsPlaceReady S (Listed pool) = pool < pool_count S
 IsPlaceReady S (Deferred pool) = pool < pool_count S
-
-abbrev pub IsPendingReady : ScenarioContents → Option Pending → Type 0
-IsPendingReady S (Some p) = IsPlaceReady S p.place
-IsPendingReady S None = Unit {0}
-
--- a running work's pool is there, so is its worker where that isn't a rescuer, and its place in the body is within a
--- body or at its end
-abbrev pub IsRunningReady : ScenarioContents → Option Running → Type 0
-IsRunningReady S (Some r) = (r.pool < pool_count S) × ((r.worker < MAX_WORKERS) ⊎ (r.worker ≡ RESCUER)) × (r.pc ≤ MAX_OPS)
-IsRunningReady S None = Unit {0}
-
--- What holds even amid an instruction: each pending and each running work can be gone on from.
-pub record IsReady (S : ScenarioContents) (s : State) : Type 0 where
-  pub setting : IsSetting S
-  pub pending : (w : ℕ) → IsPendingReady S (pending_at s w)
-  pub running : (w : ℕ) → IsRunningReady S (running_at s w)
 
 -- The most stamps that filling one queue in each pool takes: a fill gives each work at most one.
 abbrev pub most_everywhere : ℕ

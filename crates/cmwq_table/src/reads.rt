@@ -19,14 +19,19 @@ pub trait Reads {
     /// The whole state.
     ghost state: { Self → State };
 
-    /// The scenario that was loaded.
+    /// The scenario that was loaded. Of each of its works the state says whether it is pending, and of no others.
     fn scenario(&self) -> &Scenario
         ensures scenario { result.now ≡ loaded self.now }
-        ensures setting { IsSetting (loaded self.now) };
+        ensures setting { IsSetting (loaded self.now) }
+        ensures works { length (state self.now).pending ≡ length (loaded self.now).works };
 
     /// The time, in ticks since the start.
     fn time(&self) -> u64
         ensures { result ≡ (state self.now).time };
+
+    /// The next stamp: how many were given out, from 0.
+    fn next_stamp(&self) -> u64
+        ensures { result ≡ (state self.now).next };
 
     /// How many instructions were spent: accepted, questions aside.
     fn spent(&self) -> u32

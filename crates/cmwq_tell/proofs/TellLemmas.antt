@@ -25,9 +25,9 @@ abbrev pub telling : Whole → ScenarioContents → State → Instr → List ℕ
 telling whole S s instr = told_wholly S s instr (table S s instr)
 
 abbrev pub keeping : Whole → ScenarioContents → State → Instr → Whole
-keeping whole S s instr = record whole { next = (table S s instr).0.next }
+keeping whole S s instr = whole
 
 -- what it tells of several
 pub whole-told : (whole : Whole) (S : ScenarioContents) (s : State) (instrs : List Instr) → told_from telling keeping whole S s instrs ≡ tell_from S s instrs
 whole-told whole S s [] = refl
-whole-told whole S s (instr ∷ instrs) = ap (λ (more : List ℕ). told_wholly S s instr (table S s instr) ++ more) (whole-told (keeping whole S s instr) S (table S s instr).0 instrs)
+whole-told whole S s (instr ∷ instrs) = ap (λ (more : List ℕ). told_wholly S s instr (table S s instr) ++ more) (whole-told whole S (table S s instr).0 instrs)

@@ -29,6 +29,5 @@ pub fn run_told<R: Source, W: Sink>(
     ensures answers { Answers IsToldRun IsRunFault (R.remaining reader.old) result }
     ensures writes { Writes (IsToldRun (R.remaining reader.old)) (W.contents writer.old) (W.contents writer.new) (W.failed writer.new) result }
 {
-    let whole = Whole { alloc, next: 0 };
-    tell_run::<Plain, Whole, R, W>(alloc, whole, reader, writer)
+    tell_run::<Plain, Whole, R, W>(alloc, Whole { alloc }, reader, writer)
 }

@@ -2,7 +2,7 @@
 ghost use Rattle.cmwq_table.specs.Events.{reply_line};
 ghost use Rattle.cmwq_table.specs.Table.{table};
 ghost use Rattle.cmwq_tell.specs.Telling.{change_lines, instr_line, told_wholly};
-ghost use Rattle.std.specs.Prelude.{◌≡◌, ◌++◌, Some};
+ghost use Rattle.std.specs.Prelude.{◌++◌, Some, ⊤};
 
 use crate::change::{Change, ChangeLines};
 use crate::instr_line::InstrWords;
@@ -18,27 +18,24 @@ use std::fmt;
 #[derive(Drop)]
 pub(crate) struct Whole {
     pub(crate) alloc: Global,
-    /// The machine's next stamp.
-    pub(crate) next: u64,
 }
 
 impl Teller for Whole {
-    ghost fits = { λ whole s. whole.next ≡ s.next };
+    ghost fits = { λ _ _. ⊤ };
 
     ghost told = { λ _ S s instr. told_wholly S s instr (table S s instr) };
 
-    ghost keeps = { λ whole S s instr. record whole { next = (table S s instr).0.next } };
+    ghost keeps = { λ whole _ _ _. whole };
 
     fn issue<M: Machine, W: Sink>(
         &mut self,
         session: &mut Session<'_, '_, M, W>,
         instr: Instr,
     ) -> Result<(), PlayError> {
-        let before = session.machine.now();
+        let time = session.machine.time();
+        let next = session.machine.next_stamp();
         let reply = session.machine.exec(instr);
-        let view = session.machine.look()?;
-        let changes = hidden(self.alloc, before, self.next, &view)?;
-        self.next = view.next;
+        let changes = hidden(self.alloc, time, next, &session.machine)?;
         let told = Told {
             answer: ReplyLine {
                 scenario: session.scenario,

@@ -1,28 +1,28 @@
-//! The hidden changes of an instruction, read off the state before and the state after it.
+//! The hidden changes of an instruction, read off the machine behind it.
 ghost use Rattle.cmwq_table.specs.State.{State};
-ghost use Rattle.cmwq_table.specs.View.{view_of};
+ghost use Rattle.cmwq_table.specs.View.{entries_from};
 ghost use Rattle.cmwq_tell.specs.Hidden.{change_of, hidden, pool_of, put_by_stamp, stamped_from};
 ghost use Rattle.std.specs.Prelude.{◌≡◌, ◌++◌, IfOk, OnOk, map};
 
 use crate::change::Change;
-use cmwq_table::{Pending, View};
+use cmwq_table::{Pending, Reads};
 use cmwq_types::{NoMemory, Place, WorkId};
 use std::alloc::Global;
 
-/// The hidden changes that lead to the state that the view shows, from one of this time and next stamp.
-pub(crate) fn hidden(
+/// The hidden changes that lead to the machine's state, from one of this time and next stamp.
+pub(crate) fn hidden<R: Reads>(
     alloc: Global,
     time: u64,
     next: u64,
-    after: &View,
+    after: &R,
 ) -> Result<Vec<Change>, NoMemory>
-    ensures { IfOk result (λ changes. (s t : State) → time ≡ s.time → next ≡ s.next → after.now ≡ view_of t → changes.items ≡ hidden s t) }
+    ensures { IfOk result (λ changes. (s : State) → time ≡ s.time → next ≡ s.next → changes.items ≡ hidden s (R.state after.now)) }
 {
     let mut changes = Vec::new(alloc);
-    if after.time != time {
-        changes.push(Change::Now(after.time))?;
+    if after.time() != time {
+        changes.push(Change::Now(after.time()))?;
     }
-    let entries = stamped_from(alloc, next, &after.pending)?;
+    let entries = stamped_from(alloc, next, after)?;
     push_changes(&mut changes, next, &entries)?;
     Ok(changes)
 }
@@ -64,19 +64,21 @@ fn pool_of(place: Place) -> u8
     }
 }
 
-/// The pending works whose stamp isn't below, by stamp.
-fn stamped_from(
+/// The machine's pending works whose stamp isn't below, by stamp.
+fn stamped_from<R: Reads>(
     alloc: Global,
     next: u64,
-    entries: &[(WorkId, Pending)],
+    machine: &R,
 ) -> Result<Vec<(WorkId, Pending)>, NoMemory>
-    ensures { IfOk result (λ found. found.items ≡ stamped_from next entries.now) }
+    ensures { IfOk result (λ found. found.items ≡ stamped_from next (entries_from 0 (R.state machine.now).pending)) }
 {
     let mut found = Vec::new(alloc);
-    for at in (0..entries.len()).rev() {
-        let entry = entries[at];
-        if entry.1.stamp >= next {
-            put_by_stamp(&mut found, entry)?;
+    for w in (0..machine.scenario().works.len()).rev() {
+        match machine.pending_of(w) {
+            Some(pending) if pending.stamp >= next => {
+                put_by_stamp(&mut found, (WorkId(w as u16), pending))?;
+            }
+            _ => {}
         }
     }
     Ok(found)

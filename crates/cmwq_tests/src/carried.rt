@@ -1,8 +1,9 @@
 //! A command carried out over a reader and a writer.
 ghost use Rattle.std.specs.Prelude.{◌≡◌, false};
 
-use cmwq_draw::{Drawing, Span, draw};
-use cmwq_explain::{Looks, Question, why};
+use cmwq_asked::{Drawing, Looks, Question, Span};
+use cmwq_draw::draw;
+use cmwq_explain::why;
 use cmwq_machine_tests::examples::MAX_ACTIVE_3;
 use cmwq_machine_tests::streams::{Input, Output, reading_of};
 use cmwq_play::{Marked, PlayError, from_image, list_text, read_text, run, to_image};

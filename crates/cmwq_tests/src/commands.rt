@@ -3,8 +3,8 @@ use crate::carried::{Command, Outcome, carried_out};
 use crate::checking::same;
 use crate::explaining::{CHAIN, HOLD};
 use crate::settling::UNSETTLED;
+use cmwq_asked::{Looks, Question};
 use cmwq_asm::AsmError;
-use cmwq_explain::{Looks, Question};
 use cmwq_grammar::Why;
 use cmwq_image::ImageError;
 use cmwq_machine_tests::examples::{

@@ -114,9 +114,7 @@ fn filled<T: Copy>(alloc: Global, value: T, len: usize) -> Result<Vec<T>, NoMemo
     ensures { IfOk result (λ v. v.items ≡ replicate len value) }
 {
     let mut v = Vec::with_capacity(alloc, len)?;
-    for _place in 0..len {
-        v.push(value)?;
-    }
+    v.resize(len, value)?;
     Ok(v)
 }
 

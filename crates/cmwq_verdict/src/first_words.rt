@@ -2,7 +2,7 @@
 ghost use Rattle.cmwq_grammar.specs.Instructions.{operands_of};
 ghost use Rattle.cmwq_grammar.specs.Offers.{has_named, words_of_next};
 ghost use Rattle.cmwq_types.specs.Listing.{word_if};
-ghost use Rattle.cmwq_types.specs.Mnemonics.{mnemonics, spelling};
+ghost use Rattle.cmwq_types.specs.Mnemonics.{spelling};
 ghost use Rattle.cmwq_verdict.specs.Offers.{spelled};
 ghost use Rattle.std.specs.List.{filter};
 ghost use Rattle.std.specs.Prelude.{◌≡◌, ◌++◌, IfOk, OnOk, map};
@@ -67,17 +67,34 @@ fn push_words(words: &mut Vec<FirstWord>, next: Next) -> Result<(), NoMemory>
         Next::Workers => push_if(words, true, FirstWord::Workers),
         Next::Steps => push_if(words, true, FirstWord::Steps),
         Next::Flushes => push_if(words, true, FirstWord::Flushes),
-        Next::Declaration { room, queues } => push_declarations(words, room, queues),
-        Next::Work { room } => push_works(words, room),
+        Next::Declaration { room, queues } => {
+            push_if(words, room, FirstWord::Instruction(Mnemonic::Queue))?;
+            push_if(words, queues, FirstWord::Work)?;
+            push_if(words, true, FirstWord::Actor)
+        }
+        Next::Work { room } => {
+            push_if(words, room, FirstWord::Work)?;
+            push_if(words, true, FirstWord::Body)
+        }
         Next::Body => push_if(words, true, FirstWord::Body),
         Next::Actor => push_if(words, true, FirstWord::Actor),
-        Next::Operation { room } => push_operations(words, room),
+        Next::Operation { room } => {
+            push_if(words, room, FirstWord::Burn)?;
+            push_if(words, room, FirstWord::Sleep)?;
+            push_if(words, room, FirstWord::Instruction(Mnemonic::Queue))?;
+            push_if(words, true, FirstWord::Finish)
+        }
         Next::Instruction {
             room,
             works,
             queues,
             actor,
-        } => push_lines(words, room, works, queues, actor),
+        } => {
+            if room {
+                push_named(words, Mnemonic::all(), works, queues)?;
+            }
+            push_if(words, actor, FirstWord::Actor)
+        }
     }
 }
 
@@ -89,57 +106,6 @@ fn push_if(words: &mut Vec<FirstWord>, holds: bool, word: FirstWord) -> Result<(
         words.push(word)?;
     }
     Ok(())
-}
-
-/// Adds the words of declarations, and of the first actor.
-fn push_declarations(words: &mut Vec<FirstWord>, room: bool, queues: bool) -> Result<(), NoMemory>
-    ensures { OnOk result (map spelled words.new.items ≡ map spelled words.old.items ++ words_of_next (Next.Declaration room queues)) }
-{
-    push_if(words, room, FirstWord::Instruction(Mnemonic::Queue))?;
-    push_if(words, queues, FirstWord::Work)?;
-    push_if(words, true, FirstWord::Actor)
-}
-
-/// Adds the words of a further work, and of the first body.
-fn push_works(words: &mut Vec<FirstWord>, room: bool) -> Result<(), NoMemory>
-    ensures { OnOk result (map spelled words.new.items ≡ map spelled words.old.items ++ words_of_next (Next.Work room)) }
-{
-    push_if(words, room, FirstWord::Work)?;
-    push_if(words, true, FirstWord::Body)
-}
-
-/// Adds the words of operations.
-fn push_operations(words: &mut Vec<FirstWord>, room: bool) -> Result<(), NoMemory>
-    ensures { OnOk result (map spelled words.new.items ≡ map spelled words.old.items ++ words_of_next (Next.Operation room)) }
-{
-    push_if(words, room, FirstWord::Burn)?;
-    push_if(words, room, FirstWord::Sleep)?;
-    push_if(words, room, FirstWord::Instruction(Mnemonic::Queue))?;
-    push_if(words, true, FirstWord::Finish)
-}
-
-/// Adds the words of an actor's lines, and of a further actor.
-fn push_lines(
-    words: &mut Vec<FirstWord>,
-    room: bool,
-    works: bool,
-    queues: bool,
-    actor: bool,
-) -> Result<(), NoMemory>
-    ensures { OnOk result (map spelled words.new.items ≡ map spelled words.old.items ++ words_of_next (Next.Instruction room works queues actor)) }
-{
-    if room {
-        push_instructions(words, works, queues)?;
-    }
-    push_if(words, actor, FirstWord::Actor)
-}
-
-/// Adds the words of instructions, where there are works and queues or none.
-fn push_instructions(words: &mut Vec<FirstWord>, works: bool, queues: bool) -> Result<(), NoMemory>
-    ensures { OnOk result (map spelled words.new.items
-        ≡ map spelled words.old.items ++ map spelling (filter (λ mnemonic. has_named works queues (operands_of mnemonic)) mnemonics)) }
-{
-    push_named(words, Mnemonic::all(), works, queues)
 }
 
 /// Adds those of these words of instructions for which there is one of what the first operand names.

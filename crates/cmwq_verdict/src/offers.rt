@@ -6,7 +6,7 @@ ghost use Rattle.cmwq_grammar.specs.declared.next.Next.{Next};
 ghost use Rattle.cmwq_grammar.specs.declared.why.Why.{Why};
 ghost use Rattle.cmwq_verdict.specs.Offers.{IsNextAt, IsOffer, offer_line, spelled};
 ghost use Rattle.std.specs.List.{flat_map};
-ghost use Rattle.std.specs.Prelude.{◌≡◌, ◌≢◌, ◌++◌, ◌∷◌, ℕ, List, IfOk, OnOk, codes, map};
+ghost use Rattle.std.specs.Prelude.{◌≡◌, ◌≢◌, ◌++◌, ℕ, List, IfOk, OnOk, codes, map};
 
 use crate::first_words::{FirstWord, words_of};
 use crate::places::{TextFault, line_start};
@@ -52,22 +52,14 @@ fn push_line(told: &mut Vec<u8>, words: &[FirstWord]) -> Result<(), NoMemory>
     ensures { OnOk result (told.new.items ≡ told.old.items ++ offer_line (map spelled words.now)) }
 {
     match words {
-        [] => {
-            told.extend_from_slice(b"  no line may stand here\n")?;
-            Ok(())
+        [] => told.extend_from_slice(b"  no line may stand here\n")?,
+        [word, others @ ..] => {
+            told.extend_from_slice(b"  a line here may begin with: ")?;
+            told.extend_from_slice(word.as_bytes())?;
+            push_others(told, others)?;
+            told.push(b'\n')?;
         }
-        [word, others @ ..] => push_some(told, *word, others),
     }
-}
-
-/// Writes the line that offers this word and the others.
-fn push_some(told: &mut Vec<u8>, word: FirstWord, others: &[FirstWord]) -> Result<(), NoMemory>
-    ensures { OnOk result (told.new.items ≡ told.old.items ++ offer_line (spelled word ∷ map spelled others.now)) }
-{
-    told.extend_from_slice(b"  a line here may begin with: ")?;
-    told.extend_from_slice(word.as_bytes())?;
-    push_others(told, others)?;
-    told.push(b'\n')?;
     Ok(())
 }
 

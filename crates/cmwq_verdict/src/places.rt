@@ -9,7 +9,7 @@ ghost use Rattle.std.specs.Prelude.{◌≡◌, ◌≢◌, ◌+◌, ◌-◌, ◌�
 
 use cmwq_asm::{AsmError, assemble};
 use cmwq_grammar::Why;
-use cmwq_scan::{Token, next_line, read_tokens, worded_part};
+use cmwq_scan::{Token, Tokens, next_line, read_tokens, worded_part};
 use cmwq_types::NoMemory;
 use std::alloc::Global;
 
@@ -53,7 +53,7 @@ pub(crate) fn place_of<'t>(
     }
 }
 
-/// The same, where the fault is in a line, which begins there.
+/// Where the fault of a line is seen; the line begins at this offset of the text.
 fn place_in_line<'t>(
     alloc: Global,
     text: &'t [u8],
@@ -67,7 +67,7 @@ fn place_in_line<'t>(
     requires line { (more : List (List ℕ)) × (lines_of (drop start text.now) ≡ bytes.now ∷ more) }
     ensures { IfOk result (λ place. IsPlace text.now (fault_at fault.line fault.why) place) }
 {
-    let mut words = Vec::new(alloc);
+    let mut words = Tokens::new(alloc);
     read_tokens(&mut words, bytes)?;
     let part = worded_part(bytes);
     if is_missing_word(fault.why) {

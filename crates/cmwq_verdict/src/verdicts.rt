@@ -1,15 +1,13 @@
 //! What is said of a text.
 ghost use Rattle.cmwq_grammar.specs.Meaning.{fault_at};
 ghost use Rattle.cmwq_verdict.specs.Verdicts.{IsVerdict, column_of, fault_line, ok_line, read_line, shown, subject_of, visible};
-ghost use Rattle.std.specs.Fmt.{decimal};
-ghost use Rattle.std.specs.Prelude.{◌≡◌, ◌++◌, ◌∷◌, [], IfOk, OnOk, option_map, take};
+ghost use Rattle.std.specs.Prelude.{◌≡◌, ◌++◌, IfOk, OnOk, option_map};
 
 use crate::looks::{Look, front_of, push_pointer, push_why};
 use crate::offers::push_offer;
 use crate::places::{Place, TextFault, place_of};
 use cmwq_asm::{AsmError, assemble};
 use cmwq_types::NoMemory;
-use itoa::Buffer;
 use std::alloc::Global;
 
 /// What is said of the text of this file: nothing where it spells a scenario, and else a line, `FILE:LINE:COLUMN: WORD: WHY`, and a
@@ -48,20 +46,14 @@ pub fn verdict(
 pub fn ok_line(alloc: Global, file: &str) -> Result<Vec<u8>, NoMemory>
     ensures { IfOk result (λ line. line.items ≡ ok_line file.now) }
 {
-    let mut line = Vec::new(alloc);
-    line.extend_from_slice(file.as_bytes())?;
-    line.extend_from_slice(b": ok\n")?;
-    Ok(line)
+    Ok(format!(in alloc; "{file}: ok\n")?.into_bytes())
 }
 
 /// `FILE: read`, which is said of a file that can't be read. It fails only for want of memory.
 pub fn read_line(alloc: Global, file: &str) -> Result<Vec<u8>, NoMemory>
     ensures { IfOk result (λ line. line.items ≡ read_line file.now) }
 {
-    let mut line = Vec::new(alloc);
-    line.extend_from_slice(file.as_bytes())?;
-    line.extend_from_slice(b": read\n")?;
-    Ok(line)
+    Ok(format!(in alloc; "{file}: read\n")?.into_bytes())
 }
 
 /// The line that tells a fault, and where it is seen.
@@ -74,25 +66,14 @@ fn fault_line(
 ) -> Result<Vec<u8>, NoMemory>
     ensures { IfOk result (λ told. told.items ≡ fault_line look file.now (fault_at fault.line fault.why) place.entry) }
 {
-    let mut told = Vec::new(alloc);
-    told.extend_from_slice(file.as_bytes())?;
-    push_number(&mut told, u64::from(fault.line))?;
-    push_number(&mut told, column_of(place) as u64)?;
-    told.extend_from_slice(b": ")?;
+    let TextFault { line, why } = fault;
+    let column = column_of(place);
+    let mut told = format!(in alloc; "{file}:{line}:{column}: ")?.into_bytes();
     push_subject(&mut told, place)?;
     told.extend_from_slice(b": ")?;
-    push_why(&mut told, look, fault.why)?;
+    push_why(&mut told, look, why)?;
     told.push(b'\n')?;
     Ok(told)
-}
-
-/// Writes a number behind a colon.
-fn push_number(told: &mut Vec<u8>, n: u64) -> Result<(), NoMemory>
-    ensures { OnOk result (told.new.items ≡ told.old.items ++ 58 ∷ decimal n) }
-{
-    told.push(b':')?;
-    told.extend_from_slice(Buffer::new().format(n).as_bytes())?;
-    Ok(())
 }
 
 /// The column of the place.

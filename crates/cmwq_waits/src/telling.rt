@@ -28,7 +28,8 @@ pub(crate) fn lines_of<R: Reads>(
     Ok(text)
 }
 
-/// Appends what is told of a flush that waits for these instances.
+/// Appends what is told of a flush that waits for these instances: that it is done, or their lines and those of all others
+/// that these wait for.
 fn push_waits<R: Reads>(
     wording: &Wording<'_, R>,
     text: &mut String,
@@ -40,17 +41,6 @@ fn push_waits<R: Reads>(
         text.push_str(" done\n")?;
         return Ok(());
     }
-    push_waiting(wording, text, waits)
-}
-
-/// The same of a flush that isn't done: the lines of these instances, and those of all others that these wait for.
-fn push_waiting<R: Reads>(
-    wording: &Wording<'_, R>,
-    text: &mut String,
-    waits: &[Instance],
-) -> Result<(), NoMemory>
-    ensures { OnOk result (string_bytes text.new ≡ string_bytes text.old ++ waiting_text (R.loaded wording.now.machine.now) (R.state wording.now.machine.now) waits.now) }
-{
     let all = reached(wording.alloc, wording.machine, waits)?;
     push_head(wording.machine, text, waits)?;
     push_lines(wording, text, "  ", waits)?;

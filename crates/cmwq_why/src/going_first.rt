@@ -12,17 +12,10 @@ use cmwq_types::Move;
 pub(crate) fn other_mover<R: Reads>(machine: &R, pool: u8, instance: Instance) -> Option<Instance>
     ensures { result ≡ other_instance instance (mover (R.loaded machine.now) (R.state machine.now) pool) }
 {
-    match mover(machine, pool) {
+    match next_move(machine, pool).map(moved_instance) {
         Some(other) if !is_same(instance, other) => Some(other),
         _ => None,
     }
-}
-
-/// The instance that the pool's next move moves.
-fn mover<R: Reads>(machine: &R, pool: u8) -> Option<Instance>
-    ensures { result ≡ mover (R.loaded machine.now) (R.state machine.now) pool }
-{
-    next_move(machine, pool).map(moved_instance)
 }
 
 /// The work that goes before this one on the CPU of a bound pool: the pool's first runnable one, if it is another one.

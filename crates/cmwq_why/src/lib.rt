@@ -8,8 +8,9 @@ mod group;
 mod pending;
 mod running;
 
-pub use blame::{causes, counted_works, holders, inactive_before, listed_before, on_workers};
+pub use blame::{causes, holders, on_workers};
 pub use flushes::{lacks_memory, lacks_thaw, waits};
 pub use going_first::is_same;
+pub use group::{Group, members};
 pub use pending::pending_reason;
 pub use running::{reason_of, running_reason};

@@ -1,8 +1,7 @@
 //! Why a pending work isn't further, or why a work isn't pending.
-ghost use Rattle.cmwq_reasons.specs.Reasons.{fires_unless, free_or_after, reason_by_move, reason_in_place, reason_of_none, reason_of_pending};
+ghost use Rattle.cmwq_reasons.specs.Reasons.{free_or_after, reason_by_move, reason_in_place, reason_of_none, reason_of_pending};
 ghost use Rattle.cmwq_table.specs.State.{pending_at};
-ghost use Rattle.cmwq_types.specs.declared.limits.TheConstants.{MAX_WORKS};
-ghost use Rattle.std.specs.Prelude.{◌≡◌, ◌<◌, IfSome};
+ghost use Rattle.std.specs.Prelude.{◌≡◌};
 
 use crate::going_first::other_work;
 use cmwq_reads::{Sought, first, limit, may_start, next_move};
@@ -26,7 +25,10 @@ fn reason_in_place<R: Reads>(machine: &R, w: WorkId, place: Place) -> Reason
 {
     match place {
         Place::Timer { due, cpu } if machine.time() < due => Reason::Timer { due, cpu },
-        Place::Timer { .. } => fires_unless(other_work(w.0 as usize, first(machine, Sought::Due))),
+        Place::Timer { .. } => match other_work(w.0 as usize, first(machine, Sought::Due)) {
+            Some(v) => Reason::FiresAfter(WorkId(v as u16)),
+            None => Reason::FiresNext,
+        },
         Place::Inactive(pool) if limit(machine, machine.scenario().queue_of(w.0 as usize)) == 0 => {
             Reason::Frozen(pool)
         }
@@ -47,17 +49,6 @@ fn reason_of_none(depth: u16) -> Reason
         Reason::NotPending
     } else {
         Reason::Disabled(depth)
-    }
-}
-
-/// Why a timer that has run out hasn't fired.
-fn fires_unless(first: Option<usize>) -> Reason
-    requires { IfSome first (λ v. v < MAX_WORKS) }
-    ensures { result ≡ fires_unless first }
-{
-    match first {
-        Some(v) => Reason::FiresAfter(WorkId(v as u16)),
-        None => Reason::FiresNext,
     }
 }
 

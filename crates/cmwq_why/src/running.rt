@@ -1,8 +1,7 @@
 //! Why a work that runs isn't further.
-ghost use Rattle.cmwq_reasons.specs.Reasons.{burns_unless, reason_if_running, reason_of, reason_of_head, reason_of_running};
+ghost use Rattle.cmwq_reasons.specs.Reasons.{reason_if_running, reason_of, reason_of_head, reason_of_running};
 ghost use Rattle.cmwq_table.specs.State.{running_at};
-ghost use Rattle.cmwq_types.specs.declared.limits.TheConstants.{MAX_WORKS};
-ghost use Rattle.std.specs.Prelude.{◌≡◌, ◌<◌, IfSome};
+ghost use Rattle.std.specs.Prelude.{◌≡◌};
 
 use crate::going_first::{other_mover, work_above, work_before};
 use crate::pending::pending_reason;
@@ -53,20 +52,13 @@ fn reason_of_head<R: Reads>(machine: &R, w: WorkId, r: Running) -> Reason
     ensures { result ≡ reason_of_head (R.loaded machine.now) (R.state machine.now) w.0 r }
 {
     if r.left != 0 {
-        return burns_unless(work_above(machine, r.pool));
+        return match work_above(machine, r.pool) {
+            Some(v) => Reason::HighHas(WorkId(v as u16)),
+            None => Reason::Burns,
+        };
     }
     match other_mover(machine, r.pool, Instance::Running(w)) {
         Some(other) => Reason::ReadyAfter(other),
         None => Reason::ReadyNext,
-    }
-}
-
-fn burns_unless(above: Option<usize>) -> Reason
-    requires { IfSome above (λ v. v < MAX_WORKS) }
-    ensures { result ≡ burns_unless above }
-{
-    match above {
-        Some(v) => Reason::HighHas(WorkId(v as u16)),
-        None => Reason::Burns,
     }
 }

@@ -22,13 +22,7 @@ impl<R: Reads> Wording<'_, R> {
         };
         text.push_str(": ")?;
         self.push_item(text, *first)?;
-        self.push_later_items(text, later)
-    }
-
-    fn push_later_items(&self, text: &mut String, instances: &[Instance]) -> Result<(), NoMemory>
-        ensures { OnOk result (string_bytes text.new ≡ string_bytes text.old ++ flat_map (later_item (R.loaded self.now.machine.now) (R.state self.now.machine.now)) instances.now) }
-    {
-        for instance in instances {
+        for instance in later {
             text.push_str(", ")?;
             self.push_item(text, *instance)?;
         }
@@ -49,12 +43,11 @@ impl<R: Reads> Wording<'_, R> {
     pub(crate) fn push_ahead(&self, text: &mut String, works: &[u16]) -> Result<(), NoMemory>
         ensures { OnOk result (string_bytes text.new ≡ string_bytes text.old ++ ahead_text (R.loaded self.now.machine.now) works.now) }
     {
-        let Some((first, later)) = works.split_first() else {
+        let Some(_) = works.split_first() else {
             return Ok(());
         };
         text.push_str(" ahead")?;
-        self.push_spaced_name(text, *first)?;
-        self.push_names(text, later)
+        self.push_names(text, works)
     }
 
     /// Writes the name of each work, behind a space.
@@ -62,16 +55,9 @@ impl<R: Reads> Wording<'_, R> {
         ensures { OnOk result (string_bytes text.new ≡ string_bytes text.old ++ flat_map (spaced_name (R.loaded self.now.machine.now)) works.now) }
     {
         for w in works {
-            self.push_spaced_name(text, *w)?;
+            text.push_str(" ")?;
+            text.push_str(self.name(*w))?;
         }
-        Ok(())
-    }
-
-    fn push_spaced_name(&self, text: &mut String, w: u16) -> Result<(), NoMemory>
-        ensures { OnOk result (string_bytes text.new ≡ string_bytes text.old ++ spaced_name (R.loaded self.now.machine.now) w) }
-    {
-        text.push_str(" ")?;
-        text.push_str(self.name(w))?;
         Ok(())
     }
 }
@@ -96,7 +82,9 @@ fn push_run(text: &mut String, running: Option<Running>) -> Result<(), NoMemory>
 {
     if let Some(r) = running {
         push_mode(text, r.mode)?;
-        push_rescuer(text, r.worker)?;
+        if r.worker == RESCUER {
+            text.push_str(" on rescuer")?;
+        }
     }
     Ok(())
 }
@@ -107,15 +95,6 @@ fn push_mode(text: &mut String, mode: Mode) -> Result<(), NoMemory>
     match mode {
         Mode::Runnable => text.push_str(" runs")?,
         Mode::Asleep(until) => write!(text, " asleep until {until}")?,
-    }
-    Ok(())
-}
-
-fn push_rescuer(text: &mut String, worker: u8) -> Result<(), NoMemory>
-    ensures { OnOk result (string_bytes text.new ≡ string_bytes text.old ++ rescuer_text worker) }
-{
-    if worker == RESCUER {
-        text.push_str(" on rescuer")?;
     }
     Ok(())
 }

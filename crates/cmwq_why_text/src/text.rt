@@ -11,10 +11,7 @@ use cmwq_reads::{active, is_spent, limit};
 use cmwq_reasons::{Instance, Reason, Turn};
 use cmwq_table::Reads;
 use cmwq_types::{NoMemory, WorkId};
-use cmwq_why::{
-    counted_works, holders, inactive_before, listed_before, on_workers, pending_reason,
-    running_reason,
-};
+use cmwq_why::{Group, holders, members, on_workers, pending_reason, running_reason};
 
 impl<R: Reads> Wording<'_, R> {
     /// Writes why the work isn't further: what runs of it and what pends of it, and whether the scenario's steps are spent.
@@ -135,7 +132,8 @@ impl<R: Reads> Wording<'_, R> {
     fn push_listed(&self, text: &mut String, w: WorkId, pool: u8) -> Result<(), NoMemory>
         ensures { OnOk result (string_bytes text.new ≡ string_bytes text.old ++ listed_text (R.loaded self.now.machine.now) (R.state self.now.machine.now) w.0 pool) }
     {
-        let before = listed_before(self.alloc, self.machine, w.0 as usize, pool)?;
+        let work = w.0 as usize;
+        let before = members(self.alloc, self.machine, Group::ListedBefore { pool, work })?;
         write!(text, "listed {pool}")?;
         self.push_ahead(text, &before)?;
         text.push_str(": ")?;
@@ -146,11 +144,16 @@ impl<R: Reads> Wording<'_, R> {
     fn push_inactive(&self, text: &mut String, w: WorkId, pool: u8) -> Result<(), NoMemory>
         ensures { OnOk result (string_bytes text.new ≡ string_bytes text.old ++ inactive_text (R.loaded self.now.machine.now) (R.state self.now.machine.now) w.0 pool) }
     {
-        let before = inactive_before(self.alloc, self.machine, w.0 as usize, pool)?;
+        let work = w.0 as usize;
+        let before = members(
+            self.alloc,
+            self.machine,
+            Group::InactiveBefore { pool, work },
+        )?;
         write!(text, "inactive {pool}")?;
         self.push_ahead(text, &before)?;
         text.push_str(": ")?;
-        text.push_str(self.queue_name(w.0 as usize))?;
+        text.push_str(self.queue_name(work))?;
         Ok(())
     }
 
@@ -170,7 +173,7 @@ impl<R: Reads> Wording<'_, R> {
     fn push_held(&self, text: &mut String, w: WorkId, pool: u8) -> Result<(), NoMemory>
         ensures { OnOk result (string_bytes text.new ≡ string_bytes text.old ++ listed_text (R.loaded self.now.machine.now) (R.state self.now.machine.now) w.0 pool ++ codes "held by" ++ flat_map (spaced_name (R.loaded self.now.machine.now)) (counted_works (R.loaded self.now.machine.now) (R.state self.now.machine.now) pool)) }
     {
-        let counted = counted_works(self.alloc, self.machine, pool)?;
+        let counted = members(self.alloc, self.machine, Group::Counted(pool))?;
         self.push_listed(text, w, pool)?;
         text.push_str("held by")?;
         self.push_names(text, &counted)
@@ -183,18 +186,12 @@ impl<R: Reads> Wording<'_, R> {
         let queue = self.machine.scenario().queue_of(w.0 as usize);
         let running = on_workers(self.alloc, self.machine, queue, pool)?;
         self.push_listed(text, w, pool)?;
-        text.push_str(self.worker_words())?;
-        self.push_items(text, &running)
-    }
-
-    fn worker_words(&self) -> &'static str
-        ensures { result.now ≡ worker_words (R.state self.now.machine.now) }
-    {
-        if self.machine.is_pressed() {
+        text.push_str(if self.machine.is_pressed() {
             "no free worker under pressure"
         } else {
             "no free worker"
-        }
+        })?;
+        self.push_items(text, &running)
     }
 }
 

@@ -14,8 +14,8 @@ use Rattle.clap.proofs.OnLiterals.{clap_on_literals}
 use Rattle.cmwq_words.proofs.RequestLemmas.{no_hyphen, numerals}
 use Rattle.cmwq_words.proofs.WalkingLemmas.{Goes, begins_with_hyphen, draw_shape, end_passes, ends, has_draw, on, on_plain, taken}
 use Rattle.cmwq_command_line.specs.CommandLine.{command_line}
-use Rattle.cmwq_words.specs.Request.{HasCapacity, HasTimes, IsPlainWord, IsRead, IsTimeIfAny, asked_of, draw_arguments, flag_words, number_if_any, number_in, number_words, options_from, words_to_draw}
-use Rattle.cmwq_words.specs.declared.drawing.DrawOptions.{DrawOptions}
+use Rattle.cmwq_words.specs.Request.{HasCapacity, HasTimes, IsPlainWord, IsRead, IsTimeIfAny, asked_of, draw_arguments, flag_words, number_if_any, number_in, number_words, drawing_from, words_to_draw}
+use Rattle.cmwq_asked.specs.declared.drawing.Drawing.{Drawing}
 
 -- Numbers.
 
@@ -93,7 +93,7 @@ words_behind settle svg from to file = flag_words (codes "--settle") settle ++ (
 
 drawn : (settle svg : Bool) (from to : Option Text) (file : Text) → BeginsPlain from → BeginsPlain to → begins_with_hyphen file ≡ false
     → IsDrawn (words_behind settle svg (time_words (codes "--from") from) (time_words (codes "--to") to) file)
-    (words_to_draw (options_from (Some settle) (Some svg) (number_if_any from) (number_if_any to)) (Some file))
+    (words_to_draw (drawing_from (Some settle) (Some svg) (number_if_any from) (number_if_any to)) (Some file))
 unfolding clap_on_literals draw_shape
 drawn false false None None file no_from no_to p =
     as_drawn _ _ _
@@ -185,39 +185,39 @@ no_capacity (a ∷ b ∷ []) = tt
 no_capacity (a ∷ b ∷ c ∷ []) = tt
 no_capacity (a ∷ b ∷ c ∷ d ∷ more) = tt
 
-pub draw_read : (words : List Text) (name file : Text) (options : DrawOptions) → words ≡ name ∷ codes "draw" ∷ draw_arguments options file → IsPlainWord file
-    → HasTimes options → IsRead words (codes "draw" ∷ draw_arguments options file)
-draw_read words name file options are plain (from_small, to_small) =
-    let settle = options.settle in
-    let svg = options.svg in
-    let from = options.from in
-    let to = options.to in
-    let spelt : draw_arguments options file ≡ words_behind settle svg (time_words (codes "--from") (word_if_any from)) (time_words (codes "--to") (word_if_any to)) file =
+pub draw_read : (words : List Text) (name file : Text) (drawing : Drawing) → words ≡ name ∷ codes "draw" ∷ draw_arguments drawing file → IsPlainWord file
+    → HasTimes drawing → IsRead words (codes "draw" ∷ draw_arguments drawing file)
+draw_read words name file drawing are plain (from_small, to_small) =
+    let settle = drawing.settle in
+    let svg = drawing.svg in
+    let from = drawing.span.from in
+    let to = drawing.span.to in
+    let spelt : draw_arguments drawing file ≡ words_behind settle svg (time_words (codes "--from") (word_if_any from)) (time_words (codes "--to") (word_if_any to)) file =
     ap₂ (λ (a b : List Text). words_behind settle svg a b file) (words_of_time (codes "--from") from) (words_of_time (codes "--to") to) in
     let it = drawn settle svg (word_if_any from) (word_if_any to) file (time_begins from from_small) (time_begins to to_small) (plain_begins file plain) in
     let met = it.takes name in
     let all : words ≡ name ∷ codes "draw" ∷ words_behind settle svg (time_words (codes "--from") (word_if_any from)) (time_words (codes "--to") (word_if_any to)) file =
     are ∙ ap (λ (behind : List Text). name ∷ codes "draw" ∷ behind) spelt in
-    let read : asked_of (subcommand_of command_line words) ≡ Some (codes "draw" ∷ draw_arguments options file) =
+    let read : asked_of (subcommand_of command_line words) ≡ Some (codes "draw" ∷ draw_arguments drawing file) =
     ap (λ (given : List Text). asked_of (subcommand_of command_line given)) all
     ∙ met.1
-    ∙ ap₂ (λ (a b : Option (Option ℕ)). words_to_draw (options_from (Some settle) (Some svg) a b) (Some file)) (number_of_time from from_small) (number_of_time to to_small) in
-    (ap (λ (given : List Text). takes command_line given) all ∙ met.0, read, no_capacity (draw_arguments options file))
+    ∙ ap₂ (λ (a b : Option (Option ℕ)). words_to_draw (drawing_from (Some settle) (Some svg) a b) (Some file)) (number_of_time from from_small) (number_of_time to to_small) in
+    (ap (λ (given : List Text). takes command_line given) all ∙ met.0, read, no_capacity (draw_arguments drawing file))
 
--- Options.
+-- Pictures.
 
-pub options_met : (a b : Option Bool) (c d : Option (Option ℕ)) (given : DrawOptions) → options_from a b c d ≡ Some given
-    → (a ≡ Some given.settle) × (b ≡ Some given.svg) × (c ≡ Some given.from) × (d ≡ Some given.to)
-options_met (Some settle) (Some svg) (Some from) (Some to) given e =
-    let same : record { settle = settle; svg = svg; from = from; to = to } ≡ given = cc in
-    (ap (λ (o : DrawOptions). Some o.settle) same, ap (λ (o : DrawOptions). Some o.svg) same, ap (λ (o : DrawOptions). Some o.from) same, ap (λ (o : DrawOptions). Some o.to) same)
-options_met None b c d given e = absurd cc
-options_met (Some settle) None c d given e = absurd cc
-options_met (Some settle) (Some svg) None d given e = absurd cc
-options_met (Some settle) (Some svg) (Some from) None given e = absurd cc
+pub drawing_met : (a b : Option Bool) (c d : Option (Option ℕ)) (given : Drawing) → drawing_from a b c d ≡ Some given
+    → (a ≡ Some given.settle) × (b ≡ Some given.svg) × (c ≡ Some given.span.from) × (d ≡ Some given.span.to)
+drawing_met (Some settle) (Some svg) (Some from) (Some to) given e =
+    let same : record { settle = settle; svg = svg; span = record { from = from; to = to } } ≡ given = cc in
+    (ap (λ (o : Drawing). Some o.settle) same, ap (λ (o : Drawing). Some o.svg) same, ap (λ (o : Drawing). Some o.span.from) same, ap (λ (o : Drawing). Some o.span.to) same)
+drawing_met None b c d given e = absurd cc
+drawing_met (Some settle) None c d given e = absurd cc
+drawing_met (Some settle) (Some svg) None d given e = absurd cc
+drawing_met (Some settle) (Some svg) (Some from) None given e = absurd cc
 
-pub drawn_met : (given : Option DrawOptions) (file : Option Text) (asked : List Text) → words_to_draw given file ≡ Some asked
-    → (o : DrawOptions) × (name : Text) × (given ≡ Some o) × (file ≡ Some name) × (codes "draw" ∷ draw_arguments o name ≡ asked)
+pub drawn_met : (given : Option Drawing) (file : Option Text) (asked : List Text) → words_to_draw given file ≡ Some asked
+    → (o : Drawing) × (name : Text) × (given ≡ Some o) × (file ≡ Some name) × (codes "draw" ∷ draw_arguments o name ≡ asked)
 drawn_met (Some o) (Some name) asked e = let same : codes "draw" ∷ draw_arguments o name ≡ asked = cc in (o, name, refl, refl, same)
 drawn_met (Some o) None asked e = absurd cc
 drawn_met None file asked e = absurd cc

@@ -1,4 +1,5 @@
 mod DrawLemmas
 mod RequestLemmas
+mod TableLemmas
 mod WalkingLemmas
 mod WhyLemmas

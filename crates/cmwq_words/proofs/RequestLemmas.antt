@@ -22,8 +22,8 @@ use Rattle.std.specs.Box.{box_value}
 use Rattle.std.specs.Prelude.{Box, Option, None, option_map}
 use Rattle.clap.proofs.OnLiterals.{clap_on_literals}
 use Rattle.cmwq_words.specs.declared.request.Request.{Request}
-use Rattle.cmwq_words.specs.declared.request.RunKind.{RunKind}
-use Rattle.cmwq_words.specs.declared.request.RunKind.TheVariants.{Settled, Told}
+use Rattle.cmwq_asked.specs.declared.task.RunKind.{RunKind}
+use Rattle.cmwq_asked.specs.declared.task.RunKind.TheVariants.{Plain, Settled, Told}
 use Rattle.cmwq_command_line.specs.CommandLine.{command_line}
 use Rattle.cmwq_words.specs.Request.{HasCapacity, IsCapacity, IsPlainWord, IsRead, IsRequestOf, IsVersionWord, asked_in, asked_of, asked_of_run, kind_from, kind_of_run, run_arguments, words_to_run}
 
@@ -141,17 +141,11 @@ pub new_file_read : (words : List Text) (name file : Text) → words ≡ name �
     → IsRead words (codes "new" ∷ file ∷ [])
 new_file_read words name file are (first, rest, is, plain) = rw (are, is) (plain_new_file name first rest (no_hyphen first plain))
 
-pub run_read : (words : List Text) (name file : Text) → words ≡ name ∷ codes "run" ∷ file ∷ [] → IsPlainWord file
-    → IsRead words (codes "run" ∷ file ∷ [])
-run_read words name file are (first, rest, is, plain) = rw (are, is) (plain_run name first rest (no_hyphen first plain))
-
-pub run_settled_read : (words : List Text) (name file : Text) → words ≡ name ∷ codes "run" ∷ run_arguments Settled file → IsPlainWord file
-    → IsRead words (codes "run" ∷ run_arguments Settled file)
-run_settled_read words name file are (first, rest, is, plain) = rw (are, is) (plain_run_settled name first rest (no_hyphen first plain))
-
-pub run_told_read : (words : List Text) (name file : Text) → words ≡ name ∷ codes "run" ∷ run_arguments Told file → IsPlainWord file
-    → IsRead words (codes "run" ∷ run_arguments Told file)
-run_told_read words name file are (first, rest, is, plain) = rw (are, is) (plain_run_told name first rest (no_hyphen first plain))
+pub run_read : (words : List Text) (name file : Text) (kind : RunKind) → words ≡ name ∷ codes "run" ∷ run_arguments kind file → IsPlainWord file
+    → IsRead words (codes "run" ∷ run_arguments kind file)
+run_read words name file Plain are (first, rest, is, plain) = rw (are, is) (plain_run name first rest (no_hyphen first plain))
+run_read words name file Settled are (first, rest, is, plain) = rw (are, is) (plain_run_settled name first rest (no_hyphen first plain))
+run_read words name file Told are (first, rest, is, plain) = rw (are, is) (plain_run_told name first rest (no_hyphen first plain))
 
 pub settle_read : (words : List Text) (name file : Text) → words ≡ name ∷ codes "settle" ∷ file ∷ [] → IsPlainWord file
     → IsRead words (codes "settle" ∷ file ∷ [])

@@ -1,5 +1,5 @@
 -- What clap makes of the words of `why`.
-use Rattle.std.proofs.Common.{arith, ap, sym, get_or, ◌^◌, ◌&&◌, ℕ, ◌<◌, ◌≤◌, ◌≢◌, length, nat_lt, if◌then◌else◌, ◌≡◌, ◌∙◌, codes, Bool, List, [], ◌∷◌, true, false, Option, None, Some, refl, Result, Ok, Err, inl, inr, option_and_then}
+use Rattle.std.proofs.Common.{arith, ap, sym, get_or, ◌^◌, ◌&&◌, ℕ, ◌<◌, ◌≤◌, ◌≢◌, length, nat_lt, if◌then◌else◌, ◌≡◌, ◌∙◌, codes, Bool, List, [], ◌∷◌, true, false, Option, None, Some, refl, Result, Ok, Err, inl, inr, option_and_then, option_map}
 use Rattle.std.proofs.lemmas.Bool.Decides.{nat_tests}
 use Rattle.std.proofs.lemmas.Str.Parse.{parse_plain, digits_value_short}
 use Rattle.std.specs.Result.{result_ok}
@@ -10,9 +10,11 @@ use Rattle.cmwq_words.proofs.RequestLemmas.{numerals}
 use Rattle.clap.specs.Walk.{Walk, finished, nothing_held, walk_from}
 use Rattle.cmwq_words.proofs.WalkingLemmas.{Goes, begins_with_hyphen, end_passes, ends, has_why, on, on_plain, taken, why_shape}
 use Rattle.cmwq_words.proofs.DrawLemmas.{Takes, decimal_begins, plain_begins}
-use Rattle.cmwq_words.specs.Request.{HasCapacity, HasShortNumber, IsMisuse, IsPlainWord, IsRead, IsShortNumber, IsValueWord, asked_from, asked_of, asked_why, file_to_ask, flag_of, flush_arguments, plain_number, position_words, work_arguments}
-use Rattle.cmwq_words.specs.declared.asking.Positions.{Positions}
-use Rattle.cmwq_words.specs.declared.asking.Positions.TheVariants.{Settled as AtSettled, Every, At}
+use Rattle.cmwq_words.specs.Request.{HasCapacity, HasShortNumber, IsMisuse, IsPlainWord, IsRead, IsShortNumber, IsValueWord, asked_from, asked_of, asked_why, file_to_ask, flag_of, flush_arguments, looks_in, plain_number, question_words, task_words, why_arguments, look_words, work_arguments}
+use Rattle.cmwq_asked.specs.declared.question.Looks.{Looks}
+use Rattle.cmwq_asked.specs.declared.question.Question.{Question}
+use Rattle.cmwq_asked.specs.declared.task.Task.TheVariants.{Why}
+use Rattle.cmwq_asked.specs.declared.question.Looks.TheVariants.{Settled as AtSettled, Every, At}
 use Rattle.clap.proofs.OnLiterals.{clap_on_literals}
 use Rattle.std.specs.Fmt.{decimal}
 use Rattle.std.proofs.lemmas.Fmt.{decimal_nonempty, digits_decimal, digits_value-decimal, length-decimal-le}
@@ -197,8 +199,8 @@ as_read : {given : List Text} {found : Option (List Text)} → Asks given found 
     → found ≡ Some (codes "why" ∷ asked) → HasCapacity (codes "why" ∷ asked) → IsRead words (codes "why" ∷ asked)
 as_read it words asked name are is fits = let met = it.takes name in rw are (met.0, met.1 ∙ is, fits)
 
-pub work_read : (words : List Text) (name file work : Text) (positions : Positions) → words ≡ name ∷ codes "why" ∷ work_arguments positions file work
-    → IsPlainWord file → IsPlainWord work → HasShortNumber positions → IsRead words (codes "why" ∷ work_arguments positions file work)
+pub work_read : (words : List Text) (name file work : Text) (looks : Looks) → words ≡ name ∷ codes "why" ∷ work_arguments looks file work
+    → IsPlainWord file → IsPlainWord work → HasShortNumber looks → IsRead words (codes "why" ∷ work_arguments looks file work)
 work_read words name file work AtSettled are plain plain_work short =
     as_read (of_work file work (plain_begins file plain) (plain_begins work plain_work)) words (work_arguments AtSettled file work) name are refl tt
 work_read words name file work Every are plain plain_work short =
@@ -208,8 +210,8 @@ work_read words name file work (At k) are plain plain_work short =
     words (work_arguments (At k) file work) name are
     (rw (short_number k short) refl) tt
 
-pub flush_read : (words : List Text) (name file : Text) (flush : ℕ) (positions : Positions) → words ≡ name ∷ codes "why" ∷ flush_arguments positions flush file
-    → IsPlainWord file → IsShortNumber flush → HasShortNumber positions → IsRead words (codes "why" ∷ flush_arguments positions flush file)
+pub flush_read : (words : List Text) (name file : Text) (flush : ℕ) (looks : Looks) → words ≡ name ∷ codes "why" ∷ flush_arguments looks flush file
+    → IsPlainWord file → IsShortNumber flush → HasShortNumber looks → IsRead words (codes "why" ∷ flush_arguments looks flush file)
 flush_read words name file flush AtSettled are plain few short =
     as_read (of_flush (decimal flush) file (short_plain flush few) (plain_begins file plain))
     words (flush_arguments AtSettled flush file) name are
@@ -223,8 +225,8 @@ flush_read words name file flush (At k) are plain few short =
     words (flush_arguments (At k) flush file) name are
     (rw (short_number flush few, short_number k short) refl) tt
 
-pub work_first_read : (words : List Text) (name file work : Text) (positions : Positions) → words ≡ name ∷ codes "why" ∷ file ∷ work ∷ position_words positions
-    → IsPlainWord file → IsPlainWord work → HasShortNumber positions → IsRead words (codes "why" ∷ work_arguments positions file work)
+pub work_first_read : (words : List Text) (name file work : Text) (looks : Looks) → words ≡ name ∷ codes "why" ∷ file ∷ work ∷ look_words looks
+    → IsPlainWord file → IsPlainWord work → HasShortNumber looks → IsRead words (codes "why" ∷ work_arguments looks file work)
 work_first_read words name file work AtSettled are plain plain_work short =
     as_read (of_work file work (plain_begins file plain) (plain_begins work plain_work)) words (work_arguments AtSettled file work) name are refl tt
 work_first_read words name file work Every are plain plain_work short =
@@ -234,9 +236,9 @@ work_first_read words name file work (At k) are plain plain_work short =
     words (work_arguments (At k) file work) name are
     (rw (short_number k short) refl) tt
 
-pub flush_first_read : (words : List Text) (name file : Text) (flush : ℕ) (positions : Positions)
-    → words ≡ name ∷ codes "why" ∷ file ∷ codes "--flush" ∷ decimal flush ∷ position_words positions → IsPlainWord file → IsShortNumber flush → HasShortNumber positions
-    → IsRead words (codes "why" ∷ flush_arguments positions flush file)
+pub flush_first_read : (words : List Text) (name file : Text) (flush : ℕ) (looks : Looks)
+    → words ≡ name ∷ codes "why" ∷ file ∷ codes "--flush" ∷ decimal flush ∷ look_words looks → IsPlainWord file → IsShortNumber flush → HasShortNumber looks
+    → IsRead words (codes "why" ∷ flush_arguments looks flush file)
 flush_first_read words name file flush AtSettled are plain few short =
     as_read (flush_alone (decimal flush) file (short_plain flush few) (plain_begins file plain))
     words (flush_arguments AtSettled flush file) name are
@@ -257,6 +259,15 @@ asked_met rows asked = by (flag_of (codes "every") rows)
     by : (flag : Option Bool) → option_and_then (λ every. asked_why every rows) flag ≡ Some asked → (every : Bool) × (flag ≡ Some every) × (asked_why every rows ≡ Some asked)
     by (Some every) e = (every, refl, e)
     by None e = absurd cc
+
+-- what is read of the values, where these are the positions and the question that they tell
+pub why_met : (every : Bool) (at file work flush : Option Text) (question : Question) (looks : Looks) → looks_in every at ≡ Some looks
+    → ((name : Text) → question_words work flush looks name ≡ Some (why_arguments question looks name))
+    → option_map (task_words (Why question looks)) file ≡ asked_from every at file work flush
+why_met every at (Some name) work flush question looks looks_is is =
+    sym (ap (λ (o : Option Looks). option_and_then (λ looks. option_map (λ arguments. codes "why" ∷ arguments) (question_words work flush looks name)) o) looks_is
+    ∙ ap (λ (o : Option (List Text)). option_map (λ arguments. codes "why" ∷ arguments) o) (is name))
+why_met every at None work flush question looks looks_is is = refl
 
 -- Words that are no question.
 

@@ -8,15 +8,17 @@ use Rattle.cmwq_command_line.specs.CommandLine.{command_line}
 use Rattle.clap.specs.declared.error.Error.{Error}
 use Rattle.clap.specs.declared.error.kind.ErrorKind.TheVariants.{OutOfMemory, ValueValidation}
 use Rattle.cmwq_types.specs.declared.limits.TheConstants.{MAX_LINES}
-use Rattle.cmwq_words.specs.declared.asking.Positions.{Positions}
-use Rattle.cmwq_words.specs.declared.asking.Positions.TheVariants.{Settled as AtSettled, Every, At}
-use Rattle.cmwq_words.specs.declared.asking.Subject.{Subject}
-use Rattle.cmwq_words.specs.declared.asking.Subject.TheVariants.{Work, Flush}
-use Rattle.cmwq_words.specs.declared.drawing.DrawOptions.{DrawOptions}
+use Rattle.cmwq_asked.specs.declared.drawing.Drawing.{Drawing}
+use Rattle.cmwq_asked.specs.declared.question.Looks.{Looks}
+use Rattle.cmwq_asked.specs.declared.question.Looks.TheVariants.{Settled as AtSettled, Every, At}
+use Rattle.cmwq_asked.specs.declared.question.Question.{Question}
+use Rattle.cmwq_asked.specs.declared.question.Question.TheVariants.{Work, Flush}
+use Rattle.cmwq_asked.specs.declared.task.RunKind.{RunKind}
+use Rattle.cmwq_asked.specs.declared.task.RunKind.TheVariants.{Plain, Settled, Told}
+use Rattle.cmwq_asked.specs.declared.task.Task.{Task}
+use Rattle.cmwq_asked.specs.declared.task.Task.TheVariants as task
 use Rattle.cmwq_words.specs.declared.request.Request.{Request}
-use Rattle.cmwq_words.specs.declared.request.RunKind.{RunKind}
-use Rattle.cmwq_words.specs.declared.request.RunKind.TheVariants.{Plain, Settled, Told}
-use Rattle.cmwq_words.specs.declared.request.Request.TheVariants.{New, Run, Settle, List as list, Asm, Show, Debug, Draw, Why, Play, Check, Version}
+use Rattle.cmwq_words.specs.declared.request.Request.TheVariants.{New, Do, Asm, Debug, Play, Check, Version}
 
 -- how many entries a play's history may have room for: as many as an actor may have lines
 abbrev pub IsCapacity : ℕ → Type 0
@@ -38,58 +40,62 @@ run_arguments Settled file = codes "--settle" ∷ file ∷ []
 run_arguments Told file = codes "--tell" ∷ file ∷ []
 
 -- what stands behind `draw`
-abbrev pub draw_arguments : DrawOptions → Text → List Text
-draw_arguments options file =
-    flag_words (codes "--settle") options.settle
-    ++ (flag_words (codes "--svg") options.svg
-    ++ (number_words (codes "--from") options.from ++ (number_words (codes "--to") options.to ++ (file ∷ []))))
+abbrev pub draw_arguments : Drawing → Text → List Text
+draw_arguments drawing file =
+    flag_words (codes "--settle") drawing.settle
+    ++ (flag_words (codes "--svg") drawing.svg
+    ++ (number_words (codes "--from") drawing.span.from ++ (number_words (codes "--to") drawing.span.to ++ (file ∷ []))))
 
--- the words that say at which positions it is looked; none do where it is at the settled ones
-abbrev pub position_words : Positions → List Text
-position_words AtSettled = []
-position_words Every = codes "--every" ∷ []
-position_words (At k) = codes "--at" ∷ decimal k ∷ []
+-- the words that say which positions are looked at; none where these are the settled ones
+abbrev pub look_words : Looks → List Text
+look_words AtSettled = []
+look_words Every = codes "--every" ∷ []
+look_words (At k) = codes "--at" ∷ decimal k ∷ []
 
 -- what stands behind `why`, where it is asked of a work, and where of a flush
-abbrev pub work_arguments : Positions → Text → Text → List Text
-work_arguments positions file work = position_words positions ++ (file ∷ work ∷ [])
+abbrev pub work_arguments : Looks → Text → Text → List Text
+work_arguments looks file work = look_words looks ++ (file ∷ work ∷ [])
 
-abbrev pub flush_arguments : Positions → ℕ → Text → List Text
-flush_arguments positions flush file = codes "--flush" ∷ decimal flush ∷ (position_words positions ++ (file ∷ []))
+abbrev pub flush_arguments : Looks → ℕ → Text → List Text
+flush_arguments looks flush file = codes "--flush" ∷ decimal flush ∷ (look_words looks ++ (file ∷ []))
 
-abbrev pub why_arguments : Subject → Positions → Text → List Text
-why_arguments (Work work) positions file = work_arguments positions file work.now
-why_arguments (Flush flush) positions file = flush_arguments positions flush file
+abbrev pub why_arguments : Question → Looks → Text → List Text
+why_arguments (Work work) looks file = work_arguments looks file work.now
+why_arguments (Flush flush) looks file = flush_arguments looks flush file
 
 -- a number of at most ten digits
 abbrev pub IsShortNumber : ℕ → Type 0
 IsShortNumber n = n < 10 ^ 10
 
 -- that of a position is one
-abbrev pub HasShortNumber : Positions → Type 0
+abbrev pub HasShortNumber : Looks → Type 0
 HasShortNumber (At k) = IsShortNumber k
-HasShortNumber positions = Unit {0}
+HasShortNumber looks = Unit {0}
 
 -- a time that an option may have is a number below 2^64
 abbrev pub IsTimeIfAny : Option ℕ → Type 0
 IsTimeIfAny (Some time) = time < 2 ^ 64
 IsTimeIfAny None = Unit {0}
 
-abbrev pub HasTimes : DrawOptions → Type 0
-HasTimes options = IsTimeIfAny options.from × IsTimeIfAny options.to
+abbrev pub HasTimes : Drawing → Type 0
+HasTimes drawing = IsTimeIfAny drawing.span.from × IsTimeIfAny drawing.span.to
+
+-- the words that ask for the task on a file
+abbrev pub task_words : Task → Text → List Text
+task_words (task.Run kind) file = codes "run" ∷ run_arguments kind file
+task_words task.Settle file = codes "settle" ∷ file ∷ []
+task_words task.List file = codes "list" ∷ file ∷ []
+task_words task.Show file = codes "show" ∷ file ∷ []
+task_words (task.Draw drawing) file = codes "draw" ∷ draw_arguments drawing file
+task_words (task.Why question looks) file = codes "why" ∷ why_arguments question looks file
 
 -- the words that ask for it
 abbrev pub words_of : Request → List Text
 words_of (New None) = codes "new" ∷ []
 words_of (New (Some file)) = codes "new" ∷ file.now ∷ []
-words_of (Run file kind) = codes "run" ∷ run_arguments kind file.now
-words_of (Settle file) = codes "settle" ∷ file.now ∷ []
-words_of (list file) = codes "list" ∷ file.now ∷ []
+words_of (Do file task) = task_words task file.now
 words_of (Asm file out) = codes "asm" ∷ file.now ∷ out.now ∷ []
-words_of (Show image) = codes "show" ∷ image.now ∷ []
 words_of (Debug file) = codes "debug" ∷ file.now ∷ []
-words_of (Draw file options) = codes "draw" ∷ draw_arguments options file.now
-words_of (Why file subject positions) = codes "why" ∷ why_arguments subject positions file.now
 words_of (Play file capacity) = codes "play" ∷ file.now ∷ codes "--capacity" ∷ decimal capacity ∷ []
 words_of (Check files) = codes "check" ∷ map (λ file. file.now) files.items
 words_of Version = codes "--version" ∷ []
@@ -149,23 +155,23 @@ abbrev pub number_if_any : Option Text → Option (Option ℕ)
 number_if_any None = Some None
 number_if_any (Some word) = option_map Some (number_in word)
 
--- the options of these values, if each is one
-abbrev pub options_from : Option Bool → Option Bool → Option (Option ℕ) → Option (Option ℕ) → Option DrawOptions
-options_from (Some settle) (Some svg) (Some from) (Some to) = Some (record { settle = settle; svg = svg; from = from; to = to })
-options_from settle svg from to = None
+-- the picture of these values, if each is one
+abbrev pub drawing_from : Option Bool → Option Bool → Option (Option ℕ) → Option (Option ℕ) → Option Drawing
+drawing_from (Some settle) (Some svg) (Some from) (Some to) = Some (record { settle = settle; svg = svg; span = record { from = from; to = to } })
+drawing_from settle svg from to = None
 
-abbrev pub options_of : List Row → Option DrawOptions
-options_of rows =
-    options_from (flag_of (codes "settle") rows) (flag_of (codes "svg") rows)
+abbrev pub drawing_of : List Row → Option Drawing
+drawing_of rows =
+    drawing_from (flag_of (codes "settle") rows) (flag_of (codes "svg") rows)
     (number_if_any (first_of (codes "FROM") rows))
     (number_if_any (first_of (codes "TO") rows))
 
 -- the words of a picture of this file
-abbrev pub words_to_draw : Option DrawOptions → Option Text → Option (List Text)
-words_to_draw options file = option_and_then (λ given. option_map (λ name. codes "draw" ∷ draw_arguments given name) file) options
+abbrev pub words_to_draw : Option Drawing → Option Text → Option (List Text)
+words_to_draw drawing file = option_and_then (λ given. option_map (λ name. codes "draw" ∷ draw_arguments given name) file) drawing
 
 abbrev pub file_to_draw : List Row → Option (List Text)
-file_to_draw rows = words_to_draw (options_of rows) (first_of (codes "FILE") rows)
+file_to_draw rows = words_to_draw (drawing_of rows) (first_of (codes "FILE") rows)
 
 -- The number that 1 to 10 digits spell.
 unfoldable pub plain_number : Text → Option ℕ
@@ -173,24 +179,24 @@ plain_number word =
     if all_ascii_digits word && (nat_lt 0 (length word) && nat_lt (length word) 11) then Some (digits_value 10 word) else None
 
 -- the positions, by whether --every is given, and by the word of --at; none where both are given, or the word isn't such a number
-abbrev pub positions_in : Bool → Option Text → Option Positions
-positions_in false None = Some AtSettled
-positions_in true None = Some Every
-positions_in false (Some word) = option_map At (plain_number word)
-positions_in true (Some word) = None
+abbrev pub looks_in : Bool → Option Text → Option Looks
+looks_in false None = Some AtSettled
+looks_in true None = Some Every
+looks_in false (Some word) = option_map At (plain_number word)
+looks_in true (Some word) = None
 
 -- the words of a question on a work, or on the flush whose number's word this is; none where both or neither are given
-abbrev pub question : Option Text → Option Text → Positions → Text → Option (List Text)
-question (Some work) None positions file = Some (work_arguments positions file work)
-question None (Some word) positions file = option_map (λ flush. flush_arguments positions flush file) (plain_number word)
-question None None positions file = None
-question (Some work) (Some word) positions file = None
+abbrev pub question_words : Option Text → Option Text → Looks → Text → Option (List Text)
+question_words (Some work) None looks file = Some (work_arguments looks file work)
+question_words None (Some word) looks file = option_map (λ flush. flush_arguments looks flush file) (plain_number word)
+question_words None None looks file = None
+question_words (Some work) (Some word) looks file = None
 
 -- the words of such a question, where these are what stands for --every, --at, FILE, WORK and --flush
 abbrev pub asked_from : Bool → (at file work flush : Option Text) → Option (List Text)
 asked_from every at file work flush =
     option_and_then
-    (λ name. option_and_then (λ positions. option_map (λ arguments. codes "why" ∷ arguments) (question work flush positions name)) (positions_in every at))
+    (λ name. option_and_then (λ looks. option_map (λ arguments. codes "why" ∷ arguments) (question_words work flush looks name)) (looks_in every at))
     file
 
 abbrev pub asked_why : Bool → List Row → Option (List Text)
@@ -257,13 +263,48 @@ IsMisuse words = (takes command_line words ≡ true) × (met : Text × List Row)
 abbrev pub IsPlainWord : Text → Type 0
 IsPlainWord word = (first : ℕ) × (rest : Text) × (word ≡ first ∷ rest) × (first ≢ 45)
 
--- the answer is the request of these words, unless memory ran out
-abbrev pub Asks : List Text → Result Request Error → Type 0
-Asks words r = MatchResult r (λ request. words_of request ≡ words) (λ e. kind_of e ≡ OutOfMemory)
-
 -- an option may have it as its value
 abbrev pub IsValueWord : Text → Type 0
 IsValueWord word = (word ≡ []) ⊎ IsPlainWord word
+
+-- The table of the command line: which words behind the program's name ask for what, as the request's own words say it.
+pub data IsAskedBy : (given asked : List Text) → Type 0 where
+  new : IsAskedBy (codes "new" ∷ []) (codes "new" ∷ [])
+  new_file : (file : Text) → IsPlainWord file → IsAskedBy (codes "new" ∷ file ∷ []) (codes "new" ∷ file ∷ [])
+  run : (kind : RunKind) (file : Text) → IsPlainWord file → IsAskedBy (codes "run" ∷ run_arguments kind file) (codes "run" ∷ run_arguments kind file)
+  settle : (file : Text) → IsPlainWord file → IsAskedBy (codes "settle" ∷ file ∷ []) (codes "settle" ∷ file ∷ [])
+  list : (file : Text) → IsPlainWord file → IsAskedBy (codes "list" ∷ file ∷ []) (codes "list" ∷ file ∷ [])
+  asm : (file out : Text) → IsPlainWord file → IsPlainWord out → IsAskedBy (codes "asm" ∷ file ∷ out ∷ []) (codes "asm" ∷ file ∷ out ∷ [])
+  show : (image : Text) → IsPlainWord image → IsAskedBy (codes "show" ∷ image ∷ []) (codes "show" ∷ image ∷ [])
+  debug : (file : Text) → IsPlainWord file → IsAskedBy (codes "debug" ∷ file ∷ []) (codes "debug" ∷ file ∷ [])
+  draw : (drawing : Drawing) (file : Text) → IsPlainWord file → HasTimes drawing → IsAskedBy (codes "draw" ∷ draw_arguments drawing file) (codes "draw" ∷ draw_arguments drawing file)
+  why_work : (looks : Looks) (file work : Text) → IsPlainWord file → IsPlainWord work → HasShortNumber looks
+      → IsAskedBy (codes "why" ∷ work_arguments looks file work) (codes "why" ∷ work_arguments looks file work)
+  why_flush : (looks : Looks) (flush : ℕ) (file : Text) → IsPlainWord file → IsShortNumber flush → HasShortNumber looks
+      → IsAskedBy (codes "why" ∷ flush_arguments looks flush file) (codes "why" ∷ flush_arguments looks flush file)
+  -- the options may stand behind FILE and WORK
+  why_work_first : (looks : Looks) (file work : Text) → IsPlainWord file → IsPlainWord work → HasShortNumber looks
+      → IsAskedBy (codes "why" ∷ file ∷ work ∷ look_words looks) (codes "why" ∷ work_arguments looks file work)
+  why_flush_first : (looks : Looks) (flush : ℕ) (file : Text) → IsPlainWord file → IsShortNumber flush → HasShortNumber looks
+      → IsAskedBy (codes "why" ∷ file ∷ codes "--flush" ∷ decimal flush ∷ look_words looks) (codes "why" ∷ flush_arguments looks flush file)
+  play : (file : Text) (capacity : ℕ) → IsPlainWord file → IsCapacity capacity
+      → IsAskedBy (codes "play" ∷ file ∷ codes "--capacity" ∷ decimal capacity ∷ []) (codes "play" ∷ file ∷ codes "--capacity" ∷ decimal capacity ∷ [])
+  check : (file : Text) → IsPlainWord file → IsAskedBy (codes "check" ∷ file ∷ []) (codes "check" ∷ file ∷ [])
+  check_two : (file other : Text) → IsPlainWord file → IsPlainWord other → IsAskedBy (codes "check" ∷ file ∷ other ∷ []) (codes "check" ∷ file ∷ other ∷ [])
+
+-- Words behind the program's name that clap takes, and that ask for nothing.
+pub data IsMisusedBy : (given : List Text) → Type 0 where
+  of_neither : (file : Text) → IsPlainWord file → IsMisusedBy (codes "why" ∷ file ∷ [])
+  of_both : (number file work : Text) → IsValueWord number → IsPlainWord file → IsPlainWord work → IsMisusedBy (codes "why" ∷ codes "--flush" ∷ number ∷ file ∷ work ∷ [])
+  of_no_number : (number file : Text) → IsValueWord number → plain_number number ≡ None → IsPlainWord file → IsMisusedBy (codes "why" ∷ codes "--flush" ∷ number ∷ file ∷ [])
+  at_both : (number file work : Text) → IsValueWord number → IsPlainWord file → IsPlainWord work
+      → IsMisusedBy (codes "why" ∷ codes "--every" ∷ codes "--at" ∷ number ∷ file ∷ work ∷ [])
+  at_no_number : (number file work : Text) → IsValueWord number → plain_number number ≡ None → IsPlainWord file → IsPlainWord work
+      → IsMisusedBy (codes "why" ∷ codes "--at" ∷ number ∷ file ∷ work ∷ [])
+
+-- the answer is the request of these words, unless memory ran out
+abbrev pub Asks : List Text → Result Request Error → Type 0
+Asks words r = MatchResult r (λ request. words_of request ≡ words) (λ e. kind_of e ≡ OutOfMemory)
 
 -- the answer is a usage fault, unless memory ran out
 abbrev pub IsUsageFault : Result Request Error → Type 0

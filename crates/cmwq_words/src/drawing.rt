@@ -1,44 +1,34 @@
 //! What the words of `draw` ask for.
 
 ghost use Rattle.clap.specs.Words.{Text, first_of, found_of, one_of, rows_of};
-ghost use Rattle.cmwq_words.specs.Request.{flag_in, number_if_any, number_in, options_of, file_to_draw, IsWithin, words_of};
+ghost use Rattle.cmwq_asked.specs.declared.drawing.Drawing.{Drawing};
+ghost use Rattle.cmwq_words.specs.Request.{IsWithin, drawing_of, file_to_draw, flag_in, number_if_any, number_in, words_of};
 ghost use Rattle.std.specs.Prelude.{◌≡◌, ℕ, Bool, IfSome, List, Option, Some, option_map};
 
-use crate::request::{Request, value_of};
+use crate::request::{Request, on_file, value_of};
 use clap::ArgMatches;
-
-/// What a picture shows of a run, and how.
-#[derive(Clone, Copy, Debug, PartialEq, Eq)]
-pub struct DrawOptions {
-    /// Whether the run goes on until the machine is quiet.
-    pub settle: bool,
-    /// Whether the picture is written as SVG.
-    pub svg: bool,
-    /// The first tick that is drawn; where there is none, the run's first.
-    pub from: Option<u64>,
-    /// The tick before which the picture ends; where there is none, the run's end.
-    pub to: Option<u64>,
-}
+use cmwq_asked::{Drawing, Span, Task};
 
 /// What `draw` asks for; nothing where a time isn't a number.
 pub(crate) fn draw_request<'a>(given: &ArgMatches<'a>) -> Option<Request<'a>>
     ensures words { (asked : List Text) → file_to_draw (rows_of (found_of given.now)) ≡ Some asked → option_map (λ request. words_of request) result ≡ Some asked }
     ensures capacity { IfSome result (λ request. IsWithin request) }
 {
-    let file = value_of(given, "FILE")?;
-    let options = options_of(given)?;
-    Some(Request::Draw { file, options })
+    let drawing = drawing_of(given)?;
+    on_file(given, "FILE", Task::Draw(drawing))
 }
 
-/// The options of a picture; nothing where a time isn't a number.
-fn options_of(given: &ArgMatches<'_>) -> Option<DrawOptions>
-    ensures { (options : DrawOptions) → options_of (rows_of (found_of given.now)) ≡ Some options → result ≡ Some options }
+/// The picture that is asked for; nothing where a time isn't a number.
+pub(crate) fn drawing_of(given: &ArgMatches<'_>) -> Option<Drawing>
+    ensures { (drawing : Drawing) → drawing_of (rows_of (found_of given.now)) ≡ Some drawing → result ≡ Some drawing }
 {
-    Some(DrawOptions {
+    Some(Drawing {
         settle: flag_of(given, "settle"),
         svg: flag_of(given, "svg"),
-        from: time_of(given, "FROM")?,
-        to: time_of(given, "TO")?,
+        span: Span {
+            from: time_of(given, "FROM")?,
+            to: time_of(given, "TO")?,
+        },
     })
 }
 

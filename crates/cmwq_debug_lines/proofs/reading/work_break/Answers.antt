@@ -1,8 +1,9 @@
-use Rattle.std.proofs.Common.{◌-◌, drop, length, rules, take}
-use Rattle.std.proofs.lemmas.List.{take_rest}
-use Rattle.cmwq_debug_lines.proofs.OrderLemmas.{named-is}
+use Rattle.std.proofs.Common.{rules, sym, ◌∙◌}
+use Rattle.cmwq_debug_lines.proofs.OrderLemmas.{break-is}
 use Rattle.cmwq_debug_lines.proofs.reading.work_break.Goals as goal
 
-pub returns-in-len1-up : goal.returns-in-len1-up
-returns-in-len1-up c =
-    named-is c.args.scenario.now c.args.words.now (take (length c.args.words.now - 1) (drop 1 c.args.words.now)) c.name-item.result c.bytes.result.now c.named_break.result c.in-len1-up.len_at_least (search rules) c.bytes.ensures (take_rest c.args.words.now 1) c.named_break.ensures
+pub returns-in-len3 : goal.returns-in-len3
+returns-in-len3 c =
+    break-is c.args.scenario.now c.args.words.now c.name-item.result c.word-item.result c.event-item.result c.bytes-in-len3.result.now c.bytes.result.now
+    c.bytes-in-len3-2.result.now c.on_work.result c.in-len3.len_at_least c.in-len3.len_below (search rules) (search rules) (search rules) c.bytes-in-len3.ensures
+    c.bytes.ensures c.bytes-in-len3-2.ensures (sym c.is_word.ensures ∙ c.if-is_word.true) (rw c.kind_of.ensures at c.on_work.ensures)

@@ -1,11 +1,23 @@
-use Rattle.std.proofs.Common.{rules, ◌≡◌, Err, ap, refl, List, ℕ, subst, sym}
+use Rattle.std.proofs.Common.{rules, ◌≡◌, Err, IfErr, Ok, Result, ap, refl, List, ℕ, subst, sym}
 use Rattle.std.proofs.lemmas.Result.{err_from_is_err_and}
-use Rattle.cmwq_play.proofs.CommandLemmas.{err_is, keeps_same, reads_err, reads_ok, sending_no_read, sending_outside, writes_err, writes_more}
+use Rattle.cmwq_play.proofs.CommandLemmas.{err_is, keeps_same, reads_err, reads_ok, sending_no_read, sending_outside, writes_all, writes_err, writes_more}
 use Rattle.cmwq_play.proofs.TextLemmas.{answers_unread, answers_well}
 use Rattle.cmwq_settle.proofs.SettlingLemmas.{sending-other}
+use Rattle.cmwq_streams.specs.Sending.{IsSendError}
+use Rattle.cmwq_streams.specs.declared.error.PlayError.{PlayError}
+use Rattle.cmwq_streams.specs.declared.error.PlayError.TheVariants.{NoMemory, Write}
 use Rattle.cmwq_draw.specs.Drawn.{IsDrawing, IsDrawnText, IsUndrawable}
 use Rattle.cmwq_draw.proofs.DrawnLemmas.{answers_undrawable, drawing-well, why-reads, why-writes}
 use Rattle.cmwq_draw.proofs.command.draw.Goals as goal
+
+-- writing all fails with the writer alone
+sends : (r : Result (Unit {0}) PlayError) → IfErr r (λ error. error ≡ Write) → IfErr r (λ error. IsSendError error)
+sends (Ok done) write = tt
+sends (Err error) write = subst (λ (e : PlayError). IsSendError e) (sym write) tt
+
+has_memory : (r : Result (Unit {0}) PlayError) → IfErr r (λ error. error ≡ Write) → r ≡ Err NoMemory → ⊥
+has_memory (Ok done) write is = cc
+has_memory (Err error) write is = cc
 
 pub returns-in_err-scenario-clause-reads : goal.returns-in_err-scenario-clause-reads
 returns-in_err-scenario-clause-reads g c =
@@ -58,15 +70,15 @@ returns-in_err-text-clause-no_memory g c = λ is. keeps_same (g.W.Write.contents
 
 pub returns-clause-reads : goal.returns-clause-reads
 returns-clause-reads g c =
-    reads_ok (g.R.Read.remaining c.args.reader.now) (g.R.Read.remaining c.read_text.new.reader) (g.R.Source.failed c.read_text.new.reader) c.in_ok-scenario.scenario c.write_text.result
-    (sending_no_read c.write_text.result c.write_text.ensures.why) c.in_ok-scenario.ensures.reads
+    reads_ok (g.R.Read.remaining c.args.reader.now) (g.R.Read.remaining c.read_text.new.reader) (g.R.Source.failed c.read_text.new.reader) c.in_ok-scenario.scenario c.put_all.result
+    (sending_no_read c.put_all.result (sends c.put_all.result c.put_all.ensures.write)) c.in_ok-scenario.ensures.reads
 
 pub returns-clause-answers : goal.returns-clause-answers
 returns-clause-answers g c =
     let S = c.in_ok-scenario.scenario in
-    answers_well (IsDrawing c.args.drawing) (IsUndrawable c.args.drawing) S S (g.R.Read.remaining c.args.reader.now) c.write_text.result
+    answers_well (IsDrawing c.args.drawing) (IsUndrawable c.args.drawing) S S (g.R.Read.remaining c.args.reader.now) c.put_all.result
     (λ error told. drawing-well S c.args.drawing c.in_ok-text.text.items c.in_ok-text.ensures.drawing error told)
-    (sending_outside c.write_text.result c.write_text.ensures.why) c.in_ok-scenario.ensures.only c.in_ok-scenario.ensures.answers
+    (sending_outside c.put_all.result (sends c.put_all.result c.put_all.ensures.write)) c.in_ok-scenario.ensures.only c.in_ok-scenario.ensures.answers
 
 pub returns-clause-writes : goal.returns-clause-writes
 returns-clause-writes g c =
@@ -75,11 +87,11 @@ returns-clause-writes g c =
     let text = c.deref.result.now in
     let same : c.in_ok-text.text.items ≡ text = search rules in
     let drawn = subst (λ (it : List ℕ). IsDrawing c.args.drawing S it) same c.in_ok-text.ensures.drawing in
-    writes_more (λ output. output ≡ text) (IsDrawnText c.args.drawing input) (g.W.Write.contents c.args.writer.now) (g.W.Write.contents c.write_text.new.writer) (g.W.Sink.failed c.write_text.new.writer)
-    c.write_text.result (λ output is. (S, c.in_ok-scenario.ensures.found, subst (λ (it : List ℕ). IsDrawing c.args.drawing S it) (sym is) drawn)) c.write_text.ensures.writes
+    writes_more (λ output. output ≡ text) (IsDrawnText c.args.drawing input) (g.W.Write.contents c.args.writer.now) (g.W.Write.contents c.put_all.new.writer) (g.W.Sink.failed c.put_all.new.writer)
+    c.put_all.result (λ output is. (S, c.in_ok-scenario.ensures.found, subst (λ (it : List ℕ). IsDrawing c.args.drawing S it) (sym is) drawn)) (writes_all (g.W.Write.contents c.args.writer.now) (g.W.Write.contents c.put_all.new.writer) (g.W.Sink.failed c.put_all.new.writer) c.put_all.result text c.put_all.ensures.ok c.put_all.ensures.err c.put_all.ensures.failed c.put_all.ensures.write)
 
 pub returns-clause-never_quiet : goal.returns-clause-never_quiet
-returns-clause-never_quiet g c = λ is. elim (sending-other c.write_text.result c.write_text.ensures.why is) [ ]
+returns-clause-never_quiet g c = λ is. elim (sending-other c.put_all.result (sends c.put_all.result c.put_all.ensures.write) is) [ ]
 
 pub returns-clause-no_memory : goal.returns-clause-no_memory
-returns-clause-no_memory g c = λ is. elim (c.write_text.ensures.no_memory is) [ ]
+returns-clause-no_memory g c = λ is. absurd (has_memory c.put_all.result c.put_all.ensures.write is)

@@ -5,7 +5,7 @@ use Rattle.cmwq_types.proofs.SettingLemmas.{IsSetting-valid}
 use Rattle.cmwq_picture.specs.Column.{ColumnContents, cut_rows}
 use Rattle.cmwq_picture.specs.Picture.{titles}
 use Rattle.cmwq_picture.specs.Recording.{Recording, issued_all}
-use Rattle.cmwq_picture.specs.declared.error.PictureError.{PictureError}
+use Rattle.cmwq_streams.specs.declared.error.PlayError.{PlayError}
 use Rattle.cmwq_picture.proofs.RecordingLemmas.{pictured, refused}
 use Rattle.cmwq_picture.proofs.drawing.picture.Goals as goal
 
@@ -15,7 +15,7 @@ returns-in_err-issue_all g c =
     let p = err_from_is_err_and c.from_residual.result c.from_residual.ensures.1 in
     record {
       picture = rw (p.1, p.2) (refused S c.args.span (expand_lines c.args.lines.now) c.new-recorder.result c.in_err-issue_all.field-0.0 (IsSetting-valid S c.requires.valid)
-          c.new-recorder.ensures (λ is. c.in_err-issue_all.ensures.wide (ap (λ (why : PictureError). Err why) is)));
+          c.new-recorder.ensures c.in_err-issue_all.ensures.why (λ is. c.in_err-issue_all.ensures.wide (ap (λ (why : PlayError). Err why) is)));
     }
 
 pub returns : goal.returns
@@ -28,6 +28,6 @@ returns g c =
     let counted : c.len.result ≡ length columns = search rules in
     let cut = c.in_ok-rows.ensures ∙ ap (λ (cs : List ColumnContents). cut_rows S cs (titles S)) c.deref.ensures.value in
     record {
-      picture = rw c.start.ensures (pictured S c.args.span instrs r columns c.len.result c.in_ok-rows.rows.items (IsSetting-valid S c.requires.valid)
+      picture = rw c.from_time.ensures (pictured S c.args.span instrs r columns c.len.result c.in_ok-rows.rows.items (IsSetting-valid S c.requires.valid)
           (is ∙ ap (λ (q : Recording). issued_all q instrs) c.new-recorder.ensures) c.into_columns-columns.ensures.columns c.into_columns-columns.ensures.narrow counted cut);
     }

@@ -4,7 +4,7 @@ use Rattle.cmwq_types.specs.Contents.{ActorContents, ScenarioContents}
 use Rattle.cmwq_play.specs.Commands.{Writes}
 use Rattle.cmwq_play.specs.Runs.{IsRunOf}
 use Rattle.cmwq_streams.specs.declared.error.PlayError.TheVariants.{NeverQuiet}
-use Rattle.cmwq_settle.specs.Counting.{IsCounted}
+use Rattle.cmwq_settle.specs.Counting.{HasCounted, IsCounted}
 use Rattle.cmwq_settle.specs.Settling.{IsEndlessOutput, IsFollowedOutput, IsSettledOutput, Wrote}
 use Rattle.cmwq_play.proofs.TextLemmas.{first-is}
 use Rattle.cmwq_settle.proofs.running.count_and_print.Goals as goal
@@ -30,7 +30,8 @@ returns-clause-writes g c =
 pub print_followed-requires-clause-runs : goal.print_followed-requires-clause-runs
 print_followed-requires-clause-runs g c =
     let S = c.args.scenario in
-    let counted = c.in_ok-scenario.ensures.counted in
+    let held : c.in_ok-scenario.scenario.value ≡ S = search rules in
+    let counted = subst (λ (T : ScenarioContents). HasCounted T c.in_ok-nexts.nexts) held c.in_ok-nexts.ensures in
     let actor = c.index.result.now in
     let at : actor ≡ slice_index_or S.actors 0 actor = search rules in
     let same : c.deref.result.now ≡ S = search rules in
@@ -40,9 +41,10 @@ print_followed-requires-clause-runs g c =
 pub print_followed-requires-clause-counted : goal.print_followed-requires-clause-counted
 print_followed-requires-clause-counted g c =
     let S = c.args.scenario in
-    let counted = c.in_ok-scenario.ensures.counted in
+    let held : c.in_ok-scenario.scenario.value ≡ S = search rules in
+    let counted = subst (λ (T : ScenarioContents). HasCounted T c.in_ok-nexts.nexts) held c.in_ok-nexts.ensures in
     let actor = c.index.result.now in
     let at : actor ≡ slice_index_or S.actors 0 actor = search rules in
     let same : c.deref.result.now ≡ S = search rules in
-    subst (λ (T : ScenarioContents). IsCounted T actor c.in_ok-scenario.nexts) (sym same)
-    (subst (λ (a : ActorContents). IsCounted S a c.in_ok-scenario.nexts) (sym (first-is S.actors actor counted.0 at counted.1.alone)) counted.2)
+    subst (λ (T : ScenarioContents). IsCounted T actor c.in_ok-nexts.nexts) (sym same)
+    (subst (λ (a : ActorContents). IsCounted S a c.in_ok-nexts.nexts) (sym (first-is S.actors actor counted.0 at counted.1.alone)) counted.2)

@@ -1,6 +1,6 @@
 use Rattle.std.proofs.Common.{◌≡◌, ◌≤◌, ◌∙◌, ap, length, rules, subst}
 use Rattle.std.specs.Prelude.{slice_index_or}
-use Rattle.cmwq_types.specs.Contents.{ActorContents}
+use Rattle.cmwq_types.specs.Contents.{ActorContents, ScenarioContents}
 use Rattle.cmwq_types.specs.declared.limits.TheConstants.{MAX_LINES}
 use Rattle.cmwq_settle.specs.Counting.{HasCounted}
 use Rattle.cmwq_settle.specs.Settled.{with_nexts}
@@ -13,7 +13,8 @@ pub returns-clause-valid : goal.returns-clause-valid
 returns-clause-valid c =
     let S = c.args.scenario in
     let n = c.in-Settle.n in
-    let counted = subst (λ (nexts : Nexts). HasCounted S nexts) c.in-Settle.is c.in_ok-n.ensures in
+    let held : c.in_ok-shared.shared.value ≡ S = search rules in
+    let counted = subst (λ (nexts : Nexts). HasCounted S nexts) c.in-Settle.is (subst (λ (T : ScenarioContents). HasCounted T c.in_ok-n.field-0) held c.in_ok-n.ensures) in
     let at : c.index.result.now ≡ slice_index_or S.actors 0 c.index.result.now = search rules in
     let first = first-is S.actors c.index.result.now counted.0 at counted.1.alone in
     let longer = c.in_ok-actor.actor in

@@ -12,8 +12,8 @@ returns c =
     placed c.args.text.now (fault_at c.args.fault.line c.args.fault.why) c.place_among.result c.args.bytes.now c.requires.line.0 c.deref-2.result.now c.requires.some
     (λ missing. apart (c.if-is_missing_word.ensures.1 missing)) cut
     (record {
-      are = ap words_in c.deref-2.ensures.value ∙ c.in_ok-read_tokens.ensures.words;
-      stand = subst (λ (ws : List Word). All (StandsIn (worded_part c.args.bytes.now)) ws) (sym c.deref-2.ensures.value) c.in_ok-read_tokens.ensures.columns;
+      are = ap words_in c.deref-2.ensures ∙ c.in_ok-read_tokens.ensures.words;
+      stand = subst (λ (ws : List Word). All (StandsIn (worded_part c.args.bytes.now)) ws) (sym c.deref-2.ensures) c.in_ok-read_tokens.ensures.columns;
     })
     c.place_among.ensures
   where

@@ -1,16 +1,18 @@
-use Rattle.std.proofs.Common.{rules, refl, ◌≡◌, Some}
+use Rattle.std.proofs.Common.{rules, ap, codes, option_map, ◌≡◌, ◌∙◌, Option, Some}
+use Rattle.clap.specs.Words.{Text, first_of, found_of, rows_of}
+use Rattle.cmwq_asked.specs.declared.drawing.Drawing.{Drawing}
+use Rattle.cmwq_asked.specs.declared.task.Task.TheVariants.{Draw}
+use Rattle.cmwq_words.specs.Request.{task_words}
 use Rattle.cmwq_words.proofs.DrawLemmas.{drawn_met}
 use Rattle.cmwq_words.proofs.drawing.draw_request.Goals as goal
 
-pub returns-in_err-file-clause-words : goal.returns-in_err-file-clause-words
-returns-in_err-file-clause-words c asked is =
-    let (given, name, options_are, file_is, words_are) = drawn_met _ _ asked is in
-    search rules
-
 pub returns-clause-words : goal.returns-clause-words
 returns-clause-words c asked is =
-    let (given, name, options_are, file_is, words_are) = drawn_met _ _ asked is in
-    let met : c.options_of.result ≡ Some given = c.options_of.ensures given options_are in
-    let options_is : c.in_ok-options.options ≡ given = search rules in
-    let name_is : c.in_ok-file.file.now ≡ name = search rules in
-    rw (options_is, name_is, words_are) refl
+    let rows = rows_of (found_of c.args.given.now) in
+    let (given, name, drawing_are, file_is, words_are) = drawn_met _ _ asked is in
+    let met : c.drawing_of.result ≡ Some given = c.drawing_of.ensures given drawing_are in
+    let drawing_is : c.in_ok-drawing.drawing ≡ given = search rules in
+    c.on_file.ensures.words
+    ∙ ap (λ (drawing : Drawing). option_map (task_words (Draw drawing)) (first_of (codes "FILE") rows)) drawing_is
+    ∙ ap (λ (file : Option Text). option_map (task_words (Draw given)) file) file_is
+    ∙ ap Some words_are

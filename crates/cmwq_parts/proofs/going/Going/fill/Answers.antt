@@ -1,6 +1,5 @@
-use Rattle.std.proofs.Common.{◌≡◌, ◌-◌, ◌<◌, ◌≤◌, length, sym, ◌∙◌, ap, arith, subst}
+use Rattle.std.proofs.Common.{◌≡◌, ◌-◌, ◌<◌, ◌≤◌, length, sym, ◌∙◌, ap, arith}
 use Rattle.cmwq_table.specs.Ready.{Loaded}
-use Rattle.cmwq_types.specs.Setting.{IsSetting}
 use Rattle.cmwq_table.specs.Moves.{fill, fill_one}
 use Rattle.cmwq_table.proofs.CounterLemmas.{fill-takes}
 use Rattle.cmwq_parts.proofs.FillLemmas.{loaded-is, fill_times-done, fill_times-stays, fill_times-turn}
@@ -17,10 +16,9 @@ loop-turn-preserved g c =
       stamps = omega (arith, c.fill_one.ensures.stamps, c.loop-turn.invariant.stamps);
     }
 
-pub fill_one-requires-clause-stamps : goal.fill_one-requires-clause-stamps
-fill_one-requires-clause-stamps g c =
-    let setting : IsSetting c.args.self.now.scenario = subst (λ (m : Loaded). IsSetting m.scenario) c.self.view_is c.self.invariant.setting in
-    omega (arith, c.loop-turn.invariant.stamps, c.requires.stamps, c.loop-turn-test.true, c.work_count-turn-end.ensures, setting.works)
+pub fill_one-requires : goal.fill_one-requires
+fill_one-requires g c =
+    omega (arith, c.loop-turn.invariant.stamps, c.requires, c.loop-turn-test.true, c.work_count-turn-end.ensures.count, c.work_count-turn-end.ensures.setting.works)
 
 pub returns-then-not-fill_one-clause-filled : goal.returns-then-not-fill_one-clause-filled
 returns-then-not-fill_one-clause-filled g c =
@@ -33,18 +31,16 @@ returns-then-not-fill_one-clause-filled g c =
 
 pub returns-then-not-fill_one-clause-takes : goal.returns-then-not-fill_one-clause-takes
 returns-then-not-fill_one-clause-takes g c =
-    let setting : IsSetting c.args.self.now.scenario = subst (λ (m : Loaded). IsSetting m.scenario) c.self.view_is c.self.invariant.setting in
-    rw (returns-then-not-fill_one-clause-filled g c) (fill-takes c.args.self.now.scenario c.args.queue c.args.pool c.args.self.now.state setting)
+    rw (returns-then-not-fill_one-clause-filled g c) (fill-takes c.args.self.now.scenario c.args.queue c.args.pool c.args.self.now.state c.work_count-turn-end.ensures.setting)
 
 pub returns-after-loop-turn-clause-filled : goal.returns-after-loop-turn-clause-filled
 returns-after-loop-turn-clause-filled g c =
     let was = c.loop-turn.self in
     let S = was.scenario in
-    let all_done : length S.works ≤ c.loop-turn._turn = rw c.loop-turn.invariant.same (omega (arith, c.loop-turn-test.false, c.work_count-turn-end.ensures)) in
+    let all_done : length S.works ≤ c.loop-turn._turn = rw c.loop-turn.invariant.same (omega (arith, c.loop-turn-test.false, c.work_count-turn-end.ensures.count)) in
     let rest = sym (fill_times-done S c.args.queue c.args.pool (length S.works) c.loop-turn._turn was.state all_done) ∙ c.loop-turn.invariant.rest in
     loaded-is was c.args.self.now.scenario (fill c.args.self.now.scenario c.args.queue c.args.pool c.args.self.now.state) c.loop-turn.invariant.same rest
 
 pub returns-after-loop-turn-clause-takes : goal.returns-after-loop-turn-clause-takes
 returns-after-loop-turn-clause-takes g c =
-    let setting : IsSetting c.args.self.now.scenario = subst (λ (m : Loaded). IsSetting m.scenario) c.self.view_is c.self.invariant.setting in
-    rw (returns-after-loop-turn-clause-filled g c) (fill-takes c.args.self.now.scenario c.args.queue c.args.pool c.args.self.now.state setting)
+    rw (returns-after-loop-turn-clause-filled g c) (fill-takes c.args.self.now.scenario c.args.queue c.args.pool c.args.self.now.state c.work_count-turn-end.ensures.setting)

@@ -1,5 +1,6 @@
 use Rattle.std.proofs.Common.{◌≡◌, List, [], ◌∷◌, ◌++◌, ap, subst, ◌∙◌}
 use Rattle.cmwq_types.specs.Contents.{ScenarioContents}
+use Rattle.cmwq_table.specs.Ready.{Loaded}
 use Rattle.cmwq_picture.specs.Column.{ColumnContents, column_of}
 use Rattle.cmwq_picture.specs.Recording.{Recording, recording_of}
 use Rattle.cmwq_picture.proofs.recorder.Recorder.draw.Goals as goal
@@ -13,6 +14,6 @@ returns-clause-ok g c =
     let old = inside.columns.items in
     let pushed : c.push.new.self.items ≡ old ++ column_of S s acted ∷ [] =
     c.in_ok-push.ensures.items
-    ∙ ap (λ (one : ColumnContents). old ++ one ∷ []) (c.in_ok-column.ensures ∙ ap (λ (T : ScenarioContents). column_of T s acted) c.self.invariant.1) in
+    ∙ ap (λ (one : ColumnContents). old ++ one ∷ []) (c.in_ok-column.ensures ∙ ap (λ (m : Loaded). column_of m.scenario m.state acted) c.in_ok-moment.ensures ∙ ap (λ (T : ScenarioContents). column_of T s acted) c.self.invariant.1) in
     subst (λ (r : Recording). recording_of S inside.span s inside.acted c.push.new.self.items ≡ record r { columns = r.columns ++ column_of r.scenario r.state acted ∷ [] })
     c.self.view_is (ap (recording_of S inside.span s inside.acted) pushed)

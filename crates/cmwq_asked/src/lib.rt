@@ -1,0 +1,10 @@
+//! What is asked of a scenario: what is done with it, what is drawn of its run, and what is told of it. Types alone.
+#![tactic(auto)]
+
+mod drawing;
+mod question;
+mod task;
+
+pub use drawing::{Drawing, Span};
+pub use question::{Looks, Question};
+pub use task::{RunKind, Task};

@@ -1,0 +1,21 @@
+//! What is asked of a run, and of which of its states.
+
+/// What is asked of a run.
+#[derive(Clone, Copy, Debug, PartialEq, Eq)]
+pub enum Question<'a> {
+    /// Why the work of this name isn't further.
+    Work(&'a str),
+    /// What the flush of this number, from 0, waits for.
+    Flush(u64),
+}
+
+/// The positions of a run at which a command looks at the machine. At position `k` the first `k` instructions have been carried out.
+#[derive(Clone, Copy, Debug, PartialEq, Eq)]
+pub enum Looks {
+    /// At those that are settled, where no timer is due and no pool has a move, and at the last one.
+    Settled,
+    /// At each of them.
+    Every,
+    /// At this one alone.
+    At(u64),
+}

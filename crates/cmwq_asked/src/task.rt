@@ -1,0 +1,32 @@
+//! What is done with one input.
+
+use crate::drawing::Drawing;
+use crate::question::{Looks, Question};
+
+/// How a scenario is run.
+#[derive(Clone, Copy, Debug, PartialEq, Eq)]
+pub enum RunKind {
+    /// As far as its actor's instructions go.
+    Plain,
+    /// On by `next` until the machine is quiet.
+    Settled,
+    /// As far as they go, with each instruction and what it changes unseen.
+    Told,
+}
+
+/// What is done with an input: the text of a scenario, or an image.
+#[derive(Clone, Copy, Debug, PartialEq, Eq)]
+pub enum Task<'a> {
+    /// The scenario is run.
+    Run(RunKind),
+    /// The scenario is listed, with as many `next` more as make its machine quiet.
+    Settle,
+    /// The scenario is listed.
+    List,
+    /// The scenario of the image is listed.
+    Show,
+    /// The scenario's run is drawn.
+    Draw(Drawing),
+    /// The question to the scenario's run is answered.
+    Why(Question<'a>, Looks),
+}

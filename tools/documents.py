@@ -1,0 +1,171 @@
+"""Writes what documents compute from the tree, or says what in them isn't so.
+
+  tools/documents.py           writes it
+  tools/documents.py --check   compares, and says which document isn't as computed
+
+In docs/MAP.md the crates by storeys, from crates.txt and the first paragraph of each crate's root file; in docs/MODEL.md the definitions
+that some public contracts cite, as far as these go, with their files and lines. Both stand between two comments."""
+import glob
+import os
+import pathlib
+import re
+import sys
+
+sys.dont_write_bytecode = True
+TOP = os.path.dirname(os.path.dirname(os.path.realpath(__file__)))
+
+# What is promised, in words, and the functions whose contracts say it: a source file, and a name.
+PROMISES = [
+    ("`cmwq run`", [("cmwq_play/src/running.rt", "run")]),
+    ("`cmwq asm`", [("cmwq_play/src/images.rt", "to_image")]),
+    ("`cmwq debug`", [("cmwq_talk/src/debugging.rt", "debug")]),
+    ("`cmwq play`", [("cmwq_played/src/playing.rt", "play")]),
+    ("the lock", [("cmwq_lock/src/lock.rt", "")]),
+]
+BEGINS = re.compile(r"^\s*(?:(?:abbrev|unfoldable|opaque|pub)\s+)*(?:record\s+|data\s+)?([^\s:(){},]+)\s*(?:[({].*)?:(?:\s|$)")
+IMPORT = re.compile(r"^\s*(?:pub )?(?:ghost )?use Rattle\.([\w.]+?)(?:\.\{(.*?)\}| as (\w+));?\s*$")
+
+
+class Module:
+    """A file of definitions: each one's lines by its name, and what the file's names stand for."""
+
+    def __init__(self, path):
+        self.path, self.blocks, self.names = path, {}, {}
+        current = None
+        for line in pathlib.Path(path).read_text("utf-8").splitlines():
+            found, begins = IMPORT.match(line), BEGINS.match(line)
+            if found:
+                self.names.update(imported(found))
+            elif not line.strip():
+                current = None
+            elif begins and re.match(r"\s*(abbrev|unfoldable|opaque|pub|record|data)\b", line) and not self.is_field(current, line):
+                current = begins[1]
+                self.blocks[current] = [line]
+            elif current and not line.strip().startswith("--"):
+                self.blocks[current].append(line)
+
+    def is_field(self, current, line):
+        """Whether the line is a field of the record, or a constructor of the data, that it stands in."""
+        head = self.blocks[current][0] if current else ""
+        return bool(re.match(r"\s*(?:pub )?(?:record|data)\b", head)) and len(line) - len(line.lstrip()) > len(head) - len(head.lstrip())
+
+
+def imported(found):
+    """The names that an import brings, each with its module and its name there; of a whole module, its name and a dot."""
+    module, names, alias = found.groups()
+    if alias:
+        return {f"{alias}.": (module, None)}
+    pairs = [(it.strip().split(" as ")[-1], it.strip().split(" as ")[0]) for it in names.split(",")]
+    return {here: (module, there) for here, there in pairs}
+
+
+def cited(text, names, module, own=()):
+    """The definitions that a text names."""
+    plain = re.sub(r'"[^"]*"', "", text)
+    for word in set(re.findall(r"[\w\-']+\.?(?=\w)?|◌\S+|[^\s\w(){},.;]+", plain)):
+        if word in own:
+            yield module, word
+        elif word in names:
+            yield names[word]
+
+
+def modules_of(root):
+    paths = glob.glob(f"{root}/crates/*/specs/**/*.antt", recursive=True)
+    named = {path: f"{path.split('/specs/')[0].split('/')[-1]}.specs.{path.split('/specs/')[1][:-5].replace('/', '.')}" for path in paths}
+    return {named[path]: Module(path) for path in sorted(paths)}
+
+
+def contract_of(root, path, function):
+    """The clauses of a public function, or of all of a file, with what its names stand for."""
+    text = pathlib.Path(root, "crates", path).read_text("utf-8")
+    names = {}
+    for line in text.splitlines():
+        if found := IMPORT.match(line):
+            names.update(imported(found))
+    parts = re.split(r"^(?=\s*pub fn )", text, flags=re.M)
+    wanted = [part for part in parts[1:] if not function or re.match(rf"\s*pub fn {function}\b", part)]
+    clauses = [clause for part in wanted for clause in re.findall(r"^\s*(?:ensures|requires) .*$", part.split("\n{\n")[0], re.M)]
+    return "\n".join(clauses), names
+
+
+def road(root, modules, functions):
+    """The definitions that these functions' contracts cite, and what these cite in turn; and what of src/ they name."""
+    todo = [it for path, function in functions for text, names in [contract_of(root, path, function)] for it in cited(text, names, "")]
+    seen, declared = set(), set()
+    while todo:
+        module, name = todo.pop()
+        if ".specs.declared." in module:
+            declared.add(module.replace(".specs.declared.", "/src/").split(".")[0])
+        if module not in modules or name not in modules[module].blocks or (module, name) in seen:
+            continue
+        seen.add((module, name))
+        here = modules[module]
+        todo.extend(cited("\n".join(here.blocks[name]), here.names, module, here.blocks))
+    return seen, declared
+
+
+def road_rows(root):
+    """A row for each promise. Files that the first one's row has aren't named again."""
+    modules, first = modules_of(root), None
+    rows = ["| Promise | Definitions, lines | Their files in `specs/` | Files of `src/` whose types and constants they name |", "|---|---|---|---|"]
+    for what, functions in PROMISES:
+        seen, declared = road(root, modules, functions)
+        files, lines = {module for module, _ in seen}, sum(len(modules[module].blocks[name]) for module, name in seen)
+        new = sorted(files | declared if first is None else (files | declared) - first)
+        cells = [grouped(it for it in new if (".specs." in it) == is_spec) for is_spec in (True, False)]
+        rest = [f"; {len(kind & first)} of the first row's" if first and kind & first else "" for kind in (files, declared)]
+        rows.append(f"| {what} | {len(seen)}, {lines} | {cells[0]}{rest[0]} | {cells[1]}{rest[1]} |")
+        first = files | declared if first is None else first
+    return rows
+
+
+def grouped(paths):
+    """Files, crate by crate."""
+    crates = {}
+    for path in paths:
+        crate, file = re.split(r"\.specs\.|/src/", path)
+        crates.setdefault(crate, []).append(f"`{file}`")
+    return "; ".join(f"{crate}: {', '.join(names)}" for crate, names in crates.items())
+
+
+def map_rows(root):
+    """The crates, storey by storey, each with the first paragraph of its root file."""
+    rows = []
+    for line in pathlib.Path(root, "crates.txt").read_text("utf-8").splitlines():
+        if line.startswith("# "):
+            rows += ["", f"### {line[2:]}", "", "| Crate | What it is |", "|---|---|"]
+        elif line.strip():
+            name = line.split(":")[0].split()[0]
+            source = next(path for path in (f"{root}/crates/{name}/src/{it}.rt" for it in ("lib", "main")) if os.path.exists(path))
+            head = re.match(r"((?://! .*\n)+)", pathlib.Path(source).read_text("utf-8"))[1]
+            rows.append(f"| `{name}` | {' '.join(it[4:] for it in head.splitlines())} |")
+    return rows[1:]
+
+
+def lost_steps(root):
+    """The functions that docs/MAP.md names and that aren't in the file beside them."""
+    rows = re.findall(r"^\| `(\w+/src/\w+\.rt)`: (.*?) \|", pathlib.Path(root, "docs/MAP.md").read_text("utf-8"), re.M)
+    sources = [(path, pathlib.Path(root, "crates", path).read_text("utf-8"), re.findall(r"`(\w+)`", names)) for path, names in rows]
+    return [f"docs/MAP.md: {path} has no `{name}`" for path, text, names in sources for name in names if not re.search(rf"\bfn {name}\b", text)]
+
+
+def computed(root):
+    """Each document's path, the word that its comments have, and what should stand between them."""
+    return [("docs/MAP.md", "crates", map_rows(root)), ("docs/MODEL.md", "road", road_rows(root))]
+
+
+def main(*words):
+    faults = lost_steps(TOP)
+    for path, word, rows in computed(TOP):
+        text = pathlib.Path(TOP, path).read_text("utf-8")
+        made = re.sub(rf"(<!-- {word}: .*-->\n)(?:.*\n)*?(<!-- end -->)", lambda it: it[1] + "\n".join(["", *rows, "", ""]) + it[2], text)
+        if made != text and words == ("--check",):
+            faults.append(f"{path} isn't as computed: run tools/documents.py")
+        elif made != text:
+            pathlib.Path(TOP, path).write_text(made, "utf-8")
+    print("".join(f"documents: {fault}\n" for fault in faults), end="")
+    return 1 if faults else 0
+
+
+if __name__ == "__main__":
+    sys.exit(main(*sys.argv[1:]))
