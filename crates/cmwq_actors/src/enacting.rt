@@ -14,11 +14,11 @@ use crate::gate::Gate;
 use crate::part::Stage;
 use crate::threads::room_for;
 use cmwq_engine::{Engine, Shared};
-use cmwq_lock::{Kept, Opener};
-use cmwq_table::{LoadError, Machine};
+use cmwq_lock::Kept;
+use cmwq_table::Machine;
 use cmwq_types::{NoMemory, Scenario};
 use std::alloc::Global;
-use std::sync::{OnceLock, Wait};
+use std::sync::{Arc, OnceLock, Wait};
 use std::thread::Threads;
 use std::time::Clock;
 
@@ -60,21 +60,21 @@ impl<M: Machine> Enactment<M> {
 pub fn enact<'x, R: Threads + Wait + Clock + Sync, M: Machine + Send, G: Gate>(
     rt: &'x R,
     alloc: Global,
-    scenario: &Scenario,
+    scenario: &Arc<Scenario>,
     capacity: u32,
     gate: &'x G,
 ) -> Result<Enactment<M>, NoMemory>
-    requires valid { IsValid scenario.now }
+    requires valid { IsValid scenario.now.value }
     requires few { capacity ≤ MAX_HISTORY }
     ensures setting { IfOk result
-        (λ r. r.engine.setting ≡ record { scenario = scenario.now; capacity = capacity }) }
+        (λ r. r.engine.setting ≡ record { scenario = scenario.now.value; capacity = capacity }) }
     ensures sound { IfOk result (λ r. IsSound r.engine) }
     ensures each { IfOk result
-        (λ r. EachHasEnded (scripts_of scenario.now) capacity r.engine.history r.endings.items) }
+        (λ r. EachHasEnded (scripts_of scenario.now.value) capacity r.engine.history r.endings.items) }
     ensures all { IfOk result
-        (λ r. AllHaveEnded (scripts_of scenario.now) capacity r.engine.history (ending_of r.endings.items)) }
+        (λ r. AllHaveEnded (scripts_of scenario.now.value) capacity r.engine.history (ending_of r.endings.items)) }
 {
-    let (shared, opener) = open(alloc, scenario, capacity)?;
+    let (shared, opener) = Shared::begin(alloc, Arc::clone(scenario)?, capacity)?;
     let count = scenario.actors.len();
     let room = room_for(alloc, count)?;
     let stage = Stage {
@@ -90,25 +90,5 @@ pub fn enact<'x, R: Threads + Wait + Clock + Sync, M: Machine + Send, G: Gate>(
     match stage.shared.close(opener) {
         Ok(engine) => Ok(Enactment { engine, endings }),
         Err(_) => unreachable!(),
-    }
-}
-
-/// The shared engine of a valid scenario, which can only lack memory.
-fn open<M: Machine>(
-    alloc: Global,
-    scenario: &Scenario,
-    capacity: u32,
-) -> Result<(Shared<M>, Opener<Engine<M>>), NoMemory>
-    requires valid { IsValid scenario.now }
-    requires few { capacity ≤ MAX_HISTORY }
-    ensures setting { IfOk result
-        (λ r. setting_of r.0 ≡ record { scenario = scenario.now; capacity = capacity }) }
-    ensures opener { IfOk result (λ r. IsOpenerOf r.0 r.1) }
-    ensures opening { IfOk result (λ r. opener_view r.1 ≡ opening_view (setting_of r.0)) }
-{
-    match Shared::open(alloc, scenario, capacity) {
-        Ok(opened) => Ok(opened),
-        Err(LoadError::NoMemory) => Err(NoMemory),
-        Err(LoadError::Fault(_)) => unreachable!(),
     }
 }

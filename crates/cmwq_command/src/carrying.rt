@@ -175,7 +175,7 @@ fn debug<R: Files + AllocGlobal, I: Read + Drop, W: Sink>(
     let mut reader = opened(rt, file)?;
     let scenario = cmwq_play::read_text(rt.alloc(), &mut reader)?;
     let mut commands = Marked::new(input);
-    cmwq_talk::debug(rt.alloc(), &scenario, &mut commands, writer)
+    cmwq_talk::debug(rt.alloc(), scenario, &mut commands, writer)
 }
 
 /// Carries out all actors of the scenario whose text is in the file at once, and writes the text that is left.
@@ -190,7 +190,7 @@ fn play<R: Files + AllocGlobal + Threads + Wait + Clock + Sync, W: Sink>(
 {
     let mut reader = opened(rt, file)?;
     let scenario = cmwq_play::read_text(rt.alloc(), &mut reader)?;
-    cmwq_played::play(rt, rt.alloc(), &scenario, capacity, &OpenGate, writer)
+    cmwq_played::play(rt, rt.alloc(), scenario, capacity, &OpenGate, writer)
 }
 
 /// The file, opened to be read.

@@ -61,6 +61,28 @@ impl<M: Machine> Debugger<M> {
         Debugger::of_copy(alloc, scenario, instrs).map_err(|_| LoadError::NoMemory)
     }
 
+    /// A debugger of the instructions and of a scenario that is known to be valid, at the start and with no break. The scenario is
+    /// shared, and isn't judged again.
+    pub fn begin(
+        alloc: Global,
+        scenario: Arc<Scenario>,
+        instrs: Vec<Instr>,
+    ) -> Result<Debugger<M>, NoMemory>
+        requires valid { IsValid scenario.value }
+        requires short { length instrs.items ≤ MAX_HISTORY }
+        ensures debugger { IfOk result (λ debugger. debugger ≡ opened scenario.value instrs.items) }
+    {
+        let machine = M::begin(alloc, Arc::clone(&scenario)?)?;
+        Ok(Debugger {
+            alloc,
+            scenario,
+            instrs,
+            machine,
+            position: 0,
+            breaks: [None; MAX_BREAKS],
+        })
+    }
+
     /// Carries out the command, and says what it came to.
     ///
     /// Where it isn't carried out, position and breaks are as before.
@@ -102,15 +124,7 @@ impl<M: Machine> Debugger<M> {
         ensures { IfOk result (λ debugger. debugger ≡ opened scenario.now instrs.items) }
     {
         let scenario = Arc::new(alloc, scenario.copy()?)?;
-        let machine = M::begin(alloc, Arc::clone(&scenario)?)?;
-        Ok(Debugger {
-            alloc,
-            scenario,
-            instrs,
-            machine,
-            position: 0,
-            breaks: [None; MAX_BREAKS],
-        })
+        Debugger::begin(alloc, scenario, instrs)
     }
 
     fn step(&mut self, n: u32) -> Result<Said, DebugError>

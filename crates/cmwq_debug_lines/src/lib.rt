@@ -7,4 +7,5 @@ mod reading;
 mod talk;
 
 pub use lines::line_length;
+pub use reading::work_named;
 pub use talk::answer;

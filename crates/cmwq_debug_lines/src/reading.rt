@@ -151,8 +151,8 @@ fn on_work(scenario: &Scenario, name: &[u8], event: Option<EventKind>) -> Order
     }
 }
 
-/// The number of the work of this name.
-fn work_named(scenario: &Scenario, name: &[u8]) -> Option<usize>
+/// The number of the work of this name, if the scenario has one.
+pub fn work_named(scenario: &Scenario, name: &[u8]) -> Option<usize>
     ensures named { result ≡ work_named scenario.now name.now }
     ensures in_range { IfSome result (λ w. w < length scenario.now.works) }
 {

@@ -1,13 +1,16 @@
 //! The engine: a machine with its history.
-ghost use Rattle.cmwq_engine.specs.Engine.{IsSound, Opens, entered, entry, reply_to};
+ghost use Rattle.cmwq_engine.specs.Engine.{IsSound, Opens, entered, entry, opening, reply_to};
+ghost use Rattle.cmwq_table.specs.State.{start};
+ghost use Rattle.cmwq_types.specs.Faults.{IsValid};
 ghost use Rattle.cmwq_types.specs.declared.limits.TheConstants.{MAX_HISTORY};
 ghost use Rattle.std.specs.Prelude.{◌≡◌, ◌<◌, ◌≤◌, ◌↔◌, All, IfErr, IfOk, IsErr, length};
 
 use crate::history::{Entry, Full};
 use cmwq_table::{LoadError, Machine};
-use cmwq_types::{Instr, Reply, Scenario};
+use cmwq_types::{Instr, NoMemory, Reply, Scenario};
 use std::alloc::Global;
 use std::marker::Model;
+use std::sync::Arc;
 
 /// A machine, with the history of all that was issued on it.
 ///
@@ -42,14 +45,39 @@ impl<M: Machine> Engine<M> {
         ensures sound { IfOk result (λ engine. IsSound engine) }
     {
         let machine = M::load(alloc, scenario)?;
-        match Vec::with_capacity(alloc, capacity as usize) {
-            Ok(history) => Ok(Engine {
-                machine,
-                capacity,
-                history,
-            }),
-            Err(_) => Err(LoadError::NoMemory),
-        }
+        Engine::over(alloc, machine, capacity).map_err(|_| LoadError::NoMemory)
+    }
+
+    /// A machine in the start state of a scenario that is known to be valid, with no history yet and room for so many
+    /// entries, at most 1,048,576. The scenario is shared, and isn't judged again. No other call of the engine takes memory.
+    pub fn begin(
+        alloc: Global,
+        scenario: Arc<Scenario>,
+        capacity: u32,
+    ) -> Result<Engine<M>, NoMemory>
+        requires valid { IsValid scenario.value }
+        requires few { capacity ≤ MAX_HISTORY }
+        ensures engine { IfOk result (λ engine. engine ≡ opening scenario.value capacity) }
+        ensures sound { IfOk result (λ engine. IsSound engine) }
+    {
+        let machine = M::begin(alloc, scenario)?;
+        Engine::over(alloc, machine, capacity)
+    }
+
+    /// A machine at its start, with room for so many entries.
+    fn over(alloc: Global, machine: M, capacity: u32) -> Result<Engine<M>, NoMemory>
+        requires valid { IsValid (M.loaded machine) }
+        requires start { M.state machine ≡ start (M.loaded machine) }
+        requires few { capacity ≤ MAX_HISTORY }
+        ensures engine { IfOk result (λ engine. engine ≡ opening (M.loaded machine) capacity) }
+        ensures sound { IfOk result (λ engine. IsSound engine) }
+    {
+        let history = Vec::with_capacity(alloc, capacity as usize)?;
+        Ok(Engine {
+            machine,
+            capacity,
+            history,
+        })
     }
 
     /// Carries out one instruction, enters it with its ticket, its caller and the reply, and answers the reply.

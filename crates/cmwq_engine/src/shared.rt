@@ -15,10 +15,10 @@ use crate::history::Full;
 use crate::kept::Receipt;
 use cmwq_lock::{Drawn, Kept, NotDrawn, NotYet, Opener, Pass, TicketLock, TooMany, Why};
 use cmwq_table::{LoadError, Machine};
-use cmwq_types::{Instr, Scenario};
+use cmwq_types::{Instr, NoMemory, Scenario};
 use std::alloc::Global;
 use std::marker::Model;
-use std::sync::Wait;
+use std::sync::{Arc, Wait};
 use thiserror::Error;
 
 /// Why an instruction was not issued.
@@ -77,9 +77,41 @@ impl<M: Machine> Shared<M> {
         ensures view { IfOk result (λ r. opener_view r.1 ≡ opening_view (setting_of r.0)) }
     {
         let engine = Engine::open(alloc, scenario, capacity)?;
+        Shared::over(alloc, engine).map_err(|_| LoadError::NoMemory)
+    }
+
+    /// An engine in the start state of a scenario that is known to be valid, with room for so many entries, at most 1,048,576,
+    /// and its opener, with no pass out. The scenario isn't judged again. No other call takes memory.
+    pub fn begin(
+        alloc: Global,
+        scenario: Arc<Scenario>,
+        capacity: u32,
+    ) -> Result<(Shared<M>, Opener<Engine<M>>), NoMemory>
+        requires valid { IsValid scenario.value }
+        requires few { capacity ≤ MAX_HISTORY }
+        ensures setting { IfOk result
+            (λ r. setting_of r.0 ≡ record { scenario = scenario.value; capacity = capacity }) }
+        ensures token { IfOk result (λ r. IsOpenerOf r.0 r.1) }
+        ensures view { IfOk result (λ r. opener_view r.1 ≡ opening_view (setting_of r.0)) }
+    {
+        let engine = Engine::begin(alloc, scenario, capacity)?;
+        Shared::over(alloc, engine)
+    }
+
+    /// The engine behind a lock, and its opener.
+    fn over(
+        alloc: Global,
+        engine: Engine<M>,
+    ) -> Result<(Shared<M>, Opener<Engine<M>>), NoMemory>
+        requires sound { IsSound engine }
+        requires empty { engine.history ≡ [] }
+        ensures setting { IfOk result (λ r. setting_of r.0 ≡ engine.setting) }
+        ensures token { IfOk result (λ r. IsOpenerOf r.0 r.1) }
+        ensures view { IfOk result (λ r. opener_view r.1 ≡ opening_view (setting_of r.0)) }
+    {
         match TicketLock::open(alloc, engine) {
             Ok((lock, opener)) => Ok((Shared { lock }, opener)),
-            Err(_) => Err(LoadError::NoMemory),
+            Err(_) => Err(NoMemory),
         }
     }
 

@@ -1,10 +1,10 @@
 //! What is said of a state, to a question.
-ghost use Rattle.cmwq_debug_lines.specs.Orders.{work_named};
 ghost use Rattle.cmwq_explain.specs.Explained.{IsUnknown};
-ghost use Rattle.std.specs.Prelude.{◌≡◌, ◌<◌, ◌↔◌, IfSome, IsTrue, length};
+ghost use Rattle.std.specs.Prelude.{◌≡◌, ◌↔◌, IsTrue};
 
 use cmwq_asked::Question;
 use cmwq_changes::Sayer;
+use cmwq_debug_lines::work_named;
 use cmwq_table::Reads;
 use cmwq_types::{NoMemory, Scenario, WorkId};
 use cmwq_waits::flush_text;
@@ -16,7 +16,7 @@ pub(crate) fn is_unknown(question: Question<'_>, scenario: &Scenario) -> bool
     ensures { IsTrue result ↔ IsUnknown question.entry scenario.now }
 {
     match question {
-        Question::Work(name) => work_named(scenario, name).is_none(),
+        Question::Work(name) => work_named(scenario, name.as_bytes()).is_none(),
         Question::Flush(_) => false,
     }
 }
@@ -32,22 +32,11 @@ impl Sayer for Asked<'_> {
 
     fn say<R: Reads>(&self, alloc: Global, machine: &R) -> Result<Option<String>, NoMemory> {
         match self.0 {
-            Question::Work(name) => match work_named(machine.scenario(), name) {
+            Question::Work(name) => match work_named(machine.scenario(), name.as_bytes()) {
                 Some(w) => Ok(Some(work_text(alloc, machine, WorkId(w as u16))?)),
                 None => Ok(None),
             },
             Question::Flush(flush) => flush_text(alloc, machine, flush as usize),
         }
     }
-}
-
-/// The number of the work of this name.
-fn work_named(scenario: &Scenario, name: &str) -> Option<usize>
-    ensures named { result ≡ work_named scenario.now name.now }
-    ensures in_range { IfSome result (λ w. w < length scenario.now.works) }
-{
-    scenario
-        .works
-        .iter()
-        .position(|work| work.name.as_bytes() == name.as_bytes())
 }

@@ -15,10 +15,11 @@ use Rattle.cmwq_asm.specs.declared.fault.AsmError.TheVariants.{At, NoMemory as a
 use Rattle.cmwq_play.specs.Commands.{Answers, IsOutside}
 use Rattle.cmwq_play.specs.Runs.{CanRun, IsRefused}
 use Rattle.cmwq_play.specs.Texts.{ComesTo, IsFaultOf, IsSpelled, IsTextFault}
-use Rattle.cmwq_play.proofs.CommandLemmas.{answers_lifted, outside_told}
+use Rattle.cmwq_play.proofs.CommandLemmas.{answers_lifted, answers_outside, outside_told}
 use Rattle.cmwq_grammar.specs.declared.why.Why.{Why}
+use Rattle.cmwq_streams.specs.Errors.{text_told_as}
 use Rattle.cmwq_streams.specs.declared.error.PlayError.{PlayError}
-use Rattle.cmwq_streams.specs.declared.error.PlayError.TheVariants.{Asm, Actors, Full}
+use Rattle.cmwq_streams.specs.declared.error.PlayError.TheVariants.{Asm, Actors, Full, NoMemory}
 
 -- What was read of an input of these bytes.
 module _ (bytes text : List ℕ) (within : length text ≤ length bytes) (whole : length text ≤ MAX_TEXT → bytes ≡ text) where
@@ -83,6 +84,15 @@ module _ (now : Option (List ℕ)) (text : List ℕ) where
       (fault_before bytes front whole) h
   text_answers None r front whole h = answers_lifted IsSpelled IsTextFault None text r (fault_again None front whole) tt tt h
 
+-- the assembler's fault is the one that the law names
+one_told : (error : AsmError) (line : ℕ) (why : Why) (fault : FaultAt) → error ≡ At line why → (error ≡ At fault.line fault.why) ⊎ (error ≡ asm_no_memory) → fault ≡ fault_at line why
+one_told error line why fault is (inl told) =
+    let same : At fault.line fault.why ≡ At line why = sym told ∙ is in
+    let lines : fault.line ≡ line = cc in
+    let reasons : fault.why ≡ why = cc in
+    ap (λ (n : ℕ). fault_at n fault.why) lines ∙ ap (λ (w : Why). fault_at line w) reasons
+one_told error line why fault is (inr outside) = cc
+
 -- The assembler's answers as those of a command.
 module _ (text : List ℕ) where
   no_fault : ((fault : FaultAt) → IsFault text fault → ⊥) → (error : PlayError) → IsTextFault (Some text) error → ⊥
@@ -98,7 +108,7 @@ module _ (text : List ℕ) where
   one_fault line why one other told = elim told [ ]
 
   -- a text with a fault
-  pub answers_faulty : {A : Type 0} (line : ℕ) (why : Why) → IsFault text (fault_at line why) → ((S : ScenarioContents) → Spells text S → ⊥)
+  answers_faulty : {A : Type 0} (line : ℕ) (why : Why) → IsFault text (fault_at line why) → ((S : ScenarioContents) → Spells text S → ⊥)
       → ((fault : FaultAt) → IsFault text fault → fault ≡ fault_at line why) → Answers {A = A} IsSpelled IsTextFault (Some text) (Err (Asm (At line why)))
   answers_faulty line why told unspelled one = record {
     told = inl told;
@@ -106,14 +116,13 @@ module _ (text : List ℕ) where
     tells = λ fault is. inl (one_fault line why one fault is);
   }
 
--- the assembler's fault is the one that the law names
-pub one_told : (error : AsmError) (line : ℕ) (why : Why) (fault : FaultAt) → error ≡ At line why → (error ≡ At fault.line fault.why) ⊎ (error ≡ asm_no_memory) → fault ≡ fault_at line why
-one_told error line why fault is (inl told) =
-    let same : At fault.line fault.why ≡ At line why = sym told ∙ is in
-    let lines : fault.line ≡ line = cc in
-    let reasons : fault.why ≡ why = cc in
-    ap (λ (n : ℕ). fault_at n fault.why) lines ∙ ap (λ (w : Why). fault_at line w) reasons
-one_told error line why fault is (inr outside) = cc
+  -- the assembler gives no scenario, and says why
+  pub answers_unassembled : {A : Type 0} (error : AsmError) → ((line : ℕ) (why : Why) → error ≡ At line why → IsFault text (fault_at line why))
+      → ((S : ScenarioContents) → Spells text S → error ≡ asm_no_memory) → ((fault : FaultAt) → IsFault text fault → (error ≡ At fault.line fault.why) ⊎ (error ≡ asm_no_memory))
+      → Answers {A = A} IsSpelled IsTextFault (Some text) (Err (text_told_as error))
+  answers_unassembled (At line why) told only one =
+      answers_faulty line why (told line why refl) (λ S spelled. let no = only S spelled in cc) (λ fault faulty. one_told (At line why) line why fault refl (one fault faulty))
+  answers_unassembled asm_no_memory told only one = answers_outside IsSpelled IsTextFault (Some text) NoMemory tt
 
 -- A command's answers from those of its text: what the scenario comes to, and what is told of it. A fault of the text isn't told of it.
 module _ {X : Type 0} (Gives : ScenarioContents → X → Type 0) (Tells : ScenarioContents → PlayError → Type 0) where

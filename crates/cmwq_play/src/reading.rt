@@ -7,7 +7,7 @@ ghost use Rattle.cmwq_types.specs.declared.limits.TheConstants.{MAX_TEXT};
 ghost use Rattle.std.specs.Io.KnownBytes.{Consumes, IsAtEnd, Keeps};
 ghost use Rattle.std.specs.Prelude.{◌≡◌, ◌≤◌, ◌+◌, ◌↔◌, ◌⊎◌, ◌≢◌, ◌++◌, Err, IfErr, IfOk, IfSome, List, Ok, OnErr, OnOk, Some, [], false, length, true, ℕ};
 
-use cmwq_asm::{AsmError, assemble};
+use cmwq_asm::assemble;
 use cmwq_streams::{PlayError, Source};
 use cmwq_types::{MAX_TEXT, Scenario};
 use std::alloc::Global;
@@ -37,11 +37,8 @@ fn assembled(alloc: Global, text: &[u8]) -> Result<Scenario, PlayError>
     ensures no_read { result ≢ Err PlayError.Read }
     ensures no_write { result ≢ Err PlayError.Write }
 {
-    match assemble(alloc, text) {
-        Ok(scenario) => Ok(scenario),
-        Err(AsmError::At { line, why }) => Err(PlayError::Asm(AsmError::At { line, why })),
-        Err(AsmError::NoMemory) => Err(PlayError::NoMemory),
-    }
+    let scenario = assemble(alloc, text)?;
+    Ok(scenario)
 }
 
 /// Reads all that the source has: at most one byte more than a text may have. The error is `Read` exactly where the source failed,

@@ -15,7 +15,7 @@ use cmwq_streams::{PlayError, Sink, put_all};
 use cmwq_table::Machine;
 use cmwq_types::{Instr, NoMemory, Scenario};
 use std::alloc::Global;
-use std::sync::Wait;
+use std::sync::{Arc, Wait};
 use std::thread::Threads;
 use std::time::Clock;
 
@@ -32,19 +32,19 @@ use std::time::Clock;
 pub fn play<'x, R: Threads + Wait + Clock + Sync, G: Gate, W: Sink>(
     rt: &'x R,
     alloc: Global,
-    scenario: &Scenario,
+    scenario: Scenario,
     capacity: u32,
     gate: &'x G,
     writer: &mut W,
 ) -> Result<(), PlayError>
-    requires valid { IsValid scenario.now }
+    requires valid { IsValid scenario }
     requires few { capacity ≤ MAX_LINES }
     requires writer { W.failed writer.old ≡ false }
-    ensures ok { OnOk result (Left scenario.now (λ history. Interleaves (scripts_of scenario.now) history) (W.contents writer.old) (W.contents writer.new)) }
-    ensures full { result ≡ Err PlayError.Full → Left scenario.now (λ history. IsFull scenario.now capacity history) (W.contents writer.old) (W.contents writer.new) }
-    ensures tickets { result ≡ Err PlayError.Tickets → Left scenario.now (λ history. HasFronts scenario.now history) (W.contents writer.old) (W.contents writer.new) }
-    ensures front { result ≡ Err PlayError.Write → LeftFront scenario.now (λ history. HasFronts scenario.now history) (W.contents writer.old) (W.contents writer.new) }
-    ensures actors { (result ≡ Err PlayError.Actors) ↔ (scenario.now.actors ≡ []) }
+    ensures ok { OnOk result (Left scenario (λ history. Interleaves (scripts_of scenario) history) (W.contents writer.old) (W.contents writer.new)) }
+    ensures full { result ≡ Err PlayError.Full → Left scenario (λ history. IsFull scenario capacity history) (W.contents writer.old) (W.contents writer.new) }
+    ensures tickets { result ≡ Err PlayError.Tickets → Left scenario (λ history. HasFronts scenario history) (W.contents writer.old) (W.contents writer.new) }
+    ensures front { result ≡ Err PlayError.Write → LeftFront scenario (λ history. HasFronts scenario history) (W.contents writer.old) (W.contents writer.new) }
+    ensures actors { (result ≡ Err PlayError.Actors) ↔ (scenario.actors ≡ []) }
     ensures silent { IfErr result (λ error. IsBeforePlaying error → Keeps (W.contents writer.old) (W.contents writer.new)) }
     ensures write { (result ≡ Err PlayError.Write) ↔ (W.failed writer.new ≡ true) }
     ensures why { IfErr result (λ error. IsPlayError error) }
@@ -52,7 +52,8 @@ pub fn play<'x, R: Threads + Wait + Clock + Sync, G: Gate, W: Sink>(
     if scenario.actors.is_empty() {
         return Err(PlayError::Actors);
     }
-    let (ending, text) = acted::<R, Plain, G>(rt, alloc, scenario, capacity, gate)?;
+    let scenario = Arc::new(alloc, scenario)?;
+    let (ending, text) = acted::<R, Plain, G>(rt, alloc, &scenario, capacity, gate)?;
     put_all(writer, &text)?;
     told(ending)
 }
@@ -61,13 +62,13 @@ pub fn play<'x, R: Threads + Wait + Clock + Sync, G: Gate, W: Sink>(
 fn acted<'x, R: Threads + Wait + Clock + Sync, M: Machine + Send, G: Gate>(
     rt: &'x R,
     alloc: Global,
-    scenario: &Scenario,
+    scenario: &Arc<Scenario>,
     capacity: u32,
     gate: &'x G,
 ) -> Result<(Ending, Vec<u8>), NoMemory>
-    requires valid { IsValid scenario.now }
+    requires valid { IsValid scenario.now.value }
     requires few { capacity ≤ MAX_LINES }
-    ensures { IfOk result (λ r. IsActed scenario.now capacity r.0 r.1.items) }
+    ensures { IfOk result (λ r. IsActed scenario.now.value capacity r.0 r.1.items) }
 {
     let enacted: Enactment<M> = enact(rt, alloc, scenario, capacity, gate)?;
     let text = left(alloc, scenario, enacted.engine.history())?;

@@ -96,7 +96,7 @@ fn played<'x, R: Threads + Wait + Clock + Sync + AllocGlobal + Abort, G: Gate>(
 {
     let scenario = scenario_of(rt, rt.alloc(), text);
     let mut writer = Marked::new(output);
-    let result = play(rt, rt.alloc(), &scenario, capacity, gate, &mut writer);
+    let result = play(rt, rt.alloc(), scenario, capacity, gate, &mut writer);
     (result, writer.into_inner())
 }
 

@@ -100,3 +100,17 @@ impl From<ImageError> for PlayError {
         }
     }
 }
+
+impl From<AsmError> for PlayError {
+    ghost use Rattle.cmwq_streams.specs.Errors.{text_told_as};
+    ghost use Rattle.std.specs.Prelude.{◌≡◌};
+
+    ghost from_gives = { λ fault e. e ≡ text_told_as fault };
+
+    fn from(fault: AsmError) -> PlayError {
+        match fault {
+            AsmError::NoMemory => PlayError::NoMemory,
+            fault => PlayError::Asm(fault),
+        }
+    }
+}

@@ -18,9 +18,10 @@ use cmwq_plain::Plain;
 use cmwq_play::{empty_chunk, judge, read_some};
 use cmwq_runs::expanded;
 use cmwq_streams::{PlayError, Sink, Source, put_all};
-use cmwq_table::{LoadError, Machine};
+use cmwq_table::Machine;
 use cmwq_types::{Actor, MAX_TEXT, NoMemory, Scenario};
 use std::alloc::Global;
+use std::sync::Arc;
 
 /// Carries out one command line, and writes what is said to it.
 fn answer_line<M: Machine, W: Sink>(
@@ -128,42 +129,39 @@ fn talk<M: Machine, R: Source, W: Sink>(
 /// On each fault what was written is a front of what is said to the whole input.
 pub fn debug<R: Source, W: Sink>(
     alloc: Global,
-    scenario: &Scenario,
+    scenario: Scenario,
     commands: &mut R,
     writer: &mut W,
 ) -> Result<(), PlayError>
-    requires valid { IsValid scenario.now }
+    requires valid { IsValid scenario }
     requires commands { R.failed commands.old ≡ false }
     requires writer { W.failed writer.old ≡ false }
     ensures reads { Reads (R.remaining commands.old) (R.remaining commands.new) (R.failed commands.new) result }
-    ensures told { OnOk result (IsTold (R.remaining commands.old) (W.contents writer.old) (W.contents writer.new) scenario.now) }
-    ensures front { OnErr result (IsFrontTold (R.remaining commands.old) (W.contents writer.old) (W.contents writer.new) scenario.now) }
+    ensures told { OnOk result (IsTold (R.remaining commands.old) (W.contents writer.old) (W.contents writer.new) scenario) }
+    ensures front { OnErr result (IsFrontTold (R.remaining commands.old) (W.contents writer.old) (W.contents writer.new) scenario) }
     // What was read has been answered, each whole line of it, where a read fails.
-    ensures answered { result ≡ Err PlayError.Read → IsTalked (R.remaining commands.old) (R.remaining commands.new) (W.contents writer.old) (W.contents writer.new) scenario.now }
-    ensures refused { IfErr result (λ error. IsRefused scenario.now error ⊎ (CanRun scenario.now × IsTalkError error)) }
-    ensures silent { IfErr result (λ error. IsRefused scenario.now error → Keeps (W.contents writer.old) (W.contents writer.new)) }
+    ensures answered { result ≡ Err PlayError.Read → IsTalked (R.remaining commands.old) (R.remaining commands.new) (W.contents writer.old) (W.contents writer.new) scenario }
+    ensures refused { IfErr result (λ error. IsRefused scenario error ⊎ (CanRun scenario × IsTalkError error)) }
+    ensures silent { IfErr result (λ error. IsRefused scenario error → Keeps (W.contents writer.old) (W.contents writer.new)) }
     ensures too_long { result ≡ Err PlayError.TooLong → IfSome (R.remaining commands.old) (λ bytes. MAX_TEXT < length bytes) }
     ensures write { (result ≡ Err PlayError.Write) ↔ (W.failed writer.new ≡ true) }
 {
-    judge(scenario)?;
-    let mut debugger = opened::<Plain>(alloc, scenario, &scenario.actors[0])?;
-    talk(alloc, scenario, &mut debugger, commands, writer)
+    judge(&scenario)?;
+    let scenario = Arc::new(alloc, scenario)?;
+    let mut debugger = opened::<Plain>(alloc, &scenario, &scenario.actors[0])?;
+    talk(alloc, &scenario, &mut debugger, commands, writer)
 }
 
-/// A debugger over the actor's instructions.
+/// A debugger over the instructions of this actor of the scenario.
 fn opened<M: Machine>(
     alloc: Global,
-    scenario: &Scenario,
+    scenario: &Arc<Scenario>,
     actor: &Actor,
 ) -> Result<Debugger<M>, NoMemory>
-    requires valid { IsValid scenario.now }
-    requires runs { IsRunOf scenario.now actor.now }
-    ensures { IfOk result (λ debugger. debugger ≡ opened scenario.now (expand actor.now)) }
+    requires valid { IsValid scenario.now.value }
+    requires runs { IsRunOf scenario.now.value actor.now }
+    ensures { IfOk result (λ debugger. debugger ≡ opened scenario.now.value (expand actor.now)) }
 {
     let instrs = expanded(alloc, &actor.lines)?;
-    match Debugger::open(alloc, scenario, instrs) {
-        Ok(debugger) => Ok(debugger),
-        Err(LoadError::NoMemory) => Err(NoMemory),
-        Err(LoadError::Fault(_)) => unreachable!(),
-    }
+    Debugger::begin(alloc, Arc::clone(scenario)?, instrs)
 }

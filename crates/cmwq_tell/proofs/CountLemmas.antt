@@ -1,5 +1,5 @@
 -- How many lines tell an activation, a place, or that time passed.
-use Rattle.std.proofs.Common.{◌≡◌, ℕ, zero, suc, ◌+◌, ◌<◌, ◌≤◌, Bool, true, false, not, ◌&&◌, cond, List, [], ◌∷◌, ◌++◌, length, map, Option, Some, None, arith, refl, sym, ap, ◌∙◌, subst, inl, inr, ◌⊎◌, zero-add}
+use Rattle.std.proofs.Common.{◌≡◌, ℕ, zero, suc, ◌+◌, ◌<◌, ◌≤◌, Bool, true, false, not, ◌&&◌, cond, List, [], ◌∷◌, length, map, Option, Some, None, arith, refl, sym, ap, ◌∙◌, subst, inl, inr, ◌⊎◌}
 use Rattle.std.proofs.lemmas.Bool.Decides.{nat_tests}
 use Rattle.std.specs.Prelude.{◌==◌, nat_lt, slice_index_or, slice_set}
 use Rattle.cmwq_types.specs.Contents.{ScenarioContents}
@@ -17,14 +17,11 @@ use Rattle.cmwq_types.specs.declared.reply.Reply.{Reply}
 use Rattle.cmwq_table.specs.declared.state.Running.{Running}
 use Rattle.cmwq_tell.specs.declared.change.Change.{Change}
 use Rattle.cmwq_tell.specs.declared.change.Change.TheVariants as change
-use Rattle.cmwq_tell.specs.Hidden.{change_of, hidden, passing, pool_of, put_by_stamp, stamped_from}
+use Rattle.cmwq_tell.specs.Hidden.{change_of, hidden, passing, pool_of, stamped_from}
 use Rattle.cmwq_tell.specs.Laws.{TellsActivations, TellsPlaces, TellsTicks, count_changes, is_activation, is_born, is_on_list, tells_activation, tells_place, tells_tick}
 use Rattle.cmwq_tell.proofs.Becoming.{Becomes, Goes, set_cases, table-goes}
 use Rattle.cmwq_tell.proofs.BelowLemmas.{AllBelow, IsBelow, run-below}
-
-pub count-append : (test : Change → Bool) (xs ys : List Change) → count_changes test (xs ++ ys) ≡ count_changes test xs + count_changes test ys
-count-append test [] ys = omega arith
-count-append test (x ∷ xs) ys = let later : count_changes test (xs ++ ys) ≡ count_changes test xs + count_changes test ys = count-append test xs ys in omega (arith, later)
+use Rattle.cmwq_tell.proofs.StampLemmas.{count-append, count-hidden, count-stamped, told_from, told_of}
 
 -- What one work adds: nothing where its stamp is old, and else by whether its birth is.
 abbrev pub weight : Bool → Bool → ℕ → Option Pending → ℕ
@@ -36,35 +33,20 @@ total h [] = 0
 total h (x ∷ xs) = h x + total h xs
 
 module _ (test : Change → Bool) (a b : Bool) (activates : (w : WorkId) (pool : ℕ) → test (change.Activated w pool) ≡ a) (places : (w : WorkId) (place : Place) → test (change.Placed w place) ≡ b) (next : ℕ) where
-  abbrev counted : List (WorkId × Pending) → ℕ
-  counted entries = count_changes test (map (change_of next) entries)
-
-  put-if : (c : Bool) (entry other : WorkId × Pending) (others rest : List (WorkId × Pending)) → counted rest ≡ counted (entry ∷ others) → counted (cond c (entry ∷ other ∷ others) (other ∷ rest)) ≡ counted (entry ∷ other ∷ others)
-  put-if true entry other others rest same = refl
-  put-if false entry other others rest same = omega (arith, same)
-
-  count-put : (entry : WorkId × Pending) (entries : List (WorkId × Pending)) → counted (put_by_stamp entry entries) ≡ counted (entry ∷ entries)
-  count-put entry [] = refl
-  count-put entry (other ∷ others) = put-if (nat_lt entry.1.stamp other.1.stamp) entry other others (put_by_stamp entry others) (count-put entry others)
-
   test-if : (c : Bool) (w : WorkId) (place : Place) → test (cond c (change.Activated w (pool_of place)) (change.Placed w place)) ≡ cond c a b
   test-if true w place = activates w (pool_of place)
   test-if false w place = places w place
 
-  one-counts : (entry : WorkId × Pending) (entries : List (WorkId × Pending)) → counted (entry ∷ entries) ≡ cond (cond (nat_lt entry.1.born next) a b) 1 0 + counted entries
-  one-counts entry entries = ap (λ (c : Bool). cond c 1 0 + counted entries) (test-if (nat_lt entry.1.born next) entry.0 entry.1.place)
+  told-weighs : (w : ℕ) (o : Option Pending) → told_of test next w o ≡ weight a b next o
+  told-weighs w (Some p) = ap (λ (c : Bool). cond {A = ℕ} (nat_lt p.stamp next) 0 (cond c 1 0)) (test-if (nat_lt p.born next) (record { 0 = w }) p.place)
+  told-weighs w None = refl
 
-  stamped-if : (c : Bool) (entry : WorkId × Pending) (found : List (WorkId × Pending))
-      → counted (cond c found (put_by_stamp entry found)) ≡ cond c 0 (cond (cond (nat_lt entry.1.born next) a b) 1 0) + counted found
-  stamped-if true entry found = omega arith
-  stamped-if false entry found = count-put entry found ∙ one-counts entry found
-
-  count-stamped : (o : ℕ) (xs : List (Option Pending)) → counted (stamped_from next (entries_from o xs)) ≡ total (weight a b next) xs
-  count-stamped o [] = refl
-  count-stamped o (None ∷ xs) = count-stamped (o + 1) xs ∙ sym (zero-add (total (weight a b next) xs))
-  count-stamped o (Some p ∷ xs) =
-      stamped-if (nat_lt p.stamp next) (record { 0 = o }, p) (stamped_from next (entries_from (o + 1) xs))
-      ∙ ap (λ (n : ℕ). weight a b next (Some p) + n) (count-stamped (o + 1) xs)
+  told-total : (w : ℕ) (xs : List (Option Pending)) → told_from test next w xs ≡ total (weight a b next) xs
+  told-total w [] = refl
+  told-total w (x ∷ xs) =
+      let here : told_of test next w x ≡ weight a b next x = told-weighs w x in
+      let later : told_from test next (w + 1) xs ≡ total (weight a b next) xs = told-total (w + 1) xs in
+      omega (arith, here, later)
 
 -- the count from the front
 count-front : (g : ℕ → Bool) (n : ℕ) → count_below g (suc n) ≡ cond (g 0) 1 0 + count_below (λ w. g (suc w)) n
@@ -212,18 +194,10 @@ goes-place s t below (inr d) w =
     let q : Pending = record d.p { place = Deferred d.pool } in
     deferred-tells (weight false true s.next) (λ before now. is_born s.next now) s t d.w w d.p q d.pending d.was (λ u. stays-place s.next (pending_at s u) (below u)) (stays-place s.next (Some q) (was.0, was.1))
 
-pub passing-none : (test : Change → Bool) (b : Bool) (now : ℕ) → test (change.Now now) ≡ false → count_changes test (cond b [] (change.Now now ∷ [])) ≡ 0
-passing-none test true now e = refl
-passing-none test false now e = ap (λ (c : Bool). cond c 1 0 + 0) e
-
 hidden-counts : (test : Change → Bool) (a b : Bool) → ((w : WorkId) (pool : ℕ) → test (change.Activated w pool) ≡ a) → ((w : WorkId) (place : Place) → test (change.Placed w place) ≡ b) → ((now : ℕ) → test (change.Now now) ≡ false)
     → (s t : State) (g : ℕ → Bool) → ((w : ℕ) → weight a b s.next (pending_at t w) ≡ cond (g w) 1 0) → count_changes test (hidden s t) ≡ count_below g (length t.pending)
 hidden-counts test a b activates places passes s t g each =
-    let stamped = map (change_of s.next) (stamped_from s.next (entries_from 0 t.pending)) in
-    let none_passing : count_changes test (passing s.time t.time) ≡ 0 = passing-none test (t.time == s.time) t.time (passes t.time) in
-    let sum : count_changes test (hidden s t) ≡ count_changes test (passing s.time t.time) + count_changes test stamped = count-append test (passing s.time t.time) stamped in
-    let counts : count_changes test stamped ≡ count_below g (length t.pending) = count-stamped test a b activates places s.next 0 t.pending ∙ total-counts (weight a b s.next) g t.pending each in
-    omega (arith, none_passing, sum, counts)
+    count-hidden test passes s t ∙ told-total test a b activates places s.next 0 t.pending ∙ total-counts (weight a b s.next) g t.pending each
 
 pub tells_activations : AtEveryInstruction TellsActivations
 unfolding TellsActivations
@@ -278,6 +252,6 @@ tells_ticks S valid instrs i =
     let passes : count_changes tells_tick (passing s.time t.time) + s.time ≡ t.time = passing-counts s.time t.time (time-goes S s t.running t.time (table S s i).1 (table-does S s i)) in
     let sum : count_changes tells_tick (hidden s t) ≡ count_changes tells_tick (passing s.time t.time) + count_changes tells_tick stamped = count-append tells_tick (passing s.time t.time) stamped in
     let counts : count_changes tells_tick stamped ≡ count_below (λ w. false) (length t.pending) =
-    count-stamped tells_tick false false (λ w pool. refl) (λ w place. refl) s.next 0 t.pending ∙ total-counts (weight false false s.next) (λ w. false) t.pending (λ w. weighs-nothing s.next (pending_at t w)) in
+    count-stamped tells_tick s.next 0 t.pending ∙ told-total tells_tick false false (λ w pool. refl) (λ w place. refl) s.next 0 t.pending ∙ total-counts (weight false false s.next) (λ w. false) t.pending (λ w. weighs-nothing s.next (pending_at t w)) in
     let nothing : count_below (λ w. false) (length t.pending) ≡ 0 = none-below (length t.pending) in
     omega (arith, passes, sum, counts, nothing)

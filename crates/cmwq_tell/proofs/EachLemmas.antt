@@ -12,83 +12,42 @@ use Rattle.cmwq_table.specs.View.{entries_from}
 use Rattle.cmwq_table.specs.declared.state.Pending.{Pending}
 use Rattle.cmwq_tell.specs.declared.change.Change.{Change}
 use Rattle.cmwq_tell.specs.declared.change.Change.TheVariants as change
-use Rattle.cmwq_tell.specs.Hidden.{change_of, hidden, passing, pool_of, put_by_stamp, stamped_from}
+use Rattle.cmwq_tell.specs.Hidden.{change_of, hidden, passing, pool_of, stamped_from}
 use Rattle.cmwq_tell.specs.Laws.{TellsEachActivation, TellsEachPlace, TellsTheTime, count_changes, is_activation, is_activation_in, is_born, is_born_at, is_listed_where, is_on_list, is_time_but, tells_activating, tells_placing}
 use Rattle.cmwq_tell.proofs.Becoming.{table-goes}
 use Rattle.cmwq_tell.proofs.BelowLemmas.{run-below}
-use Rattle.cmwq_tell.proofs.CountLemmas.{count-append, goes-activation, goes-place, passing-none, weight}
+use Rattle.cmwq_tell.proofs.CountLemmas.{goes-activation, goes-place, weight}
+use Rattle.cmwq_tell.proofs.StampLemmas.{count-append, count-hidden, told_from, told_if, told_of}
 
--- what one work adds, whose stamp is old or not, and its birth
-abbrev told_if : (Change → Bool) → ℕ → Place → Bool → Bool → ℕ
-told_if test w place old born_before =
-    cond old 0 (cond (test (cond born_before (change.Activated (record { 0 = w }) (pool_of place)) (change.Placed (record { 0 = w }) place))) 1 0)
+-- Where the test is of one work alone.
+module _ (test : Change → Bool) (next w : ℕ) (others : (v : ℕ) (o : Option Pending) → (v == w) ≡ false → told_of test next v o ≡ 0) where
+  none-later : (o : ℕ) (xs : List (Option Pending)) → w < o → told_from test next o xs ≡ 0
+  none-later o [] above = refl
+  none-later o (x ∷ xs) above =
+      let apart : (o == w) ≡ false = grind (arith, nat_tests) in
+      let here : told_of test next o x ≡ 0 = others o x apart in
+      let later : told_from test next (o + 1) xs ≡ 0 = none-later (o + 1) xs (omega arith) in
+      omega (arith, here, later)
 
-abbrev told_of : (Change → Bool) → ℕ → ℕ → Option Pending → ℕ
-told_of test next w (Some p) = told_if test w p.place (nat_lt p.stamp next) (nat_lt p.born next)
-told_of test next w None = 0
+  only-its-own : (o i : ℕ) (xs : List (Option Pending)) → o + i ≡ w → told_from test next o xs ≡ told_of test next w (slice_index_or xs i None)
+  only-its-own o i [] at = refl
+  only-its-own o zero (x ∷ xs) at =
+      let same : o ≡ w = omega (arith, at) in
+      let later : told_from test next (o + 1) xs ≡ 0 = none-later (o + 1) xs (omega (arith, at)) in
+      let here : told_of test next o x ≡ told_of test next w x = ap (λ (v : ℕ). told_of test next v x) same in
+      omega (arith, here, later)
+  only-its-own o (suc i) (x ∷ xs) at =
+      let apart : (o == w) ≡ false = grind (arith, nat_tests, at) in
+      let here : told_of test next o x ≡ 0 = others o x apart in
+      let later : told_from test next (o + 1) xs ≡ told_of test next w (slice_index_or xs i None) = only-its-own (o + 1) i xs (omega (arith, at)) in
+      omega (arith, here, later)
 
-abbrev told_from : (Change → Bool) → ℕ → ℕ → List (Option Pending) → ℕ
-told_from test next w [] = 0
-told_from test next w (x ∷ xs) = told_of test next w x + told_from test next (w + 1) xs
-
-module _ (test : Change → Bool) (next : ℕ) where
-  abbrev counted : List (WorkId × Pending) → ℕ
-  counted entries = count_changes test (map (change_of next) entries)
-
-  put-if : (c : Bool) (entry other : WorkId × Pending) (others rest : List (WorkId × Pending)) → counted rest ≡ counted (entry ∷ others) → counted (cond c (entry ∷ other ∷ others) (other ∷ rest)) ≡ counted (entry ∷ other ∷ others)
-  put-if true entry other others rest same = refl
-  put-if false entry other others rest same = omega (arith, same)
-
-  count-put : (entry : WorkId × Pending) (entries : List (WorkId × Pending)) → counted (put_by_stamp entry entries) ≡ counted (entry ∷ entries)
-  count-put entry [] = refl
-  count-put entry (other ∷ others) = put-if (nat_lt entry.1.stamp other.1.stamp) entry other others (put_by_stamp entry others) (count-put entry others)
-
-  stamped-if : (c : Bool) (entry : WorkId × Pending) (found : List (WorkId × Pending))
-      → counted (cond c found (put_by_stamp entry found)) ≡ cond c 0 (cond (test (change_of next entry)) 1 0) + counted found
-  stamped-if true entry found = omega arith
-  stamped-if false entry found = count-put entry found
-
-  count-stamped : (o : ℕ) (xs : List (Option Pending)) → counted (stamped_from next (entries_from o xs)) ≡ told_from test next o xs
-  count-stamped o [] = refl
-  count-stamped o (None ∷ xs) = (let later : counted (stamped_from next (entries_from (o + 1) xs)) ≡ told_from test next (o + 1) xs = count-stamped (o + 1) xs in omega (arith, later))
-  count-stamped o (Some p ∷ xs) =
-      stamped-if (nat_lt p.stamp next) (record { 0 = o }, p) (stamped_from next (entries_from (o + 1) xs))
-      ∙ ap (λ (n : ℕ). told_of test next o (Some p) + n) (count-stamped (o + 1) xs)
-
-  -- where the test is of one work alone
-  module _ (w : ℕ) (others : (v : ℕ) (o : Option Pending) → (v == w) ≡ false → told_of test next v o ≡ 0) where
-    none-later : (o : ℕ) (xs : List (Option Pending)) → w < o → told_from test next o xs ≡ 0
-    none-later o [] above = refl
-    none-later o (x ∷ xs) above =
-        let apart : (o == w) ≡ false = grind (arith, nat_tests) in
-        let here : told_of test next o x ≡ 0 = others o x apart in
-        let later : told_from test next (o + 1) xs ≡ 0 = none-later (o + 1) xs (omega arith) in
-        omega (arith, here, later)
-
-    only-its-own : (o i : ℕ) (xs : List (Option Pending)) → o + i ≡ w → told_from test next o xs ≡ told_of test next w (slice_index_or xs i None)
-    only-its-own o i [] at = refl
-    only-its-own o zero (x ∷ xs) at =
-        let same : o ≡ w = omega (arith, at) in
-        let later : told_from test next (o + 1) xs ≡ 0 = none-later (o + 1) xs (omega (arith, at)) in
-        let here : told_of test next o x ≡ told_of test next w x = ap (λ (v : ℕ). told_of test next v x) same in
-        omega (arith, here, later)
-    only-its-own o (suc i) (x ∷ xs) at =
-        let apart : (o == w) ≡ false = grind (arith, nat_tests, at) in
-        let here : told_of test next o x ≡ 0 = others o x apart in
-        let later : told_from test next (o + 1) xs ≡ told_of test next w (slice_index_or xs i None) = only-its-own (o + 1) i xs (omega (arith, at)) in
-        omega (arith, here, later)
-
-    -- the hidden changes tell of this work what its pending half adds
-    counts-its-own : (s t : State) → s.next ≡ next → ((now : ℕ) → test (change.Now now) ≡ false) → count_changes test (hidden s t) ≡ told_of test next w (pending_at t w)
-    counts-its-own s t is passes =
-        let stamped = map (change_of s.next) (stamped_from s.next (entries_from 0 t.pending)) in
-        let nothing : count_changes test (passing s.time t.time) ≡ 0 = passing-none test (t.time == s.time) t.time (passes t.time) in
-        let sum : count_changes test (hidden s t) ≡ count_changes test (passing s.time t.time) + count_changes test stamped = count-append test (passing s.time t.time) stamped in
-        let at_next : count_changes test stamped ≡ counted (stamped_from next (entries_from 0 t.pending)) =
-        ap (λ (n : ℕ). count_changes test (map (change_of n) (stamped_from n (entries_from 0 t.pending)))) is in
-        let counts : counted (stamped_from next (entries_from 0 t.pending)) ≡ told_of test next w (pending_at t w) =
-        count-stamped 0 t.pending ∙ only-its-own 0 w t.pending (omega arith) in
-        omega (arith, nothing, sum, at_next, counts)
+  -- the hidden changes tell of this work what its pending half adds
+  counts-its-own : (s t : State) → s.next ≡ next → ((now : ℕ) → test (change.Now now) ≡ false) → count_changes test (hidden s t) ≡ told_of test next w (pending_at t w)
+  counts-its-own s t is passes =
+      count-hidden test passes s t
+      ∙ ap (λ (n : ℕ). told_from test n 0 t.pending) is
+      ∙ only-its-own 0 w t.pending (omega arith)
 
 -- Places.
 

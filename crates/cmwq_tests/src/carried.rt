@@ -107,5 +107,5 @@ fn debugged(
 {
     let mut text = Marked::new(reading_of(MAX_ACTIVE_3.text, 4096));
     let scenario = read_text(alloc, &mut text)?;
-    debug(alloc, &scenario, commands, writer)
+    debug(alloc, scenario, commands, writer)
 }
