@@ -99,10 +99,7 @@ impl<M: Machine> Shared<M> {
     }
 
     /// The engine behind a lock, and its opener.
-    fn over(
-        alloc: Global,
-        engine: Engine<M>,
-    ) -> Result<(Shared<M>, Opener<Engine<M>>), NoMemory>
+    fn over(alloc: Global, engine: Engine<M>) -> Result<(Shared<M>, Opener<Engine<M>>), NoMemory>
         requires sound { IsSound engine }
         requires empty { engine.history ≡ [] }
         ensures setting { IfOk result (λ r. setting_of r.0 ≡ engine.setting) }

@@ -1,7 +1,6 @@
 //! The lines of what a flush waits for.
 ghost use Rattle.cmwq_reasons.specs.Reasons.{lacks_memory, lacks_thaw};
 ghost use Rattle.cmwq_waits.specs.Text.{head_text, line, lines, lines_of, needs_of, waiting_text, waits_text};
-ghost use Rattle.std.specs.Fmt.{decimal};
 ghost use Rattle.std.specs.List.{list_any};
 ghost use Rattle.std.specs.Prelude.{◌≡◌, ◌++◌, IfOk, OnOk, codes, drop, string_bytes};
 
@@ -12,7 +11,7 @@ use cmwq_reasons::Instance;
 use cmwq_table::Reads;
 use cmwq_types::NoMemory;
 use cmwq_why::{lacks_memory, lacks_thaw, reason_of};
-use cmwq_why_text::Wording;
+use cmwq_why_text::{Wording, push_number};
 
 /// What is written of a flush of this number that waits for these instances.
 pub(crate) fn lines_of<R: Reads>(
@@ -23,7 +22,7 @@ pub(crate) fn lines_of<R: Reads>(
     ensures { IfOk result (λ text. string_bytes text ≡ lines_of (R.loaded wording.now.machine.now) (R.state wording.now.machine.now) flush waits.now) }
 {
     let mut text = String::new(wording.alloc);
-    push_number(&mut text, "flush ", flush)?;
+    push_number(&mut text, "flush ", flush as u64)?;
     push_waits(wording, &mut text, waits)?;
     Ok(text)
 }
@@ -51,7 +50,7 @@ fn push_waits<R: Reads>(
 fn push_head<R: Reads>(machine: &R, text: &mut String, waits: &[Instance]) -> Result<(), NoMemory>
     ensures { OnOk result (string_bytes text.new ≡ string_bytes text.old ++ head_text (R.loaded machine.now) (R.state machine.now) waits.now) }
 {
-    push_number(text, " waits for ", waits.len())?;
+    push_number(text, " waits for ", waits.len() as u64)?;
     needs(machine, waits).push(text)?;
     text.push_str("\n")?;
     Ok(())
@@ -115,14 +114,6 @@ fn push_line<R: Reads>(
     text.push_str(" ")?;
     wording.push_reason(text, work, reason)?;
     text.push_str("\n")?;
-    Ok(())
-}
-
-/// Appends the words and the number.
-fn push_number(text: &mut String, words: &str, number: usize) -> Result<(), NoMemory>
-    ensures { OnOk result (string_bytes text.new ≡ string_bytes text.old ++ (words.now ++ decimal number)) }
-{
-    write!(text, "{words}{number}")?;
     Ok(())
 }
 

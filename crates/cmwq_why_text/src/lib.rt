@@ -8,4 +8,5 @@ mod text;
 mod wording;
 
 pub use line::work_text;
+pub use text::push_number;
 pub use wording::Wording;

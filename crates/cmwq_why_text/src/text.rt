@@ -203,8 +203,8 @@ fn push_words(text: &mut String, words: &str) -> Result<(), NoMemory>
     Ok(())
 }
 
-/// Writes the words and the number.
-fn push_number(text: &mut String, words: &str, number: u64) -> Result<(), NoMemory>
+/// Appends the words and the number, in decimal. The only error is want of memory.
+pub fn push_number(text: &mut String, words: &str, number: u64) -> Result<(), NoMemory>
     ensures { OnOk result (string_bytes text.new ≡ string_bytes text.old ++ (words.now ++ decimal number)) }
 {
     write!(text, "{words}{number}")?;
