@@ -54,16 +54,16 @@ def page_faults():
 
 
 def version_faults(program):
-    """The version stands in one place, and the pages have it; the kit is the one that is here."""
+    """The version stands in one place, and the pages have it; the logic is that of the kit that is here."""
     version = re.search(r'VERSION: &str = "(\S+)";', text_of("crates/cmwq_command_line/src/help.rt"))[1]
-    kit = re.search(r'KIT: &str = "(.*)";', text_of("crates/cmwq/src/main.rt"))[1]
+    logic = re.search(r'LOGIC: &str = "(.*)";', text_of("crates/cmwq/src/main.rt"))[1]
     faults = [f"{page} is of another version" for page in PAGES if f'"cmwq {version}"' not in text_of(page)]
-    if shutil.which("rt") and said("rt", "version").strip() != kit:
-        faults.append("main.rt names another kit than the one that is here")
-    if f"`{kit}`" not in text_of("README.md"):
-        faults.append("README.md names another kit than main.rt")
-    if program and said(program, "--version") != f"cmwq {version} ({kit})\n":
-        faults.append("the program's version isn't that of help.rt, with the kit of main.rt")
+    if shutil.which("rt") and said("rt", "version").split()[-1:] != [logic]:
+        faults.append("main.rt names another logic than that of the kit that is here")
+    if f"`{logic}`" not in text_of("README.md"):
+        faults.append("README.md names another logic than main.rt")
+    if program and said(program, "--version") != f"cmwq {version} (logic {logic})\n":
+        faults.append("the program's version isn't that of help.rt, with the logic of main.rt")
     return faults
 
 

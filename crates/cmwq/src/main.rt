@@ -9,15 +9,15 @@ use std::io::IsTerminal;
 use std::process::ExitCode;
 use std::{env, io};
 
-/// The kit that the program is proved with, as `rt version` tells it; the gate compares the two.
-const KIT: &str = "rattle-kit-13f logic dac8208d650f15bf";
+/// The logic that the program's proofs rest on, as `rt version` names it; the gate compares the two.
+const LOGIC: &str = "dac8208d650f15bf";
 
 fn main(rt: HostRuntime) -> ExitCode {
     let outcome = match words(&rt) {
         Ok(Some(words)) => carry_out(
             &rt,
             Setting {
-                kit: KIT,
+                logic: LOGIC,
                 look: look(&rt),
             },
             words.as_slice(),

@@ -75,16 +75,16 @@ pub fn enact<'x, R: Threads + Wait + Clock + Sync, M: Machine + Send, G: Gate>(
         (λ r. AllHaveEnded (scripts_of scenario.now.value) capacity r.engine.history (ending_of r.endings.items)) }
 {
     let (shared, opener) = Shared::begin(alloc, Arc::clone(scenario)?, capacity)?;
-    let count = scenario.actors.len();
-    let room = room_for(alloc, count)?;
+    let actors = scenario.actors.as_slice();
+    let room = room_for(alloc, actors.len())?;
     let stage = Stage {
         rt,
         gate,
         shared,
         begin: OnceLock::new(),
     };
-    let (opener, endings) = stage.perform(opener, &scenario.actors, room);
-    if endings.len() < count {
+    let (opener, endings) = stage.perform(opener, actors, room);
+    if endings.len() < actors.len() {
         return Err(NoMemory);
     }
     match stage.shared.close(opener) {

@@ -23,8 +23,8 @@ use std::time::Clock;
 /// What `main` knows of the program that runs.
 #[derive(Clone, Copy, Debug)]
 pub struct Setting<'a> {
-    /// The kit that it is proved with, as `rt version` tells it.
-    pub kit: &'a str,
+    /// The logic that its proofs rest on, as `rt version` names it.
+    pub logic: &'a str,
     /// How verdicts look on standard error.
     pub look: Look,
 }
@@ -46,7 +46,7 @@ where
     requires errors { E.failed errors.old ≡ false }
     // `--version` and `-V` print the version's line.
     ensures version { (name word : Text) → map string_bytes words.now ≡ name ∷ word ∷ [] → IsVersionWord word
-        → Prints (version_line setting.entry.kit.now) (O.contents output.old) (O.contents output.new) result }
+        → Prints (version_line setting.entry.logic.now) (O.contents output.old) (O.contents output.new) result }
 {
     match parse(rt.alloc(), words) {
         Ok(request) => answer(rt, setting, input, output, errors, request),
@@ -69,7 +69,7 @@ where
     requires within { IsWithin request }
     requires output { O.failed output.old ≡ false }
     requires errors { E.failed errors.old ≡ false }
-    ensures version { request.entry ≡ Request.Version → Prints (version_line setting.entry.kit.now) (O.contents output.old) (O.contents output.new) result }
+    ensures version { request.entry ≡ Request.Version → Prints (version_line setting.entry.logic.now) (O.contents output.old) (O.contents output.new) result }
 {
     match request {
         Request::New { file } => good(new(rt, output, file)),
@@ -78,7 +78,7 @@ where
         Request::Debug { file } => good(debug(rt, input, output, file)),
         Request::Play { file, capacity } => good(play(rt, output, file, capacity)),
         Request::Check { files } => check(rt, setting.look, output, errors, &files),
-        Request::Version => good(write_version(rt.alloc(), setting.kit, output)),
+        Request::Version => good(write_version(rt.alloc(), setting.logic, output)),
     }
 }
 

@@ -103,6 +103,6 @@ eight_commands = with_commands four_commands (show_command ∷ debug_command ∷
 abbrev pub command_line : App
 command_line = with_commands eight_commands (settle_command ∷ draw_command ∷ why_command ∷ [])
 
--- the line of the program's version, and of the kit that it is proved with
-abbrev pub version_line : (kit : List ℕ) → List ℕ
-version_line kit = codes "cmwq " ++ VERSION.now ++ codes " (" ++ kit ++ codes ")" ++ 10 ∷ []
+-- the line of the program's version, and of the logic that its proofs rest on
+abbrev pub version_line : (logic : List ℕ) → List ℕ
+version_line logic = codes "cmwq " ++ VERSION.now ++ codes " (logic " ++ logic ++ codes ")" ++ 10 ∷ []

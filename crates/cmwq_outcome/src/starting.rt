@@ -21,18 +21,18 @@ pub fn write_first<W: Sink>(writer: &mut W) -> Result<(), PlayError>
     put_all(writer, first_text().as_bytes())
 }
 
-/// Writes the line of the program's version, and of the kit that it is proved with, by one call of a writer that takes all of it. The
+/// Writes the line of the program's version, and of the logic that its proofs rest on, by one call of a writer that takes all of it. The
 /// error is `Write` exactly where the writer fails, and else `NoMemory`.
-pub fn write_version<W: Sink>(alloc: Global, kit: &str, writer: &mut W) -> Result<(), PlayError>
+pub fn write_version<W: Sink>(alloc: Global, logic: &str, writer: &mut W) -> Result<(), PlayError>
     requires sound { W.failed writer.old ≡ false }
-    ensures line { OnOk result (Appends (W.contents writer.old) (W.contents writer.new) (version_line kit.now)) }
+    ensures line { OnOk result (Appends (W.contents writer.old) (W.contents writer.new) (version_line logic.now)) }
     ensures why { IfErr result (λ error. IsSendError error) }
     ensures failed { (result ≡ Err PlayError.Write) ↔ (W.failed writer.new ≡ true) }
 {
     let mut line = String::from_str(alloc, "cmwq ")?;
     line.push_str(VERSION)?;
-    line.push_str(" (")?;
-    line.push_str(kit)?;
+    line.push_str(" (logic ")?;
+    line.push_str(logic)?;
     line.push_str(")\n")?;
     put_all(writer, line.as_bytes())
 }

@@ -52,8 +52,7 @@ pub fn play<'x, R: Threads + Wait + Clock + Sync, G: Gate, W: Sink>(
     if scenario.actors.is_empty() {
         return Err(PlayError::Actors);
     }
-    let scenario = Arc::new(alloc, scenario)?;
-    let (ending, text) = acted::<R, Plain, G>(rt, alloc, &scenario, capacity, gate)?;
+    let (ending, text) = acted::<R, Plain, G>(rt, alloc, scenario, capacity, gate)?;
     put_all(writer, &text)?;
     told(ending)
 }
@@ -62,16 +61,17 @@ pub fn play<'x, R: Threads + Wait + Clock + Sync, G: Gate, W: Sink>(
 fn acted<'x, R: Threads + Wait + Clock + Sync, M: Machine + Send, G: Gate>(
     rt: &'x R,
     alloc: Global,
-    scenario: &Arc<Scenario>,
+    scenario: Scenario,
     capacity: u32,
     gate: &'x G,
 ) -> Result<(Ending, Vec<u8>), NoMemory>
-    requires valid { IsValid scenario.now.value }
+    requires valid { IsValid scenario }
     requires few { capacity ≤ MAX_LINES }
-    ensures { IfOk result (λ r. IsActed scenario.now.value capacity r.0 r.1.items) }
+    ensures { IfOk result (λ r. IsActed scenario capacity r.0 r.1.items) }
 {
-    let enacted: Enactment<M> = enact(rt, alloc, scenario, capacity, gate)?;
-    let text = left(alloc, scenario, enacted.engine.history())?;
+    let scenario = Arc::new(alloc, scenario)?;
+    let enacted: Enactment<M> = enact(rt, alloc, &scenario, capacity, gate)?;
+    let text = left(alloc, &scenario, enacted.engine.history())?;
     Ok((enacted.ending(), text))
 }
 

@@ -17,7 +17,7 @@ pub(crate) fn same<C: Debug + Drop, T: Debug + PartialEq + Drop>(
 /// The setting in which commands are carried out here.
 pub(crate) fn setting_with(look: Look) -> Setting<'static> {
     Setting {
-        kit: "the kit",
+        logic: "5eed5eed5eed5eed",
         look,
     }
 }

@@ -333,7 +333,12 @@ const TOLD: [(&str, u8, &[u8], &[u8]); 7] = [
           Usage: cmwq <COMMAND>\n\n\
           For more information, try '--help'.\n",
     ),
-    ("cmwq --version", 0, b"cmwq 0.1.0 (the kit)\n", b""),
+    (
+        "cmwq --version",
+        0,
+        b"cmwq 0.1.0 (logic 5eed5eed5eed5eed)\n",
+        b"",
+    ),
     (
         "cmwq check cmwq_no_folder/a.cmwq",
         3,

@@ -5,4 +5,5 @@ pub mod EachLemmas
 pub mod KeptLines
 pub mod LawLemmas
 pub mod LineLemmas
+pub mod StampLemmas
 pub mod TellLemmas
