@@ -110,7 +110,7 @@ def session_of_page_faults(program, room):
     page, faults = bytes_of(f"{TOP}/README.md").decode(), []
     commands = re.findall(r"^\$ (.*)\n((?:(?!\$ |```).*\n)*)", page, re.M)
     for command, printed in commands:
-        here = command.replace("./cmwq", program).replace("/tmp/", f"{room}/")
+        here = command.replace("/tmp/", f"{room}/").replace("./cmwq", program)
         ran = subprocess.run(["bash", "-c", here], cwd=TOP, stdout=subprocess.PIPE, stderr=subprocess.STDOUT, timeout=120)
         if (ran.returncode, ran.stdout) != (0, printed.encode()):
             faults.append(f"README.md: {command} doesn't print that")
