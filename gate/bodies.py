@@ -134,7 +134,7 @@ class Rounds:
 
     def __init__(self, root, every, names, room):
         self.root, self.crates, self.room = pathlib.Path(root), every, pathlib.Path(room)
-        self.names, self.proved, self.refused = names, {}, {}
+        self.names, self.proved, self.refused, self.seconds = names, {}, {}, collections.Counter()
         self.bodies = [Body.read(name, it) for name in names for it in sorted(self.root.glob(f"crates/{name}/must-fail/*.edit"))]
         self.planned = {name: rounds_of([body for body in self.bodies if body.crate == name]) for name in names}
 
@@ -162,18 +162,25 @@ class Rounds:
     def prove(self, name):
         """Proves the crate and builds its library. Returns what was said if it failed."""
         at = self.furnish(name, self.root)
-        ran = self.run(at / "crates" / name, "lib", "--jobs", "1")
-        self.proved.update({} if ran.returncode else {name: at})
-        return ran.stdout if ran.returncode else ""
+        status, said = self.run(("proof", name), at / "crates" / name, "lib", "--jobs", "1")
+        self.proved.update({} if status else {name: at})
+        return said if status else ""
 
-    def run(self, at, *words):
-        return subprocess.run(["rt", *words], cwd=at, stdout=subprocess.PIPE, stderr=subprocess.STDOUT, text=True, errors="replace", env={**os.environ, "RT_JOBS": "1"})
+    def run(self, task, at, *words):
+        """Runs a command of the kit, and counts the processor's seconds that it took for the task. Returns its status, and what it said."""
+        with tempfile.TemporaryFile("w+", encoding="utf-8", errors="replace") as said:
+            ran = subprocess.Popen(["rt", *words], cwd=at, stdout=said, stderr=subprocess.STDOUT, env={**os.environ, "RT_JOBS": "1"})
+            _, status, usage = os.wait4(ran.pid, 0)
+            ran.returncode = os.waitstatus_to_exitcode(status)
+            self.seconds[task] += usage.ru_utime + usage.ru_stime
+            said.seek(0)
+            return ran.returncode, said.read()
 
     def try_round(self, name, bodies):
         """Tries a round. Returns those of its bodies of which it doesn't tell that they are refused."""
         at = self.furnish(name, self.proved[name])
         put_into(at / "crates" / name, bodies)
-        found = refusals(self.run(at / "crates" / name, "check", "--allow-holes", "--jobs", "1").stdout)
+        found = refusals(self.run(("tries", name), at / "crates" / name, "check", "--allow-holes", "--jobs", "1")[1])
         shutil.rmtree(at)
         if not found.keys() <= {body.function for body in bodies}:
             # (a goal of a function that is as it was: then the round tells nothing)
@@ -191,7 +198,7 @@ class Rounds:
         os.makedirs(at / "crates" / name / "must-fail")
         for body in bodies:
             shutil.copy2(body.path, at / "crates" / name / "must-fail")
-        lines = self.run(at, "must-fail", name).stdout.splitlines()
+        lines = self.run(("tries", name), at, "must-fail", name)[1].splitlines()
         shutil.rmtree(at)
         found = reasons(lines)
         self.refused.update({body: found[body.label] for body in bodies if body.label in found})

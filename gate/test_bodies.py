@@ -1,10 +1,12 @@
 """A test of `bodies.py`: which wrong bodies share a round, and what counts as refused. It calls no prover."""
+import os
 import pathlib
 import sys
 import tempfile
 
 sys.dont_write_bytecode = True
 import bodies
+import figures
 
 
 ROOM = tempfile.TemporaryDirectory()
@@ -90,4 +92,18 @@ assert save_time(["low", "high"], 3, TOWER), "one crate is proved for them"
 
 bodies.put_into(CRATE, [body("front.is_further_on", new="        { a2 }"), BACK])
 assert (CRATE / "src/lists.rt").read_text("utf-8") == FILES["src/lists.rt"].replace("        a\n", "        { a2 }\n").replace("{ a2 }\n}", "{ b2 }\n}")
+
+with tempfile.TemporaryDirectory() as room:
+    pathlib.Path(room, "rt").write_text('#!/bin/sh\necho "rt $*"\nexit 3\n', "utf-8")
+    os.chmod(f"{room}/rt", 0o755)
+    os.environ["PATH"] = f"{room}:{os.environ['PATH']}"
+    tower = bodies.Rounds(room, TOWER, [], room)
+    assert tower.run(("proof", "low"), room, "lib", "--jobs", "1") == (3, "rt lib --jobs 1\n")
+    assert 0 < tower.seconds["proof", "low"] < 1 and ("tries", "low") not in tower.seconds
+    tower.seconds["proof", "low"] = 61.7
+    assert figures.text_of(tower, "a kit", 59.4, 20.2).splitlines()[-1] == "| `low` | 62 | | | |", "a crate that no wrong body needs has no row"
+
+DONE = "rt: ok; must-fail edits: none; done in this run: {} proofs (of crates and of their tests)"
+assert figures.is_from_nothing([DONE.format("66 of the 66")]) and figures.is_from_nothing([DONE.format("all 66")])
+assert not any(map(figures.is_from_nothing, [[DONE.format("8 of the 66")], [DONE.format("0 of the 66")], []])), "what was kept took no time"
 print("gate/test_bodies.py: ok")
