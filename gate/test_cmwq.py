@@ -62,7 +62,7 @@ def calls(room):
 def check_builds(room):
     status, output, errors = call(room, "run", "a file")
     assert (status, output) == (7, f"unproved {room} run a file input"), "the words, the input and the status are handed on"
-    assert errors.startswith(NOTE) and errors.count("\n") == 1, errors
+    assert errors.startswith(NOTE) and [it.startswith("cmwq: first it is built") for it in errors.splitlines()] == [False, True], errors
     elsewhere = f"{room}/elsewhere"
     os.makedirs(elsewhere)
     assert call(room, "x", cwd=elsewhere)[1] == f"unproved {elsewhere} x input", "it runs where it is called"
