@@ -18,7 +18,7 @@ TOP = os.path.dirname(os.path.dirname(os.path.realpath(__file__)))
 PROMISES = [
     ("`cmwq run`", [("cmwq_play/src/running.rt", "run")]),
     ("`cmwq asm`", [("cmwq_play/src/images.rt", "to_image")]),
-    ("`cmwq debug`", [("cmwq_talk/src/debugging.rt", "debug")]),
+    ("`cmwq debug`", [("cmwq_debug_session/src/debugging.rt", "debug")]),
     ("`cmwq play`", [("cmwq_played/src/playing.rt", "play")]),
     ("the lock", [("cmwq_lock/src/lock.rt", "")]),
 ]

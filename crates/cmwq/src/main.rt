@@ -4,7 +4,7 @@
 use cmwq_command::{Setting, carry_out};
 use cmwq_outcome::{Look, fault, tell};
 use cmwq_play::{Marked, PlayError};
-use cmwq_words::request;
+use cmwq_request::request;
 use std::io::IsTerminal;
 use std::process::ExitCode;
 use std::{env, io};

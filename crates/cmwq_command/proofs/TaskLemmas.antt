@@ -2,7 +2,7 @@
 use Rattle.std.proofs.Common.{◌≡◌, ℕ, List, Option, subst, sym}
 use Rattle.std.specs.Prelude.{Bool, Result}
 use Rattle.cmwq_command.specs.Tasks.{IsFaultOf, IsGoalOf, IsWrittenBy}
-use Rattle.cmwq_asked.specs.declared.task.Task.{Task}
+use Rattle.cmwq_tasks.specs.declared.task.Task.{Task}
 use Rattle.cmwq_play.specs.Commands.{Answers, Writes}
 use Rattle.cmwq_streams.specs.declared.error.PlayError.{PlayError}
 

@@ -3,16 +3,16 @@ ghost use Rattle.cmwq_types.specs.Faults.{IsValid};
 ghost use Rattle.clap.specs.Words.{Text};
 ghost use Rattle.cmwq_outcome.specs.Telling.{Prints};
 ghost use Rattle.cmwq_command_line.specs.CommandLine.{version_line};
-ghost use Rattle.cmwq_words.specs.Request.{IsCapacity, IsVersionWord, IsWithin};
+ghost use Rattle.cmwq_request.specs.Request.{IsCapacity, IsVersionWord, IsWithin};
 ghost use Rattle.cmwq_outcome.specs.declared.telling.TheConstants.{GOOD};
 ghost use Rattle.std.specs.Prelude.{◌≡◌, ◌∷◌, [], Err, IfOk, MatchResult, Ok, OnOk, false, map, string_bytes};
 
 use crate::task::do_task;
 use cmwq_actors::OpenGate;
-use cmwq_asked::Task;
 use cmwq_outcome::{GOOD, Judged, Look, check_text, tell, tell_unread, write_first, write_version};
 use cmwq_play::{Marked, PlayError, Sink};
-use cmwq_words::request::{Request, parse};
+use cmwq_request::request::{Request, parse};
+use cmwq_tasks::Task;
 use std::fs::File;
 use std::io::Read;
 use std::rt::Files;
@@ -175,7 +175,7 @@ fn debug<R: Files + AllocGlobal, I: Read + Drop, W: Sink>(
     let mut reader = opened(rt, file)?;
     let scenario = cmwq_play::read_text(rt.alloc(), &mut reader)?;
     let mut commands = Marked::new(input);
-    cmwq_talk::debug(rt.alloc(), scenario, &mut commands, writer)
+    cmwq_debug_session::debug(rt.alloc(), scenario, &mut commands, writer)
 }
 
 /// Carries out all actors of the scenario whose text is in the file at once, and writes the text that is left.
@@ -190,7 +190,7 @@ fn play<R: Files + AllocGlobal + Threads + Wait + Clock + Sync, W: Sink>(
 {
     let mut reader = opened(rt, file)?;
     let scenario = cmwq_play::read_text(rt.alloc(), &mut reader)?;
-    cmwq_played::play(rt, rt.alloc(), scenario, capacity, &OpenGate, writer)
+    cmwq_interleaving::play(rt, rt.alloc(), scenario, capacity, &OpenGate, writer)
 }
 
 /// The file, opened to be read.

@@ -3,11 +3,11 @@ ghost use Rattle.cmwq_command.specs.Tasks.{IsFaultOf, IsGoalOf, IsWrittenBy};
 ghost use Rattle.cmwq_play.specs.Commands.{Answers, Reads, Writes};
 ghost use Rattle.std.specs.Prelude.{◌≡◌, false};
 
-use cmwq_asked::{RunKind, Task};
 use cmwq_draw::draw;
 use cmwq_explain::why;
 use cmwq_play::{PlayError, Sink, Source, from_image, list_text, run};
 use cmwq_settle::{run_settled, settle_text};
+use cmwq_tasks::{RunKind, Task};
 use cmwq_tell::run_told;
 use std::alloc::Global;
 

@@ -14,7 +14,7 @@ use Rattle.cmwq_streams.specs.declared.error.PlayError.{PlayError}
 use Rattle.cmwq_streams.specs.declared.error.PlayError.TheVariants as errors
 use Rattle.cmwq_draw.specs.Drawn.{IsChosen, IsDrawable, IsDrawing, IsRefusedFirst, IsUndrawable}
 use Rattle.cmwq_draw.specs.Rendered.{drawing_of, is_wide}
-use Rattle.cmwq_asked.specs.declared.drawing.Drawing.{Drawing}
+use Rattle.cmwq_tasks.specs.declared.drawing.Drawing.{Drawing}
 
 -- Actors.
 

@@ -4,11 +4,11 @@ use Rattle.cmwq_types.specs.Contents.{ActorContents, ScenarioContents}
 use Rattle.cmwq_types.specs.Scenario.{expand}
 use Rattle.cmwq_picture.specs.Contents.{PictureContents}
 use Rattle.cmwq_picture.specs.Picture.{is_too_wide, picture}
-use Rattle.cmwq_sketch.specs.Sketch.{picture_text}
+use Rattle.cmwq_render.specs.Sketch.{picture_text}
 use Rattle.cmwq_streams.specs.declared.error.PlayError.{PlayError}
 use Rattle.cmwq_streams.specs.declared.error.PlayError.TheVariants as errors
-use Rattle.cmwq_svg.specs.Svg.{svg_text}
-use Rattle.cmwq_asked.specs.declared.drawing.Drawing.{Drawing}
+use Rattle.cmwq_render.specs.Svg.{svg_text}
+use Rattle.cmwq_tasks.specs.declared.drawing.Drawing.{Drawing}
 
 -- the picture as SVG, or as text
 abbrev pub rendered : (svg : Bool) → ScenarioContents → PictureContents → List ℕ

@@ -6,12 +6,12 @@ ghost use Rattle.std.specs.Io.KnownBytes.{Keeps};
 ghost use Rattle.std.specs.Prelude.{◌≡◌, ◌⊎◌, Err, IfErr, IfOk, false, length};
 
 use crate::rendering::drawing_of;
-use cmwq_asked::Drawing;
 use cmwq_plain::Plain;
 use cmwq_play::{judge, read_text};
 use cmwq_settle::settled;
 use cmwq_streams::{PlayError, Sink, Source, put_all};
 use cmwq_table::Machine;
+use cmwq_tasks::Drawing;
 use cmwq_types::Scenario;
 use std::alloc::Global;
 use std::sync::Arc;

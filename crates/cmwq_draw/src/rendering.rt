@@ -4,12 +4,11 @@ ghost use Rattle.cmwq_table.specs.State.{start};
 ghost use Rattle.cmwq_types.specs.Faults.{IsValid};
 ghost use Rattle.std.specs.Prelude.{◌≡◌, ◌⊎◌, Err, IfErr, IfOk, false, true};
 
-use cmwq_asked::Drawing;
 use cmwq_picture::picture;
-use cmwq_sketch::sketch;
+use cmwq_render::{sketch, svg};
 use cmwq_streams::PlayError;
-use cmwq_svg::svg;
 use cmwq_table::Machine;
+use cmwq_tasks::Drawing;
 use cmwq_types::{Actor, Scenario};
 use std::alloc::Global;
 

@@ -7,17 +7,17 @@ use Rattle.cmwq_types.specs.Contents.{ScenarioContents}
 use Rattle.cmwq_types.specs.Scenario.{expand}
 use Rattle.cmwq_types.specs.declared.instr.Instr.{Instr}
 use Rattle.cmwq_table.specs.State.{State}
-use Rattle.cmwq_changes.specs.Changes.{changes_text, line, looks_at, said_at, said_below, state_at, told_at, told_below}
-use Rattle.cmwq_changes.specs.Telling.{IsPastEnd}
-use Rattle.cmwq_asked.specs.declared.question.Looks.{Looks}
-use Rattle.cmwq_asked.specs.declared.question.Looks.TheVariants.{Settled, Every, At}
+use Rattle.cmwq_explain.specs.Changes.{changes_text, line, looks_at, said_at, said_below, state_at, told_at, told_below}
+use Rattle.cmwq_explain.specs.Telling.{IsPastEnd}
+use Rattle.cmwq_tasks.specs.declared.question.Looks.{Looks}
+use Rattle.cmwq_tasks.specs.declared.question.Looks.TheVariants.{Settled, Every, At}
 use Rattle.cmwq_debug_lines.specs.Orders.{work_named}
 use Rattle.cmwq_streams.specs.declared.error.PlayError.{PlayError}
 use Rattle.cmwq_streams.specs.declared.error.PlayError.TheVariants as errors
 use Rattle.cmwq_explain.specs.Explained.{Explains, line_of_work, said_to}
 use Rattle.cmwq_explain.specs.Laws.{AnswersAfterWorks, IsAfterFlush}
-use Rattle.cmwq_asked.specs.declared.question.Question.{Question}
-use Rattle.cmwq_asked.specs.declared.question.Question.TheVariants.{Work, Flush}
+use Rattle.cmwq_tasks.specs.declared.question.Question.{Question}
+use Rattle.cmwq_tasks.specs.declared.question.Question.TheVariants.{Work, Flush}
 
 none-both : (xs ys : List ℕ) → xs ++ ys ≡ [] → (xs ≡ []) × (ys ≡ [])
 none-both [] ys e = (refl, e)

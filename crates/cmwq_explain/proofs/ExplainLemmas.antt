@@ -5,9 +5,9 @@ use Rattle.cmwq_types.specs.Contents.{ActorContents, ScenarioContents}
 use Rattle.cmwq_types.specs.Scenario.{expand}
 use Rattle.cmwq_asm.specs.declared.fault.AsmError.{AsmError}
 use Rattle.cmwq_grammar.specs.Grammar.{Spells}
-use Rattle.cmwq_changes.specs.Changes.{has_bytes}
-use Rattle.cmwq_changes.specs.Telling.{AreChanges, IsPastEnd, IsTellError, TellsText}
-use Rattle.cmwq_asked.specs.declared.question.Looks.{Looks}
+use Rattle.cmwq_explain.specs.Changes.{has_bytes}
+use Rattle.cmwq_explain.specs.Telling.{AreChanges, IsPastEnd, IsTellError, TellsText}
+use Rattle.cmwq_tasks.specs.declared.question.Looks.{Looks}
 use Rattle.cmwq_play.specs.Commands.{Answers, IsOutside, Writes}
 use Rattle.cmwq_play.specs.Runs.{CanRun, IsRefused, IsRunOf}
 use Rattle.cmwq_play.specs.Texts.{ComesTo, IsFaultOf, IsSpelled, IsTextFault}
@@ -16,7 +16,7 @@ use Rattle.cmwq_play.proofs.TextLemmas.{answers_told, answers_well, not_refused,
 use Rattle.cmwq_streams.specs.Sending.{IsSendError}
 use Rattle.cmwq_streams.specs.declared.error.PlayError.{PlayError}
 use Rattle.cmwq_streams.specs.declared.error.PlayError.TheVariants as errors
-use Rattle.cmwq_asked.specs.declared.question.Question.{Question}
+use Rattle.cmwq_tasks.specs.declared.question.Question.{Question}
 use Rattle.cmwq_explain.specs.Explained.{Explains, IsAnswer, IsAsked, IsUnanswered, IsUnknown, said_to, told_along}
 
 pub not_unknown : (question : Question) (S : ScenarioContents) (b : Bool) → (IsUnknown question S → IsTrue b) → b ≡ false → IsUnknown question S → ⊥

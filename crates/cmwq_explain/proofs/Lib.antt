@@ -1,2 +1,5 @@
 pub mod AnswerLemmas
 pub mod ExplainLemmas
+pub mod LookingLemmas
+pub mod PositionLemmas
+pub mod TellingLemmas

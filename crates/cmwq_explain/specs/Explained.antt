@@ -4,18 +4,18 @@ use Rattle.cmwq_types.specs.Contents.{ActorContents, ScenarioContents}
 use Rattle.cmwq_types.specs.Scenario.{expand}
 use Rattle.cmwq_table.specs.State.{State}
 use Rattle.cmwq_why_text.specs.Text.{work_line}
-use Rattle.cmwq_waits.specs.Text.{flush_lines}
+use Rattle.cmwq_flush_waits.specs.Text.{flush_lines}
 use Rattle.cmwq_debug_lines.specs.Orders.{work_named}
-use Rattle.cmwq_changes.specs.Changes.{changes_text}
-use Rattle.cmwq_changes.specs.Telling.{AreChanges, IsPastEnd}
-use Rattle.cmwq_asked.specs.declared.question.Looks.{Looks}
+use Rattle.cmwq_explain.specs.Changes.{changes_text}
+use Rattle.cmwq_explain.specs.Telling.{AreChanges, IsPastEnd}
+use Rattle.cmwq_tasks.specs.declared.question.Looks.{Looks}
 use Rattle.cmwq_play.specs.Commands.{Writes}
 use Rattle.cmwq_play.specs.Runs.{CanRun, IsRefused, IsRunOf}
 use Rattle.cmwq_streams.specs.Sending.{IsSendError}
 use Rattle.cmwq_streams.specs.declared.error.PlayError.{PlayError}
 use Rattle.cmwq_streams.specs.declared.error.PlayError.TheVariants as errors
-use Rattle.cmwq_asked.specs.declared.question.Question.{Question}
-use Rattle.cmwq_asked.specs.declared.question.Question.TheVariants.{Work, Flush}
+use Rattle.cmwq_tasks.specs.declared.question.Question.{Question}
+use Rattle.cmwq_tasks.specs.declared.question.Question.TheVariants.{Work, Flush}
 
 abbrev pub line_of_work : ScenarioContents → State → Option ℕ → Option (List ℕ)
 line_of_work S s (Some w) = Some (work_line S s w)

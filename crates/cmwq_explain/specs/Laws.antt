@@ -1,10 +1,10 @@
 -- What one may believe of answers without reading how they are made up.
 use Rattle.std.specs.Prelude.{◌≡◌, []}
 use Rattle.cmwq_types.specs.Contents.{ActorContents, ScenarioContents}
-use Rattle.cmwq_asked.specs.declared.question.Looks.{Looks}
+use Rattle.cmwq_tasks.specs.declared.question.Looks.{Looks}
 use Rattle.cmwq_explain.specs.Explained.{IsAsked, told_along}
-use Rattle.cmwq_asked.specs.declared.question.Question.{Question}
-use Rattle.cmwq_asked.specs.declared.question.Question.TheVariants.{Work, Flush}
+use Rattle.cmwq_tasks.specs.declared.question.Question.{Question}
+use Rattle.cmwq_tasks.specs.declared.question.Question.TheVariants.{Work, Flush}
 
 -- the question is after a flush
 abbrev pub IsAfterFlush : Question → Type 0

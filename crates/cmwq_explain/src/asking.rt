@@ -2,12 +2,12 @@
 ghost use Rattle.cmwq_explain.specs.Explained.{IsUnknown};
 ghost use Rattle.std.specs.Prelude.{◌≡◌, ◌↔◌, IsTrue};
 
-use cmwq_asked::Question;
-use cmwq_changes::Sayer;
+use crate::sayer::Sayer;
 use cmwq_debug_lines::work_named;
+use cmwq_flush_waits::flush_text;
 use cmwq_table::Reads;
+use cmwq_tasks::Question;
 use cmwq_types::{NoMemory, Scenario, WorkId};
-use cmwq_waits::flush_text;
 use cmwq_why_text::work_text;
 use std::alloc::Global;
 

@@ -1,5 +1,5 @@
 //! `why`: from a scenario's text to what is said of its run.
-ghost use Rattle.cmwq_changes.specs.Telling.{AreChanges};
+ghost use Rattle.cmwq_explain.specs.Telling.{AreChanges};
 ghost use Rattle.cmwq_explain.specs.Explained.{Explains, IsAnswer, IsUnanswered, said_to};
 ghost use Rattle.cmwq_explain.specs.Laws.{IsAfterFlush};
 ghost use Rattle.cmwq_play.specs.Commands.{Answers, Reads, Writes};
@@ -8,12 +8,12 @@ ghost use Rattle.cmwq_types.specs.Faults.{IsValid};
 ghost use Rattle.std.specs.Prelude.{◌≡◌, Err, false};
 
 use crate::asking::{Asked, is_unknown};
-use cmwq_asked::{Looks, Question};
-use cmwq_changes::tell_changes;
+use crate::telling::tell_changes;
 use cmwq_plain::Plain;
 use cmwq_play::{judge, read_text};
 use cmwq_streams::{PlayError, Sink, Source};
 use cmwq_table::Machine;
+use cmwq_tasks::{Looks, Question};
 use cmwq_types::Scenario;
 use std::alloc::Global;
 

@@ -3,8 +3,6 @@ ghost use Rattle.cmwq_grammar.specs.Grammar.{Spells};
 ghost use Rattle.cmwq_types.specs.Faults.{IsValid};
 ghost use Rattle.cmwq_types.specs.Listing.{Flagged, actor_line, actor_lines, body_lines, flag_words, instr_words, line_text, listing, op_line, operand_words, queue_line, times_words, word_if, work_line, written_text};
 ghost use Rattle.cmwq_types.specs.Name.{is_name};
-ghost use Rattle.cmwq_types.specs.Scenario.{queue_at, work_at};
-ghost use Rattle.cmwq_types.specs.declared.limits.TheConstants.{MAX_NAME};
 ghost use Rattle.cmwq_types.specs.Values.{IsActor, IsInstr, IsLine, IsOp, IsQueueDecl, IsScenario};
 ghost use Rattle.std.specs.Fmt.{decimal};
 ghost use Rattle.std.specs.List.{All, AllByRecursion, flat_map, join_with_byte};
@@ -14,8 +12,8 @@ use crate::line_end::LineEnd;
 use crate::lines::{push_line, push_others, push_words};
 use cmwq_grammar::laws::listing_spells_its_scenario;
 use cmwq_types::{
-    Actor, Fields, Flags, Instr, Line, MAX_NAME, NoMemory, Op, QueueDecl, Scenario, Shape,
-    WorkDecl, fields_of, shape_of, word_of,
+    Actor, Fields, Flags, Instr, Line, NoMemory, Op, QueueDecl, Scenario, Shape, WorkDecl,
+    fields_of, shape_of, word_of,
 };
 use itoa::Buffer;
 use std::alloc::Global;
@@ -133,7 +131,7 @@ fn push_works(text: &mut Vec<u8>, scenario: &Scenario) -> Result<(), NoMemory>
     ensures queues { OnOk result (All (λ work. work.queue.0 < 2 ^ 8) scenario.now.works) }
 {
     for work in &scenario.works {
-        let queue = queue_name(scenario, u16::from(work.queue.0));
+        let queue = scenario.queue_name_bytes(work.queue.0 as usize);
         push_line(text, b"work", &[work.name.as_bytes(), queue])?;
     }
     Ok(())
@@ -187,7 +185,7 @@ fn put_op(text: &mut LineEnd, scenario: &Scenario, op: Op)
         }
         Op::Queue(work, cpu) => {
             text.put_number(u32::from(cpu));
-            text.put_word(work_name(scenario, work.0));
+            text.put_word(scenario.work_name_bytes(work.0 as usize));
             text.put(b"queue");
         }
         Op::Finish => text.put(b"finish"),
@@ -246,20 +244,20 @@ fn put_operands(text: &mut LineEnd, scenario: &Scenario, shape: Shape, fields: F
     let Fields { cpu, id, number } = fields;
     match shape {
         Shape::Alone => {}
-        Shape::Work => text.put_word(work_name(scenario, id)),
+        Shape::Work => text.put_word(scenario.work_name_bytes(id as usize)),
         Shape::WorkCpu => {
             text.put_number(u32::from(cpu));
-            text.put_word(work_name(scenario, id));
+            text.put_word(scenario.work_name_bytes(id as usize));
         }
         Shape::WorkCpuTicks => {
             text.put_number(number);
             text.put_number(u32::from(cpu));
-            text.put_word(work_name(scenario, id));
+            text.put_word(scenario.work_name_bytes(id as usize));
         }
-        Shape::Queue => text.put_word(queue_name(scenario, id)),
+        Shape::Queue => text.put_word(scenario.queue_name_bytes(id as usize)),
         Shape::QueueNumber => {
             text.put_number(number);
-            text.put_word(queue_name(scenario, id));
+            text.put_word(scenario.queue_name_bytes(id as usize));
         }
         Shape::Pool => text.put_number(u32::from(cpu)),
         Shape::Flush => text.put_number(u32::from(id)),
@@ -275,27 +273,5 @@ fn put_times(text: &mut LineEnd, times: u32)
     if times != 1 {
         text.put_number(times);
         text.put_word(b"*");
-    }
-}
-
-/// The name of a queue, or no bytes where no queue has the number.
-fn queue_name(scenario: &Scenario, queue: u16) -> &[u8]
-    ensures name { result.now ≡ (queue_at scenario.now queue).name }
-    ensures short { length result.now ≤ MAX_NAME }
-{
-    match scenario.queues.get(queue as usize) {
-        Some(declared) => declared.name.as_bytes(),
-        None => &[],
-    }
-}
-
-/// The name of a work, or no bytes where no work has the number.
-fn work_name(scenario: &Scenario, work: u16) -> &[u8]
-    ensures name { result.now ≡ (work_at scenario.now work).name }
-    ensures short { length result.now ≤ MAX_NAME }
-{
-    match scenario.works.get(work as usize) {
-        Some(declared) => declared.name.as_bytes(),
-        None => &[],
     }
 }

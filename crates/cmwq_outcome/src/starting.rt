@@ -7,7 +7,7 @@ ghost use Rattle.std.specs.Io.KnownBytes.{Appends};
 ghost use Rattle.std.specs.Prelude.{◌≡◌, ◌↔◌, Err, IfErr, OnOk, false, true};
 
 use cmwq_command_line::help::VERSION;
-use cmwq_first::first_text;
+use cmwq_starter::first_text;
 use cmwq_streams::{PlayError, Sink, put_all};
 use std::alloc::Global;
 

@@ -20,7 +20,7 @@ use Rattle.cmwq_streams.specs.declared.error.PlayError.TheVariants.{TooWide, NoM
 use Rattle.cmwq_picture.specs.declared.span.TheConstants.{MAX_COLUMNS}
 use Rattle.cmwq_picture.proofs.RowLemmas.{rows-cut}
 use Rattle.cmwq_picture.specs.Recording.{IsRecording, Recording, begun, issued, issued_all, new_columns, overflows}
-use Rattle.cmwq_asked.specs.declared.drawing.Span.{Span}
+use Rattle.cmwq_tasks.specs.declared.drawing.Span.{Span}
 use Rattle.cmwq_picture.proofs.TickLemmas.{time-goes_on, time-ticks}
 use Rattle.cmwq_picture.proofs.AlikeLemmas.{column-ticks}
 

@@ -11,7 +11,7 @@ use Rattle.cmwq_table.specs.declared.state.Running.{Running}
 use Rattle.cmwq_picture.specs.Picture.{cell, columns, from_time, work_sign}
 use Rattle.cmwq_picture.specs.declared.cell.Cell.TheVariants.{Empty, Burner}
 use Rattle.cmwq_picture.specs.declared.row.Title.TheVariants as title
-use Rattle.cmwq_asked.specs.declared.drawing.Span.{Span}
+use Rattle.cmwq_tasks.specs.declared.drawing.Span.{Span}
 
 -- Columns.
 

@@ -8,7 +8,7 @@ use Rattle.cmwq_table.specs.State.{State, start}
 use Rattle.cmwq_table.specs.Table.{table}
 use Rattle.cmwq_picture.specs.Column.{ColumnContents, column_of}
 use Rattle.cmwq_picture.specs.Picture.{is_act, is_drawn, is_open}
-use Rattle.cmwq_asked.specs.declared.drawing.Span.{Span}
+use Rattle.cmwq_tasks.specs.declared.drawing.Span.{Span}
 use Rattle.cmwq_picture.specs.declared.span.TheConstants.{MAX_COLUMNS}
 
 -- a scenario's run up to some instruction, the columns so far, and whether the actor did something since the last tick

@@ -9,9 +9,9 @@ use crate::recorder::Recorder;
 use crate::row::Picture;
 use crate::rows::rows;
 use crate::span::from_time;
-use cmwq_asked::Span;
 use cmwq_streams::PlayError;
 use cmwq_table::Machine;
+use cmwq_tasks::Span;
 use cmwq_types::{Line, Scenario};
 use std::alloc::Global;
 

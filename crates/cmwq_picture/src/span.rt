@@ -2,7 +2,7 @@
 ghost use Rattle.cmwq_picture.specs.Picture.{from_time, is_before, is_drawn, is_open};
 ghost use Rattle.std.specs.Prelude.{◌≡◌};
 
-use cmwq_asked::Span;
+use cmwq_tasks::Span;
 
 /// The most columns of a picture unless both ends of its span are given.
 pub const MAX_COLUMNS: usize = 500;

@@ -1,12 +1,12 @@
 //! Command lines: the requests that they are, and help and usage faults.
 use crate::checking::{same, setting_with};
 use clap::error::ErrorKind;
-use cmwq_asked::{Drawing, Looks, Question, RunKind, Span, Task};
 use cmwq_command::carry_out;
 use cmwq_machine_tests::streams::{Output, reading_of, writing_to};
 use cmwq_outcome::{Look, tell};
 use cmwq_play::Marked;
-use cmwq_words::request::{Request, not_text, parse};
+use cmwq_request::request::{Request, not_text, parse};
+use cmwq_tasks::{Drawing, Looks, Question, RunKind, Span, Task};
 use std::alloc::Global;
 use std::process::Abort;
 use std::rt::Files;

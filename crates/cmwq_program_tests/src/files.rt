@@ -1,19 +1,19 @@
 //! Each command on real files, as the program carries it out.
-ghost use Rattle.cmwq_words.specs.Request.{IsWithin};
+ghost use Rattle.cmwq_request.specs.Request.{IsWithin};
 
 use crate::checking::{same, setting_with};
-use cmwq_asked::{Drawing, Looks, Question, RunKind, Span, Task};
 use cmwq_asm::AsmError;
 use cmwq_command::answer;
-use cmwq_first::first_text;
 use cmwq_grammar::Why;
 use cmwq_image::ImageError;
 use cmwq_machine_tests::examples::{IMAGE_OF_STEPS_RUN_OUT as IMAGE, STEPS_RUN_OUT};
 use cmwq_machine_tests::streams::reading_of;
 use cmwq_outcome::Look;
 use cmwq_play::{Marked, PlayError};
+use cmwq_request::request::Request;
+use cmwq_starter::first_text;
+use cmwq_tasks::{Drawing, Looks, Question, RunKind, Span, Task};
 use cmwq_types::Fault;
-use cmwq_words::request::Request;
 use std::fs;
 use std::process::Abort;
 use std::rt::Files;

@@ -1,5 +1,5 @@
 //! Worked examples of why works wait, as theorems over the definitions: each function's contract has the reasons of some
-//! works at some positions of one scenario, with who is named. `cmwq_why_examples` has the text of some of them.
+//! works at some positions of one scenario, with who is named. `cmwq_why_laws` has the text of some of them.
 #![tactic(auto, unfolding(cmwq_table::specs::Table::table))]
 
 ghost use Rattle.cmwq_reason_examples.specs.Waiting.{again, ahead_at, at, blamed, by_twos, chain, hold, listed_before, outside, waits_at, why};

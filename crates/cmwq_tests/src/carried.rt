@@ -1,14 +1,14 @@
 //! A command carried out over a reader and a writer.
 ghost use Rattle.std.specs.Prelude.{◌≡◌, false};
 
-use cmwq_asked::{Drawing, Looks, Question, Span};
+use cmwq_debug_session::debug;
 use cmwq_draw::draw;
 use cmwq_explain::why;
 use cmwq_machine_tests::examples::MAX_ACTIVE_3;
 use cmwq_machine_tests::streams::{Input, Output, reading_of};
 use cmwq_play::{Marked, PlayError, from_image, list_text, read_text, run, to_image};
 use cmwq_settle::{run_settled, settle_text};
-use cmwq_talk::debug;
+use cmwq_tasks::{Drawing, Looks, Question, Span};
 use cmwq_tell::run_told;
 use std::alloc::Global;
 

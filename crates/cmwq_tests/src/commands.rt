@@ -3,7 +3,6 @@ use crate::carried::{Command, Outcome, carried_out};
 use crate::checking::same;
 use crate::explaining::{CHAIN, HOLD};
 use crate::settling::UNSETTLED;
-use cmwq_asked::{Looks, Question};
 use cmwq_asm::AsmError;
 use cmwq_grammar::Why;
 use cmwq_image::ImageError;
@@ -12,6 +11,7 @@ use cmwq_machine_tests::examples::{
 };
 use cmwq_machine_tests::streams::{Failure, Input, Output, reading_of, writing_to};
 use cmwq_play::{Marked, PlayError, read_text};
+use cmwq_tasks::{Looks, Question};
 use cmwq_types::Fault;
 use std::alloc::Global;
 use std::process::Abort;

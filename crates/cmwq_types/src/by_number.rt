@@ -1,8 +1,9 @@
 //! The parts of a scenario by their numbers.
 ghost use Rattle.cmwq_types.specs.Scenario.{flags_at, is_unbound, op_at, pool_count, queue_at, queue_of, target, work_at};
 ghost use Rattle.cmwq_types.specs.Setting.{IsSetting};
+ghost use Rattle.cmwq_types.specs.declared.limits.TheConstants.{MAX_NAME};
 ghost use Rattle.cmwq_types.specs.declared.scenario.Op.TheVariants as op;
-ghost use Rattle.std.specs.Prelude.{◌≡◌, ◌<◌, slice_index_or};
+ghost use Rattle.std.specs.Prelude.{◌≡◌, ◌<◌, ◌≤◌, length, slice_index_or};
 
 use crate::scenario::{Flags, Op, Scenario};
 
@@ -45,6 +46,28 @@ impl Scenario {
         match self.queues.get(queue) {
             Some(queue) => queue.name.as_str(),
             None => "",
+        }
+    }
+
+    /// The bytes of the name of the work of this number, from 0, at most 15, and none where there is no such work.
+    pub fn work_name_bytes(&self, work: usize) -> &[u8]
+        ensures name { result.now ≡ (work_at self.now work).name }
+        ensures short { length result.now ≤ MAX_NAME }
+    {
+        match self.works.get(work) {
+            Some(work) => work.name.as_bytes(),
+            None => &[],
+        }
+    }
+
+    /// The bytes of the name of the queue of this number, from 0, at most 15, and none where there is no such queue.
+    pub fn queue_name_bytes(&self, queue: usize) -> &[u8]
+        ensures name { result.now ≡ (queue_at self.now queue).name }
+        ensures short { length result.now ≤ MAX_NAME }
+    {
+        match self.queues.get(queue) {
+            Some(queue) => queue.name.as_bytes(),
+            None => &[],
         }
     }
 

@@ -1,6 +1,6 @@
 use Rattle.std.proofs.Common.{ap, ◌∙◌}
-use Rattle.cmwq_asked.specs.declared.task.RunKind.{RunKind}
-use Rattle.cmwq_asked.specs.declared.task.Task.TheVariants.{Run}
+use Rattle.cmwq_tasks.specs.declared.task.RunKind.{RunKind}
+use Rattle.cmwq_tasks.specs.declared.task.Task.TheVariants.{Run}
 use Rattle.cmwq_command.proofs.TaskLemmas.{answered, written}
 use Rattle.cmwq_command.proofs.task.do_task.Goals as goal
 

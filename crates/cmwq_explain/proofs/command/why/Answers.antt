@@ -1,5 +1,5 @@
 use Rattle.std.proofs.lemmas.Result.{err_from_is_err_and}
-use Rattle.cmwq_changes.specs.Telling.{AreChanges}
+use Rattle.cmwq_explain.specs.Telling.{AreChanges}
 use Rattle.cmwq_play.specs.Texts.{ComesTo}
 use Rattle.cmwq_play.proofs.CommandLemmas.{reads_ok, writes_more}
 use Rattle.cmwq_play.proofs.TextLemmas.{answers_unread}

@@ -1,3 +1,0 @@
-pub mod LookingLemmas
-pub mod PositionLemmas
-pub mod TellingLemmas

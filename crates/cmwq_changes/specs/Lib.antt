@@ -1,4 +1,0 @@
-pub mod Changes
-pub mod Examples
-pub mod Looking
-pub mod Telling

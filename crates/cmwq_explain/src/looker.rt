@@ -1,0 +1,134 @@
+//! Who looks at a run's states as it goes, and tells what is said of them wherever it changes.
+ghost use Rattle.cmwq_explain.specs.Changes.{words};
+ghost use Rattle.cmwq_explain.specs.Looking.{line_here, looked, looker_wholly, looks_here, saying, told_here, told_wholly};
+ghost use Rattle.cmwq_explain.specs.Telling.{as_unit};
+ghost use Rattle.cmwq_play.specs.Commands.{Writes};
+ghost use Rattle.cmwq_play.specs.Session.{CanIssue, Issues};
+ghost use Rattle.cmwq_streams.specs.Blocks.{SharesSink, kept, sink};
+ghost use Rattle.cmwq_streams.specs.Sending.{IsSendError};
+ghost use Rattle.cmwq_types.specs.Scenario.{expand_lines};
+ghost use Rattle.std.specs.Prelude.{◌≡◌, [], IfErr, IfOk, OnOk};
+
+use crate::said::Said;
+use crate::sayer::Sayer;
+use cmwq_play::{Session, Teller};
+use cmwq_reads::is_settled;
+use cmwq_streams::{PlayError, Sink};
+use cmwq_table::{Machine, Reads};
+use cmwq_tasks::Looks;
+use cmwq_types::{Instr, Line};
+use std::alloc::Global;
+
+/// Tells what is said of a run's states wherever it changes.
+#[derive(Drop)]
+pub(crate) struct Looker<'s, P> {
+    pub(crate) alloc: Global,
+    pub(crate) looks: Looks,
+    pub(crate) sayer: &'s P,
+    /// How many instructions have been carried out.
+    pub(crate) position: u64,
+    /// What was said where it was last looked.
+    pub(crate) said: Said,
+    /// Whether anything has been told.
+    pub(crate) has_told: bool,
+}
+
+impl<P: Sayer> Teller for Looker<'_, P> {
+    ghost use Rattle.cmwq_explain.specs.Looking.{going_on, looked, told_here};
+    ghost use Rattle.std.specs.Prelude.{⊤, false};
+
+    ghost fits = { λ _ _. ⊤ };
+
+    ghost told = { λ looker S s _. told_here P.says looker S false s };
+
+    ghost keeps = { λ looker S s _. going_on (looked P.says looker S false s) };
+
+    fn issue<M: Machine, W: Sink>(
+        &mut self,
+        session: &mut Session<'_, '_, M, W>,
+        instr: Instr,
+    ) -> Result<(), PlayError> {
+        self.look(session, false)?;
+        let _ = session.machine.exec(instr);
+        self.position = self.position.saturating_add(1);
+        Ok(())
+    }
+}
+
+impl<P: Sayer> Looker<'_, P> {
+    /// Whether the position, at which this machine is, is one that is looked at.
+    fn is_looked_at<R: Reads>(&self, machine: &R, is_last: bool) -> bool
+        ensures { result ≡ looks_here self.now (R.loaded machine.now) is_last (R.state machine.now) }
+    {
+        match self.looks {
+            Looks::Settled => is_last || is_settled(machine),
+            Looks::Every => true,
+            Looks::At(position) => self.position == position,
+        }
+    }
+
+    /// Looks at the session's machine, if the position is one that is looked at, and tells what is said of it.
+    fn look<M: Machine, W: Sink>(
+        &mut self,
+        session: &mut Session<'_, '_, M, W>,
+        is_last: bool,
+    ) -> Result<(), PlayError>
+        requires { CanIssue M.loaded M.state W.contents W.failed session.old }
+        ensures told { Issues M.loaded M.state W.contents W.failed session.old session.new (M.state session.old.machine)
+            (told_here P.says self.old session.old.scenario.now is_last (M.state session.old.machine)) result }
+        ensures looked { OnOk result (self.new ≡ looked P.says self.old session.old.scenario.now is_last (M.state session.old.machine)) }
+    {
+        if !self.is_looked_at(&session.machine, is_last) {
+            return Ok(());
+        }
+        let said = self.sayer.say(self.alloc, &session.machine)?;
+        self.tell_said(session, said)
+    }
+
+    /// Tells what is said here, unless just that was said before.
+    fn tell_said<M: Machine, W: Sink>(
+        &mut self,
+        session: &mut Session<'_, '_, M, W>,
+        said: Option<String>,
+    ) -> Result<(), PlayError>
+        requires { CanIssue M.loaded M.state W.contents W.failed session.old }
+        ensures told { Issues M.loaded M.state W.contents W.failed session.old session.new (M.state session.old.machine)
+            (line_here self.old (M.state session.old.machine) (words said)) result }
+        ensures saying { OnOk result (self.new ≡ saying self.old (M.state session.old.machine) (words said)) }
+    {
+        let Some(text) = said else {
+            self.said = Said(None);
+            return Ok(());
+        };
+        if !self.said.is_new(&text) {
+            self.said = Said(Some(text));
+            return Ok(());
+        }
+        let position = self.position;
+        let now = session.machine.now();
+        write!(session.lines, "at {position} now {now} {text}")?;
+        self.has_told = true;
+        self.said = Said(Some(text));
+        Ok(())
+    }
+
+    /// Issues the lines' instructions, looks before each and at the end, sends all that is told, and answers whether anything was.
+    pub(crate) fn tell<M: Machine, W: Sink>(
+        &mut self,
+        session: &mut Session<'_, '_, M, W>,
+        lines: &[Line],
+    ) -> Result<bool, PlayError>
+        requires ready { CanIssue M.loaded M.state W.contents W.failed session.old }
+        requires empty { kept session.old.lines ≡ [] }
+        ensures same { SharesSink session.old.lines session.new.lines }
+        ensures writes { Writes (λ output. output ≡ told_wholly P.says self.old session.old.scenario.now (M.state session.old.machine) (expand_lines lines.now))
+            (W.contents (sink session.old.lines)) (W.contents (sink session.new.lines)) (W.failed (sink session.new.lines)) (as_unit result) }
+        ensures told { IfOk result (λ told. told ≡ (looker_wholly P.says self.old session.old.scenario.now (M.state session.old.machine) (expand_lines lines.now)).has_told) }
+        ensures why { IfErr result (λ error. IsSendError error) }
+    {
+        session.issue_all(self, lines)?;
+        self.look(session, true)?;
+        session.lines.finish()?;
+        Ok(self.has_told)
+    }
+}

@@ -1,8 +1,0 @@
--- The definitions compute the rows.
-use Rattle.std.proofs.Common.{refl}
-use Rattle.cmwq_table.specs.Table.{table}
-use Rattle.cmwq_picture_examples.proofs.empty_run_has_no_column.Goals as goal
-
-pub returns : goal.returns
-unfolding table
-returns c = refl

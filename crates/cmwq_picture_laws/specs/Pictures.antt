@@ -1,0 +1,140 @@
+-- Worked examples of pictures: a scenario, the lines of its one actor, a span, and the picture's rows.
+use Rattle.std.specs.Prelude.{ℕ, List, [], ◌∷◌, Some, None, true, codes}
+use Rattle.cmwq_types.specs.Contents.{ScenarioContents}
+use Rattle.cmwq_types.specs.Scenario.{expand_lines, plain_flags}
+use Rattle.cmwq_types.specs.declared.instr.Instr.TheVariants as instr
+use Rattle.cmwq_types.specs.declared.scenario.Line.{Line}
+use Rattle.cmwq_types.specs.declared.scenario.Op.TheVariants as op
+use Rattle.cmwq_examples.specs.Declare.{delay, enqueue, highpri, queue, queues, scenario, state, times, unbound, work}
+use Rattle.cmwq_picture.specs.Contents.{PictureContents, RowContents}
+use Rattle.cmwq_picture.specs.Picture.{picture}
+use Rattle.cmwq_picture.specs.declared.cell.Cell.{Cell}
+use Rattle.cmwq_picture.specs.declared.cell.Cell.TheVariants.{Empty, Does, Burner, Acts}
+use Rattle.cmwq_picture.specs.declared.cell.Sign.TheVariants.{Burns, Waits, Sleeps, Listed, Inactive, Timed, Deferred}
+use Rattle.cmwq_picture.specs.declared.row.Title.{Title}
+use Rattle.cmwq_picture.specs.declared.row.Title.TheVariants as title
+use Rattle.cmwq_tasks.specs.declared.drawing.Span.{Span}
+
+-- Short words for pictures.
+
+abbrev pub pictured : ScenarioContents → List Line → Span → PictureContents
+pictured S lines span = picture S (expand_lines lines) span
+
+-- the whole run
+abbrev pub whole : Span
+whole = record { from = None; to = None }
+
+-- the ticks from one time on, before another
+abbrev pub between : ℕ → ℕ → Span
+between from to = record { from = Some from; to = Some to }
+
+abbrev pub row : Title → List Cell → RowContents
+row title cells = record { title = title; cells = cells }
+
+abbrev pub work_row : ℕ → List Cell → RowContents
+work_row w cells = row (title.Work (record { 0 = w })) cells
+
+abbrev pub pending_row : ℕ → List Cell → RowContents
+pending_row w cells = row (title.Pending (record { 0 = w })) cells
+
+abbrev pub burner : ℕ → Cell
+burner w = Burner (record { 0 = w })
+
+-- Two works share a CPU, and their queue is for two: a third one waits for room.
+
+abbrev pub sharing : ScenarioContents
+sharing =
+    scenario 1000 (queue (codes "q") 2 plain_flags ∷ [])
+    (work (codes "a") 0 (op.Burn 1 ∷ op.Sleep 2 ∷ op.Finish ∷ []) ∷ work (codes "b") 0 (op.Burn 2 ∷ op.Finish ∷ [])
+    ∷ work (codes "c") 0 (op.Burn 1 ∷ op.Finish ∷ []) ∷ []) []
+
+-- at time 2 there are an instruction that is refused, and a question
+abbrev pub sharing_lines : List Line
+sharing_lines =
+    enqueue 0 0 ∷ enqueue 1 0 ∷ times instr.Next 3 ∷ enqueue 2 0 ∷ times instr.Next 4 ∷ enqueue 0 1 ∷ state 0 ∷ times instr.Next 9 ∷ []
+
+-- nothing is done in the last tick
+abbrev pub sharing_picture : PictureContents
+sharing_picture =
+    record {
+      from = 0;
+      ticks = 5;
+      rows =
+          work_row 0 (Does Burns ∷ Does Sleeps ∷ Does Sleeps ∷ Empty ∷ Empty ∷ [])
+          ∷ work_row 1 (Does Listed ∷ Does Burns ∷ Does Burns ∷ Empty ∷ Empty ∷ [])
+          ∷ work_row 2 (Empty ∷ Does Inactive ∷ Does Inactive ∷ Does Burns ∷ Empty ∷ [])
+          ∷ row (title.Cpu 0) (burner 0 ∷ burner 1 ∷ burner 1 ∷ burner 2 ∷ Empty ∷ [])
+          ∷ row title.Actor (Acts ∷ Acts ∷ Empty ∷ Empty ∷ Empty ∷ []) ∷ [];
+    }
+
+-- A work of high priority takes the CPU from another one, which waits for it.
+
+abbrev pub taking : ScenarioContents
+taking =
+    scenario 1000 (queue (codes "n") 1 plain_flags ∷ queue (codes "h") 1 highpri ∷ [])
+    (work (codes "a") 0 (op.Burn 3 ∷ op.Finish ∷ []) ∷ work (codes "b") 1 (op.Burn 1 ∷ op.Finish ∷ []) ∷ []) []
+
+abbrev pub taking_lines : List Line
+taking_lines = enqueue 0 0 ∷ times instr.Next 3 ∷ enqueue 1 0 ∷ times instr.Next 7 ∷ []
+
+-- the ticks from 1 to 3, of four
+abbrev pub taking_picture : PictureContents
+taking_picture =
+    record {
+      from = 1;
+      ticks = 2;
+      rows =
+          work_row 0 (Does Waits ∷ Does Burns ∷ []) ∷ work_row 1 (Does Burns ∷ Empty ∷ [])
+          ∷ row (title.Cpu 0) (burner 1 ∷ burner 0 ∷ []) ∷ row title.Actor (Acts ∷ Empty ∷ []) ∷ [];
+    }
+
+-- A work queues itself while it runs: its second instance is listed until the pool's turn comes to it, and then deferred.
+
+abbrev pub again : ScenarioContents
+again =
+    scenario 1000 (queue (codes "q") 2 plain_flags ∷ [])
+    (work (codes "a") 0 (queues 0 ∷ op.Burn 1 ∷ op.Sleep 1 ∷ op.Finish ∷ []) ∷ []) []
+
+abbrev pub again_lines : List Line
+again_lines = enqueue 0 0 ∷ times instr.Next 7 ∷ []
+
+abbrev pub again_picture : PictureContents
+again_picture =
+    record {
+      from = 0;
+      ticks = 2;
+      rows =
+          work_row 0 (Does Burns ∷ Does Sleeps ∷ []) ∷ pending_row 0 (Does Listed ∷ Does Deferred ∷ [])
+          ∷ row (title.Cpu 0) (burner 0 ∷ Empty ∷ []) ∷ row title.Actor (Acts ∷ Empty ∷ []) ∷ [];
+    }
+
+-- A worker of the unbound pool burns beside a rescuer, since there is no other worker; a third work waits for its timer.
+
+abbrev pub rescued : ScenarioContents
+rescued =
+    record
+    (scenario 1000
+    (queue (codes "u") 1 unbound ∷ queue (codes "m") 1 (record plain_flags { unbound = true; mem_reclaim = true }) ∷ [])
+    (work (codes "a") 0 (op.Burn 1 ∷ op.Finish ∷ []) ∷ work (codes "b") 1 (op.Burn 1 ∷ op.Finish ∷ [])
+    ∷ work (codes "c") 0 (op.Finish ∷ []) ∷ []) [])
+    { workers = 1 }
+
+abbrev pub rescued_lines : List Line
+rescued_lines = enqueue 0 0 ∷ enqueue 1 0 ∷ delay 2 5 ∷ times instr.Next 5 ∷ []
+
+-- nobody burns on the CPU
+abbrev pub rescued_picture : PictureContents
+rescued_picture =
+    record {
+      from = 0;
+      ticks = 1;
+      rows =
+          work_row 0 (Does Burns ∷ []) ∷ work_row 1 (Does Burns ∷ []) ∷ work_row 2 (Does Timed ∷ [])
+          ∷ row (title.Cpu 0) (Empty ∷ []) ∷ row (title.Worker 2 0) (burner 0 ∷ [])
+          ∷ row (title.Rescuer (record { 0 = 1 })) (burner 1 ∷ []) ∷ row title.Actor (Acts ∷ []) ∷ [];
+    }
+
+-- A run in which no tick passes has the rows that always stand, and no column.
+
+abbrev pub empty_picture : PictureContents
+empty_picture = record { from = 0; ticks = 0; rows = row (title.Cpu 0) [] ∷ row title.Actor [] ∷ [] }

@@ -1,0 +1,6 @@
+//! A picture shows that an instance burns as often as its body says; and worked examples of pictures. No other crate stands on this one.
+#![tactic(auto)]
+
+pub mod burning;
+pub mod laws;
+pub mod pictures;

@@ -1,0 +1,7 @@
+use Rattle.std.proofs.Common.{refl}
+use Rattle.std.specs.Fmt.{digits}
+use Rattle.cmwq_render.proofs.examples.each_sign_is_drawn.Goals as goal
+
+pub returns : goal.returns
+unfolding digits
+returns c = refl

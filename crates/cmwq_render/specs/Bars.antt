@@ -1,0 +1,40 @@
+-- The rectangles of a row: one for cells that are the same and stand side by side.
+use Rattle.std.specs.Prelude.{ℕ, ◌+◌, Bool, false, List, [], ◌∷◌, ◌++◌, Option, Some, None, if◌then◌else◌}
+use Rattle.cmwq_picture.specs.declared.cell.Cell.{Cell}
+use Rattle.cmwq_picture.specs.declared.cell.Cell.TheVariants.{Empty, Does, Burner, Acts}
+use Rattle.cmwq_render.specs.Legend.{same_cell}
+use Rattle.cmwq_render.specs.declared.bars.Bar.{Bar}
+
+-- the rectangle goes on over this cell
+abbrev pub goes_on : Option Bar → Cell → Bool
+goes_on None cell = false
+goes_on (Some bar) cell = same_cell bar.cell cell
+
+-- the rectangle, up to this tick
+abbrev pub grown : Option Bar → ℕ → Option Bar
+grown None to = None
+grown (Some bar) to = Some (record bar { to = to })
+
+abbrev pub tick_bar : Cell → ℕ → Bar
+tick_bar cell at = record { from = at; to = at + 1; cell = cell }
+
+-- the rectangle that begins with this cell: an empty one has none
+abbrev pub begun : Cell → ℕ → Option Bar
+begun Empty at = None
+begun (Does sign) at = Some (tick_bar (Does sign) at)
+begun (Burner w) at = Some (tick_bar (Burner w) at)
+begun Acts at = Some (tick_bar Acts at)
+
+abbrev pub ended : Option Bar → List Bar
+ended None = []
+ended (Some bar) = bar ∷ []
+
+-- the rectangles of the cells from a tick on, with the last one before it, which may go on
+abbrev pub bars_from : Option Bar → ℕ → List Cell → List Bar
+bars_from last at [] = ended last
+bars_from last at (cell ∷ cells) =
+    if goes_on last cell then bars_from (grown last (at + 1)) (at + 1) cells
+    else ended last ++ bars_from (begun cell at) (at + 1) cells
+
+abbrev pub bars : List Cell → List Bar
+bars cells = bars_from None 0 cells

@@ -1,0 +1,9 @@
+pub mod Bars
+pub mod Examples
+pub mod Labels
+pub mod Laws
+pub mod Layout
+pub mod Legend
+pub mod Sketch
+pub mod Svg
+pub mod Times

@@ -1,0 +1,74 @@
+//! What a legend says of the signs that a picture shows.
+ghost use Rattle.cmwq_render.specs.Legend.{explained, is_shown, meaning, same_cell, sign_meaning};
+ghost use Rattle.std.specs.List.{filter, list_any};
+ghost use Rattle.std.specs.Prelude.{◌≡◌, IfOk};
+
+use cmwq_picture::{Cell, Row, Sign};
+use cmwq_types::NoMemory;
+use std::alloc::Global;
+
+/// What a legend explains, in its order.
+const EXPLICABLE: [Cell; 8] = [
+    Cell::Does(Sign::Burns),
+    Cell::Does(Sign::Waits),
+    Cell::Does(Sign::Sleeps),
+    Cell::Does(Sign::Listed),
+    Cell::Does(Sign::Inactive),
+    Cell::Does(Sign::Timed),
+    Cell::Does(Sign::Deferred),
+    Cell::Acts,
+];
+
+/// What the legend of a picture with these rows explains: the signs that occur in it, and whether the actor acts. That
+/// a name on the row of a CPU or worker is who burns there goes without saying.
+pub(crate) fn explained(alloc: Global, rows: &[Row]) -> Result<Vec<Cell>, NoMemory>
+    ensures { IfOk result (λ cells. cells.items ≡ explained rows.now) }
+{
+    Ok(
+        EXPLICABLE
+            .iter()
+            .copied()
+            .filter(|cell| is_shown(rows, *cell))
+            .collect(alloc)?,
+    )
+}
+
+/// Whether a row shows the cell somewhere.
+fn is_shown(rows: &[Row], cell: Cell) -> bool
+    ensures { result ≡ is_shown rows.now cell }
+{
+    rows.iter().any(|row| shows(&row.cells, cell))
+}
+
+/// Whether the cell is among these.
+fn shows(cells: &[Cell], cell: Cell) -> bool
+    ensures { result ≡ list_any (same_cell cell) cells.now }
+{
+    cells.iter().any(|other| cell == *other)
+}
+
+/// What a cell says, in words. Of one that shows nothing, and of a burner, whose name says it, there is nothing to say.
+pub(crate) fn meaning(cell: Cell) -> &'static str
+    ensures { result.now ≡ meaning cell }
+{
+    match cell {
+        Cell::Does(sign) => sign_meaning(sign),
+        Cell::Acts => "the actor acts",
+        Cell::Empty | Cell::Burner(_) => "",
+    }
+}
+
+/// What a sign says, in words.
+pub(crate) fn sign_meaning(sign: Sign) -> &'static str
+    ensures { result.now ≡ sign_meaning sign }
+{
+    match sign {
+        Sign::Burns => "burns",
+        Sign::Waits => "runnable, without the CPU",
+        Sign::Sleeps => "asleep",
+        Sign::Listed => "listed",
+        Sign::Inactive => "inactive",
+        Sign::Timed => "on a timer",
+        Sign::Deferred => "deferred",
+    }
+}

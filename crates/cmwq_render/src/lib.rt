@@ -1,0 +1,18 @@
+//! A picture of a run as text, a line for each row under the times of its columns; and as SVG, which a browser shows without a
+//! script, on a light or a dark background.
+#![tactic(auto)]
+
+mod bars;
+mod document;
+pub mod examples;
+mod label;
+pub mod laws;
+mod layout;
+mod legend;
+mod shapes;
+mod style;
+mod text;
+mod times;
+
+pub use document::svg;
+pub use text::sketch;

@@ -1,0 +1,72 @@
+//! What the words of `why` ask for.
+
+ghost use Rattle.clap.specs.Words.{Text, first_of, found_of, rows_of};
+ghost use Rattle.cmwq_tasks.specs.declared.question.Looks.{Looks};
+ghost use Rattle.cmwq_request.specs.Request.{IsWithin, asked_why, flag_of, looks_in, plain_number, question_words, why_arguments, words_of};
+ghost use Rattle.std.specs.Prelude.{◌≡◌, Bool, IfSome, Some, codes, option_map};
+
+use crate::drawing::flag_of;
+use crate::request::{Request, on_file, value_of};
+use clap::ArgMatches;
+use cmwq_tasks::{Looks, Question, Task};
+
+/// What `why` asks for; nothing where not just one of a work and a flush is given, where both options for positions are,
+/// or where a number hasn't 1 to 10 digits.
+pub(crate) fn why_request<'a>(given: &ArgMatches<'a>) -> Option<Request<'a>>
+    ensures words { (every : Bool) → flag_of (codes "every") (rows_of (found_of given.now)) ≡ Some every
+        → option_map (λ request. words_of request) result ≡ asked_why every (rows_of (found_of given.now)) }
+    ensures capacity { IfSome result (λ request. IsWithin request) }
+{
+    let looks = looks_of(given)?;
+    let question = question_of(given)?;
+    on_file(given, "FILE", Task::Why(question, looks))
+}
+
+/// The positions that are asked for; nothing where both options for them are given, or a number hasn't 1 to 10 digits.
+fn looks_of(given: &ArgMatches<'_>) -> Option<Looks>
+    ensures { (every : Bool) → flag_of (codes "every") (rows_of (found_of given.now)) ≡ Some every
+        → result ≡ looks_in every (first_of (codes "K") (rows_of (found_of given.now))) }
+{
+    match (flag_of(given, "every"), value_of(given, "K")) {
+        (false, None) => Some(Looks::Settled),
+        (true, None) => Some(Looks::Every),
+        (false, Some(word)) => Some(Looks::At(number_of(word)?)),
+        (true, Some(_)) => None,
+    }
+}
+
+/// The work or flush that is asked for; nothing where both or neither are given, or a number hasn't 1 to 10 digits.
+fn question_of<'a>(given: &ArgMatches<'a>) -> Option<Question<'a>>
+    ensures { (looks : Looks) (file : Text) → option_map (λ question. why_arguments question looks file) result
+        ≡ question_words (first_of (codes "WORK") (rows_of (found_of given.now))) (first_of (codes "F") (rows_of (found_of given.now))) looks file }
+{
+    match (value_of(given, "WORK"), value_of(given, "F")) {
+        (Some(work), None) => Some(Question::Work(work)),
+        (None, Some(word)) => Some(Question::Flush(number_of(word)?)),
+        (None, None) | (Some(_), Some(_)) => None,
+    }
+}
+
+/// How many digits a number has at most.
+const MOST_DIGITS: usize = 10;
+
+/// The number that 1 to 10 digits spell; nothing where the word is anything else.
+fn number_of(word: &str) -> Option<u64>
+    ensures { result ≡ plain_number word.now }
+{
+    if word.len() > MOST_DIGITS || word.starts_with('+') {
+        return None;
+    }
+    word.parse().ok()
+}
+
+/// What `why` takes, where its words ask for nothing.
+pub(crate) fn wanted_by_why(given: &ArgMatches<'_>) -> &'static str {
+    if value_of(given, "WORK").is_some() == value_of(given, "F").is_some() {
+        return "why takes either a WORK or --flush";
+    }
+    if flag_of(given, "every") && value_of(given, "K").is_some() {
+        return "--every and --at don't go together";
+    }
+    "--flush and --at take a number of 1 to 10 digits"
+}

@@ -1,0 +1,272 @@
+//! The command line: which words ask for what.
+
+ghost use Rattle.clap.specs.Words.{Row, Text, all_of, app_of, fault_of, first_of, found_of, kind_of, rows_of, subcommand_rows_of};
+ghost use Rattle.cmwq_command_line.specs.CommandLine.{command_line};
+ghost use Rattle.cmwq_request.specs.Request.{Asks, AsksNothing, AsksVersion, HasCapacity, IsAskedBy, IsCapacity, IsMisuse, IsMisusedBy, IsRead, IsRequestOf, IsUsageFault, IsVersionWord, IsWithin, asked_in, asked_of, asked_of_run, file_and_capacity, file_to_run, kind_of_run, task_words, words_of};
+ghost use Rattle.std.specs.Fmt.{decimal};
+ghost use Rattle.std.specs.Str.{bytes_eq};
+ghost use Rattle.std.specs.Prelude.{◌≡◌, ◌↔◌, ℕ, List, [], ◌∷◌, IfOk, IfSome, IsTrue, None, Some, codes, false, map, option_map, string_bytes};
+
+use crate::asking::{wanted_by_why, why_request};
+use crate::drawing::{draw_request, flag_of};
+use clap::error::ErrorKind;
+use clap::{ArgMatches, Command, Error};
+use cmwq_command_line::commands::command_line;
+use cmwq_tasks::{RunKind, Task};
+use cmwq_types::MAX_LINES;
+use std::alloc::{AllocError, Global};
+
+/// What the words ask for. The paths are as they were given.
+#[derive(Debug, PartialEq, Eq, Drop)]
+pub enum Request<'a> {
+    /// Write a scenario to start from, to a file that isn't there yet, or to standard output.
+    New {
+        /// The new text's path.
+        file: Option<&'a str>,
+    },
+    /// Do this with a file: the text of a scenario, or an image.
+    Do {
+        /// The file's path.
+        file: &'a str,
+        /// What is done with it.
+        task: Task<'a>,
+    },
+    /// Make an image of the scenario whose text is in a file.
+    Asm {
+        /// The text's path.
+        file: &'a str,
+        /// The image's path.
+        out: &'a str,
+    },
+    /// Debug the scenario whose text is in this file.
+    Debug {
+        /// The text's path.
+        file: &'a str,
+    },
+    /// Carry out all actors of the scenario whose text is in this file at once.
+    Play {
+        /// The text's path.
+        file: &'a str,
+        /// How many instructions the machine takes at most, 1 to 4,096.
+        capacity: u32,
+    },
+    /// Tell the verdict of each of these files.
+    Check {
+        /// The texts' paths, at least one.
+        files: Vec<&'a str>,
+    },
+    /// Tell the program's version.
+    Version,
+}
+
+/// Reads the words, of which the first is the program's name. The error is a usage fault, help that
+/// was asked for, or want of memory; it holds the text for the user. The version is a request.
+///
+/// Each command's words ask for it, where no FILE, OUT, IMAGE or WORK is empty or begins with a hyphen;
+/// the call then fails only for want of memory. It is a usage fault where `why` is asked of neither or of both of a work and
+/// a flush, at positions of two kinds, or with a number that hasn't 1 to 10 digits.
+pub fn parse<'a>(alloc: Global, words: &'a [String]) -> Result<Request<'a>, Error>
+    ensures asks { (name : Text) (given asked : List Text) → map string_bytes words.entry.now ≡ name ∷ given → IsAskedBy given asked → Asks asked result }
+    ensures misuse { (name : Text) (given : List Text) → map string_bytes words.entry.now ≡ name ∷ given → IsMisusedBy given → IsUsageFault result }
+    ensures version { (name word : Text) → map string_bytes words.entry.now ≡ name ∷ word ∷ []
+        → IsVersionWord word → AsksVersion result }
+    ensures capacity { IfOk result (λ request. IsWithin request) }
+{
+    let mut command = command_line(alloc)?;
+    request_met(alloc, &mut command, words)
+}
+
+/// What the words ask for, by the program's command line.
+fn request_met<'a>(
+    alloc: Global,
+    command: &mut Command<'a>,
+    words: &'a [String],
+) -> Result<Request<'a>, Error>
+    requires { app_of command.now ≡ command_line }
+    ensures asks { (asked : List Text) → IsRead (map string_bytes words.entry.now) asked → Asks asked result }
+    ensures misuse { IsMisuse (map string_bytes words.entry.now) → IsUsageFault result }
+    ensures version { fault_of command_line (map string_bytes words.entry.now) ≡ ErrorKind.DisplayVersion ∷ [] → AsksVersion result }
+    ensures capacity { IfOk result (λ request. IsWithin request) }
+{
+    let matches = match command.try_get_matches_from_mut(words) {
+        Ok(matches) => matches,
+        Err(error) if tells_version(&error) => return Ok(Request::Version),
+        Err(error) => return Err(error),
+    };
+    match request_of(alloc, &matches)? {
+        Some(request) => Ok(request),
+        None => Err(command.error(ErrorKind::ValueValidation, wanted_words(&matches))?),
+    }
+}
+
+/// What the command that was met takes.
+fn wanted_words(matches: &ArgMatches<'_>) -> &'static str {
+    match matches.subcommand() {
+        Some(("run", _)) => {
+            "--settle and --tell don't go together: `cmwq settle` writes the text to run with --tell"
+        }
+        Some(("draw", _)) => "--from and --to take a time in ticks",
+        Some(("why", given)) => wanted_by_why(given),
+        _ => "--capacity takes a number from 1 to 4096",
+    }
+}
+
+/// Whether the version was asked for.
+fn tells_version(error: &Error) -> bool
+    ensures { IsTrue result ↔ (kind_of error.now ≡ ErrorKind.DisplayVersion) }
+{
+    error.kind() == ErrorKind::DisplayVersion
+}
+
+/// The usage fault of words that aren't all text.
+pub fn not_text(alloc: Global) -> Result<Error, AllocError>
+    ensures { IfOk result (λ error. kind_of error ≡ ErrorKind.ValueValidation) }
+{
+    let mut command = command_line(alloc)?;
+    command.error(
+        ErrorKind::ValueValidation,
+        "a word of the command line isn't UTF-8",
+    )
+}
+
+/// What the command that was met asks for. The error is want of memory.
+fn request_of<'a>(
+    alloc: Global,
+    matches: &ArgMatches<'a>,
+) -> Result<Option<Request<'a>>, AllocError>
+    ensures words { (asked : List Text) → asked_of (subcommand_rows_of matches.now) ≡ Some asked → HasCapacity asked → IfOk result (λ request. IsRequestOf asked request) }
+    ensures nothing { (met : Text × List Row) → subcommand_rows_of matches.now ≡ Some met → AsksNothing met → IfOk result (λ request. request ≡ None) }
+    ensures capacity { IfOk result (λ found. IfSome found (λ request. IsWithin request)) }
+{
+    match matches.subcommand() {
+        Some((name, given)) => request_by(alloc, name, given),
+        None => Ok(None),
+    }
+}
+
+/// What the command of this name asks for, given these values. The error is want of memory.
+fn request_by<'a>(
+    alloc: Global,
+    name: &str,
+    given: &ArgMatches<'a>,
+) -> Result<Option<Request<'a>>, AllocError>
+    ensures words { (asked : List Text) → asked_in (name.now, rows_of (found_of given.now)) ≡ Some asked → HasCapacity asked → IfOk result (λ request. IsRequestOf asked request) }
+    ensures nothing { AsksNothing (name.now, rows_of (found_of given.now)) → IfOk result (λ request. request ≡ None) }
+    ensures capacity { IfOk result (λ found. IfSome found (λ request. IsWithin request)) }
+{
+    if name != "check" {
+        return Ok(request_on_file(name, given));
+    }
+    let Some(paths) = values_of(given, "FILE") else {
+        return Ok(None);
+    };
+    let files = paths.to_vec(alloc)?;
+    Ok(Some(Request::Check { files }))
+}
+
+/// What the command of this name, which takes at most two files, asks for.
+fn request_on_file<'a>(name: &str, given: &ArgMatches<'a>) -> Option<Request<'a>>
+    requires { bytes_eq name.now (codes "check") ≡ false }
+    ensures words { (asked : List Text) → asked_in (name.now, rows_of (found_of given.now)) ≡ Some asked → HasCapacity asked → option_map (λ request. words_of request) result ≡ Some asked }
+    ensures nothing { AsksNothing (name.now, rows_of (found_of given.now)) → result ≡ None }
+    ensures capacity { IfSome result (λ request. IsWithin request) }
+{
+    match name {
+        "new" => Some(Request::New {
+            file: value_of(given, "FILE"),
+        }),
+        "run" => run_request(given),
+        "settle" => on_file(given, "FILE", Task::Settle),
+        "list" => on_file(given, "FILE", Task::List),
+        "asm" => Some(Request::Asm {
+            file: value_of(given, "FILE")?,
+            out: value_of(given, "OUT")?,
+        }),
+        "show" => on_file(given, "IMAGE", Task::Show),
+        _ => request_on_run(name, given),
+    }
+}
+
+/// What the command of this name, which looks into a run, asks for.
+fn request_on_run<'a>(name: &str, given: &ArgMatches<'a>) -> Option<Request<'a>>
+    requires { bytes_eq name.now (codes "check") ≡ false }
+    ensures words { (asked : List Text) → asked_of_run (name.now, rows_of (found_of given.now)) ≡ Some asked → HasCapacity asked → option_map (λ request. words_of request) result ≡ Some asked }
+    ensures nothing { AsksNothing (name.now, rows_of (found_of given.now)) → result ≡ None }
+    ensures capacity { IfSome result (λ request. IsWithin request) }
+{
+    match name {
+        "debug" => Some(Request::Debug {
+            file: value_of(given, "FILE")?,
+        }),
+        "draw" => draw_request(given),
+        "why" => why_request(given),
+        "play" => play_request(given),
+        _ => None,
+    }
+}
+
+/// What asks for this task on the file that is the argument's value.
+pub(crate) fn on_file<'a>(given: &ArgMatches<'a>, id: &str, task: Task<'a>) -> Option<Request<'a>>
+    ensures words { option_map (λ request. words_of request) result ≡ option_map (task_words task.entry) (first_of id.now (rows_of (found_of given.now))) }
+    ensures capacity { IfSome result (λ request. IsWithin request) }
+{
+    let file = value_of(given, id)?;
+    Some(Request::Do { file, task })
+}
+
+/// What `run` asks for.
+fn run_request<'a>(given: &ArgMatches<'a>) -> Option<Request<'a>>
+    ensures words { (asked : List Text) → file_to_run (rows_of (found_of given.now)) ≡ Some asked → option_map (λ request. words_of request) result ≡ Some asked }
+    ensures capacity { IfSome result (λ request. IsWithin request) }
+{
+    let kind = run_kind(flag_of(given, "settle"), flag_of(given, "tell"))?;
+    on_file(given, "FILE", Task::Run(kind))
+}
+
+/// Which run the flags ask for; nothing where both are given.
+fn run_kind(settle: bool, tell: bool) -> Option<RunKind>
+    ensures { result ≡ kind_of_run settle tell }
+{
+    match (settle, tell) {
+        (false, false) => Some(RunKind::Plain),
+        (true, false) => Some(RunKind::Settled),
+        (false, true) => Some(RunKind::Told),
+        (true, true) => None,
+    }
+}
+
+/// What `play` asks for.
+fn play_request<'a>(given: &ArgMatches<'a>) -> Option<Request<'a>>
+    ensures words { (asked : List Text) → file_and_capacity (rows_of (found_of given.now)) ≡ Some asked → HasCapacity asked → option_map (λ request. words_of request) result ≡ Some asked }
+    ensures capacity { IfSome result (λ request. IsWithin request) }
+{
+    let file = value_of(given, "FILE")?;
+    let capacity = capacity_of(value_of(given, "N")?)?;
+    Some(Request::Play { file, capacity })
+}
+
+/// The number that the word is, where it is one from 1 to 4,096.
+fn capacity_of(word: &str) -> Option<u32>
+    ensures read { (n : ℕ) → word.now ≡ decimal n → IsCapacity n → result ≡ Some n }
+    ensures capacity { IfSome result (λ n. IsCapacity n) }
+{
+    let capacity: u32 = word.parse().ok()?;
+    if capacity < 1 || capacity > MAX_LINES as u32 {
+        return None;
+    }
+    Some(capacity)
+}
+
+/// The value of the argument.
+pub(crate) fn value_of<'a>(given: &ArgMatches<'a>, id: &str) -> Option<&'a str>
+    ensures { option_map (λ value. value.now) result ≡ first_of id.now (rows_of (found_of given.now)) }
+{
+    given.get_str(id)
+}
+
+/// All values of the argument.
+fn values_of<'m, 'a>(given: &'m ArgMatches<'a>, id: &str) -> Option<&'m [&'a str]>
+    ensures { option_map (λ values. map (λ value. value.now) values.now) result ≡ all_of id.now (rows_of (found_of given.now)) }
+{
+    given.get_strs(id)
+}

@@ -1,7 +1,0 @@
-use Rattle.std.proofs.Common.{refl}
-use Rattle.std.specs.Fmt.{digits}
-use Rattle.cmwq_sketch.proofs.examples.first_table_is_drawn.Goals as goal
-
-pub returns : goal.returns
-unfolding digits
-returns c = refl

@@ -1,7 +1,0 @@
-use Rattle.std.proofs.Common.{◌≡◌, drop, max}
-use Rattle.cmwq_sketch.specs.Labels.{longest}
-use Rattle.cmwq_sketch.proofs.label.label_width.Given as goal
-
--- the longest of those so far and of those that are left is the longest
-abbrev pub invariant-loop-row : goal.invariant-loop-row
-invariant-loop-row l = max l.width (longest l.scenario (drop l.row-index l.rows)) ≡ longest l.scenario l.rows

@@ -1,6 +1,0 @@
-use Rattle.std.proofs.Common.{◌≡◌, string_bytes}
-use Rattle.cmwq_sketch.specs.Times.{times}
-use Rattle.cmwq_sketch.proofs.times.header.Given as goal
-
-abbrev pub invariant-loop-number : goal.invariant-loop-number
-invariant-loop-number l = string_bytes l.line ≡ times l.picture l.width l.number

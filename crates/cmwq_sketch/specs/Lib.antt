@@ -1,5 +1,0 @@
-pub mod Examples
-pub mod Labels
-pub mod Legend
-pub mod Sketch
-pub mod Times

@@ -1,4 +1,0 @@
-pub mod Bars
-pub mod Laws
-pub mod Layout
-pub mod Svg

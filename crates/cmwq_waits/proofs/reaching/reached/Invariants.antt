@@ -1,6 +1,0 @@
-use Rattle.std.proofs.Common.{◌≡◌}
-use Rattle.cmwq_waits.specs.Waits.{with_blamed_below}
-use Rattle.cmwq_waits.proofs.reaching.reached.Given as goal
-
-abbrev pub invariant-loop-place : goal.invariant-loop-place
-invariant-loop-place g l = l.all.items ≡ with_blamed_below (g.R.Reads.loaded l.machine) (g.R.Reads.state l.machine) l.fn.instances l.place

@@ -1,0 +1,12 @@
+use Rattle.std.proofs.Common.{refl}
+use Rattle.std.specs.Fmt.{digits}
+use Rattle.cmwq_table.specs.Table.{table}
+use Rattle.cmwq_why_laws.proofs.examples.flush_waits_for_memory.Goals as goal
+
+pub returns : goal.returns
+unfolding table digits
+returns c = record {
+  at_6 = refl;
+  at_11 = refl;
+  at_12 = refl;
+}

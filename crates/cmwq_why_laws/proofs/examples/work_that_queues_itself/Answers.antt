@@ -1,0 +1,16 @@
+use Rattle.std.proofs.Common.{refl}
+use Rattle.std.specs.Fmt.{digits}
+use Rattle.cmwq_table.specs.Table.{table}
+use Rattle.cmwq_why_laws.proofs.examples.work_that_queues_itself.Goals as goal
+
+pub returns : goal.returns
+unfolding table digits
+returns c = record {
+  at_3 = refl;
+  at_7 = refl;
+  at_12 = refl;
+  at_15 = refl;
+  at_17 = refl;
+  at_20 = refl;
+  at_24 = refl;
+}

@@ -1,0 +1,12 @@
+use Rattle.std.proofs.Common.{refl}
+use Rattle.std.specs.Fmt.{digits}
+use Rattle.cmwq_table.specs.Table.{table}
+use Rattle.cmwq_why_laws.proofs.examples.work_that_waits_for_another.Goals as goal
+
+pub returns : goal.returns
+unfolding table digits
+returns c = record {
+  x = refl;
+  d = refl;
+  c = refl;
+}
