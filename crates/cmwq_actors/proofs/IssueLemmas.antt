@@ -4,7 +4,7 @@ use Rattle.std.proofs.lemmas.List.Sums.{length-filter, count_by-le-length}
 use Rattle.cmwq_types.specs.declared.instr.Instr.{Instr}
 use Rattle.cmwq_lock.specs.Views.{SameKnowledge, caller_of, mine_of, seen_of}
 use Rattle.cmwq_engine.specs.History.{instrs_of}
-use Rattle.cmwq_engine.specs.Shared.{EngineView, HasEntered, HasFoundFull, HasHadTurn, IfExhausted, IfFull}
+use Rattle.cmwq_engine.specs.Shared.{EngineView, HasEntered, HasFoundFull, HasHadTurn, IfNoTicket, IfFull}
 use Rattle.cmwq_engine.specs.declared.history.Entry.{Entry}
 use Rattle.cmwq_engine.specs.declared.history.Setting.{Setting}
 use Rattle.cmwq_engine.specs.declared.shared.IssueError.{IssueError}
@@ -41,7 +41,7 @@ stops_in_front v w left all whole same =
 -- who was refused the next instruction has ended so
 pub stop_ends :
     (from : Setting) (v w : EngineView) (left all : List Instr) (why : IssueError)
-    → issued_with v ++ left ≡ all → IfFull why (HasFoundFull from v w) → IfExhausted why (SameKnowledge v w)
+    → issued_with v ++ left ≡ all → IfFull why (HasFoundFull from v w) → IfNoTicket why (SameKnowledge v w)
     → HasEnded from.capacity (seen_of w) (issued_with w) all (stopped_by why)
 stop_ends from v w left all Full whole full same = (stops_in_front v w left all whole full.mine, full.full)
 stop_ends from v w left all Exhausted whole full same = stops_in_front v w left all whole same.same_mine

@@ -25,9 +25,9 @@ two_actors = record {
       ∷ record { name = 98 ∷ []; lines = record { instr = cancel_it; times = 1 } ∷ [] } ∷ [];
 }
 
-abbrev pub entered : ℕ → ℕ → Instr → Reply → Entry
-entered ticket caller instr reply = record { ticket = ticket; caller = caller; instr = instr; reply = reply }
+abbrev pub example_entry : ℕ → ℕ → Instr → Reply → Entry
+example_entry ticket caller instr reply = record { ticket = ticket; caller = caller; instr = instr; reply = reply }
 
 -- the cancel comes between the queueing and the questions, and after a ticket that nobody used
 abbrev pub race : List Entry
-race = entered 0 0 queue_it reply.Queued ∷ entered 2 1 cancel_it reply.Cancelled ∷ entered 3 0 instr.Busy reply.No ∷ entered 4 0 instr.Busy reply.No ∷ []
+race = example_entry 0 0 queue_it reply.Queued ∷ example_entry 2 1 cancel_it reply.Cancelled ∷ example_entry 3 0 instr.Busy reply.No ∷ example_entry 4 0 instr.Busy reply.No ∷ []

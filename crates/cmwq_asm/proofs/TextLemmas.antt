@@ -8,7 +8,7 @@ use Rattle.cmwq_grammar.specs.Reasons.{judge}
 use Rattle.cmwq_grammar.specs.Stages.{Stage}
 use Rattle.cmwq_grammar.specs.declared.why.Why.{Why}
 use Rattle.cmwq_asm.specs.Texts.{AsmErrorIs, Fails, LeadsOn}
-use Rattle.cmwq_asm.specs.Answers.{Refuses}
+use Rattle.cmwq_asm.specs.Answers.{RefusesLine}
 use Rattle.cmwq_asm.specs.declared.fault.AsmError.{AsmError}
 use Rattle.cmwq_asm.specs.declared.fault.LineError.{LineError}
 use Rattle.cmwq_asm.specs.declared.fault.LineError.TheVariants as error
@@ -53,6 +53,6 @@ leads_further text from rest count stage next line behind so_far cut shorter jud
 }
 
 -- a line's error, told with the line
-pub told_fails : {A B : Type 0} (answer : AsmError) (line : ℕ) (e : LineError) (said : Result A Why) (text : Result B FaultAt) → AsmErrorIs answer line e → Refuses e said → ((reason : Why) → said ≡ Err reason → text ≡ Err (fault_at line reason)) → Fails answer text
+pub told_fails : {A B : Type 0} (answer : AsmError) (line : ℕ) (e : LineError) (said : Result A Why) (text : Result B FaultAt) → AsmErrorIs answer line e → RefusesLine e said → ((reason : Why) → said ≡ Err reason → text ≡ Err (fault_at line reason)) → Fails answer text
 told_fails answer line (error.Why why) said text told refuses at = subst (λ given. Fails given text) (sym told) (at why refuses)
 told_fails answer line error.NoMemory said text told refuses at = subst (λ given. Fails given text) (sym told) tt

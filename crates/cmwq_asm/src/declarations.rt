@@ -2,7 +2,7 @@
 ghost use Rattle.cmwq_asm.specs.Answers.{Gives};
 ghost use Rattle.cmwq_asm.specs.Stages.{stage_of};
 ghost use Rattle.cmwq_asm.specs.Steps.{declared_queue, declared_work};
-ghost use Rattle.cmwq_draft.specs.Declarations.{queue_of, work_of};
+ghost use Rattle.cmwq_draft.specs.Declarations.{queue_of_line, work_of_line};
 ghost use Rattle.cmwq_grammar.specs.Instructions.{queue_names, work_names};
 ghost use Rattle.cmwq_grammar.specs.Reasons.{add_queue, add_work};
 ghost use Rattle.cmwq_scan.specs.Words.{words_left};
@@ -29,7 +29,7 @@ pub(crate) fn declare_queue<'t>(draft: Draft<'t>, rest: &'t [u8]) -> Result<Stag
 #[tactic(auto, unfolding(cmwq_grammar::specs::Reasons::add_queue))]
 fn add_queue<'t>(draft: Draft<'t>, queue: QueueLine<'t>) -> Result<Stage<'t>, LineError>
     requires { list_any (λ other. bytes_eq other queue.name) (queue_names draft) ≡ false }
-    ensures { Gives stage_of result (add_queue draft.entry (queue_of queue.entry)) }
+    ensures { Gives stage_of result (add_queue draft.entry (queue_of_line queue.entry)) }
 {
     if !fits_flags(&queue) {
         return Err(Why::Fault(Fault::BadFlags).into());
@@ -57,7 +57,7 @@ pub(crate) fn declare_work<'t>(
 #[tactic(auto, unfolding(cmwq_grammar::specs::Reasons::add_work))]
 fn add_work<'t>(alloc: Global, draft: Draft<'t>, work: WorkLine<'t>) -> Result<Stage<'t>, LineError>
     requires { list_any (λ other. bytes_eq other work.name) (work_names draft) ≡ false }
-    ensures { Gives stage_of result (add_work draft.entry (work_of work.entry)) }
+    ensures { Gives stage_of result (add_work draft.entry (work_of_line work.entry)) }
 {
     if draft.works().len() >= MAX_WORKS {
         return Err(Why::Fault(Fault::TooMany).into());

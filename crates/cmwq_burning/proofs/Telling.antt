@@ -17,7 +17,7 @@ use Rattle.cmwq_table.specs.Moves as moves
 use Rattle.cmwq_table.specs.State.{State, running_at, start}
 use Rattle.cmwq_table.specs.Table.{after_all}
 use Rattle.cmwq_table.specs.declared.state.Running.{Running}
-use Rattle.cmwq_burning.specs.Burning.{burns_at, burns_before, finishes_work, is_end, is_start, starts_work, tells}
+use Rattle.cmwq_burning.specs.Burning.{burns_at, burns_before, finishes_work, is_end, is_start, starts_work, tells_event}
 use Rattle.cmwq_burning.proofs.Choosing.{IsSettled, burning-left}
 use Rattle.cmwq_burning.proofs.Happening.{Changes, Happens, IsAtEnd, IsAtStart, table-does}
 
@@ -90,7 +90,7 @@ happens-in_pools S s running time r ready (Happens.passes settled ticked later t
       long = burned-length (burns S s) 0 s.running ∙ ready.long;
       pools = λ w. subst (IsInPool S) (sym (tick-at S s w)) (less-in_pool S (running_at s w) (burns S s w (running_at s w)) (ready.pools w));
     })
-happens-in_pools S s running time r ready (Happens.moves w e q h set still tells changes) =
+happens-in_pools S s running time r ready (Happens.moves w e q h set still tells_event changes) =
     subst (RunInPools S) (sym set) (record {
       long = length-set s.running w.0 q ∙ ready.long;
       pools = λ v. set-in_pool S s.running w.0 v q (omega (arith, ready.long)) (ready.pools v) (changed-in_pool S w.0 (running_at s w.0) q e changes (ready.pools w.0));

@@ -62,28 +62,28 @@ is_end (event.Queues other already) = false
 is_end (event.QueuesDisabled other) = false
 
 -- the reply tells of an event of the work that passes
-abbrev pub tells : (Event → Bool) → ℕ → Reply → Bool
-tells test w (reply.Event work event) = test event && (work.0 == w)
-tells test w reply.Queued = false
-tells test w reply.Already = false
-tells test w reply.Changed = false
-tells test w reply.Cancelled = false
-tells test w reply.NotPending = false
-tells test w (reply.Sync was flush) = false
-tells test w (reply.Flush flush) = false
-tells test w reply.Done = false
-tells test w reply.Yes = false
-tells test w reply.No = false
-tells test w (reply.Found found) = false
-tells test w (reply.Refused refusal) = false
+abbrev pub tells_event : (Event → Bool) → ℕ → Reply → Bool
+tells_event test w (reply.Event work event) = test event && (work.0 == w)
+tells_event test w reply.Queued = false
+tells_event test w reply.Already = false
+tells_event test w reply.Changed = false
+tells_event test w reply.Cancelled = false
+tells_event test w reply.NotPending = false
+tells_event test w (reply.Sync was flush) = false
+tells_event test w (reply.Flush flush) = false
+tells_event test w reply.Done = false
+tells_event test w reply.Yes = false
+tells_event test w reply.No = false
+tells_event test w (reply.Found found) = false
+tells_event test w (reply.Refused refusal) = false
 
 -- the reply tells that an instance of the work starts, on a worker, in place of the one that finishes, or on a rescuer
 abbrev pub starts_work : ℕ → Reply → Bool
-starts_work w = tells is_start w
+starts_work w = tells_event is_start w
 
 -- the reply tells that the running instance of the work finishes
 abbrev pub finishes_work : ℕ → Reply → Bool
-finishes_work w = tells is_end w
+finishes_work w = tells_event is_end w
 
 -- What is burned.
 
@@ -92,9 +92,9 @@ abbrev pub burns_at : ScenarioContents → State → Instr → ℕ → Bool
 burns_at S s i w = nat_lt s.time (state_after S s i).time && burns S s w (running_at s w)
 
 -- at how many of the instructions, from the state on, a tick passes in which the work burns
-abbrev pub burned : ScenarioContents → State → List Instr → ℕ → ℕ
-burned S s [] w = 0
-burned S s (i ∷ is) w = (if burns_at S s i w then 1 else 0) + burned S (state_after S s i) is w
+abbrev pub ticks_burned : ScenarioContents → State → List Instr → ℕ → ℕ
+ticks_burned S s [] w = 0
+ticks_burned S s (i ∷ is) w = (if burns_at S s i w then 1 else 0) + ticks_burned S (state_after S s i) is w
 
 -- The laws.
 
@@ -116,7 +116,7 @@ pub record IsCarriedOut (S : ScenarioContents) (s : State) (w : ℕ) (first : In
 unfoldable pub BurnsItsBody : ScenarioContents → State → Type 0
 BurnsItsBody S s =
     (w : ℕ) (first : Instr) (during : List Instr) (last : Instr) → IsCarriedOut S s w first during last
-    → burned S (state_after S s first) during w ≡ burns_of_body S w
+    → ticks_burned S (state_after S s first) during w ≡ burns_of_body S w
 
 -- An instance that hasn't finished runs, and what it has burned and what it has left to burn add up to the burns before its
 -- place in the body.
@@ -124,4 +124,4 @@ unfoldable pub BurnsUpToItsPlace : ScenarioContents → State → Type 0
 BurnsUpToItsPlace S s =
     (w : ℕ) (first : Instr) (during : List Instr) → IsUnderWay S s w first during
     → (r : Running) × (running_at (state_then S s first during) w ≡ Some r)
-    × (burned S (state_after S s first) during w + r.left ≡ burns_before S w r.pc)
+    × (ticks_burned S (state_after S s first) during w + r.left ≡ burns_before S w r.pc)

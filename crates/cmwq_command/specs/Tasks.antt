@@ -7,7 +7,7 @@ use Rattle.cmwq_tasks.specs.declared.task.Task.TheVariants.{Run, Settle, List as
 use Rattle.cmwq_draw.specs.Drawn.{IsDrawFault, IsDrawnText}
 use Rattle.cmwq_explain.specs.Explained.{IsAnswer, IsUnanswered, said_to}
 use Rattle.cmwq_play.specs.Images.{IsImageFault, IsShown}
-use Rattle.cmwq_play.specs.Texts.{ComesTo, IsFaultOf as IsTextFaultOf, IsOutput, IsRun, IsRunFault, IsTextFault}
+use Rattle.cmwq_play.specs.Texts.{ComesTo, IsTaskFault as IsTextFaultOf, IsOutput, IsRun, IsRunFault, IsTextFault}
 use Rattle.cmwq_settle.specs.Settling.{IsFollowedRun, IsSettledRun, IsSettledText, IsUnsettledRun, IsUnsettledText}
 use Rattle.cmwq_streams.specs.declared.error.PlayError.{PlayError}
 use Rattle.cmwq_tell.specs.Telling.{IsToldRun}
@@ -25,15 +25,15 @@ IsGoalOf (Draw drawing) = IsDrawnText drawing
 IsGoalOf (Why question looks) = ComesTo (IsAnswer question looks)
 
 -- what is told of the input
-abbrev pub IsFaultOf : Task → Option (List ℕ) → PlayError → Type 0
-IsFaultOf (Run Plain) = IsRunFault
-IsFaultOf (Run Settled) = IsUnsettledRun
-IsFaultOf (Run Told) = IsRunFault
-IsFaultOf Settle = IsUnsettledText
-IsFaultOf Listing = IsTextFault
-IsFaultOf Show = IsImageFault
-IsFaultOf (Draw drawing) = IsDrawFault drawing
-IsFaultOf (Why question looks) = IsTextFaultOf (IsUnanswered question looks)
+abbrev pub IsTaskFault : Task → Option (List ℕ) → PlayError → Type 0
+IsTaskFault (Run Plain) = IsRunFault
+IsTaskFault (Run Settled) = IsUnsettledRun
+IsTaskFault (Run Told) = IsRunFault
+IsTaskFault Settle = IsUnsettledText
+IsTaskFault Listing = IsTextFault
+IsTaskFault Show = IsImageFault
+IsTaskFault (Draw drawing) = IsDrawFault drawing
+IsTaskFault (Why question looks) = IsTextFaultOf (IsUnanswered question looks)
 
 -- what is written: the goal; where a machine never is quiet, its lines all the same; and to a question nothing where nothing is said
 abbrev pub IsWrittenBy : Task → Option (List ℕ) → List ℕ → Type 0

@@ -1,5 +1,5 @@
 //! The commands that read one input and write one output: what each of them does.
-ghost use Rattle.cmwq_command.specs.Tasks.{IsFaultOf, IsGoalOf, IsWrittenBy};
+ghost use Rattle.cmwq_command.specs.Tasks.{IsTaskFault, IsGoalOf, IsWrittenBy};
 ghost use Rattle.cmwq_play.specs.Commands.{Answers, Reads, Writes};
 ghost use Rattle.std.specs.Prelude.{◌≡◌, false};
 
@@ -24,7 +24,7 @@ pub fn do_task<R: Source, W: Sink>(
     requires reader { R.failed reader.old ≡ false }
     requires writer { W.failed writer.old ≡ false }
     ensures reads { Reads (R.remaining reader.old) (R.remaining reader.new) (R.failed reader.new) result }
-    ensures answers { Answers (IsGoalOf task.entry) (IsFaultOf task.entry) (R.remaining reader.old) result }
+    ensures answers { Answers (IsGoalOf task.entry) (IsTaskFault task.entry) (R.remaining reader.old) result }
     ensures writes { Writes (IsWrittenBy task.entry (R.remaining reader.old)) (W.contents writer.old) (W.contents writer.new) (W.failed writer.new) result }
 {
     match task {

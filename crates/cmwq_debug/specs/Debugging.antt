@@ -14,7 +14,7 @@ use Rattle.cmwq_table.specs.Table.{run, table}
 use Rattle.cmwq_table.specs.declared.machine.LoadError.{LoadError}
 use Rattle.cmwq_table.specs.declared.machine.LoadError.TheVariants as load
 use Rattle.cmwq_dump.specs.Dump.{dump, pool_lines}
-use Rattle.cmwq_why_text.specs.Text.{work_line}
+use Rattle.cmwq_why_text.specs.Text.{why_line}
 use Rattle.cmwq_flush_waits.specs.Text.{flush_lines}
 use Rattle.cmwq_debug.specs.Breaks.{break_at, free, lowest, said_of}
 use Rattle.cmwq_debug.specs.declared.breaks.TheConstants.{MAX_BREAKS}
@@ -119,8 +119,8 @@ run_end d (Some k) = (k + 1, break_of d k)
 run_end d None = (length d.instrs, None)
 
 -- a run goes forward by at least one instruction
-abbrev pub runs : Session → Outcome
-runs d =
+abbrev pub runs_on : Session → Outcome
+runs_on d =
     if nat_lt d.position (length d.instrs) then stands d (run_end d (stop d)).0 (run_end d (stop d)).1
     else refuses d error.PastEnd
 
@@ -132,7 +132,7 @@ dumps_pool d pool =
 -- why the work isn't further, in a line
 abbrev pub tells_why : Session → ℕ → Outcome
 tells_why d w =
-    if nat_lt w (length d.scenario.works) then says d (Text (work_line d.scenario (state_at d d.position) w))
+    if nat_lt w (length d.scenario.works) then says d (Text (why_line d.scenario (state_at d d.position) w))
     else refuses d error.NoSuchWork
 
 -- what a flush waits for, if it was given by then
@@ -149,7 +149,7 @@ does d (command.BreakWork work kind) = breaks_on_work d work kind
 does d (command.BreakTime time) = breaks_on d (OnTime time)
 does d command.BreakRefusal = breaks_on d OnRefusal
 does d (command.Clear i) = removed d i (break_at d.breaks i)
-does d command.Run = runs d
+does d command.Run = runs_on d
 does d command.Dump = says d (Text (dump d.scenario (state_at d d.position)))
 does d (command.DumpPool pool) = dumps_pool d pool
 does d (command.Why work) = tells_why d work.0
@@ -172,10 +172,10 @@ answer_of (said.Cleared i) = Cleared i
 answer_of (said.Text text) = Text text.items
 
 -- a debugger at the start; the scenario's first fault; or want of memory, where it has none
-abbrev pub Opens : {D : Type 0} → (D → Session) → ScenarioContents → List Instr → Result D LoadError → Type 0
-Opens session S instrs (Ok debugger) = IsValid S × (session debugger ≡ opened S instrs)
-Opens session S instrs (Err (load.Fault fault)) = first_fault S ≡ Some fault
-Opens session S instrs (Err load.NoMemory) = IsValid S
+abbrev pub OpensDebugger : {D : Type 0} → (D → Session) → ScenarioContents → List Instr → Result D LoadError → Type 0
+OpensDebugger session S instrs (Ok debugger) = IsValid S × (session debugger ≡ opened S instrs)
+OpensDebugger session S instrs (Err (load.Fault fault)) = first_fault S ≡ Some fault
+OpensDebugger session S instrs (Err load.NoMemory) = IsValid S
 
 -- A command came to its outcome, or memory ran out; what isn't carried out changes nothing.
 abbrev pub Meets : Outcome → Session → Session → Result Said DebugError → Type 0

@@ -1,9 +1,9 @@
 //! The debugger.
-ghost use Rattle.cmwq_debug.specs.Debugging.{Answer, At, Meets, Opens, answer_of, breaks_on, breaks_on_work, does, dumps_pool, goes, goes_back, opened, removed, run_end, runs, says, state_at, stop, tells_waits, tells_why, time_at, Text};
+ghost use Rattle.cmwq_debug.specs.Debugging.{Answer, At, Meets, OpensDebugger, answer_of, breaks_on, breaks_on_work, does, dumps_pool, goes, goes_back, opened, removed, run_end, runs_on, says, state_at, stop, tells_waits, tells_why, time_at, Text};
 ghost use Rattle.cmwq_debug.specs.Breaks.{break_at};
 ghost use Rattle.cmwq_dump.specs.Dump.{dump, pool_lines};
 ghost use Rattle.cmwq_flush_waits.specs.Text.{flush_lines};
-ghost use Rattle.cmwq_why_text.specs.Text.{work_line};
+ghost use Rattle.cmwq_why_text.specs.Text.{why_line};
 ghost use Rattle.cmwq_types.specs.Faults.{IsValid};
 ghost use Rattle.cmwq_types.specs.Scenario.{pool_count};
 ghost use Rattle.cmwq_types.specs.declared.limits.TheConstants.{MAX_HISTORY};
@@ -55,7 +55,7 @@ impl<M: Machine> Debugger<M> {
         instrs: Vec<Instr>,
     ) -> Result<Debugger<M>, LoadError>
         requires { length instrs.items ≤ MAX_HISTORY }
-        ensures { Opens (λ debugger. debugger) scenario.now instrs.items result }
+        ensures { OpensDebugger (λ debugger. debugger) scenario.now instrs.items result }
     {
         scenario.check().map_err(LoadError::Fault)?;
         Debugger::of_copy(alloc, scenario, instrs).map_err(|_| LoadError::NoMemory)
@@ -210,7 +210,7 @@ impl<M: Machine> Debugger<M> {
     }
 
     fn run(&mut self) -> Result<Said, DebugError>
-        ensures { Meets (runs self.old) self.old self.new result }
+        ensures { Meets (runs_on self.old) self.old self.new result }
     {
         if self.position == self.instrs.len() {
             return Err(DebugError::PastEnd);

@@ -18,19 +18,19 @@ use Rattle.cmwq_examples.specs.Declare.{delay, queue, queues, scenario, times, w
 use Rattle.cmwq_examples.specs.Rows.{text}
 
 -- what a debugger of these instructions says to the commands
-abbrev pub debugged : ScenarioContents → List Instr → List Command → List (Result Answer DebugError)
-debugged S instrs commands = answers (opened S instrs) commands
+abbrev pub commands_answered : ScenarioContents → List Instr → List Command → List (Result Answer DebugError)
+commands_answered S instrs commands = answers (opened S instrs) commands
 
 -- the instructions of the scenario's actors
-abbrev pub instrs_of : ScenarioContents → List Instr
-instrs_of S = flat_map expand S.actors
+abbrev pub all_instrs : ScenarioContents → List Instr
+all_instrs S = flat_map expand S.actors
 
 -- `break work W event E`
 abbrev pub break_on : ℕ → EventKind → Command
 break_on w event = command.BreakWork (record { 0 = w }) event
 
-abbrev pub at : ℕ → ℕ → Result Answer DebugError
-at position now = Ok (At position now None)
+abbrev pub stands_at : ℕ → ℕ → Result Answer DebugError
+stands_at position now = Ok (At position now None)
 
 abbrev pub at_break : ℕ → ℕ → ℕ → Result Answer DebugError
 at_break position now by = Ok (At position now (Some by))
@@ -52,8 +52,8 @@ dump_at_12 =
 
 abbrev pub there_and_back_answers : List (Result Answer DebugError)
 there_and_back_answers =
-    at 12 5 ∷ Ok (Text dump_at_12) ∷ Ok (Broke 0) ∷ at_break 28 15 0 ∷ at 0 0 ∷ Err error.PastStart ∷ Err error.PastEnd
-    ∷ Err error.NoSuchBreak ∷ at 8 3 ∷ at 7 2 ∷ at 44 25 ∷ Err error.PastEnd ∷ []
+    stands_at 12 5 ∷ Ok (Text dump_at_12) ∷ Ok (Broke 0) ∷ at_break 28 15 0 ∷ stands_at 0 0 ∷ Err error.PastStart ∷ Err error.PastEnd
+    ∷ Err error.NoSuchBreak ∷ stands_at 8 3 ∷ stands_at 7 2 ∷ stands_at 44 25 ∷ Err error.PastEnd ∷ []
 
 -- A work that queues itself, sleeps, and so starts again as it finishes.
 
@@ -64,8 +64,8 @@ event_breaks =
 
 abbrev pub event_breaks_answers : List (Result Answer DebugError)
 event_breaks_answers =
-    Ok (Broke 0) ∷ Ok (Broke 1) ∷ at_break 2 0 0 ∷ at_break 9 2 0 ∷ Ok (Cleared 0) ∷ at 8 2 ∷ at_break 9 2 1 ∷ Ok (Broke 0)
-    ∷ at 2 0 ∷ at_break 6 1 0 ∷ []
+    Ok (Broke 0) ∷ Ok (Broke 1) ∷ at_break 2 0 0 ∷ at_break 9 2 0 ∷ Ok (Cleared 0) ∷ stands_at 8 2 ∷ at_break 9 2 1 ∷ Ok (Broke 0)
+    ∷ stands_at 2 0 ∷ at_break 6 1 0 ∷ []
 
 -- Work a, when its timer fires, queues b and finishes; b queues itself twice, so that it defers where it sleeps.
 
@@ -95,7 +95,7 @@ abbrev pub each_event_answers : List (Result Answer DebugError)
 each_event_answers =
     Ok (Broke 0) ∷ Ok (Broke 1) ∷ Ok (Broke 2) ∷ Ok (Broke 3) ∷ Ok (Broke 4) ∷ Ok (Broke 5) ∷ Ok (Broke 6) ∷ Ok (Broke 7)
     ∷ at_break 3 1 6 ∷ at_break 6 1 4 ∷ at_break 7 1 0 ∷ at_break 8 1 7 ∷ at_break 9 1 7 ∷ at_break 10 1 1 ∷ at_break 12 2 2
-    ∷ at_break 13 2 5 ∷ at_break 15 3 3 ∷ at_break 16 3 0 ∷ Err error.PastEnd ∷ at 12 2 ∷ at 15 3 ∷ at 13 2
+    ∷ at_break 13 2 5 ∷ at_break 15 3 3 ∷ at_break 16 3 0 ∷ Err error.PastEnd ∷ stands_at 12 2 ∷ stands_at 15 3 ∷ stands_at 13 2
     ∷ Ok (Text pool_0_at_13) ∷ Ok (Text pool_1_at_13) ∷ []
 
 -- The body of b is to queue a, which is disabled.
@@ -112,7 +112,7 @@ dump_at_8 =
     codes "pool 3 counted 0 made 0 idle" ∷ codes "disabled a 2" ∷ [])
 
 abbrev pub disabled_breaks_answers : List (Result Answer DebugError)
-disabled_breaks_answers = Ok (Broke 0) ∷ Ok (Broke 1) ∷ at_break 8 0 1 ∷ Ok (Text dump_at_8) ∷ at 17 1 ∷ []
+disabled_breaks_answers = Ok (Broke 0) ∷ Ok (Broke 1) ∷ at_break 8 0 1 ∷ Ok (Text dump_at_8) ∷ stands_at 17 1 ∷ []
 
 -- The rescuer of b's queue takes it while memory is short, before c, which was queued first.
 
@@ -145,7 +145,7 @@ dump_after_relief =
 abbrev pub rescuer_breaks_answers : List (Result Answer DebugError)
 rescuer_breaks_answers =
     Ok (Broke 0) ∷ Ok (Broke 1) ∷ at_break 8 0 0 ∷ Ok (Text dump_under_pressure) ∷ at_break 16 2 1 ∷ Ok (Text dump_after_relief)
-    ∷ at 10 0 ∷ Ok (Text pool_0_at_10) ∷ at_break 16 2 1 ∷ at 20 3 ∷ []
+    ∷ stands_at 10 0 ∷ Ok (Text pool_0_at_10) ∷ at_break 16 2 1 ∷ stands_at 20 3 ∷ []
 
 -- A refused instruction, a tick, and a refused instruction again.
 
@@ -175,11 +175,11 @@ many_breaks_answers =
 -- Why a flush isn't done, and works aren't further. y waits for x's place in its queue, x for the concurrency level, d for c, and c for u.
 
 -- `why W`
-abbrev pub why : ℕ → Command
-why w = command.Why (record { 0 = w })
+abbrev pub ask_why : ℕ → Command
+ask_why w = command.Why (record { 0 = w })
 
 abbrev pub chain_questions : List Command
-chain_questions = command.Goto 14 ∷ command.WhyFlush 0 ∷ command.Step 1 ∷ command.WhyFlush 0 ∷ why 2 ∷ why 5 ∷ command.WhyFlush 1 ∷ []
+chain_questions = command.Goto 14 ∷ command.WhyFlush 0 ∷ command.Step 1 ∷ command.WhyFlush 0 ∷ ask_why 2 ∷ ask_why 5 ∷ command.WhyFlush 1 ∷ []
 
 abbrev pub chain_at_15 : List ℕ
 chain_at_15 =
@@ -190,13 +190,13 @@ chain_at_15 =
 -- the flush is the last instruction, and there are five works
 abbrev pub chain_answers : List (Result Answer DebugError)
 chain_answers =
-    at 14 2 ∷ Err error.NoSuchFlush ∷ at 15 2 ∷ Ok (Text chain_at_15) ∷ Ok (Text (text (codes "x listed 0: held by c d" ∷ [])))
+    stands_at 14 2 ∷ Err error.NoSuchFlush ∷ stands_at 15 2 ∷ Ok (Text chain_at_15) ∷ Ok (Text (text (codes "x listed 0: held by c d" ∷ [])))
     ∷ Err error.NoSuchWork ∷ Err error.NoSuchFlush ∷ []
 
 -- b waits for a's place in their queue.
 
 abbrev pub hold_questions : List Command
-hold_questions = command.Goto 13 ∷ command.WhyFlush 0 ∷ command.Goto 21 ∷ command.WhyFlush 0 ∷ why 1 ∷ command.Back 3 ∷ why 1 ∷ why 0 ∷ []
+hold_questions = command.Goto 13 ∷ command.WhyFlush 0 ∷ command.Goto 21 ∷ command.WhyFlush 0 ∷ ask_why 1 ∷ command.Back 3 ∷ ask_why 1 ∷ ask_why 0 ∷ []
 
 abbrev pub hold_at_13 : List ℕ
 hold_at_13 =
@@ -205,6 +205,6 @@ hold_at_13 =
 
 abbrev pub hold_answers : List (Result Answer DebugError)
 hold_answers =
-    at 13 3 ∷ Ok (Text hold_at_13) ∷ at 21 6 ∷ Ok (Text (text (codes "flush 0 done" ∷ [])))
-    ∷ Ok (Text (text (codes "b not pending" ∷ []))) ∷ at 18 5 ∷ Ok (Text (text (codes "b ready, goes on next" ∷ [])))
+    stands_at 13 3 ∷ Ok (Text hold_at_13) ∷ stands_at 21 6 ∷ Ok (Text (text (codes "flush 0 done" ∷ [])))
+    ∷ Ok (Text (text (codes "b not pending" ∷ []))) ∷ stands_at 18 5 ∷ Ok (Text (text (codes "b ready, goes on next" ∷ [])))
     ∷ Ok (Text (text (codes "a not pending" ∷ []))) ∷ []

@@ -7,7 +7,7 @@ use Rattle.cmwq_types.specs.declared.scenario.Line.{Line}
 use Rattle.cmwq_types.specs.declared.scenario.Op.TheVariants as op
 use Rattle.cmwq_table.specs.Table.{run}
 use Rattle.cmwq_dump.specs.Dump.{dump, pool_lines}
-use Rattle.cmwq_examples.specs.Declare.{delay, delay_on, disable, enqueue, flush, freezable, queue, queues, scenario, set_max, times, unbound, work}
+use Rattle.cmwq_examples.specs.Declare.{delay, delay_on, disable, enqueue, flush, freezable, queue, queues, scenario, set_max_to, times, unbound, work}
 use Rattle.cmwq_examples.specs.Rows.{text}
 
 -- the dump of a scenario once these lines were carried out
@@ -34,7 +34,7 @@ abbrev pub many_kinds_lines : List Line
 many_kinds_lines =
     enqueue 0 0 ∷ enqueue 1 0 ∷ enqueue 2 0 ∷ enqueue 3 0 ∷ enqueue 4 0 ∷ times instr.Next 21
     ∷ enqueue 5 0 ∷ enqueue 6 0 ∷ times instr.Next 3 ∷ delay 10 20 ∷ delay 9 20 ∷ enqueue 7 0 ∷ enqueue 8 0
-    ∷ flush 3 ∷ flush 0 ∷ set_max 0 9 ∷ times instr.Freeze 1 ∷ times instr.Pressure 1 ∷ disable 2 ∷ disable 0 ∷ disable 2 ∷ []
+    ∷ flush 3 ∷ flush 0 ∷ set_max_to 0 9 ∷ times instr.Freeze 1 ∷ times instr.Pressure 1 ∷ disable 2 ∷ disable 0 ∷ disable 2 ∷ []
 
 -- memory is short; worker 1 became idle after worker 0; b wakes before a, which began to sleep first; h was set before g; u was disabled before s, and
 -- after it
@@ -52,8 +52,8 @@ abbrev pub many_kinds_pool_1 : List ℕ
 many_kinds_pool_1 = text (codes "pool 1 counted 0 made 0 idle" ∷ [])
 
 -- Two CPUs: a and b run in the unbound pool, c and d sleep, and more; e, f and g share a queue of one.
-abbrev pub two_cpus : ScenarioContents
-two_cpus =
+abbrev pub busy_cpus : ScenarioContents
+busy_cpus =
     record
     (scenario 1000
     (queue (codes "q") 8 plain_flags ∷ queue (codes "u") 8 unbound ∷ queue (codes "i") 1 plain_flags ∷ [])
@@ -64,8 +64,8 @@ two_cpus =
     { cpus = 2 }
 
 -- each group's later works come first; d and c are queued again while they sleep, and j's timer is set first
-abbrev pub two_cpus_lines : List Line
-two_cpus_lines =
+abbrev pub busy_cpus_lines : List Line
+busy_cpus_lines =
     enqueue 3 0 ∷ enqueue 2 0 ∷ enqueue 1 0 ∷ enqueue 0 1 ∷ times instr.Next 9 ∷ enqueue 3 0 ∷ enqueue 2 1
     ∷ times instr.Next 2 ∷ enqueue 7 1 ∷ enqueue 6 1 ∷ enqueue 5 1 ∷ enqueue 4 1 ∷ delay_on 8 0 9 ∷ delay_on 9 1 5 ∷ []
 

@@ -2,8 +2,8 @@
 //! one dump reads, or what is said to some commands. No other crate stands on this one.
 #![tactic(auto)]
 
-ghost use Rattle.cmwq_debug_examples.specs.Debugged.{debugged, chain_answers, chain_questions, disabled_breaks, disabled_breaks_answers, each_event, each_event_answers, each_event_breaks, event_breaks, event_breaks_answers, hold_answers, hold_questions, instrs_of, many_breaks, many_breaks_answers, refusal_breaks, refusal_breaks_answers, refusals, rescuer_breaks, rescuer_breaks_answers, there_and_back, there_and_back_answers};
-ghost use Rattle.cmwq_debug_examples.specs.Dumps.{dumped, many_kinds, many_kinds_dump, many_kinds_lines, many_kinds_pool_1, pool_dumped, two_cpus, two_cpus_dump, two_cpus_lines};
+ghost use Rattle.cmwq_debug_examples.specs.Debugged.{commands_answered, chain_answers, chain_questions, disabled_breaks, disabled_breaks_answers, each_event, each_event_answers, each_event_breaks, event_breaks, event_breaks_answers, hold_answers, hold_questions, all_instrs, many_breaks, many_breaks_answers, refusal_breaks, refusal_breaks_answers, refusals, rescuer_breaks, rescuer_breaks_answers, there_and_back, there_and_back_answers};
+ghost use Rattle.cmwq_debug_examples.specs.Dumps.{dumped, many_kinds, many_kinds_dump, many_kinds_lines, many_kinds_pool_1, pool_dumped, busy_cpus, two_cpus_dump, busy_cpus_lines};
 ghost use Rattle.cmwq_examples.specs.Rows.{disabled_twice, pressed, queues_itself, three_works};
 ghost use Rattle.cmwq_reason_examples.specs.Waiting.{chain, hold};
 ghost use Rattle.cmwq_types.specs.Faults.{IsValid};
@@ -24,63 +24,63 @@ pub fn dump_of_a_pool_is_its_part()
 /// A dump of two CPUs and the unbound pools: the works of each group stand by what the format says, not by their numbers,
 /// and a timer has its CPU.
 pub fn dump_keeps_each_order()
-    ensures { dumped two_cpus two_cpus_lines ≡ two_cpus_dump }
+    ensures { dumped busy_cpus busy_cpus_lines ≡ two_cpus_dump }
 {}
 
 /// The kernel document's scenario: at position 12 one work burns, one sleeps and one waits. What is refused leaves
 /// the debugger where it stands.
 pub fn debugger_goes_there_and_back()
-    ensures { debugged (three_works 3 41) (instrs_of (three_works 3 41)) there_and_back ≡ there_and_back_answers }
+    ensures { commands_answered (three_works 3 41) (all_instrs (three_works 3 41)) there_and_back ≡ there_and_back_answers }
 {}
 
 /// An event of two kinds matches a break on each; the lowest is said; a cleared one matches no more, and the next
 /// break takes its place.
 pub fn lowest_break_is_said()
-    ensures { debugged queues_itself (instrs_of queues_itself) event_breaks ≡ event_breaks_answers }
+    ensures { commands_answered queues_itself (all_instrs queues_itself) event_breaks ≡ event_breaks_answers }
 {}
 
 /// A break on each kind of event stops a run at its work's event, and at no other work's; from there on, steps are counted
 /// and pools are dumped.
 pub fn each_kind_of_event_is_met()
-    ensures { debugged each_event (instrs_of each_event) each_event_breaks ≡ each_event_answers }
+    ensures { commands_answered each_event (all_instrs each_event) each_event_breaks ≡ each_event_answers }
 {}
 
 /// A break on `queues` stops a run where the body of its work finds another one disabled, and not at the work that is
 /// disabled; the dump there has the depth.
 pub fn disabled_work_is_not_queued()
-    ensures { debugged disabled_twice (instrs_of disabled_twice) disabled_breaks ≡ disabled_breaks_answers }
+    ensures { commands_answered disabled_twice (all_instrs disabled_twice) disabled_breaks ≡ disabled_breaks_answers }
 {}
 
 /// A break on `starts` stops a run where a rescuer takes its work; the dump there says that memory is short, and names no worker
 /// for the work. After the relief the machine is dumped as ever.
 pub fn rescuer_starts_its_work()
-    ensures { debugged pressed (instrs_of pressed) rescuer_breaks ≡ rescuer_breaks_answers }
+    ensures { commands_answered pressed (all_instrs pressed) rescuer_breaks ≡ rescuer_breaks_answers }
 {}
 
 /// A break on a time is for the instruction that makes the time so, never for one that is refused then.
 pub fn refused_instruction_makes_no_time()
-    ensures { debugged queues_itself refusals refusal_breaks ≡ refusal_breaks_answers }
+    ensures { commands_answered queues_itself refusals refusal_breaks ≡ refusal_breaks_answers }
 {}
 
 /// There are sixteen places for breaks; a work that isn't there is told before that they are taken.
 pub fn seventeenth_break_is_refused()
-    ensures { debugged queues_itself [] many_breaks ≡ many_breaks_answers }
+    ensures { commands_answered queues_itself [] many_breaks ≡ many_breaks_answers }
 {}
 
 /// A flush that wasn't given yet is refused; then its lines go down the chain of waits, and a work's line is one of them.
 pub fn flush_waits_in_a_chain()
-    ensures { debugged chain (instrs_of chain) chain_questions ≡ chain_answers }
+    ensures { commands_answered chain (all_instrs chain) chain_questions ≡ chain_answers }
 {}
 
 /// A flush waits for two works while the first one has its queue's place, and is done when both have ended. Looking back tells
 /// of the state there.
 pub fn flush_is_done()
-    ensures { debugged hold (instrs_of hold) hold_questions ≡ hold_answers }
+    ensures { commands_answered hold (all_instrs hold) hold_questions ≡ hold_answers }
 {}
 
 /// The scenarios that stand here are valid.
 pub fn scenarios_are_valid()
     ensures many_kinds { IsValid many_kinds }
-    ensures two_cpus { IsValid two_cpus }
+    ensures busy_cpus { IsValid busy_cpus }
     ensures each_event { IsValid each_event }
 {}

@@ -13,13 +13,13 @@ use Rattle.cmwq_debug_lines.specs.declared.order.Order.{Order}
 use Rattle.cmwq_debug_lines.specs.declared.order.Order.TheVariants.{Nothing, Bad, NoWork, Do}
 
 -- a command with the number that was read
-abbrev pub numbered : (ℕ → Command) → Result ℕ Why → Order
-numbered make (Ok n) = Do (make n)
-numbered make (Err why) = Bad
+abbrev pub number_order : (ℕ → Command) → Result ℕ Why → Order
+number_order make (Ok n) = Do (make n)
+number_order make (Err why) = Bad
 
 -- a command with the number that is the last word, at most this high
 abbrev pub with_number : (ℕ → Command) → ℕ → List (List ℕ) → Order
-with_number make high words = numbered make (last (number_within 0 high words))
+with_number make high words = number_order make (last (number_within 0 high words))
 
 -- an order behind which no word stands
 abbrev pub only : Order → List (List ℕ) → Order

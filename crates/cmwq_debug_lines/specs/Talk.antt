@@ -35,20 +35,20 @@ error_name error.NoMemory = codes "NoMemory"
 abbrev pub refused_text : DebugError → List ℕ
 refused_text why = codes "refused " ++ error_name why ++ 10 ∷ []
 
-abbrev pub told : Result Answer DebugError → List ℕ
-told (Ok answer) = answer_text answer
-told (Err why) = refused_text why
+abbrev pub answer_line : Result Answer DebugError → List ℕ
+answer_line (Ok answer) = answer_text answer
+answer_line (Err why) = refused_text why
 
 -- where the debugger stands after an order, and what is said to it
-abbrev pub ordered : Session → Order → Session × List ℕ
-ordered d Nothing = (d, [])
-ordered d Bad = (d, codes "bad command" ++ 10 ∷ [])
-ordered d NoWork = (d, refused_text error.NoSuchWork)
-ordered d (Do command) = ((does d command).0, told (does d command).1)
+abbrev pub obeyed : Session → Order → Session × List ℕ
+obeyed d Nothing = (d, [])
+obeyed d Bad = (d, codes "bad command" ++ 10 ∷ [])
+obeyed d NoWork = (d, refused_text error.NoSuchWork)
+obeyed d (Do command) = ((does d command).0, answer_line (does d command).1)
 
 -- the same after a line; S has the names of works
 unfoldable pub line_said : ScenarioContents → Session → List ℕ → Session × List ℕ
-line_said S d line = ordered d (order_of S (words_of line))
+line_said S d line = obeyed d (order_of S (words_of line))
 
 -- what is said to the lines, one after another
 abbrev pub lines_said : ScenarioContents → Session → List (List ℕ) → List ℕ

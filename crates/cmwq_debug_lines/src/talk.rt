@@ -1,6 +1,6 @@
 //! What is said to a command line.
 ghost use Rattle.cmwq_debug.specs.Debugging.{At, answer_of, does};
-ghost use Rattle.cmwq_debug_lines.specs.Talk.{answer_text, error_name, line_said, ordered, refused_text, told};
+ghost use Rattle.cmwq_debug_lines.specs.Talk.{answer_text, error_name, line_said, obeyed, refused_text, answer_line};
 ghost use Rattle.cmwq_types.specs.declared.limits.TheConstants.{MAX_WORKS};
 ghost use Rattle.std.specs.Prelude.{◌≡◌, ◌≤◌, IfOk, OnOk, length};
 
@@ -38,8 +38,8 @@ fn obey<M: Machine>(
     debugger: &mut Debugger<M>,
     order: Order,
 ) -> Result<Vec<u8>, NoMemory>
-    ensures debugger { OnOk result (debugger.new ≡ (ordered debugger.old order).0) }
-    ensures text { IfOk result (λ text. text.items ≡ (ordered debugger.old order).1) }
+    ensures debugger { OnOk result (debugger.new ≡ (obeyed debugger.old order).0) }
+    ensures text { IfOk result (λ text. text.items ≡ (obeyed debugger.old order).1) }
 {
     match order {
         Order::Nothing => Ok(Vec::new(alloc)),
@@ -56,7 +56,7 @@ fn carry_out<M: Machine>(
     command: Command,
 ) -> Result<Vec<u8>, NoMemory>
     ensures debugger { OnOk result (debugger.new ≡ (does debugger.old command).0) }
-    ensures text { IfOk result (λ text. text.items ≡ told (does debugger.old command).1) }
+    ensures text { IfOk result (λ text. text.items ≡ answer_line (does debugger.old command).1) }
 {
     match debugger.command(command) {
         Ok(said) => said_text(alloc, said),

@@ -60,8 +60,8 @@ pub record Talks (input left before after : Option (List ℕ)) (unreadable broke
   pub why : IfErr result (λ error. IsTalkError error)
 
 -- The scenario can be debugged, and to the input, where it is known, was said what is to be said.
-abbrev pub IsTold : (input before after : Option (List ℕ)) → ScenarioContents → Type 0
-IsTold input before after S = (actor : ActorContents) × IsRunOf S actor × IfSome input (λ bytes. Appends before after (debugged S (expand actor) bytes))
+abbrev pub IsDebugged : (input before after : Option (List ℕ)) → ScenarioContents → Type 0
+IsDebugged input before after S = (actor : ActorContents) × IsRunOf S actor × IfSome input (λ bytes. Appends before after (debugged S (expand actor) bytes))
 
 -- of what is to be said to the input, where it is known, a front was said
 abbrev pub IsFrontTold : (input before after : Option (List ℕ)) → ScenarioContents → Type 0

@@ -3,7 +3,7 @@ ghost use Rattle.cmwq_debug_lines.specs.Talk.{line_said, lines_said};
 ghost use Rattle.cmwq_grammar.specs.Cutting.{lines_of};
 ghost use Rattle.cmwq_streams.specs.Sending.{HasSentFront, IsSendError};
 ghost use Rattle.cmwq_play.specs.Commands.{Reads};
-ghost use Rattle.cmwq_debug_session.specs.Told.{HasNoLine, IsFrontTold, IsTalkError, IsTalked, IsTold, Talks, Told, ToldFront};
+ghost use Rattle.cmwq_debug_session.specs.Told.{HasNoLine, IsFrontTold, IsTalkError, IsTalked, IsDebugged, Talks, Told, ToldFront};
 ghost use Rattle.cmwq_play.specs.Runs.{CanRun, IsRefused, IsRunOf};
 ghost use Rattle.cmwq_debug.specs.Debugging.{opened};
 ghost use Rattle.cmwq_types.specs.Faults.{IsValid};
@@ -137,7 +137,7 @@ pub fn debug<R: Source, W: Sink>(
     requires commands { R.failed commands.old ≡ false }
     requires writer { W.failed writer.old ≡ false }
     ensures reads { Reads (R.remaining commands.old) (R.remaining commands.new) (R.failed commands.new) result }
-    ensures told { OnOk result (IsTold (R.remaining commands.old) (W.contents writer.old) (W.contents writer.new) scenario) }
+    ensures told { OnOk result (IsDebugged (R.remaining commands.old) (W.contents writer.old) (W.contents writer.new) scenario) }
     ensures front { OnErr result (IsFrontTold (R.remaining commands.old) (W.contents writer.old) (W.contents writer.new) scenario) }
     // What was read has been answered, each whole line of it, where a read fails.
     ensures answered { result ≡ Err PlayError.Read → IsTalked (R.remaining commands.old) (R.remaining commands.new) (W.contents writer.old) (W.contents writer.new) scenario }

@@ -5,8 +5,8 @@ use Rattle.cmwq_types.specs.declared.scenario.QueueDecl.{QueueDecl}
 use Rattle.cmwq_draft.specs.declared.declarations.QueueLine.{QueueLine}
 use Rattle.cmwq_draft.specs.declared.declarations.WorkLine.{WorkLine}
 
-abbrev pub queue_of : QueueLine → QueueDecl
-queue_of line = record { name = line.name; max = line.max; flags = line.flags }
+abbrev pub queue_of_line : QueueLine → QueueDecl
+queue_of_line line = record { name = line.name; max = line.max; flags = line.flags }
 
-abbrev pub work_of : WorkLine → WorkContents
-work_of line = record { name = line.name; queue = line.queue; body = [] }
+abbrev pub work_of_line : WorkLine → WorkContents
+work_of_line line = record { name = line.name; queue = line.queue; body = [] }

@@ -1,5 +1,5 @@
 //! The lines that declare queues and works: `queue NAME max N FLAG..` and `work NAME QUEUE`.
-ghost use Rattle.cmwq_draft.specs.Declarations.{queue_of, work_of};
+ghost use Rattle.cmwq_draft.specs.Declarations.{queue_of_line, work_of_line};
 ghost use Rattle.cmwq_grammar.specs.Instructions.{queue_names, work_names};
 ghost use Rattle.cmwq_grammar.specs.Reasons.{add_flag, flags_at, queue_at_line, work_at_line};
 ghost use Rattle.cmwq_scan.specs.Answers.{Tells};
@@ -37,7 +37,7 @@ pub struct WorkLine<'t> {
 /// The queue that is behind the word `queue`, or the first reason against these words. Whether its `max` and its flags fit isn't judged.
 #[tactic(auto, unfolding(cmwq_grammar::specs::Reasons::queue_at_line))]
 pub fn read_queue_line<'t>(draft: &Draft<'t>, rest: &'t [u8]) -> Result<QueueLine<'t>, Why>
-    ensures line { Tells queue_of result (queue_at_line draft.now (words_left rest.now)) }
+    ensures line { Tells queue_of_line result (queue_at_line draft.now (words_left rest.now)) }
     ensures new { IfOk result (λ queue. list_any (λ other. bytes_eq other queue.name) (queue_names draft.now) ≡ false) }
 {
     let (name, rest) = take_new_name(draft.queue_names(), rest)?;
@@ -90,7 +90,7 @@ fn add_flag(flags: Flags, word: &[u8]) -> Result<Flags, Why>
 
 /// Whether the queue's `max` is within its limits, and 1 where the queue is ordered.
 pub fn fits_flags(queue: &QueueLine) -> bool
-    ensures { result ≡ fits_flags (queue_of queue.now) }
+    ensures { result ≡ fits_flags (queue_of_line queue.now) }
 {
     let in_range = 1 <= queue.max && queue.max <= u64::from(MAX_MAX_ACTIVE);
     in_range && (!queue.flags.ordered || queue.max == 1)
@@ -99,7 +99,7 @@ pub fn fits_flags(queue: &QueueLine) -> bool
 /// The work that is behind the word `work`, or the first reason against these words.
 #[tactic(auto, using(cmwq_scan::proofs::LineSteps::line_steps), unfolding(cmwq_grammar::specs::Reasons::work_at_line))]
 pub fn read_work_line<'t>(draft: &Draft<'t>, rest: &'t [u8]) -> Result<WorkLine<'t>, Why>
-    ensures line { Tells work_of result (work_at_line draft.now (words_left rest.now)) }
+    ensures line { Tells work_of_line result (work_at_line draft.now (words_left rest.now)) }
     ensures new { IfOk result (λ work. list_any (λ other. bytes_eq other work.name) (work_names draft.now) ≡ false) }
 {
     let (name, rest) = take_new_name(draft.work_names(), rest)?;

@@ -31,14 +31,14 @@ is_in s timed w = pends (λ at. not (is_placed at)) (pending_at s w)
 is_in s disabled w = is_disabled s w
 
 -- sleepers by (until, stamp), timers by (due, stamp), disabled works by number, all others by stamp
-abbrev pub comes_before : State → Group → ℕ → ℕ → Bool
-comes_before s (runnable pool) = running_before s
-comes_before s (asleep pool) = by_least_two (λ w. running_until (running_at s w)) (λ w. running_stamp (running_at s w))
-comes_before s (listed pool) = pending_before s
-comes_before s (deferred pool) = pending_before s
-comes_before s (inactive pool) = pending_before s
-comes_before s timed = by_least_two (λ w. pending_due (pending_at s w)) (λ w. pending_stamp (pending_at s w))
-comes_before s disabled = by_least (λ w. w)
+abbrev pub is_dumped_before : State → Group → ℕ → ℕ → Bool
+is_dumped_before s (runnable pool) = running_before s
+is_dumped_before s (asleep pool) = by_least_two (λ w. running_until (running_at s w)) (λ w. running_stamp (running_at s w))
+is_dumped_before s (listed pool) = pending_before s
+is_dumped_before s (deferred pool) = pending_before s
+is_dumped_before s (inactive pool) = pending_before s
+is_dumped_before s timed = by_least_two (λ w. pending_due (pending_at s w)) (λ w. pending_stamp (pending_at s w))
+is_dumped_before s disabled = by_least (λ w. w)
 
 -- What a line says of a work that may not be pending, or not run.
 
@@ -65,8 +65,8 @@ timer_cpu (Some p) = cpu_of p.place
 timer_cpu None = 0
 
 -- a word and the name of a work
-abbrev pub named : ScenarioContents → List ℕ → ℕ → List ℕ
-named S word w = word ++ (work_at S w).name
+abbrev pub word_and_name : ScenarioContents → List ℕ → ℕ → List ℕ
+word_and_name S word w = word ++ (work_at S w).name
 
 -- a number behind a space
 abbrev pub spaced : ℕ → List ℕ
@@ -79,37 +79,37 @@ at_worker r = 32 ∷ worker_number (worker_of r) ++ spaced (pc_of r)
 -- The lines of works, by what is told of them.
 
 abbrev pub run_line : ScenarioContents → State → ℕ → List ℕ
-run_line S s w = named S (codes "run ") w ++ at_worker (running_at s w) ++ spaced (left_of (running_at s w)) ++ 10 ∷ []
+run_line S s w = word_and_name S (codes "run ") w ++ at_worker (running_at s w) ++ spaced (left_of (running_at s w)) ++ 10 ∷ []
 
 abbrev pub asleep_line : ScenarioContents → State → ℕ → List ℕ
-asleep_line S s w = named S (codes "asleep ") w ++ at_worker (running_at s w) ++ spaced (running_until (running_at s w)) ++ 10 ∷ []
+asleep_line S s w = word_and_name S (codes "asleep ") w ++ at_worker (running_at s w) ++ spaced (running_until (running_at s w)) ++ 10 ∷ []
 
 -- the line that has no more than a word and the name
 abbrev pub name_line : ScenarioContents → List ℕ → ℕ → List ℕ
-name_line S word w = named S word w ++ 10 ∷ []
+name_line S word w = word_and_name S word w ++ 10 ∷ []
 
 abbrev pub timer_line : ScenarioContents → State → ℕ → List ℕ
-timer_line S s w = named S (codes "timer ") w ++ spaced (timer_cpu (pending_at s w)) ++ spaced (pending_due (pending_at s w)) ++ 10 ∷ []
+timer_line S s w = word_and_name S (codes "timer ") w ++ spaced (timer_cpu (pending_at s w)) ++ spaced (pending_due (pending_at s w)) ++ 10 ∷ []
 
 abbrev pub disabled_line : ScenarioContents → State → ℕ → List ℕ
-disabled_line S s w = named S (codes "disabled ") w ++ spaced (depth_at s w) ++ 10 ∷ []
+disabled_line S s w = word_and_name S (codes "disabled ") w ++ spaced (depth_at s w) ++ 10 ∷ []
 
 -- the line of a work in the group
-abbrev pub work_line : ScenarioContents → State → Group → ℕ → List ℕ
-work_line S s (runnable pool) w = run_line S s w
-work_line S s (asleep pool) w = asleep_line S s w
-work_line S s (listed pool) w = name_line S (codes "listed ") w
-work_line S s (deferred pool) w = name_line S (codes "deferred ") w
-work_line S s (inactive pool) w = name_line S (codes "inactive ") w
-work_line S s timed w = timer_line S s w
-work_line S s disabled w = disabled_line S s w
+abbrev pub dumped_work : ScenarioContents → State → Group → ℕ → List ℕ
+dumped_work S s (runnable pool) w = run_line S s w
+dumped_work S s (asleep pool) w = asleep_line S s w
+dumped_work S s (listed pool) w = name_line S (codes "listed ") w
+dumped_work S s (deferred pool) w = name_line S (codes "deferred ") w
+dumped_work S s (inactive pool) w = name_line S (codes "inactive ") w
+dumped_work S s timed w = timer_line S s w
+dumped_work S s disabled w = disabled_line S s w
 
 -- the works of the group, in order
 abbrev pub members : ScenarioContents → State → Group → List ℕ
-members S s group = all_below (comes_before s group) (is_in s group) (length S.works)
+members S s group = all_below (is_dumped_before s group) (is_in s group) (length S.works)
 
 abbrev pub group_lines : ScenarioContents → State → Group → List ℕ
-group_lines S s group = flat_map (work_line S s group) (members S s group)
+group_lines S s group = flat_map (dumped_work S s group) (members S s group)
 
 -- Pools.
 
@@ -131,27 +131,27 @@ pool_lines S s pool =
 
 -- The whole.
 
-abbrev pub yes_or_no : Bool → List ℕ
-yes_or_no true = codes "yes"
-yes_or_no false = codes "no"
+abbrev pub yes_or_no_text : Bool → List ℕ
+yes_or_no_text true = codes "yes"
+yes_or_no_text false = codes "no"
 
 abbrev pub clock_line : State → List ℕ
 clock_line s =
-    codes "now " ++ decimal s.time ++ codes " spent " ++ decimal s.spent ++ codes " frozen " ++ yes_or_no s.frozen ++ 10 ∷ []
+    codes "now " ++ decimal s.time ++ codes " spent " ++ decimal s.spent ++ codes " frozen " ++ yes_or_no_text s.frozen ++ 10 ∷ []
 
 -- a line of a pressed machine alone
 abbrev pub pressed_line : State → List ℕ
 pressed_line s = if s.pressed then codes "pressed" ++ 10 ∷ [] else []
 
-abbrev pub queue_line : ScenarioContents → State → ℕ → List ℕ
-queue_line S s queue = codes "queue " ++ (queue_at S queue).name ++ codes " max " ++ decimal (max_at s queue) ++ 10 ∷ []
+abbrev pub dumped_queue : ScenarioContents → State → ℕ → List ℕ
+dumped_queue S s queue = codes "queue " ++ (queue_at S queue).name ++ codes " max " ++ decimal (max_at s queue) ++ 10 ∷ []
 
 abbrev pub flush_line : ScenarioContents → State → ℕ → List ℕ
 flush_line S s flush =
-    codes "flush " ++ decimal flush ++ codes " " ++ yes_or_no (is_done S s (target_at s flush)) ++ 10 ∷ []
+    codes "flush " ++ decimal flush ++ codes " " ++ yes_or_no_text (is_done S s (target_at s flush)) ++ 10 ∷ []
 
 -- the dump text of a state of the scenario
 abbrev pub dump : ScenarioContents → State → List ℕ
 dump S s =
-    clock_line s ++ pressed_line s ++ each_below (queue_line S s) (length S.queues) ++ each_below (pool_lines S s) (pool_count S)
+    clock_line s ++ pressed_line s ++ each_below (dumped_queue S s) (length S.queues) ++ each_below (pool_lines S s) (pool_count S)
     ++ group_lines S s timed ++ group_lines S s disabled ++ each_below (flush_line S s) (length s.flushes)

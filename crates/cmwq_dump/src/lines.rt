@@ -1,5 +1,5 @@
 //! The lines of a dump.
-ghost use Rattle.cmwq_dump.specs.Dump.{asleep_line, at_worker, clock_line, cpu_of, disabled_line, dump, flush_line, group_lines, idle_workers, left_of, name_line, pc_of, pool_line, pool_lines, pressed_line, queue_line, run_line, spaced, timer_cpu, timer_line, work_line, worker_of, yes_or_no};
+ghost use Rattle.cmwq_dump.specs.Dump.{asleep_line, at_worker, clock_line, cpu_of, disabled_line, dump, flush_line, group_lines, idle_workers, left_of, name_line, pc_of, pool_line, pool_lines, pressed_line, dumped_queue, run_line, spaced, timer_cpu, timer_line, dumped_work, worker_of, yes_or_no_text};
 ghost use Rattle.cmwq_dump.specs.Order.{each_below};
 ghost use Rattle.cmwq_table.specs.Counts.{pending_due, running_until};
 ghost use Rattle.cmwq_types.specs.Contents.{ScenarioContents};
@@ -50,7 +50,7 @@ impl<R: Reads> Dumping<'_, R> {
 
     fn push_queues(&self, text: &mut String) -> Result<(), NoMemory>
         ensures { OnOk result (string_bytes text.new ≡ string_bytes text.old
-            ++ each_below (queue_line self.now.scenario self.now.state) (length self.now.scenario.queues)) }
+            ++ each_below (dumped_queue self.now.scenario self.now.state) (length self.now.scenario.queues)) }
     {
         for queue in 0..self.machine.scenario().queues.len() as u8 {
             self.push_queue(text, queue)?;
@@ -59,7 +59,7 @@ impl<R: Reads> Dumping<'_, R> {
     }
 
     fn push_queue(&self, text: &mut String, queue: u8) -> Result<(), NoMemory>
-        ensures { OnOk result (string_bytes text.new ≡ string_bytes text.old ++ queue_line self.now.scenario self.now.state queue) }
+        ensures { OnOk result (string_bytes text.new ≡ string_bytes text.old ++ dumped_queue self.now.scenario self.now.state queue) }
     {
         let name = self.machine.scenario().queue_name(queue as usize);
         let max = self.machine.max_of(queue);
@@ -117,7 +117,7 @@ impl<R: Reads> Dumping<'_, R> {
 
     /// Writes the line of a work of the group.
     fn push_work(&self, text: &mut String, group: Group, w: usize) -> Result<(), NoMemory>
-        ensures { OnOk result (string_bytes text.new ≡ string_bytes text.old ++ work_line self.now.scenario self.now.state group w) }
+        ensures { OnOk result (string_bytes text.new ≡ string_bytes text.old ++ dumped_work self.now.scenario self.now.state group w) }
     {
         match group {
             Group::Running(_) => self.push_run(text, w),
@@ -263,7 +263,7 @@ fn cpu_of(place: Place) -> u8
 }
 
 fn yes_or_no(holds: bool) -> &'static str
-    ensures { result.now ≡ yes_or_no holds }
+    ensures { result.now ≡ yes_or_no_text holds }
 {
     if holds { "yes" } else { "no" }
 }

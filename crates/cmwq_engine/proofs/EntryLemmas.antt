@@ -8,7 +8,7 @@ use Rattle.cmwq_types.specs.declared.reply.Reply.{Reply}
 use Rattle.cmwq_table.proofs.RunLemmas.{after_all-append, replies_from-append}
 use Rattle.cmwq_table.specs.State.{State, start}
 use Rattle.cmwq_table.specs.Table.{after_all, replies_from, table}
-use Rattle.cmwq_engine.specs.Engine.{Contents, IsSound, contents_of, entered, reply_to}
+use Rattle.cmwq_engine.specs.Engine.{Contents, IsSound, contents_of, entered, engine_reply}
 use Rattle.cmwq_engine.specs.History.{instrs_of, replies_of}
 use Rattle.cmwq_engine.specs.declared.history.Entry.{Entry}
 
@@ -28,7 +28,7 @@ module _ (e : Contents) (new : Entry) (sound : IsSound e) where
       ∙ sym (after_all-append S (start S) before (new.instr ∷ []))
       ∙ ap (after_all S (start S)) (sym instrs_more)
 
-  answered_more : new.reply ≡ reply_to e new.instr → replies_of (e.history ++ new ∷ []) ≡ replies_from S (start S) (instrs_of (e.history ++ new ∷ []))
+  answered_more : new.reply ≡ engine_reply e new.instr → replies_of (e.history ++ new ∷ []) ≡ replies_from S (start S) (instrs_of (e.history ++ new ∷ []))
   answered_more answers =
       map-append (λ (f : Entry). f.reply) e.history (new ∷ [])
       ∙ ap (λ (rs : List Reply). rs ++ new.reply ∷ []) sound.legal.answered
@@ -36,7 +36,7 @@ module _ (e : Contents) (new : Entry) (sound : IsSound e) where
       ∙ sym (replies_from-append S (start S) before (new.instr ∷ []))
       ∙ ap (replies_from S (start S)) (sym instrs_more)
 
-  sound_entered : All (λ (f : Entry). f.ticket < new.ticket) e.history → length e.history < e.setting.capacity → new.reply ≡ reply_to e new.instr → IsSound (entered e new)
+  sound_entered : All (λ (f : Entry). f.ticket < new.ticket) e.history → length e.history < e.setting.capacity → new.reply ≡ engine_reply e new.instr → IsSound (entered e new)
   sound_entered later room answers = record {
     valid = sound.valid;
     legal = record {

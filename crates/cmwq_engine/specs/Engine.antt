@@ -55,8 +55,8 @@ abbrev pub entry : ℕ → ℕ → Instr → Reply → Entry
 entry ticket caller instr reply = record { ticket = ticket; caller = caller; instr = instr; reply = reply }
 
 -- the table's reply to an instruction
-abbrev pub reply_to : Contents → Instr → Reply
-reply_to e instr = (table e.setting.scenario e.state instr).1
+abbrev pub engine_reply : Contents → Instr → Reply
+engine_reply e instr = (table e.setting.scenario e.state instr).1
 
 -- the engine with one entry more: the machine has carried out its instruction
 abbrev pub entered : Contents → Entry → Contents

@@ -83,6 +83,6 @@ IfFull Full fact = fact
 IfFull Exhausted fact = Unit {0}
 
 -- a fact where no ticket is left
-abbrev pub IfExhausted : IssueError → Type 0 → Type 0
-IfExhausted Full fact = Unit {0}
-IfExhausted Exhausted fact = fact
+abbrev pub IfNoTicket : IssueError → Type 0 → Type 0
+IfNoTicket Full fact = Unit {0}
+IfNoTicket Exhausted fact = fact

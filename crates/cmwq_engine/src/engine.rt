@@ -1,5 +1,5 @@
 //! The engine: a machine with its history.
-ghost use Rattle.cmwq_engine.specs.Engine.{IsSound, Opens, entered, entry, opening, reply_to};
+ghost use Rattle.cmwq_engine.specs.Engine.{IsSound, Opens, entered, entry, opening, engine_reply};
 ghost use Rattle.cmwq_table.specs.State.{start};
 ghost use Rattle.cmwq_types.specs.Faults.{IsValid};
 ghost use Rattle.cmwq_types.specs.declared.limits.TheConstants.{MAX_HISTORY};
@@ -86,7 +86,7 @@ impl<M: Machine> Engine<M> {
     /// `Full` exactly where the history has as many entries as there is room for; then nothing has changed.
     pub fn issue(&mut self, ticket: u64, caller: u32, instr: Instr) -> Result<Reply, Full>
         requires later { All (λ e. e.ticket < ticket) self.old.history }
-        ensures reply { IfOk result (λ reply. reply ≡ reply_to self.old instr) }
+        ensures reply { IfOk result (λ reply. reply ≡ engine_reply self.old instr) }
         ensures entered { IfOk result (λ reply. self.new ≡ entered self.old (entry ticket caller instr reply)) }
         ensures full { IsErr result ↔ length self.old.history ≡ self.old.setting.capacity }
         ensures same { IfErr result (λ _. self.new ≡ self.old) }

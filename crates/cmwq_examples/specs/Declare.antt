@@ -80,8 +80,8 @@ abbrev pub flush_queue : ℕ → Line
 flush_queue q = record { instr = instr.FlushQueue (record { 0 = q }); times = 1 }
 
 -- `set_max Q N`
-abbrev pub set_max : ℕ → ℕ → Line
-set_max q max = record { instr = instr.SetMax (record { 0 = q }) max; times = 1 }
+abbrev pub set_max_to : ℕ → ℕ → Line
+set_max_to q max = record { instr = instr.SetMax (record { 0 = q }) max; times = 1 }
 
 -- `ask F` and `state W`
 abbrev pub ask : ℕ → Line

@@ -6,12 +6,12 @@ use Rattle.cmwq_types.specs.declared.instr.Instr.{Instr}
 use Rattle.cmwq_types.specs.declared.instr.Instr.TheVariants as instr
 use Rattle.cmwq_types.specs.declared.scenario.Op.TheVariants as op
 use Rattle.cmwq_table.specs.State.{State, start}
-use Rattle.cmwq_examples.specs.Declare.{queue, work, highpri, unbound, freezable, ordered, mem_reclaim, queues, queues_on, enqueue, delay, delay_on, modify, cancel, cancel_sync, disable, enable, flush, flush_delayed, flush_queue, set_max, ask, state, times, scenario}
+use Rattle.cmwq_examples.specs.Declare.{queue, work, highpri, unbound, freezable, ordered, mem_reclaim, queues, queues_on, enqueue, delay, delay_on, modify, cancel, cancel_sync, disable, enable, flush, flush_delayed, flush_queue, set_max_to, ask, state, times, scenario}
 use Rattle.cmwq_examples.specs.Rows.{text}
 
 -- two workers become idle, one after the other; then c is queued
-abbrev pub idle_workers : ScenarioContents
-idle_workers =
+abbrev pub two_idle_workers : ScenarioContents
+two_idle_workers =
     scenario 1000 (queue (codes "q") 2 plain_flags ∷ [])
     (work (codes "a") 0 (op.Sleep 1 ∷ op.Finish ∷ []) ∷ work (codes "b") 0 (op.Sleep 1 ∷ op.Finish ∷ [])
     ∷ work (codes "c") 0 (op.Burn 1 ∷ op.Finish ∷ []) ∷ [])
@@ -55,8 +55,8 @@ wakes_behind_lines =
     codes "3 b finishes" ∷ codes "3 a burns 2" ∷ codes "5 a finishes" ∷ [])
 
 -- a delay on CPU 1
-abbrev pub timer_cpu : ScenarioContents
-timer_cpu =
+abbrev pub delay_on_cpu : ScenarioContents
+delay_on_cpu =
     record
     (scenario 1000 (queue (codes "q") 1 plain_flags ∷ [])
     (work (codes "a") 0 (op.Finish ∷ []) ∷ [])
@@ -101,7 +101,7 @@ starts_again_behind =
     scenario 1000 (queue (codes "q") 2 plain_flags ∷ [])
     (work (codes "a") 0 (queues 0 ∷ op.Sleep 1 ∷ op.Burn 2 ∷ op.Finish ∷ [])
     ∷ work (codes "b") 0 (op.Sleep 2 ∷ op.Burn 1 ∷ op.Finish ∷ []) ∷ [])
-    (enqueue 0 0 ∷ enqueue 1 0 ∷ set_max 0 3 ∷ times instr.Next 18 ∷ [])
+    (enqueue 0 0 ∷ enqueue 1 0 ∷ set_max_to 0 3 ∷ times instr.Next 18 ∷ [])
 
 -- a's second instance begins at 3, behind b
 abbrev pub starts_again_behind_lines : List ℕ
@@ -189,7 +189,7 @@ fills =
     ∷ work (codes "c") 1 (op.Finish ∷ []) ∷ work (codes "d") 1 (op.Finish ∷ [])
     ∷ work (codes "e") 1 (op.Finish ∷ []) ∷ [])
     (enqueue 0 0 ∷ enqueue 1 0 ∷ enqueue 5 1 ∷ enqueue 6 1 ∷ enqueue 2 0 ∷ enqueue 3 0 ∷ enqueue 4 0 ∷ state 2
-    ∷ state 5 ∷ state 6 ∷ set_max 1 3 ∷ state 3 ∷ state 4 ∷ state 6 ∷ state 1 ∷ []))
+    ∷ state 5 ∷ state 6 ∷ set_max_to 1 3 ∷ state 3 ∷ state 4 ∷ state 6 ∷ state 1 ∷ []))
     { cpus = 2 }
 
 -- d is listed beside a; then b, c and e are let in, each in its pool, and w is not
@@ -220,8 +220,8 @@ flush_targets_lines =
     codes "0 yes" ∷ codes "0 not pending flush 4" ∷ codes "0 yes" ∷ [])
 
 -- a queues itself and sleeps, twice; b waits each time
-abbrev pub deferred : ScenarioContents
-deferred =
+abbrev pub deferring : ScenarioContents
+deferring =
     scenario 1000 (queue (codes "q") 2 plain_flags ∷ [])
     (work (codes "a") 0 (queues 0 ∷ op.Sleep 1 ∷ op.Finish ∷ []) ∷ work (codes "b") 0 (op.Finish ∷ []) ∷ [])
     (enqueue 0 0 ∷ times instr.Next 4 ∷ state 0 ∷ flush 0 ∷ enqueue 1 0 ∷ state 1 ∷ times instr.Next 3 ∷ state 1
@@ -233,7 +233,7 @@ abbrev pub deferred_lines : List ℕ
 deferred_lines =
     text (
     codes "0 a starts" ∷ codes "0 a queues a" ∷ codes "0 a sleeps 1" ∷ codes "0 a defers" ∷
-    codes "0 a deferred 0 asleep 0/0 1" ∷ codes "0 flush 0" ∷ codes "0 b inactive 0 still" ∷ codes "1 a wakes" ∷
+    codes "0 a deferring 0 asleep 0/0 1" ∷ codes "0 flush 0" ∷ codes "0 b inactive 0 still" ∷ codes "1 a wakes" ∷
     codes "1 a finishes and starts" ∷ codes "1 b listed 0 still" ∷ codes "1 a idle runs 0/0" ∷ codes "1 no" ∷
     codes "1 a queues a" ∷ codes "1 a inactive 0 runs 0/0" ∷ codes "1 a sleeps 1" ∷ codes "1 b starts" ∷
     codes "1 b finishes" ∷ codes "1 a defers" ∷ codes "1 b inactive 0 still" ∷ codes "1 cancelled" ∷
@@ -339,11 +339,11 @@ no_flushes_lines =
     codes "0 refused TooManyFlushes" ∷ codes "0 a listed 0 still" ∷ codes "0 b timer 5 still" ∷ [])
 
 -- operands at their limits and past them
-abbrev pub operands : ScenarioContents
-operands =
+abbrev pub operand_limits : ScenarioContents
+operand_limits =
     scenario 1000 (queue (codes "q") 1 plain_flags ∷ queue (codes "u") 1 unbound ∷ queue (codes "o") 1 ordered ∷ [])
     (work (codes "a") 0 (op.Finish ∷ []) ∷ work (codes "b") 1 (op.Finish ∷ []) ∷ [])
-    (enqueue 1 1 ∷ set_max 0 512 ∷ set_max 0 513 ∷ set_max 2 0 ∷ set_max 2 1 ∷ times (instr.Step 3) 1
+    (enqueue 1 1 ∷ set_max_to 0 512 ∷ set_max_to 0 513 ∷ set_max_to 2 0 ∷ set_max_to 2 1 ∷ times (instr.Step 3) 1
     ∷ times (instr.Step 4) 1 ∷ flush 0 ∷ ask 0 ∷ ask 1 ∷ [])
 
 -- 512, pool 3 and the first flush are there; 513, pool 4 and a second flush aren't
@@ -484,8 +484,8 @@ rescuers_lines =
     codes "4 e idle runs 0/1" ∷ [])
 
 -- a on a normal queue, and b on one of high priority
-abbrev pub unsettled : ScenarioContents
-unsettled =
+abbrev pub timers_before_moves : ScenarioContents
+timers_before_moves =
     scenario 1000 (queue (codes "n") 1 plain_flags ∷ queue (codes "h") 1 highpri ∷ [])
     (work (codes "a") 0 (op.Finish ∷ []) ∷ work (codes "b") 1 (op.Finish ∷ []) ∷ []) []
 
@@ -501,7 +501,7 @@ unsettled_instrs =
 
 -- the start of that scenario, but a was disabled so many times
 abbrev pub disabled_so_often : ℕ → State
-disabled_so_often depth = record (start unsettled) { depth = depth ∷ 0 ∷ [] }
+disabled_so_often depth = record (start timers_before_moves) { depth = depth ∷ 0 ∷ [] }
 
 -- the instructions that disable a, and enable it
 abbrev pub disabled_again : Instr

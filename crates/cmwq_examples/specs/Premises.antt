@@ -8,8 +8,8 @@ use Rattle.cmwq_types.specs.declared.scenario.Line.{Line}
 use Rattle.cmwq_types.specs.declared.scenario.Op.TheVariants as op
 use Rattle.cmwq_table.specs.State.{State}
 use Rattle.cmwq_table.specs.Table.{run}
-use Rattle.cmwq_examples.specs.Declare.{queue, work, freezable, ordered, unbound, disable, enqueue, flush, flush_queue, set_max, times, scenario}
-use Rattle.cmwq_examples.specs.Rows.{burning}
+use Rattle.cmwq_examples.specs.Declare.{queue, work, freezable, ordered, unbound, disable, enqueue, flush, flush_queue, set_max_to, times, scenario}
+use Rattle.cmwq_examples.specs.Rows.{burning_body}
 
 -- the state that a scenario comes to by these lines
 abbrev pub after_lines : ScenarioContents → List Line → State
@@ -19,7 +19,7 @@ after_lines S lines = run S (expand_lines lines)
 abbrev pub sleeper : ScenarioContents
 sleeper =
     scenario 1000 (queue (codes "q") 3 plain_flags ∷ [])
-    (work (codes "a") 0 (op.Sleep 1 ∷ op.Burn 1 ∷ op.Finish ∷ []) ∷ work (codes "b") 0 (burning 5) ∷ work (codes "c") 0 (burning 1) ∷ [])
+    (work (codes "a") 0 (op.Sleep 1 ∷ op.Burn 1 ∷ op.Finish ∷ []) ∷ work (codes "b") 0 (burning_body 5) ∷ work (codes "c") 0 (burning_body 1) ∷ [])
     []
 
 -- a sleeps, b burns, c is listed, and no time has passed
@@ -36,7 +36,7 @@ before_start = enqueue 0 0 ∷ enqueue 1 0 ∷ enqueue 2 0 ∷ times instr.Next 
 
 -- c is listed, b and a wait; then max rises to 2
 abbrev pub max_raised : List Line
-max_raised = enqueue 2 0 ∷ enqueue 1 0 ∷ enqueue 0 0 ∷ set_max 0 2 ∷ []
+max_raised = enqueue 2 0 ∷ enqueue 1 0 ∷ enqueue 0 0 ∷ set_max_to 0 2 ∷ []
 
 -- works of one queue on CPU 1, and then one on CPU 0
 abbrev pub queued_on_both : List Line
@@ -46,7 +46,7 @@ queued_on_both = enqueue 0 0 ∷ enqueue 1 0 ∷ enqueue 5 1 ∷ enqueue 6 1 ∷
 abbrev pub one_worker : ScenarioContents
 one_worker =
     record
-    (scenario 1000 (queue (codes "u") 2 unbound ∷ []) (work (codes "a") 0 (burning 2) ∷ work (codes "b") 0 (burning 2) ∷ []) [])
+    (scenario 1000 (queue (codes "u") 2 unbound ∷ []) (work (codes "a") 0 (burning_body 2) ∷ work (codes "b") 0 (burning_body 2) ∷ []) [])
     { workers = 1 }
 
 -- a burns on the one worker, and b is listed
@@ -56,7 +56,7 @@ worker_taken = enqueue 0 0 ∷ enqueue 1 0 ∷ times instr.Next 2 ∷ []
 -- an ordered queue with two works
 abbrev pub two_ordered : ScenarioContents
 two_ordered =
-    scenario 1000 (queue (codes "o") 1 ordered ∷ []) (work (codes "a") 0 (burning 1) ∷ work (codes "b") 0 (burning 1) ∷ []) []
+    scenario 1000 (queue (codes "o") 1 ordered ∷ []) (work (codes "a") 0 (burning_body 1) ∷ work (codes "b") 0 (burning_body 1) ∷ []) []
 
 -- a is queued, and then b
 abbrev pub both_queued : List Line
@@ -72,7 +72,7 @@ itself_deferred = enqueue 0 0 ∷ times instr.Next 4 ∷ []
 
 -- one work, on which a flush is given, and one on its queue
 abbrev pub one_flushed : ScenarioContents
-one_flushed = scenario 1000 (queue (codes "q") 1 plain_flags ∷ []) (work (codes "a") 0 (burning 1) ∷ []) []
+one_flushed = scenario 1000 (queue (codes "q") 1 plain_flags ∷ []) (work (codes "a") 0 (burning_body 1) ∷ []) []
 
 abbrev pub flushes_given : List Line
 flushes_given = enqueue 0 0 ∷ flush 0 ∷ flush_queue 0 ∷ []
@@ -95,7 +95,7 @@ queued_once = instr.Queue (record { 0 = 0 }) 0
 
 -- one work on a freezable queue
 abbrev pub one_freezable : ScenarioContents
-one_freezable = scenario 1000 (queue (codes "f") 1 freezable ∷ []) (work (codes "a") 0 (burning 1) ∷ []) []
+one_freezable = scenario 1000 (queue (codes "f") 1 freezable ∷ []) (work (codes "a") 0 (burning_body 1) ∷ []) []
 
 -- beside a sleeping work: memory is short, and c is listed
 abbrev pub worker_wanted : List Line

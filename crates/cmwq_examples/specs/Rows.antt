@@ -8,7 +8,7 @@ use Rattle.cmwq_types.specs.declared.scenario.Line.{Line}
 use Rattle.cmwq_types.specs.declared.scenario.Op.{Op}
 use Rattle.cmwq_types.specs.declared.scenario.Op.TheVariants as op
 use Rattle.cmwq_table.specs.Events.{events}
-use Rattle.cmwq_examples.specs.Declare.{queue, work, highpri, unbound, cpu_intensive, freezable, ordered, mem_reclaim, queues, enqueue, delay, modify, cancel, cancel_sync, disable, enable, flush, flush_delayed, flush_queue, set_max, ask, state, times, scenario}
+use Rattle.cmwq_examples.specs.Declare.{queue, work, highpri, unbound, cpu_intensive, freezable, ordered, mem_reclaim, queues, enqueue, delay, modify, cancel, cancel_sync, disable, enable, flush, flush_delayed, flush_queue, set_max_to, ask, state, times, scenario}
 
 -- a text of these lines
 abbrev pub text : List (List ℕ) → List ℕ
@@ -81,15 +81,15 @@ cpu_intensive_lines =
     codes "15 w0 burns 5" ∷ codes "20 w0 finishes" ∷ codes "20 w1 wakes" ∷
     codes "20 w1 finishes" ∷ codes "25 w2 wakes" ∷ codes "25 w2 finishes" ∷ [])
 
-abbrev pub burning : ℕ → List Op
-burning ticks = op.Burn ticks ∷ op.Finish ∷ []
+abbrev pub burning_body : ℕ → List Op
+burning_body ticks = op.Burn ticks ∷ op.Finish ∷ []
 
 -- a on a normal queue, and b a while later on one of high priority
 abbrev pub high_beside_normal : ScenarioContents
 high_beside_normal =
     scenario 1000
     (queue (codes "n") 1 plain_flags ∷ queue (codes "h") 1 highpri ∷ [])
-    (work (codes "a") 0 (burning 2) ∷ work (codes "b") 1 (burning 2) ∷ [])
+    (work (codes "a") 0 (burning_body 2) ∷ work (codes "b") 1 (burning_body 2) ∷ [])
     (enqueue 0 0 ∷ times instr.Next 3 ∷ enqueue 1 0 ∷ times instr.Next 7 ∷ [])
 
 -- b has the CPU from its start on, and a goes on when b has finished
@@ -104,8 +104,8 @@ abbrev pub unbound_beside_ordered : ScenarioContents
 unbound_beside_ordered =
     scenario 1000
     (queue (codes "u") 2 unbound ∷ queue (codes "o") 1 ordered ∷ [])
-    (work (codes "a") 0 (burning 2) ∷ work (codes "b") 0 (burning 2)
-    ∷ work (codes "c") 1 (burning 1) ∷ work (codes "d") 1 (burning 1) ∷ work (codes "e") 1 (burning 1) ∷ [])
+    (work (codes "a") 0 (burning_body 2) ∷ work (codes "b") 0 (burning_body 2)
+    ∷ work (codes "c") 1 (burning_body 1) ∷ work (codes "d") 1 (burning_body 1) ∷ work (codes "e") 1 (burning_body 1) ∷ [])
     (enqueue 0 0 ∷ enqueue 1 0 ∷ enqueue 2 0 ∷ enqueue 3 0 ∷ enqueue 4 0 ∷ times instr.Next 18 ∷ [])
 
 -- a and b burn side by side; c, d and e run one at a time, in the order of their queueing
@@ -135,7 +135,7 @@ written_out =
 -- a work is queued twice before it starts
 abbrev pub queued_twice : ScenarioContents
 queued_twice =
-    scenario 1000 (queue (codes "q") 1 plain_flags ∷ []) (work (codes "a") 0 (burning 1) ∷ [])
+    scenario 1000 (queue (codes "q") 1 plain_flags ∷ []) (work (codes "a") 0 (burning_body 1) ∷ [])
     (enqueue 0 0 ∷ enqueue 0 0 ∷ times instr.Next 4 ∷ [])
 
 -- it runs once
@@ -176,7 +176,7 @@ steps_run_out_lines =
 -- instructions that can't be carried out, among others that can
 abbrev pub refused : ScenarioContents
 refused =
-    scenario 1000 (queue (codes "q") 1 plain_flags ∷ []) (work (codes "a") 0 (burning 1) ∷ [])
+    scenario 1000 (queue (codes "q") 1 plain_flags ∷ []) (work (codes "a") 0 (burning_body 1) ∷ [])
     (enqueue 0 1 ∷ enqueue 0 0 ∷ times instr.Tick 1 ∷ times (instr.Step 0) 1 ∷ times (instr.Step 0) 1
     ∷ times instr.Tick 1 ∷ times (instr.Step 0) 1 ∷ times (instr.Step 0) 1 ∷ times (instr.Step 4) 1 ∷ [])
 
@@ -190,7 +190,7 @@ refused_lines =
 -- one step, which the first instruction takes
 abbrev pub refused_in_order : ScenarioContents
 refused_in_order =
-    scenario 1 (queue (codes "q") 1 plain_flags ∷ []) (work (codes "a") 0 (burning 1) ∷ [])
+    scenario 1 (queue (codes "q") 1 plain_flags ∷ []) (work (codes "a") 0 (burning_body 1) ∷ [])
     (enqueue 0 0 ∷ enqueue 0 1 ∷ times (instr.Step 0) 1 ∷ times instr.Tick 1 ∷ times (instr.Step 1) 1
     ∷ times (instr.Step 4) 1 ∷ [])
 
@@ -205,7 +205,7 @@ refused_in_order_lines =
 abbrev pub timers : ScenarioContents
 timers =
     scenario 1000 (queue (codes "q") 1 plain_flags ∷ [])
-    (work (codes "a") 0 (burning 1) ∷ work (codes "b") 0 (burning 1) ∷ [])
+    (work (codes "a") 0 (burning_body 1) ∷ work (codes "b") 0 (burning_body 1) ∷ [])
     (delay 0 0 ∷ delay 1 3 ∷ times instr.Fire 1 ∷ modify 0 2 ∷ state 0 ∷ cancel 1 ∷ cancel 1
     ∷ times instr.Next 7 ∷ [])
 
@@ -221,7 +221,7 @@ timers_lines =
 abbrev pub flushes : ScenarioContents
 flushes =
     scenario 1000 (queue (codes "q") 2 plain_flags ∷ [])
-    (work (codes "a") 0 (burning 2) ∷ work (codes "b") 0 (burning 2) ∷ [])
+    (work (codes "a") 0 (burning_body 2) ∷ work (codes "b") 0 (burning_body 2) ∷ [])
     (enqueue 0 0 ∷ times instr.Next 2 ∷ enqueue 0 0 ∷ flush 0 ∷ flush_queue 0 ∷ enqueue 1 0 ∷ flush 1
     ∷ times instr.Next 3 ∷ ask 0 ∷ times instr.Next 1 ∷ ask 1 ∷ times instr.Next 4 ∷ ask 0 ∷ ask 1
     ∷ state 1 ∷ ask 2 ∷ [])
@@ -239,7 +239,7 @@ flushes_lines =
 -- a flush of a delayed work, and a cancel while the work runs and is pending again
 abbrev pub cancelled_while_running : ScenarioContents
 cancelled_while_running =
-    scenario 1000 (queue (codes "q") 2 plain_flags ∷ []) (work (codes "a") 0 (burning 2) ∷ [])
+    scenario 1000 (queue (codes "q") 2 plain_flags ∷ []) (work (codes "a") 0 (burning_body 2) ∷ [])
     (delay 0 9 ∷ flush_delayed 0 ∷ state 0 ∷ times instr.Next 2 ∷ enqueue 0 0 ∷ cancel_sync 0 ∷ ask 1
     ∷ times instr.Next 3 ∷ ask 0 ∷ ask 1 ∷ cancel_sync 0 ∷ [])
 
@@ -255,7 +255,7 @@ cancelled_while_running_lines =
 abbrev pub queued_elsewhere : ScenarioContents
 queued_elsewhere =
     record
-    (scenario 1000 (queue (codes "q") 2 plain_flags ∷ []) (work (codes "a") 0 (burning 2) ∷ [])
+    (scenario 1000 (queue (codes "q") 2 plain_flags ∷ []) (work (codes "a") 0 (burning_body 2) ∷ [])
     (enqueue 0 0 ∷ times instr.Next 2 ∷ enqueue 0 1 ∷ state 0 ∷ []))
     { cpus = 2 }
 
@@ -269,7 +269,7 @@ queued_elsewhere_lines =
 abbrev pub freeze_and_thaw : ScenarioContents
 freeze_and_thaw =
     scenario 1000 (queue (codes "f") 2 freezable ∷ [])
-    (work (codes "a") 0 (burning 2) ∷ work (codes "b") 0 (burning 2) ∷ work (codes "c") 0 (burning 2) ∷ [])
+    (work (codes "a") 0 (burning_body 2) ∷ work (codes "b") 0 (burning_body 2) ∷ work (codes "c") 0 (burning_body 2) ∷ [])
     (enqueue 0 0 ∷ times instr.Next 2 ∷ enqueue 1 0 ∷ times instr.Freeze 1 ∷ times instr.Freeze 1
     ∷ enqueue 2 0 ∷ times instr.Busy 1 ∷ times instr.Next 8 ∷ times instr.Busy 1 ∷ times instr.Thaw 1
     ∷ times instr.Thaw 1 ∷ times instr.Next 5 ∷ [])
@@ -287,10 +287,10 @@ freeze_and_thaw_lines =
 abbrev pub max_down_and_up : ScenarioContents
 max_down_and_up =
     scenario 1000 (queue (codes "q") 3 plain_flags ∷ queue (codes "o") 1 ordered ∷ [])
-    (work (codes "a") 0 (burning 1) ∷ work (codes "b") 0 (burning 1) ∷ work (codes "c") 0 (burning 1)
-    ∷ work (codes "d") 0 (burning 1) ∷ [])
-    (set_max 1 2 ∷ set_max 0 0 ∷ enqueue 0 0 ∷ enqueue 1 0 ∷ enqueue 2 0 ∷ set_max 0 1 ∷ enqueue 3 0
-    ∷ state 2 ∷ state 3 ∷ set_max 0 4 ∷ state 3 ∷ [])
+    (work (codes "a") 0 (burning_body 1) ∷ work (codes "b") 0 (burning_body 1) ∷ work (codes "c") 0 (burning_body 1)
+    ∷ work (codes "d") 0 (burning_body 1) ∷ [])
+    (set_max_to 1 2 ∷ set_max_to 0 0 ∷ enqueue 0 0 ∷ enqueue 1 0 ∷ enqueue 2 0 ∷ set_max_to 0 1 ∷ enqueue 3 0
+    ∷ state 2 ∷ state 3 ∷ set_max_to 0 4 ∷ state 3 ∷ [])
 
 -- c stays listed, d waits, and is listed once there is room
 abbrev pub max_down_and_up_lines : List ℕ
@@ -303,8 +303,8 @@ max_down_and_up_lines =
 abbrev pub activated_in_order : ScenarioContents
 activated_in_order =
     scenario 1000 (queue (codes "q") 1 plain_flags ∷ [])
-    (work (codes "a") 0 (burning 1) ∷ work (codes "b") 0 (burning 1) ∷ work (codes "c") 0 (burning 1) ∷ [])
-    (enqueue 2 0 ∷ enqueue 1 0 ∷ enqueue 0 0 ∷ set_max 0 2 ∷ state 0 ∷ state 1 ∷ state 2 ∷ [])
+    (work (codes "a") 0 (burning_body 1) ∷ work (codes "b") 0 (burning_body 1) ∷ work (codes "c") 0 (burning_body 1) ∷ [])
+    (enqueue 2 0 ∷ enqueue 1 0 ∷ enqueue 0 0 ∷ set_max_to 0 2 ∷ state 0 ∷ state 1 ∷ state 2 ∷ [])
 
 abbrev pub activated_in_order_lines : List ℕ
 activated_in_order_lines =
@@ -314,7 +314,7 @@ activated_in_order_lines =
 abbrev pub disabled_twice : ScenarioContents
 disabled_twice =
     scenario 1000 (queue (codes "q") 1 plain_flags ∷ [])
-    (work (codes "a") 0 (burning 1) ∷ work (codes "b") 0 (queues 0 ∷ op.Finish ∷ []) ∷ [])
+    (work (codes "a") 0 (burning_body 1) ∷ work (codes "b") 0 (queues 0 ∷ op.Finish ∷ []) ∷ [])
     (enqueue 0 0 ∷ disable 0 ∷ disable 0 ∷ enqueue 0 0 ∷ modify 0 2 ∷ enqueue 1 0 ∷ times instr.Next 3
     ∷ enable 0 ∷ enable 0 ∷ enable 0 ∷ enqueue 0 0 ∷ times instr.Next 4 ∷ [])
 
@@ -330,7 +330,7 @@ disabled_twice_lines =
 abbrev pub sleeper_and_two : List Line → ScenarioContents
 sleeper_and_two lines =
     scenario 1000 (queue (codes "q") 2 plain_flags ∷ queue (codes "r") 2 mem_reclaim ∷ [])
-    (work (codes "a") 0 (op.Sleep 3 ∷ op.Finish ∷ []) ∷ work (codes "b") 1 (burning 1) ∷ work (codes "c") 0 (burning 1) ∷ [])
+    (work (codes "a") 0 (op.Sleep 3 ∷ op.Finish ∷ []) ∷ work (codes "b") 1 (burning_body 1) ∷ work (codes "c") 0 (burning_body 1) ∷ [])
     lines
 
 -- memory is short meanwhile

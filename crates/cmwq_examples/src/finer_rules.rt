@@ -2,7 +2,7 @@
 //! counts, and which refusal is told.
 #![tactic(auto, unfolding(cmwq_table::specs::Events::reply_line, cmwq_table::specs::Table::table))]
 
-ghost use Rattle.cmwq_examples.specs.FinerRules.{busy, busy_lines, cancel_lets_in, cancel_lets_in_lines, deferred, deferred_lines, disabled_again, disabled_anywhere, disabled_anywhere_lines, disabled_so_often, enabled_again, equal_times, equal_times_lines, fills, fills_lines, flush_beside_timer, flush_beside_timer_lines, flush_targets, flush_targets_lines, high_and_unbound, high_and_unbound_lines, idle_workers, idle_workers_lines, later_times, later_times_lines, mod_and_delay, mod_and_delay_lines, mod_goes_behind, mod_goes_behind_lines, no_flushes, no_flushes_lines, one_worker, one_worker_lines, operands, operands_lines, pools_apart, pools_apart_lines, queues_others, queues_others_lines, rescuers, rescuers_lines, same_worker, same_worker_lines, starts_again_behind, starts_again_behind_lines, starts_behind, starts_behind_lines, thaw_fills, thaw_fills_lines, timer_cpu, timer_cpu_lines, two_cpus, two_cpus_lines, unbound_workers, unbound_workers_lines, undeclared_instrs, unsettled, unsettled_instrs, wakes_behind, wakes_behind_lines, what_is_spent, what_is_spent_lines};
+ghost use Rattle.cmwq_examples.specs.FinerRules.{busy, busy_lines, cancel_lets_in, cancel_lets_in_lines, deferring, deferred_lines, disabled_again, disabled_anywhere, disabled_anywhere_lines, disabled_so_often, enabled_again, equal_times, equal_times_lines, fills, fills_lines, flush_beside_timer, flush_beside_timer_lines, flush_targets, flush_targets_lines, high_and_unbound, high_and_unbound_lines, two_idle_workers, idle_workers_lines, later_times, later_times_lines, mod_and_delay, mod_and_delay_lines, mod_goes_behind, mod_goes_behind_lines, no_flushes, no_flushes_lines, one_worker, one_worker_lines, operand_limits, operands_lines, pools_apart, pools_apart_lines, queues_others, queues_others_lines, rescuers, rescuers_lines, same_worker, same_worker_lines, starts_again_behind, starts_again_behind_lines, starts_behind, starts_behind_lines, thaw_fills, thaw_fills_lines, delay_on_cpu, timer_cpu_lines, two_cpus, two_cpus_lines, unbound_workers, unbound_workers_lines, undeclared_instrs, timers_before_moves, unsettled_instrs, wakes_behind, wakes_behind_lines, what_is_spent, what_is_spent_lines};
 ghost use Rattle.cmwq_examples.specs.Rows.{printed};
 ghost use Rattle.cmwq_table.specs.Laws.{reply_to};
 ghost use Rattle.cmwq_table.specs.Table.{replies};
@@ -13,7 +13,7 @@ use cmwq_types::{Cause, Event, Refusal, Reply};
 
 /// Of the idle workers the one that became idle last takes the next work.
 pub fn idle_worker_of_last_is_taken_first()
-    ensures { printed idle_workers ≡ idle_workers_lines }
+    ensures { printed two_idle_workers ≡ idle_workers_lines }
 {}
 
 /// What a cancel lets in goes to the end of the worklist.
@@ -28,7 +28,7 @@ pub fn waking_work_goes_behind_runnable_ones()
 
 /// A timer fires on the CPU for which it was set.
 pub fn timer_fires_on_its_cpu()
-    ensures { printed timer_cpu ≡ timer_cpu_lines }
+    ensures { printed delay_on_cpu ≡ timer_cpu_lines }
 {}
 
 /// A queue of high priority that is unbound sends its works to the high unbound pool.
@@ -84,7 +84,7 @@ pub fn flush_waits_for_its_instance_and_nothing_else()
 /// A deferred work counts against `max_active`, and is the instance that was queued when it starts; a cancel of it
 /// lets in what waits.
 pub fn deferred_work_counts_and_keeps_its_birth()
-    ensures { printed deferred ≡ deferred_lines }
+    ensures { printed deferring ≡ deferred_lines }
 {}
 
 /// Each CPU burns for itself, and its high pool goes first there alone; of several pools with a move the least
@@ -123,7 +123,7 @@ pub fn flush_that_is_refused_changes_nothing()
 /// The CPU of a work must be there though its queue is unbound; a count is 1 to 512, and is judged before whether
 /// the queue is ordered; pools and flushes have their numbers.
 pub fn operands_have_their_limits()
-    ensures { printed operands ≡ operands_lines }
+    ensures { printed operand_limits ≡ operands_lines }
 {}
 
 /// A `mod` of no ticks gives its room to the first that waits, and then waits behind it.
@@ -166,28 +166,28 @@ pub fn rescuer_runs_one_work_at_a_time()
 
 /// Operands are judged from left to right: a queue before its count, a work before its CPU.
 pub fn undeclared_operands_are_refused_first()
-    ensures { replies unsettled undeclared_instrs ≡ Reply.Refused Refusal.NoSuchQueue ∷ Reply.Refused Refusal.NoSuchWork ∷ Reply.Refused Refusal.NoSuchQueue ∷ [] }
+    ensures { replies timers_before_moves undeclared_instrs ≡ Reply.Refused Refusal.NoSuchQueue ∷ Reply.Refused Refusal.NoSuchWork ∷ Reply.Refused Refusal.NoSuchQueue ∷ [] }
 {}
 
 /// A tick is refused for a timer that is due before it is for a pool that has a move, and of the pools for the least.
 pub fn due_timer_is_told_before_a_move()
-    ensures { replies unsettled unsettled_instrs ≡ Reply.Queued ∷ Reply.Done ∷ Reply.Queued ∷ Reply.Refused (Refusal.Unsettled Cause.Due) ∷ Reply.Event (record { 0 = 0 }) Event.Fires ∷ Reply.Refused (Refusal.Unsettled (Cause.Pool 0)) ∷ [] }
+    ensures { replies timers_before_moves unsettled_instrs ≡ Reply.Queued ∷ Reply.Done ∷ Reply.Queued ∷ Reply.Refused (Refusal.Unsettled Cause.Due) ∷ Reply.Event (record { 0 = 0 }) Event.Fires ∷ Reply.Refused (Refusal.Unsettled (Cause.Pool 0)) ∷ [] }
 {}
 
 /// A work that was disabled 65,535 times isn't disabled once more, and can't be queued until it was enabled as often.
 pub fn deepest_work_is_not_disabled_again()
-    ensures below { reply_to unsettled (disabled_so_often 65534) disabled_again ≡ Reply.NotPending }
-    ensures deepest { reply_to unsettled (disabled_so_often 65535) disabled_again ≡ Reply.Refused Refusal.TooDeep }
-    ensures taken_back { reply_to unsettled (disabled_so_often 65535) enabled_again ≡ Reply.No }
-    ensures last { reply_to unsettled (disabled_so_often 1) enabled_again ≡ Reply.Yes }
+    ensures below { reply_to timers_before_moves (disabled_so_often 65534) disabled_again ≡ Reply.NotPending }
+    ensures deepest { reply_to timers_before_moves (disabled_so_often 65535) disabled_again ≡ Reply.Refused Refusal.TooDeep }
+    ensures taken_back { reply_to timers_before_moves (disabled_so_often 65535) enabled_again ≡ Reply.No }
+    ensures last { reply_to timers_before_moves (disabled_so_often 1) enabled_again ≡ Reply.Yes }
 {}
 
 /// Each of these scenarios is valid.
 pub fn finer_examples_are_valid()
-    ensures idle_workers { IsValid idle_workers }
+    ensures two_idle_workers { IsValid two_idle_workers }
     ensures cancel_lets_in { IsValid cancel_lets_in }
     ensures wakes_behind { IsValid wakes_behind }
-    ensures timer_cpu { IsValid timer_cpu }
+    ensures delay_on_cpu { IsValid delay_on_cpu }
     ensures high_and_unbound { IsValid high_and_unbound }
     ensures mod_and_delay { IsValid mod_and_delay }
     ensures starts_again_behind { IsValid starts_again_behind }
@@ -197,14 +197,14 @@ pub fn finer_examples_are_valid()
     ensures starts_behind { IsValid starts_behind }
     ensures fills { IsValid fills }
     ensures flush_targets { IsValid flush_targets }
-    ensures deferred { IsValid deferred }
+    ensures deferring { IsValid deferring }
     ensures two_cpus { IsValid two_cpus }
     ensures queues_others { IsValid queues_others }
     ensures later_times { IsValid later_times }
     ensures one_worker { IsValid one_worker }
     ensures what_is_spent { IsValid what_is_spent }
     ensures no_flushes { IsValid no_flushes }
-    ensures operands { IsValid operands }
+    ensures operand_limits { IsValid operand_limits }
     ensures mod_goes_behind { IsValid mod_goes_behind }
     ensures same_worker { IsValid same_worker }
     ensures thaw_fills { IsValid thaw_fills }
@@ -212,5 +212,5 @@ pub fn finer_examples_are_valid()
     ensures pools_apart { IsValid pools_apart }
     ensures disabled_anywhere { IsValid disabled_anywhere }
     ensures rescuers { IsValid rescuers }
-    ensures unsettled { IsValid unsettled }
+    ensures timers_before_moves { IsValid timers_before_moves }
 {}

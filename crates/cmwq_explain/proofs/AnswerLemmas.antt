@@ -7,7 +7,7 @@ use Rattle.cmwq_types.specs.Contents.{ScenarioContents}
 use Rattle.cmwq_types.specs.Scenario.{expand}
 use Rattle.cmwq_types.specs.declared.instr.Instr.{Instr}
 use Rattle.cmwq_table.specs.State.{State}
-use Rattle.cmwq_explain.specs.Changes.{changes_text, line, looks_at, said_at, said_below, state_at, told_at, told_below}
+use Rattle.cmwq_explain.specs.Changes.{changes_text, said_line, looks_at, said_at, said_below, state_at, told_at, told_below}
 use Rattle.cmwq_explain.specs.Telling.{IsPastEnd}
 use Rattle.cmwq_tasks.specs.declared.question.Looks.{Looks}
 use Rattle.cmwq_tasks.specs.declared.question.Looks.TheVariants.{Settled, Every, At}
@@ -25,7 +25,7 @@ none-both (x ∷ xs) ys e = cc
 
 module _ (says : ScenarioContents → State → Option (List ℕ)) (looks : Looks) (S : ScenarioContents) (instrs : List Instr) (always : (s : State) → (text : List ℕ) × (says S s ≡ Some text)) where
   -- where nothing was said before, something is told
-  first-told : (k time : ℕ) (before said : Option (List ℕ)) (text : List ℕ) → before ≡ None → said ≡ Some text → line k time before said ≡ [] → ⊥
+  first-told : (k time : ℕ) (before said : Option (List ℕ)) (text : List ℕ) → before ≡ None → said ≡ Some text → said_line k time before said ≡ [] → ⊥
   first-told k time None (Some words) text none is e = cc
   first-told k time (Some old) said text none is e = cc
   first-told k time before None text none is e = cc
@@ -33,8 +33,8 @@ module _ (says : ScenarioContents → State → Option (List ℕ)) (looks : Look
   none-looked : (n : ℕ) (b : Bool) → looks_at says looks S instrs n ≡ b → told_at says looks S instrs n ≡ [] → said_below says looks S instrs n ≡ None → b ≡ false
   none-looked n false is nothing none = refl
   none-looked n true is nothing none =
-      let here : line n (state_at says looks S instrs n).time (said_below says looks S instrs n) (said_at says looks S instrs n) ≡ [] =
-      ap (λ (b : Bool). cond {A = List ℕ} b (line n (state_at says looks S instrs n).time (said_below says looks S instrs n) (said_at says looks S instrs n)) []) (sym is) ∙ nothing in
+      let here : said_line n (state_at says looks S instrs n).time (said_below says looks S instrs n) (said_at says looks S instrs n) ≡ [] =
+      ap (λ (b : Bool). cond {A = List ℕ} b (said_line n (state_at says looks S instrs n).time (said_below says looks S instrs n) (said_at says looks S instrs n)) []) (sym is) ∙ nothing in
       let said = always (state_at says looks S instrs n) in
       absurd (first-told n (state_at says looks S instrs n).time (said_below says looks S instrs n) (said_at says looks S instrs n) said.0 none said.1 here)
 

@@ -40,14 +40,14 @@ is_new (Some before) text = not (bytes_eq before text)
 is_new None text = true
 
 -- a position at this time, and what is said there
-abbrev pub line_text : ℕ → ℕ → List ℕ → List ℕ
-line_text k time text = codes "at " ++ decimal k ++ codes " now " ++ decimal time ++ codes " " ++ text
+abbrev pub position_text : ℕ → ℕ → List ℕ → List ℕ
+position_text k time text = codes "at " ++ decimal k ++ codes " now " ++ decimal time ++ codes " " ++ text
 
 -- the line of a position: what is said there, unless just this was said before
-abbrev pub line : ℕ → ℕ → Option (List ℕ) → Option (List ℕ) → List ℕ
-line k time before (Some text) =
-    if is_new before text then line_text k time text else []
-line k time before None = []
+abbrev pub said_line : ℕ → ℕ → Option (List ℕ) → Option (List ℕ) → List ℕ
+said_line k time before (Some text) =
+    if is_new before text then position_text k time text else []
+said_line k time before None = []
 
 -- What is said of a state, where anything is; which positions are looked at; and a run. At position k the first k of its instructions
 -- have been carried out.
@@ -67,7 +67,7 @@ module _ (says : ScenarioContents → State → Option (List ℕ)) (looks : Look
   said_below (suc k) = if looks_at k then said_at k else said_below k
 
   abbrev pub told_at : ℕ → List ℕ
-  told_at k = if looks_at k then line k (state_at k).time (said_below k) (said_at k) else []
+  told_at k = if looks_at k then said_line k (state_at k).time (said_below k) (said_at k) else []
 
   abbrev pub told_below : ℕ → List ℕ
   told_below zero = []

@@ -10,8 +10,8 @@ use Rattle.cmwq_examples.specs.Declare.{queue, work}
 use Rattle.cmwq_table.specs.State.{State}
 
 -- one CPU, one worker a pool, and a work that burns for a tick
-abbrev pub one_work : ScenarioContents
-one_work =
+abbrev pub burning_work : ScenarioContents
+burning_work =
     record {
       cpus = 1;
       workers = 1;

@@ -3,7 +3,7 @@ use Rattle.std.specs.Prelude.{◌≡◌, ◌≢◌, ◌⊎◌, ℕ, Bool, List, 
 use Rattle.cmwq_types.specs.Contents.{ActorContents, ScenarioContents}
 use Rattle.cmwq_types.specs.Scenario.{expand}
 use Rattle.cmwq_table.specs.State.{State}
-use Rattle.cmwq_why_text.specs.Text.{work_line}
+use Rattle.cmwq_why_text.specs.Text.{why_line}
 use Rattle.cmwq_flush_waits.specs.Text.{flush_lines}
 use Rattle.cmwq_debug_lines.specs.Orders.{work_named}
 use Rattle.cmwq_explain.specs.Changes.{changes_text}
@@ -18,7 +18,7 @@ use Rattle.cmwq_tasks.specs.declared.question.Question.{Question}
 use Rattle.cmwq_tasks.specs.declared.question.Question.TheVariants.{Work, Flush}
 
 abbrev pub line_of_work : ScenarioContents → State → Option ℕ → Option (List ℕ)
-line_of_work S s (Some w) = Some (work_line S s w)
+line_of_work S s (Some w) = Some (why_line S s w)
 line_of_work S s None = None
 
 -- what is said of a state: nothing where no work has the name, and before the flush is given

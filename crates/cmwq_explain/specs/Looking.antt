@@ -5,7 +5,7 @@ use Rattle.cmwq_types.specs.declared.instr.Instr.{Instr}
 use Rattle.cmwq_table.specs.State.{State}
 use Rattle.cmwq_table.specs.Table.{after_all}
 use Rattle.cmwq_play.specs.Telling.{kept_from, told_from}
-use Rattle.cmwq_explain.specs.Changes.{has_bytes, is_looked_at, line}
+use Rattle.cmwq_explain.specs.Changes.{has_bytes, is_looked_at, said_line}
 use Rattle.cmwq_explain.specs.declared.looker.Looker.{Looker}
 
 module _ {P : Type 0} where
@@ -14,7 +14,7 @@ module _ {P : Type 0} where
 
   -- what is told of something that is said, or not
   abbrev pub line_here : Looker P → State → Option (List ℕ) → List ℕ
-  line_here looker s said = line looker.position s.time looker.said said
+  line_here looker s said = said_line looker.position s.time looker.said said
 
   abbrev pub saying : Looker P → State → Option (List ℕ) → Looker P
   saying looker s said = record looker { said = said; has_told = looker.has_told || has_bytes (line_here looker s said) }

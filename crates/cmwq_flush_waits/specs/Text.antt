@@ -13,14 +13,14 @@ use Rattle.cmwq_flush_waits.specs.declared.needs.Needs.{Needs}
 
 -- What has to come from outside, where something has.
 
-abbrev pub word_if : Bool → List ℕ → List ℕ
-word_if given word = if given then word else []
+abbrev pub text_if : Bool → List ℕ → List ℕ
+text_if given word = if given then word else []
 
 -- that the wait doesn't end by itself, and for want of what
 abbrev pub needs_text : Needs → List ℕ
 needs_text needs =
     if needs.thaw || needs.memory || needs.steps then
-    codes ", not by itself:" ++ word_if needs.thaw (codes " frozen") ++ word_if needs.memory (codes " pressure") ++ word_if needs.steps (codes " spent")
+    codes ", not by itself:" ++ text_if needs.thaw (codes " frozen") ++ text_if needs.memory (codes " pressure") ++ text_if needs.steps (codes " spent")
     else []
 
 -- a thaw, memory, or more steps than the scenario has
@@ -35,11 +35,11 @@ line_for S s indent w (Some reason) = indent ++ name_of S w ++ codes " " ++ reas
 line_for S s indent w None = []
 
 -- a line of an instance: behind the indent its work's name and its reason
-abbrev pub line : ScenarioContents → State → List ℕ → Instance → List ℕ
-line S s indent x = line_for S s indent (work_of x) (reason_of S s x)
+abbrev pub waiter_line : ScenarioContents → State → List ℕ → Instance → List ℕ
+waiter_line S s indent x = line_for S s indent (work_of x) (reason_of S s x)
 
 abbrev pub lines : ScenarioContents → State → List ℕ → List Instance → List ℕ
-lines S s indent xs = flat_map (line S s indent) xs
+lines S s indent xs = flat_map (waiter_line S s indent) xs
 
 -- how many instances the flush waits for, and what has to come from outside
 abbrev pub head_text : ScenarioContents → State → List Instance → List ℕ
@@ -55,9 +55,9 @@ abbrev pub waits_text : ScenarioContents → State → List Instance → List �
 waits_text S s xs = if length xs == 0 then codes " done\n" else waiting_text S s xs
 
 -- what is written of a flush of this number that waits for these instances
-abbrev pub lines_of : ScenarioContents → State → ℕ → List Instance → List ℕ
-lines_of S s flush xs = codes "flush " ++ decimal flush ++ waits_text S s xs
+abbrev pub flush_waits_lines : ScenarioContents → State → ℕ → List Instance → List ℕ
+flush_waits_lines S s flush xs = codes "flush " ++ decimal flush ++ waits_text S s xs
 
 -- what is written of the flush of this number; nothing where none was given
 abbrev pub flush_lines : ScenarioContents → State → ℕ → Option (List ℕ)
-flush_lines S s flush = option_map (λ on. lines_of S s flush (waits S s on)) (slice_get s.flushes flush)
+flush_lines S s flush = option_map (λ on. flush_waits_lines S s flush (waits S s on)) (slice_get s.flushes flush)

@@ -1,5 +1,5 @@
 //! What has to come from outside before a wait can end.
-ghost use Rattle.cmwq_flush_waits.specs.Text.{needs_text, word_if};
+ghost use Rattle.cmwq_flush_waits.specs.Text.{needs_text, text_if};
 ghost use Rattle.std.specs.Prelude.{◌≡◌, ◌++◌, OnOk, string_bytes};
 
 use cmwq_types::NoMemory;
@@ -32,7 +32,7 @@ impl Needs {
 }
 
 fn word_if(given: bool, word: &'static str) -> &'static str
-    ensures { result.now ≡ word_if given word.now }
+    ensures { result.now ≡ text_if given word.now }
 {
     if given { word } else { "" }
 }

@@ -1,6 +1,6 @@
 //! The lines of what a flush waits for.
 ghost use Rattle.cmwq_reasons.specs.Reasons.{lacks_memory, lacks_thaw};
-ghost use Rattle.cmwq_flush_waits.specs.Text.{head_text, line, lines, lines_of, needs_of, waiting_text, waits_text};
+ghost use Rattle.cmwq_flush_waits.specs.Text.{head_text, waiter_line, lines, flush_waits_lines, needs_of, waiting_text, waits_text};
 ghost use Rattle.std.specs.List.{list_any};
 ghost use Rattle.std.specs.Prelude.{◌≡◌, ◌++◌, IfOk, OnOk, codes, drop, string_bytes};
 
@@ -19,7 +19,7 @@ pub(crate) fn lines_of<R: Reads>(
     flush: usize,
     waits: &[Instance],
 ) -> Result<String, NoMemory>
-    ensures { IfOk result (λ text. string_bytes text ≡ lines_of (R.loaded wording.now.machine.now) (R.state wording.now.machine.now) flush waits.now) }
+    ensures { IfOk result (λ text. string_bytes text ≡ flush_waits_lines (R.loaded wording.now.machine.now) (R.state wording.now.machine.now) flush waits.now) }
 {
     let mut text = String::new(wording.alloc);
     push_number(&mut text, "flush ", flush as u64)?;
@@ -103,7 +103,7 @@ fn push_line<R: Reads>(
     indent: &str,
     instance: Instance,
 ) -> Result<(), NoMemory>
-    ensures { OnOk result (string_bytes text.new ≡ string_bytes text.old ++ line (R.loaded wording.now.machine.now) (R.state wording.now.machine.now) indent.now instance) }
+    ensures { OnOk result (string_bytes text.new ≡ string_bytes text.old ++ waiter_line (R.loaded wording.now.machine.now) (R.state wording.now.machine.now) indent.now instance) }
 {
     let work = work_of(instance);
     let Some(reason) = reason_of(wording.machine, instance) else {

@@ -15,7 +15,7 @@ use Rattle.cmwq_types.specs.declared.scenario.QueueDecl.{QueueDecl}
 use Rattle.cmwq_grammar.specs.Fields.{◌>>=◌, after_word, declared_at, ended, made_last, new_name_at, number_at, number_where}
 use Rattle.cmwq_grammar.specs.Grammar.{Says}
 use Rattle.cmwq_grammar.specs.Instructions.{cannot_stand, queue_names, work_names, work_id}
-use Rattle.cmwq_grammar.specs.Reasons.{flags_at, not_in_body, op_at_line, queue_at_line, queue_of_flags, then_cpu, then_flags, then_max, then_number, then_queue, work_at_line, work_of}
+use Rattle.cmwq_grammar.specs.Reasons.{flags_at, not_in_body, op_at_line, queue_at_line, queue_of_flags, then_cpu, then_flags, then_max, then_number, then_queue, work_at_line, new_work}
 use Rattle.cmwq_grammar.specs.declared.why.Why.{Why}
 use Rattle.cmwq_grammar.proofs.Basics.{ok_same, bind_ok, bind_at, and_true, true_and, chosen, same_word, below}
 use Rattle.cmwq_grammar.proofs.FieldLemmas.{IsNew, declared_read, ended_read, ended_again, given_read, given_again, last_read, new_name_read, new_name_again, number_read, number_again, where_read, where_again, within_fits}
@@ -68,9 +68,9 @@ unfolding work_at_line
 work_read D rest work e =
     let name : (n : List ℕ × List (List ℕ)) × (new_name_at (work_names D) rest ≡ Ok n) × (then_queue D n ≡ Ok work) =
     bind_ok (new_name_at (work_names D) rest) (then_queue D) work e in
-    let queue : (q : ℕ × List (List ℕ)) × (declared_at (queue_names D) (name.0).1 ≡ Ok q) × (made_last (work_of (name.0).0) q ≡ Ok work) =
-    bind_ok (declared_at (queue_names D) (name.0).1) (made_last (work_of (name.0).0)) work name.2 in
-    let made : ((queue.0).1 ≡ []) × (work_of (name.0).0 (queue.0).0 ≡ work) = last_read (work_of (name.0).0) queue.0 work queue.2 in
+    let queue : (q : ℕ × List (List ℕ)) × (declared_at (queue_names D) (name.0).1 ≡ Ok q) × (made_last (new_work (name.0).0) q ≡ Ok work) =
+    bind_ok (declared_at (queue_names D) (name.0).1) (made_last (new_work (name.0).0)) work name.2 in
+    let made : ((queue.0).1 ≡ []) × (new_work (name.0).0 (queue.0).0 ≡ work) = last_read (new_work (name.0).0) queue.0 work queue.2 in
     let named : (rest ≡ (name.0).0 ∷ (name.0).1) × (is_name (name.0).0 ≡ true) × IsNew (work_names D) (name.0).0 = new_name_read (work_names D) rest name.0 name.1 in
     let there : ((name.0).1 ≡ get_or (queue_names D) (queue.0).0 [] ∷ (queue.0).1) × ((queue.0).0 < length (queue_names D)) =
     declared_read (queue_names D) (name.0).1 queue.0 queue.1 in
@@ -83,15 +83,15 @@ work_read D rest work e =
 
 pub work_again : (D : ScenarioContents) (work : WorkContents) (said : List (List ℕ)) → Says (work_line D work) said → GoodNames [] (queue_names D)
     → IsNew (work_names D) work.name → is_name work.name ≡ true → ltb work.queue.0 (length D.queues) ≡ true
-    → (rest : List (List ℕ)) × (said ≡ codes "work" ∷ rest) × (work_at_line D rest ≡ Ok (work_of work.name work.queue.0))
+    → (rest : List (List ℕ)) × (said ≡ codes "work" ∷ rest) × (work_at_line D rest ≡ Ok (new_work work.name work.queue.0))
 unfolding work_at_line
 work_again D work said says good new is below =
     let queue = (queue_at D work.queue.0).name in (
       work.name ∷ queue ∷ [],
       says,
       bind_at (new_name_at (work_names D) (work.name ∷ queue ∷ [])) (then_queue D) (work.name, queue ∷ []) (new_name_again (work_names D) work.name (queue ∷ []) is new)
-          ∙ bind_at (declared_at (queue_names D) (queue ∷ [])) (made_last (work_of work.name)) (work.queue.0, []) (queue_declared D work.queue.0 [] good below)
-          ∙ ended_again (work_of work.name work.queue.0),
+          ∙ bind_at (declared_at (queue_names D) (queue ∷ [])) (made_last (new_work work.name)) (work.queue.0, []) (queue_declared D work.queue.0 [] good below)
+          ∙ ended_again (new_work work.name work.queue.0),
     )
 
 -- Operations.

@@ -34,13 +34,13 @@ abbrev pub head_lines : List (List ℕ)
 head_lines = codes "cpus 1" ∷ codes "workers 1" ∷ codes "steps 8" ∷ codes "flushes 0" ∷ []
 
 -- the scenario of that head alone
-abbrev pub nothing : ScenarioContents
-nothing = head_of 1 1 8 0
+abbrev pub head_alone : ScenarioContents
+head_alone = head_of 1 1 8 0
 
 -- the same, written freely
 abbrev pub free_head : List ℕ
 free_head =
-    codes "# a scenario of nothing\r\n\ncpus\t1 # one CPU\r\n  workers 1\t\r\n\t\r\nsteps \t 8#steps\nflushes 0\r\n# the end"
+    codes "# a scenario of head_alone\r\n\ncpus\t1 # one CPU\r\n  workers 1\t\r\n\t\r\nsteps \t 8#steps\nflushes 0\r\n# the end"
 
 -- the head and then these lines
 abbrev pub after_head : List (List ℕ) → List ℕ
@@ -52,8 +52,8 @@ work_and_body =
     codes "queue q max 1" ∷ codes "work a q" ∷ codes "body a" ∷ codes "queue a 0" ∷ codes "finish" ∷ []
 
 -- the work that queues itself until no steps are left
-abbrev pub queues_itself_lines : List (List ℕ)
-queues_itself_lines =
+abbrev pub itself_text_lines : List (List ℕ)
+itself_text_lines =
     (codes "cpus 1" ∷ codes "workers 4" ∷ codes "steps 8" ∷ codes "flushes 2" ∷ [])
     ++ work_and_body ++ codes "actor t" ∷ codes "queue a 0" ∷ codes "next * 8" ∷ codes "state a" ∷ []
 
@@ -80,12 +80,12 @@ itself_lines =
     record { instr = instr.Queue (record { 0 = 0 }) 0; times = 1 } ∷ record { instr = instr.Next; times = 8 }
     ∷ record { instr = instr.State (record { 0 = 0 }); times = 1 } ∷ []
 
-abbrev pub queues_itself : ScenarioContents
-queues_itself = one_work (actor_t itself_lines)
+abbrev pub itself_scenario : ScenarioContents
+itself_scenario = one_work (actor_t itself_lines)
 
 -- that text up to the actor's name, and then these lines
 abbrev pub in_actor_t : List (List ℕ) → List ℕ
-in_actor_t lines = text (take 10 queues_itself_lines ++ lines)
+in_actor_t lines = text (take 10 itself_text_lines ++ lines)
 
 abbrev pub disabling_lines : List Line
 disabling_lines =
@@ -101,11 +101,11 @@ queue_with_memory =
 
 -- that text cut after n lines
 abbrev pub cut_after : ℕ → List ℕ
-cut_after n = text (take n queues_itself_lines)
+cut_after n = text (take n itself_text_lines)
 
 -- that text with a byte after line 8 that no UTF-8 has
 abbrev pub with_bad_byte : List ℕ
-with_bad_byte = text (take 7 queues_itself_lines ++ (codes "queue a 0" ++ 255 ∷ []) ∷ codes "finish" ∷ [])
+with_bad_byte = text (take 7 itself_text_lines ++ (codes "queue a 0" ++ 255 ∷ []) ∷ codes "finish" ∷ [])
 
 -- One line's reason, by the lines that stand before it.
 

@@ -77,11 +77,11 @@ add_queue S queue =
 
 -- `work NAME QUEUE`
 
-abbrev pub work_of : List ℕ → ℕ → WorkContents
-work_of name queue = record { name = name; queue = queue_id queue; body = [] }
+abbrev pub new_work : List ℕ → ℕ → WorkContents
+new_work name queue = record { name = name; queue = queue_id queue; body = [] }
 
 abbrev pub then_queue : ScenarioContents → List ℕ × List (List ℕ) → Result WorkContents Why
-then_queue S name = declared_at (queue_names S) name.1 >>= made_last (work_of name.0)
+then_queue S name = declared_at (queue_names S) name.1 >>= made_last (new_work name.0)
 
 unfoldable pub work_at_line : ScenarioContents → List (List ℕ) → Result WorkContents Why
 work_at_line S rest = new_name_at (work_names S) rest >>= then_queue S

@@ -1,5 +1,5 @@
 //! Short texts, as theorems over the definitions: what reading them gives.
-ghost use Rattle.cmwq_grammar.specs.Examples.{AfterBodyIs, DeclaredIs, FaultIs, FirstLineIs, InActorIs, InBodyIs, OfferedAre, ReadsAs, sixteen_actor_lines, actor_t, after_head, cut_after, disabling_lines, free_head, head_lines, in_actor_t, itself_lines, long_body, nothing, one_work, pressing_lines, queue_alone, queue_q, queue_with_memory, queues_itself, sixteen_actors, text, with_bad_byte};
+ghost use Rattle.cmwq_grammar.specs.Examples.{AfterBodyIs, DeclaredIs, FaultIs, FirstLineIs, InActorIs, InBodyIs, OfferedAre, ReadsAs, sixteen_actor_lines, actor_t, after_head, cut_after, disabling_lines, free_head, head_lines, in_actor_t, itself_lines, long_body, head_alone, one_work, pressing_lines, queue_alone, queue_q, queue_with_memory, itself_scenario, sixteen_actors, text, with_bad_byte};
 ghost use Rattle.cmwq_types.specs.Listing.{listing};
 ghost use Rattle.std.specs.Prelude.{◌≡◌, ◌∷◌, ◌++◌, [], codes, take};
 
@@ -27,14 +27,14 @@ pub fn actor_in_an_open_body_is_a_bad_body()
 
 /// Carriage returns, tabs, comments and blank lines are free, and don't stand in the listing.
 pub fn spaces_and_comments_are_free()
-    ensures read { ReadsAs free_head nothing }
-    ensures listed { listing nothing ≡ text head_lines }
+    ensures read { ReadsAs free_head head_alone }
+    ensures listed { listing head_alone ≡ text head_lines }
 {}
 
 /// The listing of a scenario reads as that scenario.
 pub fn listing_reads_as_its_scenario()
-    ensures listed { listing queues_itself ≡ cut_after 13 }
-    ensures read { ReadsAs (cut_after 13) queues_itself }
+    ensures listed { listing itself_scenario ≡ cut_after 13 }
+    ensures read { ReadsAs (cut_after 13) itself_scenario }
 {}
 
 /// That listing, cut after so many lines: in the head and before a body a word is missing, an open body
@@ -62,8 +62,8 @@ pub fn disable_and_enable_are_read()
 
 /// The flag `mem_reclaim` stands beside any other, and memory pressure begins and ends by a word alone.
 pub fn memory_is_told_of()
-    ensures flag { ReadsAs (after_head (codes "queue q max 1 mem_reclaim ordered" ∷ [])) (record nothing { queues = queue_with_memory }) }
-    ensures listed { listing (record nothing { queues = queue_with_memory }) ≡ after_head (codes "queue q max 1 ordered mem_reclaim" ∷ []) }
+    ensures flag { ReadsAs (after_head (codes "queue q max 1 mem_reclaim ordered" ∷ [])) (record head_alone { queues = queue_with_memory }) }
+    ensures listed { listing (record head_alone { queues = queue_with_memory }) ≡ after_head (codes "queue q max 1 ordered mem_reclaim" ∷ []) }
     ensures words { ReadsAs (in_actor_t (codes "pressure * 2" ∷ codes "relief" ∷ [])) (one_work (actor_t pressing_lines)) }
 {}
 
@@ -163,7 +163,7 @@ pub fn reasons_in_actors()
 
 /// One actor, or one operation that isn't `finish`, over its limit is too many.
 pub fn one_over_a_limit_is_too_many()
-    ensures actors { ReadsAs (after_head sixteen_actor_lines) (record nothing { actors = sixteen_actors }) }
+    ensures actors { ReadsAs (after_head sixteen_actor_lines) (record head_alone { actors = sixteen_actors }) }
     ensures actor { FaultIs (after_head (sixteen_actor_lines ++ codes "actor t" ∷ [])) 21 (Why.Fault Fault.TooMany) }
     ensures operation { FaultIs (after_head (long_body ++ codes "burn 1" ∷ [])) 71 (Why.Fault Fault.TooMany) }
     ensures finish { FaultIs (after_head (long_body ++ codes "finish" ∷ codes "finish" ∷ [])) 72 Why.Misplaced }

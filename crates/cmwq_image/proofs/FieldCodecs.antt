@@ -13,7 +13,7 @@ use Rattle.std.proofs.lemmas.Slice.Eq.{bytes_eq-Decides}
 use Rattle.cmwq_types.specs.Faults.{within}
 use Rattle.cmwq_types.specs.Name.{is_name, padded}
 use Rattle.cmwq_image.specs.Image.{number, name_field}
-use Rattle.cmwq_image.specs.ImageFault.{Reader, ◌>>=◌, done, many, read_number, if_within, read_version, read_name, name_of}
+use Rattle.cmwq_image.specs.ImageFault.{Reader, ◌>>=◌, done, many, read_number, if_within, read_version, read_name, name_in_field}
 use Rattle.cmwq_image.specs.Limits.{AreBytes}
 use Rattle.cmwq_image.specs.declared.error.ImageError.TheVariants as errors
 use Rattle.cmwq_image.specs.declared.version.TheConstants.{FIRST_VERSION, VERSION}
@@ -102,7 +102,7 @@ versions =
 
 -- ---- names
 
-name_meant : (bytes name : List ℕ) → name_of bytes ≡ Some name → IsTrue (is_name name) × (bytes ≡ name_field name)
+name_meant : (bytes name : List ℕ) → name_in_field bytes ≡ Some name → IsTrue (is_name name) × (bytes ≡ name_field name)
 name_meant [] name h = absurd cc
 name_meant (len ∷ bytes) name h = go (bytes_eq (len ∷ bytes) (name_field (take len bytes)) && is_name (take len bytes)) refl h
   where
@@ -120,7 +120,7 @@ name_size name named =
     let h : nat_le (length name) 15 ≡ true = grind (arith, nat_tests) in
     grind (arith, nat_tests)
 
-name_again : (name : List ℕ) → IsTrue (is_name name) → name_of (name_field name) ≡ Some name
+name_again : (name : List ℕ) → IsTrue (is_name name) → name_in_field (name_field name) ≡ Some name
 name_again name named =
     let front : take (length name) (padded name) ≡ name = take_at name (replicate (15 - length name) 0) (length name) refl in
     let equal : bytes_eq (name_field name) (name_field name) ≡ true = (bytes_eq-Decides (name_field name) (name_field name)).1 refl in
@@ -132,7 +132,7 @@ name_long : (name : List ℕ) → IsTrue (is_name name) → length (name_field n
 name_long name named = omega (arith, name_size name named, length-append name (replicate (15 - length name) 0), length-replicate {A = ℕ} (15 - length name) 0)
 
 pub names : Codec read_name name_field (λ name. IsTrue (is_name name))
-names = of_field errors.BadField bad_field 16 name_of name_field (λ name. IsTrue (is_name name)) (record {
+names = of_field errors.BadField bad_field 16 name_in_field name_field (λ name. IsTrue (is_name name)) (record {
   small = omega arith;
   takes = λ bytes name fine size meant. name_meant bytes name meant;
   again = name_again;

@@ -8,7 +8,7 @@ use Rattle.std.specs.Str.{bytes_eq}
 use Rattle.cmwq_types.specs.Contents.{ScenarioContents}
 use Rattle.cmwq_types.specs.Faults.{first_fault, IsValid}
 use Rattle.cmwq_image.specs.Image.{all_flags, magic}
-use Rattle.cmwq_image.specs.ImageFault.{Place, Reader, ◌>>=◌, hand_on, done, many, field, accepted, behind, if_within, read_number, read_version, read_name, name_of, read_queue, read_op_tag, op_tag_of, op_room, read_op, read_instr_tag, tagged, instr_room, read_instr, read_work, read_line, read_actor, read_head, scenario_at, judged, unless_faulty, from_there, reading}
+use Rattle.cmwq_image.specs.ImageFault.{Place, Reader, ◌>>=◌, hand_on, done, many, field, accepted, behind, if_within, read_number, read_version, read_name, name_in_field, read_queue, read_op_tag, op_tag_of, op_room, read_op, read_instr_tag, tagged, instr_room, read_instr, read_work, read_line, read_actor, read_head, scenario_at, judged, unless_faulty, from_there, reading}
 use Rattle.cmwq_image.specs.Limits.{HasSize}
 use Rattle.cmwq_image.specs.Versions.{IsImageOf}
 use Rattle.cmwq_types.specs.Values.{IsScenario}
@@ -138,7 +138,7 @@ long_then : {B : Type 0} {Goal : B → Type 0} (low high : ℕ) (next : ℕ → 
 long_then {Goal} low high next rest others = near_then (read_number w32 low high) next 4 rest (InRange low high) Goal (near_number w32 low high) others
 
 name_then : {B : Type 0} {Goal : B → Type 0} (next : List ℕ → Reader B) (rest : ℕ) → ((name : List ℕ) → Near (next name) rest Goal) → Near (read_name >>= next) (16 + rest) Goal
-name_then {Goal} next rest others = near_then read_name next 16 rest Any Goal (near_field errors.BadField 16 name_of Any (λ bytes x e. tt)) (λ name fits. others name)
+name_then {Goal} next rest others = near_then read_name next 16 rest Any Goal (near_field errors.BadField 16 name_in_field Any (λ bytes x e. tt)) (λ name fits. others name)
 
 -- so many parts of one kind
 many_then : {A B : Type 0} {Goal : B → Type 0} (one : Reader A) (size : ℕ) → Near one size Any → (count : ℕ) (next : List A → Reader B) (rest : ℕ) → ((xs : List A) → Near (next xs) rest Goal)

@@ -8,7 +8,7 @@ use Rattle.std.specs.List.{list_all}
 use Rattle.std.specs.Str.{bytes_eq}
 use Rattle.cmwq_types.specs.Name.{is_name, padded}
 use Rattle.cmwq_image.specs.Image.{name_field}
-use Rattle.cmwq_image.specs.ImageFault.{name_of}
+use Rattle.cmwq_image.specs.ImageFault.{name_in_field}
 
 zeros_are : (bytes : List ℕ) → list_all (λ byte. eqb byte 0) bytes ≡ true → bytes ≡ replicate (length bytes) 0
 zeros_are [] h = refl
@@ -44,7 +44,7 @@ field_is bytes len size fits =
 
 -- bytes that begin with a length, with zeros behind so many bytes
 pub named : (bytes name rest : List ℕ) (len : ℕ) → length bytes ≡ 16 → get_or bytes 0 0 ≡ len → len ≤ 15 → name ≡ take len (drop 1 bytes) → rest ≡ drop len (drop 1 bytes)
-    → list_all (λ byte. eqb byte 0) rest ≡ true → name_of bytes ≡ cond (is_name name) (Some name) None
+    → list_all (λ byte. eqb byte 0) rest ≡ true → name_in_field bytes ≡ cond (is_name name) (Some name) None
 named [] name rest len size first fits front back zeros = absurd (omega arith)
 named (l ∷ bs) name rest len size first fits front back zeros =
     let size_is : length bs ≡ 15 = omega arith in
@@ -54,7 +54,7 @@ named (l ∷ bs) name rest len size first fits front back zeros =
 
 -- bytes that aren't zeros there
 pub unnamed : (bytes rest : List ℕ) (len : ℕ) → length bytes ≡ 16 → get_or bytes 0 0 ≡ len → len ≤ 15 → rest ≡ drop len (drop 1 bytes)
-    → list_all (λ byte. eqb byte 0) rest ≡ false → name_of bytes ≡ None
+    → list_all (λ byte. eqb byte 0) rest ≡ false → name_in_field bytes ≡ None
 unnamed [] rest len size first fits back more = absurd (omega arith)
 unnamed (l ∷ bs) rest len size first fits back more =
     let size_is : length bs ≡ 15 = omega arith in

@@ -92,14 +92,14 @@ abbrev pub read_version : Reader ℕ
 read_version = field (λ at. errors.Version) 2 (λ bytes. if_within FIRST_VERSION VERSION (from_be_bytes w16 bytes))
 
 -- the name of which these bytes are the field
-abbrev pub name_of : List ℕ → Option (List ℕ)
-name_of [] = None
-name_of (len ∷ bytes) =
+abbrev pub name_in_field : List ℕ → Option (List ℕ)
+name_in_field [] = None
+name_in_field (len ∷ bytes) =
     let name = take len bytes in
     if bytes_eq (len ∷ bytes) (name_field name) && is_name name then Some name else None
 
 abbrev pub read_name : Reader (List ℕ)
-read_name = field errors.BadField 16 name_of
+read_name = field errors.BadField 16 name_in_field
 
 -- Queues.
 

@@ -18,13 +18,13 @@ abbrev pub worked_work : WorkContents
 worked_work = record { name = 97 ∷ []; queue = record { 0 = 0 }; body = op.Queue (record { 0 = 0 }) 0 ∷ op.Finish ∷ [] }
 
 -- an instruction, this often
-abbrev pub times : Instr → ℕ → Line
-times instr n = record { instr = instr; times = n }
+abbrev pub this_often : Instr → ℕ → Line
+this_often instr n = record { instr = instr; times = n }
 
 -- `actor t`, `queue a 0`, `next * 8`, and this last line
 abbrev pub worked_actor : Instr → ActorContents
 worked_actor last =
-    record { name = 116 ∷ []; lines = times (instr.Queue (record { 0 = 0 }) 0) 1 ∷ times instr.Next 8 ∷ times last 1 ∷ [] }
+    record { name = 116 ∷ []; lines = this_often (instr.Queue (record { 0 = 0 }) 0) 1 ∷ this_often instr.Next 8 ∷ this_often last 1 ∷ [] }
 
 abbrev pub ending_with : Instr → ScenarioContents
 ending_with last =

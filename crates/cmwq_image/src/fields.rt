@@ -1,5 +1,5 @@
 //! The fields of an image, one after the other.
-ghost use Rattle.cmwq_image.specs.ImageFault.{GivesRead, behind_magic, field, read_instr_tag, read_name, name_of, read_number, read_op_tag, read_version};
+ghost use Rattle.cmwq_image.specs.ImageFault.{GivesRead, behind_magic, field, read_instr_tag, read_name, name_in_field, read_number, read_op_tag, read_version};
 ghost use Rattle.std.specs.List.{list_all};
 ghost use Rattle.std.specs.Int.{w8, w16, w32};
 ghost use Rattle.std.specs.Prelude.{◌≡◌, ◌+◌, ◌≤◌, ◌==◌, IfOk, OnOk, Some, length};
@@ -160,7 +160,7 @@ impl<'a> Fields<'a> {
 /// The name of which these 16 bytes are the field.
 fn name_of(bytes: &[u8]) -> Option<Name>
     requires { length bytes.now ≡ 16 }
-    ensures { result ≡ name_of bytes.now }
+    ensures { result ≡ name_in_field bytes.now }
 {
     let len = bytes[0] as usize;
     if len > MAX_NAME {

@@ -29,7 +29,7 @@ use Rattle.cmwq_types.specs.declared.reply.Reply.{Reply}
 use Rattle.cmwq_types.specs.declared.reply.Reply.TheVariants as reply
 use Rattle.cmwq_table.specs.Counts.{is_rescuer}
 use Rattle.cmwq_table.specs.Events.{already_text, asked_name, event_object, event_text, event_verb, line_at, mode_text, place_text, refusal_text, reply_words, run_text, was_text, work_name, worker_number, worker_text}
-use Rattle.cmwq_interleaving.specs.Numbers.{IsEvent, IsPlace, IsReply, IsRun, IsTime}
+use Rattle.cmwq_interleaving.specs.Numbers.{IsEvent, IsNumberedPlace, IsReply, IsNumberedRun, IsTime}
 
 abbrev pub no_feed : List ℕ → Bool
 no_feed text = list_all (λ b. not (eqb b 10)) text
@@ -108,7 +108,7 @@ asked_piece S _ are = literal 15 [] refl refl
 
 -- The words of a reply.
 
-place_piece : (place : Option Place) → IsPlace place → Piece 40 (place_text place)
+place_piece : (place : Option Place) → IsNumberedPlace place → Piece 40 (place_text place)
 place_piece None is = literal 40 (codes "idle") refl refl
 place_piece (Some (Timer due cpu)) is = within 40 (joint (literal 6 (codes "timer ") refl refl) (number due is)) refl
 place_piece (Some (Inactive pool)) is = within 40 (joint (literal 9 (codes "inactive ") refl refl) (number pool is)) refl
@@ -130,7 +130,7 @@ mode_piece run Runnable pool worker is = within 80 (joint (literal 5 (codes "run
 mode_piece run (Asleep until) pool worker is =
     within 80 (joint (joint (joint (literal 7 (codes "asleep ") refl refl) (worker_piece run pool worker)) (literal 1 (codes " ") refl refl)) (number until is)) refl
 
-run_piece : (run : Option WorkRun) → IsRun run → Piece 80 (run_text run)
+run_piece : (run : Option WorkRun) → IsNumberedRun run → Piece 80 (run_text run)
 run_piece None is = literal 80 (codes "still") refl refl
 run_piece (Some run) is = mode_piece run run.mode is.0 is.1 is.2
 

@@ -12,7 +12,7 @@ use Rattle.cmwq_actors.specs.declared.ending.Ending.TheVariants as ending
 use Rattle.cmwq_streams.specs.Sending.{HasSentFront}
 use Rattle.cmwq_streams.specs.declared.error.PlayError.{PlayError}
 use Rattle.cmwq_streams.specs.declared.error.PlayError.TheVariants as errors
-use Rattle.cmwq_interleaving.specs.Plays.{HasFronts, IsActed, IsFull, IsLeft, Left, LeftFront, told}
+use Rattle.cmwq_interleaving.specs.Plays.{HasFronts, IsActed, IsFull, IsLeft, Left, LeftFront, play_end}
 
 -- what is whole is a front
 whole_fronts : (scripts : List (List Instr)) (history : List Entry) → Interleaves scripts history → InterleavesFronts scripts history
@@ -31,17 +31,17 @@ ended_fronts scripts capacity history ending.Exhausted ended = ended
 
 -- What was left was written, and the play ends as its actors did.
 module _ (S : ScenarioContents) (capacity : ℕ) (text : List ℕ) (before after : Option (List ℕ)) where
-  pub ended_ok : (e : Ending) → IsActed S capacity e text → Appends before after text → OnOk (told e) (Left S (λ h. Interleaves (scripts_of S) h) before after)
+  pub ended_ok : (e : Ending) → IsActed S capacity e text → Appends before after text → OnOk (play_end e) (Left S (λ h. Interleaves (scripts_of S) h) before after)
   ended_ok ending.Done acted out = (acted.0, text, acted.1, acted.2, out)
   ended_ok ending.Full acted out = tt
   ended_ok ending.Exhausted acted out = tt
 
-  pub ended_full : (e : Ending) → IsActed S capacity e text → Appends before after text → told e ≡ Err errors.Full → Left S (λ h. IsFull S capacity h) before after
+  pub ended_full : (e : Ending) → IsActed S capacity e text → Appends before after text → play_end e ≡ Err errors.Full → Left S (λ h. IsFull S capacity h) before after
   ended_full ending.Done acted out is = cc
   ended_full ending.Full acted out is = (acted.0, text, acted.1, acted.2, out)
   ended_full ending.Exhausted acted out is = cc
 
-  pub ended_tickets : (e : Ending) → IsActed S capacity e text → Appends before after text → told e ≡ Err errors.Tickets → Left S (λ h. HasFronts S h) before after
+  pub ended_tickets : (e : Ending) → IsActed S capacity e text → Appends before after text → play_end e ≡ Err errors.Tickets → Left S (λ h. HasFronts S h) before after
   ended_tickets ending.Done acted out is = cc
   ended_tickets ending.Full acted out is = cc
   ended_tickets ending.Exhausted acted out is = (acted.0, text, acted.1, acted.2, out)

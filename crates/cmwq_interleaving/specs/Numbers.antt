@@ -10,20 +10,20 @@ use Rattle.cmwq_types.specs.declared.reply.Reply.{Reply}
 use Rattle.cmwq_types.specs.declared.reply.Reply.TheVariants as reply
 use Rattle.cmwq_types.specs.declared.reply.WorkRun.{WorkRun}
 
-abbrev pub IsPlace : Option Place → Type 0
-IsPlace None = Unit {0}
-IsPlace (Some (Timer due cpu)) = due < 2 ^ 64
-IsPlace (Some (Inactive pool)) = pool < 2 ^ 64
-IsPlace (Some (Listed pool)) = pool < 2 ^ 64
-IsPlace (Some (Deferred pool)) = pool < 2 ^ 64
+abbrev pub IsNumberedPlace : Option Place → Type 0
+IsNumberedPlace None = Unit {0}
+IsNumberedPlace (Some (Timer due cpu)) = due < 2 ^ 64
+IsNumberedPlace (Some (Inactive pool)) = pool < 2 ^ 64
+IsNumberedPlace (Some (Listed pool)) = pool < 2 ^ 64
+IsNumberedPlace (Some (Deferred pool)) = pool < 2 ^ 64
 
 abbrev pub IsTime : Mode → Type 0
 IsTime Runnable = Unit {0}
 IsTime (Asleep until) = until < 2 ^ 64
 
-abbrev pub IsRun : Option WorkRun → Type 0
-IsRun None = Unit {0}
-IsRun (Some run) = (run.pool < 2 ^ 64) × (run.worker < 2 ^ 64) × IsTime run.mode
+abbrev pub IsNumberedRun : Option WorkRun → Type 0
+IsNumberedRun None = Unit {0}
+IsNumberedRun (Some run) = (run.pool < 2 ^ 64) × (run.worker < 2 ^ 64) × IsTime run.mode
 
 abbrev pub IsEvent : Event → Type 0
 IsEvent (event.Burns ticks) = ticks < 2 ^ 64
@@ -41,7 +41,7 @@ IsEvent (event.QueuesDisabled other) = Unit {0}
 abbrev pub IsReply : Reply → Type 0
 IsReply (reply.Sync was flush) = flush < 2 ^ 64
 IsReply (reply.Flush flush) = flush < 2 ^ 64
-IsReply (reply.Found state) = IsPlace state.place × IsRun state.run
+IsReply (reply.Found state) = IsNumberedPlace state.place × IsNumberedRun state.run
 IsReply (reply.Event work event) = IsEvent event
 IsReply reply.Queued = Unit {0}
 IsReply reply.Done = Unit {0}

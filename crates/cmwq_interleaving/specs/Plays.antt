@@ -42,10 +42,10 @@ abbrev pub IsActed : ScenarioContents → ℕ → Ending → List ℕ → Type 0
 IsActed S capacity ending text = (history : List Entry) × AllHaveEnded (scripts_of S) capacity history ending × IsLeft S history text
 
 -- how a play ends, by how its actors end
-abbrev pub told : Ending → Result (Unit {0}) PlayError
-told ending.Done = Ok tt
-told ending.Full = Err errors.Full
-told ending.Exhausted = Err errors.Tickets
+abbrev pub play_end : Ending → Result (Unit {0}) PlayError
+play_end ending.Done = Ok tt
+play_end ending.Full = Err errors.Full
+play_end ending.Exhausted = Err errors.Tickets
 
 -- what a play may answer before anything is written
 abbrev pub IsBeforePlaying : PlayError → Type 0

@@ -1,5 +1,5 @@
 //! The numbers in a reply fit their types, so they have at most twenty digits.
-ghost use Rattle.cmwq_interleaving.specs.Numbers.{IsEvent, IsPlace, IsReply, IsRun, IsTime};
+ghost use Rattle.cmwq_interleaving.specs.Numbers.{IsEvent, IsNumberedPlace, IsReply, IsNumberedRun, IsTime};
 
 use cmwq_types::{Event, Mode, Place, Reply, WorkRun};
 
@@ -20,7 +20,7 @@ pub(crate) fn fit(reply: Reply)
 
 /// The numbers of the place fit.
 fn place_fits(place: Option<Place>)
-    ensures { IsPlace place }
+    ensures { IsNumberedPlace place }
 {
     match place {
         Some(Place::Timer { due: _, cpu: _ }) => {}
@@ -33,7 +33,7 @@ fn place_fits(place: Option<Place>)
 
 /// The numbers of the run fit.
 fn run_fits(run: Option<WorkRun>)
-    ensures { IsRun run }
+    ensures { IsNumberedRun run }
 {
     if let Some(run) = run {
         let _numbers = (run.pool, run.worker);

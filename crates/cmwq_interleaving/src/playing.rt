@@ -1,7 +1,7 @@
 //! `play`: from a scenario's actors, each in a thread, to the text of the interleaving that came out.
 ghost use Rattle.cmwq_actors.specs.Interleaving.{Interleaves, scripts_of};
 ghost use Rattle.cmwq_engine.specs.History.{instrs_of};
-ghost use Rattle.cmwq_interleaving.specs.Plays.{HasFronts, IsActed, IsBeforePlaying, IsFull, IsLeft, IsPlayError, Left, LeftFront, told};
+ghost use Rattle.cmwq_interleaving.specs.Plays.{HasFronts, IsActed, IsBeforePlaying, IsFull, IsLeft, IsPlayError, Left, LeftFront, play_end};
 ghost use Rattle.cmwq_types.specs.Faults.{IsValid};
 ghost use Rattle.cmwq_types.specs.declared.limits.TheConstants.{MAX_LINES};
 ghost use Rattle.std.specs.Io.KnownBytes.{Keeps};
@@ -95,7 +95,7 @@ fn instrs_of(alloc: Global, history: &[Entry]) -> Result<Vec<Instr>, NoMemory>
 
 /// How a play ends, by how its actors end.
 fn told(ending: Ending) -> Result<(), PlayError>
-    ensures { result ≡ told ending }
+    ensures { result ≡ play_end ending }
 {
     match ending {
         Ending::Done => Ok(()),

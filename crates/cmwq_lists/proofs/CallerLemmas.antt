@@ -2,7 +2,7 @@
 use Rattle.std.proofs.Common.{◌≡◌, refl, ℕ, ◌+◌, ◌<◌, ◌≤◌, Bool, ◌==◌, true, false, List, [], ◌∷◌, length, cond, nat_lt, arith}
 use Rattle.std.proofs.lemmas.Bool.Decides.{nat_tests}
 use Rattle.std.proofs.lemmas.List.Sums.{sum_by-set}
-use Rattle.cmwq_lists.specs.Contents.{AllAfter, Contents, Entry, IsSorted, NoneBelow, behind_front, held, list_at, placed, with_list, without}
+use Rattle.cmwq_lists.specs.Contents.{AllAfter, ListContents, Entry, IsSorted, NoneBelow, behind_front, held, list_at, placed, with_list, without}
 use Rattle.cmwq_lists.specs.Ranks.{Rises}
 
 -- orders that rise don't fall
@@ -58,5 +58,5 @@ sorted_without key (e ∷ rest) sorted = by_test (e.key == key) (sorted_without 
     by_test false later = (below_without e.node.order key rest sorted.0, later)
 
 -- how many nodes are held, once one list is another
-pub held-with_list : (c : Contents) (list : ℕ) (entries : List Entry) → list < length c.lists → held (with_list c list entries) + length (list_at c list) ≡ held c + length entries
+pub held-with_list : (c : ListContents) (list : ℕ) (entries : List Entry) → list < length c.lists → held (with_list c list entries) + length (list_at c list) ≡ held c + length entries
 held-with_list c list entries within = sum_by-set length c.lists list entries [] within

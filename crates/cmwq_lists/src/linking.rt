@@ -1,5 +1,5 @@
 //! Linking a node in and taking one out, where the ends of its list are at hand.
-ghost use Rattle.cmwq_lists.specs.Cells.{back_moved, Changes, entry, front_moved, IsChain, IsCut, IsNext, IsTakenOut, OthersKept, with_next, with_prev};
+ghost use Rattle.cmwq_lists.specs.Cells.{back_moved, Changes, list_entry, front_moved, IsChain, IsCut, IsNext, IsTakenOut, OthersKept, with_next, with_prev};
 ghost use Rattle.cmwq_lists.specs.Contents.{Entry};
 ghost use Rattle.slab.specs.Slab.{ContainsKey, get, HasRoomFor, slab_len};
 ghost use Rattle.std.specs.Prelude.{◌≡◌, ◌≢◌, ◌⊎◌, ℕ, ◌+◌, ◌<◌, ◌^◌, List, ◌∷◌, ◌++◌, IfSome, IsSome, None, Some};
@@ -59,7 +59,7 @@ pub(crate) fn link(
     requires at { (before : List Entry) × (behind : List Entry) × IsCut (get cells.old) list ends.old before after behind }
     requires fits { ends.old.len + 1 < 2 ^ 64 }
     ensures fresh { get cells.old result ≡ None }
-    ensures chain { (before behind : List Entry) → IsCut (get cells.old) list ends.old before after behind → IsChain (get cells.new) list ends.new (before ++ entry result node ∷ behind) }
+    ensures chain { (before behind : List Entry) → IsCut (get cells.old) list ends.old before after behind → IsChain (get cells.new) list ends.new (before ++ list_entry result node ∷ behind) }
     ensures others { OthersKept list (get cells.old) (get cells.new) }
     ensures no_more { (key : ℕ) → IsSome (get cells.new key) → (key ≡ result) ⊎ IsSome (get cells.old key) }
     ensures len { slab_len cells.new ≡ slab_len cells.old + 1 }

@@ -14,7 +14,7 @@ use Rattle.cmwq_lock.specs.declared.views.Phase.{Phase}
 use Rattle.cmwq_lock.specs.declared.views.Phase.TheVariants.{Out, Waiting, Inside}
 use Rattle.cmwq_lock.specs.declared.views.View.{View}
 use Rattle.cmwq_lock.specs.declared.views.View.TheVariants.{Pass}
-use Rattle.cmwq_lock.specs.Views.{is_out, loaded_of, loaded, lost, waiting, queued}
+use Rattle.cmwq_lock.specs.Views.{is_out, loaded_of, loaded, lost, waiting, just_drawn}
 use Rattle.cmwq_lock.specs.Rule.{Standing, Homes, HasHolder, IsRuled}
 use Rattle.cmwq_lock.specs.Steps.{load_drawn, exchange_drawn}
 use Rattle.cmwq_lock.proofs.Puts.{put, put_here, put_else, all_of, set_there}
@@ -31,8 +31,8 @@ module _ {T O E : Type 0} (K : Ghosts T O E) (o : O) where
   -- the ticket drawn is held by the seat that draws it, and all others as before
   drawn_on : (s : State (Option (Held T)) (View O E)) (r : IsRuled K o s) (id n : ℕ) (who : Identity O E) (t : Tries) → get_elem? s.views id ≡ some (Pass who (Out t)) → n ≡ r.at.drawn
       → (ticket : ℕ) → r.at.served ≤ ticket → ticket < r.at.drawn + 1
-      → HasHolder K o (stood r.at (r.at.drawn + 1) r.at.served r.at.current (put r.at.holder r.at.drawn id)) (set s.views id (Pass who (Waiting (queued n)))) ticket
-  drawn_on s r id n who t here is ticket least below = let after : View O E = Pass who (Waiting (queued n)) in let holder' : ℕ → ℕ = put r.at.holder r.at.drawn id in
+      → HasHolder K o (stood r.at (r.at.drawn + 1) r.at.served r.at.current (put r.at.holder r.at.drawn id)) (set s.views id (Pass who (Waiting (just_drawn n)))) ticket
+  drawn_on s r id n who t here is ticket least below = let after : View O E = Pass who (Waiting (just_drawn n)) in let holder' : ℕ → ℕ = put r.at.holder r.at.drawn id in
       let at' : Standing O E = stood r.at (r.at.drawn + 1) r.at.served r.at.current holder' in dite (ℕ_discrete ticket r.at.drawn)
       (λ e. (after, ap (get_elem? (set s.views id after)) (ap holder' e ∙ put_here r.at.holder r.at.drawn id) ∙ set_there s.views id (Pass who (Out t)) after here, refl, is ∙ sym e))
       (λ (apart : ticket ≢ r.at.drawn). holder_stays K o r.at at' s.views id (Pass who (Out t)) after ticket (put_else r.at.holder r.at.drawn id ticket apart) here (λ has is'. cc) (r.each_ticket ticket least (omega arith)))
@@ -68,12 +68,12 @@ module _ {T O E : Type 0} (K : Ghosts T O E) (o : O) where
   }
 
   exchange_won : (slots id old : ℕ) (who : Identity O E) (t : Tries) (carried : List (ℕ × Option (Held T))) (s : State (Option (Held T)) (View O E)) (r : IsRuled K o s) → get_elem? s.views id ≡ some (Pass who (Out t))
-      → get_or s.words 0 0 ≡ old → old < 2 ^ 62 → IsRuled K o (stepped s 0 (old + 1) id carried (Pass who (Waiting (queued (get_or s.words 0 0)))) keeps)
+      → get_or s.words 0 0 ≡ old → old < 2 ^ 62 → IsRuled K o (stepped s 0 (old + 1) id carried (Pass who (Waiting (just_drawn (get_or s.words 0 0)))) keeps)
   exchange_won slots id old who t carried s r here hit small = let n : ℕ = get_or s.words 0 0 in let is : n ≡ r.at.drawn = ap (λ ws. get_or ws 0 0) r.words_are in let order = r.in_order in
       let same : old ≡ r.at.drawn = sym hit ∙ is in
-      stepped_on K o s r (r.at.drawn + 1) (put r.at.holder r.at.drawn id) id who (Out t) (Waiting (queued n)) (set s.words 0 (old + 1)) s.homes here
+      stepped_on K o s r (r.at.drawn + 1) (put r.at.holder r.at.drawn id) id who (Out t) (Waiting (just_drawn n)) (set s.words 0 (old + 1)) s.homes here
       (ap (λ ws. set ws 0 (old + 1)) r.words_are ∙ ap (λ d. (d + 1) ∷ r.at.served ∷ []) same) (omega arith) (omega arith)
-      (slot_stays K o r.at _ s.homes s.views id (Pass who (Out t)) (Pass who (Waiting (queued n))) refl refl here refl r.slot_is)
+      (slot_stays K o r.at _ s.homes s.views id (Pass who (Out t)) (Pass who (Waiting (just_drawn n))) refl refl here refl r.slot_is)
       (drawn_on s r id n who t here is)
       (record { not_ended = omega arith; was_drawn = omega arith; is_holder = ap (put r.at.holder r.at.drawn id) is ∙ put_here r.at.holder r.at.drawn id; last_below = omega arith })
       (others_draw r.at s.homes id)

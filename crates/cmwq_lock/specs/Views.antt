@@ -15,8 +15,8 @@ abbrev pub untried : Tries
 untried = record { loads = 0; loaded = 0; losses = 0; found = 0 }
 
 -- a ticket just drawn, for which `served` was not looked at yet
-abbrev pub queued : ℕ → Queued
-queued n = record { ticket = n; looks = 0; last = 0 }
+abbrev pub just_drawn : ℕ → Queued
+just_drawn n = record { ticket = n; looks = 0; last = 0 }
 
 -- what is known once this log was seen
 abbrev pub seeing : {O E : Type 0} → Identity O E → List E → Identity O E
@@ -39,7 +39,7 @@ module _ {O E : Type 0} where
 
   -- the exchange of `drawn` was won, and drew the ticket n
   abbrev pub waiting : View O E → ℕ → View O E
-  waiting (Pass who (Out t)) n = Pass who (Waiting (queued n))
+  waiting (Pass who (Out t)) n = Pass who (Waiting (just_drawn n))
   waiting v n = v
 
   -- one more look at `served`, which gave n

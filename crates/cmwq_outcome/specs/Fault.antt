@@ -27,28 +27,28 @@ status_of errors.Tickets = 4
 status_of errors.NoMemory = 4
 
 -- the line on standard error, which `told` ends
-abbrev pub told : List ℕ → List ℕ
-told text = text ++ 10 ∷ []
+abbrev pub fault_written : List ℕ → List ℕ
+fault_written text = text ++ 10 ∷ []
 
 abbrev pub line_of : PlayError → List ℕ
-line_of (errors.Asm (texts.At line why)) = told (codes "line " ++ decimal line ++ codes ": " ++ why_name why)
-line_of (errors.Asm texts.NoMemory) = told (codes "no memory")
-line_of (errors.Image images.Magic) = told (codes "image: Magic")
-line_of (errors.Image images.Version) = told (codes "image: Version")
-line_of (errors.Image images.Truncated) = told (codes "image: Truncated")
-line_of (errors.Image images.Extra) = told (codes "image: Extra")
-line_of (errors.Image (images.BadField offset)) = told (codes "image: BadField " ++ decimal offset)
-line_of (errors.Image (images.Fault fault)) = told (codes "image: " ++ fault_name fault)
-line_of (errors.Image images.NoMemory) = told (codes "no memory")
-line_of errors.Actors = told (codes "actors")
-line_of errors.Full = told (codes "full")
-line_of errors.Tickets = told (codes "tickets")
-line_of errors.TooLong = told (codes "too long")
-line_of errors.NeverQuiet = told (codes "never quiet")
-line_of errors.TooWide = told (codes "more than 500 columns: give --from and --to")
-line_of errors.NoSuchWork = told (codes "no such work")
-line_of errors.NoSuchFlush = told (codes "no such flush")
-line_of errors.PastEnd = told (codes "past the end")
-line_of errors.Read = told (codes "read")
-line_of errors.Write = told (codes "write")
-line_of errors.NoMemory = told (codes "no memory")
+line_of (errors.Asm (texts.At line why)) = fault_written (codes "line " ++ decimal line ++ codes ": " ++ why_name why)
+line_of (errors.Asm texts.NoMemory) = fault_written (codes "no memory")
+line_of (errors.Image images.Magic) = fault_written (codes "image: Magic")
+line_of (errors.Image images.Version) = fault_written (codes "image: Version")
+line_of (errors.Image images.Truncated) = fault_written (codes "image: Truncated")
+line_of (errors.Image images.Extra) = fault_written (codes "image: Extra")
+line_of (errors.Image (images.BadField offset)) = fault_written (codes "image: BadField " ++ decimal offset)
+line_of (errors.Image (images.Fault fault)) = fault_written (codes "image: " ++ fault_name fault)
+line_of (errors.Image images.NoMemory) = fault_written (codes "no memory")
+line_of errors.Actors = fault_written (codes "actors")
+line_of errors.Full = fault_written (codes "full")
+line_of errors.Tickets = fault_written (codes "tickets")
+line_of errors.TooLong = fault_written (codes "too long")
+line_of errors.NeverQuiet = fault_written (codes "never quiet")
+line_of errors.TooWide = fault_written (codes "more than 500 columns: give --from and --to")
+line_of errors.NoSuchWork = fault_written (codes "no such work")
+line_of errors.NoSuchFlush = fault_written (codes "no such flush")
+line_of errors.PastEnd = fault_written (codes "past the end")
+line_of errors.Read = fault_written (codes "read")
+line_of errors.Write = fault_written (codes "write")
+line_of errors.NoMemory = fault_written (codes "no memory")

@@ -1,6 +1,6 @@
 //! How the program ends: its exit status, and the line that tells a fault on standard error.
 
-ghost use Rattle.cmwq_outcome.specs.Fault.{line_of, status_of, told};
+ghost use Rattle.cmwq_outcome.specs.Fault.{line_of, status_of, fault_written};
 ghost use Rattle.cmwq_streams.specs.Sending.{HasSentFront};
 ghost use Rattle.std.specs.Io.KnownBytes.{Appends};
 ghost use Rattle.std.specs.List.{flat_map};
@@ -46,7 +46,7 @@ pub fn end<W: Sink>(errors: &mut W, outcome: Result<u8, PlayError>) -> ExitCode
     ensures good { IfOk outcome (λ status. exit_status result ≡ status) }
     ensures silent { OnOk outcome (errors.new ≡ errors.old) }
     ensures status { IfErr outcome (λ fault. exit_status result ≡ status_of fault) }
-    ensures told { IfErr outcome (λ fault. W.failed errors.new ≡ false
+    ensures fault_written { IfErr outcome (λ fault. W.failed errors.new ≡ false
         → Appends (W.contents errors.old) (W.contents errors.new) (line_of fault)) }
     ensures front { IfErr outcome (λ fault. HasSentFront (W.contents errors.old) (W.contents errors.new) (line_of fault)) }
 {
@@ -111,7 +111,7 @@ fn line_of(fault: PlayError) -> Line
 /// The line of these texts.
 fn told(texts: &[&str]) -> Line
     requires { length (flat_map (λ text. text.now) texts.now) ≤ 63 }
-    ensures { result.bytes ≡ told (flat_map (λ text. text.now) texts.now) }
+    ensures { result.bytes ≡ fault_written (flat_map (λ text. text.now) texts.now) }
 {
     let mut line = Line::new();
     for text in texts {

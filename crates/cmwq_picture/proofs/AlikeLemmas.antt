@@ -13,7 +13,7 @@ use Rattle.cmwq_table.specs.State.{State, pending_at, running_at}
 use Rattle.cmwq_table.specs.declared.state.Pending.{Pending}
 use Rattle.cmwq_table.specs.declared.state.Running.{Running}
 use Rattle.cmwq_picture.specs.Column.{burning, burning_as, column_of}
-use Rattle.cmwq_picture.specs.Picture.{below, beside_run, mode_sign, pending_cell, pending_sign, run_or_pending, run_sign, work_sign}
+use Rattle.cmwq_picture.specs.Picture.{below, second_cell, mode_sign, pending_cell, pending_sign, run_or_pending, run_sign, work_sign}
 use Rattle.cmwq_picture.specs.declared.cell.Cell.{Cell}
 use Rattle.cmwq_picture.specs.declared.cell.Cell.TheVariants.{Does}
 use Rattle.cmwq_picture.specs.declared.cell.Sign.{Sign}
@@ -114,7 +114,7 @@ module _ (S : ScenarioContents) (s t : State) (alike : LooksAlike (length S.work
   works-alike w None (Some q) same pending = absurd same
   works-alike w None None same pending = ap pending_cell pending
 
-  beside-alike : (a b : Option Running) (p q : Option Pending) → RunsAlike a b → q ≡ p → beside_run b q ≡ beside_run a p
+  beside-alike : (a b : Option Running) (p q : Option Pending) → RunsAlike a b → q ≡ p → second_cell b q ≡ second_cell a p
   beside-alike (Some r) (Some x) p q same pending = ap pending_cell pending
   beside-alike (Some r) None p q same pending = absurd same
   beside-alike None (Some x) p q same pending = absurd same

@@ -19,7 +19,7 @@ use Rattle.cmwq_streams.specs.declared.error.PlayError.{PlayError}
 use Rattle.cmwq_streams.specs.declared.error.PlayError.TheVariants.{TooWide, NoMemory}
 use Rattle.cmwq_picture.specs.declared.span.TheConstants.{MAX_COLUMNS}
 use Rattle.cmwq_picture.proofs.RowLemmas.{rows-cut}
-use Rattle.cmwq_picture.specs.Recording.{IsRecording, Recording, begun, issued, issued_all, new_columns, overflows}
+use Rattle.cmwq_picture.specs.Recording.{IsRecording, Recording, recording_begun, issued, issued_all, new_columns, overflows}
 use Rattle.cmwq_tasks.specs.declared.drawing.Span.{Span}
 use Rattle.cmwq_picture.proofs.TickLemmas.{time-goes_on, time-ticks}
 use Rattle.cmwq_picture.proofs.AlikeLemmas.{column-ticks}
@@ -332,8 +332,8 @@ all-recorded r (i ∷ is) setting =
 
 -- the columns of a whole run
 pub run-recorded : (S : ScenarioContents) (span : Span) (instrs : List Instr) → IsSetting S
-    → (issued_all (begun S span) instrs).columns ≡ map (λ s. column_of S s (acted_at false 0 (acts_from S (start S) instrs) s)) (columns S instrs span)
-run-recorded S span instrs setting = all-recorded (begun S span) instrs setting
+    → (issued_all (recording_begun S span) instrs).columns ≡ map (λ s. column_of S s (acted_at false 0 (acts_from S (start S) instrs) s)) (columns S instrs span)
+run-recorded S span instrs setting = all-recorded (recording_begun S span) instrs setting
 
 -- The picture.
 
@@ -342,15 +342,15 @@ span-stays r [] = refl
 span-stays r (i ∷ is) = span-stays (issued r i) is
 
 -- a recording overflows where the picture is too wide
-overflows-is : (S : ScenarioContents) (span : Span) (instrs : List Instr) → IsSetting S → overflows (issued_all (begun S span) instrs) ≡ is_too_wide S instrs span
+overflows-is : (S : ScenarioContents) (span : Span) (instrs : List Instr) → IsSetting S → overflows (issued_all (recording_begun S span) instrs) ≡ is_too_wide S instrs span
 overflows-is S span instrs setting =
     let states = columns S instrs span in
     let columns_are = run-recorded S span instrs setting in
     let many = ap length columns_are ∙ length-map states (λ s. column_of S s (acted_at false 0 (acts_from S (start S) instrs) s)) in
-    ap (λ (at : Span). is_open at && nat_lt MAX_COLUMNS (length (issued_all (begun S span) instrs).columns)) (span-stays (begun S span) instrs)
+    ap (λ (at : Span). is_open at && nat_lt MAX_COLUMNS (length (issued_all (recording_begun S span) instrs).columns)) (span-stays (recording_begun S span) instrs)
     ∙ ap (λ (n : ℕ). is_open span && nat_lt MAX_COLUMNS n) many
 
-pub refused : (S : ScenarioContents) (span : Span) (instrs : List Instr) (r : Recording) (why : PlayError) → IsSetting S → r ≡ begun S span → IsDrawError why
+pub refused : (S : ScenarioContents) (span : Span) (instrs : List Instr) (r : Recording) (why : PlayError) → IsSetting S → r ≡ recording_begun S span → IsDrawError why
     → (why ≡ TooWide → overflows (issued_all r instrs) ≡ true) → Draws S instrs span (Err why)
 refused S span instrs r TooWide setting is of wide =
     sym (overflows-is S span instrs setting) ∙ ap (λ (q : Recording). overflows (issued_all q instrs)) (sym is) ∙ wide refl
@@ -362,7 +362,7 @@ narrow-if true n few = (let most : n ≤ MAX_COLUMNS = few refl in grind (arith,
 narrow-if false n few = refl
 
 pub pictured : (S : ScenarioContents) (span : Span) (instrs : List Instr) (r : Recording) (cs : List ColumnContents) (ticks : ℕ) (rows : List RowContents) → IsSetting S
-    → r ≡ issued_all (begun S span) instrs → cs ≡ r.columns → (is_open r.span ≡ true → length cs ≤ MAX_COLUMNS) → ticks ≡ length cs → rows ≡ cut_rows S cs (titles S)
+    → r ≡ issued_all (recording_begun S span) instrs → cs ≡ r.columns → (is_open r.span ≡ true → length cs ≤ MAX_COLUMNS) → ticks ≡ length cs → rows ≡ cut_rows S cs (titles S)
     → Draws S instrs span (Ok (record { from = from_time span.from; ticks = ticks; rows = rows }))
 pictured S span instrs r cs ticks rows setting is are few counted cut =
     let acts = acts_from S (start S) instrs in

@@ -7,9 +7,9 @@ use Rattle.cmwq_types.specs.Contents.{ScenarioContents}
 use Rattle.cmwq_table.specs.Counts.{burns, runs}
 use Rattle.cmwq_table.specs.State.{State, running_at}
 use Rattle.cmwq_table.specs.declared.state.Running.{Running}
-use Rattle.cmwq_picture.specs.Column.{ColumnContents, burner_in, burning, burning_as, cell_of, column_of, cut, cut_rows, shown}
+use Rattle.cmwq_picture.specs.Column.{ColumnContents, burner_in, burning, burning_as, cell_of_burning, column_of, cut, cut_rows, cell_shown}
 use Rattle.cmwq_picture.specs.Contents.{RowContents}
-use Rattle.cmwq_picture.specs.Picture.{act_cell, below, burner_cell, burns_in, cell, pending_sign, row, rows, stands, stands_in, titles, work_sign, work_titles, worker_titles}
+use Rattle.cmwq_picture.specs.Picture.{act_cell, below, burner_cell, burns_in, cell, pending_sign, row, rows, stands_in_picture, stands_in, titles, work_sign, work_titles, worker_titles}
 use Rattle.cmwq_picture.proofs.ListLemmas.{flat_map-more}
 use Rattle.cmwq_picture.specs.declared.cell.Cell.{Cell}
 use Rattle.cmwq_picture.specs.declared.cell.Cell.TheVariants.{Empty, Burner}
@@ -20,14 +20,14 @@ use Rattle.cmwq_picture.specs.declared.row.Title.TheVariants as title
 -- The work that burns there.
 
 module _ (S : ScenarioContents) (s : State) (at : Title) where
-  chosen : (c : Bool) (b : Burning) (rest : List Burning) (later : Option ℕ) → cell_of (find (λ b. stands_in S at b.work.0 b.pool b.worker) rest) ≡ burner_cell later
-      → cell_of (cond c (Some b) (find (λ b. stands_in S at b.work.0 b.pool b.worker) rest)) ≡ burner_cell (cond c (Some b.work.0) later)
+  chosen : (c : Bool) (b : Burning) (rest : List Burning) (later : Option ℕ) → cell_of_burning (find (λ b. stands_in S at b.work.0 b.pool b.worker) rest) ≡ burner_cell later
+      → cell_of_burning (cond c (Some b) (find (λ b. stands_in S at b.work.0 b.pool b.worker) rest)) ≡ burner_cell (cond c (Some b.work.0) later)
   chosen true b rest later same = refl
   chosen false b rest later same = same
 
   one-burner : (w : ℕ) (r : Option Running) (burns : Bool) (rest : List Burning) (later : Option ℕ)
-      → cell_of (find (λ b. stands_in S at b.work.0 b.pool b.worker) rest) ≡ burner_cell later
-      → cell_of (find (λ b. stands_in S at b.work.0 b.pool b.worker) (cons_option (cond burns (burning_as w r) None) rest))
+      → cell_of_burning (find (λ b. stands_in S at b.work.0 b.pool b.worker) rest) ≡ burner_cell later
+      → cell_of_burning (find (λ b. stands_in S at b.work.0 b.pool b.worker) (cons_option (cond burns (burning_as w r) None) rest))
       ≡ burner_cell (cond (burns && runs (λ r. stands_in S at w r.pool r.worker) r) (Some w) later)
   one-burner w (Some r) true rest later same = chosen (stands_in S at w r.pool r.worker) (record { work = record { 0 = w }; pool = r.pool; worker = r.worker }) rest later same
   one-burner w None true rest later same = same
@@ -46,7 +46,7 @@ Fits S (title.Pending w) = w.0 < length S.works
 Fits S at = Unit {0}
 
 cell-shown : (S : ScenarioContents) (s : State) (acts : List ℕ) (acted : Bool) (at : Title) → Fits S at → act_cell acted ≡ cell S acts title.Actor s
-    → shown S at (column_of S s acted) ≡ cell S acts at s
+    → cell_shown S at (column_of S s acted) ≡ cell S acts at s
 cell-shown S s acts acted (title.Work w) fits same = get_or-map-range_with_len (work_sign S s) 0 (length S.works) w.0 w.0 Empty fits (omega arith)
 cell-shown S s acts acted (title.Pending w) fits same = get_or-map-range_with_len (pending_sign s) 0 (length S.works) w.0 w.0 Empty fits (omega arith)
 cell-shown S s acts acted (title.Cpu cpu) fits same = burner-found S s (title.Cpu cpu) (below (length S.works))
@@ -55,10 +55,10 @@ cell-shown S s acts acted (title.Rescuer queue) fits same = burner-found S s (ti
 cell-shown S s acts acted title.Actor fits same = same
 
 module _ (S : ScenarioContents) (acts : List ℕ) (acted : State → Bool) (same : (s : State) → act_cell (acted s) ≡ cell S acts title.Actor s) where
-  cells-shown : (at : Title) (states : List State) → Fits S at → map (shown S at) (map (λ s. column_of S s (acted s)) states) ≡ map (cell S acts at) states
+  cells-shown : (at : Title) (states : List State) → Fits S at → map (cell_shown S at) (map (λ s. column_of S s (acted s)) states) ≡ map (cell S acts at) states
   cells-shown at [] fits = refl
   cells-shown at (s ∷ states) fits =
-      ap (λ (c : Cell). c ∷ map (shown S at) (map (λ s. column_of S s (acted s)) states)) (cell-shown S s acts (acted s) at fits (same s))
+      ap (λ (c : Cell). c ∷ map (cell_shown S at) (map (λ s. column_of S s (acted s)) states)) (cell-shown S s acts (acted s) at fits (same s))
       ∙ ap (λ (cells : List Cell). cell S acts at s ∷ cells) (cells-shown at states fits)
 
   row-cut : (at : Title) (states : List State) → Fits S at → cut S (map (λ s. column_of S s (acted s)) states) at ≡ row S acts states at
@@ -105,7 +105,7 @@ module _ (S : ScenarioContents) (acts : List ℕ) (acted : State → Bool) (same
       both-fit (works ++ cpus ++ workers ++ rescuers) last fit_rescuers (tt, tt)
 
   pub rows-cut : (states : List State) → cut_rows S (map (λ s. column_of S s (acted s)) states) (titles S) ≡ rows S acts states
-  rows-cut states = ap (λ (rs : List RowContents). filter stands rs) (all-cut (titles S) states titles-fit)
+  rows-cut states = ap (λ (rs : List RowContents). filter stands_in_picture rs) (all-cut (titles S) states titles-fit)
 
 -- One part after another.
 
@@ -119,7 +119,7 @@ filter-both f (x ∷ xs) ys = kept-first (f x) x (filter f (xs ++ ys)) (filter f
 
 module _ (S : ScenarioContents) (columns : List ColumnContents) where
   cut-both : (xs ys : List Title) → cut_rows S columns (xs ++ ys) ≡ cut_rows S columns xs ++ cut_rows S columns ys
-  cut-both xs ys = ap (filter stands) (map-append (cut S columns) xs ys) ∙ filter-both stands (map (cut S columns) xs) (map (cut S columns) ys)
+  cut-both xs ys = ap (filter stands_in_picture) (map-append (cut S columns) xs ys) ∙ filter-both stands_in_picture (map (cut S columns) xs) (map (cut S columns) ys)
 
   -- rows that were pushed behind others
   pub then-pushed : (first old new : List RowContents) (xs ys : List Title) → old ≡ first ++ cut_rows S columns xs → new ≡ old ++ cut_rows S columns ys → new ≡ first ++ cut_rows S columns (xs ++ ys)

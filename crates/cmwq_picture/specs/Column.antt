@@ -6,7 +6,7 @@ use Rattle.cmwq_table.specs.Counts.{burns}
 use Rattle.cmwq_table.specs.State.{State, running_at}
 use Rattle.cmwq_table.specs.declared.state.Running.{Running}
 use Rattle.cmwq_picture.specs.Contents.{RowContents}
-use Rattle.cmwq_picture.specs.Picture.{act_cell, below, pending_sign, stands, stands_in, work_sign}
+use Rattle.cmwq_picture.specs.Picture.{act_cell, below, pending_sign, stands_in_picture, stands_in, work_sign}
 use Rattle.cmwq_picture.specs.declared.cell.Cell.{Cell}
 use Rattle.cmwq_picture.specs.declared.cell.Cell.TheVariants.{Empty, Burner}
 use Rattle.cmwq_picture.specs.declared.column.Burning.{Burning}
@@ -39,25 +39,25 @@ column_of S s acted =
 
 -- Rows.
 
-abbrev pub cell_of : Option Burning → Cell
-cell_of (Some b) = Burner b.work
-cell_of None = Empty
+abbrev pub cell_of_burning : Option Burning → Cell
+cell_of_burning (Some b) = Burner b.work
+cell_of_burning None = Empty
 
 abbrev pub burner_in : ScenarioContents → Title → List Burning → Cell
-burner_in S title burners = cell_of (find (λ b. stands_in S title b.work.0 b.pool b.worker) burners)
+burner_in S title burners = cell_of_burning (find (λ b. stands_in S title b.work.0 b.pool b.worker) burners)
 
 -- the column's cell in a row
-abbrev pub shown : ScenarioContents → Title → ColumnContents → Cell
-shown S (title.Work w) column = slice_index_or column.works w.0 Empty
-shown S (title.Pending w) column = slice_index_or column.pending w.0 Empty
-shown S (title.Cpu cpu) column = burner_in S (title.Cpu cpu) column.burners
-shown S (title.Worker pool worker) column = burner_in S (title.Worker pool worker) column.burners
-shown S (title.Rescuer queue) column = burner_in S (title.Rescuer queue) column.burners
-shown S title.Actor column = act_cell column.acted
+abbrev pub cell_shown : ScenarioContents → Title → ColumnContents → Cell
+cell_shown S (title.Work w) column = slice_index_or column.works w.0 Empty
+cell_shown S (title.Pending w) column = slice_index_or column.pending w.0 Empty
+cell_shown S (title.Cpu cpu) column = burner_in S (title.Cpu cpu) column.burners
+cell_shown S (title.Worker pool worker) column = burner_in S (title.Worker pool worker) column.burners
+cell_shown S (title.Rescuer queue) column = burner_in S (title.Rescuer queue) column.burners
+cell_shown S title.Actor column = act_cell column.acted
 
 abbrev pub cut : ScenarioContents → List ColumnContents → Title → RowContents
-cut S columns title = record { title = title; cells = map (shown S title) columns }
+cut S columns title = record { title = title; cells = map (cell_shown S title) columns }
 
 -- these rows, as far as they stand
 abbrev pub cut_rows : ScenarioContents → List ColumnContents → List Title → List RowContents
-cut_rows S columns titles = filter stands (map (cut S columns) titles)
+cut_rows S columns titles = filter stands_in_picture (map (cut S columns) titles)

@@ -86,12 +86,12 @@ abbrev pub work_sign : ScenarioContents → State → ℕ → Cell
 work_sign S s w = run_or_pending S s w (running_at s w)
 
 -- the pending instance of a work that runs
-abbrev pub beside_run : Option Running → Option Pending → Cell
-beside_run (Some r) p = pending_cell p
-beside_run None p = Empty
+abbrev pub second_cell : Option Running → Option Pending → Cell
+second_cell (Some r) p = pending_cell p
+second_cell None p = Empty
 
 abbrev pub pending_sign : State → ℕ → Cell
-pending_sign s w = beside_run (running_at s w) (pending_at s w)
+pending_sign s w = second_cell (running_at s w) (pending_at s w)
 
 -- Who burns.
 
@@ -161,12 +161,12 @@ stands_empty (title.Cpu cpu) = true
 stands_empty title.Actor = true
 stands_empty other = false
 
-abbrev pub is_empty : Cell → Bool
-is_empty Empty = true
-is_empty other = false
+abbrev pub is_empty_cell : Cell → Bool
+is_empty_cell Empty = true
+is_empty_cell other = false
 
-abbrev pub stands : RowContents → Bool
-stands row = stands_empty row.title || list_any (λ cell. not (is_empty cell)) row.cells
+abbrev pub stands_in_picture : RowContents → Bool
+stands_in_picture row = stands_empty row.title || list_any (λ cell. not (is_empty_cell cell)) row.cells
 
 abbrev pub work_titles : ℕ → List Title
 work_titles w = title.Work (record { 0 = w }) ∷ title.Pending (record { 0 = w }) ∷ []
@@ -183,7 +183,7 @@ titles S =
 
 -- these rows, over these columns
 abbrev pub rows : ScenarioContents → List ℕ → List State → List RowContents
-rows S acts states = filter stands (map (row S acts states) (titles S))
+rows S acts states = filter stands_in_picture (map (row S acts states) (titles S))
 
 -- one end of the span isn't given: then at most MAX_COLUMNS columns are drawn
 abbrev pub is_open : Span → Bool

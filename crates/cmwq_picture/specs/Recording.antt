@@ -22,8 +22,8 @@ pub record Recording : Type 0 where
 abbrev pub recording_of : ScenarioContents → Span → State → Bool → List ColumnContents → Recording
 recording_of S span s acted columns = record { scenario = S; span = span; state = s; acted = acted; columns = columns }
 
-abbrev pub begun : ScenarioContents → Span → Recording
-begun S span = recording_of S span (start S) false []
+abbrev pub recording_begun : ScenarioContents → Span → Recording
+recording_begun S span = recording_of S span (start S) false []
 
 -- the columns of an instruction: one where a tick passes that is drawn
 abbrev pub new_columns : Recording → State → Bool → List ColumnContents

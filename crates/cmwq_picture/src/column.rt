@@ -1,5 +1,5 @@
 //! What is kept of a tick: what each work does, and who burns.
-ghost use Rattle.cmwq_picture.specs.Column.{burner_in, shown};
+ghost use Rattle.cmwq_picture.specs.Column.{burner_in, cell_shown};
 ghost use Rattle.cmwq_picture.specs.Picture.{act_cell, stands_in};
 ghost use Rattle.cmwq_types.specs.Setting.{IsSetting};
 ghost use Rattle.std.specs.Prelude.{◌≡◌, slice_index_or};
@@ -66,7 +66,7 @@ impl Column {
     /// The column's cell in the row.
     pub(crate) fn cell(&self, scenario: &Scenario, title: Title) -> Cell
         requires { IsSetting scenario.now }
-        ensures { result ≡ shown scenario.now title self.now }
+        ensures { result ≡ cell_shown scenario.now title self.now }
     {
         match title {
             Title::Work(w) => cell_of(&self.works, w),

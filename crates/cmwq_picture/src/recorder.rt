@@ -1,7 +1,7 @@
 //! A scenario's run on a machine, recorded column by column.
 ghost use Rattle.cmwq_picture.specs.Column.{column_of};
 ghost use Rattle.cmwq_picture.specs.Picture.{IsDrawError};
-ghost use Rattle.cmwq_picture.specs.Recording.{begun, issued, issued_all, overflows};
+ghost use Rattle.cmwq_picture.specs.Recording.{recording_begun, issued, issued_all, overflows};
 ghost use Rattle.cmwq_table.specs.State.{start};
 ghost use Rattle.cmwq_types.specs.Faults.{IsValid};
 ghost use Rattle.cmwq_types.specs.Scenario.{expand_lines};
@@ -48,7 +48,7 @@ impl<'s, M: Machine> Recorder<'s, M> {
     ghost use Rattle.cmwq_picture.specs.Column.{column_of};
     ghost use Rattle.cmwq_picture.specs.Picture.{IsDrawError, is_open};
     ghost use Rattle.cmwq_picture.specs.declared.span.TheConstants.{MAX_COLUMNS};
-    ghost use Rattle.cmwq_picture.specs.Recording.{begun, issued, issued_all, overflows};
+    ghost use Rattle.cmwq_picture.specs.Recording.{recording_begun, issued, issued_all, overflows};
     ghost use Rattle.cmwq_table.specs.State.{start};
     ghost use Rattle.cmwq_types.specs.Faults.{IsValid};
     ghost use Rattle.cmwq_types.specs.Scenario.{expand_lines};
@@ -66,7 +66,7 @@ impl<'s, M: Machine> Recorder<'s, M> {
         requires valid { IsValid scenario.now }
         requires loaded { M.loaded machine ≡ scenario.now }
         requires start { M.state machine ≡ start scenario.now }
-        ensures { result ≡ begun scenario.now span }
+        ensures { result ≡ recording_begun scenario.now span }
     {
         Recorder {
             scenario,

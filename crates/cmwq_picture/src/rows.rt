@@ -1,6 +1,6 @@
 //! Rows, as they are cut from the columns.
-ghost use Rattle.cmwq_picture.specs.Column.{cut, cut_rows, shown};
-ghost use Rattle.cmwq_picture.specs.Picture.{below, is_empty, stands, stands_empty, titles, work_titles, worker_titles};
+ghost use Rattle.cmwq_picture.specs.Column.{cut, cut_rows, cell_shown};
+ghost use Rattle.cmwq_picture.specs.Picture.{below, is_empty_cell, stands_in_picture, stands_empty, titles, work_titles, worker_titles};
 ghost use Rattle.cmwq_picture.specs.declared.row.Title.TheVariants as title;
 ghost use Rattle.cmwq_types.specs.Setting.{IsSetting};
 ghost use Rattle.std.specs.List.{flat_map, list_any, range_with_len};
@@ -157,7 +157,7 @@ fn cut(
 
 /// Whether the row stands in a picture: that of a CPU or of the actor always, each other one where a cell of it isn't empty.
 fn stands(row: &Row) -> bool
-    ensures { result ≡ stands row.now }
+    ensures { result ≡ stands_in_picture row.now }
 {
     stands_empty(row.title) || has_sign(&row.cells)
 }
@@ -170,7 +170,7 @@ fn stands_empty(title: Title) -> bool
 
 /// Whether one of the cells isn't empty.
 fn has_sign(cells: &[Cell]) -> bool
-    ensures { result ≡ list_any (λ cell. not (is_empty cell)) cells.now }
+    ensures { result ≡ list_any (λ cell. not (is_empty_cell cell)) cells.now }
 {
     cells.iter().any(|cell| !matches!(cell, Cell::Empty))
 }

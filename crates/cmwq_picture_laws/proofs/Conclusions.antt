@@ -9,10 +9,10 @@ use Rattle.cmwq_types.specs.declared.instr.Instr.{Instr}
 use Rattle.cmwq_table.specs.Laws.{state_after}
 use Rattle.cmwq_table.specs.State.{State, start}
 use Rattle.cmwq_table.specs.Table.{run}
-use Rattle.cmwq_burning.specs.Burning.{BurnsItsBody, IsCarriedOut, burned, burns_of_body}
+use Rattle.cmwq_burning.specs.Burning.{BurnsItsBody, IsCarriedOut, ticks_burned, burns_of_body}
 use Rattle.cmwq_burning.proofs.Conclusions.{burns_its_body}
 use Rattle.cmwq_picture.specs.Contents.{RowContents}
-use Rattle.cmwq_picture.specs.Picture.{acts_from, cell, columns, row, stands, ticks_from, titles, work_sign}
+use Rattle.cmwq_picture.specs.Picture.{acts_from, cell, columns, row, stands_in_picture, ticks_from, titles, work_sign}
 use Rattle.cmwq_picture.specs.declared.row.Title.{Title}
 use Rattle.cmwq_picture.specs.declared.row.Title.TheVariants as title
 use Rattle.cmwq_picture_laws.specs.Signs.{ShowsItsBody, shows_burning, ticks_of}
@@ -28,7 +28,7 @@ work-counted : (S : ScenarioContents) (acts : List ℕ) (states : List State) (w
 work-counted S acts states w n t counted is = subst (λ (x : Title). count_by shows_burning (map (cell S acts x) states) ≡ n) (sym is) counted
 
 whole : (S : ScenarioContents) → IsValid S → (before : List Instr) (w : ℕ) (first : Instr) (during : List Instr) (last : Instr)
-    → IsCarriedOut S (run S before) w first during last → burned S (state_after S (run S before) first) during w ≡ burns_of_body S w
+    → IsCarriedOut S (run S before) w first during last → ticks_burned S (state_after S (run S before) first) during w ≡ burns_of_body S w
 unfolding BurnsItsBody
 whole S valid before w first during last carried_out = burns_its_body S valid before w first during last carried_out
 
@@ -45,5 +45,5 @@ shows_its_body S valid before w first during last carried_out later =
     let counted : count_by shows_burning (map (λ u. work_sign S u w) states) ≡ n =
     ap (λ (us : List State). count_by shows_burning (map (λ u. work_sign S u w) us)) (columns-during S before first during last later) ∙ in_ticks in
     let P = λ (r : RowContents). r.title ≡ title.Work (record { 0 = w }) → count_by shows_burning r.cells ≡ n in
-    All-filter stands P (map (row S acts states) (titles S))
+    All-filter stands_in_picture P (map (row S acts states) (titles S))
     (All-map P (row S acts states) (titles S) (λ k d h. work-counted S acts states w n (slice_index_or (titles S) k d) counted))

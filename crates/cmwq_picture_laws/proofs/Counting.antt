@@ -14,7 +14,7 @@ use Rattle.cmwq_table.specs.Laws.{state_after}
 use Rattle.cmwq_table.specs.State.{State, pending_at, running_at}
 use Rattle.cmwq_table.specs.declared.state.Pending.{Pending}
 use Rattle.cmwq_table.specs.declared.state.Running.{Running}
-use Rattle.cmwq_burning.specs.Burning.{burned}
+use Rattle.cmwq_burning.specs.Burning.{ticks_burned}
 use Rattle.cmwq_picture.specs.Picture.{mode_sign, pending_cell, place_sign, run_or_pending, ticks_from, work_sign}
 use Rattle.cmwq_picture.specs.declared.cell.Cell.{Cell}
 use Rattle.cmwq_picture.specs.declared.cell.Cell.TheVariants.{Does}
@@ -56,7 +56,7 @@ counted-first S s w states true =
 counted-first S s w states false = omega arith
 
 pub counted-during : (S : ScenarioContents) (s : State) (during : List Instr) (w : ℕ)
-    → count_by shows_burning (map (λ u. work_sign S u w) (ticks_from S s during)) ≡ burned S s during w
+    → count_by shows_burning (map (λ u. work_sign S u w) (ticks_from S s during)) ≡ ticks_burned S s during w
 counted-during S s [] w = refl
 counted-during S s (i ∷ during) w =
     let t = state_after S s i in

@@ -28,17 +28,17 @@ whole = record { from = None; to = None }
 abbrev pub between : ℕ → ℕ → Span
 between from to = record { from = Some from; to = Some to }
 
-abbrev pub row : Title → List Cell → RowContents
-row title cells = record { title = title; cells = cells }
+abbrev pub row_of_cells : Title → List Cell → RowContents
+row_of_cells title cells = record { title = title; cells = cells }
 
 abbrev pub work_row : ℕ → List Cell → RowContents
-work_row w cells = row (title.Work (record { 0 = w })) cells
+work_row w cells = row_of_cells (title.Work (record { 0 = w })) cells
 
 abbrev pub pending_row : ℕ → List Cell → RowContents
-pending_row w cells = row (title.Pending (record { 0 = w })) cells
+pending_row w cells = row_of_cells (title.Pending (record { 0 = w })) cells
 
-abbrev pub burner : ℕ → Cell
-burner w = Burner (record { 0 = w })
+abbrev pub work_burns : ℕ → Cell
+work_burns w = Burner (record { 0 = w })
 
 -- Two works share a CPU, and their queue is for two: a third one waits for room.
 
@@ -63,14 +63,14 @@ sharing_picture =
           work_row 0 (Does Burns ∷ Does Sleeps ∷ Does Sleeps ∷ Empty ∷ Empty ∷ [])
           ∷ work_row 1 (Does Listed ∷ Does Burns ∷ Does Burns ∷ Empty ∷ Empty ∷ [])
           ∷ work_row 2 (Empty ∷ Does Inactive ∷ Does Inactive ∷ Does Burns ∷ Empty ∷ [])
-          ∷ row (title.Cpu 0) (burner 0 ∷ burner 1 ∷ burner 1 ∷ burner 2 ∷ Empty ∷ [])
-          ∷ row title.Actor (Acts ∷ Acts ∷ Empty ∷ Empty ∷ Empty ∷ []) ∷ [];
+          ∷ row_of_cells (title.Cpu 0) (work_burns 0 ∷ work_burns 1 ∷ work_burns 1 ∷ work_burns 2 ∷ Empty ∷ [])
+          ∷ row_of_cells title.Actor (Acts ∷ Acts ∷ Empty ∷ Empty ∷ Empty ∷ []) ∷ [];
     }
 
 -- A work of high priority takes the CPU from another one, which waits for it.
 
-abbrev pub taking : ScenarioContents
-taking =
+abbrev pub taken_cpu : ScenarioContents
+taken_cpu =
     scenario 1000 (queue (codes "n") 1 plain_flags ∷ queue (codes "h") 1 highpri ∷ [])
     (work (codes "a") 0 (op.Burn 3 ∷ op.Finish ∷ []) ∷ work (codes "b") 1 (op.Burn 1 ∷ op.Finish ∷ []) ∷ []) []
 
@@ -85,13 +85,13 @@ taking_picture =
       ticks = 2;
       rows =
           work_row 0 (Does Waits ∷ Does Burns ∷ []) ∷ work_row 1 (Does Burns ∷ Empty ∷ [])
-          ∷ row (title.Cpu 0) (burner 1 ∷ burner 0 ∷ []) ∷ row title.Actor (Acts ∷ Empty ∷ []) ∷ [];
+          ∷ row_of_cells (title.Cpu 0) (work_burns 1 ∷ work_burns 0 ∷ []) ∷ row_of_cells title.Actor (Acts ∷ Empty ∷ []) ∷ [];
     }
 
 -- A work queues itself while it runs: its second instance is listed until the pool's turn comes to it, and then deferred.
 
-abbrev pub again : ScenarioContents
-again =
+abbrev pub queued_while_running : ScenarioContents
+queued_while_running =
     scenario 1000 (queue (codes "q") 2 plain_flags ∷ [])
     (work (codes "a") 0 (queues 0 ∷ op.Burn 1 ∷ op.Sleep 1 ∷ op.Finish ∷ []) ∷ []) []
 
@@ -105,13 +105,13 @@ again_picture =
       ticks = 2;
       rows =
           work_row 0 (Does Burns ∷ Does Sleeps ∷ []) ∷ pending_row 0 (Does Listed ∷ Does Deferred ∷ [])
-          ∷ row (title.Cpu 0) (burner 0 ∷ Empty ∷ []) ∷ row title.Actor (Acts ∷ Empty ∷ []) ∷ [];
+          ∷ row_of_cells (title.Cpu 0) (work_burns 0 ∷ Empty ∷ []) ∷ row_of_cells title.Actor (Acts ∷ Empty ∷ []) ∷ [];
     }
 
 -- A worker of the unbound pool burns beside a rescuer, since there is no other worker; a third work waits for its timer.
 
-abbrev pub rescued : ScenarioContents
-rescued =
+abbrev pub rescuer_burns : ScenarioContents
+rescuer_burns =
     record
     (scenario 1000
     (queue (codes "u") 1 unbound ∷ queue (codes "m") 1 (record plain_flags { unbound = true; mem_reclaim = true }) ∷ [])
@@ -130,11 +130,11 @@ rescued_picture =
       ticks = 1;
       rows =
           work_row 0 (Does Burns ∷ []) ∷ work_row 1 (Does Burns ∷ []) ∷ work_row 2 (Does Timed ∷ [])
-          ∷ row (title.Cpu 0) (Empty ∷ []) ∷ row (title.Worker 2 0) (burner 0 ∷ [])
-          ∷ row (title.Rescuer (record { 0 = 1 })) (burner 1 ∷ []) ∷ row title.Actor (Acts ∷ []) ∷ [];
+          ∷ row_of_cells (title.Cpu 0) (Empty ∷ []) ∷ row_of_cells (title.Worker 2 0) (work_burns 0 ∷ [])
+          ∷ row_of_cells (title.Rescuer (record { 0 = 1 })) (work_burns 1 ∷ []) ∷ row_of_cells title.Actor (Acts ∷ []) ∷ [];
     }
 
 -- A run in which no tick passes has the rows that always stand, and no column.
 
 abbrev pub empty_picture : PictureContents
-empty_picture = record { from = 0; ticks = 0; rows = row (title.Cpu 0) [] ∷ row title.Actor [] ∷ [] }
+empty_picture = record { from = 0; ticks = 0; rows = row_of_cells (title.Cpu 0) [] ∷ row_of_cells title.Actor [] ∷ [] }

@@ -1,5 +1,5 @@
 //! What a scan of the works looks for, and the first that it finds.
-ghost use Rattle.cmwq_reads.specs.Sought.{comes_before, is_sought};
+ghost use Rattle.cmwq_reads.specs.Sought.{is_sought_before, is_sought};
 ghost use Rattle.cmwq_table.specs.Counts.{pending_before, pending_due, pending_stamp, running_before, running_stamp, running_until};
 ghost use Rattle.cmwq_table.specs.State.{pending_at, running_at};
 ghost use Rattle.cmwq_types.specs.First.{by_least_two, first_below, first_with};
@@ -31,7 +31,7 @@ pub enum Sought {
 
 /// The first of the works that are looked for.
 pub fn first<R: Reads>(machine: &R, sought: Sought) -> Option<usize>
-    ensures first { result ≡ first_below (comes_before (R.state machine.now) sought) (is_sought (R.loaded machine.now) (R.state machine.now) sought) (length (R.loaded machine.now).works) }
+    ensures first { result ≡ first_below (is_sought_before (R.state machine.now) sought) (is_sought (R.loaded machine.now) (R.state machine.now) sought) (length (R.loaded machine.now).works) }
     ensures in_range { IfSome result (λ w. w < length (R.loaded machine.now).works) }
     ensures few { IfSome result (λ w. w < MAX_WORKS) }
 {
@@ -46,7 +46,7 @@ pub fn first<R: Reads>(machine: &R, sought: Sought) -> Option<usize>
 
 /// The work, or the first so far where the work doesn't come before it.
 fn sooner<R: Reads>(machine: &R, sought: Sought, first: Option<usize>, w: usize) -> Option<usize>
-    ensures { result ≡ first_with (comes_before (R.state machine.now) sought) w true first }
+    ensures { result ≡ first_with (is_sought_before (R.state machine.now) sought) w true first }
 {
     match first {
         Some(v) if !comes_before(machine, sought, w, v) => Some(v),
@@ -86,7 +86,7 @@ fn is_sought<R: Reads>(machine: &R, sought: Sought, w: usize) -> bool
 
 /// Whether the one work comes before the other, in the order of the scan.
 fn comes_before<R: Reads>(machine: &R, sought: Sought, v: usize, w: usize) -> bool
-    ensures { result ≡ comes_before (R.state machine.now) sought v w }
+    ensures { result ≡ is_sought_before (R.state machine.now) sought v w }
 {
     match sought {
         Sought::Inactive { .. } | Sought::Listed { .. } | Sought::Rescued { .. } => {

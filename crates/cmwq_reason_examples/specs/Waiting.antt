@@ -27,8 +27,8 @@ abbrev pub caused : ScenarioContents → State → ℕ → Option Reason → Lis
 caused S s w (Some reason) = causes S s w reason
 caused S s w None = []
 
-abbrev pub blamed : ScenarioContents → ℕ → Instance → ℕ → List Instance
-blamed S position x w = caused S (at S position) w (reason_of S (at S position) x)
+abbrev pub blamed_at : ScenarioContents → ℕ → Instance → ℕ → List Instance
+blamed_at S position x w = caused S (at S position) w (reason_of S (at S position) x)
 
 -- who stands before the pending work there
 abbrev pub stands_before : ScenarioContents → State → ℕ → Option Pending → List ℕ

@@ -2,7 +2,7 @@
 //! works at some positions of one scenario, with who is named. `cmwq_why_laws` has the text of some of them.
 #![tactic(auto, unfolding(cmwq_table::specs::Table::table))]
 
-ghost use Rattle.cmwq_reason_examples.specs.Waiting.{again, ahead_at, at, blamed, by_twos, chain, hold, listed_before, outside, waits_at, why};
+ghost use Rattle.cmwq_reason_examples.specs.Waiting.{again, ahead_at, at, blamed_at, by_twos, chain, hold, listed_before, outside, waits_at, why};
 ghost use Rattle.cmwq_reasons.specs.Reasons.{lacks_memory, lacks_thaw, pending_half, running_half};
 ghost use Rattle.cmwq_types.specs.Faults.{IsValid};
 ghost use Rattle.std.specs.Prelude.{◌≡◌, ◌∷◌, [], None, Some, false, true};
@@ -35,9 +35,9 @@ pub fn work_goes_its_way()
 /// A work waits for the one place of its queue, which another one has while it is listed, burns and sleeps.
 pub fn work_waits_for_max_active()
     ensures at_2 { why hold 2 1 ≡ (None, Reason.Inactive 0) }
-    ensures held_at_2 { blamed hold 2 (pending_half 1) 1 ≡ pending_half 0 ∷ [] }
+    ensures held_at_2 { blamed_at hold 2 (pending_half 1) 1 ≡ pending_half 0 ∷ [] }
     ensures at_13 { why hold 13 1 ≡ (None, Reason.Inactive 0) }
-    ensures held_at_13 { blamed hold 13 (pending_half 1) 1 ≡ running_half 0 ∷ [] }
+    ensures held_at_13 { blamed_at hold 13 (pending_half 1) 1 ≡ running_half 0 ∷ [] }
     ensures at_17 { why hold 17 1 ≡ (None, Reason.Free 0 Turn.Starts) }
 {}
 
@@ -53,10 +53,10 @@ pub fn flush_waits_for_what_was_queued()
 /// A work that is queued while it runs has a reason for each half: it is held by itself, defers, and is deferred.
 pub fn work_waits_for_itself()
     ensures at_3 { why again 3 0 ≡ (Some Reason.ReadyNext, Reason.Held 0) }
-    ensures held_at_3 { blamed again 3 (pending_half 0) 0 ≡ running_half 0 ∷ [] }
+    ensures held_at_3 { blamed_at again 3 (pending_half 0) 0 ≡ running_half 0 ∷ [] }
     ensures at_6 { why again 6 0 ≡ (Some (Reason.Asleep 2), Reason.Free 0 Turn.Defers) }
     ensures at_7 { why again 7 0 ≡ (Some (Reason.Asleep 2), Reason.Deferred 0) }
-    ensures held_at_7 { blamed again 7 (pending_half 0) 0 ≡ running_half 0 ∷ [] }
+    ensures held_at_7 { blamed_at again 7 (pending_half 0) 0 ≡ running_half 0 ∷ [] }
     ensures at_9 { why again 9 0 ≡ (Some Reason.WakesNext, Reason.Deferred 0) }
     ensures flush_at_7 { waits_at again 7 0 ≡ pending_half 0 ∷ [] }
 {}
@@ -64,7 +64,7 @@ pub fn work_waits_for_itself()
 /// Then it waits for a timer, and behind another work.
 pub fn work_is_delayed_and_disabled()
     ensures at_12 { why again 12 0 ≡ (Some Reason.ReadyNext, Reason.Inactive 0) }
-    ensures held_at_12 { blamed again 12 (pending_half 0) 0 ≡ running_half 0 ∷ pending_half 1 ∷ [] }
+    ensures held_at_12 { blamed_at again 12 (pending_half 0) 0 ≡ running_half 0 ∷ pending_half 1 ∷ [] }
     ensures at_15 { why again 15 0 ≡ (Some (Reason.Asleep 4), Reason.Timer 4 0) }
     ensures at_17 { why again 17 0 ≡ (Some Reason.WakesNext, Reason.FiresNext) }
     ensures at_20 { why again 20 0 ≡ (None, Reason.After 0 (pending_half 1)) }
@@ -76,11 +76,11 @@ pub fn work_is_delayed_and_disabled()
 /// Running, listed and deferred instances take up places of a queue, one work two of them; a sleeper has the one worker.
 pub fn work_waits_for_both_halves()
     ensures at_4 { why again 4 1 ≡ (None, Reason.Inactive 0) }
-    ensures held_at_4 { blamed again 4 (pending_half 1) 1 ≡ running_half 0 ∷ pending_half 0 ∷ [] }
-    ensures held_at_7 { blamed again 7 (pending_half 1) 1 ≡ running_half 0 ∷ pending_half 0 ∷ [] }
+    ensures held_at_4 { blamed_at again 4 (pending_half 1) 1 ≡ running_half 0 ∷ pending_half 0 ∷ [] }
+    ensures held_at_7 { blamed_at again 7 (pending_half 1) 1 ≡ running_half 0 ∷ pending_half 0 ∷ [] }
     ensures at_11 { why again 11 1 ≡ (None, Reason.Held 0) }
     ensures at_15 { why again 15 1 ≡ (None, Reason.NoWorker 0) }
-    ensures held_at_15 { blamed again 15 (pending_half 1) 1 ≡ running_half 0 ∷ [] }
+    ensures held_at_15 { blamed_at again 15 (pending_half 1) 1 ≡ running_half 0 ∷ [] }
     ensures at_17 { why again 17 1 ≡ (None, Reason.After 0 (running_half 0)) }
     ensures at_20 { why again 20 1 ≡ (None, Reason.Free 0 Turn.Starts) }
 {}
@@ -88,12 +88,12 @@ pub fn work_waits_for_both_halves()
 /// Under pressure a work waits for a worker, and one of a queue with a rescuer goes past it.
 pub fn work_waits_for_memory()
     ensures at_3 { why outside 3 0 ≡ (None, Reason.NoWorker 0) }
-    ensures nobody_at_3 { blamed outside 3 (pending_half 0) 0 ≡ [] }
+    ensures nobody_at_3 { blamed_at outside 3 (pending_half 0) 0 ≡ [] }
     ensures rescued_at_4 { why outside 4 1 ≡ (None, Reason.Free 0 Turn.StartsOnRescuer) }
     ensures ahead_at_4 { ahead_at outside 4 1 ≡ 0 ∷ [] }
     ensures at_4 { why outside 4 0 ≡ (None, Reason.After 0 (pending_half 1)) }
     ensures at_8 { why outside 8 0 ≡ (None, Reason.Held 0) }
-    ensures held_at_8 { blamed outside 8 (pending_half 0) 0 ≡ running_half 1 ∷ [] }
+    ensures held_at_8 { blamed_at outside 8 (pending_half 0) 0 ≡ running_half 1 ∷ [] }
     ensures at_12 { why outside 12 0 ≡ (None, Reason.Free 0 Turn.Starts) }
 {}
 
@@ -116,9 +116,9 @@ pub fn work_waits_for_thaw_and_relief()
 pub fn works_wait_in_a_chain()
     ensures flush { waits_at chain 15 0 ≡ pending_half 3 ∷ [] }
     ensures y { why chain 15 3 ≡ (None, Reason.Inactive 0) }
-    ensures y_held { blamed chain 15 (pending_half 3) 3 ≡ pending_half 2 ∷ [] }
+    ensures y_held { blamed_at chain 15 (pending_half 3) 3 ≡ pending_half 2 ∷ [] }
     ensures x { why chain 15 2 ≡ (None, Reason.Held 0) }
-    ensures x_held { blamed chain 15 (pending_half 2) 2 ≡ running_half 0 ∷ running_half 1 ∷ [] }
+    ensures x_held { blamed_at chain 15 (pending_half 2) 2 ≡ running_half 0 ∷ running_half 1 ∷ [] }
     ensures d { why chain 15 1 ≡ (Some (Reason.Behind (record { 0 = 0 })), Reason.NotPending) }
     ensures c { why chain 15 0 ≡ (Some (Reason.HighHas (record { 0 = 4 })), Reason.NotPending) }
     ensures u { why chain 15 4 ≡ (Some Reason.Burns, Reason.NotPending) }

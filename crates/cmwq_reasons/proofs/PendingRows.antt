@@ -20,7 +20,7 @@ use Rattle.cmwq_reasons.specs.declared.reason.Reason.{Reason}
 use Rattle.cmwq_reasons.specs.declared.reason.Reason.TheVariants as reason
 use Rattle.cmwq_reasons.specs.declared.reason.Turn.{Turn}
 use Rattle.cmwq_reasons.specs.declared.reason.Turn.TheVariants.{Starts, Defers, StartsOnRescuer}
-use Rattle.cmwq_reasons.specs.Laws.{InAnyState, TellsAfter, TellsDeferred, TellsDisabled, TellsFiresAfter, TellsFiresNext, TellsFree, TellsFrozen, TellsHeld, TellsInactive, TellsNoWorker, TellsNotPending, TellsTimer, move_of}
+use Rattle.cmwq_reasons.specs.Laws.{InAnyState, TellsAfter, TellsDeferred, TellsDisabled, TellsFiresAfter, TellsFiresNext, TellsFree, TellsFrozen, TellsHeld, TellsInactive, TellsNoWorker, TellsNotPending, TellsTimer, turn_move}
 use Rattle.cmwq_reasons.specs.Reasons.{fires_unless, free_or_after, moved_by, moved_instance, mover, other_work, pending_half, reason_by_move, reason_in_place, reason_of_pending}
 use Rattle.cmwq_reasons.proofs.MoverLemmas.{due-first, is_due_now, none-first}
 use Rattle.cmwq_reasons.proofs.RunningRows.{above-zero, not-zero}
@@ -34,7 +34,7 @@ pub data PlaceRow (S : ScenarioContents) (s : State) (w : ℕ) (place : Place) :
   frozen : (pool : ℕ) → place ≡ Inactive pool → limit S s (queue_of S w) ≡ 0 → PlaceRow S s w place (reason.Frozen pool)
   inactive : (pool : ℕ) → place ≡ Inactive pool → 0 < limit S s (queue_of S w) → PlaceRow S s w place (reason.Inactive pool)
   held : (pool : ℕ) → place ≡ Listed pool → may_start S s pool ≡ false → PlaceRow S s w place (reason.Held pool)
-  free : (pool : ℕ) (turn : Turn) → place ≡ Listed pool → may_start S s pool ≡ true → next_move S s pool ≡ Some (move_of turn w)
+  free : (pool : ℕ) (turn : Turn) → place ≡ Listed pool → may_start S s pool ≡ true → next_move S s pool ≡ Some (turn_move turn w)
       → PlaceRow S s w place (reason.Free pool turn)
   after : (pool : ℕ) (x : Instance) → place ≡ Listed pool → may_start S s pool ≡ true → mover S s pool ≡ Some x → (x ≡ pending_half w → ⊥)
       → PlaceRow S s w place (reason.After pool x)
@@ -59,10 +59,10 @@ module _ (S : ScenarioContents) (s : State) (w : ℕ) (place : Place) where
       same false e = PlaceRow.fires_after (record { 0 = v }) due first (eqb-false v w e)
 
   free-row : (pool : ℕ) (turn : Turn) (v : WorkId) (move : Move) → place ≡ Listed pool → may_start S s pool ≡ true → next_move S s pool ≡ Some move
-      → move ≡ move_of turn v.0 → moved_instance move ≡ instance.Pending v → (b : Bool) → (v.0 == w) ≡ b
+      → move ≡ turn_move turn v.0 → moved_instance move ≡ instance.Pending v → (b : Bool) → (v.0 == w) ≡ b
       → PlaceRow S s w place (cond b (reason.Free pool turn) (reason.After pool (instance.Pending v)))
   free-row pool turn v move at may moves is moved true e =
-      PlaceRow.free pool turn at may (moves ∙ ap Some is ∙ ap (λ (k : ℕ). Some (move_of turn k)) (eqb-true v.0 w e))
+      PlaceRow.free pool turn at may (moves ∙ ap Some is ∙ ap (λ (k : ℕ). Some (turn_move turn k)) (eqb-true v.0 w e))
   free-row pool turn v move at may moves is moved false e =
       PlaceRow.after pool (instance.Pending v) at may (ap moved_by moves ∙ ap Some moved) (other-pending v w e)
 
@@ -149,11 +149,11 @@ module _ (S : ScenarioContents) (s : State) (w : ℕ) (at : Place) where
   held-from a row pool e = cc
 
   free-from : (a : Reason) → PlaceRow S s w at a → (pool : ℕ) (turn : Turn) → a ≡ reason.Free pool turn
-      → (at ≡ Listed pool) × (may_start S s pool ≡ true) × (next_move S s pool ≡ Some (move_of turn w))
+      → (at ≡ Listed pool) × (may_start S s pool ≡ true) × (next_move S s pool ≡ Some (turn_move turn w))
   free-from a (PlaceRow.free q t is may moves) pool turn e =
       let same : q ≡ pool = cc in
       let same_turn : t ≡ turn = cc in
-      (is ∙ ap Listed same, ap (may_start S s) (sym same) ∙ may, ap (next_move S s) (sym same) ∙ moves ∙ ap (λ (x : Turn). Some (move_of x w)) same_turn)
+      (is ∙ ap Listed same, ap (may_start S s) (sym same) ∙ may, ap (next_move S s) (sym same) ∙ moves ∙ ap (λ (x : Turn). Some (turn_move x w)) same_turn)
   free-from a row pool turn e = cc
 
   after-from : (a : Reason) → PlaceRow S s w at a → (pool : ℕ) (x : Instance) → a ≡ reason.After pool x
@@ -211,12 +211,12 @@ module _ (S : ScenarioContents) (s : State) (w : ℕ) (at : Place) where
   started-reason pool is may =
       ap (reason_in_place S s w) is ∙ cond-true (may_start S s pool) (reason_by_move w pool (next_move S s pool)) (reason.Held pool) may
 
-  own-turn : (pool : ℕ) (turn : Turn) → reason_by_move w pool (Some (move_of turn w)) ≡ reason.Free pool turn
+  own-turn : (pool : ℕ) (turn : Turn) → reason_by_move w pool (Some (turn_move turn w)) ≡ reason.Free pool turn
   own-turn pool Starts = cond-true (w == w) (reason.Free pool Starts) (reason.After pool (pending_half w)) (eq-eqb w w refl)
   own-turn pool Defers = cond-true (w == w) (reason.Free pool Defers) (reason.After pool (pending_half w)) (eq-eqb w w refl)
   own-turn pool StartsOnRescuer = cond-true (w == w) (reason.Free pool StartsOnRescuer) (reason.After pool (pending_half w)) (eq-eqb w w refl)
 
-  pub free-to : (pool : ℕ) (turn : Turn) → (at ≡ Listed pool) × (may_start S s pool ≡ true) × (next_move S s pool ≡ Some (move_of turn w))
+  pub free-to : (pool : ℕ) (turn : Turn) → (at ≡ Listed pool) × (may_start S s pool ≡ true) × (next_move S s pool ≡ Some (turn_move turn w))
       → reason_in_place S s w at ≡ reason.Free pool turn
   free-to pool turn h = started-reason pool h.0 h.1 ∙ ap (reason_by_move w pool) h.2 ∙ own-turn pool turn
 

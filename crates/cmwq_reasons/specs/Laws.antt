@@ -98,10 +98,10 @@ abbrev pub AtEachPending : ScenarioContents → State → (ℕ → Pending → T
 AtEachPending S s law = (w : ℕ) (p : Pending) → w < length S.works → pending_at s w ≡ Some p → law w p
 
 -- the move that is the turn of a listed work
-abbrev pub move_of : Turn → ℕ → Move
-move_of Starts w = Start (record { 0 = w })
-move_of Defers w = Defer (record { 0 = w })
-move_of StartsOnRescuer w = Rescue (record { 0 = w })
+abbrev pub turn_move : Turn → ℕ → Move
+turn_move Starts w = Start (record { 0 = w })
+turn_move Defers w = Defer (record { 0 = w })
+turn_move StartsOnRescuer w = Rescue (record { 0 = w })
 
 -- nothing pends of it, and it was disabled so much more often than enabled
 unfoldable pub TellsDisabled : ScenarioContents → State → Type 0
@@ -165,7 +165,7 @@ TellsHeld S s =
 unfoldable pub TellsFree : ScenarioContents → State → Type 0
 TellsFree S s =
     AtEachPending S s (λ w p. (pool : ℕ) (turn : Turn) → (reason_of_pending S s w (Some p) ≡ reason.Free pool turn)
-    ↔ ((p.place ≡ place.Listed pool) × (may_start S s pool ≡ true) × (next_move S s pool ≡ Some (move_of turn w))))
+    ↔ ((p.place ≡ place.Listed pool) × (may_start S s pool ≡ true) × (next_move S s pool ≡ Some (turn_move turn w))))
 
 -- it is listed in a pool that may start works, whose next move moves another instance
 unfoldable pub TellsAfter : ScenarioContents → State → Type 0
@@ -182,27 +182,27 @@ TellsNoWorker S s =
 -- Next means next.
 
 -- the reason is that the instance's pool moves it next
-abbrev pub is_next : Reason → Bool
-is_next reason.WakesNext = true
-is_next reason.ReadyNext = true
-is_next (reason.Free pool turn) = true
-is_next (reason.Asleep until) = false
-is_next (reason.WakesAfter x) = false
-is_next (reason.Behind v) = false
-is_next (reason.ReadyAfter x) = false
-is_next (reason.HighHas v) = false
-is_next reason.Burns = false
-is_next (reason.Disabled depth) = false
-is_next reason.NotPending = false
-is_next (reason.Timer due cpu) = false
-is_next reason.FiresNext = false
-is_next (reason.FiresAfter v) = false
-is_next (reason.Deferred pool) = false
-is_next (reason.Frozen pool) = false
-is_next (reason.Inactive pool) = false
-is_next (reason.Held pool) = false
-is_next (reason.After pool x) = false
-is_next (reason.NoWorker pool) = false
+abbrev pub is_moved_next : Reason → Bool
+is_moved_next reason.WakesNext = true
+is_moved_next reason.ReadyNext = true
+is_moved_next (reason.Free pool turn) = true
+is_moved_next (reason.Asleep until) = false
+is_moved_next (reason.WakesAfter x) = false
+is_moved_next (reason.Behind v) = false
+is_moved_next (reason.ReadyAfter x) = false
+is_moved_next (reason.HighHas v) = false
+is_moved_next reason.Burns = false
+is_moved_next (reason.Disabled depth) = false
+is_moved_next reason.NotPending = false
+is_moved_next (reason.Timer due cpu) = false
+is_moved_next reason.FiresNext = false
+is_moved_next (reason.FiresAfter v) = false
+is_moved_next (reason.Deferred pool) = false
+is_moved_next (reason.Frozen pool) = false
+is_moved_next (reason.Inactive pool) = false
+is_moved_next (reason.Held pool) = false
+is_moved_next (reason.After pool x) = false
+is_moved_next (reason.NoWorker pool) = false
 
 abbrev pub pool_if_pending : Option Pending → Option ℕ
 pool_if_pending (Some p) = placed_in p.place
@@ -220,7 +220,7 @@ pool_of s (instance.Running w) = pool_if_running (running_at s w.0)
 -- the instance is one of the pool, and its reason is that the pool moves it next
 abbrev pub SaysNext : ScenarioContents → State → ℕ → Instance → Type 0
 SaysNext S s pool x =
-    (a : Reason) × (reason_of S s x ≡ Some a) × (is_next a ≡ true) × (pool_of s x ≡ Some pool) × (work_of x < length S.works)
+    (a : Reason) × (reason_of S s x ≡ Some a) × (is_moved_next a ≡ true) × (pool_of s x ≡ Some pool) × (work_of x < length S.works)
 
 -- In each pool the instance that the next move moves says that it is next, and no other one does.
 unfoldable pub IsNextToMove : ScenarioContents → State → Type 0

@@ -19,11 +19,11 @@ abbrev pub tick_bar : Cell → ℕ → Bar
 tick_bar cell at = record { from = at; to = at + 1; cell = cell }
 
 -- the rectangle that begins with this cell: an empty one has none
-abbrev pub begun : Cell → ℕ → Option Bar
-begun Empty at = None
-begun (Does sign) at = Some (tick_bar (Does sign) at)
-begun (Burner w) at = Some (tick_bar (Burner w) at)
-begun Acts at = Some (tick_bar Acts at)
+abbrev pub bar_begun : Cell → ℕ → Option Bar
+bar_begun Empty at = None
+bar_begun (Does sign) at = Some (tick_bar (Does sign) at)
+bar_begun (Burner w) at = Some (tick_bar (Burner w) at)
+bar_begun Acts at = Some (tick_bar Acts at)
 
 abbrev pub ended : Option Bar → List Bar
 ended None = []
@@ -34,7 +34,7 @@ abbrev pub bars_from : Option Bar → ℕ → List Cell → List Bar
 bars_from last at [] = ended last
 bars_from last at (cell ∷ cells) =
     if goes_on last cell then bars_from (grown last (at + 1)) (at + 1) cells
-    else ended last ++ bars_from (begun cell at) (at + 1) cells
+    else ended last ++ bars_from (bar_begun cell at) (at + 1) cells
 
 abbrev pub bars : List Cell → List Bar
 bars cells = bars_from None 0 cells

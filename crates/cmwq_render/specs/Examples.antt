@@ -15,8 +15,8 @@ use Rattle.cmwq_picture.specs.declared.row.Title.TheVariants as title
 abbrev pub text : List (List ℕ) → List ℕ
 text lines = flat_map (λ line. line ++ 10 ∷ []) lines
 
-abbrev pub work : List ℕ → WorkContents
-work name = record { name = name; queue = record { 0 = 0 }; body = [] }
+abbrev pub named_work : List ℕ → WorkContents
+named_work name = record { name = name; queue = record { 0 = 0 }; body = [] }
 
 -- a scenario with a queue q and these works
 abbrev pub names : List WorkContents → ScenarioContents
@@ -31,8 +31,8 @@ names works =
       actors = [];
     }
 
-abbrev pub row : Title → List Cell → RowContents
-row title cells = record { title = title; cells = cells }
+abbrev pub drawn_row : Title → List Cell → RowContents
+drawn_row title cells = record { title = title; cells = cells }
 
 abbrev pub id : ℕ → WorkId
 id w = record { 0 = w }
@@ -40,12 +40,12 @@ id w = record { 0 = w }
 abbrev pub for : ℕ → Sign → List Cell
 for n s = replicate n (Does s)
 
-abbrev pub nothing : ℕ → List Cell
-nothing n = replicate n Empty
+abbrev pub empty_cells : ℕ → List Cell
+empty_cells n = replicate n Empty
 
 -- the first table of the kernel's document
-abbrev pub three_works : ScenarioContents
-three_works = names (work (codes "w0") ∷ work (codes "w1") ∷ work (codes "w2") ∷ [])
+abbrev pub three_names : ScenarioContents
+three_names = names (named_work (codes "w0") ∷ named_work (codes "w1") ∷ named_work (codes "w2") ∷ [])
 
 abbrev pub first_table : PictureContents
 first_table =
@@ -53,11 +53,11 @@ first_table =
       from = 0;
       ticks = 25;
       rows =
-          row (title.Work (id 0)) (for 5 sign.Burns ++ for 10 sign.Sleeps ++ for 5 sign.Burns ++ nothing 5)
-          ∷ row (title.Work (id 1)) (for 5 sign.Listed ++ for 5 sign.Burns ++ for 10 sign.Sleeps ++ nothing 5)
-          ∷ row (title.Work (id 2)) (for 10 sign.Listed ++ for 5 sign.Burns ++ for 10 sign.Sleeps)
-          ∷ row (title.Cpu 0) (replicate 5 (Burner (id 0)) ++ replicate 5 (Burner (id 1)) ++ replicate 5 (Burner (id 2)) ++ replicate 5 (Burner (id 0)) ++ nothing 5)
-          ∷ row title.Actor (Acts ∷ nothing 24) ∷ [];
+          drawn_row (title.Work (id 0)) (for 5 sign.Burns ++ for 10 sign.Sleeps ++ for 5 sign.Burns ++ empty_cells 5)
+          ∷ drawn_row (title.Work (id 1)) (for 5 sign.Listed ++ for 5 sign.Burns ++ for 10 sign.Sleeps ++ empty_cells 5)
+          ∷ drawn_row (title.Work (id 2)) (for 10 sign.Listed ++ for 5 sign.Burns ++ for 10 sign.Sleeps)
+          ∷ drawn_row (title.Cpu 0) (replicate 5 (Burner (id 0)) ++ replicate 5 (Burner (id 1)) ++ replicate 5 (Burner (id 2)) ++ replicate 5 (Burner (id 0)) ++ empty_cells 5)
+          ∷ drawn_row title.Actor (Acts ∷ empty_cells 24) ∷ [];
     }
 
 abbrev pub first_table_text : List ℕ
@@ -78,11 +78,11 @@ each_sign =
       from = 7;
       ticks = 9;
       rows =
-          row (title.Work (id 0)) (for 1 sign.Burns ++ for 1 sign.Waits ++ for 1 sign.Sleeps ++ for 1 sign.Listed ++ for 1 sign.Inactive ++ for 1 sign.Timed ++ nothing 3)
-          ∷ row (title.Pending (id 0)) (for 2 sign.Deferred ++ nothing 7)
-          ∷ row (title.Worker 2 11) (nothing 1 ++ replicate 2 (Burner (id 1)) ++ nothing 6)
-          ∷ row (title.Rescuer (record { 0 = 0 })) (nothing 8 ++ replicate 1 (Burner (id 0)))
-          ∷ row title.Actor (nothing 8 ++ Acts ∷ []) ∷ [];
+          drawn_row (title.Work (id 0)) (for 1 sign.Burns ++ for 1 sign.Waits ++ for 1 sign.Sleeps ++ for 1 sign.Listed ++ for 1 sign.Inactive ++ for 1 sign.Timed ++ empty_cells 3)
+          ∷ drawn_row (title.Pending (id 0)) (for 2 sign.Deferred ++ empty_cells 7)
+          ∷ drawn_row (title.Worker 2 11) (empty_cells 1 ++ replicate 2 (Burner (id 1)) ++ empty_cells 6)
+          ∷ drawn_row (title.Rescuer (record { 0 = 0 })) (empty_cells 8 ++ replicate 1 (Burner (id 0)))
+          ∷ drawn_row title.Actor (empty_cells 8 ++ Acts ∷ []) ∷ [];
     }
 
 abbrev pub each_sign_text : List ℕ
@@ -98,7 +98,7 @@ each_sign_text =
 
 -- a row without a cell, whose times are these
 abbrev pub only_times : ℕ → ℕ → PictureContents
-only_times from ticks = record { from = from; ticks = ticks; rows = row (title.Cpu 0) [] ∷ [] }
+only_times from ticks = record { from = from; ticks = ticks; rows = drawn_row (title.Cpu 0) [] ∷ [] }
 
 -- up to 9999 there is a time each 5 ticks
 abbrev pub short_times_text : List ℕ

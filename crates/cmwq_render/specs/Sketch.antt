@@ -8,7 +8,7 @@ use Rattle.cmwq_picture.specs.declared.cell.Cell.{Cell}
 use Rattle.cmwq_picture.specs.declared.cell.Cell.TheVariants.{Empty, Does, Burner, Acts}
 use Rattle.cmwq_render.specs.Labels.{label, longest}
 use Rattle.cmwq_render.specs.Legend.{explained, meaning, sign_mark}
-use Rattle.cmwq_render.specs.Times.{header, padded}
+use Rattle.cmwq_render.specs.Times.{header, padded_to}
 
 -- the byte that stands for a cell: of a burner the first of its name
 abbrev pub mark : ScenarioContents → Cell → ℕ
@@ -18,7 +18,7 @@ mark S (Burner w) = slice_index_or (work_at S w.0).name 0 63
 mark S Acts = 94
 
 abbrev pub row_line : ScenarioContents → ℕ → RowContents → List ℕ
-row_line S width row = padded width (label S row.title) ++ 124 ∷ map (mark S) row.cells ++ 124 ∷ 10 ∷ []
+row_line S width row = padded_to width (label S row.title) ++ 124 ∷ map (mark S) row.cells ++ 124 ∷ 10 ∷ []
 
 -- what the legend says of a cell, behind its mark
 abbrev pub key : ScenarioContents → Cell → List ℕ

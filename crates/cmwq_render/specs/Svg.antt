@@ -13,7 +13,7 @@ use Rattle.cmwq_render.specs.Labels.{label, longest}
 use Rattle.cmwq_render.specs.Legend.{explained, meaning}
 use Rattle.cmwq_render.specs.Times.{ticks_before, time_count}
 use Rattle.cmwq_render.specs.Bars.{bars}
-use Rattle.cmwq_render.specs.Layout.{full_height, full_width, left, x_of, y_of}
+use Rattle.cmwq_render.specs.Layout.{full_height, full_width, left_edge, x_of, y_of}
 use Rattle.cmwq_render.specs.declared.bars.Bar.{Bar}
 use Rattle.cmwq_render.specs.declared.style.TheConstants.{OPENING, STYLE}
 
@@ -97,7 +97,7 @@ rows_svg S width at (row ∷ rows) = row_svg S width at row ++ rows_svg S width 
 
 abbrev pub key_svg : ℕ → ℕ → Cell → List ℕ
 key_svg width at cell =
-    rectangle (class cell) (left width) (y_of at + 11) 20 ++ words (codes "key") (left width + 28) (y_of at + 22) (meaning cell)
+    rectangle (class cell) (left_edge width) (y_of at + 11) 20 ++ words (codes "key") (left_edge width + 28) (y_of at + 22) (meaning cell)
 
 -- a line for each cell, under the rows
 abbrev pub legend_svg : ℕ → ℕ → List Cell → List ℕ

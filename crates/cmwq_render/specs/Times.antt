@@ -16,13 +16,13 @@ abbrev pub ticks_before : PictureContents → ℕ → ℕ
 ticks_before P i = i * time_step P
 
 -- a text, with spaces behind it up to this length
-abbrev pub padded : ℕ → List ℕ → List ℕ
-padded width text = text ++ replicate (width - length text) 32
+abbrev pub padded_to : ℕ → List ℕ → List ℕ
+padded_to width text = text ++ replicate (width - length text) 32
 
 -- the first n times, each of which begins over its edge; the left edge is `width` bytes behind the line's start
-abbrev pub times : PictureContents → ℕ → ℕ → List ℕ
-times P width zero = []
-times P width (suc n) = padded (width + ticks_before P n) (times P width n) ++ decimal (P.from + ticks_before P n)
+abbrev pub times_above : PictureContents → ℕ → ℕ → List ℕ
+times_above P width zero = []
+times_above P width (suc n) = padded_to (width + ticks_before P n) (times_above P width n) ++ decimal (P.from + ticks_before P n)
 
 abbrev pub header : PictureContents → ℕ → List ℕ
-header P width = times P width (time_count P) ++ 10 ∷ []
+header P width = times_above P width (time_count P) ++ 10 ∷ []

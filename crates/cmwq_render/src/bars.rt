@@ -1,5 +1,5 @@
 //! The rectangles of a row.
-ghost use Rattle.cmwq_render.specs.Bars.{begun, goes_on, grown};
+ghost use Rattle.cmwq_render.specs.Bars.{bar_begun, goes_on, grown};
 ghost use Rattle.std.specs.Prelude.{◌≡◌, ◌+◌, ◌<◌, ◌^◌};
 
 use cmwq_picture::Cell;
@@ -36,7 +36,7 @@ pub(crate) fn grown(last: Option<Bar>, to: usize) -> Option<Bar>
 /// The rectangle that begins with the cell of this tick: an empty one has none.
 pub(crate) fn begun(cell: Cell, at: usize) -> Option<Bar>
     requires { at + 1 < 2 ^ 64 }
-    ensures { result ≡ begun cell at }
+    ensures { result ≡ bar_begun cell at }
 {
     match cell {
         Cell::Empty => None,

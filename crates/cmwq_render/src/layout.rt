@@ -1,10 +1,10 @@
 //! Where the parts of a picture stand, in pixels from its upper left corner. Numbers of 128 bits have room for every picture.
-ghost use Rattle.cmwq_render.specs.Layout.{full_height, full_width, left, x_of, y_of};
+ghost use Rattle.cmwq_render.specs.Layout.{full_height, full_width, left_edge, x_of, y_of};
 ghost use Rattle.std.specs.Prelude.{◌≡◌, ◌<◌, ◌^◌};
 
 /// The left edge of the columns, behind labels of so many letters.
 pub(crate) fn left(width: usize) -> u128
-    ensures left { result ≡ left width }
+    ensures left_edge { result ≡ left_edge width }
     ensures small { result < 2 ^ 68 }
 {
     8 * width as u128 + 16

@@ -1,5 +1,5 @@
 //! The times over the columns of a picture.
-ghost use Rattle.cmwq_render.specs.Times.{header, padded, ticks_before, time_count, time_step, times};
+ghost use Rattle.cmwq_render.specs.Times.{header, padded_to, ticks_before, time_count, time_step, times_above};
 ghost use Rattle.std.specs.Prelude.{◌≡◌, ◌+◌, ◌≤◌, ◌<◌, IfOk, OnOk, string_bytes};
 
 use cmwq_picture::Picture;
@@ -54,7 +54,7 @@ pub(crate) fn header(alloc: Global, picture: &Picture, width: usize) -> Result<S
 
 /// Puts spaces behind the text, up to this many bytes.
 pub(crate) fn pad(text: &mut String, width: u128) -> Result<(), NoMemory>
-    ensures { OnOk result (string_bytes text.new ≡ padded width (string_bytes text.old)) }
+    ensures { OnOk result (string_bytes text.new ≡ padded_to width (string_bytes text.old)) }
 {
     let missing = width.saturating_sub(text.as_bytes().len() as u128);
     for _space in 0..missing {

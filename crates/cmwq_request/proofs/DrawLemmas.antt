@@ -14,7 +14,7 @@ use Rattle.clap.proofs.OnLiterals.{clap_on_literals}
 use Rattle.cmwq_request.proofs.RequestLemmas.{no_hyphen, numerals}
 use Rattle.cmwq_request.proofs.WalkingLemmas.{Goes, begins_with_hyphen, draw_shape, end_passes, ends, has_draw, on, on_plain, taken}
 use Rattle.cmwq_command_line.specs.CommandLine.{command_line}
-use Rattle.cmwq_request.specs.Request.{HasCapacity, HasTimes, IsPlainWord, IsRead, IsTimeIfAny, asked_of, draw_arguments, flag_words, number_if_any, number_in, number_words, drawing_from, words_to_draw}
+use Rattle.cmwq_request.specs.Request.{HasCapacity, HasTimes, IsPlainWord, IsRead, IsTimeIfAny, asked_of, draw_arguments, option_words, number_if_any, number_in, number_words, drawing_from, words_to_draw}
 use Rattle.cmwq_tasks.specs.declared.drawing.Drawing.{Drawing}
 
 -- Numbers.
@@ -89,7 +89,7 @@ BeginsPlain None = Unit {0}
 
 -- the words behind the command's name
 abbrev words_behind : Bool → Bool → List Text → List Text → Text → List Text
-words_behind settle svg from to file = flag_words (codes "--settle") settle ++ (flag_words (codes "--svg") svg ++ (from ++ (to ++ (file ∷ []))))
+words_behind settle svg from to file = option_words (codes "--settle") settle ++ (option_words (codes "--svg") svg ++ (from ++ (to ++ (file ∷ []))))
 
 drawn : (settle svg : Bool) (from to : Option Text) (file : Text) → BeginsPlain from → BeginsPlain to → begins_with_hyphen file ≡ false
     → IsDrawn (words_behind settle svg (time_words (codes "--from") from) (time_words (codes "--to") to) file)

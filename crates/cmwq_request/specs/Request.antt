@@ -25,8 +25,8 @@ abbrev pub IsCapacity : ℕ → Type 0
 IsCapacity capacity = (1 ≤ capacity) × (capacity ≤ MAX_LINES)
 
 -- an option's word where it is given, and nothing else
-abbrev pub flag_words : Text → Bool → List Text
-flag_words word given = if given then word ∷ [] else []
+abbrev pub option_words : Text → Bool → List Text
+option_words word given = if given then word ∷ [] else []
 
 -- an option's word and its number, if it has one
 abbrev pub number_words : Text → Option ℕ → List Text
@@ -42,8 +42,8 @@ run_arguments Told file = codes "--tell" ∷ file ∷ []
 -- what stands behind `draw`
 abbrev pub draw_arguments : Drawing → Text → List Text
 draw_arguments drawing file =
-    flag_words (codes "--settle") drawing.settle
-    ++ (flag_words (codes "--svg") drawing.svg
+    option_words (codes "--settle") drawing.settle
+    ++ (option_words (codes "--svg") drawing.svg
     ++ (number_words (codes "--from") drawing.span.from ++ (number_words (codes "--to") drawing.span.to ++ (file ∷ []))))
 
 -- the words that say which positions are looked at; none where these are the settled ones
@@ -90,15 +90,15 @@ task_words (task.Draw drawing) file = codes "draw" ∷ draw_arguments drawing fi
 task_words (task.Why question looks) file = codes "why" ∷ why_arguments question looks file
 
 -- the words that ask for it
-abbrev pub words_of : Request → List Text
-words_of (New None) = codes "new" ∷ []
-words_of (New (Some file)) = codes "new" ∷ file.now ∷ []
-words_of (Do file task) = task_words task file.now
-words_of (Asm file out) = codes "asm" ∷ file.now ∷ out.now ∷ []
-words_of (Debug file) = codes "debug" ∷ file.now ∷ []
-words_of (Play file capacity) = codes "play" ∷ file.now ∷ codes "--capacity" ∷ decimal capacity ∷ []
-words_of (Check files) = codes "check" ∷ map (λ file. file.now) files.items
-words_of Version = codes "--version" ∷ []
+abbrev pub request_words : Request → List Text
+request_words (New None) = codes "new" ∷ []
+request_words (New (Some file)) = codes "new" ∷ file.now ∷ []
+request_words (Do file task) = task_words task file.now
+request_words (Asm file out) = codes "asm" ∷ file.now ∷ out.now ∷ []
+request_words (Debug file) = codes "debug" ∷ file.now ∷ []
+request_words (Play file capacity) = codes "play" ∷ file.now ∷ codes "--capacity" ∷ decimal capacity ∷ []
+request_words (Check files) = codes "check" ∷ map (λ file. file.now) files.items
+request_words Version = codes "--version" ∷ []
 
 -- the words of the request, where clap met this command with these values
 abbrev pub one_value : Text → Text → List Row → Option (List Text)
@@ -160,8 +160,8 @@ abbrev pub drawing_from : Option Bool → Option Bool → Option (Option ℕ) �
 drawing_from (Some settle) (Some svg) (Some from) (Some to) = Some (record { settle = settle; svg = svg; span = record { from = from; to = to } })
 drawing_from settle svg from to = None
 
-abbrev pub drawing_of : List Row → Option Drawing
-drawing_of rows =
+abbrev pub drawing_asked : List Row → Option Drawing
+drawing_asked rows =
     drawing_from (flag_of (codes "settle") rows) (flag_of (codes "svg") rows)
     (number_if_any (first_of (codes "FROM") rows))
     (number_if_any (first_of (codes "TO") rows))
@@ -171,7 +171,7 @@ abbrev pub words_to_draw : Option Drawing → Option Text → Option (List Text)
 words_to_draw drawing file = option_and_then (λ given. option_map (λ name. codes "draw" ∷ draw_arguments given name) file) drawing
 
 abbrev pub file_to_draw : List Row → Option (List Text)
-file_to_draw rows = words_to_draw (drawing_of rows) (first_of (codes "FILE") rows)
+file_to_draw rows = words_to_draw (drawing_asked rows) (first_of (codes "FILE") rows)
 
 -- The number that 1 to 10 digits spell.
 unfoldable pub plain_number : Text → Option ℕ
@@ -245,7 +245,7 @@ IsWithin request = Unit {0}
 
 -- the request, which is there, has these words
 abbrev pub IsRequestOf : List Text → Option Request → Type 0
-IsRequestOf asked request = option_map (λ r. words_of r) request ≡ Some asked
+IsRequestOf asked request = option_map (λ r. request_words r) request ≡ Some asked
 
 -- clap takes the words, and the request that is read of them has these words
 abbrev pub IsRead : List Text → List Text → Type 0
@@ -304,7 +304,7 @@ pub data IsMisusedBy : (given : List Text) → Type 0 where
 
 -- the answer is the request of these words, unless memory ran out
 abbrev pub Asks : List Text → Result Request Error → Type 0
-Asks words r = MatchResult r (λ request. words_of request ≡ words) (λ e. kind_of e ≡ OutOfMemory)
+Asks words r = MatchResult r (λ request. request_words request ≡ words) (λ e. kind_of e ≡ OutOfMemory)
 
 -- the answer is a usage fault, unless memory ran out
 abbrev pub IsUsageFault : Result Request Error → Type 0

@@ -2,7 +2,7 @@
 
 ghost use Rattle.clap.specs.Words.{Text, first_of, found_of, rows_of};
 ghost use Rattle.cmwq_tasks.specs.declared.question.Looks.{Looks};
-ghost use Rattle.cmwq_request.specs.Request.{IsWithin, asked_why, flag_of, looks_in, plain_number, question_words, why_arguments, words_of};
+ghost use Rattle.cmwq_request.specs.Request.{IsWithin, asked_why, flag_of, looks_in, plain_number, question_words, why_arguments, request_words};
 ghost use Rattle.std.specs.Prelude.{◌≡◌, Bool, IfSome, Some, codes, option_map};
 
 use crate::drawing::flag_of;
@@ -14,7 +14,7 @@ use cmwq_tasks::{Looks, Question, Task};
 /// or where a number hasn't 1 to 10 digits.
 pub(crate) fn why_request<'a>(given: &ArgMatches<'a>) -> Option<Request<'a>>
     ensures words { (every : Bool) → flag_of (codes "every") (rows_of (found_of given.now)) ≡ Some every
-        → option_map (λ request. words_of request) result ≡ asked_why every (rows_of (found_of given.now)) }
+        → option_map (λ request. request_words request) result ≡ asked_why every (rows_of (found_of given.now)) }
     ensures capacity { IfSome result (λ request. IsWithin request) }
 {
     let looks = looks_of(given)?;

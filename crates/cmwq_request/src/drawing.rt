@@ -2,7 +2,7 @@
 
 ghost use Rattle.clap.specs.Words.{Text, first_of, found_of, one_of, rows_of};
 ghost use Rattle.cmwq_tasks.specs.declared.drawing.Drawing.{Drawing};
-ghost use Rattle.cmwq_request.specs.Request.{IsWithin, drawing_of, file_to_draw, flag_in, number_if_any, number_in, words_of};
+ghost use Rattle.cmwq_request.specs.Request.{IsWithin, drawing_asked, file_to_draw, flag_in, number_if_any, number_in, request_words};
 ghost use Rattle.std.specs.Prelude.{◌≡◌, ℕ, Bool, IfSome, List, Option, Some, option_map};
 
 use crate::request::{Request, on_file, value_of};
@@ -11,7 +11,7 @@ use cmwq_tasks::{Drawing, Span, Task};
 
 /// What `draw` asks for; nothing where a time isn't a number.
 pub(crate) fn draw_request<'a>(given: &ArgMatches<'a>) -> Option<Request<'a>>
-    ensures words { (asked : List Text) → file_to_draw (rows_of (found_of given.now)) ≡ Some asked → option_map (λ request. words_of request) result ≡ Some asked }
+    ensures words { (asked : List Text) → file_to_draw (rows_of (found_of given.now)) ≡ Some asked → option_map (λ request. request_words request) result ≡ Some asked }
     ensures capacity { IfSome result (λ request. IsWithin request) }
 {
     let drawing = drawing_of(given)?;
@@ -20,7 +20,7 @@ pub(crate) fn draw_request<'a>(given: &ArgMatches<'a>) -> Option<Request<'a>>
 
 /// The picture that is asked for; nothing where a time isn't a number.
 pub(crate) fn drawing_of(given: &ArgMatches<'_>) -> Option<Drawing>
-    ensures { (drawing : Drawing) → drawing_of (rows_of (found_of given.now)) ≡ Some drawing → result ≡ Some drawing }
+    ensures { (drawing : Drawing) → drawing_asked (rows_of (found_of given.now)) ≡ Some drawing → result ≡ Some drawing }
 {
     Some(Drawing {
         settle: flag_of(given, "settle"),

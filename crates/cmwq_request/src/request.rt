@@ -2,7 +2,7 @@
 
 ghost use Rattle.clap.specs.Words.{Row, Text, all_of, app_of, fault_of, first_of, found_of, kind_of, rows_of, subcommand_rows_of};
 ghost use Rattle.cmwq_command_line.specs.CommandLine.{command_line};
-ghost use Rattle.cmwq_request.specs.Request.{Asks, AsksNothing, AsksVersion, HasCapacity, IsAskedBy, IsCapacity, IsMisuse, IsMisusedBy, IsRead, IsRequestOf, IsUsageFault, IsVersionWord, IsWithin, asked_in, asked_of, asked_of_run, file_and_capacity, file_to_run, kind_of_run, task_words, words_of};
+ghost use Rattle.cmwq_request.specs.Request.{Asks, AsksNothing, AsksVersion, HasCapacity, IsAskedBy, IsCapacity, IsMisuse, IsMisusedBy, IsRead, IsRequestOf, IsUsageFault, IsVersionWord, IsWithin, asked_in, asked_of, asked_of_run, file_and_capacity, file_to_run, kind_of_run, task_words, request_words};
 ghost use Rattle.std.specs.Fmt.{decimal};
 ghost use Rattle.std.specs.Str.{bytes_eq};
 ghost use Rattle.std.specs.Prelude.{◌≡◌, ◌↔◌, ℕ, List, [], ◌∷◌, IfOk, IfSome, IsTrue, None, Some, codes, false, map, option_map, string_bytes};
@@ -167,7 +167,7 @@ fn request_by<'a>(
 /// What the command of this name, which takes at most two files, asks for.
 fn request_on_file<'a>(name: &str, given: &ArgMatches<'a>) -> Option<Request<'a>>
     requires { bytes_eq name.now (codes "check") ≡ false }
-    ensures words { (asked : List Text) → asked_in (name.now, rows_of (found_of given.now)) ≡ Some asked → HasCapacity asked → option_map (λ request. words_of request) result ≡ Some asked }
+    ensures words { (asked : List Text) → asked_in (name.now, rows_of (found_of given.now)) ≡ Some asked → HasCapacity asked → option_map (λ request. request_words request) result ≡ Some asked }
     ensures nothing { AsksNothing (name.now, rows_of (found_of given.now)) → result ≡ None }
     ensures capacity { IfSome result (λ request. IsWithin request) }
 {
@@ -190,7 +190,7 @@ fn request_on_file<'a>(name: &str, given: &ArgMatches<'a>) -> Option<Request<'a>
 /// What the command of this name, which looks into a run, asks for.
 fn request_on_run<'a>(name: &str, given: &ArgMatches<'a>) -> Option<Request<'a>>
     requires { bytes_eq name.now (codes "check") ≡ false }
-    ensures words { (asked : List Text) → asked_of_run (name.now, rows_of (found_of given.now)) ≡ Some asked → HasCapacity asked → option_map (λ request. words_of request) result ≡ Some asked }
+    ensures words { (asked : List Text) → asked_of_run (name.now, rows_of (found_of given.now)) ≡ Some asked → HasCapacity asked → option_map (λ request. request_words request) result ≡ Some asked }
     ensures nothing { AsksNothing (name.now, rows_of (found_of given.now)) → result ≡ None }
     ensures capacity { IfSome result (λ request. IsWithin request) }
 {
@@ -207,7 +207,7 @@ fn request_on_run<'a>(name: &str, given: &ArgMatches<'a>) -> Option<Request<'a>>
 
 /// What asks for this task on the file that is the argument's value.
 pub(crate) fn on_file<'a>(given: &ArgMatches<'a>, id: &str, task: Task<'a>) -> Option<Request<'a>>
-    ensures words { option_map (λ request. words_of request) result ≡ option_map (task_words task.entry) (first_of id.now (rows_of (found_of given.now))) }
+    ensures words { option_map (λ request. request_words request) result ≡ option_map (task_words task.entry) (first_of id.now (rows_of (found_of given.now))) }
     ensures capacity { IfSome result (λ request. IsWithin request) }
 {
     let file = value_of(given, id)?;
@@ -216,7 +216,7 @@ pub(crate) fn on_file<'a>(given: &ArgMatches<'a>, id: &str, task: Task<'a>) -> O
 
 /// What `run` asks for.
 fn run_request<'a>(given: &ArgMatches<'a>) -> Option<Request<'a>>
-    ensures words { (asked : List Text) → file_to_run (rows_of (found_of given.now)) ≡ Some asked → option_map (λ request. words_of request) result ≡ Some asked }
+    ensures words { (asked : List Text) → file_to_run (rows_of (found_of given.now)) ≡ Some asked → option_map (λ request. request_words request) result ≡ Some asked }
     ensures capacity { IfSome result (λ request. IsWithin request) }
 {
     let kind = run_kind(flag_of(given, "settle"), flag_of(given, "tell"))?;
@@ -237,7 +237,7 @@ fn run_kind(settle: bool, tell: bool) -> Option<RunKind>
 
 /// What `play` asks for.
 fn play_request<'a>(given: &ArgMatches<'a>) -> Option<Request<'a>>
-    ensures words { (asked : List Text) → file_and_capacity (rows_of (found_of given.now)) ≡ Some asked → HasCapacity asked → option_map (λ request. words_of request) result ≡ Some asked }
+    ensures words { (asked : List Text) → file_and_capacity (rows_of (found_of given.now)) ≡ Some asked → HasCapacity asked → option_map (λ request. request_words request) result ≡ Some asked }
     ensures capacity { IfSome result (λ request. IsWithin request) }
 {
     let file = value_of(given, "FILE")?;

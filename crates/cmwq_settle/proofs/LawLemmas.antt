@@ -13,7 +13,7 @@ use Rattle.cmwq_table.specs.Events.{events}
 use Rattle.cmwq_grammar.specs.Grammar.{Spells}
 use Rattle.cmwq_play.specs.Runs.{IsRunOf}
 use Rattle.cmwq_play.specs.Texts.{IsRun}
-use Rattle.cmwq_settle.specs.Counting.{with_actor}
+use Rattle.cmwq_settle.specs.Counting.{with_one_actor}
 use Rattle.cmwq_settle.specs.Settled.{IsSettled, IsSettledBy, with_nexts}
 use Rattle.cmwq_settle.specs.Settling.{IsSettledOutput, IsSettledRun, IsSettledText, followed}
 use Rattle.cmwq_settle.proofs.AnswerLemmas.{settled-once}
@@ -28,10 +28,10 @@ few S actor n settled =
 
 -- the text of the scenario with the longer actor, and what running it prints
 runs : (S : ScenarioContents) (actor : ActorContents) (n : ℕ) (printed : List ℕ) → IsValid S → IsScenario S → IsSettledBy S actor n → length (with_nexts n actor).lines ≤ MAX_LINES
-    → ((T : ScenarioContents) → IsValid T → IsScenario T → Spells (listing T) T) → printed ≡ events S (followed actor n) → IsRun (Some (listing (with_actor S (with_nexts n actor)))) printed
+    → ((T : ScenarioContents) → IsValid T → IsScenario T → Spells (listing T) T) → printed ≡ events S (followed actor n) → IsRun (Some (listing (with_one_actor S (with_nexts n actor)))) printed
 runs S actor n printed valid scenario settled fits spells is =
     let longer = with_nexts n actor in
-    let T = with_actor S longer in
+    let T = with_one_actor S longer in
     let valid_then = settled-valid S actor n settled.runs.alone valid fits in
     let gives : events S (followed actor n) ≡ events T (expand longer) =
     ap (λ (instrs : List Instr). events S instrs) (sym (expand-with_nexts n actor)) ∙ sym (same-events S longer (expand longer))
@@ -52,7 +52,7 @@ prints text written printed spells one settled run =
     let output = subst (λ (U : ScenarioContents). IsSettledOutput U printed) (one run.0 S run.1.spelled settled.1.spelled) run.2 in
     let same = settled-once S output.0 actor output.1 n output.2 scenario.2 in
     let lines = output.3 ∙ ap (λ (a : ActorContents). events S (followed a output.1)) same.0 ∙ ap (λ (k : ℕ). events S (followed actor k)) same.1 in
-    let listed : listing (with_actor S (with_nexts n actor)) ≡ written =
+    let listed : listing (with_one_actor S (with_nexts n actor)) ≡ written =
     ap listing (sym (settled-is S actor n scenario.2.runs.alone)) ∙ ap listing (sym scenario.4) ∙ sym settled.2.2
     in
     subst (λ (bytes : List ℕ). IsRun (Some bytes) printed) listed

@@ -13,7 +13,7 @@ use Rattle.cmwq_types.specs.declared.scenario.Line.{Line}
 use Rattle.cmwq_table.specs.Events.{events, events_from, reply_line, told}
 use Rattle.cmwq_table.specs.State.{State}
 use Rattle.cmwq_table.specs.Table.{table}
-use Rattle.cmwq_settle.specs.Counting.{with_actor}
+use Rattle.cmwq_settle.specs.Counting.{with_one_actor}
 use Rattle.cmwq_settle.specs.Settled.{next_line, next_lines, rest_lines, settled_scenario, with_nexts}
 
 -- Faults.
@@ -70,15 +70,15 @@ nexts-fine S n front =
 -- The scenario with another actor. Its works are judged alike, and it prints the same.
 
 module _ (S : ScenarioContents) (other : ActorContents) where
-  same-lines : (before lines : List Line) → line_faults (with_actor S other) before lines ≡ line_faults S before lines
+  same-lines : (before lines : List Line) → line_faults (with_one_actor S other) before lines ≡ line_faults S before lines
   same-lines before lines = refl
 
-  same-works : first_along (work_fault (with_actor S other)) [] S.works ≡ first_along (work_fault S) [] S.works
+  same-works : first_along (work_fault (with_one_actor S other)) [] S.works ≡ first_along (work_fault S) [] S.works
   same-works = refl
 
-  other-valid : IsValid S → actor_fault S [] other ≡ None → IsValid (with_actor S other)
+  other-valid : IsValid S → actor_fault S [] other ≡ None → IsValid (with_one_actor S other)
   other-valid valid fine =
-      let T = with_actor S other in
+      let T = with_one_actor S other in
       let works_on = or_else (first_along (work_fault S) [] S.works) (first_along (actor_fault S) [] S.actors) in
       let queues_on = or_else (first_along queue_fault [] S.queues) works_on in
       let a = no_first (numbers_fault S) (or_else (counts_fault S) queues_on) valid in
@@ -98,7 +98,7 @@ module _ (S : ScenarioContents) (other : ActorContents) where
       and_true true e = refl
       and_true false e = e
 
-  other-scenario : IsScenario S → IsActor other → IsScenario (with_actor S other)
+  other-scenario : IsScenario S → IsActor other → IsScenario (with_one_actor S other)
   other-scenario is actor = record {
     cpus = is.cpus;
     workers = is.workers;
@@ -110,28 +110,28 @@ module _ (S : ScenarioContents) (other : ActorContents) where
   }
 
   -- what the scenario prints
-  same-told : (i : Instr) (s : State) → told (with_actor S other) i (table (with_actor S other) s i) ≡ told S i (table S s i)
+  same-told : (i : Instr) (s : State) → told (with_one_actor S other) i (table (with_one_actor S other) s i) ≡ told S i (table S s i)
   unfolding reply_line table
   same-told i s = refl
 
-  same-state : (i : Instr) (s : State) → (table (with_actor S other) s i).0 ≡ (table S s i).0
+  same-state : (i : Instr) (s : State) → (table (with_one_actor S other) s i).0 ≡ (table S s i).0
   unfolding table
   same-state i s = refl
 
-  same-events_from : (s : State) (is : List Instr) → events_from (with_actor S other) s is ≡ events_from S s is
+  same-events_from : (s : State) (is : List Instr) → events_from (with_one_actor S other) s is ≡ events_from S s is
   same-events_from s [] = refl
   same-events_from s (i ∷ is) =
-      ap (λ (line : List ℕ). line ++ events_from (with_actor S other) (table (with_actor S other) s i).0 is) (same-told i s)
-      ∙ ap (λ (t : State). told S i (table S s i) ++ events_from (with_actor S other) t is) (same-state i s)
+      ap (λ (line : List ℕ). line ++ events_from (with_one_actor S other) (table (with_one_actor S other) s i).0 is) (same-told i s)
+      ∙ ap (λ (t : State). told S i (table S s i) ++ events_from (with_one_actor S other) t is) (same-state i s)
       ∙ ap (λ (more : List ℕ). told S i (table S s i) ++ more) (same-events_from (table S s i).0 is)
 
-pub same-events : (S : ScenarioContents) (other : ActorContents) (is : List Instr) → events (with_actor S other) is ≡ events S is
+pub same-events : (S : ScenarioContents) (other : ActorContents) (is : List Instr) → events (with_one_actor S other) is ≡ events S is
 same-events S other is = same-events_from S other _ is
 
 -- The scenario whose one actor has lines of `next` more.
 
 module _ (S : ScenarioContents) (actor : ActorContents) (n : ℕ) (alone : S.actors ≡ actor ∷ []) where
-  pub settled-is : settled_scenario S n ≡ with_actor S (with_nexts n actor)
+  pub settled-is : settled_scenario S n ≡ with_one_actor S (with_nexts n actor)
   settled-is = ap (λ (actors : List ActorContents). record S { actors = map (with_nexts n) actors }) alone
 
   its-fault : IsValid S → actor_fault S [] actor ≡ None
@@ -150,12 +150,12 @@ module _ (S : ScenarioContents) (actor : ActorContents) (n : ℕ) (alone : S.act
       (unless_none (leb (length (with_nexts n actor).lines) MAX_LINES) fault.TooMany (grind (arith, nat_tests)))
       (no_line_fault S [] actor.lines (next_lines n) parts.1 (nexts-fine S n))
 
-  pub settled-valid : IsValid S → length (with_nexts n actor).lines ≤ MAX_LINES → IsValid (with_actor S (with_nexts n actor))
+  pub settled-valid : IsValid S → length (with_nexts n actor).lines ≤ MAX_LINES → IsValid (with_one_actor S (with_nexts n actor))
   settled-valid valid few = other-valid S (with_nexts n actor) valid (longer-fine valid few)
 
   -- Each number in it fits its type.
 
-  pub settled-scenario : IsScenario S → IsScenario (with_actor S (with_nexts n actor))
+  pub settled-scenario : IsScenario S → IsScenario (with_one_actor S (with_nexts n actor))
   settled-scenario is =
       let one = subst (λ (actors : List ActorContents). AllByRecursion IsActor actors) alone is.actors in
       other-scenario S (with_nexts n actor) is (record { name = one.0.name; lines = all_then actor.lines (next_lines n) one.0.lines (nexts-are n) })

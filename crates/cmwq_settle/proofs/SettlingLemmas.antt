@@ -17,9 +17,9 @@ use Rattle.cmwq_streams.specs.Sending.{IsSendError}
 use Rattle.cmwq_streams.specs.declared.error.PlayError.{PlayError}
 use Rattle.cmwq_streams.specs.declared.error.PlayError.TheVariants as errors
 use Rattle.std.specs.Io.KnownBytes.{Appends}
-use Rattle.cmwq_settle.specs.Counting.{HasCounted, IsCounted, number, with_actor}
+use Rattle.cmwq_settle.specs.Counting.{HasCounted, IsCounted, nexts_given, with_one_actor}
 use Rattle.cmwq_settle.specs.Quiet.{NeverQuiet, Settles, nexts_left}
-use Rattle.cmwq_settle.specs.Settled.{IsSettled, IsUnsettleable, IsUnsettled, settled_scenario, with_nexts}
+use Rattle.cmwq_settle.specs.Settled.{IsSettled, IsUnsettleable, IsNotSettled, settled_scenario, with_nexts}
 use Rattle.cmwq_settle.specs.Settling.{IsEndlessOutput, IsFollowedOutput, IsSettledListing, IsSettledOutput, Wrote, followed}
 use Rattle.cmwq_settle.specs.declared.counting.Nexts.{Nexts}
 use Rattle.cmwq_settle.specs.declared.counting.Nexts.TheVariants.{Settle, Never}
@@ -86,7 +86,7 @@ long-why S n longer counted is many =
     let lines = ap (λ (actor : ActorContents). length actor.lines) is in
     inl (inr (counted.0, n, record { runs = counted.1; settles = counted.2 }, omega (arith, lines, many)))
 
-module _ (S T : ScenarioContents) (n : ℕ) (longer : ActorContents) (counted : HasCounted S (Settle n)) (is : longer ≡ with_nexts n counted.0) (few : length longer.lines ≤ MAX_LINES) (made : T ≡ with_actor S longer) where
+module _ (S T : ScenarioContents) (n : ℕ) (longer : ActorContents) (counted : HasCounted S (Settle n)) (is : longer ≡ with_nexts n counted.0) (few : length longer.lines ≤ MAX_LINES) (made : T ≡ with_one_actor S longer) where
   fits : length (with_nexts n counted.0).lines ≤ MAX_LINES
   fits = let lines = ap (λ (actor : ActorContents). length actor.lines) is in omega (arith, lines, few)
 
@@ -96,29 +96,29 @@ module _ (S T : ScenarioContents) (n : ℕ) (longer : ActorContents) (counted : 
     n,
     record { runs = counted.1; settles = counted.2 },
     fits,
-    made ∙ ap (λ (actor : ActorContents). with_actor S actor) is ∙ sym (settled-is S counted.0 n counted.1.alone),
+    made ∙ ap (λ (actor : ActorContents). with_one_actor S actor) is ∙ sym (settled-is S counted.0 n counted.1.alone),
   )
 
   pub settled-so-valid : IsValid S → IsValid T
   settled-so-valid valid =
-      subst IsValid (sym (made ∙ ap (λ (actor : ActorContents). with_actor S actor) is)) (settled-valid S counted.0 n counted.1.alone valid fits)
+      subst IsValid (sym (made ∙ ap (λ (actor : ActorContents). with_one_actor S actor) is)) (settled-valid S counted.0 n counted.1.alone valid fits)
 
 -- What is printed.
 
-module _ (S : ScenarioContents) (actor longer : ActorContents) (nexts : Nexts) (runs : IsRunOf S actor) (is : longer ≡ with_nexts (number nexts) actor) where
-  lines-are : events S (expand longer) ≡ events S (followed actor (number nexts))
-  lines-are = ap (λ (a : ActorContents). events S (expand a)) is ∙ ap (λ (instrs : List Instr). events S instrs) (expand-with_nexts (number nexts) actor)
+module _ (S : ScenarioContents) (actor longer : ActorContents) (nexts : Nexts) (runs : IsRunOf S actor) (is : longer ≡ with_nexts (nexts_given nexts) actor) where
+  lines-are : events S (expand longer) ≡ events S (followed actor (nexts_given nexts))
+  lines-are = ap (λ (a : ActorContents). events S (expand a)) is ∙ ap (λ (instrs : List Instr). events S instrs) (expand-with_nexts (nexts_given nexts) actor)
 
   pub settled-output : (n : ℕ) (output : List ℕ) → nexts ≡ Settle n → IsCounted S actor nexts → output ≡ events S (expand longer) → IsSettledOutput S output
   settled-output n output told counted printed =
       let so = subst (λ (c : Nexts). IsCounted S actor c) told counted in
-      let count = ap number told in
+      let count = ap nexts_given told in
       (actor, n, record { runs = runs; settles = so }, printed ∙ lines-are ∙ ap (λ (k : ℕ). events S (followed actor k)) count)
 
   pub endless-output : (n : ℕ) (output : List ℕ) → nexts ≡ Never n → IsCounted S actor nexts → output ≡ events S (expand longer) → IsEndlessOutput S output
   endless-output n output told counted printed =
       let so = subst (λ (c : Nexts). IsCounted S actor c) told counted in
-      let count = ap number told ∙ so.1 in
+      let count = ap nexts_given told ∙ so.1 in
       (actor, record { runs = runs; never = so.0 }, printed ∙ lines-are ∙ ap (λ (k : ℕ). events S (followed actor k)) count)
 
   followed-by : (c : Nexts) → nexts ≡ c → IsCounted S actor nexts → (output : List ℕ) → output ≡ events S (expand longer) → IsFollowedOutput S output

@@ -12,14 +12,14 @@ abbrev pub IsCounted : ScenarioContents → ActorContents → Nexts → Type 0
 IsCounted S actor (Settle n) = Settles S (expand actor) n
 IsCounted S actor (Never n) = NeverQuiet S (expand actor) × (n ≡ nexts_left S (expand actor))
 
-abbrev pub number : Nexts → ℕ
-number (Settle n) = n
-number (Never n) = n
+abbrev pub nexts_given : Nexts → ℕ
+nexts_given (Settle n) = n
+nexts_given (Never n) = n
 
 -- and it is so behind those of the scenario's one actor
 abbrev pub HasCounted : ScenarioContents → Nexts → Type 0
 HasCounted S nexts = (actor : ActorContents) × IsRunOf S actor × IsCounted S actor nexts
 
 -- the same scenario with this one actor
-abbrev pub with_actor : ScenarioContents → ActorContents → ScenarioContents
-with_actor S actor = record S { actors = actor ∷ [] }
+abbrev pub with_one_actor : ScenarioContents → ActorContents → ScenarioContents
+with_one_actor S actor = record S { actors = actor ∷ [] }

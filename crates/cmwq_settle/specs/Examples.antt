@@ -27,8 +27,8 @@ abbrev pub two_works : ℕ → ScenarioContents
 two_works steps = small steps (work (codes "a") 0 (op.Burn 2 ∷ op.Finish ∷ []) ∷ work (codes "b") 0 (op.Finish ∷ []) ∷ [])
 
 -- a work that queues itself
-abbrev pub queues_itself : ℕ → ScenarioContents
-queues_itself steps = small steps (work (codes "a") 0 (queues 0 ∷ op.Finish ∷ []) ∷ [])
+abbrev pub never_quiet : ℕ → ScenarioContents
+never_quiet steps = small steps (work (codes "a") 0 (queues 0 ∷ op.Finish ∷ []) ∷ [])
 
 abbrev pub a : WorkId
 a = record { 0 = 0 }
@@ -37,11 +37,11 @@ abbrev pub b : WorkId
 b = record { 0 = 1 }
 
 -- `queue a 0`, `queue b 0` and `delay b 0 1`
-abbrev pub queue_a : Instr
-queue_a = instr.Queue a 0
+abbrev pub a_queued : Instr
+a_queued = instr.Queue a 0
 
-abbrev pub queue_b : Instr
-queue_b = instr.Queue b 0
+abbrev pub b_queued : Instr
+b_queued = instr.Queue b 0
 
 abbrev pub delay_b : Instr
 delay_b = instr.Delay b 0 1

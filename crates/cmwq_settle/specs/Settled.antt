@@ -52,11 +52,11 @@ abbrev pub IsTooLong : ScenarioContents → Type 0
 IsTooLong S = (actor : ActorContents) × (n : ℕ) × IsSettledBy S actor n × (MAX_LINES < length (with_nexts n actor).lines)
 
 -- why a scenario's machine isn't made quiet: it can't be run, or never is quiet
-abbrev pub IsUnsettled : ScenarioContents → PlayError → Type 0
-IsUnsettled S errors.NeverQuiet = (actor : ActorContents) × IsNeverQuiet S actor
-IsUnsettled S error = IsRefused S error
+abbrev pub IsNotSettled : ScenarioContents → PlayError → Type 0
+IsNotSettled S errors.NeverQuiet = (actor : ActorContents) × IsNeverQuiet S actor
+IsNotSettled S error = IsRefused S error
 
 -- why there is no settled scenario: that, or it would have too many lines
 abbrev pub IsUnsettleable : ScenarioContents → PlayError → Type 0
 IsUnsettleable S errors.Full = IsRefused S errors.Full ⊎ IsTooLong S
-IsUnsettleable S error = IsUnsettled S error
+IsUnsettleable S error = IsNotSettled S error

@@ -10,7 +10,7 @@ use Rattle.cmwq_table.specs.Events.{events}
 use Rattle.cmwq_play.specs.Texts.{ComesTo, IsFaultOf}
 use Rattle.cmwq_streams.specs.declared.error.PlayError.{PlayError}
 use Rattle.cmwq_settle.specs.Quiet.{nexts_left}
-use Rattle.cmwq_settle.specs.Settled.{IsNeverQuiet, IsSettled, IsSettledBy, IsUnsettleable, IsUnsettled}
+use Rattle.cmwq_settle.specs.Settled.{IsNeverQuiet, IsSettled, IsSettledBy, IsUnsettleable, IsNotSettled}
 
 -- the actor's instructions, and behind them so many `next`
 abbrev pub followed : ActorContents → ℕ → List Instr
@@ -45,7 +45,7 @@ abbrev pub IsFollowedRun : Option (List ℕ) → List ℕ → Type 0
 IsFollowedRun input output = ComesTo IsFollowedOutput input output
 
 abbrev pub IsUnsettledRun : Option (List ℕ) → PlayError → Type 0
-IsUnsettledRun input error = IsFaultOf IsUnsettled input error
+IsUnsettledRun input error = IsFaultOf IsNotSettled input error
 
 -- And which text the settled scenario has, and why there is none.
 

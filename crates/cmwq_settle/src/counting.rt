@@ -1,6 +1,6 @@
 //! How many `next` it takes until a machine is quiet.
 ghost use Rattle.cmwq_play.specs.Runs.{CanRun, IsRunOf};
-ghost use Rattle.cmwq_settle.specs.Counting.{HasCounted, IsCounted, number};
+ghost use Rattle.cmwq_settle.specs.Counting.{HasCounted, IsCounted, nexts_given};
 ghost use Rattle.cmwq_settle.specs.Quiet.{nexts_left};
 ghost use Rattle.cmwq_table.specs.State.{start};
 ghost use Rattle.cmwq_types.specs.Faults.{IsValid};
@@ -27,7 +27,7 @@ pub(crate) enum Nexts {
 impl Nexts {
     /// How many that are.
     pub(crate) fn number(self) -> u32
-        ensures { result ≡ number self }
+        ensures { result ≡ nexts_given self }
     {
         match self {
             Nexts::Settle(n) | Nexts::Never(n) => n,

@@ -1,5 +1,5 @@
 //! Worked examples of the definitions, as theorems: when small machines are quiet, and the lines of `next`.
-ghost use Rattle.cmwq_settle.specs.Examples.{delay_b, queue_a, queue_b, queues_itself, two_works};
+ghost use Rattle.cmwq_settle.specs.Examples.{delay_b, a_queued, b_queued, never_quiet, two_works};
 ghost use Rattle.cmwq_settle.specs.Quiet.{NeverQuiet, Settles, is_quiet};
 ghost use Rattle.cmwq_settle.specs.Settled.{next_line, next_lines};
 ghost use Rattle.cmwq_table.specs.Table.{run};
@@ -12,12 +12,12 @@ pub fn machine_at_its_start_is_quiet()
 
 /// One work burns, and the other waits for it: the machine is quiet once both have finished, with the last step.
 pub fn machine_is_quiet_when_its_works_have_finished()
-    ensures { Settles (two_works 9) (queue_a ∷ queue_b ∷ []) 7 }
+    ensures { Settles (two_works 9) (a_queued ∷ b_queued ∷ []) 7 }
 {}
 
 /// A work that runs isn't pending, and keeps the machine from being quiet.
 pub fn running_work_is_to_finish()
-    ensures { Settles (two_works 9) (queue_b ∷ []) 2 }
+    ensures { Settles (two_works 9) (b_queued ∷ []) 2 }
 {}
 
 /// Nor is a machine quiet on which only a timer runs: it fires, and then the work starts and finishes.
@@ -28,12 +28,12 @@ pub fn timer_is_to_fire()
 
 /// With a step less than the two works take their machine never is quiet.
 pub fn steps_end_before_the_machine_is_quiet()
-    ensures { NeverQuiet (two_works 8) (queue_a ∷ queue_b ∷ []) }
+    ensures { NeverQuiet (two_works 8) (a_queued ∷ b_queued ∷ []) }
 {}
 
 /// A work that queues itself keeps its machine from ever being quiet.
 pub fn work_that_queues_itself_is_never_done()
-    ensures { NeverQuiet (queues_itself 20) (queue_a ∷ []) }
+    ensures { NeverQuiet (never_quiet 20) (a_queued ∷ []) }
 {}
 
 /// No line has more than 65,535 `next`, and none has 0.

@@ -1,6 +1,6 @@
 //! `settle`: from a scenario's text to the listing of the settled scenario.
 ghost use Rattle.cmwq_play.specs.Commands.{Answers, Reads, Writes};
-ghost use Rattle.cmwq_settle.specs.Counting.{with_actor};
+ghost use Rattle.cmwq_settle.specs.Counting.{with_one_actor};
 ghost use Rattle.cmwq_settle.specs.Settled.{IsSettled, IsUnsettleable};
 ghost use Rattle.cmwq_settle.specs.Settling.{IsSettledText, IsUnsettledText};
 ghost use Rattle.cmwq_types.specs.Faults.{IsValid};
@@ -66,7 +66,7 @@ pub fn settled(alloc: Global, scenario: Scenario) -> Result<Scenario, PlayError>
 
 /// The same scenario with this one actor.
 fn with_actor(alloc: Global, scenario: Scenario, actor: Actor) -> Result<Scenario, NoMemory>
-    ensures { IfOk result (λ other. other ≡ with_actor scenario actor) }
+    ensures { IfOk result (λ other. other ≡ with_one_actor scenario actor) }
 {
     let mut scenario = scenario;
     scenario.actors = vec![in alloc; actor]?;

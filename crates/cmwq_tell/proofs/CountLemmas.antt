@@ -17,7 +17,7 @@ use Rattle.cmwq_types.specs.declared.reply.Reply.{Reply}
 use Rattle.cmwq_table.specs.declared.state.Running.{Running}
 use Rattle.cmwq_tell.specs.declared.change.Change.{Change}
 use Rattle.cmwq_tell.specs.declared.change.Change.TheVariants as change
-use Rattle.cmwq_tell.specs.Hidden.{change_of, hidden, passing, pool_of, stamped_from}
+use Rattle.cmwq_tell.specs.Hidden.{change_of, hidden, passing, pool_of_place, stamped_from}
 use Rattle.cmwq_tell.specs.Laws.{TellsActivations, TellsPlaces, TellsTicks, count_changes, is_activation, is_born, is_on_list, tells_activation, tells_place, tells_tick}
 use Rattle.cmwq_tell.proofs.Becoming.{Becomes, Goes, set_cases, table-goes}
 use Rattle.cmwq_tell.proofs.BelowLemmas.{AllBelow, IsBelow, run-below}
@@ -33,8 +33,8 @@ total h [] = 0
 total h (x ∷ xs) = h x + total h xs
 
 module _ (test : Change → Bool) (a b : Bool) (activates : (w : WorkId) (pool : ℕ) → test (change.Activated w pool) ≡ a) (places : (w : WorkId) (place : Place) → test (change.Placed w place) ≡ b) (next : ℕ) where
-  test-if : (c : Bool) (w : WorkId) (place : Place) → test (cond c (change.Activated w (pool_of place)) (change.Placed w place)) ≡ cond c a b
-  test-if true w place = activates w (pool_of place)
+  test-if : (c : Bool) (w : WorkId) (place : Place) → test (cond c (change.Activated w (pool_of_place place)) (change.Placed w place)) ≡ cond c a b
+  test-if true w place = activates w (pool_of_place place)
   test-if false w place = places w place
 
   told-weighs : (w : ℕ) (o : Option Pending) → told_of test next w o ≡ weight a b next o

@@ -12,7 +12,7 @@ use Rattle.cmwq_table.specs.View.{entries_from}
 use Rattle.cmwq_table.specs.declared.state.Pending.{Pending}
 use Rattle.cmwq_tell.specs.declared.change.Change.{Change}
 use Rattle.cmwq_tell.specs.declared.change.Change.TheVariants as change
-use Rattle.cmwq_tell.specs.Hidden.{change_of, hidden, passing, pool_of, stamped_from}
+use Rattle.cmwq_tell.specs.Hidden.{change_of, hidden, passing, pool_of_place, stamped_from}
 use Rattle.cmwq_tell.specs.Laws.{TellsEachActivation, TellsEachPlace, TellsTheTime, count_changes, is_activation, is_activation_in, is_born, is_born_at, is_listed_where, is_on_list, is_time_but, tells_activating, tells_placing}
 use Rattle.cmwq_tell.proofs.Becoming.{table-goes}
 use Rattle.cmwq_tell.proofs.BelowLemmas.{run-below}
@@ -88,14 +88,14 @@ tells_each_place S valid instrs i = λ w test.
 activating-others : (v w : ℕ) (test : ℕ → Bool) (place : Place) (old born : Bool) → (v == w) ≡ false → told_if (tells_activating w test) v place old born ≡ 0
 activating-others v w test place true born apart = refl
 activating-others v w test place false false apart = refl
-activating-others v w test place false true apart = ap (λ (b : Bool). cond {A = ℕ} (b && test (pool_of place)) 1 0) apart
+activating-others v w test place false true apart = ap (λ (b : Bool). cond {A = ℕ} (b && test (pool_of_place place)) 1 0) apart
 
 activating-other : (w : ℕ) (test : ℕ → Bool) (next v : ℕ) (o : Option Pending) → (v == w) ≡ false → told_of (tells_activating w test) next v o ≡ 0
 activating-other w test next v (Some p) apart = activating-others v w test p.place (nat_lt p.stamp next) (nat_lt p.born next) apart
 activating-other w test next v None apart = refl
 
 activating-if : (w : ℕ) (test : ℕ → Bool) (place : Place) (old born is : Bool) → cond {A = ℕ} old 0 (cond {A = ℕ} (cond {A = Bool} born true false) 1 0) ≡ cond {A = ℕ} is 1 0
-    → told_if (tells_activating w test) w place old born ≡ cond {A = ℕ} (is && test (pool_of place)) 1 0
+    → told_if (tells_activating w test) w place old born ≡ cond {A = ℕ} (is && test (pool_of_place place)) 1 0
 activating-if w test place true born true e = absurd cc
 activating-if w test place true born false e = refl
 activating-if w test place false false true e = absurd cc
@@ -103,7 +103,7 @@ activating-if w test place false false false e = refl
 activating-if w test place false true false e = absurd cc
 activating-if w test place false true true e =
     let itself : (w == w) ≡ true = grind (arith, nat_tests) in
-    ap (λ (b : Bool). cond {A = ℕ} (b && test (pool_of place)) 1 0) itself
+    ap (λ (b : Bool). cond {A = ℕ} (b && test (pool_of_place place)) 1 0) itself
 
 swapped : (a b : Bool) → (a && b) ≡ (b && a)
 swapped true true = refl
@@ -111,7 +111,7 @@ swapped true false = refl
 swapped false true = refl
 swapped false false = refl
 
-listed-where : (test : ℕ → Bool) (a c : Bool) (place : Place) → ((a && is_on_list place && c) && test (pool_of place)) ≡ (a && is_listed_where test place && c)
+listed-where : (test : ℕ → Bool) (a c : Bool) (place : Place) → ((a && is_on_list place && c) && test (pool_of_place place)) ≡ (a && is_listed_where test place && c)
 listed-where test true c (Listed at) = swapped c (test at)
 listed-where test true c (Timer due cpu) = refl
 listed-where test true c (Inactive at) = refl
@@ -147,7 +147,7 @@ passing-time now false =
     ap (λ (b : Bool). cond {A = ℕ} (not b) 1 0 + 0) itself
 
 not-time : (time : ℕ) (w : WorkId) (place : Place) (b : Bool) (rest : ℕ) → rest ≡ 0
-    → cond {A = ℕ} (is_time_but time (cond b (change.Activated w (pool_of place)) (change.Placed w place))) 1 0 + rest ≡ 0
+    → cond {A = ℕ} (is_time_but time (cond b (change.Activated w (pool_of_place place)) (change.Placed w place))) 1 0 + rest ≡ 0
 not-time time w place true rest e = omega (arith, e)
 not-time time w place false rest e = omega (arith, e)
 

@@ -37,7 +37,7 @@ use Rattle.cmwq_table.specs.Counts.{is_rescuer}
 use Rattle.cmwq_table.specs.Events.{already_text, asked_name, event_object, event_verb, mode_text, place_text, refusal_text, reply_words, run_text, was_text, work_name, worker_text}
 use Rattle.cmwq_tell.specs.declared.change.Change.{Change}
 use Rattle.cmwq_tell.specs.declared.change.Change.TheVariants as change
-use Rattle.cmwq_tell.specs.Hidden.{change_text, cpu_text}
+use Rattle.cmwq_tell.specs.Hidden.{change_text, timer_cpu_text}
 
 abbrev pub no_feed : List ℕ → Bool
 no_feed text = list_all (λ b. not (eqb b 10)) text
@@ -261,7 +261,7 @@ module _ (S : ScenarioContents) (scenario : IsScenario S) where
 
   -- Changes.
 
-  cpu-no_feed : (place : Place) → NoFeed (cpu_text place)
+  cpu-no_feed : (place : Place) → NoFeed (timer_cpu_text place)
   cpu-no_feed (Timer due cpu) = joint (literal (codes " cpu ") refl) (number cpu)
   cpu-no_feed (Inactive pool) = literal [] refl
   cpu-no_feed (Listed pool) = literal [] refl

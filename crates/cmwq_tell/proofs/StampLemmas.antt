@@ -8,7 +8,7 @@ use Rattle.cmwq_table.specs.View.{entries_from}
 use Rattle.cmwq_table.specs.declared.state.Pending.{Pending}
 use Rattle.cmwq_tell.specs.declared.change.Change.{Change}
 use Rattle.cmwq_tell.specs.declared.change.Change.TheVariants as change
-use Rattle.cmwq_tell.specs.Hidden.{change_of, hidden, passing, pool_of, put_by_stamp, stamped_from}
+use Rattle.cmwq_tell.specs.Hidden.{change_of, hidden, passing, pool_of_place, put_by_stamp, stamped_from}
 use Rattle.cmwq_tell.specs.Laws.{count_changes}
 
 pub count-append : (test : Change → Bool) (xs ys : List Change) → count_changes test (xs ++ ys) ≡ count_changes test xs + count_changes test ys
@@ -22,7 +22,7 @@ passing-none test false now e = ap (λ (c : Bool). cond c 1 0 + 0) e
 -- what one work adds, whose stamp is old or not, and its birth
 abbrev pub told_if : (Change → Bool) → ℕ → Place → Bool → Bool → ℕ
 told_if test w place old born_before =
-    cond old 0 (cond (test (cond born_before (change.Activated (record { 0 = w }) (pool_of place)) (change.Placed (record { 0 = w }) place))) 1 0)
+    cond old 0 (cond (test (cond born_before (change.Activated (record { 0 = w }) (pool_of_place place)) (change.Placed (record { 0 = w }) place))) 1 0)
 
 abbrev pub told_of : (Change → Bool) → ℕ → ℕ → Option Pending → ℕ
 told_of test next w (Some p) = told_if test w p.place (nat_lt p.stamp next) (nat_lt p.born next)

@@ -14,8 +14,8 @@ abbrev pub told_of : ScenarioContents → List ℕ
 told_of S = flat_map (λ actor. tell_text S (expand actor)) S.actors
 
 -- memory is short, and the machine frozen: x has no worker, y a rescuer, and z a freezable queue; then memory isn't short, and the thaw comes
-abbrev pub outside : ScenarioContents
-outside =
+abbrev pub outside_scenario : ScenarioContents
+outside_scenario =
     record (scenario 100 (queue (codes "q") 1 plain_flags ∷ queue (codes "r") 1 mem_reclaim ∷ queue (codes "f") 1 freezable ∷ [])
     (work (codes "x") 0 (op.Burn 1 ∷ op.Finish ∷ []) ∷ work (codes "y") 1 (op.Burn 1 ∷ op.Finish ∷ [])
     ∷ work (codes "z") 2 (op.Burn 1 ∷ op.Finish ∷ []) ∷ [])
@@ -36,8 +36,8 @@ outside_told =
     codes "# next" ∷ codes "3 z finishes" ∷ [])
 
 -- with one worker, a queues itself and sleeps, and b waits beside it; then a is cancelled, delayed and disabled
-abbrev pub again : ScenarioContents
-again =
+abbrev pub again_scenario : ScenarioContents
+again_scenario =
     record (scenario 100 (queue (codes "q") 2 plain_flags ∷ [])
     (work (codes "a") 0 (queues 0 ∷ op.Sleep 2 ∷ op.Finish ∷ []) ∷ work (codes "b") 0 (op.Burn 1 ∷ op.Finish ∷ []) ∷ [])
     (enqueue 0 0 ∷ times instr.Next 2 ∷ enqueue 1 0 ∷ flush 0 ∷ times instr.Next 7 ∷ cancel 0 ∷ delay 0 2 ∷ times instr.Next 9

@@ -25,16 +25,16 @@ stamped_from next (entry ∷ entries) =
     if nat_lt entry.1.stamp next then stamped_from next entries else put_by_stamp entry (stamped_from next entries)
 
 -- the number of the pool in which a work is placed
-abbrev pub pool_of : Place → ℕ
-pool_of (Inactive pool) = pool
-pool_of (Listed pool) = pool
-pool_of (Deferred pool) = pool
-pool_of (Timer due cpu) = 0
+abbrev pub pool_of_place : Place → ℕ
+pool_of_place (Inactive pool) = pool
+pool_of_place (Listed pool) = pool
+pool_of_place (Deferred pool) = pool
+pool_of_place (Timer due cpu) = 0
 
 -- What became of a work that has a new stamp. It was pending before where its birth is older than that, and then it was inactive.
 abbrev pub change_of : ℕ → WorkId × Pending → Change
 change_of next entry =
-    if nat_lt entry.1.born next then change.Activated entry.0 (pool_of entry.1.place) else change.Placed entry.0 entry.1.place
+    if nat_lt entry.1.born next then change.Activated entry.0 (pool_of_place entry.1.place) else change.Placed entry.0 entry.1.place
 
 abbrev pub passing : ℕ → ℕ → List Change
 passing before now = if now == before then [] else change.Now now ∷ []
@@ -46,16 +46,16 @@ hidden s after = passing s.time after.time ++ map (change_of s.next) (stamped_fr
 -- Their lines.
 
 -- the CPU of a timer
-abbrev pub cpu_text : Place → List ℕ
-cpu_text (Timer due cpu) = codes " cpu " ++ decimal cpu
-cpu_text (Inactive pool) = []
-cpu_text (Listed pool) = []
-cpu_text (Deferred pool) = []
+abbrev pub timer_cpu_text : Place → List ℕ
+timer_cpu_text (Timer due cpu) = codes " cpu " ++ decimal cpu
+timer_cpu_text (Inactive pool) = []
+timer_cpu_text (Listed pool) = []
+timer_cpu_text (Deferred pool) = []
 
 abbrev pub change_text : ScenarioContents → Change → List ℕ
 change_text S (change.Now now) = codes "now " ++ decimal now
 change_text S (change.Activated work pool) = work_name S work ++ codes " activated " ++ decimal pool
-change_text S (change.Placed work place) = work_name S work ++ codes " " ++ place_text (Some place) ++ cpu_text place
+change_text S (change.Placed work place) = work_name S work ++ codes " " ++ place_text (Some place) ++ timer_cpu_text place
 
 abbrev pub change_line : ScenarioContents → Change → List ℕ
 change_line S change = codes "#   " ++ change_text S change ++ 10 ∷ []

@@ -1,5 +1,5 @@
 //! A change that no reply tells, and its line.
-ghost use Rattle.cmwq_tell.specs.Hidden.{change_line, change_text, cpu_text};
+ghost use Rattle.cmwq_tell.specs.Hidden.{change_line, change_text, timer_cpu_text};
 ghost use Rattle.cmwq_tell.specs.Telling.{change_lines};
 ghost use Rattle.std.specs.Prelude.{◌≡◌, Some};
 
@@ -72,7 +72,7 @@ impl fmt::Display for ChangeWords<'_> {
 struct CpuWords(Place);
 
 impl fmt::Display for CpuWords {
-    ghost output = { λ words. Some (cpu_text words.0) };
+    ghost output = { λ words. Some (timer_cpu_text words.0) };
 
     fn fmt<W: fmt::Write>(&self, f: &mut fmt::Formatter<W>) -> fmt::Result {
         match self.0 {

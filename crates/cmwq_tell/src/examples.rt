@@ -1,14 +1,14 @@
 //! Worked examples of what is told, as theorems over the definitions.
-ghost use Rattle.cmwq_tell.specs.Examples.{again, again_told, outside, outside_told, told_of};
+ghost use Rattle.cmwq_tell.specs.Examples.{again_scenario, again_told, outside_scenario, outside_told, told_of};
 ghost use Rattle.std.specs.Prelude.{◌≡◌};
 
 /// A thaw activates the work that waited for it. What starts, also on a rescuer, ends or is given is told by the line of the run alone.
 pub fn thaw_activates_what_waited()
-    ensures { told_of outside ≡ outside_told }
+    ensures { told_of outside_scenario ≡ outside_told }
 {}
 
 /// A work that finishes lets in the one that waits behind it, and a delay sets a timer; what a timer places has no room where the queue is
 /// full. What is deferred, and what is taken off, is no hidden change.
 pub fn work_that_finishes_activates_the_next()
-    ensures { told_of again ≡ again_told }
+    ensures { told_of again_scenario ≡ again_told }
 {}

@@ -1,7 +1,7 @@
 //! The hidden changes of an instruction, read off the machine behind it.
 ghost use Rattle.cmwq_table.specs.State.{State};
 ghost use Rattle.cmwq_table.specs.View.{entries_from};
-ghost use Rattle.cmwq_tell.specs.Hidden.{change_of, hidden, pool_of, put_by_stamp, stamped_from};
+ghost use Rattle.cmwq_tell.specs.Hidden.{change_of, hidden, pool_of_place, put_by_stamp, stamped_from};
 ghost use Rattle.std.specs.Prelude.{◌≡◌, ◌++◌, IfOk, OnOk, map};
 
 use crate::change::Change;
@@ -56,7 +56,7 @@ fn change_of(next: u64, entry: (WorkId, Pending)) -> Change
 
 /// The pool in which a work is placed.
 fn pool_of(place: Place) -> u8
-    ensures { result ≡ pool_of place }
+    ensures { result ≡ pool_of_place place }
 {
     match place {
         Place::Inactive(pool) | Place::Listed(pool) | Place::Deferred(pool) => pool,

@@ -6,23 +6,23 @@ use Rattle.std.proofs.lemmas.List.{get_or-set_same, get_or-set_other, get_or_pas
 use Rattle.cmwq_types.proofs.FirstLemmas.{by_least_two-order, first_below-unique, first_below-none}
 use Rattle.cmwq_timers.specs.declared.rank.Rank.{Rank}
 use Rattle.cmwq_timers.specs.declared.timer.Timer.{Timer}
-use Rattle.cmwq_timers.specs.Timers.{timer_at, due_of, stamp_of, fires_before, first_to_fire, least_timer}
-use Rattle.cmwq_timers.specs.Tree.{comes_before, lesser, no_rank, past_rank, rank_at, rank_of, IsLesserOf, IsOwn, IsSettledBut, IsKept}
+use Rattle.cmwq_timers.specs.Timers.{timer_at, timer_due, timer_stamp, fires_before, first_to_fire, least_timer}
+use Rattle.cmwq_timers.specs.Tree.{ranks_before, lesser, no_rank, past_rank, rank_at, rank_of, IsLesserOf, IsOwn, IsSettledBut, AreRanked}
 
 -- ranks are ordered
-pub not_before_itself : (a : Rank) → comes_before a a ≡ false
+pub not_before_itself : (a : Rank) → ranks_before a a ≡ false
 not_before_itself a = grind (arith, nat_tests)
 
-pub one_way : (a b : Rank) → comes_before a b ≡ true → comes_before b a ≡ false
+pub one_way : (a b : Rank) → ranks_before a b ≡ true → ranks_before b a ≡ false
 one_way a b before = grind (arith, nat_tests)
 
-pub onward : (a b c : Rank) → comes_before a b ≡ false → comes_before b c ≡ false → comes_before a c ≡ false
+pub onward : (a b c : Rank) → ranks_before a b ≡ false → ranks_before b c ≡ false → ranks_before a c ≡ false
 onward a b c first second = grind (arith, nat_tests)
 
 pub lesser_is : (a b : Rank) → IsLesserOf (lesser a b) a b
-lesser_is a b = by_test (comes_before b a) refl
+lesser_is a b = by_test (ranks_before b a) refl
   where
-    by_test : (test : Bool) → comes_before b a ≡ test → IsLesserOf (cond test b a) a b
+    by_test : (test : Bool) → ranks_before b a ≡ test → IsLesserOf (cond test b a) a b
     by_test true e = record { is_one = inr refl; not_after_left = one_way b a e; not_after_right = not_before_itself b }
     by_test false e = record { is_one = inl refl; not_after_left = not_before_itself a; not_after_right = e }
 
@@ -69,7 +69,7 @@ settled_step ranks leaves at rank settled low high ranks_are is i above inside d
     ]
 
 -- no rank of the tree comes before the root's
-pub root_least : (ranks : List Rank) (leaves : ℕ) → IsSettledBut ranks leaves 0 → (fuel i : ℕ) → i ≤ fuel → 0 < i → i < 2 * leaves → comes_before (rank_at ranks i) (rank_at ranks 1) ≡ false
+pub root_least : (ranks : List Rank) (leaves : ℕ) → IsSettledBut ranks leaves 0 → (fuel i : ℕ) → i ≤ fuel → 0 < i → i < 2 * leaves → ranks_before (rank_at ranks i) (rank_at ranks 1) ≡ false
 root_least ranks leaves settled zero i bound above inside = absurd (omega arith)
 root_least ranks leaves settled (suc fuel) i bound above inside =
     elim (cases_lt 1 i) [
@@ -77,14 +77,14 @@ root_least ranks leaves settled (suc fuel) i bound above inside =
           let parent = settled (i / 2) (omega arith) (omega arith) (λ same. omega arith) in
           let far = root_least ranks leaves settled fuel (i / 2) (omega arith) (omega arith) (omega arith) in
           elim (cases_eq i (2 * (i / 2))) [
-            | inl even ↦ onward (rank_at ranks i) (rank_at ranks (i / 2)) (rank_at ranks 1) (ap (λ (k : ℕ). comes_before (rank_at ranks k) (rank_at ranks (i / 2))) even ∙ parent.not_after_left) far
+            | inl even ↦ onward (rank_at ranks i) (rank_at ranks (i / 2)) (rank_at ranks 1) (ap (λ (k : ℕ). ranks_before (rank_at ranks k) (rank_at ranks (i / 2))) even ∙ parent.not_after_left) far
             | inr odd ↦
                 let here : i ≡ 2 * (i / 2) + 1 = omega (arith, odd) in
-                onward (rank_at ranks i) (rank_at ranks (i / 2)) (rank_at ranks 1) (ap (λ (k : ℕ). comes_before (rank_at ranks k) (rank_at ranks (i / 2))) here ∙ parent.not_after_right) far
+                onward (rank_at ranks i) (rank_at ranks (i / 2)) (rank_at ranks 1) (ap (λ (k : ℕ). ranks_before (rank_at ranks k) (rank_at ranks (i / 2))) here ∙ parent.not_after_right) far
           ]
       | inr here ↦
           let same : i ≡ 1 = omega arith in
-          ap (λ (k : ℕ). comes_before (rank_at ranks k) (rank_at ranks 1)) same ∙ not_before_itself (rank_at ranks 1)
+          ap (λ (k : ℕ). ranks_before (rank_at ranks k) (rank_at ranks 1)) same ∙ not_before_itself (rank_at ranks 1)
     ]
 
 -- each rank of the tree is a leaf's
@@ -115,7 +115,7 @@ leaf_of ranks leaves settled (suc fuel) i bound above inside =
 abbrev pub fires : Timer → Timer → Bool
 fires a b = nat_lt a.due b.due || ((a.due == b.due) && nat_lt a.stamp b.stamp)
 
-pub fires_after_lower : (r t : Timer) (v w : ℕ) → IsOwn w r → IsOwn v t → comes_before (rank_of (Some t)) (rank_of (Some r)) ≡ false → v < w → fires r t ≡ true
+pub fires_after_lower : (r t : Timer) (v w : ℕ) → IsOwn w r → IsOwn v t → ranks_before (rank_of (Some t)) (rank_of (Some r)) ≡ false → v < w → fires r t ≡ true
 fires_after_lower r t v w own_r own_t later lower =
     let r_is = own_r.work_is in
     let t_is = own_t.work_is in
@@ -123,14 +123,14 @@ fires_after_lower r t v w own_r own_t later lower =
     let t_small = own_t.stamp in
     grind (arith, nat_tests)
 
-pub fires_not_before : (r t : Timer) (v w : ℕ) → IsOwn w r → IsOwn v t → comes_before (rank_of (Some t)) (rank_of (Some r)) ≡ false → fires t r ≡ false
+pub fires_not_before : (r t : Timer) (v w : ℕ) → IsOwn w r → IsOwn v t → ranks_before (rank_of (Some t)) (rank_of (Some r)) ≡ false → fires t r ≡ false
 fires_not_before r t v w own_r own_t later =
     let r_small = own_r.stamp in
     let t_small = own_t.stamp in
     grind (arith, nat_tests)
 
 -- each timer's rank comes before that of no timer
-pub before_none : (t : Timer) (w : ℕ) → IsOwn w t → w < 65535 → comes_before (rank_of (Some t)) no_rank ≡ true
+pub before_none : (t : Timer) (w : ℕ) → IsOwn w t → w < 65535 → ranks_before (rank_of (Some t)) no_rank ≡ true
 before_none t w own inside =
     let is = own.work_is in
     let due_small = own.due in
@@ -151,16 +151,16 @@ has_own timers w own has = by_cases (timer_at timers w) refl own has
     by_cases (Some t) is own has = record { timer = t; is = is; own = own }
 
 -- no work's rank comes before the root's
-pub root_before : (timers : List (Option Timer)) (ranks : List Rank) (w : ℕ) (o : Option Timer) → IsKept timers ranks → w < length timers → timer_at timers w ≡ o → comes_before (rank_of o) (rank_at ranks 1) ≡ false
+pub root_before : (timers : List (Option Timer)) (ranks : List Rank) (w : ℕ) (o : Option Timer) → AreRanked timers ranks → w < length timers → timer_at timers w ≡ o → ranks_before (rank_of o) (rank_at ranks 1) ≡ false
 root_before timers ranks w o kept inside is =
     let n = length timers in
     let leaf : rank_of o ≡ rank_at ranks (n + w) = sym (kept.leaves w inside ∙ ap rank_of is) in
-    ap (λ (r : Rank). comes_before r (rank_at ranks 1)) leaf ∙ root_least ranks n kept.settled (n + w) (n + w) (omega arith) (omega arith) (omega arith)
+    ap (λ (r : Rank). ranks_before r (rank_at ranks 1)) leaf ∙ root_least ranks n kept.settled (n + w) (n + w) (omega arith) (omega arith) (omega arith)
 
 -- the work of the root's rank, where it has a timer, fires first
-pub first_is : (timers : List (Option Timer)) (ranks : List Rank) (w : ℕ) (r : Timer) → IsKept timers ranks → w < length timers → timer_at timers w ≡ Some r → rank_at ranks 1 ≡ rank_of (Some r) → first_to_fire timers ≡ Some w
+pub first_is : (timers : List (Option Timer)) (ranks : List Rank) (w : ℕ) (r : Timer) → AreRanked timers ranks → w < length timers → timer_at timers w ≡ Some r → rank_at ranks 1 ≡ rank_of (Some r) → first_to_fire timers ≡ Some w
 first_is timers ranks w r kept inside is root =
-    first_below-unique (fires_before timers) (λ w. is_some (timer_at timers w)) (length timers) w (by_least_two-order (λ w. due_of (timer_at timers w)) (λ w. stamp_of (timer_at timers w))) inside (rw is refl)
+    first_below-unique (fires_before timers) (λ w. is_some (timer_at timers w)) (length timers) w (by_least_two-order (λ w. timer_due (timer_at timers w)) (λ w. timer_stamp (timer_at timers w))) inside (rw is refl)
     (λ k lower has.
     let k_inside : k < length timers = omega (arith, lower, inside) in
     let other = has_own timers k (kept.own k k_inside) has in
@@ -172,13 +172,13 @@ first_is timers ranks w r kept inside is root =
     own : IsOwn w r
     own = subst (λ (o : Option Timer). IfSome o (IsOwn w)) is (kept.own w inside)
 
-    later : (k : ℕ) (t : Timer) → k < length timers → timer_at timers k ≡ Some t → comes_before (rank_of (Some t)) (rank_of (Some r)) ≡ false
-    later k t k_inside t_is = ap (comes_before (rank_of (Some t))) (sym root) ∙ root_before timers ranks k (Some t) kept k_inside t_is
+    later : (k : ℕ) (t : Timer) → k < length timers → timer_at timers k ≡ Some t → ranks_before (rank_of (Some t)) (rank_of (Some r)) ≡ false
+    later k t k_inside t_is = ap (ranks_before (rank_of (Some t))) (sym root) ∙ root_before timers ranks k (Some t) kept k_inside t_is
 
 -- where the root has the rank of no timer, there is none
-pub none_is : (timers : List (Option Timer)) (ranks : List Rank) → IsKept timers ranks → rank_at ranks 1 ≡ no_rank → first_to_fire timers ≡ None
+pub none_is : (timers : List (Option Timer)) (ranks : List Rank) → AreRanked timers ranks → rank_at ranks 1 ≡ no_rank → first_to_fire timers ≡ None
 none_is timers ranks kept root =
-    first_below-none (fires_before timers) (λ w. is_some (timer_at timers w)) (length timers) (by_least_two-order (λ w. due_of (timer_at timers w)) (λ w. stamp_of (timer_at timers w)))
+    first_below-none (fires_before timers) (λ w. is_some (timer_at timers w)) (length timers) (by_least_two-order (λ w. timer_due (timer_at timers w)) (λ w. timer_stamp (timer_at timers w)))
     (λ k inside. no_timer k inside (is_some (timer_at timers k)) refl)
   where
     no_timer : (k : ℕ) → k < length timers → (b : Bool) → is_some (timer_at timers k) ≡ b → is_some (timer_at timers k) ≡ false
@@ -186,11 +186,11 @@ none_is timers ranks kept root =
     no_timer k inside true e =
         let other = has_own timers k (kept.own k inside) e in
         let before = before_none other.timer k other.own (omega (arith, inside, kept.fits)) in
-        let not_before = ap (comes_before (rank_of (Some other.timer))) (sym root) ∙ root_before timers ranks k (Some other.timer) kept inside other.is in
+        let not_before = ap (ranks_before (rank_of (Some other.timer))) (sym root) ∙ root_before timers ranks k (Some other.timer) kept inside other.is in
         absurd (cc)
 
 -- the timer of the root's work fires first, and there is none where that work has none
-pub root_is_least : (timers : List (Option Timer)) (ranks : List Rank) → IsKept timers ranks → 0 < length timers → timer_at timers (rank_at ranks 1).work ≡ least_timer timers
+pub root_is_least : (timers : List (Option Timer)) (ranks : List Rank) → AreRanked timers ranks → 0 < length timers → timer_at timers (rank_at ranks 1).work ≡ least_timer timers
 root_is_least timers ranks kept some_room =
     let leaf = leaf_of ranks (length timers) kept.settled (2 * length timers) 1 (omega arith) (omega arith) (omega (arith, some_room)) in
     by_cases leaf.work leaf.inside (timer_at timers leaf.work) refl (leaf.is ∙ kept.leaves leaf.work leaf.inside)

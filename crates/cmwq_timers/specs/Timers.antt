@@ -8,17 +8,17 @@ abbrev pub timer_at : List (Option Timer) → ℕ → Option Timer
 timer_at timers w = slice_index_or timers w None
 
 -- when the work's timer is due, and its stamp
-abbrev pub due_of : Option Timer → ℕ
-due_of None = 0
-due_of (Some timer) = timer.due
+abbrev pub timer_due : Option Timer → ℕ
+timer_due None = 0
+timer_due (Some timer) = timer.due
 
-abbrev pub stamp_of : Option Timer → ℕ
-stamp_of None = 0
-stamp_of (Some timer) = timer.stamp
+abbrev pub timer_stamp : Option Timer → ℕ
+timer_stamp None = 0
+timer_stamp (Some timer) = timer.stamp
 
 -- by due, then by stamp
 abbrev pub fires_before : List (Option Timer) → ℕ → ℕ → Bool
-fires_before timers = by_least_two (λ w. due_of (timer_at timers w)) (λ w. stamp_of (timer_at timers w))
+fires_before timers = by_least_two (λ w. timer_due (timer_at timers w)) (λ w. timer_stamp (timer_at timers w))
 
 -- of the works with a timer the one whose timer fires first
 abbrev pub first_to_fire : List (Option Timer) → Option ℕ

@@ -5,11 +5,11 @@ use Rattle.cmwq_timers.specs.declared.timer.Timer.{Timer}
 use Rattle.cmwq_timers.specs.Timers.{timer_at}
 
 -- by order, then by work
-abbrev pub comes_before : Rank → Rank → Bool
-comes_before a b = nat_lt a.order b.order || ((a.order == b.order) && nat_lt a.work b.work)
+abbrev pub ranks_before : Rank → Rank → Bool
+ranks_before a b = nat_lt a.order b.order || ((a.order == b.order) && nat_lt a.work b.work)
 
 abbrev pub lesser : Rank → Rank → Rank
-lesser a b = if comes_before b a then b else a
+lesser a b = if ranks_before b a then b else a
 
 -- the rank of a work without a timer
 abbrev pub no_rank : Rank
@@ -36,8 +36,8 @@ pub record IsOwn (work : ℕ) (timer : Timer) : Type 0 where
 -- a rank is the lesser of two
 pub record IsLesserOf (rank a b : Rank) : Type 0 where
   pub is_one : (rank ≡ a) ⊎ (rank ≡ b)
-  pub not_after_left : comes_before a rank ≡ false
-  pub not_after_right : comes_before b rank ≡ false
+  pub not_after_left : ranks_before a rank ≡ false
+  pub not_after_right : ranks_before b rank ≡ false
 
 -- each node above the leaves, but perhaps this one, has the lesser of its children's ranks
 abbrev pub IsSettledBut : List Rank → ℕ → ℕ → Type 0
@@ -45,7 +45,7 @@ IsSettledBut ranks leaves but =
     (i : ℕ) → 0 < i → i < leaves → i ≢ but → IsLesserOf (rank_at ranks i) (rank_at ranks (2 * i)) (rank_at ranks (2 * i + 1))
 
 -- each work has its own timer or none, and the tree has their ranks
-pub record IsKept (timers : List (Option Timer)) (ranks : List Rank) : Type 0 where
+pub record AreRanked (timers : List (Option Timer)) (ranks : List Rank) : Type 0 where
   pub ranks_are : length ranks ≡ 2 * length timers
   pub fits : length timers < 2 ^ 16
   pub own : (w : ℕ) → w < length timers → IfSome (timer_at timers w) (IsOwn w)

@@ -1,6 +1,6 @@
 //! The timers.
 ghost use Rattle.cmwq_timers.specs.Timers.{due_by, least_timer, timer_at, without_timer};
-ghost use Rattle.cmwq_timers.specs.Tree.{IsKept, IsOwn, IsSettledBut, no_rank, rank_at};
+ghost use Rattle.cmwq_timers.specs.Tree.{AreRanked, IsOwn, IsSettledBut, no_rank, rank_at};
 ghost use Rattle.std.specs.Prelude.{◌≡◌, ℕ, ◌+◌, ◌*◌, ◌<◌, ◌≤◌, ◌/◌, ◌^◌, IfOk, IfSome, length, None, replicate, slice_set, Some};
 
 use crate::rank::Rank;
@@ -26,11 +26,11 @@ impl Model for Timers {
 
     ghost Value = { List (Option Timer) };
 
-    ghost use Rattle.cmwq_timers.specs.Tree.{IsKept};
+    ghost use Rattle.cmwq_timers.specs.Tree.{AreRanked};
 
     ghost view = { λ t. t.timers.items };
 
-    ghost invariant = { λ t. IsKept t.timers.items t.ranks.items };
+    ghost invariant = { λ t. AreRanked t.timers.items t.ranks.items };
 }
 
 impl Timers {
@@ -120,10 +120,10 @@ fn filled<T: Copy>(alloc: Global, value: T, len: usize) -> Result<Vec<T>, NoMemo
 
 /// Gives a work another timer, or none.
 fn write(timers: &mut [Option<Timer>], ranks: &mut [Rank], work: usize, timer: Option<Timer>)
-    requires kept { IsKept timers.old ranks.old }
+    requires kept { AreRanked timers.old ranks.old }
     requires work { work < length timers.old }
     requires own { IfSome timer (IsOwn work) }
-    ensures kept { IsKept timers.new ranks.new }
+    ensures kept { AreRanked timers.new ranks.new }
     ensures timers { timers.new ≡ slice_set timers.old work timer }
 {
     timers[work] = timer;

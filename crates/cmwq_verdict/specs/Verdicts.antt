@@ -21,12 +21,12 @@ visible byte = if within 33 126 byte then byte else 63
 abbrev pub shown : List ℕ → List ℕ
 shown word = map visible (take 64 word)
 
-abbrev pub column_of : Place → ℕ
-column_of place.Text = 0
-column_of place.EndOfText = 1
-column_of place.Line = 1
-column_of (place.EndOfLine column) = column
-column_of (place.Word column bytes) = column
+abbrev pub column_of_place : Place → ℕ
+column_of_place place.Text = 0
+column_of_place place.EndOfText = 1
+column_of_place place.Line = 1
+column_of_place (place.EndOfLine column) = column
+column_of_place (place.Word column bytes) = column
 
 -- what stands there
 abbrev pub subject_of : Place → List ℕ
@@ -39,7 +39,7 @@ subject_of (place.Word column bytes) = shown bytes.now
 -- `FILE:LINE:COLUMN: WORD: WHY`
 abbrev pub fault_line : Look → List ℕ → FaultAt → Place → List ℕ
 fault_line look file fault place =
-    file ++ 58 ∷ decimal fault.line ++ 58 ∷ decimal (column_of place) ++ codes ": " ++ subject_of place ++ codes ": " ++ why_words look fault.why ++ 10 ∷ []
+    file ++ 58 ∷ decimal fault.line ++ 58 ∷ decimal (column_of_place place) ++ codes ": " ++ subject_of place ++ codes ": " ++ why_words look fault.why ++ 10 ∷ []
 
 -- `FILE: ok`, and what is said of a file that can't be read
 abbrev pub ok_line : List ℕ → List ℕ
@@ -54,4 +54,4 @@ abbrev pub IsVerdict : Look → List ℕ → List ℕ → Option (List ℕ) → 
 IsVerdict look file text None = (S : ScenarioContents) × Spells text S
 IsVerdict look file text (Some told) =
     (fault : FaultAt) × (place : Place) × (offer : List ℕ) × IsFault text fault × IsPlace text fault place × IsOffer text fault offer
-    × (told ≡ fault_line look file fault place ++ pointer look text fault (column_of place) ++ offer)
+    × (told ≡ fault_line look file fault place ++ pointer look text fault (column_of_place place) ++ offer)

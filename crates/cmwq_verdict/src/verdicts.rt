@@ -1,6 +1,6 @@
 //! What is said of a text.
 ghost use Rattle.cmwq_grammar.specs.Meaning.{fault_at};
-ghost use Rattle.cmwq_verdict.specs.Verdicts.{IsVerdict, column_of, fault_line, ok_line, read_line, shown, subject_of, visible};
+ghost use Rattle.cmwq_verdict.specs.Verdicts.{IsVerdict, column_of_place, fault_line, ok_line, read_line, shown, subject_of, visible};
 ghost use Rattle.std.specs.Prelude.{◌≡◌, ◌++◌, IfOk, OnOk, option_map};
 
 use crate::looks::{Look, front_of, push_pointer, push_why};
@@ -78,7 +78,7 @@ fn fault_line(
 
 /// The column of the place.
 fn column_of(place: Place<'_>) -> usize
-    ensures { result ≡ column_of place.entry }
+    ensures { result ≡ column_of_place place.entry }
 {
     match place {
         Place::Text => 0,

@@ -1,6 +1,6 @@
 //! Whom a reason names.
 ghost use Rattle.cmwq_reasons.specs.Reasons.{causes, holders, pending_half, running_half, works_on_workers};
-ghost use Rattle.cmwq_why.specs.Groups.{members};
+ghost use Rattle.cmwq_why.specs.Groups.{group_works};
 ghost use Rattle.std.specs.Prelude.{◌≡◌, [], ◌∷◌, IfOk, map};
 
 use crate::group::{Group, members};
@@ -74,7 +74,7 @@ fn one(alloc: Global, instance: Instance) -> Result<Vec<Instance>, NoMemory>
 
 /// What runs of each of the group's works.
 fn running<R: Reads>(alloc: Global, machine: &R, group: Group) -> Result<Vec<Instance>, NoMemory>
-    ensures { IfOk result (λ instances. instances.items ≡ map running_half (members (R.loaded machine.now) (R.state machine.now) group)) }
+    ensures { IfOk result (λ instances. instances.items ≡ map running_half (group_works (R.loaded machine.now) (R.state machine.now) group)) }
 {
     let works = members(alloc, machine, group)?;
     Ok(
@@ -87,7 +87,7 @@ fn running<R: Reads>(alloc: Global, machine: &R, group: Group) -> Result<Vec<Ins
 
 /// What pends of each of the group's works.
 fn pending<R: Reads>(alloc: Global, machine: &R, group: Group) -> Result<Vec<Instance>, NoMemory>
-    ensures { IfOk result (λ instances. instances.items ≡ map pending_half (members (R.loaded machine.now) (R.state machine.now) group)) }
+    ensures { IfOk result (λ instances. instances.items ≡ map pending_half (group_works (R.loaded machine.now) (R.state machine.now) group)) }
 {
     let works = members(alloc, machine, group)?;
     Ok(

@@ -99,8 +99,8 @@ keeps_workers event.FinishesAndStarts = false
 keeps_workers event.Fires = false
 
 -- neither half of the work is in the pool
-abbrev pub IsOutside : State → ℕ → ℕ → Type 0
-IsOutside s pool w = (pool_of s (pending_half w) ≡ Some pool → ⊥) × (pool_of s (running_half w) ≡ Some pool → ⊥)
+abbrev pub IsElsewhere : State → ℕ → ℕ → Type 0
+IsElsewhere s pool w = (pool_of s (pending_half w) ≡ Some pool → ⊥) × (pool_of s (running_half w) ≡ Some pool → ⊥)
 
 -- the normal pool of the CPU whose high pool the other one is
 abbrev pub IsNormalBeside : ScenarioContents → ℕ → ℕ → Type 0
@@ -115,7 +115,7 @@ SharesNoRescuer S s queue w =
 -- beside, and isn't listed where the rescuer of m is wanted
 abbrev pub IsApart : ScenarioContents → State → ℕ → ℕ → ℕ → Type 0
 IsApart S s pool m w =
-    IsOutside s pool w × ((beside : ℕ) → IsNormalBeside S beside pool → pool_of s (running_half w) ≡ Some beside → ⊥) × SharesNoRescuer S s (queue_of S m) w
+    IsElsewhere s pool w × ((beside : ℕ) → IsNormalBeside S beside pool → pool_of s (running_half w) ≡ Some beside → ⊥) × SharesNoRescuer S s (queue_of S m) w
 
 -- In a step of such an event a work that has nothing to do with it keeps its text.
 unfoldable pub KeepsTextInStep : ScenarioContents → State → Type 0

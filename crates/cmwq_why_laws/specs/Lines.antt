@@ -5,8 +5,8 @@ use Rattle.cmwq_reason_examples.specs.Waiting.{at}
 use Rattle.cmwq_flush_waits.specs.Text.{flush_lines}
 use Rattle.cmwq_why_text.specs.Text.{why_text}
 
-abbrev pub line : ScenarioContents → ℕ → ℕ → List ℕ
-line S position w = why_text S (at S position) w
+abbrev pub line_at_position : ScenarioContents → ℕ → ℕ → List ℕ
+line_at_position S position w = why_text S (at S position) w
 
 -- nothing before the flush is given
 abbrev pub block : ScenarioContents → ℕ → ℕ → Option (List ℕ)

@@ -31,24 +31,24 @@ queue_name S w = (queue_at S (queue_of S w)).name
 
 -- What the instances do that a reason names.
 
-abbrev pub mode_text : Mode → List ℕ
-mode_text mode.Runnable = codes " runs"
-mode_text (mode.Asleep until) = codes " asleep until " ++ decimal until
+abbrev pub mode_words : Mode → List ℕ
+mode_words mode.Runnable = codes " runs"
+mode_words (mode.Asleep until) = codes " asleep until " ++ decimal until
 
 abbrev pub rescuer_text : ℕ → List ℕ
 rescuer_text worker = if is_rescuer worker then codes " on rescuer" else []
 
-abbrev pub run_text : Option Running → List ℕ
-run_text (Some r) = mode_text r.mode ++ rescuer_text r.worker
-run_text None = []
+abbrev pub run_words : Option Running → List ℕ
+run_words (Some r) = mode_words r.mode ++ rescuer_text r.worker
+run_words None = []
 
-abbrev pub place_text : Option Pending → List ℕ
-place_text (Some p) = if is_deferred p.place then codes " deferred" else codes " listed"
-place_text None = []
+abbrev pub place_words : Option Pending → List ℕ
+place_words (Some p) = if is_deferred p.place then codes " deferred" else codes " listed"
+place_words None = []
 
 abbrev pub item : ScenarioContents → State → Instance → List ℕ
-item S s (instance.Pending w) = name_of S w.0 ++ place_text (pending_at s w.0)
-item S s (instance.Running w) = name_of S w.0 ++ run_text (running_at s w.0)
+item S s (instance.Pending w) = name_of S w.0 ++ place_words (pending_at s w.0)
+item S s (instance.Running w) = name_of S w.0 ++ run_words (running_at s w.0)
 
 -- the items, each but the first behind a comma, and the first behind a colon; nothing where there are none
 abbrev pub later_item : ScenarioContents → State → Instance → List ℕ
@@ -162,5 +162,5 @@ abbrev pub why_text : ScenarioContents → State → ℕ → List ℕ
 why_text S s w = both_halves S s w (reason_if_running S s w (running_at s w)) ++ spent_text S s
 
 -- a line: the work's name, and why it isn't further
-abbrev pub work_line : ScenarioContents → State → ℕ → List ℕ
-work_line S s w = name_of S w ++ codes " " ++ why_text S s w ++ codes "\n"
+abbrev pub why_line : ScenarioContents → State → ℕ → List ℕ
+why_line S s w = name_of S w ++ codes " " ++ why_text S s w ++ codes "\n"

@@ -1,5 +1,5 @@
 //! What the instances do that a reason names, as text.
-ghost use Rattle.cmwq_why_text.specs.Text.{ahead_text, item, items, later_item, mode_text, place_text, rescuer_text, run_text, spaced_name};
+ghost use Rattle.cmwq_why_text.specs.Text.{ahead_text, item, items, later_item, mode_words, place_words, rescuer_text, run_words, spaced_name};
 ghost use Rattle.std.specs.List.{flat_map};
 ghost use Rattle.std.specs.Prelude.{◌≡◌, ◌++◌, OnOk, string_bytes};
 
@@ -64,7 +64,7 @@ impl<R: Reads> Wording<'_, R> {
 
 /// Writes where a pending instance is that takes up a place of its queue.
 fn push_place(text: &mut String, pending: Option<Pending>) -> Result<(), NoMemory>
-    ensures { OnOk result (string_bytes text.new ≡ string_bytes text.old ++ place_text pending) }
+    ensures { OnOk result (string_bytes text.new ≡ string_bytes text.old ++ place_words pending) }
 {
     if let Some(p) = pending {
         text.push_str(if p.place.is_deferred() {
@@ -78,7 +78,7 @@ fn push_place(text: &mut String, pending: Option<Pending>) -> Result<(), NoMemor
 
 /// Writes how an instance runs.
 fn push_run(text: &mut String, running: Option<Running>) -> Result<(), NoMemory>
-    ensures { OnOk result (string_bytes text.new ≡ string_bytes text.old ++ run_text running) }
+    ensures { OnOk result (string_bytes text.new ≡ string_bytes text.old ++ run_words running) }
 {
     if let Some(r) = running {
         push_mode(text, r.mode)?;
@@ -90,7 +90,7 @@ fn push_run(text: &mut String, running: Option<Running>) -> Result<(), NoMemory>
 }
 
 fn push_mode(text: &mut String, mode: Mode) -> Result<(), NoMemory>
-    ensures { OnOk result (string_bytes text.new ≡ string_bytes text.old ++ mode_text mode) }
+    ensures { OnOk result (string_bytes text.new ≡ string_bytes text.old ++ mode_words mode) }
 {
     match mode {
         Mode::Runnable => text.push_str(" runs")?,

@@ -1,5 +1,5 @@
 //! Why a work isn't further, as a line.
-ghost use Rattle.cmwq_why_text.specs.Text.{work_line};
+ghost use Rattle.cmwq_why_text.specs.Text.{why_line};
 ghost use Rattle.std.specs.Prelude.{◌≡◌, IfOk, string_bytes};
 
 use crate::wording::Wording;
@@ -12,7 +12,7 @@ use std::alloc::Global;
 ///
 /// The only error is want of memory.
 pub fn work_text<R: Reads>(alloc: Global, machine: &R, work: WorkId) -> Result<String, NoMemory>
-    ensures text { IfOk result (λ text. string_bytes text ≡ work_line (R.loaded machine.now) (R.state machine.now) work.0) }
+    ensures text { IfOk result (λ text. string_bytes text ≡ why_line (R.loaded machine.now) (R.state machine.now) work.0) }
 {
     let wording = Wording { alloc, machine };
     let mut text = String::from_str(alloc, wording.name(work.0))?;

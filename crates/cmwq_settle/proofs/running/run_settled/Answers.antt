@@ -2,7 +2,7 @@ use Rattle.std.proofs.Common.{Err, ap, refl}
 use Rattle.std.proofs.lemmas.Result.{err_from_is_err_and, on_ok_weaker}
 use Rattle.cmwq_play.proofs.CommandLemmas.{err_is, reads_err, reads_ok, writes_err, writes_more}
 use Rattle.cmwq_play.proofs.TextLemmas.{answers_unread}
-use Rattle.cmwq_settle.specs.Settled.{IsUnsettled}
+use Rattle.cmwq_settle.specs.Settled.{IsNotSettled}
 use Rattle.cmwq_settle.specs.Settling.{IsEndlessOutput, IsEndlessRun, IsFollowedOutput, IsFollowedRun, IsSettledOutput, IsSettledRun}
 use Rattle.cmwq_settle.proofs.AnswerLemmas.{answers_printed, answers_unsettled, refused-told}
 use Rattle.cmwq_settle.proofs.SettlingLemmas.{printing-reads, refused-other, refused-reads, refused-writes, unread-other, wrote-more}
@@ -16,7 +16,7 @@ returns-in_err-scenario-clause-reads g c =
 pub returns-in_err-scenario-clause-answers : goal.returns-in_err-scenario-clause-answers
 returns-in_err-scenario-clause-answers g c =
     let p = err_from_is_err_and c.from_residual.result c.from_residual.ensures.1 in
-    rw (p.1, p.2) (answers_unread IsSettledOutput IsUnsettled (g.R.Read.remaining c.args.reader.now) c.in_err-scenario.field-0.0 c.in_err-scenario.ensures.answers)
+    rw (p.1, p.2) (answers_unread IsSettledOutput IsNotSettled (g.R.Read.remaining c.args.reader.now) c.in_err-scenario.field-0.0 c.in_err-scenario.ensures.answers)
 
 pub returns-in_err-scenario-clause-never_quiet : goal.returns-in_err-scenario-clause-never_quiet
 returns-in_err-scenario-clause-never_quiet g c = λ is.
