@@ -13,12 +13,12 @@ use std::{env, io};
 const LOGIC: &str = "dac8208d650f15bf";
 
 fn main(rt: HostRuntime) -> ExitCode {
-    let outcome = match words(&rt) {
+    let outcome = match words_given(&rt) {
         Ok(Some(words)) => carry_out(
             &rt,
             Setting {
                 logic: LOGIC,
-                look: look(&rt),
+                look: look_of_verdicts(&rt),
             },
             words.as_slice(),
             rt.stdin(),
@@ -28,11 +28,11 @@ fn main(rt: HostRuntime) -> ExitCode {
         Ok(None) => tell_not_text(&rt),
         Err(error) => Err(error),
     };
-    fault::end(&mut Marked::new(rt.stderr()), outcome)
+    fault::end_with(&mut Marked::new(rt.stderr()), outcome)
 }
 
 /// How verdicts look on standard error.
-fn look(rt: &HostRuntime) -> Look {
+fn look_of_verdicts(rt: &HostRuntime) -> Look {
     if rt.stderr().is_terminal() {
         Look::Terminal
     } else {
@@ -41,7 +41,7 @@ fn look(rt: &HostRuntime) -> Look {
 }
 
 /// The words of the command line, or none where they aren't all text.
-fn words(rt: &HostRuntime) -> Result<Option<Vec<String>>, PlayError> {
+fn words_given(rt: &HostRuntime) -> Result<Option<Vec<String>>, PlayError> {
     match env::args(rt) {
         Ok(words) => Ok(Some(words.collect(rt.alloc())?)),
         Err(error) if error.kind() == io::ErrorKind::OutOfMemory => Err(PlayError::NoMemory),

@@ -12,7 +12,7 @@ ghost use Rattle.std.specs.Str.{is_utf8};
 use crate::fault::LineError;
 use crate::open::OpenActor;
 use crate::stage::Stage;
-use cmwq_draft::{Draft, read_line};
+use cmwq_draft::{Draft, read_instr_line};
 use cmwq_grammar::Why;
 use cmwq_scan::{is_word, next_line, next_word, take_last_new_name, worded_part};
 use cmwq_types::{Fault, Line, MAX_ACTORS, MAX_LINES, NoMemory};
@@ -98,5 +98,5 @@ fn instruction_of(actor: &OpenActor, line: &[u8]) -> Option<Line>
     if is_word(word, b"actor") {
         return None;
     }
-    read_line(&actor.draft, word, rest).ok()
+    read_instr_line(&actor.draft, word, rest).ok()
 }

@@ -12,7 +12,7 @@ ghost use Rattle.std.specs.Prelude.{◌≡◌, ◌≤◌, ◌⊎◌, ℕ, IfOk, 
 
 use crate::fault::{AsmError, LineError};
 use crate::stage::Stage;
-use crate::steps::judge;
+use crate::steps::judge_line;
 use cmwq_grammar::Why;
 use cmwq_grammar::laws::{
     read_text_spells_its_scenario, reading_fails_at_the_first_fault,
@@ -43,7 +43,7 @@ pub fn assemble(alloc: Global, text: &[u8]) -> Result<Scenario, AsmError>
     read_text_spells_its_scenario();
     spelled_text_reads_as_its_scenario();
     reading_fails_at_the_first_fault();
-    read_text(alloc, text)
+    read_scenario(alloc, text)
 }
 
 /// Lists the valid scenario and assembles the listing: the scenario comes back. This stands on what `list` and
@@ -59,7 +59,7 @@ pub fn assemble_again(alloc: Global, scenario: &Scenario) -> Result<Scenario, As
 
 /// What reading the text gives.
 #[tactic(auto, unfolding(cmwq_grammar::specs::Meaning::reads, cmwq_grammar::specs::Meaning::reads_lines))]
-fn read_text(alloc: Global, text: &[u8]) -> Result<Scenario, AsmError>
+fn read_scenario(alloc: Global, text: &[u8]) -> Result<Scenario, AsmError>
     ensures { Assembles result (reads text.now) }
 {
     if text.len() > MAX_TEXT {
@@ -88,7 +88,7 @@ pub(crate) fn read_lines<'t>(alloc: Global, text: &'t [u8]) -> Result<(Stage<'t>
     let mut rest = text;
     while let Some((line, behind)) = next_line(rest) {
         lines += 1;
-        let next = match judge(alloc, stage, line, is_all_text) {
+        let next = match judge_line(alloc, stage, line, is_all_text) {
             Ok(next) => next,
             Err(error) => return Err(at_line(lines, error)),
         };

@@ -15,7 +15,7 @@ use crate::fault::LineError;
 use crate::open::{OpenActor, OpenBody};
 use crate::operations::{add_op, open_body};
 use crate::stage::Stage;
-use cmwq_draft::{Bodies, Draft, read_line, read_op};
+use cmwq_draft::{Bodies, Draft, read_instr_line, read_op};
 use cmwq_grammar::Why;
 use cmwq_scan::{is_text, is_word, next_word, refusal, take_last_number_within, worded_part};
 use std::alloc::Global;
@@ -23,7 +23,7 @@ use std::alloc::Global;
 /// The stage after this line, or the first reason against it. Whether the line is text is judged here,
 /// unless it is known to be. A line without words tells nothing.
 #[tactic(auto, unfolding(cmwq_grammar::specs::Reasons::judge, cmwq_grammar::specs::Reasons::step))]
-pub(crate) fn judge<'t>(
+pub(crate) fn judge_line<'t>(
     alloc: Global,
     stage: Stage<'t>,
     line: &'t [u8],
@@ -146,6 +146,6 @@ pub(crate) fn in_actor<'t>(
     if is_word(word, b"actor") {
         return open_actor(alloc, close_actor(actor)?, rest);
     }
-    let line = read_line(&actor.draft, word, rest)?;
+    let line = read_instr_line(&actor.draft, word, rest)?;
     add_line(actor, line)
 }

@@ -49,14 +49,14 @@ where
         → Prints (version_line setting.entry.logic.now) (O.contents output.old) (O.contents output.new) result }
 {
     match parse(rt.alloc(), words) {
-        Ok(request) => answer(rt, setting, input, output, errors, request),
+        Ok(request) => answer_request(rt, setting, input, output, errors, request),
         Err(error) => tell(rt.alloc(), output, errors, error.kind(), &error),
     }
 }
 
 /// Does what is asked, and gives the exit status. Commands of a debugger come from the input. Events, listings, pictures, what a debugger
 /// says, what a play leaves, verdicts of good files and the version go to `output`, and other verdicts to `errors`.
-pub fn answer<R, I: Read + Drop, O: Sink, E: Sink>(
+pub fn answer_request<R, I: Read + Drop, O: Sink, E: Sink>(
     rt: &R,
     setting: Setting<'_>,
     input: I,
@@ -73,10 +73,10 @@ where
 {
     match request {
         Request::New { file } => good(new(rt, output, file)),
-        Request::Do { file, task } => good(on_file(rt, output, file, task)),
+        Request::Do { file, task } => good(do_on_file(rt, output, file, task)),
         Request::Asm { file, out } => good(asm(rt, file, out)),
-        Request::Debug { file } => good(debug(rt, input, output, file)),
-        Request::Play { file, capacity } => good(play(rt, output, file, capacity)),
+        Request::Debug { file } => good(debug_file(rt, input, output, file)),
+        Request::Play { file, capacity } => good(play_file(rt, output, file, capacity)),
         Request::Check { files } => check(rt, setting.look, output, errors, &files),
         Request::Version => good(write_version(rt.alloc(), setting.logic, output)),
     }
@@ -122,7 +122,7 @@ fn check_file<R: Files + AllocGlobal, O: Sink, E: Sink>(
     ensures output { OnOk result (O.failed output.new ≡ false) }
     ensures errors { OnOk result (E.failed errors.new ≡ false) }
 {
-    match opened(rt, file) {
+    match open_file(rt, file) {
         Ok(mut reader) => check_text(rt.alloc(), look, file, &mut reader, output, errors),
         Err(_) => tell_unread(rt.alloc(), file, errors),
     }
@@ -142,7 +142,7 @@ fn new<R: Files, W: Sink>(rt: &R, writer: &mut W, file: Option<&str>) -> Result<
 }
 
 /// Carries the task out on the file, and writes what comes of it.
-fn on_file<R: Files + AllocGlobal, W: Sink>(
+fn do_on_file<R: Files + AllocGlobal, W: Sink>(
     rt: &R,
     writer: &mut W,
     file: &str,
@@ -150,7 +150,7 @@ fn on_file<R: Files + AllocGlobal, W: Sink>(
 ) -> Result<(), PlayError>
     requires { W.failed writer.old ≡ false }
 {
-    let mut reader = opened(rt, file)?;
+    let mut reader = open_file(rt, file)?;
     do_task(task, rt.alloc(), &mut reader, writer)
 }
 
@@ -159,12 +159,12 @@ fn on_file<R: Files + AllocGlobal, W: Sink>(
 fn asm<R: Files + AllocGlobal>(rt: &R, file: &str, out: &str) -> Result<(), PlayError> {
     let made = File::create(rt, out).map_err(|_| PlayError::Write)?;
     let mut writer = Marked::new(made);
-    let mut reader = opened(rt, file)?;
+    let mut reader = open_file(rt, file)?;
     cmwq_play::to_image(rt.alloc(), &mut reader, &mut writer)
 }
 
 /// Debugs the scenario whose text is in the file, by the commands of the input, and writes what is said to each.
-fn debug<R: Files + AllocGlobal, I: Read + Drop, W: Sink>(
+fn debug_file<R: Files + AllocGlobal, I: Read + Drop, W: Sink>(
     rt: &R,
     input: I,
     writer: &mut W,
@@ -172,14 +172,14 @@ fn debug<R: Files + AllocGlobal, I: Read + Drop, W: Sink>(
 ) -> Result<(), PlayError>
     requires { W.failed writer.old ≡ false }
 {
-    let mut reader = opened(rt, file)?;
+    let mut reader = open_file(rt, file)?;
     let scenario = cmwq_play::read_text(rt.alloc(), &mut reader)?;
     let mut commands = Marked::new(input);
     cmwq_debug_session::debug(rt.alloc(), scenario, &mut commands, writer)
 }
 
 /// Carries out all actors of the scenario whose text is in the file at once, and writes the text that is left.
-fn play<R: Files + AllocGlobal + Threads + Wait + Clock + Sync, W: Sink>(
+fn play_file<R: Files + AllocGlobal + Threads + Wait + Clock + Sync, W: Sink>(
     rt: &R,
     writer: &mut W,
     file: &str,
@@ -188,13 +188,13 @@ fn play<R: Files + AllocGlobal + Threads + Wait + Clock + Sync, W: Sink>(
     requires capacity { IsCapacity capacity }
     requires writer { W.failed writer.old ≡ false }
 {
-    let mut reader = opened(rt, file)?;
+    let mut reader = open_file(rt, file)?;
     let scenario = cmwq_play::read_text(rt.alloc(), &mut reader)?;
     cmwq_interleaving::play(rt, rt.alloc(), scenario, capacity, &OpenGate, writer)
 }
 
 /// The file, opened to be read.
-fn opened<R: Files>(rt: &R, path: &str) -> Result<Marked<R::File>, PlayError>
+fn open_file<R: Files>(rt: &R, path: &str) -> Result<Marked<R::File>, PlayError>
     ensures { IfOk result (λ reader. reader.failed ≡ false) }
 {
     let file = File::open(rt, path).map_err(|_| PlayError::Read)?;

@@ -11,7 +11,7 @@ ghost use Rattle.std.specs.Prelude.{◌≡◌, ◌+◌, ◌⊎◌, ◌<◌, ◌�
 
 use crate::breaks::{Break, MAX_BREAKS, free};
 use crate::command::{Command, DebugError, EventKind, Said};
-use crate::moving::{carry_out, run_on};
+use crate::moving::{carry_forward, run_on};
 use cmwq_dump::{dump_text, pool_text};
 use cmwq_flush_waits::flush_text;
 use cmwq_table::{LoadError, Machine};
@@ -194,7 +194,7 @@ impl<M: Machine> Debugger<M> {
             position,
             ..
         } = self;
-        carry_out(machine, instrs, *position, to);
+        carry_forward(machine, instrs, *position, to);
         *position = to;
     }
 

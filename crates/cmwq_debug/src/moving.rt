@@ -17,7 +17,7 @@ pub(crate) struct RunEnd {
 }
 
 /// Carries out the instructions of the list from one position to another.
-pub(crate) fn carry_out<M: Machine>(machine: &mut M, instrs: &[Instr], from: usize, to: usize)
+pub(crate) fn carry_forward<M: Machine>(machine: &mut M, instrs: &[Instr], from: usize, to: usize)
     requires state { M.state machine.old ≡ run (M.loaded machine.old) (take from instrs.now) }
     requires forward { from ≤ to }
     requires within { to ≤ length instrs.now }

@@ -20,15 +20,15 @@ pub(crate) fn order_of(scenario: &Scenario, words: &[Token]) -> Order
     };
     let word = word.bytes();
     if is_word(word, b"step") {
-        numbered(Command::Step, u32::MAX, rest)
+        number_order(Command::Step, u32::MAX, rest)
     } else if is_word(word, b"back") {
-        numbered(Command::Back, u32::MAX, rest)
+        number_order(Command::Back, u32::MAX, rest)
     } else if is_word(word, b"goto") {
-        numbered(Command::Goto, u32::MAX, rest)
+        number_order(Command::Goto, u32::MAX, rest)
     } else if is_word(word, b"break") {
         break_order(scenario, rest)
     } else if is_word(word, b"clear") {
-        numbered(|number| Command::Clear(number as u8), 255, rest)
+        number_order(|number| Command::Clear(number as u8), 255, rest)
     } else if is_word(word, b"run") {
         alone(Command::Run, rest)
     } else if is_word(word, b"dump") {
@@ -41,7 +41,7 @@ pub(crate) fn order_of(scenario: &Scenario, words: &[Token]) -> Order
 }
 
 /// The command with the number that these words are, which is at most this high.
-fn numbered<F: FnOnce(u32) -> Command>(command: F, high: u32, words: &[Token]) -> Order
+fn number_order<F: FnOnce(u32) -> Command>(command: F, high: u32, words: &[Token]) -> Order
     requires { (n : ℕ) → n ≤ high → F.pre command n }
     ensures { (made : ℕ → Command) → ((n : ℕ) → (told : Command) → n ≤ high → F.post command n told → told ≡ made n)
         → result ≡ with_number made high (words_in words.now) }
@@ -70,7 +70,7 @@ fn dump_order(words: &[Token]) -> Order
     match words {
         [] => Order::Do(Command::Dump),
         [word, rest @ ..] if is_word(word.bytes(), b"pool") => {
-            numbered(|pool| Command::DumpPool(pool as u8), 255, rest)
+            number_order(|pool| Command::DumpPool(pool as u8), 255, rest)
         }
         _ => Order::Bad,
     }
@@ -84,7 +84,7 @@ fn why_order(scenario: &Scenario, words: &[Token]) -> Order
     match words {
         [name] => why_work(scenario, name.bytes()),
         [word, rest @ ..] if is_word(word.bytes(), b"flush") => {
-            numbered(Command::WhyFlush, u32::MAX, rest)
+            number_order(Command::WhyFlush, u32::MAX, rest)
         }
         _ => Order::Bad,
     }
@@ -113,7 +113,7 @@ fn break_order(scenario: &Scenario, words: &[Token]) -> Order
     if is_word(word, b"work") {
         work_break(scenario, rest)
     } else if is_word(word, b"time") {
-        numbered(Command::BreakTime, u32::MAX, rest)
+        number_order(Command::BreakTime, u32::MAX, rest)
     } else if is_word(word, b"refusal") {
         alone(Command::BreakRefusal, rest)
     } else {

@@ -45,12 +45,12 @@ fn obey<M: Machine>(
         Order::Nothing => Ok(Vec::new(alloc)),
         Order::Bad => Ok(format!(in alloc; "bad command\n")?.into_bytes()),
         Order::NoWork => refused_text(alloc, DebugError::NoSuchWork),
-        Order::Do(command) => carry_out(alloc, debugger, command),
+        Order::Do(command) => answer_command(alloc, debugger, command),
     }
 }
 
 /// Carries out a command, and gives what is said to it.
-fn carry_out<M: Machine>(
+fn answer_command<M: Machine>(
     alloc: Global,
     debugger: &mut Debugger<M>,
     command: Command,

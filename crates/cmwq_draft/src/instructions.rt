@@ -18,7 +18,7 @@ use cmwq_types::{Fields, Instr, Line, MAX_TIMES, Mnemonic, Shape, instr_of, shap
 /// The line that begins with this word.
 #[inline(always)]
 #[tactic(auto, unfolding(cmwq_grammar::specs::Instructions::line_at))]
-pub fn read_line(draft: &Draft, word: &[u8], rest: &[u8]) -> Result<Line, Why>
+pub fn read_instr_line(draft: &Draft, word: &[u8], rest: &[u8]) -> Result<Line, Why>
     ensures { Tells (λ line. line) result (line_at draft.now word.now (words_left rest.now)) }
 {
     let (instr, rest) = read_instr(draft, word, rest)?;

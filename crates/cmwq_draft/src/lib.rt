@@ -10,5 +10,5 @@ mod operations;
 pub use bodies::Bodies;
 pub use declarations::{QueueLine, WorkLine, fits_flags, read_queue_line, read_work_line};
 pub use draft::Draft;
-pub use instructions::read_line;
+pub use instructions::read_instr_line;
 pub use operations::{read_next, read_op};

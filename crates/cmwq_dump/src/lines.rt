@@ -33,7 +33,7 @@ impl<R: Reads> Dumping<'_, R> {
     {
         let time = self.machine.time();
         let spent = self.machine.spent();
-        let frozen = yes_or_no(self.machine.is_frozen());
+        let frozen = yes_or_no_text(self.machine.is_frozen());
         write!(text, "now {time} spent {spent} frozen {frozen}\n")?;
         Ok(())
     }
@@ -194,7 +194,7 @@ impl<R: Reads> Dumping<'_, R> {
     fn push_flush(&self, text: &mut String, flush: usize) -> Result<(), NoMemory>
         ensures { OnOk result (string_bytes text.new ≡ string_bytes text.old ++ flush_line self.now.scenario self.now.state flush) }
     {
-        let done = yes_or_no(is_done(self.machine, flush_target(self.machine, flush)));
+        let done = yes_or_no_text(is_done(self.machine, flush_target(self.machine, flush)));
         write!(text, "flush {flush} {done}\n")?;
         Ok(())
     }
@@ -262,7 +262,7 @@ fn cpu_of(place: Place) -> u8
     }
 }
 
-fn yes_or_no(holds: bool) -> &'static str
+fn yes_or_no_text(holds: bool) -> &'static str
     ensures { result.now ≡ yes_or_no_text holds }
 {
     if holds { "yes" } else { "no" }

@@ -2,7 +2,7 @@
 ghost use Rattle.cmwq_flush_waits.specs.Text.{flush_lines};
 ghost use Rattle.std.specs.Prelude.{◌≡◌, IfOk, MatchOption, None, Some, string_bytes};
 
-use crate::telling::lines_of;
+use crate::telling::flush_waits_lines;
 use cmwq_table::Reads;
 use cmwq_types::NoMemory;
 use cmwq_why::waits;
@@ -26,6 +26,6 @@ pub fn flush_text<R: Reads>(
         return Ok(None);
     };
     let waits = waits(alloc, machine, target)?;
-    let text = lines_of(&Wording { alloc, machine }, flush, &waits)?;
+    let text = flush_waits_lines(&Wording { alloc, machine }, flush, &waits)?;
     Ok(Some(text))
 }

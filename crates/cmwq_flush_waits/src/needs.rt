@@ -24,14 +24,14 @@ impl Needs {
             return Ok(());
         }
         text.push_str(", not by itself:")?;
-        text.push_str(word_if(self.thaw, " frozen"))?;
-        text.push_str(word_if(self.memory, " pressure"))?;
-        text.push_str(word_if(self.steps, " spent"))?;
+        text.push_str(text_if(self.thaw, " frozen"))?;
+        text.push_str(text_if(self.memory, " pressure"))?;
+        text.push_str(text_if(self.steps, " spent"))?;
         Ok(())
     }
 }
 
-fn word_if(given: bool, word: &'static str) -> &'static str
+fn text_if(given: bool, word: &'static str) -> &'static str
     ensures { result.now ≡ text_if given word.now }
 {
     if given { word } else { "" }

@@ -14,7 +14,7 @@ use cmwq_why::{lacks_memory, lacks_thaw, reason_of};
 use cmwq_why_text::{Wording, push_number};
 
 /// What is written of a flush of this number that waits for these instances.
-pub(crate) fn lines_of<R: Reads>(
+pub(crate) fn flush_waits_lines<R: Reads>(
     wording: &Wording<'_, R>,
     flush: usize,
     waits: &[Instance],
@@ -41,13 +41,13 @@ fn push_waits<R: Reads>(
         return Ok(());
     }
     let all = reached(wording.alloc, wording.machine, waits)?;
-    push_head(wording.machine, text, waits)?;
-    push_lines(wording, text, "  ", waits)?;
-    push_lines(wording, text, "    ", others(&all, waits.len()))
+    push_count(wording.machine, text, waits)?;
+    push_waiters(wording, text, "  ", waits)?;
+    push_waiters(wording, text, "    ", others(&all, waits.len()))
 }
 
 /// Appends how many instances a flush waits for, and what has to come from outside.
-fn push_head<R: Reads>(machine: &R, text: &mut String, waits: &[Instance]) -> Result<(), NoMemory>
+fn push_count<R: Reads>(machine: &R, text: &mut String, waits: &[Instance]) -> Result<(), NoMemory>
     ensures { OnOk result (string_bytes text.new ≡ string_bytes text.old ++ head_text (R.loaded machine.now) (R.state machine.now) waits.now) }
 {
     push_number(text, " waits for ", waits.len() as u64)?;
@@ -82,7 +82,7 @@ fn lack_memory<R: Reads>(machine: &R, waits: &[Instance]) -> bool
 }
 
 /// Appends a line for each instance.
-fn push_lines<R: Reads>(
+fn push_waiters<R: Reads>(
     wording: &Wording<'_, R>,
     text: &mut String,
     indent: &str,
@@ -91,13 +91,13 @@ fn push_lines<R: Reads>(
     ensures { OnOk result (string_bytes text.new ≡ string_bytes text.old ++ lines (R.loaded wording.now.machine.now) (R.state wording.now.machine.now) indent.now instances.now) }
 {
     for instance in instances {
-        push_line(wording, text, indent, *instance)?;
+        push_waiter(wording, text, indent, *instance)?;
     }
     Ok(())
 }
 
 /// Appends the line of the instance, if there is such a one.
-fn push_line<R: Reads>(
+fn push_waiter<R: Reads>(
     wording: &Wording<'_, R>,
     text: &mut String,
     indent: &str,

@@ -10,13 +10,13 @@ use cmwq_types::{Instr, MAX_HISTORY, Scenario};
 use std::alloc::Global;
 
 /// The instructions of the scenario's first actor, in order. `Actors` where it has none.
-pub(crate) fn instrs_of(alloc: Global, scenario: &Scenario) -> Result<Vec<Instr>, PlayError> {
+pub(crate) fn actor_instrs(alloc: Global, scenario: &Scenario) -> Result<Vec<Instr>, PlayError> {
     let actor = scenario.actors.first().ok_or(PlayError::Actors)?;
     Ok(expanded(alloc, &actor.lines)?)
 }
 
 /// An engine of the scenario, whose history has room for so many entries.
-fn opened<M: Machine>(
+fn open_engine<M: Machine>(
     alloc: Global,
     scenario: &Scenario,
     capacity: u32,
@@ -40,13 +40,13 @@ pub(crate) fn issued<M: Machine>(
     if instrs.len() > MAX_HISTORY as usize {
         return Err(PlayError::Full);
     }
-    let mut engine = opened(alloc, scenario, instrs.len() as u32)?;
-    let times = issue_all(alloc, &mut engine, instrs)?;
+    let mut engine = open_engine(alloc, scenario, instrs.len() as u32)?;
+    let times = issue_timed(alloc, &mut engine, instrs)?;
     Ok((engine, times))
 }
 
 /// Issues the instructions, and gives the time behind each, in ticks.
-fn issue_all<M: Machine>(
+fn issue_timed<M: Machine>(
     alloc: Global,
     engine: &mut Engine<M>,
     instrs: &[Instr],

@@ -20,7 +20,7 @@ fn issue_and_print<M: Machine, R: Print>(
     alloc: Global,
     scenario: Scenario,
 ) -> Result<(), PlayError> {
-    let instrs = issuing::instrs_of(alloc, &scenario)?;
+    let instrs = issuing::actor_instrs(alloc, &scenario)?;
     let (engine, times) = issuing::issued::<M>(alloc, &scenario, &instrs)?;
     printing::print(rt, alloc, scenario, engine.history(), &times)
 }

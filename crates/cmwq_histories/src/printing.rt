@@ -17,7 +17,7 @@ pub(crate) fn print<R: Print>(
     times: &[u64],
 ) -> Result<(), PlayError> {
     let mut scenario = scenario;
-    let listing = listing_of(alloc, &mut scenario, history)?;
+    let listing = listing_of_history(alloc, &mut scenario, history)?;
     let Ok(listing) = str::from_utf8(&listing) else {
         return Err(PlayError::Write);
     };
@@ -30,7 +30,7 @@ pub(crate) fn print<R: Print>(
 }
 
 /// The scenario's listing with the history in place of its actor's lines, a line an entry.
-fn listing_of(
+fn listing_of_history(
     alloc: Global,
     scenario: &mut Scenario,
     history: &[Entry],

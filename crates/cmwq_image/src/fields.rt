@@ -131,7 +131,7 @@ impl<'a> Fields<'a> {
     {
         let at = self.at;
         let bytes = self.take(16)?;
-        name_of(bytes).ok_or(ImageError::BadField(at))
+        name_in_field(bytes).ok_or(ImageError::BadField(at))
     }
 
     /// The tag of an operation.
@@ -158,7 +158,7 @@ impl<'a> Fields<'a> {
 }
 
 /// The name of which these 16 bytes are the field.
-fn name_of(bytes: &[u8]) -> Option<Name>
+fn name_in_field(bytes: &[u8]) -> Option<Name>
     requires { length bytes.now ≡ 16 }
     ensures { result ≡ name_in_field bytes.now }
 {

@@ -70,14 +70,14 @@ pub(crate) fn tagged(version: u16, byte: u8) -> Option<Mnemonic>
     ensures { result ≡ tagged version byte }
 {
     if byte <= last_tag(version) {
-        numbered(byte)
+        word_tagged(byte)
     } else {
         None
     }
 }
 
 /// The word with this tag.
-fn numbered(byte: u8) -> Option<Mnemonic>
+fn word_tagged(byte: u8) -> Option<Mnemonic>
     ensures { result ≡ first_tagged mnemonics byte }
 {
     if byte < FIRST_TAG {

@@ -54,7 +54,7 @@ pub fn play<'x, R: Threads + Wait + Clock + Sync, G: Gate, W: Sink>(
     }
     let (ending, text) = acted::<R, Plain, G>(rt, alloc, scenario, capacity, gate)?;
     put_all(writer, &text)?;
-    told(ending)
+    play_end(ending)
 }
 
 /// How all actors of the scenario end, and the text of what came out.
@@ -71,12 +71,12 @@ fn acted<'x, R: Threads + Wait + Clock + Sync, M: Machine + Send, G: Gate>(
 {
     let scenario = Arc::new(alloc, scenario)?;
     let enacted: Enactment<M> = enact(rt, alloc, &scenario, capacity, gate)?;
-    let text = left(alloc, &scenario, enacted.engine.history())?;
+    let text = text_left(alloc, &scenario, enacted.engine.history())?;
     Ok((enacted.ending(), text))
 }
 
 /// What a play with this history leaves.
-fn left(alloc: Global, scenario: &Scenario, history: &[Entry]) -> Result<Vec<u8>, NoMemory>
+fn text_left(alloc: Global, scenario: &Scenario, history: &[Entry]) -> Result<Vec<u8>, NoMemory>
     requires valid { IsValid scenario.now }
     requires fronts { HasFronts scenario.now history.now }
     requires few { length history.now ≤ MAX_LINES }
@@ -94,7 +94,7 @@ fn instrs_of(alloc: Global, history: &[Entry]) -> Result<Vec<Instr>, NoMemory>
 }
 
 /// How a play ends, by how its actors end.
-fn told(ending: Ending) -> Result<(), PlayError>
+fn play_end(ending: Ending) -> Result<(), PlayError>
     ensures { result ≡ play_end ending }
 {
     match ending {

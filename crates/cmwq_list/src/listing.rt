@@ -44,10 +44,10 @@ fn listing_of(alloc: Global, scenario: &Scenario) -> Result<Vec<u8>, NoMemory>
         ..
     } = *scenario;
     let mut text = Vec::new(alloc);
-    push_number(&mut text, b"cpus", u32::from(cpus))?;
-    push_number(&mut text, b"workers", u32::from(workers))?;
-    push_number(&mut text, b"steps", steps)?;
-    push_number(&mut text, b"flushes", u32::from(flushes))?;
+    push_numbered(&mut text, b"cpus", u32::from(cpus))?;
+    push_numbered(&mut text, b"workers", u32::from(workers))?;
+    push_numbered(&mut text, b"steps", steps)?;
+    push_numbered(&mut text, b"flushes", u32::from(flushes))?;
     push_queues(&mut text, &scenario.queues)?;
     push_works(&mut text, scenario)?;
     push_bodies(&mut text, scenario)?;
@@ -56,7 +56,7 @@ fn listing_of(alloc: Global, scenario: &Scenario) -> Result<Vec<u8>, NoMemory>
 }
 
 /// Writes a line of a word and a number.
-fn push_number(text: &mut Vec<u8>, word: &[u8], n: u32) -> Result<(), NoMemory>
+fn push_numbered(text: &mut Vec<u8>, word: &[u8], n: u32) -> Result<(), NoMemory>
     ensures { OnOk result (text.new.items ≡ text.old.items ++ line_text (word.now ∷ decimal n ∷ [])) }
 {
     let mut digits = Buffer::new();

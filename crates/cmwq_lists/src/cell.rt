@@ -30,7 +30,7 @@ impl Cell {
     pub(crate) fn new(node: Node, list: usize, prev: Option<usize>, next: Option<usize>) -> Cell
         ensures { result ≡ cell_of list prev node next }
     {
-        let (high, low) = words(node.order);
+        let (high, low) = halves(node.order);
         Cell {
             high,
             low,
@@ -57,13 +57,13 @@ impl Cell {
         ensures { result ≡ nat_lt order (self.now.high * 2 ^ 64 + self.now.low) }
     {
         let (high, low) = (self.high, self.low);
-        let (other_high, other_low) = words(order);
+        let (other_high, other_low) = halves(order);
         other_high < high || (other_high == high && other_low < low)
     }
 }
 
 /// The upper and the lower half of an order.
-fn words(order: u128) -> (u64, u64)
+fn halves(order: u128) -> (u64, u64)
     ensures { result ≡ (order / 2 ^ 64, order % 2 ^ 64) }
 {
     ((order >> 64) as u64, (order & 0xffff_ffff_ffff_ffff) as u64)

@@ -37,7 +37,7 @@ fn set_prev(cells: &mut Slab<Cell>, ends: &mut Ends, at: Option<usize>, to: Opti
 }
 
 /// The key behind this one, or the first of the list.
-fn next_of(cells: &Slab<Cell>, ends: &Ends, at: Option<usize>) -> Option<usize>
+fn key_behind(cells: &Slab<Cell>, ends: &Ends, at: Option<usize>) -> Option<usize>
     requires held { IfSome at (λ key. ContainsKey cells.now key) }
     ensures { IsNext (get cells.now) ends.now at result }
 {
@@ -65,7 +65,7 @@ pub(crate) fn link(
     ensures len { slab_len cells.new ≡ slab_len cells.old + 1 }
     ensures capacity { cells.new.capacity ≡ cells.old.capacity }
 {
-    let next = next_of(cells, ends, after);
+    let next = key_behind(cells, ends, after);
     let key = cells.insert_reserved(Cell::new(node, list, after, next));
     set_next(cells, ends, after, Some(key));
     set_prev(cells, ends, next, Some(key));

@@ -41,7 +41,7 @@ pub fn status(fault: PlayError) -> u8
 
 /// Tells the fault that the program ends with, if there is one, and gives the exit status.
 /// A fault has its status also where it can't be told.
-pub fn end<W: Sink>(errors: &mut W, outcome: Result<u8, PlayError>) -> ExitCode
+pub fn end_with<W: Sink>(errors: &mut W, outcome: Result<u8, PlayError>) -> ExitCode
     requires sound { OnErr outcome (W.failed errors.old ≡ false) }
     ensures good { IfOk outcome (λ status. exit_status result ≡ status) }
     ensures silent { OnOk outcome (errors.new ≡ errors.old) }
@@ -81,35 +81,35 @@ fn line_of(fault: PlayError) -> Line
 {
     match fault {
         PlayError::Asm(AsmError::At { line, why }) => {
-            told(&["line ", Buffer::new().format(line), ": ", why_name(why)])
+            joined_line(&["line ", Buffer::new().format(line), ": ", why_name(why)])
         }
-        PlayError::Image(ImageError::Magic) => told(&["image: Magic"]),
-        PlayError::Image(ImageError::Version) => told(&["image: Version"]),
-        PlayError::Image(ImageError::Truncated) => told(&["image: Truncated"]),
-        PlayError::Image(ImageError::Extra) => told(&["image: Extra"]),
+        PlayError::Image(ImageError::Magic) => joined_line(&["image: Magic"]),
+        PlayError::Image(ImageError::Version) => joined_line(&["image: Version"]),
+        PlayError::Image(ImageError::Truncated) => joined_line(&["image: Truncated"]),
+        PlayError::Image(ImageError::Extra) => joined_line(&["image: Extra"]),
         PlayError::Image(ImageError::BadField(offset)) => {
-            told(&["image: BadField ", Buffer::new().format(offset)])
+            joined_line(&["image: BadField ", Buffer::new().format(offset)])
         }
-        PlayError::Image(ImageError::Fault(fault)) => told(&["image: ", fault_name(fault)]),
-        PlayError::Actors => told(&["actors"]),
-        PlayError::Full => told(&["full"]),
-        PlayError::Tickets => told(&["tickets"]),
-        PlayError::TooLong => told(&["too long"]),
-        PlayError::NeverQuiet => told(&["never quiet"]),
-        PlayError::TooWide => told(&["more than 500 columns: give --from and --to"]),
-        PlayError::NoSuchWork => told(&["no such work"]),
-        PlayError::NoSuchFlush => told(&["no such flush"]),
-        PlayError::PastEnd => told(&["past the end"]),
-        PlayError::Read => told(&["read"]),
-        PlayError::Write => told(&["write"]),
+        PlayError::Image(ImageError::Fault(fault)) => joined_line(&["image: ", fault_name(fault)]),
+        PlayError::Actors => joined_line(&["actors"]),
+        PlayError::Full => joined_line(&["full"]),
+        PlayError::Tickets => joined_line(&["tickets"]),
+        PlayError::TooLong => joined_line(&["too long"]),
+        PlayError::NeverQuiet => joined_line(&["never quiet"]),
+        PlayError::TooWide => joined_line(&["more than 500 columns: give --from and --to"]),
+        PlayError::NoSuchWork => joined_line(&["no such work"]),
+        PlayError::NoSuchFlush => joined_line(&["no such flush"]),
+        PlayError::PastEnd => joined_line(&["past the end"]),
+        PlayError::Read => joined_line(&["read"]),
+        PlayError::Write => joined_line(&["write"]),
         PlayError::NoMemory
         | PlayError::Asm(AsmError::NoMemory)
-        | PlayError::Image(ImageError::NoMemory) => told(&["no memory"]),
+        | PlayError::Image(ImageError::NoMemory) => joined_line(&["no memory"]),
     }
 }
 
 /// The line of these texts.
-fn told(texts: &[&str]) -> Line
+fn joined_line(texts: &[&str]) -> Line
     requires { length (flat_map (λ text. text.now) texts.now) ≤ 63 }
     ensures { result.bytes ≡ fault_written (flat_map (λ text. text.now) texts.now) }
 {

@@ -98,23 +98,23 @@ impl<P: Parts> Going<P> {
         match next {
             Found::Advance(work) => {
                 let event = self.advance(pool, work.0 as usize);
-                told(work, event)
+                event_reply(work, event)
             }
             Found::Wake(work) => {
                 self.parts.wake(pool, work.0 as usize);
-                told(work, Event::Wakes)
+                event_reply(work, Event::Wakes)
             }
             Found::Start(work, worker) => {
                 self.start(pool, work.0 as usize, worker);
-                told(work, Event::Starts)
+                event_reply(work, Event::Starts)
             }
             Found::Defer(work) => {
                 self.parts.defer(pool, work.0 as usize);
-                told(work, Event::Defers)
+                event_reply(work, Event::Defers)
             }
             Found::Rescue(work) => {
                 self.take_to_rescuer(pool, work.0 as usize);
-                told(work, Event::StartsOnRescuer)
+                event_reply(work, Event::StartsOnRescuer)
             }
         }
     }
@@ -246,7 +246,7 @@ impl<P: Parts> Going<P> {
     }
 }
 
-fn told(work: WorkId, event: Event) -> Reply
+fn event_reply(work: WorkId, event: Event) -> Reply
     ensures { result ≡ reply.Event work event }
 {
     Reply::Event { work, event }

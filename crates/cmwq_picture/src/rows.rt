@@ -132,7 +132,7 @@ fn push(
     ensures { OnOk result (rows.new.items ≡ rows.old.items ++ cut_rows scenario.now columns.now (title ∷ [])) }
 {
     let row = cut(alloc, scenario, columns, title)?;
-    if stands(&row) {
+    if stands_in_picture(&row) {
         rows.push(row)?;
     }
     Ok(())
@@ -156,7 +156,7 @@ fn cut(
 }
 
 /// Whether the row stands in a picture: that of a CPU or of the actor always, each other one where a cell of it isn't empty.
-fn stands(row: &Row) -> bool
+fn stands_in_picture(row: &Row) -> bool
     ensures { result ≡ stands_in_picture row.now }
 {
     stands_empty(row.title) || has_sign(&row.cells)

@@ -4,7 +4,7 @@ use cmwq_asm::AsmError;
 use cmwq_grammar::Why;
 use cmwq_image::ImageError;
 use cmwq_machine_tests::streams::{Output, writing_to};
-use cmwq_outcome::fault::end;
+use cmwq_outcome::fault::end_with;
 use cmwq_play::{Marked, PlayError};
 use cmwq_types::Fault;
 use std::alloc::Global;
@@ -86,7 +86,7 @@ fn check_told(rt: &impl Abort, alloc: Global, fault: PlayError, want: u8, line: 
     same(
         rt,
         fault,
-        end(&mut errors, Err(fault)),
+        end_with(&mut errors, Err(fault)),
         ExitCode::from(want),
     );
     let Output { taken, calls, .. } = errors.into_inner();

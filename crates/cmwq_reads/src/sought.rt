@@ -49,7 +49,7 @@ fn sooner<R: Reads>(machine: &R, sought: Sought, first: Option<usize>, w: usize)
     ensures { result ≡ first_with (is_sought_before (R.state machine.now) sought) w true first }
 {
     match first {
-        Some(v) if !comes_before(machine, sought, w, v) => Some(v),
+        Some(v) if !is_sought_before(machine, sought, w, v) => Some(v),
         _ => Some(w),
     }
 }
@@ -85,7 +85,7 @@ fn is_sought<R: Reads>(machine: &R, sought: Sought, w: usize) -> bool
 }
 
 /// Whether the one work comes before the other, in the order of the scan.
-fn comes_before<R: Reads>(machine: &R, sought: Sought, v: usize, w: usize) -> bool
+fn is_sought_before<R: Reads>(machine: &R, sought: Sought, v: usize, w: usize) -> bool
     ensures { result ≡ is_sought_before (R.state machine.now) sought v w }
 {
     match sought {

@@ -34,7 +34,7 @@ pub(crate) fn grown(last: Option<Bar>, to: usize) -> Option<Bar>
 }
 
 /// The rectangle that begins with the cell of this tick: an empty one has none.
-pub(crate) fn begun(cell: Cell, at: usize) -> Option<Bar>
+pub(crate) fn bar_begun(cell: Cell, at: usize) -> Option<Bar>
     requires { at + 1 < 2 ^ 64 }
     ensures { result ≡ bar_begun cell at }
 {

@@ -6,11 +6,11 @@ ghost use Rattle.std.specs.List.{flat_map};
 ghost use Rattle.std.specs.Prelude.{◌≡◌, ◌≤◌, ◌^◌, ◌++◌, IfOk, IfSome, OnOk, string_bytes};
 ghost use Rattle.cmwq_render.specs.Times.{time_count};
 
-use crate::bars::{Bar, begun, goes_on, grown};
+use crate::bars::{Bar, bar_begun, goes_on, grown};
 use crate::label::{Label, label_width};
-use crate::layout::{full_height, full_width, left, x_of, y_of};
+use crate::layout::{full_height, full_width, left_edge, x_of, y_of};
 use crate::legend::{explained, meaning};
-use crate::shapes::{GridLine, Rectangle, TimeWords, Words, class_of, push_head};
+use crate::shapes::{GridLine, Rectangle, TimeWords, Words, class_of, push_opening};
 use crate::times::{ticks_before, time_at, time_count};
 use cmwq_picture::{Cell, Picture, Row};
 use cmwq_types::{NoMemory, Scenario};
@@ -29,7 +29,7 @@ pub fn svg(alloc: Global, scenario: &Scenario, picture: &Picture) -> Result<Vec<
     let cells = explained(alloc, &picture.rows)?;
     let height = full_height(picture.rows.len(), cells.len());
     let mut text = String::new(alloc);
-    push_head(&mut text, full_width(width, picture.ticks), height)?;
+    push_opening(&mut text, full_width(width, picture.ticks), height)?;
     frame.push_times(&mut text, picture)?;
     frame.push_rows(alloc, &mut text, &picture.rows)?;
     frame.push_legend(&mut text, picture.rows.len(), &cells)?;
@@ -105,7 +105,7 @@ impl Frame<'_> {
                 last = grown(last, at + 1);
             } else {
                 self.push_bar(text, row, last)?;
-                last = begun(*cell, at);
+                last = bar_begun(*cell, at);
             }
         }
         self.push_bar(text, row, last)
@@ -166,7 +166,7 @@ impl Frame<'_> {
         requires { line ≤ 2 ^ 65 }
         ensures { OnOk result (string_bytes text.new ≡ string_bytes text.old ++ key_svg self.now.width line cell) }
     {
-        let x = left(self.width);
+        let x = left_edge(self.width);
         let y = y_of(line);
         let rectangle = Rectangle {
             class: class_of(cell),

@@ -3,7 +3,7 @@ ghost use Rattle.cmwq_render.specs.Layout.{full_height, full_width, left_edge, x
 ghost use Rattle.std.specs.Prelude.{◌≡◌, ◌<◌, ◌^◌};
 
 /// The left edge of the columns, behind labels of so many letters.
-pub(crate) fn left(width: usize) -> u128
+pub(crate) fn left_edge(width: usize) -> u128
     ensures left_edge { result ≡ left_edge width }
     ensures small { result < 2 ^ 68 }
 {
@@ -16,7 +16,7 @@ pub(crate) fn x_of(width: usize, tick: u128) -> u128
     ensures x { result ≡ x_of width tick }
     ensures small { result < 2 ^ 104 }
 {
-    left(width) + 10 * tick
+    left_edge(width) + 10 * tick
 }
 
 /// The upper edge of a row.
@@ -32,7 +32,7 @@ pub(crate) fn y_of(row: u128) -> u128
 pub(crate) fn full_width(width: usize, ticks: u32) -> u128
     ensures { result ≡ full_width width ticks }
 {
-    x_of(width, u128::from(ticks)).max(left(width) + 240) + 16
+    x_of(width, u128::from(ticks)).max(left_edge(width) + 240) + 16
 }
 
 /// How high a picture of so many rows is, with so many lines of its legend.

@@ -26,7 +26,7 @@ impl fmt::Display for ViewBox {
 
 /// Writes the beginning: how large the picture is, and how its parts look.
 #[tactic(auto, unfolding(crate::specs::Svg::head))]
-pub(crate) fn push_head(text: &mut String, width: u128, height: u128) -> Result<(), NoMemory>
+pub(crate) fn push_opening(text: &mut String, width: u128, height: u128) -> Result<(), NoMemory>
     ensures { OnOk result (string_bytes text.new ≡ string_bytes text.old ++ head width height) }
 {
     push_sized(text, OPENING, width, height, STYLE)

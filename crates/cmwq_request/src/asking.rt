@@ -30,7 +30,7 @@ fn looks_of(given: &ArgMatches<'_>) -> Option<Looks>
     match (flag_of(given, "every"), value_of(given, "K")) {
         (false, None) => Some(Looks::Settled),
         (true, None) => Some(Looks::Every),
-        (false, Some(word)) => Some(Looks::At(number_of(word)?)),
+        (false, Some(word)) => Some(Looks::At(plain_number(word)?)),
         (true, Some(_)) => None,
     }
 }
@@ -42,7 +42,7 @@ fn question_of<'a>(given: &ArgMatches<'a>) -> Option<Question<'a>>
 {
     match (value_of(given, "WORK"), value_of(given, "F")) {
         (Some(work), None) => Some(Question::Work(work)),
-        (None, Some(word)) => Some(Question::Flush(number_of(word)?)),
+        (None, Some(word)) => Some(Question::Flush(plain_number(word)?)),
         (None, None) | (Some(_), Some(_)) => None,
     }
 }
@@ -51,7 +51,7 @@ fn question_of<'a>(given: &ArgMatches<'a>) -> Option<Question<'a>>
 const MOST_DIGITS: usize = 10;
 
 /// The number that 1 to 10 digits spell; nothing where the word is anything else.
-fn number_of(word: &str) -> Option<u64>
+fn plain_number(word: &str) -> Option<u64>
     ensures { result ≡ plain_number word.now }
 {
     if word.len() > MOST_DIGITS || word.starts_with('+') {

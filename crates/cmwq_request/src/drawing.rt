@@ -14,12 +14,12 @@ pub(crate) fn draw_request<'a>(given: &ArgMatches<'a>) -> Option<Request<'a>>
     ensures words { (asked : List Text) → file_to_draw (rows_of (found_of given.now)) ≡ Some asked → option_map (λ request. request_words request) result ≡ Some asked }
     ensures capacity { IfSome result (λ request. IsWithin request) }
 {
-    let drawing = drawing_of(given)?;
+    let drawing = drawing_asked(given)?;
     on_file(given, "FILE", Task::Draw(drawing))
 }
 
 /// The picture that is asked for; nothing where a time isn't a number.
-pub(crate) fn drawing_of(given: &ArgMatches<'_>) -> Option<Drawing>
+pub(crate) fn drawing_asked(given: &ArgMatches<'_>) -> Option<Drawing>
     ensures { (drawing : Drawing) → drawing_asked (rows_of (found_of given.now)) ≡ Some drawing → result ≡ Some drawing }
 {
     Some(Drawing {
@@ -44,13 +44,13 @@ fn time_of(given: &ArgMatches<'_>, id: &str) -> Option<Option<u64>>
     ensures { (time : Option ℕ) → number_if_any (first_of id.now (rows_of (found_of given.now))) ≡ Some time → result ≡ Some time }
 {
     match value_of(given, id) {
-        Some(word) => Some(Some(number_of(word)?)),
+        Some(word) => Some(Some(drawing_number(word)?)),
         None => Some(None),
     }
 }
 
 /// The number that the word spells.
-fn number_of(word: &str) -> Option<u64>
+fn drawing_number(word: &str) -> Option<u64>
     ensures { (n : ℕ) → number_in word.now ≡ Some n → result ≡ Some n }
 {
     word.parse().ok()

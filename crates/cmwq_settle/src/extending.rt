@@ -22,17 +22,17 @@ fn push_nexts(lines: &mut Vec<Line>, nexts: u32) -> Result<(), NoMemory>
     ensures { OnOk result (lines.new.items ≡ lines.old.items ++ next_lines nexts) }
 {
     for _turn in 0..nexts / MAX_TIMES {
-        lines.push(next_line(MAX_TIMES))?;
+        lines.push(line_of_nexts(MAX_TIMES))?;
     }
     let rest = nexts % MAX_TIMES;
     if rest > 0 {
-        lines.push(next_line(rest))?;
+        lines.push(line_of_nexts(rest))?;
     }
     Ok(())
 }
 
 /// A line of so many `next`.
-fn next_line(times: u32) -> Line
+fn line_of_nexts(times: u32) -> Line
     ensures { result ≡ next_line times }
 {
     Line {

@@ -61,11 +61,11 @@ pub fn settled(alloc: Global, scenario: Scenario) -> Result<Scenario, PlayError>
     if actor.lines.len() > MAX_LINES {
         return Err(PlayError::Full);
     }
-    Ok(with_actor(alloc, scenario, actor)?)
+    Ok(with_one_actor(alloc, scenario, actor)?)
 }
 
 /// The same scenario with this one actor.
-fn with_actor(alloc: Global, scenario: Scenario, actor: Actor) -> Result<Scenario, NoMemory>
+fn with_one_actor(alloc: Global, scenario: Scenario, actor: Actor) -> Result<Scenario, NoMemory>
     ensures { IfOk result (λ other. other ≡ with_one_actor scenario actor) }
 {
     let mut scenario = scenario;

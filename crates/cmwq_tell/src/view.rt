@@ -48,14 +48,14 @@ fn change_of(next: u64, entry: (WorkId, Pending)) -> Change
     let (work, pending) = entry;
     let place = pending.place;
     if pending.born < next {
-        let pool = pool_of(place);
+        let pool = pool_of_place(place);
         return Change::Activated { work, pool };
     }
     Change::Placed { work, place }
 }
 
 /// The pool in which a work is placed.
-fn pool_of(place: Place) -> u8
+fn pool_of_place(place: Place) -> u8
     ensures { result ≡ pool_of_place place }
 {
     match place {

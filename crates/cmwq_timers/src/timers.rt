@@ -62,7 +62,7 @@ impl Timers {
         ensures put { self.new ≡ slice_set self.old timer.work.0 (Some timer) }
     {
         let Timers { timers, ranks } = self;
-        write(timers, ranks, usize::from(timer.work.0), Some(timer));
+        change(timers, ranks, usize::from(timer.work.0), Some(timer));
     }
 
     /// Takes a work's timer away, if it has one.
@@ -72,7 +72,7 @@ impl Timers {
     {
         let timer = self.get(work)?;
         let Timers { timers, ranks } = self;
-        write(timers, ranks, usize::from(work.0), None);
+        change(timers, ranks, usize::from(work.0), None);
         Some(timer)
     }
 
@@ -96,7 +96,7 @@ impl Timers {
             return None;
         }
         let Timers { timers, ranks } = self;
-        write(timers, ranks, usize::from(timer.work.0), None);
+        change(timers, ranks, usize::from(timer.work.0), None);
         Some(timer)
     }
 
@@ -119,7 +119,7 @@ fn filled<T: Copy>(alloc: Global, value: T, len: usize) -> Result<Vec<T>, NoMemo
 }
 
 /// Gives a work another timer, or none.
-fn write(timers: &mut [Option<Timer>], ranks: &mut [Rank], work: usize, timer: Option<Timer>)
+fn change(timers: &mut [Option<Timer>], ranks: &mut [Rank], work: usize, timer: Option<Timer>)
     requires kept { AreRanked timers.old ranks.old }
     requires work { work < length timers.old }
     requires own { IfSome timer (IsOwn work) }

@@ -54,12 +54,12 @@ pub(crate) fn words_of(alloc: Global, next: Next) -> Result<Vec<FirstWord>, NoMe
     ensures { IfOk result (λ words. map spelled words.items ≡ words_of_next next) }
 {
     let mut words = Vec::new(alloc);
-    push_words(&mut words, next)?;
+    push_first_words(&mut words, next)?;
     Ok(words)
 }
 
 /// Adds the words that such a line may begin with.
-fn push_words(words: &mut Vec<FirstWord>, next: Next) -> Result<(), NoMemory>
+fn push_first_words(words: &mut Vec<FirstWord>, next: Next) -> Result<(), NoMemory>
     ensures { OnOk result (map spelled words.new.items ≡ map spelled words.old.items ++ words_of_next next) }
 {
     match next {

@@ -44,11 +44,11 @@ pub(crate) fn push_offer(
         return Ok(());
     }
     let words = next_words(alloc, text, fault.line)?;
-    push_line(told, &words)
+    push_offered(told, &words)
 }
 
 /// Writes the line that offers these words.
-fn push_line(told: &mut Vec<u8>, words: &[FirstWord]) -> Result<(), NoMemory>
+fn push_offered(told: &mut Vec<u8>, words: &[FirstWord]) -> Result<(), NoMemory>
     ensures { OnOk result (told.new.items ≡ told.old.items ++ offer_line (map spelled words.now)) }
 {
     match words {
@@ -56,7 +56,7 @@ fn push_line(told: &mut Vec<u8>, words: &[FirstWord]) -> Result<(), NoMemory>
         [word, others @ ..] => {
             told.extend_from_slice(b"  a line here may begin with: ")?;
             told.extend_from_slice(word.as_bytes())?;
-            push_others(told, others)?;
+            push_other_words(told, others)?;
             told.push(b'\n')?;
         }
     }
@@ -64,7 +64,7 @@ fn push_line(told: &mut Vec<u8>, words: &[FirstWord]) -> Result<(), NoMemory>
 }
 
 /// Writes the words behind the first.
-fn push_others(told: &mut Vec<u8>, others: &[FirstWord]) -> Result<(), NoMemory>
+fn push_other_words(told: &mut Vec<u8>, others: &[FirstWord]) -> Result<(), NoMemory>
     ensures { OnOk result (told.new.items ≡ told.old.items ++ flat_map (λ other. codes ", " ++ other) (map spelled others.now)) }
 {
     for other in others {

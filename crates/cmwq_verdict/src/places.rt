@@ -36,7 +36,7 @@ pub enum Place<'t> {
 }
 
 /// Where the text's first fault, which is this one, is seen. It fails only for want of memory.
-pub(crate) fn place_of<'t>(
+pub(crate) fn place_of_fault<'t>(
     alloc: Global,
     text: &'t [u8],
     fault: TextFault,
@@ -172,11 +172,11 @@ fn has_fault(alloc: Global, text: &[u8], fault: TextFault) -> Result<bool, NoMem
         Err(AsmError::NoMemory) => return Err(NoMemory),
         Err(AsmError::At { line, why }) => TextFault { line, why },
     };
-    Ok(is_same(told, fault))
+    Ok(is_same_fault(told, fault))
 }
 
 /// Whether the two faults are one.
-fn is_same(fault: TextFault, other: TextFault) -> bool
+fn is_same_fault(fault: TextFault, other: TextFault) -> bool
     ensures { IsTrue result ↔ (fault_at fault.line fault.why ≡ fault_at other.line other.why) }
 {
     fault.line == other.line && is_same_reason(fault.why, other.why)

@@ -5,7 +5,7 @@ ghost use Rattle.std.specs.Prelude.{◌≡◌, ◌++◌, IfOk, OnOk, option_map}
 
 use crate::looks::{Look, front_of, push_pointer, push_why};
 use crate::offers::push_offer;
-use crate::places::{Place, TextFault, place_of};
+use crate::places::{Place, TextFault, place_of_fault};
 use cmwq_asm::{AsmError, assemble};
 use cmwq_types::NoMemory;
 use std::alloc::Global;
@@ -32,9 +32,9 @@ pub fn verdict(
         Ok(_) => Ok(None),
         Err(AsmError::At { line, why }) => {
             let fault = TextFault { line, why };
-            let place = place_of(alloc, text, fault)?;
-            let mut told = fault_line(alloc, look, file, fault, place)?;
-            push_pointer(&mut told, look, text, fault, column_of(place))?;
+            let place = place_of_fault(alloc, text, fault)?;
+            let mut told = fault_and_place(alloc, look, file, fault, place)?;
+            push_pointer(&mut told, look, text, fault, column_of_place(place))?;
             push_offer(alloc, &mut told, text, fault)?;
             Ok(Some(told))
         }
@@ -57,7 +57,7 @@ pub fn read_line(alloc: Global, file: &str) -> Result<Vec<u8>, NoMemory>
 }
 
 /// The line that tells a fault, and where it is seen.
-fn fault_line(
+fn fault_and_place(
     alloc: Global,
     look: Look,
     file: &str,
@@ -67,7 +67,7 @@ fn fault_line(
     ensures { IfOk result (λ told. told.items ≡ fault_line look file.now (fault_at fault.line fault.why) place.entry) }
 {
     let TextFault { line, why } = fault;
-    let column = column_of(place);
+    let column = column_of_place(place);
     let mut told = format!(in alloc; "{file}:{line}:{column}: ")?.into_bytes();
     push_subject(&mut told, place)?;
     told.extend_from_slice(b": ")?;
@@ -77,7 +77,7 @@ fn fault_line(
 }
 
 /// The column of the place.
-fn column_of(place: Place<'_>) -> usize
+fn column_of_place(place: Place<'_>) -> usize
     ensures { result ≡ column_of_place place.entry }
 {
     match place {

@@ -3,7 +3,7 @@ ghost use Rattle.cmwq_reasons.specs.Reasons.{causes, holders, pending_half, runn
 ghost use Rattle.cmwq_why.specs.Groups.{group_works};
 ghost use Rattle.std.specs.Prelude.{◌≡◌, [], ◌∷◌, IfOk, map};
 
-use crate::group::{Group, members};
+use crate::group::{Group, group_works};
 use cmwq_reasons::{Instance, Reason};
 use cmwq_table::Reads;
 use cmwq_types::{NoMemory, WorkId};
@@ -76,7 +76,7 @@ fn one(alloc: Global, instance: Instance) -> Result<Vec<Instance>, NoMemory>
 fn running<R: Reads>(alloc: Global, machine: &R, group: Group) -> Result<Vec<Instance>, NoMemory>
     ensures { IfOk result (λ instances. instances.items ≡ map running_half (group_works (R.loaded machine.now) (R.state machine.now) group)) }
 {
-    let works = members(alloc, machine, group)?;
+    let works = group_works(alloc, machine, group)?;
     Ok(
         works
             .iter()
@@ -89,7 +89,7 @@ fn running<R: Reads>(alloc: Global, machine: &R, group: Group) -> Result<Vec<Ins
 fn pending<R: Reads>(alloc: Global, machine: &R, group: Group) -> Result<Vec<Instance>, NoMemory>
     ensures { IfOk result (λ instances. instances.items ≡ map pending_half (group_works (R.loaded machine.now) (R.state machine.now) group)) }
 {
-    let works = members(alloc, machine, group)?;
+    let works = group_works(alloc, machine, group)?;
     Ok(
         works
             .iter()

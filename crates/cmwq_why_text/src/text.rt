@@ -11,7 +11,7 @@ use cmwq_reads::{active, is_spent, limit};
 use cmwq_reasons::{Instance, Reason, Turn};
 use cmwq_table::Reads;
 use cmwq_types::{NoMemory, WorkId};
-use cmwq_why::{Group, holders, members, on_workers, pending_reason, running_reason};
+use cmwq_why::{Group, group_works, holders, on_workers, pending_reason, running_reason};
 
 impl<R: Reads> Wording<'_, R> {
     /// Writes why the work isn't further: what runs of it and what pends of it, and whether the scenario's steps are spent.
@@ -91,17 +91,17 @@ impl<R: Reads> Wording<'_, R> {
     {
         match reason {
             Reason::Asleep(until) => push_number(text, "asleep until ", until),
-            Reason::WakesNext => push_words(text, "sleep is over, wakes next"),
+            Reason::WakesNext => push_text(text, "sleep is over, wakes next"),
             Reason::WakesAfter(x) => self.push_named(text, "sleep is over, after ", x),
             Reason::Behind(v) => self.push_named(text, "runnable, behind ", Instance::Running(v)),
-            Reason::ReadyNext => push_words(text, "ready, goes on next"),
+            Reason::ReadyNext => push_text(text, "ready, goes on next"),
             Reason::ReadyAfter(x) => self.push_named(text, "ready, after ", x),
             Reason::HighHas(v) => self.push_high(text, v),
-            Reason::Burns => push_words(text, "burns"),
+            Reason::Burns => push_text(text, "burns"),
             Reason::Disabled(depth) => push_number(text, "disabled ", u64::from(depth)),
-            Reason::NotPending => push_words(text, "not pending"),
+            Reason::NotPending => push_text(text, "not pending"),
             Reason::Timer { due, cpu } => push_timer(text, due, cpu),
-            Reason::FiresNext => push_words(text, "timer is due, fires next"),
+            Reason::FiresNext => push_text(text, "timer is due, fires next"),
             Reason::FiresAfter(v) => {
                 self.push_named(text, "timer is due, after ", Instance::Pending(v))
             }
@@ -133,7 +133,7 @@ impl<R: Reads> Wording<'_, R> {
         ensures { OnOk result (string_bytes text.new ≡ string_bytes text.old ++ listed_text (R.loaded self.now.machine.now) (R.state self.now.machine.now) w.0 pool) }
     {
         let work = w.0 as usize;
-        let before = members(self.alloc, self.machine, Group::ListedBefore { pool, work })?;
+        let before = group_works(self.alloc, self.machine, Group::ListedBefore { pool, work })?;
         write!(text, "listed {pool}")?;
         self.push_ahead(text, &before)?;
         text.push_str(": ")?;
@@ -145,7 +145,7 @@ impl<R: Reads> Wording<'_, R> {
         ensures { OnOk result (string_bytes text.new ≡ string_bytes text.old ++ inactive_text (R.loaded self.now.machine.now) (R.state self.now.machine.now) w.0 pool) }
     {
         let work = w.0 as usize;
-        let before = members(
+        let before = group_works(
             self.alloc,
             self.machine,
             Group::InactiveBefore { pool, work },
@@ -173,7 +173,7 @@ impl<R: Reads> Wording<'_, R> {
     fn push_held(&self, text: &mut String, w: WorkId, pool: u8) -> Result<(), NoMemory>
         ensures { OnOk result (string_bytes text.new ≡ string_bytes text.old ++ listed_text (R.loaded self.now.machine.now) (R.state self.now.machine.now) w.0 pool ++ codes "held by" ++ flat_map (spaced_name (R.loaded self.now.machine.now)) (counted_works (R.loaded self.now.machine.now) (R.state self.now.machine.now) pool)) }
     {
-        let counted = members(self.alloc, self.machine, Group::Counted(pool))?;
+        let counted = group_works(self.alloc, self.machine, Group::Counted(pool))?;
         self.push_listed(text, w, pool)?;
         text.push_str("held by")?;
         self.push_names(text, &counted)
@@ -196,7 +196,7 @@ impl<R: Reads> Wording<'_, R> {
 }
 
 /// Writes the words.
-fn push_words(text: &mut String, words: &str) -> Result<(), NoMemory>
+fn push_text(text: &mut String, words: &str) -> Result<(), NoMemory>
     ensures { OnOk result (string_bytes text.new ≡ string_bytes text.old ++ words.now) }
 {
     text.push_str(words)?;

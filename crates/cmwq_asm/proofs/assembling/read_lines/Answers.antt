@@ -36,5 +36,5 @@ returns-clause-stage c =
     sym c.loop-line.invariant.stage
     ∙ last_stage (c.loop-line.lines + 1) (lines_of c.loop-line.rest.now) (stage_of c.loop-line.stage) c.in_default.ensures.lines
 
-pub judge-requires : goal.judge-requires
-judge-requires c known = (c.in-Some.ensures.utf8 (c.loop-line.invariant.text known)).0
+pub judge_line-requires : goal.judge_line-requires
+judge_line-requires c known = (c.in-Some.ensures.utf8 (c.loop-line.invariant.text known)).0

@@ -17,7 +17,7 @@ returns-clause-ok g c =
     let S = c.args.scenario in
     let ending = c.in_ok-ending.ending in
     let acted = subst (λ (text : List ℕ). IsActed S c.args.capacity ending text) (sym c.deref.ensures.value) c.in_ok-ending.ensures in
-    subst (λ (r : Result (Unit {0}) PlayError). OnOk r (Left S (λ history. Interleaves (scripts_of S) history) (g.W.Write.contents c.args.writer.now) (g.W.Write.contents c.put_all.new.writer))) (sym c.told.ensures)
+    subst (λ (r : Result (Unit {0}) PlayError). OnOk r (Left S (λ history. Interleaves (scripts_of S) history) (g.W.Write.contents c.args.writer.now) (g.W.Write.contents c.put_all.new.writer))) (sym c.play_end.ensures)
     (ended_ok S c.args.capacity c.deref.result.now (g.W.Write.contents c.args.writer.now) (g.W.Write.contents c.put_all.new.writer) ending acted c.in_ok-put_all.ensures.ok)
 
 pub returns-clause-full : goal.returns-clause-full
@@ -25,11 +25,11 @@ returns-clause-full g c =
     let S = c.args.scenario in
     let ending = c.in_ok-ending.ending in
     let acted = subst (λ (text : List ℕ). IsActed S c.args.capacity ending text) (sym c.deref.ensures.value) c.in_ok-ending.ensures in
-    λ is. ended_full S c.args.capacity c.deref.result.now (g.W.Write.contents c.args.writer.now) (g.W.Write.contents c.put_all.new.writer) ending acted c.in_ok-put_all.ensures.ok (sym c.told.ensures ∙ is)
+    λ is. ended_full S c.args.capacity c.deref.result.now (g.W.Write.contents c.args.writer.now) (g.W.Write.contents c.put_all.new.writer) ending acted c.in_ok-put_all.ensures.ok (sym c.play_end.ensures ∙ is)
 
 pub returns-clause-tickets : goal.returns-clause-tickets
 returns-clause-tickets g c =
     let S = c.args.scenario in
     let ending = c.in_ok-ending.ending in
     let acted = subst (λ (text : List ℕ). IsActed S c.args.capacity ending text) (sym c.deref.ensures.value) c.in_ok-ending.ensures in
-    λ is. ended_tickets S c.args.capacity c.deref.result.now (g.W.Write.contents c.args.writer.now) (g.W.Write.contents c.put_all.new.writer) ending acted c.in_ok-put_all.ensures.ok (sym c.told.ensures ∙ is)
+    λ is. ended_tickets S c.args.capacity c.deref.result.now (g.W.Write.contents c.args.writer.now) (g.W.Write.contents c.put_all.new.writer) ending acted c.in_ok-put_all.ensures.ok (sym c.play_end.ensures ∙ is)

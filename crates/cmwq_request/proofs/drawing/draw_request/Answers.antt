@@ -10,7 +10,7 @@ pub returns-clause-words : goal.returns-clause-words
 returns-clause-words c asked is =
     let rows = rows_of (found_of c.args.given.now) in
     let (given, name, drawing_are, file_is, words_are) = drawn_met _ _ asked is in
-    let met : c.drawing_of.result ≡ Some given = c.drawing_of.ensures given drawing_are in
+    let met : c.drawing_asked.result ≡ Some given = c.drawing_asked.ensures given drawing_are in
     let drawing_is : c.in_ok-drawing.drawing ≡ given = search rules in
     c.on_file.ensures.words
     ∙ ap (λ (drawing : Drawing). option_map (task_words (Draw drawing)) (first_of (codes "FILE") rows)) drawing_is

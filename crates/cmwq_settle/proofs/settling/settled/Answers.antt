@@ -19,4 +19,4 @@ returns-clause-valid c =
     let first = first-is S.actors c.index.result.now counted.0 at counted.1.alone in
     let longer = c.in_ok-actor.actor in
     let few : length longer.lines ≤ MAX_LINES = search rules in
-    settled-so-valid S c.in_ok-with_actor.field-0 n longer counted (c.in_ok-actor.ensures ∙ ap (λ (actor : ActorContents). with_nexts n actor) first) few c.in_ok-with_actor.ensures c.requires.valid
+    settled-so-valid S c.in_ok-with_one_actor.field-0 n longer counted (c.in_ok-actor.ensures ∙ ap (λ (actor : ActorContents). with_nexts n actor) first) few c.in_ok-with_one_actor.ensures c.requires.valid

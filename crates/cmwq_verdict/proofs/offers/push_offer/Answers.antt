@@ -9,7 +9,7 @@ returns c =
     let found = c.in_ok-words.ensures in
     let told = c.args.told.now.items in
     let same = ap (map spelled) c.deref.ensures.value ∙ found.2 in
-    on_ok (c.push_line.new.told.items ≡ told ++ offer_line (map spelled c.deref.result.now)) _ c.push_line.result c.push_line.ensures
+    on_ok (c.push_offered.new.told.items ≡ told ++ offer_line (map spelled c.deref.result.now)) _ c.push_offered.result c.push_offered.ensures
     (λ written. (
       offer_line (words_of_next found.0),
       inr (c.if-fault-eq0.false, found.0, found.1, refl),

@@ -14,6 +14,6 @@ returns-in-Ok c = (λ is. apart is, λ faulty. absurd (no_fault c.args.text.now 
 pub returns : goal.returns
 returns c =
     let is : c.assemble.result ≡ Err (asm.At c.in-Err-At.line c.in-Err-At.why) = search rules in (
-      λ same. subst (λ (f : FaultAt). IsFault c.args.text.now f) (c.is_same.ensures.0 same) (c.assemble.ensures.told c.in-Err-At.line c.in-Err-At.why is),
-      λ faulty. c.is_same.ensures.1 (only_fault c.args.text.now c.assemble.result c.in-Err-At.line c.in-Err-At.why is c.assemble.ensures.fault _ faulty),
+      λ same. subst (λ (f : FaultAt). IsFault c.args.text.now f) (c.is_same_fault.ensures.0 same) (c.assemble.ensures.told c.in-Err-At.line c.in-Err-At.why is),
+      λ faulty. c.is_same_fault.ensures.1 (only_fault c.args.text.now c.assemble.result c.in-Err-At.line c.in-Err-At.why is c.assemble.ensures.fault _ faulty),
     )

@@ -3,7 +3,7 @@ use Rattle.std.specs.Fmt.{decimal}
 use Rattle.cmwq_flush_waits.specs.declared.needs.Needs.{Needs}
 use Rattle.cmwq_flush_waits.specs.Text.{needs_of, needs_text}
 use Rattle.cmwq_flush_waits.proofs.TextLemmas.{three_parts}
-use Rattle.cmwq_flush_waits.proofs.telling.push_head.Goals as goal
+use Rattle.cmwq_flush_waits.proofs.telling.push_count.Goals as goal
 
 pub returns : goal.returns
 returns g c =

@@ -1,6 +1,6 @@
 use Rattle.std.proofs.Common.{◌≡◌, take}
 use Rattle.cmwq_table.specs.Table.{run}
-use Rattle.cmwq_debug.proofs.moving.carry_out.Given as goal
+use Rattle.cmwq_debug.proofs.moving.carry_forward.Given as goal
 
 -- the instructions up to here were carried out
 abbrev pub invariant-loop-k : goal.invariant-loop-k

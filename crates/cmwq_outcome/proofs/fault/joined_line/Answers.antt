@@ -1,6 +1,6 @@
 use Rattle.std.proofs.Common.{[], ap, arith, length}
 use Rattle.std.proofs.lemmas.List.Folds.{length-flat_map-take}
-use Rattle.cmwq_outcome.proofs.fault.told.Goals as goal
+use Rattle.cmwq_outcome.proofs.fault.joined_line.Goals as goal
 
 pub push_str-requires : goal.push_str-requires
 push_str-requires c =

@@ -1,6 +1,6 @@
 use Rattle.std.proofs.Common.{rules, ◌≡◌, Some}
 use Rattle.cmwq_request.proofs.DrawLemmas.{drawing_met}
-use Rattle.cmwq_request.proofs.drawing.drawing_of.Goals as goal
+use Rattle.cmwq_request.proofs.drawing.drawing_asked.Goals as goal
 
 pub returns : goal.returns
 returns c given is =

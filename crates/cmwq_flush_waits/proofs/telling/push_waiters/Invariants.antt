@@ -1,6 +1,6 @@
 use Rattle.std.proofs.Common.{◌≡◌, ◌++◌, string_bytes, take}
 use Rattle.cmwq_flush_waits.specs.Text.{lines}
-use Rattle.cmwq_flush_waits.proofs.telling.push_lines.Given as goal
+use Rattle.cmwq_flush_waits.proofs.telling.push_waiters.Given as goal
 
 abbrev pub invariant-loop-instance : goal.invariant-loop-instance
 invariant-loop-instance g l =

@@ -1,7 +1,7 @@
 use Rattle.std.proofs.Common.{rules, sym, get_or, ◌≢◌, ◌∙◌}
 use Rattle.cmwq_request.proofs.WhyLemmas.{no_number_if_long, no_number_if_signed, parsed_number}
-use Rattle.cmwq_request.proofs.asking.number_of.Goals.{then-word-gt-MOST_DIGITS-via-then-word-gt-MOST_DIGITS, then-word-gt-MOST_DIGITS-via-else-word-gt-MOST_DIGITS+then-starts_with}
-use Rattle.cmwq_request.proofs.asking.number_of.Goals as goal
+use Rattle.cmwq_request.proofs.asking.plain_number.Goals.{then-word-gt-MOST_DIGITS-via-then-word-gt-MOST_DIGITS, then-word-gt-MOST_DIGITS-via-else-word-gt-MOST_DIGITS+then-starts_with}
+use Rattle.cmwq_request.proofs.asking.plain_number.Goals as goal
 
 pub returns-then-word-gt-MOST_DIGITS : goal.returns-then-word-gt-MOST_DIGITS
 returns-then-word-gt-MOST_DIGITS c =

@@ -1,6 +1,6 @@
 use Rattle.std.proofs.Common.{rules, ◌≡◌, Ok}
 use Rattle.cmwq_request.proofs.DrawLemmas.{time_read}
-use Rattle.cmwq_request.proofs.drawing.number_of.Goals as goal
+use Rattle.cmwq_request.proofs.drawing.drawing_number.Goals as goal
 
 pub returns : goal.returns
 returns c n is =

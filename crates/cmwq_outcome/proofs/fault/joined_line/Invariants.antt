@@ -1,6 +1,6 @@
 use Rattle.std.proofs.Common.{◌≡◌, take}
 use Rattle.std.specs.List.{flat_map}
-use Rattle.cmwq_outcome.proofs.fault.told.Given as goal
+use Rattle.cmwq_outcome.proofs.fault.joined_line.Given as goal
 
 -- the texts up to this one stand in the line
 abbrev pub invariant-loop-text : goal.invariant-loop-text

@@ -4,7 +4,7 @@ use Rattle.std.specs.Prelude.{IsTrue}
 use Rattle.cmwq_types.specs.Faults.{names_declared}
 use Rattle.cmwq_types.specs.declared.instr.Instr.{Instr}
 use Rattle.cmwq_interleaving.proofs.HistoryLemmas.{fronts_declared}
-use Rattle.cmwq_interleaving.proofs.playing.left.Goals as goal
+use Rattle.cmwq_interleaving.proofs.playing.text_left.Goals as goal
 
 pub played_text-requires-clause-declared : goal.played_text-requires-clause-declared
 played_text-requires-clause-declared c =

@@ -1,6 +1,6 @@
 use Rattle.std.proofs.Common.{◌<◌, length, arith, ◌∙◌}
 use Rattle.cmwq_debug.proofs.MovingLemmas.{reached}
-use Rattle.cmwq_debug.proofs.moving.carry_out.Goals as goal
+use Rattle.cmwq_debug.proofs.moving.carry_forward.Goals as goal
 
 pub loop-k-preserved : goal.loop-k-preserved
 loop-k-preserved g c =

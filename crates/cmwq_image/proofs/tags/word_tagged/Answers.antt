@@ -3,7 +3,7 @@ use Rattle.std.specs.Prelude.{slice_get}
 use Rattle.cmwq_types.specs.Mnemonics.{mnemonics}
 use Rattle.cmwq_types.specs.declared.mnemonic.Mnemonic.{Mnemonic}
 use Rattle.cmwq_image.proofs.TagLemmas.{by_place}
-use Rattle.cmwq_image.proofs.tags.numbered.Goals as goal
+use Rattle.cmwq_image.proofs.tags.word_tagged.Goals as goal
 
 pub returns : goal.returns
 returns c =

@@ -1,7 +1,7 @@
 use Rattle.std.proofs.Common.{sym, ap, ◌∙◌, take, drop, get_or, refl}
 use Rattle.std.proofs.lemmas.List.{take_rest}
 use Rattle.cmwq_image.proofs.NameLemmas.{name_read, named, unnamed}
-use Rattle.cmwq_image.proofs.fields.name_of.Goals as goal
+use Rattle.cmwq_image.proofs.fields.name_in_field.Goals as goal
 
 pub returns-then-not-are_zeros : goal.returns-then-not-are_zeros
 returns-then-not-are_zeros c =
