@@ -11,7 +11,7 @@ ghost use Rattle.cmwq_actors.specs.Interleaving.{scripts_of};
 
 use crate::ending::{Ending, any_exhausted, any_full};
 use crate::gate::Gate;
-use crate::part::Stage;
+use crate::part::ActorStage;
 use crate::threads::room_for;
 use cmwq_engine::{Engine, Shared};
 use cmwq_lock::Kept;
@@ -77,7 +77,7 @@ pub fn enact<'x, R: Threads + Wait + Clock + Sync, M: Machine + Send, G: Gate>(
     let (shared, opener) = Shared::begin(alloc, Arc::clone(scenario)?, capacity)?;
     let actors = scenario.actors.as_slice();
     let room = room_for(alloc, actors.len())?;
-    let stage = Stage {
+    let stage = ActorStage {
         rt,
         gate,
         shared,

@@ -21,7 +21,7 @@ use std::time::Clock;
 
 /// What all actors share.
 #[derive(Drop)]
-pub(crate) struct Stage<'a, R, M: Machine, G>
+pub(crate) struct ActorStage<'a, R, M: Machine, G>
 where
     Engine<M>: Kept,
 {
@@ -42,7 +42,7 @@ where
     pub(crate) ending: Option<Ending>,
 }
 
-impl<'a, R: Threads + Wait + Clock, M: Machine, G: Gate> Stage<'a, R, M, G> {
+impl<'a, R: Threads + Wait + Clock, M: Machine, G: Gate> ActorStage<'a, R, M, G> {
     /// An actor's part, once it may begin.
     pub(crate) fn play(&self, actor: u8, lines: &[Line], pass: Pass<Engine<M>>) -> Played<M>
         requires small { (setting_of self.now.shared).capacity ≤ MAX_HISTORY }

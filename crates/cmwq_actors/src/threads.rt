@@ -11,7 +11,7 @@ ghost use Rattle.cmwq_actors.specs.Playing.{EachHasPlayed, HasPlayed};
 
 use crate::ending::Ending;
 use crate::gate::Gate;
-use crate::part::{Played, Stage};
+use crate::part::{Played, ActorStage};
 use cmwq_engine::{Engine, Shared};
 use cmwq_lock::{Kept, Opener};
 use cmwq_table::Machine;
@@ -60,7 +60,7 @@ pub(crate) fn room_for<M: Machine>(alloc: Global, count: usize) -> Result<Room<M
     Ok((threads, endings))
 }
 
-impl<'a, R: Threads + Wait + Clock + Sync, M: Machine + Send, G: Gate> Stage<'a, R, M, G> {
+impl<'a, R: Threads + Wait + Clock + Sync, M: Machine + Send, G: Gate> ActorStage<'a, R, M, G> {
     /// Plays all actors at once, and takes their passes back. There are fewer endings than actors where a thread couldn't be
     /// started.
     pub(crate) fn perform<'e>(

@@ -43,7 +43,7 @@ pub fn assemble(alloc: Global, text: &[u8]) -> Result<Scenario, AsmError>
     read_text_spells_its_scenario();
     spelled_text_reads_as_its_scenario();
     reading_fails_at_the_first_fault();
-    read_scenario(alloc, text)
+    scenario_of_text(alloc, text)
 }
 
 /// Lists the valid scenario and assembles the listing: the scenario comes back. This stands on what `list` and
@@ -59,7 +59,7 @@ pub fn assemble_again(alloc: Global, scenario: &Scenario) -> Result<Scenario, As
 
 /// What reading the text gives.
 #[tactic(auto, unfolding(cmwq_grammar::specs::Meaning::reads, cmwq_grammar::specs::Meaning::reads_lines))]
-fn read_scenario(alloc: Global, text: &[u8]) -> Result<Scenario, AsmError>
+fn scenario_of_text(alloc: Global, text: &[u8]) -> Result<Scenario, AsmError>
     ensures { Assembles result (reads text.now) }
 {
     if text.len() > MAX_TEXT {

@@ -22,7 +22,7 @@ use std::time::Clock;
 
 /// What `main` knows of the program that runs.
 #[derive(Clone, Copy, Debug)]
-pub struct Setting<'a> {
+pub struct ProgramSetting<'a> {
     /// The logic that its proofs rest on, as `rt version` names it.
     pub logic: &'a str,
     /// How verdicts look on standard error.
@@ -34,7 +34,7 @@ pub struct Setting<'a> {
 /// help go to `output`, and other verdicts, which look as they are to, and usage faults to `errors`. A play may wait forever.
 pub fn carry_out<R, I: Read + Drop, O: Sink, E: Sink>(
     rt: &R,
-    setting: Setting<'_>,
+    setting: ProgramSetting<'_>,
     words: &[String],
     input: I,
     output: &mut O,
@@ -58,7 +58,7 @@ where
 /// says, what a play leaves, verdicts of good files and the version go to `output`, and other verdicts to `errors`.
 pub fn answer_request<R, I: Read + Drop, O: Sink, E: Sink>(
     rt: &R,
-    setting: Setting<'_>,
+    setting: ProgramSetting<'_>,
     input: I,
     output: &mut O,
     errors: &mut E,

@@ -4,5 +4,5 @@
 mod carrying;
 mod task;
 
-pub use carrying::{Setting, answer_request, carry_out};
+pub use carrying::{ProgramSetting, answer_request, carry_out};
 pub use task::do_task;

@@ -14,7 +14,7 @@ use std::marker::Model;
 
 /// The scenario that is told so far, with the names by their numbers.
 #[derive(Drop)]
-struct Parts<'t> {
+struct DraftParts<'t> {
     scenario: Scenario,
     queue_names: Names<'t>,
     work_names: Names<'t>,
@@ -26,7 +26,7 @@ struct Parts<'t> {
 /// The parts lie in a box, so that a draft is moved at small cost.
 #[derive(Drop)]
 pub struct Draft<'t> {
-    parts: Box<Parts<'t>>,
+    parts: Box<DraftParts<'t>>,
 }
 
 impl<'t> Model for Draft<'t> {
@@ -67,7 +67,7 @@ impl<'t> Draft<'t> {
             works: Vec::new(alloc),
             actors: Vec::new(alloc),
         };
-        let parts = Parts {
+        let parts = DraftParts {
             scenario,
             queue_names: Names::new(alloc),
             work_names: Names::new(alloc),

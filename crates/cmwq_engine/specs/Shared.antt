@@ -6,7 +6,7 @@ use Rattle.cmwq_lock.specs.declared.tokens.Opener.{Opener}
 use Rattle.cmwq_lock.specs.declared.tokens.Pass.{Pass}
 use Rattle.cmwq_lock.specs.declared.tokens.Drawn.{Drawn}
 use Rattle.cmwq_lock.specs.declared.views.Knowledge.{Knowledge}
-use Rattle.cmwq_lock.specs.declared.views.View.{View}
+use Rattle.cmwq_lock.specs.declared.views.SeatView.{SeatView}
 use Rattle.cmwq_lock.specs.Log.{BeginsWith, calls_of}
 use Rattle.cmwq_lock.specs.Tokens as Token
 use Rattle.cmwq_lock.specs.Views.{caller_of, seen_of, mine_of, tries_of, untried}
@@ -24,7 +24,7 @@ EngineLock = TicketLock Contents Setting Entry
 
 -- what a token of a shared engine knows
 abbrev pub EngineView : Type 0
-EngineView = View Setting Entry
+EngineView = SeatView Setting Entry
 
 -- the scenario and the capacity that it was opened with
 abbrev pub setting_of : EngineLock → Setting

@@ -13,7 +13,7 @@ ghost use Rattle.cmwq_engine.specs.Shared.{HasEntered, HasFoundFull, HasHadTurn,
 use crate::engine::Engine;
 use crate::history::Full;
 use crate::kept::Receipt;
-use cmwq_lock::{Drawn, Kept, NotDrawn, NotYet, Opener, Pass, TicketLock, TooMany, Why};
+use cmwq_lock::{Drawn, Kept, NotDrawn, NotYet, Opener, Pass, TicketLock, TooMany, NotDrawnWhy};
 use cmwq_table::{LoadError, Machine};
 use cmwq_types::{Instr, NoMemory, Scenario};
 use std::alloc::Global;
@@ -21,7 +21,7 @@ use std::marker::Model;
 use std::sync::{Arc, Wait};
 use thiserror::Error;
 
-/// Why an instruction was not issued.
+/// NotDrawnWhy an instruction was not issued.
 #[derive(Clone, Copy, Debug, PartialEq, Eq, Error)]
 pub enum IssueError {
     /// The history has no room for one more entry.
@@ -241,13 +241,13 @@ impl<M: Machine> Shared<M> {
                 Err(
                     NotDrawn {
                         pass: back,
-                        why: Why::Exhausted,
+                        why: NotDrawnWhy::Exhausted,
                     },
                 ) => return (back, Err(IssueError::Exhausted)),
                 Err(
                     NotDrawn {
                         pass: back,
-                        why: Why::Raced {
+                        why: NotDrawnWhy::Raced {
                             loaded: _,
                             found: _,
                         },

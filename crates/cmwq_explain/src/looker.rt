@@ -9,7 +9,7 @@ ghost use Rattle.cmwq_streams.specs.Sending.{IsSendError};
 ghost use Rattle.cmwq_types.specs.Scenario.{expand_lines};
 ghost use Rattle.std.specs.Prelude.{◌≡◌, [], IfErr, IfOk, OnOk};
 
-use crate::said::Said;
+use crate::said::LastSaid;
 use crate::sayer::Sayer;
 use cmwq_play::{Session, Teller};
 use cmwq_reads::is_settled;
@@ -28,7 +28,7 @@ pub(crate) struct Looker<'s, P> {
     /// How many instructions have been carried out.
     pub(crate) position: u64,
     /// What was said where it was last looked.
-    pub(crate) said: Said,
+    pub(crate) said: LastSaid,
     /// Whether anything has been told.
     pub(crate) has_told: bool,
 }
@@ -97,18 +97,18 @@ impl<P: Sayer> Looker<'_, P> {
         ensures saying { OnOk result (self.new ≡ saying self.old (M.state session.old.machine) (words said)) }
     {
         let Some(text) = said else {
-            self.said = Said(None);
+            self.said = LastSaid(None);
             return Ok(());
         };
         if !self.said.is_new(&text) {
-            self.said = Said(Some(text));
+            self.said = LastSaid(Some(text));
             return Ok(());
         }
         let position = self.position;
         let now = session.machine.now();
         write!(session.lines, "at {position} now {now} {text}")?;
         self.has_told = true;
-        self.said = Said(Some(text));
+        self.said = LastSaid(Some(text));
         Ok(())
     }
 

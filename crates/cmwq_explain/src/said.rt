@@ -4,9 +4,9 @@ use std::marker::Model;
 
 /// What was said where it was last looked, if it was something.
 #[derive(Drop)]
-pub(crate) struct Said(pub(crate) Option<String>);
+pub(crate) struct LastSaid(pub(crate) Option<String>);
 
-impl Model for Said {
+impl Model for LastSaid {
     ghost use Rattle.cmwq_explain.specs.Changes.{words};
     ghost use Rattle.std.specs.Prelude.{List, Option, ℕ};
 
@@ -15,7 +15,7 @@ impl Model for Said {
     ghost view = { λ said. words said.0 };
 }
 
-impl Said {
+impl LastSaid {
     ghost use Rattle.cmwq_explain.specs.Changes.{is_new};
     ghost use Rattle.std.specs.Prelude.{◌≡◌};
 

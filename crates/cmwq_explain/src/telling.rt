@@ -11,7 +11,7 @@ ghost use Rattle.cmwq_types.specs.declared.limits.TheConstants.{MAX_HISTORY};
 ghost use Rattle.std.specs.Prelude.{◌≡◌, ◌≤◌, ◌↔◌, IfErr, IfOk, IsTrue, false, length};
 
 use crate::looker::Looker;
-use crate::said::Said;
+use crate::said::LastSaid;
 use crate::sayer::Sayer;
 use cmwq_play::Session;
 use cmwq_runs::room_behind;
@@ -50,7 +50,7 @@ pub(crate) fn tell_changes<M: Machine, P: Sayer, W: Sink>(
         looks,
         sayer,
         position: 0,
-        said: Said(None),
+        said: LastSaid(None),
         has_told: false,
     };
     tell_lines(

@@ -22,24 +22,24 @@ use Rattle.cmwq_types.specs.declared.mnemonic.Mnemonic.TheVariants as mnemonic
 use Rattle.cmwq_image.specs.declared.error.ImageError.TheVariants as errors
 use Rattle.cmwq_image.specs.declared.tags.OpTag.{OpTag}
 use Rattle.cmwq_image.specs.declared.tags.OpTag.TheVariants as op_tag
-use Rattle.cmwq_image.specs.declared.word.Room.{Room}
+use Rattle.cmwq_image.specs.declared.word.FieldRoom.{FieldRoom}
 use Rattle.cmwq_image.specs.declared.word.Word.{Word}
 use Rattle.cmwq_image.proofs.Codec.{Codec, Meaning, of_field, bad_field, nothing, one_then}
 use Rattle.cmwq_image.proofs.FieldCodecs.{InRange, numbers, wide8, wide16, wide32}
 
 -- a word's fields have room
-pub record Within (room : Room) (cpu a n : ℕ) : Type 0 where
+pub record Within (room : FieldRoom) (cpu a n : ℕ) : Type 0 where
   pub cpu_fits : cpu ≤ room.cpu
   pub a_fits : a ≤ room.a
   pub n_fits : n ≤ room.n
 
-pub record IsRoom (room : Room) : Type 0 where
+pub record IsRoom (room : FieldRoom) : Type 0 where
   pub cpu_fits : room.cpu < 256
   pub a_fits : room.a < 65536
   pub n_fits : room.n < 4294967296
 
 -- What a kind of words is: its tags, the room behind each, and the values that they stand for.
-pub record WordLaws {T B : Type 0} (code : T → ℕ) (tag_of : ℕ → Option T) (room : T → Room) (made : T → (cpu a n : ℕ) → B) (tag : B → T) (as_word : B → Word) (Fits : B → Type 0) : Type 0 where
+pub record WordLaws {T B : Type 0} (code : T → ℕ) (tag_of : ℕ → Option T) (room : T → FieldRoom) (made : T → (cpu a n : ℕ) → B) (tag : B → T) (as_word : B → Word) (Fits : B → Type 0) : Type 0 where
   pub small : (t : T) → code t < 256
   pub known : (n : ℕ) (t : T) → tag_of n ≡ Some t → n ≡ code t
   pub some : T
@@ -57,7 +57,7 @@ pub record WordLaws {T B : Type 0} (code : T → ℕ) (tag_of : ℕ → Option T
 abbrev IsFound : {T : Type 0} (code : T → ℕ) (tag_of : ℕ → Option T) → T → Type 0
 IsFound code tag_of t = tag_of (code t) ≡ Some t
 
-tag_meaning : {T B : Type 0} (code : T → ℕ) (tag_of : ℕ → Option T) (room : T → Room) (made : T → (cpu a n : ℕ) → B) (tag : B → T) (as_word : B → Word) (Fits : B → Type 0)
+tag_meaning : {T B : Type 0} (code : T → ℕ) (tag_of : ℕ → Option T) (room : T → FieldRoom) (made : T → (cpu a n : ℕ) → B) (tag : B → T) (as_word : B → Word) (Fits : B → Type 0)
     → WordLaws code tag_of room made tag as_word Fits → Meaning 1 (λ bytes. tag_of (from_be_bytes w8 bytes)) (λ t. number w8 (code t)) (IsFound code tag_of)
 tag_meaning {T} code tag_of room made tag as_word Fits laws = record {
   small = omega arith;
@@ -72,10 +72,10 @@ tag_meaning {T} code tag_of room made tag as_word Fits laws = record {
 
 -- Behind a tag: the word's value has this tag, and these fields, and what is still to come has room.
 
-abbrev Tagged : {T B : Type 0} (room : T → Room) (tag : B → T) (as_word : B → Word) → T → B → Type 0
+abbrev Tagged : {T B : Type 0} (room : T → FieldRoom) (tag : B → T) (as_word : B → Word) → T → B → Type 0
 Tagged room tag as_word t x = (tag x ≡ t) × Within (room t) (as_word x).cpu (as_word x).a (as_word x).n
 
-words_n : {T B : Type 0} (code : T → ℕ) (tag_of : ℕ → Option T) (room : T → Room) (made : T → (cpu a n : ℕ) → B) (tag : B → T) (as_word : B → Word) (Fits : B → Type 0)
+words_n : {T B : Type 0} (code : T → ℕ) (tag_of : ℕ → Option T) (room : T → FieldRoom) (made : T → (cpu a n : ℕ) → B) (tag : B → T) (as_word : B → Word) (Fits : B → Type 0)
     → WordLaws code tag_of room made tag as_word Fits → (t : T) (cpu a : ℕ) → cpu ≤ (room t).cpu → a ≤ (room t).a
     → Codec (read_number w32 0 (room t).n >>= λ n. done (made t cpu a n)) (λ x. in_order (number w32 (as_word x).n ∷ []))
     (λ x. Tagged room tag as_word t x × ((as_word x).cpu ≡ cpu) × ((as_word x).a ≡ a))
@@ -103,7 +103,7 @@ words_n {T} {B} code tag_of room made tag as_word Fits laws t cpu a cpu_fits a_f
       written = λ x h. refl;
     })
 
-words_a : {T B : Type 0} (code : T → ℕ) (tag_of : ℕ → Option T) (room : T → Room) (made : T → (cpu a n : ℕ) → B) (tag : B → T) (as_word : B → Word) (Fits : B → Type 0)
+words_a : {T B : Type 0} (code : T → ℕ) (tag_of : ℕ → Option T) (room : T → FieldRoom) (made : T → (cpu a n : ℕ) → B) (tag : B → T) (as_word : B → Word) (Fits : B → Type 0)
     → WordLaws code tag_of room made tag as_word Fits → (t : T) (cpu : ℕ) → cpu ≤ (room t).cpu
     → Codec (read_number w16 0 (room t).a >>= λ a. read_number w32 0 (room t).n >>= λ n. done (made t cpu a n)) (λ x. in_order (number w16 (as_word x).a ∷ number w32 (as_word x).n ∷ []))
     (λ x. Tagged room tag as_word t x × ((as_word x).cpu ≡ cpu))
@@ -120,7 +120,7 @@ words_a {T} {B} code tag_of room made tag as_word Fits laws t cpu cpu_fits =
       written = λ x h. refl;
     })
 
-words_cpu : {T B : Type 0} (code : T → ℕ) (tag_of : ℕ → Option T) (room : T → Room) (made : T → (cpu a n : ℕ) → B) (tag : B → T) (as_word : B → Word) (Fits : B → Type 0)
+words_cpu : {T B : Type 0} (code : T → ℕ) (tag_of : ℕ → Option T) (room : T → FieldRoom) (made : T → (cpu a n : ℕ) → B) (tag : B → T) (as_word : B → Word) (Fits : B → Type 0)
     → WordLaws code tag_of room made tag as_word Fits → (t : T)
     → Codec (read_number w8 0 (room t).cpu >>= λ cpu. read_number w16 0 (room t).a >>= λ a. read_number w32 0 (room t).n >>= λ n. done (made t cpu a n))
     (λ x. in_order (number w8 (as_word x).cpu ∷ number w16 (as_word x).a ∷ number w32 (as_word x).n ∷ [])) (Tagged room tag as_word t)
@@ -137,7 +137,7 @@ words_cpu {T} {B} code tag_of room made tag as_word Fits laws t =
       written = λ x h. refl;
     })
 
-words : {T B : Type 0} (code : T → ℕ) (tag_of : ℕ → Option T) (room : T → Room) (made : T → (cpu a n : ℕ) → B) (tag : B → T) (as_word : B → Word) (Fits : B → Type 0)
+words : {T B : Type 0} (code : T → ℕ) (tag_of : ℕ → Option T) (room : T → FieldRoom) (made : T → (cpu a n : ℕ) → B) (tag : B → T) (as_word : B → Word) (Fits : B → Type 0)
     → WordLaws code tag_of room made tag as_word Fits
     → Codec (field errors.BadField 1 (λ bytes. tag_of (from_be_bytes w8 bytes)) >>= λ t. read_number w8 0 (room t).cpu >>= λ cpu. read_number w16 0 (room t).a >>= λ a. read_number w32 0 (room t).n >>= λ n. done (made t cpu a n))
     (λ x. word_image (as_word x)) Fits

@@ -25,7 +25,7 @@ use Rattle.cmwq_image.specs.declared.head.Head.{Head}
 use Rattle.cmwq_image.specs.declared.tags.OpTag.{OpTag}
 use Rattle.cmwq_image.specs.declared.tags.OpTag.TheVariants as op_tag
 use Rattle.cmwq_image.specs.declared.version.TheConstants.{FIRST_VERSION, VERSION}
-use Rattle.cmwq_image.specs.declared.word.Room.{Room}
+use Rattle.cmwq_image.specs.declared.word.FieldRoom.{FieldRoom}
 
 -- an offset, and the bytes from there on
 pub record Place : Type 0 where
@@ -127,7 +127,7 @@ read_queue version = do
 -- Words.
 
 -- behind a tag: the greatest value that each field can have, 0 where the tag doesn't use it
-abbrev pub room : (cpu a n : ℕ) → Room
+abbrev pub room : (cpu a n : ℕ) → FieldRoom
 room cpu a n = record { cpu = cpu; a = a; n = n }
 
 abbrev pub op_tag_of : ℕ → Option OpTag
@@ -138,7 +138,7 @@ op_tag_of n =
     else (if n == 4 then Some op_tag.Finish
     else None)))
 
-abbrev pub op_room : OpTag → Room
+abbrev pub op_room : OpTag → FieldRoom
 op_room op_tag.Burn = room 0 0 4294967295
 op_room op_tag.Sleep = room 0 0 4294967295
 op_room op_tag.Queue = room 255 65535 0
@@ -172,7 +172,7 @@ abbrev pub tagged : (version n : ℕ) → Option Mnemonic
 tagged version n = if nat_le n (last_tag version) then first_tagged mnemonics n else None
 
 -- behind a word of this shape; a queue's number has one byte in a scenario
-abbrev pub shape_room : Shape → Room
+abbrev pub shape_room : Shape → FieldRoom
 shape_room shape.Alone = room 0 0 0
 shape_room shape.Work = room 0 65535 0
 shape_room shape.WorkCpu = room 255 65535 0
@@ -182,7 +182,7 @@ shape_room shape.QueueNumber = room 0 255 4294967295
 shape_room shape.Pool = room 255 0 0
 shape_room shape.Flush = room 0 65535 0
 
-abbrev pub instr_room : Mnemonic → Room
+abbrev pub instr_room : Mnemonic → FieldRoom
 instr_room mnemonic = shape_room (shape_of mnemonic)
 
 abbrev pub read_instr_tag : ℕ → Reader Mnemonic

@@ -13,12 +13,12 @@ use std::marker::Model;
 
 /// What is left of the bytes of an image.
 #[derive(Drop)]
-pub(crate) struct Fields<'a> {
+pub(crate) struct FieldsLeft<'a> {
     at: u32,
     rest: &'a [u8],
 }
 
-impl<'a> Model for Fields<'a> {
+impl<'a> Model for FieldsLeft<'a> {
     ghost use Rattle.cmwq_image.specs.ImageFault.{Place};
 
     ghost Value = { Place };
@@ -26,14 +26,14 @@ impl<'a> Model for Fields<'a> {
     ghost view = { λ fields. record { at = fields.at; rest = fields.rest.now } };
 }
 
-impl<'a> Fields<'a> {
+impl<'a> FieldsLeft<'a> {
     /// The fields behind the magic bytes.
-    pub(crate) fn behind_magic(bytes: &'a [u8]) -> Result<Fields<'a>, ImageError>
+    pub(crate) fn behind_magic(bytes: &'a [u8]) -> Result<FieldsLeft<'a>, ImageError>
         ensures read { GivesRead (λ fields. fields) result (behind_magic bytes.now) }
         ensures at { IfOk result (λ fields. fields.at ≡ 4) }
     {
         match bytes.strip_prefix(b"CMWQ") {
-            Some(rest) => Ok(Fields { at: 4, rest }),
+            Some(rest) => Ok(FieldsLeft { at: 4, rest }),
             None => Err(ImageError::Magic),
         }
     }

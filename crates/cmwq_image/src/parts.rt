@@ -5,7 +5,7 @@ ghost use Rattle.cmwq_types.specs.declared.limits.TheConstants.{MAX_ACTORS, MAX_
 ghost use Rattle.std.specs.Prelude.{◌≡◌, ◌+◌, ◌*◌, ◌≤◌, ◌<◌, IfOk, OnOk};
 
 use crate::error::ImageError;
-use crate::fields::Fields;
+use crate::fields::FieldsLeft;
 use crate::head::Head;
 use crate::tags::instr_room;
 use crate::version::SECOND_VERSION;
@@ -15,7 +15,7 @@ use cmwq_types::{
 };
 use std::alloc::Global;
 
-impl<'a> Fields<'a> {
+impl<'a> FieldsLeft<'a> {
     /// What stands behind the version, up to the queues.
     #[tactic(auto, unfolding(crate::specs::ImageFault::read_head))]
     pub(crate) fn head(&mut self) -> Result<Head, ImageError>

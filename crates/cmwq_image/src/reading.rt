@@ -8,7 +8,7 @@ ghost use Rattle.cmwq_types.specs.Faults.{IsValid};
 ghost use Rattle.std.specs.Prelude.{◌≡◌, IfErr, IfOk, Ok};
 
 use crate::error::ImageError;
-use crate::fields::Fields;
+use crate::fields::FieldsLeft;
 use cmwq_types::Scenario;
 use std::alloc::Global;
 
@@ -34,7 +34,7 @@ pub fn read(alloc: Global, bytes: &[u8]) -> Result<Scenario, ImageError>
 fn read_all(alloc: Global, bytes: &[u8]) -> Result<Scenario, ImageError>
     ensures { GivesRead (λ scenario. scenario) result (reading bytes.now) }
 {
-    let mut fields = Fields::behind_magic(bytes)?;
+    let mut fields = FieldsLeft::behind_magic(bytes)?;
     let scenario = read_scenario(alloc, &mut fields)?;
     if !fields.is_empty() {
         return Err(ImageError::Extra);
@@ -46,7 +46,7 @@ fn read_all(alloc: Global, bytes: &[u8]) -> Result<Scenario, ImageError>
 }
 
 #[tactic(auto, unfolding(crate::specs::ImageFault::scenario_at))]
-fn read_scenario(alloc: Global, fields: &mut Fields) -> Result<Scenario, ImageError>
+fn read_scenario(alloc: Global, fields: &mut FieldsLeft) -> Result<Scenario, ImageError>
     requires { fields.old.at ≡ 4 }
     ensures { GivesRead (λ scenario. (scenario, fields.new)) result (scenario_at fields.old) }
 {

@@ -5,7 +5,7 @@ ghost use Rattle.cmwq_types.specs.Mnemonics.{mnemonics};
 ghost use Rattle.std.specs.Prelude.{◌≡◌, slice_get};
 
 use crate::version::{FIRST_VERSION, SECOND_VERSION};
-use crate::word::Room;
+use crate::word::FieldRoom;
 use cmwq_types::{Mnemonic, Op, Shape, WorkId, shape_of};
 
 /// The tag of an operation.
@@ -32,13 +32,13 @@ impl OpTag {
     }
 
     /// The greatest values of the fields behind the tag.
-    pub(crate) fn room(self) -> Room
+    pub(crate) fn room(self) -> FieldRoom
         ensures { result ≡ op_room self }
     {
         match self {
-            OpTag::Burn | OpTag::Sleep => Room::new(0, 0, u32::MAX),
-            OpTag::Queue => Room::new(u8::MAX, u16::MAX, 0),
-            OpTag::Finish => Room::new(0, 0, 0),
+            OpTag::Burn | OpTag::Sleep => FieldRoom::new(0, 0, u32::MAX),
+            OpTag::Queue => FieldRoom::new(u8::MAX, u16::MAX, 0),
+            OpTag::Finish => FieldRoom::new(0, 0, 0),
         }
     }
 
@@ -94,17 +94,17 @@ fn word_at(words: &[Mnemonic], place: u8) -> Option<Mnemonic>
 }
 
 /// The greatest values of the fields behind the word. A queue's number has one byte.
-pub(crate) fn instr_room(mnemonic: Mnemonic) -> Room
+pub(crate) fn instr_room(mnemonic: Mnemonic) -> FieldRoom
     ensures { result ≡ instr_room mnemonic }
 {
     match shape_of(mnemonic) {
-        Shape::Alone => Room::new(0, 0, 0),
-        Shape::Work | Shape::Flush => Room::new(0, u16::MAX, 0),
-        Shape::WorkCpu => Room::new(u8::MAX, u16::MAX, 0),
-        Shape::WorkCpuTicks => Room::new(u8::MAX, u16::MAX, u32::MAX),
-        Shape::Queue => Room::new(0, 255, 0),
-        Shape::QueueNumber => Room::new(0, 255, u32::MAX),
-        Shape::Pool => Room::new(u8::MAX, 0, 0),
+        Shape::Alone => FieldRoom::new(0, 0, 0),
+        Shape::Work | Shape::Flush => FieldRoom::new(0, u16::MAX, 0),
+        Shape::WorkCpu => FieldRoom::new(u8::MAX, u16::MAX, 0),
+        Shape::WorkCpuTicks => FieldRoom::new(u8::MAX, u16::MAX, u32::MAX),
+        Shape::Queue => FieldRoom::new(0, 255, 0),
+        Shape::QueueNumber => FieldRoom::new(0, 255, u32::MAX),
+        Shape::Pool => FieldRoom::new(u8::MAX, 0, 0),
     }
 }
 

@@ -22,16 +22,16 @@ impl Word {
 
 /// The greatest value that each field of a word can have behind its tag: 0 where the tag doesn't use it.
 #[derive(Clone, Copy, Debug)]
-pub(crate) struct Room {
+pub(crate) struct FieldRoom {
     pub(crate) cpu: u8,
     pub(crate) a: u16,
     pub(crate) n: u32,
 }
 
-impl Room {
-    pub(crate) fn new(cpu: u8, a: u16, n: u32) -> Room
+impl FieldRoom {
+    pub(crate) fn new(cpu: u8, a: u16, n: u32) -> FieldRoom
         ensures { result ≡ room cpu a n }
     {
-        Room { cpu, a, n }
+        FieldRoom { cpu, a, n }
     }
 }

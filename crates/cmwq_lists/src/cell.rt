@@ -8,7 +8,7 @@ use cmwq_types::WorkId;
 /// A node of a list, with the list's number and its neighbours' keys. The order is stored as two words,
 /// which is four times as quick as one number of 128 bits.
 #[derive(Clone, Copy)]
-pub(crate) struct Cell {
+pub(crate) struct ListCell {
     pub(crate) high: u64,
     pub(crate) low: u64,
     pub(crate) work: WorkId,
@@ -25,13 +25,13 @@ pub(crate) struct Ends {
     pub(crate) len: usize,
 }
 
-impl Cell {
+impl ListCell {
     /// A node between these neighbours.
-    pub(crate) fn new(node: Node, list: usize, prev: Option<usize>, next: Option<usize>) -> Cell
+    pub(crate) fn new(node: Node, list: usize, prev: Option<usize>, next: Option<usize>) -> ListCell
         ensures { result ≡ cell_of list prev node next }
     {
         let (high, low) = halves(node.order);
-        Cell {
+        ListCell {
             high,
             low,
             work: node.work,

@@ -4,12 +4,12 @@ ghost use Rattle.cmwq_lists.specs.Contents.{Entry};
 ghost use Rattle.slab.specs.Slab.{ContainsKey, get, HasRoomFor, slab_len};
 ghost use Rattle.std.specs.Prelude.{◌≡◌, ◌≢◌, ◌⊎◌, ℕ, ◌+◌, ◌<◌, ◌^◌, List, ◌∷◌, ◌++◌, IfSome, IsSome, None, Some};
 
-use crate::cell::{Cell, Ends};
+use crate::cell::{ListCell, Ends};
 use crate::node::Node;
 use slab::Slab;
 
 /// Has the node under a key, or the front of the list, lead on to another.
-fn set_next(cells: &mut Slab<Cell>, ends: &mut Ends, at: Option<usize>, to: Option<usize>)
+fn set_next(cells: &mut Slab<ListCell>, ends: &mut Ends, at: Option<usize>, to: Option<usize>)
     requires held { IfSome at (λ key. ContainsKey cells.old key) }
     ensures cells { Changes (with_next to) (get cells.old) (get cells.new) at }
     ensures ends { ends.new ≡ front_moved ends.old at to }
@@ -23,7 +23,7 @@ fn set_next(cells: &mut Slab<Cell>, ends: &mut Ends, at: Option<usize>, to: Opti
 }
 
 /// Has the node under a key, or the back of the list, lead back to another.
-fn set_prev(cells: &mut Slab<Cell>, ends: &mut Ends, at: Option<usize>, to: Option<usize>)
+fn set_prev(cells: &mut Slab<ListCell>, ends: &mut Ends, at: Option<usize>, to: Option<usize>)
     requires held { IfSome at (λ key. ContainsKey cells.old key) }
     ensures cells { Changes (with_prev to) (get cells.old) (get cells.new) at }
     ensures ends { ends.new ≡ back_moved ends.old at to }
@@ -37,7 +37,7 @@ fn set_prev(cells: &mut Slab<Cell>, ends: &mut Ends, at: Option<usize>, to: Opti
 }
 
 /// The key behind this one, or the first of the list.
-fn key_behind(cells: &Slab<Cell>, ends: &Ends, at: Option<usize>) -> Option<usize>
+fn key_behind(cells: &Slab<ListCell>, ends: &Ends, at: Option<usize>) -> Option<usize>
     requires held { IfSome at (λ key. ContainsKey cells.now key) }
     ensures { IsNext (get cells.now) ends.now at result }
 {
@@ -49,7 +49,7 @@ fn key_behind(cells: &Slab<Cell>, ends: &Ends, at: Option<usize>) -> Option<usiz
 
 /// Links a node in after the one under a key, or at the front, and gives the new node's key.
 pub(crate) fn link(
-    cells: &mut Slab<Cell>,
+    cells: &mut Slab<ListCell>,
     ends: &mut Ends,
     list: usize,
     after: Option<usize>,
@@ -66,7 +66,7 @@ pub(crate) fn link(
     ensures capacity { cells.new.capacity ≡ cells.old.capacity }
 {
     let next = key_behind(cells, ends, after);
-    let key = cells.insert_reserved(Cell::new(node, list, after, next));
+    let key = cells.insert_reserved(ListCell::new(node, list, after, next));
     set_next(cells, ends, after, Some(key));
     set_prev(cells, ends, next, Some(key));
     ends.len += 1;
@@ -74,7 +74,7 @@ pub(crate) fn link(
 }
 
 /// Takes the node under a key out of its list.
-pub(crate) fn take_out(cells: &mut Slab<Cell>, ends: &mut Ends, key: usize) -> Node
+pub(crate) fn take_out(cells: &mut Slab<ListCell>, ends: &mut Ends, key: usize) -> Node
     requires at { (list : ℕ) × (before : List Entry) × (e : Entry) × (behind : List Entry) × IsChain (get cells.old) list ends.old (before ++ e ∷ behind) × (e.key ≡ key) }
     ensures taken { (list : ℕ) (before : List Entry) (e : Entry) (behind : List Entry) → IsChain (get cells.old) list ends.old (before ++ e ∷ behind) → e.key ≡ key → IsTakenOut (get cells.old) (get cells.new) list ends.new before e behind result }
     ensures no_more { (other : ℕ) → IsSome (get cells.new other) → (other ≢ key) × IsSome (get cells.old other) }

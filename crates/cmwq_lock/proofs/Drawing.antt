@@ -12,8 +12,8 @@ use Rattle.cmwq_lock.specs.declared.views.Tries.{Tries}
 use Rattle.cmwq_lock.specs.declared.views.Held.{Held}
 use Rattle.cmwq_lock.specs.declared.views.Phase.{Phase}
 use Rattle.cmwq_lock.specs.declared.views.Phase.TheVariants.{Out, Waiting, Inside}
-use Rattle.cmwq_lock.specs.declared.views.View.{View}
-use Rattle.cmwq_lock.specs.declared.views.View.TheVariants.{Pass}
+use Rattle.cmwq_lock.specs.declared.views.SeatView.{SeatView}
+use Rattle.cmwq_lock.specs.declared.views.SeatView.TheVariants.{Pass}
 use Rattle.cmwq_lock.specs.Views.{is_out, loaded_of, loaded, lost, waiting, just_drawn}
 use Rattle.cmwq_lock.specs.Rule.{Standing, Homes, HasHolder, IsRuled}
 use Rattle.cmwq_lock.specs.Steps.{load_drawn, exchange_drawn}
@@ -24,20 +24,20 @@ use Rattle.cmwq_lock.proofs.Logs.{all_seen}
 
 module _ {T O E : Type 0} (K : Ghosts T O E) (o : O) where
   -- a pass that tries holds no ticket
-  tried_on : (s : State (Option (Held T)) (View O E)) (r : IsRuled K o s) (id : ℕ) (who : Identity O E) (t tried : Tries) → get_elem? s.views id ≡ some (Pass who (Out t)) → (ticket : ℕ) → r.at.served ≤ ticket → ticket < r.at.drawn
+  tried_on : (s : State (Option (Held T)) (SeatView O E)) (r : IsRuled K o s) (id : ℕ) (who : Identity O E) (t tried : Tries) → get_elem? s.views id ≡ some (Pass who (Out t)) → (ticket : ℕ) → r.at.served ≤ ticket → ticket < r.at.drawn
       → HasHolder K o r.at (set s.views id (Pass who (Out tried))) ticket
   tried_on s r id who t tried here ticket least below = holder_stays K o r.at r.at s.views id (Pass who (Out t)) (Pass who (Out tried)) ticket refl here (λ has is. cc) (r.each_ticket ticket least below)
 
   -- the ticket drawn is held by the seat that draws it, and all others as before
-  drawn_on : (s : State (Option (Held T)) (View O E)) (r : IsRuled K o s) (id n : ℕ) (who : Identity O E) (t : Tries) → get_elem? s.views id ≡ some (Pass who (Out t)) → n ≡ r.at.drawn
+  drawn_on : (s : State (Option (Held T)) (SeatView O E)) (r : IsRuled K o s) (id n : ℕ) (who : Identity O E) (t : Tries) → get_elem? s.views id ≡ some (Pass who (Out t)) → n ≡ r.at.drawn
       → (ticket : ℕ) → r.at.served ≤ ticket → ticket < r.at.drawn + 1
       → HasHolder K o (stood r.at (r.at.drawn + 1) r.at.served r.at.current (put r.at.holder r.at.drawn id)) (set s.views id (Pass who (Waiting (just_drawn n)))) ticket
-  drawn_on s r id n who t here is ticket least below = let after : View O E = Pass who (Waiting (just_drawn n)) in let holder' : ℕ → ℕ = put r.at.holder r.at.drawn id in
+  drawn_on s r id n who t here is ticket least below = let after : SeatView O E = Pass who (Waiting (just_drawn n)) in let holder' : ℕ → ℕ = put r.at.holder r.at.drawn id in
       let at' : Standing O E = stood r.at (r.at.drawn + 1) r.at.served r.at.current holder' in dite (ℕ_discrete ticket r.at.drawn)
       (λ e. (after, ap (get_elem? (set s.views id after)) (ap holder' e ∙ put_here r.at.holder r.at.drawn id) ∙ set_there s.views id (Pass who (Out t)) after here, refl, is ∙ sym e))
       (λ (apart : ticket ≢ r.at.drawn). holder_stays K o r.at at' s.views id (Pass who (Out t)) after ticket (put_else r.at.holder r.at.drawn id ticket apart) here (λ has is'. cc) (r.each_ticket ticket least (omega arith)))
 
-  pub loads_drawn : (slots id : ℕ) (me : Me (Option (Held T)) (View O E)) → is_out me.0 ≡ true → Allows (IsRuled K o) slots id me 0 (λ n. n) (load_drawn me)
+  pub loads_drawn : (slots id : ℕ) (me : Me (Option (Held T)) (SeatView O E)) → is_out me.0 ≡ true → Allows (IsRuled K o) slots id me 0 (λ n. n) (load_drawn me)
   loads_drawn slots id (Pass who (Out t), carried) out s r deep here small = let n : ℕ = get_or s.words 0 0 in let is : n ≡ r.at.drawn = ap (λ ws. get_or ws 0 0) r.words_are in
       let known = (r.each_view id (Pass who (Out t)) here).phase_is in let tried : Tries = record t { loads = t.loads + 1; loaded = n } in let bound = r.bounded in (
         loaded (Pass who (Out t)) n,
@@ -67,7 +67,7 @@ module _ {T O E : Type 0} (K : Ghosts T O E) (o : O) where
     slot_away = known.slot_away;
   }
 
-  exchange_won : (slots id old : ℕ) (who : Identity O E) (t : Tries) (carried : List (ℕ × Option (Held T))) (s : State (Option (Held T)) (View O E)) (r : IsRuled K o s) → get_elem? s.views id ≡ some (Pass who (Out t))
+  exchange_won : (slots id old : ℕ) (who : Identity O E) (t : Tries) (carried : List (ℕ × Option (Held T))) (s : State (Option (Held T)) (SeatView O E)) (r : IsRuled K o s) → get_elem? s.views id ≡ some (Pass who (Out t))
       → get_or s.words 0 0 ≡ old → old < 2 ^ 62 → IsRuled K o (stepped s 0 (old + 1) id carried (Pass who (Waiting (just_drawn (get_or s.words 0 0)))) keeps)
   exchange_won slots id old who t carried s r here hit small = let n : ℕ = get_or s.words 0 0 in let is : n ≡ r.at.drawn = ap (λ ws. get_or ws 0 0) r.words_are in let order = r.in_order in
       let same : old ≡ r.at.drawn = sym hit ∙ is in
@@ -78,7 +78,7 @@ module _ {T O E : Type 0} (K : Ghosts T O E) (o : O) where
       (record { not_ended = omega arith; was_drawn = omega arith; is_holder = ap (put r.at.holder r.at.drawn id) is ∙ put_here r.at.holder r.at.drawn id; last_below = omega arith })
       (others_draw r.at s.homes id)
 
-  exchange_lost : (slots id : ℕ) (who : Identity O E) (t : Tries) (carried : List (ℕ × Option (Held T))) (s : State (Option (Held T)) (View O E)) (r : IsRuled K o s) → get_elem? s.views id ≡ some (Pass who (Out t))
+  exchange_lost : (slots id : ℕ) (who : Identity O E) (t : Tries) (carried : List (ℕ × Option (Held T))) (s : State (Option (Held T)) (SeatView O E)) (r : IsRuled K o s) → get_elem? s.views id ≡ some (Pass who (Out t))
       → IsRuled K o (stepped s 0 (get_or s.words 0 0) id carried (lost (Pass who (Out t)) (get_or s.words 0 0)) keeps)
   exchange_lost slots id who t carried s r here = let n : ℕ = get_or s.words 0 0 in let is : n ≡ r.at.drawn = ap (λ ws. get_or ws 0 0) r.words_are in
       let known = (r.each_view id (Pass who (Out t)) here).phase_is in let tried : Tries = record t { losses = t.losses + 1; found = n } in
@@ -88,12 +88,12 @@ module _ {T O E : Type 0} (K : Ghosts T O E) (o : O) where
       (record { loaded_below = known.loaded_below; found_below = omega arith }) (λ seat phase apart known'. known')
 
   -- all tickets that a pass has seen are below `drawn`
-  tickets_seen : (id : ℕ) (who : Identity O E) (phase : Phase E) (s : State (Option (Held T)) (View O E)) (r : IsRuled K o s) → get_elem? s.views id ≡ some (Pass who phase) → (n : ℕ) → n ≡ r.at.drawn
+  tickets_seen : (id : ℕ) (who : Identity O E) (phase : Phase E) (s : State (Option (Held T)) (SeatView O E)) (r : IsRuled K o s) → get_elem? s.views id ≡ some (Pass who phase) → (n : ℕ) → n ≡ r.at.drawn
       → All (λ e. K.ticket e < n) who.knows.seen
   tickets_seen id who phase s r here n is = let order = r.in_order in all_seen (λ e. K.ticket e < n) r.at.current who.knows.seen (r.each_view id (Pass who phase) here).knows.begins
       (all_of (λ e. K.ticket e < r.at.served) (λ e. K.ticket e < n) r.at.current (λ e below. omega arith) r.log_is.tickets)
 
-  pub exchanges_drawn : (slots id old : ℕ) (me : Me (Option (Held T)) (View O E)) → is_out me.0 ≡ true → loaded_of me.0 ≡ old → old < 2 ^ 62
+  pub exchanges_drawn : (slots id old : ℕ) (me : Me (Option (Held T)) (SeatView O E)) → is_out me.0 ≡ true → loaded_of me.0 ≡ old → old < 2 ^ 62
       → Allows (IsRuled K o) slots id me 0 (λ n. either (eqb n old) (old + 1) n) (exchange_drawn K old me)
   exchanges_drawn slots id old (Pass who (Out t), carried) out expected bounded s r deep here small = let n : ℕ = get_or s.words 0 0 in let is : n ≡ r.at.drawn = ap (λ ws. get_or ws 0 0) r.words_are in
       dite (ℕ_discrete n old)

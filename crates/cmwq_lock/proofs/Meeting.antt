@@ -13,8 +13,8 @@ use Rattle.cmwq_lock.specs.declared.views.Tries.{Tries}
 use Rattle.cmwq_lock.specs.declared.views.Held.{Held}
 use Rattle.cmwq_lock.specs.declared.views.Phase.{Phase}
 use Rattle.cmwq_lock.specs.declared.views.Phase.TheVariants.{Out, Waiting, Inside}
-use Rattle.cmwq_lock.specs.declared.views.View.{View}
-use Rattle.cmwq_lock.specs.declared.views.View.TheVariants.{Opener, Pass, Both, Spent}
+use Rattle.cmwq_lock.specs.declared.views.SeatView.{SeatView}
+use Rattle.cmwq_lock.specs.declared.views.SeatView.TheVariants.{Opener, Pass, Both, Spent}
 use Rattle.cmwq_lock.specs.Log.{BeginsWith}
 use Rattle.cmwq_lock.specs.Views.{is_out, is_both, seeing, joined, longer_seen, first_met, second_met}
 use Rattle.cmwq_lock.specs.Steps.{compare_seen}
@@ -36,7 +36,7 @@ module _ {O E : Type 0} where
 
 module _ {T O E : Type 0} (K : Ghosts T O E) (o : O) where
   abbrev St : Type 0
-  St = State (Option (Held T)) (View O E)
+  St = State (Option (Held T)) (SeatView O E)
 
   -- the numbers once this caller stands there
   abbrev standing : Standing O E → ℕ → Whereabouts → Standing O E
@@ -48,9 +48,9 @@ module _ {T O E : Type 0} (K : Ghosts T O E) (o : O) where
   pass_stays s r caller place from is seat side who phase apart known = pass_recast K o r.at _ _ s.homes seat side who phase (omega arith)
       (put_else r.at.where_is caller place who.knows.caller (two_callers r.at.where_is who.knows.caller caller (at_seat side seat) from known.stands_there is apart)) known
 
-  pub joins_passes : (id other : ℕ) (v w : View O E) → is_out v ≡ true → is_out w ≡ true → Joins (IsRuled K o) id v other w (joined v w) Spent
-  joins_passes id other (Pass one (Out t)) (Pass it (Out u)) out out' s r here apart there = let v : View O E = Pass one (Out t) in let w : View O E = Pass it (Out u) in let both : View O E = joined v w in
-      let views' : List (View O E) = set s.views id both in let caller : ℕ = it.knows.caller in let place = at_seat second id in let from = at_seat first other in let at' = standing r.at caller place in
+  pub joins_passes : (id other : ℕ) (v w : SeatView O E) → is_out v ≡ true → is_out w ≡ true → Joins (IsRuled K o) id v other w (joined v w) Spent
+  joins_passes id other (Pass one (Out t)) (Pass it (Out u)) out out' s r here apart there = let v : SeatView O E = Pass one (Out t) in let w : SeatView O E = Pass it (Out u) in let both : SeatView O E = joined v w in
+      let views' : List (SeatView O E) = set s.views id both in let caller : ℕ = it.knows.caller in let place = at_seat second id in let from = at_seat first other in let at' = standing r.at caller place in
       let was_there : get_elem? s.views other ≡ some w = sym (set_else s.views id other both apart) ∙ there in let its = r.each_view other w was_there in record {
         at = at';
         words_are = r.words_are;
@@ -75,9 +75,9 @@ module _ {T O E : Type 0} (K : Ghosts T O E) (o : O) where
           stands_there = put_else r.at.where_is caller place k.caller (two_callers r.at.where_is k.caller caller (in_record i) from was.stands_there its.stands_there (record_apart i first other)) ∙ was.stands_there;
           knows = was.knows;
         };
-        each_view = λ seat x in_seat. ⊎_elim (λ (e : (seat ≡ other) × (Spent ≡ x)). subst (λ (z : View O E). ViewIs K o at' s.homes seat z) e.1 tt)
+        each_view = λ seat x in_seat. ⊎_elim (λ (e : (seat ≡ other) × (Spent ≡ x)). subst (λ (z : SeatView O E). ViewIs K o at' s.homes seat z) e.1 tt)
             (λ (e : (seat ≢ other) × (get_elem? views' seat ≡ some x)). ⊎_elim
-            (λ (q : (seat ≡ id) × (both ≡ x)). subst (λ (z : ℕ × View O E). ViewIs K o at' s.homes z.0 z.1) (λ i. (sym q.0 i, q.1 i)) (
+            (λ (q : (seat ≡ id) × (both ≡ x)). subst (λ (z : ℕ × SeatView O E). ViewIs K o at' s.homes z.0 z.1) (λ i. (sym q.0 i, q.1 i)) (
               pass_stays s r caller place from its.stands_there id first one (Out t) (seats_apart first first id other (λ same. apart (sym same))) (r.each_view id v here),
               record {
                 same_origin = its.same_origin;
@@ -102,13 +102,13 @@ module _ {T O E : Type 0} (K : Ghosts T O E) (o : O) where
   joins_passes id other (Both p q) w out out' s r here apart there = cc
   joins_passes id other Spent w out out' s r here apart there = cc
 
-  pub compares_seen : (slots id : ℕ) (me : Me (Option (Held T)) (View O E)) → is_both me.0 ≡ true → Allows (IsRuled K o) slots id me 1 (λ n. n) (λ _. compare_seen me)
+  pub compares_seen : (slots id : ℕ) (me : Me (Option (Held T)) (SeatView O E)) → is_both me.0 ≡ true → Allows (IsRuled K o) slots id me 1 (λ n. n) (λ _. compare_seen me)
   compares_seen slots id (Both p q, carried) two s r deep here small = let known = r.each_view id (Both p q) here in
       let words : set s.words 1 (get_or s.words 1 0) ≡ s.words = ap (λ ws. set ws 1 (get_or ws 1 0)) r.words_are ∙ sym r.words_are in (
         Both p q,
         keeps,
         tt,
-        subst (λ (z : List ℕ × List (View O E)). IsRuled K o record { words = z.0; homes = s.homes; views = z.1 }) (λ i. (sym words i, sym (set_again s.views id (Both p q) here) i)) r,
+        subst (λ (z : List ℕ × List (SeatView O E)). IsRuled K o record { words = z.0; homes = s.homes; views = z.1 }) (λ i. (sym words i, sym (set_again s.views id (Both p q) here) i)) r,
         (refl, begin_one_log r.at.current p.who.knows.seen q.who.knows.seen known.0.knows.begins known.1.knows.begins),
       )
   compares_seen slots id (v, carried) two s r deep here small = cc
@@ -124,8 +124,8 @@ module _ {T O E : Type 0} (K : Ghosts T O E) (o : O) where
     phase_is = record { loaded_below = known.phase_is.loaded_below; found_below = known.phase_is.found_below };
   }
 
-  pub parts_passes : (id : ℕ) (v : View O E) → is_both v ≡ true → Splits (IsRuled K o) id v (first_met v) (second_met v)
-  parts_passes id (Both p q) two s r here = let v : View O E = Both p q in let left : View O E = first_met v in let right : View O E = second_met v in let changed : List (View O E) = set s.views id left in
+  pub parts_passes : (id : ℕ) (v : SeatView O E) → is_both v ≡ true → Splits (IsRuled K o) id v (first_met v) (second_met v)
+  parts_passes id (Both p q) two s r here = let v : SeatView O E = Both p q in let left : SeatView O E = first_met v in let right : SeatView O E = second_met v in let changed : List (SeatView O E) = set s.views id left in
       let new : ℕ = length s.views in let caller : ℕ = q.who.knows.caller in let place = at_seat first new in let from = at_seat second id in let at' = standing r.at caller place in let known = r.each_view id v here in
       let log = longer_seen p q in let begins : BeginsWith r.at.current log = begins_longer r.at.current p.who.knows.seen q.who.knows.seen known.0.knows.begins known.1.knows.begins in record {
         at = at';
@@ -151,11 +151,11 @@ module _ {T O E : Type 0} (K : Ghosts T O E) (o : O) where
         };
         each_view = λ seat w there. ⊎_elim
             (λ (old : get_elem? changed seat ≡ some w). ⊎_elim
-            (λ (e : (seat ≡ id) × (left ≡ w)). subst (λ (z : ℕ × View O E). ViewIs K o at' s.homes z.0 z.1) (λ i. (sym e.0 i, e.1 i)) (pass_met r.at at'.where_is s.homes id id first p log begins
+            (λ (e : (seat ≡ id) × (left ≡ w)). subst (λ (z : ℕ × SeatView O E). ViewIs K o at' s.homes z.0 z.1) (λ i. (sym e.0 i, e.1 i)) (pass_met r.at at'.where_is s.homes id id first p log begins
             (put_else r.at.where_is caller place p.who.knows.caller (two_callers r.at.where_is p.who.knows.caller caller (at_seat first id) from known.0.stands_there known.1.stands_there (sides_apart id id)) ∙ known.0.stands_there) known.0))
             (λ (e : (seat ≢ id) × (get_elem? s.views seat ≡ some w)). view_stays K o r.at at' s.homes s.homes seat w (λ d was. record { is_seat = was.is_seat; knows_is = was.knows_is })
             (λ side who phase its. pass_stays s r caller place from known.1.stands_there seat side who phase (seats_apart side second seat id e.0) its) (r.each_view seat w e.1)) (at_set s.views id seat left w old))
-            (λ (e : (seat ≡ length changed) × (right ≡ w)). subst (λ (z : ℕ × View O E). ViewIs K o at' s.homes z.0 z.1) (λ i. (sym (e.0 ∙ length-set s.views id left) i, e.1 i))
+            (λ (e : (seat ≡ length changed) × (right ≡ w)). subst (λ (z : ℕ × SeatView O E). ViewIs K o at' s.homes z.0 z.1) (λ i. (sym (e.0 ∙ length-set s.views id left) i, e.1 i))
             (pass_met r.at at'.where_is s.homes id new second q log begins (put_here r.at.where_is caller place) known.1)) (at_end changed right w seat there);
       }
   parts_passes id (Pass who phase) two s r here = cc

@@ -9,17 +9,17 @@ use Rattle.cmwq_lock.specs.declared.views.Knowledge.{Knowledge}
 use Rattle.cmwq_lock.specs.declared.views.Identity.{Identity}
 use Rattle.cmwq_lock.specs.declared.views.Held.{Held}
 use Rattle.cmwq_lock.specs.declared.views.Phase.{Phase}
-use Rattle.cmwq_lock.specs.declared.views.View.{View}
-use Rattle.cmwq_lock.specs.declared.views.View.TheVariants.{Pass}
+use Rattle.cmwq_lock.specs.declared.views.SeatView.{SeatView}
+use Rattle.cmwq_lock.specs.declared.views.SeatView.TheVariants.{Pass}
 use Rattle.cmwq_lock.specs.Log.{BeginsWith, calls_of}
 use Rattle.cmwq_lock.specs.Rule.{Side, first, second, at_seat, in_record, Standing, Homes, pass_count, passes, caller_at, IsKnown, HasHolder, SlotIs, IsCurrent, PhaseIs, IsPass, ViewIs, IsRuled}
 use Rattle.cmwq_lock.proofs.Places.{two_callers, seats_apart, record_apart, stands_changed, view_stays, opener_elsewhere}
 
 module _ {O E : Type 0} where
   -- one view in place of another
-  pub passes-set : (vs : List (View O E)) (i : ℕ) (v w : View O E) → get_elem? vs i ≡ some v → passes (set vs i w) + pass_count v ≡ passes vs + pass_count w
+  pub passes-set : (vs : List (SeatView O E)) (i : ℕ) (v w : SeatView O E) → get_elem? vs i ≡ some v → passes (set vs i w) + pass_count v ≡ passes vs + pass_count w
   passes-set [] i v w e = absurd (some-ne-none v (sym e))
-  passes-set (x ∷ xs) zero v w e = let same : pass_count x ≡ pass_count v = ap (λ (u : View O E). pass_count u) (some-injective x v e) in omega arith
+  passes-set (x ∷ xs) zero v w e = let same : pass_count x ≡ pass_count v = ap (λ (u : SeatView O E). pass_count u) (some-injective x v e) in omega arith
   passes-set (x ∷ xs) (suc i) v w e = let rest = passes-set xs i v w e in omega arith
 
   -- what changes at a step of a pass
@@ -28,7 +28,7 @@ module _ {O E : Type 0} where
 
 module _ {T O E : Type 0} (K : Ghosts T O E) (o : O) where
   abbrev St : Type 0
-  St = State (Option (Held T)) (View O E)
+  St = State (Option (Held T)) (SeatView O E)
 
   -- what the rule says of each other seat's passes stays true
   abbrev pub OthersStay : (at at' : Standing O E) (homes homes' : Homes T) (id : ℕ) → Type 0
@@ -90,7 +90,7 @@ module _ {T O E : Type 0} (K : Ghosts T O E) (o : O) where
               (two_callers r.at.where_is k.caller who.knows.caller (in_record i) (at_seat first id) was.stands_there known.stands_there (record_apart i first id)) was.knows;
         };
         each_view = λ seat v there. ⊎_elim
-            (λ (t : (seat ≡ id) × (Pass who' phase' ≡ v)). subst (λ (z : ℕ × View O E). ViewIs K o at' homes' z.0 z.1) (λ i. (sym t.0 i, t.1 i)) (record {
+            (λ (t : (seat ≡ id) × (Pass who' phase' ≡ v)). subst (λ (z : ℕ × SeatView O E). ViewIs K o at' homes' z.0 z.1) (λ i. (sym t.0 i, t.1 i)) (record {
               same_origin = ap (λ x. x.value) same_origin ∙ known.same_origin;
               was_given = subst (λ (c : ℕ). c < r.at.opener_knows.next) (sym same_caller) known.was_given;
               stands_there = ap r.at.where_is same_caller ∙ known.stands_there;

@@ -13,8 +13,8 @@ use Rattle.cmwq_lock.specs.declared.views.OpenerView.{OpenerView}
 use Rattle.cmwq_lock.specs.declared.views.Held.{Held}
 use Rattle.cmwq_lock.specs.declared.views.Phase.{Phase}
 use Rattle.cmwq_lock.specs.declared.views.Phase.TheVariants.{Out, Waiting, Inside}
-use Rattle.cmwq_lock.specs.declared.views.View.{View}
-use Rattle.cmwq_lock.specs.declared.views.View.TheVariants.{Opener, Pass, Both, Spent}
+use Rattle.cmwq_lock.specs.declared.views.SeatView.{SeatView}
+use Rattle.cmwq_lock.specs.declared.views.SeatView.TheVariants.{Opener, Pass, Both, Spent}
 use Rattle.cmwq_lock.specs.Log.{BeginsWith, longer, calls_of}
 use Rattle.cmwq_lock.specs.Promises.{IsLastLog}
 use Rattle.cmwq_lock.specs.Views.{is_opener, is_out, given, fresh, taken_back, out_of, records_of}
@@ -25,12 +25,12 @@ use Rattle.cmwq_lock.proofs.Moves.{passes-set}
 use Rattle.cmwq_lock.proofs.Logs.{begins_longer, begins_itself, calls_none}
 
 module _ {O E : Type 0} where
-  pub passes-end : (vs : List (View O E)) (w : View O E) → passes (vs ++ w ∷ []) ≡ passes vs + pass_count w
+  pub passes-end : (vs : List (SeatView O E)) (w : SeatView O E) → passes (vs ++ w ∷ []) ≡ passes vs + pass_count w
   passes-end [] w = omega arith
   passes-end (x ∷ xs) w = let rest = passes-end xs w in omega arith
 
   -- a view of no pass has no caller
-  no_caller : (side : Side) (v : View O E) (c : ℕ) → pass_count v ≡ 0 → caller_at side v ≡ some c → ⊥
+  no_caller : (side : Side) (v : SeatView O E) (c : ℕ) → pass_count v ≡ 0 → caller_at side v ≡ some c → ⊥
   no_caller first (Pass who phase) c none_out is = absurd (omega arith)
   no_caller first (Both p q) c none_out is = absurd (omega arith)
   no_caller second (Both p q) c none_out is = absurd (omega arith)
@@ -41,14 +41,14 @@ module _ {O E : Type 0} where
   no_caller second Spent c none_out is = some-ne-none c (sym is)
 
   -- where no pass is out no view is that of a pass
-  no_pass : (vs : List (View O E)) (seat : ℕ) (v : View O E) → passes vs ≡ 0 → get_elem? vs seat ≡ some v → pass_count v ≡ 0
+  no_pass : (vs : List (SeatView O E)) (seat : ℕ) (v : SeatView O E) → passes vs ≡ 0 → get_elem? vs seat ≡ some v → pass_count v ≡ 0
   no_pass [] seat v none_out e = absurd (some-ne-none v (sym e))
-  no_pass (x ∷ xs) zero v none_out e = let same : pass_count x ≡ pass_count v = ap (λ (u : View O E). pass_count u) (some-injective x v e) in omega arith
+  no_pass (x ∷ xs) zero v none_out e = let same : pass_count x ≡ pass_count v = ap (λ (u : SeatView O E). pass_count u) (some-injective x v e) in omega arith
   no_pass (x ∷ xs) (suc seat) v none_out e = no_pass xs seat v (omega arith) e
 
 module _ {T O E : Type 0} (K : Ghosts T O E) (o : O) where
   abbrev St : Type 0
-  St = State (Option (Held T)) (View O E)
+  St = State (Option (Held T)) (SeatView O E)
 
   -- the numbers after one more pass was given, to the seat with this number
   abbrev after_giving : Standing O E → ℕ → Standing O E
@@ -70,9 +70,9 @@ module _ {T O E : Type 0} (K : Ghosts T O E) (o : O) where
       pass_recast K o r.at _ _ s.homes seat side who phase (omega arith) (put_else r.at.where_is it.knows.caller (in_record (length r.at.opener_knows.records)) who.knows.caller
       (two_callers r.at.where_is who.knows.caller it.knows.caller (at_seat side seat) (at_seat first other) known.stands_there (r.each_view other (Pass it its) here).stands_there (seats_apart side first seat other elsewhere))) known
 
-  pub gives_pass : (id : ℕ) (v : View O E) → is_opener v ≡ true → Splits (IsRuled K o) id v (given v) (fresh v)
+  pub gives_pass : (id : ℕ) (v : SeatView O E) → is_opener v ≡ true → Splits (IsRuled K o) id v (given v) (fresh v)
   gives_pass id (Opener d) opens s r here = let known = r.each_view id (Opener d) here in let opener_knows = known.knows_is in let me = known.is_seat in let at' = after_giving r.at (length s.views) in
-      let changed : View O E = given (Opener d) in let new : View O E = fresh (Opener d) in record {
+      let changed : SeatView O E = given (Opener d) in let new : SeatView O E = fresh (Opener d) in record {
         at = at';
         words_are = r.words_are;
         in_order = r.in_order;
@@ -98,9 +98,9 @@ module _ {T O E : Type 0} (K : Ghosts T O E) (o : O) where
         };
         each_view = λ seat w there. ⊎_elim
             (λ (old : get_elem? (set s.views id changed) seat ≡ some w). ⊎_elim
-            (λ (t : (seat ≡ id) × (changed ≡ w)). subst (λ (z : ℕ × View O E). ViewIs K o at' s.homes z.0 z.1) (λ i. (sym t.0 i, t.1 i)) (record { is_seat = me; knows_is = ap (λ (z : OpenerView O E). record z { next = z.next + 1; out = z.out + 1 }) opener_knows }))
+            (λ (t : (seat ≡ id) × (changed ≡ w)). subst (λ (z : ℕ × SeatView O E). ViewIs K o at' s.homes z.0 z.1) (λ i. (sym t.0 i, t.1 i)) (record { is_seat = me; knows_is = ap (λ (z : OpenerView O E). record z { next = z.next + 1; out = z.out + 1 }) opener_knows }))
             (λ (t : (seat ≢ id) × (get_elem? s.views seat ≡ some w)). view_stays K o r.at at' s.homes s.homes seat w (λ e was. absurd (t.0 (was.is_seat ∙ sym me))) (pass_given s r seat) (r.each_view seat w t.1)) (at_set s.views id seat changed w old))
-            (λ (t : (seat ≡ length (set s.views id changed)) × (new ≡ w)). subst (λ (z : ℕ × View O E). ViewIs K o at' s.homes z.0 z.1) (λ i. (sym (t.0 ∙ length-set s.views id changed) i, t.1 i)) (record {
+            (λ (t : (seat ≡ length (set s.views id changed)) × (new ≡ w)). subst (λ (z : ℕ × SeatView O E). ViewIs K o at' s.homes z.0 z.1) (λ i. (sym (t.0 ∙ length-set s.views id changed) i, t.1 i)) (record {
               same_origin = ap (λ (z : OpenerView O E). z.origin.value) opener_knows ∙ r.opener_origin;
               was_given = let same : d.next ≡ r.at.opener_knows.next = ap (λ (z : OpenerView O E). z.next) opener_knows in omega arith;
               stands_there = ap (put r.at.where_is r.at.opener_knows.next (at_seat first (length s.views))) (ap (λ (z : OpenerView O E). z.next) opener_knows) ∙ put_here r.at.where_is r.at.opener_knows.next (at_seat first (length s.views));
@@ -113,9 +113,9 @@ module _ {T O E : Type 0} (K : Ghosts T O E) (o : O) where
   gives_pass id (Both p q) opens s r here = cc
   gives_pass id Spent opens s r here = cc
 
-  pub takes_pass : (id other : ℕ) (v w : View O E) → is_opener v ≡ true → is_out w ≡ true → Joins (IsRuled K o) id v other w (taken_back v w) Spent
+  pub takes_pass : (id other : ℕ) (v w : SeatView O E) → is_opener v ≡ true → is_out w ≡ true → Joins (IsRuled K o) id v other w (taken_back v w) Spent
   takes_pass id other (Opener d) (Pass who (Out t)) opens out s r here apart there = let known = r.each_view id (Opener d) here in let opener_knows = known.knows_is in let me = known.is_seat in
-      let k : Knowledge E = who.knows in let at' = after_taking r.at k in let w : View O E = Pass who (Out t) in let changed : View O E = taken_back (Opener d) w in let views' : List (View O E) = set s.views id changed in
+      let k : Knowledge E = who.knows in let at' = after_taking r.at k in let w : SeatView O E = Pass who (Out t) in let changed : SeatView O E = taken_back (Opener d) w in let views' : List (SeatView O E) = set s.views id changed in
       let was_there : get_elem? s.views other ≡ some w = sym (set_else s.views id other changed apart) ∙ there in record {
         at = at';
         words_are = r.words_are;
@@ -148,9 +148,9 @@ module _ {T O E : Type 0} (K : Ghosts T O E) (o : O) where
               stands_there = put_here r.at.where_is k.caller (in_record (length r.at.opener_knows.records));
               knows = its.knows;
             })) (at_end r.at.opener_knows.records k k' i at_record);
-        each_view = λ seat u in_seat. ⊎_elim (λ (t : (seat ≡ other) × (Spent ≡ u)). subst (λ (z : View O E). ViewIs K o at' s.homes seat z) t.1 tt)
+        each_view = λ seat u in_seat. ⊎_elim (λ (t : (seat ≡ other) × (Spent ≡ u)). subst (λ (z : SeatView O E). ViewIs K o at' s.homes seat z) t.1 tt)
             (λ (t' : (seat ≢ other) × (get_elem? views' seat ≡ some u)). ⊎_elim
-            (λ (q : (seat ≡ id) × (changed ≡ u)). subst (λ (z : ℕ × View O E). ViewIs K o at' s.homes z.0 z.1) (λ i. (sym q.0 i, q.1 i)) (record { is_seat = me; knows_is = ap (λ (z : OpenerView O E). record z { out = z.out - 1; seen = longer z.seen k.seen; records = z.records ++ k ∷ [] }) opener_knows }))
+            (λ (q : (seat ≡ id) × (changed ≡ u)). subst (λ (z : ℕ × SeatView O E). ViewIs K o at' s.homes z.0 z.1) (λ i. (sym q.0 i, q.1 i)) (record { is_seat = me; knows_is = ap (λ (z : OpenerView O E). record z { out = z.out - 1; seen = longer z.seen k.seen; records = z.records ++ k ∷ [] }) opener_knows }))
             (λ (q : (seat ≢ id) × (get_elem? s.views seat ≡ some u)). view_stays K o r.at at' s.homes s.homes seat u (λ e was. absurd (q.0 (was.is_seat ∙ sym me))) (pass_taken s r other who (Out t) was_there seat t'.0) (r.each_view seat u q.1)) (at_set s.views id seat changed u t'.1)) (at_set views' other seat Spent u in_seat);
       }
   takes_pass id other (Opener d) (Pass who (Waiting q)) opens out s r here apart there = cc
@@ -165,8 +165,8 @@ module _ {T O E : Type 0} (K : Ghosts T O E) (o : O) where
   abbrev at_first : Standing O E
   at_first = record { drawn = 0; served = 0; current = []; opener = 0; opener_knows = record { origin = record { marker = record {}; value = o }; next = 0; out = 0; seen = []; records = [] }; holder = λ n. n; where_is = λ n. at_seat first n }
 
-  first_view : (homes : Homes T) (seat : ℕ) (v : View O E) → get_elem? (opening_view o ∷ []) seat ≡ some v → ViewIs K o at_first homes seat v
-  first_view homes zero v there = subst (λ (z : View O E). ViewIs K o at_first homes 0 z) (some-injective _ _ there) (record { is_seat = refl; knows_is = refl })
+  first_view : (homes : Homes T) (seat : ℕ) (v : SeatView O E) → get_elem? (opening_view o ∷ []) seat ≡ some v → ViewIs K o at_first homes seat v
+  first_view homes zero v there = subst (λ (z : SeatView O E). ViewIs K o at_first homes 0 z) (some-injective _ _ there) (record { is_seat = refl; knows_is = refl })
   first_view homes (suc seat) v there = absurd (some-ne-none v (sym there))
 
   -- a new lock
@@ -189,7 +189,7 @@ module _ {T O E : Type 0} (K : Ghosts T O E) (o : O) where
   }
 
   -- where no pass is out each caller stands in a record
-  recorded : (at : Standing O E) (views : List (View O E)) → passes views ≡ 0 → (c : ℕ) (p : Whereabouts) → StandsAt K o at views p c → Any (λ k. k.caller ≡ c) at.opener_knows.records
+  recorded : (at : Standing O E) (views : List (SeatView O E)) → passes views ≡ 0 → (c : ℕ) (p : Whereabouts) → StandsAt K o at views p c → Any (λ k. k.caller ≡ c) at.opener_knows.records
   recorded at views none_out c (at_seat side seat) (v, there, is) = absurd (no_caller side v c (no_pass views seat v none_out there) is)
   recorded at views none_out c (in_record i) (k, there, is) = any_there (λ (q : Knowledge E). q.caller ≡ c) at.opener_knows.records i k there is
 
@@ -202,7 +202,7 @@ module _ {T O E : Type 0} (K : Ghosts T O E) (o : O) where
   }
 
   -- where no pass is out the slot is home, and the log is that of the retired callers
-  pub closes_lock : (id : ℕ) (v : View O E) (words : List ℕ) (slots : List (Option (Held T))) → is_opener v ≡ true → out_of v ≡ 0 → Final (Seen (IsRuled K o) id v) words slots
+  pub closes_lock : (id : ℕ) (v : SeatView O E) (words : List ℕ) (slots : List (Option (Held T))) → is_opener v ≡ true → out_of v ≡ 0 → Final (Seen (IsRuled K o) id v) words slots
       → (h : Held T) × (get_elem? slots 0 ≡ some (Some h)) × K.sound h.value × (K.origin h.value ≡ o) × IsLastLog K (records_of v) (K.log h.value)
   closes_lock id (Opener d) words slots opens none_out (s, (r, here), words_are, deep, stand) = let opener_knows = (r.each_view id (Opener d) here).knows_is in
       let same : d.out ≡ r.at.opener_knows.out = ap (λ (z : OpenerView O E). z.out) opener_knows in let count = r.passes_out in let none_left : passes s.views ≡ 0 = omega arith in elim r.slot_is [
@@ -213,7 +213,7 @@ module _ {T O E : Type 0} (K : Ghosts T O E) (o : O) where
           kept.origin_stays,
           subst (λ (z : List (Knowledge E) × List E). IsLastLog K z.0 z.1) (λ i. (ap (λ (z : OpenerView O E). z.records) (sym opener_knows) i, sym kept.log_is i)) (last_log s r none_left),
         )
-        | with_seat seat who gone there ↦ let inside : View O E = Pass who (Inside r.at.served r.at.current) in absurd (no_caller first inside who.knows.caller (no_pass s.views seat inside none_left there) refl)
+        | with_seat seat who gone there ↦ let inside : SeatView O E = Pass who (Inside r.at.served r.at.current) in absurd (no_caller first inside who.knows.caller (no_pass s.views seat inside none_left there) refl)
       ]
   closes_lock id (Pass who phase) words slots opens none_out f = cc
   closes_lock id (Both p q) words slots opens none_out f = cc

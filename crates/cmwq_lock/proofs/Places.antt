@@ -13,8 +13,8 @@ use Rattle.cmwq_lock.specs.declared.views.Identity.{Identity}
 use Rattle.cmwq_lock.specs.declared.views.Held.{Held}
 use Rattle.cmwq_lock.specs.declared.views.Phase.{Phase}
 use Rattle.cmwq_lock.specs.declared.views.Phase.TheVariants.{Out, Waiting, Inside}
-use Rattle.cmwq_lock.specs.declared.views.View.{View}
-use Rattle.cmwq_lock.specs.declared.views.View.TheVariants.{Opener, Pass, Both, Spent}
+use Rattle.cmwq_lock.specs.declared.views.SeatView.{SeatView}
+use Rattle.cmwq_lock.specs.declared.views.SeatView.TheVariants.{Opener, Pass, Both, Spent}
 use Rattle.cmwq_lock.specs.Views.{has_ticket, is_opener, is_inside, ticket_of}
 use Rattle.cmwq_lock.specs.Rule.{Side, first, second, Whereabouts, at_seat, in_record, Standing, Homes, caller_at, StandsAt, HasHolder, SlotIs, at_home, with_seat, PhaseIs, IsPass, IsOpener, ViewIs, IsRuled}
 use Rattle.cmwq_lock.proofs.Puts.{set_there}
@@ -48,7 +48,7 @@ module _ {O E : Type 0} where
 
 module _ {T O E : Type 0} (K : Ghosts T O E) (o : O) where
   -- a caller that stood stands, where the changed view still has it
-  pub stands_changed : (at at' : Standing O E) (views : List (View O E)) (id : ℕ) (v w : View O E) (c : ℕ) → ((i : ℕ) (k : Knowledge E) → get_elem? at.opener_knows.records i ≡ some k → get_elem? at'.opener_knows.records i ≡ some k)
+  pub stands_changed : (at at' : Standing O E) (views : List (SeatView O E)) (id : ℕ) (v w : SeatView O E) (c : ℕ) → ((i : ℕ) (k : Knowledge E) → get_elem? at.opener_knows.records i ≡ some k → get_elem? at'.opener_knows.records i ≡ some k)
       → get_elem? views id ≡ some v → ((side : Side) → caller_at side v ≡ some c → caller_at side w ≡ some c)
       → (p : Whereabouts) → StandsAt K o at views p c → StandsAt K o at' (set views id w) p c
   stands_changed at at' views id v w c records here still (at_seat side seat) (u, there, is) = dite (ℕ_discrete seat id)
@@ -57,12 +57,12 @@ module _ {T O E : Type 0} (K : Ghosts T O E) (o : O) where
       (λ apart. (u, set_else views id seat w apart ∙ there, is))
   stands_changed at at' views id v w c records here still (in_record i) (k, there, is) = (k, records i k there, is)
 
-  pub stands_longer : (at : Standing O E) (views more : List (View O E)) (c : ℕ) (p : Whereabouts) → StandsAt K o at views p c → StandsAt K o at (views ++ more) p c
+  pub stands_longer : (at : Standing O E) (views more : List (SeatView O E)) (c : ℕ) (p : Whereabouts) → StandsAt K o at views p c → StandsAt K o at (views ++ more) p c
   stands_longer at views more c (at_seat side seat) (v, there, is) = (v, at_longer views more seat v there, is)
   stands_longer at views more c (in_record i) known = known
 
   -- a ticket keeps its holder, where the changed view still has it
-  pub holder_stays : (at at' : Standing O E) (views : List (View O E)) (id : ℕ) (v w : View O E) (t : ℕ) → at'.holder t ≡ at.holder t → get_elem? views id ≡ some v
+  pub holder_stays : (at at' : Standing O E) (views : List (SeatView O E)) (id : ℕ) (v w : SeatView O E) (t : ℕ) → at'.holder t ≡ at.holder t → get_elem? views id ≡ some v
       → (has_ticket v ≡ true → ticket_of v ≡ t → (has_ticket w ≡ true) × (ticket_of w ≡ t)) → HasHolder K o at views t → HasHolder K o at' (set views id w) t
   holder_stays at at' views id v w t same here still (u, there, has, is) = dite (ℕ_discrete (at.holder t) id)
       (λ e. let one : u ≡ v = some-injective _ _ (sym there ∙ (ap (get_elem? views) e ∙ here)) in
@@ -70,11 +70,11 @@ module _ {T O E : Type 0} (K : Ghosts T O E) (o : O) where
       (w, ap (get_elem? (set views id w)) (same ∙ e) ∙ set_there views id v w here, kept.0, kept.1))
       (λ apart. (u, ap (get_elem? (set views id w)) same ∙ (set_else views id (at.holder t) w apart ∙ there), has, is))
 
-  pub holder_longer : (at : Standing O E) (views more : List (View O E)) (t : ℕ) → HasHolder K o at views t → HasHolder K o at (views ++ more) t
+  pub holder_longer : (at : Standing O E) (views more : List (SeatView O E)) (t : ℕ) → HasHolder K o at views t → HasHolder K o at (views ++ more) t
   holder_longer at views more t (u, there, has, is) = (u, at_longer views more (at.holder t) u there, has, is)
 
   -- what stays true of the opener and of each pass of a view stays true of the view
-  pub view_stays : (at at' : Standing O E) (homes homes' : Homes T) (seat : ℕ) (v : View O E) → ((d : OpenerView O E) → IsOpener K o at homes seat d → IsOpener K o at' homes' seat d)
+  pub view_stays : (at at' : Standing O E) (homes homes' : Homes T) (seat : ℕ) (v : SeatView O E) → ((d : OpenerView O E) → IsOpener K o at homes seat d → IsOpener K o at' homes' seat d)
       → ((side : Side) (who : Identity O E) (phase : Phase E) → IsPass K o at homes seat side who phase → IsPass K o at' homes' seat side who phase) → ViewIs K o at homes seat v → ViewIs K o at' homes' seat v
   view_stays at at' homes homes' seat (Opener d) opener pass known = opener d known
   view_stays at at' homes homes' seat (Pass who phase) opener pass known = pass first who phase known
@@ -104,12 +104,12 @@ module _ {T O E : Type 0} (K : Ghosts T O E) (o : O) where
   }
 
   -- a seat with another view is not the opener's
-  pub opener_elsewhere : (s : State (Option (Held T)) (View O E)) (r : IsRuled K o s) (id : ℕ) (v : View O E) → get_elem? s.views id ≡ some v → is_opener v ≡ false → r.at.opener ≢ id
+  pub opener_elsewhere : (s : State (Option (Held T)) (SeatView O E)) (r : IsRuled K o s) (id : ℕ) (v : SeatView O E) → get_elem? s.views id ≡ some v → is_opener v ≡ false → r.at.opener ≢ id
   opener_elsewhere s r id v here other at = let both : some (Opener r.at.opener_knows) ≡ some v = sym r.opener_is ∙ (ap (get_elem? s.views) at ∙ here) in
       let clash : true ≡ false = ap is_opener (some-injective _ _ both) ∙ other in cc
 
   -- a seat that is not inside does not have the slot
-  pub slot_stays : (at at' : Standing O E) (homes : Homes T) (views : List (View O E)) (id : ℕ) (v w : View O E) → at'.served ≡ at.served → at'.current ≡ at.current → get_elem? views id ≡ some v → is_inside v ≡ false
+  pub slot_stays : (at at' : Standing O E) (homes : Homes T) (views : List (SeatView O E)) (id : ℕ) (v w : SeatView O E) → at'.served ≡ at.served → at'.current ≡ at.current → get_elem? views id ≡ some v → is_inside v ≡ false
       → SlotIs K o at homes views → SlotIs K o at' homes (set views id w)
   slot_stays at at' homes views id v w same_served same_current here outside (at_home h e kept) = at_home h e (record {
     turns_ended = kept.turns_ended ∙ sym same_served;
@@ -122,6 +122,6 @@ module _ {T O E : Type 0} (K : Ghosts T O E) (o : O) where
       let it : true ≡ false = ap is_inside (some-injective _ _ both) ∙ outside in cc) in
       with_seat seat who e (set_else views id seat w apart ∙ (there ∙ (λ i. some (Pass who (Inside (sym same_served i) (sym same_current i))))))
 
-  pub slot_longer : (at : Standing O E) (homes : Homes T) (views more : List (View O E)) → SlotIs K o at homes views → SlotIs K o at homes (views ++ more)
+  pub slot_longer : (at : Standing O E) (homes : Homes T) (views more : List (SeatView O E)) → SlotIs K o at homes views → SlotIs K o at homes (views ++ more)
   slot_longer at homes views more (at_home h e kept) = at_home h e kept
   slot_longer at homes views more (with_seat seat who e there) = with_seat seat who e (at_longer views more seat (Pass who (Inside at.served at.current)) there)

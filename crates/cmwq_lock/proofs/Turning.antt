@@ -12,8 +12,8 @@ use Rattle.cmwq_lock.specs.declared.views.Queued.{Queued}
 use Rattle.cmwq_lock.specs.declared.views.Held.{Held}
 use Rattle.cmwq_lock.specs.declared.views.Phase.{Phase}
 use Rattle.cmwq_lock.specs.declared.views.Phase.TheVariants.{Out, Waiting, Inside}
-use Rattle.cmwq_lock.specs.declared.views.View.{View}
-use Rattle.cmwq_lock.specs.declared.views.View.TheVariants.{Pass}
+use Rattle.cmwq_lock.specs.declared.views.SeatView.{SeatView}
+use Rattle.cmwq_lock.specs.declared.views.SeatView.TheVariants.{Pass}
 use Rattle.cmwq_lock.specs.Log.{BeginsWith, calls_of, Grows}
 use Rattle.cmwq_lock.specs.Views.{is_waiting, is_inside, inside, looked, came_out, untried, seeing, having_left}
 use Rattle.cmwq_lock.specs.Rule.{Standing, Homes, home, away, SlotIs, at_home, with_seat, IsKept, IsCurrent, IsRuled, IsLeft}
@@ -36,7 +36,7 @@ module _ {T O E : Type 0} (K : Ghosts T O E) (o : O) where
   others_begin at homes homes' id h full seat (Inside ticket found) apart known = let clash : home h ≡ away = sym full ∙ known.slot_away in cc
 
   -- a look that gives the ticket of a seat finds the value at home
-  begins : (slots id : ℕ) (who : Identity O E) (q : Queued) (s : State (Option (Held T)) (View O E)) (r : IsRuled K o s) → get_elem? s.views id ≡ some (Pass who (Waiting q)) → get_or s.words 1 0 ≡ q.ticket
+  begins : (slots id : ℕ) (who : Identity O E) (q : Queued) (s : State (Option (Held T)) (SeatView O E)) (r : IsRuled K o s) → get_elem? s.views id ≡ some (Pass who (Waiting q)) → get_or s.words 1 0 ≡ q.ticket
       → SlotIs K o r.at s.homes s.views
       → (h : Held T) × (get_elem? s.homes 0 ≡ some (some (Some h))) × IsKept K o r.at.served r.at.current h
       × IsRuled K o (stepped s 1 (get_or s.words 1 0) id [] (inside (Pass who (Waiting q)) (K.log h.value)) (takes 0 (Some h)))
@@ -60,7 +60,7 @@ module _ {T O E : Type 0} (K : Ghosts T O E) (o : O) where
       let both : some (Pass who (Waiting q)) ≡ some (Pass other (Inside r.at.served r.at.current)) = sym here ∙ (ap (get_elem? s.views) one ∙ there) in
       let clash : false ≡ true = ap is_inside (some-injective _ _ both) in cc
 
-  look_lost : (slots id : ℕ) (who : Identity O E) (q : Queued) (carried : List (ℕ × Option (Held T))) (s : State (Option (Held T)) (View O E)) (r : IsRuled K o s) → get_elem? s.views id ≡ some (Pass who (Waiting q))
+  look_lost : (slots id : ℕ) (who : Identity O E) (q : Queued) (carried : List (ℕ × Option (Held T))) (s : State (Option (Held T)) (SeatView O E)) (r : IsRuled K o s) → get_elem? s.views id ≡ some (Pass who (Waiting q))
       → IsRuled K o (stepped s 1 (get_or s.words 1 0) id carried (looked (Pass who (Waiting q)) (get_or s.words 1 0)) keeps)
   look_lost slots id who q carried s r here = let n : ℕ = get_or s.words 1 0 in let is : n ≡ r.at.served = ap (λ ws. get_or ws 1 0) r.words_are in
       let known = (r.each_view id (Pass who (Waiting q)) here).phase_is in let once_more : Queued = record q { looks = q.looks + 1; last = n } in
@@ -69,7 +69,7 @@ module _ {T O E : Type 0} (K : Ghosts T O E) (o : O) where
       (λ t least below. holder_stays K o r.at r.at s.views id (Pass who (Waiting q)) (Pass who (Waiting once_more)) t refl here (λ has is. (refl, is)) (r.each_ticket t least below))
       (record { not_ended = known.not_ended; was_drawn = known.was_drawn; is_holder = known.is_holder; last_below = omega arith }) (λ seat phase apart known'. known')
 
-  pub looks_served : (slots id : ℕ) (me : Me (Option (Held T)) (View O E)) → is_waiting me.0 ≡ true → length me.1 ≡ 0
+  pub looks_served : (slots id : ℕ) (me : Me (Option (Held T)) (SeatView O E)) → is_waiting me.0 ≡ true → length me.1 ≡ 0
       → Allows (IsRuled K o) slots id me 1 (λ n. n) (look_served K me)
   looks_served slots id (Pass who (Waiting q), []) waits bare s r deep here small = let n : ℕ = get_or s.words 1 0 in let is : n ≡ r.at.served = ap (λ ws. get_or ws 1 0) r.words_are in
       let known = r.each_view id (Pass who (Waiting q)) here in let phase = known.phase_is in
@@ -133,7 +133,7 @@ module _ {T O E : Type 0} (K : Ghosts T O E) (o : O) where
     ];
   }
 
-  pub ends_turn : (slots id : ℕ) (me : Me (Option (Held T)) (View O E)) (h : Held T) → is_inside me.0 ≡ true → me.1 ≡ (0, Some h) ∷ [] → IsLeft K me.0 h
+  pub ends_turn : (slots id : ℕ) (me : Me (Option (Held T)) (SeatView O E)) (h : Held T) → is_inside me.0 ≡ true → me.1 ≡ (0, Some h) ∷ [] → IsLeft K me.0 h
       → Allows (IsRuled K o) slots id me 1 (λ n. (n + 1) % 2 ^ 64) (λ _. end_turn K me)
   ends_turn slots id (Pass who (Inside ticket found), carried) h is_in holds left s r deep here small = let n : ℕ = get_or s.words 1 0 in let is : n ≡ r.at.served = ap (λ ws. get_or ws 1 0) r.words_are in
       let known = r.each_view id (Pass who (Inside ticket found)) here in let phase = known.phase_is in let same = phase.is_served in let below = phase.was_drawn in let bound = r.bounded in

@@ -2,14 +2,14 @@
 use Rattle.std.specs.Prelude.{◌≡◌, ◌<◌, List, All, Any}
 use Rattle.cmwq_lock.specs.declared.kept.Kept.{Ghosts}
 use Rattle.cmwq_lock.specs.declared.views.Knowledge.{Knowledge}
-use Rattle.cmwq_lock.specs.declared.views.View.{View}
+use Rattle.cmwq_lock.specs.declared.views.SeatView.{SeatView}
 use Rattle.cmwq_lock.specs.Log.{BeginsWith, calls_of, BothGrow}
 use Rattle.cmwq_lock.specs.Views.{untried, ticket_of, caller_of, seen_of, mine_of, tries_of}
 
 module _ {T O E : Type 0} (K : Ghosts T O E) where
   -- a turn, from the view of a ticket to that of the pass that comes out: it finds a legal log that begins with all that was seen, and leaves a
   -- legal one, which the pass has seen, and which has at most one entry more: the caller's own, with its ticket. The pass has tried nothing since
-  pub record IsTurn (o : O) (drawn out : View O E) (tells : List E → List E → Type 0) : Type 0 where
+  pub record IsTurn (o : O) (drawn out : SeatView O E) (tells : List E → List E → Type 0) : Type 0 where
     pub before : List E
     pub found_legal : K.legal o before
     pub found_earlier : All (λ e. K.ticket e < ticket_of drawn) before

@@ -14,8 +14,8 @@ use Rattle.cmwq_lock.specs.declared.views.OpenerView.{OpenerView}
 use Rattle.cmwq_lock.specs.declared.views.Held.{Held}
 use Rattle.cmwq_lock.specs.declared.views.Phase.{Phase}
 use Rattle.cmwq_lock.specs.declared.views.Phase.TheVariants.{Out, Waiting, Inside}
-use Rattle.cmwq_lock.specs.declared.views.View.{View}
-use Rattle.cmwq_lock.specs.declared.views.View.TheVariants.{Opener, Pass, Both, Spent}
+use Rattle.cmwq_lock.specs.declared.views.SeatView.{SeatView}
+use Rattle.cmwq_lock.specs.declared.views.SeatView.TheVariants.{Opener, Pass, Both, Spent}
 use Rattle.cmwq_lock.specs.Log.{BeginsWith, calls_of, Grows}
 use Rattle.cmwq_lock.specs.Views.{has_ticket, ticket_of, caller_of, found_of, HasOrigin}
 
@@ -51,18 +51,18 @@ abbrev pub away : {T : Type 0} → Homes T
 away = none ∷ []
 
 -- how many passes a view is of, and the views are of
-abbrev pub pass_count : {O E : Type 0} → View O E → ℕ
+abbrev pub pass_count : {O E : Type 0} → SeatView O E → ℕ
 pass_count (Pass who phase) = 1
 pass_count (Both p q) = 2
 pass_count (Opener d) = 0
 pass_count Spent = 0
 
-abbrev pub passes : {O E : Type 0} → List (View O E) → ℕ
+abbrev pub passes : {O E : Type 0} → List (SeatView O E) → ℕ
 passes [] = 0
 passes (v ∷ vs) = pass_count v + passes vs
 
 -- the caller of the pass at this side of a seat with this view
-abbrev pub caller_at : {O E : Type 0} → Side → View O E → maybe.Option ℕ
+abbrev pub caller_at : {O E : Type 0} → Side → SeatView O E → maybe.Option ℕ
 caller_at first (Pass who phase) = some who.knows.caller
 caller_at first (Both p q) = some p.who.knows.caller
 caller_at second (Both p q) = some q.who.knows.caller
@@ -89,13 +89,13 @@ module _ {T O E : Type 0} (K : Ghosts T O E) (o : O) where
 
   module _ (at : Standing O E) where
     -- the caller stands there
-    abbrev pub StandsAt : List (View O E) → Whereabouts → ℕ → Type 0
-    StandsAt views (at_seat side seat) c = (v : View O E) × (get_elem? views seat ≡ some v) × (caller_at side v ≡ some c)
+    abbrev pub StandsAt : List (SeatView O E) → Whereabouts → ℕ → Type 0
+    StandsAt views (at_seat side seat) c = (v : SeatView O E) × (get_elem? views seat ≡ some v) × (caller_at side v ≡ some c)
     StandsAt views (in_record i) c = (k : Knowledge E) × (get_elem? at.opener_knows.records i ≡ some k) × (k.caller ≡ c)
 
     -- the ticket's holder waits for its turn with it, or has its turn
-    abbrev pub HasHolder : List (View O E) → ℕ → Type 0
-    HasHolder views ticket = (v : View O E) × (get_elem? views (at.holder ticket) ≡ some v) × (has_ticket v ≡ true) × (ticket_of v ≡ ticket)
+    abbrev pub HasHolder : List (SeatView O E) → ℕ → Type 0
+    HasHolder views ticket = (v : SeatView O E) × (get_elem? views (at.holder ticket) ≡ some v) × (has_ticket v ≡ true) × (ticket_of v ≡ ticket)
 
     -- a retired caller stands in its record, and its number was given out
     pub record IsRecord (i : ℕ) (k : Knowledge E) : Type 0 where
@@ -104,7 +104,7 @@ module _ {T O E : Type 0} (K : Ghosts T O E) (o : O) where
       pub knows : IsKnown at.current k
 
     -- the slot is home and no turn is going on, or a seat that is inside has it
-    pub data SlotIs (homes : Homes T) (views : List (View O E)) : Type 0 where
+    pub data SlotIs (homes : Homes T) (views : List (SeatView O E)) : Type 0 where
       at_home : (h : Held T) → homes ≡ home h → IsKept at.served at.current h → SlotIs homes views
       with_seat : (seat : ℕ) (who : Identity O E) → homes ≡ away → get_elem? views seat ≡ some (Pass who (Inside at.served at.current)) → SlotIs homes views
 
@@ -146,14 +146,14 @@ module _ {T O E : Type 0} (K : Ghosts T O E) (o : O) where
         pub is_seat : seat ≡ at.opener
         pub knows_is : d ≡ at.opener_knows
 
-      abbrev pub ViewIs : View O E → Type 0
+      abbrev pub ViewIs : SeatView O E → Type 0
       ViewIs (Opener d) = IsOpener d
       ViewIs (Pass who phase) = IsPass first who phase
       ViewIs (Both p q) = IsPass first p.who (Out p.tries) × IsPass second q.who (Out q.tries)
       ViewIs Spent = Unit {0}
 
   -- the rule of the lock
-  pub record IsRuled (s : State (Option (Held T)) (View O E)) : Type 0 where
+  pub record IsRuled (s : State (Option (Held T)) (SeatView O E)) : Type 0 where
     pub at : Standing O E
     pub words_are : s.words ≡ at.drawn ∷ at.served ∷ []
     pub in_order : at.served ≤ at.drawn
@@ -167,15 +167,15 @@ module _ {T O E : Type 0} (K : Ghosts T O E) (o : O) where
     pub each_ticket : (ticket : ℕ) → at.served ≤ ticket → ticket < at.drawn → HasHolder at s.views ticket
     pub each_caller : (c : ℕ) → c < at.opener_knows.next → StandsAt at s.views (at.where_is c) c
     pub each_record : (i : ℕ) (k : Knowledge E) → get_elem? at.opener_knows.records i ≡ some k → IsRecord at i k
-    pub each_view : (seat : ℕ) (v : View O E) → get_elem? s.views seat ≡ some v → ViewIs at s.homes seat v
+    pub each_view : (seat : ℕ) (v : SeatView O E) → get_elem? s.views seat ≡ some v → ViewIs at s.homes seat v
 
 -- a new lock's opener
-abbrev pub opening_view : {O E : Type 0} → O → View O E
+abbrev pub opening_view : {O E : Type 0} → O → SeatView O E
 opening_view o = Opener (record { origin = record { marker = record {}; value = o }; next = 0; out = 0; seen = []; records = [] })
 
 -- the value as a turn leaves it: one more turn has ended, and the log has at most the turn's entry more
 module _ {T O E : Type 0} (K : Ghosts T O E) where
-  pub record IsLeft (v : View O E) (h : Held T) : Type 0 where
+  pub record IsLeft (v : SeatView O E) (h : Held T) : Type 0 where
     pub turns_ended : h.turns ≡ ticket_of v + 1
     pub is_sound : K.sound h.value
     pub same_origin : HasOrigin v (K.origin h.value)

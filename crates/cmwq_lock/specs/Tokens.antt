@@ -1,24 +1,24 @@
 -- What clauses read of a lock and its tokens.
 use Rattle.std.specs.Prelude.{◌≡◌, ℕ}
 use Rattle.cmwq_lock.specs.declared.kept.Kept.{Ghosts}
-use Rattle.cmwq_lock.specs.declared.views.View.{View}
+use Rattle.cmwq_lock.specs.declared.views.SeatView.{SeatView}
 use Rattle.cmwq_lock.specs.declared.lock.TicketLock.{TicketLock}
 use Rattle.cmwq_lock.specs.declared.tokens.Opener.{Opener}
 use Rattle.cmwq_lock.specs.declared.tokens.Pass.{Pass}
 use Rattle.cmwq_lock.specs.declared.tokens.Drawn.{Drawn}
-use Rattle.cmwq_lock.specs.declared.fault.Why.{Why}
-use Rattle.cmwq_lock.specs.declared.fault.Why.TheVariants.{Raced, Exhausted}
+use Rattle.cmwq_lock.specs.declared.fault.NotDrawnWhy.{NotDrawnWhy}
+use Rattle.cmwq_lock.specs.declared.fault.NotDrawnWhy.TheVariants.{Raced, Exhausted}
 use Rattle.cmwq_lock.specs.Views.{HasOrigin}
 
 module _ {T O E : Type 0} {K : Ghosts T O E} where
   -- what the token knows
-  abbrev pub opener_view : Opener T O E K → View O E
+  abbrev pub opener_view : Opener T O E K → SeatView O E
   opener_view opener = opener.seat.me.0
 
-  abbrev pub pass_view : Pass T O E K → View O E
+  abbrev pub pass_view : Pass T O E K → SeatView O E
   pass_view pass = pass.seat.me.0
 
-  abbrev pub drawn_view : Drawn T O E K → View O E
+  abbrev pub drawn_view : Drawn T O E K → SeatView O E
   drawn_view drawn = drawn.seat.me.0
 
 module _ {T O E : Type 0} (K : Ghosts T O E) where
@@ -40,11 +40,11 @@ module _ {T O E : Type 0} (K : Ghosts T O E) where
     pub same_origin : HasOrigin (drawn_view drawn) (lock_origin lock)
 
 -- a fact of the two numbers, where another caller drew between the load and the exchange
-abbrev pub IfRaced : Why → (ℕ → ℕ → Type 0) → Type 0
+abbrev pub IfRaced : NotDrawnWhy → (ℕ → ℕ → Type 0) → Type 0
 IfRaced (Raced loaded found) fact = fact loaded found
 IfRaced Exhausted fact = Unit {0}
 
 -- a fact where all tickets are drawn
-abbrev pub IfExhausted : Why → Type 0 → Type 0
+abbrev pub IfExhausted : NotDrawnWhy → Type 0 → Type 0
 IfExhausted (Raced loaded found) fact = Unit {0}
 IfExhausted Exhausted fact = fact

@@ -9,9 +9,9 @@ use thiserror::Error;
 #[error("64 passes are out")]
 pub struct TooMany;
 
-/// Why no ticket was drawn.
+/// NotDrawnWhy no ticket was drawn.
 #[derive(Debug, Drop, PartialEq, Eq, Error)]
-pub enum Why {
+pub enum NotDrawnWhy {
     /// Others drew between the load, which gave `loaded`, and the exchange, which found `found`.
     #[error("ticket {loaded} was drawn by another caller, and {found} is the next")]
     Raced { loaded: u64, found: u64 },
@@ -24,7 +24,7 @@ pub enum Why {
 #[derive(Drop)]
 pub struct NotDrawn<T: Kept> {
     pub pass: Pass<T>,
-    pub why: Why,
+    pub why: NotDrawnWhy,
 }
 
 /// The turn of `ticket` has not come: `served` was found. The ticket and the call come back.

@@ -8,11 +8,11 @@ ghost use Rattle.cmwq_lock.specs.Steps.{HasTurn};
 ghost use Rattle.cmwq_lock.specs.Rule.{opening_view};
 ghost use Rattle.cmwq_lock.specs.Seats.{IsSeatOf};
 
-use crate::fault::{NotDrawn, NotYet, StillOut, TooMany, Why};
+use crate::fault::{NotDrawn, NotYet, StillOut, TooMany, NotDrawnWhy};
 use crate::kept::{Call, Kept};
 use crate::steps::{self, LockSeat, TicketRule};
 use crate::tokens::{Drawn, Opener, Pass};
-use crate::views::{Held, View};
+use crate::views::{Held, SeatView};
 use atomic_table::{Refused, Table};
 use cmwq_types::{MAX_PASSES, MAX_TICKETS, NoMemory};
 use crossbeam_utils::Backoff;
@@ -26,7 +26,7 @@ use std::sync::Wait;
 pub struct TicketLock<T: Kept> {
     pub(crate) table: Table<
         Option<Held<T>>,
-        View<T::Origin, T::Entry>,
+        SeatView<T::Origin, T::Entry>,
         Snapshot<T>,
         TicketRule<T>,
         Global,
@@ -127,14 +127,14 @@ impl<T: Kept + Drop> TicketLock<T> {
         if loaded >= MAX_TICKETS {
             return Err(NotDrawn {
                 pass: Pass { seat, caller },
-                why: Why::Exhausted,
+                why: NotDrawnWhy::Exhausted,
             });
         }
         let found = steps::exchange(&self.table.shared, &mut seat, loaded);
         if found != loaded {
             return Err(NotDrawn {
                 pass: Pass { seat, caller },
-                why: Why::Raced { loaded, found },
+                why: NotDrawnWhy::Raced { loaded, found },
             });
         }
         Ok(Drawn {

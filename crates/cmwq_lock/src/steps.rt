@@ -6,7 +6,7 @@ ghost use Rattle.cmwq_lock.specs.Rule.{IsLeft};
 ghost use Rattle.cmwq_lock.specs.Seats.{IsSeatOf};
 
 use crate::kept::Kept;
-use crate::views::{Held, View};
+use crate::views::{Held, SeatView};
 use atomic_table::{Join, Play, Seat, Shared, Split, TableRule};
 use std::marker::PhantomData;
 use std::snapshot::Snapshot;
@@ -24,7 +24,7 @@ pub struct TicketRule<T> {
     kept: PhantomData<T>,
 }
 
-impl<T: Kept> TableRule<Option<Held<T>>, View<T::Origin, T::Entry>, Snapshot<T>> for TicketRule<T> {
+impl<T: Kept> TableRule<Option<Held<T>>, SeatView<T::Origin, T::Entry>, Snapshot<T>> for TicketRule<T> {
     ghost use Rattle.cmwq_lock.specs.Rule.{IsRuled, opening_view};
 
     ghost holds = { λ key. IsRuled T.Kept (T.origin key.value) };
@@ -33,43 +33,43 @@ impl<T: Kept> TableRule<Option<Held<T>>, View<T::Origin, T::Entry>, Snapshot<T>>
 }
 
 /// A seat at a lock's table.
-pub type LockSeat<T> = Seat<Option<Held<T>>, View<<T as Kept>::Origin, <T as Kept>::Entry>>;
+pub type LockSeat<T> = Seat<Option<Held<T>>, SeatView<<T as Kept>::Origin, <T as Kept>::Entry>>;
 
 /// The words and the slot of a lock.
 pub type Words<T> = Shared<
     Option<Held<T>>,
-    View<<T as Kept>::Origin, <T as Kept>::Entry>,
+    SeatView<<T as Kept>::Origin, <T as Kept>::Entry>,
     Snapshot<T>,
     TicketRule<T>,
 >;
 
 struct LoadDrawn;
 
-impl<T: Kept> Play<Option<Held<T>>, View<T::Origin, T::Entry>> for LoadDrawn {
+impl<T: Kept> Play<Option<Held<T>>, SeatView<T::Origin, T::Entry>> for LoadDrawn {
     ghost then = { λ st m n after. load_drawn m n after };
 }
 
 struct ExchangeDrawn;
 
-impl<T: Kept> Play<Option<Held<T>>, View<T::Origin, T::Entry>> for ExchangeDrawn {
+impl<T: Kept> Play<Option<Held<T>>, SeatView<T::Origin, T::Entry>> for ExchangeDrawn {
     ghost then = { λ st m n after. exchange_drawn T.Kept st.first m n after };
 }
 
 struct LookServed;
 
-impl<T: Kept> Play<Option<Held<T>>, View<T::Origin, T::Entry>> for LookServed {
+impl<T: Kept> Play<Option<Held<T>>, SeatView<T::Origin, T::Entry>> for LookServed {
     ghost then = { λ st m n after. look_served T.Kept m n after };
 }
 
 struct EndTurn;
 
-impl<T: Kept> Play<Option<Held<T>>, View<T::Origin, T::Entry>> for EndTurn {
+impl<T: Kept> Play<Option<Held<T>>, SeatView<T::Origin, T::Entry>> for EndTurn {
     ghost then = { λ st m n after. end_turn T.Kept m after };
 }
 
 struct GivePass;
 
-impl<O, E> Split<View<O, E>> for GivePass {
+impl<O, E> Split<SeatView<O, E>> for GivePass {
     ghost left = { given };
 
     ghost right = { fresh };
@@ -77,8 +77,8 @@ impl<O, E> Split<View<O, E>> for GivePass {
 
 struct TakePass;
 
-impl<O, E> Join<View<O, E>> for TakePass {
-    ghost use Rattle.cmwq_lock.specs.declared.views.View.TheVariants.{Spent};
+impl<O, E> Join<SeatView<O, E>> for TakePass {
+    ghost use Rattle.cmwq_lock.specs.declared.views.SeatView.TheVariants.{Spent};
 
     ghost both = { taken_back };
 
@@ -87,14 +87,14 @@ impl<O, E> Join<View<O, E>> for TakePass {
 
 struct CompareSeen;
 
-impl<T: Kept> Play<Option<Held<T>>, View<T::Origin, T::Entry>> for CompareSeen {
+impl<T: Kept> Play<Option<Held<T>>, SeatView<T::Origin, T::Entry>> for CompareSeen {
     ghost then = { λ st m n after. compare_seen m after };
 }
 
 struct JoinPasses;
 
-impl<O, E> Join<View<O, E>> for JoinPasses {
-    ghost use Rattle.cmwq_lock.specs.declared.views.View.TheVariants.{Spent};
+impl<O, E> Join<SeatView<O, E>> for JoinPasses {
+    ghost use Rattle.cmwq_lock.specs.declared.views.SeatView.TheVariants.{Spent};
 
     ghost both = { joined };
 
@@ -103,7 +103,7 @@ impl<O, E> Join<View<O, E>> for JoinPasses {
 
 struct PartPasses;
 
-impl<O, E> Split<View<O, E>> for PartPasses {
+impl<O, E> Split<SeatView<O, E>> for PartPasses {
     ghost left = { first_met };
 
     ghost right = { second_met };

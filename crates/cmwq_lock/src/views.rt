@@ -57,7 +57,7 @@ pub struct OpenerView<O, E> {
 }
 
 /// What a seat knows.
-pub enum View<O, E> {
+pub enum SeatView<O, E> {
     Opener(OpenerView<O, E>),
     Pass(Identity<O, E>, Phase<E>),
     /// Of a seat that two passes with no ticket have while they meet: the first and the second.

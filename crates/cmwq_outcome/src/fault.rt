@@ -73,10 +73,10 @@ pub fn fault_line<W: Sink>(writer: &mut W, fault: PlayError) -> Result<(), PlayE
 }
 
 /// A line, with room for the longest one.
-type Line = ArrayString<64>;
+type FaultLine = ArrayString<64>;
 
 /// The line that tells a fault.
-fn line_of(fault: PlayError) -> Line
+fn line_of(fault: PlayError) -> FaultLine
     ensures { result.bytes ≡ line_of fault }
 {
     match fault {
@@ -109,11 +109,11 @@ fn line_of(fault: PlayError) -> Line
 }
 
 /// The line of these texts.
-fn joined_line(texts: &[&str]) -> Line
+fn joined_line(texts: &[&str]) -> FaultLine
     requires { length (flat_map (λ text. text.now) texts.now) ≤ 63 }
     ensures { result.bytes ≡ fault_written (flat_map (λ text. text.now) texts.now) }
 {
-    let mut line = Line::new();
+    let mut line = FaultLine::new();
     for text in texts {
         line.push_str(text);
     }

@@ -1,5 +1,5 @@
 //! What the rows share: the one assertion, since a row of a table costs less to prove where it only calls this, and the setting of commands.
-use cmwq_command::Setting;
+use cmwq_command::ProgramSetting;
 use cmwq_outcome::Look;
 use std::fmt::Debug;
 use std::process::Abort;
@@ -15,8 +15,8 @@ pub(crate) fn same<C: Debug + Drop, T: Debug + PartialEq + Drop>(
 }
 
 /// The setting in which commands are carried out here.
-pub(crate) fn setting_with(look: Look) -> Setting<'static> {
-    Setting {
+pub(crate) fn setting_with(look: Look) -> ProgramSetting<'static> {
+    ProgramSetting {
         logic: "5eed5eed5eed5eed",
         look,
     }

@@ -10,7 +10,7 @@ use crate::bars::{Bar, bar_begun, goes_on, grown};
 use crate::label::{Label, label_width};
 use crate::layout::{full_height, full_width, left_edge, x_of, y_of};
 use crate::legend::{explained, meaning};
-use crate::shapes::{GridLine, Rectangle, TimeWords, Words, class_of, push_opening};
+use crate::shapes::{GridLine, Rectangle, TimeWords, PlacedText, class_of, push_opening};
 use crate::times::{ticks_before, time_at, time_count};
 use cmwq_picture::{Cell, Picture, Row};
 use cmwq_types::{NoMemory, Scenario};
@@ -85,7 +85,7 @@ impl Frame<'_> {
             title: row.title,
         };
         let label = label.to_string(alloc)?;
-        let words = Words {
+        let words = PlacedText {
             class: "name",
             x: 8 * self.width as u128 + 8,
             y: y_of(at as u128) + 14,
@@ -140,7 +140,7 @@ impl Frame<'_> {
         let name = self.scenario.work_name(work.0 as usize);
         let ticks = (bar.to - bar.from) as u128;
         if 8 * name.len() as u128 <= 10 * ticks {
-            let words = Words {
+            let words = PlacedText {
                 class: "who",
                 x: x_of(self.width, bar.from as u128) + 5 * ticks,
                 y: y_of(row as u128) + 14,
@@ -175,7 +175,7 @@ impl Frame<'_> {
             width: 20,
         };
         write!(text, "{rectangle}")?;
-        let words = Words {
+        let words = PlacedText {
             class: "key",
             x: x + 28,
             y: y + 22,

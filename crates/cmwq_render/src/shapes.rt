@@ -102,14 +102,14 @@ impl fmt::Display for Rectangle {
 
 /// A text.
 #[derive(Clone, Copy)]
-pub(crate) struct Words<'a> {
+pub(crate) struct PlacedText<'a> {
     pub(crate) class: &'static str,
     pub(crate) x: u128,
     pub(crate) y: u128,
     pub(crate) text: &'a str,
 }
 
-impl fmt::Display for Words<'_> {
+impl fmt::Display for PlacedText<'_> {
     ghost output = { λ w. Some (words w.class.now w.x w.y w.text.now) };
 
     #[tactic(auto, unfolding(crate::specs::Svg::words))]

@@ -14,8 +14,8 @@ use Rattle.cmwq_asm.specs.declared.fault.AsmError.TheVariants as asm
 use Rattle.cmwq_grammar.specs.declared.why.Why.TheVariants as why
 use Rattle.cmwq_scan.specs.Words.{StandsIn, Word}
 use Rattle.cmwq_verdict.specs.Places.{AreWordsOf, IsNotBefore, IsPlace, IsPlaceAmong, cut_behind, line_start, start_of}
-use Rattle.cmwq_verdict.specs.declared.places.Place.{Place}
-use Rattle.cmwq_verdict.specs.declared.places.Place.TheVariants as place
+use Rattle.cmwq_verdict.specs.declared.places.FaultPlace.{FaultPlace}
+use Rattle.cmwq_verdict.specs.declared.places.FaultPlace.TheVariants as place
 
 -- a word ends within its line
 pub within : (part : List ℕ) (word : Word) → StandsIn part word → (1 ≤ word.column) × (word.column + length word.bytes ≤ length part + 1)
@@ -108,7 +108,7 @@ module _ (text : List ℕ) (fault : FaultAt) where
       one : (a b : Word) → Some a ≡ Some b → a ≡ b
       one a b is = cc
 
-  pub placed : {E : Type 0} (r : Result Place E) (line : List ℕ) (more : List (List ℕ)) (words : List Word) → fault.line ≢ 0 → fault.why ≢ why.MissingWord
+  pub placed : {E : Type 0} (r : Result FaultPlace E) (line : List ℕ) (more : List (List ℕ)) (words : List Word) → fault.line ≢ 0 → fault.why ≢ why.MissingWord
       → lines_of (drop (start_of text fault) text) ≡ line ∷ more → AreWordsOf line words → IfOk r (λ p. IsPlaceAmong text fault words p) → IfOk r (λ p. IsPlace text fault p)
   placed (Ok place.Text) line more words some other cut are there = absurd there
   placed (Ok place.EndOfText) line more words some other cut are there = absurd there

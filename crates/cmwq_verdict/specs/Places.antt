@@ -6,8 +6,8 @@ use Rattle.cmwq_grammar.specs.FaultLaw.{IsFault}
 use Rattle.cmwq_grammar.specs.Meaning.{FaultAt}
 use Rattle.cmwq_grammar.specs.declared.why.Why.TheVariants as why
 use Rattle.cmwq_scan.specs.Words.{StandsIn, Word, words_in, worded_part}
-use Rattle.cmwq_verdict.specs.declared.places.Place.{Place}
-use Rattle.cmwq_verdict.specs.declared.places.Place.TheVariants as place
+use Rattle.cmwq_verdict.specs.declared.places.FaultPlace.{FaultPlace}
+use Rattle.cmwq_verdict.specs.declared.places.FaultPlace.TheVariants as place
 
 -- where line n of a text begins, lines being counted from 0
 abbrev pub line_start : ℕ → List ℕ → ℕ
@@ -50,14 +50,14 @@ module _ (text : List ℕ) (fault : FaultAt) where
       × (lines_of (drop (start_of text fault) text) ≡ line ∷ more) × AreWordsOf line words × AreSuch words
 
   -- it is seen at the first word such that the text cut behind it has the fault, or at none
-  abbrev pub IsPlaceAmong : List Word → Place → Type 0
+  abbrev pub IsPlaceAmong : List Word → FaultPlace → Type 0
   IsPlaceAmong words (place.Word column bytes) =
       (k : ℕ) × (slice_get words k ≡ Some (record { bytes = bytes.now; column = column })) × IsFaultBehind words k × IsNotBefore words k
   IsPlaceAmong words place.Line = IsNotBefore words (length words)
   IsPlaceAmong words place = ⊥
 
   -- The fault is seen there: where a word is missing, behind the line's last one.
-  abbrev pub IsPlace : Place → Type 0
+  abbrev pub IsPlace : FaultPlace → Type 0
   IsPlace place.Text = fault.line ≡ 0
   IsPlace place.EndOfText = (fault.line ≢ 0) × (lines_of (drop (start_of text fault) text) ≡ [])
   IsPlace (place.EndOfLine column) = (fault.line ≢ 0) × (fault.why ≡ why.MissingWord) × InLine (λ words. column ≡ behind_words words)

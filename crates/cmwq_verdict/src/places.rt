@@ -22,7 +22,7 @@ pub(crate) struct TextFault {
 
 /// Where the first fault of a text is seen. Columns are counted in bytes, from 1.
 #[derive(Clone, Copy, Debug)]
-pub enum Place<'t> {
+pub enum FaultPlace<'t> {
     /// The text as a whole, which is too long.
     Text,
     /// Behind the text's last line.
@@ -40,16 +40,16 @@ pub(crate) fn place_of_fault<'t>(
     alloc: Global,
     text: &'t [u8],
     fault: TextFault,
-) -> Result<Place<'t>, NoMemory>
+) -> Result<FaultPlace<'t>, NoMemory>
     ensures { IfOk result (λ place. IsPlace text.now (fault_at fault.line fault.why) place) }
 {
     if fault.line == 0 {
-        return Ok(Place::Text);
+        return Ok(FaultPlace::Text);
     }
     let start = line_start(text, fault.line - 1);
     match next_line(rest_from(text, start)) {
         Some((bytes, _)) => place_in_line(alloc, text, bytes, start, fault),
-        None => Ok(Place::EndOfText),
+        None => Ok(FaultPlace::EndOfText),
     }
 }
 
@@ -60,7 +60,7 @@ fn place_in_line<'t>(
     bytes: &'t [u8],
     start: usize,
     fault: TextFault,
-) -> Result<Place<'t>, NoMemory>
+) -> Result<FaultPlace<'t>, NoMemory>
     requires some { fault.line ≢ 0 }
     requires start { start ≡ line_start (fault.line - 1) text.now }
     requires room { start + length bytes.now ≤ length text.now }
@@ -72,7 +72,7 @@ fn place_in_line<'t>(
     let part = worded_part(bytes);
     if is_missing_word(fault.why) {
         let column = behind_words(part, &words);
-        return Ok(Place::EndOfLine { column });
+        return Ok(FaultPlace::EndOfLine { column });
     }
     place_among(alloc, text, start, part, &words, fault)
 }
@@ -91,7 +91,7 @@ fn place_among<'t>(
     part: &[u8],
     words: &[Token<'t>],
     fault: TextFault,
-) -> Result<Place<'t>, NoMemory>
+) -> Result<FaultPlace<'t>, NoMemory>
     requires stand { All (StandsIn part.now) words.now }
     requires start { start ≡ line_start (fault.line - 1) text.now }
     requires room { start + length part.now ≤ length text.now }
@@ -101,13 +101,13 @@ fn place_among<'t>(
         let word = &words[number];
         let cut = cut_behind(text, start, part, word);
         if has_fault(alloc, cut, fault)? {
-            return Ok(Place::Word {
+            return Ok(FaultPlace::Word {
                 column: word.column(),
                 bytes: word.bytes(),
             });
         }
     }
-    Ok(Place::Line)
+    Ok(FaultPlace::Line)
 }
 
 /// Where line n of the text begins, lines being counted from 0.

@@ -5,7 +5,7 @@ ghost use Rattle.std.specs.Prelude.{◌≡◌, ◌++◌, IfOk, OnOk, option_map}
 
 use crate::looks::{Look, front_of, push_pointer, push_why};
 use crate::offers::push_offer;
-use crate::places::{Place, TextFault, place_of_fault};
+use crate::places::{FaultPlace, TextFault, place_of_fault};
 use cmwq_asm::{AsmError, assemble};
 use cmwq_types::NoMemory;
 use std::alloc::Global;
@@ -62,7 +62,7 @@ fn fault_and_place(
     look: Look,
     file: &str,
     fault: TextFault,
-    place: Place<'_>,
+    place: FaultPlace<'_>,
 ) -> Result<Vec<u8>, NoMemory>
     ensures { IfOk result (λ told. told.items ≡ fault_line look file.now (fault_at fault.line fault.why) place.entry) }
 {
@@ -77,27 +77,27 @@ fn fault_and_place(
 }
 
 /// The column of the place.
-fn column_of_place(place: Place<'_>) -> usize
+fn column_of_place(place: FaultPlace<'_>) -> usize
     ensures { result ≡ column_of_place place.entry }
 {
     match place {
-        Place::Text => 0,
-        Place::EndOfText | Place::Line => 1,
-        Place::EndOfLine { column } => column,
-        Place::Word { column, .. } => column,
+        FaultPlace::Text => 0,
+        FaultPlace::EndOfText | FaultPlace::Line => 1,
+        FaultPlace::EndOfLine { column } => column,
+        FaultPlace::Word { column, .. } => column,
     }
 }
 
 /// Writes what stands at the place.
-fn push_subject(told: &mut Vec<u8>, place: Place<'_>) -> Result<(), NoMemory>
+fn push_subject(told: &mut Vec<u8>, place: FaultPlace<'_>) -> Result<(), NoMemory>
     ensures { OnOk result (told.new.items ≡ told.old.items ++ subject_of place.entry) }
 {
     match place {
-        Place::Text => told.extend_from_slice(b"text")?,
-        Place::EndOfText => told.extend_from_slice(b"end of text")?,
-        Place::Line => told.extend_from_slice(b"line")?,
-        Place::EndOfLine { .. } => told.extend_from_slice(b"end of line")?,
-        Place::Word { bytes, .. } => push_shown(told, bytes)?,
+        FaultPlace::Text => told.extend_from_slice(b"text")?,
+        FaultPlace::EndOfText => told.extend_from_slice(b"end of text")?,
+        FaultPlace::Line => told.extend_from_slice(b"line")?,
+        FaultPlace::EndOfLine { .. } => told.extend_from_slice(b"end of line")?,
+        FaultPlace::Word { bytes, .. } => push_shown(told, bytes)?,
     }
     Ok(())
 }

@@ -3,7 +3,7 @@ ghost use Rattle.cmwq_reasons.specs.Reasons.{causes, holders, pending_half, runn
 ghost use Rattle.cmwq_why.specs.Groups.{group_works};
 ghost use Rattle.std.specs.Prelude.{◌≡◌, [], ◌∷◌, IfOk, map};
 
-use crate::group::{Group, group_works};
+use crate::group::{ReasonGroup, group_works};
 use cmwq_reasons::{Instance, Reason};
 use cmwq_table::Reads;
 use cmwq_types::{NoMemory, WorkId};
@@ -26,7 +26,7 @@ pub fn causes<R: Reads>(
         Reason::Behind(v) | Reason::HighHas(v) => one(alloc, Instance::Running(v)),
         Reason::Deferred(_) => one(alloc, Instance::Running(work)),
         Reason::Inactive(pool) => holders(alloc, machine, queue, pool),
-        Reason::Held(pool) => running(alloc, machine, Group::Counted(pool)),
+        Reason::Held(pool) => running(alloc, machine, ReasonGroup::Counted(pool)),
         Reason::NoWorker(pool) => on_workers(alloc, machine, queue, pool),
         _ => Ok(Vec::new(alloc)),
     }
@@ -41,9 +41,9 @@ pub fn holders<R: Reads>(
 ) -> Result<Vec<Instance>, NoMemory>
     ensures { IfOk result (λ instances. instances.items ≡ holders (R.loaded machine.now) (R.state machine.now) queue pool) }
 {
-    let mut holders = running(alloc, machine, Group::RunningOf { queue, pool })?;
-    let deferred = pending(alloc, machine, Group::DeferredOf { queue, pool })?;
-    let listed = pending(alloc, machine, Group::ListedOf { queue, pool })?;
+    let mut holders = running(alloc, machine, ReasonGroup::RunningOf { queue, pool })?;
+    let deferred = pending(alloc, machine, ReasonGroup::DeferredOf { queue, pool })?;
+    let listed = pending(alloc, machine, ReasonGroup::ListedOf { queue, pool })?;
     holders.extend_from_slice(&deferred)?;
     holders.extend_from_slice(&listed)?;
     Ok(holders)
@@ -59,8 +59,8 @@ pub fn on_workers<R: Reads>(
 ) -> Result<Vec<Instance>, NoMemory>
     ensures { IfOk result (λ running. running.items ≡ map running_half (works_on_workers (R.loaded machine.now) (R.state machine.now) queue pool)) }
 {
-    let mut instances = running(alloc, machine, Group::OnWorkers(pool))?;
-    let rescued = running(alloc, machine, Group::OnRescuer(queue))?;
+    let mut instances = running(alloc, machine, ReasonGroup::OnWorkers(pool))?;
+    let rescued = running(alloc, machine, ReasonGroup::OnRescuer(queue))?;
     instances.extend_from_slice(&rescued)?;
     Ok(instances)
 }
@@ -73,7 +73,7 @@ fn one(alloc: Global, instance: Instance) -> Result<Vec<Instance>, NoMemory>
 }
 
 /// What runs of each of the group's works.
-fn running<R: Reads>(alloc: Global, machine: &R, group: Group) -> Result<Vec<Instance>, NoMemory>
+fn running<R: Reads>(alloc: Global, machine: &R, group: ReasonGroup) -> Result<Vec<Instance>, NoMemory>
     ensures { IfOk result (λ instances. instances.items ≡ map running_half (group_works (R.loaded machine.now) (R.state machine.now) group)) }
 {
     let works = group_works(alloc, machine, group)?;
@@ -86,7 +86,7 @@ fn running<R: Reads>(alloc: Global, machine: &R, group: Group) -> Result<Vec<Ins
 }
 
 /// What pends of each of the group's works.
-fn pending<R: Reads>(alloc: Global, machine: &R, group: Group) -> Result<Vec<Instance>, NoMemory>
+fn pending<R: Reads>(alloc: Global, machine: &R, group: ReasonGroup) -> Result<Vec<Instance>, NoMemory>
     ensures { IfOk result (λ instances. instances.items ≡ map pending_half (group_works (R.loaded machine.now) (R.state machine.now) group)) }
 {
     let works = group_works(alloc, machine, group)?;

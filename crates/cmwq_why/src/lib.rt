@@ -11,6 +11,6 @@ mod running;
 pub use blame::{causes, holders, on_workers};
 pub use flushes::{lacks_memory, lacks_thaw, waits};
 pub use going_first::is_same;
-pub use group::{Group, group_works};
+pub use group::{ReasonGroup, group_works};
 pub use pending::pending_reason;
 pub use running::{reason_of, running_reason};

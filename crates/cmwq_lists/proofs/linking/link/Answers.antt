@@ -1,6 +1,6 @@
 use Rattle.std.proofs.Common.{Some, IsSome, ap, subst, ◌∙◌, inl, inr}
 use Rattle.std.proofs.lemmas.Bool.{cases_eq}
-use Rattle.cmwq_lists.specs.declared.cell.Cell.{Cell}
+use Rattle.cmwq_lists.specs.declared.cell.ListCell.{ListCell}
 use Rattle.slab.specs.Slab.{get}
 use Rattle.cmwq_lists.specs.Cells.{with_next, with_prev}
 use Rattle.cmwq_lists.proofs.LinkingLemmas.{next_of_cut, after_if_held, held_before, if_held_kept, next_if_held, chain_linked_in, others_linked_in}
@@ -30,7 +30,7 @@ returns-clause-chain c before behind cut =
     let next_is = next_of_cut (get c.args.cells.now) c.args.list c.args.ends.now before behind c.args.after c.key_behind-next.result cut c.key_behind-next.ensures in
     let added = c.insert_reserved-key.ensures in
     chain_linked_in (get c.args.cells.now) _ _ _ c.args.list c.args.ends.now _ _ before behind c.args.after c.key_behind-next.result c.insert_reserved-key.result c.args.node cut next_is
-    (record { fresh = added.was_vacant; new = added.updates.changed ∙ ap (λ (x : Cell). Some x) c.new.ensures; others = added.updates.others; next_set = c.set_next.ensures.cells; prev_set = c.set_prev.ensures.cells })
+    (record { fresh = added.was_vacant; new = added.updates.changed ∙ ap (λ (x : ListCell). Some x) c.new.ensures; others = added.updates.others; next_set = c.set_next.ensures.cells; prev_set = c.set_prev.ensures.cells })
     c.set_next.ensures.ends c.set_prev.ensures.ends
 
 pub returns-clause-others : goal.returns-clause-others
@@ -39,7 +39,7 @@ returns-clause-others c =
     let next_is = next_of_cut (get c.args.cells.now) c.args.list c.args.ends.now cut.0 cut.1 c.args.after c.key_behind-next.result cut.2 c.key_behind-next.ensures in
     let added = c.insert_reserved-key.ensures in
     others_linked_in (get c.args.cells.now) _ _ _ c.args.list c.args.ends.now cut.0 cut.1 c.args.after c.key_behind-next.result c.insert_reserved-key.result c.args.node cut.2 next_is
-    (record { fresh = added.was_vacant; new = added.updates.changed ∙ ap (λ (x : Cell). Some x) c.new.ensures; others = added.updates.others; next_set = c.set_next.ensures.cells; prev_set = c.set_prev.ensures.cells })
+    (record { fresh = added.was_vacant; new = added.updates.changed ∙ ap (λ (x : ListCell). Some x) c.new.ensures; others = added.updates.others; next_set = c.set_next.ensures.cells; prev_set = c.set_prev.ensures.cells })
 
 pub returns-clause-no_more : goal.returns-clause-no_more
 returns-clause-no_more c key held =

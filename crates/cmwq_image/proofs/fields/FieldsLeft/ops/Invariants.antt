@@ -1,6 +1,6 @@
 use Rattle.std.proofs.Common.{◌≡◌, ◌+◌, ◌-◌, ◌*◌, ◌≤◌}
 use Rattle.cmwq_image.proofs.LoopLemmas.{with_front}
-use Rattle.cmwq_image.proofs.fields.Fields.ops.Given as goal
+use Rattle.cmwq_image.proofs.fields.FieldsLeft.ops.Given as goal
 use Rattle.cmwq_image.specs.ImageFault.{read_op, many}
 
 abbrev pub invariant-loop : goal.invariant-loop

@@ -2,7 +2,7 @@ use Rattle.std.proofs.Common.{◌≡◌, ℕ, ◌<◌, [], slice_index_or, vec_c
 use Rattle.cmwq_lock.specs.Tokens.{opener_view}
 use Rattle.cmwq_lock.specs.Views.{next_of, out_of, records_of}
 use Rattle.cmwq_engine.specs.Shared.{IsOpenerOf}
-use Rattle.cmwq_actors.proofs.part.Stage.start.Given as goal
+use Rattle.cmwq_actors.proofs.part.ActorStage.start.Given as goal
 
 abbrev pub invariant-loop-number : goal.invariant-loop-number
 invariant-loop-number g l = record {

@@ -5,7 +5,7 @@ use Rattle.cmwq_lock.specs.Tokens.{opener_view}
 use Rattle.cmwq_lock.specs.Views.{out_of, records_of}
 use Rattle.cmwq_engine.specs.Shared.{IsOpenerOf, setting_of}
 use Rattle.cmwq_actors.specs.Playing.{HasPlayed}
-use Rattle.cmwq_actors.proofs.part.Stage.join_all.Given as goal
+use Rattle.cmwq_actors.proofs.part.ActorStage.join_all.Given as goal
 
 abbrev pub invariant-loop-thread : goal.invariant-loop-thread
 invariant-loop-thread g l =

@@ -5,7 +5,7 @@ use Rattle.cmwq_lock.specs.Tokens.{pass_view}
 use Rattle.cmwq_lock.specs.Views.{caller_of, mine_of}
 use Rattle.cmwq_engine.specs.Shared.{IsPassOf}
 use Rattle.cmwq_actors.specs.Playing.{issued_with}
-use Rattle.cmwq_actors.proofs.part.Stage.play_lines.Given as goal
+use Rattle.cmwq_actors.proofs.part.ActorStage.play_lines.Given as goal
 
 abbrev pub invariant-loop-instr : goal.invariant-loop-instr
 invariant-loop-instr g l = record {

@@ -1,6 +1,6 @@
 use Rattle.std.proofs.Common.{rules}
 use Rattle.cmwq_actors.proofs.IssueLemmas.{one_more_fits, stop_ends}
-use Rattle.cmwq_actors.proofs.part.Stage.play_lines.Goals as goal
+use Rattle.cmwq_actors.proofs.part.ActorStage.play_lines.Goals as goal
 
 pub overflow_add-calls : goal.overflow_add-calls
 overflow_add-calls g c =

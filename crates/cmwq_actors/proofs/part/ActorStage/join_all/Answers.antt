@@ -6,7 +6,7 @@ use Rattle.cmwq_lock.specs.Views.{knowledge_of, records_of}
 use Rattle.cmwq_engine.specs.Shared.{setting_of}
 use Rattle.cmwq_actors.proofs.PlayedLemmas.{one_more_played, promised}
 use Rattle.cmwq_actors.proofs.RestLemmas.{rest_at_end, taken_at}
-use Rattle.cmwq_actors.proofs.part.Stage.join_all.Goals as goal
+use Rattle.cmwq_actors.proofs.part.ActorStage.join_all.Goals as goal
 
 pub returns-clause-played : goal.returns-clause-played
 returns-clause-played g c =

@@ -2,7 +2,7 @@ use Rattle.std.proofs.Common.{arith, ◌≡◌, ◌<◌, ◌++◌, ℕ, [], ◌�
 use Rattle.std.proofs.Math.ListN.{get_or-append}
 use Rattle.std.proofs.Math.Seq.{get_or-append_seam}
 use Rattle.std.proofs.lemmas.List.{get_or_default}
-use Rattle.cmwq_actors.proofs.part.Stage.start.Goals as goal
+use Rattle.cmwq_actors.proofs.part.ActorStage.start.Goals as goal
 
 pub returns-clause-parts : goal.returns-clause-parts
 returns-clause-parts g c =

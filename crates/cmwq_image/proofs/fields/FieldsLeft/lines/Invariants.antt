@@ -1,6 +1,6 @@
 use Rattle.std.proofs.Common.{◌≡◌, ◌+◌, ◌-◌, ◌*◌, ◌≤◌}
 use Rattle.cmwq_image.proofs.LoopLemmas.{with_front}
-use Rattle.cmwq_image.proofs.fields.Fields.lines.Given as goal
+use Rattle.cmwq_image.proofs.fields.FieldsLeft.lines.Given as goal
 use Rattle.cmwq_image.specs.ImageFault.{read_line, many}
 
 abbrev pub invariant-loop : goal.invariant-loop

@@ -3,7 +3,7 @@ use Rattle.cmwq_lock.specs.Tokens.{opener_view}
 use Rattle.cmwq_lock.specs.Views.{records_of}
 use Rattle.cmwq_engine.specs.Shared.{setting_of}
 use Rattle.cmwq_actors.proofs.PlayedLemmas.{all_have_played}
-use Rattle.cmwq_actors.proofs.part.fn.Stage.perform.scope.Goals as goal
+use Rattle.cmwq_actors.proofs.part.fn.ActorStage.perform.scope.Goals as goal
 
 pub join_all-requires-clause-parts : goal.join_all-requires-clause-parts
 join_all-requires-clause-parts g c =

@@ -1,7 +1,7 @@
 use Rattle.std.proofs.Common.{arith}
 use Rattle.std.proofs.lemmas.Result.{err_from_is_err_and}
 use Rattle.cmwq_image.proofs.LoopLemmas.{goes_on, ends}
-use Rattle.cmwq_image.proofs.fields.Fields.ops.Goals as goal
+use Rattle.cmwq_image.proofs.fields.FieldsLeft.ops.Goals as goal
 use Rattle.cmwq_image.specs.ImageFault.{read_op, many}
 
 pub returns-in_err-op-clause-read : goal.returns-in_err-op-clause-read

@@ -1,7 +1,7 @@
 use Rattle.std.proofs.Common.{arith}
 use Rattle.std.proofs.lemmas.Result.{err_from_is_err_and}
 use Rattle.cmwq_image.proofs.LoopLemmas.{goes_on, ends}
-use Rattle.cmwq_image.proofs.fields.Fields.actors.Goals as goal
+use Rattle.cmwq_image.proofs.fields.FieldsLeft.actors.Goals as goal
 use Rattle.cmwq_image.specs.ImageFault.{read_actor, many}
 
 pub returns-in_err-actor-clause-read : goal.returns-in_err-actor-clause-read
