@@ -154,7 +154,7 @@ def grammar_faults():
 
 def main(program=None):
     scenario = words_of_scenarios()
-    commands = set(re.findall(r'^(?:words_of|task_words) .*?= codes "(\w+)"', text_of("crates/cmwq_request/specs/Request.antt"), re.M))
+    commands = set(re.findall(r'^(?:request_words|task_words) .*?= codes "(\w+)"', text_of("crates/cmwq_request/specs/Request.antt"), re.M))
     assert len(commands) >= 6
     faults = [fault for path in [PAGES[1], *GRAMMARS] for fault in lacks(path, scenario)]
     faults += [fault for path in [PAGES[0], *COMPLETIONS.values()] for fault in lacks(path, commands)]

@@ -11,7 +11,7 @@ ghost use Rattle.cmwq_actors.specs.Playing.{EachHasPlayed, HasPlayed};
 
 use crate::ending::Ending;
 use crate::gate::Gate;
-use crate::part::{Played, ActorStage};
+use crate::part::{ActorStage, Played};
 use cmwq_engine::{Engine, Shared};
 use cmwq_lock::{Kept, Opener};
 use cmwq_table::Machine;

@@ -2,7 +2,7 @@
 use Rattle.std.proofs.Common.{◌≡◌, ℕ, Bool, true, false, cond, List, ap, ◌∙◌, sym}
 use Rattle.std.specs.Prelude.{Result, Ok, Err}
 use Rattle.std.specs.Str.{bytes_eq}
-use Rattle.cmwq_grammar.specs.Fields.{◌>>=◌, made_last, number_within}
+use Rattle.cmwq_grammar.specs.LineFields.{◌>>=◌, made_last, number_within}
 use Rattle.cmwq_grammar.specs.Instructions.{cannot_stand}
 use Rattle.cmwq_grammar.specs.declared.why.Why.{Why}
 use Rattle.cmwq_grammar.specs.declared.why.Why.TheVariants as why

@@ -2,7 +2,7 @@
 use Rattle.std.proofs.Common.{◌≡◌, sym, subst}
 use Rattle.std.specs.Prelude.{Result, Ok, Err, IsErrAnd}
 use Rattle.cmwq_grammar.specs.declared.why.Why.{Why}
-use Rattle.cmwq_asm.specs.Answers.{Gives}
+use Rattle.cmwq_asm.specs.LineAnswers.{Gives}
 use Rattle.cmwq_asm.specs.declared.fault.LineError.{LineError}
 use Rattle.cmwq_asm.specs.declared.fault.LineError.TheVariants as error
 

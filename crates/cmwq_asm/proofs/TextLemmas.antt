@@ -2,13 +2,13 @@
 use Rattle.std.proofs.Common.{◌≡◌, ℕ, ◌+◌, ◌<◌, List, [], ◌∷◌, length, ap, ◌∙◌, sym, subst, arith}
 use Rattle.std.specs.Prelude.{Result, Ok, Err}
 use Rattle.cmwq_grammar.specs.Cutting.{lines_of}
-use Rattle.cmwq_grammar.specs.Fields.{◌>>=◌}
+use Rattle.cmwq_grammar.specs.LineFields.{◌>>=◌}
 use Rattle.cmwq_grammar.specs.Meaning.{FaultAt, fault_at, at_line, stage_after}
-use Rattle.cmwq_grammar.specs.Reasons.{judge}
+use Rattle.cmwq_grammar.specs.LineReasons.{judge}
 use Rattle.cmwq_grammar.specs.Stages.{Stage}
 use Rattle.cmwq_grammar.specs.declared.why.Why.{Why}
 use Rattle.cmwq_asm.specs.Texts.{AsmErrorIs, Fails, LeadsOn}
-use Rattle.cmwq_asm.specs.Answers.{RefusesLine}
+use Rattle.cmwq_asm.specs.LineAnswers.{RefusesLine}
 use Rattle.cmwq_asm.specs.declared.fault.AsmError.{AsmError}
 use Rattle.cmwq_asm.specs.declared.fault.LineError.{LineError}
 use Rattle.cmwq_asm.specs.declared.fault.LineError.TheVariants as error

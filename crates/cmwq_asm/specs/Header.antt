@@ -1,7 +1,7 @@
 -- A line at a text's head.
 use Rattle.std.specs.Prelude.{ℕ, List, Result, if◌then◌else◌}
 use Rattle.std.specs.Str.{bytes_eq}
-use Rattle.cmwq_grammar.specs.Fields.{number_within}
+use Rattle.cmwq_grammar.specs.LineFields.{number_within}
 use Rattle.cmwq_grammar.specs.Instructions.{cannot_stand}
 use Rattle.cmwq_grammar.specs.declared.why.Why.{Why}
 use Rattle.cmwq_grammar.specs.declared.why.Why.TheVariants as why

@@ -1,5 +1,5 @@
-pub mod Answers
 pub mod Header
-pub mod Stages
-pub mod Steps
+pub mod LineAnswers
+pub mod LineSteps
+pub mod TextStages
 pub mod Texts

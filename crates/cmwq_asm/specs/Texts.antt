@@ -4,7 +4,7 @@ use Rattle.cmwq_types.specs.Contents.{ScenarioContents}
 use Rattle.cmwq_grammar.specs.Cutting.{lines_of}
 use Rattle.cmwq_grammar.specs.Meaning.{FaultAt, fault_at, stage_after}
 use Rattle.cmwq_grammar.specs.Stages.{Stage}
-use Rattle.cmwq_asm.specs.Stages.{stage_of}
+use Rattle.cmwq_asm.specs.TextStages.{stage_of}
 use Rattle.cmwq_asm.specs.declared.fault.AsmError.{AsmError}
 use Rattle.cmwq_asm.specs.declared.fault.AsmError.TheVariants as asm
 use Rattle.cmwq_asm.specs.declared.fault.LineError.{LineError}

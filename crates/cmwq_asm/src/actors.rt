@@ -1,9 +1,9 @@
 //! The lines of an actor: `actor NAME`, and its instructions.
-ghost use Rattle.cmwq_asm.specs.Answers.{Gives};
+ghost use Rattle.cmwq_asm.specs.LineAnswers.{Gives};
 ghost use Rattle.cmwq_scan.specs.Words.{words_left};
-ghost use Rattle.cmwq_asm.specs.Stages.{stage_in, stage_of, with_line};
+ghost use Rattle.cmwq_asm.specs.TextStages.{stage_in, stage_of, with_line};
 ghost use Rattle.cmwq_asm.specs.Texts.{LeadsOn};
-ghost use Rattle.cmwq_grammar.specs.Reasons.{add_line, judge, open_actor};
+ghost use Rattle.cmwq_grammar.specs.LineReasons.{add_line, judge, open_actor};
 ghost use Rattle.cmwq_grammar.specs.Stages.{with_actor};
 ghost use Rattle.cmwq_types.specs.declared.limits.TheConstants.{MAX_TEXT};
 ghost use Rattle.std.specs.Prelude.{◌≡◌, ◌≤◌, IfOk, IfSome, IsTrue, Ok, length};
@@ -19,7 +19,7 @@ use cmwq_types::{Fault, Line, MAX_ACTORS, MAX_LINES, NoMemory};
 use std::alloc::Global;
 
 /// Opens the actor that what is behind the word `actor` names.
-#[tactic(auto, unfolding(cmwq_grammar::specs::Reasons::open_actor))]
+#[tactic(auto, unfolding(cmwq_grammar::specs::LineReasons::open_actor))]
 pub(crate) fn open_actor<'t>(
     alloc: Global,
     draft: Draft<'t>,
@@ -37,7 +37,7 @@ pub(crate) fn open_actor<'t>(
 }
 
 /// Adds a line to the actor.
-#[tactic(auto, unfolding(cmwq_grammar::specs::Reasons::add_line))]
+#[tactic(auto, unfolding(cmwq_grammar::specs::LineReasons::add_line))]
 pub(crate) fn add_line<'t>(
     mut actor: Box<OpenActor<'t>>,
     line: Line,
@@ -85,7 +85,7 @@ pub(crate) fn read_instructions<'t>(
 }
 
 /// The line that this is of the actor, where it is an instruction without fault, and there is room for it.
-#[tactic(auto, unfolding(cmwq_grammar::specs::Reasons::judge, cmwq_grammar::specs::Reasons::step, cmwq_grammar::specs::Reasons::add_line))]
+#[tactic(auto, unfolding(cmwq_grammar::specs::LineReasons::judge, cmwq_grammar::specs::LineReasons::step, cmwq_grammar::specs::LineReasons::add_line))]
 fn instruction_of(actor: &OpenActor, line: &[u8]) -> Option<Line>
     requires { IsTrue (is_utf8 line.now) }
     ensures { IfSome result (λ next. judge (stage_in actor.now) line.now ≡ Ok (with_line actor.now next)) }

@@ -11,8 +11,8 @@ ghost use Rattle.cmwq_types.specs.Faults.{IsValid};
 ghost use Rattle.std.specs.Prelude.{◌≡◌, ◌≤◌, ◌⊎◌, ℕ, IfOk, MatchResult, length};
 
 use crate::fault::{AsmError, LineError};
+use crate::line_steps::judge_line;
 use crate::stage::Stage;
-use crate::steps::judge_line;
 use cmwq_grammar::Why;
 use cmwq_grammar::laws::{
     read_text_spells_its_scenario, reading_fails_at_the_first_fault,

@@ -1,10 +1,10 @@
 //! The lines that declare queues and works: `queue NAME max N FLAG..` and `work NAME QUEUE`.
-ghost use Rattle.cmwq_asm.specs.Answers.{Gives};
-ghost use Rattle.cmwq_asm.specs.Stages.{stage_of};
-ghost use Rattle.cmwq_asm.specs.Steps.{declared_queue, declared_work};
+ghost use Rattle.cmwq_asm.specs.LineAnswers.{Gives};
+ghost use Rattle.cmwq_asm.specs.TextStages.{stage_of};
+ghost use Rattle.cmwq_asm.specs.LineSteps.{declared_queue, declared_work};
 ghost use Rattle.cmwq_draft.specs.Declarations.{queue_of_line, work_of_line};
 ghost use Rattle.cmwq_grammar.specs.Instructions.{queue_names, work_names};
-ghost use Rattle.cmwq_grammar.specs.Reasons.{add_queue, add_work};
+ghost use Rattle.cmwq_grammar.specs.LineReasons.{add_queue, add_work};
 ghost use Rattle.cmwq_scan.specs.Words.{words_left};
 ghost use Rattle.std.specs.List.{list_any};
 ghost use Rattle.std.specs.Prelude.{◌≡◌, false};
@@ -26,7 +26,7 @@ pub(crate) fn declare_queue<'t>(draft: Draft<'t>, rest: &'t [u8]) -> Result<Stag
 }
 
 /// Declares the queue.
-#[tactic(auto, unfolding(cmwq_grammar::specs::Reasons::add_queue))]
+#[tactic(auto, unfolding(cmwq_grammar::specs::LineReasons::add_queue))]
 fn add_queue<'t>(draft: Draft<'t>, queue: QueueLine<'t>) -> Result<Stage<'t>, LineError>
     requires { list_any (λ other. bytes_eq other queue.name) (queue_names draft) ≡ false }
     ensures { Gives stage_of result (add_queue draft.entry (queue_of_line queue.entry)) }
@@ -54,7 +54,7 @@ pub(crate) fn declare_work<'t>(
 }
 
 /// Declares the work.
-#[tactic(auto, unfolding(cmwq_grammar::specs::Reasons::add_work))]
+#[tactic(auto, unfolding(cmwq_grammar::specs::LineReasons::add_work))]
 fn add_work<'t>(alloc: Global, draft: Draft<'t>, work: WorkLine<'t>) -> Result<Stage<'t>, LineError>
     requires { list_any (λ other. bytes_eq other work.name) (work_names draft) ≡ false }
     ensures { Gives stage_of result (add_work draft.entry (work_of_line work.entry)) }

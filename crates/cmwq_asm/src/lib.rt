@@ -5,14 +5,14 @@ mod actors;
 mod assembling;
 mod declarations;
 mod fault;
-mod next;
+mod line_steps;
+mod next_line;
 mod open;
 mod operations;
 mod stage;
-mod steps;
 
 pub use assembling::{assemble, assemble_again};
 pub use cmwq_grammar::{Next, Why};
 pub use cmwq_list::list;
 pub use fault::AsmError;
-pub use next::next_after;
+pub use next_line::next_after;

@@ -1,7 +1,7 @@
 //! The lines of a body: `body NAME`, its operations, and `finish`.
-ghost use Rattle.cmwq_asm.specs.Answers.{Gives};
-ghost use Rattle.cmwq_asm.specs.Stages.{stage_of};
-ghost use Rattle.cmwq_grammar.specs.Reasons.{add_op, open_body};
+ghost use Rattle.cmwq_asm.specs.LineAnswers.{Gives};
+ghost use Rattle.cmwq_asm.specs.TextStages.{stage_of};
+ghost use Rattle.cmwq_grammar.specs.LineReasons.{add_op, open_body};
 ghost use Rattle.cmwq_grammar.specs.Stages.{with_body};
 ghost use Rattle.cmwq_scan.specs.Words.{words_left};
 ghost use Rattle.std.specs.Prelude.{◌≡◌, IfOk};
@@ -15,7 +15,7 @@ use cmwq_types::{Fault, MAX_OPS, NoMemory, Op};
 use std::alloc::Global;
 
 /// Opens the body of the next work, which what is behind the word `body` must name.
-#[tactic(auto, using(cmwq_scan::proofs::LineSteps::line_steps), unfolding(cmwq_grammar::specs::Reasons::open_body))]
+#[tactic(auto, using(cmwq_scan::proofs::LineSteps::line_steps), unfolding(cmwq_grammar::specs::LineReasons::open_body))]
 pub(crate) fn open_body<'t>(
     alloc: Global,
     bodies: Bodies<'t>,
@@ -30,7 +30,7 @@ pub(crate) fn open_body<'t>(
 }
 
 /// Adds the operation to the body; `finish` ends it, and any other must leave room for that.
-#[tactic(auto, unfolding(cmwq_grammar::specs::Reasons::add_op))]
+#[tactic(auto, unfolding(cmwq_grammar::specs::LineReasons::add_op))]
 pub(crate) fn add_op<'t>(mut body: Box<OpenBody<'t>>, op: Op) -> Result<Stage<'t>, LineError>
     ensures { Gives stage_of result (add_op body.entry.value.bodies.told body.entry.value.bodies.done body.entry.value.ops.items op) }
 {

@@ -1,8 +1,8 @@
 //! How far a text has come.
-ghost use Rattle.cmwq_asm.specs.Answers.{Gives};
+ghost use Rattle.cmwq_asm.specs.LineAnswers.{Gives};
 ghost use Rattle.cmwq_scan.specs.Words.{words_left};
-ghost use Rattle.cmwq_asm.specs.Stages.{stage_of};
-ghost use Rattle.cmwq_grammar.specs.Reasons.{at_end, step};
+ghost use Rattle.cmwq_asm.specs.TextStages.{stage_of};
+ghost use Rattle.cmwq_grammar.specs.LineReasons.{at_end, step};
 ghost use Rattle.cmwq_asm.specs.Texts.{LeadsOn};
 ghost use Rattle.cmwq_types.specs.declared.limits.TheConstants.{MAX_TEXT};
 ghost use Rattle.std.specs.Prelude.{◌∷◌, ◌≤◌, IfOk, IsTrue, length};
@@ -10,8 +10,8 @@ ghost use Rattle.std.specs.Str.{is_utf8};
 
 use crate::actors::{close_actor, read_instructions};
 use crate::fault::LineError;
+use crate::line_steps::{between_bodies, in_actor, in_body, in_queues, in_works, read_head_number};
 use crate::open::{OpenActor, OpenBody};
-use crate::steps::{between_bodies, in_actor, in_body, in_queues, in_works, read_head_number};
 use cmwq_draft::{Bodies, Draft};
 use cmwq_grammar::Why;
 use cmwq_types::{Fault, MAX_CPUS, MAX_FLUSHES, MAX_STEPS, MAX_WORKERS, NoMemory, Scenario};
@@ -54,7 +54,7 @@ impl<'t> Drop for Stage<'t> {
 
 impl<'t> Stage<'t> {
     /// The stage after a line that begins with this word.
-    #[tactic(auto, using(crate::proofs::HeaderLemmas::head_steps), unfolding(cmwq_grammar::specs::Reasons::step))]
+    #[tactic(auto, using(crate::proofs::HeaderLemmas::head_steps), unfolding(cmwq_grammar::specs::LineReasons::step))]
     pub(crate) fn after(
         self,
         alloc: Global,
@@ -114,7 +114,7 @@ impl<'t> Stage<'t> {
     }
 
     /// The scenario of a text that ends at this stage, or why it may not.
-    #[tactic(auto, unfolding(cmwq_grammar::specs::Reasons::at_end))]
+    #[tactic(auto, unfolding(cmwq_grammar::specs::LineReasons::at_end))]
     pub(crate) fn at_end(self) -> Result<Scenario, LineError>
         ensures { Gives (λ scenario. scenario) result (at_end (stage_of self.entry)) }
     {

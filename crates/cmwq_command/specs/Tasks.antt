@@ -1,16 +1,16 @@
 -- What each task comes to: its goal, the faults that it tells, and what it writes.
 use Rattle.std.specs.Prelude.{ℕ, List, Option}
 use Rattle.cmwq_types.specs.Listing.{listing}
-use Rattle.cmwq_explain.specs.Telling.{AreChanges}
+use Rattle.cmwq_explain.specs.ChangesTold.{AreChanges}
 use Rattle.cmwq_tasks.specs.declared.task.Task.{Task}
 use Rattle.cmwq_tasks.specs.declared.task.Task.TheVariants.{Run, Settle, List as Listing, Show, Draw, Why}
 use Rattle.cmwq_draw.specs.Drawn.{IsDrawFault, IsDrawnText}
 use Rattle.cmwq_explain.specs.Explained.{IsAnswer, IsUnanswered, said_to}
 use Rattle.cmwq_play.specs.Images.{IsImageFault, IsShown}
-use Rattle.cmwq_play.specs.Texts.{ComesTo, IsTaskFault as IsTextFaultOf, IsOutput, IsRun, IsRunFault, IsTextFault}
+use Rattle.cmwq_play.specs.PlayTexts.{ComesTo, IsTaskFault as IsTextFaultOf, IsOutput, IsRun, IsRunFault, IsTextFault}
 use Rattle.cmwq_settle.specs.Settling.{IsFollowedRun, IsSettledRun, IsSettledText, IsUnsettledRun, IsUnsettledText}
 use Rattle.cmwq_streams.specs.declared.error.PlayError.{PlayError}
-use Rattle.cmwq_tell.specs.Telling.{IsToldRun}
+use Rattle.cmwq_tell.specs.RunTold.{IsToldRun}
 use Rattle.cmwq_tasks.specs.declared.task.RunKind.TheVariants.{Plain, Settled, Told}
 
 -- what the input comes to

@@ -1,13 +1,13 @@
 //! What the words ask for, carried out on files.
 ghost use Rattle.cmwq_types.specs.Faults.{IsValid};
 ghost use Rattle.clap.specs.Words.{Text};
-ghost use Rattle.cmwq_outcome.specs.Telling.{Prints};
+ghost use Rattle.cmwq_outcome.specs.FaultsTold.{Prints};
 ghost use Rattle.cmwq_command_line.specs.CommandLine.{version_line};
 ghost use Rattle.cmwq_request.specs.Request.{IsCapacity, IsVersionWord, IsWithin};
 ghost use Rattle.cmwq_outcome.specs.declared.telling.TheConstants.{GOOD};
 ghost use Rattle.std.specs.Prelude.{◌≡◌, ◌∷◌, [], Err, IfOk, MatchResult, Ok, OnOk, false, map, string_bytes};
 
-use crate::task::do_task;
+use crate::do_task::do_task;
 use cmwq_actors::OpenGate;
 use cmwq_outcome::{GOOD, Judged, Look, check_text, tell, tell_unread, write_first, write_version};
 use cmwq_play::{Marked, PlayError, Sink};

@@ -2,7 +2,7 @@
 #![tactic(auto)]
 
 mod carrying;
-mod task;
+mod do_task;
 
 pub use carrying::{ProgramSetting, answer_request, carry_out};
-pub use task::do_task;
+pub use do_task::do_task;

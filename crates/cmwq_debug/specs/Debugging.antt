@@ -14,8 +14,8 @@ use Rattle.cmwq_table.specs.Table.{run, table}
 use Rattle.cmwq_table.specs.declared.machine.LoadError.{LoadError}
 use Rattle.cmwq_table.specs.declared.machine.LoadError.TheVariants as load
 use Rattle.cmwq_dump.specs.Dump.{dump, pool_lines}
-use Rattle.cmwq_why_text.specs.Text.{why_line}
-use Rattle.cmwq_flush_waits.specs.Text.{flush_lines}
+use Rattle.cmwq_why_text.specs.WhyText.{why_line}
+use Rattle.cmwq_flush_waits.specs.FlushText.{flush_lines}
 use Rattle.cmwq_debug.specs.Breaks.{break_at, free, lowest, said_of}
 use Rattle.cmwq_debug.specs.declared.breaks.TheConstants.{MAX_BREAKS}
 use Rattle.cmwq_debug.specs.declared.breaks.Break.{Break}

@@ -2,8 +2,8 @@
 ghost use Rattle.cmwq_debug.specs.Debugging.{Answer, At, Meets, OpensDebugger, answer_of, breaks_on, breaks_on_work, does, dumps_pool, goes, goes_back, opened, removed, run_end, runs_on, says, state_at, stop, tells_waits, tells_why, time_at, Text};
 ghost use Rattle.cmwq_debug.specs.Breaks.{break_at};
 ghost use Rattle.cmwq_dump.specs.Dump.{dump, pool_lines};
-ghost use Rattle.cmwq_flush_waits.specs.Text.{flush_lines};
-ghost use Rattle.cmwq_why_text.specs.Text.{why_line};
+ghost use Rattle.cmwq_flush_waits.specs.FlushText.{flush_lines};
+ghost use Rattle.cmwq_why_text.specs.WhyText.{why_line};
 ghost use Rattle.cmwq_types.specs.Faults.{IsValid};
 ghost use Rattle.cmwq_types.specs.Scenario.{pool_count};
 ghost use Rattle.cmwq_types.specs.declared.limits.TheConstants.{MAX_HISTORY};
@@ -11,7 +11,7 @@ ghost use Rattle.std.specs.Prelude.{◌≡◌, ◌+◌, ◌⊎◌, ◌<◌, ◌�
 
 use crate::breaks::{Break, MAX_BREAKS, free};
 use crate::command::{Command, DebugError, EventKind, Said};
-use crate::moving::{carry_forward, run_on};
+use crate::positions::{carry_forward, run_on};
 use cmwq_dump::{dump_text, pool_text};
 use cmwq_flush_waits::flush_text;
 use cmwq_table::{LoadError, Machine};

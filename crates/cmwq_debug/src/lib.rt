@@ -4,7 +4,7 @@
 mod breaks;
 mod command;
 mod debugger;
-mod moving;
+mod positions;
 
 pub use breaks::MAX_BREAKS;
 pub use command::{Command, DebugError, EventKind, Said};

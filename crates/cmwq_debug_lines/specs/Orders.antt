@@ -2,7 +2,7 @@
 use Rattle.std.specs.Prelude.{ℕ, List, [], ◌∷◌, Option, Some, None, Result, Ok, Err, codes, if◌then◌else◌, position}
 use Rattle.std.specs.Str.{bytes_eq}
 use Rattle.cmwq_types.specs.Contents.{ScenarioContents}
-use Rattle.cmwq_grammar.specs.Fields.{number_within}
+use Rattle.cmwq_grammar.specs.LineFields.{number_within}
 use Rattle.cmwq_grammar.specs.declared.why.Why.{Why}
 use Rattle.cmwq_scan.specs.LastFields.{last}
 use Rattle.cmwq_debug.specs.declared.command.Command.{Command}

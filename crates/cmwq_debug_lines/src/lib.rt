@@ -1,11 +1,11 @@
 //! Command lines of the debugger: what each tells it, and what is said to it.
 #![tactic(auto)]
 
-mod lines;
+mod commands_read;
 mod order;
-mod reading;
 mod talk;
+mod whole_lines;
 
-pub use lines::line_length;
-pub use reading::work_named;
+pub use commands_read::work_named;
 pub use talk::answer;
+pub use whole_lines::line_length;

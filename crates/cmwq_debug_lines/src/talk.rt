@@ -4,8 +4,8 @@ ghost use Rattle.cmwq_debug_lines.specs.Talk.{answer_text, error_name, line_said
 ghost use Rattle.cmwq_types.specs.declared.limits.TheConstants.{MAX_WORKS};
 ghost use Rattle.std.specs.Prelude.{◌≡◌, ◌≤◌, IfOk, OnOk, length};
 
+use crate::commands_read::order_of;
 use crate::order::Order;
-use crate::reading::order_of;
 use cmwq_debug::{Command, DebugError, Debugger, Said};
 use cmwq_scan::{Tokens, read_tokens};
 use cmwq_table::Machine;

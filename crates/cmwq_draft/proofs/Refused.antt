@@ -1,7 +1,7 @@
 -- A reason told as it is, and steps that went well.
 use Rattle.std.proofs.Common.{◌≡◌, Bool, true, false, cond, refl, sym, ap, subst}
 use Rattle.std.specs.Prelude.{Result, Ok, Err, IsErrAnd}
-use Rattle.cmwq_grammar.specs.Fields.{◌>>=◌}
+use Rattle.cmwq_grammar.specs.LineFields.{◌>>=◌}
 use Rattle.cmwq_grammar.specs.declared.why.Why.{Why}
 use Rattle.cmwq_scan.specs.Answers.{Tells}
 

@@ -2,9 +2,9 @@
 use Rattle.std.specs.Prelude.{ℕ, List, Result, length}
 use Rattle.cmwq_types.specs.Contents.{ScenarioContents, WorkContents}
 use Rattle.cmwq_types.specs.declared.scenario.Op.{Op}
-use Rattle.cmwq_grammar.specs.Fields.{◌>>=◌, declared_at}
+use Rattle.cmwq_grammar.specs.LineFields.{◌>>=◌, declared_at}
 use Rattle.cmwq_grammar.specs.Instructions.{work_names}
-use Rattle.cmwq_grammar.specs.Reasons.{is_next, then_cpu}
+use Rattle.cmwq_grammar.specs.LineReasons.{is_next, then_cpu}
 use Rattle.cmwq_grammar.specs.declared.why.Why.{Why}
 use Rattle.cmwq_scan.specs.LastFields.{last}
 

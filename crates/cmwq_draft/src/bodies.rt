@@ -1,5 +1,5 @@
 //! The works of a text, some of which have their bodies.
-ghost use Rattle.cmwq_grammar.specs.Reasons.{all_have_bodies, with_works};
+ghost use Rattle.cmwq_grammar.specs.LineReasons.{all_have_bodies, with_works};
 ghost use Rattle.cmwq_grammar.specs.Stages.{with_body};
 ghost use Rattle.std.specs.Prelude.{◌≡◌, ◌<◌, [], IfOk, IsTrue, length};
 

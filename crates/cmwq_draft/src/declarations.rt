@@ -1,7 +1,7 @@
 //! The lines that declare queues and works: `queue NAME max N FLAG..` and `work NAME QUEUE`.
 ghost use Rattle.cmwq_draft.specs.Declarations.{queue_of_line, work_of_line};
 ghost use Rattle.cmwq_grammar.specs.Instructions.{queue_names, work_names};
-ghost use Rattle.cmwq_grammar.specs.Reasons.{add_flag, flags_at, queue_at_line, work_at_line};
+ghost use Rattle.cmwq_grammar.specs.LineReasons.{add_flag, flags_at, queue_at_line, work_at_line};
 ghost use Rattle.cmwq_scan.specs.Answers.{Tells};
 ghost use Rattle.cmwq_scan.specs.Words.{words_left};
 ghost use Rattle.cmwq_types.specs.Faults.{fits_flags};
@@ -35,7 +35,7 @@ pub struct WorkLine<'t> {
 }
 
 /// The queue that is behind the word `queue`, or the first reason against these words. Whether its `max` and its flags fit isn't judged.
-#[tactic(auto, unfolding(cmwq_grammar::specs::Reasons::queue_at_line))]
+#[tactic(auto, unfolding(cmwq_grammar::specs::LineReasons::queue_at_line))]
 pub fn read_queue_line<'t>(draft: &Draft<'t>, rest: &'t [u8]) -> Result<QueueLine<'t>, Why>
     ensures line { Tells queue_of_line result (queue_at_line draft.now (words_left rest.now)) }
     ensures new { IfOk result (λ queue. list_any (λ other. bytes_eq other queue.name) (queue_names draft.now) ≡ false) }
@@ -48,7 +48,7 @@ pub fn read_queue_line<'t>(draft: &Draft<'t>, rest: &'t [u8]) -> Result<QueueLin
 }
 
 /// The flags of a queue; each word is one.
-#[tactic(auto, unfolding(cmwq_grammar::specs::Reasons::flags_at))]
+#[tactic(auto, unfolding(cmwq_grammar::specs::LineReasons::flags_at))]
 fn read_flags(words: &[u8]) -> Result<Flags, Why>
     ensures { Tells (λ flags. flags) result (flags_at (words_left words.now) plain_flags) }
 {
@@ -62,7 +62,7 @@ fn read_flags(words: &[u8]) -> Result<Flags, Why>
 }
 
 /// The flags, and the one that the word names, which wasn't set.
-#[tactic(auto, unfolding(cmwq_grammar::specs::Reasons::add_flag))]
+#[tactic(auto, unfolding(cmwq_grammar::specs::LineReasons::add_flag))]
 fn add_flag(flags: Flags, word: &[u8]) -> Result<Flags, Why>
     ensures { Tells (λ flags. flags) result (add_flag flags word.now) }
 {
@@ -97,7 +97,7 @@ pub fn fits_flags(queue: &QueueLine) -> bool
 }
 
 /// The work that is behind the word `work`, or the first reason against these words.
-#[tactic(auto, using(cmwq_scan::proofs::LineSteps::line_steps), unfolding(cmwq_grammar::specs::Reasons::work_at_line))]
+#[tactic(auto, using(cmwq_scan::proofs::LineSteps::line_steps), unfolding(cmwq_grammar::specs::LineReasons::work_at_line))]
 pub fn read_work_line<'t>(draft: &Draft<'t>, rest: &'t [u8]) -> Result<WorkLine<'t>, Why>
     ensures line { Tells work_of_line result (work_at_line draft.now (words_left rest.now)) }
     ensures new { IfOk result (λ work. list_any (λ other. bytes_eq other work.name) (work_names draft.now) ≡ false) }

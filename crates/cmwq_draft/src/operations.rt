@@ -1,6 +1,6 @@
 //! What the lines of a body say: `body NAME`, and its operations.
 ghost use Rattle.cmwq_draft.specs.Operations.{next_at, queued_at};
-ghost use Rattle.cmwq_grammar.specs.Reasons.{not_in_body, op_at_line};
+ghost use Rattle.cmwq_grammar.specs.LineReasons.{not_in_body, op_at_line};
 ghost use Rattle.cmwq_scan.specs.Answers.{Tells};
 ghost use Rattle.cmwq_scan.specs.Words.{words_left};
 ghost use Rattle.std.specs.Prelude.{◌≡◌, ◌<◌, OnOk, length};
@@ -26,7 +26,7 @@ pub fn read_next(bodies: &Bodies, rest: &[u8]) -> Result<usize, Why>
 }
 
 /// The operation of a body's line that begins with this word, or the first reason against the line.
-#[tactic(auto, using(cmwq_scan::proofs::LineSteps::line_steps), unfolding(cmwq_grammar::specs::Reasons::op_at_line))]
+#[tactic(auto, using(cmwq_scan::proofs::LineSteps::line_steps), unfolding(cmwq_grammar::specs::LineReasons::op_at_line))]
 pub fn read_op(draft: &Draft, word: &[u8], rest: &[u8]) -> Result<Op, Why>
     ensures { Tells (λ op. op) result (op_at_line draft.now word.now (words_left rest.now)) }
 {

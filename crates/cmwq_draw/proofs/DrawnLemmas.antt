@@ -5,7 +5,7 @@ use Rattle.cmwq_types.specs.Contents.{ActorContents, ScenarioContents}
 use Rattle.cmwq_asm.specs.declared.fault.AsmError.{AsmError}
 use Rattle.cmwq_grammar.specs.Grammar.{Spells}
 use Rattle.cmwq_play.specs.Commands.{Answers, IsOutside}
-use Rattle.cmwq_play.specs.Texts.{ComesTo, IsFaultOf, IsSpelled, IsTextFault}
+use Rattle.cmwq_play.specs.PlayTexts.{ComesTo, IsFaultOf, IsSpelled, IsTextFault}
 use Rattle.cmwq_play.proofs.CommandLemmas.{answers_outside}
 use Rattle.cmwq_play.proofs.TextLemmas.{answers_told, not_refused, refused_once, same_actor}
 use Rattle.cmwq_settle.specs.Settled.{IsSettled, settled_scenario, with_nexts}

@@ -2,7 +2,7 @@
 use Rattle.std.specs.Prelude.{◌≡◌, ℕ, Bool, true, false, List, [], ◌∷◌, Option}
 use Rattle.cmwq_types.specs.Contents.{ActorContents, ScenarioContents}
 use Rattle.cmwq_play.specs.Runs.{CanRun, IsRefused}
-use Rattle.cmwq_play.specs.Texts.{ComesTo, IsFaultOf}
+use Rattle.cmwq_play.specs.PlayTexts.{ComesTo, IsFaultOf}
 use Rattle.cmwq_settle.specs.Settled.{IsSettled, IsUnsettleable}
 use Rattle.cmwq_streams.specs.declared.error.PlayError.{PlayError}
 use Rattle.cmwq_streams.specs.declared.error.PlayError.TheVariants as errors

@@ -2,7 +2,7 @@
 use Rattle.std.specs.Prelude.{◌≡◌, ℕ, Bool, true, false, List, Result, Ok, Err}
 use Rattle.cmwq_types.specs.Contents.{ActorContents, ScenarioContents}
 use Rattle.cmwq_types.specs.Scenario.{expand}
-use Rattle.cmwq_picture.specs.Contents.{PictureContents}
+use Rattle.cmwq_picture.specs.PictureContents.{PictureContents}
 use Rattle.cmwq_picture.specs.Picture.{is_too_wide, picture}
 use Rattle.cmwq_render.specs.Sketch.{picture_text}
 use Rattle.cmwq_streams.specs.declared.error.PlayError.{PlayError}

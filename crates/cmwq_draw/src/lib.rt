@@ -1,8 +1,8 @@
 //! `draw`: from a scenario's text to a picture of its run, as text or as SVG.
 #![tactic(auto)]
 
-mod command;
+mod draw;
 mod rendering;
 
-pub use command::draw;
+pub use draw::draw;
 pub use rendering::drawing_of;

@@ -2,10 +2,10 @@
 #![tactic(auto)]
 
 mod dump;
+mod dump_lines;
 mod dumping;
 mod group;
 mod idle;
 pub mod laws;
-mod lines;
 
 pub use dump::{dump_text, pool_text};

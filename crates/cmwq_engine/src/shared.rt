@@ -13,7 +13,7 @@ ghost use Rattle.cmwq_engine.specs.Shared.{HasEntered, HasFoundFull, HasHadTurn,
 use crate::engine::Engine;
 use crate::history::Full;
 use crate::kept::Receipt;
-use cmwq_lock::{Drawn, Kept, NotDrawn, NotYet, Opener, Pass, TicketLock, TooMany, NotDrawnWhy};
+use cmwq_lock::{Drawn, Kept, NotDrawn, NotDrawnWhy, NotYet, Opener, Pass, TicketLock, TooMany};
 use cmwq_table::{LoadError, Machine};
 use cmwq_types::{Instr, NoMemory, Scenario};
 use std::alloc::Global;

@@ -1,7 +1,7 @@
 //! The instructions: each one's situation is judged and its effect carried out together, so that what was
 //! found for the one serves the other.
 ghost use Rattle.cmwq_exec.specs.Performing.{Performs};
-ghost use Rattle.cmwq_parts.specs.Moves.{IsFound, move_of};
+ghost use Rattle.cmwq_parts.specs.FoundMoves.{IsFound, move_of};
 ghost use Rattle.cmwq_table.specs.Counts.{first_due};
 ghost use Rattle.cmwq_table.specs.Moves.{first_moving};
 ghost use Rattle.cmwq_table.specs.Ready.{IsKept};

@@ -8,7 +8,7 @@ use Rattle.cmwq_types.specs.Scenario.{expand}
 use Rattle.cmwq_types.specs.declared.instr.Instr.{Instr}
 use Rattle.cmwq_table.specs.State.{State}
 use Rattle.cmwq_explain.specs.Changes.{changes_text, said_line, looks_at, said_at, said_below, state_at, told_at, told_below}
-use Rattle.cmwq_explain.specs.Telling.{IsPastEnd}
+use Rattle.cmwq_explain.specs.ChangesTold.{IsPastEnd}
 use Rattle.cmwq_tasks.specs.declared.question.Looks.{Looks}
 use Rattle.cmwq_tasks.specs.declared.question.Looks.TheVariants.{Settled, Every, At}
 use Rattle.cmwq_debug_lines.specs.Orders.{work_named}

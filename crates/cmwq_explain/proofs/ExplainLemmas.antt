@@ -6,11 +6,11 @@ use Rattle.cmwq_types.specs.Scenario.{expand}
 use Rattle.cmwq_asm.specs.declared.fault.AsmError.{AsmError}
 use Rattle.cmwq_grammar.specs.Grammar.{Spells}
 use Rattle.cmwq_explain.specs.Changes.{has_bytes}
-use Rattle.cmwq_explain.specs.Telling.{AreChanges, IsPastEnd, IsTellError, TellsText}
+use Rattle.cmwq_explain.specs.ChangesTold.{AreChanges, IsPastEnd, IsTellError, TellsText}
 use Rattle.cmwq_tasks.specs.declared.question.Looks.{Looks}
 use Rattle.cmwq_play.specs.Commands.{Answers, IsOutside, Writes}
 use Rattle.cmwq_play.specs.Runs.{CanRun, IsRefused, IsRunOf}
-use Rattle.cmwq_play.specs.Texts.{ComesTo, IsFaultOf, IsSpelled, IsTextFault}
+use Rattle.cmwq_play.specs.PlayTexts.{ComesTo, IsFaultOf, IsSpelled, IsTextFault}
 use Rattle.cmwq_play.proofs.CommandLemmas.{answers_outside, writes_err, writes_more}
 use Rattle.cmwq_play.proofs.TextLemmas.{answers_told, answers_well, not_refused, refused_once, same_actor}
 use Rattle.cmwq_streams.specs.Sending.{IsSendError}

@@ -16,7 +16,7 @@ use Rattle.cmwq_play.proofs.CommandLemmas.{writes_more}
 use Rattle.cmwq_streams.specs.declared.error.PlayError.{PlayError}
 use Rattle.cmwq_explain.specs.Changes.{changes_text, has_bytes, said_below, state_at, told_at, told_below}
 use Rattle.cmwq_explain.specs.Looking.{going_on, keeping, line_here, looked, looker_wholly, looks_here, saying, telling, told_here, told_wholly}
-use Rattle.cmwq_explain.specs.Telling.{as_unit}
+use Rattle.cmwq_explain.specs.ChangesTold.{as_unit}
 use Rattle.cmwq_explain.specs.declared.looker.Looker.{Looker}
 
 or_false : (b : Bool) → b ≡ (b || false)

@@ -6,7 +6,7 @@ use Rattle.cmwq_streams.specs.Sending.{IsSendError}
 use Rattle.cmwq_streams.specs.declared.error.PlayError.{PlayError}
 use Rattle.cmwq_streams.specs.declared.error.PlayError.TheVariants.{PastEnd, Write, NoMemory}
 use Rattle.cmwq_explain.specs.Changes.{has_bytes}
-use Rattle.cmwq_explain.specs.Telling.{TellsText, as_unit}
+use Rattle.cmwq_explain.specs.ChangesTold.{TellsText, as_unit}
 
 -- the run has no such position
 pub past : (text : List ℕ) (IsPast : Type 0) (before : Option (List ℕ)) (failed : Bool) → IsPast → failed ≡ false → TellsText text IsPast before before failed (Err PastEnd)

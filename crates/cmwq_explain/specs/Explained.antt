@@ -3,11 +3,11 @@ use Rattle.std.specs.Prelude.{◌≡◌, ◌≢◌, ◌⊎◌, ℕ, Bool, List, 
 use Rattle.cmwq_types.specs.Contents.{ActorContents, ScenarioContents}
 use Rattle.cmwq_types.specs.Scenario.{expand}
 use Rattle.cmwq_table.specs.State.{State}
-use Rattle.cmwq_why_text.specs.Text.{why_line}
-use Rattle.cmwq_flush_waits.specs.Text.{flush_lines}
+use Rattle.cmwq_why_text.specs.WhyText.{why_line}
+use Rattle.cmwq_flush_waits.specs.FlushText.{flush_lines}
 use Rattle.cmwq_debug_lines.specs.Orders.{work_named}
 use Rattle.cmwq_explain.specs.Changes.{changes_text}
-use Rattle.cmwq_explain.specs.Telling.{AreChanges, IsPastEnd}
+use Rattle.cmwq_explain.specs.ChangesTold.{AreChanges, IsPastEnd}
 use Rattle.cmwq_tasks.specs.declared.question.Looks.{Looks}
 use Rattle.cmwq_play.specs.Commands.{Writes}
 use Rattle.cmwq_play.specs.Runs.{CanRun, IsRefused, IsRunOf}

@@ -2,13 +2,13 @@
 //! alone, wherever what is said changes.
 #![tactic(auto)]
 
-mod asking;
-mod command;
+mod answering;
+mod changes;
 pub mod examples;
+mod explaining;
 pub mod laws;
 mod looker;
 mod said;
 mod sayer;
-mod telling;
 
-pub use command::why;
+pub use explaining::why;

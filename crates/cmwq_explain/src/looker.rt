@@ -1,7 +1,7 @@
 //! Who looks at a run's states as it goes, and tells what is said of them wherever it changes.
 ghost use Rattle.cmwq_explain.specs.Changes.{words};
 ghost use Rattle.cmwq_explain.specs.Looking.{line_here, looked, looker_wholly, looks_here, saying, told_here, told_wholly};
-ghost use Rattle.cmwq_explain.specs.Telling.{as_unit};
+ghost use Rattle.cmwq_explain.specs.ChangesTold.{as_unit};
 ghost use Rattle.cmwq_play.specs.Commands.{Writes};
 ghost use Rattle.cmwq_play.specs.Session.{CanIssue, Issues};
 ghost use Rattle.cmwq_streams.specs.Blocks.{SharesSink, kept, sink};

@@ -1,3 +1,3 @@
+pub mod FlushText
 pub mod Laws
-pub mod Text
 pub mod Waits

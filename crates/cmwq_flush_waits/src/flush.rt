@@ -1,8 +1,8 @@
 //! What a flush waits for, as text.
-ghost use Rattle.cmwq_flush_waits.specs.Text.{flush_lines};
+ghost use Rattle.cmwq_flush_waits.specs.FlushText.{flush_lines};
 ghost use Rattle.std.specs.Prelude.{◌≡◌, IfOk, MatchOption, None, Some, string_bytes};
 
-use crate::telling::flush_waits_lines;
+use crate::flush_text::flush_waits_lines;
 use cmwq_table::Reads;
 use cmwq_types::NoMemory;
 use cmwq_why::waits;

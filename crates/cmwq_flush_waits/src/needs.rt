@@ -1,5 +1,5 @@
 //! What has to come from outside before a wait can end.
-ghost use Rattle.cmwq_flush_waits.specs.Text.{needs_text, text_if};
+ghost use Rattle.cmwq_flush_waits.specs.FlushText.{needs_text, text_if};
 ghost use Rattle.std.specs.Prelude.{◌≡◌, ◌++◌, OnOk, string_bytes};
 
 use cmwq_types::NoMemory;

@@ -11,10 +11,10 @@ use Rattle.cmwq_types.specs.declared.limits.TheConstants.{MAX_ACTORS, MAX_LINES,
 use Rattle.cmwq_types.specs.declared.scenario.Line.{Line}
 use Rattle.cmwq_types.specs.declared.scenario.Op.{Op}
 use Rattle.cmwq_types.specs.declared.scenario.QueueDecl.{QueueDecl}
-use Rattle.cmwq_grammar.specs.Fields.{◌>>=◌, declared_at, made_last, new_name_at, value_if}
+use Rattle.cmwq_grammar.specs.LineFields.{◌>>=◌, declared_at, made_last, new_name_at, value_if}
 use Rattle.cmwq_grammar.specs.Grammar.{Says}
 use Rattle.cmwq_grammar.specs.Instructions.{actor_names, cannot_stand, instr_at, line_at, queue_names, work_names}
-use Rattle.cmwq_grammar.specs.Reasons.{add_actor, add_line, add_op, add_queue, add_work, is_next, op_at_line, open_actor, open_body, queue_at_line, work_at_line}
+use Rattle.cmwq_grammar.specs.LineReasons.{add_actor, add_line, add_op, add_queue, add_work, is_next, op_at_line, open_actor, open_body, queue_at_line, work_at_line}
 use Rattle.cmwq_grammar.specs.Stages.{Stage, Queues, Works, Bodies, Body, Actor, with_body}
 use Rattle.cmwq_grammar.specs.declared.why.Why.TheVariants as why
 use Rattle.cmwq_grammar.proofs.Basics.{ok_same, fine, bind_ok, bind_at, value_if_ok, value_if_at, chosen, either, cond_yes, cond_no, not_false, same_word, below, below_is, equal, equal_is}

@@ -9,10 +9,10 @@ use Rattle.cmwq_types.specs.Listing.{WrittenLine, written}
 use Rattle.cmwq_types.specs.declared.limits.TheConstants.{MAX_TEXT}
 use Rattle.cmwq_grammar.specs.Cutting.{is_empty, lines_of, without_empty_last, worded, words_of}
 use Rattle.cmwq_grammar.specs.FaultLaw.{Begins, FaultAtEnd, FaultInLine, IsFault}
-use Rattle.cmwq_grammar.specs.Fields.{◌>>=◌}
+use Rattle.cmwq_grammar.specs.LineFields.{◌>>=◌}
 use Rattle.cmwq_grammar.specs.Grammar.{SayAll}
 use Rattle.cmwq_grammar.specs.Meaning.{FaultAt, at_line, ends_before, fault_at, reads, reads_lines, stage_after}
-use Rattle.cmwq_grammar.specs.Reasons.{at_end, judge}
+use Rattle.cmwq_grammar.specs.LineReasons.{at_end, judge}
 use Rattle.cmwq_grammar.specs.Stages.{Stage, Start}
 use Rattle.cmwq_grammar.specs.declared.why.Why.{Why}
 use Rattle.cmwq_grammar.specs.declared.why.Why.TheVariants as why

@@ -11,7 +11,7 @@ use Rattle.std.specs.Str.Parse.{digits_value}
 use Rattle.cmwq_types.specs.Faults.{within}
 use Rattle.cmwq_types.specs.Name.{is_name}
 use Rattle.cmwq_types.specs.declared.check.Fault.TheVariants as fault
-use Rattle.cmwq_grammar.specs.Fields.{after_word, among, declared_at, ended, in_range, is_number, made_last, name_at, named, new_name_at, not_among, number_at, number_or_unknown, number_where, as_number, rest_if, word_at}
+use Rattle.cmwq_grammar.specs.LineFields.{after_word, among, declared_at, ended, in_range, is_number, made_last, name_at, named, new_name_at, not_among, number_at, number_or_unknown, number_where, as_number, rest_if, word_at}
 use Rattle.cmwq_grammar.specs.declared.why.Why.TheVariants as why
 use Rattle.cmwq_grammar.proofs.Basics.{bind_ok, bind_at, value_if_ok, value_if_at, and_true, true_and, not_true, same_word, word_is, position_at, cond_yes}
 

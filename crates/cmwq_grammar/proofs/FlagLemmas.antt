@@ -9,7 +9,7 @@ use Rattle.cmwq_types.specs.Listing.{flag_words, word_if}
 use Rattle.cmwq_types.specs.Scenario.{plain_flags}
 use Rattle.cmwq_types.specs.declared.check.Fault.TheVariants as fault
 use Rattle.cmwq_types.specs.declared.scenario.Flags.{Flags}
-use Rattle.cmwq_grammar.specs.Reasons.{FlagWord, add_among, add_flag, flag_table, flags_at, set_once}
+use Rattle.cmwq_grammar.specs.LineReasons.{FlagWord, add_among, add_flag, flag_table, flags_at, set_once}
 use Rattle.cmwq_grammar.specs.declared.why.Why.TheVariants as why
 use Rattle.cmwq_grammar.proofs.Basics.{one_if, bind_ok, bind_at, value_if_ok, value_if_at, either, not_true, same_word, word_is, chosen, cond_yes, cond_no}
 

@@ -12,10 +12,10 @@ use Rattle.cmwq_types.specs.declared.scenario.Flags.{Flags}
 use Rattle.cmwq_types.specs.declared.scenario.Op.{Op}
 use Rattle.cmwq_types.specs.declared.scenario.Op.TheVariants as op
 use Rattle.cmwq_types.specs.declared.scenario.QueueDecl.{QueueDecl}
-use Rattle.cmwq_grammar.specs.Fields.{◌>>=◌, after_word, declared_at, ended, made_last, new_name_at, number_at, number_where}
+use Rattle.cmwq_grammar.specs.LineFields.{◌>>=◌, after_word, declared_at, ended, made_last, new_name_at, number_at, number_where}
 use Rattle.cmwq_grammar.specs.Grammar.{Says}
 use Rattle.cmwq_grammar.specs.Instructions.{cannot_stand, queue_names, work_names, work_id}
-use Rattle.cmwq_grammar.specs.Reasons.{flags_at, not_in_body, op_at_line, queue_at_line, queue_of_flags, then_cpu, then_flags, then_max, then_number, then_queue, work_at_line, new_work}
+use Rattle.cmwq_grammar.specs.LineReasons.{flags_at, not_in_body, op_at_line, queue_at_line, queue_of_flags, then_cpu, then_flags, then_max, then_number, then_queue, work_at_line, new_work}
 use Rattle.cmwq_grammar.specs.declared.why.Why.{Why}
 use Rattle.cmwq_grammar.proofs.Basics.{ok_same, bind_ok, bind_at, and_true, true_and, chosen, same_word, below}
 use Rattle.cmwq_grammar.proofs.FieldLemmas.{IsNew, declared_read, ended_read, ended_again, given_read, given_again, last_read, new_name_read, new_name_again, number_read, number_again, where_read, where_again, within_fits}

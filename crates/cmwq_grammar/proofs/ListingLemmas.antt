@@ -30,7 +30,7 @@ use Rattle.cmwq_grammar.specs.Grammar.{SayAll, Says, Spells}
 use Rattle.cmwq_grammar.specs.Instructions.{queue_names, work_names}
 use Rattle.cmwq_grammar.proofs.Basics.{and_true, at_most, true_and, either, cond_no, cond_yes, below}
 use Rattle.cmwq_grammar.proofs.CanonicalLines.{all_plain, fed, fed_lines, joined, plain_byte, plain_no_feeds, plain_utf8, plain_word, plain_worded, plain_words}
-use Rattle.cmwq_grammar.specs.Reasons.{FlagWord, flag_table}
+use Rattle.cmwq_grammar.specs.LineReasons.{FlagWord, flag_table}
 use Rattle.cmwq_grammar.proofs.FieldLemmas.{numerals, within_fits}
 use Rattle.cmwq_grammar.proofs.FlagLemmas.{flag_words_are, words_set}
 use Rattle.cmwq_grammar.proofs.GoodScenario.{Good, GoodBody, GoodBodyOf, good_actor, good_from_valid, good_lines, on_queue_of}

@@ -6,7 +6,7 @@ use Rattle.cmwq_types.specs.Contents.{ScenarioContents, WorkContents}
 use Rattle.cmwq_types.specs.Name.{is_name}
 use Rattle.cmwq_types.specs.Scenario.{queue_at, work_at, plain_flags}
 use Rattle.cmwq_types.specs.declared.scenario.QueueDecl.{QueueDecl}
-use Rattle.cmwq_grammar.specs.Fields.{declared_at}
+use Rattle.cmwq_grammar.specs.LineFields.{declared_at}
 use Rattle.cmwq_grammar.specs.Instructions.{queue_names, work_names}
 use Rattle.cmwq_grammar.proofs.FieldLemmas.{IsNew, declared_again}
 

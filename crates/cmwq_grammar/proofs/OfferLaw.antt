@@ -22,12 +22,12 @@ use Rattle.cmwq_types.specs.declared.scenario.Op.{Op}
 use Rattle.cmwq_types.specs.declared.scenario.Op.TheVariants as op
 use Rattle.cmwq_grammar.specs.Cutting.{words_of}
 use Rattle.cmwq_grammar.specs.FaultLaw.{Begins}
-use Rattle.cmwq_grammar.specs.Fields.{◌>>=◌, declared_at, made_last, number_where, number_within}
+use Rattle.cmwq_grammar.specs.LineFields.{◌>>=◌, declared_at, made_last, number_where, number_within}
 use Rattle.cmwq_grammar.specs.Grammar.{Says}
 use Rattle.cmwq_grammar.specs.Instructions.{Operands, Makes, OfWork, OfQueue, OfNumber, cannot_stand, instr_at, instr_named, line_at, line_times, operands_at, operands_of, queue_id, queue_names, then_times, work_id, work_names}
 use Rattle.cmwq_grammar.specs.Meaning.{FaultAt, at_line, stage_after}
 use Rattle.cmwq_grammar.specs.Offers.{GoesOnWith, IsNextAfter, has_named, next_of, next_words, words_of_next}
-use Rattle.cmwq_grammar.specs.Reasons.{add_line, add_op, add_queue, add_work, all_have_bodies, judge, op_at_line, open_actor, open_body, queue_at_line, step, with_works, work_at_line}
+use Rattle.cmwq_grammar.specs.LineReasons.{add_line, add_op, add_queue, add_work, all_have_bodies, judge, op_at_line, open_actor, open_body, queue_at_line, step, with_works, work_at_line}
 use Rattle.cmwq_grammar.specs.Stages.{Stage, Start, Cpus, Workers, Steps, Queues, Works, Bodies, Body, Actor, head_of, with_actor}
 use Rattle.cmwq_grammar.specs.declared.next.Next.{Next}
 use Rattle.cmwq_grammar.specs.declared.next.Next.TheVariants as next

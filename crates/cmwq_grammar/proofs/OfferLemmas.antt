@@ -11,10 +11,10 @@ use Rattle.cmwq_types.specs.Name.{is_name}
 use Rattle.cmwq_types.specs.Scenario.{plain_flags, queue_at}
 use Rattle.cmwq_types.specs.declared.limits.TheConstants.{MAX_ACTORS, MAX_CPUS, MAX_FLUSHES, MAX_QUEUES, MAX_STEPS, MAX_WORKERS, MAX_WORKS}
 use Rattle.cmwq_types.specs.declared.scenario.QueueDecl.{QueueDecl}
-use Rattle.cmwq_grammar.specs.Fields.{◌>>=◌}
+use Rattle.cmwq_grammar.specs.LineFields.{◌>>=◌}
 use Rattle.cmwq_grammar.specs.Instructions.{actor_names, queue_id, queue_names, work_names}
 use Rattle.cmwq_grammar.specs.Offers.{next_words}
-use Rattle.cmwq_grammar.specs.Reasons.{add_queue, add_work, open_actor, open_body, queue_at_line, step, work_at_line}
+use Rattle.cmwq_grammar.specs.LineReasons.{add_queue, add_work, open_actor, open_body, queue_at_line, step, work_at_line}
 use Rattle.cmwq_grammar.specs.Stages.{Stage, Start, Cpus, Workers, Steps, Queues, Works, Body, Actor, head_of}
 use Rattle.cmwq_grammar.proofs.Basics.{and_true, bind_at, below, below_is, same_word, true_and}
 use Rattle.cmwq_grammar.proofs.CanonicalLines.{plain_word, plain_words}

@@ -10,7 +10,7 @@ use Rattle.cmwq_types.specs.declared.scenario.Line.{Line}
 use Rattle.cmwq_grammar.specs.Cutting.{is_empty, lines_of, worded, words_of}
 use Rattle.cmwq_grammar.specs.Grammar.{SayAll, Spells}
 use Rattle.cmwq_grammar.specs.Meaning.{FaultAt, at_line, ends_before, fault_at, reads, reads_lines, stage_after}
-use Rattle.cmwq_grammar.specs.Reasons.{all_have_bodies, at_end, judge, step, with_works}
+use Rattle.cmwq_grammar.specs.LineReasons.{all_have_bodies, at_end, judge, step, with_works}
 use Rattle.cmwq_grammar.specs.Stages.{Stage, Start, Cpus, Workers, Steps, Queues, Works, Bodies, Body, Actor, with_actor}
 use Rattle.cmwq_grammar.specs.declared.why.Why.{Why}
 use Rattle.cmwq_grammar.specs.declared.why.Why.TheVariants as why

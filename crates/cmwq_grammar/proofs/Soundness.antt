@@ -14,7 +14,7 @@ use Rattle.cmwq_types.specs.declared.scenario.Op.{Op}
 use Rattle.cmwq_types.specs.declared.scenario.Op.TheVariants as op
 use Rattle.cmwq_types.specs.declared.scenario.QueueDecl.{QueueDecl}
 use Rattle.cmwq_grammar.specs.Instructions.{work_names}
-use Rattle.cmwq_grammar.specs.Reasons.{all_have_bodies, with_works}
+use Rattle.cmwq_grammar.specs.LineReasons.{all_have_bodies, with_works}
 use Rattle.cmwq_grammar.specs.Stages.{Stage, with_actor, with_body}
 use Rattle.cmwq_grammar.proofs.Basics.{and_true, true_and, equal, at_most_is}
 use Rattle.cmwq_grammar.proofs.Continuations.{SoundBodies, SoundBody, SoundQueues, SoundWorks, at_least, bare}

@@ -12,10 +12,10 @@ use Rattle.cmwq_types.specs.declared.limits.TheConstants.{MAX_CPUS, MAX_FLUSHES,
 use Rattle.cmwq_types.specs.declared.scenario.Line.{Line}
 use Rattle.cmwq_types.specs.declared.scenario.Op.{Op}
 use Rattle.cmwq_types.specs.declared.scenario.QueueDecl.{QueueDecl}
-use Rattle.cmwq_grammar.specs.Fields.{◌>>=◌, made_last, number_where, number_within}
+use Rattle.cmwq_grammar.specs.LineFields.{◌>>=◌, made_last, number_where, number_within}
 use Rattle.cmwq_grammar.specs.Grammar.{Says}
 use Rattle.cmwq_grammar.specs.Instructions.{cannot_stand, line_at, work_names}
-use Rattle.cmwq_grammar.specs.Reasons.{add_line, add_queue, add_work, all_have_bodies, open_actor, open_body, queue_at_line, step, with_works, work_at_line}
+use Rattle.cmwq_grammar.specs.LineReasons.{add_line, add_queue, add_work, all_have_bodies, open_actor, open_body, queue_at_line, step, with_works, work_at_line}
 use Rattle.cmwq_grammar.specs.Stages.{Stage, Start, Cpus, Workers, Steps, Queues, Works, Bodies, Body, Actor, head_of, with_actor}
 use Rattle.cmwq_grammar.specs.declared.why.Why.TheVariants as why
 use Rattle.cmwq_grammar.proofs.Basics.{bind_ok, chosen, and_true, same_word, equal, at_most_is}

@@ -16,10 +16,10 @@ use Rattle.cmwq_types.specs.declared.scenario.Line.{Line}
 use Rattle.cmwq_types.specs.declared.scenario.Op.{Op}
 use Rattle.cmwq_types.specs.declared.scenario.Op.TheVariants as op
 use Rattle.cmwq_types.specs.declared.scenario.QueueDecl.{QueueDecl}
-use Rattle.cmwq_grammar.specs.Fields.{◌>>=◌, made_last, number_where, number_within}
+use Rattle.cmwq_grammar.specs.LineFields.{◌>>=◌, made_last, number_where, number_within}
 use Rattle.cmwq_grammar.specs.Grammar.{Says}
 use Rattle.cmwq_grammar.specs.Instructions.{actor_names, line_at, queue_names, work_names}
-use Rattle.cmwq_grammar.specs.Reasons.{add_line, add_op, add_queue, add_work, all_have_bodies, op_at_line, open_actor, open_body, queue_at_line, step, with_works, work_at_line}
+use Rattle.cmwq_grammar.specs.LineReasons.{add_line, add_op, add_queue, add_work, all_have_bodies, op_at_line, open_actor, open_body, queue_at_line, step, with_works, work_at_line}
 use Rattle.cmwq_grammar.specs.Stages.{Stage, Start, Cpus, Workers, Steps, Queues, Works, Bodies, Body, Actor, head_of, with_actor, with_body}
 use Rattle.cmwq_grammar.specs.declared.why.Why.{Why}
 use Rattle.cmwq_grammar.proofs.Basics.{and_true, bind_at, cond_no, cond_yes, either, same_head, same_tail, at_most, equal_is}

@@ -5,7 +5,7 @@ use Rattle.cmwq_types.specs.declared.limits.TheConstants.{MAX_TEXT}
 use Rattle.cmwq_grammar.specs.Cutting.{lines_of}
 use Rattle.cmwq_grammar.specs.Grammar.{IsTextOf}
 use Rattle.cmwq_grammar.specs.Meaning.{FaultAt, fault_at, stage_after}
-use Rattle.cmwq_grammar.specs.Reasons.{at_end, judge}
+use Rattle.cmwq_grammar.specs.LineReasons.{at_end, judge}
 use Rattle.cmwq_grammar.specs.Stages.{Stage, Start}
 use Rattle.cmwq_grammar.specs.declared.why.Why.{Why}
 use Rattle.cmwq_grammar.specs.declared.why.Why.TheVariants as why

@@ -15,7 +15,7 @@ use Rattle.cmwq_types.specs.declared.instr.WorkId.{WorkId}
 use Rattle.cmwq_types.specs.declared.limits.TheConstants.{MAX_TIMES}
 use Rattle.cmwq_types.specs.declared.mnemonic.Mnemonic.{Mnemonic}
 use Rattle.cmwq_types.specs.declared.scenario.Line.{Line}
-use Rattle.cmwq_grammar.specs.Fields.{◌>>=◌, declared_at, made_last, number_within}
+use Rattle.cmwq_grammar.specs.LineFields.{◌>>=◌, declared_at, made_last, number_within}
 use Rattle.cmwq_grammar.specs.declared.why.Why.{Why}
 use Rattle.cmwq_grammar.specs.declared.why.Why.TheVariants as why
 

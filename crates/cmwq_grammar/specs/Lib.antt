@@ -2,10 +2,10 @@ pub mod Comments
 pub mod Cutting
 pub mod Examples
 pub mod FaultLaw
-pub mod Fields
 pub mod Grammar
 pub mod Instructions
+pub mod LineFields
+pub mod LineReasons
 pub mod Meaning
 pub mod Offers
-pub mod Reasons
 pub mod Stages

@@ -3,8 +3,8 @@ use Rattle.std.specs.Prelude.{ℕ, ◌+◌, List, [], ◌∷◌, length, Result,
 use Rattle.cmwq_types.specs.Contents.{ScenarioContents}
 use Rattle.cmwq_types.specs.declared.limits.TheConstants.{MAX_TEXT}
 use Rattle.cmwq_grammar.specs.Cutting.{lines_of}
-use Rattle.cmwq_grammar.specs.Fields.{◌>>=◌}
-use Rattle.cmwq_grammar.specs.Reasons.{at_end, judge}
+use Rattle.cmwq_grammar.specs.LineFields.{◌>>=◌}
+use Rattle.cmwq_grammar.specs.LineReasons.{at_end, judge}
 use Rattle.cmwq_grammar.specs.Stages.{Stage, Start}
 use Rattle.cmwq_grammar.specs.declared.why.Why.{Why}
 use Rattle.cmwq_grammar.specs.declared.why.Why.TheVariants as why

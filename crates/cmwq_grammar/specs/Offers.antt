@@ -8,7 +8,7 @@ use Rattle.cmwq_grammar.specs.Cutting.{words_of}
 use Rattle.cmwq_grammar.specs.FaultLaw.{Begins}
 use Rattle.cmwq_grammar.specs.Instructions.{Operands, Makes, OfWork, OfQueue, OfNumber, operands_of}
 use Rattle.cmwq_grammar.specs.Meaning.{stage_after}
-use Rattle.cmwq_grammar.specs.Reasons.{all_have_bodies}
+use Rattle.cmwq_grammar.specs.LineReasons.{all_have_bodies}
 use Rattle.cmwq_grammar.specs.Stages.{Stage, Start, Cpus, Workers, Steps, Queues, Works, Bodies, Body, Actor}
 use Rattle.cmwq_grammar.specs.declared.next.Next.{Next}
 use Rattle.cmwq_grammar.specs.declared.next.Next.TheVariants as next

@@ -5,8 +5,8 @@
 //! `Queued` or `Done` where it has none. `gate/lessons.py` compares it with what each lesson says.
 #![tactic(auto)]
 
-mod issuing;
 mod printing;
+mod timing;
 
 use cmwq_plain::Plain;
 use cmwq_play::{Marked, PlayError, read_text};
@@ -20,8 +20,8 @@ fn issue_and_print<M: Machine, R: Print>(
     alloc: Global,
     scenario: Scenario,
 ) -> Result<(), PlayError> {
-    let instrs = issuing::actor_instrs(alloc, &scenario)?;
-    let (engine, times) = issuing::issued::<M>(alloc, &scenario, &instrs)?;
+    let instrs = timing::actor_instrs(alloc, &scenario)?;
+    let (engine, times) = timing::issued::<M>(alloc, &scenario, &instrs)?;
     printing::print(rt, alloc, scenario, engine.history(), &times)
 }
 

@@ -17,7 +17,7 @@ ghost use Rattle.cmwq_types.specs.declared.instr.Instr.TheVariants as instr;
 ghost use Rattle.std.specs.Prelude.{◌≡◌, ◌↔◌, ◌≤◌, ◌<◌, ◌++◌, ◌∷◌, [], Err, List, Ok, length, slice_set, take, ℕ};
 
 use crate::error::ImageError;
-use crate::reading::read;
+use crate::image_reading::read;
 use crate::writing::write;
 use cmwq_types::Scenario;
 use std::alloc::Global;

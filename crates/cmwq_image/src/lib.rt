@@ -2,17 +2,17 @@
 #![tactic(auto)]
 
 mod error;
-mod fields;
+mod fields_left;
 mod head;
+mod image_parts;
+mod image_reading;
 pub mod laws;
-mod parts;
-mod reading;
 mod tags;
 mod version;
 mod word;
 mod writing;
 
 pub use error::ImageError;
-pub use reading::read;
+pub use image_reading::read;
 pub use version::{FIRST_VERSION, SECOND_VERSION, VERSION};
 pub use writing::write;

@@ -12,7 +12,7 @@ use Rattle.cmwq_grammar.specs.Cutting.{lines_of}
 use Rattle.cmwq_grammar.proofs.CallerLemmas.{line_cut}
 use Rattle.cmwq_table.specs.Events.{is_silent, line_at, reply_line, reply_words}
 use Rattle.cmwq_interleaving.specs.Commenting.{Comments, after_hash}
-use Rattle.cmwq_interleaving.specs.Numbers.{IsReply}
+use Rattle.cmwq_interleaving.specs.PlayNumbers.{IsReply}
 use Rattle.cmwq_interleaving.proofs.PieceLemmas.{Piece, line_piece}
 
 -- no line, or one of so many bytes that ends with its line feed

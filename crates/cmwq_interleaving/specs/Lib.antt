@@ -1,4 +1,4 @@
 pub mod Commenting
-pub mod Numbers
+pub mod PlayNumbers
 pub mod Played
 pub mod Plays

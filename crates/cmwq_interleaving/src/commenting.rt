@@ -7,7 +7,7 @@ ghost use Rattle.cmwq_types.specs.Values.{IsWorkDecl};
 ghost use Rattle.std.specs.List.{AllByRecursion};
 ghost use Rattle.std.specs.Prelude.{◌≡◌, ◌≤◌, ◌+◌, ◌*◌, ◌++◌, IfOk, OnOk, length, string_bytes};
 
-use crate::numbers::fit;
+use crate::play_numbers::fit;
 use cmwq_plain::Plain;
 use cmwq_table::{Machine, ReplyLine};
 use cmwq_types::{Instr, NoMemory, Scenario};

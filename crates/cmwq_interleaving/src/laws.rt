@@ -1,7 +1,7 @@
 //! What a play leaves can be run: the law is the contract of a function with an empty body.
 ghost use Rattle.cmwq_engine.specs.History.{instrs_of};
 ghost use Rattle.cmwq_engine.specs.declared.history.Entry.{Entry};
-ghost use Rattle.cmwq_play.specs.Texts.{IsRun};
+ghost use Rattle.cmwq_play.specs.PlayTexts.{IsRun};
 ghost use Rattle.cmwq_interleaving.specs.Played.{played};
 ghost use Rattle.cmwq_interleaving.specs.Plays.{IsLeft};
 ghost use Rattle.cmwq_table.specs.Events.{events};

@@ -5,7 +5,7 @@
 mod commenting;
 pub mod laws;
 mod leaving;
-mod numbers;
+mod play_numbers;
 mod playing;
 
 pub use leaving::played_text;

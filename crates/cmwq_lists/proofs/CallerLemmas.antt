@@ -2,7 +2,7 @@
 use Rattle.std.proofs.Common.{◌≡◌, refl, ℕ, ◌+◌, ◌<◌, ◌≤◌, Bool, ◌==◌, true, false, List, [], ◌∷◌, length, cond, nat_lt, arith}
 use Rattle.std.proofs.lemmas.Bool.Decides.{nat_tests}
 use Rattle.std.proofs.lemmas.List.Sums.{sum_by-set}
-use Rattle.cmwq_lists.specs.Contents.{AllAfter, ListContents, Entry, IsSorted, NoneBelow, behind_front, held, list_at, placed, with_list, without}
+use Rattle.cmwq_lists.specs.ListContents.{AllAfter, ListContents, Entry, IsSorted, NoneBelow, behind_front, held, list_at, placed, with_list, without}
 use Rattle.cmwq_lists.specs.Ranks.{Rises}
 
 -- orders that rise don't fall

@@ -5,7 +5,7 @@ use Rattle.std.proofs.lemmas.Bool.Decides.{nat_tests}
 use Rattle.cmwq_types.specs.First.{first_below, first_with, by_least, by_least_two, IsOrder, MatchFirst}
 use Rattle.cmwq_types.proofs.FirstLemmas.{by_least-order, by_least_two-order, first_below-is_first, first_below-unique, first_below-none}
 use Rattle.cmwq_lists.specs.declared.node.Node.{Node}
-use Rattle.cmwq_lists.specs.Contents.{AllAfter, Entry, node_at, placed, without}
+use Rattle.cmwq_lists.specs.ListContents.{AllAfter, Entry, node_at, placed, without}
 use Rattle.cmwq_lists.specs.Ranks.{has_work, Rises, Belongs, AllBelong, with_work, without_work, FrontIsFirst, InsertedRanks, PushedRanks, UnlinkedRanks, PoppedRanks, AgreeingRanks, TwoKeysAreOne}
 
 -- a work of a list in which all come after an order

@@ -1,3 +1,3 @@
-pub mod Contents
 pub mod Cells
+pub mod ListContents
 pub mod Ranks

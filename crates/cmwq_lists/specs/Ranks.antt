@@ -3,7 +3,7 @@
 use Rattle.std.specs.Prelude.{◌≡◌, ◌≢◌, ℕ, ◌+◌, ◌*◌, ◌^◌, ◌<◌, Bool, true, false, ◌||◌, ◌&&◌, ◌==◌, not, List, [], ◌∷◌, ◌++◌, Option, Some, option_map}
 use Rattle.cmwq_types.specs.First.{first_below, by_least, by_least_two}
 use Rattle.cmwq_lists.specs.declared.node.Node.{Node}
-use Rattle.cmwq_lists.specs.Contents.{AllAfter, Entry, behind_front, front_node, node_at, placed, without}
+use Rattle.cmwq_lists.specs.ListContents.{AllAfter, Entry, behind_front, front_node, node_at, placed, without}
 
 -- whether a node holds this work
 abbrev pub has_work : ℕ → List Entry → Bool

@@ -2,8 +2,8 @@
 //! order them by and a work.
 #![tactic(auto)]
 
-mod cell;
 mod linking;
+mod list_cell;
 mod lists;
 mod node;
 pub mod ranks;

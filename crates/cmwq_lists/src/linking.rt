@@ -1,10 +1,10 @@
 //! Linking a node in and taking one out, where the ends of its list are at hand.
 ghost use Rattle.cmwq_lists.specs.Cells.{back_moved, Changes, list_entry, front_moved, IsChain, IsCut, IsNext, IsTakenOut, OthersKept, with_next, with_prev};
-ghost use Rattle.cmwq_lists.specs.Contents.{Entry};
+ghost use Rattle.cmwq_lists.specs.ListContents.{Entry};
 ghost use Rattle.slab.specs.Slab.{ContainsKey, get, HasRoomFor, slab_len};
 ghost use Rattle.std.specs.Prelude.{◌≡◌, ◌≢◌, ◌⊎◌, ℕ, ◌+◌, ◌<◌, ◌^◌, List, ◌∷◌, ◌++◌, IfSome, IsSome, None, Some};
 
-use crate::cell::{ListCell, Ends};
+use crate::list_cell::{Ends, ListCell};
 use crate::node::Node;
 use slab::Slab;
 

@@ -12,7 +12,7 @@ mod steps;
 mod tokens;
 mod views;
 
-pub use fault::{NotDrawn, NotYet, StillOut, TooMany, NotDrawnWhy};
+pub use fault::{NotDrawn, NotDrawnWhy, NotYet, StillOut, TooMany};
 pub use kept::{Call, Kept};
 pub use lock::TicketLock;
 pub use tokens::{Drawn, Opener, Pass};

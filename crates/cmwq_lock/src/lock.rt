@@ -8,7 +8,7 @@ ghost use Rattle.cmwq_lock.specs.Steps.{HasTurn};
 ghost use Rattle.cmwq_lock.specs.Rule.{opening_view};
 ghost use Rattle.cmwq_lock.specs.Seats.{IsSeatOf};
 
-use crate::fault::{NotDrawn, NotYet, StillOut, TooMany, NotDrawnWhy};
+use crate::fault::{NotDrawn, NotDrawnWhy, NotYet, StillOut, TooMany};
 use crate::kept::{Call, Kept};
 use crate::steps::{self, LockSeat, TicketRule};
 use crate::tokens::{Drawn, Opener, Pass};

@@ -24,7 +24,8 @@ pub struct TicketRule<T> {
     kept: PhantomData<T>,
 }
 
-impl<T: Kept> TableRule<Option<Held<T>>, SeatView<T::Origin, T::Entry>, Snapshot<T>> for TicketRule<T> {
+impl<T: Kept> TableRule<Option<Held<T>>, SeatView<T::Origin, T::Entry>, Snapshot<T>>
+    for TicketRule<T> {
     ghost use Rattle.cmwq_lock.specs.Rule.{IsRuled, opening_view};
 
     ghost holds = { λ key. IsRuled T.Kept (T.origin key.value) };

@@ -1,5 +1,5 @@
 //! Linked lists: the worked example, and calls beside a plain vector.
-ghost use Rattle.cmwq_lists.specs.Contents.{held, IsSorted, list_at};
+ghost use Rattle.cmwq_lists.specs.ListContents.{held, IsSorted, list_at};
 ghost use Rattle.std.specs.Prelude.{◌≡◌, ◌<◌, ◌≤◌, ◌-◌, [], length, replicate, vec_len};
 
 use crate::checking::same;

@@ -4,8 +4,8 @@ use Rattle.std.specs.Io.KnownBytes.{Appends, Consumes, Keeps}
 use Rattle.cmwq_types.specs.declared.limits.TheConstants.{MAX_TEXT}
 use Rattle.cmwq_verdict.specs.Verdicts.{IsVerdict, ok_line, read_line}
 use Rattle.cmwq_verdict.specs.declared.looks.Look.{Look}
-use Rattle.cmwq_outcome.specs.declared.checking.Judged.{Judged}
-use Rattle.cmwq_outcome.specs.declared.checking.Judged.TheVariants as judged
+use Rattle.cmwq_outcome.specs.declared.file_verdict.Judged.{Judged}
+use Rattle.cmwq_outcome.specs.declared.file_verdict.Judged.TheVariants as judged
 
 -- the exit status
 abbrev pub status_of_judged : Judged → ℕ

@@ -1,4 +1,4 @@
 pub mod Checking
 pub mod Fault
+pub mod FaultsTold
 pub mod Starting
-pub mod Telling

@@ -1,12 +1,12 @@
 //! What the program tells of how it ended: help, the version, usage faults, verdicts of files, and faults with their exit status.
 #![tactic(auto)]
 
-mod checking;
 pub mod fault;
+mod file_verdict;
 mod starting;
 mod telling;
 
-pub use checking::{Judged, check_text, tell_unread};
 pub use cmwq_verdict::Look;
+pub use file_verdict::{Judged, check_text, tell_unread};
 pub use starting::{write_first, write_version};
 pub use telling::{GOOD, USAGE, tell};

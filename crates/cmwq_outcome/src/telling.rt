@@ -1,6 +1,6 @@
 //! How help, the version and usage faults are told.
 
-ghost use Rattle.cmwq_outcome.specs.Telling.{is_asked_for, status_of_kind};
+ghost use Rattle.cmwq_outcome.specs.FaultsTold.{is_asked_for, status_of_kind};
 ghost use Rattle.std.specs.Io.KnownBytes.{Appends};
 ghost use Rattle.std.specs.Prelude.{◌≡◌, ◌↔◌, Err, IfOk, IfSome, OnErr, OnOk, ◌⊎◌, false, true};
 

@@ -3,11 +3,11 @@
 #![tactic(auto)]
 
 mod going;
-mod limits;
-mod moving;
+mod max_active;
 mod parts;
 mod placing;
+mod pool_moves;
 
 pub use going::Going;
-pub use moving::Found;
 pub use parts::Parts;
+pub use pool_moves::Found;

@@ -12,7 +12,7 @@ use Rattle.cmwq_table.proofs.CounterLemmas.{table-counters}
 use Rattle.cmwq_table.specs.State.{State, start}
 use Rattle.cmwq_table.specs.Table.{table}
 use Rattle.cmwq_picture.specs.Column.{ColumnContents, column_of, cut_rows}
-use Rattle.cmwq_picture.specs.Contents.{RowContents}
+use Rattle.cmwq_picture.specs.PictureContents.{RowContents}
 use Rattle.cmwq_picture.specs.Picture as specs
 use Rattle.cmwq_picture.specs.Picture.{Draws, IsDrawError, acts_from, columns, from_time, is_act, is_drawn, is_open, is_too_wide, ticks_from, titles}
 use Rattle.cmwq_streams.specs.declared.error.PlayError.{PlayError}

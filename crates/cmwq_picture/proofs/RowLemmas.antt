@@ -8,7 +8,7 @@ use Rattle.cmwq_table.specs.Counts.{burns, runs}
 use Rattle.cmwq_table.specs.State.{State, running_at}
 use Rattle.cmwq_table.specs.declared.state.Running.{Running}
 use Rattle.cmwq_picture.specs.Column.{ColumnContents, burner_in, burning, burning_as, cell_of_burning, column_of, cut, cut_rows, cell_shown}
-use Rattle.cmwq_picture.specs.Contents.{RowContents}
+use Rattle.cmwq_picture.specs.PictureContents.{RowContents}
 use Rattle.cmwq_picture.specs.Picture.{act_cell, below, burner_cell, burns_in, cell, pending_sign, row, rows, stands_in_picture, stands_in, titles, work_sign, work_titles, worker_titles}
 use Rattle.cmwq_picture.proofs.ListLemmas.{flat_map-more}
 use Rattle.cmwq_picture.specs.declared.cell.Cell.{Cell}

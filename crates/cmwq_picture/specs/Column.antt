@@ -5,7 +5,7 @@ use Rattle.cmwq_types.specs.Contents.{ScenarioContents}
 use Rattle.cmwq_table.specs.Counts.{burns}
 use Rattle.cmwq_table.specs.State.{State, running_at}
 use Rattle.cmwq_table.specs.declared.state.Running.{Running}
-use Rattle.cmwq_picture.specs.Contents.{RowContents}
+use Rattle.cmwq_picture.specs.PictureContents.{RowContents}
 use Rattle.cmwq_picture.specs.Picture.{act_cell, below, pending_sign, stands_in_picture, stands_in, work_sign}
 use Rattle.cmwq_picture.specs.declared.cell.Cell.{Cell}
 use Rattle.cmwq_picture.specs.declared.cell.Cell.TheVariants.{Empty, Burner}

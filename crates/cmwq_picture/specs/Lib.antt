@@ -1,5 +1,5 @@
 pub mod Column
-pub mod Contents
 pub mod Laws
 pub mod Picture
+pub mod PictureContents
 pub mod Recording

@@ -16,7 +16,7 @@ use Rattle.cmwq_table.specs.State.{State, pending_at, running_at, start}
 use Rattle.cmwq_table.specs.Table.{is_question, table}
 use Rattle.cmwq_table.specs.declared.state.Pending.{Pending}
 use Rattle.cmwq_table.specs.declared.state.Running.{Running}
-use Rattle.cmwq_picture.specs.Contents.{PictureContents, RowContents}
+use Rattle.cmwq_picture.specs.PictureContents.{PictureContents, RowContents}
 use Rattle.cmwq_picture.specs.declared.cell.Cell.{Cell}
 use Rattle.cmwq_picture.specs.declared.cell.Cell.TheVariants.{Empty, Does, Burner, Acts}
 use Rattle.cmwq_picture.specs.declared.cell.Sign.{Sign}

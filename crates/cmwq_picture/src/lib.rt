@@ -4,15 +4,15 @@
 mod acting;
 mod cell;
 mod column;
-mod drawing;
 pub mod laws;
 mod moment;
+mod picturing;
 mod recorder;
 mod row;
 mod rows;
 mod span;
 
 pub use cell::{Cell, Sign};
-pub use drawing::picture;
+pub use picturing::picture;
 pub use row::{Picture, Row, Title};
 pub use span::MAX_COLUMNS;

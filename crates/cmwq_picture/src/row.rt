@@ -36,7 +36,7 @@ pub struct Row {
 }
 
 impl Model for Row {
-    ghost use Rattle.cmwq_picture.specs.Contents.{RowContents};
+    ghost use Rattle.cmwq_picture.specs.PictureContents.{RowContents};
 
     ghost Value = { RowContents };
 
@@ -55,7 +55,7 @@ pub struct Picture {
 }
 
 impl Model for Picture {
-    ghost use Rattle.cmwq_picture.specs.Contents.{PictureContents};
+    ghost use Rattle.cmwq_picture.specs.PictureContents.{PictureContents};
 
     ghost Value = { PictureContents };
 

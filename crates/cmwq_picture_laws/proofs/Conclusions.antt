@@ -11,7 +11,7 @@ use Rattle.cmwq_table.specs.State.{State, start}
 use Rattle.cmwq_table.specs.Table.{run}
 use Rattle.cmwq_burning.specs.Burning.{BurnsItsBody, IsCarriedOut, ticks_burned, burns_of_body}
 use Rattle.cmwq_burning.proofs.Conclusions.{burns_its_body}
-use Rattle.cmwq_picture.specs.Contents.{RowContents}
+use Rattle.cmwq_picture.specs.PictureContents.{RowContents}
 use Rattle.cmwq_picture.specs.Picture.{acts_from, cell, columns, row, stands_in_picture, ticks_from, titles, work_sign}
 use Rattle.cmwq_picture.specs.declared.row.Title.{Title}
 use Rattle.cmwq_picture.specs.declared.row.Title.TheVariants as title

@@ -2,7 +2,7 @@
 use Rattle.std.specs.Prelude.{List, [], ◌∷◌, ◌++◌, map}
 use Rattle.cmwq_types.specs.declared.instr.Instr.TheVariants as instr
 use Rattle.cmwq_burning.specs.Examples.{burns_twice, queue_a, to_its_end}
-use Rattle.cmwq_picture.specs.Contents.{PictureContents}
+use Rattle.cmwq_picture.specs.PictureContents.{PictureContents}
 use Rattle.cmwq_picture.specs.Picture.{picture}
 use Rattle.cmwq_picture.specs.declared.cell.Cell.{Cell}
 use Rattle.cmwq_picture.specs.declared.cell.Cell.TheVariants.{Does}

@@ -6,7 +6,7 @@ use Rattle.cmwq_types.specs.declared.instr.Instr.TheVariants as instr
 use Rattle.cmwq_types.specs.declared.scenario.Line.{Line}
 use Rattle.cmwq_types.specs.declared.scenario.Op.TheVariants as op
 use Rattle.cmwq_examples.specs.Declare.{delay, enqueue, highpri, queue, queues, scenario, state, times, unbound, work}
-use Rattle.cmwq_picture.specs.Contents.{PictureContents, RowContents}
+use Rattle.cmwq_picture.specs.PictureContents.{PictureContents, RowContents}
 use Rattle.cmwq_picture.specs.Picture.{picture}
 use Rattle.cmwq_picture.specs.declared.cell.Cell.{Cell}
 use Rattle.cmwq_picture.specs.declared.cell.Cell.TheVariants.{Empty, Does, Burner, Acts}

@@ -7,7 +7,7 @@ use Rattle.cmwq_types.specs.declared.instr.Instr.{Instr}
 use Rattle.cmwq_table.specs.Laws.{state_after}
 use Rattle.cmwq_table.specs.Table.{run}
 use Rattle.cmwq_burning.specs.Burning.{IsCarriedOut, burns_of_body, state_then}
-use Rattle.cmwq_picture.specs.Contents.{PictureContents}
+use Rattle.cmwq_picture.specs.PictureContents.{PictureContents}
 use Rattle.cmwq_picture.specs.Picture.{picture}
 use Rattle.cmwq_picture.specs.declared.cell.Cell.{Cell}
 use Rattle.cmwq_picture.specs.declared.cell.Cell.TheVariants.{Empty, Does, Burner, Acts}

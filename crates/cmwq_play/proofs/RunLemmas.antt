@@ -10,7 +10,7 @@ use Rattle.cmwq_streams.specs.declared.error.PlayError.{PlayError}
 use Rattle.cmwq_play.specs.Commands.{Answers, Writes}
 use Rattle.cmwq_play.specs.Runs.{IsRunOf}
 use Rattle.cmwq_play.specs.Telling.{IsToldOf, told_from}
-use Rattle.cmwq_play.specs.Texts.{ComesTo, IsRunFault}
+use Rattle.cmwq_play.specs.PlayTexts.{ComesTo, IsRunFault}
 use Rattle.cmwq_play.proofs.CommandLemmas.{answers_same, writes_more}
 pub use Rattle.cmwq_runs.proofs.LineLemmas.{expand_lines-more, expand_lines-rest, expand_lines-within, no_line, replicate_add, replicate_rest}
 

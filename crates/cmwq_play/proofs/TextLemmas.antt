@@ -14,7 +14,7 @@ use Rattle.cmwq_asm.specs.declared.fault.AsmError.{AsmError}
 use Rattle.cmwq_asm.specs.declared.fault.AsmError.TheVariants.{At, NoMemory as asm_no_memory}
 use Rattle.cmwq_play.specs.Commands.{Answers, IsOutside}
 use Rattle.cmwq_play.specs.Runs.{CanRun, IsRefused}
-use Rattle.cmwq_play.specs.Texts.{ComesTo, IsFaultOf, IsSpelled, IsTextFault}
+use Rattle.cmwq_play.specs.PlayTexts.{ComesTo, IsFaultOf, IsSpelled, IsTextFault}
 use Rattle.cmwq_play.proofs.CommandLemmas.{answers_lifted, answers_outside, outside_told}
 use Rattle.cmwq_grammar.specs.declared.why.Why.{Why}
 use Rattle.cmwq_streams.specs.Errors.{text_told_as}

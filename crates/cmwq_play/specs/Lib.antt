@@ -1,6 +1,6 @@
 pub mod Commands
 pub mod Images
+pub mod PlayTexts
 pub mod Runs
 pub mod Session
 pub mod Telling
-pub mod Texts

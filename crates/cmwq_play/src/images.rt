@@ -4,12 +4,12 @@ ghost use Rattle.cmwq_image.specs.declared.version.TheConstants.{VERSION};
 ghost use Rattle.cmwq_play.specs.Commands.{Answers, Reads, Writes};
 ghost use Rattle.cmwq_play.specs.Images.{IsImage, IsImageFault, IsShown};
 ghost use Rattle.cmwq_streams.specs.Sending.{IsSendError};
-ghost use Rattle.cmwq_play.specs.Texts.{IsOutput, IsTextFault};
+ghost use Rattle.cmwq_play.specs.PlayTexts.{IsOutput, IsTextFault};
 ghost use Rattle.cmwq_types.specs.Faults.{IsValid};
 ghost use Rattle.std.specs.Io.KnownBytes.{Keeps};
 ghost use Rattle.std.specs.Prelude.{◌≡◌, ◌≢◌, Err, IfErr, IfOk, Some, false};
 
-use crate::listing::write_listing;
+use crate::list_text::write_listing;
 use crate::reading::{read_text, read_whole};
 use cmwq_image::laws::{far_bytes_change_no_reading, image_is_at_most_923058_bytes};
 use cmwq_image::{read, write};

@@ -1,7 +1,7 @@
 //! Reading a whole input, and the scenario that it spells.
 ghost use Rattle.cmwq_grammar.specs.Grammar.{Spells};
 ghost use Rattle.cmwq_play.specs.Commands.{Answers, Reads};
-ghost use Rattle.cmwq_play.specs.Texts.{IsSpelled, IsTextFault};
+ghost use Rattle.cmwq_play.specs.PlayTexts.{IsSpelled, IsTextFault};
 ghost use Rattle.cmwq_types.specs.Contents.{ScenarioContents};
 ghost use Rattle.cmwq_types.specs.declared.limits.TheConstants.{MAX_TEXT};
 ghost use Rattle.std.specs.Io.KnownBytes.{Consumes, IsAtEnd, Keeps};

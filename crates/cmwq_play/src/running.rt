@@ -2,7 +2,7 @@
 ghost use Rattle.cmwq_play.specs.Commands.{Answers, Reads, Writes};
 ghost use Rattle.cmwq_play.specs.Runs.{CanRun, IsRefused};
 ghost use Rattle.cmwq_play.specs.Telling.{IsToldOf, told_from};
-ghost use Rattle.cmwq_play.specs.Texts.{ComesTo, IsRun, IsRunFault};
+ghost use Rattle.cmwq_play.specs.PlayTexts.{ComesTo, IsRun, IsRunFault};
 ghost use Rattle.cmwq_streams.specs.Sending.{IsSendError};
 ghost use Rattle.cmwq_table.specs.Events.{events};
 ghost use Rattle.cmwq_table.specs.State.{start};

@@ -7,7 +7,7 @@ use Rattle.cmwq_table.specs.Counts.{burns, first_runnable, is_runnable, is_some_
 use Rattle.cmwq_table.specs.Moves.{burned, one_less}
 use Rattle.cmwq_table.specs.State.{State, is_high, pool_count}
 use Rattle.cmwq_table.specs.declared.state.Running.{Running}
-use Rattle.cmwq_records.specs.Burning.{burns_beside}
+use Rattle.cmwq_records.specs.BurningHeads.{burns_beside}
 use Rattle.cmwq_records.specs.Heads.{AreHeads}
 
 -- tests that agree burn alike

@@ -1,3 +1,3 @@
-pub mod Burning
+pub mod BurningHeads
 pub mod Heads
-pub mod Layout
+pub mod RecordLayout

@@ -3,7 +3,7 @@
 #![tactic(auto)]
 
 mod beginning;
-mod burning;
+mod burning_heads;
 mod looking;
 mod records;
 

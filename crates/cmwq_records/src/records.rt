@@ -4,7 +4,7 @@ ghost use Rattle.cmwq_table.specs.State.{seat};
 ghost use Rattle.std.specs.Prelude.{◌≡◌, slice_set};
 
 use crate::beginning::{copied_flushes, declared_max, filled};
-use crate::burning::burn;
+use crate::burning_heads::burn;
 use crate::looking::{entries, idle_workers};
 use cmwq_parts::Parts;
 use cmwq_table::{FlushTarget, Pending, Reads, Running, View};
@@ -36,7 +36,7 @@ pub struct Records {
 }
 
 impl Model for Records {
-    ghost use Rattle.cmwq_records.specs.Layout.{IsLaidOut};
+    ghost use Rattle.cmwq_records.specs.RecordLayout.{IsLaidOut};
     ghost use Rattle.cmwq_table.specs.Ready.{Loaded};
     ghost use Rattle.std.specs.Prelude.{vec_capacity};
 

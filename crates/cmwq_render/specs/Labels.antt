@@ -3,7 +3,7 @@ use Rattle.std.specs.Prelude.{ℕ, List, [], ◌∷◌, ◌++◌, codes, length,
 use Rattle.std.specs.Fmt.{decimal}
 use Rattle.cmwq_types.specs.Contents.{ScenarioContents}
 use Rattle.cmwq_types.specs.Scenario.{queue_at, work_at}
-use Rattle.cmwq_picture.specs.Contents.{RowContents}
+use Rattle.cmwq_picture.specs.PictureContents.{RowContents}
 use Rattle.cmwq_picture.specs.declared.row.Title.{Title}
 use Rattle.cmwq_picture.specs.declared.row.Title.TheVariants as title
 

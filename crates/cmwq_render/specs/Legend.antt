@@ -1,7 +1,7 @@
 -- What a legend says of the signs that a picture shows.
 use Rattle.std.specs.Prelude.{ℕ, Bool, List, [], ◌∷◌, ◌++◌, codes}
 use Rattle.std.specs.List.{filter, list_any}
-use Rattle.cmwq_picture.specs.Contents.{RowContents}
+use Rattle.cmwq_picture.specs.PictureContents.{RowContents}
 use Rattle.cmwq_picture.specs.contracts.cell.CellPartialEq.TheImpl as cell_eq
 use Rattle.cmwq_picture.specs.declared.cell.Cell.{Cell}
 use Rattle.cmwq_picture.specs.declared.cell.Cell.TheVariants.{Empty, Does, Burner, Acts}

@@ -3,7 +3,7 @@ use Rattle.std.specs.Prelude.{ℕ, List, [], ◌∷◌, ◌++◌, codes, map, sl
 use Rattle.std.specs.List.{flat_map}
 use Rattle.cmwq_types.specs.Contents.{ScenarioContents}
 use Rattle.cmwq_types.specs.Scenario.{work_at}
-use Rattle.cmwq_picture.specs.Contents.{PictureContents, RowContents}
+use Rattle.cmwq_picture.specs.PictureContents.{PictureContents, RowContents}
 use Rattle.cmwq_picture.specs.declared.cell.Cell.{Cell}
 use Rattle.cmwq_picture.specs.declared.cell.Cell.TheVariants.{Empty, Does, Burner, Acts}
 use Rattle.cmwq_render.specs.Labels.{label, longest}

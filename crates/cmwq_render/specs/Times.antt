@@ -1,7 +1,7 @@
 -- Which times stand over the columns of a picture.
 use Rattle.std.specs.Prelude.{ℕ, zero, suc, ◌+◌, ◌*◌, ◌-◌, ◌/◌, List, [], ◌∷◌, ◌++◌, length, replicate, if◌then◌else◌, nat_le}
 use Rattle.std.specs.Fmt.{decimal}
-use Rattle.cmwq_picture.specs.Contents.{PictureContents}
+use Rattle.cmwq_picture.specs.PictureContents.{PictureContents}
 
 -- how many ticks are between two of them: times of five digits and more need room
 abbrev pub time_step : PictureContents → ℕ

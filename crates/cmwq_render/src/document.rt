@@ -10,7 +10,7 @@ use crate::bars::{Bar, bar_begun, goes_on, grown};
 use crate::label::{Label, label_width};
 use crate::layout::{full_height, full_width, left_edge, x_of, y_of};
 use crate::legend::{explained, meaning};
-use crate::shapes::{GridLine, Rectangle, TimeWords, PlacedText, class_of, push_opening};
+use crate::shapes::{GridLine, PlacedText, Rectangle, TimeWords, class_of, push_opening};
 use crate::times::{ticks_before, time_at, time_count};
 use cmwq_picture::{Cell, Picture, Row};
 use cmwq_types::{NoMemory, Scenario};

@@ -10,9 +10,9 @@ pub mod laws;
 mod layout;
 mod legend;
 mod shapes;
+mod sketch;
 mod style;
-mod text;
 mod times;
 
 pub use document::svg;
-pub use text::sketch;
+pub use sketch::sketch;

@@ -5,7 +5,7 @@ ghost use Rattle.cmwq_tasks.specs.declared.question.Looks.{Looks};
 ghost use Rattle.cmwq_request.specs.Request.{IsWithin, asked_why, flag_of, looks_in, plain_number, question_words, why_arguments, request_words};
 ghost use Rattle.std.specs.Prelude.{◌≡◌, Bool, IfSome, Some, codes, option_map};
 
-use crate::drawing::flag_of;
+use crate::draw_options::flag_of;
 use crate::request::{Request, on_file, value_of};
 use clap::ArgMatches;
 use cmwq_tasks::{Looks, Question, Task};

@@ -2,5 +2,5 @@
 #![tactic(auto)]
 
 pub mod asking;
-pub mod drawing;
+pub mod draw_options;
 pub mod request;

@@ -8,7 +8,7 @@ ghost use Rattle.std.specs.Str.{bytes_eq};
 ghost use Rattle.std.specs.Prelude.{◌≡◌, ◌↔◌, ℕ, List, [], ◌∷◌, IfOk, IfSome, IsTrue, None, Some, codes, false, map, option_map, string_bytes};
 
 use crate::asking::{wanted_by_why, why_request};
-use crate::drawing::{draw_request, flag_of};
+use crate::draw_options::{draw_request, flag_of};
 use clap::error::ErrorKind;
 use clap::{ArgMatches, Command, Error};
 use cmwq_command_line::commands::command_line;

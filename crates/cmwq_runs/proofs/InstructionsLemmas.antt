@@ -2,7 +2,7 @@
 use Rattle.std.proofs.Common.{◌≡◌, ℕ, suc, ◌-◌, ◌+◌, ◌<◌, List, ◌∷◌, ◌++◌, replicate, ap, arith, subst, sym}
 use Rattle.cmwq_types.specs.Scenario.{expand_lines}
 use Rattle.cmwq_types.specs.declared.scenario.Line.{Line}
-use Rattle.cmwq_runs.specs.Instructions.{but_given}
+use Rattle.cmwq_runs.specs.RunInstructions.{but_given}
 
 -- the first line's instruction is given once more
 pub one_given : (given : ℕ) (lines : List Line) (line : Line) (behind : List Line) → lines ≡ line ∷ behind → given < line.times → but_given given lines ≡ line.instr ∷ but_given (given + 1) lines

@@ -1,1 +1,1 @@
-pub mod Instructions
+pub mod RunInstructions

@@ -1,5 +1,5 @@
 //! The instructions that lines stand for, one after another.
-ghost use Rattle.cmwq_runs.specs.Instructions.{left};
+ghost use Rattle.cmwq_runs.specs.RunInstructions.{left};
 ghost use Rattle.cmwq_types.specs.Scenario.{expand_lines};
 ghost use Rattle.std.specs.Prelude.{◌≡◌, IfOk};
 
@@ -25,7 +25,7 @@ impl<'a> Instructions<'a> {
 }
 
 impl Iterator for Instructions<'_> {
-    ghost use Rattle.cmwq_runs.specs.Instructions.{left};
+    ghost use Rattle.cmwq_runs.specs.RunInstructions.{left};
     ghost use Rattle.std.specs.Iterator.{YieldsFirst, item_count};
 
     type Item = Instr;

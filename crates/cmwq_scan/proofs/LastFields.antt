@@ -1,7 +1,7 @@
 -- The last field of a line, made into something.
 use Rattle.std.proofs.Common.{◌≡◌, ℕ, List, [], ◌∷◌, ap}
 use Rattle.std.specs.Prelude.{Result, Ok, Err}
-use Rattle.cmwq_grammar.specs.Fields.{◌>>=◌, ended, made_last}
+use Rattle.cmwq_grammar.specs.LineFields.{◌>>=◌, ended, made_last}
 use Rattle.cmwq_grammar.specs.declared.why.Why.{Why}
 use Rattle.cmwq_scan.specs.LastFields.{last}
 

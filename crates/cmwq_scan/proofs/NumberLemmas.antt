@@ -13,7 +13,7 @@ use Rattle.std.specs.List.{All, filter, list_all, slice_split}
 use Rattle.std.specs.Str.{all_ascii_digits}
 use Rattle.std.specs.Str.Parse.{digits_value}
 use Rattle.cmwq_grammar.specs.Cutting.{is_blank, is_empty}
-use Rattle.cmwq_grammar.specs.Fields.{is_number, number_at, value_if, word_at}
+use Rattle.cmwq_grammar.specs.LineFields.{is_number, number_at, value_if, word_at}
 use Rattle.cmwq_grammar.specs.declared.why.Why.TheVariants as why
 use Rattle.cmwq_scan.specs.Numbers.{begins_well}
 use Rattle.cmwq_scan.specs.Words.{words_left}

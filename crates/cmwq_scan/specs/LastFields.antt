@@ -1,6 +1,6 @@
 -- The last field of a line.
 use Rattle.std.specs.Prelude.{ℕ, List, Result}
-use Rattle.cmwq_grammar.specs.Fields.{◌>>=◌, made_last}
+use Rattle.cmwq_grammar.specs.LineFields.{◌>>=◌, made_last}
 use Rattle.cmwq_grammar.specs.declared.why.Why.{Why}
 
 -- the field's value, if no word is behind it

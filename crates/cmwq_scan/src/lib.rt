@@ -2,23 +2,23 @@
 #![tactic(auto)]
 
 mod cutting;
-mod fields;
 mod lanes;
+mod line_fields;
+mod line_tokens;
 mod misplaced;
 mod naming;
 mod numbers;
-mod text;
-mod tokens;
+mod utf8;
 mod words;
 
 pub use cutting::{next_line, worded_part};
-pub use fields::{
+pub use line_fields::{
     Field, ended, take_declared, take_keyword, take_last_declared, take_last_new_name,
     take_last_number_below, take_last_number_within, take_new_name, take_number,
     take_number_within,
 };
+pub use line_tokens::{Token, Tokens, number_in, read_tokens};
 pub use misplaced::refusal;
 pub use naming::{Named, Names};
-pub use text::is_text;
-pub use tokens::{Token, Tokens, number_in, read_tokens};
+pub use utf8::is_text;
 pub use words::{is_word, next_word};

@@ -1,5 +1,5 @@
 //! Numbers, by their digits.
-ghost use Rattle.cmwq_grammar.specs.Fields.{is_number, number_at};
+ghost use Rattle.cmwq_grammar.specs.LineFields.{is_number, number_at};
 ghost use Rattle.cmwq_scan.specs.Numbers.{begins_well};
 ghost use Rattle.cmwq_scan.specs.Words.{words_left};
 ghost use Rattle.std.specs.Char.{is_ascii_digit};

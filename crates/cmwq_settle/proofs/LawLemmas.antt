@@ -12,7 +12,7 @@ use Rattle.cmwq_types.specs.declared.limits.TheConstants.{MAX_HISTORY, MAX_LINES
 use Rattle.cmwq_table.specs.Events.{events}
 use Rattle.cmwq_grammar.specs.Grammar.{Spells}
 use Rattle.cmwq_play.specs.Runs.{IsRunOf}
-use Rattle.cmwq_play.specs.Texts.{IsRun}
+use Rattle.cmwq_play.specs.PlayTexts.{IsRun}
 use Rattle.cmwq_settle.specs.Counting.{with_one_actor}
 use Rattle.cmwq_settle.specs.Settled.{IsSettled, IsSettledBy, with_nexts}
 use Rattle.cmwq_settle.specs.Settling.{IsSettledOutput, IsSettledRun, IsSettledText, followed}

@@ -10,7 +10,7 @@ use Rattle.cmwq_table.specs.Events.{events}
 use Rattle.cmwq_grammar.specs.Grammar.{Spells}
 use Rattle.cmwq_play.specs.Commands.{Answers, IsOutside, Writes}
 use Rattle.cmwq_play.specs.Runs.{IsRefused, IsRunOf}
-use Rattle.cmwq_play.specs.Texts.{ComesTo, IsFaultOf, IsSpelled, IsTextFault}
+use Rattle.cmwq_play.specs.PlayTexts.{ComesTo, IsFaultOf, IsSpelled, IsTextFault}
 use Rattle.cmwq_play.proofs.CommandLemmas.{answers_outside, err_is}
 use Rattle.cmwq_play.proofs.TextLemmas.{answers_told}
 use Rattle.cmwq_streams.specs.Sending.{IsSendError}

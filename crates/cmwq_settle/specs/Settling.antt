@@ -7,7 +7,7 @@ use Rattle.cmwq_types.specs.Scenario.{expand}
 use Rattle.cmwq_types.specs.declared.instr.Instr.{Instr}
 use Rattle.cmwq_types.specs.declared.instr.Instr.TheVariants as instr
 use Rattle.cmwq_table.specs.Events.{events}
-use Rattle.cmwq_play.specs.Texts.{ComesTo, IsFaultOf}
+use Rattle.cmwq_play.specs.PlayTexts.{ComesTo, IsFaultOf}
 use Rattle.cmwq_streams.specs.declared.error.PlayError.{PlayError}
 use Rattle.cmwq_settle.specs.Quiet.{nexts_left}
 use Rattle.cmwq_settle.specs.Settled.{IsNeverQuiet, IsSettled, IsSettledBy, IsUnsettleable, IsNotSettled}

@@ -1,5 +1,5 @@
 //! What being quiet means, and what settling keeps: each function's contract is a law. The functions do nothing.
-ghost use Rattle.cmwq_play.specs.Texts.{IsRun};
+ghost use Rattle.cmwq_play.specs.PlayTexts.{IsRun};
 ghost use Rattle.cmwq_settle.specs.Quiet.{NeverQuiet, Settles, is_quiet};
 ghost use Rattle.cmwq_settle.specs.Settling.{IsSettledRun, IsSettledText};
 ghost use Rattle.cmwq_table.specs.Table.{run};

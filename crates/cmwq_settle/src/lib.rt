@@ -5,9 +5,9 @@ mod counting;
 pub mod examples;
 mod extending;
 pub mod laws;
-mod running;
+mod settled_run;
 mod settling;
 mod watch;
 
-pub use running::run_settled;
+pub use settled_run::run_settled;
 pub use settling::{settle_text, settled};

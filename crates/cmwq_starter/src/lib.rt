@@ -2,7 +2,7 @@
 #![tactic(auto)]
 
 ghost use Rattle.cmwq_examples.specs.Rows.{printed};
-ghost use Rattle.cmwq_starter.specs.First.{first_lines, first_scenario};
+ghost use Rattle.cmwq_starter.specs.Starter.{first_lines, first_scenario};
 ghost use Rattle.cmwq_grammar.specs.Grammar.{Spells};
 ghost use Rattle.std.specs.Prelude.{◌≡◌};
 

@@ -20,7 +20,7 @@ use Rattle.cmwq_play.proofs.TextLemmas.{same_actor}
 use Rattle.cmwq_tell.specs.declared.change.Change.{Change}
 use Rattle.cmwq_tell.specs.Hidden.{change_line, change_text, hidden}
 use Rattle.cmwq_tell.specs.Laws.{KeepsTheRun, ListsEachInstruction, from_lines, instr_said, is_instr_line, is_marked, unmarked}
-use Rattle.cmwq_tell.specs.Telling.{change_lines, instr_line, tell_from, tell_text}
+use Rattle.cmwq_tell.specs.RunTold.{change_lines, instr_line, tell_from, tell_text}
 use Rattle.cmwq_tell.proofs.LineLemmas.{NoFeed, change-no_feed, glyphs, instr-no_feed, is_glyph, joint, literal, number, reply-no_feed}
 
 -- a line and what follows it

@@ -10,7 +10,7 @@ use Rattle.cmwq_play.specs.Telling.{told_from}
 use Rattle.cmwq_tell.specs.declared.change.Change.{Change}
 use Rattle.cmwq_tell.specs.declared.told.Whole.{Whole}
 use Rattle.cmwq_tell.specs.Hidden.{hidden}
-use Rattle.cmwq_tell.specs.Telling.{change_lines, instr_line, tell_from, told_wholly}
+use Rattle.cmwq_tell.specs.RunTold.{change_lines, instr_line, tell_from, told_wholly}
 
 -- the parts of what is told of one, as they are written
 pub one-told : (S : ScenarioContents) (s t : State) (x : Instr) (reply : Reply) (now : ℕ) (changes : List Change) → (t, reply) ≡ table S s x → now ≡ t.time → changes ≡ hidden s t

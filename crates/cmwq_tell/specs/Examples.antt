@@ -7,7 +7,7 @@ use Rattle.cmwq_types.specs.declared.instr.Instr.TheVariants as instr
 use Rattle.cmwq_types.specs.declared.scenario.Op.TheVariants as op
 use Rattle.cmwq_examples.specs.Declare.{queue, work, freezable, mem_reclaim, queues, enqueue, delay, cancel, disable, flush, flush_queue, times, scenario}
 use Rattle.cmwq_examples.specs.Rows.{text}
-use Rattle.cmwq_tell.specs.Telling.{tell_text}
+use Rattle.cmwq_tell.specs.RunTold.{tell_text}
 
 -- all that is told of the scenario's actors, one after another; here each scenario has one
 abbrev pub told_of : ScenarioContents → List ℕ

@@ -15,12 +15,12 @@ use Rattle.cmwq_table.specs.State.{State, pending_at}
 use Rattle.cmwq_table.specs.Table.{is_question}
 use Rattle.cmwq_grammar.specs.Cutting.{lines_of}
 use Rattle.cmwq_grammar.specs.Grammar.{Spells}
-use Rattle.cmwq_play.specs.Texts.{IsRun}
+use Rattle.cmwq_play.specs.PlayTexts.{IsRun}
 use Rattle.cmwq_table.specs.declared.state.Pending.{Pending}
 use Rattle.cmwq_tell.specs.declared.change.Change.{Change}
 use Rattle.cmwq_tell.specs.declared.change.Change.TheVariants as change
 use Rattle.cmwq_tell.specs.Hidden.{hidden}
-use Rattle.cmwq_tell.specs.Telling.{IsToldRun}
+use Rattle.cmwq_tell.specs.RunTold.{IsToldRun}
 
 -- Refusals and questions.
 

@@ -1,4 +1,4 @@
 pub mod Examples
 pub mod Hidden
 pub mod Laws
-pub mod Telling
+pub mod RunTold

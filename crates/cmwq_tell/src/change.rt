@@ -1,6 +1,6 @@
 //! A change that no reply tells, and its line.
 ghost use Rattle.cmwq_tell.specs.Hidden.{change_line, change_text, timer_cpu_text};
-ghost use Rattle.cmwq_tell.specs.Telling.{change_lines};
+ghost use Rattle.cmwq_tell.specs.RunTold.{change_lines};
 ghost use Rattle.std.specs.Prelude.{◌≡◌, Some};
 
 use cmwq_table::PlaceWords;

@@ -3,10 +3,10 @@
 
 mod change;
 pub mod examples;
+mod hidden_changes;
 mod instr_line;
 pub mod laws;
-mod running;
 mod told;
-mod view;
+mod told_run;
 
-pub use running::run_told;
+pub use told_run::run_told;

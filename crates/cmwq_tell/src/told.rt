@@ -1,12 +1,12 @@
 //! All that is told of one instruction.
 ghost use Rattle.cmwq_table.specs.Events.{reply_line};
 ghost use Rattle.cmwq_table.specs.Table.{table};
-ghost use Rattle.cmwq_tell.specs.Telling.{change_lines, instr_line, told_wholly};
+ghost use Rattle.cmwq_tell.specs.RunTold.{change_lines, instr_line, told_wholly};
 ghost use Rattle.std.specs.Prelude.{◌++◌, Some, ⊤};
 
 use crate::change::{Change, ChangeLines};
+use crate::hidden_changes::hidden;
 use crate::instr_line::InstrWords;
-use crate::view::hidden;
 use cmwq_play::{Session, Teller};
 use cmwq_streams::{PlayError, Sink};
 use cmwq_table::{Machine, ReplyLine};

@@ -14,7 +14,7 @@ use Rattle.cmwq_grammar.specs.Cutting.{lines_of, without_empty_last}
 use Rattle.cmwq_grammar.specs.FaultLaw.{FaultAtEnd, FaultInLine, IsFault}
 use Rattle.cmwq_grammar.specs.Meaning.{FaultAt, stage_after}
 use Rattle.cmwq_grammar.specs.Stages.{Stage, Start}
-use Rattle.cmwq_verdict.specs.Places.{line_start}
+use Rattle.cmwq_verdict.specs.FaultPlaces.{line_start}
 
 abbrev not_feed : ℕ → Bool
 not_feed byte = not (eqb byte 10)

@@ -13,7 +13,7 @@ use Rattle.cmwq_asm.specs.declared.fault.AsmError.{AsmError}
 use Rattle.cmwq_asm.specs.declared.fault.AsmError.TheVariants as asm
 use Rattle.cmwq_grammar.specs.declared.why.Why.TheVariants as why
 use Rattle.cmwq_scan.specs.Words.{StandsIn, Word}
-use Rattle.cmwq_verdict.specs.Places.{AreWordsOf, IsNotBefore, IsPlace, IsPlaceAmong, cut_behind, line_start, start_of}
+use Rattle.cmwq_verdict.specs.FaultPlaces.{AreWordsOf, IsNotBefore, IsPlace, IsPlaceAmong, cut_behind, line_start, start_of}
 use Rattle.cmwq_verdict.specs.declared.places.FaultPlace.{FaultPlace}
 use Rattle.cmwq_verdict.specs.declared.places.FaultPlace.TheVariants as place
 

@@ -1,5 +1,5 @@
+pub mod FaultPlaces
 pub mod Looks
 pub mod Names
-pub mod Offers
-pub mod Places
+pub mod OfferLines
 pub mod Verdicts

@@ -5,7 +5,7 @@ use Rattle.cmwq_grammar.specs.Cutting.{lines_of}
 use Rattle.cmwq_grammar.specs.Meaning.{FaultAt}
 use Rattle.cmwq_grammar.specs.declared.why.Why.{Why}
 use Rattle.cmwq_verdict.specs.Names.{why_name}
-use Rattle.cmwq_verdict.specs.Places.{start_of}
+use Rattle.cmwq_verdict.specs.FaultPlaces.{start_of}
 use Rattle.cmwq_verdict.specs.declared.looks.Look.{Look}
 use Rattle.cmwq_verdict.specs.declared.looks.Look.TheVariants as look
 

@@ -7,8 +7,8 @@ use Rattle.cmwq_grammar.specs.FaultLaw.{IsFault}
 use Rattle.cmwq_grammar.specs.Grammar.{Spells}
 use Rattle.cmwq_grammar.specs.Meaning.{FaultAt}
 use Rattle.cmwq_verdict.specs.Looks.{pointer, why_words}
-use Rattle.cmwq_verdict.specs.Offers.{IsOffer}
-use Rattle.cmwq_verdict.specs.Places.{IsPlace}
+use Rattle.cmwq_verdict.specs.OfferLines.{IsOffer}
+use Rattle.cmwq_verdict.specs.FaultPlaces.{IsPlace}
 use Rattle.cmwq_verdict.specs.declared.looks.Look.{Look}
 use Rattle.cmwq_verdict.specs.declared.places.FaultPlace.{FaultPlace}
 use Rattle.cmwq_verdict.specs.declared.places.FaultPlace.TheVariants as place

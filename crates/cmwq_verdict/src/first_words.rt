@@ -3,7 +3,7 @@ ghost use Rattle.cmwq_grammar.specs.Instructions.{operands_of};
 ghost use Rattle.cmwq_grammar.specs.Offers.{has_named, words_of_next};
 ghost use Rattle.cmwq_types.specs.Listing.{word_if};
 ghost use Rattle.cmwq_types.specs.Mnemonics.{spelling};
-ghost use Rattle.cmwq_verdict.specs.Offers.{spelled};
+ghost use Rattle.cmwq_verdict.specs.OfferLines.{spelled};
 ghost use Rattle.std.specs.List.{filter};
 ghost use Rattle.std.specs.Prelude.{◌≡◌, ◌++◌, IfOk, OnOk, map};
 

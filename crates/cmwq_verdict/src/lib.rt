@@ -3,13 +3,13 @@
 
 mod first_words;
 mod looks;
-mod names;
 mod offers;
 mod places;
+mod reason_names;
 mod verdicts;
 
 pub use first_words::FirstWord;
 pub use looks::Look;
-pub use names::{fault_name, why_name};
 pub use offers::next_words;
+pub use reason_names::{fault_name, why_name};
 pub use verdicts::{ok_line, read_line, verdict};

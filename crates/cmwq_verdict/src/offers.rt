@@ -4,7 +4,7 @@ ghost use Rattle.cmwq_grammar.specs.Meaning.{fault_at};
 ghost use Rattle.cmwq_grammar.specs.Offers.{words_of_next};
 ghost use Rattle.cmwq_grammar.specs.declared.next.Next.{Next};
 ghost use Rattle.cmwq_grammar.specs.declared.why.Why.{Why};
-ghost use Rattle.cmwq_verdict.specs.Offers.{IsNextAt, IsOffer, offer_line, spelled};
+ghost use Rattle.cmwq_verdict.specs.OfferLines.{IsNextAt, IsOffer, offer_line, spelled};
 ghost use Rattle.std.specs.List.{flat_map};
 ghost use Rattle.std.specs.Prelude.{◌≡◌, ◌≢◌, ◌++◌, ℕ, List, IfOk, OnOk, codes, map};
 

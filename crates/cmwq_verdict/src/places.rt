@@ -3,7 +3,7 @@ ghost use Rattle.cmwq_grammar.specs.Cutting.{lines_of};
 ghost use Rattle.cmwq_grammar.specs.FaultLaw.{IsFault};
 ghost use Rattle.cmwq_grammar.specs.Meaning.{fault_at};
 ghost use Rattle.cmwq_scan.specs.Words.{StandsIn, worded_part};
-ghost use Rattle.cmwq_verdict.specs.Places.{IsPlace, IsPlaceAmong, behind_words, cut_behind, line_start};
+ghost use Rattle.cmwq_verdict.specs.FaultPlaces.{IsPlace, IsPlaceAmong, behind_words, cut_behind, line_start};
 ghost use Rattle.std.specs.List.{All};
 ghost use Rattle.std.specs.Prelude.{◌≡◌, ◌≢◌, ◌+◌, ◌-◌, ◌≤◌, ◌<◌, ◌↔◌, ◌∷◌, ◌==◌, if◌then◌else◌, ℕ, List, IfOk, IsTrue, MatchOption, drop, length};
 

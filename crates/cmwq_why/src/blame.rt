@@ -3,7 +3,7 @@ ghost use Rattle.cmwq_reasons.specs.Reasons.{causes, holders, pending_half, runn
 ghost use Rattle.cmwq_why.specs.Groups.{group_works};
 ghost use Rattle.std.specs.Prelude.{◌≡◌, [], ◌∷◌, IfOk, map};
 
-use crate::group::{ReasonGroup, group_works};
+use crate::reason_group::{ReasonGroup, group_works};
 use cmwq_reasons::{Instance, Reason};
 use cmwq_table::Reads;
 use cmwq_types::{NoMemory, WorkId};
@@ -73,7 +73,11 @@ fn one(alloc: Global, instance: Instance) -> Result<Vec<Instance>, NoMemory>
 }
 
 /// What runs of each of the group's works.
-fn running<R: Reads>(alloc: Global, machine: &R, group: ReasonGroup) -> Result<Vec<Instance>, NoMemory>
+fn running<R: Reads>(
+    alloc: Global,
+    machine: &R,
+    group: ReasonGroup,
+) -> Result<Vec<Instance>, NoMemory>
     ensures { IfOk result (λ instances. instances.items ≡ map running_half (group_works (R.loaded machine.now) (R.state machine.now) group)) }
 {
     let works = group_works(alloc, machine, group)?;
@@ -86,7 +90,11 @@ fn running<R: Reads>(alloc: Global, machine: &R, group: ReasonGroup) -> Result<V
 }
 
 /// What pends of each of the group's works.
-fn pending<R: Reads>(alloc: Global, machine: &R, group: ReasonGroup) -> Result<Vec<Instance>, NoMemory>
+fn pending<R: Reads>(
+    alloc: Global,
+    machine: &R,
+    group: ReasonGroup,
+) -> Result<Vec<Instance>, NoMemory>
     ensures { IfOk result (λ instances. instances.items ≡ map pending_half (group_works (R.loaded machine.now) (R.state machine.now) group)) }
 {
     let works = group_works(alloc, machine, group)?;

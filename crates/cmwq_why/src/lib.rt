@@ -2,15 +2,15 @@
 #![tactic(auto)]
 
 mod blame;
-mod flushes;
+mod flush_waits;
 mod going_first;
-mod group;
 mod pending;
-mod running;
+mod reason_group;
+mod running_works;
 
 pub use blame::{causes, holders, on_workers};
-pub use flushes::{lacks_memory, lacks_thaw, waits};
+pub use flush_waits::{lacks_memory, lacks_thaw, waits};
 pub use going_first::is_same;
-pub use group::{ReasonGroup, group_works};
 pub use pending::pending_reason;
-pub use running::{reason_of, running_reason};
+pub use reason_group::{ReasonGroup, group_works};
+pub use running_works::{reason_of, running_reason};

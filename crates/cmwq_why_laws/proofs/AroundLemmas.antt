@@ -15,7 +15,7 @@ use Rattle.cmwq_table.specs.State.{State, pending_at, running_at}
 use Rattle.cmwq_table.specs.Counts.{active, is_active, is_deferred, is_inactive, is_listed, is_rescuer, is_runnable, pending_before, pending_stamp, pends, running_before, running_stamp, runs, runs_on_rescuer}
 use Rattle.cmwq_reasons.specs.declared.reason.Instance.{Instance}
 use Rattle.cmwq_reasons.specs.Reasons.{ahead, counted_works, deferred_holders, holders, listed_holders, pending_half, pending_holders, pending_works, running_half, running_holders, running_works, works_on_pool_workers, works_on_rescuer, works_on_workers}
-use Rattle.cmwq_why_text.specs.Text.{item, items, later_item, name_of, place_words, run_words}
+use Rattle.cmwq_why_text.specs.WhyText.{item, items, later_item, name_of, place_words, run_words}
 use Rattle.cmwq_why_laws.proofs.AgreeLemmas.{AllPass, all-agrees, all-pass}
 use Rattle.cmwq_why_laws.proofs.PoolLemmas.{IsOfPlaces, IsOfRuns, SamePool, and-agrees, by_key, listed-in, pends-agree, pends-same, runs-agree, runs-same}
 

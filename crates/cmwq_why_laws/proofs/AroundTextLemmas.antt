@@ -28,7 +28,7 @@ use Rattle.cmwq_reasons.specs.declared.reason.Turn.TheVariants.{Starts, Defers, 
 use Rattle.cmwq_reasons.specs.Laws.{pool_if_pending, pool_if_running}
 use Rattle.cmwq_reasons.specs.Reasons.{burns_unless, counted_works, fires_unless, holders, mover, next_or_after, other_instance, other_work, reason_by_move, reason_if_running, reason_in_mode, reason_in_place, reason_of_head, reason_of_none, reason_of_pending, reason_of_runnable, reason_of_running, running_half, work_above, work_of, work_before, works_on_workers}
 use Rattle.cmwq_reasons.proofs.RunningRows.{RunRow, run-row}
-use Rattle.cmwq_why_text.specs.Text.{ahead_text, beside_run, both_halves, inactive_text, items, listed_text, name_of, pending_text, queue_name, reason_text, room_text, spaced_name, turn_text, worker_words}
+use Rattle.cmwq_why_text.specs.WhyText.{ahead_text, beside_run, both_halves, inactive_text, items, listed_text, name_of, pending_text, queue_name, reason_text, room_text, spaced_name, turn_text, worker_words}
 use Rattle.cmwq_why_laws.specs.Laws.{halves_text}
 use Rattle.cmwq_why_laws.proofs.PoolLemmas.{SamePool, may-same, mover-same, next-same, runnable-same}
 use Rattle.cmwq_why_laws.proofs.AroundLemmas.{SameRescuer, active-same, counted-same, holder-text, inactive-ahead, listed-ahead, worker-text}

@@ -2,7 +2,7 @@
 use Rattle.std.proofs.Common.{ap}
 use Rattle.cmwq_table.specs.Laws.{AtEveryInstruction, ChangesNothingAsked, ChangesNothingRefused}
 use Rattle.cmwq_table.specs.State.{State}
-use Rattle.cmwq_why_text.specs.Text.{why_text}
+use Rattle.cmwq_why_text.specs.WhyText.{why_text}
 use Rattle.cmwq_why_laws.specs.Laws.{ChangesNoTextAsked, ChangesNoTextRefused}
 
 pub changes_no_text_refused : AtEveryInstruction ChangesNothingRefused → AtEveryInstruction ChangesNoTextRefused

@@ -3,7 +3,7 @@ use Rattle.std.proofs.Common.{◌≡◌, ℕ, ◌+◌, ◌<◌, List, [], ◌++�
 use Rattle.std.proofs.lemmas.Bool.{cond-true, lt-ltb}
 use Rattle.cmwq_types.specs.Contents.{ScenarioContents}
 use Rattle.cmwq_table.specs.State.{State}
-use Rattle.cmwq_why_text.specs.Text.{spent_text}
+use Rattle.cmwq_why_text.specs.WhyText.{spent_text}
 use Rattle.cmwq_why_laws.specs.Laws.{KeepsText, halves_text}
 
 unspent : (S : ScenarioContents) (s : State) → s.spent < S.steps → spent_text S s ≡ []

@@ -19,7 +19,7 @@ use Rattle.cmwq_reasons.specs.declared.reason.Reason.{Reason}
 use Rattle.cmwq_reasons.specs.declared.reason.Reason.TheVariants as reason
 use Rattle.cmwq_reasons.specs.Laws.{InAnyState}
 use Rattle.cmwq_reasons.specs.Reasons.{counted_works, holders, pending_half, pending_holders, reason_if_pending, reason_if_running, reason_of, reason_of_pending, running_half, running_works, works_on_pool_workers, works_on_rescuer, works_on_workers}
-use Rattle.cmwq_why_text.specs.Text.{beside_run, both_halves, inactive_text, item, items, listed_text, name_of, pending_text, reason_text, room_text, run_words, spaced_name, worker_words}
+use Rattle.cmwq_why_text.specs.WhyText.{beside_run, both_halves, inactive_text, item, items, listed_text, name_of, pending_text, reason_text, room_text, run_words, spaced_name, worker_words}
 use Rattle.cmwq_why_laws.specs.Laws.{KeepsReasons, KeepsText, KeepsTextInTick, halves_text}
 use Rattle.cmwq_why_laws.proofs.SpentLemmas.{keeps}
 use Rattle.cmwq_why_laws.proofs.TickLemmas.{is_ticked, seen, shown, shows, stamps-kept, tests-kept, ticked}

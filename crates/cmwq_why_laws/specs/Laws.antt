@@ -18,7 +18,7 @@ use Rattle.cmwq_reasons.specs.declared.reason.Reason.{Reason}
 use Rattle.cmwq_reasons.specs.declared.reason.Reason.TheVariants as reason
 use Rattle.cmwq_reasons.specs.Laws.{IsDeclared, pool_of}
 use Rattle.cmwq_reasons.specs.Reasons.{pending_half, reason_if_running, reason_of, running_half}
-use Rattle.cmwq_why_text.specs.Text.{both_halves, why_text}
+use Rattle.cmwq_why_text.specs.WhyText.{both_halves, why_text}
 
 -- what is told of a work's halves: its text, but for whether the scenario's steps are spent
 abbrev pub halves_text : ScenarioContents → State → ℕ → List ℕ

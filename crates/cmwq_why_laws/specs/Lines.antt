@@ -2,8 +2,8 @@
 use Rattle.std.specs.Prelude.{ℕ, List, Option}
 use Rattle.cmwq_types.specs.Contents.{ScenarioContents}
 use Rattle.cmwq_reason_examples.specs.Waiting.{at}
-use Rattle.cmwq_flush_waits.specs.Text.{flush_lines}
-use Rattle.cmwq_why_text.specs.Text.{why_text}
+use Rattle.cmwq_flush_waits.specs.FlushText.{flush_lines}
+use Rattle.cmwq_why_text.specs.WhyText.{why_text}
 
 abbrev pub line_at_position : ScenarioContents → ℕ → ℕ → List ℕ
 line_at_position S position w = why_text S (at S position) w

@@ -1,5 +1,5 @@
 //! What the instances do that a reason names, as text.
-ghost use Rattle.cmwq_why_text.specs.Text.{ahead_text, item, items, later_item, mode_words, place_words, rescuer_text, run_words, spaced_name};
+ghost use Rattle.cmwq_why_text.specs.WhyText.{ahead_text, item, items, later_item, mode_words, place_words, rescuer_text, run_words, spaced_name};
 ghost use Rattle.std.specs.List.{flat_map};
 ghost use Rattle.std.specs.Prelude.{◌≡◌, ◌++◌, OnOk, string_bytes};
 

@@ -1,5 +1,5 @@
 //! Why a work isn't further, as a line.
-ghost use Rattle.cmwq_why_text.specs.Text.{why_line};
+ghost use Rattle.cmwq_why_text.specs.WhyText.{why_line};
 ghost use Rattle.std.specs.Prelude.{◌≡◌, IfOk, string_bytes};
 
 use crate::wording::Wording;

@@ -1,6 +1,6 @@
 //! The names of works and queues, by their numbers.
 ghost use Rattle.cmwq_reasons.specs.Reasons.{work_of};
-ghost use Rattle.cmwq_why_text.specs.Text.{name_of, queue_name};
+ghost use Rattle.cmwq_why_text.specs.WhyText.{name_of, queue_name};
 ghost use Rattle.std.specs.Prelude.{◌≡◌};
 
 use crate::wording::Wording;

@@ -1,7 +1,7 @@
 use Rattle.std.proofs.Common.{◌∙◌, List, Ok, ap, sym}
 use Rattle.cmwq_types.specs.declared.scenario.Line.{Line}
 use Rattle.cmwq_grammar.specs.Stages as stage
-use Rattle.cmwq_asm.specs.Stages.{stage_in}
+use Rattle.cmwq_asm.specs.TextStages.{stage_in}
 use Rattle.cmwq_asm.proofs.TextLemmas.{leads_further}
 use Rattle.cmwq_asm.proofs.actors.read_instructions.Goals as goal
 

@@ -1,7 +1,7 @@
 use Rattle.std.proofs.Common.{length}
 use Rattle.std.specs.Prelude.{IsTrue}
 use Rattle.std.specs.Str.{is_utf8}
-use Rattle.cmwq_asm.specs.Stages.{stage_in}
+use Rattle.cmwq_asm.specs.TextStages.{stage_in}
 use Rattle.cmwq_asm.specs.Texts.{LeadsOn}
 use Rattle.cmwq_asm.proofs.actors.read_instructions.Given as goal
 

@@ -1,9 +1,9 @@
 use Rattle.std.proofs.Common.{ℕ, ◌+◌, ◌∙◌, ap, sym, length, arith}
 use Rattle.cmwq_grammar.specs.Cutting.{lines_of}
 use Rattle.cmwq_grammar.specs.Meaning.{stage_after}
-use Rattle.cmwq_grammar.specs.Reasons.{judge}
+use Rattle.cmwq_grammar.specs.LineReasons.{judge}
 use Rattle.cmwq_grammar.specs.Stages.{Start}
-use Rattle.cmwq_asm.specs.Stages.{stage_of}
+use Rattle.cmwq_asm.specs.TextStages.{stage_of}
 use Rattle.cmwq_asm.proofs.TextLemmas.{next_stage, fault_in_line, last_stage, told_fails}
 use Rattle.cmwq_asm.proofs.assembling.read_lines.Goals as goal
 

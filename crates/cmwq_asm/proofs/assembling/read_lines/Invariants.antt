@@ -4,7 +4,7 @@ use Rattle.std.specs.Str.{is_utf8}
 use Rattle.cmwq_grammar.specs.Cutting.{lines_of}
 use Rattle.cmwq_grammar.specs.Meaning.{stage_after}
 use Rattle.cmwq_grammar.specs.Stages.{Start}
-use Rattle.cmwq_asm.specs.Stages.{stage_of}
+use Rattle.cmwq_asm.specs.TextStages.{stage_of}
 use Rattle.cmwq_asm.proofs.assembling.read_lines.Given as goal
 
 -- the lines that are left lead from the stage so far to where all lines lead

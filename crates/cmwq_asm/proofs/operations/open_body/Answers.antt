@@ -1,9 +1,9 @@
 use Rattle.std.proofs.Common.{ℕ, ◌∙◌, ap, sym, Ok, [], length}
-use Rattle.cmwq_grammar.specs.Fields.{◌>>=◌, declared_at}
+use Rattle.cmwq_grammar.specs.LineFields.{◌>>=◌, declared_at}
 use Rattle.cmwq_grammar.specs.Instructions.{work_names}
-use Rattle.cmwq_grammar.specs.Reasons.{open_body, is_next}
+use Rattle.cmwq_grammar.specs.LineReasons.{open_body, is_next}
 use Rattle.cmwq_grammar.specs.Stages.{Body}
-use Rattle.cmwq_asm.specs.Stages.{stage_of}
+use Rattle.cmwq_asm.specs.TextStages.{stage_of}
 use Rattle.cmwq_asm.specs.declared.open.OpenBody.{OpenBody}
 use Rattle.cmwq_scan.proofs.LastFields.{last_ok, last_err}
 use Rattle.cmwq_scan.specs.Words.{words_left}

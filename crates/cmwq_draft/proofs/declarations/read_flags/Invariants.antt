@@ -1,5 +1,5 @@
 use Rattle.std.proofs.Common.{◌≡◌, length}
-use Rattle.cmwq_grammar.specs.Reasons.{flags_at}
+use Rattle.cmwq_grammar.specs.LineReasons.{flags_at}
 use Rattle.cmwq_scan.specs.Words.{words_left}
 use Rattle.cmwq_types.specs.Scenario.{plain_flags}
 use Rattle.cmwq_draft.proofs.declarations.read_flags.Given as goal

@@ -1,7 +1,7 @@
 use Rattle.std.proofs.Common.{◌∙◌, ap, sym}
-use Rattle.cmwq_grammar.specs.Fields.{declared_at, new_name_at}
+use Rattle.cmwq_grammar.specs.LineFields.{declared_at, new_name_at}
 use Rattle.cmwq_grammar.specs.Instructions.{work_names, queue_names}
-use Rattle.cmwq_grammar.specs.Reasons.{work_at_line, new_work, then_queue}
+use Rattle.cmwq_grammar.specs.LineReasons.{work_at_line, new_work, then_queue}
 use Rattle.cmwq_draft.specs.Declarations.{work_of_line as told_work}
 use Rattle.cmwq_scan.proofs.LastFields.{last_err}
 use Rattle.cmwq_scan.specs.Words.{words_left}

@@ -1,8 +1,8 @@
 use Rattle.std.proofs.Common.{sym, ◌∙◌}
 use Rattle.cmwq_types.specs.declared.scenario.Op.TheVariants as op
 use Rattle.cmwq_types.specs.declared.limits.TheConstants.{MAX_TICKS}
-use Rattle.cmwq_grammar.specs.Fields.{number_within}
-use Rattle.cmwq_grammar.specs.Reasons.{op_at_line}
+use Rattle.cmwq_grammar.specs.LineFields.{number_within}
+use Rattle.cmwq_grammar.specs.LineReasons.{op_at_line}
 use Rattle.cmwq_scan.specs.Words.{words_left}
 use Rattle.cmwq_scan.proofs.LastFields.{last_err}
 use Rattle.cmwq_draft.proofs.Refused.{first, not_there, second}

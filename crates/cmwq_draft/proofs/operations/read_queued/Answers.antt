@@ -1,8 +1,8 @@
 use Rattle.std.proofs.Common.{◌∙◌, ap, sym}
 use Rattle.cmwq_types.specs.declared.scenario.Op.TheVariants as op
-use Rattle.cmwq_grammar.specs.Fields.{declared_at, number_below}
+use Rattle.cmwq_grammar.specs.LineFields.{declared_at, number_below}
 use Rattle.cmwq_grammar.specs.Instructions.{work_id, work_names}
-use Rattle.cmwq_grammar.specs.Reasons.{then_cpu}
+use Rattle.cmwq_grammar.specs.LineReasons.{then_cpu}
 use Rattle.cmwq_scan.proofs.LastFields.{last_ok, last_err}
 use Rattle.cmwq_scan.specs.Words.{words_left}
 use Rattle.cmwq_draft.proofs.Refused.{not_there, then_ok}

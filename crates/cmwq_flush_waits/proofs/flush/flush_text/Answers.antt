@@ -2,7 +2,7 @@ use Rattle.std.proofs.Common.{◌∙◌, ap, sym, List, ℕ, Option, Some, optio
 use Rattle.cmwq_table.specs.declared.state.FlushTarget.{FlushTarget}
 use Rattle.cmwq_reasons.specs.declared.reason.Instance.{Instance}
 use Rattle.cmwq_reasons.specs.Reasons.{waits}
-use Rattle.cmwq_flush_waits.specs.Text.{flush_waits_lines}
+use Rattle.cmwq_flush_waits.specs.FlushText.{flush_waits_lines}
 use Rattle.cmwq_flush_waits.proofs.flush.flush_text.Goals as goal
 
 pub returns : goal.returns

@@ -3,10 +3,10 @@ use lib.Utf8.{encode}
 use Rattle.std.proofs.Common.{refl}
 use Rattle.std.specs.Fmt.{digits}
 use Rattle.std.specs.Str.{chars, is_utf8}
-use Rattle.cmwq_grammar.specs.Fields.{after_word, declared_at, ended, name_at, new_name_at, number_at, number_where, word_at}
+use Rattle.cmwq_grammar.specs.LineFields.{after_word, declared_at, ended, name_at, new_name_at, number_at, number_where, word_at}
 use Rattle.cmwq_grammar.specs.Instructions.{cannot_stand, instr_at, line_at}
 use Rattle.cmwq_grammar.specs.Meaning.{reads, reads_lines, stage_after}
-use Rattle.cmwq_grammar.specs.Reasons.{add_flag, add_line, add_op, add_queue, add_work, at_end, flags_at, judge, op_at_line, open_actor, open_body, queue_at_line, step, work_at_line}
+use Rattle.cmwq_grammar.specs.LineReasons.{add_flag, add_line, add_op, add_queue, add_work, at_end, flags_at, judge, op_at_line, open_actor, open_body, queue_at_line, step, work_at_line}
 use Rattle.cmwq_grammar.proofs.examples.reasons_in_actors.Goals as goal
 
 pub returns-clause-duplicate : goal.returns-clause-duplicate

@@ -1,6 +1,6 @@
 use Rattle.std.proofs.Common.{Some, IsSome, ap, subst, ◌∙◌, inl, inr}
 use Rattle.std.proofs.lemmas.Bool.{cases_eq}
-use Rattle.cmwq_lists.specs.declared.cell.ListCell.{ListCell}
+use Rattle.cmwq_lists.specs.declared.list_cell.ListCell.{ListCell}
 use Rattle.slab.specs.Slab.{get}
 use Rattle.cmwq_lists.specs.Cells.{with_next, with_prev}
 use Rattle.cmwq_lists.proofs.LinkingLemmas.{next_of_cut, after_if_held, held_before, if_held_kept, next_if_held, chain_linked_in, others_linked_in}

@@ -1,5 +1,5 @@
 use Rattle.std.proofs.Common.{arith}
-use Rattle.cmwq_lists.specs.Contents.{Entry, list_at, placed}
+use Rattle.cmwq_lists.specs.ListContents.{Entry, list_at, placed}
 use Rattle.cmwq_lists.proofs.CallerLemmas.{sorted_placed}
 use Rattle.cmwq_machine_tests.proofs.ListsLemmas.{stays_sorted}
 use Rattle.cmwq_machine_tests.proofs.lists.insert.Goals as goal

@@ -1,5 +1,5 @@
 use Rattle.std.proofs.Common.{ℕ, sym, subst}
-use Rattle.cmwq_lists.specs.Contents.{IsHeld, IsSorted, list_at, without}
+use Rattle.cmwq_lists.specs.ListContents.{IsHeld, IsSorted, list_at, without}
 use Rattle.cmwq_lists.proofs.CallerLemmas.{sorted_without}
 use Rattle.cmwq_machine_tests.proofs.ListsLemmas.{stays_sorted}
 use Rattle.cmwq_machine_tests.proofs.lists.unlink.Goals as goal

@@ -2,7 +2,7 @@ use Rattle.std.proofs.Common.{◌≡◌, Err, ap}
 use Rattle.std.proofs.lemmas.Result.{err_from_is_err_and}
 use Rattle.cmwq_image.specs.Image.{image}
 use Rattle.cmwq_image.specs.declared.version.TheConstants.{VERSION}
-use Rattle.cmwq_play.specs.Texts.{IsOutput, IsSpelled, IsTextFault}
+use Rattle.cmwq_play.specs.PlayTexts.{IsOutput, IsSpelled, IsTextFault}
 use Rattle.cmwq_play.proofs.CommandLemmas.{answers_err, answers_ok, reads_err, reads_ok, sending_no_read, sending_outside, writes_err, writes_more}
 use Rattle.cmwq_play.proofs.images.to_image.Goals as goal
 

@@ -1,6 +1,6 @@
 use Rattle.std.proofs.Common.{List, ℕ, Some, subst}
 use Rattle.cmwq_play.specs.Commands.{Answers}
-use Rattle.cmwq_play.specs.Texts.{IsSpelled, IsTextFault}
+use Rattle.cmwq_play.specs.PlayTexts.{IsSpelled, IsTextFault}
 use Rattle.cmwq_play.proofs.TextLemmas.{text_answers}
 use Rattle.cmwq_play.proofs.reading.read_text.Goals as goal
 

@@ -1,5 +1,5 @@
 use Rattle.std.proofs.Common.{◌≡◌, ◌++◌}
-use Rattle.cmwq_runs.specs.Instructions.{left}
+use Rattle.cmwq_runs.specs.RunInstructions.{left}
 use Rattle.cmwq_types.specs.Scenario.{expand_lines}
 use Rattle.cmwq_runs.proofs.instructions.expanded.Given as goal
 

@@ -1,7 +1,7 @@
 use Rattle.std.proofs.Common.{◌≡◌}
 use Rattle.cmwq_types.specs.Scenario.{expand_lines}
 use Rattle.cmwq_table.specs.Table.{after_all}
-use Rattle.cmwq_runs.specs.Instructions.{left}
+use Rattle.cmwq_runs.specs.RunInstructions.{left}
 use Rattle.cmwq_runs.proofs.issuing.issue_all.Given as goal
 
 -- what is left leads to where all lead

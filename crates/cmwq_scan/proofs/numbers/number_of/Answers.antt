@@ -1,5 +1,5 @@
 use Rattle.std.proofs.Common.{◌≡◌, ◌∙◌, false, sym, arith}
-use Rattle.cmwq_grammar.specs.Fields.{is_number}
+use Rattle.cmwq_grammar.specs.LineFields.{is_number}
 use Rattle.cmwq_scan.proofs.NumberLemmas.{ill-no_number, stops-no_number}
 use Rattle.cmwq_scan.proofs.numbers.number_of.Goals as goal
 use Rattle.cmwq_scan.proofs.numbers.number_of.Goals.{else-count-word-via-then-count-word+else-begins_well, else-count-word-via-else-count-word}

@@ -4,7 +4,7 @@ use Rattle.std.specs.Prelude.{map}
 use Rattle.cmwq_types.specs.Mnemonics.{spelling}
 use Rattle.cmwq_grammar.specs.Instructions.{operands_of}
 use Rattle.cmwq_grammar.specs.Offers.{has_named}
-use Rattle.cmwq_verdict.specs.Offers.{spelled}
+use Rattle.cmwq_verdict.specs.OfferLines.{spelled}
 use Rattle.cmwq_verdict.proofs.first_words.push_named.Given as goal
 
 abbrev pub invariant-loop-mnemonic : goal.invariant-loop-mnemonic

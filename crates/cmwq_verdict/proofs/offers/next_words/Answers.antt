@@ -3,7 +3,7 @@ use Rattle.cmwq_grammar.specs.Cutting.{lines_of}
 use Rattle.cmwq_grammar.specs.Meaning.{fault_at, stage_after}
 use Rattle.cmwq_grammar.specs.Offers.{next_of, words_of_next}
 use Rattle.cmwq_grammar.specs.Stages.{Start}
-use Rattle.cmwq_verdict.specs.Offers.{spelled}
+use Rattle.cmwq_verdict.specs.OfferLines.{spelled}
 use Rattle.cmwq_verdict.proofs.FrontLemmas.{front_lines, next_is, not_told, ok_with, reached}
 use Rattle.cmwq_verdict.proofs.offers.next_words.Goals as goal
 

@@ -1,6 +1,6 @@
 use Rattle.std.proofs.Common.{◌≡◌, ◌++◌, ◌∙◌, ℕ, List, ap, inr, map, refl}
 use Rattle.cmwq_grammar.specs.Offers.{words_of_next}
-use Rattle.cmwq_verdict.specs.Offers.{offer_line, spelled}
+use Rattle.cmwq_verdict.specs.OfferLines.{offer_line, spelled}
 use Rattle.cmwq_verdict.proofs.FrontLemmas.{on_ok}
 use Rattle.cmwq_verdict.proofs.offers.push_offer.Goals as goal
 

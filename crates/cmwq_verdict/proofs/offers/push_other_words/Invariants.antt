@@ -1,7 +1,7 @@
 use Rattle.std.proofs.Common.{◌≡◌, ◌++◌, take, codes}
 use Rattle.std.specs.List.{flat_map}
 use Rattle.std.specs.Prelude.{map}
-use Rattle.cmwq_verdict.specs.Offers.{spelled}
+use Rattle.cmwq_verdict.specs.OfferLines.{spelled}
 use Rattle.cmwq_verdict.proofs.offers.push_other_words.Given as goal
 
 abbrev pub invariant-loop-other : goal.invariant-loop-other

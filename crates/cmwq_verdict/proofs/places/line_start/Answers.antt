@@ -1,5 +1,5 @@
 use Rattle.std.proofs.Common.{arith, ap, ◌+◌, drop, ℕ}
-use Rattle.cmwq_verdict.specs.Places.{line_start}
+use Rattle.cmwq_verdict.specs.FaultPlaces.{line_start}
 use Rattle.cmwq_verdict.proofs.PlaceLemmas.{at_end, next_start, positive}
 use Rattle.cmwq_verdict.proofs.places.line_start.Goals as goal
 

@@ -1,5 +1,5 @@
 use Rattle.std.proofs.Common.{◌≡◌, ◌+◌, drop}
-use Rattle.cmwq_verdict.specs.Places.{line_start}
+use Rattle.cmwq_verdict.specs.FaultPlaces.{line_start}
 use Rattle.cmwq_verdict.proofs.places.line_start.Given as goal
 
 abbrev pub invariant-loop-index : goal.invariant-loop-index

@@ -1,7 +1,7 @@
 use Rattle.std.proofs.Common.{arith, ap, ◌≡◌, ℕ, List, Some, false, true, sym, ◌∙◌, subst}
 use Rattle.cmwq_grammar.specs.FaultLaw.{IsFault}
 use Rattle.cmwq_grammar.specs.Meaning.{fault_at}
-use Rattle.cmwq_verdict.specs.Places.{cut_behind}
+use Rattle.cmwq_verdict.specs.FaultPlaces.{cut_behind}
 use Rattle.cmwq_verdict.proofs.PlaceLemmas.{none_more, word_at, word_is}
 use Rattle.cmwq_verdict.proofs.places.place_among.Goals as goal
 

@@ -1,5 +1,5 @@
 use Rattle.std.proofs.Common.{◌≡◌, ◌++◌, length}
-use Rattle.cmwq_runs.specs.Instructions.{left}
+use Rattle.cmwq_runs.specs.RunInstructions.{left}
 use Rattle.cmwq_types.specs.Scenario.{expand_lines}
 use Rattle.cmwq_lock.specs.Tokens.{pass_view}
 use Rattle.cmwq_lock.specs.Views.{caller_of, mine_of}

@@ -1,8 +1,8 @@
 use Rattle.std.proofs.Common.{ℕ}
-use Rattle.cmwq_grammar.specs.Reasons.{step}
+use Rattle.cmwq_grammar.specs.LineReasons.{step}
 use Rattle.cmwq_grammar.specs.Stages as stage
 use Rattle.cmwq_grammar.specs.Stages.{head_of}
-use Rattle.cmwq_asm.specs.Stages.{stage_of}
+use Rattle.cmwq_asm.specs.TextStages.{stage_of}
 use Rattle.cmwq_scan.specs.Words.{words_left}
 use Rattle.cmwq_asm.proofs.HeaderLemmas.{head_err}
 use Rattle.cmwq_asm.proofs.Refused.{refused}

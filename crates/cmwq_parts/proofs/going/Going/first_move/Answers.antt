@@ -4,7 +4,7 @@ use Rattle.cmwq_types.specs.Scenario.{pool_count}
 use Rattle.cmwq_types.proofs.FirstLemmas.{first_below-from}
 use Rattle.cmwq_table.specs.Ready.{Loaded}
 use Rattle.cmwq_table.specs.Moves.{next_move}
-use Rattle.cmwq_parts.specs.Moves.{if_found, move_of}
+use Rattle.cmwq_parts.specs.FoundMoves.{if_found, move_of}
 use Rattle.cmwq_parts.proofs.going.Going.first_move.Goals as goal
 
 pub returns-in-Some-clause-first : goal.returns-in-Some-clause-first

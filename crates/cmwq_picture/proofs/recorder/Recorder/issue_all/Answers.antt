@@ -1,6 +1,6 @@
 use Rattle.std.proofs.Common.{◌≡◌, ◌∷◌, List, ap, rules, sym, ◌∙◌}
 use Rattle.std.proofs.lemmas.Result.{err_from_is_err_and}
-use Rattle.cmwq_runs.specs.Instructions.{left}
+use Rattle.cmwq_runs.specs.RunInstructions.{left}
 use Rattle.cmwq_types.specs.declared.instr.Instr.{Instr}
 use Rattle.cmwq_picture.specs.Recording.{issued_all, overflows}
 use Rattle.cmwq_picture.proofs.RecordingLemmas.{overflows-stays}

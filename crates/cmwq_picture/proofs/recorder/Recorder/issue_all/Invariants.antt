@@ -1,5 +1,5 @@
 use Rattle.std.proofs.Common.{◌≡◌}
-use Rattle.cmwq_runs.specs.Instructions.{left}
+use Rattle.cmwq_runs.specs.RunInstructions.{left}
 use Rattle.cmwq_types.specs.Scenario.{expand_lines}
 use Rattle.cmwq_picture.specs.Recording.{issued_all}
 use Rattle.cmwq_picture.proofs.recorder.Recorder.issue_all.Given as goal

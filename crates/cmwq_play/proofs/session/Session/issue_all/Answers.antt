@@ -1,6 +1,6 @@
 use Rattle.std.proofs.Common.{◌≡◌, ◌∷◌, rules}
 use Rattle.std.proofs.lemmas.Result.{err_from_is_err_and}
-use Rattle.cmwq_runs.specs.Instructions.{left}
+use Rattle.cmwq_runs.specs.RunInstructions.{left}
 use Rattle.cmwq_types.specs.Scenario.{expand_lines}
 use Rattle.cmwq_play.proofs.SessionLemmas.{begins, goes_on, stops}
 use Rattle.cmwq_play.proofs.session.Session.issue_all.Goals as goal

@@ -1,4 +1,4 @@
-use Rattle.cmwq_runs.specs.Instructions.{left}
+use Rattle.cmwq_runs.specs.RunInstructions.{left}
 use Rattle.cmwq_types.specs.Scenario.{expand_lines}
 use Rattle.cmwq_play.proofs.SessionLemmas.{IsUnderWay}
 use Rattle.cmwq_play.proofs.session.Session.issue_all.Given as goal

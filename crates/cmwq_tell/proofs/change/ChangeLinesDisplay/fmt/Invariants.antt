@@ -1,6 +1,6 @@
 use Rattle.std.proofs.Common.{take}
 use Rattle.std.specs.Fmt.{HasWritten, IsPlainFormatter}
-use Rattle.cmwq_tell.specs.Telling.{change_lines}
+use Rattle.cmwq_tell.specs.RunTold.{change_lines}
 use Rattle.cmwq_tell.proofs.change.ChangeLinesDisplay.fmt.Given as goal
 
 -- the lines up to this change were written

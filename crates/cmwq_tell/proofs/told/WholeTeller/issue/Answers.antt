@@ -6,7 +6,7 @@ use Rattle.cmwq_table.specs.State.{State}
 use Rattle.cmwq_table.specs.Table.{table}
 use Rattle.cmwq_play.proofs.TellerLemmas.{stopped_at_once, wrote_once}
 use Rattle.cmwq_tell.specs.Hidden.{hidden}
-use Rattle.cmwq_tell.specs.Telling.{told_wholly}
+use Rattle.cmwq_tell.specs.RunTold.{told_wholly}
 use Rattle.cmwq_tell.proofs.TellLemmas.{one-told}
 use Rattle.cmwq_tell.proofs.told.WholeTeller.issue.Goals as goal
 

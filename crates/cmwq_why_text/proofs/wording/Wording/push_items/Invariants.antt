@@ -1,6 +1,6 @@
 use Rattle.std.proofs.Common.{◌≡◌, ◌++◌, string_bytes, take}
 use Rattle.std.specs.List.{flat_map}
-use Rattle.cmwq_why_text.specs.Text.{later_item}
+use Rattle.cmwq_why_text.specs.WhyText.{later_item}
 use Rattle.cmwq_why_text.proofs.wording.Wording.push_items.Given as goal
 
 abbrev pub invariant-loop-instance : goal.invariant-loop-instance

@@ -1,6 +1,6 @@
 use Rattle.std.proofs.Common.{◌≡◌, ◌++◌, string_bytes, take}
 use Rattle.std.specs.List.{flat_map}
-use Rattle.cmwq_why_text.specs.Text.{spaced_name}
+use Rattle.cmwq_why_text.specs.WhyText.{spaced_name}
 use Rattle.cmwq_why_text.proofs.wording.Wording.push_names.Given as goal
 
 abbrev pub invariant-loop-w : goal.invariant-loop-w

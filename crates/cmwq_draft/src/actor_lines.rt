@@ -1,0 +1,134 @@
+//! An actor's line: an instruction, and how often it stands.
+ghost use Rattle.cmwq_scan.specs.Answers.{Tells};
+ghost use Rattle.cmwq_scan.specs.Words.{words_left};
+ghost use Rattle.cmwq_grammar.specs.LineFields.{declared_at};
+ghost use Rattle.cmwq_grammar.specs.Instructions.{instr_at, line_at, operands_at, operands_in, operands_of, queue_names, times_at, work_names};
+ghost use Rattle.cmwq_types.specs.Fields.{greatest_id};
+ghost use Rattle.cmwq_types.specs.declared.fields.Fields.{Fields};
+ghost use Rattle.cmwq_types.specs.declared.instr.Instr.{Instr};
+ghost use Rattle.std.specs.Prelude.{◌≤◌, ◌∷◌, IfOk};
+
+use crate::draft::Draft;
+use cmwq_grammar::Why;
+use cmwq_scan::{
+    Field, is_word, next_word, refusal, take_declared, take_last_number_within, take_number_within,
+};
+use cmwq_types::{Fields, Instr, Line, MAX_TIMES, Mnemonic, Shape, instr_of, shape_of};
+
+/// The line that begins with this word.
+#[inline(always)]
+#[tactic(auto, unfolding(cmwq_grammar::specs::Instructions::line_at))]
+pub fn read_instr_line(draft: &Draft, word: &[u8], rest: &[u8]) -> Result<Line, Why>
+    ensures { Tells (λ line. line) result (line_at draft.now word.now (words_left rest.now)) }
+{
+    let (instr, rest) = read_instr(draft, word, rest)?;
+    read_times(instr, rest)
+}
+
+/// The line of this instruction, which stands once, or as often as `* N` says.
+#[inline(always)]
+fn read_times(instr: Instr, rest: &[u8]) -> Result<Line, Why>
+    ensures { Tells (λ line. line) result (times_at instr (words_left rest.now)) }
+{
+    match next_word(rest) {
+        None => Ok(Line { instr, times: 1 }),
+        Some((word, rest)) => read_repeated(instr, word, rest),
+    }
+}
+
+/// The line of this instruction behind which the word stands, which must be `*`.
+#[inline(always)]
+#[tactic(auto, using(cmwq_scan::proofs::LineSteps::line_steps))]
+fn read_repeated(instr: Instr, word: &[u8], rest: &[u8]) -> Result<Line, Why>
+    ensures { Tells (λ line. line) result (times_at instr (word.now ∷ words_left rest.now)) }
+{
+    if !is_word(word, b"*") {
+        return Err(Why::ExtraWord);
+    }
+    let times = take_last_number_within(1, MAX_TIMES, rest)?;
+    Ok(Line { instr, times })
+}
+
+/// The instruction that begins with this word.
+#[inline(always)]
+#[tactic(auto, unfolding(cmwq_grammar::specs::Instructions::instr_at), using(cmwq_scan::proofs::LineSteps::line_steps))]
+fn read_instr<'t>(draft: &Draft, word: &[u8], rest: &'t [u8]) -> Field<'t, Instr>
+    ensures { Tells (λ field. (field.0, words_left field.1.now)) result (instr_at draft.now word.now (words_left rest.now)) }
+{
+    match Mnemonic::read(word) {
+        Some(mnemonic) => read_operands(draft, mnemonic, rest),
+        None => Err(refusal(Why::Misplaced, word)),
+    }
+}
+
+/// The instruction of this word, and the words after its operands.
+#[inline(always)]
+fn read_operands<'t>(draft: &Draft, mnemonic: Mnemonic, rest: &'t [u8]) -> Field<'t, Instr>
+    ensures { Tells (λ field. (field.0, words_left field.1.now)) result (operands_at draft.now (operands_of mnemonic) (words_left rest.now)) }
+{
+    let (fields, rest) = read_fields(draft, shape_of(mnemonic), rest)?;
+    Ok((instr_of(mnemonic, fields), rest))
+}
+
+/// The operands of this shape, and the words after them.
+#[inline(always)]
+fn read_fields<'t>(draft: &Draft, shape: Shape, rest: &'t [u8]) -> Field<'t, Fields>
+    ensures read { (make : Fields → Instr) → Tells (λ field. (make field.0, words_left field.1.now)) result (operands_at draft.now (operands_in shape make) (words_left rest.now)) }
+    ensures id { IfOk result (λ field. field.0.id ≤ greatest_id shape) }
+{
+    match shape {
+        Shape::Alone => Ok((Fields::new(0, 0, 0), rest)),
+        Shape::Work => {
+            let (work, rest) = read_work(draft, rest)?;
+            Ok((Fields::new(0, work, 0), rest))
+        }
+        Shape::WorkCpu => {
+            let (work, rest) = read_work(draft, rest)?;
+            let (cpu, rest) = take_number_within(0, 255, rest)?;
+            Ok((Fields::new(cpu as u8, work, 0), rest))
+        }
+        Shape::WorkCpuTicks => {
+            let (work, rest) = read_work(draft, rest)?;
+            let (cpu, rest) = take_number_within(0, 255, rest)?;
+            let (ticks, rest) = take_number_within(0, u32::MAX, rest)?;
+            Ok((Fields::new(cpu as u8, work, ticks), rest))
+        }
+        Shape::Queue => {
+            let (queue, rest) = read_queue(draft, rest)?;
+            Ok((Fields::new(0, queue, 0), rest))
+        }
+        Shape::QueueNumber => {
+            let (queue, rest) = read_queue(draft, rest)?;
+            let (number, rest) = take_number_within(0, u32::MAX, rest)?;
+            Ok((Fields::new(0, queue, number), rest))
+        }
+        Shape::Pool => {
+            let (pool, rest) = take_number_within(0, 255, rest)?;
+            Ok((Fields::new(pool as u8, 0, 0), rest))
+        }
+        Shape::Flush => {
+            let (flush, rest) = take_number_within(0, 65535, rest)?;
+            Ok((Fields::new(0, flush as u16, 0), rest))
+        }
+    }
+}
+
+/// The number of a declared queue.
+#[cold]
+#[inline(never)]
+fn read_queue<'t>(draft: &Draft, rest: &'t [u8]) -> Field<'t, u16>
+    ensures number { Tells (λ field. (field.0, words_left field.1.now)) result (declared_at (queue_names draft.now) (words_left rest.now)) }
+    ensures small { IfOk result (λ field. field.0 ≤ 255) }
+{
+    let (queue, rest) = take_declared(draft.queue_names(), rest)?;
+    Ok((queue as u16, rest))
+}
+
+/// The number of a declared work.
+#[inline(always)]
+fn read_work<'t>(draft: &Draft, rest: &'t [u8]) -> Field<'t, u16>
+    ensures { Tells (λ field. (field.0, words_left field.1.now)) result (declared_at (work_names draft.now) (words_left rest.now)) }
+{
+    let (work, rest) = take_declared(draft.work_names(), rest)?;
+    Ok((work as u16, rest))
+}

@@ -1,0 +1,253 @@
+//! The moves of a worker pool: which one is next, and what each does.
+ghost use Rattle.cmwq_parts.specs.FoundMoves.{IsFirstMove, IsFound, if_found, move_of};
+ghost use Rattle.cmwq_table.specs.Counts.{first_listed, first_rescued, free_worker, ready_head};
+ghost use Rattle.cmwq_table.specs.Moves.{advance, carry_out, come_to_end, finish, next_move, queue_from_body, rescued, start_first, start_move, started};
+ghost use Rattle.cmwq_table.specs.Ready.{Takes};
+ghost use Rattle.cmwq_table.specs.State.{is_disabled, pending_at, running_at};
+ghost use Rattle.cmwq_table.specs.Table.{stepped};
+ghost use Rattle.cmwq_types.specs.Scenario.{op_at};
+ghost use Rattle.cmwq_types.specs.declared.reply.Reply.TheVariants as reply;
+ghost use Rattle.std.specs.Prelude.{◌≡◌, ◌<◌, ◌^◌, IfSome, None, Some, length};
+
+use crate::going::Going;
+use crate::parts::Parts;
+use cmwq_table::Running;
+use cmwq_types::{Event, Op, Reply, WorkId};
+
+/// The next move of a worker pool, as it was found.
+#[derive(Clone, Copy)]
+pub enum Found {
+    /// The work carries out the operation that it has come to.
+    Advance(WorkId),
+    /// The work's sleep is over.
+    Wake(WorkId),
+    /// The worker of this number takes the work from the worklist.
+    Start(WorkId, u8),
+    /// The work's turn came while it still runs.
+    Defer(WorkId),
+    /// The rescuer of the work's queue takes the work from the worklist.
+    Rescue(WorkId),
+}
+
+impl<P: Parts> Going<P> {
+    /// The next move of the pool: advance, else wake, else start.
+    pub fn next_move(&self, pool: u8) -> Option<Found>
+        ensures next { if_found result ≡ next_move self.now.scenario self.now.state pool }
+        ensures fits { IfSome result (IsFound self.now.scenario self.now.state pool) }
+    {
+        if let Some(w) = self.parts.ready_head(pool) {
+            return Some(Found::Advance(WorkId(w as u16)));
+        }
+        if let Some(w) = self.parts.first_slept(pool) {
+            return Some(Found::Wake(WorkId(w as u16)));
+        }
+        self.start_move(pool)
+    }
+
+    /// The move that takes a listed work, if the pool may start one: the first listed work, else the first
+    /// that a rescuer can take.
+    fn start_move(&self, pool: u8) -> Option<Found>
+        ensures next { if_found result ≡ start_move self.now.scenario self.now.state pool }
+        ensures fits { IfSome result (IsFound self.now.scenario self.now.state pool) }
+    {
+        if !self.parts.may_start(pool) {
+            return None;
+        }
+        let first = self.start_first(pool);
+        if first.is_some() {
+            return first;
+        }
+        let w = self.parts.first_rescued(pool)?;
+        Some(Found::Rescue(WorkId(w as u16)))
+    }
+
+    /// The move that takes the first listed work. A work that runs is deferred; any other wants a worker.
+    fn start_first(&self, pool: u8) -> Option<Found>
+        ensures next { if_found result ≡ start_first self.now.state (first_listed self.now.scenario self.now.state pool) (free_worker self.now.scenario self.now.state pool) }
+        ensures fits { IfSome result (IsFound self.now.scenario self.now.state pool) }
+    {
+        let w = self.parts.first_listed(pool)?;
+        if self.parts.running_of(w).is_some() {
+            return Some(Found::Defer(WorkId(w as u16)));
+        }
+        let worker = self.parts.free_worker(pool)?;
+        Some(Found::Start(WorkId(w as u16), worker))
+    }
+
+    /// The least pool that has a move, and its move.
+    pub fn first_move(&self) -> Option<(u8, Found)>
+        ensures first { IsFirstMove self.now.scenario self.now.state result }
+        ensures fits { IfSome result (λ first. IsFound self.now.scenario self.now.state first.0 first.1) }
+    {
+        for pool in 0..self.parts.scenario().pool_count() {
+            if let Some(next) = self.next_move(pool) {
+                return Some((pool, next));
+            }
+        }
+        None
+    }
+
+    /// Makes the pool's move, and tells what it did.
+    pub fn make_move(&mut self, pool: u8, next: Found) -> Reply
+        requires fits { IsFound self.old.scenario self.old.state pool next }
+        requires time { self.old.state.time < 2 ^ 60 }
+        requires stamps { self.old.state.next < 2 ^ 60 }
+        ensures state { self.new ≡ record self.old { state = (stepped self.old.scenario self.old.state pool (Some (move_of next))).0 } }
+        ensures reply { result ≡ (stepped self.old.scenario self.old.state pool (Some (move_of next))).1 }
+    {
+        match next {
+            Found::Advance(work) => {
+                let event = self.advance(pool, work.0 as usize);
+                event_reply(work, event)
+            }
+            Found::Wake(work) => {
+                self.parts.wake(pool, work.0 as usize);
+                event_reply(work, Event::Wakes)
+            }
+            Found::Start(work, worker) => {
+                self.start(pool, work.0 as usize, worker);
+                event_reply(work, Event::Starts)
+            }
+            Found::Defer(work) => {
+                self.parts.defer(pool, work.0 as usize);
+                event_reply(work, Event::Defers)
+            }
+            Found::Rescue(work) => {
+                self.take_to_rescuer(pool, work.0 as usize);
+                event_reply(work, Event::StartsOnRescuer)
+            }
+        }
+    }
+
+    /// The ready head of the pool carries out the operation that it has come to.
+    #[tactic(auto, using(cmwq_table::proofs::HeadLemmas::heads))]
+    fn advance(&mut self, pool: u8, w: usize) -> Event
+        requires work { w < length self.old.scenario.works }
+        requires head { ready_head self.old.scenario self.old.state pool ≡ Some w }
+        requires time { self.old.state.time < 2 ^ 60 }
+        requires stamps { self.old.state.next < 2 ^ 60 }
+        ensures state { self.new ≡ record self.old { state = (advance self.old.scenario self.old.state w (running_at self.old.state w)).0 } }
+        ensures event { result ≡ (advance self.old.scenario self.old.state w (running_at self.old.state w)).1 }
+    {
+        match self.parts.running_of(w) {
+            Some(r) => self.carry_out(w, r),
+            None => Event::Finishes,
+        }
+    }
+
+    /// The running work carries out the operation that it has come to.
+    fn carry_out(&mut self, w: usize, r: Running) -> Event
+        requires work { w < length self.old.scenario.works }
+        requires running { running_at self.old.state w ≡ Some r }
+        requires head { ready_head self.old.scenario self.old.state r.pool ≡ Some w }
+        requires time { self.old.state.time < 2 ^ 60 }
+        requires stamps { self.old.state.next < 2 ^ 60 }
+        ensures state { self.new ≡ record self.old { state = (carry_out self.old.scenario self.old.state w r (op_at self.old.scenario w r.pc)).0 } }
+        ensures event { result ≡ (carry_out self.old.scenario self.old.state w r (op_at self.old.scenario w r.pc)).1 }
+    {
+        match self.parts.scenario().op_of(w, r.pc) {
+            Op::Burn(ticks) => {
+                self.parts.go_on(w, r, ticks);
+                Event::Burns(ticks)
+            }
+            Op::Sleep(ticks) => {
+                let until = self.parts.time() + u64::from(ticks);
+                self.parts.sleep(w, r, until);
+                Event::Sleeps(ticks)
+            }
+            Op::Queue(other, cpu) => {
+                self.parts.go_on(w, r, r.left);
+                self.queue_from_body(other, cpu)
+            }
+            Op::Finish => self.finish(w, r),
+        }
+    }
+
+    /// A body queues a work, unless it is disabled.
+    fn queue_from_body(&mut self, other: WorkId, cpu: u8) -> Event
+        requires work { other.0 < length self.old.scenario.works }
+        requires cpu { cpu < self.old.scenario.cpus }
+        requires stamps { self.old.state.next < 2 ^ 63 }
+        ensures state { self.new ≡ record self.old { state = (queue_from_body self.old.scenario self.old.state other cpu (is_disabled self.old.state other.0) (pending_at self.old.state other.0)).0 } }
+        ensures event { result ≡ (queue_from_body self.old.scenario self.old.state other cpu (is_disabled self.old.state other.0) (pending_at self.old.state other.0)).1 }
+    {
+        if self.is_disabled(other) {
+            return Event::QueuesDisabled { other };
+        }
+        let already = self.parts.pending_of(other.0 as usize).is_some();
+        if !already {
+            self.place(other.0 as usize, cpu);
+        }
+        Event::Queues { other, already }
+    }
+
+    /// The running work comes to the end of its body, and what it leaves is filled.
+    fn finish(&mut self, w: usize, r: Running) -> Event
+        requires work { w < length self.old.scenario.works }
+        requires running { running_at self.old.state w ≡ Some r }
+        requires stamps { self.old.state.next < 2 ^ 61 }
+        ensures state { self.new ≡ record self.old { state = (finish self.old.scenario self.old.state w r).0 } }
+        ensures event { result ≡ (finish self.old.scenario self.old.state w r).1 }
+    {
+        let queue = self.parts.scenario().queue_of(w);
+        let event = self.come_to_end(w, r);
+        self.fill(queue, r.pool);
+        event
+    }
+
+    /// A deferred instance starts at once on the same worker, else the worker becomes idle, or the rescuer
+    /// free.
+    #[tactic(auto, using(cmwq_table::proofs::CounterLemmas::takes))]
+    fn come_to_end(&mut self, w: usize, r: Running) -> Event
+        requires work { w < length self.old.scenario.works }
+        requires running { running_at self.old.state w ≡ Some r }
+        requires stamps { self.old.state.next < 2 ^ 61 }
+        ensures state { self.new ≡ record self.old { state = (come_to_end self.old.state w r (pending_at self.old.state w)).0 } }
+        ensures event { result ≡ (come_to_end self.old.state w r (pending_at self.old.state w)).1 }
+        ensures takes { Takes 1 self.old.state self.new.state }
+    {
+        match self.parts.pending_of(w) {
+            Some(p) if p.place.is_deferred() => {
+                self.parts.begin_again(w, r, p);
+                Event::FinishesAndStarts
+            }
+            _ => {
+                self.parts.retire(w, r);
+                Event::Finishes
+            }
+        }
+    }
+
+    /// The free worker of the pool takes its first listed work.
+    fn start(&mut self, pool: u8, w: usize, worker: u8)
+        requires work { w < length self.old.scenario.works }
+        requires worker { worker < self.old.scenario.workers }
+        requires free { free_worker self.old.scenario self.old.state pool ≡ Some worker }
+        requires first { first_listed self.old.scenario self.old.state pool ≡ Some w }
+        requires still { running_at self.old.state w ≡ None }
+        requires stamps { self.old.state.next < 2 ^ 63 }
+        ensures { self.new ≡ record self.old { state = started self.old.state pool w (free_worker self.old.scenario self.old.state pool) (pending_at self.old.state w) } }
+    {
+        if let Some(p) = self.parts.pending_of(w) {
+            self.parts.start_on(pool, w, worker, p);
+        }
+    }
+
+    /// The rescuer of the work's queue takes the work, the first of the pool that one can take.
+    fn take_to_rescuer(&mut self, pool: u8, w: usize)
+        requires work { w < length self.old.scenario.works }
+        requires first { first_rescued self.old.scenario self.old.state pool ≡ Some w }
+        requires stamps { self.old.state.next < 2 ^ 63 }
+        ensures { self.new ≡ record self.old { state = rescued self.old.state pool w (pending_at self.old.state w) } }
+    {
+        if let Some(p) = self.parts.pending_of(w) {
+            self.parts.rescue(pool, w, p);
+        }
+    }
+}
+
+fn event_reply(work: WorkId, event: Event) -> Reply
+    ensures { result ≡ reply.Event work event }
+{
+    Reply::Event { work, event }
+}
