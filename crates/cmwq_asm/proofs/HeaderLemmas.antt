@@ -8,7 +8,7 @@ use Rattle.cmwq_grammar.specs.declared.why.Why.{Why}
 use Rattle.cmwq_grammar.specs.declared.why.Why.TheVariants as why
 use Rattle.cmwq_asm.specs.Header.{head_number}
 use Rattle.cmwq_scan.specs.LastFields.{last}
-use Rattle.cmwq_scan.specs.Refusals.{refusal}
+use Rattle.cmwq_scan.specs.Refusals.{refusal_of}
 use Rattle.cmwq_scan.proofs.LastFields.{last_ok, last_err}
 use Rattle.cmwq_scan.proofs.LineSteps.{cannot_stand-is}
 
@@ -21,7 +21,7 @@ module _ {A : Type 0} (f : ℕ → A) where
   by_err true field word reason e = last_err f field reason e
   by_err false field word reason e =
       let stands = sym (cannot_stand-is {A = ℕ} why.Misplaced word) ∙ e in
-      let same : refusal why.Misplaced word ≡ reason = cc in
+      let same : refusal_of why.Misplaced word ≡ reason = cc in
       cannot_stand-is {A = A} why.Misplaced word ∙ ap Err same
 
   pub head_ok : (wanted : List ℕ) (low high : ℕ) (word : List ℕ) (rest : List (List ℕ)) (n : ℕ) → head_number wanted low high word rest ≡ Ok n → cond (bytes_eq word wanted) (number_within low high rest >>= made_last f) (cannot_stand why.Misplaced word) ≡ Ok (f n)

@@ -17,7 +17,7 @@ use crate::operations::{add_op, open_body};
 use crate::stage::Stage;
 use cmwq_draft::{Bodies, Draft, read_instr_line, read_op};
 use cmwq_grammar::Why;
-use cmwq_scan::{is_text, is_word, next_word, refusal, take_last_number_within, worded_part};
+use cmwq_scan::{is_text, is_word, next_word, refusal_of, take_last_number_within, worded_part};
 use std::alloc::Global;
 
 /// The stage after this line, or the first reason against it. Whether the line is text is judged here,
@@ -54,7 +54,7 @@ pub(crate) fn read_head_number(
     ensures within { IfOk result (λ n. n ≤ high) }
 {
     if !is_word(word, wanted) {
-        return Err(refusal(Why::Misplaced, word));
+        return Err(refusal_of(Why::Misplaced, word));
     }
     take_last_number_within(low, high, rest)
 }
@@ -78,7 +78,7 @@ pub(crate) fn in_queues<'t>(
     if is_word(word, b"actor") {
         return open_actor(alloc, draft, rest);
     }
-    Err(LineError::Why(refusal(Why::Misplaced, word)))
+    Err(LineError::Why(refusal_of(Why::Misplaced, word)))
 }
 
 /// A line behind a work.
@@ -97,7 +97,7 @@ pub(crate) fn in_works<'t>(
     if is_word(word, b"body") {
         return open_body(alloc, Bodies::new(alloc, draft), rest);
     }
-    Err(LineError::Why(refusal(Why::Misplaced, word)))
+    Err(LineError::Why(refusal_of(Why::Misplaced, word)))
 }
 
 /// A line behind the `finish` of a body.
@@ -117,7 +117,7 @@ pub(crate) fn between_bodies<'t>(
     if is_word(word, b"actor") && are_complete {
         return open_actor(alloc, bodies.into_draft(), rest);
     }
-    Err(LineError::Why(refusal(Why::Misplaced, word)))
+    Err(LineError::Why(refusal_of(Why::Misplaced, word)))
 }
 
 /// A line in an open body.

@@ -2,7 +2,7 @@
 ghost use Rattle.cmwq_asm.specs.TextStages.{stage_of};
 ghost use Rattle.cmwq_grammar.specs.Cutting.{lines_of};
 ghost use Rattle.cmwq_grammar.specs.Meaning.{stage_after};
-ghost use Rattle.cmwq_grammar.specs.Offers.{next_of};
+ghost use Rattle.cmwq_grammar.specs.Offers.{next_offered};
 ghost use Rattle.cmwq_grammar.specs.Stages as stage;
 ghost use Rattle.std.specs.Prelude.{◌≡◌, ◌≤◌, MatchResult, Ok, length};
 
@@ -20,15 +20,15 @@ pub fn next_after(alloc: Global, text: &[u8]) -> Result<Next, AsmError>
     requires { length text.now ≤ MAX_TEXT }
     // It is what the table has at the stage that the lines reach, unless memory runs out.
     ensures { (reached : stage.Stage) → stage_after 1 (lines_of text.now) stage.Start ≡ Ok reached
-        → MatchResult result (λ next. next ≡ next_of reached) (λ e. e ≡ AsmError.NoMemory) }
+        → MatchResult result (λ next. next ≡ next_offered reached) (λ e. e ≡ AsmError.NoMemory) }
 {
     let (stage, _) = read_lines(alloc, text)?;
-    Ok(next_of(&stage))
+    Ok(next_offered(&stage))
 }
 
 /// What a further line may be at this stage.
-fn next_of(stage: &Stage<'_>) -> Next
-    ensures { result ≡ next_of (stage_of stage.now) }
+fn next_offered(stage: &Stage<'_>) -> Next
+    ensures { result ≡ next_offered (stage_of stage.now) }
 {
     match stage {
         Stage::Start => Next::Cpus,

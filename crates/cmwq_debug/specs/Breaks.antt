@@ -9,6 +9,7 @@ use Rattle.cmwq_debug.specs.declared.breaks.Break.{Break}
 use Rattle.cmwq_debug.specs.declared.breaks.Break.TheVariants.{OnWork, OnTime, OnRefusal}
 use Rattle.cmwq_debug.specs.declared.command.EventKind.{EventKind}
 use Rattle.cmwq_debug.specs.declared.command.EventKind.TheVariants as kind
+use Rattle.cmwq_table.specs.Events.{is_refusal}
 
 -- the lowest of the numbers below n that pass the test
 abbrev pub lowest : (ℕ → Bool) → ℕ → Option ℕ
@@ -35,16 +36,12 @@ abbrev pub tells : ℕ → EventKind → Reply → Bool
 tells w kind (reply.Event moved event) = (moved.0 == w) && is_kind kind event
 tells w kind other = false
 
-abbrev pub is_refused : Reply → Bool
-is_refused (reply.Refused why) = true
-is_refused other = false
-
 -- Whether a break matches an instruction, by the reply to it and the times before and after it. A break on a time
 -- matches the instruction that makes the time so.
 abbrev pub matches : Break → ℕ → ℕ → Reply → Bool
 matches (OnWork work kind) before after reply = tells work.0 kind reply
 matches (OnTime time) before after reply = (after == time) && not (before == time)
-matches OnRefusal before after reply = is_refused reply
+matches OnRefusal before after reply = is_refusal reply
 
 -- whether there is a break, and it matches
 abbrev pub matches_there : ℕ → ℕ → Reply → Option Break → Bool

@@ -50,12 +50,12 @@ abbrev pub time_at : Session → ℕ → ℕ
 time_at d k = (state_at d k).time
 
 -- the instruction behind the first k
-abbrev pub instr_at : Session → ℕ → Instr
-instr_at d k = slice_index_or d.instrs k Next
+abbrev pub instr_at_position : Session → ℕ → Instr
+instr_at_position d k = slice_index_or d.instrs k Next
 
 -- the table's reply to it
 abbrev pub reply_at : Session → ℕ → Reply
-reply_at d k = (table d.scenario (state_at d k) (instr_at d k)).1
+reply_at d k = (table d.scenario (state_at d k) (instr_at_position d k)).1
 
 -- the break that is said of it
 abbrev pub break_of : Session → ℕ → Option ℕ

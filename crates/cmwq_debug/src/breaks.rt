@@ -1,5 +1,6 @@
 //! Breaks: which replies they match, and which of several is said.
-ghost use Rattle.cmwq_debug.specs.Breaks.{break_at, free, is_kind, is_refused, matches, matches_there, said_of, tells};
+ghost use Rattle.cmwq_debug.specs.Breaks.{break_at, free, is_kind, matches, matches_there, said_of, tells};
+ghost use Rattle.cmwq_table.specs.Events.{is_refusal};
 ghost use Rattle.std.specs.Prelude.{◌≡◌, ◌<◌, ◌≤◌, IfSome, length};
 
 use crate::command::EventKind;

@@ -15,7 +15,7 @@ use Rattle.cmwq_debug.specs.declared.command.EventKind.TheVariants as kind
 use Rattle.cmwq_types.specs.Scenario.{plain_flags}
 use Rattle.cmwq_types.specs.declared.scenario.Op.TheVariants as op
 use Rattle.cmwq_examples.specs.Declare.{delay, queue, queues, scenario, times, work}
-use Rattle.cmwq_examples.specs.Rows.{text}
+use Rattle.cmwq_types.specs.Listing.{text_of_lines}
 
 -- what a debugger of these instructions says to the commands
 abbrev pub commands_answered : ScenarioContents → List Instr → List Command → List (Result Answer DebugError)
@@ -45,7 +45,7 @@ there_and_back =
 -- w0 sleeps, w1 has just started, and w2 waits on the worklist
 abbrev pub dump_at_12 : List ℕ
 dump_at_12 =
-    text (
+    text_of_lines (
     codes "now 5 spent 12 frozen no" ∷ codes "queue q max 3" ∷ codes "pool 0 counted 1 made 2 idle" ∷
     codes "run w1 1 0 0" ∷ codes "asleep w0 0 2 15" ∷ codes "listed w2" ∷ codes "pool 1 counted 0 made 0 idle" ∷
     codes "pool 2 counted 0 made 0 idle" ∷ codes "pool 3 counted 0 made 0 idle" ∷ [])
@@ -85,10 +85,10 @@ each_event_breaks =
 
 -- b sleeps on the worker that a has left
 abbrev pub pool_0_at_13 : List ℕ
-pool_0_at_13 = text (codes "pool 0 counted 0 made 1 idle" ∷ codes "asleep b 0 4 3" ∷ codes "deferred b" ∷ [])
+pool_0_at_13 = text_of_lines (codes "pool 0 counted 0 made 1 idle" ∷ codes "asleep b 0 4 3" ∷ codes "deferred b" ∷ [])
 
 abbrev pub pool_1_at_13 : List ℕ
-pool_1_at_13 = text (codes "pool 1 counted 0 made 0 idle" ∷ [])
+pool_1_at_13 = text_of_lines (codes "pool 1 counted 0 made 0 idle" ∷ [])
 
 -- a starts at 4 and queues b at 5, where no run stops; b finds itself queued already at 9
 abbrev pub each_event_answers : List (Result Answer DebugError)
@@ -106,7 +106,7 @@ disabled_breaks = break_on 0 kind.Queues ∷ break_on 1 kind.Queues ∷ command.
 -- a was disabled twice, and its queueing was refused; b goes on to its end
 abbrev pub dump_at_8 : List ℕ
 dump_at_8 =
-    text (
+    text_of_lines (
     codes "now 0 spent 6 frozen no" ∷ codes "queue q max 1" ∷ codes "pool 0 counted 1 made 1 idle" ∷
     codes "run b 0 1 0" ∷ codes "pool 1 counted 0 made 0 idle" ∷ codes "pool 2 counted 0 made 0 idle" ∷
     codes "pool 3 counted 0 made 0 idle" ∷ codes "disabled a 2" ∷ [])
@@ -124,7 +124,7 @@ rescuer_breaks =
 -- a sleeps on the one worker that was made; the second pressure was refused
 abbrev pub dump_under_pressure : List ℕ
 dump_under_pressure =
-    text (
+    text_of_lines (
     codes "now 0 spent 7 frozen no" ∷ codes "pressed" ∷ codes "queue q max 2" ∷ codes "queue r max 2" ∷
     codes "pool 0 counted 1 made 1 idle" ∷ codes "run b rescuer 0 0" ∷ codes "asleep a 0 1 3" ∷ codes "listed c" ∷
     codes "pool 1 counted 0 made 0 idle" ∷ codes "pool 2 counted 0 made 0 idle" ∷ codes "pool 3 counted 0 made 0 idle" ∷ [])
@@ -132,12 +132,12 @@ dump_under_pressure =
 -- b has begun to burn
 abbrev pub pool_0_at_10 : List ℕ
 pool_0_at_10 =
-    text (codes "pool 0 counted 1 made 1 idle" ∷ codes "run b rescuer 1 1" ∷ codes "asleep a 0 1 3" ∷ codes "listed c" ∷ [])
+    text_of_lines (codes "pool 0 counted 1 made 1 idle" ∷ codes "run b rescuer 1 1" ∷ codes "asleep a 0 1 3" ∷ codes "listed c" ∷ [])
 
 -- the rescuer was never made, and is no idle worker; c has a worker that was made for it
 abbrev pub dump_after_relief : List ℕ
 dump_after_relief =
-    text (
+    text_of_lines (
     codes "now 2 spent 13 frozen no" ∷ codes "queue q max 2" ∷ codes "queue r max 2" ∷
     codes "pool 0 counted 1 made 2 idle" ∷ codes "run c 1 0 0" ∷ codes "asleep a 0 1 3" ∷
     codes "pool 1 counted 0 made 0 idle" ∷ codes "pool 2 counted 0 made 0 idle" ∷ codes "pool 3 counted 0 made 0 idle" ∷ [])
@@ -183,14 +183,14 @@ chain_questions = command.Goto 14 ∷ command.WhyFlush 0 ∷ command.Step 1 ∷ 
 
 abbrev pub chain_at_15 : List ℕ
 chain_at_15 =
-    text (
+    text_of_lines (
     codes "flush 0 waits for 1" ∷ codes "  y inactive 0: q has 1 of 1 active: x listed" ∷ codes "    x listed 0: held by c d" ∷
     codes "    c runnable, high u has the CPU" ∷ codes "    d runnable, behind c" ∷ codes "    u burns" ∷ [])
 
 -- the flush is the last instruction, and there are five works
 abbrev pub chain_answers : List (Result Answer DebugError)
 chain_answers =
-    stands_at 14 2 ∷ Err error.NoSuchFlush ∷ stands_at 15 2 ∷ Ok (Text chain_at_15) ∷ Ok (Text (text (codes "x listed 0: held by c d" ∷ [])))
+    stands_at 14 2 ∷ Err error.NoSuchFlush ∷ stands_at 15 2 ∷ Ok (Text chain_at_15) ∷ Ok (Text (text_of_lines (codes "x listed 0: held by c d" ∷ [])))
     ∷ Err error.NoSuchWork ∷ Err error.NoSuchFlush ∷ []
 
 -- b waits for a's place in their queue.
@@ -200,11 +200,11 @@ hold_questions = command.Goto 13 ∷ command.WhyFlush 0 ∷ command.Goto 21 ∷ 
 
 abbrev pub hold_at_13 : List ℕ
 hold_at_13 =
-    text (
+    text_of_lines (
     codes "flush 0 waits for 2" ∷ codes "  a asleep until 5" ∷ codes "  b inactive 0: q has 1 of 1 active: a asleep until 5" ∷ [])
 
 abbrev pub hold_answers : List (Result Answer DebugError)
 hold_answers =
-    stands_at 13 3 ∷ Ok (Text hold_at_13) ∷ stands_at 21 6 ∷ Ok (Text (text (codes "flush 0 done" ∷ [])))
-    ∷ Ok (Text (text (codes "b not pending" ∷ []))) ∷ stands_at 18 5 ∷ Ok (Text (text (codes "b ready, goes on next" ∷ [])))
-    ∷ Ok (Text (text (codes "a not pending" ∷ []))) ∷ []
+    stands_at 13 3 ∷ Ok (Text hold_at_13) ∷ stands_at 21 6 ∷ Ok (Text (text_of_lines (codes "flush 0 done" ∷ [])))
+    ∷ Ok (Text (text_of_lines (codes "b not pending" ∷ []))) ∷ stands_at 18 5 ∷ Ok (Text (text_of_lines (codes "b ready, goes on next" ∷ [])))
+    ∷ Ok (Text (text_of_lines (codes "a not pending" ∷ []))) ∷ []

@@ -8,7 +8,7 @@ use Rattle.cmwq_types.specs.declared.scenario.Op.TheVariants as op
 use Rattle.cmwq_table.specs.Table.{run}
 use Rattle.cmwq_dump.specs.Dump.{dump, pool_lines}
 use Rattle.cmwq_examples.specs.Declare.{delay, delay_on, disable, enqueue, flush, freezable, queue, queues, scenario, set_max_to, times, unbound, work}
-use Rattle.cmwq_examples.specs.Rows.{text}
+use Rattle.cmwq_types.specs.Listing.{text_of_lines}
 
 -- the dump of a scenario once these lines were carried out
 abbrev pub dumped : ScenarioContents → List Line → List ℕ
@@ -40,7 +40,7 @@ many_kinds_lines =
 -- after it
 abbrev pub many_kinds_dump : List ℕ
 many_kinds_dump =
-    text (
+    text_of_lines (
     codes "now 4 spent 43 frozen yes" ∷ codes "pressed" ∷ codes "queue q max 9" ∷ codes "queue f max 1" ∷
     codes "pool 0 counted 1 made 5 idle 1 0" ∷ codes "run r 2 1 4" ∷ codes "asleep b 4 1 8" ∷ codes "asleep a 3 2 9" ∷
     codes "listed l" ∷ codes "listed d" ∷ codes "deferred a" ∷ codes "inactive e" ∷
@@ -49,7 +49,7 @@ many_kinds_dump =
     codes "flush 1 yes" ∷ [])
 
 abbrev pub many_kinds_pool_1 : List ℕ
-many_kinds_pool_1 = text (codes "pool 1 counted 0 made 0 idle" ∷ [])
+many_kinds_pool_1 = text_of_lines (codes "pool 1 counted 0 made 0 idle" ∷ [])
 
 -- Two CPUs: a and b run in the unbound pool, c and d sleep, and more; e, f and g share a queue of one.
 abbrev pub busy_cpus : ScenarioContents
@@ -72,7 +72,7 @@ busy_cpus_lines =
 -- all stand in the order of their stamps, the sleepers too, which wake together; k's timer runs out before j's
 abbrev pub two_cpus_dump : List ℕ
 two_cpus_dump =
-    text (
+    text_of_lines (
     codes "now 1 spent 23 frozen no" ∷ codes "queue q max 8" ∷ codes "queue u max 8" ∷ codes "queue i max 1" ∷
     codes "pool 0 counted 0 made 2 idle" ∷ codes "asleep d 0 1 9" ∷ codes "asleep c 1 1 9" ∷ codes "deferred d" ∷
     codes "deferred c" ∷ codes "pool 1 counted 0 made 0 idle" ∷

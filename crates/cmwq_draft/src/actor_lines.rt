@@ -11,7 +11,8 @@ ghost use Rattle.std.specs.Prelude.{◌≤◌, ◌∷◌, IfOk};
 use crate::draft::Draft;
 use cmwq_grammar::Why;
 use cmwq_scan::{
-    Field, is_word, next_word, refusal, take_declared, take_last_number_within, take_number_within,
+    Field, is_word, next_word, refusal_of, take_declared, take_last_number_within,
+    take_number_within,
 };
 use cmwq_types::{Fields, Instr, Line, MAX_TIMES, Mnemonic, Shape, instr_of, shape_of};
 
@@ -57,7 +58,7 @@ fn read_instr<'t>(draft: &Draft, word: &[u8], rest: &'t [u8]) -> Field<'t, Instr
 {
     match Mnemonic::read(word) {
         Some(mnemonic) => read_operands(draft, mnemonic, rest),
-        None => Err(refusal(Why::Misplaced, word)),
+        None => Err(refusal_of(Why::Misplaced, word)),
     }
 }
 

@@ -1,7 +1,7 @@
 //! The lines that declare queues and works: `queue NAME max N FLAG..` and `work NAME QUEUE`.
 ghost use Rattle.cmwq_draft.specs.Declarations.{queue_of_line, work_of_line};
 ghost use Rattle.cmwq_grammar.specs.Instructions.{queue_names, work_names};
-ghost use Rattle.cmwq_grammar.specs.LineReasons.{add_flag, flags_at, queue_at_line, work_at_line};
+ghost use Rattle.cmwq_grammar.specs.LineReasons.{add_flag, flags_at_line, queue_at_line, work_at_line};
 ghost use Rattle.cmwq_scan.specs.Answers.{Tells};
 ghost use Rattle.cmwq_scan.specs.Words.{words_left};
 ghost use Rattle.cmwq_types.specs.Faults.{fits_flags};
@@ -48,9 +48,9 @@ pub fn read_queue_line<'t>(draft: &Draft<'t>, rest: &'t [u8]) -> Result<QueueLin
 }
 
 /// The flags of a queue; each word is one.
-#[tactic(auto, unfolding(cmwq_grammar::specs::LineReasons::flags_at))]
+#[tactic(auto, unfolding(cmwq_grammar::specs::LineReasons::flags_at_line))]
 fn read_flags(words: &[u8]) -> Result<Flags, Why>
-    ensures { Tells (λ flags. flags) result (flags_at (words_left words.now) plain_flags) }
+    ensures { Tells (λ flags. flags) result (flags_at_line (words_left words.now) plain_flags) }
 {
     let mut flags = Flags::PLAIN;
     let mut rest = words;

@@ -9,7 +9,7 @@ use crate::bodies::Bodies;
 use crate::draft::Draft;
 use cmwq_grammar::Why;
 use cmwq_scan::{
-    ended, is_word, refusal, take_declared, take_last_number_below, take_last_number_within,
+    ended, is_word, refusal_of, take_declared, take_last_number_below, take_last_number_within,
 };
 use cmwq_types::{Fault, MAX_TICKS, Op, WorkId};
 
@@ -42,7 +42,7 @@ pub fn read_op(draft: &Draft, word: &[u8], rest: &[u8]) -> Result<Op, Why>
     if is_word(word, b"finish") {
         return ended(Op::Finish, rest);
     }
-    Err(refusal(not_in_body(word), word))
+    Err(refusal_of(not_in_body(word), word))
 }
 
 /// A work, and the CPU on which it is queued.

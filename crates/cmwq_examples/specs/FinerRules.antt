@@ -7,7 +7,7 @@ use Rattle.cmwq_types.specs.declared.instr.Instr.TheVariants as instr
 use Rattle.cmwq_types.specs.declared.scenario.Op.TheVariants as op
 use Rattle.cmwq_table.specs.State.{State, start}
 use Rattle.cmwq_examples.specs.Declare.{queue, work, highpri, unbound, freezable, ordered, mem_reclaim, queues, queues_on, enqueue, delay, delay_on, modify, cancel, cancel_sync, disable, enable, flush, flush_delayed, flush_queue, set_max_to, ask, state, times, scenario}
-use Rattle.cmwq_examples.specs.Rows.{text}
+use Rattle.cmwq_types.specs.Listing.{text_of_lines}
 
 -- two workers become idle, one after the other; then c is queued
 abbrev pub two_idle_workers : ScenarioContents
@@ -20,7 +20,7 @@ two_idle_workers =
 -- the worker that became idle last is taken
 abbrev pub idle_workers_lines : List ℕ
 idle_workers_lines =
-    text (
+    text_of_lines (
     codes "0 a starts" ∷ codes "0 a sleeps 1" ∷ codes "0 b starts" ∷ codes "0 b sleeps 1" ∷ codes "1 a wakes" ∷
     codes "1 a finishes" ∷ codes "1 b wakes" ∷ codes "1 b finishes" ∷ codes "1 c starts" ∷
     codes "1 c idle runs 0/1" ∷ [])
@@ -36,7 +36,7 @@ cancel_lets_in =
 -- y is listed behind z, though it was queued before it
 abbrev pub cancel_lets_in_lines : List ℕ
 cancel_lets_in_lines =
-    text (
+    text_of_lines (
     codes "0 cancelled" ∷ codes "0 z starts" ∷ codes "0 z finishes" ∷ codes "0 y starts" ∷ codes "0 y finishes" ∷ [])
 
 -- a wakes while b burns
@@ -50,7 +50,7 @@ wakes_behind =
 -- b goes on, and a has the CPU when b has finished
 abbrev pub wakes_behind_lines : List ℕ
 wakes_behind_lines =
-    text (
+    text_of_lines (
     codes "0 a starts" ∷ codes "0 a sleeps 1" ∷ codes "0 b starts" ∷ codes "0 b burns 3" ∷ codes "1 a wakes" ∷
     codes "3 b finishes" ∷ codes "3 a burns 2" ∷ codes "5 a finishes" ∷ [])
 
@@ -66,7 +66,7 @@ delay_on_cpu =
 -- a is listed in the normal pool of CPU 1
 abbrev pub timer_cpu_lines : List ℕ
 timer_cpu_lines =
-    text (
+    text_of_lines (
     codes "1 a fires" ∷ codes "1 a listed 2 still" ∷ [])
 
 -- one queue with both flags
@@ -79,7 +79,7 @@ high_and_unbound =
 -- pool 3 is the high unbound one
 abbrev pub high_and_unbound_lines : List ℕ
 high_and_unbound_lines =
-    text (
+    text_of_lines (
     codes "0 a listed 3 still" ∷ [])
 
 -- a is listed and b waits; then a gets a timer, and a further delay
@@ -92,7 +92,7 @@ mod_and_delay =
 -- b is let in, and the timer stays at 5
 abbrev pub mod_and_delay_lines : List ℕ
 mod_and_delay_lines =
-    text (
+    text_of_lines (
     codes "0 changed" ∷ codes "0 b listed 0 still" ∷ codes "0 already" ∷ codes "0 a timer 5 still" ∷ [])
 
 -- a queues itself, sleeps and burns; b wakes meanwhile
@@ -106,7 +106,7 @@ starts_again_behind =
 -- a's second instance begins at 3, behind b
 abbrev pub starts_again_behind_lines : List ℕ
 starts_again_behind_lines =
-    text (
+    text_of_lines (
     codes "0 a starts" ∷ codes "0 a queues a" ∷ codes "0 a sleeps 1" ∷ codes "0 b starts" ∷ codes "0 b sleeps 2" ∷
     codes "0 a defers" ∷ codes "1 a wakes" ∷ codes "1 a burns 2" ∷ codes "2 b wakes" ∷
     codes "3 a finishes and starts" ∷ codes "3 b burns 1" ∷ codes "4 b finishes" ∷ codes "4 a queues a" ∷
@@ -124,7 +124,7 @@ busy =
 -- busy while a is listed or runs; frozen, a waits and b does not
 abbrev pub busy_lines : List ℕ
 busy_lines =
-    text (
+    text_of_lines (
     codes "0 yes" ∷ codes "0 a starts" ∷ codes "0 yes" ∷ codes "0 a burns 1" ∷ codes "1 a finishes" ∷ codes "1 no" ∷
     codes "1 a inactive 0 still" ∷ codes "1 cancelled" ∷ codes "1 b listed 0 still" ∷ codes "1 no" ∷ [])
 
@@ -138,7 +138,7 @@ equal_times =
 -- b fires, starts and wakes before a
 abbrev pub equal_times_lines : List ℕ
 equal_times_lines =
-    text (
+    text_of_lines (
     codes "1 b fires" ∷ codes "1 a fires" ∷ codes "1 b starts" ∷ codes "1 b sleeps 1" ∷ codes "1 a starts" ∷
     codes "1 a sleeps 1" ∷ codes "2 b wakes" ∷ codes "2 b finishes" ∷ codes "2 a wakes" ∷ codes "2 a finishes" ∷ [])
 
@@ -156,7 +156,7 @@ unbound_workers =
 -- c began first and ends last, so its worker 0 is taken first; the fifth work waits for a worker
 abbrev pub unbound_workers_lines : List ℕ
 unbound_workers_lines =
-    text (
+    text_of_lines (
     codes "0 c starts" ∷ codes "0 c burns 3" ∷ codes "0 b starts" ∷ codes "0 b burns 2" ∷ codes "0 a starts" ∷
     codes "0 a burns 2" ∷ codes "2 b finishes" ∷ codes "2 a finishes" ∷ codes "3 c finishes" ∷ codes "3 b starts" ∷
     codes "3 b idle runs 2/0" ∷ codes "3 b burns 2" ∷ codes "3 a starts" ∷ codes "3 a idle runs 2/2" ∷
@@ -175,7 +175,7 @@ starts_behind =
 -- x finishes before y
 abbrev pub starts_behind_lines : List ℕ
 starts_behind_lines =
-    text (
+    text_of_lines (
     codes "0 x starts" ∷ codes "0 x sleeps 1" ∷ codes "1 x wakes" ∷ codes "1 x burns 1" ∷ codes "1 y starts" ∷
     codes "1 y burns 1" ∷ codes "2 x finishes" ∷ codes "2 y finishes" ∷ [])
 
@@ -195,7 +195,7 @@ fills =
 -- d is listed beside a; then b, c and e are let in, each in its pool, and w is not
 abbrev pub fills_lines : List ℕ
 fills_lines =
-    text (
+    text_of_lines (
     codes "0 a listed 0 still" ∷ codes "0 d listed 2 still" ∷ codes "0 e inactive 2 still" ∷
     codes "0 b listed 0 still" ∷ codes "0 c listed 0 still" ∷ codes "0 e listed 2 still" ∷
     codes "0 w inactive 0 still" ∷ [])
@@ -214,7 +214,7 @@ flush_targets =
 -- flush 0 and flush 3 wait for nothing; flushes 1 and 2 are done when b is cancelled, not when it is let in
 abbrev pub flush_targets_lines : List ℕ
 flush_targets_lines =
-    text (
+    text_of_lines (
     codes "0 flush 0" ∷ codes "0 yes" ∷ codes "0 flush 1" ∷ codes "0 flush 2" ∷ codes "0 flush 3" ∷ codes "0 no" ∷
     codes "0 yes" ∷ codes "0 cancelled" ∷ codes "0 no" ∷ codes "0 no" ∷ codes "0 cancelled" ∷ codes "0 yes" ∷
     codes "0 yes" ∷ codes "0 not pending flush 4" ∷ codes "0 yes" ∷ [])
@@ -231,7 +231,7 @@ deferring =
 -- b waits for the place of the deferred instance; flush 0 is on that instance, and is done when it has finished
 abbrev pub deferred_lines : List ℕ
 deferred_lines =
-    text (
+    text_of_lines (
     codes "0 a starts" ∷ codes "0 a queues a" ∷ codes "0 a sleeps 1" ∷ codes "0 a defers" ∷
     codes "0 a deferring 0 asleep 0/0 1" ∷ codes "0 flush 0" ∷ codes "0 b inactive 0 still" ∷ codes "1 a wakes" ∷
     codes "1 a finishes and starts" ∷ codes "1 b listed 0 still" ∷ codes "1 a idle runs 0/0" ∷ codes "1 no" ∷
@@ -253,7 +253,7 @@ two_cpus =
 -- c holds up b, and not a
 abbrev pub two_cpus_lines : List ℕ
 two_cpus_lines =
-    text (
+    text_of_lines (
     codes "0 a starts" ∷ codes "0 a burns 2" ∷ codes "0 b starts" ∷ codes "0 b burns 2" ∷ codes "0 c starts" ∷
     codes "0 c burns 1" ∷ codes "1 c finishes" ∷ codes "2 a finishes" ∷ codes "3 b finishes" ∷ [])
 
@@ -269,7 +269,7 @@ queues_others =
 -- b is listed on CPU 1, where it was queued first
 abbrev pub queues_others_lines : List ℕ
 queues_others_lines =
-    text (
+    text_of_lines (
     codes "0 a starts" ∷ codes "0 a queues b" ∷ codes "0 a queues b already" ∷ codes "0 a finishes" ∷
     codes "0 b listed 2 still" ∷ [])
 
@@ -284,7 +284,7 @@ later_times =
 -- a starts before b
 abbrev pub later_times_lines : List ℕ
 later_times_lines =
-    text (
+    text_of_lines (
     codes "2 already" ∷ codes "2 a timer 5 still" ∷ codes "2 changed" ∷ codes "2 a timer 3 still" ∷
     codes "2 changed" ∷ codes "2 changed" ∷ codes "2 a starts" ∷ codes "2 a finishes" ∷ codes "2 b starts" ∷
     codes "2 b finishes" ∷ [])
@@ -301,7 +301,7 @@ one_worker =
 -- b is listed while the worker sleeps, and after it has begun again
 abbrev pub one_worker_lines : List ℕ
 one_worker_lines =
-    text (
+    text_of_lines (
     codes "0 a starts" ∷ codes "0 a queues a" ∷ codes "0 a sleeps 1" ∷ codes "0 a defers" ∷ codes "1 a wakes" ∷
     codes "1 a finishes and starts" ∷ codes "1 b listed 0 still" ∷ [])
 
@@ -316,7 +316,7 @@ what_is_spent =
 -- queue, already, cancelled, not pending and flush are the five
 abbrev pub what_is_spent_lines : List ℕ
 what_is_spent_lines =
-    text (
+    text_of_lines (
     codes "0 refused NoSuchCpu" ∷ codes "0 refused NothingToDo" ∷ codes "0 no" ∷ codes "0 already" ∷
     codes "0 cancelled" ∷ codes "0 not pending" ∷ codes "0 flush 0" ∷ codes "0 no" ∷ codes "0 yes" ∷
     codes "0 a idle still" ∷ codes "0 refused Spent" ∷ codes "0 refused NoSuchFlush" ∷
@@ -334,7 +334,7 @@ no_flushes =
 -- a is still listed, and b still on its timer
 abbrev pub no_flushes_lines : List ℕ
 no_flushes_lines =
-    text (
+    text_of_lines (
     codes "0 refused TooManyFlushes" ∷ codes "0 refused TooManyFlushes" ∷ codes "0 refused TooManyFlushes" ∷
     codes "0 refused TooManyFlushes" ∷ codes "0 a listed 0 still" ∷ codes "0 b timer 5 still" ∷ [])
 
@@ -349,7 +349,7 @@ operand_limits =
 -- 512, pool 3 and the first flush are there; 513, pool 4 and a second flush aren't
 abbrev pub operands_lines : List ℕ
 operands_lines =
-    text (
+    text_of_lines (
     codes "0 refused NoSuchCpu" ∷ codes "0 refused BadCount" ∷ codes "0 refused BadCount" ∷
     codes "0 refused Ordered" ∷ codes "0 refused NothingToDo" ∷ codes "0 refused NoSuchPool" ∷ codes "0 flush 0" ∷
     codes "0 yes" ∷ codes "0 refused NoSuchFlush" ∷ [])
@@ -364,7 +364,7 @@ mod_goes_behind =
 -- b has the room, and a waits
 abbrev pub mod_goes_behind_lines : List ℕ
 mod_goes_behind_lines =
-    text (
+    text_of_lines (
     codes "0 changed" ∷ codes "0 a inactive 0 still" ∷ codes "0 b listed 0 still" ∷ [])
 
 -- a runs on the second worker, and queues itself
@@ -378,7 +378,7 @@ same_worker =
 -- it is still on worker 1
 abbrev pub same_worker_lines : List ℕ
 same_worker_lines =
-    text (
+    text_of_lines (
     codes "0 b starts" ∷ codes "0 b sleeps 5" ∷ codes "0 a starts" ∷ codes "0 a queues a" ∷ codes "0 a sleeps 1" ∷
     codes "0 a defers" ∷ codes "1 a wakes" ∷ codes "1 a finishes and starts" ∷ codes "1 a idle runs 0/1" ∷ [])
 
@@ -398,7 +398,7 @@ thaw_fills =
 -- a, c and d are let in, then e for d, and h for e
 abbrev pub thaw_fills_lines : List ℕ
 thaw_fills_lines =
-    text (
+    text_of_lines (
     codes "0 c inactive 4 still" ∷ codes "0 a listed 0 still" ∷ codes "0 c listed 4 still" ∷
     codes "0 d listed 2 still" ∷ codes "0 e inactive 2 still" ∷ codes "0 cancelled" ∷ codes "0 e listed 2 still" ∷
     codes "0 a starts" ∷ codes "0 a finishes" ∷ codes "0 e starts" ∷ codes "0 e finishes" ∷
@@ -414,7 +414,7 @@ flush_beside_timer =
 -- the flush is done when a has finished, though its timer still runs
 abbrev pub flush_beside_timer_lines : List ℕ
 flush_beside_timer_lines =
-    text (
+    text_of_lines (
     codes "0 a starts" ∷ codes "0 a burns 1" ∷ codes "0 flush 0" ∷ codes "0 no" ∷ codes "1 a finishes" ∷
     codes "1 yes" ∷ codes "1 a timer 9 still" ∷ [])
 
@@ -431,7 +431,7 @@ pools_apart =
 -- pools 0 and 1 have nothing to do
 abbrev pub pools_apart_lines : List ℕ
 pools_apart_lines =
-    text (
+    text_of_lines (
     codes "0 refused NothingToDo" ∷ codes "0 a starts" ∷ codes "0 a sleeps 1" ∷ codes "1 refused NothingToDo" ∷
     codes "1 a wakes" ∷ codes "1 refused NothingToDo" ∷ codes "1 a finishes" ∷ [])
 
@@ -448,7 +448,7 @@ disabled_anywhere =
 -- at 2 no timer fires; b is let in when c is taken off, and goes on to its end; the last six are refused
 abbrev pub disabled_anywhere_lines : List ℕ
 disabled_anywhere_lines =
-    text (
+    text_of_lines (
     codes "0 cancelled" ∷ codes "0 refused NoSuchCpu" ∷ codes "0 refused Disabled" ∷ codes "0 cancelled" ∷
     codes "0 b listed 0 still" ∷ codes "0 b starts" ∷ codes "0 b burns 2" ∷ codes "0 not pending" ∷
     codes "2 b finishes" ∷ codes "3 a idle still" ∷ codes "3 refused Spent" ∷ codes "3 refused Spent" ∷
@@ -474,7 +474,7 @@ rescuers =
 -- its rescuer, which c waits for on CPU 1; and while d burns nothing starts on its CPU
 abbrev pub rescuers_lines : List ℕ
 rescuers_lines =
-    text (
+    text_of_lines (
     codes "0 c starts" ∷ codes "0 c finishes" ∷ codes "0 a starts" ∷ codes "0 a sleeps 9" ∷
     codes "0 b starts on rescuer" ∷ codes "0 b sleeps 2" ∷ codes "0 refused NothingToDo" ∷
     codes "0 d starts on rescuer" ∷ codes "0 d burns 1" ∷ codes "0 refused NothingToDo" ∷ codes "0 cancelled" ∷

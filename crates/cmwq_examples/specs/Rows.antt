@@ -9,10 +9,7 @@ use Rattle.cmwq_types.specs.declared.scenario.Op.{Op}
 use Rattle.cmwq_types.specs.declared.scenario.Op.TheVariants as op
 use Rattle.cmwq_table.specs.Events.{events}
 use Rattle.cmwq_examples.specs.Declare.{queue, work, highpri, unbound, cpu_intensive, freezable, ordered, mem_reclaim, queues, enqueue, delay, modify, cancel, cancel_sync, disable, enable, flush, flush_delayed, flush_queue, set_max_to, ask, state, times, scenario}
-
--- a text of these lines
-abbrev pub text : List (List ℕ) → List ℕ
-text lines = flat_map (λ line. line ++ 10 ∷ []) lines
+use Rattle.cmwq_types.specs.Listing.{text_of_lines}
 
 -- what the scenario's actors print, one after another; here each scenario has one
 abbrev pub printed : ScenarioContents → List ℕ
@@ -36,7 +33,7 @@ three_works max nexts =
 -- with `max_active` 3 all three are active at once: they take turns as they sleep
 abbrev pub max_active_3 : List ℕ
 max_active_3 =
-    text (
+    text_of_lines (
     codes "0 w0 starts" ∷ codes "0 w0 burns 5" ∷ codes "5 w0 sleeps 10" ∷ codes "5 w1 starts" ∷
     codes "5 w1 burns 5" ∷ codes "10 w1 sleeps 10" ∷ codes "10 w2 starts" ∷
     codes "10 w2 burns 5" ∷ codes "15 w2 sleeps 10" ∷ codes "15 w0 wakes" ∷
@@ -46,7 +43,7 @@ max_active_3 =
 -- with `max_active` 2 the third is active once the first has finished
 abbrev pub max_active_2 : List ℕ
 max_active_2 =
-    text (
+    text_of_lines (
     codes "0 w0 starts" ∷ codes "0 w0 burns 5" ∷ codes "5 w0 sleeps 10" ∷ codes "5 w1 starts" ∷
     codes "5 w1 burns 5" ∷ codes "10 w1 sleeps 10" ∷ codes "15 w0 wakes" ∷
     codes "15 w0 burns 5" ∷ codes "20 w0 finishes" ∷ codes "20 w1 wakes" ∷
@@ -56,7 +53,7 @@ max_active_2 =
 -- with `max_active` 1 they run one after another
 abbrev pub max_active_1 : List ℕ
 max_active_1 =
-    text (
+    text_of_lines (
     codes "0 w0 starts" ∷ codes "0 w0 burns 5" ∷ codes "5 w0 sleeps 10" ∷ codes "15 w0 wakes" ∷
     codes "15 w0 burns 5" ∷ codes "20 w0 finishes" ∷ codes "20 w1 starts" ∷
     codes "20 w1 burns 5" ∷ codes "25 w1 sleeps 10" ∷ codes "35 w1 wakes" ∷
@@ -74,7 +71,7 @@ cpu_intensive_beside_normal =
 -- w2 starts while w1 still burns, since a CPU-intensive work doesn't count
 abbrev pub cpu_intensive_lines : List ℕ
 cpu_intensive_lines =
-    text (
+    text_of_lines (
     codes "0 w0 starts" ∷ codes "0 w0 burns 5" ∷ codes "5 w0 sleeps 10" ∷ codes "5 w1 starts" ∷
     codes "5 w1 burns 5" ∷ codes "5 w2 starts" ∷ codes "10 w1 sleeps 10" ∷
     codes "10 w2 burns 5" ∷ codes "15 w2 sleeps 10" ∷ codes "15 w0 wakes" ∷
@@ -95,7 +92,7 @@ high_beside_normal =
 -- b has the CPU from its start on, and a goes on when b has finished
 abbrev pub high_lines : List ℕ
 high_lines =
-    text (
+    text_of_lines (
     codes "0 a starts" ∷ codes "0 a burns 2" ∷ codes "1 b starts" ∷ codes "1 b burns 2" ∷
     codes "3 b finishes" ∷ codes "4 a finishes" ∷ [])
 
@@ -111,7 +108,7 @@ unbound_beside_ordered =
 -- a and b burn side by side; c, d and e run one at a time, in the order of their queueing
 abbrev pub unbound_lines : List ℕ
 unbound_lines =
-    text (
+    text_of_lines (
     codes "0 a starts" ∷ codes "0 a burns 2" ∷ codes "0 b starts" ∷ codes "0 b burns 2" ∷
     codes "0 c starts" ∷ codes "0 c burns 1" ∷ codes "1 c finishes" ∷ codes "1 d starts" ∷
     codes "1 d burns 1" ∷ codes "2 a finishes" ∷ codes "2 b finishes" ∷ codes "2 d finishes" ∷
@@ -120,7 +117,7 @@ unbound_lines =
 -- the text of this scenario
 abbrev pub written_out : List ℕ
 written_out =
-    text (
+    text_of_lines (
     codes "cpus 1" ∷ codes "workers 4" ∷ codes "steps 1000" ∷ codes "flushes 2" ∷
     codes "queue u max 2 unbound" ∷ codes "queue o max 1 ordered" ∷
     codes "work a u" ∷ codes "work b u" ∷ codes "work c o" ∷ codes "work d o" ∷ codes "work e o" ∷
@@ -141,7 +138,7 @@ queued_twice =
 -- it runs once
 abbrev pub queued_twice_lines : List ℕ
 queued_twice_lines =
-    text (
+    text_of_lines (
     codes "0 already" ∷ codes "0 a starts" ∷ codes "0 a burns 1" ∷ codes "1 a finishes" ∷ [])
 
 -- a work queues itself and then sleeps
@@ -154,7 +151,7 @@ queues_itself =
 -- its second instance isn't started beside the first: it defers, and starts on the same worker
 abbrev pub queues_itself_lines : List ℕ
 queues_itself_lines =
-    text (
+    text_of_lines (
     codes "0 a starts" ∷ codes "0 a queues a" ∷ codes "0 a sleeps 2" ∷ codes "0 a defers" ∷
     codes "2 a wakes" ∷ codes "2 a finishes and starts" ∷ [])
 
@@ -168,7 +165,7 @@ steps_run_out =
 -- the eighth `next` is one step too many; the question is answered all the same
 abbrev pub steps_run_out_lines : List ℕ
 steps_run_out_lines =
-    text (
+    text_of_lines (
     codes "0 a starts" ∷ codes "0 a queues a" ∷ codes "0 a finishes" ∷ codes "0 a starts" ∷
     codes "0 a queues a" ∷ codes "0 a finishes" ∷ codes "0 a starts" ∷ codes "0 refused Spent" ∷
     codes "0 a idle runs 0/0" ∷ [])
@@ -182,7 +179,7 @@ refused =
 
 abbrev pub refused_lines : List ℕ
 refused_lines =
-    text (
+    text_of_lines (
     codes "0 refused NoSuchCpu" ∷ codes "0 refused Unsettled" ∷ codes "0 a starts" ∷
     codes "0 a burns 1" ∷ codes "1 a finishes" ∷ codes "1 refused NothingToDo" ∷
     codes "1 refused NoSuchPool" ∷ [])
@@ -197,7 +194,7 @@ refused_in_order =
 -- CPU 1 and pool 4 aren't there; the tick would be unsettled, and pool 1 has nothing to do
 abbrev pub refused_in_order_lines : List ℕ
 refused_in_order_lines =
-    text (
+    text_of_lines (
     codes "0 refused NoSuchCpu" ∷ codes "0 refused Spent" ∷ codes "0 refused Spent" ∷
     codes "0 refused Spent" ∷ codes "0 refused NoSuchPool" ∷ [])
 
@@ -212,7 +209,7 @@ timers =
 -- no timer has run out at first; a is on its timer until 2, and b's never fires
 abbrev pub timers_lines : List ℕ
 timers_lines =
-    text (
+    text_of_lines (
     codes "0 refused NothingToDo" ∷ codes "0 changed" ∷ codes "0 a timer 2 still" ∷
     codes "0 cancelled" ∷ codes "0 not pending" ∷ codes "2 a fires" ∷ codes "2 a starts" ∷
     codes "2 a burns 1" ∷ codes "3 a finishes" ∷ [])
@@ -229,7 +226,7 @@ flushes =
 -- the first waits for the later instance of a, the second for both but not for b; a third isn't given
 abbrev pub flushes_lines : List ℕ
 flushes_lines =
-    text (
+    text_of_lines (
     codes "0 a starts" ∷ codes "0 a burns 2" ∷ codes "0 flush 0" ∷ codes "0 flush 1" ∷
     codes "0 refused TooManyFlushes" ∷ codes "2 a finishes" ∷ codes "2 no" ∷
     codes "2 a starts" ∷ codes "2 no" ∷ codes "2 a burns 2" ∷ codes "4 a finishes" ∷
@@ -246,7 +243,7 @@ cancelled_while_running =
 -- the timer ends at once; the cancel takes off the pending instance, and its flush waits for the running one
 abbrev pub cancelled_while_running_lines : List ℕ
 cancelled_while_running_lines =
-    text (
+    text_of_lines (
     codes "0 flush 0" ∷ codes "0 a listed 0 still" ∷ codes "0 a starts" ∷ codes "0 a burns 2" ∷
     codes "0 cancelled flush 1" ∷ codes "0 no" ∷ codes "2 a finishes" ∷ codes "2 yes" ∷
     codes "2 yes" ∷ codes "2 refused TooManyFlushes" ∷ [])
@@ -262,7 +259,7 @@ queued_elsewhere =
 -- it is listed in the pool where it runs
 abbrev pub queued_elsewhere_lines : List ℕ
 queued_elsewhere_lines =
-    text (
+    text_of_lines (
     codes "0 a starts" ∷ codes "0 a burns 2" ∷ codes "0 a listed 0 runs 0/0" ∷ [])
 
 -- a runs and b is listed as the machine freezes; c is queued after it
@@ -277,7 +274,7 @@ freeze_and_thaw =
 -- a goes on and b still starts; c starts after the thaw
 abbrev pub freeze_and_thaw_lines : List ℕ
 freeze_and_thaw_lines =
-    text (
+    text_of_lines (
     codes "0 a starts" ∷ codes "0 a burns 2" ∷ codes "0 refused AlreadyFrozen" ∷ codes "0 yes" ∷
     codes "2 a finishes" ∷ codes "2 b starts" ∷ codes "2 b burns 2" ∷ codes "4 b finishes" ∷
     codes "4 no" ∷ codes "4 refused NotFrozen" ∷ codes "4 c starts" ∷ codes "4 c burns 2" ∷
@@ -295,7 +292,7 @@ max_down_and_up =
 -- c stays listed, d waits, and is listed once there is room
 abbrev pub max_down_and_up_lines : List ℕ
 max_down_and_up_lines =
-    text (
+    text_of_lines (
     codes "0 refused Ordered" ∷ codes "0 refused BadCount" ∷ codes "0 c listed 0 still" ∷
     codes "0 d inactive 0 still" ∷ codes "0 d listed 0 still" ∷ [])
 
@@ -308,7 +305,7 @@ activated_in_order =
 
 abbrev pub activated_in_order_lines : List ℕ
 activated_in_order_lines =
-    text (codes "0 a inactive 0 still" ∷ codes "0 b listed 0 still" ∷ codes "0 c listed 0 still" ∷ [])
+    text_of_lines (codes "0 a inactive 0 still" ∷ codes "0 b listed 0 still" ∷ codes "0 c listed 0 still" ∷ [])
 
 -- a is queued and disabled twice; then b's body is to queue it, and it is enabled
 abbrev pub disabled_twice : ScenarioContents
@@ -321,7 +318,7 @@ disabled_twice =
 -- the first disable takes it off; nothing queues it until it was enabled twice
 abbrev pub disabled_twice_lines : List ℕ
 disabled_twice_lines =
-    text (
+    text_of_lines (
     codes "0 cancelled" ∷ codes "0 not pending" ∷ codes "0 refused Disabled" ∷ codes "0 refused Disabled" ∷
     codes "0 b starts" ∷ codes "0 b queues a disabled" ∷ codes "0 b finishes" ∷ codes "0 no" ∷ codes "0 yes" ∷
     codes "0 refused NotDisabled" ∷ codes "0 a starts" ∷ codes "0 a burns 1" ∷ codes "1 a finishes" ∷ [])
@@ -344,7 +341,7 @@ pressed =
 -- no worker is made for c; b goes past it on the rescuer, and c starts on a new worker after the relief
 abbrev pub pressed_lines : List ℕ
 pressed_lines =
-    text (
+    text_of_lines (
     codes "0 a starts" ∷ codes "0 a sleeps 3" ∷ codes "0 refused AlreadyPressed" ∷ codes "0 b starts on rescuer" ∷
     codes "0 b idle runs 0/rescuer" ∷ codes "0 b burns 1" ∷ codes "1 b finishes" ∷ codes "2 refused NotPressed" ∷
     codes "2 c starts" ∷ codes "2 c idle runs 0/1" ∷ codes "2 c burns 1" ∷ codes "3 c finishes" ∷ [])
@@ -361,7 +358,7 @@ all_workers_taken =
 -- b goes past c on the rescuer, and c waits for the worker
 abbrev pub all_workers_taken_lines : List ℕ
 all_workers_taken_lines =
-    text (
+    text_of_lines (
     codes "0 a starts" ∷ codes "0 a sleeps 3" ∷ codes "0 b starts on rescuer" ∷ codes "0 b idle runs 0/rescuer" ∷
     codes "0 b burns 1" ∷ codes "1 b finishes" ∷ codes "3 c listed 0 still" ∷ codes "3 a wakes" ∷
     codes "3 a finishes" ∷ codes "3 c starts" ∷ [])

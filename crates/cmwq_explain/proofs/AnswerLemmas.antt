@@ -7,7 +7,7 @@ use Rattle.cmwq_types.specs.Contents.{ScenarioContents}
 use Rattle.cmwq_types.specs.Scenario.{expand}
 use Rattle.cmwq_types.specs.declared.instr.Instr.{Instr}
 use Rattle.cmwq_table.specs.State.{State}
-use Rattle.cmwq_explain.specs.Changes.{changes_text, said_line, looks_at, said_at, said_below, state_at, told_at, told_below}
+use Rattle.cmwq_explain.specs.Changes.{changes_text, said_line, looks_at, said_at, said_below, state_there, told_at, told_below}
 use Rattle.cmwq_explain.specs.ChangesTold.{IsPastEnd}
 use Rattle.cmwq_tasks.specs.declared.question.Looks.{Looks}
 use Rattle.cmwq_tasks.specs.declared.question.Looks.TheVariants.{Settled, Every, At}
@@ -33,10 +33,10 @@ module _ (says : ScenarioContents → State → Option (List ℕ)) (looks : Look
   none-looked : (n : ℕ) (b : Bool) → looks_at says looks S instrs n ≡ b → told_at says looks S instrs n ≡ [] → said_below says looks S instrs n ≡ None → b ≡ false
   none-looked n false is nothing none = refl
   none-looked n true is nothing none =
-      let here : said_line n (state_at says looks S instrs n).time (said_below says looks S instrs n) (said_at says looks S instrs n) ≡ [] =
-      ap (λ (b : Bool). cond {A = List ℕ} b (said_line n (state_at says looks S instrs n).time (said_below says looks S instrs n) (said_at says looks S instrs n)) []) (sym is) ∙ nothing in
-      let said = always (state_at says looks S instrs n) in
-      absurd (first-told n (state_at says looks S instrs n).time (said_below says looks S instrs n) (said_at says looks S instrs n) said.0 none said.1 here)
+      let here : said_line n (state_there says looks S instrs n).time (said_below says looks S instrs n) (said_at says looks S instrs n) ≡ [] =
+      ap (λ (b : Bool). cond {A = List ℕ} b (said_line n (state_there says looks S instrs n).time (said_below says looks S instrs n) (said_at says looks S instrs n)) []) (sym is) ∙ nothing in
+      let said = always (state_there says looks S instrs n) in
+      absurd (first-told n (state_there says looks S instrs n).time (said_below says looks S instrs n) (said_at says looks S instrs n) said.0 none said.1 here)
 
   -- where nothing is told, no position was looked at
   unlooked : (n : ℕ) → told_below says looks S instrs n ≡ [] → (said_below says looks S instrs n ≡ None) × ((k : ℕ) → k < n → looks_at says looks S instrs k ≡ false)

@@ -14,8 +14,8 @@ use Rattle.cmwq_play.specs.Commands.{Writes}
 use Rattle.cmwq_play.specs.Telling.{kept_from, told_from}
 use Rattle.cmwq_play.proofs.CommandLemmas.{writes_more}
 use Rattle.cmwq_streams.specs.declared.error.PlayError.{PlayError}
-use Rattle.cmwq_explain.specs.Changes.{changes_text, has_bytes, said_below, state_at, told_at, told_below}
-use Rattle.cmwq_explain.specs.Looking.{going_on, keeping, line_here, looked, looker_wholly, looks_here, saying, telling, told_here, told_wholly}
+use Rattle.cmwq_explain.specs.Changes.{changes_text, has_bytes, said_below, state_there, told_at, told_below}
+use Rattle.cmwq_explain.specs.Looking.{going_on, keeping, line_here, looker_after, looker_wholly, looks_here, saying, telling, told_here, looker_told}
 use Rattle.cmwq_explain.specs.ChangesTold.{as_unit}
 use Rattle.cmwq_explain.specs.declared.looker.Looker.{Looker}
 
@@ -55,14 +55,14 @@ module _ {P : Type 0} (says : P → ScenarioContents → State → Option (List 
   spoken = says l.sayer.now
 
   abbrev there : ℕ → State
-  there k = state_at spoken l.looks S instrs k
+  there k = state_there spoken l.looks S instrs k
 
   abbrev looker_at : ℕ → Looker P
   looker_at k = record l { position = k; said = said_below spoken l.looks S instrs k; has_told = has_bytes (told_below spoken l.looks S instrs k) }
 
   -- after a look at a position, the last one or not
   look_at : (is_last : Bool) (k : ℕ) → (k == length instrs) ≡ is_last
-      → looked says (looker_at k) S is_last (there k) ≡ record l { position = k; said = said_below spoken l.looks S instrs (suc k); has_told = has_bytes (told_below spoken l.looks S instrs (suc k)) }
+      → looker_after says (looker_at k) S is_last (there k) ≡ record l { position = k; said = said_below spoken l.looks S instrs (suc k); has_told = has_bytes (told_below spoken l.looks S instrs (suc k)) }
   look_at is_last k last =
       let c = looker_at k in
       let s = there k in
@@ -81,7 +81,7 @@ module _ {P : Type 0} (says : P → ScenarioContents → State → Option (List 
       ∙ ap (λ (is : List Instr). after_all S (start S) is) (sym (take_more instrs k Next within))
       ∙ ap (λ (n : ℕ). there n) more
 
-  next_looker : (k : ℕ) → k < length instrs → going_on (looked says (looker_at k) S false (there k)) ≡ looker_at (suc k)
+  next_looker : (k : ℕ) → k < length instrs → going_on (looker_after says (looker_at k) S false (there k)) ≡ looker_at (suc k)
   next_looker k within =
       let other : (k == length instrs) ≡ false = ne_eqb k (length instrs) (λ same. absurd (omega (arith, same, within))) in
       let more : min (k + 1) (2 ^ 64 - 1) ≡ suc k = omega (arith, within, few) in
@@ -132,7 +132,7 @@ module _ {P : Type 0} (says : P → ScenarioContents → State → Option (List 
   whole_state = ap (λ (is : List Instr). after_all S (start S) is) (sym all)
 
   -- All of it is the text of the changes, and it is known whether that has any bytes.
-  whole_text : told_wholly says (looker_at 0) S (start S) instrs ≡ changes_text spoken l.looks S instrs
+  whole_text : looker_told says (looker_at 0) S (start S) instrs ≡ changes_text spoken l.looks S instrs
   whole_text =
       let n = length instrs in
       ap (λ (text : List ℕ). text ++ told_here says (kept_from (telling says) (keeping says) (looker_at 0) S (start S) instrs) S true (after_all S (start S) instrs))
@@ -143,8 +143,8 @@ module _ {P : Type 0} (says : P → ScenarioContents → State → Option (List 
 
   whole_told : (looker_wholly says (looker_at 0) S (start S) instrs).has_told ≡ has_bytes (changes_text spoken l.looks S instrs)
   whole_told =
-      ap (λ (c : Looker P). (looked says c S true (after_all S (start S) instrs)).has_told) whole_looker
-      ∙ ap (λ (s : State). (looked says (looker_at (length instrs)) S true s).has_told) whole_state
+      ap (λ (c : Looker P). (looker_after says c S true (after_all S (start S) instrs)).has_told) whole_looker
+      ∙ ap (λ (s : State). (looker_after says (looker_at (length instrs)) S true s).has_told) whole_state
       ∙ ap (λ (c : Looker P). c.has_told) (look_at true (length instrs) last)
 
 -- What is written of a run from the start on, and what is answered.
@@ -152,10 +152,10 @@ module _ {P : Type 0} (says : P → ScenarioContents → State → Option (List 
   abbrev begun : Looker P
   begun = record l { position = 0; said = None; has_told = false }
 
-  text_is : told_wholly says begun T (start T) issued ≡ changes_text (says l.sayer.now) l.looks S instrs
+  text_is : looker_told says begun T (start T) issued ≡ changes_text (says l.sayer.now) l.looks S instrs
   text_is =
-      ap (λ (X : ScenarioContents). told_wholly says begun X (start X) issued) held
-      ∙ ap (λ (is : List Instr). told_wholly says begun S (start S) is) same
+      ap (λ (X : ScenarioContents). looker_told says begun X (start X) issued) held
+      ∙ ap (λ (is : List Instr). looker_told says begun S (start S) is) same
       ∙ whole_text says l S instrs few
 
   told_is : (looker_wholly says begun T (start T) issued).has_told ≡ has_bytes (changes_text (says l.sayer.now) l.looks S instrs)
@@ -164,10 +164,10 @@ module _ {P : Type 0} (says : P → ScenarioContents → State → Option (List 
       ∙ ap (λ (is : List Instr). (looker_wholly says begun S (start S) is).has_told) same
       ∙ whole_told says l S instrs few
 
-  pub writes_whole : (before after : Option (List ℕ)) (failed : Bool) (r : Result Bool PlayError) → Writes (λ output. output ≡ told_wholly says begun T (start T) issued) before after failed (as_unit r)
+  pub writes_whole : (before after : Option (List ℕ)) (failed : Bool) (r : Result Bool PlayError) → Writes (λ output. output ≡ looker_told says begun T (start T) issued) before after failed (as_unit r)
       → Writes (λ output. output ≡ changes_text (says l.sayer.now) l.looks S instrs) before after failed (as_unit r)
   writes_whole before after failed r h =
-      writes_more (λ output. output ≡ told_wholly says begun T (start T) issued) (λ output. output ≡ changes_text (says l.sayer.now) l.looks S instrs) before after failed (as_unit r) (λ output is. is ∙ text_is) h
+      writes_more (λ output. output ≡ looker_told says begun T (start T) issued) (λ output. output ≡ changes_text (says l.sayer.now) l.looks S instrs) before after failed (as_unit r) (λ output is. is ∙ text_is) h
 
   pub tells_whole : (r : Result Bool PlayError) → IfOk r (λ told. told ≡ (looker_wholly says begun T (start T) issued).has_told)
       → IfOk r (λ told. told ≡ has_bytes (changes_text (says l.sayer.now) l.looks S instrs))

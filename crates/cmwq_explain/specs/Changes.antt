@@ -12,9 +12,9 @@ use Rattle.cmwq_tasks.specs.declared.question.Looks.{Looks}
 use Rattle.cmwq_tasks.specs.declared.question.Looks.TheVariants.{Settled, Every, At}
 
 -- What a sayer gives: a text, or nothing.
-abbrev pub words : {A : Type 0} → Option (String A) → Option (List ℕ)
-words (Some text) = Some (string_bytes text)
-words None = None
+abbrev pub words_said : {A : Type 0} → Option (String A) → Option (List ℕ)
+words_said (Some text) = Some (string_bytes text)
+words_said None = None
 
 -- Where is looked.
 
@@ -52,14 +52,14 @@ said_line k time before None = []
 -- What is said of a state, where anything is; which positions are looked at; and a run. At position k the first k of its instructions
 -- have been carried out.
 module _ (says : ScenarioContents → State → Option (List ℕ)) (looks : Looks) (S : ScenarioContents) (instrs : List Instr) where
-  abbrev pub state_at : ℕ → State
-  state_at k = run S (take k instrs)
+  abbrev pub state_there : ℕ → State
+  state_there k = run S (take k instrs)
 
   abbrev pub looks_at : ℕ → Bool
-  looks_at k = is_looked_at looks S (k == length instrs) k (state_at k)
+  looks_at k = is_looked_at looks S (k == length instrs) k (state_there k)
 
   abbrev pub said_at : ℕ → Option (List ℕ)
-  said_at k = says S (state_at k)
+  said_at k = says S (state_there k)
 
   -- what is said at the last position below that is looked at; nothing where there is none
   abbrev pub said_below : ℕ → Option (List ℕ)
@@ -67,7 +67,7 @@ module _ (says : ScenarioContents → State → Option (List ℕ)) (looks : Look
   said_below (suc k) = if looks_at k then said_at k else said_below k
 
   abbrev pub told_at : ℕ → List ℕ
-  told_at k = if looks_at k then said_line k (state_at k).time (said_below k) (said_at k) else []
+  told_at k = if looks_at k then said_line k (state_there k).time (said_below k) (said_at k) else []
 
   abbrev pub told_below : ℕ → List ℕ
   told_below zero = []

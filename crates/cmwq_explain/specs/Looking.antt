@@ -28,20 +28,20 @@ module _ {P : Type 0} (says : P → ScenarioContents → State → Option (List 
   told_here looker S is_last s = if looks_here looker S is_last s then line_here looker s (says looker.sayer.now S s) else []
 
   -- after a look
-  abbrev pub looked : Looker P → ScenarioContents → Bool → State → Looker P
-  looked looker S is_last s = if looks_here looker S is_last s then saying looker s (says looker.sayer.now S s) else looker
+  abbrev pub looker_after : Looker P → ScenarioContents → Bool → State → Looker P
+  looker_after looker S is_last s = if looks_here looker S is_last s then saying looker s (says looker.sayer.now S s) else looker
 
   -- a look before each instruction
   abbrev pub telling : Looker P → ScenarioContents → State → Instr → List ℕ
   telling looker S s instr = told_here looker S false s
 
   abbrev pub keeping : Looker P → ScenarioContents → State → Instr → Looker P
-  keeping looker S s instr = going_on (looked looker S false s)
+  keeping looker S s instr = going_on (looker_after looker S false s)
 
   -- and once more at the last position
-  abbrev pub told_wholly : Looker P → ScenarioContents → State → List Instr → List ℕ
-  told_wholly looker S s instrs =
+  abbrev pub looker_told : Looker P → ScenarioContents → State → List Instr → List ℕ
+  looker_told looker S s instrs =
       told_from telling keeping looker S s instrs ++ told_here (kept_from telling keeping looker S s instrs) S true (after_all S s instrs)
 
   abbrev pub looker_wholly : Looker P → ScenarioContents → State → List Instr → Looker P
-  looker_wholly looker S s instrs = looked (kept_from telling keeping looker S s instrs) S true (after_all S s instrs)
+  looker_wholly looker S s instrs = looker_after (kept_from telling keeping looker S s instrs) S true (after_all S s instrs)

@@ -1,5 +1,5 @@
 //! What is said of a run's states, told wherever it changes.
-ghost use Rattle.cmwq_explain.specs.Looking.{looker_wholly, told_wholly};
+ghost use Rattle.cmwq_explain.specs.Looking.{looker_wholly, looker_told};
 ghost use Rattle.cmwq_explain.specs.ChangesTold.{IsPastEnd, TellsChanges, as_unit};
 ghost use Rattle.cmwq_play.specs.Commands.{Writes};
 ghost use Rattle.cmwq_play.specs.Runs.{CanRun};
@@ -86,7 +86,7 @@ fn tell_lines<M: Machine, P: Sayer, W: Sink>(
     requires loaded { M.loaded machine ≡ scenario.now }
     requires start { M.state machine ≡ start scenario.now }
     requires sound { W.failed writer.old ≡ false }
-    ensures writes { Writes (λ output. output ≡ told_wholly P.says looker.entry scenario.now (start scenario.now) (expand_lines lines.now)) (W.contents writer.old) (W.contents writer.new) (W.failed writer.new) (as_unit result) }
+    ensures writes { Writes (λ output. output ≡ looker_told P.says looker.entry scenario.now (start scenario.now) (expand_lines lines.now)) (W.contents writer.old) (W.contents writer.new) (W.failed writer.new) (as_unit result) }
     ensures told { IfOk result (λ told. told ≡ (looker_wholly P.says looker.entry scenario.now (start scenario.now) (expand_lines lines.now)).has_told) }
     ensures why { IfErr result (λ error. IsSendError error) }
 {

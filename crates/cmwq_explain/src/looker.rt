@@ -1,6 +1,6 @@
 //! Who looks at a run's states as it goes, and tells what is said of them wherever it changes.
-ghost use Rattle.cmwq_explain.specs.Changes.{words};
-ghost use Rattle.cmwq_explain.specs.Looking.{line_here, looked, looker_wholly, looks_here, saying, told_here, told_wholly};
+ghost use Rattle.cmwq_explain.specs.Changes.{words_said};
+ghost use Rattle.cmwq_explain.specs.Looking.{line_here, looker_after, looker_wholly, looks_here, saying, told_here, looker_told};
 ghost use Rattle.cmwq_explain.specs.ChangesTold.{as_unit};
 ghost use Rattle.cmwq_play.specs.Commands.{Writes};
 ghost use Rattle.cmwq_play.specs.Session.{CanIssue, Issues};
@@ -34,14 +34,14 @@ pub(crate) struct Looker<'s, P> {
 }
 
 impl<P: Sayer> Teller for Looker<'_, P> {
-    ghost use Rattle.cmwq_explain.specs.Looking.{going_on, looked, told_here};
+    ghost use Rattle.cmwq_explain.specs.Looking.{going_on, looker_after, told_here};
     ghost use Rattle.std.specs.Prelude.{⊤, false};
 
     ghost fits = { λ _ _. ⊤ };
 
     ghost told = { λ looker S s _. told_here P.says looker S false s };
 
-    ghost keeps = { λ looker S s _. going_on (looked P.says looker S false s) };
+    ghost keeps = { λ looker S s _. going_on (looker_after P.says looker S false s) };
 
     fn issue<M: Machine, W: Sink>(
         &mut self,
@@ -76,7 +76,7 @@ impl<P: Sayer> Looker<'_, P> {
         requires { CanIssue M.loaded M.state W.contents W.failed session.old }
         ensures told { Issues M.loaded M.state W.contents W.failed session.old session.new (M.state session.old.machine)
             (told_here P.says self.old session.old.scenario.now is_last (M.state session.old.machine)) result }
-        ensures looked { OnOk result (self.new ≡ looked P.says self.old session.old.scenario.now is_last (M.state session.old.machine)) }
+        ensures looker_after { OnOk result (self.new ≡ looker_after P.says self.old session.old.scenario.now is_last (M.state session.old.machine)) }
     {
         if !self.is_looked_at(&session.machine, is_last) {
             return Ok(());
@@ -93,8 +93,8 @@ impl<P: Sayer> Looker<'_, P> {
     ) -> Result<(), PlayError>
         requires { CanIssue M.loaded M.state W.contents W.failed session.old }
         ensures told { Issues M.loaded M.state W.contents W.failed session.old session.new (M.state session.old.machine)
-            (line_here self.old (M.state session.old.machine) (words said)) result }
-        ensures saying { OnOk result (self.new ≡ saying self.old (M.state session.old.machine) (words said)) }
+            (line_here self.old (M.state session.old.machine) (words_said said)) result }
+        ensures saying { OnOk result (self.new ≡ saying self.old (M.state session.old.machine) (words_said said)) }
     {
         let Some(text) = said else {
             self.said = LastSaid(None);
@@ -121,7 +121,7 @@ impl<P: Sayer> Looker<'_, P> {
         requires ready { CanIssue M.loaded M.state W.contents W.failed session.old }
         requires empty { kept session.old.lines ≡ [] }
         ensures same { SharesSink session.old.lines session.new.lines }
-        ensures writes { Writes (λ output. output ≡ told_wholly P.says self.old session.old.scenario.now (M.state session.old.machine) (expand_lines lines.now))
+        ensures writes { Writes (λ output. output ≡ looker_told P.says self.old session.old.scenario.now (M.state session.old.machine) (expand_lines lines.now))
             (W.contents (sink session.old.lines)) (W.contents (sink session.new.lines)) (W.failed (sink session.new.lines)) (as_unit result) }
         ensures told { IfOk result (λ told. told ≡ (looker_wholly P.says self.old session.old.scenario.now (M.state session.old.machine) (expand_lines lines.now)).has_told) }
         ensures why { IfErr result (λ error. IsSendError error) }

@@ -7,12 +7,12 @@ use std::marker::Model;
 pub(crate) struct LastSaid(pub(crate) Option<String>);
 
 impl Model for LastSaid {
-    ghost use Rattle.cmwq_explain.specs.Changes.{words};
+    ghost use Rattle.cmwq_explain.specs.Changes.{words_said};
     ghost use Rattle.std.specs.Prelude.{List, Option, ℕ};
 
     ghost Value = { Option (List ℕ) };
 
-    ghost view = { λ said. words said.0 };
+    ghost view = { λ said. words_said said.0 };
 }
 
 impl LastSaid {

@@ -1,5 +1,5 @@
 //! What says something of a machine's states.
-ghost use Rattle.cmwq_explain.specs.Changes.{words};
+ghost use Rattle.cmwq_explain.specs.Changes.{words_said};
 ghost use Rattle.cmwq_table.specs.State.{State};
 ghost use Rattle.cmwq_types.specs.Contents.{ScenarioContents};
 ghost use Rattle.std.specs.Prelude.{◌≡◌, IfOk, List, Option, ℕ};
@@ -15,5 +15,5 @@ pub trait Sayer: Drop {
 
     /// What is said of the machine's state. The only error is want of memory.
     fn say<R: Reads>(&self, alloc: Global, machine: &R) -> Result<Option<String>, NoMemory>
-        ensures said { IfOk result (λ said. words said ≡ says self.now (R.loaded machine.now) (R.state machine.now)) };
+        ensures said { IfOk result (λ said. words_said said ≡ says self.now (R.loaded machine.now) (R.state machine.now)) };
 }

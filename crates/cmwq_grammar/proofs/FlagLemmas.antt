@@ -9,7 +9,7 @@ use Rattle.cmwq_types.specs.Listing.{flag_words, word_if}
 use Rattle.cmwq_types.specs.Scenario.{plain_flags}
 use Rattle.cmwq_types.specs.declared.check.Fault.TheVariants as fault
 use Rattle.cmwq_types.specs.declared.scenario.Flags.{Flags}
-use Rattle.cmwq_grammar.specs.LineReasons.{FlagWord, add_among, add_flag, flag_table, flags_at, set_once}
+use Rattle.cmwq_grammar.specs.LineReasons.{FlagWord, add_among, add_flag, flag_table, flags_at_line, set_once}
 use Rattle.cmwq_grammar.specs.declared.why.Why.TheVariants as why
 use Rattle.cmwq_grammar.proofs.Basics.{one_if, bind_ok, bind_at, value_if_ok, value_if_at, either, not_true, same_word, word_is, chosen, cond_yes, cond_no}
 
@@ -106,21 +106,21 @@ flag_adds f g word e = among_adds [] flag_table f g word flags_apart e
 abbrev Added : Flags → List (List ℕ) → Flags → Type 0
 Added f words g = IsPermutation (words_set flag_table g) (words_set flag_table f ++ words)
 
-added_read : (words : List (List ℕ)) (f g : Flags) → flags_at words f ≡ Ok g → Added f words g
-unfolding flags_at AddsWord
+added_read : (words : List (List ℕ)) (f g : Flags) → flags_at_line words f ≡ Ok g → Added f words g
+unfolding flags_at_line AddsWord
 added_read [] f g e =
     let same : f ≡ g = cc in
     subst (λ (h : Flags). Added f [] h) same
     (subst (λ (ws : List (List ℕ)). IsPermutation (words_set flag_table f) ws) (sym (append-nil (words_set flag_table f))) (IsPermutation-refl (words_set flag_table f)))
 added_read (word ∷ rest) f g e =
     let old : List (List ℕ) = words_set flag_table f in
-    let there : (h : Flags) × (add_flag f word ≡ Ok h) × (flags_at rest h ≡ Ok g) = bind_ok (add_flag f word) (flags_at rest) g e in
+    let there : (h : Flags) × (add_flag f word ≡ Ok h) × (flags_at_line rest h ≡ Ok g) = bind_ok (add_flag f word) (flags_at_line rest) g e in
     let between : List (List ℕ) = words_set flag_table there.0 in
     subst (λ (ws : List (List ℕ)). IsPermutation (words_set flag_table g) ws) (append_assoc old (word ∷ []) rest)
     (IsPermutation-trans (words_set flag_table g) (between ++ rest) ((old ++ word ∷ []) ++ rest) (added_read rest there.0 g there.2)
     (IsPermutation-append_left rest between (old ++ word ∷ []) (flag_adds f there.0 word there.1)))
 
-pub flags_read : (words : List (List ℕ)) (g : Flags) → flags_at words plain_flags ≡ Ok g → IsPermutation (flag_words g) words
+pub flags_read : (words : List (List ℕ)) (g : Flags) → flags_at_line words plain_flags ≡ Ok g → IsPermutation (flag_words g) words
 flags_read words g e = subst (λ (ws : List (List ℕ)). IsPermutation ws words) (sym (flag_words_are g)) (added_read words plain_flags g e)
 
 -- Again: a flag's word stands once among the words of flags where it is set, and else not.
@@ -239,8 +239,8 @@ all_same before (flag ∷ more) f g apart same =
 same_flags : (f g : Flags) → AllByRecursion (λ flag. flag.has f ≡ flag.has g) flag_table → f ≡ g
 same_flags f g same = grind arith
 
-added_again : (words : List (List ℕ)) (f g : Flags) → Added f words g → flags_at words f ≡ Ok g
-unfolding flags_at add_flag AddsWord
+added_again : (words : List (List ℕ)) (f g : Flags) → Added f words g → flags_at_line words f ≡ Ok g
+unfolding flags_at_line add_flag AddsWord
 added_again [] f g added =
     ap Ok (same_flags f g (all_same [] flag_table f g flags_apart (subst (IsPermutation (words_set flag_table g)) (append-nil (words_set flag_table f)) added)))
 added_again (word ∷ rest) f g added =
@@ -250,9 +250,9 @@ added_again (word ∷ rest) f g added =
     let one : IsPermutation between (old ++ word ∷ []) = flag_adds f there.0 word there.1 in
     let joined : IsPermutation (words_set flag_table g) ((old ++ word ∷ []) ++ rest) =
     subst (IsPermutation (words_set flag_table g)) (sym (append_assoc old (word ∷ []) rest)) added in
-    bind_at (add_flag f word) (flags_at rest) there.0 there.1
+    bind_at (add_flag f word) (flags_at_line rest) there.0 there.1
     ∙ added_again rest there.0 g (IsPermutation-trans (words_set flag_table g) ((old ++ word ∷ []) ++ rest) (between ++ rest) joined
     (IsPermutation-append_left rest (old ++ word ∷ []) between (IsPermutation-sym between (old ++ word ∷ []) one)))
 
-pub flags_again : (g : Flags) (words : List (List ℕ)) → IsPermutation (flag_words g) words → flags_at words plain_flags ≡ Ok g
+pub flags_again : (g : Flags) (words : List (List ℕ)) → IsPermutation (flag_words g) words → flags_at_line words plain_flags ≡ Ok g
 flags_again g words h = added_again words plain_flags g (subst (λ (ws : List (List ℕ)). IsPermutation ws words) (flag_words_are g) h)

@@ -15,7 +15,7 @@ use Rattle.cmwq_types.specs.declared.scenario.QueueDecl.{QueueDecl}
 use Rattle.cmwq_grammar.specs.LineFields.{◌>>=◌, after_word, declared_at, ended, made_last, new_name_at, number_at, number_where}
 use Rattle.cmwq_grammar.specs.Grammar.{Says}
 use Rattle.cmwq_grammar.specs.Instructions.{cannot_stand, queue_names, work_names, work_id}
-use Rattle.cmwq_grammar.specs.LineReasons.{flags_at, not_in_body, op_at_line, queue_at_line, queue_of_flags, then_cpu, then_flags, then_max, then_number, then_queue, work_at_line, new_work}
+use Rattle.cmwq_grammar.specs.LineReasons.{flags_at_line, not_in_body, op_at_line, queue_at_line, queue_of_flags, then_cpu, then_flags, then_max, then_number, then_queue, work_at_line, new_work}
 use Rattle.cmwq_grammar.specs.declared.why.Why.{Why}
 use Rattle.cmwq_grammar.proofs.Basics.{ok_same, bind_ok, bind_at, and_true, true_and, chosen, same_word, below}
 use Rattle.cmwq_grammar.proofs.FieldLemmas.{IsNew, declared_read, ended_read, ended_again, given_read, given_again, last_read, new_name_read, new_name_again, number_read, number_again, where_read, where_again, within_fits}
@@ -34,8 +34,8 @@ queue_read D rest queue e =
     bind_ok (after_word (codes "max") (name.0).1) (then_number (name.0).0) queue name.2 in
     let max : (n : ℕ × List (List ℕ)) × (number_at word.0 ≡ Ok n) × (then_flags (name.0).0 n ≡ Ok queue) =
     bind_ok (number_at word.0) (then_flags (name.0).0) queue word.2 in
-    let flags : (f : Flags) × (flags_at (max.0).1 plain_flags ≡ Ok f) × (queue_of_flags (name.0).0 (max.0).0 f ≡ Ok queue) =
-    bind_ok (flags_at (max.0).1 plain_flags) (queue_of_flags (name.0).0 (max.0).0) queue max.2 in
+    let flags : (f : Flags) × (flags_at_line (max.0).1 plain_flags ≡ Ok f) × (queue_of_flags (name.0).0 (max.0).0 f ≡ Ok queue) =
+    bind_ok (flags_at_line (max.0).1 plain_flags) (queue_of_flags (name.0).0 (max.0).0) queue max.2 in
     let built : QueueDecl = record { name = (name.0).0; max = (max.0).0; flags = flags.0 } in
     let same : built ≡ queue = ok_same built queue flags.2 in
     let named : (rest ≡ (name.0).0 ∷ (name.0).1) × (is_name (name.0).0 ≡ true) × IsNew (queue_names D) (name.0).0 = new_name_read (queue_names D) rest name.0 name.1 in
@@ -57,7 +57,7 @@ queue_again D queue said says new is small =
       bind_at (new_name_at (queue_names D) rest) then_max (queue.name, codes "max" ∷ decimal queue.max ∷ flags) (new_name_again (queue_names D) queue.name (codes "max" ∷ decimal queue.max ∷ flags) is new)
           ∙ bind_at (after_word (codes "max") (codes "max" ∷ decimal queue.max ∷ flags)) (then_number queue.name) (decimal queue.max ∷ flags) (given_again (codes "max") (decimal queue.max ∷ flags))
           ∙ bind_at (number_at (decimal queue.max ∷ flags)) (then_flags queue.name) (queue.max, flags) (number_again queue.max flags small)
-          ∙ bind_at (flags_at flags plain_flags) (queue_of_flags queue.name queue.max) queue.flags (flags_again queue.flags flags says.1),
+          ∙ bind_at (flags_at_line flags plain_flags) (queue_of_flags queue.name queue.max) queue.flags (flags_again queue.flags flags says.1),
     )
 
 -- `work NAME QUEUE`

@@ -26,7 +26,7 @@ use Rattle.cmwq_grammar.specs.LineFields.{◌>>=◌, declared_at, made_last, num
 use Rattle.cmwq_grammar.specs.Grammar.{Says}
 use Rattle.cmwq_grammar.specs.Instructions.{Operands, Makes, OfWork, OfQueue, OfNumber, cannot_stand, instr_at, instr_named, line_at, line_times, operands_at, operands_of, queue_id, queue_names, then_times, work_id, work_names}
 use Rattle.cmwq_grammar.specs.Meaning.{FaultAt, at_line, stage_after}
-use Rattle.cmwq_grammar.specs.Offers.{GoesOnWith, IsNextAfter, has_named, next_of, next_words, words_of_next}
+use Rattle.cmwq_grammar.specs.Offers.{GoesOnWith, IsNextAfter, has_named, next_offered, next_words, words_of_next}
 use Rattle.cmwq_grammar.specs.LineReasons.{add_line, add_op, add_queue, add_work, all_have_bodies, judge, op_at_line, open_actor, open_body, queue_at_line, step, with_works, work_at_line}
 use Rattle.cmwq_grammar.specs.Stages.{Stage, Start, Cpus, Workers, Steps, Queues, Works, Bodies, Body, Actor, head_of, with_actor}
 use Rattle.cmwq_grammar.specs.declared.next.Next.{Next}
@@ -550,4 +550,4 @@ offers lines following word begins (stage, e, is) = (
 )
 
 pub some_next : (lines : List (List ℕ)) → Begins lines → (following : Next) × IsNextAfter lines following
-some_next lines begins = (let read = begins_read lines begins in (next_of read.0, (read.0, read.1, refl)))
+some_next lines begins = (let read = begins_read lines begins in (next_offered read.0, (read.0, read.1, refl)))

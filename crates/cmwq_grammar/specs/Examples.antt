@@ -12,10 +12,7 @@ use Rattle.cmwq_grammar.specs.Offers.{IsNextAfter, words_of_next}
 use Rattle.cmwq_grammar.specs.Stages.{head_of}
 use Rattle.cmwq_grammar.specs.declared.next.Next.{Next}
 use Rattle.cmwq_grammar.specs.declared.why.Why.{Why}
-
--- a text of these lines
-abbrev pub text : List (List ℕ) → List ℕ
-text lines = flat_map (λ line. line ++ 10 ∷ []) lines
+use Rattle.cmwq_types.specs.Listing.{text_of_lines}
 
 -- the first fault of a text is at this line, for this reason
 abbrev pub FaultIs : List ℕ → ℕ → Why → Type 0
@@ -44,7 +41,7 @@ free_head =
 
 -- the head and then these lines
 abbrev pub after_head : List (List ℕ) → List ℕ
-after_head lines = text (head_lines ++ lines)
+after_head lines = text_of_lines (head_lines ++ lines)
 
 -- a queue, a work and its body, which queues the work
 abbrev pub work_and_body : List (List ℕ)
@@ -85,7 +82,7 @@ itself_scenario = one_work (actor_t itself_lines)
 
 -- that text up to the actor's name, and then these lines
 abbrev pub in_actor_t : List (List ℕ) → List ℕ
-in_actor_t lines = text (take 10 itself_text_lines ++ lines)
+in_actor_t lines = text_of_lines (take 10 itself_text_lines ++ lines)
 
 abbrev pub disabling_lines : List Line
 disabling_lines =
@@ -101,17 +98,17 @@ queue_with_memory =
 
 -- that text cut after n lines
 abbrev pub cut_after : ℕ → List ℕ
-cut_after n = text (take n itself_text_lines)
+cut_after n = text_of_lines (take n itself_text_lines)
 
 -- that text with a byte after line 8 that no UTF-8 has
 abbrev pub with_bad_byte : List ℕ
-with_bad_byte = text (take 7 itself_text_lines ++ (codes "queue a 0" ++ 255 ∷ []) ∷ codes "finish" ∷ [])
+with_bad_byte = text_of_lines (take 7 itself_text_lines ++ (codes "queue a 0" ++ 255 ∷ []) ∷ codes "finish" ∷ [])
 
 -- One line's reason, by the lines that stand before it.
 
 -- as the first line of a text
 abbrev pub FirstLineIs : List ℕ → Why → Type 0
-FirstLineIs line reason = FaultIs (text (line ∷ [])) 1 reason
+FirstLineIs line reason = FaultIs (text_of_lines (line ∷ [])) 1 reason
 
 -- after the head
 abbrev pub DeclaredIs : List ℕ → Why → Type 0

@@ -51,15 +51,15 @@ unfoldable pub add_flag : Flags → List ℕ → Result Flags Why
 add_flag = add_among flag_table
 
 -- each word that is left is a flag
-unfoldable pub flags_at : List (List ℕ) → Flags → Result Flags Why
-flags_at [] flags = Ok flags
-flags_at (word ∷ rest) flags = add_flag flags word >>= flags_at rest
+unfoldable pub flags_at_line : List (List ℕ) → Flags → Result Flags Why
+flags_at_line [] flags = Ok flags
+flags_at_line (word ∷ rest) flags = add_flag flags word >>= flags_at_line rest
 
 abbrev pub queue_of_flags : List ℕ → ℕ → Flags → Result QueueDecl Why
 queue_of_flags name max flags = Ok (record { name = name; max = max; flags = flags })
 
 abbrev pub then_flags : List ℕ → ℕ × List (List ℕ) → Result QueueDecl Why
-then_flags name max = flags_at max.1 plain_flags >>= queue_of_flags name max.0
+then_flags name max = flags_at_line max.1 plain_flags >>= queue_of_flags name max.0
 
 abbrev pub then_number : List ℕ → List (List ℕ) → Result QueueDecl Why
 then_number name rest = number_at rest >>= then_flags name

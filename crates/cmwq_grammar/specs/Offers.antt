@@ -19,16 +19,16 @@ GoesOnWith lines word =
     (line : List ℕ) × (rest : List (List ℕ)) × (words_of line ≡ word ∷ rest) × Begins (lines ++ line ∷ [])
 
 -- The table: what a further line may be at each stage.
-abbrev pub next_of : Stage → Next
-next_of Start = next.Cpus
-next_of (Cpus cpus) = next.Workers
-next_of (Workers cpus workers) = next.Steps
-next_of (Steps cpus workers steps) = next.Flushes
-next_of (Queues S) = next.Declaration (nat_lt (length S.queues) MAX_QUEUES) (nat_lt 0 (length S.queues))
-next_of (Works S) = next.Work (nat_lt (length S.works) MAX_WORKS)
-next_of (Bodies S done) = if all_have_bodies S done then next.Actor else next.Body
-next_of (Body S done ops) = next.Operation (nat_lt (length ops + 1) MAX_OPS)
-next_of (Actor S name lines) =
+abbrev pub next_offered : Stage → Next
+next_offered Start = next.Cpus
+next_offered (Cpus cpus) = next.Workers
+next_offered (Workers cpus workers) = next.Steps
+next_offered (Steps cpus workers steps) = next.Flushes
+next_offered (Queues S) = next.Declaration (nat_lt (length S.queues) MAX_QUEUES) (nat_lt 0 (length S.queues))
+next_offered (Works S) = next.Work (nat_lt (length S.works) MAX_WORKS)
+next_offered (Bodies S done) = if all_have_bodies S done then next.Actor else next.Body
+next_offered (Body S done ops) = next.Operation (nat_lt (length ops + 1) MAX_OPS)
+next_offered (Actor S name lines) =
     next.Instruction (nat_lt (length lines) MAX_LINES) (nat_lt 0 (length S.works)) (nat_lt 0 (length S.queues)) (nat_lt (length S.actors + 1) MAX_ACTORS)
 
 -- whether there is one of what the first operand names
@@ -53,8 +53,8 @@ words_of_next (next.Instruction room works queues actor) =
     (if room then map spelling (filter (λ mnemonic. has_named works queues (operands_of mnemonic)) mnemonics) else []) ++ word_if actor (codes "actor")
 
 abbrev pub next_words : Stage → List (List ℕ)
-next_words stage = words_of_next (next_of stage)
+next_words stage = words_of_next (next_offered stage)
 
 -- this is what a further line may be after these lines
 abbrev pub IsNextAfter : List (List ℕ) → Next → Type 0
-IsNextAfter lines next = (stage : Stage) × (stage_after 1 lines Start ≡ Ok stage) × (next ≡ next_of stage)
+IsNextAfter lines next = (stage : Stage) × (stage_after 1 lines Start ≡ Ok stage) × (next ≡ next_offered stage)

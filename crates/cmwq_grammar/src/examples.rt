@@ -1,6 +1,6 @@
 //! Short texts, as theorems over the definitions: what reading them gives.
-ghost use Rattle.cmwq_grammar.specs.Examples.{AfterBodyIs, DeclaredIs, FaultIs, FirstLineIs, InActorIs, InBodyIs, OfferedAre, ReadsAs, sixteen_actor_lines, actor_t, after_head, cut_after, disabling_lines, free_head, head_lines, in_actor_t, itself_lines, long_body, head_alone, one_work, pressing_lines, queue_alone, queue_q, queue_with_memory, itself_scenario, sixteen_actors, text, with_bad_byte};
-ghost use Rattle.cmwq_types.specs.Listing.{listing};
+ghost use Rattle.cmwq_grammar.specs.Examples.{AfterBodyIs, DeclaredIs, FaultIs, FirstLineIs, InActorIs, InBodyIs, OfferedAre, ReadsAs, sixteen_actor_lines, actor_t, after_head, cut_after, disabling_lines, free_head, head_lines, in_actor_t, itself_lines, long_body, head_alone, one_work, pressing_lines, queue_alone, queue_q, queue_with_memory, itself_scenario, sixteen_actors, with_bad_byte};
+ghost use Rattle.cmwq_types.specs.Listing.{listing, text_of_lines};
 ghost use Rattle.std.specs.Prelude.{◌≡◌, ◌∷◌, ◌++◌, [], codes, take};
 
 use crate::why::Why;
@@ -28,7 +28,7 @@ pub fn actor_in_an_open_body_is_a_bad_body()
 /// Carriage returns, tabs, comments and blank lines are free, and don't stand in the listing.
 pub fn spaces_and_comments_are_free()
     ensures read { ReadsAs free_head head_alone }
-    ensures listed { listing head_alone ≡ text head_lines }
+    ensures listed { listing head_alone ≡ text_of_lines head_lines }
 {}
 
 /// The listing of a scenario reads as that scenario.

@@ -10,7 +10,7 @@ use Rattle.cmwq_types.specs.declared.reply.Reply.{Reply}
 use Rattle.cmwq_grammar.specs.Comments.{comments}
 use Rattle.cmwq_grammar.specs.Cutting.{lines_of}
 use Rattle.cmwq_grammar.proofs.CallerLemmas.{line_cut}
-use Rattle.cmwq_table.specs.Events.{is_silent, line_at, reply_line, reply_words}
+use Rattle.cmwq_table.specs.Events.{is_silent, event_line_at, reply_line, reply_words}
 use Rattle.cmwq_interleaving.specs.Commenting.{Comments, after_hash}
 use Rattle.cmwq_interleaving.specs.PlayNumbers.{IsReply}
 use Rattle.cmwq_interleaving.proofs.PieceLemmas.{Piece, line_piece}
@@ -28,7 +28,7 @@ one_line S now asked reply are is small = at (is_silent reply)
     words : List ℕ
     words = decimal now ++ codes " " ++ reply_words S asked reply
 
-    at : (b : Bool) → OneLine (cond b [] (line_at now (reply_words S asked reply)))
+    at : (b : Bool) → OneLine (cond b [] (event_line_at now (reply_words S asked reply)))
     at true = NoLine
     at false = ALine words (line_piece S now asked reply are is small)
 

@@ -28,7 +28,7 @@ use Rattle.cmwq_types.specs.declared.reply.Refusal.TheVariants as refusal
 use Rattle.cmwq_types.specs.declared.reply.Reply.{Reply}
 use Rattle.cmwq_types.specs.declared.reply.Reply.TheVariants as reply
 use Rattle.cmwq_table.specs.Counts.{is_rescuer}
-use Rattle.cmwq_table.specs.Events.{already_text, asked_name, event_object, event_text, event_verb, line_at, mode_text, place_text, refusal_text, reply_words, run_text, was_text, work_name, worker_number, worker_text}
+use Rattle.cmwq_table.specs.Events.{already_text, asked_name, event_object, event_text, event_verb, event_line_at, mode_text, place_text, refusal_text, reply_words, run_text, was_text, work_name, worker_number, worker_text}
 use Rattle.cmwq_interleaving.specs.PlayNumbers.{IsEvent, IsNumberedPlace, IsReply, IsNumberedRun, IsTime}
 
 abbrev pub no_feed : List ℕ → Bool

@@ -2,7 +2,7 @@
 use Rattle.std.specs.Prelude.{◌≡◌, ◌≤◌, ℕ, List, length, Bool, true, Option, None, Some, IfSome}
 use Rattle.std.specs.Io.KnownBytes.{Appends, Consumes, Keeps}
 use Rattle.cmwq_types.specs.declared.limits.TheConstants.{MAX_TEXT}
-use Rattle.cmwq_verdict.specs.Verdicts.{IsVerdict, ok_line, read_line}
+use Rattle.cmwq_verdict.specs.Verdicts.{IsVerdict, ok_line, unread_line}
 use Rattle.cmwq_verdict.specs.declared.looks.Look.{Look}
 use Rattle.cmwq_outcome.specs.declared.file_verdict.Judged.{Judged}
 use Rattle.cmwq_outcome.specs.declared.file_verdict.Judged.TheVariants as judged
@@ -25,7 +25,7 @@ HasTold look file input left has_failed output output_now errors errors_now judg
 HasTold look file input left has_failed output output_now errors errors_now judged.Faulty =
     (text : List ℕ) × (told : List ℕ) × HasRead input left text × IsVerdict look file text (Some told) × Keeps output output_now × Appends errors errors_now told
 HasTold look file input left has_failed output output_now errors errors_now judged.Unread =
-    (has_failed ≡ true) × Keeps output output_now × Appends errors errors_now (read_line file)
+    (has_failed ≡ true) × Keeps output output_now × Appends errors errors_now (unread_line file)
 
 -- the same of a file that has this text
 abbrev pub HasToldOf : (look : Look) (file text : List ℕ) (output output_now errors errors_now : Option (List ℕ)) → Judged → Type 0
@@ -37,5 +37,5 @@ HasToldOf look file text output output_now errors errors_now judged.Unread = ⊥
 
 -- it was told that the file can't be read
 abbrev pub IsToldOfUnread : (file : List ℕ) (errors errors_now : Option (List ℕ)) → Judged → Type 0
-IsToldOfUnread file errors errors_now judged.Unread = Appends errors errors_now (read_line file)
+IsToldOfUnread file errors errors_now judged.Unread = Appends errors errors_now (unread_line file)
 IsToldOfUnread file errors errors_now judged = ⊥

@@ -8,7 +8,7 @@ ghost use Rattle.std.specs.Prelude.{◌≡◌, IfErr, IfOk, OnOk, false};
 
 use cmwq_play::read_whole;
 use cmwq_streams::{PlayError, Sink, Source, put_all};
-use cmwq_verdict::{Look, ok_line, read_line, verdict};
+use cmwq_verdict::{Look, ok_line, unread_line, verdict};
 use std::alloc::Global;
 
 /// How a file was judged.
@@ -108,6 +108,6 @@ pub fn tell_unread<E: Sink>(alloc: Global, file: &str, errors: &mut E) -> Result
     ensures errors { OnOk result (E.failed errors.new ≡ false) }
     ensures why { IfErr result (λ error. IsSendError error) }
 {
-    put_all(errors, &read_line(alloc, file)?)?;
+    put_all(errors, &unread_line(alloc, file)?)?;
     Ok(Judged::Unread)
 }

@@ -27,6 +27,7 @@ use Rattle.cmwq_picture.specs.declared.row.Title.{Title}
 use Rattle.cmwq_picture.specs.declared.row.Title.TheVariants as title
 use Rattle.cmwq_tasks.specs.declared.drawing.Span.{Span}
 use Rattle.cmwq_picture.specs.declared.span.TheConstants.{MAX_COLUMNS}
+use Rattle.cmwq_table.specs.Events.{is_refusal}
 
 -- the numbers below n
 abbrev pub below : ℕ → List ℕ
@@ -124,13 +125,9 @@ is_own_move instr.Tick = true
 is_own_move instr.Next = true
 is_own_move i = false
 
-abbrev pub is_refused : Reply → Bool
-is_refused (reply.Refused why) = true
-is_refused other = false
-
 -- the actor did something: it neither let the machine move, nor asked, nor was refused
 abbrev pub is_act : Instr → Reply → Bool
-is_act i answer = not (is_own_move i || is_question i || is_refused answer)
+is_act i answer = not (is_own_move i || is_question i || is_refusal answer)
 
 -- the times at which the actor did something
 abbrev pub acts_from : ScenarioContents → State → List Instr → List ℕ

@@ -1,5 +1,6 @@
 //! Which instructions are the actor's own doing.
-ghost use Rattle.cmwq_picture.specs.Picture.{is_act, is_own_move, is_refused};
+ghost use Rattle.cmwq_picture.specs.Picture.{is_act, is_own_move};
+ghost use Rattle.cmwq_table.specs.Events.{is_refusal};
 ghost use Rattle.std.specs.Prelude.{◌≡◌};
 
 use cmwq_reads::is_question;
@@ -9,7 +10,7 @@ use cmwq_types::{Instr, Reply};
 pub(crate) fn is_act(instr: Instr, reply: Reply) -> bool
     ensures { result ≡ is_act instr reply }
 {
-    !(is_own_move(instr) || is_question(instr) || is_refused(reply))
+    !(is_own_move(instr) || is_question(instr) || is_refusal(reply))
 }
 
 fn is_own_move(instr: Instr) -> bool
@@ -21,8 +22,8 @@ fn is_own_move(instr: Instr) -> bool
     )
 }
 
-fn is_refused(reply: Reply) -> bool
-    ensures { result ≡ is_refused reply }
+fn is_refusal(reply: Reply) -> bool
+    ensures { result ≡ is_refusal reply }
 {
     matches!(reply, Reply::Refused(_))
 }

@@ -12,15 +12,6 @@ pub(crate) fn declared_max(alloc: Global, queues: &[QueueDecl]) -> Result<Vec<u1
     Ok(queues.iter().map(|queue| queue.max).collect(alloc)?)
 }
 
-/// A vector with one value at each of so many places.
-pub(crate) fn filled<T: Copy>(alloc: Global, value: T, len: usize) -> Result<Vec<T>, NoMemory>
-    ensures { IfOk result (λ v. v.items ≡ replicate len value) }
-{
-    let mut v = Vec::with_capacity(alloc, len)?;
-    v.resize(len, value)?;
-    Ok(v)
-}
-
 /// These flushes, in a vector with room for so many.
 pub(crate) fn copied_flushes(
     alloc: Global,

@@ -3,12 +3,12 @@ ghost use Rattle.cmwq_table.specs.Moves.{begun};
 ghost use Rattle.cmwq_table.specs.State.{seat};
 ghost use Rattle.std.specs.Prelude.{◌≡◌, slice_set};
 
-use crate::beginning::{copied_flushes, declared_max, filled};
+use crate::beginning::{copied_flushes, declared_max};
 use crate::burning_heads::burn;
 use crate::looking::{entries, idle_workers};
 use cmwq_parts::Parts;
 use cmwq_table::{FlushTarget, Pending, Reads, Running, View};
-use cmwq_types::{MAX_WORKERS, Mode, NoMemory, Place, RESCUER, Scenario};
+use cmwq_types::{MAX_WORKERS, Mode, NoMemory, Place, RESCUER, Scenario, filled};
 use std::alloc::Global;
 use std::marker::Model;
 use std::sync::Arc;

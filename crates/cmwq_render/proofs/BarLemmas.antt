@@ -10,8 +10,8 @@ use Rattle.cmwq_picture.specs.declared.cell.Cell.TheVariants.{Empty, Does, Burne
 use Rattle.cmwq_picture.specs.declared.cell.Sign.{Sign}
 use Rattle.cmwq_picture.specs.declared.cell.Sign.TheVariants as sign
 use Rattle.cmwq_render.specs.Legend.{same_cell}
-use Rattle.cmwq_render.specs.Bars.{bars_from, bar_begun, ended, goes_on, grown, tick_bar}
-use Rattle.cmwq_render.specs.Laws.{CoversEachCellOnce, Differs, NeighboursDiffer, RunsAreWhole, covers, seen_of}
+use Rattle.cmwq_render.specs.Bars.{bars_from, bar_begun, bar_ended, goes_on, grown, tick_bar}
+use Rattle.cmwq_render.specs.Laws.{CoversEachCellOnce, Differs, NeighboursDiffer, RunsAreWhole, covers, seen_cells}
 use Rattle.cmwq_render.specs.declared.bars.Bar.{Bar}
 
 -- Cells that are the same.
@@ -55,7 +55,7 @@ same-refl Acts = refl
 record IsOpen (bar : Bar) (at : ℕ) : Type 0 where
   ends : bar.to ≡ at
   begins : bar.from < bar.to
-  shows : seen_of bar.cell ≡ bar.cell ∷ []
+  shows : seen_cells bar.cell ≡ bar.cell ∷ []
 
 abbrev IsOpenAt : Option Bar → ℕ → Type 0
 IsOpenAt None at = Unit {0}
@@ -104,7 +104,7 @@ right_of tick bar more =
     ∙ none bar (nat_le bar.from tick)
 
 -- over what was passed stands what stood there
-grown-same : (tick at : ℕ) (bar : Bar) → IsOpen bar at → tick < at → showing tick (ended (grown (Some bar) (at + 1))) ≡ showing tick (bar ∷ [])
+grown-same : (tick at : ℕ) (bar : Bar) → IsOpen bar at → tick < at → showing tick (bar_ended (grown (Some bar) (at + 1))) ≡ showing tick (bar ∷ [])
 grown-same tick at bar last less =
     let longer : nat_lt tick (at + 1) ≡ true = grind (arith, nat_tests) in
     let ends : bar.to ≡ at = last.ends in
@@ -125,13 +125,13 @@ begun-last (Does sign) at = record { ends = refl; begins = omega arith; shows = 
 begun-last (Burner w) at = record { ends = refl; begins = omega arith; shows = refl }
 begun-last Acts at = record { ends = refl; begins = omega arith; shows = refl }
 
-begun-later : (tick at : ℕ) (cell : Cell) → tick < at → showing tick (ended (bar_begun cell at)) ≡ []
+begun-later : (tick at : ℕ) (cell : Cell) → tick < at → showing tick (bar_ended (bar_begun cell at)) ≡ []
 begun-later tick at Empty less = refl
 begun-later tick at (Does sign) less = left_of tick (tick_bar (Does sign) at) less
 begun-later tick at (Burner w) less = left_of tick (tick_bar (Burner w) at) less
 begun-later tick at Acts less = left_of tick (tick_bar Acts at) less
 
-begun-here : (tick at : ℕ) (cell : Cell) → tick ≡ at → showing tick (ended (bar_begun cell at)) ≡ seen_of cell
+begun-here : (tick at : ℕ) (cell : Cell) → tick ≡ at → showing tick (bar_ended (bar_begun cell at)) ≡ seen_cells cell
 begun-here tick at Empty here = refl
 begun-here tick at (Does sign) here = over tick (tick_bar (Does sign) at) (omega arith) (omega arith)
 begun-here tick at (Burner w) here = over tick (tick_bar (Burner w) at) (omega arith) (omega arith)
@@ -139,25 +139,25 @@ begun-here tick at Acts here = over tick (tick_bar Acts at) (omega arith) (omega
 
 -- one step, by whether the rectangle goes on
 abbrev stepped : Bool → Option Bar → ℕ → Cell → List Cell → List Bar
-stepped b last at cell cells = cond b (bars_from (grown last (at + 1)) (at + 1) cells) (ended last ++ bars_from (bar_begun cell at) (at + 1) cells)
+stepped b last at cell cells = cond b (bars_from (grown last (at + 1)) (at + 1) cells) (bar_ended last ++ bars_from (bar_begun cell at) (at + 1) cells)
 
 passed-begun : (cell : Cell) (cells : List Cell) (last : Option Bar) (at tick : ℕ) → tick < at
-    → showing tick (bars_from (bar_begun cell at) (at + 1) cells) ≡ showing tick (ended (bar_begun cell at))
-    → showing tick (ended last ++ bars_from (bar_begun cell at) (at + 1) cells) ≡ showing tick (ended last)
+    → showing tick (bars_from (bar_begun cell at) (at + 1) cells) ≡ showing tick (bar_ended (bar_begun cell at))
+    → showing tick (bar_ended last ++ bars_from (bar_begun cell at) (at + 1) cells) ≡ showing tick (bar_ended last)
 passed-begun cell cells last at tick less rest =
-    showing-append tick (ended last) (bars_from (bar_begun cell at) (at + 1) cells)
-    ∙ ap (λ (shown : List Cell). showing tick (ended last) ++ shown) (rest ∙ begun-later tick at cell less)
-    ∙ append-nil (showing tick (ended last))
+    showing-append tick (bar_ended last) (bars_from (bar_begun cell at) (at + 1) cells)
+    ∙ ap (λ (shown : List Cell). showing tick (bar_ended last) ++ shown) (rest ∙ begun-later tick at cell less)
+    ∙ append-nil (showing tick (bar_ended last))
 
 passed-step : (b : Bool) (cell : Cell) (cells : List Cell) (bar : Bar) (at tick : ℕ) → IsOpen bar at → tick < at
-    → showing tick (bars_from (Some (record bar { to = at + 1 })) (at + 1) cells) ≡ showing tick (ended (Some (record bar { to = at + 1 })))
-    → showing tick (bars_from (bar_begun cell at) (at + 1) cells) ≡ showing tick (ended (bar_begun cell at))
-    → showing tick (stepped b (Some bar) at cell cells) ≡ showing tick (ended (Some bar))
+    → showing tick (bars_from (Some (record bar { to = at + 1 })) (at + 1) cells) ≡ showing tick (bar_ended (Some (record bar { to = at + 1 })))
+    → showing tick (bars_from (bar_begun cell at) (at + 1) cells) ≡ showing tick (bar_ended (bar_begun cell at))
+    → showing tick (stepped b (Some bar) at cell cells) ≡ showing tick (bar_ended (Some bar))
 passed-step true cell cells bar at tick last less on off = on ∙ grown-same tick at bar last less
 passed-step false cell cells bar at tick last less on off = passed-begun cell cells (Some bar) at tick less off
 
 -- over a tick that was passed
-passed : (cells : List Cell) (last : Option Bar) (at tick : ℕ) → IsOpenAt last at → tick < at → showing tick (bars_from last at cells) ≡ showing tick (ended last)
+passed : (cells : List Cell) (last : Option Bar) (at tick : ℕ) → IsOpenAt last at → tick < at → showing tick (bars_from last at cells) ≡ showing tick (bar_ended last)
 passed [] last at tick is less = refl
 passed (cell ∷ cells) None at tick is less =
     passed-begun cell cells None at tick less (passed cells (bar_begun cell at) (at + 1) tick (begun-last cell at) (omega arith))
@@ -166,7 +166,7 @@ passed (cell ∷ cells) (Some bar) at tick is less =
     (passed cells (Some (record bar { to = at + 1 })) (at + 1) tick (grown-last at bar is) (omega arith))
     (passed cells (bar_begun cell at) (at + 1) tick (begun-last cell at) (omega arith))
 
-closed : (last : Option Bar) (at tick : ℕ) → IsOpenAt last at → at ≤ tick → showing tick (ended last) ≡ []
+closed : (last : Option Bar) (at tick : ℕ) → IsOpenAt last at → at ≤ tick → showing tick (bar_ended last) ≡ []
 closed None at tick is more = refl
 closed (Some bar) at tick is more =
     let ends : bar.to ≡ at = is.ends in
@@ -174,45 +174,45 @@ closed (Some bar) at tick is more =
 
 -- the cell of this tick
 here-off : (cell : Cell) (cells : List Cell) (last : Option Bar) (at tick : ℕ) → IsOpenAt last at → tick ≡ at
-    → showing tick (ended last ++ bars_from (bar_begun cell at) (at + 1) cells) ≡ seen_of cell
+    → showing tick (bar_ended last ++ bars_from (bar_begun cell at) (at + 1) cells) ≡ seen_cells cell
 here-off cell cells last at tick is here =
-    showing-append tick (ended last) (bars_from (bar_begun cell at) (at + 1) cells)
+    showing-append tick (bar_ended last) (bars_from (bar_begun cell at) (at + 1) cells)
     ∙ ap (λ (shown : List Cell). shown ++ showing tick (bars_from (bar_begun cell at) (at + 1) cells)) (closed last at tick is (omega arith))
     ∙ passed cells (bar_begun cell at) (at + 1) tick (begun-last cell at) (omega arith)
     ∙ begun-here tick at cell here
 
 here-on : (cell : Cell) (cells : List Cell) (bar : Bar) (at tick : ℕ) → IsOpen bar at → tick ≡ at → bar.cell ≡ cell
-    → showing tick (bars_from (Some (record bar { to = at + 1 })) (at + 1) cells) ≡ seen_of cell
+    → showing tick (bars_from (Some (record bar { to = at + 1 })) (at + 1) cells) ≡ seen_cells cell
 here-on cell cells bar at tick is here same =
     let ends : bar.to ≡ at = is.ends in
     let begins : bar.from < bar.to = is.begins in
     passed cells (Some (record bar { to = at + 1 })) (at + 1) tick (grown-last at bar is) (omega arith)
     ∙ over tick (record bar { to = at + 1 }) (omega arith) (omega arith)
-    ∙ sym is.shows ∙ ap seen_of same
+    ∙ sym is.shows ∙ ap seen_cells same
 
 here-step : (b : Bool) (cell : Cell) (cells : List Cell) (bar : Bar) (at tick : ℕ) → IsOpen bar at → tick ≡ at → same_cell bar.cell cell ≡ b
-    → showing tick (stepped b (Some bar) at cell cells) ≡ seen_of cell
+    → showing tick (stepped b (Some bar) at cell cells) ≡ seen_cells cell
 here-step true cell cells bar at tick is here e = here-on cell cells bar at tick is here (same-cell bar.cell cell e)
 here-step false cell cells bar at tick is here e = here-off cell cells (Some bar) at tick is here
 
 here : (cell : Cell) (cells : List Cell) (last : Option Bar) (at tick : ℕ) → IsOpenAt last at → tick ≡ at
-    → showing tick (bars_from last at (cell ∷ cells)) ≡ seen_of cell
+    → showing tick (bars_from last at (cell ∷ cells)) ≡ seen_cells cell
 here cell cells None at tick is now = here-off cell cells None at tick is now
 here cell cells (Some bar) at tick is now = here-step (same_cell bar.cell cell) cell cells bar at tick is now refl
 
 -- those behind it
 behind-off : (cell : Cell) (cells : List Cell) (last : Option Bar) (at tick : ℕ) → IsOpenAt last at → at < tick
-    → showing tick (bars_from (bar_begun cell at) (at + 1) cells) ≡ seen_of (get_or cells (tick - (at + 1)) Empty)
-    → showing tick (ended last ++ bars_from (bar_begun cell at) (at + 1) cells) ≡ seen_of (get_or cells (tick - (at + 1)) Empty)
+    → showing tick (bars_from (bar_begun cell at) (at + 1) cells) ≡ seen_cells (get_or cells (tick - (at + 1)) Empty)
+    → showing tick (bar_ended last ++ bars_from (bar_begun cell at) (at + 1) cells) ≡ seen_cells (get_or cells (tick - (at + 1)) Empty)
 behind-off cell cells last at tick is more rest =
-    showing-append tick (ended last) (bars_from (bar_begun cell at) (at + 1) cells)
+    showing-append tick (bar_ended last) (bars_from (bar_begun cell at) (at + 1) cells)
     ∙ ap (λ (shown : List Cell). shown ++ showing tick (bars_from (bar_begun cell at) (at + 1) cells)) (closed last at tick is (omega arith))
     ∙ rest
 
 behind-step : (b : Bool) (cell : Cell) (cells : List Cell) (bar : Bar) (at tick : ℕ) → IsOpen bar at → at < tick
-    → showing tick (bars_from (Some (record bar { to = at + 1 })) (at + 1) cells) ≡ seen_of (get_or cells (tick - (at + 1)) Empty)
-    → showing tick (bars_from (bar_begun cell at) (at + 1) cells) ≡ seen_of (get_or cells (tick - (at + 1)) Empty)
-    → showing tick (stepped b (Some bar) at cell cells) ≡ seen_of (get_or cells (tick - (at + 1)) Empty)
+    → showing tick (bars_from (Some (record bar { to = at + 1 })) (at + 1) cells) ≡ seen_cells (get_or cells (tick - (at + 1)) Empty)
+    → showing tick (bars_from (bar_begun cell at) (at + 1) cells) ≡ seen_cells (get_or cells (tick - (at + 1)) Empty)
+    → showing tick (stepped b (Some bar) at cell cells) ≡ seen_cells (get_or cells (tick - (at + 1)) Empty)
 behind-step true cell cells bar at tick is more on off = on
 behind-step false cell cells bar at tick is more on off = behind-off cell cells (Some bar) at tick is more off
 
@@ -224,8 +224,8 @@ first-cell : (cell : Cell) (cells : List Cell) (k : ℕ) → k ≡ 0 → get_or 
 first-cell cell cells k e = ap (λ (j : ℕ). get_or (cell ∷ cells) j Empty) e
 
 behind : (cell : Cell) (cells : List Cell) (last : Option Bar) (at tick : ℕ) → IsOpenAt last at → at < tick
-    → ((next : Option Bar) → IsOpenAt next (at + 1) → showing tick (bars_from next (at + 1) cells) ≡ seen_of (get_or cells (tick - (at + 1)) Empty))
-    → showing tick (bars_from last at (cell ∷ cells)) ≡ seen_of (get_or cells (tick - (at + 1)) Empty)
+    → ((next : Option Bar) → IsOpenAt next (at + 1) → showing tick (bars_from next (at + 1) cells) ≡ seen_cells (get_or cells (tick - (at + 1)) Empty))
+    → showing tick (bars_from last at (cell ∷ cells)) ≡ seen_cells (get_or cells (tick - (at + 1)) Empty)
 behind cell cells None at tick is more rest = behind-off cell cells None at tick is more (rest (bar_begun cell at) (begun-last cell at))
 behind cell cells (Some bar) at tick is more rest =
     behind-step (same_cell bar.cell cell) cell cells bar at tick is more
@@ -233,21 +233,21 @@ behind cell cells (Some bar) at tick is more rest =
 
 -- over the tick of a cell, and those behind it
 ahead : (cells : List Cell) (last : Option Bar) (at tick : ℕ) → IsOpenAt last at → at ≤ tick
-    → showing tick (bars_from last at cells) ≡ seen_of (get_or cells (tick - at) Empty)
+    → showing tick (bars_from last at cells) ≡ seen_cells (get_or cells (tick - at) Empty)
 ahead [] last at tick is more = closed last at tick is more
 ahead (cell ∷ cells) last at tick is more =
     elim (cases_lt at tick) [
       | inl less ↦ (let later : tick - at ≡ suc (tick - (at + 1)) = omega arith in
           behind cell cells last at tick is less (λ next ready. ahead cells next (at + 1) tick ready (omega arith))
-          ∙ sym (ap seen_of (later-cell cell cells (tick - at) (tick - (at + 1)) later)))
+          ∙ sym (ap seen_cells (later-cell cell cells (tick - at) (tick - (at + 1)) later)))
       | inr not_less ↦ (let now : tick ≡ at = omega arith in
           let first : tick - at ≡ 0 = omega arith in
-          here cell cells last at tick is now ∙ sym (ap seen_of (first-cell cell cells (tick - at) first)))
+          here cell cells last at tick is now ∙ sym (ap seen_cells (first-cell cell cells (tick - at) first)))
     ]
 
 pub each_cell_once : CoversEachCellOnce
 unfolding CoversEachCellOnce
-each_cell_once cells tick = ahead cells None 0 tick tt (omega arith) ∙ ap (λ (k : ℕ). seen_of (get_or cells k Empty)) (tick_less_0 tick)
+each_cell_once cells tick = ahead cells None 0 tick tt (omega arith) ∙ ap (λ (k : ℕ). seen_cells (get_or cells k Empty)) (tick_less_0 tick)
 
 -- Neighbours.
 

@@ -25,16 +25,16 @@ bar_begun (Does sign) at = Some (tick_bar (Does sign) at)
 bar_begun (Burner w) at = Some (tick_bar (Burner w) at)
 bar_begun Acts at = Some (tick_bar Acts at)
 
-abbrev pub ended : Option Bar → List Bar
-ended None = []
-ended (Some bar) = bar ∷ []
+abbrev pub bar_ended : Option Bar → List Bar
+bar_ended None = []
+bar_ended (Some bar) = bar ∷ []
 
 -- the rectangles of the cells from a tick on, with the last one before it, which may go on
 abbrev pub bars_from : Option Bar → ℕ → List Cell → List Bar
-bars_from last at [] = ended last
+bars_from last at [] = bar_ended last
 bars_from last at (cell ∷ cells) =
     if goes_on last cell then bars_from (grown last (at + 1)) (at + 1) cells
-    else ended last ++ bars_from (bar_begun cell at) (at + 1) cells
+    else bar_ended last ++ bars_from (bar_begun cell at) (at + 1) cells
 
 abbrev pub bars : List Cell → List Bar
 bars cells = bars_from None 0 cells

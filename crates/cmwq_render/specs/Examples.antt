@@ -11,9 +11,7 @@ use Rattle.cmwq_picture.specs.declared.cell.Sign.{Sign}
 use Rattle.cmwq_picture.specs.declared.cell.Sign.TheVariants as sign
 use Rattle.cmwq_picture.specs.declared.row.Title.{Title}
 use Rattle.cmwq_picture.specs.declared.row.Title.TheVariants as title
-
-abbrev pub text : List (List ℕ) → List ℕ
-text lines = flat_map (λ line. line ++ 10 ∷ []) lines
+use Rattle.cmwq_types.specs.Listing.{text_of_lines}
 
 abbrev pub named_work : List ℕ → WorkContents
 named_work name = record { name = name; queue = record { 0 = 0 }; body = [] }
@@ -62,7 +60,7 @@ first_table =
 
 abbrev pub first_table_text : List ℕ
 first_table_text =
-    text (
+    text_of_lines (
     codes "     0    5    10   15   20   25" ∷
     codes "w0   |#####..........#####     |" ∷
     codes "w1   |-----#####..........     |" ∷
@@ -87,7 +85,7 @@ each_sign =
 
 abbrev pub each_sign_text : List ℕ
 each_sign_text =
-    text (
+    text_of_lines (
     codes "           7    12" ∷
     codes "a          |#=.-x~   |" ∷
     codes "a+         |++       |" ∷
@@ -102,8 +100,8 @@ only_times from ticks = record { from = from; ticks = ticks; rows = drawn_row (t
 
 -- up to 9999 there is a time each 5 ticks
 abbrev pub short_times_text : List ℕ
-short_times_text = text (codes "     9979 9984 9989 9994 9999" ∷ codes "cpu 0||" ∷ [])
+short_times_text = text_of_lines (codes "     9979 9984 9989 9994 9999" ∷ codes "cpu 0||" ∷ [])
 
 -- from 10000 on each 20
 abbrev pub long_times_text : List ℕ
-long_times_text = text (codes "     9980                10000" ∷ codes "cpu 0||" ∷ [])
+long_times_text = text_of_lines (codes "     9980                10000" ∷ codes "cpu 0||" ∷ [])

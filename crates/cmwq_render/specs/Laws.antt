@@ -11,16 +11,16 @@ abbrev pub covers : ℕ → Bar → Bool
 covers tick bar = nat_le bar.from tick && nat_lt tick bar.to
 
 -- what is to be seen of a cell: of an empty one nothing
-abbrev pub seen_of : Cell → List Cell
-seen_of Empty = []
-seen_of (Does sign) = Does sign ∷ []
-seen_of (Burner w) = Burner w ∷ []
-seen_of Acts = Acts ∷ []
+abbrev pub seen_cells : Cell → List Cell
+seen_cells Empty = []
+seen_cells (Does sign) = Does sign ∷ []
+seen_cells (Burner w) = Burner w ∷ []
+seen_cells Acts = Acts ∷ []
 
 -- over each tick stands one rectangle, which shows its cell, and none where the cell is empty, or behind the last one
 unfoldable pub CoversEachCellOnce : Type 0
 CoversEachCellOnce =
-    (cells : List Cell) (tick : ℕ) → map (λ bar. bar.cell) (filter (covers tick) (bars cells)) ≡ seen_of (slice_index_or cells tick Empty)
+    (cells : List Cell) (tick : ℕ) → map (λ bar. bar.cell) (filter (covers tick) (bars cells)) ≡ seen_cells (slice_index_or cells tick Empty)
 
 -- They stand from left to right, and where two touch they show different cells.
 abbrev pub Differs : Bar → List Bar → Type 0

@@ -1,6 +1,6 @@
 //! The SVG text of a picture.
 ghost use Rattle.cmwq_render.specs.Labels.{longest};
-ghost use Rattle.cmwq_render.specs.Bars.{bars, ended};
+ghost use Rattle.cmwq_render.specs.Bars.{bars, bar_ended};
 ghost use Rattle.cmwq_render.specs.Svg.{bar_svg, burner_name, key_svg, legend_svg, row_svg, rows_svg, svg_text, time_marks};
 ghost use Rattle.std.specs.List.{flat_map};
 ghost use Rattle.std.specs.Prelude.{◌≡◌, ◌≤◌, ◌^◌, ◌++◌, IfOk, IfSome, OnOk, string_bytes};
@@ -114,7 +114,7 @@ impl Frame<'_> {
     /// Writes the rectangle that has come to its end, if there is one, and the name of who burns.
     fn push_bar(&self, text: &mut String, row: usize, last: Option<Bar>) -> Result<(), NoMemory>
         requires { IfSome last (λ bar. bar.from ≤ bar.to) }
-        ensures { OnOk result (string_bytes text.new ≡ string_bytes text.old ++ flat_map (bar_svg self.now.scenario.now self.now.width row) (ended last)) }
+        ensures { OnOk result (string_bytes text.new ≡ string_bytes text.old ++ flat_map (bar_svg self.now.scenario.now self.now.width row) (bar_ended last)) }
     {
         let Some(bar) = last else {
             return Ok(());

@@ -7,5 +7,5 @@ use Rattle.cmwq_grammar.specs.declared.why.Why.{Why}
 use Rattle.cmwq_grammar.specs.declared.why.Why.TheVariants as why
 
 -- the reason, if some line begins with the word; else that none does
-unfoldable pub refusal : Why → List ℕ → Why
-refusal reason word = if list_any (bytes_eq word) first_words then reason else why.BadWord
+unfoldable pub refusal_of : Why → List ℕ → Why
+refusal_of reason word = if list_any (bytes_eq word) first_words then reason else why.BadWord

@@ -18,7 +18,7 @@ pub use line_fields::{
     take_number_within,
 };
 pub use line_tokens::{Token, Tokens, number_in, read_tokens};
-pub use misplaced::refusal;
+pub use misplaced::refusal_of;
 pub use naming::{Named, Names};
 pub use utf8::is_text;
 pub use words::{is_word, next_word};

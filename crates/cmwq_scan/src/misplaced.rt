@@ -1,5 +1,5 @@
 //! The reason against a line whose first word can't stand where it is.
-ghost use Rattle.cmwq_scan.specs.Refusals.{refusal};
+ghost use Rattle.cmwq_scan.specs.Refusals.{refusal_of};
 ghost use Rattle.cmwq_grammar.specs.Instructions.{first_words};
 ghost use Rattle.cmwq_types.specs.Mnemonics.{mnemonics, spelling};
 ghost use Rattle.std.specs.List.{list_any};
@@ -17,9 +17,9 @@ const OTHER_WORDS: [&[u8]; 10] = [
 ];
 
 /// The reason, if some line begins with the word; else that none does.
-#[tactic(auto, unfolding(crate::specs::Refusals::refusal))]
-pub fn refusal(reason: Why, word: &[u8]) -> Why
-    ensures { result ≡ refusal reason word.now }
+#[tactic(auto, unfolding(crate::specs::Refusals::refusal_of))]
+pub fn refusal_of(reason: Why, word: &[u8]) -> Why
+    ensures { result ≡ refusal_of reason word.now }
 {
     if begins_lines(word) {
         reason

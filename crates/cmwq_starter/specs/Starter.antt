@@ -5,7 +5,7 @@ use Rattle.cmwq_types.specs.Scenario.{plain_flags}
 use Rattle.cmwq_types.specs.declared.instr.Instr.TheVariants as instr
 use Rattle.cmwq_types.specs.declared.scenario.Op.TheVariants as op
 use Rattle.cmwq_examples.specs.Declare.{enqueue, queue, times, work}
-use Rattle.cmwq_examples.specs.Rows.{text}
+use Rattle.cmwq_types.specs.Listing.{text_of_lines}
 
 -- two works share a CPU
 abbrev pub first_scenario : ScenarioContents
@@ -25,6 +25,6 @@ first_scenario =
 -- the second has the CPU while the first sleeps
 abbrev pub first_lines : List ℕ
 first_lines =
-    text (
+    text_of_lines (
     codes "0 a starts" ∷ codes "0 a burns 3" ∷ codes "3 a sleeps 5" ∷ codes "3 b starts" ∷ codes "3 b burns 4" ∷
     codes "7 b finishes" ∷ codes "8 a wakes" ∷ codes "8 a burns 1" ∷ codes "9 a finishes" ∷ [])

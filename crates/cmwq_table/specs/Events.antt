@@ -21,6 +21,11 @@ use Rattle.cmwq_table.specs.Counts.{is_rescuer}
 use Rattle.cmwq_table.specs.State.{State, start}
 use Rattle.cmwq_table.specs.Table.{table}
 
+-- the reply refuses its instruction
+abbrev pub is_refusal : Reply → Bool
+is_refusal (reply.Refused why) = true
+is_refusal other = false
+
 abbrev pub work_name : ScenarioContents → WorkId → List ℕ
 work_name S work = (work_at S work.0).name
 
@@ -81,8 +86,8 @@ refusal_text refusal.AlreadyPressed = codes "AlreadyPressed"
 refusal_text refusal.NotPressed = codes "NotPressed"
 
 -- a line that begins with the time
-abbrev pub line_at : ℕ → List ℕ → List ℕ
-line_at now text = decimal now ++ codes " " ++ text ++ 10 ∷ []
+abbrev pub event_line_at : ℕ → List ℕ → List ℕ
+event_line_at now text = decimal now ++ codes " " ++ text ++ 10 ∷ []
 
 -- where a work waits
 abbrev pub place_text : Option Place → List ℕ
@@ -153,7 +158,7 @@ reply_words S asked (reply.Refused why) = codes "refused " ++ refusal_text why
 
 -- the line of a reply at a time, to an instruction
 unfoldable pub reply_line : ScenarioContents → ℕ → Instr → Reply → List ℕ
-reply_line S now asked reply = if is_silent reply then [] else line_at now (reply_words S asked reply)
+reply_line S now asked reply = if is_silent reply then [] else event_line_at now (reply_words S asked reply)
 
 abbrev pub told : ScenarioContents → Instr → State × Reply → List ℕ
 told S asked after = reply_line S after.0.time asked after.1

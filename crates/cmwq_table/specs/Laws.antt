@@ -127,18 +127,18 @@ PendsSince test s w born = (p : Pending) × (pending_at s w ≡ Some p) × (test
 abbrev pub RunsSince : State → ℕ → ℕ → Type 0
 RunsSince s w born = (r : Running) × (running_at s w ≡ Some r) × (r.born ≡ born)
 
-abbrev pub is_waiting : Place → Bool
-is_waiting (Inactive at) = true
-is_waiting (Timer due cpu) = false
-is_waiting (Listed at) = false
-is_waiting (Deferred at) = false
+abbrev pub waits_for_room : Place → Bool
+waits_for_room (Inactive at) = true
+waits_for_room (Timer due cpu) = false
+waits_for_room (Listed at) = false
+waits_for_room (Deferred at) = false
 
 -- listed, deferred or running
 abbrev pub ActiveSince : State → ℕ → ℕ → Type 0
 ActiveSince s w born = PendsSince is_activated s w born ⊎ RunsSince s w born
 
 abbrev pub InactiveSince : State → ℕ → ℕ → Type 0
-InactiveSince s w born = PendsSince is_waiting s w born
+InactiveSince s w born = PendsSince waits_for_room s w born
 
 -- inactive, listed, deferred or running
 abbrev pub HasInstance : State → ℕ → ℕ → Type 0

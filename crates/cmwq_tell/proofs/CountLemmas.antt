@@ -7,7 +7,7 @@ use Rattle.cmwq_types.specs.First.{count_below}
 use Rattle.cmwq_types.specs.declared.instr.WorkId.{WorkId}
 use Rattle.cmwq_types.specs.declared.reply.Place.{Place}
 use Rattle.cmwq_types.specs.declared.reply.Place.TheVariants.{Timer, Inactive, Listed, Deferred}
-use Rattle.cmwq_table.specs.Laws.{AtEveryInstruction, is_waiting, state_after}
+use Rattle.cmwq_table.specs.Laws.{AtEveryInstruction, waits_for_room, state_after}
 use Rattle.cmwq_table.specs.State.{State, pending_at}
 use Rattle.cmwq_table.specs.View.{entries_from}
 use Rattle.cmwq_table.specs.declared.state.Pending.{Pending}
@@ -95,7 +95,7 @@ and-false : (a b : Bool) → b ≡ false → (a && b) ≡ false
 and-false true b e = e
 and-false false b e = refl
 
-not-both : (place : Place) (b : Bool) → (is_waiting place && is_on_list place && b) ≡ false
+not-both : (place : Place) (b : Bool) → (waits_for_room place && is_on_list place && b) ≡ false
 not-both (Inactive pool) b = refl
 not-both (Timer due cpu) b = refl
 not-both (Listed pool) b = refl
@@ -112,9 +112,9 @@ fresh-not next None q below h = refl
 fresh-not next (Some p) q below h =
     let born : p.born < next = below.0 in
     let apart : (q.born == p.born) ≡ false = grind (arith, nat_tests) in
-    and-false (is_waiting p.place && is_on_list q.place) (q.born == p.born) apart
+    and-false (waits_for_room p.place && is_on_list q.place) (q.born == p.born) apart
 
-waits : (place : Place) (pool : ℕ) → place ≡ Inactive pool → is_waiting place ≡ true
+waits : (place : Place) (pool : ℕ) → place ≡ Inactive pool → waits_for_room place ≡ true
 waits (Inactive at) pool e = refl
 waits (Timer due cpu) pool e = cc
 waits (Listed at) pool e = cc
@@ -138,7 +138,7 @@ activation a b o q below (Becomes.gone _) = none refl (gone-not o)
 activation a b o q below (Becomes.fresh _ p x y z w) = none (newborn true false a p z x) (fresh-not a o p below x)
 activation a b o q below (Becomes.activated p stamp pool is x y) =
     let same : (p.born == p.born) ≡ true = grind (arith, nat_tests) in
-    one (moved-up true false a (record { born = p.born; stamp = stamp; place = Listed pool }) x below.0) (all-three (is_waiting p.place) (p.born == p.born) (waits p.place pool is) same)
+    one (moved-up true false a (record { born = p.born; stamp = stamp; place = Listed pool }) x below.0) (all-three (waits_for_room p.place) (p.born == p.born) (waits p.place pool is) same)
 
 stays-place : (next : ℕ) (o : Option Pending) → IsBelow next o → weight false true next o ≡ cond (is_born next o) 1 0
 stays-place next (Some p) below =
@@ -173,7 +173,7 @@ deferred-tells h g s t w v p q set is each here = at (set_cases s.pending w v (S
       subst (λ (o : Option Pending). h o ≡ cond (g (pending_at s v) o) 1 0) (sym (ap (λ (pending : List (Option Pending)). slice_index_or pending v None) set ∙ there.1))
       (subst (λ (o : Option Pending). h (Some q) ≡ cond (g o (Some q)) 1 0) (sym was) here)
 
-deferred-not : (place : Place) (pool : ℕ) (b : Bool) → (is_waiting place && is_on_list (Deferred pool) && b) ≡ false
+deferred-not : (place : Place) (pool : ℕ) (b : Bool) → (waits_for_room place && is_on_list (Deferred pool) && b) ≡ false
 deferred-not (Inactive at) pool b = refl
 deferred-not (Timer due cpu) pool b = refl
 deferred-not (Listed at) pool b = refl

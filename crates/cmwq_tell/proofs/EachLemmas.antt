@@ -5,7 +5,7 @@ use Rattle.std.specs.Prelude.{◌==◌, nat_lt, slice_index_or}
 use Rattle.cmwq_types.specs.declared.instr.WorkId.{WorkId}
 use Rattle.cmwq_types.specs.declared.reply.Place.{Place}
 use Rattle.cmwq_types.specs.declared.reply.Place.TheVariants.{Timer, Inactive, Listed, Deferred}
-use Rattle.cmwq_table.specs.Laws.{AtEveryInstruction, is_waiting, state_after}
+use Rattle.cmwq_table.specs.Laws.{AtEveryInstruction, waits_for_room, state_after}
 use Rattle.cmwq_table.specs.State.{State, pending_at}
 use Rattle.cmwq_table.specs.Table.{run}
 use Rattle.cmwq_table.specs.View.{entries_from}
@@ -126,7 +126,7 @@ activating-own : (w : ℕ) (test : ℕ → Bool) (next : ℕ) (o q : Option Pend
     → told_of (tells_activating w test) next w q ≡ cond {A = ℕ} (is_activation_in test o q) 1 0
 activating-own w test next (Some p) (Some q) e =
     activating-if w test q.place (nat_lt q.stamp next) (nat_lt q.born next) (is_activation (Some p) (Some q)) e
-    ∙ ap (λ (b : Bool). cond {A = ℕ} b 1 0) (listed-where test (is_waiting p.place) (q.born == p.born) q.place)
+    ∙ ap (λ (b : Bool). cond {A = ℕ} b 1 0) (listed-where test (waits_for_room p.place) (q.born == p.born) q.place)
 activating-own w test next None (Some q) e = activating-if w test q.place (nat_lt q.stamp next) (nat_lt q.born next) false e
 activating-own w test next o None e = ap (λ (b : Bool). cond {A = ℕ} b 1 0) (sym (activation-none test o))
 

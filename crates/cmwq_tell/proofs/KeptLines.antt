@@ -10,7 +10,7 @@ use Rattle.cmwq_types.specs.Values.{IsScenario}
 use Rattle.cmwq_types.specs.declared.instr.Instr.{Instr}
 use Rattle.cmwq_types.specs.declared.instr.Instr.TheVariants as instr
 use Rattle.cmwq_types.specs.declared.reply.Reply.{Reply}
-use Rattle.cmwq_table.specs.Events.{events, events_from, is_silent, line_at, reply_line, reply_words, told}
+use Rattle.cmwq_table.specs.Events.{events, events_from, is_silent, event_line_at, reply_line, reply_words, told}
 use Rattle.cmwq_table.specs.State.{State, start}
 use Rattle.cmwq_table.specs.Table.{table}
 use Rattle.cmwq_grammar.specs.Cutting.{lines_of}
@@ -75,7 +75,7 @@ first-glyph (x ∷ xs) ys all = glyph-unmarked x (head-passes (is_glyph x) (list
 said-unmarked : (S : ScenarioContents) (now : ℕ) (asked : Instr) (r : Reply) → is_marked (said S now asked r) ≡ false
 said-unmarked S now asked r = first-glyph (decimal now) (reply_words S asked r) (glyphs now)
 
-line_at-is : (S : ScenarioContents) (now : ℕ) (asked : Instr) (r : Reply) → line_at now (reply_words S asked r) ≡ said S now asked r ++ 10 ∷ []
+line_at-is : (S : ScenarioContents) (now : ℕ) (asked : Instr) (r : Reply) → event_line_at now (reply_words S asked r) ≡ said S now asked r ++ 10 ∷ []
 line_at-is S now asked r = refl
 
 -- What is told of one instruction, and what follows it.
@@ -97,7 +97,7 @@ module _ (S : ScenarioContents) (scenario : IsScenario S) where
   plain line = not (is_marked line)
 
   plain-reply : (now : ℕ) (i : Instr) (r : Reply) (b : Bool) (rest : List ℕ)
-      → from_lines (kept plain (cond b [] (line_at now (reply_words S i r)) ++ rest)) ≡ cond b [] (line_at now (reply_words S i r)) ++ from_lines (kept plain rest)
+      → from_lines (kept plain (cond b [] (event_line_at now (reply_words S i r)) ++ rest)) ≡ cond b [] (event_line_at now (reply_words S i r)) ++ from_lines (kept plain rest)
   plain-reply now i r true rest = refl
   plain-reply now i r false rest =
       let line = said S now i r in
@@ -128,7 +128,7 @@ module _ (S : ScenarioContents) (scenario : IsScenario S) where
   instr-passes (instr.Queue w cpu) = refl
   instr-passes _ = refl
 
-  instr-reply : (now : ℕ) (i : Instr) (r : Reply) (b : Bool) (rest : List ℕ) → kept is_instr_line (cond b [] (line_at now (reply_words S i r)) ++ rest) ≡ kept is_instr_line rest
+  instr-reply : (now : ℕ) (i : Instr) (r : Reply) (b : Bool) (rest : List ℕ) → kept is_instr_line (cond b [] (event_line_at now (reply_words S i r)) ++ rest) ≡ kept is_instr_line rest
   instr-reply now i r true rest = refl
   instr-reply now i r false rest =
       let line = said S now i r in

@@ -6,7 +6,7 @@ use Rattle.cmwq_types.specs.Scenario.{expand, plain_flags}
 use Rattle.cmwq_types.specs.declared.instr.Instr.TheVariants as instr
 use Rattle.cmwq_types.specs.declared.scenario.Op.TheVariants as op
 use Rattle.cmwq_examples.specs.Declare.{queue, work, freezable, mem_reclaim, queues, enqueue, delay, cancel, disable, flush, flush_queue, times, scenario}
-use Rattle.cmwq_examples.specs.Rows.{text}
+use Rattle.cmwq_types.specs.Listing.{text_of_lines}
 use Rattle.cmwq_tell.specs.RunTold.{tell_text}
 
 -- all that is told of the scenario's actors, one after another; here each scenario has one
@@ -25,7 +25,7 @@ outside_scenario =
 -- y starts on its rescuer, x after the relief, and the thaw activates z
 abbrev pub outside_told : List ℕ
 outside_told =
-    text (
+    text_of_lines (
     codes "# pressure" ∷ codes "# freeze" ∷ codes "# queue x 0" ∷ codes "#   x listed 0" ∷ codes "# queue y 0" ∷
     codes "#   y listed 0" ∷ codes "# queue z 0" ∷ codes "#   z inactive 0" ∷ codes "# flush x" ∷ codes "0 flush 0" ∷
     codes "# flush_queue f" ∷ codes "0 flush 1" ∷ codes "# next" ∷ codes "0 y starts on rescuer" ∷ codes "# next" ∷
@@ -46,7 +46,7 @@ again_scenario =
 -- what finishes lets in the one that waits, a delay sets a timer, and what the timer places has no room
 abbrev pub again_told : List ℕ
 again_told =
-    text (
+    text_of_lines (
     codes "# queue a 0" ∷ codes "#   a listed 0" ∷ codes "# next" ∷ codes "0 a starts" ∷ codes "# next" ∷
     codes "0 a queues a" ∷ codes "#   a listed 0" ∷ codes "# queue b 0" ∷ codes "#   b inactive 0" ∷
     codes "# flush a" ∷ codes "0 flush 0" ∷ codes "# next" ∷ codes "0 a sleeps 2" ∷ codes "# next" ∷

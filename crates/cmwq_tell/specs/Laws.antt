@@ -10,7 +10,7 @@ use Rattle.cmwq_types.specs.declared.reply.Place.{Place}
 use Rattle.cmwq_types.specs.declared.reply.Place.TheVariants.{Timer, Inactive, Listed, Deferred}
 use Rattle.cmwq_types.specs.declared.reply.Refusal.{Refusal}
 use Rattle.cmwq_types.specs.declared.reply.Reply.TheVariants as reply
-use Rattle.cmwq_table.specs.Laws.{is_waiting, reply_to, state_after}
+use Rattle.cmwq_table.specs.Laws.{waits_for_room, reply_to, state_after}
 use Rattle.cmwq_table.specs.State.{State, pending_at}
 use Rattle.cmwq_table.specs.Table.{is_question}
 use Rattle.cmwq_grammar.specs.Cutting.{lines_of}
@@ -62,7 +62,7 @@ is_on_list (Deferred at) = false
 
 -- what was inactive before is listed now, and has its birth still
 abbrev pub is_activation : (before now : Option Pending) → Bool
-is_activation (Some p) (Some q) = is_waiting p.place && is_on_list q.place && (q.born == p.born)
+is_activation (Some p) (Some q) = waits_for_room p.place && is_on_list q.place && (q.born == p.born)
 is_activation (Some p) None = false
 is_activation None now = false
 
@@ -116,7 +116,7 @@ is_listed_where test (Deferred at) = false
 
 -- what was inactive before is listed now, in a pool whose test is met, and has its birth still
 abbrev pub is_activation_in : (ℕ → Bool) → (before now : Option Pending) → Bool
-is_activation_in test (Some p) (Some q) = is_waiting p.place && is_listed_where test q.place && (q.born == p.born)
+is_activation_in test (Some p) (Some q) = waits_for_room p.place && is_listed_where test q.place && (q.born == p.born)
 is_activation_in test (Some p) None = false
 is_activation_in test None now = false
 

@@ -5,7 +5,7 @@ ghost use Rattle.std.specs.Prelude.{◌≡◌, ℕ, ◌+◌, ◌*◌, ◌<◌, �
 
 use crate::rank::Rank;
 use crate::timer::Timer;
-use cmwq_types::{NoMemory, WorkId};
+use cmwq_types::{NoMemory, WorkId, filled};
 use std::alloc::Global;
 use std::marker::Model;
 
@@ -107,15 +107,6 @@ impl Timers {
     {
         *self.timers.get(usize::from(work.0))?
     }
-}
-
-/// A vector with one value at each of so many places.
-fn filled<T: Copy>(alloc: Global, value: T, len: usize) -> Result<Vec<T>, NoMemory>
-    ensures { IfOk result (λ v. v.items ≡ replicate len value) }
-{
-    let mut v = Vec::with_capacity(alloc, len)?;
-    v.resize(len, value)?;
-    Ok(v)
 }
 
 /// Gives a work another timer, or none.

@@ -86,6 +86,10 @@ written S =
 -- The canonical text of a line: one space between words, flags in the order of `Flags`, and `* N` only
 -- where N isn't 1.
 
+-- a text of these lines
+abbrev pub text_of_lines : List (List ℕ) → List ℕ
+text_of_lines lines = flat_map (λ line. line ++ 10 ∷ []) lines
+
 -- the words with a space between them, and a line feed
 abbrev pub line_text : List (List ℕ) → List ℕ
 line_text words = join_with_byte 32 words ++ 10 ∷ []

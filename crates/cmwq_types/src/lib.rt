@@ -25,7 +25,7 @@ pub use limits::{
     MAX_OPS, MAX_PASSES, MAX_QUEUES, MAX_STEPS, MAX_TEXT, MAX_TICKETS, MAX_TICKS, MAX_TIMES,
     MAX_WORKERS, MAX_WORKS, RESCUER,
 };
-pub use memory::NoMemory;
+pub use memory::{NoMemory, filled};
 pub use mnemonic::Mnemonic;
 pub use moves::Move;
 pub use name::Name;

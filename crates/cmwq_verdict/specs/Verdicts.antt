@@ -45,8 +45,8 @@ fault_line look file fault place =
 abbrev pub ok_line : List ℕ → List ℕ
 ok_line file = file ++ codes ": ok" ++ 10 ∷ []
 
-abbrev pub read_line : List ℕ → List ℕ
-read_line file = file ++ codes ": read" ++ 10 ∷ []
+abbrev pub unread_line : List ℕ → List ℕ
+unread_line file = file ++ codes ": read" ++ 10 ∷ []
 
 -- this is said of the text of a file: nothing where it spells a scenario, and else its first fault, where that is seen, and what may
 -- stand there

@@ -12,4 +12,4 @@ pub use first_words::FirstWord;
 pub use looks::Look;
 pub use offers::next_words;
 pub use reason_names::{fault_name, why_name};
-pub use verdicts::{ok_line, read_line, verdict};
+pub use verdicts::{ok_line, unread_line, verdict};

@@ -1,6 +1,6 @@
 //! What is said of a text.
 ghost use Rattle.cmwq_grammar.specs.Meaning.{fault_at};
-ghost use Rattle.cmwq_verdict.specs.Verdicts.{IsVerdict, column_of_place, fault_line, ok_line, read_line, shown, subject_of, visible};
+ghost use Rattle.cmwq_verdict.specs.Verdicts.{IsVerdict, column_of_place, fault_line, ok_line, unread_line, shown, subject_of, visible};
 ghost use Rattle.std.specs.Prelude.{◌≡◌, ◌++◌, IfOk, OnOk, option_map};
 
 use crate::looks::{Look, front_of, push_pointer, push_why};
@@ -50,8 +50,8 @@ pub fn ok_line(alloc: Global, file: &str) -> Result<Vec<u8>, NoMemory>
 }
 
 /// `FILE: read`, which is said of a file that can't be read. It fails only for want of memory.
-pub fn read_line(alloc: Global, file: &str) -> Result<Vec<u8>, NoMemory>
-    ensures { IfOk result (λ line. line.items ≡ read_line file.now) }
+pub fn unread_line(alloc: Global, file: &str) -> Result<Vec<u8>, NoMemory>
+    ensures { IfOk result (λ line. line.items ≡ unread_line file.now) }
 {
     Ok(format!(in alloc; "{file}: read\n")?.into_bytes())
 }

@@ -11,7 +11,7 @@ use Rattle.cmwq_table.specs.declared.state.Pending.{Pending}
 use Rattle.cmwq_table.specs.declared.state.Running.{Running}
 use Rattle.cmwq_table.specs.State.{State, pending_at, running_at, max_at, target}
 use Rattle.cmwq_table.specs.Counts.{active, limit, is_activated, is_active, is_inactive, pends, runs}
-use Rattle.cmwq_table.specs.Laws.{ActiveSince, InactiveSince, active_anywhere, is_waiting}
+use Rattle.cmwq_table.specs.Laws.{ActiveSince, InactiveSince, active_anywhere, waits_for_room}
 use Rattle.cmwq_table.proofs.LawLemmas.Changes.{IsOwnPool, Follows}
 use Rattle.cmwq_table.proofs.LawLemmas.Counting.{count_below-same}
 use Rattle.cmwq_table.proofs.LawLemmas.Levels.{Follows-active}
@@ -89,7 +89,7 @@ at-most-one S s queue sound one ordered =
 
 -- its active and its inactive instances are those of that pool
 
-waiting-there : (place : Place) (pool : ℕ) → ((at : ℕ) → place ≡ Inactive at → at ≡ pool) → is_waiting place ≡ is_inactive place pool
+waiting-there : (place : Place) (pool : ℕ) → ((at : ℕ) → place ≡ Inactive at → at ≡ pool) → waits_for_room place ≡ is_inactive place pool
 waiting-there (Inactive at) pool inactive = sym (eq-eqb at pool (inactive at refl))
 waiting-there (Timer due cpu) pool inactive = refl
 waiting-there (Listed at) pool inactive = refl
@@ -110,7 +110,7 @@ module _ (S : ScenarioContents) (s : State) (v queue born : ℕ) (sound : IsSoun
   pub inactive-there : InactiveSince s v born → HasInactiveAt (target S queue 0) (pending_at s v) born
   inactive-there pending =
       let fits = pending-fits pending.0 pending.1 in
-      let same : is_waiting pending.0.place ≡ is_inactive pending.0.place (target S queue 0) =
+      let same : waits_for_room pending.0.place ≡ is_inactive pending.0.place (target S queue 0) =
       waiting-there pending.0.place (target S queue 0)
       (λ at e. ordered-pool S v queue at ordered of_queue (subst (λ (y : Place). StandsWithRun S v (running_at s v) y) e fits.stands).0) in
       subst (λ (o : Option Pending). HasInactiveAt (target S queue 0) o born) (sym pending.1) (sym same ∙ pending.2, pending.3)

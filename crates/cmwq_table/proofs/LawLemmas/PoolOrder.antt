@@ -11,7 +11,7 @@ use Rattle.cmwq_table.specs.declared.state.Pending.{Pending}
 use Rattle.cmwq_table.specs.declared.state.Running.{Running}
 use Rattle.cmwq_table.specs.State.{State, pending_at, running_at}
 use Rattle.cmwq_table.specs.Counts.{active, limit, has_room, is_active, is_inactive, pends, pending_before, pending_stamp}
-use Rattle.cmwq_table.specs.Laws.{is_waiting}
+use Rattle.cmwq_table.specs.Laws.{waits_for_room}
 use Rattle.cmwq_table.specs.Moves.{fill}
 use Rattle.cmwq_table.proofs.LawLemmas.Changes.{Kind, Change, Follows}
 use Rattle.cmwq_table.proofs.LawLemmas.Fills.{first-is_first, waits, waits-in_range}
@@ -65,7 +65,7 @@ waits-in : (pool later : ℕ) (o : Option Pending) → HasInactiveAt pool o late
 waits-in pool later (Some p) inactive = inactive.0
 waits-in pool later None inactive = absurd inactive
 
-waits-somewhere : (place : Place) (pool : ℕ) → is_inactive place pool ≡ true → is_waiting place ≡ true
+waits-somewhere : (place : Place) (pool : ℕ) → is_inactive place pool ≡ true → waits_for_room place ≡ true
 waits-somewhere (Inactive at) pool e = refl
 waits-somewhere (Timer due cpu) pool e = cc
 waits-somewhere (Listed at) pool e = cc

@@ -14,7 +14,7 @@ use Rattle.cmwq_table.specs.State.{State, pending_at, running_at, made_at, max_a
 use Rattle.cmwq_table.specs.Counts.{is_deferred, pends}
 use Rattle.cmwq_table.specs.Moves.{fill}
 use Rattle.cmwq_table.specs.Table.{target_at}
-use Rattle.cmwq_table.specs.Laws.{is_waiting}
+use Rattle.cmwq_table.specs.Laws.{waits_for_room}
 use Rattle.cmwq_table.specs.Ready.{IsPlaceReady}
 use Rattle.cmwq_table.proofs.LawLemmas.Changes.{IsLong, IsOwnPool, IsPoolOf, RunsIn, Kind, Change, Follows}
 
@@ -28,7 +28,7 @@ StandsWithRun S w r (Deferred pool) = IsOwnPool S w pool × RunsIn r pool × (is
 -- births lie below the next stamp, and an inactive work's stamp is its birth
 pub record FitsPending (S : ScenarioContents) (next w : ℕ) (r : Option Running) (p : Pending) : Type 0 where
   pub born : p.born < next
-  pub stamp : is_waiting p.place ≡ true → p.stamp ≡ p.born
+  pub stamp : waits_for_room p.place ≡ true → p.stamp ≡ p.born
   pub place : IsPlaceReady S p.place
   pub stands : StandsWithRun S w r p.place
 

@@ -1,7 +1,7 @@
 use Rattle.std.proofs.Common.{◌≡◌, ◌-◌, ◌∙◌, ℕ, List, ap, map, take}
 use Rattle.cmwq_grammar.specs.Cutting.{lines_of}
 use Rattle.cmwq_grammar.specs.Meaning.{fault_at, stage_after}
-use Rattle.cmwq_grammar.specs.Offers.{next_of, words_of_next}
+use Rattle.cmwq_grammar.specs.Offers.{next_offered, words_of_next}
 use Rattle.cmwq_grammar.specs.Stages.{Start}
 use Rattle.cmwq_verdict.specs.OfferLines.{spelled}
 use Rattle.cmwq_verdict.proofs.FrontLemmas.{front_lines, next_is, not_told, ok_with, reached}
@@ -13,7 +13,7 @@ unreachable-requires c =
     let at = reached text (fault_at c.args.line c.requires.fault.0) c.requires.line c.requires.fault.1 in
     let front = ap lines_of (c.split_at.ensures.front ∙ ap (λ (n : ℕ). take n text) c.line_start-start.ensures.start) ∙ front_lines (c.args.line - 1) text in
     let read = ap (λ (ls : List (List ℕ)). stage_after 1 ls Start) front ∙ at.is in
-    not_told c.next_after.result (next_of at.stage) c.in-Err-At.field-0 c.in-Err-At.field-0-0 c.in-Err-At.field-0-1 (c.next_after.ensures at.stage read) c.in-Err-At.is c.in-Err-At.field-0-is
+    not_told c.next_after.result (next_offered at.stage) c.in-Err-At.field-0 c.in-Err-At.field-0-0 c.in-Err-At.field-0-1 (c.next_after.ensures at.stage read) c.in-Err-At.is c.in-Err-At.field-0-is
 
 pub returns-in-Ok : goal.returns-in-Ok
 returns-in-Ok c =
@@ -21,5 +21,5 @@ returns-in-Ok c =
     let at = reached text (fault_at c.args.line c.requires.fault.0) c.requires.line c.requires.fault.1 in
     let front = ap lines_of (c.split_at.ensures.front ∙ ap (λ (n : ℕ). take n text) c.line_start-start.ensures.start) ∙ front_lines (c.args.line - 1) text in
     let read = ap (λ (ls : List (List ℕ)). stage_after 1 ls Start) front ∙ at.is in
-    let next = next_is c.next_after.result (next_of at.stage) c.in-Ok.next (c.next_after.ensures at.stage read) c.in-Ok.is in
+    let next = next_is c.next_after.result (next_offered at.stage) c.in-Ok.next (c.next_after.ensures at.stage read) c.in-Ok.is in
     ok_with (λ words. map spelled words.items ≡ words_of_next c.in-Ok.next) _ c.words_of.result c.words_of.ensures (λ words spells. (c.in-Ok.next, (at.stage, at.is, next), spells))

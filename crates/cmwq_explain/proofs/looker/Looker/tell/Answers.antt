@@ -7,7 +7,7 @@ use Rattle.cmwq_streams.specs.Sending.{HasSent, HasSentFront}
 use Rattle.cmwq_play.specs.Session.{Issued, Stopped}
 use Rattle.cmwq_play.specs.Telling.{kept_from, told_from}
 use Rattle.cmwq_play.proofs.CommandLemmas.{writes_block, writes_front}
-use Rattle.cmwq_explain.specs.Looking.{keeping, looked, telling, told_here}
+use Rattle.cmwq_explain.specs.Looking.{keeping, looker_after, telling, told_here}
 use Rattle.cmwq_explain.proofs.LookingLemmas.{alike, stopped_more, then_issued, then_stopped}
 use Rattle.cmwq_explain.proofs.looker.Looker.tell.Goals as goal
 
@@ -106,4 +106,4 @@ returns-clause-told g c =
     let keeper = kept_from (telling says) (keeping says) c.args.self.now S s instrs in
     let issued = c.in_ok-issue_all.ensures.told in
     ap (λ l. l.has_told) c.in_ok-look.ensures.looked
-    ∙ alike (λ l T t. (looked says l T true t).has_told) c.issue_all.new.teller keeper b.scenario.now S (g.M.Reads.state b.machine) (after_all S s instrs) c.in_ok-issue_all.ensures.keeps issued.scenario issued.reached
+    ∙ alike (λ l T t. (looker_after says l T true t).has_told) c.issue_all.new.teller keeper b.scenario.now S (g.M.Reads.state b.machine) (after_all S s instrs) c.in_ok-issue_all.ensures.keeps issued.scenario issued.reached
