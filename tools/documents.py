@@ -19,7 +19,7 @@ PROMISES = [
     ("`cmwq run`", [("cmwq_play/src/running.rt", "run")]),
     ("`cmwq asm`", [("cmwq_play/src/images.rt", "to_image")]),
     ("`cmwq debug`", [("cmwq_debug_session/src/debugging.rt", "debug")]),
-    ("`cmwq play`", [("cmwq_played/src/playing.rt", "play")]),
+    ("`cmwq play`", [("cmwq_interleaving/src/playing.rt", "play")]),
     ("the lock", [("cmwq_lock/src/lock.rt", "")]),
 ]
 BEGINS = re.compile(r"^\s*(?:(?:abbrev|unfoldable|opaque|pub)\s+)*(?:record\s+|data\s+)?([^\s:(){},]+)\s*(?:[({].*)?:(?:\s|$)")
