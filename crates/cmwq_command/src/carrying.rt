@@ -7,7 +7,7 @@ ghost use Rattle.cmwq_request.specs.Request.{IsCapacity, IsVersionWord, IsWithin
 ghost use Rattle.cmwq_outcome.specs.declared.telling.TheConstants.{GOOD};
 ghost use Rattle.std.specs.Prelude.{◌≡◌, ◌∷◌, [], Err, IfOk, MatchResult, Ok, OnOk, false, map, string_bytes};
 
-use crate::do_task::do_task;
+use crate::tasks_done::do_task;
 use cmwq_actors::OpenGate;
 use cmwq_outcome::{GOOD, Judged, Look, check_text, tell, tell_unread, write_first, write_version};
 use cmwq_play::{Marked, PlayError, Sink};

@@ -2,7 +2,7 @@
 #![tactic(auto)]
 
 mod carrying;
-mod do_task;
+mod tasks_done;
 
 pub use carrying::{ProgramSetting, answer_request, carry_out};
-pub use do_task::do_task;
+pub use tasks_done::do_task;

@@ -1,3 +1,4 @@
+pub mod Corners
 pub mod Declare
 pub mod FinerRules
 pub mod Premises

@@ -2,7 +2,7 @@
 ghost use Rattle.cmwq_flush_waits.specs.FlushText.{flush_lines};
 ghost use Rattle.std.specs.Prelude.{◌≡◌, IfOk, MatchOption, None, Some, string_bytes};
 
-use crate::flush_text::flush_waits_lines;
+use crate::telling_flushes::flush_waits_lines;
 use cmwq_table::Reads;
 use cmwq_types::NoMemory;
 use cmwq_why::waits;

@@ -2,9 +2,9 @@
 #![tactic(auto)]
 
 mod flush;
-mod flush_text;
 pub mod laws;
 mod needs;
 mod reaching;
+mod telling_flushes;
 
 pub use flush::flush_text;

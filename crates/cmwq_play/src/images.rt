@@ -9,7 +9,7 @@ ghost use Rattle.cmwq_types.specs.Faults.{IsValid};
 ghost use Rattle.std.specs.Io.KnownBytes.{Keeps};
 ghost use Rattle.std.specs.Prelude.{◌≡◌, ◌≢◌, Err, IfErr, IfOk, Some, false};
 
-use crate::list_text::write_listing;
+use crate::listing_text::write_listing;
 use crate::reading::{read_text, read_whole};
 use cmwq_image::laws::{far_bytes_change_no_reading, image_is_at_most_923058_bytes};
 use cmwq_image::{read, write};

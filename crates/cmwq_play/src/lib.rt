@@ -2,7 +2,7 @@
 #![tactic(auto)]
 
 mod images;
-mod list_text;
+mod listing_text;
 mod reading;
 mod replies;
 mod running;
@@ -11,7 +11,7 @@ mod teller;
 
 pub use cmwq_streams::{BlockWriter, Marked, PlayError, Sink, Source, put_all};
 pub use images::{from_image, to_image};
-pub use list_text::{list_text, write_listing};
+pub use listing_text::{list_text, write_listing};
 pub use reading::{empty_chunk, read_some, read_text, read_whole};
 pub use running::{judge, print_actor, run, tell_run};
 pub use session::Session;

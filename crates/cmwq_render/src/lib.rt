@@ -10,9 +10,9 @@ pub mod laws;
 mod layout;
 mod legend;
 mod shapes;
-mod sketch;
+mod sketching;
 mod style;
 mod times;
 
 pub use document::svg;
-pub use sketch::sketch;
+pub use sketching::sketch;
