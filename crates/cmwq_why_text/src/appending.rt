@@ -11,7 +11,7 @@ use cmwq_reads::{active, is_spent, limit};
 use cmwq_reasons::{Instance, Reason, Turn};
 use cmwq_table::Reads;
 use cmwq_types::{NoMemory, WorkId};
-use cmwq_why::{Group, group_works, holders, on_workers, pending_reason, running_reason};
+use cmwq_why::{ReasonGroup, group_works, holders, on_workers, pending_reason, running_reason};
 
 impl<R: Reads> Wording<'_, R> {
     /// Writes why the work isn't further: what runs of it and what pends of it, and whether the scenario's steps are spent.
@@ -133,7 +133,7 @@ impl<R: Reads> Wording<'_, R> {
         ensures { OnOk result (string_bytes text.new ≡ string_bytes text.old ++ listed_text (R.loaded self.now.machine.now) (R.state self.now.machine.now) w.0 pool) }
     {
         let work = w.0 as usize;
-        let before = group_works(self.alloc, self.machine, Group::ListedBefore { pool, work })?;
+        let before = group_works(self.alloc, self.machine, ReasonGroup::ListedBefore { pool, work })?;
         write!(text, "listed {pool}")?;
         self.push_ahead(text, &before)?;
         text.push_str(": ")?;
@@ -148,7 +148,7 @@ impl<R: Reads> Wording<'_, R> {
         let before = group_works(
             self.alloc,
             self.machine,
-            Group::InactiveBefore { pool, work },
+            ReasonGroup::InactiveBefore { pool, work },
         )?;
         write!(text, "inactive {pool}")?;
         self.push_ahead(text, &before)?;
@@ -173,7 +173,7 @@ impl<R: Reads> Wording<'_, R> {
     fn push_held(&self, text: &mut String, w: WorkId, pool: u8) -> Result<(), NoMemory>
         ensures { OnOk result (string_bytes text.new ≡ string_bytes text.old ++ listed_text (R.loaded self.now.machine.now) (R.state self.now.machine.now) w.0 pool ++ codes "held by" ++ flat_map (spaced_name (R.loaded self.now.machine.now)) (counted_works (R.loaded self.now.machine.now) (R.state self.now.machine.now) pool)) }
     {
-        let counted = group_works(self.alloc, self.machine, Group::Counted(pool))?;
+        let counted = group_works(self.alloc, self.machine, ReasonGroup::Counted(pool))?;
         self.push_listed(text, w, pool)?;
         text.push_str("held by")?;
         self.push_names(text, &counted)
