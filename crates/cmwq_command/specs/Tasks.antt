@@ -7,7 +7,7 @@ use Rattle.cmwq_tasks.specs.declared.task.Task.TheVariants.{Run, Settle, List as
 use Rattle.cmwq_draw.specs.Drawn.{IsDrawFault, IsDrawnText}
 use Rattle.cmwq_explain.specs.Explained.{IsAnswer, IsUnanswered, said_to}
 use Rattle.cmwq_play.specs.Images.{IsImageFault, IsShown}
-use Rattle.cmwq_play.specs.PlayTexts.{ComesTo, IsTaskFault as IsTextFaultOf, IsOutput, IsRun, IsRunFault, IsTextFault}
+use Rattle.cmwq_play.specs.PlayTexts.{ComesTo, IsFaultOf as IsTextFaultOf, IsOutput, IsRun, IsRunFault, IsTextFault}
 use Rattle.cmwq_settle.specs.Settling.{IsFollowedRun, IsSettledRun, IsSettledText, IsUnsettledRun, IsUnsettledText}
 use Rattle.cmwq_streams.specs.declared.error.PlayError.{PlayError}
 use Rattle.cmwq_tell.specs.RunTold.{IsToldRun}

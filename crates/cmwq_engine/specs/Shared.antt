@@ -1,5 +1,5 @@
 -- What clauses read of a shared engine, and what an issue promises. Contracts see a shared engine as its lock.
-use Rattle.std.specs.Prelude.{◌≡◌, ℕ, List, [], ◌∷◌, ◌++◌, All, Any, length, Result, Ok, Err}
+use Rattle.std.specs.Prelude.{◌≡◌, ◌<◌, ◌^◌, ℕ, List, [], ◌∷◌, ◌++◌, All, Any, length, Result, Ok, Err}
 use Rattle.cmwq_lock.specs.declared.kept.Kept.{Ghosts}
 use Rattle.cmwq_lock.specs.declared.lock.TicketLock.{TicketLock}
 use Rattle.cmwq_lock.specs.declared.tokens.Opener.{Opener}
@@ -64,6 +64,13 @@ pub record HasEntered (from : Setting) (before after : EngineView) (new : Entry)
 pub record HasFoundFull (from : Setting) (before after : EngineView) : Type 0 where
   pub full : length (seen_of after) ≡ from.capacity
   pub mine : mine_of after ≡ mine_of before
+
+-- nothing of an issue that found the history full stands there: its ticket is above all that its caller had seen, and above all entries' tickets
+pub record HasNothingNew (before after : EngineView) : Type 0 where
+  pub ticket : ℕ
+  pub in_range : ticket < 2 ^ 62
+  pub later : All (λ (e : Entry). e.ticket < ticket) (seen_of before)
+  pub none_new : All (λ (e : Entry). e.ticket < ticket) (seen_of after)
 
 -- the history once each caller is retired: it begins with all that each had seen, the entries of each are its own, and it has no other callers
 pub record IsLastHistory (records : List (Knowledge Entry)) (history : List Entry) : Type 0 where

@@ -4,11 +4,11 @@ ghost use Rattle.cmwq_types.specs.Faults.{IsValid};
 ghost use Rattle.cmwq_types.specs.declared.limits.TheConstants.{MAX_HISTORY, MAX_PASSES};
 ghost use Rattle.cmwq_lock.specs.Log.{BeginsWith, OneBegins, longer};
 ghost use Rattle.cmwq_lock.specs.Rule.{opening_view};
-ghost use Rattle.cmwq_lock.specs.Tokens.{opener_view, pass_view, drawn_view, IfRaced, IfNoTicket as IfNoneLeft};
+ghost use Rattle.cmwq_lock.specs.Tokens.{opener_view, pass_view, drawn_view, IfRaced, IfExhausted as IfNoneLeft};
 ghost use Rattle.cmwq_lock.specs.Views.{loaded, lost, waiting, looked, given, fresh, taken_back, having_seen, caller_of, ticket_of, loaded_of, next_of, out_of, seen_of, mine_of, records_of, knowledge_of, SameKnowledge};
 ghost use Rattle.cmwq_engine.specs.Engine.{IsSound, Refuses};
 ghost use Rattle.cmwq_engine.specs.Issuing.{entry_of};
-ghost use Rattle.cmwq_engine.specs.Shared.{HasEntered, HasFoundFull, HasHadTurn, IfNoTicket, IfFull, IfTurn, IsDrawnOf, IsLastHistory, IsOpenerOf, IsPassOf, setting_of};
+ghost use Rattle.cmwq_engine.specs.Shared.{HasEntered, HasFoundFull, HasHadTurn, HasNothingNew, IfFull, IfNoTicket, IfTurn, IsDrawnOf, IsLastHistory, IsOpenerOf, IsPassOf, setting_of};
 
 use crate::engine::Engine;
 use crate::history::Full;
@@ -228,6 +228,8 @@ impl<M: Machine> Shared<M> {
             HasEntered (setting_of self.now) (pass_view pass) (pass_view result.0) new receipt.place) }
         ensures full { IfErr result.1 (λ why. IfFull why
             (HasFoundFull (setting_of self.now) (pass_view pass) (pass_view result.0))) }
+        ensures none_new { IfErr result.1 (λ why. IfFull why
+            (HasNothingNew (pass_view pass) (pass_view result.0))) }
         // The last load of `drawn` gave 2^62.
         ensures exhausted { IfErr result.1 (λ why. IfNoTicket why
             (loaded_of (pass_view result.0) ≡ 2 ^ 62)) }
@@ -274,6 +276,8 @@ impl<M: Machine> Shared<M> {
             HasEntered (setting_of self.now) (drawn_view drawn) (pass_view result.0) new receipt.place) }
         ensures full { IfErr result.1 (λ why. why ≡ IssueError.Full
             × HasFoundFull (setting_of self.now) (drawn_view drawn) (pass_view result.0)) }
+        ensures none_new { IfErr result.1 (λ _.
+            All (λ e. e.ticket < ticket_of (drawn_view drawn)) (seen_of (pass_view result.0))) }
     {
         let (pass, _, outcome) = self.lock.take(rt, drawn, instr);
         match outcome {

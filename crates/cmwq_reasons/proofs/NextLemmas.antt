@@ -32,7 +32,7 @@ use Rattle.cmwq_reasons.specs.declared.reason.Reason.{Reason}
 use Rattle.cmwq_reasons.specs.declared.reason.Reason.TheVariants as reason
 use Rattle.cmwq_reasons.specs.declared.reason.Turn.{Turn}
 use Rattle.cmwq_reasons.specs.declared.reason.Turn.TheVariants.{Starts, Defers, StartsOnRescuer}
-use Rattle.cmwq_reasons.specs.Laws.{InAnyState, IsFiredNext, IsHead, IsMovedNext, IsNextToMove, SaysFiresNext, SaysNext, StepMoves, instance_of, is_moved_next, turn_move, pool_if_pending, pool_if_running, takes_pending}
+use Rattle.cmwq_reasons.specs.Laws.{InAnyState, IsFiredNext, IsHead, IsMovedNext, IsNextToMove, SaysFiresNext, SaysNext, StepMoves, instance_of, moves_next, turn_move, pool_if_pending, pool_if_running, takes_pending}
 use Rattle.cmwq_reasons.specs.Reasons.{moved_by, moved_instance, mover, pending_half, reason_if_pending, reason_if_running, reason_in_place, reason_of_running, running_half}
 use Rattle.cmwq_reasons.proofs.MoverLemmas.{MoveSays, due-first, is_due_now, is_listed_in, is_ready_in, is_runnable_in, is_slept_in, listed-first, moved_by-some, next_move-says, ready-first, rescued-first, runnable-first, slept-first, some-first}
 use Rattle.cmwq_reasons.proofs.PendingRows.{PlaceRow, fires_next-from, fires_next-to, free-to, place-row}
@@ -40,18 +40,18 @@ use Rattle.cmwq_reasons.proofs.RunningRows.{RunRow, ready_next-to, run-row, runn
 
 -- Who says that it is next, is moved next.
 
-run-next : (S : ScenarioContents) (s : State) (w : ℕ) (r : Running) (a : Reason) → RunRow S s w r a → is_moved_next a ≡ true → mover S s r.pool ≡ Some (running_half w)
+run-next : (S : ScenarioContents) (s : State) (w : ℕ) (r : Running) (a : Reason) → RunRow S s w r a → moves_next a ≡ true → mover S s r.pool ≡ Some (running_half w)
 run-next S s w r a (RunRow.wakes_next slept moves) next = moves
 run-next S s w r a (RunRow.ready_next head left moves) next = moves
 run-next S s w r a row next = cc
 
 running-next : (S : ScenarioContents) (s : State) (w pool : ℕ) (a : Reason) (o : Option Running) → w < length S.works → running_at s w ≡ o
-    → reason_if_running S s w o ≡ Some a → is_moved_next a ≡ true → pool_if_running o ≡ Some pool → mover S s pool ≡ Some (running_half w)
+    → reason_if_running S s w o ≡ Some a → moves_next a ≡ true → pool_if_running o ≡ Some pool → mover S s pool ≡ Some (running_half w)
 running-next S s w pool a (Some r) there is told next in_pool =
     let same : reason_of_running S s w r ≡ a = cc in
     let pool_is : r.pool ≡ pool = cc in
     subst (λ (q : ℕ). mover S s q ≡ Some (running_half w)) pool_is
-    (run-next S s w r (reason_of_running S s w r) (run-row S s w r there is) (ap is_moved_next same ∙ next))
+    (run-next S s w r (reason_of_running S s w r) (run-row S s w r there is) (ap moves_next same ∙ next))
 running-next S s w pool a None there is told next in_pool = cc
 
 pub turn-moves : (turn : Turn) (w : ℕ) → moved_instance (turn_move turn w) ≡ pending_half w
@@ -59,7 +59,7 @@ turn-moves Starts w = refl
 turn-moves Defers w = refl
 turn-moves StartsOnRescuer w = refl
 
-place-next : (S : ScenarioContents) (s : State) (w pool : ℕ) (at : Place) (a : Reason) → PlaceRow S s w at a → is_moved_next a ≡ true → placed_in at ≡ Some pool
+place-next : (S : ScenarioContents) (s : State) (w pool : ℕ) (at : Place) (a : Reason) → PlaceRow S s w at a → moves_next a ≡ true → placed_in at ≡ Some pool
     → mover S s pool ≡ Some (pending_half w)
 place-next S s w pool at a (PlaceRow.free q turn is may moves) next in_pool =
     let placed : Some q ≡ Some pool = sym (ap placed_in is) ∙ in_pool in
@@ -68,10 +68,10 @@ place-next S s w pool at a (PlaceRow.free q turn is may moves) next in_pool =
 place-next S s w pool at a row next in_pool = cc
 
 pending-next : (S : ScenarioContents) (s : State) (w pool : ℕ) (a : Reason) (o : Option Pending) → w < length S.works → pending_at s w ≡ o
-    → reason_if_pending S s w o ≡ Some a → is_moved_next a ≡ true → pool_if_pending o ≡ Some pool → mover S s pool ≡ Some (pending_half w)
+    → reason_if_pending S s w o ≡ Some a → moves_next a ≡ true → pool_if_pending o ≡ Some pool → mover S s pool ≡ Some (pending_half w)
 pending-next S s w pool a (Some p) there is told next in_pool =
     let same : reason_in_place S s w p.place ≡ a = cc in
-    place-next S s w pool p.place (reason_in_place S s w p.place) (place-row S s w p there is) (ap is_moved_next same ∙ next) in_pool
+    place-next S s w pool p.place (reason_in_place S s w p.place) (place-row S s w p there is) (ap moves_next same ∙ next) in_pool
 pending-next S s w pool a None there is told next in_pool = cc
 
 says-moved : (S : ScenarioContents) (s : State) (pool : ℕ) (x : Instance) → SaysNext S s pool x → mover S s pool ≡ Some x

@@ -24,7 +24,7 @@ use Rattle.cmwq_reasons.specs.declared.reason.Reason.{Reason}
 use Rattle.cmwq_reasons.specs.declared.reason.Reason.TheVariants as reason
 use Rattle.cmwq_reasons.specs.declared.reason.Turn.{Turn}
 use Rattle.cmwq_reasons.specs.declared.reason.Turn.TheVariants.{Starts, Defers, StartsOnRescuer}
-use Rattle.cmwq_reasons.specs.Laws.{BlamesAtMostFive, InAnyState, IsAmong, IsChainOfBlame, IsHead, RanksCausesBelow, is_moved_next, rank}
+use Rattle.cmwq_reasons.specs.Laws.{BlamesAtMostFive, InAnyState, IsAmong, IsChainOfBlame, IsHead, RanksCausesBelow, moves_next, rank}
 use Rattle.cmwq_reasons.specs.Reasons.{burns_unless, causes, counted_works, deferred_holders, free_or_after, holders, is_same, listed_holders, moved_by, mover, next_or_after, other_instance, pending_half, pending_holders, pending_works, reason_by_move, reason_if_pending, reason_if_running, reason_in_mode, reason_in_place, reason_of, reason_of_head, reason_of_runnable, reason_of_running, running_half, running_holders, running_works, work_above, work_before, works_on_workers}
 use Rattle.cmwq_reasons.proofs.MoverLemmas.{is_runnable_in, runnable-first, same-refl, some-first}
 use Rattle.cmwq_reasons.proofs.NextLemmas.{moved-says, runs-some}
@@ -158,7 +158,7 @@ rank-pending S s w pool (Some p) b active told =
     subst (λ (a : Reason). rank a ≤ 4) (some-is (reason_in_place S s w p.place) b told) (rank-active S s w p.place pool active)
 rank-pending S s w pool None b active told = cc
 
-next-rank : (a : Reason) → is_moved_next a ≡ true → rank a ≡ 1
+next-rank : (a : Reason) → moves_next a ≡ true → rank a ≡ 1
 next-rank reason.WakesNext e = refl
 next-rank reason.ReadyNext e = refl
 next-rank (reason.Free pool turn) e = refl

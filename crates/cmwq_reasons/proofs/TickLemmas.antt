@@ -27,7 +27,7 @@ use Rattle.cmwq_reasons.specs.declared.reason.Instance.{Instance}
 use Rattle.cmwq_reasons.specs.declared.reason.Instance.TheVariants as instance
 use Rattle.cmwq_reasons.specs.declared.reason.Reason.{Reason}
 use Rattle.cmwq_reasons.specs.declared.reason.Reason.TheVariants as reason
-use Rattle.cmwq_reasons.specs.Laws.{BurnsInTick, HasMoment, InAnyState, MomentsPassFirst, SaysNext, is_moment, is_moved_next, pool_if_pending, pool_if_running, pool_of}
+use Rattle.cmwq_reasons.specs.Laws.{BurnsInTick, HasMoment, InAnyState, MomentsPassFirst, SaysNext, is_moment, moves_next, pool_if_pending, pool_if_running, pool_of}
 use Rattle.cmwq_reasons.specs.Reasons.{moved_by, moved_instance, mover, pending_half, reason_if_pending, reason_if_running, reason_in_place, reason_of, reason_of_running, running_half, work_of}
 use Rattle.cmwq_reasons.proofs.MoverLemmas.{due-first, is_due_now, none-first, ready-moves, some-first}
 use Rattle.cmwq_reasons.proofs.NextLemmas.{accepted, due-says, moved-says, neither, pends-some, turn-moves}
@@ -69,7 +69,7 @@ ticks S s = answers S s (refusal S s instr.Tick)
 
 -- A moment, and what is unsettled.
 
-next-moment : (a : Reason) → is_moved_next a ≡ true → is_moment a ≡ true
+next-moment : (a : Reason) → moves_next a ≡ true → is_moment a ≡ true
 next-moment reason.WakesNext e = refl
 next-moment reason.ReadyNext e = refl
 next-moment (reason.Free pool turn) e = refl

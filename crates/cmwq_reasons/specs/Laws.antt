@@ -182,27 +182,27 @@ TellsNoWorker S s =
 -- Next means next.
 
 -- the reason is that the instance's pool moves it next
-abbrev pub is_moved_next : Reason → Bool
-is_moved_next reason.WakesNext = true
-is_moved_next reason.ReadyNext = true
-is_moved_next (reason.Free pool turn) = true
-is_moved_next (reason.Asleep until) = false
-is_moved_next (reason.WakesAfter x) = false
-is_moved_next (reason.Behind v) = false
-is_moved_next (reason.ReadyAfter x) = false
-is_moved_next (reason.HighHas v) = false
-is_moved_next reason.Burns = false
-is_moved_next (reason.Disabled depth) = false
-is_moved_next reason.NotPending = false
-is_moved_next (reason.Timer due cpu) = false
-is_moved_next reason.FiresNext = false
-is_moved_next (reason.FiresAfter v) = false
-is_moved_next (reason.Deferred pool) = false
-is_moved_next (reason.Frozen pool) = false
-is_moved_next (reason.Inactive pool) = false
-is_moved_next (reason.Held pool) = false
-is_moved_next (reason.After pool x) = false
-is_moved_next (reason.NoWorker pool) = false
+abbrev pub moves_next : Reason → Bool
+moves_next reason.WakesNext = true
+moves_next reason.ReadyNext = true
+moves_next (reason.Free pool turn) = true
+moves_next (reason.Asleep until) = false
+moves_next (reason.WakesAfter x) = false
+moves_next (reason.Behind v) = false
+moves_next (reason.ReadyAfter x) = false
+moves_next (reason.HighHas v) = false
+moves_next reason.Burns = false
+moves_next (reason.Disabled depth) = false
+moves_next reason.NotPending = false
+moves_next (reason.Timer due cpu) = false
+moves_next reason.FiresNext = false
+moves_next (reason.FiresAfter v) = false
+moves_next (reason.Deferred pool) = false
+moves_next (reason.Frozen pool) = false
+moves_next (reason.Inactive pool) = false
+moves_next (reason.Held pool) = false
+moves_next (reason.After pool x) = false
+moves_next (reason.NoWorker pool) = false
 
 abbrev pub pool_if_pending : Option Pending → Option ℕ
 pool_if_pending (Some p) = placed_in p.place
@@ -220,7 +220,7 @@ pool_of s (instance.Running w) = pool_if_running (running_at s w.0)
 -- the instance is one of the pool, and its reason is that the pool moves it next
 abbrev pub SaysNext : ScenarioContents → State → ℕ → Instance → Type 0
 SaysNext S s pool x =
-    (a : Reason) × (reason_of S s x ≡ Some a) × (is_moved_next a ≡ true) × (pool_of s x ≡ Some pool) × (work_of x < length S.works)
+    (a : Reason) × (reason_of S s x ≡ Some a) × (moves_next a ≡ true) × (pool_of s x ≡ Some pool) × (work_of x < length S.works)
 
 -- In each pool the instance that the next move moves says that it is next, and no other one does.
 unfoldable pub IsNextToMove : ScenarioContents → State → Type 0
