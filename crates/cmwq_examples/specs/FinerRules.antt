@@ -233,7 +233,7 @@ abbrev pub deferred_lines : List ℕ
 deferred_lines =
     text_of_lines (
     codes "0 a starts" ∷ codes "0 a queues a" ∷ codes "0 a sleeps 1" ∷ codes "0 a defers" ∷
-    codes "0 a deferring 0 asleep 0/0 1" ∷ codes "0 flush 0" ∷ codes "0 b inactive 0 still" ∷ codes "1 a wakes" ∷
+    codes "0 a deferred 0 asleep 0/0 1" ∷ codes "0 flush 0" ∷ codes "0 b inactive 0 still" ∷ codes "1 a wakes" ∷
     codes "1 a finishes and starts" ∷ codes "1 b listed 0 still" ∷ codes "1 a idle runs 0/0" ∷ codes "1 no" ∷
     codes "1 a queues a" ∷ codes "1 a inactive 0 runs 0/0" ∷ codes "1 a sleeps 1" ∷ codes "1 b starts" ∷
     codes "1 b finishes" ∷ codes "1 a defers" ∷ codes "1 b inactive 0 still" ∷ codes "1 cancelled" ∷

@@ -37,7 +37,7 @@ head_alone = head_of 1 1 8 0
 -- the same, written freely
 abbrev pub free_head : List ℕ
 free_head =
-    codes "# a scenario of head_alone\r\n\ncpus\t1 # one CPU\r\n  workers 1\t\r\n\t\r\nsteps \t 8#steps\nflushes 0\r\n# the end"
+    codes "# a scenario of nothing\r\n\ncpus\t1 # one CPU\r\n  workers 1\t\r\n\t\r\nsteps \t 8#steps\nflushes 0\r\n# the end"
 
 -- the head and then these lines
 abbrev pub after_head : List (List ℕ) → List ℕ

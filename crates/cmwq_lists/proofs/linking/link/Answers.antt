@@ -6,8 +6,8 @@ use Rattle.cmwq_lists.specs.Cells.{with_next, with_prev}
 use Rattle.cmwq_lists.proofs.LinkingLemmas.{next_of_cut, after_if_held, held_before, if_held_kept, next_if_held, chain_linked_in, others_linked_in}
 use Rattle.cmwq_lists.proofs.linking.link.Goals as goal
 
-pub next_of-next-requires : goal.next_of-next-requires
-next_of-next-requires c =
+pub key_behind-next-requires : goal.key_behind-next-requires
+key_behind-next-requires c =
     let cut = c.requires.at in
     record { held = after_if_held (get c.args.cells.now) c.args.list c.args.ends.now cut.0 cut.1 c.args.after cut.2 }
 
