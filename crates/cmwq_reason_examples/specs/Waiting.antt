@@ -91,3 +91,20 @@ listed_before =
     scenario 100 (queue (codes "f") 1 freezable ∷ queue (codes "q") 1 plain_flags ∷ [])
     (work (codes "z") 0 (op.Burn 1 ∷ op.Finish ∷ []) ∷ work (codes "x") 1 (op.Sleep 1 ∷ op.Finish ∷ []) ∷ [])
     (enqueue 1 0 ∷ times instr.Next 1 ∷ enqueue 0 0 ∷ times instr.Next 1 ∷ times instr.Freeze 1 ∷ times instr.Pressure 1 ∷ [])
+
+-- Memory is short: y sleeps on its queue's rescuer, and v, w and x of that queue wait behind it; k and l of another one wait too.
+abbrev pub beside_rescuer : ScenarioContents
+beside_rescuer =
+    scenario 100 (queue (codes "p") 1 plain_flags ∷ queue (codes "r") 2 mem_reclaim ∷ [])
+    (work (codes "k") 0 (op.Finish ∷ []) ∷ work (codes "l") 0 (op.Finish ∷ []) ∷ work (codes "v") 1 (op.Finish ∷ [])
+    ∷ work (codes "w") 1 (op.Finish ∷ []) ∷ work (codes "x") 1 (op.Finish ∷ []) ∷ work (codes "y") 1 (op.Sleep 2 ∷ op.Finish ∷ []) ∷ [])
+    (times instr.Pressure 1 ∷ enqueue 5 0 ∷ enqueue 0 0 ∷ enqueue 1 0 ∷ enqueue 2 0 ∷ enqueue 3 0 ∷ enqueue 4 0 ∷ times instr.Next 2 ∷ [])
+
+-- a and b sleep, each on a CPU, and are queued again; on b's CPU c of another queue burns
+abbrev pub four_halves : ScenarioContents
+four_halves =
+    record (scenario 100 (queue (codes "q") 4 plain_flags ∷ queue (codes "r") 1 plain_flags ∷ [])
+    (work (codes "a") 0 (op.Sleep 5 ∷ op.Finish ∷ []) ∷ work (codes "b") 0 (op.Sleep 5 ∷ op.Finish ∷ [])
+    ∷ work (codes "c") 1 (op.Burn 9 ∷ op.Finish ∷ []) ∷ [])
+    (enqueue 0 0 ∷ enqueue 1 1 ∷ times (instr.Step 0) 2 ∷ times (instr.Step 2) 2 ∷ enqueue 2 1 ∷ times (instr.Step 2) 2 ∷ enqueue 0 0
+    ∷ enqueue 1 0 ∷ flush_queue 0 ∷ [])) { cpus = 2 }

@@ -2,7 +2,7 @@
 //! works at some positions of one scenario, with who is named. `cmwq_why_laws` has the text of some of them.
 #![tactic(auto, unfolding(cmwq_table::specs::Table::table))]
 
-ghost use Rattle.cmwq_reason_examples.specs.Waiting.{again, ahead_at, at, blamed_at, by_twos, chain, hold, listed_before, outside, waits_at, why};
+ghost use Rattle.cmwq_reason_examples.specs.Waiting.{again, ahead_at, at, beside_rescuer, blamed_at, by_twos, chain, four_halves, hold, listed_before, outside, waits_at, why};
 ghost use Rattle.cmwq_reasons.specs.Reasons.{lacks_memory, lacks_thaw, pending_half, running_half};
 ghost use Rattle.cmwq_types.specs.Faults.{IsValid};
 ghost use Rattle.std.specs.Prelude.{◌≡◌, ◌∷◌, [], None, Some, false, true};
@@ -17,6 +17,8 @@ pub fn scenarios_are_valid()
     ensures chain { IsValid chain }
     ensures by_twos { IsValid by_twos }
     ensures listed_before { IsValid listed_before }
+    ensures beside_rescuer { IsValid beside_rescuer }
+    ensures four_halves { IsValid four_halves }
 {}
 
 /// A work goes from the worklist over its burns, a busy high pool and its sleep to its end.

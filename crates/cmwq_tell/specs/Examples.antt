@@ -5,7 +5,7 @@ use Rattle.cmwq_types.specs.Contents.{ScenarioContents}
 use Rattle.cmwq_types.specs.Scenario.{expand, plain_flags}
 use Rattle.cmwq_types.specs.declared.instr.Instr.TheVariants as instr
 use Rattle.cmwq_types.specs.declared.scenario.Op.TheVariants as op
-use Rattle.cmwq_examples.specs.Declare.{queue, work, freezable, mem_reclaim, queues, enqueue, delay, cancel, disable, flush, flush_queue, times, scenario}
+use Rattle.cmwq_examples.specs.Declare.{queue, work, freezable, mem_reclaim, queues, enqueue, delay, delay_on, cancel, disable, flush, flush_queue, times, scenario}
 use Rattle.cmwq_types.specs.Listing.{text_of_lines}
 use Rattle.cmwq_tell.specs.RunTold.{tell_text}
 
@@ -58,3 +58,17 @@ again_told =
     codes "#   a inactive 0" ∷ codes "# next" ∷ codes "4 a wakes" ∷ codes "# next" ∷ codes "4 a finishes" ∷
     codes "#   a activated 0" ∷ codes "# next" ∷ codes "4 b starts" ∷ codes "# next" ∷ codes "4 b burns 1" ∷
     codes "# next" ∷ codes "#   now 5" ∷ codes "# disable a" ∷ codes "5 cancelled" ∷ [])
+
+-- on the second CPU b waits behind a, which is cancelled; c gets a timer there
+abbrev pub second_cpu : ScenarioContents
+second_cpu =
+    record (scenario 100 (queue (codes "q") 1 plain_flags ∷ [])
+    (work (codes "a") 0 (op.Finish ∷ []) ∷ work (codes "b") 0 (op.Finish ∷ []) ∷ work (codes "c") 0 (op.Finish ∷ []) ∷ [])
+    (enqueue 0 1 ∷ enqueue 1 1 ∷ cancel 0 ∷ delay_on 2 1 5 ∷ [])) { cpus = 2 }
+
+-- all is told of its normal pool, whose number is 2, and of its number
+abbrev pub second_cpu_told : List ℕ
+second_cpu_told =
+    text_of_lines (
+    codes "# queue a 1" ∷ codes "#   a listed 2" ∷ codes "# queue b 1" ∷ codes "#   b inactive 2" ∷ codes "# cancel a" ∷
+    codes "0 cancelled" ∷ codes "#   b activated 2" ∷ codes "# delay c 1 5" ∷ codes "#   c timer 5 cpu 1" ∷ [])

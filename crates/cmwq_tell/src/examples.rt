@@ -1,5 +1,5 @@
 //! Worked examples of what is told, as theorems over the definitions.
-ghost use Rattle.cmwq_tell.specs.Examples.{again_scenario, again_told, outside_scenario, outside_told, told_of};
+ghost use Rattle.cmwq_tell.specs.Examples.{again_scenario, again_told, outside_scenario, outside_told, second_cpu, second_cpu_told, told_of};
 ghost use Rattle.std.specs.Prelude.{◌≡◌};
 
 /// A thaw activates the work that waited for it. What starts, also on a rescuer, ends or is given is told by the line of the run alone.
@@ -11,4 +11,9 @@ pub fn thaw_activates_what_waited()
 /// full. What is deferred, and what is taken off, is no hidden change.
 pub fn work_that_finishes_activates_the_next()
     ensures { told_of again_scenario ≡ again_told }
+{}
+
+/// Pools and CPUs are told by their numbers.
+pub fn second_cpu_is_told_by_its_number()
+    ensures { told_of second_cpu ≡ second_cpu_told }
 {}

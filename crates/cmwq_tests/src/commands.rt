@@ -398,3 +398,16 @@ fn input_without_end_is_refused(rt: HostRuntime) {
     let extra = PlayError::Image(ImageError::Extra);
     check_refused(&rt, rt.alloc(), Command::Show, input, extra);
 }
+
+#[test]
+fn a_picture_has_500_columns_and_no_more(rt: HostRuntime) {
+    let alloc = rt.alloc();
+    let wide = long_run(&rt, alloc, 0, b"next * 501\n");
+    for command in [Command::Draw, Command::DrawSvg] {
+        let input = reading_of(&wide, 4096);
+        check_refused(&rt, alloc, command, input, PlayError::TooWide);
+    }
+    let widest = long_run(&rt, alloc, 0, b"next * 500\n");
+    let drawn = written(&rt, alloc, "500", Command::Draw, &widest, (4096, 4096));
+    same(&rt, "500", drawn.is_empty(), false);
+}

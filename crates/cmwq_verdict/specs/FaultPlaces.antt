@@ -1,11 +1,11 @@
 -- Where the first fault of a text is seen: its column, and what stands there.
 use Rattle.std.specs.Prelude.{◌≡◌, ◌≢◌, ◌<◌, ◌+◌, ◌-◌, ◌==◌, ℕ, zero, suc, List, [], ◌∷◌, length, drop, take, if◌then◌else◌, Option, None, Some, slice_get}
-use Rattle.std.specs.List.{All}
+use Rattle.std.specs.List.{All, AllPairs}
 use Rattle.cmwq_grammar.specs.Cutting.{lines_of, words_of}
 use Rattle.cmwq_grammar.specs.FaultLaw.{IsFault}
 use Rattle.cmwq_grammar.specs.Meaning.{FaultAt}
 use Rattle.cmwq_grammar.specs.declared.why.Why.TheVariants as why
-use Rattle.cmwq_scan.specs.Words.{StandsIn, Word, words_in, worded_part}
+use Rattle.cmwq_scan.specs.Words.{IsBefore, StandsIn, Word, words_in, worded_part}
 use Rattle.cmwq_verdict.specs.declared.places.FaultPlace.{FaultPlace}
 use Rattle.cmwq_verdict.specs.declared.places.FaultPlace.TheVariants as place
 
@@ -18,10 +18,11 @@ line_start (suc n) (byte ∷ text) = suc (if byte == 10 then line_start n text e
 abbrev pub start_of : List ℕ → FaultAt → ℕ
 start_of text fault = line_start (fault.line - 1) text
 
--- these words, with their columns, are the words of the line
+-- these words, with their columns, are the words of the line, each where it stands
 pub record AreWordsOf (line : List ℕ) (words : List Word) : Type 0 where
   pub are : words_in words ≡ words_of line
   pub stand : All (StandsIn (worded_part line)) words
+  pub in_order : AllPairs IsBefore words
 
 -- the text cut behind a word of the line that begins at this place
 abbrev pub cut_behind : List ℕ → ℕ → Word → List ℕ

@@ -1,6 +1,6 @@
 //! Worked examples of what is written of why works wait, as theorems over the definitions: each function's contract has the
 //! lines of one work, or of one flush, at some positions of one scenario.
-ghost use Rattle.cmwq_reason_examples.specs.Waiting.{again, chain, hold, outside};
+ghost use Rattle.cmwq_reason_examples.specs.Waiting.{again, beside_rescuer, by_twos, chain, four_halves, hold, outside};
 ghost use Rattle.cmwq_why_laws.specs.Lines.{block, line_at_position, with_steps};
 ghost use Rattle.std.specs.Prelude.{◌≡◌, None, Some, codes};
 
@@ -108,4 +108,32 @@ pub fn flush_waits_when_the_steps_are_spent()
     ensures left { block (with_steps 4 hold) 3 0 ≡ Some (codes "flush 0 waits for 2\n  a listed 0: free to go, starts next\n  b inactive 0: q has 1 of 1 active: a listed\n") }
     ensures spent { block (with_steps 4 hold) 5 0 ≡ Some (codes "flush 0 waits for 2, not by itself: spent\n  a ready, goes on next\n  b inactive 0: q has 1 of 1 active: a runs\n") }
     ensures all { block (with_steps 7 outside) 7 1 ≡ Some (codes "flush 1 waits for 1, not by itself: frozen pressure spent\n  z inactive 0: f is frozen\n") }
+{}
+
+/// Of two works that can go on, wake or fire at once, the second has the first one's name in its line.
+pub fn second_of_two_goes_after_the_first()
+    ensures ready { line_at_position by_twos 9 1 ≡ codes "ready, after v" }
+    ensures first_wakes { line_at_position by_twos 12 0 ≡ codes "sleep is over, wakes next" }
+    ensures wakes { line_at_position by_twos 12 1 ≡ codes "sleep is over, after v" }
+    ensures first_fires { line_at_position by_twos 12 2 ≡ codes "timer is due, fires next" }
+    ensures fires { line_at_position by_twos 12 3 ≡ codes "timer is due, after t" }
+{}
+
+/// A work that is queued as it sleeps defers next.
+pub fn work_that_runs_defers_next()
+    ensures at_6 { line_at_position again 6 0 ≡ codes "asleep until 2; listed 0: free to go, defers next" }
+{}
+
+/// Who is on the rescuer is told so, and of those that wait for a place who stands before them in their own queue.
+pub fn works_wait_beside_a_rescuer()
+    ensures k { line_at_position beside_rescuer 9 0 ≡ codes "listed 0: no free worker under pressure" }
+    ensures l { line_at_position beside_rescuer 9 1 ≡ codes "inactive 0: p has 1 of 1 active: k listed" }
+    ensures v { line_at_position beside_rescuer 9 2 ≡ codes "listed 0 ahead k: no free worker under pressure: y asleep until 2 on rescuer" }
+    ensures w { line_at_position beside_rescuer 9 3 ≡ codes "inactive 0: r has 2 of 2 active: y asleep until 2 on rescuer, v listed" }
+    ensures x { line_at_position beside_rescuer 9 4 ≡ codes "inactive 0 ahead w: r has 2 of 2 active: y asleep until 2 on rescuer, v listed" }
+{}
+
+/// A flush that waits for more instances than there are works names whom the last of them blames.
+pub fn flush_waits_for_both_halves_of_two_works()
+    ensures at_12 { block four_halves 12 0 ≡ Some (codes "flush 0 waits for 4\n  a asleep until 5\n  b asleep until 5\n  a listed 0: free to go, defers next\n  b listed 2: held by c\n    c burns\n") }
 {}

@@ -1,8 +1,8 @@
 use Rattle.std.proofs.Common.{ℕ, List, ◌≡◌, ◌∷◌, ◌∙◌, ap, false, true, drop, subst, sym}
-use Rattle.std.specs.List.{All}
+use Rattle.std.specs.List.{All, AllPairs}
 use Rattle.cmwq_grammar.specs.Cutting.{lines_of}
 use Rattle.cmwq_grammar.specs.Meaning.{fault_at}
-use Rattle.cmwq_scan.specs.Words.{StandsIn, Word, words_in, worded_part}
+use Rattle.cmwq_scan.specs.Words.{IsBefore, StandsIn, Word, words_in, worded_part}
 use Rattle.cmwq_verdict.proofs.PlaceLemmas.{placed}
 use Rattle.cmwq_verdict.proofs.places.place_in_line.Goals as goal
 
@@ -14,6 +14,7 @@ returns c =
     (record {
       are = ap words_in c.deref-2.ensures ∙ c.in_ok-read_tokens.ensures.words;
       stand = subst (λ (ws : List Word). All (StandsIn (worded_part c.args.bytes.now)) ws) (sym c.deref-2.ensures) c.in_ok-read_tokens.ensures.columns;
+      in_order = subst (λ (ws : List Word). AllPairs IsBefore ws) (sym c.deref-2.ensures) c.in_ok-read_tokens.ensures.order;
     })
     c.place_among.ensures
   where
