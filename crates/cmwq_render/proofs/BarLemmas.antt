@@ -1,4 +1,4 @@
--- The laws of rectangles: what stands over each tick, and that two that touch show different cells.
+-- The laws of rectangles: what stands over each tick, that two that touch show different cells, and that rows stand apart.
 use Rattle.std.proofs.Common.{◌≡◌, ◌≢◌, ℕ, zero, suc, ◌+◌, ◌-◌, ◌≤◌, ◌<◌, Bool, true, false, true≢false, ◌&&◌, List, [], ◌∷◌, ◌++◌, Option, Some, None, cond, map, get_or, eq-eqb, arith, refl, sym, ap, ap₂, ◌∙◌, inl, inr, nat_le, nat_lt, subst}
 use Rattle.std.proofs.lemmas.Bool.Decides.{nat_tests}
 use Rattle.std.proofs.lemmas.Bool.{cases_lt, eqb-true}
@@ -11,7 +11,7 @@ use Rattle.cmwq_picture.specs.declared.cell.Sign.{Sign}
 use Rattle.cmwq_picture.specs.declared.cell.Sign.TheVariants as sign
 use Rattle.cmwq_render.specs.Legend.{same_cell}
 use Rattle.cmwq_render.specs.Bars.{bars_from, bar_begun, bar_ended, goes_on, grown, tick_bar}
-use Rattle.cmwq_render.specs.Laws.{CoversEachCellOnce, Differs, NeighboursDiffer, RunsAreWhole, covers, seen_cells}
+use Rattle.cmwq_render.specs.Laws.{CoversEachCellOnce, Differs, NeighboursDiffer, RowsStandApart, RunsAreWhole, covers, seen_cells}
 use Rattle.cmwq_render.specs.declared.bars.Bar.{Bar}
 
 -- Cells that are the same.
@@ -304,3 +304,9 @@ pub whole_runs : RunsAreWhole
 unfolding RunsAreWhole
 whole_runs [] = tt
 whole_runs (cell ∷ cells) = whole-from cell cells (apart cells)
+
+-- Rows.
+
+pub rows_apart : RowsStandApart
+unfolding RowsStandApart
+rows_apart row other before = omega (arith, before)

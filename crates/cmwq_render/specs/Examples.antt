@@ -1,4 +1,4 @@
--- Worked pictures as text, written by hand.
+-- Worked pictures as text and as SVG, written by hand.
 use Rattle.std.specs.Prelude.{ℕ, List, [], ◌∷◌, ◌++◌, codes, replicate}
 use Rattle.std.specs.List.{flat_map}
 use Rattle.cmwq_types.specs.Contents.{ScenarioContents, WorkContents}
@@ -12,6 +12,7 @@ use Rattle.cmwq_picture.specs.declared.cell.Sign.TheVariants as sign
 use Rattle.cmwq_picture.specs.declared.row.Title.{Title}
 use Rattle.cmwq_picture.specs.declared.row.Title.TheVariants as title
 use Rattle.cmwq_types.specs.Listing.{text_of_lines}
+use Rattle.cmwq_render.specs.declared.style.TheConstants.{OPENING, STYLE}
 
 abbrev pub named_work : List ℕ → WorkContents
 named_work name = record { name = name; queue = record { 0 = 0 }; body = [] }
@@ -105,3 +106,30 @@ short_times_text = text_of_lines (codes "     9979 9984 9989 9994 9999" ∷ code
 -- from 10000 on each 20
 abbrev pub long_times_text : List ℕ
 long_times_text = text_of_lines (codes "     9980                10000" ∷ codes "cpu 0||" ∷ [])
+
+-- a waits for a tick and burns for two, which the CPU's row shows too
+abbrev pub one_name : ScenarioContents
+one_name = names (named_work (codes "ab") ∷ [])
+
+abbrev pub two_rows : PictureContents
+two_rows =
+    record {
+      from = 0;
+      ticks = 3;
+      rows =
+          drawn_row (title.Work (id 0)) (for 1 sign.Listed ++ for 2 sign.Burns)
+          ∷ drawn_row (title.Cpu 0) (empty_cells 1 ++ replicate 2 (Burner (id 0))) ∷ [];
+    }
+
+-- Labels of five letters: the columns begin at 56, and rows at 28 and 48. Behind the style come a time, the rows, and the legend.
+abbrev pub two_rows_svg : List ℕ
+two_rows_svg =
+    OPENING.now ++ codes " width='312' height='128' viewBox='0 0 312 128'>\n" ++ STYLE.now
+    ++ text_of_lines (
+    codes "<path class='grid' d='M56 22V68'/>" ∷ codes "<text class='time' x='56' y='16'>0</text>" ∷
+    codes "<text class='name' x='48' y='42'>ab</text>" ∷ codes "<rect height='14' class='listed' x='56' y='31' width='10'/>" ∷
+    codes "<rect height='14' class='burns' x='66' y='31' width='20'/>" ∷ codes "<text class='name' x='48' y='62'>cpu 0</text>" ∷
+    codes "<rect height='14' class='burns' x='66' y='51' width='20'/>" ∷ codes "<text class='who' x='76' y='62'>ab</text>" ∷
+    codes "<rect height='14' class='burns' x='56' y='79' width='20'/>" ∷ codes "<text class='key' x='84' y='90'>burns</text>" ∷
+    codes "<rect height='14' class='listed' x='56' y='99' width='20'/>" ∷ codes "<text class='key' x='84' y='110'>listed</text>" ∷
+    codes "</svg>" ∷ [])

@@ -1,9 +1,10 @@
--- What the rectangles of a row are: each covers a run of equal cells that is as long as can be.
-use Rattle.std.specs.Prelude.{◌≡◌, ◌≢◌, ◌≤◌, ℕ, Bool, ◌&&◌, List, [], ◌∷◌, map, nat_le, nat_lt, slice_index_or}
+-- What the rectangles are: each covers a run of equal cells that is as long as can be, and those of two rows stand apart.
+use Rattle.std.specs.Prelude.{◌≡◌, ◌≢◌, ◌≤◌, ◌<◌, ◌+◌, ℕ, Bool, ◌&&◌, List, [], ◌∷◌, map, nat_le, nat_lt, slice_index_or}
 use Rattle.std.specs.List.{filter}
 use Rattle.cmwq_picture.specs.declared.cell.Cell.{Cell}
 use Rattle.cmwq_picture.specs.declared.cell.Cell.TheVariants.{Empty, Does, Burner, Acts}
 use Rattle.cmwq_render.specs.Bars.{bars}
+use Rattle.cmwq_render.specs.Layout.{y_of}
 use Rattle.cmwq_render.specs.declared.bars.Bar.{Bar}
 
 -- whether the rectangle stands over the tick
@@ -33,3 +34,7 @@ NeighboursDiffer (bar ∷ others) = Differs bar others
 
 unfoldable pub RunsAreWhole : Type 0
 RunsAreWhole = (cells : List Cell) → NeighboursDiffer (bars cells)
+
+-- The rectangles of a row are 14 high and begin 3 below the row's upper edge; they end above those of each later row.
+unfoldable pub RowsStandApart : Type 0
+RowsStandApart = (row other : ℕ) → row < other → y_of row + 3 + 14 < y_of other + 3

@@ -1,5 +1,5 @@
-//! What the rectangles of a row are, as laws: the functions do nothing, they carry the laws.
-ghost use Rattle.cmwq_render.specs.Laws.{CoversEachCellOnce, RunsAreWhole};
+//! What the rectangles of rows are, as laws: the functions do nothing, they carry the laws.
+ghost use Rattle.cmwq_render.specs.Laws.{CoversEachCellOnce, RowsStandApart, RunsAreWhole};
 
 /// Over each tick of a row stands one rectangle, which shows the tick's cell, and none where it is empty.
 #[tactic(auto, using(crate::proofs::BarLemmas::each_cell_once))]
@@ -11,4 +11,10 @@ pub fn each_cell_is_covered_once()
 #[tactic(auto, using(crate::proofs::BarLemmas::whole_runs))]
 pub fn touching_rectangles_differ()
     ensures { RunsAreWhole }
+{}
+
+/// The rectangles of two rows stand apart.
+#[tactic(auto, using(crate::proofs::BarLemmas::rows_apart))]
+pub fn rows_stand_apart()
+    ensures { RowsStandApart }
 {}
