@@ -133,7 +133,11 @@ impl<R: Reads> Wording<'_, R> {
         ensures { OnOk result (string_bytes text.new ≡ string_bytes text.old ++ listed_text (R.loaded self.now.machine.now) (R.state self.now.machine.now) w.0 pool) }
     {
         let work = w.0 as usize;
-        let before = group_works(self.alloc, self.machine, ReasonGroup::ListedBefore { pool, work })?;
+        let before = group_works(
+            self.alloc,
+            self.machine,
+            ReasonGroup::ListedBefore { pool, work },
+        )?;
         write!(text, "listed {pool}")?;
         self.push_ahead(text, &before)?;
         text.push_str(": ")?;
