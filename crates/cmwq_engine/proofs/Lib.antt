@@ -1,2 +1,3 @@
 mod EntryLemmas
 mod IssueLemmas
+pub mod ReceiptLemmas

@@ -1,4 +1,5 @@
 pub mod Engine
 pub mod History
 pub mod Issuing
+pub mod Laws
 pub mod Shared

@@ -5,6 +5,7 @@
 mod engine;
 mod history;
 mod kept;
+pub mod laws;
 mod shared;
 
 pub use engine::Engine;
