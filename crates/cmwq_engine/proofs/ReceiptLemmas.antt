@@ -1,13 +1,13 @@
 -- What was entered stands in the last history.
 use Rattle.std.proofs.Common.{◌≡◌, ◌∙◌, ℕ, List, [], ◌∷◌, ◌++◌, Some, ap, length, refl, subst, sym}
-use Rattle.std.specs.Prelude.{Any, slice_get, take}
+use Rattle.std.specs.Prelude.{slice_get, take}
 use Rattle.cmwq_lock.specs.declared.views.Knowledge.{Knowledge}
 use Rattle.cmwq_lock.specs.Log.{BeginsWith}
 use Rattle.cmwq_lock.specs.Views.{seen_of}
 use Rattle.cmwq_engine.specs.History.{IsLegal}
 use Rattle.cmwq_engine.specs.Issuing.{reply_after}
 use Rattle.cmwq_engine.specs.Laws.{ReceiptsStand, StandsAt}
-use Rattle.cmwq_engine.specs.Shared.{EngineView, HasEntered, IsLastHistory}
+use Rattle.cmwq_engine.specs.Shared.{EngineView, HasEntered}
 use Rattle.cmwq_engine.specs.declared.history.Entry.{Entry}
 use Rattle.cmwq_engine.specs.declared.history.Setting.{Setting}
 
