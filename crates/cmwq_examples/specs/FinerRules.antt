@@ -18,8 +18,8 @@ two_idle_workers =
     (enqueue 0 0 ∷ enqueue 1 0 ∷ times instr.Next 9 ∷ enqueue 2 0 ∷ times instr.Next 1 ∷ state 2 ∷ [])
 
 -- the worker that became idle last is taken
-abbrev pub idle_workers_lines : List ℕ
-idle_workers_lines =
+abbrev pub two_idle_workers_lines : List ℕ
+two_idle_workers_lines =
     text_of_lines (
     codes "0 a starts" ∷ codes "0 a sleeps 1" ∷ codes "0 b starts" ∷ codes "0 b sleeps 1" ∷ codes "1 a wakes" ∷
     codes "1 a finishes" ∷ codes "1 b wakes" ∷ codes "1 b finishes" ∷ codes "1 c starts" ∷
@@ -64,8 +64,8 @@ delay_on_cpu =
     { cpus = 2 }
 
 -- a is listed in the normal pool of CPU 1
-abbrev pub timer_cpu_lines : List ℕ
-timer_cpu_lines =
+abbrev pub delay_on_cpu_lines : List ℕ
+delay_on_cpu_lines =
     text_of_lines (
     codes "1 a fires" ∷ codes "1 a listed 2 still" ∷ [])
 
@@ -229,8 +229,8 @@ deferring =
     ∷ state 1 ∷ state 0 ∷ times instr.Next 5 ∷ ask 0 ∷ [])
 
 -- b waits for the place of the deferred instance; flush 0 is on that instance, and is done when it has finished
-abbrev pub deferred_lines : List ℕ
-deferred_lines =
+abbrev pub deferring_lines : List ℕ
+deferring_lines =
     text_of_lines (
     codes "0 a starts" ∷ codes "0 a queues a" ∷ codes "0 a sleeps 1" ∷ codes "0 a defers" ∷
     codes "0 a deferred 0 asleep 0/0 1" ∷ codes "0 flush 0" ∷ codes "0 b inactive 0 still" ∷ codes "1 a wakes" ∷
@@ -347,8 +347,8 @@ operand_limits =
     ∷ times (instr.Step 4) 1 ∷ flush 0 ∷ ask 0 ∷ ask 1 ∷ [])
 
 -- 512, pool 3 and the first flush are there; 513, pool 4 and a second flush aren't
-abbrev pub operands_lines : List ℕ
-operands_lines =
+abbrev pub operand_limits_lines : List ℕ
+operand_limits_lines =
     text_of_lines (
     codes "0 refused NoSuchCpu" ∷ codes "0 refused BadCount" ∷ codes "0 refused BadCount" ∷
     codes "0 refused Ordered" ∷ codes "0 refused NothingToDo" ∷ codes "0 refused NoSuchPool" ∷ codes "0 flush 0" ∷

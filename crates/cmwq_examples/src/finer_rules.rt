@@ -2,7 +2,7 @@
 //! counts, and which refusal is told.
 #![tactic(auto, unfolding(cmwq_table::specs::Events::reply_line, cmwq_table::specs::Table::table))]
 
-ghost use Rattle.cmwq_examples.specs.FinerRules.{busy, busy_lines, cancel_lets_in, cancel_lets_in_lines, deferring, deferred_lines, disabled_again, disabled_anywhere, disabled_anywhere_lines, disabled_so_often, enabled_again, equal_times, equal_times_lines, fills, fills_lines, flush_beside_timer, flush_beside_timer_lines, flush_targets, flush_targets_lines, high_and_unbound, high_and_unbound_lines, two_idle_workers, idle_workers_lines, later_times, later_times_lines, mod_and_delay, mod_and_delay_lines, mod_goes_behind, mod_goes_behind_lines, no_flushes, no_flushes_lines, one_worker, one_worker_lines, operand_limits, operands_lines, pools_apart, pools_apart_lines, queues_others, queues_others_lines, rescuers, rescuers_lines, same_worker, same_worker_lines, starts_again_behind, starts_again_behind_lines, starts_behind, starts_behind_lines, thaw_fills, thaw_fills_lines, delay_on_cpu, timer_cpu_lines, two_cpus, two_cpus_lines, unbound_workers, unbound_workers_lines, undeclared_instrs, timers_before_moves, unsettled_instrs, wakes_behind, wakes_behind_lines, what_is_spent, what_is_spent_lines};
+ghost use Rattle.cmwq_examples.specs.FinerRules.{busy, busy_lines, cancel_lets_in, cancel_lets_in_lines, deferring, deferring_lines, disabled_again, disabled_anywhere, disabled_anywhere_lines, disabled_so_often, enabled_again, equal_times, equal_times_lines, fills, fills_lines, flush_beside_timer, flush_beside_timer_lines, flush_targets, flush_targets_lines, high_and_unbound, high_and_unbound_lines, two_idle_workers, two_idle_workers_lines, later_times, later_times_lines, mod_and_delay, mod_and_delay_lines, mod_goes_behind, mod_goes_behind_lines, no_flushes, no_flushes_lines, one_worker, one_worker_lines, operand_limits, operand_limits_lines, pools_apart, pools_apart_lines, queues_others, queues_others_lines, rescuers, rescuers_lines, same_worker, same_worker_lines, starts_again_behind, starts_again_behind_lines, starts_behind, starts_behind_lines, thaw_fills, thaw_fills_lines, delay_on_cpu, delay_on_cpu_lines, two_cpus, two_cpus_lines, unbound_workers, unbound_workers_lines, undeclared_instrs, timers_before_moves, unsettled_instrs, wakes_behind, wakes_behind_lines, what_is_spent, what_is_spent_lines};
 ghost use Rattle.cmwq_examples.specs.Rows.{printed};
 ghost use Rattle.cmwq_table.specs.Laws.{reply_to};
 ghost use Rattle.cmwq_table.specs.Table.{replies};
@@ -13,7 +13,7 @@ use cmwq_types::{Cause, Event, Refusal, Reply};
 
 /// Of the idle workers the one that became idle last takes the next work.
 pub fn idle_worker_of_last_is_taken_first()
-    ensures { printed two_idle_workers ≡ idle_workers_lines }
+    ensures { printed two_idle_workers ≡ two_idle_workers_lines }
 {}
 
 /// What a cancel lets in goes to the end of the worklist.
@@ -28,7 +28,7 @@ pub fn waking_work_goes_behind_runnable_ones()
 
 /// A timer fires on the CPU for which it was set.
 pub fn timer_fires_on_its_cpu()
-    ensures { printed delay_on_cpu ≡ timer_cpu_lines }
+    ensures { printed delay_on_cpu ≡ delay_on_cpu_lines }
 {}
 
 /// A queue of high priority that is unbound sends its works to the high unbound pool.
@@ -84,7 +84,7 @@ pub fn flush_waits_for_its_instance_and_nothing_else()
 /// A deferred work counts against `max_active`, and is the instance that was queued when it starts; a cancel of it
 /// lets in what waits.
 pub fn deferred_work_counts_and_keeps_its_birth()
-    ensures { printed deferring ≡ deferred_lines }
+    ensures { printed deferring ≡ deferring_lines }
 {}
 
 /// Each CPU burns for itself, and its high pool goes first there alone; of several pools with a move the least
@@ -123,7 +123,7 @@ pub fn flush_that_is_refused_changes_nothing()
 /// The CPU of a work must be there though its queue is unbound; a count is 1 to 512, and is judged before whether
 /// the queue is ordered; pools and flushes have their numbers.
 pub fn operands_have_their_limits()
-    ensures { printed operand_limits ≡ operands_lines }
+    ensures { printed operand_limits ≡ operand_limits_lines }
 {}
 
 /// A `mod` of no ticks gives its room to the first that waits, and then waits behind it.

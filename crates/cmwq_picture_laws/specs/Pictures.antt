@@ -74,12 +74,12 @@ taken_cpu =
     scenario 1000 (queue (codes "n") 1 plain_flags ∷ queue (codes "h") 1 highpri ∷ [])
     (work (codes "a") 0 (op.Burn 3 ∷ op.Finish ∷ []) ∷ work (codes "b") 1 (op.Burn 1 ∷ op.Finish ∷ []) ∷ []) []
 
-abbrev pub taking_lines : List Line
-taking_lines = enqueue 0 0 ∷ times instr.Next 3 ∷ enqueue 1 0 ∷ times instr.Next 7 ∷ []
+abbrev pub taken_cpu_lines : List Line
+taken_cpu_lines = enqueue 0 0 ∷ times instr.Next 3 ∷ enqueue 1 0 ∷ times instr.Next 7 ∷ []
 
 -- the ticks from 1 to 3, of four
-abbrev pub taking_picture : PictureContents
-taking_picture =
+abbrev pub taken_cpu_picture : PictureContents
+taken_cpu_picture =
     record {
       from = 1;
       ticks = 2;
@@ -95,11 +95,11 @@ queued_while_running =
     scenario 1000 (queue (codes "q") 2 plain_flags ∷ [])
     (work (codes "a") 0 (queues 0 ∷ op.Burn 1 ∷ op.Sleep 1 ∷ op.Finish ∷ []) ∷ []) []
 
-abbrev pub again_lines : List Line
-again_lines = enqueue 0 0 ∷ times instr.Next 7 ∷ []
+abbrev pub queued_while_running_lines : List Line
+queued_while_running_lines = enqueue 0 0 ∷ times instr.Next 7 ∷ []
 
-abbrev pub again_picture : PictureContents
-again_picture =
+abbrev pub queued_while_running_picture : PictureContents
+queued_while_running_picture =
     record {
       from = 0;
       ticks = 2;
@@ -119,12 +119,12 @@ rescuer_burns =
     ∷ work (codes "c") 0 (op.Finish ∷ []) ∷ []) [])
     { workers = 1 }
 
-abbrev pub rescued_lines : List Line
-rescued_lines = enqueue 0 0 ∷ enqueue 1 0 ∷ delay 2 5 ∷ times instr.Next 5 ∷ []
+abbrev pub rescuer_burns_lines : List Line
+rescuer_burns_lines = enqueue 0 0 ∷ enqueue 1 0 ∷ delay 2 5 ∷ times instr.Next 5 ∷ []
 
 -- nobody burns on the CPU
-abbrev pub rescued_picture : PictureContents
-rescued_picture =
+abbrev pub rescuer_burns_picture : PictureContents
+rescuer_burns_picture =
     record {
       from = 0;
       ticks = 1;

@@ -1,5 +1,5 @@
 //! Worked examples of pictures, as theorems over the definitions: each function's contract says what one picture shows.
-ghost use Rattle.cmwq_picture_laws.specs.Pictures.{queued_while_running, again_lines, again_picture, between, empty_picture, pictured, rescuer_burns, rescued_lines, rescued_picture, sharing, sharing_lines, sharing_picture, taken_cpu, taking_lines, taking_picture, whole};
+ghost use Rattle.cmwq_picture_laws.specs.Pictures.{queued_while_running, queued_while_running_lines, queued_while_running_picture, between, empty_picture, pictured, rescuer_burns, rescuer_burns_lines, rescuer_burns_picture, sharing, sharing_lines, sharing_picture, taken_cpu, taken_cpu_lines, taken_cpu_picture, whole};
 ghost use Rattle.std.specs.Prelude.{◌≡◌, []};
 
 /// Two works share a CPU, and a third one waits for room in their queue. What was refused and a question leave no mark.
@@ -9,17 +9,17 @@ pub fn works_share_a_cpu()
 
 /// A work whose CPU a work of high priority has taken waits for it; of four ticks the second and the third are drawn.
 pub fn work_waits_for_the_cpu()
-    ensures { pictured taken_cpu taking_lines (between 1 3) ≡ taking_picture }
+    ensures { pictured taken_cpu taken_cpu_lines (between 1 3) ≡ taken_cpu_picture }
 {}
 
 /// A work that is queued while it runs has a second row.
 pub fn work_is_queued_while_it_runs()
-    ensures { pictured queued_while_running again_lines whole ≡ again_picture }
+    ensures { pictured queued_while_running queued_while_running_lines whole ≡ queued_while_running_picture }
 {}
 
 /// A worker of an unbound pool and a rescuer that burn have rows of their own, and a timer has its sign.
 pub fn rescuer_burns_beside_a_worker()
-    ensures { pictured rescuer_burns rescued_lines whole ≡ rescued_picture }
+    ensures { pictured rescuer_burns rescuer_burns_lines whole ≡ rescuer_burns_picture }
 {}
 
 /// A run in which no time passes has no column.
