@@ -76,7 +76,7 @@ impl<P: Sayer> Looker<'_, P> {
         requires { CanIssue M.loaded M.state W.contents W.failed session.old }
         ensures told { Issues M.loaded M.state W.contents W.failed session.old session.new (M.state session.old.machine)
             (told_here P.says self.old session.old.scenario.now is_last (M.state session.old.machine)) result }
-        ensures looker_after { OnOk result (self.new ≡ looker_after P.says self.old session.old.scenario.now is_last (M.state session.old.machine)) }
+        ensures looked { OnOk result (self.new ≡ looker_after P.says self.old session.old.scenario.now is_last (M.state session.old.machine)) }
     {
         if !self.is_looked_at(&session.machine, is_last) {
             return Ok(());

@@ -46,7 +46,7 @@ pub fn end_with<W: Sink>(errors: &mut W, outcome: Result<u8, PlayError>) -> Exit
     ensures good { IfOk outcome (λ status. exit_status result ≡ status) }
     ensures silent { OnOk outcome (errors.new ≡ errors.old) }
     ensures status { IfErr outcome (λ fault. exit_status result ≡ status_of fault) }
-    ensures fault_written { IfErr outcome (λ fault. W.failed errors.new ≡ false
+    ensures told { IfErr outcome (λ fault. W.failed errors.new ≡ false
         → Appends (W.contents errors.old) (W.contents errors.new) (line_of fault)) }
     ensures front { IfErr outcome (λ fault. HasSentFront (W.contents errors.old) (W.contents errors.new) (line_of fault)) }
 {
