@@ -1,7 +1,7 @@
 //! The program `cmwq`: words in, status out.
 #![tactic(auto)]
 
-use cmwq_command::{ProgramSetting, carry_out};
+use cmwq_command::{Disk, ProgramSetting, carry_out};
 use cmwq_outcome::{Look, fault, tell};
 use cmwq_play::{Marked, PlayError};
 use cmwq_request::request;
@@ -16,6 +16,7 @@ fn main(rt: HostRuntime) -> ExitCode {
     let outcome = match words_given(&rt) {
         Ok(Some(words)) => carry_out(
             &rt,
+            &Disk { rt: &rt },
             ProgramSetting {
                 logic: LOGIC,
                 look: look_of_verdicts(&rt),

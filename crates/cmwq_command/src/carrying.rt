@@ -1,21 +1,21 @@
 //! What the words ask for, carried out on files.
-ghost use Rattle.cmwq_types.specs.Faults.{IsValid};
 ghost use Rattle.clap.specs.Words.{Text};
-ghost use Rattle.cmwq_outcome.specs.FaultsTold.{Prints};
+ghost use Rattle.cmwq_command.specs.Carried.{HasCarriedOut, HasChecked, HasDebugged, HasDone, HasLeft, IsJudged, UnlessUnopened, graded};
 ghost use Rattle.cmwq_command_line.specs.CommandLine.{version_line};
+ghost use Rattle.cmwq_outcome.specs.FaultsTold.{Prints};
+ghost use Rattle.cmwq_outcome.specs.Starting.{HasWrittenFirst};
 ghost use Rattle.cmwq_request.specs.Request.{IsCapacity, IsVersionWord, IsWithin};
-ghost use Rattle.cmwq_outcome.specs.declared.telling.TheConstants.{GOOD};
-ghost use Rattle.std.specs.Prelude.{◌≡◌, ◌∷◌, [], Err, IfOk, MatchResult, Ok, OnOk, false, map, string_bytes};
+ghost use Rattle.std.specs.Prelude.{◌≡◌, ◌∷◌, [], List, IfOk, IfSome, OnOk, false, length, map, string_bytes, ℕ};
 
+use crate::file_store::FileStore;
 use crate::tasks_done::do_task;
 use cmwq_actors::OpenGate;
 use cmwq_outcome::{GOOD, Judged, Look, check_text, tell, tell_unread, write_first, write_version};
 use cmwq_play::{Marked, PlayError, Sink};
 use cmwq_request::request::{Request, parse};
 use cmwq_tasks::Task;
-use std::fs::File;
+use std::alloc::Global;
 use std::io::Read;
-use std::rt::Files;
 use std::sync::Wait;
 use std::thread::Threads;
 use std::time::Clock;
@@ -32,8 +32,9 @@ pub struct ProgramSetting<'a> {
 /// Does what the words ask, of which the first is the program's name, and gives the exit status. Commands of a
 /// debugger come from `input`. Events, listings, pictures, what a debugger says, what a play leaves, verdicts of good files, the version and
 /// help go to `output`, and other verdicts, which look as they are to, and usage faults to `errors`. A play may wait forever.
-pub fn carry_out<R, I: Read + Drop, O: Sink, E: Sink>(
+pub fn carry_out<R, F: FileStore, I: Read + Drop, O: Sink, E: Sink>(
     rt: &R,
+    files: &F,
     setting: ProgramSetting<'_>,
     words: &[String],
     input: I,
@@ -41,7 +42,7 @@ pub fn carry_out<R, I: Read + Drop, O: Sink, E: Sink>(
     errors: &mut E,
 ) -> Result<u8, PlayError>
 where
-    R: Files + AllocGlobal + Threads + Wait + Clock + Sync,
+    R: AllocGlobal + Threads + Wait + Clock + Sync,
     requires output { O.failed output.old ≡ false }
     requires errors { E.failed errors.old ≡ false }
     // `--version` and `-V` print the version's line.
@@ -49,15 +50,16 @@ where
         → Prints (version_line setting.entry.logic.now) (O.contents output.old) (O.contents output.new) result }
 {
     match parse(rt.alloc(), words) {
-        Ok(request) => answer_request(rt, setting, input, output, errors, request),
+        Ok(request) => answer_request(rt, files, setting, input, output, errors, request),
         Err(error) => tell(rt.alloc(), output, errors, error.kind(), &error),
     }
 }
 
 /// Does what is asked, and gives the exit status. Commands of a debugger come from the input. Events, listings, pictures, what a debugger
 /// says, what a play leaves, verdicts of good files and the version go to `output`, and other verdicts to `errors`.
-pub fn answer_request<R, I: Read + Drop, O: Sink, E: Sink>(
+pub fn answer_request<R, F: FileStore, I: Read + Drop, O: Sink, E: Sink>(
     rt: &R,
+    files: &F,
     setting: ProgramSetting<'_>,
     input: I,
     output: &mut O,
@@ -65,138 +67,155 @@ pub fn answer_request<R, I: Read + Drop, O: Sink, E: Sink>(
     request: Request<'_>,
 ) -> Result<u8, PlayError>
 where
-    R: Files + AllocGlobal + Threads + Wait + Clock + Sync,
+    R: AllocGlobal + Threads + Wait + Clock + Sync,
     requires within { IsWithin request }
     requires output { O.failed output.old ≡ false }
     requires errors { E.failed errors.old ≡ false }
-    ensures version { request.entry ≡ Request.Version → Prints (version_line setting.entry.logic.now) (O.contents output.old) (O.contents output.new) result }
+    ensures done { HasCarriedOut (F.bytes files.now) setting.entry.look setting.entry.logic.now (I.remaining input) (O.contents output.old) (O.contents output.new)
+        (E.contents errors.old) (E.contents errors.new) (O.failed output.new) request.entry result }
 {
     match request {
-        Request::New { file } => good(new(rt, output, file)),
-        Request::Do { file, task } => good(do_on_file(rt, output, file, task)),
-        Request::Asm { file, out } => good(asm(rt, file, out)),
-        Request::Debug { file } => good(debug_file(rt, input, output, file)),
-        Request::Play { file, capacity } => good(play_file(rt, output, file, capacity)),
-        Request::Check { files } => check(rt, setting.look, output, errors, &files),
+        Request::New { file } => good(new(files, output, file)),
+        Request::Do { file, task } => good(do_on_file(rt.alloc(), files, output, file, task)),
+        Request::Asm { file, out } => good(asm(rt.alloc(), files, file, out)),
+        Request::Debug { file } => good(debug_file(rt.alloc(), files, input, output, file)),
+        Request::Play { file, capacity } => good(play_file(rt, files, output, file, capacity)),
+        Request::Check { files: paths } => check(
+            rt.alloc(),
+            files,
+            setting.look,
+            output,
+            errors,
+            &paths,
+        ),
         Request::Version => good(write_version(rt.alloc(), setting.logic, output)),
     }
 }
 
 /// The exit status of what was done.
 fn good(outcome: Result<(), PlayError>) -> Result<u8, PlayError>
-    ensures { MatchResult outcome (λ _. result ≡ Ok GOOD) (λ error. result ≡ Err error) }
+    ensures { result ≡ graded outcome }
 {
-    outcome?;
-    Ok(GOOD)
+    match outcome {
+        Ok(()) => Ok(GOOD),
+        Err(error) => Err(error),
+    }
 }
 
 /// Tells the verdict of each of these files, one after another, and gives the highest of their statuses.
-fn check<R: Files + AllocGlobal, O: Sink, E: Sink>(
-    rt: &R,
+fn check<F: FileStore, O: Sink, E: Sink>(
+    alloc: Global,
+    files: &F,
     look: Look,
     output: &mut O,
     errors: &mut E,
-    files: &[&str],
+    paths: &[&str],
 ) -> Result<u8, PlayError>
     requires output { O.failed output.old ≡ false }
     requires errors { E.failed errors.old ≡ false }
+    ensures checked { IfOk result (λ status. HasChecked (F.bytes files.now) look (map (λ path. path.now) paths.now) (length paths.now)
+        (O.contents output.old) (O.contents output.new) (E.contents errors.old) (E.contents errors.new) status) }
 {
     let mut status = GOOD;
-    for file in files {
-        let judged = check_file(rt, look, output, errors, file)?;
+    for path in paths {
+        let judged = check_file(alloc, files, look, output, errors, path)?;
         status = status.max(judged.status());
     }
     Ok(status)
 }
 
 /// Tells the verdict of the file.
-fn check_file<R: Files + AllocGlobal, O: Sink, E: Sink>(
-    rt: &R,
+fn check_file<F: FileStore, O: Sink, E: Sink>(
+    alloc: Global,
+    files: &F,
     look: Look,
     output: &mut O,
     errors: &mut E,
-    file: &str,
+    path: &str,
 ) -> Result<Judged, PlayError>
     requires output { O.failed output.old ≡ false }
     requires errors { E.failed errors.old ≡ false }
+    ensures judged { IfOk result (λ judged. IfSome (F.bytes files.now path.now) (λ bytes. IsJudged look path.now bytes
+        (O.contents output.old) (O.contents output.new) (E.contents errors.old) (E.contents errors.new) judged)) }
     ensures output { OnOk result (O.failed output.new ≡ false) }
     ensures errors { OnOk result (E.failed errors.new ≡ false) }
 {
-    match open_file(rt, file) {
-        Ok(mut reader) => check_text(rt.alloc(), look, file, &mut reader, output, errors),
-        Err(_) => tell_unread(rt.alloc(), file, errors),
+    match files.open(path) {
+        Ok(mut reader) => check_text(alloc, look, path, &mut reader, output, errors),
+        Err(_) => tell_unread(alloc, path, errors),
     }
 }
 
 /// Writes a scenario to start from, to a file that isn't there yet, or to the writer where no file is named.
-fn new<R: Files, W: Sink>(rt: &R, writer: &mut W, file: Option<&str>) -> Result<(), PlayError>
+fn new<F: FileStore, W: Sink>(
+    files: &F,
+    writer: &mut W,
+    file: Option<&str>,
+) -> Result<(), PlayError>
     requires { W.failed writer.old ≡ false }
+    ensures first { file.entry ≡ None → OnOk result (HasWrittenFirst (W.contents writer.old) (W.contents writer.new)) }
+    ensures same { IfSome file.entry (λ _. writer.new ≡ writer.old) }
 {
     match file {
-        Some(path) => {
-            let made = File::create_new(rt, path).map_err(|_| PlayError::Write)?;
-            write_first(&mut Marked::new(made))
-        }
+        Some(path) => write_first(&mut files.make_new(path)?),
         None => write_first(writer),
     }
 }
 
 /// Carries the task out on the file, and writes what comes of it.
-fn do_on_file<R: Files + AllocGlobal, W: Sink>(
-    rt: &R,
+fn do_on_file<F: FileStore, W: Sink>(
+    alloc: Global,
+    files: &F,
     writer: &mut W,
     file: &str,
     task: Task<'_>,
 ) -> Result<(), PlayError>
     requires { W.failed writer.old ≡ false }
+    ensures done { IfSome (F.bytes files.now file.now) (λ bytes. UnlessUnopened (W.contents writer.old) (W.contents writer.new) result
+        (HasDone task.entry bytes (W.contents writer.old) (W.contents writer.new) (W.failed writer.new) result)) }
 {
-    let mut reader = open_file(rt, file)?;
-    do_task(task, rt.alloc(), &mut reader, writer)
+    let mut reader = files.open(file)?;
+    do_task(task, alloc, &mut reader, writer)
 }
 
 /// Makes the image file of the scenario whose text is in the file. The image file is made anew
 /// first, and it stays empty where there is a fault before the image is written.
-fn asm<R: Files + AllocGlobal>(rt: &R, file: &str, out: &str) -> Result<(), PlayError> {
-    let made = File::create(rt, out).map_err(|_| PlayError::Write)?;
-    let mut writer = Marked::new(made);
-    let mut reader = open_file(rt, file)?;
-    cmwq_play::to_image(rt.alloc(), &mut reader, &mut writer)
+fn asm<F: FileStore>(alloc: Global, files: &F, file: &str, out: &str) -> Result<(), PlayError> {
+    let mut writer = files.make(out)?;
+    let mut reader = files.open(file)?;
+    cmwq_play::to_image(alloc, &mut reader, &mut writer)
 }
 
 /// Debugs the scenario whose text is in the file, by the commands of the input, and writes what is said to each.
-fn debug_file<R: Files + AllocGlobal, I: Read + Drop, W: Sink>(
-    rt: &R,
+fn debug_file<F: FileStore, I: Read + Drop, W: Sink>(
+    alloc: Global,
+    files: &F,
     input: I,
     writer: &mut W,
     file: &str,
 ) -> Result<(), PlayError>
     requires { W.failed writer.old ≡ false }
+    ensures debugged { IfSome (F.bytes files.now file.now) (λ bytes. HasDebugged bytes (I.remaining input) (W.contents writer.old) (W.contents writer.new) result) }
 {
-    let mut reader = open_file(rt, file)?;
-    let scenario = cmwq_play::read_text(rt.alloc(), &mut reader)?;
+    let mut reader = files.open(file)?;
+    let scenario = cmwq_play::read_text(alloc, &mut reader)?;
     let mut commands = Marked::new(input);
-    cmwq_debug_session::debug(rt.alloc(), scenario, &mut commands, writer)
+    cmwq_debug_session::debug(alloc, scenario, &mut commands, writer)
 }
 
 /// Carries out all actors of the scenario whose text is in the file at once, and writes the text that is left.
-fn play_file<R: Files + AllocGlobal + Threads + Wait + Clock + Sync, W: Sink>(
+fn play_file<R: AllocGlobal + Threads + Wait + Clock + Sync, F: FileStore, W: Sink>(
     rt: &R,
+    files: &F,
     writer: &mut W,
     file: &str,
     capacity: u32,
 ) -> Result<(), PlayError>
     requires capacity { IsCapacity capacity }
     requires writer { W.failed writer.old ≡ false }
+    ensures left { IfSome (F.bytes files.now file.now) (λ bytes. HasLeft capacity bytes (W.contents writer.old) (W.contents writer.new) result) }
 {
-    let mut reader = open_file(rt, file)?;
+    let mut reader = files.open(file)?;
     let scenario = cmwq_play::read_text(rt.alloc(), &mut reader)?;
     cmwq_interleaving::play(rt, rt.alloc(), scenario, capacity, &OpenGate, writer)
-}
-
-/// The file, opened to be read.
-fn open_file<R: Files>(rt: &R, path: &str) -> Result<Marked<R::File>, PlayError>
-    ensures { IfOk result (λ reader. reader.failed ≡ false) }
-{
-    let file = File::open(rt, path).map_err(|_| PlayError::Read)?;
-    Ok(Marked::new(file))
 }

@@ -2,7 +2,9 @@
 #![tactic(auto)]
 
 mod carrying;
+mod file_store;
 mod tasks_done;
 
 pub use carrying::{ProgramSetting, answer_request, carry_out};
+pub use file_store::{Disk, FileStore};
 pub use tasks_done::do_task;

@@ -1,7 +1,7 @@
 //! Command lines: the requests that they are, and help and usage faults.
 use crate::checking::{same, setting_with};
 use clap::error::ErrorKind;
-use cmwq_command::carry_out;
+use cmwq_command::{Disk, carry_out};
 use cmwq_machine_tests::streams::{Output, reading_of, writing_to};
 use cmwq_outcome::{Look, tell};
 use cmwq_play::Marked;
@@ -389,6 +389,7 @@ fn check_told<R: Files + AllocGlobal + Threads + Wait + Clock + Sync + Abort>(
     let mut errors = Marked::new(writing_to(rt.alloc(), 4096));
     let result = carry_out(
         rt,
+        &Disk { rt },
         setting_with(Look::Plain),
         given.as_slice(),
         reading_of(b"", 1),

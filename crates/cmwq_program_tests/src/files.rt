@@ -3,7 +3,7 @@ ghost use Rattle.cmwq_request.specs.Request.{IsWithin};
 
 use crate::checking::{same, setting_with};
 use cmwq_asm::AsmError;
-use cmwq_command::answer_request;
+use cmwq_command::{Disk, answer_request};
 use cmwq_grammar::Why;
 use cmwq_image::ImageError;
 use cmwq_machine_tests::examples::{IMAGE_OF_STEPS_RUN_OUT as IMAGE, STEPS_RUN_OUT};
@@ -64,7 +64,15 @@ fn check_talk<R: Files + AllocGlobal + Threads + Wait + Clock + Sync + Abort>(
     let mut errors = Marked::new(Vec::new(rt.alloc()));
     let input = reading_of(commands, 4096);
     let setting = setting_with(Look::Plain);
-    let result = answer_request(rt, setting, input, &mut output, &mut errors, request);
+    let result = answer_request(
+        rt,
+        &Disk { rt },
+        setting,
+        input,
+        &mut output,
+        &mut errors,
+        request,
+    );
     same(rt, printed, result, want.map(|()| 0));
     same(rt, printed, output.inner.as_slice(), printed);
     same(rt, printed, errors.inner.as_slice(), b"".as_slice());
@@ -137,6 +145,7 @@ fn check_verdicts<R: Files + AllocGlobal + Threads + Wait + Clock + Sync + Abort
     let request = Request::Check { files };
     let result = answer_request(
         rt,
+        &Disk { rt },
         setting_with(look),
         reading_of(b"", 1),
         &mut output,

@@ -1,0 +1,65 @@
+//! Where files are opened and made.
+ghost use Rattle.std.specs.Prelude.{◌≡◌, ℕ, IfErr, IfOk, IfSome, List, None, Option, Some, false};
+
+use cmwq_play::{Marked, PlayError, Sink, Source};
+use std::fs::File;
+use std::rt::Files;
+
+/// Where files are opened to be read and made to be written.
+pub trait FileStore {
+    /// A file that is read.
+    type Reader: Source + Drop;
+    /// A file that is written.
+    type Writer: Sink + Drop;
+
+    /// What the file of this path has, where that is known.
+    ghost bytes: { Self → List ℕ → Option (List ℕ) };
+
+    /// The file of this path, opened to be read. The only error is `Read`.
+    fn open(&self, path: &str) -> Result<Self::Reader, PlayError>
+        ensures sound { IfOk result (λ reader. Self.Reader.failed reader ≡ false) }
+        ensures bytes { IfOk result (λ reader. IfSome (bytes self.now path.now) (λ all. Self.Reader.remaining reader ≡ Some all)) }
+        ensures why { IfErr result (λ error. error ≡ PlayError.Read) };
+
+    /// The file of this path, made anew to be written; what it had is lost. The only error is `Write`.
+    fn make(&self, path: &str) -> Result<Self::Writer, PlayError>
+        ensures sound { IfOk result (λ writer. Self.Writer.failed writer ≡ false) }
+        ensures why { IfErr result (λ error. error ≡ PlayError.Write) };
+
+    /// The file of this path, made to be written, where there is none yet. The only error is `Write`.
+    fn make_new(&self, path: &str) -> Result<Self::Writer, PlayError>
+        ensures sound { IfOk result (λ writer. Self.Writer.failed writer ≡ false) }
+        ensures why { IfErr result (λ error. error ≡ PlayError.Write) };
+}
+
+/// The system's files, of which nothing is known.
+#[derive(Clone, Copy, Debug)]
+pub struct Disk<'a, R> {
+    /// What gives access to them.
+    pub rt: &'a R,
+}
+
+impl<R: Files> FileStore for Disk<'_, R> {
+    type Reader = Marked<R::File>;
+
+    type Writer = Marked<R::File>;
+
+    ghost use Rattle.std.specs.Prelude.{None};
+
+    ghost bytes = { λ disk path. None };
+
+    fn open(&self, path: &str) -> Result<Marked<R::File>, PlayError> {
+        let file = File::open(self.rt, path).map_err(|_| PlayError::Read)?;
+        Ok(Marked::new(file))
+    }
+
+    fn make(&self, path: &str) -> Result<Marked<R::File>, PlayError> {
+        let file = File::create(self.rt, path).map_err(|_| PlayError::Write)?;
+        Ok(Marked::new(file))
+    }
+
+    fn make_new(&self, path: &str) -> Result<Marked<R::File>, PlayError> {
+        let file = File::create_new(self.rt, path).map_err(|_| PlayError::Write)?;
+        Ok(Marked::new(file))
+    }
+}
