@@ -13,10 +13,12 @@ use Rattle.cmwq_outcome.specs.FaultsTold.{Prints}
 use Rattle.cmwq_outcome.specs.Starting.{HasWrittenFirst}
 use Rattle.cmwq_outcome.specs.declared.file_verdict.Judged.{Judged}
 use Rattle.cmwq_play.specs.Commands.{Answers, Writes}
+use Rattle.clap.specs.Words.{Text}
+use Rattle.cmwq_request.specs.Request.{request_words}
 use Rattle.cmwq_request.specs.declared.request.Request.{Request}
 use Rattle.cmwq_request.specs.declared.request.Request.TheVariants.{New, Do, Asm, Debug, Play, Check, Version}
 use Rattle.cmwq_streams.specs.declared.error.PlayError.{PlayError}
-use Rattle.cmwq_streams.specs.declared.error.PlayError.TheVariants.{Full, Read}
+use Rattle.cmwq_streams.specs.declared.error.PlayError.TheVariants.{Full, NoMemory, Read}
 use Rattle.cmwq_tasks.specs.declared.task.Task.{Task}
 use Rattle.cmwq_verdict.specs.declared.looks.Look.{Look}
 
@@ -87,3 +89,7 @@ module _ (store : Store) (look : Look) (logic : List ℕ) (input output output_n
       HasChecked store look (map (λ file. file.now) files.items) (length files.items) output output_now errors errors_now status
   HasCarriedOut (Check files) (Err error) = Unit {0}
   HasCarriedOut Version result = (errors_now ≡ errors) × Prints (version_line logic) output output_now result
+
+  -- what the words ask for was done; or memory ran out
+  abbrev pub HasCarriedOutWords : List Text → Result ℕ PlayError → Type 0
+  HasCarriedOutWords asked result = ((request : Request) × (request_words request ≡ asked) × HasCarriedOut request result) ⊎ (result ≡ Err NoMemory)

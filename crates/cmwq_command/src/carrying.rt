@@ -1,10 +1,11 @@
 //! What the words ask for, carried out on files.
 ghost use Rattle.clap.specs.Words.{Text};
-ghost use Rattle.cmwq_command.specs.Carried.{HasCarriedOut, HasChecked, HasDebugged, HasDone, HasLeft, IsJudged, UnlessUnopened, graded};
+ghost use Rattle.cmwq_command.specs.Carried.{HasCarriedOut, HasCarriedOutWords, HasChecked, HasDebugged, HasDone, HasLeft, IsJudged, UnlessUnopened, graded};
 ghost use Rattle.cmwq_command_line.specs.CommandLine.{version_line};
 ghost use Rattle.cmwq_outcome.specs.FaultsTold.{Prints};
 ghost use Rattle.cmwq_outcome.specs.Starting.{HasWrittenFirst};
-ghost use Rattle.cmwq_request.specs.Request.{IsCapacity, IsVersionWord, IsWithin};
+ghost use Rattle.cmwq_outcome.specs.declared.telling.TheConstants.{USAGE};
+ghost use Rattle.cmwq_request.specs.Request.{IsAskedBy, IsCapacity, IsMisusedBy, IsVersionWord, IsWithin};
 ghost use Rattle.std.specs.Prelude.{◌≡◌, ◌∷◌, [], List, IfOk, IfSome, OnOk, false, length, map, string_bytes, ℕ};
 
 use crate::file_store::FileStore;
@@ -48,6 +49,13 @@ where
     // `--version` and `-V` print the version's line.
     ensures version { (name word : Text) → map string_bytes words.now ≡ name ∷ word ∷ [] → IsVersionWord word
         → Prints (version_line setting.entry.logic.now) (O.contents output.old) (O.contents output.new) result }
+    // Each command's words carry it out, unless memory runs out before.
+    ensures done { (name : Text) (given asked : List Text) → map string_bytes words.now ≡ name ∷ given → IsAskedBy given asked
+        → HasCarriedOutWords (F.bytes files.now) setting.entry.look setting.entry.logic.now (I.remaining input) (O.contents output.old) (O.contents output.new)
+        (E.contents errors.old) (E.contents errors.new) (O.failed output.new) asked result }
+    // Words that ask for nothing are told on the writer for faults alone.
+    ensures misuse { (name : Text) (given : List Text) → map string_bytes words.now ≡ name ∷ given → IsMisusedBy given
+        → (output.new ≡ output.old) × IfOk result (λ status. status ≡ USAGE) }
 {
     match parse(rt.alloc(), words) {
         Ok(request) => answer_request(rt, files, setting, input, output, errors, request),
