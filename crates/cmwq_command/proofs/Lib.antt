@@ -1,1 +1,2 @@
+pub mod CarriedLemmas
 pub mod TaskLemmas
