@@ -4,7 +4,7 @@ use Rattle.std.proofs.lemmas.List.{append_cancel_left}
 use Rattle.cmwq_types.specs.declared.instr.Instr.{Instr}
 use Rattle.cmwq_lock.specs.Log.{BeginsWith, BothGrow}
 use Rattle.cmwq_lock.specs.Views.{caller_of, ticket_of, seen_of, mine_of}
-use Rattle.cmwq_engine.specs.Issuing.{Issued, entry_of}
+use Rattle.cmwq_engine.specs.Issuing.{HasIssued, entry_of}
 use Rattle.cmwq_engine.specs.Shared.{EngineView, HasEntered, HasFoundFull}
 use Rattle.cmwq_engine.specs.declared.history.Entry.{Entry}
 use Rattle.cmwq_engine.specs.declared.history.Full.{Full}
@@ -19,7 +19,7 @@ module _ (from : Setting) (instr : Instr) (before : List Entry) (v w : EngineVie
   Grows = BothGrow (λ (e : Entry). e.ticket) (λ (e : Entry). e.caller) before (seen_of w) (mine_of v) (mine_of w) (ticket_of v) (caller_of v)
 
   -- with a receipt its entry is the new one
-  pub entered : (outcome : Result Receipt Full) → Grows → BeginsWith before (seen_of v) → Issued from instr before (seen_of w) (ticket_of v) (caller_of v) outcome
+  pub entered : (outcome : Result Receipt Full) → Grows → BeginsWith before (seen_of v) → HasIssued from instr before (seen_of w) (ticket_of v) (caller_of v) outcome
       → IfOk outcome (λ receipt. HasEntered from v w (entry_of receipt (caller_of v) instr) receipt.place)
   entered (Ok receipt) (inl same) begins told = absurd (not_longer before (seen_of w) _ same.0 told.0)
   entered (Ok receipt) (inr more) begins told = record {
@@ -33,14 +33,14 @@ module _ (from : Setting) (instr : Instr) (before : List Entry) (v w : EngineVie
   entered (Err full) grows begins told = tt
 
   -- with none there is no new entry
-  pub found_full : (outcome : Result Receipt Full) → Grows → Issued from instr before (seen_of w) (ticket_of v) (caller_of v) outcome
+  pub found_full : (outcome : Result Receipt Full) → Grows → HasIssued from instr before (seen_of w) (ticket_of v) (caller_of v) outcome
       → IfErr outcome (λ full. HasFoundFull from v w)
   found_full (Ok receipt) grows told = tt
   found_full (Err full) (inl same) told = record { full = ap length told.0 ∙ told.1; mine = same.1 }
   found_full (Err full) (inr more) told = absurd (not_longer before (seen_of w) _ told.0 more.1)
 
   -- and all entries are those of earlier turns
-  pub none_new : (outcome : Result Receipt Full) → All (λ (e : Entry). e.ticket < ticket_of v) before → Issued from instr before (seen_of w) (ticket_of v) (caller_of v) outcome
+  pub none_new : (outcome : Result Receipt Full) → All (λ (e : Entry). e.ticket < ticket_of v) before → HasIssued from instr before (seen_of w) (ticket_of v) (caller_of v) outcome
       → IfErr outcome (λ full. All (λ (e : Entry). e.ticket < ticket_of v) (seen_of w))
   none_new (Ok receipt) earlier told = tt
   none_new (Err full) earlier told = subst (λ (l : List Entry). All (λ (e : Entry). e.ticket < ticket_of v) l) (sym told.0) earlier

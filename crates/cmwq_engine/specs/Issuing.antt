@@ -19,8 +19,8 @@ abbrev pub reply_after : ScenarioContents → List Entry → Instr → Reply
 reply_after scenario history instr = (table scenario (run scenario (instrs_of history)) instr).1
 
 -- the history has one entry more, of which the receipt tells, and its reply is the table's; or it is full, and as before
-abbrev pub Issued : Setting → Instr → List Entry → List Entry → ℕ → ℕ → Result Receipt Full → Type 0
-Issued from instr before after ticket caller (Ok receipt) =
+abbrev pub HasIssued : Setting → Instr → List Entry → List Entry → ℕ → ℕ → Result Receipt Full → Type 0
+HasIssued from instr before after ticket caller (Ok receipt) =
     (after ≡ before ++ entry_of receipt caller instr ∷ []) × (receipt.ticket ≡ ticket) × (receipt.place ≡ length before)
     × (receipt.reply ≡ reply_after from.scenario before instr)
-Issued from instr before after ticket caller (Err full) = (after ≡ before) × (length before ≡ from.capacity)
+HasIssued from instr before after ticket caller (Err full) = (after ≡ before) × (length before ≡ from.capacity)

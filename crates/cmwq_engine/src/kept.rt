@@ -3,7 +3,7 @@ ghost use Rattle.std.specs.Prelude.{refl};
 ghost use Rattle.std.proofs.Common.{arith};
 ghost use Rattle.cmwq_engine.specs.Engine.{IsSound};
 ghost use Rattle.cmwq_engine.specs.History.{IsLegal};
-ghost use Rattle.cmwq_engine.specs.Issuing.{Issued};
+ghost use Rattle.cmwq_engine.specs.Issuing.{HasIssued};
 
 use crate::engine::Engine;
 use crate::history::{Entry, Full, Setting};
@@ -51,7 +51,7 @@ impl<M: Machine> Kept for Engine<M> {
 impl<M: Machine> Call<Engine<M>> for Instr {
     type Out = Result<Receipt, Full>;
 
-    ghost tells = { λ from instr before after ticket caller out. Issued from instr before after ticket caller out };
+    ghost tells = { λ from instr before after ticket caller out. HasIssued from instr before after ticket caller out };
 
     fn apply(self, value: &mut Engine<M>, ticket: u64, caller: u32) -> Result<Receipt, Full> {
         let place = value.history().len() as u32;

@@ -18,7 +18,7 @@ use Rattle.cmwq_lock.specs.declared.views.SeatView.TheVariants.{Opener, Pass, Bo
 use Rattle.cmwq_lock.specs.Log.{BeginsWith}
 use Rattle.cmwq_lock.specs.Views.{is_out, is_both, seeing, joined, longer_seen, first_met, second_met}
 use Rattle.cmwq_lock.specs.Steps.{compare_seen}
-use Rattle.cmwq_lock.specs.Rule.{Side, first, second, Standing, Homes, caller_at, ViewIs, IsPass, IsRuled, Whereabouts, at_seat, in_record, StandsAt}
+use Rattle.cmwq_lock.specs.Rule.{Side, first, second, Standing, Homes, caller_at, ViewIs, IsPass, IsRuled, Whereabouts, at_seat, in_record, CallerStandsAt}
 use Rattle.cmwq_lock.proofs.Puts.{put, put_here, put_else, at_end, set_there}
 use Rattle.cmwq_lock.proofs.Places.{two_callers, seats_apart, sides_apart, record_apart, spent_stands, recast, stands_changed, stands_longer, holder_stays, holder_longer, view_stays, pass_recast, opener_elsewhere, slot_stays, slot_longer}
 use Rattle.cmwq_lock.proofs.Moves.{passes-set}
@@ -65,9 +65,9 @@ module _ {T O E : Type 0} (K : Ghosts T O E) (o : O) where
         each_ticket = λ ticket least below. holder_stays K o at' at' views' other w Spent ticket refl there (λ has is. cc)
             (holder_stays K o r.at at' s.views id v both ticket refl here (λ has is. cc) (r.each_ticket ticket least below));
         each_caller = λ c below. dite (ℕ_discrete c caller)
-            (λ (e : c ≡ caller). subst (λ (p : Whereabouts). StandsAt K o at' (set views' other Spent) p c) (sym (ap (put r.at.where_is caller place) e ∙ put_here r.at.where_is caller place))
+            (λ (e : c ≡ caller). subst (λ (p : Whereabouts). CallerStandsAt K o at' (set views' other Spent) p c) (sym (ap (put r.at.where_is caller place) e ∙ put_here r.at.where_is caller place))
             (both, set_else views' other id Spent (λ same. apart (sym same)) ∙ set_there s.views id v both here, ap some (sym e)))
-            (λ (apart' : c ≢ caller). subst (λ (p : Whereabouts). StandsAt K o at' (set views' other Spent) p c) (sym (put_else r.at.where_is caller place c apart'))
+            (λ (apart' : c ≢ caller). subst (λ (p : Whereabouts). CallerStandsAt K o at' (set views' other Spent) p c) (sym (put_else r.at.where_is caller place c apart'))
             (stands_changed K o at' at' views' other w Spent c (λ i k old. old) there (spent_stands it (Out u) c apart') (r.at.where_is c)
             (stands_changed K o r.at at' s.views id v both c (λ i k old. old) here (joined_stands one it t u c) (r.at.where_is c) (r.each_caller c below))));
         each_record = λ i k old. let was = r.each_record i k old in record {
@@ -140,9 +140,9 @@ module _ {T O E : Type 0} (K : Ghosts T O E) (o : O) where
         opener_seen = r.opener_seen;
         each_ticket = λ ticket least below. holder_longer K o at' changed (right ∷ []) ticket (holder_stays K o r.at at' s.views id v left ticket refl here (λ has is. cc) (r.each_ticket ticket least below));
         each_caller = λ c below. dite (ℕ_discrete c caller)
-            (λ (e : c ≡ caller). subst (λ (z : Whereabouts). StandsAt K o at' (changed ++ right ∷ []) z c) (sym (ap (put r.at.where_is caller place) e ∙ put_here r.at.where_is caller place))
+            (λ (e : c ≡ caller). subst (λ (z : Whereabouts). CallerStandsAt K o at' (changed ++ right ∷ []) z c) (sym (ap (put r.at.where_is caller place) e ∙ put_here r.at.where_is caller place))
             (right, at_last changed right new (length-set s.views id left), ap some (sym e)))
-            (λ (apart : c ≢ caller). subst (λ (z : Whereabouts). StandsAt K o at' (changed ++ right ∷ []) z c) (sym (put_else r.at.where_is caller place c apart))
+            (λ (apart : c ≢ caller). subst (λ (z : Whereabouts). CallerStandsAt K o at' (changed ++ right ∷ []) z c) (sym (put_else r.at.where_is caller place c apart))
             (stands_longer K o at' changed (right ∷ []) c (r.at.where_is c) (stands_changed K o r.at at' s.views id v left c (λ i k old. old) here (parted_stands p q c apart) (r.at.where_is c) (r.each_caller c below))));
         each_record = λ i k old. let was = r.each_record i k old in record {
           was_given = was.was_given;

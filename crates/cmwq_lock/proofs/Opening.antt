@@ -18,7 +18,7 @@ use Rattle.cmwq_lock.specs.declared.views.SeatView.TheVariants.{Opener, Pass, Bo
 use Rattle.cmwq_lock.specs.Log.{BeginsWith, longer, calls_of}
 use Rattle.cmwq_lock.specs.Promises.{IsLastLog}
 use Rattle.cmwq_lock.specs.Views.{is_opener, is_out, given, fresh, taken_back, out_of, records_of}
-use Rattle.cmwq_lock.specs.Rule.{Side, first, second, Standing, Homes, home, pass_count, passes, caller_at, at_home, with_seat, ViewIs, IsPass, IsRuled, opening_view, Whereabouts, at_seat, in_record, StandsAt, IsKnown, IsRecord}
+use Rattle.cmwq_lock.specs.Rule.{Side, first, second, Standing, Homes, home, pass_count, passes, caller_at, at_home, with_seat, ViewIs, IsPass, IsRuled, opening_view, Whereabouts, at_seat, in_record, CallerStandsAt, IsKnown, IsRecord}
 use Rattle.cmwq_lock.proofs.Puts.{put, put_here, put_else, at_end, all_of, set_there, all_there, any_there, all_read}
 use Rattle.cmwq_lock.proofs.Places.{two_callers, seats_apart, record_apart, opener_stands, spent_stands, recast, stands_changed, stands_longer, holder_stays, holder_longer, view_stays, pass_recast, slot_stays, slot_longer}
 use Rattle.cmwq_lock.proofs.Moves.{passes-set}
@@ -85,10 +85,10 @@ module _ {T O E : Type 0} (K : Ghosts T O E) (o : O) where
         opener_seen = r.opener_seen;
         each_ticket = λ t least below. holder_longer K o at' (set s.views id changed) (new ∷ []) t (holder_stays K o r.at at' s.views id (Opener d) changed t refl here (λ has is. cc) (r.each_ticket t least below));
         each_caller = λ c below. dite (ℕ_discrete c r.at.opener_knows.next)
-            (λ (e : c ≡ r.at.opener_knows.next). subst (λ (p : Whereabouts). StandsAt K o at' (set s.views id changed ++ new ∷ []) p c)
+            (λ (e : c ≡ r.at.opener_knows.next). subst (λ (p : Whereabouts). CallerStandsAt K o at' (set s.views id changed ++ new ∷ []) p c)
             (sym (ap (put r.at.where_is r.at.opener_knows.next (at_seat first (length s.views))) e ∙ put_here r.at.where_is r.at.opener_knows.next (at_seat first (length s.views))))
             (new, at_last (set s.views id changed) new (length s.views) (length-set s.views id changed), ap some (ap (λ (z : OpenerView O E). z.next) opener_knows ∙ sym e)))
-            (λ (apart : c ≢ r.at.opener_knows.next). subst (λ (p : Whereabouts). StandsAt K o at' (set s.views id changed ++ new ∷ []) p c) (sym (put_else r.at.where_is r.at.opener_knows.next (at_seat first (length s.views)) c apart))
+            (λ (apart : c ≢ r.at.opener_knows.next). subst (λ (p : Whereabouts). CallerStandsAt K o at' (set s.views id changed ++ new ∷ []) p c) (sym (put_else r.at.where_is r.at.opener_knows.next (at_seat first (length s.views)) c apart))
             (stands_longer K o at' (set s.views id changed) (new ∷ []) c (r.at.where_is c)
             (stands_changed K o r.at at' s.views id (Opener d) changed c (λ i k there. there) here (opener_stands d _ c) (r.at.where_is c) (r.each_caller c (omega arith)))));
         each_record = λ i k there. let was = r.each_record i k there in let below = was.was_given in record {
@@ -130,10 +130,10 @@ module _ {T O E : Type 0} (K : Ghosts T O E) (o : O) where
         each_ticket = λ ticket least below. holder_stays K o at' at' views' other w Spent ticket refl there (λ has is. cc)
             (holder_stays K o r.at at' s.views id (Opener d) changed ticket refl here (λ has is. cc) (r.each_ticket ticket least below));
         each_caller = λ c below. dite (ℕ_discrete c k.caller)
-            (λ (e : c ≡ k.caller). subst (λ (p : Whereabouts). StandsAt K o at' (set views' other Spent) p c)
+            (λ (e : c ≡ k.caller). subst (λ (p : Whereabouts). CallerStandsAt K o at' (set views' other Spent) p c)
             (sym (ap (put r.at.where_is k.caller (in_record (length r.at.opener_knows.records))) e ∙ put_here r.at.where_is k.caller (in_record (length r.at.opener_knows.records))))
             (k, at_last r.at.opener_knows.records k (length r.at.opener_knows.records) refl, sym e))
-            (λ (apart' : c ≢ k.caller). subst (λ (p : Whereabouts). StandsAt K o at' (set views' other Spent) p c) (sym (put_else r.at.where_is k.caller (in_record (length r.at.opener_knows.records)) c apart'))
+            (λ (apart' : c ≢ k.caller). subst (λ (p : Whereabouts). CallerStandsAt K o at' (set views' other Spent) p c) (sym (put_else r.at.where_is k.caller (in_record (length r.at.opener_knows.records)) c apart'))
             (stands_changed K o at' at' views' other w Spent c (λ i k' old. old) there (spent_stands who (Out t) c apart') (r.at.where_is c)
             (stands_changed K o r.at at' s.views id (Opener d) changed c (λ i k' old. at_longer r.at.opener_knows.records (k ∷ []) i k' old) here (opener_stands d _ c) (r.at.where_is c) (r.each_caller c below))));
         each_record = λ i k' at_record. ⊎_elim
@@ -189,7 +189,7 @@ module _ {T O E : Type 0} (K : Ghosts T O E) (o : O) where
   }
 
   -- where no pass is out each caller stands in a record
-  recorded : (at : Standing O E) (views : List (SeatView O E)) → passes views ≡ 0 → (c : ℕ) (p : Whereabouts) → StandsAt K o at views p c → Any (λ k. k.caller ≡ c) at.opener_knows.records
+  recorded : (at : Standing O E) (views : List (SeatView O E)) → passes views ≡ 0 → (c : ℕ) (p : Whereabouts) → CallerStandsAt K o at views p c → Any (λ k. k.caller ≡ c) at.opener_knows.records
   recorded at views none_out c (at_seat side seat) (v, there, is) = absurd (no_caller side v c (no_pass views seat v none_out there) is)
   recorded at views none_out c (in_record i) (k, there, is) = any_there (λ (q : Knowledge E). q.caller ≡ c) at.opener_knows.records i k there is
 

@@ -16,7 +16,7 @@ use Rattle.cmwq_lock.specs.declared.views.Phase.TheVariants.{Out, Waiting, Insid
 use Rattle.cmwq_lock.specs.declared.views.SeatView.{SeatView}
 use Rattle.cmwq_lock.specs.declared.views.SeatView.TheVariants.{Opener, Pass, Both, Spent}
 use Rattle.cmwq_lock.specs.Views.{has_ticket, is_opener, is_inside, ticket_of}
-use Rattle.cmwq_lock.specs.Rule.{Side, first, second, Whereabouts, at_seat, in_record, Standing, Homes, caller_at, StandsAt, HasHolder, SlotIs, at_home, with_seat, PhaseIs, IsPass, IsOpener, ViewIs, IsRuled}
+use Rattle.cmwq_lock.specs.Rule.{Side, first, second, Whereabouts, at_seat, in_record, Standing, Homes, caller_at, CallerStandsAt, HasHolder, SlotIs, at_home, with_seat, PhaseIs, IsPass, IsOpener, ViewIs, IsRuled}
 use Rattle.cmwq_lock.proofs.Puts.{set_there}
 
 -- callers that stand at two places are two callers
@@ -50,14 +50,14 @@ module _ {T O E : Type 0} (K : Ghosts T O E) (o : O) where
   -- a caller that stood stands, where the changed view still has it
   pub stands_changed : (at at' : Standing O E) (views : List (SeatView O E)) (id : ℕ) (v w : SeatView O E) (c : ℕ) → ((i : ℕ) (k : Knowledge E) → get_elem? at.opener_knows.records i ≡ some k → get_elem? at'.opener_knows.records i ≡ some k)
       → get_elem? views id ≡ some v → ((side : Side) → caller_at side v ≡ some c → caller_at side w ≡ some c)
-      → (p : Whereabouts) → StandsAt K o at views p c → StandsAt K o at' (set views id w) p c
+      → (p : Whereabouts) → CallerStandsAt K o at views p c → CallerStandsAt K o at' (set views id w) p c
   stands_changed at at' views id v w c records here still (at_seat side seat) (u, there, is) = dite (ℕ_discrete seat id)
       (λ e. let same : u ≡ v = some-injective _ _ (sym there ∙ (ap (get_elem? views) e ∙ here)) in
       (w, ap (get_elem? (set views id w)) e ∙ set_there views id v w here, still side (ap (caller_at side) (sym same) ∙ is)))
       (λ apart. (u, set_else views id seat w apart ∙ there, is))
   stands_changed at at' views id v w c records here still (in_record i) (k, there, is) = (k, records i k there, is)
 
-  pub stands_longer : (at : Standing O E) (views more : List (SeatView O E)) (c : ℕ) (p : Whereabouts) → StandsAt K o at views p c → StandsAt K o at (views ++ more) p c
+  pub stands_longer : (at : Standing O E) (views more : List (SeatView O E)) (c : ℕ) (p : Whereabouts) → CallerStandsAt K o at views p c → CallerStandsAt K o at (views ++ more) p c
   stands_longer at views more c (at_seat side seat) (v, there, is) = (v, at_longer views more seat v there, is)
   stands_longer at views more c (in_record i) known = known
 

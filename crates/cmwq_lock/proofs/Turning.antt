@@ -16,7 +16,7 @@ use Rattle.cmwq_lock.specs.declared.views.SeatView.{SeatView}
 use Rattle.cmwq_lock.specs.declared.views.SeatView.TheVariants.{Pass}
 use Rattle.cmwq_lock.specs.Log.{BeginsWith, calls_of, Grows}
 use Rattle.cmwq_lock.specs.Views.{is_waiting, is_inside, inside, looked, came_out, untried, seeing, having_left}
-use Rattle.cmwq_lock.specs.Rule.{Standing, Homes, home, away, SlotIs, at_home, with_seat, IsKept, IsCurrent, IsRuled, IsLeft}
+use Rattle.cmwq_lock.specs.Rule.{Standing, Homes, home, away, SlotIs, at_home, with_seat, IsAtRest, IsCurrent, IsRuled, IsLeftHeld}
 use Rattle.cmwq_lock.specs.Steps.{look_served, end_turn, log_carried}
 use Rattle.cmwq_lock.proofs.Puts.{all_of, set_there}
 use Rattle.cmwq_lock.proofs.Places.{holder_stays, slot_stays}
@@ -38,7 +38,7 @@ module _ {T O E : Type 0} (K : Ghosts T O E) (o : O) where
   -- a look that gives the ticket of a seat finds the value at home
   begins : (slots id : ℕ) (who : Identity O E) (q : Queued) (s : State (Option (Held T)) (SeatView O E)) (r : IsRuled K o s) → get_elem? s.views id ≡ some (Pass who (Waiting q)) → get_or s.words 1 0 ≡ q.ticket
       → SlotIs K o r.at s.homes s.views
-      → (h : Held T) × (get_elem? s.homes 0 ≡ some (some (Some h))) × IsKept K o r.at.served r.at.current h
+      → (h : Held T) × (get_elem? s.homes 0 ≡ some (some (Some h))) × IsAtRest K o r.at.served r.at.current h
       × IsRuled K o (stepped s 1 (get_or s.words 1 0) id [] (inside (Pass who (Waiting q)) (K.log h.value)) (takes 0 (Some h)))
   begins slots id who q s r here hit (at_home h full kept) = let n : ℕ = get_or s.words 1 0 in let is : n ≡ r.at.served = ap (λ ws. get_or ws 1 0) r.words_are in
       let known = (r.each_view id (Pass who (Waiting q)) here).phase_is in let same : q.ticket ≡ r.at.served = sym hit ∙ is in
@@ -133,14 +133,14 @@ module _ {T O E : Type 0} (K : Ghosts T O E) (o : O) where
     ];
   }
 
-  pub ends_turn : (slots id : ℕ) (me : Me (Option (Held T)) (SeatView O E)) (h : Held T) → is_inside me.0 ≡ true → me.1 ≡ (0, Some h) ∷ [] → IsLeft K me.0 h
+  pub ends_turn : (slots id : ℕ) (me : Me (Option (Held T)) (SeatView O E)) (h : Held T) → is_inside me.0 ≡ true → me.1 ≡ (0, Some h) ∷ [] → IsLeftHeld K me.0 h
       → Allows (IsRuled K o) slots id me 1 (λ n. (n + 1) % 2 ^ 64) (λ _. end_turn K me)
   ends_turn slots id (Pass who (Inside ticket found), carried) h is_in holds left s r deep here small = let n : ℕ = get_or s.words 1 0 in let is : n ≡ r.at.served = ap (λ ws. get_or ws 1 0) r.words_are in
       let known = r.each_view id (Pass who (Inside ticket found)) here in let phase = known.phase_is in let same = phase.is_served in let below = phase.was_drawn in let bound = r.bounded in
       let next : (n + 1) % 2 ^ 64 ≡ r.at.served + 1 = omega arith in let full : set s.homes 0 (some (Some h)) ≡ home h = ap (λ hs. set hs 0 (some (Some h))) phase.slot_away in
       let origin : K.origin h.value ≡ o = sym left.same_origin ∙ known.same_origin in
       let at' = stood r.at r.at.drawn (r.at.served + 1) (K.log h.value) r.at.holder in
-      let kept : IsKept K o (r.at.served + 1) (K.log h.value) h = record { turns_ended = left.turns_ended ∙ ap (λ (z : ℕ). z + 1) same; is_sound = left.is_sound; origin_stays = origin; log_is = refl } in
+      let kept : IsAtRest K o (r.at.served + 1) (K.log h.value) h = record { turns_ended = left.turns_ended ∙ ap (λ (z : ℕ). z + 1) same; is_sound = left.is_sound; origin_stays = origin; log_is = refl } in
       let caller : ℕ = who.knows.caller in let log : List E = K.log h.value in let who' : Identity O E = having_left who found log in
       let grows : Grows K.ticket K.caller r.at.current log r.at.served caller = subst (λ (z : List E × ℕ). Grows K.ticket K.caller z.0 log z.1 caller) (λ i. (phase.found_current i, same i)) left.log_grows in
       let own : calls_of K.caller caller log ≡ who.knows.mine ++ drop (length found) log = own_after K.ticket K.caller r.at.current log r.at.served caller grows who.knows.mine known.knows.own_calls

@@ -8,7 +8,7 @@ use Rattle.cmwq_lock.specs.declared.views.SeatView.{SeatView}
 use Rattle.cmwq_lock.specs.declared.views.SeatView.TheVariants.{Opener, Pass, Both, Spent}
 use Rattle.cmwq_lock.specs.Log.{BeginsWith, calls_of, Grows, BothGrow}
 use Rattle.cmwq_lock.specs.Views.{inside, came_out, is_waiting, is_inside, ticket_of, caller_of, found_of, seen_of, mine_of, HasOrigin, SameKnowledge}
-use Rattle.cmwq_lock.specs.Rule.{IsLeft}
+use Rattle.cmwq_lock.specs.Rule.{IsLeftHeld}
 use Rattle.cmwq_lock.specs.Steps.{look_served, HasTurn}
 use Rattle.cmwq_lock.specs.Promises.{IsTurn}
 use Rattle.cmwq_lock.proofs.Logs.{begins_itself, begins_through, begins_after, own_after, both_grow}
@@ -71,7 +71,7 @@ module _ {T O E : Type 0} (K : Ghosts T O E) where
 
   -- the value that a call leaves may be given back
   pub leaves : (m : Me (Option (Held T)) (SeatView O E)) (ticket caller : ℕ) (found : Held T) (value : T) → HasTurn K m ticket caller → m.1 ≡ (0, Some found) ∷ [] → K.sound value → K.origin value ≡ K.origin found.value
-      → Grows K.ticket K.caller (K.log found.value) (K.log value) ticket caller → IsLeft K m.0 record { value = value; turns = found.turns + 1 }
+      → Grows K.ticket K.caller (K.log found.value) (K.log value) ticket caller → IsLeftHeld K m.0 record { value = value; turns = found.turns + 1 }
   leaves m ticket caller found value begun slot sound origin grows = let same : begun.held ≡ found = one_value begun.held found (sym begun.slot_is ∙ slot) in record {
     turns_ended = ap (λ (n : ℕ). n + 1) (ap (λ (h : Held T). h.turns) (sym same) ∙ (begun.turns_ended ∙ sym begun.ticket_is));
     is_sound = sound;

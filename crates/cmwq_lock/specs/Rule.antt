@@ -70,7 +70,7 @@ caller_at side v = none
 
 module _ {T O E : Type 0} (K : Ghosts T O E) (o : O) where
   -- the value after this many turns, with the lock's origin and this log
-  pub record IsKept (turns : ℕ) (current : List E) (h : Held T) : Type 0 where
+  pub record IsAtRest (turns : ℕ) (current : List E) (h : Held T) : Type 0 where
     pub turns_ended : h.turns ≡ turns
     pub is_sound : K.sound h.value
     pub origin_stays : K.origin h.value ≡ o
@@ -89,9 +89,9 @@ module _ {T O E : Type 0} (K : Ghosts T O E) (o : O) where
 
   module _ (at : Standing O E) where
     -- the caller stands there
-    abbrev pub StandsAt : List (SeatView O E) → Whereabouts → ℕ → Type 0
-    StandsAt views (at_seat side seat) c = (v : SeatView O E) × (get_elem? views seat ≡ some v) × (caller_at side v ≡ some c)
-    StandsAt views (in_record i) c = (k : Knowledge E) × (get_elem? at.opener_knows.records i ≡ some k) × (k.caller ≡ c)
+    abbrev pub CallerStandsAt : List (SeatView O E) → Whereabouts → ℕ → Type 0
+    CallerStandsAt views (at_seat side seat) c = (v : SeatView O E) × (get_elem? views seat ≡ some v) × (caller_at side v ≡ some c)
+    CallerStandsAt views (in_record i) c = (k : Knowledge E) × (get_elem? at.opener_knows.records i ≡ some k) × (k.caller ≡ c)
 
     -- the ticket's holder waits for its turn with it, or has its turn
     abbrev pub HasHolder : List (SeatView O E) → ℕ → Type 0
@@ -105,7 +105,7 @@ module _ {T O E : Type 0} (K : Ghosts T O E) (o : O) where
 
     -- the slot is home and no turn is going on, or a seat that is inside has it
     pub data SlotIs (homes : Homes T) (views : List (SeatView O E)) : Type 0 where
-      at_home : (h : Held T) → homes ≡ home h → IsKept at.served at.current h → SlotIs homes views
+      at_home : (h : Held T) → homes ≡ home h → IsAtRest at.served at.current h → SlotIs homes views
       with_seat : (seat : ℕ) (who : Identity O E) → homes ≡ away → get_elem? views seat ≡ some (Pass who (Inside at.served at.current)) → SlotIs homes views
 
     module _ (homes : Homes T) (seat : ℕ) where
@@ -165,7 +165,7 @@ module _ {T O E : Type 0} (K : Ghosts T O E) (o : O) where
     pub passes_out : passes s.views ≡ at.opener_knows.out
     pub opener_seen : BeginsWith at.current at.opener_knows.seen
     pub each_ticket : (ticket : ℕ) → at.served ≤ ticket → ticket < at.drawn → HasHolder at s.views ticket
-    pub each_caller : (c : ℕ) → c < at.opener_knows.next → StandsAt at s.views (at.where_is c) c
+    pub each_caller : (c : ℕ) → c < at.opener_knows.next → CallerStandsAt at s.views (at.where_is c) c
     pub each_record : (i : ℕ) (k : Knowledge E) → get_elem? at.opener_knows.records i ≡ some k → IsRecord at i k
     pub each_view : (seat : ℕ) (v : SeatView O E) → get_elem? s.views seat ≡ some v → ViewIs at s.homes seat v
 
@@ -175,7 +175,7 @@ opening_view o = Opener (record { origin = record { marker = record {}; value = 
 
 -- the value as a turn leaves it: one more turn has ended, and the log has at most the turn's entry more
 module _ {T O E : Type 0} (K : Ghosts T O E) where
-  pub record IsLeft (v : SeatView O E) (h : Held T) : Type 0 where
+  pub record IsLeftHeld (v : SeatView O E) (h : Held T) : Type 0 where
     pub turns_ended : h.turns ≡ ticket_of v + 1
     pub is_sound : K.sound h.value
     pub same_origin : HasOrigin v (K.origin h.value)

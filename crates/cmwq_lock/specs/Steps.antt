@@ -35,7 +35,7 @@ module _ {T O E : Type 0} (K : Ghosts T O E) where
       × (n ≢ expected → (m' ≡ (lost m.0 n, m.1)) × (expected < n))
 
   -- the value found at the begin of the turn with this ticket
-  pub record IsFound (v : SeatView O E) (h : Held T) : Type 0 where
+  pub record IsFoundHeld (v : SeatView O E) (h : Held T) : Type 0 where
     pub turns_ended : h.turns ≡ ticket_of v
     pub is_sound : K.sound h.value
     pub same_origin : HasOrigin v (K.origin h.value)
@@ -46,7 +46,7 @@ module _ {T O E : Type 0} (K : Ghosts T O E) where
   -- a look that gives the seat's ticket begins its turn, and takes the slot; any other gives a lower number
   abbrev pub look_served : Me (Option (Held T)) (SeatView O E) → ℕ → Me (Option (Held T)) (SeatView O E) → Type 0
   look_served m n m' =
-      (n ≡ ticket_of m.0 → (h : Held T) × IsFound m.0 h × (m' ≡ (inside m.0 (K.log h.value), (0, Some h) ∷ [])))
+      (n ≡ ticket_of m.0 → (h : Held T) × IsFoundHeld m.0 h × (m' ≡ (inside m.0 (K.log h.value), (0, Some h) ∷ [])))
       × (n ≢ ticket_of m.0 → (m' ≡ (looked m.0 n, m.1)) × (n < ticket_of m.0))
 
   -- a turn ends, and the slot is given back with the value in it

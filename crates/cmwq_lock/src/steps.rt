@@ -2,7 +2,7 @@
 ghost use Rattle.std.specs.Prelude.{◌≡◌, ◌≢◌, ◌+◌, ◌^◌, ◌<◌, [], ◌∷◌, true, length, Some, None};
 ghost use Rattle.cmwq_lock.specs.Views.{is_opener, is_out, is_waiting, is_inside, is_both, loaded_of, given, fresh, taken_back, joined, first_met, second_met};
 ghost use Rattle.cmwq_lock.specs.Steps.{load_drawn, exchange_drawn, look_served, end_turn, compare_seen};
-ghost use Rattle.cmwq_lock.specs.Rule.{IsLeft};
+ghost use Rattle.cmwq_lock.specs.Rule.{IsLeftHeld};
 ghost use Rattle.cmwq_lock.specs.Seats.{IsSeatOf};
 
 use crate::kept::Kept;
@@ -169,7 +169,7 @@ pub(crate) fn put_value<T: Kept>(words: &Words<T>, seat: &mut LockSeat<T>, held:
 pub(crate) fn end<T: Kept>(words: &Words<T>, seat: &mut LockSeat<T>)
     requires place { IsSeatOf words.now seat.old }
     requires inside { is_inside seat.old.me.0 ≡ true }
-    requires left { (h : _) × (seat.old.me.1 ≡ (0, Some h) ∷ []) × IsLeft T.Kept seat.old.me.0 h }
+    requires left { (h : _) × (seat.old.me.1 ≡ (0, Some h) ∷ []) × IsLeftHeld T.Kept seat.old.me.0 h }
     ensures place { seat.new.table_id ≡ seat.old.table_id }
     ensures tells { end_turn T.Kept seat.old.me seat.new.me }
 {
