@@ -10,6 +10,7 @@ use Rattle.cmwq_engine.specs.declared.history.Setting.{Setting}
 use Rattle.cmwq_engine.specs.declared.shared.IssueError.{IssueError}
 use Rattle.cmwq_engine.specs.declared.shared.IssueError.TheVariants.{Full, Exhausted}
 use Rattle.cmwq_actors.specs.Interleaving.{IsFrontOf}
+use Rattle.cmwq_actors.specs.declared.ending.Ending.TheVariants as ending
 use Rattle.cmwq_actors.specs.Ending.{HasEnded, stopped_by}
 use Rattle.cmwq_actors.specs.Playing.{issued_with}
 use Rattle.cmwq_actors.proofs.FrontLemmas.{front_of_longer}
@@ -45,3 +46,8 @@ pub stop_ends :
     → HasEnded from.capacity (seen_of w) (issued_with w) all (stopped_by why)
 stop_ends from v w left all Full whole full same = (stops_in_front v w left all whole full.mine, full.full)
 stop_ends from v w left all Exhausted whole full same = stops_in_front v w left all whole same.same_mine
+
+-- who ends exhausted had an issue that was
+pub exhausted_by : (fact : Type 0) (why : IssueError) → IfNoTicket why fact → stopped_by why ≡ ending.Exhausted → fact
+exhausted_by fact Full told is = cc
+exhausted_by fact Exhausted told is = told

@@ -1,9 +1,9 @@
 //! One actor's part: its instructions, issued one after the other.
-ghost use Rattle.std.specs.Prelude.{◌≡◌, ◌≤◌, []};
+ghost use Rattle.std.specs.Prelude.{◌≡◌, ◌≤◌, ◌^◌, [], Some};
 ghost use Rattle.cmwq_types.specs.Scenario.{expand_lines};
 ghost use Rattle.cmwq_types.specs.declared.limits.TheConstants.{MAX_HISTORY};
 ghost use Rattle.cmwq_lock.specs.Tokens.{pass_view};
-ghost use Rattle.cmwq_lock.specs.Views.{caller_of, knowledge_of, mine_of, seen_of};
+ghost use Rattle.cmwq_lock.specs.Views.{caller_of, knowledge_of, loaded_of, mine_of, seen_of};
 ghost use Rattle.cmwq_engine.specs.Shared.{IsPassOf, setting_of};
 ghost use Rattle.cmwq_actors.specs.Ending.{HasEnded};
 ghost use Rattle.cmwq_actors.specs.Playing.{HasPlayed, issued_with};
@@ -51,6 +51,7 @@ impl<'a, R: Threads + Wait + Clock, M: Machine, G: Gate> ActorStage<'a, R, M, G>
         ensures token { IsPassOf self.now.shared result.pass }
         ensures played { HasPlayed (setting_of self.now.shared).capacity (caller_of (pass_view pass))
             (expand_lines lines.now) result.ending (knowledge_of (pass_view result.pass)) }
+        ensures exhausted { result.ending ≡ Some Ending.Exhausted → loaded_of (pass_view result.pass) ≡ 2 ^ 62 }
     {
         if *self.begin.wait(self.rt) {
             let (pass, ending) = self.play_lines(actor, lines, pass);
@@ -77,6 +78,8 @@ impl<'a, R: Threads + Wait + Clock, M: Machine, G: Gate> ActorStage<'a, R, M, G>
         ensures caller { caller_of (pass_view result.0) ≡ caller_of (pass_view pass) }
         ensures ended { HasEnded (setting_of self.now.shared).capacity (seen_of (pass_view result.0))
             (issued_with (pass_view result.0)) (expand_lines lines.now) result.1 }
+        // The last load of the pass gave 2^62.
+        ensures exhausted { result.1 ≡ Ending.Exhausted → loaded_of (pass_view result.0) ≡ 2 ^ 62 }
     {
         let mut pass = pass;
         let mut calls = 0u32;

@@ -36,11 +36,14 @@ where
 impl<M: Machine> Promise<Played<M>> for Plays<M> {
     ghost use Rattle.cmwq_types.specs.Scenario.{expand_lines};
     ghost use Rattle.cmwq_lock.specs.Tokens.{pass_view};
-    ghost use Rattle.cmwq_lock.specs.Views.{knowledge_of};
+    ghost use Rattle.cmwq_lock.specs.Views.{knowledge_of, loaded_of};
+    ghost use Rattle.cmwq_actors.specs.declared.ending.Ending.TheVariants.{Exhausted};
+    ghost use Rattle.std.specs.Prelude.{◌≡◌, ◌^◌, Some};
     ghost use Rattle.cmwq_engine.specs.Shared.{IsPassOf, setting_of};
     ghost use Rattle.cmwq_actors.specs.Playing.{HasPlayed};
 
-    ghost kept_by = { λ p r. IsPassOf p.shared.value r.pass × HasPlayed (setting_of p.shared.value).capacity p.actor (expand_lines p.lines.value.items) r.ending (knowledge_of (pass_view r.pass)) };
+    ghost kept_by = { λ p r. IsPassOf p.shared.value r.pass × HasPlayed (setting_of p.shared.value).capacity p.actor (expand_lines p.lines.value.items) r.ending (knowledge_of (pass_view r.pass))
+        × (r.ending ≡ Some Exhausted → loaded_of (pass_view r.pass) ≡ 2 ^ 62) };
 }
 
 type Thread<M> = PromisedHandle<Played<M>, Plays<M>>;

@@ -1,5 +1,5 @@
 use Rattle.std.proofs.Common.{rules}
-use Rattle.cmwq_actors.proofs.IssueLemmas.{one_more_fits, stop_ends}
+use Rattle.cmwq_actors.proofs.IssueLemmas.{exhausted_by, one_more_fits, stop_ends}
 use Rattle.cmwq_actors.proofs.part.ActorStage.play_lines.Goals as goal
 
 pub overflow_add-calls : goal.overflow_add-calls
@@ -16,3 +16,8 @@ returns-in-Err-clause-ended g c =
     let full = rw c.in-Err.is at c.issue-back.ensures.full in
     let same = rw c.in-Err.is at c.issue-back.ensures.same in
     rw c.from.ensures (stop_ends _ _ _ _ _ c.in-Err.why c.loop-instr.invariant.issued full same)
+
+pub returns-in-Err-clause-exhausted : goal.returns-in-Err-clause-exhausted
+returns-in-Err-clause-exhausted g c =
+    let told = rw c.in-Err.is at c.issue-back.ensures.exhausted in
+    rw c.from.ensures (exhausted_by _ c.in-Err.why told)
