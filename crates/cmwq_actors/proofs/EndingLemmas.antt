@@ -16,7 +16,7 @@ use Rattle.cmwq_engine.specs.declared.history.Entry.{Entry}
 use Rattle.cmwq_engine.specs.declared.history.Setting.{Setting}
 use Rattle.cmwq_actors.specs.Ending.{AllHaveEnded, EachHasEnded, HasEnded, ending_of, is_exhausted, is_full}
 use Rattle.cmwq_actors.specs.Interleaving.{HasNoOthers, Interleaves, InterleavesFronts, IsFrontOf, issued_by, script_at, scripts_in, scripts_of}
-use Rattle.cmwq_actors.specs.Playing.{EachHasPlayed}
+use Rattle.cmwq_actors.specs.Playing.{EachHasPlayed, HasPassedEach}
 use Rattle.cmwq_actors.specs.declared.ending.Ending.{Ending}
 use Rattle.cmwq_actors.specs.declared.ending.Ending.TheVariants.{Done, Full, Exhausted}
 
@@ -34,10 +34,10 @@ said_of_last capacity seen history issued script Exhausted begins room ended = e
 
 -- what each pass knew makes what each ending says
 pub each_has_ended :
-    (capacity : ℕ) (scripts : List (List Instr)) (endings : List Ending) (records : List (Knowledge Entry)) (history : List Entry)
-    → EachHasPlayed capacity scripts endings records → length endings ≡ length scripts → IsLastHistory records history
+    (passed : ℕ → ℕ → Type 0) (capacity : ℕ) (scripts : List (List Instr)) (endings : List Ending) (records : List (Knowledge Entry)) (history : List Entry)
+    → EachHasPlayed passed capacity scripts endings records → length endings ≡ length scripts → IsLastHistory records history
     → length history ≤ capacity → EachHasEnded scripts capacity history endings
-each_has_ended capacity scripts endings records history played as_many last room =
+each_has_ended passed capacity scripts endings records history played as_many last room =
     record {
       counted = as_many;
       each = λ actor e below.
@@ -58,9 +58,9 @@ each_has_ended capacity scripts endings records history played as_many last room
 
 -- each entry is of one of the actors
 pub only_actors :
-    (capacity : ℕ) (scripts : List (List Instr)) (endings : List Ending) (records : List (Knowledge Entry)) (history : List Entry)
-    → EachHasPlayed capacity scripts endings records → IsLastHistory records history → HasNoOthers (length scripts) history
-only_actors capacity scripts endings records history played last k d below =
+    (passed : ℕ → ℕ → Type 0) (capacity : ℕ) (scripts : List (List Instr)) (endings : List Ending) (records : List (Knowledge Entry)) (history : List Entry)
+    → EachHasPlayed passed capacity scripts endings records → IsLastHistory records history → HasNoOthers (length scripts) history
+only_actors passed capacity scripts endings records history played last k d below =
     let whose = last.no_others k d below in
     let counted = played.counted in
     let its : whose.0 < length scripts = (let known = whose.2 in omega arith) in
@@ -68,6 +68,24 @@ only_actors capacity scripts endings records history played last k d below =
     let named : whose.1.caller ≡ whose.0 = subst (λ (x : Knowledge Entry). x.caller ≡ whose.0) whose.3 is in
     let caller = whose.4 in
     omega arith
+
+-- who has issued so many calls has passed the gate before each
+pub each_has_passed :
+    (passed : ℕ → ℕ → Type 0) (capacity : ℕ) (scripts : List (List Instr)) (endings : List Ending) (records : List (Knowledge Entry))
+    (history : List Entry)
+    → EachHasPlayed passed capacity scripts endings records → IsLastHistory records history
+    → (actor : ℕ) → actor < length scripts → HasPassedEach passed actor (length (issued_by actor history))
+each_has_passed passed capacity scripts endings records history played last actor below =
+    let its = played.each actor Done nobody below in
+    let counted = played.counted in
+    let known : actor < length records = omega arith in
+    let knows = get_or records actor nobody in
+    let own : issued_by actor history ≡ instrs_of knows.mine =
+    subst (λ (c : ℕ). issued_by c history ≡ instrs_of knows.mine) its.caller_is
+    (ap instrs_of (last.each_own actor nobody known))
+    in
+    let calls : length knows.mine ≡ length (issued_by actor history) = sym (ap length own ∙ length-map knows.mine (λ (e : Entry). e.instr)) in
+    subst (λ (n : ℕ). HasPassedEach passed actor n) calls its.gate
 
 -- a whole script is a front of it
 front_of_ending : (capacity : ℕ) (history : List Entry) (issued script : List Instr) (e : Ending) → HasEnded capacity history issued script e → IsFrontOf issued script
@@ -139,21 +157,26 @@ all_have_ended capacity scripts endings history ended no_others =
 
 -- what stands when the lock is closed: each actor's ending, and that of all
 pub enacted :
-    (S : ScenarioContents) (capacity : ℕ) (actors : List ActorContents) (from : Setting) (engine : Contents) (endings : List Ending)
+    (passed : ℕ → ℕ → Type 0) (S : ScenarioContents) (capacity : ℕ) (actors : List ActorContents) (from : Setting) (engine : Contents) (endings : List Ending)
     (records : List (Knowledge Entry))
     → actors ≡ S.actors → from ≡ record { scenario = S; capacity = capacity } → engine.setting ≡ from → IsSound engine
-    → EachHasPlayed from.capacity (scripts_in actors) endings records → length endings ≡ length actors → IsLastHistory records engine.history
+    → EachHasPlayed passed from.capacity (scripts_in actors) endings records → length endings ≡ length actors → IsLastHistory records engine.history
     → EachHasEnded (scripts_of S) capacity engine.history endings × AllHaveEnded (scripts_of S) capacity engine.history (ending_of endings)
-enacted S capacity actors from engine endings records are is setting sound played as_many last =
+    × ((actor : ℕ) → actor < length S.actors → HasPassedEach passed actor (length (issued_by actor engine.history)))
+enacted passed S capacity actors from engine endings records are is setting sound played as_many last =
     let room_is : from.capacity ≡ capacity = ap (λ (s : Setting). s.capacity) is in
-    let known : EachHasPlayed capacity (scripts_of S) endings records =
-    subst (λ (n : ℕ). EachHasPlayed n (scripts_of S) endings records) room_is
-    (subst (λ (xs : List ActorContents). EachHasPlayed from.capacity (scripts_in xs) endings records) are played)
+    let known : EachHasPlayed passed capacity (scripts_of S) endings records =
+    subst (λ (n : ℕ). EachHasPlayed passed n (scripts_of S) endings records) room_is
+    (subst (λ (xs : List ActorContents). EachHasPlayed passed from.capacity (scripts_in xs) endings records) are played)
     in
     let room : length engine.history ≤ capacity =
     subst (λ (s : Setting). length engine.history ≤ s.capacity) (setting ∙ is) sound.legal.bounded
     in
     let counted : length endings ≡ length (scripts_of S) = as_many ∙ ap length are ∙ sym (length-map S.actors expand) in
-    let each = each_has_ended capacity (scripts_of S) endings records engine.history known counted last room in
-    let no_others = only_actors capacity (scripts_of S) endings records engine.history known last in
-    (each, all_have_ended capacity (scripts_of S) endings engine.history each no_others)
+    let each = each_has_ended passed capacity (scripts_of S) endings records engine.history known counted last room in
+    let no_others = only_actors passed capacity (scripts_of S) endings records engine.history known last in
+    let scripts : length (scripts_of S) ≡ length S.actors = length-map S.actors expand in (
+      each,
+      all_have_ended capacity (scripts_of S) endings engine.history each no_others,
+      λ actor below. each_has_passed passed capacity (scripts_of S) endings records engine.history known last actor (omega arith),
+    )

@@ -14,14 +14,20 @@ use Rattle.cmwq_actors.specs.declared.ending.Ending.{Ending}
 abbrev pub issued_with : EngineView → List Instr
 issued_with view = instrs_of (mine_of view)
 
--- the caller, and what it has issued of its script, as its ending says; nothing is said where it wasn't let begin
-pub record HasPlayed (capacity caller : ℕ) (script : List Instr) (ending : Option Ending) (knows : Knowledge Entry) : Type 0 where
+-- the actor has passed the gate before each of its first so many calls
+abbrev pub HasPassedEach : (ℕ → ℕ → Type 0) → ℕ → ℕ → Type 0
+HasPassedEach has_passed actor calls = (call : ℕ) → call < calls → has_passed actor call
+
+-- The caller, and what it has issued of its script, as its ending says; nothing is said where it wasn't let begin. Before each
+-- call it has passed the gate, under its own number and the call's.
+pub record HasPlayed (has_passed : ℕ → ℕ → Type 0) (capacity caller : ℕ) (script : List Instr) (ending : Option Ending) (knows : Knowledge Entry) : Type 0 where
   pub caller_is : knows.caller ≡ caller
+  pub gate : HasPassedEach has_passed caller (length knows.mine)
   pub ended : IfSome ending (λ e. HasEnded capacity knows.seen (instrs_of knows.mine) script e)
 
 -- what the retired passes knew, in the actors' order: each has issued of its script what its ending says
 pub record EachHasPlayed
-    (capacity : ℕ) (scripts : List (List Instr)) (endings : List Ending) (records : List (Knowledge Entry)) : Type 0 where
+    (has_passed : ℕ → ℕ → Type 0) (capacity : ℕ) (scripts : List (List Instr)) (endings : List Ending) (records : List (Knowledge Entry)) : Type 0 where
   pub counted : length records ≡ length scripts
   pub each : (actor : ℕ) (e : Ending) (k : Knowledge Entry) → actor < length scripts
-      → HasPlayed capacity actor (script_at scripts actor) (Some (slice_index_or endings actor e)) (slice_index_or records actor k)
+      → HasPlayed has_passed capacity actor (script_at scripts actor) (Some (slice_index_or endings actor e)) (slice_index_or records actor k)

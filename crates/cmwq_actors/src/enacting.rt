@@ -1,5 +1,5 @@
 //! All actors of a scenario at once.
-ghost use Rattle.std.specs.Prelude.{◌≡◌, ◌≤◌, IfOk};
+ghost use Rattle.std.specs.Prelude.{◌≡◌, ◌<◌, ◌≤◌, IfOk, length, ℕ};
 ghost use Rattle.cmwq_types.specs.Faults.{IsValid};
 ghost use Rattle.cmwq_types.specs.declared.limits.TheConstants.{MAX_HISTORY};
 ghost use Rattle.cmwq_lock.specs.Rule.{opening_view};
@@ -7,7 +7,8 @@ ghost use Rattle.cmwq_lock.specs.Tokens.{opener_view};
 ghost use Rattle.cmwq_engine.specs.Engine.{IsSound};
 ghost use Rattle.cmwq_engine.specs.Shared.{IsOpenerOf, setting_of};
 ghost use Rattle.cmwq_actors.specs.Ending.{AllHaveEnded, EachHasEnded, ending_of};
-ghost use Rattle.cmwq_actors.specs.Interleaving.{scripts_of};
+ghost use Rattle.cmwq_actors.specs.Interleaving.{issued_by, scripts_of};
+ghost use Rattle.cmwq_actors.specs.Playing.{HasPassedEach};
 
 use crate::ending::{Ending, any_exhausted, any_full};
 use crate::gate::Gate;
@@ -53,7 +54,8 @@ impl<M: Machine> Enactment<M> {
 
 /// Carries out all actors of a scenario at once, each in a thread of its own, on one machine with room for so many entries.
 /// Actor `a` is caller `a`. Each issues its lines in order, each as often as it stands, up to the first for which it finds the
-/// history full, or no ticket left; the gate stands before each. None begins before all threads were started.
+/// history full, or no ticket left; before each it passes the gate, under its number and the call's. None begins before all
+/// threads were started.
 ///
 /// `NoMemory` where memory ran out, or a thread couldn't be started; then nothing was issued that anyone has, and all threads
 /// that were started have ended.
@@ -71,6 +73,8 @@ pub fn enact<'x, R: Threads + Wait + Clock + Sync, M: Machine + Send, G: Gate>(
     ensures sound { IfOk result (λ r. IsSound r.engine) }
     ensures each { IfOk result
         (λ r. EachHasEnded (scripts_of scenario.now.value) capacity r.engine.history r.endings.items) }
+    ensures gate { IfOk result (λ r. (actor : ℕ) → actor < length scenario.now.value.actors
+        → HasPassedEach (G.has_passed gate.now) actor (length (issued_by actor r.engine.history))) }
     ensures all { IfOk result
         (λ r. AllHaveEnded (scripts_of scenario.now.value) capacity r.engine.history (ending_of r.endings.items)) }
 {

@@ -1,6 +1,7 @@
 //! Actors in threads of their own, over one shared machine.
 #![tactic(auto)]
 
+mod begin;
 mod enacting;
 mod ending;
 pub mod examples;

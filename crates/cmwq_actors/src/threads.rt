@@ -4,11 +4,12 @@ ghost use Rattle.cmwq_types.specs.Scenario.{expand_lines};
 ghost use Rattle.cmwq_types.specs.declared.limits.TheConstants.{MAX_ACTORS, MAX_HISTORY, MAX_PASSES};
 ghost use Rattle.cmwq_lock.specs.Rule.{opening_view};
 ghost use Rattle.cmwq_lock.specs.Tokens.{opener_view, pass_view};
-ghost use Rattle.cmwq_lock.specs.Views.{mine_of, next_of, out_of, records_of};
+ghost use Rattle.cmwq_lock.specs.Views.{caller_of, mine_of, next_of, out_of, records_of};
 ghost use Rattle.cmwq_engine.specs.Shared.{IsOpenerOf, IsPassOf, setting_of};
 ghost use Rattle.cmwq_actors.specs.Interleaving.{scripts_in};
 ghost use Rattle.cmwq_actors.specs.Playing.{EachHasPlayed, HasPlayed};
 
+use crate::begin::AllStarted;
 use crate::ending::Ending;
 use crate::gate::Gate;
 use crate::part::{ActorStage, Played};
@@ -24,16 +25,17 @@ use std::time::Clock;
 
 /// What an actor's thread promises: its pass, which knows what the actor's ending says. It has no bytes but the number.
 #[derive(Drop)]
-pub(crate) struct Plays<M: Machine>
+pub(crate) struct Plays<M: Machine, G>
 where
     Engine<M>: Kept,
 {
+    gate: Snapshot<G>,
     shared: Snapshot<Shared<M>>,
     actor: u8,
     lines: Snapshot<Vec<Line>>,
 }
 
-impl<M: Machine> Promise<Played<M>> for Plays<M> {
+impl<M: Machine, G: Gate> Promise<Played<M>> for Plays<M, G> {
     ghost use Rattle.cmwq_types.specs.Scenario.{expand_lines};
     ghost use Rattle.cmwq_lock.specs.Tokens.{pass_view};
     ghost use Rattle.cmwq_lock.specs.Views.{knowledge_of, loaded_of};
@@ -42,17 +44,20 @@ impl<M: Machine> Promise<Played<M>> for Plays<M> {
     ghost use Rattle.cmwq_engine.specs.Shared.{IsPassOf, setting_of};
     ghost use Rattle.cmwq_actors.specs.Playing.{HasPlayed};
 
-    ghost kept_by = { λ p r. IsPassOf p.shared.value r.pass × HasPlayed (setting_of p.shared.value).capacity p.actor (expand_lines p.lines.value.items) r.ending (knowledge_of (pass_view r.pass))
+    ghost kept_by = { λ p r. IsPassOf p.shared.value r.pass × HasPlayed (G.has_passed p.gate.value) (setting_of p.shared.value).capacity p.actor (expand_lines p.lines.value.items) r.ending (knowledge_of (pass_view r.pass))
         × (r.ending ≡ Some Exhausted → loaded_of (pass_view r.pass) ≡ 2 ^ 62) };
 }
 
-type Thread<M> = PromisedHandle<Played<M>, Plays<M>>;
+type Thread<M, G> = PromisedHandle<Played<M>, Plays<M, G>>;
 
 /// The actors' threads, and how they ended.
-type Room<M> = (Vec<Thread<M>>, Vec<Ending>);
+type Room<M, G> = (Vec<Thread<M, G>>, Vec<Ending>);
 
 /// Room for the threads and the endings of so many actors, with none in it.
-pub(crate) fn room_for<M: Machine>(alloc: Global, count: usize) -> Result<Room<M>, NoMemory>
+pub(crate) fn room_for<M: Machine, G: Gate>(
+    alloc: Global,
+    count: usize,
+) -> Result<Room<M, G>, NoMemory>
     ensures no_threads { IfOk result (λ room. room.0.items ≡ []) }
     ensures no_endings { IfOk result (λ room. room.1.items ≡ []) }
     ensures threads { IfOk result (λ room. count ≤ vec_capacity room.0) }
@@ -70,7 +75,7 @@ impl<'a, R: Threads + Wait + Clock + Sync, M: Machine + Send, G: Gate> ActorStag
         &'e self,
         opener: Opener<Engine<M>>,
         actors: &'e [Actor],
-        room: Room<M>,
+        room: Room<M, G>,
     ) -> (Opener<Engine<M>>, Vec<Ending>)
         requires small { (setting_of self.now.shared).capacity ≤ MAX_HISTORY }
         requires opener { IsOpenerOf self.now.shared opener }
@@ -84,7 +89,7 @@ impl<'a, R: Threads + Wait + Clock + Sync, M: Machine + Send, G: Gate> ActorStag
         ensures none_out { out_of (opener_view result.0) ≡ 0 }
         ensures few { vec_len result.1 ≤ length actors.now }
         ensures played { vec_len result.1 ≡ length actors.now
-            → EachHasPlayed (setting_of self.now.shared).capacity (scripts_in actors.now) result.1.items (records_of (opener_view result.0)) }
+            → EachHasPlayed (G.has_passed self.now.gate.now) (setting_of self.now.shared).capacity (scripts_in actors.now) result.1.items (records_of (opener_view result.0)) }
     {
         let (threads, endings) = room;
         thread::scope(
@@ -103,7 +108,7 @@ impl<'a, R: Threads + Wait + Clock + Sync, M: Machine + Send, G: Gate> ActorStag
                 ensures none_out { out_of (opener_view result.0) ≡ 0 }
                 ensures few { vec_len result.1 ≤ length actors.entry.now }
                 ensures played { vec_len result.1 ≡ length actors.entry.now
-                    → EachHasPlayed (setting_of self.entry.now.shared).capacity (scripts_in actors.entry.now) result.1.items (records_of (opener_view result.0)) }
+                    → EachHasPlayed (G.has_passed self.entry.now.gate.now) (setting_of self.entry.now.shared).capacity (scripts_in actors.entry.now) result.1.items (records_of (opener_view result.0)) }
             {
                 let (opener, threads) = self.start(scope, opener, actors, threads);
                 self.join_all(opener, threads, endings)
@@ -118,8 +123,8 @@ impl<'a, R: Threads + Wait + Clock + Sync, M: Machine + Send, G: Gate> ActorStag
         scope: &Scope<'s, E>,
         opener: Opener<Engine<M>>,
         actors: &'s [Actor],
-        threads: Vec<Thread<M>>,
-    ) -> (Opener<Engine<M>>, Vec<Thread<M>>)
+        threads: Vec<Thread<M, G>>,
+    ) -> (Opener<Engine<M>>, Vec<Thread<M, G>>)
         requires small { (setting_of self.now.shared).capacity ≤ MAX_HISTORY }
         requires opener { IsOpenerOf self.now.shared opener }
         requires opening { opener_view opener ≡ opening_view (setting_of self.now.shared) }
@@ -131,7 +136,8 @@ impl<'a, R: Threads + Wait + Clock + Sync, M: Machine + Send, G: Gate> ActorStag
         ensures few { vec_len result.1 ≤ length actors.now }
         ensures none_retired { vec_len result.1 ≡ length actors.now → records_of (opener_view result.0) ≡ [] }
         ensures parts { (i : ℕ) (t : _) (a : _) → i < vec_len result.1
-            → ((slice_index_or result.1.items i t).promise.shared.value ≡ self.now.shared)
+            → ((slice_index_or result.1.items i t).promise.gate.value ≡ self.now.gate.now)
+            × ((slice_index_or result.1.items i t).promise.shared.value ≡ self.now.shared)
             × ((slice_index_or result.1.items i t).promise.actor ≡ i)
             × ((slice_index_or result.1.items i t).promise.lines.value.items ≡ (slice_index_or actors.now i a).lines) }
     {
@@ -143,7 +149,8 @@ impl<'a, R: Threads + Wait + Clock + Sync, M: Machine + Send, G: Gate> ActorStag
                 None => return (opener, threads),
             }
         }
-        let _ = self.begin.set(self.rt, true);
+        let all = AllStarted::of(threads.len(), actors.len());
+        let _ = self.begin.set(self.rt, Some(all));
         (opener, threads)
     }
 
@@ -154,7 +161,7 @@ impl<'a, R: Threads + Wait + Clock + Sync, M: Machine + Send, G: Gate> ActorStag
         opener: &mut Opener<Engine<M>>,
         number: u8,
         lines: &'s Vec<Line>,
-    ) -> Option<Thread<M>>
+    ) -> Option<Thread<M, G>>
         requires small { (setting_of self.now.shared).capacity ≤ MAX_HISTORY }
         requires opener { IsOpenerOf self.now.shared opener.old }
         requires next { next_of (opener_view opener.old) ≡ number }
@@ -166,7 +173,8 @@ impl<'a, R: Threads + Wait + Clock + Sync, M: Machine + Send, G: Gate> ActorStag
         ensures same_records { IfSome result
             (λ _. records_of (opener_view opener.new) ≡ records_of (opener_view opener.old)) }
         ensures promise { IfSome result
-            (λ thread. (thread.promise.shared.value ≡ self.now.shared)
+            (λ thread. (thread.promise.gate.value ≡ self.now.gate.now)
+            × (thread.promise.shared.value ≡ self.now.shared)
             × (thread.promise.actor ≡ number)
             × (thread.promise.lines.value.items ≡ lines.now.items)) }
         ensures back { result ≡ None → out_of (opener_view opener.new) ≡ out_of (opener_view opener.old) }
@@ -175,6 +183,7 @@ impl<'a, R: Threads + Wait + Clock + Sync, M: Machine + Send, G: Gate> ActorStag
             unreachable!()
         };
         let promise = Plays {
+            gate: Snapshot::of(self.gate),
             shared: Snapshot::of(&self.shared),
             actor: number,
             lines: Snapshot::of(lines),
@@ -182,12 +191,13 @@ impl<'a, R: Threads + Wait + Clock + Sync, M: Machine + Send, G: Gate> ActorStag
         let part = move || -> Played<M>
             requires { ((setting_of self.now.shared).capacity ≤ MAX_HISTORY)
                 × IsPassOf self.now.shared pass
+                × (caller_of (pass_view pass) ≡ number)
                 × (mine_of (pass_view pass) ≡ []) }
         { self.play(number, lines, pass) };
         match scope.spawn_with(promise, part) {
             Ok(thread) => Some(thread),
             Err(refused) => {
-                let _ = self.begin.set(self.rt, false);
+                let _ = self.begin.set(self.rt, None);
                 let Played { pass, ending: _ } = (refused.value)();
                 self.shared.retire(opener, pass);
                 None
@@ -199,13 +209,14 @@ impl<'a, R: Threads + Wait + Clock + Sync, M: Machine + Send, G: Gate> ActorStag
     fn join_all(
         &self,
         opener: Opener<Engine<M>>,
-        threads: Vec<Thread<M>>,
+        threads: Vec<Thread<M, G>>,
         endings: Vec<Ending>,
     ) -> (Opener<Engine<M>>, Vec<Ending>)
         requires opener { IsOpenerOf self.now.shared opener }
         requires out { out_of (opener_view opener) ≡ vec_len threads }
         requires parts { (i : ℕ) (t : _) → i < vec_len threads
-            → ((slice_index_or threads.items i t).promise.shared.value ≡ self.now.shared)
+            → ((slice_index_or threads.items i t).promise.gate.value ≡ self.now.gate.now)
+            × ((slice_index_or threads.items i t).promise.shared.value ≡ self.now.shared)
             × ((slice_index_or threads.items i t).promise.actor ≡ i) }
         requires empty { endings.items ≡ [] }
         requires room { vec_len threads ≤ vec_capacity endings }
@@ -215,7 +226,7 @@ impl<'a, R: Threads + Wait + Clock + Sync, M: Machine + Send, G: Gate> ActorStag
         ensures counted { records_of (opener_view opener) ≡ [] → length (records_of (opener_view result.0)) ≡ vec_len threads }
         ensures played { records_of (opener_view opener) ≡ [] → vec_len result.1 ≡ vec_len threads
             → (i : ℕ) (t : _) (e : _) (k : _) → i < vec_len threads
-            → HasPlayed (setting_of self.now.shared).capacity i (expand_lines (slice_index_or threads.items i t).promise.lines.value.items)
+            → HasPlayed (G.has_passed self.now.gate.now) (setting_of self.now.shared).capacity i (expand_lines (slice_index_or threads.items i t).promise.lines.value.items)
             (Some (slice_index_or result.1.items i e)) (slice_index_or (records_of (opener_view result.0)) i k) }
     {
         let mut opener = opener;

@@ -65,6 +65,8 @@ impl Meeting {
 }
 
 impl Gate for Meeting {
+    ghost has_passed = { λ _ _ _. ⊤ };
+
     fn before<R: Threads + Wait + Clock>(&self, rt: &R, actor: u8, call: u32) {
         if actor != self.last && call == 0 {
             let _ = self.others_there.fetch_add(1, Ordering::SeqCst);

@@ -50,12 +50,13 @@ loop-thread-preserved-in-Some-ending g c =
           in
           let kept = c.join-pass.ensures in
           let part = c.requires.parts n t (omega arith) in
-          let same : thread.promise.shared.value ≡ c.args.self.now.shared = rw this part.0 in
-          let number : thread.promise.actor ≡ n = rw this part.1 in
-          let last = promised _ _ _ n _ _ _ _ same number c.in-Some-ending.is kept.1 in
+          let same_gate : thread.promise.gate.value ≡ c.args.self.now.gate.now = rw this part.0 in
+          let same : thread.promise.shared.value ≡ c.args.self.now.shared = rw this part.1 in
+          let number : thread.promise.actor ≡ n = rw this part.2 in
+          let last = promised _ _ g.G.Gate.has_passed _ _ _ n _ _ _ _ same_gate same number c.in-Some-ending.is kept.1 in
           rw (c.push_reserved.ensures.items, recorded)
           (one_more_played
-          (setting_of c.args.self.now.shared).capacity n (λ m. expand_lines (get_or all.items m t).promise.lines.value.items)
+          (g.G.Gate.has_passed c.args.self.now.gate.now) (setting_of c.args.self.now.shared).capacity n (λ m. expand_lines (get_or all.items m t).promise.lines.value.items)
           old.items records c.in-Some-ending.ending knows counted (omega arith)
           (λ j e' k' low. was.played none (omega arith) j t e' k' low)
           (rw (← this) last)

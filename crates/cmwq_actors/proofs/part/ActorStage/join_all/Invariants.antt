@@ -24,6 +24,6 @@ invariant-loop-thread g l =
       counted : records_of (opener_view l.fn.opener) ≡ [] → length records + left ≡ vec_len all;
       played : records_of (opener_view l.fn.opener) ≡ [] → vec_len l.endings + left ≡ vec_len all
           → (i : ℕ) (t : _) (e : _) (k : _) → i < vec_len l.endings
-          → HasPlayed (setting_of l.self.shared).capacity i (expand_lines (slice_index_or all.items i t).promise.lines.value.items)
+          → HasPlayed (g.G.Gate.has_passed l.self.gate.now) (setting_of l.self.shared).capacity i (expand_lines (slice_index_or all.items i t).promise.lines.value.items)
           (Some (slice_index_or l.endings.items i e)) (slice_index_or records i k);
     }

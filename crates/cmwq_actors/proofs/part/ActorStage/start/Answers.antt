@@ -43,11 +43,12 @@ loop-number-preserved g c =
           let actor = c.actor.view_is ∙ c.index-actors-number.is ∙ get_or_default c.args.actors.now n _ a c.loop-number-test.true in
           below_more
           (λ k.
-          ((get_or new.items k t).promise.shared.value ≡ c.args.self.now.shared)
+          ((get_or new.items k t).promise.gate.value ≡ c.args.self.now.gate.now)
+          × ((get_or new.items k t).promise.shared.value ≡ c.args.self.now.shared)
           × ((get_or new.items k t).promise.actor ≡ k)
           × ((get_or new.items k t).promise.lines.value.items ≡ (get_or c.args.actors.now k a).lines))
           n
           (λ k low. rw (earlier k low) (was.parts k t a low))
-          (rw last (promise.0, promise.1, promise.2 ∙ ap (λ x. x.lines) actor))
+          (rw last (promise.0, promise.1, promise.2, promise.3 ∙ ap (λ x. x.lines) actor))
           i below;
     }

@@ -13,7 +13,8 @@ invariant-loop-number g l = record {
   started : vec_len l.threads ≡ l.number;
   room : vec_capacity l.threads ≡ vec_capacity l.fn.threads;
   parts : (i : ℕ) (t : _) (a : _) → i < l.number
-      → ((slice_index_or l.threads.items i t).promise.shared.value ≡ l.self.shared)
+      → ((slice_index_or l.threads.items i t).promise.gate.value ≡ l.self.gate.now)
+      × ((slice_index_or l.threads.items i t).promise.shared.value ≡ l.self.shared)
       × ((slice_index_or l.threads.items i t).promise.actor ≡ i)
       × ((slice_index_or l.threads.items i t).promise.lines.value.items ≡ (slice_index_or l.actors i a).lines);
 }

@@ -7,7 +7,7 @@ use Rattle.cmwq_actors.proofs.part.fn.ActorStage.perform.scope.Goals as goal
 
 pub join_all-requires-clause-parts : goal.join_all-requires-clause-parts
 join_all-requires-clause-parts g c =
-    λ lifetimes lives i t below. let part = c.start-opener.ensures.parts i t (record { name = []; lines = [] }) below in (part.0, part.1)
+    λ lifetimes lives i t below. let part = c.start-opener.ensures.parts i t (record { name = []; lines = [] }) below in (part.0, part.1, part.2)
 
 -- Where there are as many endings as actors, each actor has a thread, and each thread has played.
 pub returns : goal.returns
@@ -29,12 +29,13 @@ returns g c =
           all_have_played
           threads.items
           (λ x. x.promise.lines.value.items)
+          (g.G.Gate.has_passed c.captures.self.now.gate.now)
           (setting_of c.captures.self.now.shared).capacity
           c.captures.actors.now
           c.join_all.result.1.items
           (records_of (opener_view c.join_all.result.0))
           (sym counted ∙ as_many)
           (recorded ∙ counted)
-          (λ i t a below. (started.parts i t a (omega arith)).2)
+          (λ i t a below. (started.parts i t a (omega arith)).3)
           (λ i t e k below. joined.played none (omega arith) i t e k (omega arith));
     }
