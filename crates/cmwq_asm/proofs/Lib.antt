@@ -1,4 +1,5 @@
 mod AssembleLemmas
+mod CommentLemmas
 mod HeaderLemmas
 mod Refused
 mod TextLemmas

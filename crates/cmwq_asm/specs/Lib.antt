@@ -1,3 +1,4 @@
+pub mod CommentLines
 pub mod Header
 pub mod LineAnswers
 pub mod LineSteps

@@ -3,6 +3,7 @@
 
 mod actors;
 mod assembling;
+mod comments;
 mod declarations;
 mod fault;
 mod line_steps;

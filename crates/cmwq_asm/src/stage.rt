@@ -9,6 +9,7 @@ ghost use Rattle.std.specs.Prelude.{◌∷◌, ◌≤◌, IfOk, IsTrue, length};
 ghost use Rattle.std.specs.Str.{is_utf8};
 
 use crate::actors::{close_actor, read_instructions};
+use crate::comments::skip_comments;
 use crate::fault::LineError;
 use crate::line_steps::{between_bodies, in_actor, in_body, in_queues, in_works, read_head_number};
 use crate::open::{OpenActor, OpenBody};
@@ -89,8 +90,8 @@ impl<'t> Stage<'t> {
         }
     }
 
-    /// Goes on over the lines at the front of the text that are read in one go: an actor's instructions, where
-    /// the text is known to be text. Tells the stage after them, what is left, and how many lines they are.
+    /// Goes on over the lines at the front of the text that are read in one go, where the text is known to be text: of an actor its
+    /// instructions, else comments. Tells the stage after them, what is left, and how many lines they are.
     pub(crate) fn read_on(
         self,
         text: &'t [u8],
@@ -109,7 +110,10 @@ impl<'t> Stage<'t> {
                 let (rest, count) = read_instructions(&mut actor, text)?;
                 Ok((Stage::Actor(actor), rest, count))
             }
-            other => Ok((other, text, 0)),
+            other => {
+                let (rest, count) = skip_comments(text);
+                Ok((other, rest, count))
+            }
         }
     }
 
