@@ -1,0 +1,3 @@
+mod AcceptingLemmas
+mod DepthLemmas
+mod PoolLemmas

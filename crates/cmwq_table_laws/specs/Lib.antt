@@ -1,0 +1,3 @@
+pub mod Depths
+pub mod Examples
+pub mod Pools

@@ -1,0 +1,47 @@
+//! Runs in which the premises of the laws hold, as theorems over the definitions: no law is met for want of a case.
+#![tactic(auto, unfolding(cmwq_table::specs::Table::table))]
+
+ghost use Rattle.cmwq_table.specs.Laws.{reply_to};
+ghost use Rattle.cmwq_table.specs.State.{depth_at};
+ghost use Rattle.cmwq_table.specs.Table.{run};
+ghost use Rattle.cmwq_table_laws.specs.Examples.{a_runs, b_is_due, delay_on_1, disable_it, each_kind, enable_it, g_queues_b, place_after_all, queue_on_1};
+ghost use Rattle.cmwq_types.specs.Faults.{IsValid};
+ghost use Rattle.std.specs.Prelude.{◌≡◌, ◌∷◌, ◌++◌, [], Some, false};
+
+use cmwq_types::{Event, Instr, Place, Refusal, Reply};
+
+/// The scenario is valid, so it has runs.
+pub fn each_kind_of_queue_is_there()
+    ensures { IsValid each_kind }
+{}
+
+/// Of an idle work, of one that is pending and of one that runs each disable counts, and each enable takes one back.
+pub fn disables_add_up()
+    ensures idle { depth_at (run each_kind (disable_it 1 ∷ [])) 1 ≡ 1 }
+    ensures twice { depth_at (run each_kind (queue_on_1 1 ∷ disable_it 1 ∷ disable_it 1 ∷ [])) 1 ≡ 2 }
+    ensures running { depth_at (run each_kind (a_runs ++ disable_it 0 ∷ disable_it 0 ∷ disable_it 0 ∷ [])) 0 ≡ 3 }
+    ensures enabled { depth_at (run each_kind (a_runs ++ disable_it 0 ∷ disable_it 0 ∷ disable_it 0 ∷ enable_it 0 ∷ [])) 0 ≡ 2 }
+    ensures other { depth_at (run each_kind (disable_it 1 ∷ disable_it 2 ∷ enable_it 2 ∷ [])) 1 ≡ 1 }
+    ensures refused { reply_to each_kind (run each_kind []) (enable_it 1) ≡ Reply.Refused Refusal.NotDisabled }
+{}
+
+/// Each kind of queue has its pool: of the second of two CPUs these are 2 and 3, and the unbound ones 4 and 5.
+pub fn each_kind_of_queue_has_its_pool()
+    ensures bound { place_after_all (queue_on_1 0 ∷ []) 0 ≡ Some (Place.Listed 2) }
+    ensures bound_high { place_after_all (queue_on_1 1 ∷ []) 1 ≡ Some (Place.Listed 3) }
+    ensures unbound { place_after_all (queue_on_1 2 ∷ []) 2 ≡ Some (Place.Listed 4) }
+    ensures unbound_high { place_after_all (queue_on_1 3 ∷ []) 3 ≡ Some (Place.Listed 5) }
+    ensures ordered { place_after_all (queue_on_1 4 ∷ []) 4 ≡ Some (Place.Listed 4) }
+    ensures ordered_high { place_after_all (queue_on_1 5 ∷ []) 5 ≡ Some (Place.Listed 5) }
+{}
+
+/// A work that runs keeps its pool; else a delay of no ticks, a timer and a body place it as a queueing does.
+pub fn each_way_of_placing_goes_to_that_pool()
+    ensures runs { place_after_all (a_runs ++ queue_on_1 0 ∷ []) 0 ≡ Some (Place.Inactive 0) }
+    ensures delayed { place_after_all (delay_on_1 1 0 ∷ []) 1 ≡ Some (Place.Listed 3) }
+    ensures fires { reply_to each_kind (run each_kind b_is_due) Instr.Fire ≡ Reply.Event (record { 0 = 1 }) Event.Fires }
+    ensures fired { place_after_all (b_is_due ++ Instr.Fire ∷ []) 1 ≡ Some (Place.Listed 3) }
+    ensures queues { reply_to each_kind (run each_kind g_queues_b) (Instr.Step 2)
+        ≡ Reply.Event (record { 0 = 6 }) (Event.Queues (record { 0 = 1 }) false) }
+    ensures queued { place_after_all (g_queues_b ++ Instr.Step 2 ∷ []) 1 ≡ Some (Place.Listed 3) }
+{}

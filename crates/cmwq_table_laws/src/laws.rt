@@ -1,0 +1,30 @@
+//! What one may believe of depths and of pools without reading the table.
+//!
+//! Each function's contract is a law. The functions do nothing: they carry the laws.
+ghost use Rattle.cmwq_table.specs.Laws.{AtEveryInstruction};
+ghost use Rattle.cmwq_table_laws.specs.Depths.{DisablesOnce, EnablesOnce, LeavesDepths};
+ghost use Rattle.cmwq_table_laws.specs.Pools.{BodiesPlaceInPool, FiresToPool, IsPlacedByFlags, PlacesInPool};
+
+/// Each disable that is accepted adds one to the depth of its work, and each enable takes one off, be the work idle, pending or running,
+/// on whatever pool; nothing else changes a depth. (What is refused changes nothing at all.) That disables add up is the kernel's rule.
+#[tactic(auto, using(crate::proofs::DepthLemmas::disables_once, crate::proofs::DepthLemmas::enables_once, crate::proofs::DepthLemmas::leaves_depths))]
+pub fn depths_count_disables()
+    ensures disable { AtEveryInstruction DisablesOnce }
+    ensures enable { AtEveryInstruction EnablesOnce }
+    ensures others { AtEveryInstruction LeavesDepths }
+{}
+
+/// A work is placed in the pool where it runs, else where the flags of its queue say: of a bound queue in a pool of the CPU, of an
+/// unbound or ordered one in an unbound pool, and of one of high priority in the high one of the two.
+#[tactic(auto, using(crate::proofs::PoolLemmas::is_placed_by_flags))]
+pub fn flags_tell_the_pool()
+    ensures { IsPlacedByFlags }
+{}
+
+/// That is where a work goes that is queued, delayed by no ticks, modified so, that a timer places, or that a body queues.
+#[tactic(auto, using(crate::proofs::PoolLemmas::places_in_pool, crate::proofs::PoolLemmas::fires_to_pool, crate::proofs::PoolLemmas::bodies_place_in_pool))]
+pub fn placed_works_go_to_their_pool()
+    ensures instruction { AtEveryInstruction PlacesInPool }
+    ensures timer { AtEveryInstruction FiresToPool }
+    ensures body { AtEveryInstruction BodiesPlaceInPool }
+{}
