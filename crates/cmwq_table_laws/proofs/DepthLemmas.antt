@@ -23,7 +23,7 @@ use Rattle.cmwq_types.specs.declared.scenario.Op.{Op}
 use Rattle.cmwq_types.specs.declared.scenario.Op.TheVariants as op
 use Rattle.cmwq_table.specs.Counts.{first_due, free_worker}
 use Rattle.cmwq_table.specs.Laws.{AtEveryInstruction, state_after}
-use Rattle.cmwq_table.specs.Moves.{advance, carry_out, come_to_end, deferred, finish, fire, fired, fired_to, first_moving, moved, next_move, onward, place_after, queue_from_body, rescued, set_max, started, taken_off, thaw, tick, with_depth, woken}
+use Rattle.cmwq_table.specs.Moves.{advance, carry_out, come_to_end, deferred, finish, fired, fired_to, first_moving, moved, next_move, onward, place_after, queue_from_body, rescued, started, taken_off, with_depth, woken}
 use Rattle.cmwq_table.specs.State.{State, depth_at, is_disabled, pending_at, running_at, start}
 use Rattle.cmwq_table.specs.Table.{after_all, answer, cancelled, delayed, effect, fired_first, modified, next, no_work, queued, refusal, run, step_or_tick, stepped, table}
 use Rattle.cmwq_table.specs.declared.state.Pending.{Pending}

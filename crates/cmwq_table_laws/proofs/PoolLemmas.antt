@@ -22,7 +22,7 @@ use Rattle.cmwq_types.specs.declared.scenario.Op.{Op}
 use Rattle.cmwq_types.specs.declared.scenario.Op.TheVariants as op
 use Rattle.cmwq_table.specs.Counts.{first_due, first_inactive, has_room, is_deferred}
 use Rattle.cmwq_table.specs.Laws.{AtEveryInstruction, placed_in, reply_to, state_after}
-use Rattle.cmwq_table.specs.Moves.{advance, begin_again, carry_out, come_to_end, enlist, fill, fill_from, fill_one, fill_times, fire, fired, fired_to, first_moving, next_move, onward, place, pool_for, pool_or, queue_from_body, retire, taken_off, with_pending}
+use Rattle.cmwq_table.specs.Moves.{advance, begin_again, carry_out, come_to_end, enlist, fill_from, fill_one, fill_times, fire, fired, fired_to, first_moving, next_move, onward, place, pool_for, pool_or, queue_from_body, retire, taken_off, with_pending}
 use Rattle.cmwq_table.specs.State.{State, is_disabled, pending_at, running_at, target}
 use Rattle.cmwq_table.specs.Table.{delayed, effect, fired_first, modified, next, queued, run, step_or_tick, stepped}
 use Rattle.cmwq_table.specs.declared.state.Pending.{Pending}

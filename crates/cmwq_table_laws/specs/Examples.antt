@@ -1,5 +1,5 @@
 -- Runs in which the premises of the laws hold.
-use Rattle.std.specs.Prelude.{ℕ, true, List, [], ◌∷◌, ◌++◌, codes}
+use Rattle.std.specs.Prelude.{ℕ, true, List, [], ◌∷◌, codes}
 use Rattle.cmwq_types.specs.Contents.{ScenarioContents, WorkContents}
 use Rattle.cmwq_types.specs.Scenario.{plain_flags}
 use Rattle.cmwq_types.specs.declared.instr.Instr.{Instr}
@@ -8,7 +8,7 @@ use Rattle.cmwq_types.specs.declared.scenario.Flags.{Flags}
 use Rattle.cmwq_types.specs.declared.scenario.Op.{Op}
 use Rattle.cmwq_types.specs.declared.scenario.Op.TheVariants as op
 use Rattle.cmwq_types.specs.declared.scenario.QueueDecl.{QueueDecl}
-use Rattle.cmwq_table.specs.State.{State, pending_at}
+use Rattle.cmwq_table.specs.State.{pending_at}
 use Rattle.cmwq_table.specs.Table.{place_of, run}
 use Rattle.cmwq_types.specs.declared.reply.Place.{Place}
 use Rattle.std.specs.Prelude.{Option}
