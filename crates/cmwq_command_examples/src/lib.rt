@@ -1,0 +1,6 @@
+//! Worked examples of what the program's words carry out, as theorems over the definitions: what each request puts where, and with which
+//! status it ends. The functions do nothing. No other crate stands on this one.
+#![tactic(auto)]
+
+pub mod requests;
+pub mod statuses;
