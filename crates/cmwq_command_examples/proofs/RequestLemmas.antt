@@ -1,11 +1,11 @@
 -- What a request has done with a text of the first scenario.
-use Rattle.std.proofs.Common.{◌≡◌, ◌⊎◌, ℕ, suc, ◌≤◌, Bool, List, [], ◌∷◌, ◌++◌, length, Option, Some, None, Result, Ok, Err, arith, refl, sym, ap, ◌∙◌, subst, inl, inr}
-use Rattle.std.specs.Io.KnownBytes.{Appends, Keeps}
+use Rattle.std.proofs.Common.{◌≡◌, ℕ, Bool, List, [], ◌∷◌, ◌++◌, Option, Some, None, Result, Ok, Err, arith, refl, sym, ap, ◌∙◌, subst, inl, inr}
+use Rattle.std.specs.Io.KnownBytes.{Appends}
 use Rattle.std.specs.Prelude.{IfSome, OnOk, codes}
 use Rattle.cmwq_actors.specs.Interleaving.{Interleaves, scripts_of}
-use Rattle.cmwq_command.specs.Carried.{Graded, HasCarriedOut, HasDebugged, HasDone, HasLeft, OfSpelled, Store, UnlessUnopened, graded}
-use Rattle.cmwq_command.specs.Tasks.{IsGoalOf, IsTaskFault, IsWrittenBy}
-use Rattle.cmwq_command_examples.specs.Examples.{HasFirst, Leads, LeadsOnFirst, Path, Puts, PutsNothing, TaskFindsNoFault, TaskPuts}
+use Rattle.cmwq_command.specs.Carried.{HasCarriedOut, HasDebugged, HasDone, HasLeft, OfSpelled, Store, UnlessUnopened, graded}
+use Rattle.cmwq_command.specs.Tasks.{IsGoalOf, IsWrittenBy}
+use Rattle.cmwq_command_examples.specs.Examples.{HasFirst, Leads, Path, Puts, PutsNothing, TaskFindsNoFault}
 use Rattle.cmwq_command_line.specs.CommandLine.{version_line}
 use Rattle.cmwq_debug_session.specs.Told.{IsDebugged}
 use Rattle.cmwq_draw.specs.Drawn.{IsDrawing}
@@ -20,7 +20,6 @@ use Rattle.cmwq_outcome.specs.Starting.{HasWrittenFirst}
 use Rattle.cmwq_play.specs.Commands.{IsOutside}
 use Rattle.cmwq_play.specs.PlayTexts.{ComesTo, IsSpelled}
 use Rattle.cmwq_play.specs.Runs.{IsPrinted, IsRunOf}
-use Rattle.cmwq_request.specs.declared.request.Request.{Request}
 use Rattle.cmwq_request.specs.declared.request.Request.TheVariants.{Asm, Debug, Do, New, Play, Version}
 use Rattle.cmwq_settle.specs.Settling.{IsFollowedOutput, IsSettledListing}
 use Rattle.cmwq_starter.specs.Starter.{first_lines, first_scenario}

@@ -1,14 +1,14 @@
 -- The highest status is told.
-use Rattle.std.proofs.Common.{◌≡◌, ◌⊎◌, ℕ, zero, suc, ◌+◌, ◌<◌, ◌≤◌, Bool, true, false, List, [], ◌∷◌, ◌++◌, Option, Some, None, arith, refl, sym, ap, ◌∙◌, subst, inl, inr}
+use Rattle.std.proofs.Common.{◌≡◌, ◌⊎◌, ℕ, zero, suc, ◌+◌, ◌<◌, ◌≤◌, true, false, List, [], ◌∷◌, ◌++◌, Option, Some, arith, refl, sym, ap, ◌∙◌, subst, inl, inr}
 use Rattle.std.proofs.Math.Nat.{le-max_left, le-max_right, max-eq_left, max-eq_right}
 use Rattle.std.proofs.lemmas.Bool.{cases_eq, cases_lt}
-use Rattle.std.specs.Prelude.{IfSome, codes, max, slice_index_or}
-use Rattle.cmwq_command.specs.Carried.{HasChecked, IsJudged, Store}
+use Rattle.std.specs.Prelude.{codes, max}
+use Rattle.cmwq_command.specs.Carried.{HasChecked, Store}
 use Rattle.cmwq_command_examples.specs.Statuses.{IsHighest, TellsHighest, WasJudged, having, two_files}
 use Rattle.cmwq_grammar.specs.Grammar.{Spells}
 use Rattle.cmwq_outcome.specs.Checking.{HasRead, status_of_judged}
 use Rattle.cmwq_outcome.specs.declared.file_verdict.Judged.{Judged}
-use Rattle.cmwq_outcome.specs.declared.file_verdict.Judged.TheVariants.{Good, Faulty, Unread}
+use Rattle.cmwq_outcome.specs.declared.file_verdict.Judged.TheVariants.{Good, Unread}
 use Rattle.cmwq_starter.specs.Starter.{first_scenario}
 use Rattle.cmwq_verdict.specs.declared.looks.Look.{Look}
 

@@ -1,6 +1,5 @@
 -- Which of several files' statuses is told.
-use Rattle.std.specs.Prelude.{◌≡◌, ◌⊎◌, ◌<◌, ◌≤◌, ℕ, List, [], ◌∷◌, codes, Bool, Option, Some, None, IfSome, if◌then◌else◌, slice_index_or}
-use Rattle.std.specs.Str.{bytes_eq}
+use Rattle.std.specs.Prelude.{◌≡◌, ◌⊎◌, ◌<◌, ◌≤◌, ℕ, List, [], ◌∷◌, codes, Option, Some, IfSome, slice_index_or}
 use Rattle.cmwq_command.specs.Carried.{HasChecked, IsJudged, Store}
 use Rattle.cmwq_outcome.specs.Checking.{status_of_judged}
 use Rattle.cmwq_outcome.specs.declared.file_verdict.Judged.{Judged}

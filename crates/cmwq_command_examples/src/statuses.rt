@@ -7,7 +7,7 @@ ghost use Rattle.cmwq_outcome.specs.declared.file_verdict.Judged.TheVariants as 
 ghost use Rattle.cmwq_starter.specs.Starter.{first_scenario};
 ghost use Rattle.cmwq_streams.specs.declared.error.PlayError.TheVariants as errors;
 ghost use Rattle.cmwq_verdict.specs.declared.looks.Look.{Look};
-ghost use Rattle.std.specs.Prelude.{◌≡◌, ◌⊎◌, ℕ, Err, List, Ok, Some, codes};
+ghost use Rattle.std.specs.Prelude.{◌≡◌, ℕ, Err, List, Ok, Some, codes};
 
 /// What goes well ends with 0, and nothing else has a status of its own there.
 pub fn outcomes_have_their_statuses()

@@ -1,10 +1,9 @@
 -- Tickets of issues that found the history full.
-use Rattle.std.proofs.Common.{◌≡◌, ℕ, zero, suc, ◌+◌, ◌-◌, ◌<◌, ◌^◌, List, [], ◌∷◌, ◌++◌, length, arith, refl, sym, ap, ◌∙◌, subst}
+use Rattle.std.proofs.Common.{◌≡◌, ℕ, zero, suc, ◌+◌, ◌-◌, ◌<◌, ◌^◌, List, [], ◌∷◌, ◌++◌, length, arith, refl, sym, subst}
 use Rattle.std.specs.Prelude.{All, slice_index_or}
 use Rattle.cmwq_lock.specs.Views.{seen_of}
-use Rattle.cmwq_engine.specs.Shared.{EngineView, HasHadTurn, HasNothingNew}
+use Rattle.cmwq_engine.specs.Shared.{EngineView, HasNothingNew}
 use Rattle.cmwq_engine.specs.declared.history.Entry.{Entry}
-use Rattle.cmwq_engine.specs.declared.history.Setting.{Setting}
 use Rattle.cmwq_engine_laws.specs.FullIssues.{HasSeen, HasSeenBefore, SeesOnlyMore, entry_before, last_entry}
 
 within-more : (xs ys : List Entry) (k : ℕ) → k < length xs → k < length (xs ++ ys)

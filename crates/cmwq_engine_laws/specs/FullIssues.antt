@@ -1,9 +1,9 @@
 -- What an issue that found the history full says of what its caller had seen.
-use Rattle.std.specs.Prelude.{◌≡◌, ◌<◌, ◌-◌, ◌^◌, ℕ, List, [], ◌∷◌, All}
+use Rattle.std.specs.Prelude.{◌≡◌, ◌<◌, ◌-◌, ◌^◌, ℕ, [], ◌∷◌, All}
 use Rattle.cmwq_types.specs.declared.instr.Instr.TheVariants as instr
 use Rattle.cmwq_types.specs.declared.reply.Reply.TheVariants as reply
 use Rattle.cmwq_lock.specs.Views.{seen_of}
-use Rattle.cmwq_engine.specs.Shared.{EngineView, HasHadTurn, HasNothingNew}
+use Rattle.cmwq_engine.specs.Shared.{EngineView, HasHadTurn}
 use Rattle.cmwq_engine.specs.declared.history.Entry.{Entry}
 use Rattle.cmwq_engine.specs.declared.history.Setting.{Setting}
 
