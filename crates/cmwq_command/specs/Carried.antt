@@ -1,24 +1,29 @@
 -- What a request does to the writers that it is lent, by what its files have.
-use Rattle.std.specs.Prelude.{◌≡◌, ◌⊎◌, ℕ, zero, suc, Bool, List, [], length, map, max, Option, Some, None, IfSome, Result, Ok, Err, OnOk, slice_index_or}
+use Rattle.std.specs.Prelude.{◌≡◌, ◌<◌, ◌↔◌, ◌⊎◌, ℕ, zero, suc, Bool, true, List, [], length, map, max, Option, Some, None, IfSome, Result, Ok, Err, IfErr, OnErr, OnOk, slice_index_or}
 use Rattle.std.specs.Io.KnownBytes.{Keeps}
 use Rattle.cmwq_types.specs.Contents.{ScenarioContents}
+use Rattle.cmwq_types.specs.declared.limits.TheConstants.{MAX_TEXT}
 use Rattle.cmwq_grammar.specs.Grammar.{Spells}
+use Rattle.cmwq_image.specs.Image.{image}
+use Rattle.cmwq_image.specs.declared.version.TheConstants.{VERSION}
 use Rattle.cmwq_actors.specs.Interleaving.{Interleaves, scripts_of}
 use Rattle.cmwq_command.specs.Tasks.{IsGoalOf, IsTaskFault, IsWrittenBy}
 use Rattle.cmwq_command_line.specs.CommandLine.{version_line}
-use Rattle.cmwq_debug_session.specs.Told.{IsDebugged}
-use Rattle.cmwq_interleaving.specs.Plays.{IsFull, Left}
+use Rattle.cmwq_debug_session.specs.Told.{IsDebugged, IsFrontTold, IsTalkError}
+use Rattle.cmwq_interleaving.specs.Plays.{HasFronts, IsFull, Left, LeftFront}
 use Rattle.cmwq_outcome.specs.Checking.{HasTold, status_of_judged}
 use Rattle.cmwq_outcome.specs.FaultsTold.{Prints}
 use Rattle.cmwq_outcome.specs.Starting.{HasWrittenFirst}
 use Rattle.cmwq_outcome.specs.declared.file_verdict.Judged.{Judged}
 use Rattle.cmwq_play.specs.Commands.{Answers, Writes}
+use Rattle.cmwq_play.specs.PlayTexts.{IsOutput, IsRunFault, IsTextFault}
 use Rattle.clap.specs.Words.{Text}
 use Rattle.cmwq_request.specs.Request.{request_words}
 use Rattle.cmwq_request.specs.declared.request.Request.{Request}
 use Rattle.cmwq_request.specs.declared.request.Request.TheVariants.{New, Do, Asm, Debug, Play, Check, Version}
+use Rattle.cmwq_streams.specs.Sending.{IsSendError}
 use Rattle.cmwq_streams.specs.declared.error.PlayError.{PlayError}
-use Rattle.cmwq_streams.specs.declared.error.PlayError.TheVariants.{Full, NoMemory, Read}
+use Rattle.cmwq_streams.specs.declared.error.PlayError.TheVariants.{Actors, Asm as TextFault, Full, NoMemory, Read, Tickets, TooLong, Write}
 use Rattle.cmwq_tasks.specs.declared.task.Task.{Task}
 use Rattle.cmwq_verdict.specs.declared.looks.Look.{Look}
 
@@ -30,6 +35,14 @@ Store = List ℕ → Option (List ℕ)
 abbrev pub UnlessUnopened : (before after : Option (List ℕ)) → Result (Unit {0}) PlayError → Type 0 → Type 0
 UnlessUnopened before after result fact = ((result ≡ Err Read) × Keeps before after) ⊎ fact
 
+-- it is told exactly where the writer failed
+abbrev pub TellsFailure : (failed : Bool) → Result (Unit {0}) PlayError → Type 0
+TellsFailure failed result = (result ≡ Err Write) ↔ (failed ≡ true)
+
+-- the first scenario was written, or the writer failed
+abbrev pub HasStarted : (before after : Option (List ℕ)) → (failed : Bool) → Result (Unit {0}) PlayError → Type 0
+HasStarted before after failed result = OnOk result (HasWrittenFirst before after) × IfErr result (λ error. error ≡ Write) × TellsFailure failed result
+
 -- the task was carried out on an input that has these bytes
 abbrev pub HasDone : Task → List ℕ → (before after : Option (List ℕ)) → (failed : Bool) → Result (Unit {0}) PlayError → Type 0
 HasDone task bytes before after failed result =
@@ -39,15 +52,44 @@ HasDone task bytes before after failed result =
 abbrev pub OfSpelled : List ℕ → (ScenarioContents → Type 0) → Type 0
 OfSpelled bytes fact = (S : ScenarioContents) × Spells bytes S × fact S
 
--- to the whole input was said what a debugger of the scenario says to it, where all went well
-abbrev pub HasDebugged : List ℕ → (input before after : Option (List ℕ)) → Result (Unit {0}) PlayError → Type 0
-HasDebugged bytes input before after result = OnOk result (OfSpelled bytes (IsDebugged input before after))
+-- What was said to the input, where a debugger of the scenario that the bytes spell was asked for.
+pub record HasDebugged (bytes : List ℕ) (input before after : Option (List ℕ)) (failed : Bool) (result : Result (Unit {0}) PlayError) : Type 0 where
+  -- to the whole input was said what such a debugger says to it
+  pub told : OnOk result (OfSpelled bytes (IsDebugged input before after))
+  -- or a front of that
+  pub front : OnErr result ((S : ScenarioContents) → Spells bytes S → IsFrontTold input before after S)
+  pub write : TellsFailure failed result
+  pub too_long : result ≡ Err TooLong → IfSome input (λ commands. MAX_TEXT < length commands)
+  -- there is no such debugger, and nothing was written; or a read or a write failed, memory ran out, or too much was to be read
+  pub why : IfErr result (λ error. (IsRunFault (Some bytes) error × Keeps before after) ⊎ IsTalkError error)
 
--- what was left interleaves all that the actors of the scenario have to issue, or as much as the history has room for
-abbrev pub HasLeft : (capacity : ℕ) → List ℕ → (before after : Option (List ℕ)) → Result (Unit {0}) PlayError → Type 0
-HasLeft capacity bytes before after result =
-    OnOk result (OfSpelled bytes (λ S. Left S (λ history. Interleaves (scripts_of S) history) before after))
-    × (result ≡ Err Full → OfSpelled bytes (λ S. Left S (λ history. IsFull S capacity history) before after))
+-- why nothing is left: the bytes spell no scenario, or one without actors, or they couldn't be read, or memory ran out
+abbrev pub IsUnplayed : List ℕ → PlayError → Type 0
+IsUnplayed bytes Actors = OfSpelled bytes (λ S. S.actors ≡ [])
+IsUnplayed bytes (TextFault fault) = IsTextFault (Some bytes) (TextFault fault)
+IsUnplayed bytes Read = Unit {0}
+IsUnplayed bytes NoMemory = Unit {0}
+IsUnplayed bytes error = ⊥
+
+-- why not all that the actors have to issue is left
+abbrev pub IsCutShort : PlayError → Type 0
+IsCutShort Full = Unit {0}
+IsCutShort Tickets = Unit {0}
+IsCutShort Write = Unit {0}
+IsCutShort error = ⊥
+
+-- What was left of a play of the scenario that the bytes spell.
+pub record HasLeft (capacity : ℕ) (bytes : List ℕ) (before after : Option (List ℕ)) (failed : Bool) (result : Result (Unit {0}) PlayError) : Type 0 where
+  -- a history that interleaves all that the actors have to issue
+  pub all : OnOk result (OfSpelled bytes (λ S. Left S (λ history. Interleaves (scripts_of S) history) before after))
+  -- or one that interleaves fronts of it, and has no room left
+  pub full : result ≡ Err Full → OfSpelled bytes (λ S. Left S (λ history. IsFull S capacity history) before after)
+  pub tickets : result ≡ Err Tickets → OfSpelled bytes (λ S. Left S (λ history. HasFronts S history) before after)
+  pub write : TellsFailure failed result
+  -- where the writer failed, a front of that
+  pub front : result ≡ Err Write → OfSpelled bytes (λ S. LeftFront S (λ history. HasFronts S history) before after)
+  -- else nothing was written
+  pub why : IfErr result (λ error. (IsUnplayed bytes error × Keeps before after) ⊎ IsCutShort error)
 
 -- the verdict of a file that has these bytes was told, be it that it couldn't be read
 abbrev pub IsJudged : Look → (file bytes : List ℕ) → (output output_now errors errors_now : Option (List ℕ)) → Judged → Type 0
@@ -75,20 +117,23 @@ Graded result fact = (outcome : Result (Unit {0}) PlayError) × (result ≡ grad
 module _ (store : Store) (look : Look) (logic : List ℕ) (input output output_now errors errors_now : Option (List ℕ)) (failed : Bool) where
   -- What the request has done: to the output, unless all goes to a file, and to the writer for faults where files are checked.
   abbrev pub HasCarriedOut : Request → Result ℕ PlayError → Type 0
-  HasCarriedOut (New None) result = (errors_now ≡ errors) × Graded result (λ outcome. OnOk outcome (HasWrittenFirst output output_now))
-  HasCarriedOut (New (Some file)) result = (errors_now ≡ errors) × (output_now ≡ output)
+  HasCarriedOut (New None) result = (errors_now ≡ errors) × Graded result (λ outcome. HasStarted output output_now failed outcome)
+  HasCarriedOut (New (Some file)) result = (errors_now ≡ errors) × (output_now ≡ output) × Graded result (λ outcome. IfErr outcome (λ error. error ≡ Write))
   HasCarriedOut (Do file task) result =
       (errors_now ≡ errors)
       × Graded result (λ outcome. IfSome (store file.now) (λ bytes. UnlessUnopened output output_now outcome (HasDone task bytes output output_now failed outcome)))
-  HasCarriedOut (Asm file out) result = (errors_now ≡ errors) × (output_now ≡ output)
+  HasCarriedOut (Asm file out) result =
+      (errors_now ≡ errors) × (output_now ≡ output)
+      × Graded result (λ outcome. IfSome (store file.now) (λ bytes. Answers (IsOutput (image VERSION)) IsTextFault (Some bytes) outcome))
   HasCarriedOut (Debug file) result =
-      (errors_now ≡ errors) × Graded result (λ outcome. IfSome (store file.now) (λ bytes. HasDebugged bytes input output output_now outcome))
+      (errors_now ≡ errors) × Graded result (λ outcome. IfSome (store file.now) (λ bytes. HasDebugged bytes input output output_now failed outcome))
   HasCarriedOut (Play file capacity) result =
-      (errors_now ≡ errors) × Graded result (λ outcome. IfSome (store file.now) (λ bytes. HasLeft capacity bytes output output_now outcome))
+      (errors_now ≡ errors) × Graded result (λ outcome. IfSome (store file.now) (λ bytes. HasLeft capacity bytes output output_now failed outcome))
   HasCarriedOut (Check files) (Ok status) =
       HasChecked store look (map (λ file. file.now) files.items) (length files.items) output output_now errors errors_now status
-  HasCarriedOut (Check files) (Err error) = Unit {0}
-  HasCarriedOut Version result = (errors_now ≡ errors) × Prints (version_line logic) output output_now result
+  HasCarriedOut (Check files) (Err error) = IsSendError error
+  HasCarriedOut Version result =
+      (errors_now ≡ errors) × Prints (version_line logic) output output_now result × Graded result (λ outcome. TellsFailure failed outcome)
 
   -- what the words ask for was done; or memory ran out
   abbrev pub HasCarriedOutWords : List Text → Result ℕ PlayError → Type 0

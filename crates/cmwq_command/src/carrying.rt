@@ -1,12 +1,16 @@
 //! What the words ask for, carried out on files.
 ghost use Rattle.clap.specs.Words.{Text};
-ghost use Rattle.cmwq_command.specs.Carried.{HasCarriedOut, HasCarriedOutWords, HasChecked, HasDebugged, HasDone, HasLeft, IsJudged, UnlessUnopened, graded};
+ghost use Rattle.cmwq_command.specs.Carried.{HasCarriedOut, HasCarriedOutWords, HasChecked, HasDebugged, HasDone, HasLeft, HasStarted, IsJudged, UnlessUnopened, graded};
 ghost use Rattle.cmwq_command_line.specs.CommandLine.{version_line};
 ghost use Rattle.cmwq_outcome.specs.FaultsTold.{Prints};
-ghost use Rattle.cmwq_outcome.specs.Starting.{HasWrittenFirst};
+ghost use Rattle.cmwq_image.specs.Image.{image};
+ghost use Rattle.cmwq_image.specs.declared.version.TheConstants.{VERSION};
 ghost use Rattle.cmwq_outcome.specs.declared.telling.TheConstants.{USAGE};
+ghost use Rattle.cmwq_play.specs.Commands.{Answers};
+ghost use Rattle.cmwq_play.specs.PlayTexts.{IsOutput, IsTextFault};
 ghost use Rattle.cmwq_request.specs.Request.{IsAskedBy, IsCapacity, IsMisusedBy, IsVersionWord, IsWithin};
-ghost use Rattle.std.specs.Prelude.{◌≡◌, ◌∷◌, [], List, IfOk, IfSome, OnOk, false, length, map, string_bytes, ℕ};
+ghost use Rattle.cmwq_streams.specs.Sending.{IsSendError};
+ghost use Rattle.std.specs.Prelude.{◌≡◌, ◌∷◌, [], List, IfErr, IfOk, IfSome, None, OnOk, Some, false, length, map, string_bytes, ℕ};
 
 use crate::file_store::FileStore;
 use crate::tasks_done::do_task;
@@ -110,7 +114,8 @@ fn good(outcome: Result<(), PlayError>) -> Result<u8, PlayError>
     }
 }
 
-/// Tells the verdict of each of these files, one after another, and gives the highest of their statuses.
+/// Tells the verdict of each of these files, one after another, and gives the highest of their statuses. The error is `Write` or
+/// `NoMemory`.
 fn check<F: FileStore, O: Sink, E: Sink>(
     alloc: Global,
     files: &F,
@@ -123,6 +128,7 @@ fn check<F: FileStore, O: Sink, E: Sink>(
     requires errors { E.failed errors.old ≡ false }
     ensures checked { IfOk result (λ status. HasChecked (F.bytes files.now) look (map (λ path. path.now) paths.now) (length paths.now)
         (O.contents output.old) (O.contents output.new) (E.contents errors.old) (E.contents errors.new) status) }
+    ensures why { IfErr result (λ error. IsSendError error) }
 {
     let mut status = GOOD;
     for path in paths {
@@ -132,7 +138,7 @@ fn check<F: FileStore, O: Sink, E: Sink>(
     Ok(status)
 }
 
-/// Tells the verdict of the file.
+/// Tells the verdict of the file. The error is `Write` or `NoMemory`.
 fn check_file<F: FileStore, O: Sink, E: Sink>(
     alloc: Global,
     files: &F,
@@ -147,6 +153,7 @@ fn check_file<F: FileStore, O: Sink, E: Sink>(
         (O.contents output.old) (O.contents output.new) (E.contents errors.old) (E.contents errors.new) judged)) }
     ensures output { OnOk result (O.failed output.new ≡ false) }
     ensures errors { OnOk result (E.failed errors.new ≡ false) }
+    ensures why { IfErr result (λ error. IsSendError error) }
 {
     match files.open(path) {
         Ok(mut reader) => check_text(alloc, look, path, &mut reader, output, errors),
@@ -161,8 +168,9 @@ fn new<F: FileStore, W: Sink>(
     file: Option<&str>,
 ) -> Result<(), PlayError>
     requires { W.failed writer.old ≡ false }
-    ensures first { file.entry ≡ None → OnOk result (HasWrittenFirst (W.contents writer.old) (W.contents writer.new)) }
+    ensures first { file.entry ≡ None → HasStarted (W.contents writer.old) (W.contents writer.new) (W.failed writer.new) result }
     ensures same { IfSome file.entry (λ _. writer.new ≡ writer.old) }
+    ensures why { IfErr result (λ error. error ≡ PlayError.Write) }
 {
     match file {
         Some(path) => write_first(&mut files.make_new(path)?),
@@ -188,7 +196,9 @@ fn do_on_file<F: FileStore, W: Sink>(
 
 /// Makes the image file of the scenario whose text is in the file. The image file is made anew
 /// first, and it stays empty where there is a fault before the image is written.
-fn asm<F: FileStore>(alloc: Global, files: &F, file: &str, out: &str) -> Result<(), PlayError> {
+fn asm<F: FileStore>(alloc: Global, files: &F, file: &str, out: &str) -> Result<(), PlayError>
+    ensures answers { IfSome (F.bytes files.now file.now) (λ bytes. Answers (IsOutput (image VERSION)) IsTextFault (Some bytes) result) }
+{
     let mut writer = files.make(out)?;
     let mut reader = files.open(file)?;
     cmwq_play::to_image(alloc, &mut reader, &mut writer)
@@ -203,7 +213,7 @@ fn debug_file<F: FileStore, I: Read + Drop, W: Sink>(
     file: &str,
 ) -> Result<(), PlayError>
     requires { W.failed writer.old ≡ false }
-    ensures debugged { IfSome (F.bytes files.now file.now) (λ bytes. HasDebugged bytes (I.remaining input) (W.contents writer.old) (W.contents writer.new) result) }
+    ensures debugged { IfSome (F.bytes files.now file.now) (λ bytes. HasDebugged bytes (I.remaining input) (W.contents writer.old) (W.contents writer.new) (W.failed writer.new) result) }
 {
     let mut reader = files.open(file)?;
     let scenario = cmwq_play::read_text(alloc, &mut reader)?;
@@ -221,7 +231,7 @@ fn play_file<R: AllocGlobal + Threads + Wait + Clock + Sync, F: FileStore, W: Si
 ) -> Result<(), PlayError>
     requires capacity { IsCapacity capacity }
     requires writer { W.failed writer.old ≡ false }
-    ensures left { IfSome (F.bytes files.now file.now) (λ bytes. HasLeft capacity bytes (W.contents writer.old) (W.contents writer.new) result) }
+    ensures left { IfSome (F.bytes files.now file.now) (λ bytes. HasLeft capacity bytes (W.contents writer.old) (W.contents writer.new) (W.failed writer.new) result) }
 {
     let mut reader = files.open(file)?;
     let scenario = cmwq_play::read_text(rt.alloc(), &mut reader)?;
