@@ -1,9 +1,9 @@
 -- What a request has done with a text of the first scenario.
 use Rattle.std.proofs.Common.{◌≡◌, ℕ, Bool, List, [], ◌∷◌, ◌++◌, Option, Some, None, Result, Ok, Err, arith, refl, sym, ap, ◌∙◌, subst, inl, inr}
 use Rattle.std.specs.Io.KnownBytes.{Appends}
-use Rattle.std.specs.Prelude.{IfSome, OnOk, codes}
+use Rattle.std.specs.Prelude.{IfSome, codes}
 use Rattle.cmwq_actors.specs.Interleaving.{Interleaves, scripts_of}
-use Rattle.cmwq_command.specs.Carried.{HasCarriedOut, HasDebugged, HasDone, HasLeft, OfSpelled, Store, UnlessUnopened, graded}
+use Rattle.cmwq_command.specs.Carried.{HasCarriedOut, HasDebugged, HasDone, HasLeft, HasStarted, OfSpelled, Store, UnlessUnopened, graded}
 use Rattle.cmwq_command.specs.Tasks.{IsGoalOf, IsWrittenBy}
 use Rattle.cmwq_command_examples.specs.Examples.{HasFirst, Leads, Path, Puts, PutsNothing, TaskFindsNoFault}
 use Rattle.cmwq_command_line.specs.CommandLine.{version_line}
@@ -16,7 +16,6 @@ use Rattle.cmwq_explain.specs.Explained.{said_to}
 use Rattle.cmwq_grammar.specs.Grammar.{Spells}
 use Rattle.cmwq_image.specs.Versions.{IsImageOf}
 use Rattle.cmwq_interleaving.specs.Plays.{IsFull, Left}
-use Rattle.cmwq_outcome.specs.Starting.{HasWrittenFirst}
 use Rattle.cmwq_play.specs.Commands.{IsOutside}
 use Rattle.cmwq_play.specs.PlayTexts.{ComesTo, IsSpelled}
 use Rattle.cmwq_play.specs.Runs.{IsPrinted, IsRunOf}
@@ -129,32 +128,32 @@ module _ (one : OneScenario) (store : Store) (file : Path) (first : HasFirst sto
 
   pub debug-leads : Leads store (Debug file) (Ok 0) (λ input output output_now errors errors_now. (errors_now ≡ errors) × IsDebugged input output output_now first_scenario)
   debug-leads look logic input output output_now errors errors_now failed carried =
-      let so = λ (outcome : Result (Unit {0}) PlayError). IfSome (store file.now) (λ (known : List ℕ). HasDebugged known input output output_now outcome) in
+      let so = λ (outcome : Result (Unit {0}) PlayError). IfSome (store file.now) (λ (known : List ℕ). HasDebugged known input output output_now failed outcome) in
       let well : so (Ok tt) = ended-well so carried.1.0 carried.1.1 carried.1.2 in
-      let said : HasDebugged first.0 input output output_now (Ok tt) =
-      subst (λ (known : Option (List ℕ)). IfSome known (λ (b : List ℕ). HasDebugged b input output output_now (Ok tt))) first.1 well in
-      (carried.0, of_spelled first.0 (IsDebugged input output output_now) first.2 said)
+      let said : HasDebugged first.0 input output output_now failed (Ok tt) =
+      subst (λ (known : Option (List ℕ)). IfSome known (λ (b : List ℕ). HasDebugged b input output output_now failed (Ok tt))) first.1 well in
+      (carried.0, of_spelled first.0 (IsDebugged input output output_now) first.2 said.told)
 
-  play-left : (capacity : ℕ) (output output_now : Option (List ℕ)) (r : Result (Unit {0}) PlayError) → IfSome (store file.now) (λ (known : List ℕ). HasLeft capacity known output output_now r)
-      → HasLeft capacity first.0 output output_now r
-  play-left capacity output output_now r left =
-      subst (λ (known : Option (List ℕ)). IfSome known (λ (b : List ℕ). HasLeft capacity b output output_now r)) first.1 left
+  play-left : (capacity : ℕ) (output output_now : Option (List ℕ)) (failed : Bool) (r : Result (Unit {0}) PlayError)
+      → IfSome (store file.now) (λ (known : List ℕ). HasLeft capacity known output output_now failed r) → HasLeft capacity first.0 output output_now failed r
+  play-left capacity output output_now failed r left =
+      subst (λ (known : Option (List ℕ)). IfSome known (λ (b : List ℕ). HasLeft capacity b output output_now failed r)) first.1 left
 
   pub play-leads : (capacity : ℕ)
       → Leads store (Play file capacity) (Ok 0)
       (λ input output output_now errors errors_now. (errors_now ≡ errors) × Left first_scenario (λ history. Interleaves (scripts_of first_scenario) history) output output_now)
   play-leads capacity look logic input output output_now errors errors_now failed carried =
-      let so = λ (outcome : Result (Unit {0}) PlayError). IfSome (store file.now) (λ (known : List ℕ). HasLeft capacity known output output_now outcome) in
-      let left = play-left capacity output output_now (Ok tt) (ended-well so carried.1.0 carried.1.1 carried.1.2) in
-      (carried.0, of_spelled first.0 (λ S. Left S (λ history. Interleaves (scripts_of S) history) output output_now) first.2 left.0)
+      let so = λ (outcome : Result (Unit {0}) PlayError). IfSome (store file.now) (λ (known : List ℕ). HasLeft capacity known output output_now failed outcome) in
+      let left = play-left capacity output output_now failed (Ok tt) (ended-well so carried.1.0 carried.1.1 carried.1.2) in
+      (carried.0, of_spelled first.0 (λ S. Left S (λ history. Interleaves (scripts_of S) history) output output_now) first.2 left.all)
 
   pub full-leads : (capacity : ℕ)
       → Leads store (Play file capacity) (Err Full)
       (λ input output output_now errors errors_now. (errors_now ≡ errors) × Left first_scenario (λ history. IsFull first_scenario capacity history) output output_now)
   full-leads capacity look logic input output output_now errors errors_now failed carried =
-      let so = λ (outcome : Result (Unit {0}) PlayError). IfSome (store file.now) (λ (known : List ℕ). HasLeft capacity known output output_now outcome) in
-      let left = play-left capacity output output_now (Err Full) (ended-so so Full carried.1.0 carried.1.1 carried.1.2) in
-      (carried.0, of_spelled first.0 (λ S. Left S (λ history. IsFull S capacity history) output output_now) first.2 (left.1 refl))
+      let so = λ (outcome : Result (Unit {0}) PlayError). IfSome (store file.now) (λ (known : List ℕ). HasLeft capacity known output output_now failed outcome) in
+      let left = play-left capacity output output_now failed (Err Full) (ended-so so Full carried.1.0 carried.1.1 carried.1.2) in
+      (carried.0, of_spelled first.0 (λ S. Left S (λ history. IsFull S capacity history) output output_now) first.2 (left.full refl))
 
 pub show_puts : (store : Store) (file : Path) (bytes : List ℕ) → store file.now ≡ Some bytes
     → Puts store (Do file task.Show) (λ text. (S : ScenarioContents) × IsImageOf bytes S × (text ≡ listing S))
@@ -209,7 +208,7 @@ list-outside store file error first =
 
 pub new_puts : (store : Store) → Puts store (New None) (λ text. Spells text first_scenario)
 new_puts store look logic input output output_now errors errors_now failed carried =
-    (carried.0, ended-well (λ outcome. OnOk outcome (HasWrittenFirst output output_now)) carried.1.0 carried.1.1 carried.1.2)
+    (carried.0, (ended-well (λ outcome. HasStarted output output_now failed outcome) carried.1.0 carried.1.1 carried.1.2).0)
 
 pub version_puts : (store : Store) (look : Look) (logic : List ℕ) (input output output_now errors errors_now : Option (List ℕ)) (failed : Bool)
     → HasCarriedOut store look logic input output output_now errors errors_now failed Version (Ok 0)
