@@ -13,6 +13,7 @@ ghost use Rattle.std.specs.Prelude.{◌≡◌, ◌≤◌, ◌↔◌, IfErr, IfOk
 use crate::looker::Looker;
 use crate::said::LastSaid;
 use crate::sayer::Sayer;
+use cmwq_lines::ReplyLines;
 use cmwq_play::Session;
 use cmwq_runs::room_behind;
 use cmwq_streams::{BlockWriter, PlayError, Sink};
@@ -92,9 +93,11 @@ fn tell_lines<M: Machine, P: Sayer, W: Sink>(
 {
     let alloc = looker.alloc;
     let mut looker = looker;
+    let replies = ReplyLines::new(alloc, scenario)?;
     let mut session = Session {
         scenario,
         machine,
+        replies,
         lines: BlockWriter::new(alloc, writer),
     };
     let outcome = looker.tell(&mut session, lines);

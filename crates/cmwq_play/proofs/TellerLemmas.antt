@@ -33,17 +33,17 @@ module _ {M W : Type 0} (loaded : M → ScenarioContents) (state : M → State) 
   }
 
   -- an instruction was issued, and what is told of it was written at once
-  pub wrote_once : (to : State) (written text : List ℕ) (r : Result (Unit {0}) PlayError) → loaded new.machine ≡ new.scenario.now → new.scenario.now ≡ old.scenario.now → state new.machine ≡ to → written ≡ text → SharesSink old.lines new.lines
+  pub wrote_once : (to : State) (written text : List ℕ) (r : Result (Unit {0}) PlayError) → loaded new.machine ≡ new.scenario.now → new.replies ≡ new.scenario.now → new.scenario.now ≡ old.scenario.now → state new.machine ≡ to → written ≡ text → SharesSink old.lines new.lines
       → OnOk r (Sends contents old.lines new.lines written) → OnErr r (SendsFront contents old.lines new.lines written) → (r ≡ Err Write) ↔ (failed (sink new.lines) ≡ true) → IfErr r (λ error. IsSendError error)
       → Issues loaded state contents failed old new to text r
-  wrote_once to written text (Ok tt) has scenario reached is same all front write why = record {
-    ready = record { has_scenario = has; is_sound = sound_then (failed (sink new.lines)) (Ok tt) refl write };
+  wrote_once to written text (Ok tt) has lines scenario reached is same all front write why = record {
+    ready = record { has_scenario = has; has_lines = lines; is_sound = sound_then (failed (sink new.lines)) (Ok tt) refl write };
     scenario = scenario;
     same = same;
     reached = reached;
     sent = subst (λ (lines : List ℕ). Sends contents old.lines new.lines lines) is all;
   }
-  wrote_once to written text (Err error) has scenario reached is same all front write why = record {
+  wrote_once to written text (Err error) has lines scenario reached is same all front write why = record {
     same = same;
     sent = subst (λ (lines : List ℕ). SendsFront contents old.lines new.lines lines) is front;
     write = (λ e. write.0 (ap Err e), λ broken. err_is {A = Unit {0}} error Write (Err error) refl (write.1 broken));

@@ -9,9 +9,10 @@ use Rattle.cmwq_streams.specs.declared.error.PlayError.TheVariants.{Write}
 use Rattle.cmwq_play.specs.declared.session.Session.{Session}
 
 module _ {M W : Type 0} (loaded : M → ScenarioContents) (state : M → State) (contents : W → Option (List ℕ)) (failed : W → Bool) where
-  -- the machine has the scenario, and no write failed yet
+  -- the machine has the scenario, whose lines are written, and no write failed yet
   pub record CanIssue (session : Session M W) : Type 0 where
     pub has_scenario : loaded session.machine ≡ session.scenario.now
+    pub has_lines : session.replies ≡ session.scenario.now
     pub is_sound : failed (sink session.lines) ≡ false
 
   -- the machine came to this state, and this text was written

@@ -6,7 +6,7 @@ ghost use Rattle.std.specs.Prelude.{⊤};
 use crate::session::Session;
 use crate::teller::Teller;
 use cmwq_streams::{PlayError, Sink};
-use cmwq_table::{Machine, ReplyLine};
+use cmwq_table::Machine;
 use cmwq_types::Instr;
 
 /// Tells the line of each reply, if it has one.
@@ -26,12 +26,9 @@ impl Teller for Replies {
         instr: Instr,
     ) -> Result<(), PlayError> {
         let reply = session.machine.exec(instr);
-        let line = ReplyLine {
-            scenario: session.scenario,
-            time: session.machine.now(),
-            instr,
-            reply,
-        };
-        write!(session.lines, "{line}")
+        let time = session.machine.now();
+        session
+            .lines
+            .write_reply(&mut session.replies, time, instr, &reply)
     }
 }

@@ -15,6 +15,7 @@ use crate::reading::read_text;
 use crate::replies::Replies;
 use crate::session::Session;
 use crate::teller::Teller;
+use cmwq_lines::ReplyLines;
 use cmwq_plain::Plain;
 use cmwq_runs::room_behind;
 use cmwq_streams::{BlockWriter, PlayError, Sink, Source};
@@ -144,9 +145,11 @@ fn tell_actor<M: Machine, T: Teller, W: Sink>(
     ensures why { IfErr result (λ error. IsSendError error) }
 {
     let mut teller = teller;
+    let replies = ReplyLines::new(alloc, scenario)?;
     let mut session = Session {
         scenario,
         machine,
+        replies,
         lines: BlockWriter::new(alloc, writer),
     };
     let outcome = session.send_all(&mut teller, &actor.lines);

@@ -9,6 +9,7 @@ ghost use Rattle.cmwq_types.specs.Scenario.{expand_lines};
 ghost use Rattle.std.specs.Prelude.{◌≡◌, [], IfErr, OnOk};
 
 use crate::teller::Teller;
+use cmwq_lines::ReplyLines;
 use cmwq_runs::Instructions;
 use cmwq_streams::{BlockWriter, PlayError, Sink};
 use cmwq_table::Machine;
@@ -21,6 +22,8 @@ pub struct Session<'s, 'w, M: Drop, W> {
     pub scenario: &'s Scenario,
     /// The machine on which the instructions are issued.
     pub machine: M,
+    /// The scenario's lines of replies.
+    pub replies: ReplyLines<'s>,
     /// The writer.
     pub lines: BlockWriter<'w, W>,
 }
@@ -67,6 +70,7 @@ impl<'w, M: Machine, W: Sink> Session<'_, 'w, M, W> {
         let Session {
             scenario: _,
             machine: _,
+            replies: _,
             lines,
         } = self;
         lines.into_inner()

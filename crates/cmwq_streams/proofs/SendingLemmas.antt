@@ -1,7 +1,6 @@
 -- Bytes that go out one part after another.
-use Rattle.std.proofs.Common.{ℕ, ◌≡◌, List, [], ◌++◌, take, drop, IfSome, Option, Some, None, sym, ap, ◌∙◌, subst, append_assoc, append-nil}
+use Rattle.std.proofs.Common.{ℕ, ◌≡◌, List, [], ◌++◌, take, drop, Option, Some, None, sym, ap, ◌∙◌, subst, append_assoc, append-nil}
 use Rattle.std.proofs.lemmas.List.{take-append-drop}
-use Rattle.std.specs.Fmt.{AppendsText}
 use Rattle.std.specs.Io.KnownBytes.{Appends, Keeps}
 use Rattle.cmwq_streams.specs.Sending.{HasSent, HasSentFront}
 
@@ -67,8 +66,3 @@ sends_all old now lines h = subst (λ (sent : List ℕ). Appends old now sent) (
 pub block_out : (old now after : Option (List ℕ)) (left lines : List ℕ) → HasSent old now left lines → HasSent now after [] left → HasSent old after [] lines
 block_out old now after left lines a b =
     (a.0 ++ b.0, appends_both old now after a.0 b.0 a.1 b.1, append_assoc a.0 b.0 [] ∙ ap (λ (rest : List ℕ). a.0 ++ rest) b.2 ∙ a.2)
-
--- a front of the block with a text behind it, where the text is known
-pub front_known : (text : Option (List ℕ)) (old now : Option (List ℕ)) (block more : List ℕ) → AppendsText block more text → HasSentFront old now more → IfSome text (λ bytes. HasSentFront old now (block ++ bytes))
-front_known (Some bytes) old now block more appended front = subst (λ (lines : List ℕ). HasSentFront old now lines) appended front
-front_known None old now block more appended front = tt

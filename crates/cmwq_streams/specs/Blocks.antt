@@ -1,5 +1,5 @@
 -- A writer of text in blocks: the writer below it, what it keeps back, and what it sends.
-use Rattle.std.specs.Prelude.{◌≡◌, ℕ, List, Option, string_bytes, ◌++◌}
+use Rattle.std.specs.Prelude.{◌≡◌, ℕ, List, Option, ◌++◌}
 use Rattle.std.specs.Borrow.{MutBor}
 use Rattle.cmwq_streams.specs.Sending.{HasSent, HasSentFront}
 use Rattle.cmwq_streams.specs.declared.block_writer.BlockWriter.{BlockWriter}
@@ -11,7 +11,7 @@ module _ {W : Type 0} where
 
   -- what is kept back
   abbrev pub kept : BlockWriter W → List ℕ
-  kept lines = string_bytes lines.block
+  kept lines = lines.block
 
   -- the writer below stands behind this reference
   abbrev pub WritesTo : BlockWriter W → MutBor W → Type 0

@@ -1,10 +1,13 @@
 //! A writer of text that goes out a block at a time.
 ghost use Rattle.cmwq_streams.specs.Sending.{HasSent, HasSentFront, IsSendError};
+ghost use Rattle.cmwq_table.specs.Events.{reply_line};
 ghost use Rattle.std.specs.Prelude.{◌≡◌, ◌≤◌, ◌↔◌, [], Err, IfErr, IfSome, OnErr, OnOk, false, length, true};
 
 use crate::error::PlayError;
 use crate::sending::put_all;
 use crate::stream::Sink;
+use cmwq_lines::{Block, ReplyLines};
+use cmwq_types::{Instr, Reply};
 use std::alloc::Global;
 use std::fmt::Display;
 
@@ -18,7 +21,7 @@ const BLOCK: usize = 8192;
 #[derive(Drop)]
 pub struct BlockWriter<'w, W> {
     writer: &'w mut W,
-    block: String,
+    block: Block,
 }
 
 impl<'w, W: Sink> BlockWriter<'w, W> {
@@ -32,7 +35,7 @@ impl<'w, W: Sink> BlockWriter<'w, W> {
     {
         BlockWriter {
             writer,
-            block: String::new(alloc),
+            block: Block::new(alloc),
         }
     }
 
@@ -62,8 +65,45 @@ impl<'w, W: Sink> BlockWriter<'w, W> {
         ensures why { IfErr result (λ error. IsSendError error) }
     {
         self.block.write_fmt(text)?;
+        self.send_full()
+    }
+
+    /// Writes the line of a reply at a time to an instruction behind what is kept back, and sends it all where it is more than a block.
+    ///
+    /// The errors are `Write`, exactly where the `Sink` failed, and `NoMemory`. Then what is kept back is lost.
+    pub fn write_reply(
+        &mut self,
+        lines: &mut ReplyLines<'_>,
+        time: u64,
+        instr: Instr,
+        reply: &Reply,
+    ) -> Result<(), PlayError>
+        requires sound { W.failed (sink self.old) ≡ false }
+        ensures scenario { lines.new ≡ lines.old }
+        ensures same { SharesSink self.old self.new }
+        ensures ok { OnOk result (Sends W.contents self.old self.new (reply_line lines.old time instr reply.now)) }
+        ensures kept { OnOk result (length (kept self.new) ≤ 8192) }
+        ensures err { OnErr result (SendsFront W.contents self.old self.new (reply_line lines.old time instr reply.now)) }
+        ensures failed { (result ≡ Err PlayError.Write) ↔ (W.failed (sink self.new) ≡ true) }
+        ensures why { IfErr result (λ error. IsSendError error) }
+    {
+        lines.push(&mut self.block, time, instr, reply)?;
+        self.send_full()
+    }
+
+    /// Sends what is kept back where it is more than a block. The only error is `Write`, exactly where the `Sink` failed.
+    #[inline]
+    fn send_full(&mut self) -> Result<(), PlayError>
+        requires sound { W.failed (sink self.old) ≡ false }
+        ensures same { SharesSink self.old self.new }
+        ensures ok { OnOk result (HasSent (W.contents (sink self.old)) (W.contents (sink self.new)) (kept self.new) (kept self.old)) }
+        ensures kept { OnOk result (length (kept self.new) ≤ 8192) }
+        ensures err { OnErr result (HasSentFront (W.contents (sink self.old)) (W.contents (sink self.new)) (kept self.old)) }
+        ensures failed { (result ≡ Err PlayError.Write) ↔ (W.failed (sink self.new) ≡ true) }
+        ensures write { IfErr result (λ error. error ≡ PlayError.Write) }
+    {
         if self.block.len() > BLOCK {
-            self.finish()?;
+            return self.finish();
         }
         Ok(())
     }

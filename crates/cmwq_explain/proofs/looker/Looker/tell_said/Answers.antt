@@ -30,4 +30,4 @@ returns-in_err-write-clause-told g c =
     let out = c.in_err-write.ensures in
     let p = err_from_is_err_and c.from_residual.result c.from_residual.ensures.1 in
     rw (p.1, p.2) (wrote_once g.M.Reads.loaded g.M.Reads.state g.W.Write.contents g.W.Sink.failed a (record a { lines = c.write.new.self }) s written (line_here l s (words_said c.args.said)) (Err c.in_err-write.field-0.0)
-    c.requires.has_scenario refl refl is out.same tt out.err out.failed out.why)
+    c.requires.has_scenario c.requires.has_lines refl refl is out.same tt out.err out.failed out.why)
