@@ -99,6 +99,12 @@ pub fn work_waits_for_memory()
     ensures at_12 { why outside 12 0 ≡ (None, Reason.Free 0 Turn.Starts) }
 {}
 
+/// An inactive work stands behind the inactive ones of its own queue, and behind no others.
+pub fn inactive_works_stand_behind_their_queues()
+    ensures behind_w { ahead_at beside_rescuer 7 4 ≡ 3 ∷ [] }
+    ensures first { ahead_at beside_rescuer 7 3 ≡ [] }
+{}
+
 /// A frozen queue keeps what is inactive, and pressure what no worker can take: the inactive too, but nothing that a
 /// rescuer takes. What was listed before a freeze goes on, and so does a pool that has made a worker.
 pub fn work_waits_for_thaw_and_relief()
