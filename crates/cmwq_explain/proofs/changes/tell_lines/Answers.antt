@@ -13,7 +13,7 @@ returns-clause-writes g c =
     let instrs = expand_lines c.args.lines.now in
     writes_more (λ output. output ≡ looker_told says c.args.looker S (g.M.Reads.state c.args.machine) instrs) (λ output. output ≡ looker_told says c.args.looker S (start S) instrs)
     (g.W.Write.contents c.args.writer.now) _ _ (as_unit c.tell-outcome.result) (λ output is. is ∙ ap (λ (s : State). looker_told says c.args.looker S s instrs) c.requires.start)
-    (writes_moved (ap g.W.Write.contents c.new.ensures.writer) (search rules) (search rules) c.tell-outcome.ensures.writes)
+    (writes_moved (ap g.W.Write.contents c.new-2.ensures.writer) (search rules) (search rules) c.tell-outcome.ensures.writes)
 
 pub returns-clause-told : goal.returns-clause-told
 returns-clause-told g c =
