@@ -1,20 +1,18 @@
 //! All that is told of one instruction.
-ghost use Rattle.cmwq_streams.specs.Blocks.{Sends, SendsFront, SharesSink, sink};
-ghost use Rattle.cmwq_streams.specs.Sending.{IsSendError};
 ghost use Rattle.cmwq_table.specs.Events.{reply_line};
 ghost use Rattle.cmwq_table.specs.Table.{table};
 ghost use Rattle.cmwq_tell.specs.RunTold.{change_lines, instr_line, told_wholly};
-ghost use Rattle.std.specs.Prelude.{◌≡◌, ◌↔◌, ◌++◌, Err, IfErr, OnErr, OnOk, false, true, ⊤};
+ghost use Rattle.std.specs.Prelude.{◌++◌, Some, ⊤};
 
 use crate::change::{Change, ChangeLines};
 use crate::hidden_changes::hidden;
 use crate::instr_line::InstrWords;
-use cmwq_lines::ReplyLines;
 use cmwq_play::{Session, Teller};
-use cmwq_streams::{BlockWriter, PlayError, Sink};
-use cmwq_table::Machine;
-use cmwq_types::{Instr, Reply, Scenario};
+use cmwq_streams::{PlayError, Sink};
+use cmwq_table::{Machine, ReplyLine};
+use cmwq_types::Instr;
 use std::alloc::Global;
+use std::fmt;
 
 /// Tells each instruction, its reply, if it has one, and its hidden changes.
 #[derive(Drop)]
@@ -39,54 +37,40 @@ impl Teller for Whole {
         let reply = session.machine.exec(instr);
         let changes = hidden(self.alloc, time, next, &session.machine)?;
         let told = Told {
-            scenario: session.scenario,
-            time: session.machine.now(),
-            instr,
-            reply,
+            answer: ReplyLine {
+                scenario: session.scenario,
+                time: session.machine.now(),
+                instr,
+                reply,
+            },
             changes: &changes,
         };
-        told.write(&mut session.replies, &mut session.lines)
+        write!(session.lines, "{told}")
     }
 }
 
-/// An instruction with its reply and its hidden changes.
+/// The line of an instruction, then that of its reply, if it has one, and then those of its hidden changes.
 #[derive(Clone, Copy)]
-struct Told<'a> {
-    scenario: &'a Scenario,
-    /// The time of the reply.
-    time: u64,
-    instr: Instr,
-    reply: Reply,
-    changes: &'a [Change],
+pub(crate) struct Told<'a> {
+    pub(crate) answer: ReplyLine<'a>,
+    pub(crate) changes: &'a [Change],
 }
 
-impl Told<'_> {
-    /// Writes the line of the instruction, then that of its reply, if it has one, and then those of its hidden changes.
-    fn write<W: Sink>(
-        &self,
-        replies: &mut ReplyLines<'_>,
-        writer: &mut BlockWriter<'_, W>,
-    ) -> Result<(), PlayError>
-        requires sound { W.failed (sink writer.old) ≡ false }
-        ensures lines { replies.new ≡ replies.old }
-        ensures same { SharesSink writer.old writer.new }
-        ensures ok { OnOk result (Sends W.contents writer.old writer.new (instr_line self.now.scenario.now self.now.instr
-            ++ reply_line replies.old self.now.time self.now.instr self.now.reply ++ change_lines self.now.scenario.now self.now.changes.now)) }
-        ensures err { OnErr result (SendsFront W.contents writer.old writer.new (instr_line self.now.scenario.now self.now.instr
-            ++ reply_line replies.old self.now.time self.now.instr self.now.reply ++ change_lines self.now.scenario.now self.now.changes.now)) }
-        ensures failed { (result ≡ Err PlayError.Write) ↔ (W.failed (sink writer.new) ≡ true) }
-        ensures why { IfErr result (λ error. IsSendError error) }
-    {
+impl fmt::Display for Told<'_> {
+    ghost output = { λ told. Some (instr_line told.answer.scenario.now told.answer.instr
+        ++ reply_line told.answer.scenario.now told.answer.time told.answer.instr told.answer.reply
+        ++ change_lines told.answer.scenario.now told.changes.now) };
+
+    fn fmt<W: fmt::Write>(&self, f: &mut fmt::Formatter<W>) -> fmt::Result {
+        let answer = self.answer;
         let instr = InstrWords {
-            scenario: self.scenario,
-            instr: self.instr,
+            scenario: answer.scenario,
+            instr: answer.instr,
         };
         let changes = ChangeLines {
-            scenario: self.scenario,
+            scenario: answer.scenario,
             changes: self.changes,
         };
-        write!(writer, "# {instr}\n")?;
-        writer.write_reply(replies, self.time, self.instr, &self.reply)?;
-        write!(writer, "{changes}")
+        write!(f, "# {instr}\n{answer}{changes}")
     }
 }
