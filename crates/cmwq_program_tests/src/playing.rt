@@ -1,7 +1,7 @@
 //! `play`: actors in threads of their own, and the texts that they leave.
 ghost use Rattle.cmwq_types.specs.Faults.{IsValid};
 ghost use Rattle.cmwq_types.specs.declared.limits.TheConstants.{MAX_LINES};
-ghost use Rattle.std.specs.Prelude.{◌≤◌};
+ghost use Rattle.std.specs.Prelude.{◌≤◌, ⊤};
 
 use crate::checking::same;
 use cmwq_actors::{Gate, OpenGate};
