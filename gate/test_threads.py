@@ -21,26 +21,26 @@ SCENARIO = "\n".join(["cpus 1", "workers 4", "steps 1", "flushes 0", *(line for 
 LEFT = "\n".join(["cpus 1", "workers 4", "steps 1", "flushes 0", "actor played", *["busy"] * ACTORS, *["# 0 no"] * ACTORS]) + "\n"
 
 
-def own_threads():
-    """How many threads this user has, this process among them."""
-    processes = [path for path in pathlib.Path("/proc").glob("[0-9]*") if path.exists() and path.stat().st_uid == os.getuid()]
+def threads_of(user):
+    """How many threads this user has."""
+    processes = [path for path in pathlib.Path("/proc").glob("[0-9]*") if path.exists() and path.stat().st_uid == user]
     return sum(len(list(path.glob("task/*"))) for path in processes)
 
 
-def limit_threads(others, threads):
-    """Lets the user of this process have so many threads besides the others and the program's first one."""
-    if os.getuid() == 0:
-        os.setgid(NOBODY)
-        os.setuid(NOBODY)
-        others = 0
-    resource.setrlimit(resource.RLIMIT_NPROC, (others + 1 + threads,) * 2)
+def become(user, most):
+    """Has this process go on as this user, who may have so many threads."""
+    if os.getuid() != user:
+        os.setgid(user)
+        os.setuid(user)
+    resource.setrlimit(resource.RLIMIT_NPROC, (most, most))
 
 
 def played(program, scenario, threads):
-    """The status, output and errors of a play that gets so many threads."""
-    others = own_threads()
+    """The status, output and errors of a play that gets so many threads, besides its first one."""
+    user = os.getuid() or NOBODY
+    most = threads_of(user) + 1 + threads
     done = subprocess.run(
-        [program, "play", "--capacity", "64", scenario], preexec_fn=lambda: limit_threads(others, threads), capture_output=True, text=True, timeout=60
+        [program, "play", "--capacity", "64", scenario], preexec_fn=lambda: become(user, most), capture_output=True, text=True, timeout=60
     )
     return done.returncode, done.stdout, done.stderr
 
