@@ -1,2 +1,5 @@
+mod AdvanceLemmas
 pub mod ExecLemmas
+mod QuietLemmas
+mod RepeatedLemmas
 pub mod StartLemmas

@@ -4,6 +4,7 @@ ghost use Rattle.cmwq_types.specs.Faults.{IsValid};
 ghost use Rattle.std.specs.Prelude.{◌≡◌, IfOk};
 
 use crate::performing::exec;
+use crate::repeating::{again, go};
 use cmwq_parts::{Going, Parts};
 use cmwq_table::{FlushTarget, LoadError, Machine, Pending, Reads, Running, View};
 use cmwq_types::{Instr, NoMemory, Reply, Scenario};
@@ -107,6 +108,14 @@ impl<P: Parts> Machine for Driven<P> {
 
     fn exec(&mut self, instr: Instr) -> Reply {
         exec(&mut self.going, instr)
+    }
+
+    fn go(&mut self, most: u32) -> (u32, Reply) {
+        go(&mut self.going, most)
+    }
+
+    fn again(&mut self, instr: Instr, reply: Reply, most: u32) -> u32 {
+        again(&mut self.going, instr, reply, most)
     }
 
     fn copy(&self) -> Result<Self, NoMemory> {

@@ -6,5 +6,6 @@ mod disabling;
 mod driven;
 mod flushing;
 mod performing;
+mod repeating;
 
 pub use driven::Driven;

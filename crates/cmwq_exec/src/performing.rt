@@ -2,11 +2,11 @@
 //! found for the one serves the other.
 ghost use Rattle.cmwq_exec.specs.Performing.{Performs};
 ghost use Rattle.cmwq_parts.specs.FoundMoves.{IsFound, move_of};
-ghost use Rattle.cmwq_table.specs.Counts.{first_due};
+ghost use Rattle.cmwq_table.specs.Counts.{first_due, is_done};
 ghost use Rattle.cmwq_table.specs.Moves.{first_moving};
 ghost use Rattle.cmwq_table.specs.Ready.{IsKept};
 ghost use Rattle.cmwq_table.specs.State.{pending_at};
-ghost use Rattle.cmwq_table.specs.Table.{cancelled, fired_first, found, next, operands, stepped, table, yes_or_no};
+ghost use Rattle.cmwq_table.specs.Table.{cancelled, fired_first, found, next, operands, stepped, table, target_at, yes_or_no};
 ghost use Rattle.cmwq_types.specs.declared.instr.Instr.TheVariants as instr;
 ghost use Rattle.cmwq_types.specs.declared.limits.TheConstants.{MAX_MAX_ACTIVE, MAX_WORKS};
 ghost use Rattle.std.specs.Prelude.{◌≡◌, ◌<◌, ◌≤◌, ◌+◌, ◌^◌, None, Some, length};
@@ -31,7 +31,7 @@ pub(crate) fn exec<P: Parts>(going: &mut Going<P>, instr: Instr) -> Reply
     match perform(going, instr) {
         Ok(reply) => {
             if !is_question(instr) {
-                spend(going);
+                spend(going, 1);
             }
             reply
         }
@@ -39,12 +39,12 @@ pub(crate) fn exec<P: Parts>(going: &mut Going<P>, instr: Instr) -> Reply
     }
 }
 
-/// Counts one more instruction as spent.
-fn spend<P: Parts>(going: &mut Going<P>)
-    requires { going.old.state.spent < going.old.scenario.steps }
-    ensures { going.new ≡ record going.old { state = record going.old.state { spent = going.old.state.spent + 1 } } }
+/// Counts so many more instructions as spent.
+pub(crate) fn spend<P: Parts>(going: &mut Going<P>, count: u32)
+    requires { going.old.state.spent + count ≤ going.old.scenario.steps }
+    ensures { going.new ≡ record going.old { state = record going.old.state { spent = going.old.state.spent + count } } }
 {
-    going.parts.spend();
+    going.parts.spend(count);
 }
 
 /// Carries out an instruction whose operands are right, or says what its situation is refused for.
@@ -70,11 +70,7 @@ fn perform<P: Parts>(going: &mut Going<P>, instr: Instr) -> Result<Reply, Refusa
         Instr::Step(pool) => step(going, pool),
         Instr::Tick => tick_if_settled(going),
         Instr::Next => Ok(next(going)),
-        Instr::Ask(flush) => Ok(yes_or_no(
-            going
-                .parts
-                .is_done(flush_target(&going.parts, flush as usize)),
-        )),
+        Instr::Ask(flush) => Ok(ask(going, flush as usize)),
         Instr::Busy => Ok(yes_or_no(going.parts.is_busy())),
         Instr::State(w) => Ok(found(going, w.0 as usize)),
         Instr::Disable(w) => disable(going, w),
@@ -284,6 +280,15 @@ fn next<P: Parts>(going: &mut Going<P>) -> Reply
             Reply::Done
         }
     }
+}
+
+/// Whether what the flush of this number waits for is done.
+fn ask<P: Parts>(going: &mut Going<P>, flush: usize) -> Reply
+    ensures same { going.new ≡ going.old }
+    ensures reply { result ≡ yes_or_no (is_done going.old.scenario going.old.state (target_at going.old.state flush)) }
+{
+    let target = flush_target(&going.parts, flush);
+    yes_or_no(going.parts.is_done(target))
 }
 
 /// Where the work is.

@@ -7,7 +7,9 @@ mod max_active;
 mod parts;
 mod placing;
 mod pool_moves;
+mod pool_set;
 
 pub use going::Going;
 pub use parts::Parts;
 pub use pool_moves::Found;
+pub use pool_set::PoolSet;

@@ -1,15 +1,18 @@
 //! What the instruction table asks of a machine's own structure.
 ghost use Rattle.cmwq_parts.specs.Cpus.{HasCpu};
+ghost use Rattle.cmwq_parts.specs.PoolSets.{has_pool};
+ghost use Rattle.cmwq_parts.specs.Quiet.{AreQuiet, ticks};
 ghost use Rattle.cmwq_table.specs.Counts.{first_due, first_inactive, first_listed, first_rescued, first_slept, free_worker, has_room, is_busy, is_deferred, is_done, may_start, ready_head};
-ghost use Rattle.cmwq_table.specs.Moves.{begin_again, begin_on, deferred, enlist, newborn, retire, started_on, taking, tick, with_depth, with_flush, with_pending, with_pressed, with_running, woken};
+ghost use Rattle.cmwq_table.specs.Moves.{begin_again, begin_on, deferred, enlist, first_moving, newborn, next_move, retire, started_on, taking, tick, with_depth, with_flush, with_pending, with_pressed, with_running, woken};
 ghost use Rattle.cmwq_table.specs.Ready.{holding};
 ghost use Rattle.cmwq_table.specs.State.{pending_at, running_at, start};
 ghost use Rattle.cmwq_table.specs.View.{view_of};
 ghost use Rattle.cmwq_types.specs.Setting.{IsSetting};
 ghost use Rattle.cmwq_types.specs.declared.limits.TheConstants.{MAX_OPS, MAX_WORKS, RESCUER};
 ghost use Rattle.cmwq_types.specs.declared.reply.Mode.TheVariants.{Asleep};
-ghost use Rattle.std.specs.Prelude.{◌≡◌, ◌<◌, ◌+◌, ◌^◌, IfOk, IfSome, None, Some, is_some, length, slice_set, true};
+ghost use Rattle.std.specs.Prelude.{◌≡◌, ◌<◌, ◌≤◌, ◌+◌, ◌^◌, ℕ, IfOk, IfSome, None, Some, is_some, length, slice_set, true};
 
+use crate::pool_set::PoolSet;
 use cmwq_reads::Sought;
 use cmwq_table::{FlushTarget, Pending, Reads, Running, View};
 use cmwq_types::{NoMemory, Place, Scenario};
@@ -50,11 +53,27 @@ pub trait Parts: Reads + Drop {
         cmwq_reads::is_busy(self)
     }
 
-    /// Whether a flush on the target is done.
-    fn is_done(&self, target: FlushTarget) -> bool
-        ensures { result ≡ is_done (Self.loaded self.now) (Self.state self.now) target }
+    /// Whether a flush on the target is done. How far it is may be kept in mind.
+    fn is_done(&mut self, target: FlushTarget) -> bool
+        ensures done { result ≡ is_done (Self.loaded self.old) (Self.state self.old) target }
+        ensures same { holding (Self.loaded self.new) (Self.state self.new) ≡ holding (Self.loaded self.old) (Self.state self.old) }
     {
         cmwq_reads::is_done(self, target)
+    }
+
+    /// Pools among which all are that have a move. What can't tell answers with all.
+    fn may_move(&self) -> PoolSet
+        ensures { (pool : ℕ) → pool < 64 → is_some (next_move (Self.loaded self.now) (Self.state self.now) pool) ≡ true → has_pool result pool ≡ true }
+    {
+        PoolSet::all()
+    }
+
+    /// Says that the pool has no move, which may be kept in mind.
+    fn settle(&mut self, pool: u8)
+        requires still { next_move (Self.loaded self.old) (Self.state self.old) pool ≡ None }
+        ensures same { holding (Self.loaded self.new) (Self.state self.new) ≡ holding (Self.loaded self.old) (Self.state self.old) }
+    {
+        let _ = pool;
     }
 
     /// Whether the pool may start a work: it is unbound, or its concurrency level is 0.
@@ -217,10 +236,24 @@ pub trait Parts: Reads + Drop {
         requires stamps { (Self.state self.old).next < 2 ^ 63 }
         ensures { holding (Self.loaded self.new) (Self.state self.new) ≡ holding (Self.loaded self.old) (retire (Self.state self.old) w r) };
 
-    /// Lets one tick of time pass: who has a CPU burns.
+    /// Lets one tick of time pass, where no timer is due and no pool has a move: who has a CPU burns.
     fn tick(&mut self)
         requires time { (Self.state self.old).time < 2 ^ 63 }
+        requires due { first_due (Self.loaded self.old) (Self.state self.old) ≡ None }
+        requires moving { first_moving (Self.loaded self.old) (Self.state self.old) ≡ None }
         ensures { holding (Self.loaded self.new) (Self.state self.new) ≡ holding (Self.loaded self.old) (tick (Self.loaded self.old) (Self.state self.old)) };
+
+    /// Lets at most so many ticks pass, before each of which no timer is due and no pool has a move. Answers how many. What can't tell
+    /// lets none pass.
+    fn pass(&mut self, most: u32) -> u32
+        requires time { (Self.state self.old).time < 2 ^ 63 }
+        ensures few { result ≤ most }
+        ensures quiet { AreQuiet (Self.loaded self.old) (Self.state self.old) result }
+        ensures passed { holding (Self.loaded self.new) (Self.state self.new) ≡ holding (Self.loaded self.old) (ticks (Self.loaded self.old) (Self.state self.old) result) }
+    {
+        let _ = most;
+        0
+    }
 
     /// Sets how much more often the work was disabled than enabled.
     fn set_depth(&mut self, w: usize, depth: u16)
@@ -245,8 +278,8 @@ pub trait Parts: Reads + Drop {
         requires room { length (Self.state self.old).flushes < (Self.loaded self.old).flushes }
         ensures { holding (Self.loaded self.new) (Self.state self.new) ≡ holding (Self.loaded self.old) (with_flush (Self.state self.old) target) };
 
-    /// Counts one more instruction as spent.
-    fn spend(&mut self)
-        requires left { (Self.state self.old).spent < (Self.loaded self.old).steps }
-        ensures { holding (Self.loaded self.new) (Self.state self.new) ≡ holding (Self.loaded self.old) (record (Self.state self.old) { spent = (Self.state self.old).spent + 1 }) };
+    /// Counts so many more instructions as spent.
+    fn spend(&mut self, count: u32)
+        requires left { (Self.state self.old).spent + count ≤ (Self.loaded self.old).steps }
+        ensures { holding (Self.loaded self.new) (Self.state self.new) ≡ holding (Self.loaded self.old) (record (Self.state self.old) { spent = (Self.state self.old).spent + count }) };
 }

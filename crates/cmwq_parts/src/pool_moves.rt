@@ -74,15 +74,24 @@ impl<P: Parts> Going<P> {
         Some(Found::Start(WorkId(w as u16), worker))
     }
 
-    /// The least pool that has a move, and its move.
-    pub fn first_move(&self) -> Option<(u8, Found)>
-        ensures first { IsFirstMove self.now.scenario self.now.state result }
-        ensures fits { IfSome result (λ first. IsFound self.now.scenario self.now.state first.0 first.1) }
+    /// The least pool that has a move, and its move. Of the pools that may have one it asks each in turn, and lets the parts know which
+    /// have none.
+    pub fn first_move(&mut self) -> Option<(u8, Found)>
+        ensures same { self.new ≡ self.old }
+        ensures first { IsFirstMove self.old.scenario self.old.state result }
+        ensures fits { IfSome result (λ first. IsFound self.old.scenario self.old.state first.0 first.1) }
     {
-        for pool in 0..self.parts.scenario().pool_count() {
+        let pools = self.parts.scenario().pool_count();
+        let mut left = self.parts.may_move();
+        while let Some(pool) = left.first() {
+            if pool >= pools {
+                return None;
+            }
             if let Some(next) = self.next_move(pool) {
                 return Some((pool, next));
             }
+            self.parts.settle(pool);
+            left = left.without(pool);
         }
         None
     }

@@ -1,2 +1,3 @@
+pub mod StillLemmas
 pub mod TickLemmas
 pub mod TimerLemmas

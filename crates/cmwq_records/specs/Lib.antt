@@ -1,3 +1,4 @@
 pub mod BurningHeads
 pub mod Heads
 pub mod RecordLayout
+pub mod Standing

@@ -1,11 +1,13 @@
 //! A tick of the works that have a CPU, once the head of each pool is known.
 ghost use Rattle.cmwq_records.specs.BurningHeads.{burns_beside};
 ghost use Rattle.cmwq_records.specs.Heads.{AreHeads};
+ghost use Rattle.cmwq_table.specs.Counts.{burns};
 ghost use Rattle.cmwq_table.specs.Moves.{burned, one_less};
 ghost use Rattle.cmwq_types.specs.Scenario.{pool_count};
 ghost use Rattle.std.specs.Prelude.{◌≡◌, slice_index_or};
 
 use crate::records::Records;
+use crate::standing::are_none;
 use cmwq_reads::{Sought, first};
 use cmwq_table::Running;
 use cmwq_types::{MAX_CPUS, Mode};
@@ -14,6 +16,18 @@ use cmwq_types::{MAX_CPUS, Mode};
 const MAX_POOLS: usize = 2 * MAX_CPUS as usize + 2;
 
 impl Records {
+    /// Each running work that has a CPU burns one tick.
+    pub(crate) fn burn_all(&mut self)
+        ensures { self.new ≡ record self.old { state = record self.old.state { running = burned (burns self.old.scenario self.old.state) 0 self.old.state.running } } }
+    {
+        if are_none(&self.running) {
+            return;
+        }
+        let heads = self.heads();
+        let unbound = 2 * self.scenario.cpus;
+        burn(&mut self.running, &heads, unbound);
+    }
+
     /// The first runnable work of each pool.
     pub(crate) fn heads(&self) -> [Option<usize>; MAX_POOLS]
         ensures { AreHeads self.now.scenario self.now.state (pool_count self.now.scenario) result }

@@ -6,5 +6,6 @@ mod beginning;
 mod burning_heads;
 mod looking;
 mod records;
+mod standing;
 
 pub use records::Records;

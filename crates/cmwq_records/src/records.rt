@@ -4,9 +4,8 @@ ghost use Rattle.cmwq_table.specs.State.{seat};
 ghost use Rattle.std.specs.Prelude.{◌≡◌, slice_set};
 
 use crate::beginning::{copied_flushes, declared_max};
-use crate::burning_heads::burn;
 use crate::looking::{entries, idle_workers};
-use cmwq_parts::Parts;
+use cmwq_parts::{Parts, PoolSet};
 use cmwq_table::{FlushTarget, Pending, Reads, Running, View};
 use cmwq_types::{MAX_WORKERS, Mode, NoMemory, Place, RESCUER, Scenario, filled};
 use std::alloc::Global;
@@ -27,8 +26,8 @@ pub struct Records {
     frozen: bool,
     pressed: bool,
     max: Vec<u16>,
-    pending: Vec<Option<Pending>>,
-    running: Vec<Option<Running>>,
+    pub(crate) pending: Vec<Option<Pending>>,
+    pub(crate) running: Vec<Option<Running>>,
     depth: Vec<u16>,
     idle: Vec<Option<u64>>,
     made: Vec<u8>,
@@ -184,6 +183,14 @@ impl Parts for Records {
         })
     }
 
+    fn may_move(&self) -> PoolSet {
+        if self.is_still() {
+            PoolSet::none()
+        } else {
+            PoolSet::all()
+        }
+    }
+
     fn bear(&mut self, w: usize, place: Place) {
         let stamp = self.take_stamp();
         self.pending[w] = Some(Pending {
@@ -259,10 +266,16 @@ impl Parts for Records {
     }
 
     fn tick(&mut self) {
-        let heads = self.heads();
-        let unbound = 2 * self.scenario.cpus;
-        burn(&mut self.running, &heads, unbound);
+        self.burn_all();
         self.time += 1;
+    }
+
+    fn pass(&mut self, most: u32) -> u32 {
+        if !self.is_still() {
+            return 0;
+        }
+        self.time += u64::from(most);
+        most
     }
 
     fn set_depth(&mut self, w: usize, depth: u16) {
@@ -285,8 +298,8 @@ impl Parts for Records {
         self.flushes.push(target).unwrap();
     }
 
-    fn spend(&mut self) {
-        self.spent += 1;
+    fn spend(&mut self, count: u32) {
+        self.spent += count;
     }
 }
 

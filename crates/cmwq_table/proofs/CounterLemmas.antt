@@ -336,7 +336,7 @@ none-deep (suc n) (suc w) = none-deep n w
 pub start-counters : (S : ScenarioContents) → HasCounters S (start S)
 start-counters S = record { spent = omega arith; time = omega arith; next = omega arith; depth = none-deep (length S.works) }
 
-all-counters : (S : ScenarioContents) (s : State) (instrs : List Instr) → IsSetting S → HasCounters S s → HasCounters S (after_all S s instrs)
+pub all-counters : (S : ScenarioContents) (s : State) (instrs : List Instr) → IsSetting S → HasCounters S s → HasCounters S (after_all S s instrs)
 all-counters S s [] setting counters = counters
 all-counters S s (i ∷ instrs) setting counters = all-counters S (table S s i).0 instrs setting (table-counters S s i setting counters)
 

@@ -2,4 +2,6 @@ pub mod CounterLemmas
 pub mod HeadLemmas
 pub mod IdleLemmas
 mod LawLemmas
+pub mod RepeatLemmas
 pub mod RunLemmas
+pub mod TimesLemmas

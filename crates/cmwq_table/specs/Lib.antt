@@ -6,6 +6,7 @@ pub mod Laws
 pub mod Machine
 pub mod Moves
 pub mod Ready
+pub mod Repeats
 pub mod State
 pub mod Table
 pub mod View

@@ -11,6 +11,6 @@ mod view;
 
 pub use machine::{LoadError, Machine};
 pub use reads::Reads;
-pub use reply_line::{PlaceWords, ReplyLine, RunWords, WorkerWords, refusal_name};
+pub use reply_line::{PlaceWords, ReplyLine, RunWords, WorkerWords, is_silent, refusal_name};
 pub use state::{FlushTarget, Pending, Running};
 pub use view::{IdleWorker, View};

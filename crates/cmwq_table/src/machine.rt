@@ -1,12 +1,14 @@
 //! What a machine is: a body that carries out the instruction table.
 ghost use Rattle.cmwq_table.specs.State.{start};
 ghost use Rattle.cmwq_table.specs.Machine.{Loads};
+ghost use Rattle.cmwq_table.specs.Repeats.{HasAnswered, HasGone, HasRepeated};
 ghost use Rattle.cmwq_table.specs.Table.{table};
 ghost use Rattle.cmwq_types.specs.Faults.{IsValid};
 ghost use Rattle.cmwq_table.specs.View.{view_of};
-ghost use Rattle.std.specs.Prelude.{◌≡◌, IfOk};
+ghost use Rattle.std.specs.Prelude.{◌≡◌, ◌<◌, IfOk};
 
 use crate::reads::Reads;
+use crate::reply_line::is_silent;
 use crate::view::View;
 use cmwq_types::{Fault, Instr, NoMemory, Reply, Scenario};
 use std::alloc::{AllocError, Global};
@@ -50,6 +52,33 @@ pub trait Machine: Reads + Drop {
     fn exec(&mut self, instr: Instr) -> Reply
         ensures exact { (Self.state self.new, result) ≡ table (Self.loaded self.old) (Self.state self.old) instr }
         ensures scenario { Self.loaded self.new ≡ Self.loaded self.old };
+
+    /// Carries out `next` until a reply has a line, at least once and at most so many times. Answers how often that was, and the last
+    /// reply. It takes no memory.
+    fn go(&mut self, most: u32) -> (u32, Reply)
+        requires some { 0 < most }
+        ensures gone { HasGone (Self.loaded self.old) (Self.state self.old) most result.0 (Self.state self.new) result.1 }
+        ensures scenario { Self.loaded self.new ≡ Self.loaded self.old }
+    {
+        for count in 1..most {
+            let reply = self.exec(Instr::Next);
+            if !is_silent(reply) {
+                return (count, reply);
+            }
+        }
+        (most, self.exec(Instr::Next))
+    }
+
+    /// Carries out the instruction once more, which was the last and was answered so, and again at most so many times, as long as it is
+    /// answered the same and changes nothing but what is spent. Answers how often that was. A machine that doesn't know it may answer 0.
+    fn again(&mut self, instr: Instr, reply: Reply, most: u32) -> u32
+        requires answered { HasAnswered (Self.loaded self.old) (Self.state self.old) instr reply }
+        ensures repeated { HasRepeated (Self.loaded self.old) (Self.state self.old) instr reply most result (Self.state self.new) }
+        ensures scenario { Self.loaded self.new ≡ Self.loaded self.old }
+    {
+        let _ = (instr, reply, most);
+        0
+    }
 
     /// A machine in the same state, with the same room, and independent of this one but for the scenario,
     /// which they share.

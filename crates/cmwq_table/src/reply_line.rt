@@ -40,7 +40,7 @@ impl fmt::Display for ReplyLine<'_> {
 }
 
 /// Whether the reply has no line.
-fn is_silent(reply: Reply) -> bool
+pub fn is_silent(reply: Reply) -> bool
     ensures { result ≡ is_silent reply }
 {
     matches!(reply, Reply::Queued | Reply::Done)

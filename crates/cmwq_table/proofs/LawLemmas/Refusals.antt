@@ -103,7 +103,7 @@ effect-told S s instr.Pressure fits = λ why e. cc
 effect-told S s instr.Relief fits = λ why e. cc
 
 -- A refusal of the table's is given with the state as it was.
-refused-same : (S : ScenarioContents) (s : State) (i : Instr) (a b c : Option Refusal) → situation S s i ≡ c → (why : Refusal)
+pub refused-same : (S : ScenarioContents) (s : State) (i : Instr) (a b c : Option Refusal) → situation S s i ≡ c → (why : Refusal)
     → (answer s i (counts.or_else a (counts.or_else b c)) (effect S s i)).1 ≡ reply.Refused why
     → (answer s i (counts.or_else a (counts.or_else b c)) (effect S s i)).0 ≡ s
 refused-same S s i (Some x) b c is why e = refl
@@ -122,7 +122,7 @@ changes_nothing_refused S valid instrs i why e =
 spends-nothing : (s : State) → record s { spent = s.spent + 0 } ≡ s
 spends-nothing s = ap (λ (spent : ℕ). record s { spent = spent }) (omega arith)
 
-asked-same : (S : ScenarioContents) (s : State) (i : Instr) → is_question i ≡ true → (a : Option Refusal) → (answer s i a (effect S s i)).0 ≡ s
+pub asked-same : (S : ScenarioContents) (s : State) (i : Instr) → is_question i ≡ true → (a : Option Refusal) → (answer s i a (effect S s i)).0 ≡ s
 asked-same S s i asked (Some why) = refl
 asked-same S s (instr.Ask flush) asked None = spends-nothing s
 asked-same S s instr.Busy asked None = spends-nothing s

@@ -1,9 +1,15 @@
-use Rattle.std.proofs.Common.{◌≡◌, None}
+use Rattle.std.proofs.Common.{◌≡◌, ℕ, ◌<◌, true}
 use Rattle.std.specs.Prelude.{is_some}
-use Rattle.cmwq_types.specs.First.{first_below, by_least}
 use Rattle.cmwq_table.specs.Moves.{next_move}
+use Rattle.cmwq_parts.specs.PoolSets.{has_pool}
 use Rattle.cmwq_parts.proofs.going.Going.first_move.Given as goal
 
--- none of the pools so far has a move
+-- each pool that has a move is left
 abbrev pub invariant-loop-pool : goal.invariant-loop-pool
-invariant-loop-pool g l = first_below (by_least (λ pool. pool)) (λ pool. is_some (next_move l.self.scenario l.self.state pool)) l.pool ≡ None
+invariant-loop-pool g l = record {
+  same : l.self ≡ l.fn.self;
+  left : (pool : ℕ) → pool < 64 → is_some (next_move l.fn.self.scenario l.fn.self.state pool) ≡ true → has_pool l.left pool ≡ true;
+}
+
+abbrev pub decreases-loop-pool : goal.decreases-loop-pool
+decreases-loop-pool g l = l.left.0

@@ -1,0 +1,84 @@
+//! What is carried out several times at once: `next` up to a reply with a line, and what comes out the same.
+ghost use Rattle.cmwq_exec.specs.Advances.{HasAdvanced};
+ghost use Rattle.cmwq_table.specs.Ready.{IsKept};
+ghost use Rattle.cmwq_table.specs.Repeats.{HasAnswered, HasGone, HasRepeated};
+ghost use Rattle.std.specs.Prelude.{◌≡◌, ◌+◌, ◌<◌, ◌≤◌};
+
+use crate::performing::{exec, spend};
+use cmwq_parts::{Going, Parts};
+use cmwq_reads::is_question;
+use cmwq_table::is_silent;
+use cmwq_types::{Instr, Reply};
+
+/// Carries out `next` until a reply has a line, at least once and at most so many times. Answers how often that was, and the last reply.
+pub(crate) fn go<P: Parts>(going: &mut Going<P>, most: u32) -> (u32, Reply)
+    requires some { 0 < most }
+    requires kept { IsKept going.old }
+    ensures gone { HasGone going.old.scenario going.old.state most result.0 going.new.state result.1 }
+    ensures scenario { going.new.scenario ≡ going.old.scenario }
+    ensures kept { IsKept going.new }
+{
+    let mut count = 0;
+    loop {
+        let (more, reply) = advance(going, most - count);
+        count += more;
+        if count == most || !is_silent(reply) {
+            return (count, reply);
+        }
+    }
+}
+
+/// Lets the ticks pass that are known to be quiet, each as a `next` and at most so many; where none is, carries out one `next`. Answers
+/// how many that was, and the last reply.
+fn advance<P: Parts>(going: &mut Going<P>, most: u32) -> (u32, Reply)
+    requires some { 0 < most }
+    requires kept { IsKept going.old }
+    ensures { HasAdvanced going.old most result.0 going.new result.1 }
+{
+    let left = going.parts.scenario().steps - going.parts.spent();
+    let passed = going.parts.pass(most.min(left));
+    if passed == 0 {
+        return (1, exec(going, Instr::Next));
+    }
+    spend(going, passed);
+    (passed, Reply::Done)
+}
+
+/// Carries out again, at most so many times, the instruction that was the last and was answered so, where it is known to change nothing but
+/// what is spent: a question, what was refused, what is queued already, and a cancel of what isn't pending. Answers how often that was.
+pub(crate) fn again<P: Parts>(going: &mut Going<P>, instr: Instr, reply: Reply, most: u32) -> u32
+    requires kept { IsKept going.old }
+    requires answered { HasAnswered going.old.scenario going.old.state instr reply }
+    ensures repeated { HasRepeated going.old.scenario going.old.state instr reply most result going.new.state }
+    ensures scenario { going.new.scenario ≡ going.old.scenario }
+{
+    if is_question(instr) {
+        return most;
+    }
+    match reply {
+        Reply::Refused(_why) => most,
+        Reply::Already => match instr {
+            Instr::Queue(_work, _cpu) => spend_again(going, most),
+            Instr::Delay(_work, _cpu, _ticks) => spend_again(going, most),
+            _ => 0,
+        },
+        Reply::NotPending => match instr {
+            Instr::Cancel(_work) => spend_again(going, most),
+            _ => 0,
+        },
+        _ => 0,
+    }
+}
+
+/// Counts at most so many instructions more as spent, and no more than are left. Answers how many.
+fn spend_again<P: Parts>(going: &mut Going<P>, most: u32) -> u32
+    requires kept { IsKept going.old }
+    ensures few { result ≤ most }
+    ensures left { going.old.state.spent + result ≤ going.old.scenario.steps }
+    ensures spent { going.new ≡ record going.old { state = record going.old.state { spent = going.old.state.spent + result } } }
+{
+    let left = going.parts.scenario().steps - going.parts.spent();
+    let count = most.min(left);
+    spend(going, count);
+    count
+}

@@ -1,0 +1,33 @@
+-- What is known of the pools that no set of pools has.
+use Rattle.std.proofs.Common.{◌≡◌, ℕ, ◌+◌, ◌*◌, ◌<◌, ◌≤◌, Bool, true, false, Option, None, arith, refl, sym, ap, ◌∙◌}
+use Rattle.std.specs.Prelude.{is_some}
+use Rattle.cmwq_types.specs.Contents.{ScenarioContents}
+use Rattle.cmwq_types.specs.First.{first_below, by_least}
+use Rattle.cmwq_types.proofs.FirstLemmas.{by_least-order, first_below-none}
+use Rattle.cmwq_table.specs.Moves.{next_move}
+use Rattle.cmwq_table.specs.State.{State}
+use Rattle.cmwq_parts.specs.PoolSets.{has_pool}
+use Rattle.cmwq_parts.specs.declared.pool_set.PoolSet.{PoolSet}
+
+-- each pool that has a move is in the set
+abbrev pub Covers : ScenarioContents → State → PoolSet → Type 0
+Covers S s set = (pool : ℕ) → pool < 64 → is_some (next_move S s pool) ≡ true → has_pool set pool ≡ true
+
+left-out : (moves has : Bool) → (moves ≡ true → has ≡ true) → has ≡ false → moves ≡ false
+left-out false has covers out = refl
+left-out true has covers out = let member = covers refl in cc
+
+-- a pool without a move needn't be in the set
+pub covers-without : (S : ScenarioContents) (s : State) (set less : PoolSet) (gone : ℕ) → Covers S s set → next_move S s gone ≡ None
+    → ((other : ℕ) → other < 64 → (other ≡ gone → ⊥) → has_pool less other ≡ has_pool set other) → Covers S s less
+covers-without S s set less gone covers still others = λ pool below moves.
+    others pool below (λ here. absurd (let none : is_some (next_move S s pool) ≡ false = ap (λ p. is_some (next_move S s p)) here ∙ ap is_some still in cc))
+    ∙ covers pool below moves
+
+-- none of the pools below has a move, where none of them is in the set
+pub none-moves : (S : ScenarioContents) (s : State) (set : PoolSet) (n : ℕ) → Covers S s set → n ≤ 64
+    → ((pool : ℕ) → pool < n → has_pool set pool ≡ false)
+    → first_below (by_least (λ pool. pool)) (λ pool. is_some (next_move S s pool)) n ≡ None
+none-moves S s set n covers few out =
+    first_below-none (by_least (λ pool. pool)) (λ pool. is_some (next_move S s pool)) n (by_least-order (λ pool. pool))
+    (λ pool below. left-out (is_some (next_move S s pool)) (has_pool set pool) (covers pool (omega arith)) (out pool below))

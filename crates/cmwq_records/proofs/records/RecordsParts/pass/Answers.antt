@@ -1,0 +1,32 @@
+use Rattle.std.proofs.Common.{◌≡◌, ℕ, ◌+◌, true, sym, ap, ◌∙◌}
+use Rattle.cmwq_table.specs.Ready.{Loaded, holding}
+use Rattle.cmwq_table.specs.State.{State}
+use Rattle.cmwq_records.specs.Standing.{is_still}
+use Rattle.cmwq_records.proofs.StillLemmas.{still-quiet, still-ticks}
+use Rattle.cmwq_records.proofs.records.RecordsParts.pass.Goals as goal
+
+pub returns-clause-quiet : goal.returns-clause-quiet
+returns-clause-quiet c =
+    let still : is_still c.args.self.now.state ≡ true = sym c.is_still.ensures ∙ c.if-not-is_still.false in
+    still-quiet c.args.self.now.scenario c.args.self.now.state c.args.most still
+
+pub returns-clause-passed : goal.returns-clause-passed
+returns-clause-passed c =
+    let still : is_still c.args.self.now.state ≡ true = sym c.is_still.ensures ∙ c.if-not-is_still.false in
+    let later : Loaded → ℕ → Loaded = λ m count. holding m.scenario (record m.state { time = m.state.time + count }) in
+    ap (later (holding c.self.inside.scenario.value (record {
+      time = c.self.inside.time;
+      next = c.self.inside.next;
+      spent = c.self.inside.spent;
+      frozen = c.self.inside.frozen;
+      pressed = c.self.inside.pressed;
+      max = c.self.inside.max.items;
+      pending = c.self.inside.pending.items;
+      running = c.self.inside.running.items;
+      depth = c.self.inside.depth.items;
+      idle = c.self.inside.idle.items;
+      made = c.self.inside.made.items;
+      flushes = c.self.inside.flushes.items;
+    }))) c.from.ensures
+    ∙ ap (λ (m : Loaded). later m c.args.most) c.self.view_is
+    ∙ ap (holding c.args.self.now.scenario) (sym (still-ticks c.args.self.now.scenario c.args.most c.args.self.now.state still))
