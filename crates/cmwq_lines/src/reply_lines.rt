@@ -1,6 +1,6 @@
 //! The lines of a scenario's replies.
 ghost use Rattle.cmwq_lines.specs.Putting.{Puts, ended, spaced};
-ghost use Rattle.cmwq_table.specs.Events.{already_text, event_text, is_silent, refusal_text, reply_line, reply_words, was_text, work_name};
+ghost use Rattle.cmwq_table.specs.Events.{already_text, event_text, refusal_text, reply_line, reply_words, was_text, work_name};
 ghost use Rattle.cmwq_types.specs.declared.instr.Instr.{Instr};
 ghost use Rattle.std.specs.Fmt.{decimal};
 ghost use Rattle.std.specs.Prelude.{◌≡◌, ◌+◌, ◌≤◌, ◌++◌, IfOk, IfSome, None, OnOk, codes, length, map};
@@ -8,7 +8,7 @@ ghost use Rattle.std.specs.Prelude.{◌≡◌, ◌+◌, ◌≤◌, ◌++◌, IfO
 use crate::block::{Block, make_room};
 use crate::numbered::Numbered;
 use crate::short::{Short, put_text};
-use cmwq_table::ReplyLine;
+use cmwq_table::{ReplyLine, is_silent};
 use cmwq_types::{Event, Instr, NoMemory, Refusal, Reply, Scenario, WorkDecl, WorkId};
 use std::alloc::Global;
 use std::marker::Model;
@@ -201,13 +201,6 @@ impl<'s> ReplyLines<'s> {
         let at = numbered.put(u64::from(number), block, at);
         put_text(block, at, *b"\n")
     }
-}
-
-/// Whether the reply has no line.
-fn is_silent(reply: Reply) -> bool
-    ensures { result ≡ is_silent reply }
-{
-    matches!(reply, Reply::Queued | Reply::Done)
 }
 
 /// Puts whether the work was taken off, up to the number of the flush.
