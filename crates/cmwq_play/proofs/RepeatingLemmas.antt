@@ -83,17 +83,27 @@ same-events S s i r time (suc count) replies times =
     (same-events S after i r time count (λ k below. replies (suc k) (omega arith)) (λ k within. times (suc k) (omega arith)))
 
 -- of an instruction that came out the same so many times more, the same line once more
-pub repeated-events : (S : ScenarioContents) (s once after : State) (i : Instr) (r : Reply) (most more : ℕ) → (once, r) ≡ table S s i
-    → HasRepeated S once i r most more after → events_from S s (replicate (suc more) i) ≡ repeated (reply_line S after.time i r) (suc more)
-repeated-events S s once after i r most more is again =
-    let state : (table S s i).0 ≡ once = sym (ap (λ (p : State × Reply). p.0) is) in
-    let reply : (table S s i).1 ≡ r = sym (ap (λ (p : State × Reply). p.1) is) in
-    let time : after.time ≡ once.time = ap (λ (t : State). t.time) (again.state ∙ again.same more (omega arith)) in
-    ap (λ (t : State). reply_line S t.time i (table S s i).1 ++ events_from S t (replicate more i)) state
-    ∙ ap (λ (q : Reply). reply_line S once.time i q ++ events_from S once (replicate more i)) reply
-    ∙ ap (λ (rest : List ℕ). reply_line S once.time i r ++ rest)
-    (same-events S once i r once.time more again.replies (λ k within. ap (λ (t : State). t.time) (again.same k within)))
-    ∙ ap (λ (t : ℕ). repeated (reply_line S t i r) (suc more)) (sym time)
+module _ (S : ScenarioContents) (s once after : State) (i : Instr) (r : Reply) (most more : ℕ) (is : (once, r) ≡ table S s i) (again : HasRepeated S once i r most more after) where
+  state-once : (table S s i).0 ≡ once
+  state-once = sym (ap (λ (p : State × Reply). p.0) is)
+
+  place : suc more ≡ 1 + more
+  place = omega arith
+
+  pub repeated-reached : after ≡ after_times S s i (1 + more)
+  repeated-reached = again.state ∙ ap (λ (t : State). after_times S t i more) (sym state-once) ∙ ap (after_times S s i) place
+
+  pub repeated-events : events_from S s (replicate (1 + more) i) ≡ repeated (reply_line S after.time i r) (1 + more)
+  repeated-events =
+      let reply : (table S s i).1 ≡ r = sym (ap (λ (p : State × Reply). p.1) is) in
+      let time : after.time ≡ once.time = ap (λ (t : State). t.time) (again.state ∙ again.same more (omega arith)) in
+      ap (λ (n : ℕ). events_from S s (replicate n i)) (sym place)
+      ∙ ap (λ (t : State). reply_line S t.time i (table S s i).1 ++ events_from S t (replicate more i)) state-once
+      ∙ ap (λ (q : Reply). reply_line S once.time i q ++ events_from S once (replicate more i)) reply
+      ∙ ap (λ (rest : List ℕ). reply_line S once.time i r ++ rest)
+      (same-events S once i r once.time more again.replies (λ k within. ap (λ (t : State). t.time) (again.same k within)))
+      ∙ ap (λ (t : ℕ). repeated (reply_line S t i r) (suc more)) (sym time)
+      ∙ ap (repeated (reply_line S after.time i r)) place
 
 -- once more is one line at the end
 pub repeated-more : (text : List ℕ) (times : ℕ) → repeated text times ++ text ≡ repeated text (suc times)
@@ -136,7 +146,7 @@ module _ {M W : Type 0} (loaded : M → ScenarioContents) (state : M → State) 
       let s = state old.machine in
       let rest = events_from S (after_times S s instr count) (replicate (most - count) instr) in
       let whole : text ++ rest ≡ events_from S s (replicate most instr) =
-          ap (λ (front : List ℕ). front ++ rest) (sym lines) ∙ sym (events_from-front S s instr count most few)
+      ap (λ (front : List ℕ). front ++ rest) (sym lines) ∙ sym (events_from-front S s instr count most few)
       in
       record {
         same = stopped.same;

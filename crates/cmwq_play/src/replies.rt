@@ -43,17 +43,26 @@ impl Teller for Replies {
     ) -> Result<(), PlayError> {
         let mut left = times;
         while left > 0 {
-            let count = match instr {
-                Instr::Next => session.go(left)?,
-                _ => session.repeat(instr, left)?,
-            };
-            left -= count;
+            left -= session.issue_some(instr, left)?;
         }
         Ok(())
     }
 }
 
 impl<M: Machine, W: Sink> Session<'_, '_, M, W> {
+    /// Issues the instruction at least once and at most so often, and writes the lines of the replies. Answers how often.
+    fn issue_some(&mut self, instr: Instr, most: u32) -> Result<u32, PlayError>
+        requires ready { CanIssue M.loaded M.state W.contents W.failed self.old }
+        requires some { 0 < most }
+        ensures ok { IfOk result (HasTold M.loaded M.state W.contents W.failed self.old self.new instr most) }
+        ensures err { IfErr result (Stopped M.loaded M.state W.contents W.failed self.old self.new (events_from self.old.scenario.now (M.state self.old.machine) (replicate most instr))) }
+    {
+        match instr {
+            Instr::Next => self.go(most),
+            _ => self.repeat(instr, most),
+        }
+    }
+
     /// Issues `next` up to the first reply that has a line, at least once and at most so often, and writes that line. Answers how often.
     fn go(&mut self, most: u32) -> Result<u32, PlayError>
         requires ready { CanIssue M.loaded M.state W.contents W.failed self.old }
