@@ -70,8 +70,8 @@ impl Told<'_> {
         requires parts { replies.old ≡ self.scenario.now }
         ensures parts { replies.new ≡ replies.old }
         ensures same { SharesSink lines.old lines.new }
-        ensures ok { OnOk result (Sends W.contents lines.old lines.new (told_lines self)) }
-        ensures err { OnErr result (SendsFront W.contents lines.old lines.new (told_lines self)) }
+        ensures ok { OnOk result (Sends W.contents lines.old lines.new (told_lines self.entry)) }
+        ensures err { OnErr result (SendsFront W.contents lines.old lines.new (told_lines self.entry)) }
         ensures failed { (result ≡ Err PlayError.Write) ↔ (W.failed (sink lines.new) ≡ true) }
         ensures why { IfErr result (λ error. IsSendError error) }
     {
