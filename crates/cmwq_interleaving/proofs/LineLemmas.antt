@@ -15,7 +15,7 @@ use Rattle.cmwq_grammar.proofs.CallerLemmas.{line_cut}
 use Rattle.cmwq_table.specs.Events.{is_silent, event_line_at, reply_line, reply_words}
 use Rattle.cmwq_interleaving.specs.Commenting.{Comments}
 use Rattle.cmwq_interleaving.specs.PlayNumbers.{IsReply}
-use Rattle.cmwq_interleaving.proofs.PieceLemmas.{Piece, ascii, is_ascii, line_piece, whole}
+use Rattle.cmwq_interleaving.proofs.PieceLemmas.{Piece, ascii, both_of, is_ascii, line_piece, whole}
 
 -- no line, or one of so many bytes that ends with its line feed
 pub data OneLine : Bool → List ℕ → Type 0 where
@@ -52,15 +52,11 @@ hashed_short _ _ (ALine words piece) = let long = length-append words (10 ∷ []
 
 ascii_all : (text : List ℕ) → list_all is_ascii text ≡ true → IsAscii text
 ascii_all [] all i = omega arith
-ascii_all (x ∷ xs) all = by_first (is_ascii x) refl all
-  where
-    by_first : (b : Bool) → is_ascii x ≡ b → cond b (list_all is_ascii xs) false ≡ true → IsAscii (x ∷ xs)
-    by_first true is rest zero = ltb-true x 128 is
-    by_first true is rest (suc i) = ascii_all xs rest i
-    by_first false is rest i = absurd cc
+ascii_all (x ∷ xs) all zero = ltb-true x 128 (both_of (is_ascii x) (list_all is_ascii xs) all).0
+ascii_all (x ∷ xs) all (suc i) = ascii_all xs (both_of (is_ascii x) (list_all is_ascii xs) all).1 i
 
 ascii-append : (xs ys : List ℕ) → IsAscii xs → IsAscii ys → IsAscii (xs ++ ys)
-ascii-append [] ys left right = right
+ascii-append [] ys left right i = right i
 ascii-append (x ∷ xs) ys left right zero = left zero
 ascii-append (x ∷ xs) ys left right (suc i) = ascii-append xs ys (λ j. left (suc j)) right i
 
