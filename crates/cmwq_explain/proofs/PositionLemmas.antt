@@ -13,6 +13,7 @@ use Rattle.cmwq_table.proofs.RunLemmas.{after_all-append}
 use Rattle.cmwq_play.specs.Commands.{Writes}
 use Rattle.cmwq_play.specs.Telling.{kept_from, told_from}
 use Rattle.cmwq_play.proofs.CommandLemmas.{writes_more}
+use Rattle.cmwq_play.proofs.TellingLemmas.{kept_from-append, told_from-append}
 use Rattle.cmwq_streams.specs.declared.error.PlayError.{PlayError}
 use Rattle.cmwq_explain.specs.Changes.{changes_text, has_bytes, said_below, state_there, told_at, told_below}
 use Rattle.cmwq_explain.specs.Looking.{going_on, keeping, line_here, looker_after, looker_wholly, looks_here, saying, telling, told_here, looker_told}
@@ -26,22 +27,6 @@ or_false false = refl
 has_bytes-append : (xs ys : List ℕ) → has_bytes (xs ++ ys) ≡ (has_bytes xs || has_bytes ys)
 has_bytes-append [] ys = refl
 has_bytes-append (x ∷ xs) ys = refl
-
--- What a teller tells of instructions and of more behind them, and what it keeps.
-module _ {T : Type 0} (told : T → ScenarioContents → State → Instr → List ℕ) (keeps : T → ScenarioContents → State → Instr → T) (S : ScenarioContents) where
-  told_from-append : (t : T) (s : State) (xs ys : List Instr)
-      → told_from told keeps t S s (xs ++ ys) ≡ told_from told keeps t S s xs ++ told_from told keeps (kept_from told keeps t S s xs) S (after_all S s xs) ys
-  told_from-append t s [] ys = refl
-  told_from-append t s (x ∷ xs) ys =
-      let next = keeps t S s x in
-      let after = (table S s x).0 in
-      let first = told t S s x in
-      ap (λ (more : List ℕ). first ++ more) (told_from-append next after xs ys)
-      ∙ sym (append_assoc first (told_from told keeps next S after xs) (told_from told keeps (kept_from told keeps next S after xs) S (after_all S after xs) ys))
-
-  kept_from-append : (t : T) (s : State) (xs ys : List Instr) → kept_from told keeps t S s (xs ++ ys) ≡ kept_from told keeps (kept_from told keeps t S s xs) S (after_all S s xs) ys
-  kept_from-append t s [] ys = refl
-  kept_from-append t s (x ∷ xs) ys = kept_from-append (keeps t S s x) (table S s x).0 xs ys
 
 -- a look, by whether it is looked
 after_look : {P : Type 0} (b : Bool) (l : Looker P) (s : State) (said : Option (List ℕ))

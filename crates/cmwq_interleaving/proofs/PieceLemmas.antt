@@ -1,4 +1,4 @@
--- The parts of a reply's line: each has no line feed, and few bytes.
+-- The parts of a reply's line: each has no line feed, ASCII alone, and few bytes.
 use Rattle.std.proofs.Common.{◌≡◌, ℕ, zero, suc, ◌+◌, ◌*◌, ◌^◌, ◌<◌, ◌≤◌, Bool, true, false, not, ◌&&◌, List, [], ◌∷◌, ◌++◌, length, get_or, eqb, leb, Option, Some, None, arith, refl, ◌∙◌, length-append, codes, if◌then◌else◌}
 use Rattle.std.proofs.lemmas.Bool.Decides.{nat_tests}
 use Rattle.std.proofs.lemmas.Fmt.{digits_decimal, length-decimal-le}
@@ -6,6 +6,7 @@ use Rattle.std.proofs.lemmas.List.Folds.{list_all-append}
 use Rattle.std.proofs.lemmas.Str.Parse.{IsNumeralModel, numerals_by_value, tells_all_ascii_digits}
 use Rattle.std.specs.Char.{is_ascii_digit}
 use Rattle.std.specs.Fmt.{decimal}
+use Rattle.std.specs.Prelude.{nat_lt}
 use Rattle.std.specs.List.{AllByRecursion, list_all}
 use Rattle.std.specs.Str.{all_ascii_digits}
 use Rattle.std.specs.Str.Parse.{digits_value}
@@ -31,11 +32,20 @@ use Rattle.cmwq_table.specs.Counts.{is_rescuer}
 use Rattle.cmwq_table.specs.Events.{already_text, asked_name, event_object, event_text, event_verb, event_line_at, mode_text, place_text, refusal_text, reply_words, run_text, was_text, work_name, worker_number, worker_text}
 use Rattle.cmwq_interleaving.specs.PlayNumbers.{IsEvent, IsNumberedPlace, IsReply, IsNumberedRun, IsTime}
 
+abbrev pub is_ascii : ℕ → Bool
+is_ascii b = nat_lt b 128
+
 abbrev pub no_feed : List ℕ → Bool
 no_feed text = list_all (λ b. not (eqb b 10)) text
 
+abbrev is_plain : ℕ → Bool
+is_plain b = not (eqb b 10) && is_ascii b
+
+abbrev plain : List ℕ → Bool
+plain text = list_all is_plain text
+
 pub record Piece (k : ℕ) (text : List ℕ) : Type 0 where
-  pub whole : no_feed text ≡ true
+  pub same : plain text ≡ true
   pub short : length text ≤ k
 
 and_both : (a b : Bool) → a ≡ true → b ≡ true → (a && b) ≡ true
@@ -43,28 +53,28 @@ and_both true true p q = refl
 and_both true false p q = cc
 and_both false b p q = cc
 
-both_of : (a b : Bool) → (a && b) ≡ true → (a ≡ true) × (b ≡ true)
+pub both_of : (a b : Bool) → (a && b) ≡ true → (a ≡ true) × (b ≡ true)
 both_of true b e = (refl, e)
 both_of false b e = cc
 
-pub literal : (k : ℕ) (text : List ℕ) → no_feed text ≡ true → leb (length text) k ≡ true → Piece k text
-literal k text whole short = record { whole = whole; short = grind (arith, nat_tests) }
+pub literal : (k : ℕ) (text : List ℕ) → plain text ≡ true → leb (length text) k ≡ true → Piece k text
+literal k text same short = record { same = same; short = grind (arith, nat_tests) }
 
 pub joint : {a b : ℕ} {xs ys : List ℕ} → Piece a xs → Piece b ys → Piece (a + b) (xs ++ ys)
 joint {xs = xs} {ys = ys} x y = record {
-  whole = list_all-append (λ c. not (eqb c 10)) xs ys ∙ and_both (no_feed xs) (no_feed ys) x.whole y.whole;
+  same = list_all-append is_plain xs ys ∙ and_both (plain xs) (plain ys) x.same y.same;
   short = (let sum : length (xs ++ ys) ≡ length xs + length ys = length-append xs ys in omega (arith, x.short, y.short));
 }
 
 pub within : {a : ℕ} {text : List ℕ} (b : ℕ) → Piece a text → leb a b ≡ true → Piece b text
-within {a} b piece fits = record { whole = piece.whole; short = (let more : a ≤ b = grind (arith, nat_tests) in omega (arith, piece.short)) }
+within {a} b piece fits = record { same = piece.same; short = (let more : a ≤ b = grind (arith, nat_tests) in omega (arith, piece.short)) }
 
 -- Names and numbers.
 
-name_byte : (b : ℕ) → is_name_byte b ≡ true → not (eqb b 10) ≡ true
+name_byte : (b : ℕ) → is_name_byte b ≡ true → is_plain b ≡ true
 name_byte b h = grind (arith, nat_tests)
 
-digit : (b : ℕ) → is_ascii_digit b ≡ true → not (eqb b 10) ≡ true
+digit : (b : ℕ) → is_ascii_digit b ≡ true → is_plain b ≡ true
 digit b h = grind (arith, nat_tests)
 
 all_of : (p q : ℕ → Bool) → ((b : ℕ) → p b ≡ true → q b ≡ true) → (xs : List ℕ) → list_all p xs ≡ true → list_all q xs ≡ true
@@ -73,12 +83,19 @@ all_of p q to (x ∷ xs) all =
     let both : (p x ≡ true) × (list_all p xs ≡ true) = both_of (p x) (list_all p xs) all in
     and_both (q x) (list_all q xs) (to x both.0) (all_of p q to xs both.1)
 
+-- a piece has no line feed, and ASCII alone
+pub whole : {k : ℕ} (text : List ℕ) → Piece k text → no_feed text ≡ true
+whole text piece = all_of is_plain (λ b. not (eqb b 10)) (λ b h. (both_of (not (eqb b 10)) (is_ascii b) h).0) text piece.same
+
+pub ascii : {k : ℕ} (text : List ℕ) → Piece k text → list_all is_ascii text ≡ true
+ascii text piece = all_of is_plain is_ascii (λ b h. (both_of (not (eqb b 10)) (is_ascii b) h).1) text piece.same
+
 numerals : IsNumeralModel (λ word. all_ascii_digits word ≡ true) (digits_value 10)
 numerals = numerals_by_value (λ word. all_ascii_digits word ≡ true) tells_all_ascii_digits
 
 number : (n : ℕ) → n < 2 ^ 64 → Piece 20 (decimal n)
 number n small = record {
-  whole = all_of is_ascii_digit (λ b. not (eqb b 10)) digit (decimal n) (digits_decimal numerals n small);
+  same = all_of is_ascii_digit is_plain digit (decimal n) (digits_decimal numerals n small);
   short = length-decimal-le 20 n (omega arith) (omega arith) small;
 }
 
@@ -90,7 +107,7 @@ named name is =
     let a : ((first && second && third) ≡ true) × (list_all is_name_byte name ≡ true) = both_of (first && second && third) (list_all is_name_byte name) is in
     let b : ((first && second) ≡ true) × (third ≡ true) = both_of (first && second) third a.0 in
     let c : (first ≡ true) × (second ≡ true) = both_of first second b.0 in
-    record { whole = all_of is_name_byte (λ b. not (eqb b 10)) name_byte name a.1; short = (let few : second ≡ true = c.1 in grind (arith, nat_tests)) }
+    record { same = all_of is_name_byte is_plain name_byte name a.1; short = (let few : second ≡ true = c.1 in grind (arith, nat_tests)) }
 
 -- A work's name, which is empty where no work has the number.
 

@@ -1,17 +1,20 @@
 //! What running instructions prints, as comments.
 ghost use Rattle.cmwq_grammar.specs.Comments.{comments};
-ghost use Rattle.cmwq_interleaving.specs.Commenting.{Comments, after_hash, text_of};
-ghost use Rattle.cmwq_table.specs.Events.{events, events_from};
+ghost use Rattle.cmwq_interleaving.specs.Commenting.{Comments, after_hash};
+ghost use Rattle.cmwq_table.specs.Events.{events, events_from, reply_line};
 ghost use Rattle.cmwq_types.specs.Faults.{IsValid};
 ghost use Rattle.cmwq_types.specs.Values.{IsWorkDecl};
 ghost use Rattle.std.specs.List.{AllByRecursion};
-ghost use Rattle.std.specs.Prelude.{◌≡◌, ◌≤◌, ◌+◌, ◌*◌, ◌++◌, IfOk, OnOk, length, string_bytes};
+ghost use Rattle.std.specs.Prelude.{◌≡◌, ◌≤◌, ◌+◌, ◌*◌, ◌++◌, IfOk, OnOk, length};
+ghost use Rattle.std.specs.Str.{IsAscii, IsUtf8};
 
 use crate::play_numbers::fit;
+use cmwq_lines::{Block, ReplyLines};
 use cmwq_plain::Plain;
-use cmwq_table::{Machine, ReplyLine};
-use cmwq_types::{Instr, NoMemory, Scenario};
+use cmwq_table::{Machine, is_silent};
+use cmwq_types::{Instr, NoMemory, Reply, Scenario};
 use std::alloc::Global;
+use std::fmt::Write;
 use std::sync::Arc;
 
 /// The lines that running these instructions on the scenario prints, each after `# `.
@@ -19,11 +22,12 @@ pub(crate) fn comments(
     alloc: Global,
     scenario: Scenario,
     instrs: &[Instr],
-) -> Result<String, NoMemory>
+) -> Result<Block, NoMemory>
     requires valid { IsValid scenario }
     requires works { AllByRecursion IsWorkDecl scenario.works }
-    ensures text { IfOk result (λ text. string_bytes text ≡ comments (events scenario instrs.now)) }
-    ensures short { IfOk result (λ text. length (string_bytes text) ≤ 256 * length instrs.now) }
+    ensures text { IfOk result (λ text. text ≡ comments (events scenario instrs.now)) }
+    ensures utf8 { IfOk result (λ text. IsUtf8 text) }
+    ensures short { IfOk result (λ text. length text ≤ 256 * length instrs.now) }
 {
     let scenario = Arc::new(alloc, scenario)?;
     let machine = Plain::begin(alloc, Arc::clone(&scenario)?)?;
@@ -36,45 +40,55 @@ fn comments_of<M: Machine>(
     scenario: &Scenario,
     machine: M,
     instrs: &[Instr],
-) -> Result<String, NoMemory>
+) -> Result<Block, NoMemory>
     requires loaded { M.loaded machine ≡ scenario.now }
     requires works { AllByRecursion IsWorkDecl scenario.now.works }
-    ensures text { IfOk result (λ text. string_bytes text ≡ comments (events_from scenario.now (M.state machine) instrs.now)) }
-    ensures short { IfOk result (λ text. length (string_bytes text) ≤ 256 * length instrs.now) }
+    ensures text { IfOk result (λ text. text ≡ comments (events_from scenario.now (M.state machine) instrs.now)) }
+    ensures utf8 { IfOk result (λ text. IsUtf8 text) }
+    ensures short { IfOk result (λ text. length text ≤ 256 * length instrs.now) }
 {
     let mut machine = machine;
-    let mut text = String::new(alloc);
+    let mut lines = ReplyLines::new(alloc, scenario)?;
+    let mut text = Block::new(alloc);
     for instr in instrs {
         let reply = machine.exec(*instr);
-        let line = ReplyLine {
-            scenario,
-            time: machine.now(),
-            instr: *instr,
-            reply,
-        };
-        push_comment(alloc, &mut text, line)?;
+        push_comment(&mut lines, &mut text, machine.now(), *instr, &reply)?;
     }
     Ok(text)
 }
 
-/// Writes the line after `# `, if there is one: what follows it begins a line of its own.
-fn push_comment(alloc: Global, text: &mut String, line: ReplyLine<'_>) -> Result<(), NoMemory>
-    requires works { AllByRecursion IsWorkDecl line.scenario.now.works }
-    ensures text { OnOk result (Comments (string_bytes text.old) (string_bytes text.new) (text_of line.entry)) }
-    ensures short { OnOk result (length (string_bytes text.new) ≤ length (string_bytes text.old) + 256) }
+/// Writes the line of the reply after `# `, if it has one: what follows it begins a line of its own.
+fn push_comment(
+    lines: &mut ReplyLines<'_>,
+    text: &mut Block,
+    time: u64,
+    instr: Instr,
+    reply: &Reply,
+) -> Result<(), NoMemory>
+    requires works { AllByRecursion IsWorkDecl lines.old.works }
+    ensures lines { lines.new ≡ lines.old }
+    ensures text { OnOk result (Comments text.old text.new (reply_line lines.old time instr reply.now)) }
+    ensures ascii { OnOk result (IsAscii text.old → IsAscii text.new) }
+    ensures short { OnOk result (length text.new ≤ length text.old + 256) }
 {
-    fit(line.reply);
-    let said = format!(in alloc; "{line}")?;
-    push_after_hash(text, &said)
+    fit(*reply);
+    push_after_hash(lines, text, time, instr, reply)
 }
 
-/// Writes the line after `# `, if there is one.
-fn push_after_hash(text: &mut String, line: &str) -> Result<(), NoMemory>
-    ensures { OnOk result (string_bytes text.new ≡ string_bytes text.old ++ after_hash line.now) }
+/// Writes the line of the reply after `# `, if it has one.
+fn push_after_hash(
+    lines: &mut ReplyLines<'_>,
+    text: &mut Block,
+    time: u64,
+    instr: Instr,
+    reply: &Reply,
+) -> Result<(), NoMemory>
+    ensures lines { lines.new ≡ lines.old }
+    ensures text { OnOk result (text.new ≡ text.old ++ after_hash lines.old time instr reply.now) }
 {
-    if !line.is_empty() {
-        text.push_str("# ")?;
-        text.push_str(line)?;
+    if is_silent(*reply) {
+        return Ok(());
     }
-    Ok(())
+    text.write_str("# ").map_err(|_| NoMemory)?;
+    lines.push(text, time, instr, reply)
 }

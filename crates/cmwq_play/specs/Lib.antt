@@ -1,6 +1,7 @@
 pub mod Commands
 pub mod Images
 pub mod PlayTexts
+pub mod Repeating
 pub mod Runs
 pub mod Session
 pub mod Telling

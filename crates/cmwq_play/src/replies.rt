@@ -1,13 +1,16 @@
 //! The lines of replies.
-ghost use Rattle.cmwq_table.specs.Events.{told};
+ghost use Rattle.cmwq_play.specs.Repeating.{HasTold, repeated};
+ghost use Rattle.cmwq_play.specs.Session.{CanIssue, Issues, Stopped};
+ghost use Rattle.cmwq_table.specs.Events.{events_from, reply_line, told};
 ghost use Rattle.cmwq_table.specs.Table.{table};
-ghost use Rattle.std.specs.Prelude.{⊤};
+ghost use Rattle.cmwq_types.specs.declared.instr.Instr.TheVariants as instr;
+ghost use Rattle.std.specs.Prelude.{◌≡◌, ◌<◌, IfErr, IfOk, replicate, ⊤};
 
 use crate::session::Session;
 use crate::teller::Teller;
 use cmwq_streams::{PlayError, Sink};
 use cmwq_table::Machine;
-use cmwq_types::Instr;
+use cmwq_types::{Instr, Reply};
 
 /// Tells the line of each reply, if it has one.
 #[derive(Drop)]
@@ -30,5 +33,73 @@ impl Teller for Replies {
         session
             .lines
             .write_reply(&mut session.replies, time, instr, &reply)
+    }
+
+    fn issue_times<M: Machine, W: Sink>(
+        &mut self,
+        session: &mut Session<'_, '_, M, W>,
+        instr: Instr,
+        times: u32,
+    ) -> Result<(), PlayError> {
+        let mut left = times;
+        while left > 0 {
+            left -= session.issue_some(instr, left)?;
+        }
+        Ok(())
+    }
+}
+
+impl<M: Machine, W: Sink> Session<'_, '_, M, W> {
+    /// Issues the instruction at least once and at most so often, and writes the lines of the replies. Answers how often.
+    fn issue_some(&mut self, instr: Instr, most: u32) -> Result<u32, PlayError>
+        requires ready { CanIssue M.loaded M.state W.contents W.failed self.old }
+        requires some { 0 < most }
+        ensures ok { IfOk result (HasTold M.loaded M.state W.contents W.failed self.old self.new instr most) }
+        ensures err { IfErr result (Stopped M.loaded M.state W.contents W.failed self.old self.new (events_from self.old.scenario.now (M.state self.old.machine) (replicate most instr))) }
+    {
+        match instr {
+            Instr::Next => self.go(most),
+            _ => self.repeat(instr, most),
+        }
+    }
+
+    /// Issues `next` up to the first reply that has a line, at least once and at most so often, and writes that line. Answers how often.
+    fn go(&mut self, most: u32) -> Result<u32, PlayError>
+        requires ready { CanIssue M.loaded M.state W.contents W.failed self.old }
+        requires some { 0 < most }
+        ensures ok { IfOk result (HasTold M.loaded M.state W.contents W.failed self.old self.new instr.Next most) }
+        ensures err { IfErr result (Stopped M.loaded M.state W.contents W.failed self.old self.new (events_from self.old.scenario.now (M.state self.old.machine) (replicate most instr.Next))) }
+    {
+        let (count, reply) = self.machine.go(most);
+        self.tell(Instr::Next, &reply, 1)?;
+        Ok(count)
+    }
+
+    /// Issues the instruction, and again as long as it is known to come out the same, at most so often in all; and writes the lines of the
+    /// replies. Answers how often.
+    fn repeat(&mut self, instr: Instr, most: u32) -> Result<u32, PlayError>
+        requires ready { CanIssue M.loaded M.state W.contents W.failed self.old }
+        requires some { 0 < most }
+        ensures ok { IfOk result (HasTold M.loaded M.state W.contents W.failed self.old self.new instr most) }
+        ensures err { IfErr result (Stopped M.loaded M.state W.contents W.failed self.old self.new (events_from self.old.scenario.now (M.state self.old.machine) (replicate most instr))) }
+    {
+        let reply = self.machine.exec(instr);
+        let count = 1 + self.machine.again(instr, reply, most - 1);
+        self.tell(instr, &reply, count)?;
+        Ok(count)
+    }
+
+    /// Writes the line of a reply at the machine's time to an instruction, so many times.
+    fn tell(&mut self, instr: Instr, reply: &Reply, times: u32) -> Result<(), PlayError>
+        requires ready { CanIssue M.loaded M.state W.contents W.failed self.old }
+        ensures { Issues M.loaded M.state W.contents W.failed self.old self.new (M.state self.old.machine)
+            (repeated (reply_line self.old.scenario.now (M.state self.old.machine).time instr reply.now) times) result }
+    {
+        let time = self.machine.now();
+        for _turn in 0..times {
+            self.lines
+                .write_reply(&mut self.replies, time, instr, reply)?;
+        }
+        Ok(())
     }
 }

@@ -10,7 +10,6 @@ ghost use Rattle.std.specs.Prelude.{◌≡◌, [], IfErr, OnOk};
 
 use crate::teller::Teller;
 use cmwq_lines::ReplyLines;
-use cmwq_runs::Instructions;
 use cmwq_streams::{BlockWriter, PlayError, Sink};
 use cmwq_table::Machine;
 use cmwq_types::{Line, Scenario};
@@ -39,8 +38,8 @@ impl<'w, M: Machine, W: Sink> Session<'_, 'w, M, W> {
         ensures keeps { OnOk result (teller.new ≡ kept_from T.told T.keeps teller.old self.old.scenario.now (M.state self.old.machine) (expand_lines lines.now)) }
         ensures fits { OnOk result (T.fits teller.new (M.state self.new.machine)) }
     {
-        for instr in Instructions::of(lines) {
-            teller.issue(self, instr)?;
+        for line in lines {
+            teller.issue_times(self, line.instr, line.times)?;
         }
         Ok(())
     }

@@ -6,12 +6,13 @@ use Rattle.cmwq_types.specs.Listing.{instr_words, line_text}
 use Rattle.cmwq_types.specs.Scenario.{expand}
 use Rattle.cmwq_types.specs.declared.instr.Instr.{Instr}
 use Rattle.cmwq_types.specs.declared.reply.Reply.{Reply}
-use Rattle.cmwq_table.specs.Events.{told}
+use Rattle.cmwq_table.specs.Events.{reply_line, told}
 use Rattle.cmwq_table.specs.State.{State, start}
 use Rattle.cmwq_table.specs.Table.{table}
 use Rattle.cmwq_play.specs.Runs.{IsRunOf}
 use Rattle.cmwq_play.specs.PlayTexts.{ComesTo}
 use Rattle.cmwq_tell.specs.declared.change.Change.{Change}
+use Rattle.cmwq_tell.specs.declared.told.Told.{Told}
 use Rattle.cmwq_tell.specs.Hidden.{change_line, hidden}
 
 -- an instruction in the listing's words
@@ -20,6 +21,10 @@ instr_line S instr = codes "# " ++ line_text (instr_words S instr)
 
 abbrev pub change_lines : ScenarioContents → List Change → List ℕ
 change_lines S changes = flat_map (change_line S) changes
+
+-- the line of an instruction, then that of its reply if it has one, then those of its hidden changes
+abbrev pub told_lines : Told → List ℕ
+told_lines told = instr_line told.scenario.now told.instr ++ reply_line told.scenario.now told.time told.instr told.reply ++ change_lines told.scenario.now told.changes.now
 
 -- the instruction, then its reply's line if it has one, then its hidden changes
 abbrev pub told_wholly : ScenarioContents → State → Instr → State × Reply → List ℕ

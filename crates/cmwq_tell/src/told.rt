@@ -1,18 +1,20 @@
 //! All that is told of one instruction.
-ghost use Rattle.cmwq_table.specs.Events.{reply_line};
+ghost use Rattle.cmwq_streams.specs.Blocks.{Sends, SendsFront, SharesSink, sink};
+ghost use Rattle.cmwq_streams.specs.Sending.{IsSendError};
+ghost use Rattle.cmwq_streams.specs.declared.error.PlayError.TheVariants as PlayError;
 ghost use Rattle.cmwq_table.specs.Table.{table};
-ghost use Rattle.cmwq_tell.specs.RunTold.{change_lines, instr_line, told_wholly};
-ghost use Rattle.std.specs.Prelude.{◌++◌, Some, ⊤};
+ghost use Rattle.cmwq_tell.specs.RunTold.{told_lines, told_wholly};
+ghost use Rattle.std.specs.Prelude.{◌≡◌, ◌↔◌, Err, IfErr, OnErr, OnOk, false, true, ⊤};
 
 use crate::change::{Change, ChangeLines};
 use crate::hidden_changes::hidden;
 use crate::instr_line::InstrWords;
+use cmwq_lines::ReplyLines;
 use cmwq_play::{Session, Teller};
-use cmwq_streams::{PlayError, Sink};
-use cmwq_table::{Machine, ReplyLine};
-use cmwq_types::Instr;
+use cmwq_streams::{BlockWriter, PlayError, Sink};
+use cmwq_table::Machine;
+use cmwq_types::{Instr, Reply, Scenario};
 use std::alloc::Global;
-use std::fmt;
 
 /// Tells each instruction, its reply, if it has one, and its hidden changes.
 #[derive(Drop)]
@@ -37,40 +39,52 @@ impl Teller for Whole {
         let reply = session.machine.exec(instr);
         let changes = hidden(self.alloc, time, next, &session.machine)?;
         let told = Told {
-            answer: ReplyLine {
-                scenario: session.scenario,
-                time: session.machine.now(),
-                instr,
-                reply,
-            },
+            scenario: session.scenario,
+            time: session.machine.now(),
+            instr,
+            reply,
             changes: &changes,
         };
-        write!(session.lines, "{told}")
+        told.write(&mut session.replies, &mut session.lines)
     }
 }
 
-/// The line of an instruction, then that of its reply, if it has one, and then those of its hidden changes.
+/// What is told of an instruction: its line, then that of its reply at the time, if it has one, and then those of its hidden changes.
 #[derive(Clone, Copy)]
-pub(crate) struct Told<'a> {
-    pub(crate) answer: ReplyLine<'a>,
-    pub(crate) changes: &'a [Change],
+struct Told<'a> {
+    scenario: &'a Scenario,
+    time: u64,
+    instr: Instr,
+    reply: Reply,
+    changes: &'a [Change],
 }
 
-impl fmt::Display for Told<'_> {
-    ghost output = { λ told. Some (instr_line told.answer.scenario.now told.answer.instr
-        ++ reply_line told.answer.scenario.now told.answer.time told.answer.instr told.answer.reply
-        ++ change_lines told.answer.scenario.now told.changes.now) };
-
-    fn fmt<W: fmt::Write>(&self, f: &mut fmt::Formatter<W>) -> fmt::Result {
-        let answer = self.answer;
+impl Told<'_> {
+    /// Writes the lines. The errors are those of the writer's other calls; what went out then is a front of the lines.
+    fn write<W: Sink>(
+        self,
+        replies: &mut ReplyLines<'_>,
+        lines: &mut BlockWriter<'_, W>,
+    ) -> Result<(), PlayError>
+        requires sound { W.failed (sink lines.old) ≡ false }
+        requires parts { replies.old ≡ self.scenario.now }
+        ensures parts { replies.new ≡ replies.old }
+        ensures same { SharesSink lines.old lines.new }
+        ensures ok { OnOk result (Sends W.contents lines.old lines.new (told_lines self.entry)) }
+        ensures err { OnErr result (SendsFront W.contents lines.old lines.new (told_lines self.entry)) }
+        ensures failed { (result ≡ Err PlayError.Write) ↔ (W.failed (sink lines.new) ≡ true) }
+        ensures why { IfErr result (λ error. IsSendError error) }
+    {
         let instr = InstrWords {
-            scenario: answer.scenario,
-            instr: answer.instr,
+            scenario: self.scenario,
+            instr: self.instr,
         };
+        write!(lines, "# {instr}\n")?;
+        lines.write_reply(replies, self.time, self.instr, &self.reply)?;
         let changes = ChangeLines {
-            scenario: answer.scenario,
+            scenario: self.scenario,
             changes: self.changes,
         };
-        write!(f, "# {instr}\n{answer}{changes}")
+        write!(lines, "{changes}")
     }
 }

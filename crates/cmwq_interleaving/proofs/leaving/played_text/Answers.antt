@@ -1,5 +1,4 @@
-use Rattle.std.proofs.Common.{◌≡◌, ◌≤◌, ◌+◌, ◌∙◌, ◌++◌, List, ℕ, arith, sym, ap, subst, length, rules, string_bytes}
-use Rattle.std.proofs.lemmas.Str.{IsUtf8-string_bytes}
+use Rattle.std.proofs.Common.{◌≡◌, ◌≤◌, ◌+◌, ◌∙◌, ◌++◌, List, ℕ, arith, sym, ap, subst, length, rules}
 use Rattle.std.specs.Str.{IsUtf8}
 use Rattle.cmwq_grammar.specs.Comments.{comments, listing_room}
 use Rattle.cmwq_grammar.specs.Grammar.{Spells}
@@ -30,9 +29,9 @@ returns-clause-spells c =
     let same : c.in_ok-played.played ≡ T = c.in_ok-played.ensures in
     let valid : IsValid T = played_valid S instrs c.requires.valid c.requires.declared c.requires.few in
     let is : IsScenario T = subst IsScenario same (c.in_ok-text.ensures.spells (subst IsValid (sym same) valid)).is_text.scenario in
-    let notes : string_bytes c.in_ok-comments.comments ≡ comments (events T instrs) = c.in_ok-comments.ensures.text ∙ ap (λ (U : ScenarioContents). comments (events U instrs)) same in
-    let utf8 : IsUtf8 (comments (events T instrs)) = subst IsUtf8 notes (IsUtf8-string_bytes c.in_ok-comments.comments) in
-    let long : length (comments (events T instrs)) ≡ length (string_bytes c.in_ok-comments.comments) = ap length (sym notes) in
+    let notes : c.in_ok-comments.comments ≡ comments (events T instrs) = c.in_ok-comments.ensures.text ∙ ap (λ (U : ScenarioContents). comments (events U instrs)) same in
+    let utf8 : IsUtf8 (comments (events T instrs)) = subst IsUtf8 notes c.in_ok-comments.ensures.utf8 in
+    let long : length (comments (events T instrs)) ≡ length c.in_ok-comments.comments = ap length (sym notes) in
     let room : length (comments (events T instrs)) + listing_room 1 ≤ MAX_TEXT = omega (arith, long, c.in_ok-comments.ensures.short, c.requires.few) in
     let whole : c.extend_from_slice.new.self.items ≡ listing T ++ comments (events T instrs) = search rules in
     subst (λ (text : List ℕ). Spells text T) (sym whole) (c.comments_may_follow_a_listing.ensures.spelled T (events T instrs) valid is utf8 room)

@@ -27,6 +27,6 @@ returns-clause-told g c =
     let exact : (t, c.exec-reply.result) ≡ table S s c.args.instr = c.exec-reply.ensures.exact ∙ ap (λ (T : ScenarioContents). table T s c.args.instr) c.requires.ready.has_scenario in
     let changes_are : c.in_ok-changes.changes.items ≡ hidden s t = c.in_ok-changes.ensures s c.time-time.ensures c.next_stamp-next.ensures in
     wrote_once g.M.Reads.loaded g.M.Reads.state g.W.Write.contents g.W.Sink.failed a _ _ _ (told_wholly S s c.args.instr (table S s c.args.instr)) c.write.result
-    (c.exec-reply.ensures.scenario ∙ c.requires.ready.has_scenario) c.requires.ready.has_lines refl (ap (λ (after : State × Reply). after.0) exact)
+    (c.exec-reply.ensures.scenario ∙ c.requires.ready.has_scenario) (c.write.ensures.parts ∙ c.requires.ready.has_lines) refl (ap (λ (after : State × Reply). after.0) exact)
     (one-told S s t c.args.instr c.exec-reply.result _ _ exact c.now.ensures (c.deref.ensures.value ∙ changes_are))
     c.write.ensures.same c.write.ensures.ok c.write.ensures.err c.write.ensures.failed c.write.ensures.why
