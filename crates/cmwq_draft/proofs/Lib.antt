@@ -1,2 +1,3 @@
 mod BodyLemmas
 mod Refused
+mod MnemonicLemmas

@@ -6,9 +6,10 @@ ghost use Rattle.cmwq_grammar.specs.Instructions.{instr_at, line_at, operands_at
 ghost use Rattle.cmwq_types.specs.Fields.{greatest_id};
 ghost use Rattle.cmwq_types.specs.declared.fields.Fields.{Fields};
 ghost use Rattle.cmwq_types.specs.declared.instr.Instr.{Instr};
-ghost use Rattle.std.specs.Prelude.{◌≤◌, ◌∷◌, IfOk};
+ghost use Rattle.std.specs.Prelude.{◌≤◌, ◌∷◌, IfOk, codes};
 
 use crate::draft::Draft;
+use crate::mnemonics::read_mnemonic;
 use cmwq_grammar::Why;
 use cmwq_scan::{
     Field, is_word, next_word, refusal_of, take_declared, take_last_number_within,
@@ -31,21 +32,32 @@ pub fn read_instr_line(draft: &Draft, word: &[u8], rest: &[u8]) -> Result<Line, 
 fn read_times(instr: Instr, rest: &[u8]) -> Result<Line, Why>
     ensures { Tells (λ line. line) result (times_at instr (words_left rest.now)) }
 {
-    match next_word(rest) {
-        None => Ok(Line { instr, times: 1 }),
-        Some((word, rest)) => read_repeated(instr, word, rest),
+    match rest {
+        [] => Ok(Line { instr, times: 1 }),
+        [b'*', b' ', rest @ ..] => read_repeated(instr, rest),
+        _ => read_spaced_times(instr, rest),
     }
 }
 
-/// The line of this instruction behind which the word stands, which must be `*`.
+/// The same, whatever stands before the words.
+#[cold]
+#[inline(never)]
+fn read_spaced_times(instr: Instr, rest: &[u8]) -> Result<Line, Why>
+    ensures { Tells (λ line. line) result (times_at instr (words_left rest.now)) }
+{
+    match next_word(rest) {
+        None => Ok(Line { instr, times: 1 }),
+        Some((word, rest)) if is_word(word, b"*") => read_repeated(instr, rest),
+        Some(_) => Err(Why::ExtraWord),
+    }
+}
+
+/// The line of this instruction, behind which a `*` stands, and then its number.
 #[inline(always)]
 #[tactic(auto, using(cmwq_scan::proofs::LineSteps::line_steps))]
-fn read_repeated(instr: Instr, word: &[u8], rest: &[u8]) -> Result<Line, Why>
-    ensures { Tells (λ line. line) result (times_at instr (word.now ∷ words_left rest.now)) }
+fn read_repeated(instr: Instr, rest: &[u8]) -> Result<Line, Why>
+    ensures { Tells (λ line. line) result (times_at instr (codes "*" ∷ words_left rest.now)) }
 {
-    if !is_word(word, b"*") {
-        return Err(Why::ExtraWord);
-    }
     let times = take_last_number_within(1, MAX_TIMES, rest)?;
     Ok(Line { instr, times })
 }
@@ -56,7 +68,7 @@ fn read_repeated(instr: Instr, word: &[u8], rest: &[u8]) -> Result<Line, Why>
 fn read_instr<'t>(draft: &Draft, word: &[u8], rest: &'t [u8]) -> Field<'t, Instr>
     ensures { Tells (λ field. (field.0, words_left field.1.now)) result (instr_at draft.now word.now (words_left rest.now)) }
 {
-    match Mnemonic::read(word) {
+    match read_mnemonic(word) {
         Some(mnemonic) => read_operands(draft, mnemonic, rest),
         None => Err(refusal_of(Why::Misplaced, word)),
     }

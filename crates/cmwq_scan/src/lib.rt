@@ -11,7 +11,7 @@ mod numbers;
 mod utf8;
 mod words;
 
-pub use cutting::{next_line, worded_part};
+pub use cutting::{TextLine, next_line, next_text_line, worded_part};
 pub use line_fields::{
     Field, ended, take_declared, take_keyword, take_last_declared, take_last_new_name,
     take_last_number_below, take_last_number_within, take_new_name, take_number,

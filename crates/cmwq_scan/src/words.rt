@@ -27,6 +27,7 @@ pub fn next_word<'t>(rest: &'t [u8]) -> Option<(&'t [u8], &'t [u8])>
 }
 
 /// Whether the word is this one.
+#[inline(always)]
 pub fn is_word(word: &[u8], wanted: &[u8]) -> bool
     ensures { result ≡ bytes_eq word.now wanted.now }
 {
