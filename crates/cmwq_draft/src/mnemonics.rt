@@ -1,61 +1,48 @@
 //! The word that an actor's line begins with.
 ghost use Rattle.cmwq_types.specs.Mnemonics.{mnemonic_of};
-ghost use Rattle.std.specs.Prelude.{◌≡◌, IfSome, Some};
+ghost use Rattle.std.specs.Prelude.{◌≡◌};
 
-use cmwq_scan::is_word;
+use cmwq_scan::is_same;
 use cmwq_types::Mnemonic;
 
 /// The mnemonic that is spelled so, if there is one.
 #[inline(always)]
+#[tactic(auto, using(crate::proofs::MnemonicLemmas::spelled_so))]
 pub(crate) fn read_mnemonic(word: &[u8]) -> Option<Mnemonic>
     ensures { result ≡ mnemonic_of word.now }
 {
-    match likely_mnemonic(word) {
-        Some(mnemonic) => Some(mnemonic),
-        None => Mnemonic::read(word),
-    }
-}
-
-/// The mnemonic that a word of this first letter and this length is likely to be, if it is spelled so.
-#[inline(always)]
-fn likely_mnemonic(word: &[u8]) -> Option<Mnemonic>
-    ensures { IfSome result (λ mnemonic. mnemonic_of word.now ≡ Some mnemonic) }
-{
-    match (*word.first()?, word.len()) {
-        (b'q', _) => if_spelled(word, Mnemonic::Queue),
-        (b'd', 5) => if_spelled(word, Mnemonic::Delay),
-        (b'd', _) => if_spelled(word, Mnemonic::Disable),
-        (b'm', _) => if_spelled(word, Mnemonic::Mod),
-        (b'c', 6) => if_spelled(word, Mnemonic::Cancel),
-        (b'c', _) => if_spelled(word, Mnemonic::CancelSync),
-        (b'f', 4) => if_spelled(word, Mnemonic::Fire),
-        (b'f', 5) => if_spelled(word, Mnemonic::Flush),
-        (b'f', 6) => if_spelled(word, Mnemonic::Freeze),
-        (b'f', 11) => if_spelled(word, Mnemonic::FlushQueue),
-        (b'f', _) => if_spelled(word, Mnemonic::FlushDelayed),
-        (b's', 4) => if_spelled(word, Mnemonic::Step),
-        (b's', 5) => if_spelled(word, Mnemonic::State),
-        (b's', _) => if_spelled(word, Mnemonic::SetMax),
-        (b't', _) => if_spelled(word, Mnemonic::Tick),
-        (b'n', _) => if_spelled(word, Mnemonic::Next),
-        (b'a', _) => if_spelled(word, Mnemonic::Ask),
-        (b'b', _) => if_spelled(word, Mnemonic::Busy),
-        (b'e', _) => if_spelled(word, Mnemonic::Enable),
-        (b'p', _) => if_spelled(word, Mnemonic::Pressure),
-        (b'r', _) => if_spelled(word, Mnemonic::Relief),
-        _ => None,
-    }
-}
-
-/// The mnemonic, if it is spelled so.
-#[inline(always)]
-#[tactic(auto, using(crate::proofs::MnemonicLemmas::spelled_so))]
-fn if_spelled(word: &[u8], mnemonic: Mnemonic) -> Option<Mnemonic>
-    ensures { IfSome result (λ found. mnemonic_of word.now ≡ Some found) }
-{
-    if is_word(word, mnemonic.as_bytes()) {
-        Some(mnemonic)
+    let likely = likely_mnemonic(word);
+    if is_same(word, likely.as_bytes()) {
+        Some(likely)
     } else {
-        None
+        Mnemonic::read(word)
+    }
+}
+
+/// The mnemonic that a word of its first letter and its length is likely to be. Nothing is claimed of it.
+#[inline(always)]
+fn likely_mnemonic(word: &[u8]) -> Mnemonic {
+    match (word.first(), word.len()) {
+        (Some(b'd'), 5) => Mnemonic::Delay,
+        (Some(b'd'), _) => Mnemonic::Disable,
+        (Some(b'm'), _) => Mnemonic::Mod,
+        (Some(b'c'), 6) => Mnemonic::Cancel,
+        (Some(b'c'), _) => Mnemonic::CancelSync,
+        (Some(b'f'), 4) => Mnemonic::Fire,
+        (Some(b'f'), 5) => Mnemonic::Flush,
+        (Some(b'f'), 6) => Mnemonic::Freeze,
+        (Some(b'f'), 11) => Mnemonic::FlushQueue,
+        (Some(b'f'), _) => Mnemonic::FlushDelayed,
+        (Some(b's'), 4) => Mnemonic::Step,
+        (Some(b's'), 5) => Mnemonic::State,
+        (Some(b's'), _) => Mnemonic::SetMax,
+        (Some(b't'), _) => Mnemonic::Tick,
+        (Some(b'n'), _) => Mnemonic::Next,
+        (Some(b'a'), _) => Mnemonic::Ask,
+        (Some(b'b'), _) => Mnemonic::Busy,
+        (Some(b'e'), _) => Mnemonic::Enable,
+        (Some(b'p'), _) => Mnemonic::Pressure,
+        (Some(b'r'), _) => Mnemonic::Relief,
+        _ => Mnemonic::Queue,
     }
 }

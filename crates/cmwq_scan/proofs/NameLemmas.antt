@@ -1,12 +1,9 @@
 -- Names as keys of a set: a test of a name, over the keys.
-use Rattle.std.proofs.Common.{◌≡◌, ℕ, suc, ◌+◌, ◌<◌, Bool, true, false, not, cond, ◌||◌, List, [], ◌∷◌, ◌++◌, length, take, drop, ◌≤◌, None, Some, get_or, ap, sym, ◌∙◌, refl, arith, position, nat_eq, nat_lt, zero}
+use Rattle.std.proofs.Common.{◌≡◌, ℕ, suc, ◌+◌, ◌<◌, Bool, true, false, not, cond, ◌||◌, List, [], ◌∷◌, ◌++◌, length, None, Some, get_or, ap, sym, ◌∙◌, refl, arith, position, nat_lt}
 use Rattle.std.specs.Prelude.{map, slice_get}
 use Rattle.std.specs.List.{All, AllByRecursion, IsDistinct, list_any, position_or_len}
 use Rattle.std.proofs.lemmas.Bool.Decides.{nat_tests}
-use Rattle.std.proofs.lemmas.Grind.{common_steps}
 use Rattle.std.proofs.lemmas.List.Sums.{position_or_len_is}
-use Rattle.std.proofs.lemmas.Nat.{le_bytes_8}
-use Rattle.std.specs.Int.{from_le_bytes, to_le_bytes, w64}
 use Rattle.std.proofs.lemmas.Map.Keys.{apart_from_distinct}
 use Rattle.std.proofs.lemmas.Option.{get_or_from_slice_get, slice_get_within}
 use Rattle.std.proofs.lemmas.List.Elements.{recursion_from_All}
@@ -88,59 +85,3 @@ module _ {K : Type 0} (bytes : K → List ℕ) (name : List ℕ) where
       ap is_name (sym ((bytes_decides (bytes key) name).0 same))
       ∙ ap (λ (k : K). is_name (bytes k)) (sym (get_or_from_slice_get keys i key key there))
       ∙ names i key (slice_get_within keys i key there)
-
--- Bytes by the numbers that eight of them are.
-
-abbrev AreBytes : List ℕ → Type 0
-AreBytes bytes = (i : ℕ) → get_or bytes i 0 < 256
-
-abbrev pub eight_at : List ℕ → ℕ → List ℕ
-eight_at bytes from = take 8 (drop from bytes)
-
-abbrev pub number_at : List ℕ → ℕ → ℕ
-number_at bytes from = from_le_bytes w64 (eight_at bytes from)
-
-bytes_take : (n : ℕ) (xs : List ℕ) → AreBytes xs → AreBytes (take n xs)
-bytes_take zero xs are i = omega arith
-bytes_take (suc n) [] are i = omega arith
-bytes_take (suc n) (x ∷ xs) are zero = are 0
-bytes_take (suc n) (x ∷ xs) are (suc i) = bytes_take n xs (λ k. are (suc k)) i
-
-bytes_drop : (n : ℕ) (xs : List ℕ) → AreBytes xs → AreBytes (drop n xs)
-bytes_drop zero xs are i = are i
-bytes_drop (suc n) [] are i = omega arith
-bytes_drop (suc n) (x ∷ xs) are i = bytes_drop n xs (λ k. are (suc k)) i
-
-written : (xs : List ℕ) (from : ℕ) → AreBytes xs → from + 8 ≤ length xs → to_le_bytes w64 (number_at xs from) ≡ eight_at xs from
-written xs from are room = le_bytes_8 (eight_at xs from) (number_at xs from) (grind (arith, common_steps)) (bytes_take 8 (drop from xs) (bytes_drop from xs are)) refl
-
--- the first n and the last n are the whole
-by_ends : (n last : ℕ) (xs : List ℕ) → last ≤ n → length xs ≡ n + last → xs ≡ take last (take n (drop 0 xs)) ++ take n (drop last xs)
-by_ends n last xs few long = grind (arith, common_steps)
-
-module _ (one other : List ℕ) (bytes : AreBytes one) (others : AreBytes other) (last : ℕ) (few : last ≤ 8) (long : length one ≡ 8 + last) (longs : length other ≡ 8 + last) where
-  eight_same : (from : ℕ) → from ≤ last → number_at one from ≡ number_at other from → eight_at one from ≡ eight_at other from
-  eight_same from there same =
-      sym (written one from bytes (omega (arith, there, long)))
-      ∙ ap (to_le_bytes w64) same
-      ∙ written other from others (omega (arith, there, longs))
-
-  same : number_at one 0 ≡ number_at other 0 → number_at one last ≡ number_at other last → one ≡ other
-  same begins ends =
-      by_ends 8 last one few long
-      ∙ ap (λ (front : List ℕ). take last front ++ eight_at one last) (eight_same 0 (omega arith) begins)
-      ∙ ap (λ (end : List ℕ). take last (eight_at other 0) ++ end) (eight_same last (omega arith) ends)
-      ∙ sym (by_ends 8 last other few longs)
-
-  -- where the first eight are the same, the last eight tell
-  pub same_by_ends : number_at one 0 ≡ number_at other 0 → nat_eq (number_at one last) (number_at other last) ≡ bytes_eq one other
-  same_by_ends begins = by (nat_eq (number_at one last) (number_at other last)) (bytes_eq one other) refl refl
-    where
-      by : (ends all : Bool) → nat_eq (number_at one last) (number_at other last) ≡ ends → bytes_eq one other ≡ all → ends ≡ all
-      by true all ends is =
-          let equal : number_at one last ≡ number_at other last = grind (arith, nat_tests) in
-          sym ((bytes_decides one other).1 (same begins equal)) ∙ is
-      by false true ends is =
-          let equal : number_at one last ≡ number_at other last = ap (λ (xs : List ℕ). number_at xs last) ((bytes_decides one other).0 is) in
-          grind (arith, nat_tests)
-      by false false ends is = refl

@@ -1,11 +1,10 @@
 //! Names in a text, and the names of one kind in the order of their declarations.
 ghost use Rattle.cmwq_types.specs.Name.{is_name};
 ghost use Rattle.std.specs.List.{list_any};
-ghost use Rattle.std.specs.Int.{from_le_bytes, w64};
-ghost use Rattle.std.specs.Prelude.{◌≡◌, ◌+◌, ◌<◌, ◌≤◌, ◌++◌, ◌∷◌, [], IfSome, IsTrue, OnOk, Some, drop, false, length, position, take};
+ghost use Rattle.std.specs.Prelude.{◌≡◌, ◌<◌, ◌++◌, ◌∷◌, [], IfSome, IsTrue, OnOk, Some, false, position};
 ghost use Rattle.std.specs.Str.{bytes_eq};
 
-use crate::words::is_word;
+use crate::equality::is_same;
 use cmwq_types::{Name, NoMemory};
 use indexmap::IndexSet;
 use std::alloc::Global;
@@ -191,32 +190,6 @@ impl<'t> Names<'t> {
         self.hints[slot_of(bytes)] = (self.names.len() % 256) as u8;
         self.names.insert(Key { bytes })?;
         Ok(())
-    }
-}
-
-/// Whether both have the same bytes. Those of a longer name are compared by the first eight and the last eight, some of which may be the
-/// same.
-#[inline(always)]
-fn is_same(one: &[u8], other: &[u8]) -> bool
-    ensures { result ≡ bytes_eq one.now other.now }
-{
-    let len = one.len();
-    if len != other.len() || len < 8 || len > 16 {
-        return is_word(one, other);
-    }
-    let last = len - 8;
-    eight_from(one, 0) == eight_from(other, 0) && eight_from(one, last) == eight_from(other, last)
-}
-
-/// The eight bytes from this place on, as a number.
-#[inline(always)]
-fn eight_from(bytes: &[u8], from: usize) -> u64
-    requires { from + 8 ≤ length bytes.now }
-    ensures { result ≡ from_le_bytes w64 (take 8 (drop from bytes.now)) }
-{
-    match bytes[from..].first_chunk::<8>() {
-        Some(eight) => u64::from_le_bytes(*eight),
-        None => unreachable!(),
     }
 }
 
