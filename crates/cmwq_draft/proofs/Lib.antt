@@ -1,3 +1,4 @@
 mod BodyLemmas
-mod Refused
+mod LastLemmas
 mod MnemonicLemmas
+mod Refused

@@ -3,8 +3,6 @@ ghost use Rattle.std.specs.Int.{from_le_bytes, w32, w64};
 ghost use Rattle.std.specs.Prelude.{◌≡◌, ◌+◌, ◌≤◌, drop, length, take};
 ghost use Rattle.std.specs.Str.{bytes_eq};
 
-use crate::words::is_word;
-
 /// Whether both words are the same.
 ///
 /// Of words of four to sixteen bytes the first four or eight are compared as one number, and so are the last, some of which may be among
@@ -15,7 +13,7 @@ pub fn is_same(one: &[u8], other: &[u8]) -> bool
 {
     let len = one.len();
     if len != other.len() || len < 4 || len > 16 {
-        return is_word(one, other);
+        return is_same_at_any_length(one, other);
     }
     if len < 8 {
         let last = len - 4;
@@ -23,6 +21,14 @@ pub fn is_same(one: &[u8], other: &[u8]) -> bool
     }
     let last = len - 8;
     eight_from(one, 0) == eight_from(other, 0) && eight_from(one, last) == eight_from(other, last)
+}
+
+/// The same, whatever their lengths are.
+#[inline(never)]
+fn is_same_at_any_length(one: &[u8], other: &[u8]) -> bool
+    ensures { result ≡ bytes_eq one.now other.now }
+{
+    one == other
 }
 
 /// The four bytes from this place on, as a number.
