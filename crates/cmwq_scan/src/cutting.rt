@@ -83,7 +83,11 @@ fn any_text_line(text: &[u8]) -> Option<TextLine<'_>>
 {
     let (line, behind) = next_line(text)?;
     let worded = worded_part(line);
-    Some(TextLine { line, worded, behind })
+    Some(TextLine {
+        line,
+        worded,
+        behind,
+    })
 }
 
 /// The first line of the text, if its line feed is among the first bytes that are looked at together.
@@ -104,7 +108,11 @@ fn short_line(text: &[u8]) -> Option<TextLine<'_>>
     let line = &text[..feed];
     let worded = before_hash(without_carriage_return(line), run_before(b'#', text));
     let behind = &text[feed + 1..];
-    Some(TextLine { line, worded, behind })
+    Some(TextLine {
+        line,
+        worded,
+        behind,
+    })
 }
 
 /// What stands before a `#`, the first of which stands at this place, unless the line ends before.

@@ -17,7 +17,8 @@ pub fn is_same(one: &[u8], other: &[u8]) -> bool
     }
     if len < 8 {
         let last = len - 4;
-        return four_from(one, 0) == four_from(other, 0) && four_from(one, last) == four_from(other, last);
+        return four_from(one, 0) == four_from(other, 0)
+            && four_from(one, last) == four_from(other, last);
     }
     let last = len - 8;
     eight_from(one, 0) == eight_from(other, 0) && eight_from(one, last) == eight_from(other, last)
