@@ -1,17 +1,24 @@
 -- Reading a text line by line.
 use Rattle.std.proofs.Common.{◌≡◌, ℕ, ◌+◌, ◌<◌, List, [], ◌∷◌, length, ap, ◌∙◌, sym, subst, arith}
-use Rattle.std.specs.Prelude.{Result, Ok, Err}
+use Rattle.std.specs.Prelude.{IsTrue, Result, Ok, Err}
+use Rattle.std.specs.Str.{is_utf8}
 use Rattle.cmwq_grammar.specs.Cutting.{lines_of}
 use Rattle.cmwq_grammar.specs.LineFields.{◌>>=◌}
 use Rattle.cmwq_grammar.specs.Meaning.{FaultAt, fault_at, at_line, stage_after}
-use Rattle.cmwq_grammar.specs.LineReasons.{judge}
+use Rattle.cmwq_grammar.specs.LineReasons.{judge, step}
 use Rattle.cmwq_grammar.specs.Stages.{Stage}
 use Rattle.cmwq_grammar.specs.declared.why.Why.{Why}
+use Rattle.cmwq_scan.specs.Words.{worded_part, words_left}
 use Rattle.cmwq_asm.specs.Texts.{AsmErrorIs, Fails, LeadsOn}
 use Rattle.cmwq_asm.specs.LineAnswers.{RefusesLine}
 use Rattle.cmwq_asm.specs.declared.fault.AsmError.{AsmError}
 use Rattle.cmwq_asm.specs.declared.fault.LineError.{LineError}
 use Rattle.cmwq_asm.specs.declared.fault.LineError.TheVariants as error
+
+-- what the words of a line of text come to
+pub judged : (stage next : Stage) (line worded : List ℕ) → IsTrue (is_utf8 line) → worded ≡ worded_part line → step stage (words_left worded) ≡ Ok next → judge stage line ≡ Ok next
+unfolding judge
+judged stage next line worded utf8 is stepped = rw utf8 (ap (λ (part : List ℕ). step stage (words_left part)) (sym is) ∙ stepped)
 
 -- a line that is taken
 pub next_stage : (n : ℕ) (lines : List (List ℕ)) (line : List ℕ) (more : List (List ℕ)) (stage next : Stage) → lines ≡ line ∷ more → judge stage line ≡ Ok next → stage_after n lines stage ≡ stage_after (n + 1) more next

@@ -3,7 +3,7 @@ ghost use Rattle.cmwq_asm.specs.LineAnswers.{Gives};
 ghost use Rattle.cmwq_scan.specs.Words.{words_left};
 ghost use Rattle.cmwq_asm.specs.TextStages.{stage_in, stage_of, with_line};
 ghost use Rattle.cmwq_asm.specs.Texts.{LeadsOn};
-ghost use Rattle.cmwq_grammar.specs.LineReasons.{add_line, judge, open_actor};
+ghost use Rattle.cmwq_grammar.specs.LineReasons.{add_line, open_actor, step};
 ghost use Rattle.cmwq_grammar.specs.Stages.{with_actor};
 ghost use Rattle.cmwq_types.specs.declared.limits.TheConstants.{MAX_TEXT};
 ghost use Rattle.std.specs.Prelude.{◌≡◌, ◌≤◌, IfOk, IfSome, IsTrue, Ok, length};
@@ -14,7 +14,7 @@ use crate::open::OpenActor;
 use crate::stage::Stage;
 use cmwq_draft::{Draft, read_instr_line};
 use cmwq_grammar::Why;
-use cmwq_scan::{is_word, next_line, next_word, take_last_new_name, worded_part};
+use cmwq_scan::{is_word, next_text_line, next_word, take_last_new_name};
 use cmwq_types::{Fault, Line, MAX_ACTORS, MAX_LINES, NoMemory};
 use std::alloc::Global;
 
@@ -73,28 +73,28 @@ pub(crate) fn read_instructions<'t>(
 {
     let mut rest = text;
     let mut count = 0;
-    while let Some((line, behind)) = next_line(rest) {
-        match instruction_of(actor, line) {
+    while let Some(next) = next_text_line(rest) {
+        match instruction_of(actor, next.worded) {
             Some(instruction) => actor.lines.push(instruction)?,
             None => return Ok((rest, count)),
         }
-        rest = behind;
+        rest = next.behind;
         count += 1;
     }
     Ok((rest, count))
 }
 
-/// The line that this is of the actor, where it is an instruction without fault, and there is room for it.
-#[tactic(auto, unfolding(cmwq_grammar::specs::LineReasons::judge, cmwq_grammar::specs::LineReasons::step, cmwq_grammar::specs::LineReasons::add_line))]
-fn instruction_of(actor: &OpenActor, line: &[u8]) -> Option<Line>
-    requires { IsTrue (is_utf8 line.now) }
-    ensures { IfSome result (λ next. judge (stage_in actor.now) line.now ≡ Ok (with_line actor.now next)) }
+/// The line that these words are of the actor, where they are an instruction without fault, and there is room for it.
+#[inline(always)]
+#[tactic(auto, unfolding(cmwq_grammar::specs::LineReasons::step, cmwq_grammar::specs::LineReasons::add_line))]
+fn instruction_of(actor: &OpenActor, words: &[u8]) -> Option<Line>
+    ensures { IfSome result (λ next. step (stage_in actor.now) (words_left words.now) ≡ Ok (with_line actor.now next)) }
 {
     let has_room = actor.lines.len() < MAX_LINES;
     if !has_room {
         return None;
     }
-    let (word, rest) = next_word(worded_part(line))?;
+    let (word, rest) = next_word(words)?;
     if is_word(word, b"actor") {
         return None;
     }

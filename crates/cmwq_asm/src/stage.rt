@@ -13,6 +13,7 @@ use crate::comments::skip_comments;
 use crate::fault::LineError;
 use crate::line_steps::{between_bodies, in_actor, in_body, in_queues, in_works, read_head_number};
 use crate::open::{OpenActor, OpenBody};
+use crate::operations::read_operations;
 use cmwq_draft::{Bodies, Draft};
 use cmwq_grammar::Why;
 use cmwq_types::{Fault, MAX_CPUS, MAX_FLUSHES, MAX_STEPS, MAX_WORKERS, NoMemory, Scenario};
@@ -91,7 +92,7 @@ impl<'t> Stage<'t> {
     }
 
     /// Goes on over the lines at the front of the text that are read in one go, where the text is known to be text: of an actor its
-    /// instructions, else comments. Tells the stage after them, what is left, and how many lines they are.
+    /// instructions, of a body its operations, else comments. Tells the stage after them, what is left, and how many lines they are.
     pub(crate) fn read_on(
         self,
         text: &'t [u8],
@@ -109,6 +110,10 @@ impl<'t> Stage<'t> {
             Stage::Actor(mut actor) => {
                 let (rest, count) = read_instructions(&mut actor, text)?;
                 Ok((Stage::Actor(actor), rest, count))
+            }
+            Stage::Body(mut body) => {
+                let (rest, count) = read_operations(&mut body, text)?;
+                Ok((Stage::Body(body), rest, count))
             }
             other => {
                 let (rest, count) = skip_comments(text);

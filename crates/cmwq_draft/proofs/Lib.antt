@@ -1,2 +1,4 @@
 mod BodyLemmas
+mod LastLemmas
+mod MnemonicLemmas
 mod Refused

@@ -1,14 +1,15 @@
 //! An actor's line: an instruction, and how often it stands.
 ghost use Rattle.cmwq_scan.specs.Answers.{Tells};
 ghost use Rattle.cmwq_scan.specs.Words.{words_left};
-ghost use Rattle.cmwq_grammar.specs.LineFields.{declared_at};
-ghost use Rattle.cmwq_grammar.specs.Instructions.{instr_at, line_at, operands_at, operands_in, operands_of, queue_names, times_at, work_names};
+ghost use Rattle.cmwq_grammar.specs.LineFields.{declared_at, number_within};
+ghost use Rattle.cmwq_grammar.specs.Instructions.{instr_at, line_at, line_times, operands_at, operands_in, operands_of, queue_names, times_at, work_names};
 ghost use Rattle.cmwq_types.specs.Fields.{greatest_id};
 ghost use Rattle.cmwq_types.specs.declared.fields.Fields.{Fields};
 ghost use Rattle.cmwq_types.specs.declared.instr.Instr.{Instr};
-ghost use Rattle.std.specs.Prelude.{◌≤◌, ◌∷◌, IfOk};
+ghost use Rattle.std.specs.Prelude.{◌≤◌, ◌∷◌, IfOk, codes};
 
 use crate::draft::Draft;
+use crate::mnemonics::read_mnemonic;
 use cmwq_grammar::Why;
 use cmwq_scan::{
     Field, is_word, next_word, refusal_of, take_declared, take_last_number_within,
@@ -23,31 +24,41 @@ pub fn read_instr_line(draft: &Draft, word: &[u8], rest: &[u8]) -> Result<Line, 
     ensures { Tells (λ line. line) result (line_at draft.now word.now (words_left rest.now)) }
 {
     let (instr, rest) = read_instr(draft, word, rest)?;
-    read_times(instr, rest)
+    let times = read_times(rest)?;
+    Ok(Line { instr, times })
 }
 
-/// The line of this instruction, which stands once, or as often as `* N` says.
+/// How often an instruction stands: once, or as often as `* N` says.
 #[inline(always)]
-fn read_times(instr: Instr, rest: &[u8]) -> Result<Line, Why>
-    ensures { Tells (λ line. line) result (times_at instr (words_left rest.now)) }
+fn read_times(rest: &[u8]) -> Result<u32, Why>
+    ensures { (instr : Instr) → Tells (λ times. line_times instr times) result (times_at instr (words_left rest.now)) }
+{
+    match rest {
+        [] => Ok(1),
+        [b'*', b' ', rest @ ..] => read_repeated(rest),
+        _ => read_spaced_times(rest),
+    }
+}
+
+/// The same, whatever stands before the words.
+#[cold]
+#[inline(never)]
+fn read_spaced_times(rest: &[u8]) -> Result<u32, Why>
+    ensures { (instr : Instr) → Tells (λ times. line_times instr times) result (times_at instr (words_left rest.now)) }
 {
     match next_word(rest) {
-        None => Ok(Line { instr, times: 1 }),
-        Some((word, rest)) => read_repeated(instr, word, rest),
+        None => Ok(1),
+        Some((word, rest)) if is_word(word, b"*") => read_repeated(rest),
+        Some(_) => Err(Why::ExtraWord),
     }
 }
 
-/// The line of this instruction behind which the word stands, which must be `*`.
+/// The number behind a `*`.
 #[inline(always)]
-#[tactic(auto, using(cmwq_scan::proofs::LineSteps::line_steps))]
-fn read_repeated(instr: Instr, word: &[u8], rest: &[u8]) -> Result<Line, Why>
-    ensures { Tells (λ line. line) result (times_at instr (word.now ∷ words_left rest.now)) }
+fn read_repeated(rest: &[u8]) -> Result<u32, Why>
+    ensures { (instr : Instr) → Tells (λ times. line_times instr times) result (times_at instr (codes "*" ∷ words_left rest.now)) }
 {
-    if !is_word(word, b"*") {
-        return Err(Why::ExtraWord);
-    }
-    let times = take_last_number_within(1, MAX_TIMES, rest)?;
-    Ok(Line { instr, times })
+    take_last_number_within(1, MAX_TIMES, rest)
 }
 
 /// The instruction that begins with this word.
@@ -56,7 +67,7 @@ fn read_repeated(instr: Instr, word: &[u8], rest: &[u8]) -> Result<Line, Why>
 fn read_instr<'t>(draft: &Draft, word: &[u8], rest: &'t [u8]) -> Field<'t, Instr>
     ensures { Tells (λ field. (field.0, words_left field.1.now)) result (instr_at draft.now word.now (words_left rest.now)) }
 {
-    match Mnemonic::read(word) {
+    match read_mnemonic(word) {
         Some(mnemonic) => read_operands(draft, mnemonic, rest),
         None => Err(refusal_of(Why::Misplaced, word)),
     }
@@ -72,7 +83,9 @@ fn read_operands<'t>(draft: &Draft, mnemonic: Mnemonic, rest: &'t [u8]) -> Field
 }
 
 /// The operands of this shape, and the words after them.
-#[inline(always)]
+///
+/// A call here keeps what calls it small enough to be put in line.
+#[inline(never)]
 fn read_fields<'t>(draft: &Draft, shape: Shape, rest: &'t [u8]) -> Field<'t, Fields>
     ensures read { (make : Fields → Instr) → Tells (λ field. (make field.0, words_left field.1.now)) result (operands_at draft.now (operands_in shape make) (words_left rest.now)) }
     ensures id { IfOk result (λ field. field.0.id ≤ greatest_id shape) }
@@ -100,18 +113,27 @@ fn read_fields<'t>(draft: &Draft, shape: Shape, rest: &'t [u8]) -> Field<'t, Fie
         }
         Shape::QueueNumber => {
             let (queue, rest) = read_queue(draft, rest)?;
-            let (number, rest) = take_number_within(0, u32::MAX, rest)?;
+            let (number, rest) = read_number(u32::MAX, rest)?;
             Ok((Fields::new(0, queue, number), rest))
         }
         Shape::Pool => {
-            let (pool, rest) = take_number_within(0, 255, rest)?;
+            let (pool, rest) = read_number(255, rest)?;
             Ok((Fields::new(pool as u8, 0, 0), rest))
         }
         Shape::Flush => {
-            let (flush, rest) = take_number_within(0, 65535, rest)?;
+            let (flush, rest) = read_number(65535, rest)?;
             Ok((Fields::new(0, flush as u16, 0), rest))
         }
     }
+}
+
+/// A number from 0 to `high`, both included, behind a word that seldom stands.
+#[inline(never)]
+fn read_number<'t>(high: u32, rest: &'t [u8]) -> Field<'t, u32>
+    ensures number { Tells (λ field. (field.0, words_left field.1.now)) result (number_within 0 high (words_left rest.now)) }
+    ensures within { IfOk result (λ field. field.0 ≤ high) }
+{
+    take_number_within(0, high, rest)
 }
 
 /// The number of a declared queue.

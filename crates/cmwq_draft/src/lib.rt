@@ -5,6 +5,7 @@ mod actor_lines;
 mod bodies;
 mod declarations;
 mod draft;
+mod mnemonics;
 mod operations;
 
 pub use actor_lines::read_instr_line;

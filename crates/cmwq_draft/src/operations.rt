@@ -26,6 +26,7 @@ pub fn read_next(bodies: &Bodies, rest: &[u8]) -> Result<usize, Why>
 }
 
 /// The operation of a body's line that begins with this word, or the first reason against the line.
+#[inline(always)]
 #[tactic(auto, using(cmwq_scan::proofs::LineSteps::line_steps), unfolding(cmwq_grammar::specs::LineReasons::op_at_line))]
 pub fn read_op(draft: &Draft, word: &[u8], rest: &[u8]) -> Result<Op, Why>
     ensures { Tells (λ op. op) result (op_at_line draft.now word.now (words_left rest.now)) }

@@ -9,7 +9,7 @@ use Rattle.std.proofs.lemmas.List.Sums.{fails_before_first, position_or_len_is}
 use Rattle.std.proofs.lemmas.Str.{IsCharBoundary-after_ascii, IsCharBoundary-before_ascii, IsUtf8-drop, IsUtf8-from_is_utf8, IsUtf8-take, is_utf8-from_IsUtf8}
 use Rattle.std.specs.Str.{IsUtf8, is_utf8}
 use Rattle.cmwq_grammar.specs.Cutting.{without_empty_last, lines_of}
-use Rattle.memchr.specs.Find.{IsFirstByte}
+use Rattle.memchr.specs.Find.{IsFirstByte, Nowhere, Passes, is_byte}
 
 module _ (p : ℕ → Bool) where
   -- which place, by whether it is below the length
@@ -78,7 +78,7 @@ pub rest_is : (lines : List ℕ → List (List ℕ)) (first : List ℕ) (n : ℕ
 rest_is lines first n xs = ap (λ (bytes : List ℕ). first ∷ lines bytes) (rest n xs)
 
 -- the first byte that passes a test, as a place
-fails : (b : Bool) → ¬ (b ≡ true) → b ≡ false
+pub fails : (b : Bool) → ¬ (b ≡ true) → b ≡ false
 fails true never = absurd (never refl)
 fails false never = refl
 
@@ -90,6 +90,10 @@ first_byte-position test bytes (Some place) found =
     let at : position_or_len test bytes ≡ place = position_or_len_is test bytes place 0 (omega (arith, found.0.high)) (λ k below. fails _ (found.0.before k (omega arith) below)) (λ inside. found.1) in
     let inside : place < length bytes = found.0.high in
     grind (arith, common_steps)
+
+-- the first place of a byte
+pub first_at : (byte : ℕ) (bytes : List ℕ) (place : ℕ) → place < length bytes → Nowhere (Passes (is_byte byte) bytes) 0 place → Passes (is_byte byte) bytes place → position (λ at. at == byte) bytes ≡ Some place
+first_at byte bytes place inside passed found = sym (first_byte-position (is_byte byte) bytes (Some place) (record { low = omega arith; high = inside; before = passed }, found))
 
 -- what stands on either side of a line feed is UTF-8 where the whole is
 pub utf8_parts : (text : List ℕ) (i : ℕ) → position (λ byte. byte == 10) text ≡ Some i → is_utf8 text ≡ true → (is_utf8 (take i text) ≡ true) × (is_utf8 (take (length text - (i + 1)) (drop (i + 1) text)) ≡ true)

@@ -1,12 +1,13 @@
 -- From the mask of one load to the first byte that passes a test.
-use Rattle.std.proofs.Common.{◌≡◌, ℕ, ◌+◌, ◌-◌, ◌%◌, ◌^◌, ◌<◌, ◌≤◌, Bool, true, false, not, List, [], ◌∷◌, map, length, get_or, Fits, w8, refl, sym, ap, ap₂, ◌∙◌, subst, arith, inl, inr}
+use Rattle.std.proofs.Common.{◌≡◌, ℕ, zero, suc, cond, eqb, ◌&&◌, ◌+◌, ◌-◌, ◌%◌, ◌^◌, ◌<◌, ◌≤◌, Bool, true, false, not, List, [], ◌∷◌, map, length, get_or, Fits, w8, refl, sym, ap, ap₂, ◌∙◌, subst, arith, inl, inr}
 use Rattle.std.proofs.lemmas.Bool.{agree_below, agree_below_at, not-true, not-false, cases_eq, eq-eqb, ne_eqb, cond-true, cond-false}
 use Rattle.std.proofs.lemmas.Simd.{map-map, mask_l-mod, length-chunk, get_or-chunk, leading_from_mask_l, trailing_mask_l}
 use Rattle.std.proofs.lemmas.List.{length-map}
 use Rattle.std.proofs.lemmas.List.Sums.{prefix_len-le-length, prefix_len_passes, prefix_len_stops}
+use Rattle.std.specs.Bool.{beq}
 use Rattle.std.specs.List.{prefix_len}
 use lib.Lanes.{chunk, zip2, mask_l, top}
-use Rattle.memchr.specs.Find.{Nowhere, Passes}
+use Rattle.memchr.specs.Find.{Nowhere, Passes, is_byte}
 use Rattle.cmwq_scan.specs.Lanes.{first_set}
 
 zip2-map : (h : ℕ → ℕ → ℕ) (f g : ℕ → ℕ) (xs : List ℕ) → zip2 h (map f xs) (map g xs) ≡ map (λ x. h (f x) (g x)) xs
@@ -23,6 +24,20 @@ run_is p v n long few =
       | inl none ↦ cond-true _ _ _ (eq-eqb _ _ none) ∙ sym (leading_from_mask_l p v none ∙ long)
       | inr some ↦ cond-false _ _ _ (ne_eqb _ _ some) ∙ trailing_mask_l p 64 v (omega arith) (omega arith)
     ]
+
+-- a lane that is set where its byte is this one
+
+top_set : (b : Bool) → top 7 (cond b 255 0) ≡ b
+top_set true = refl
+top_set false = refl
+
+beq_same : (b : Bool) → beq b b ≡ true
+beq_same true = refl
+beq_same false = refl
+
+pub agree_byte : (byte n : ℕ) → agree_below (λ x. top 7 (cond (eqb x byte) 255 0)) (is_byte byte) n ≡ true
+agree_byte byte zero = refl
+agree_byte byte (suc n) = ap₂ (λ (a b : Bool). a && b) (ap (λ (b : Bool). beq b (is_byte byte n)) (top_set (eqb n byte)) ∙ beq_same (is_byte byte n)) (agree_byte byte n)
 
 -- r is how many of the n bytes of d from i on stand before the first at which a lane is set
 module _ (q : ℕ → Bool) (d : List ℕ) (i n r : ℕ) (z : List ℕ) (room : i + n ≤ length d) (few : n ≤ 64)

@@ -1,4 +1,5 @@
 mod CuttingLemmas
+mod EqualityLemmas
 mod FirstWords
 mod LaneLemmas
 pub mod LastFields

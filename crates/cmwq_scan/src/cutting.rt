@@ -1,13 +1,13 @@
 //! Cutting: a text into its lines, and a line into its pieces between blanks.
-ghost use Rattle.cmwq_grammar.specs.Cutting.{is_blank, lines_of};
+ghost use Rattle.cmwq_grammar.specs.Cutting.{is_blank, is_hash, lines_of};
 ghost use Rattle.cmwq_scan.specs.Words.{worded_part};
 ghost use Rattle.memchr.specs.Find.{Nowhere, Passes};
-ghost use Rattle.std.specs.List.{slice_split};
-ghost use Rattle.std.specs.Prelude.{◌≡◌, ◌+◌, ◌<◌, ◌≤◌, ◌∷◌, ◌++◌, ◌==◌, ℕ, [], IfSome, IsTrue, MatchOption, length, position};
+ghost use Rattle.std.specs.List.{before_first, slice_split};
+ghost use Rattle.std.specs.Prelude.{◌≡◌, ◌+◌, ◌<◌, ◌≤◌, ◌∷◌, ◌++◌, ◌==◌, ℕ, [], IfSome, IsTrue, MatchOption, Some, length, position};
 ghost use Rattle.std.specs.Str.{is_utf8};
 ghost use Rattle.std.specs.Str.Lines.{strip_carriage_return};
 
-use crate::lanes::{LANES, run_before_blank};
+use crate::lanes::{LANES, WIDE, run_before, run_before_blank};
 use memchr::memchr;
 
 /// The first line of the text and what comes after its line feed, or `None` where there is no line. An
@@ -40,6 +40,91 @@ pub fn worded_part(line: &[u8]) -> &[u8]
     match place_of(line, b'#') {
         Some(place) => &line[..place],
         None => line,
+    }
+}
+
+/// A line of a text.
+#[derive(Drop)]
+pub struct TextLine<'t> {
+    pub line: &'t [u8],
+    /// The part that has its words.
+    pub worded: &'t [u8],
+    /// What comes after its line feed.
+    pub behind: &'t [u8],
+}
+
+/// The first line of the text, as `next_line` and `worded_part` cut it. Most lines are short, and the same bytes are then looked
+/// through for the line feed and the `#`.
+#[inline(always)]
+pub fn next_text_line(text: &[u8]) -> Option<TextLine<'_>>
+    ensures lines { MatchOption result
+        (lines_of text.now ≡ [])
+        (λ next. lines_of text.now ≡ next.line.now ∷ lines_of next.behind.now) }
+    ensures worded { IfSome result (λ next. next.worded.now ≡ worded_part next.line.now) }
+    ensures ends { IfSome result (λ next. length next.behind.now < length text.now) }
+    // The lines of what is UTF-8 are so, each by itself.
+    ensures utf8 { IfSome result (λ next. IsTrue (is_utf8 text.now) → IsTrue (is_utf8 next.line.now) × IsTrue (is_utf8 next.behind.now)) }
+{
+    match short_line(text) {
+        Some(next) => Some(next),
+        None => any_text_line(text),
+    }
+}
+
+/// The first line of the text, however long it is.
+#[inline(never)]
+fn any_text_line(text: &[u8]) -> Option<TextLine<'_>>
+    ensures lines { MatchOption result
+        (lines_of text.now ≡ [])
+        (λ next. lines_of text.now ≡ next.line.now ∷ lines_of next.behind.now) }
+    ensures worded { IfSome result (λ next. next.worded.now ≡ worded_part next.line.now) }
+    ensures ends { IfSome result (λ next. length next.behind.now < length text.now) }
+    ensures utf8 { IfSome result (λ next. IsTrue (is_utf8 text.now) → IsTrue (is_utf8 next.line.now) × IsTrue (is_utf8 next.behind.now)) }
+{
+    let (line, behind) = next_line(text)?;
+    let worded = worded_part(line);
+    Some(TextLine {
+        line,
+        worded,
+        behind,
+    })
+}
+
+/// The first line of the text, if its line feed is among the first bytes that are looked at together.
+#[inline(always)]
+fn short_line(text: &[u8]) -> Option<TextLine<'_>>
+    ensures lines { IfSome result (λ next. lines_of text.now ≡ next.line.now ∷ lines_of next.behind.now) }
+    ensures worded { IfSome result (λ next. next.worded.now ≡ worded_part next.line.now) }
+    ensures ends { IfSome result (λ next. length next.behind.now < length text.now) }
+    ensures utf8 { IfSome result (λ next. IsTrue (is_utf8 text.now) → IsTrue (is_utf8 next.line.now) × IsTrue (is_utf8 next.behind.now)) }
+{
+    if text.len() < WIDE {
+        return None;
+    }
+    let feed = run_before(b'\n', text);
+    if feed == WIDE {
+        return None;
+    }
+    let line = &text[..feed];
+    let worded = before_hash(without_carriage_return(line), run_before(b'#', text));
+    let behind = &text[feed + 1..];
+    Some(TextLine {
+        line,
+        worded,
+        behind,
+    })
+}
+
+/// What stands before a `#`, the first of which stands at this place, unless the line ends before.
+fn before_hash(line: &[u8], place: usize) -> &[u8]
+    requires passed { Nowhere (λ k. (k < length line.now) × Passes is_hash line.now k) 0 place }
+    requires there { place < length line.now → Passes is_hash line.now place }
+    ensures { result.now ≡ before_first is_hash line.now }
+{
+    if place < line.len() {
+        &line[..place]
+    } else {
+        line
     }
 }
 

@@ -2,6 +2,7 @@
 #![tactic(auto)]
 
 mod cutting;
+mod equality;
 mod lanes;
 mod line_fields;
 mod line_tokens;
@@ -11,7 +12,8 @@ mod numbers;
 mod utf8;
 mod words;
 
-pub use cutting::{next_line, worded_part};
+pub use cutting::{TextLine, next_line, next_text_line, worded_part};
+pub use equality::is_same;
 pub use line_fields::{
     Field, ended, take_declared, take_keyword, take_last_declared, take_last_new_name,
     take_last_number_below, take_last_number_within, take_new_name, take_number,

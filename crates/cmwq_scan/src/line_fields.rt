@@ -36,6 +36,9 @@ pub fn ended<T: Drop>(value: T, rest: &[u8]) -> Result<T, Why>
     ensures told { Tells (λ found. found) result (ended value (words_left rest.now)) }
     ensures same { IfOk result (λ found. found ≡ value) }
 {
+    if rest.is_empty() {
+        return Ok(value);
+    }
     match next_word(rest) {
         Some(_) => Err(Why::ExtraWord),
         None => Ok(value),

@@ -4,6 +4,7 @@ ghost use Rattle.std.specs.List.{list_any};
 ghost use Rattle.std.specs.Prelude.{◌≡◌, ◌<◌, ◌++◌, ◌∷◌, [], IfSome, IsTrue, OnOk, Some, false, position};
 ghost use Rattle.std.specs.Str.{bytes_eq};
 
+use crate::equality::is_same;
 use cmwq_types::{Name, NoMemory};
 use indexmap::IndexSet;
 use std::alloc::Global;
@@ -173,7 +174,7 @@ impl<'t> Names<'t> {
             return None;
         }
         let key = self.names.get_index(number)?;
-        if key.bytes == bytes {
+        if is_same(key.bytes, bytes) {
             Some(number)
         } else {
             None
@@ -193,16 +194,32 @@ impl<'t> Names<'t> {
 }
 
 /// The slot of a name's hint. Names that are numbered differ in their last bytes.
+#[inline(always)]
 fn slot_of(name: &[u8]) -> usize
     ensures { result < HINTS }
 {
-    let (first, third, second, last) = match name {
-        [] => (0, 0, 0, 0),
-        [last] => (0, 0, 0, *last),
-        [second, last] => (0, 0, *second, *last),
-        [third, second, last] => (0, *third, *second, *last),
-        [first, .., third, second, last] => (*first, *third, *second, *last),
-    };
+    match name {
+        [first, .., third, second, last] => slot_of_bytes(*first, *third, *second, *last),
+        _ => slot_of_short(name),
+    }
+}
+
+/// The slot of a name of at most three bytes.
+fn slot_of_short(name: &[u8]) -> usize
+    ensures { result < HINTS }
+{
+    match name {
+        [third, second, last] => slot_of_bytes(0, *third, *second, *last),
+        [second, last] => slot_of_bytes(0, 0, *second, *last),
+        [last] => slot_of_bytes(0, 0, 0, *last),
+        _ => 0,
+    }
+}
+
+/// The slot of a name's first byte and its last three.
+fn slot_of_bytes(first: u8, third: u8, second: u8, last: u8) -> usize
+    ensures { result < HINTS }
+{
     let end = 256 * usize::from(third) + 16 * usize::from(second) + usize::from(last);
     (5 * usize::from(first) + end) % HINTS
 }

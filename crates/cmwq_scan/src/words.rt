@@ -4,9 +4,41 @@ ghost use Rattle.std.specs.Prelude.{◌≡◌, ◌∷◌, ◌<◌, [], IfSome, M
 ghost use Rattle.std.specs.Str.{bytes_eq};
 
 use crate::cutting::cut_at_blank;
+use crate::lanes::{LANES, run_before_blank};
 
 /// The next word, and what is left behind it; `None` where no word is left.
+#[inline(always)]
 pub fn next_word<'t>(rest: &'t [u8]) -> Option<(&'t [u8], &'t [u8])>
+    ensures words { MatchOption result
+        (words_left rest.now ≡ [])
+        (λ found. words_left rest.now ≡ found.0.now ∷ words_left found.1.now) }
+    ensures shorter { IfSome result (λ found. length found.1.now < length rest.now) }
+{
+    match front_word(rest) {
+        Some(found) => Some(found),
+        None => spaced_word(rest),
+    }
+}
+
+/// The word that stands at the very front, if it and a blank are among the bytes that are looked at together.
+#[inline(always)]
+fn front_word<'t>(rest: &'t [u8]) -> Option<(&'t [u8], &'t [u8])>
+    ensures words { IfSome result (λ found. words_left rest.now ≡ found.0.now ∷ words_left found.1.now) }
+    ensures shorter { IfSome result (λ found. length found.1.now < length rest.now) }
+{
+    if rest.len() < LANES {
+        return None;
+    }
+    let run = run_before_blank(rest, 0);
+    if run == 0 || run == LANES {
+        return None;
+    }
+    Some((&rest[..run], &rest[run + 1..]))
+}
+
+/// The next word, whatever stands before and behind it, and what is left behind it.
+#[inline(never)]
+fn spaced_word<'t>(rest: &'t [u8]) -> Option<(&'t [u8], &'t [u8])>
     ensures words { MatchOption result
         (words_left rest.now ≡ [])
         (λ found. words_left rest.now ≡ found.0.now ∷ words_left found.1.now) }
@@ -27,6 +59,7 @@ pub fn next_word<'t>(rest: &'t [u8]) -> Option<(&'t [u8], &'t [u8])>
 }
 
 /// Whether the word is this one.
+#[inline(always)]
 pub fn is_word(word: &[u8], wanted: &[u8]) -> bool
     ensures { result ≡ bytes_eq word.now wanted.now }
 {

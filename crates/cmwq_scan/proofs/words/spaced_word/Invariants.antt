@@ -1,7 +1,7 @@
 use Rattle.std.proofs.Common.{◌≡◌, length}
 use Rattle.cmwq_scan.specs.Words.{words_left}
 use Rattle.cmwq_scan.proofs.TokenLemmas.{IsWithin, words_in_rest, steps_left}
-use Rattle.cmwq_scan.proofs.words.next_word.Given as goal
+use Rattle.cmwq_scan.proofs.words.spaced_word.Given as goal
 
 -- what is left has the words of the whole
 abbrev pub invariant-loop-left : goal.invariant-loop-left
