@@ -1,5 +1,5 @@
 mod AdvanceLemmas
 pub mod ExecLemmas
-mod QuietLemmas
+mod SettledLemmas
 mod RepeatedLemmas
 pub mod StartLemmas

@@ -28,8 +28,8 @@ pub(crate) fn go<P: Parts>(going: &mut Going<P>, most: u32) -> (u32, Reply)
     }
 }
 
-/// Lets the ticks pass that are known to be quiet, each as a `next` and at most so many; where none is, carries out one `next`. Answers
-/// how many that was, and the last reply.
+/// Lets the ticks pass before which the machine is known to be settled, each as a `next` and at most so many; where none is, carries out
+/// one `next`. Answers how many that was, and the last reply.
 fn advance<P: Parts>(going: &mut Going<P>, most: u32) -> (u32, Reply)
     requires some { 0 < most }
     requires kept { IsKept going.old }

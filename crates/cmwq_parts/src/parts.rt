@@ -1,7 +1,7 @@
 //! What the instruction table asks of a machine's own structure.
 ghost use Rattle.cmwq_parts.specs.Cpus.{HasCpu};
 ghost use Rattle.cmwq_parts.specs.PoolSets.{has_pool};
-ghost use Rattle.cmwq_parts.specs.Quiet.{AreQuiet, ticks};
+ghost use Rattle.cmwq_parts.specs.SettledTicks.{AreSettled, ticks};
 ghost use Rattle.cmwq_table.specs.Counts.{first_due, first_inactive, first_listed, first_rescued, first_slept, free_worker, has_room, is_busy, is_deferred, is_done, may_start, ready_head};
 ghost use Rattle.cmwq_table.specs.Moves.{begin_again, begin_on, deferred, enlist, first_moving, newborn, next_move, retire, started_on, taking, tick, with_depth, with_flush, with_pending, with_pressed, with_running, woken};
 ghost use Rattle.cmwq_table.specs.Ready.{holding};
@@ -248,7 +248,7 @@ pub trait Parts: Reads + Drop {
     fn pass(&mut self, most: u32) -> u32
         requires time { (Self.state self.old).time < 2 ^ 63 }
         ensures few { result ≤ most }
-        ensures quiet { AreQuiet (Self.loaded self.old) (Self.state self.old) result }
+        ensures settled { AreSettled (Self.loaded self.old) (Self.state self.old) result }
         ensures passed { holding (Self.loaded self.new) (Self.state self.new) ≡ holding (Self.loaded self.old) (ticks (Self.loaded self.old) (Self.state self.old) result) }
     {
         let _ = most;

@@ -3,8 +3,8 @@ use Rattle.std.specs.Prelude.{ℕ, zero, suc, List, [], ◌++◌, ◌<◌, ◌�
 use Rattle.cmwq_types.specs.Contents.{ScenarioContents}
 use Rattle.cmwq_types.specs.declared.instr.Instr.{Instr}
 use Rattle.cmwq_table.specs.Events.{events_from}
+use Rattle.cmwq_table.specs.Repeats.{after_times}
 use Rattle.cmwq_table.specs.State.{State}
-use Rattle.cmwq_table.specs.Table.{after_all}
 use Rattle.cmwq_play.specs.Session.{Issued}
 use Rattle.cmwq_play.specs.declared.session.Session.{Session}
 
@@ -20,5 +20,5 @@ pub record HasTold {M W : Type 0} (loaded : M → ScenarioContents) (state : M �
   pub few : count ≤ most
   pub issued :
       Issued loaded state contents failed old new
-      (after_all old.scenario.now (state old.machine) (replicate count instr))
+      (after_times old.scenario.now (state old.machine) instr count)
       (events_from old.scenario.now (state old.machine) (replicate count instr))

@@ -14,7 +14,7 @@ use cmwq_streams::{BlockWriter, PlayError, Sink};
 use cmwq_table::Machine;
 use cmwq_types::{Line, Scenario};
 
-/// A scenario's run on a machine. A teller issues its instructions one by one, and writes what it tells of them to the writer.
+/// A scenario's run on a machine. A teller issues its instructions, line by line, and writes what it tells of them to the writer.
 #[derive(Drop)]
 pub struct Session<'s, 'w, M: Drop, W> {
     /// What the machine has loaded.

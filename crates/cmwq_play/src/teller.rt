@@ -12,7 +12,7 @@ use cmwq_streams::{PlayError, Sink};
 use cmwq_table::Machine;
 use cmwq_types::Instr;
 
-/// Issues a run's instructions one by one, and tells something of each.
+/// Issues a run's instructions, one by one or one several times, and tells something of each.
 pub trait Teller: Drop {
     /// What the teller keeps is right for a machine in this state.
     ghost fits: { Self → State → Type 0 };

@@ -1,3 +1,3 @@
-pub mod StillLemmas
+pub mod RestLemmas
 pub mod TickLemmas
 pub mod TimerLemmas

@@ -1,4 +1,4 @@
 pub mod BurningHeads
 pub mod Heads
 pub mod RecordLayout
-pub mod Standing
+pub mod Rest

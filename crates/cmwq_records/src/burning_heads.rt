@@ -7,7 +7,7 @@ ghost use Rattle.cmwq_types.specs.Scenario.{pool_count};
 ghost use Rattle.std.specs.Prelude.{◌≡◌, slice_index_or};
 
 use crate::records::Records;
-use crate::standing::are_none;
+use crate::rest::are_none;
 use cmwq_reads::{Sought, first};
 use cmwq_table::Running;
 use cmwq_types::{MAX_CPUS, Mode};

@@ -6,6 +6,6 @@ mod beginning;
 mod burning_heads;
 mod looking;
 mod records;
-mod standing;
+mod rest;
 
 pub use records::Records;

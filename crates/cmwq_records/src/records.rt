@@ -184,7 +184,7 @@ impl Parts for Records {
     }
 
     fn may_move(&self) -> PoolSet {
-        if self.is_still() {
+        if self.is_at_rest() {
             PoolSet::none()
         } else {
             PoolSet::all()
@@ -271,7 +271,7 @@ impl Parts for Records {
     }
 
     fn pass(&mut self, most: u32) -> u32 {
-        if !self.is_still() {
+        if !self.is_at_rest() {
             return 0;
         }
         self.time += u64::from(most);

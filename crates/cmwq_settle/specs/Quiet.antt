@@ -1,12 +1,13 @@
 -- When a machine is quiet, and how many `next` it takes until it is.
-use Rattle.std.specs.Prelude.{◌≡◌, ℕ, ◌-◌, ◌<◌, ◌≤◌, min, Bool, true, false, ◌||◌, List, length, replicate, is_some, ◌==◌}
+use Rattle.std.specs.Prelude.{◌≡◌, ℕ, ◌-◌, ◌<◌, ◌≤◌, min, Bool, true, false, ◌||◌, List, length, is_some, ◌==◌}
 use Rattle.cmwq_types.specs.Contents.{ScenarioContents}
 use Rattle.cmwq_types.specs.First.{count_below}
 use Rattle.cmwq_types.specs.declared.instr.Instr.{Instr}
 use Rattle.cmwq_types.specs.declared.instr.Instr.TheVariants as instr
 use Rattle.cmwq_types.specs.declared.limits.TheConstants.{MAX_HISTORY}
 use Rattle.cmwq_table.specs.State.{State, pending_at, running_at}
-use Rattle.cmwq_table.specs.Table.{after_all, run}
+use Rattle.cmwq_table.specs.Repeats.{after_times}
+use Rattle.cmwq_table.specs.Table.{run}
 
 -- the work is pending or runs (`work_busy`)
 abbrev pub pends_or_runs : State → ℕ → Bool
@@ -18,7 +19,7 @@ is_quiet S s = count_below (pends_or_runs s) (length S.works) == 0
 
 -- the state after so many `next`
 abbrev pub after_nexts : ScenarioContents → State → ℕ → State
-after_nexts S s n = after_all S s (replicate n instr.Next)
+after_nexts S s n = after_times S s instr.Next n
 
 abbrev pub is_quiet_after : ScenarioContents → State → ℕ → Bool
 is_quiet_after S s n = is_quiet S (after_nexts S s n)

@@ -69,8 +69,8 @@ pub trait Machine: Reads + Drop {
         (most, self.exec(Instr::Next))
     }
 
-    /// Carries out the instruction once more, which was the last and was answered so, and again at most so many times, as long as it is
-    /// answered the same and changes nothing but what is spent. Answers how often that was. A machine that doesn't know it may answer 0.
+    /// Carries out again, at most so many times, the instruction that was the last and was answered so, as long as it comes out the same: it
+    /// is answered the same, and changes nothing but what is spent. Answers how often that was; a machine that doesn't know may answer 0.
     fn again(&mut self, instr: Instr, reply: Reply, most: u32) -> u32
         requires answered { HasAnswered (Self.loaded self.old) (Self.state self.old) instr reply }
         ensures repeated { HasRepeated (Self.loaded self.old) (Self.state self.old) instr reply most result (Self.state self.new) }

@@ -3,9 +3,9 @@ use Rattle.cmwq_types.specs.Contents.{ScenarioContents}
 use Rattle.cmwq_types.specs.declared.reply.Reply.TheVariants.{Done}
 use Rattle.cmwq_table.specs.Ready.{Loaded, holding}
 use Rattle.cmwq_table.proofs.RepeatLemmas.{with_spent}
-use Rattle.cmwq_parts.specs.Quiet.{ticks}
+use Rattle.cmwq_parts.specs.SettledTicks.{ticks}
 use Rattle.cmwq_exec.specs.Advances.{HasAdvanced}
-use Rattle.cmwq_exec.proofs.QuietLemmas.{passes, ticks-spent}
+use Rattle.cmwq_exec.proofs.SettledLemmas.{passes, ticks-spent}
 use Rattle.cmwq_exec.proofs.repeating.advance.Goals as goal
 
 pub spend-requires : goal.spend-requires
@@ -40,4 +40,4 @@ returns g c =
     in
     subst (λ (m : Loaded). HasAdvanced m c.args.most count c.spend.new.going Done) c.going.view_is
     (subst (λ (m : Loaded). HasAdvanced (holding S s) c.args.most count m Done) (sym after)
-    (passes (holding S s) c.args.most count some most c.pass-passed.ensures.quiet left))
+    (passes (holding S s) c.args.most count some most c.pass-passed.ensures.settled left))

@@ -9,7 +9,7 @@ use Rattle.cmwq_table.specs.Moves.{burned}
 use Rattle.cmwq_table.specs.Ready.{Loaded, holding}
 use Rattle.cmwq_table.specs.declared.state.Running.{Running}
 use Rattle.cmwq_records.specs.BurningHeads.{burns_beside}
-use Rattle.cmwq_records.proofs.StillLemmas.{burned-none}
+use Rattle.cmwq_records.proofs.RestLemmas.{burned-none}
 use Rattle.cmwq_records.proofs.TickLemmas.{burned-by_heads, length-burned}
 use Rattle.cmwq_records.proofs.records.Records.burn_all.Goals as goal
 

@@ -1,18 +1,18 @@
 use Rattle.std.proofs.Common.{◌≡◌, ℕ, ◌+◌, true, sym, ap, ◌∙◌}
 use Rattle.cmwq_table.specs.Ready.{Loaded, holding}
 use Rattle.cmwq_table.specs.State.{State}
-use Rattle.cmwq_records.specs.Standing.{is_still}
-use Rattle.cmwq_records.proofs.StillLemmas.{still-quiet, still-ticks}
+use Rattle.cmwq_records.specs.Rest.{is_at_rest}
+use Rattle.cmwq_records.proofs.RestLemmas.{rest-settled, rest-ticks}
 use Rattle.cmwq_records.proofs.records.RecordsParts.pass.Goals as goal
 
-pub returns-clause-quiet : goal.returns-clause-quiet
-returns-clause-quiet c =
-    let still : is_still c.args.self.now.state ≡ true = sym c.is_still.ensures ∙ c.if-not-is_still.false in
-    still-quiet c.args.self.now.scenario c.args.self.now.state c.args.most still
+pub returns-clause-settled : goal.returns-clause-settled
+returns-clause-settled c =
+    let rests : is_at_rest c.args.self.now.state ≡ true = sym c.is_at_rest.ensures ∙ c.if-not-is_at_rest.false in
+    rest-settled c.args.self.now.scenario c.args.self.now.state c.args.most rests
 
 pub returns-clause-passed : goal.returns-clause-passed
 returns-clause-passed c =
-    let still : is_still c.args.self.now.state ≡ true = sym c.is_still.ensures ∙ c.if-not-is_still.false in
+    let rests : is_at_rest c.args.self.now.state ≡ true = sym c.is_at_rest.ensures ∙ c.if-not-is_at_rest.false in
     let later : Loaded → ℕ → Loaded = λ m count. holding m.scenario (record m.state { time = m.state.time + count }) in
     ap (later (holding c.self.inside.scenario.value (record {
       time = c.self.inside.time;
@@ -29,4 +29,4 @@ returns-clause-passed c =
       flushes = c.self.inside.flushes.items;
     }))) c.from.ensures
     ∙ ap (λ (m : Loaded). later m c.args.most) c.self.view_is
-    ∙ ap (holding c.args.self.now.scenario) (sym (still-ticks c.args.self.now.scenario c.args.most c.args.self.now.state still))
+    ∙ ap (holding c.args.self.now.scenario) (sym (rest-ticks c.args.self.now.scenario c.args.most c.args.self.now.state rests))

@@ -1,4 +1,4 @@
--- Ticks at which nothing else can happen.
+-- Ticks before which the machine is settled: nothing can happen without time.
 use Rattle.std.specs.Prelude.{◌≡◌, ℕ, zero, suc, ◌<◌, None}
 use Rattle.cmwq_types.specs.Contents.{ScenarioContents}
 use Rattle.cmwq_table.specs.Counts.{first_due}
@@ -11,9 +11,9 @@ ticks S s zero = s
 ticks S s (suc count) = ticks S (tick S s) count
 
 -- no timer is due, and no pool has a move
-abbrev pub IsQuiet : ScenarioContents → State → Type 0
-IsQuiet S s = (first_due S s ≡ None) × (first_moving S s ≡ None)
+abbrev pub IsSettled : ScenarioContents → State → Type 0
+IsSettled S s = (first_due S s ≡ None) × (first_moving S s ≡ None)
 
--- nothing but time goes on before each of so many ticks
-abbrev pub AreQuiet : ScenarioContents → State → ℕ → Type 0
-AreQuiet S s count = (earlier : ℕ) → earlier < count → IsQuiet S (ticks S s earlier)
+-- the machine is settled before each of so many ticks
+abbrev pub AreSettled : ScenarioContents → State → ℕ → Type 0
+AreSettled S s count = (earlier : ℕ) → earlier < count → IsSettled S (ticks S s earlier)

@@ -1,4 +1,4 @@
--- Nothing happens on a machine that stands still, however long.
+-- Nothing happens on a machine at rest, however long.
 use Rattle.std.proofs.Common.{◌≡◌, ℕ, zero, suc, ◌+◌, ◌<◌, Bool, true, false, cond, ◌&&◌, List, [], ◌∷◌, length, Option, Some, None, arith, refl, sym, ap, ◌∙◌, subst}
 use Rattle.std.specs.List.{list_all}
 use Rattle.std.specs.Prelude.{◌==◌, is_none, is_some, slice_index_or}
@@ -11,8 +11,8 @@ use Rattle.cmwq_table.specs.Moves.{burned, next_move, start_move, tick}
 use Rattle.cmwq_table.specs.State.{State, is_unbound, pending_at, pool_count, running_at}
 use Rattle.cmwq_table.specs.declared.state.Pending.{Pending}
 use Rattle.cmwq_table.specs.declared.state.Running.{Running}
-use Rattle.cmwq_parts.specs.Quiet.{AreQuiet, IsQuiet, ticks}
-use Rattle.cmwq_records.specs.Standing.{is_still}
+use Rattle.cmwq_parts.specs.SettledTicks.{AreSettled, IsSettled, ticks}
+use Rattle.cmwq_records.specs.Rest.{is_at_rest}
 
 both : (a b : Bool) → (a && b) ≡ true → (a ≡ true) × (b ≡ true)
 both true b is = (refl, is)
@@ -36,12 +36,12 @@ burned-none test w (None ∷ rs) all =
     ∙ ap (λ (rest : List (Option Running)). None ∷ rest) (burned-none test (w + 1) rs all)
 burned-none test w (Some r ∷ rs) all = absurd cc
 
-module _ (S : ScenarioContents) (s : State) (still : is_still s ≡ true) where
+module _ (S : ScenarioContents) (s : State) (rests : is_at_rest s ≡ true) where
   pends-none : (w : ℕ) → pending_at s w ≡ None
-  pends-none = none-at s.pending (both (list_all is_none s.pending) (list_all is_none s.running) still).0
+  pends-none = none-at s.pending (both (list_all is_none s.pending) (list_all is_none s.running) rests).0
 
   runs-none : (w : ℕ) → running_at s w ≡ None
-  runs-none = none-at s.running (both (list_all is_none s.pending) (list_all is_none s.running) still).1
+  runs-none = none-at s.running (both (list_all is_none s.pending) (list_all is_none s.running) rests).1
 
   pub due-none : first_due S s ≡ None
   due-none = first_below-none _ _ (length S.works) (by_least_two-order (λ w. pending_due (pending_at s w)) (λ w. pending_stamp (pending_at s w)))
@@ -76,22 +76,22 @@ module _ (S : ScenarioContents) (s : State) (still : is_still s ≡ true) where
   pub move-none : (pool : ℕ) → next_move S s pool ≡ None
   move-none pool = rw (head-none pool, slept-none pool, start-none pool) refl
 
-  pub quiet : IsQuiet S s
-  quiet = (due-none, first_below-none _ _ (pool_count S) (by_least-order (λ pool. pool)) (λ pool below. ap is_some (move-none pool)))
+  pub settled : IsSettled S s
+  settled = (due-none, first_below-none _ _ (pool_count S) (by_least-order (λ pool. pool)) (λ pool below. ap is_some (move-none pool)))
 
   -- a tick is one more of time
-  pub still-tick : tick S s ≡ record s { time = s.time + 1 }
-  still-tick = ap (λ (rs : List (Option Running)). record s { time = s.time + 1; running = rs }) (burned-none (burns S s) 0 s.running (both (list_all is_none s.pending) (list_all is_none s.running) still).1)
+  pub rest-tick : tick S s ≡ record s { time = s.time + 1 }
+  rest-tick = ap (λ (rs : List (Option Running)). record s { time = s.time + 1; running = rs }) (burned-none (burns S s) 0 s.running (both (list_all is_none s.pending) (list_all is_none s.running) rests).1)
 
 -- and so many ticks are so much more
-pub still-ticks : (S : ScenarioContents) (count : ℕ) (s : State) → is_still s ≡ true → ticks S s count ≡ record s { time = s.time + count }
-still-ticks S zero s still = ap (λ (time : ℕ). record s { time = time }) (omega arith)
-still-ticks S (suc count) s still =
+pub rest-ticks : (S : ScenarioContents) (count : ℕ) (s : State) → is_at_rest s ≡ true → ticks S s count ≡ record s { time = s.time + count }
+rest-ticks S zero s rests = ap (λ (time : ℕ). record s { time = time }) (omega arith)
+rest-ticks S (suc count) s rests =
     let place : (s.time + 1) + count ≡ s.time + suc count = omega arith in
-    ap (λ (x : State). ticks S x count) (still-tick S s still)
-    ∙ still-ticks S count (record s { time = s.time + 1 }) still
+    ap (λ (x : State). ticks S x count) (rest-tick S s rests)
+    ∙ rest-ticks S count (record s { time = s.time + 1 }) rests
     ∙ ap (λ (time : ℕ). record s { time = time }) place
 
-pub still-quiet : (S : ScenarioContents) (s : State) (count : ℕ) → is_still s ≡ true → AreQuiet S s count
-still-quiet S s count still = λ earlier below.
-    subst (λ (x : State). IsQuiet S x) (sym (still-ticks S earlier s still)) (quiet S (record s { time = s.time + earlier }) still)
+pub rest-settled : (S : ScenarioContents) (s : State) (count : ℕ) → is_at_rest s ≡ true → AreSettled S s count
+rest-settled S s count rests = λ earlier below.
+    subst (λ (x : State). IsSettled S x) (sym (rest-ticks S earlier s rests)) (settled S (record s { time = s.time + earlier }) rests)

@@ -1,5 +1,5 @@
-//! Records of a machine that stands still: nothing is pending, and nothing runs.
-ghost use Rattle.cmwq_records.specs.Standing.{is_still};
+//! Records of a machine at rest: nothing is pending, and nothing runs.
+ghost use Rattle.cmwq_records.specs.Rest.{is_at_rest};
 ghost use Rattle.std.specs.List.{list_all};
 ghost use Rattle.std.specs.Prelude.{◌≡◌, is_none};
 
@@ -7,8 +7,8 @@ use crate::records::Records;
 
 impl Records {
     /// Whether nothing is pending, and nothing runs.
-    pub(crate) fn is_still(&self) -> bool
-        ensures { result ≡ is_still self.now.state }
+    pub(crate) fn is_at_rest(&self) -> bool
+        ensures { result ≡ is_at_rest self.now.state }
     {
         are_none(&self.pending) && are_none(&self.running)
     }
