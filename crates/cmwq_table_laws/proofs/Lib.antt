@@ -1,3 +1,4 @@
 mod AcceptingLemmas
 mod DepthLemmas
 mod PoolLemmas
+mod RepeatingLemmas

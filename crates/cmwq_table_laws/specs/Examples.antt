@@ -58,6 +58,10 @@ place_after_all instrs w = place_of (pending_at (run each_kind instrs) w)
 abbrev pub a_runs : List Instr
 a_runs = instr.Queue (record { 0 = 0 }) 0 ∷ instr.Next ∷ []
 
+-- and has two ticks to burn
+abbrev pub a_burns : List Instr
+a_burns = instr.Queue (record { 0 = 0 }) 0 ∷ instr.Next ∷ instr.Next ∷ []
+
 -- g is about to queue b
 abbrev pub g_queues_b : List Instr
 g_queues_b = queue_on_1 6 ∷ instr.Next ∷ []

@@ -1,3 +1,4 @@
 pub mod Depths
 pub mod Examples
 pub mod Pools
+pub mod Repeating

@@ -2,11 +2,13 @@
 #![tactic(auto, unfolding(cmwq_table::specs::Table::table))]
 
 ghost use Rattle.cmwq_table.specs.Laws.{reply_to};
-ghost use Rattle.cmwq_table.specs.State.{depth_at};
+ghost use Rattle.cmwq_table.specs.Repeats.{HasGone, HasRepeated};
+ghost use Rattle.cmwq_table.specs.State.{State, depth_at};
 ghost use Rattle.cmwq_table.specs.Table.{run};
-ghost use Rattle.cmwq_table_laws.specs.Examples.{a_runs, b_is_due, delay_on_1, disable_it, each_kind, enable_it, g_queues_b, place_after_all, queue_on_1};
+ghost use Rattle.cmwq_table_laws.specs.Examples.{a_burns, a_runs, b_is_due, delay_on_1, disable_it, each_kind, enable_it, g_queues_b, place_after_all, queue_on_1};
 ghost use Rattle.cmwq_types.specs.Faults.{IsValid};
-ghost use Rattle.std.specs.Prelude.{◌≡◌, ◌∷◌, ◌++◌, [], Some, false};
+ghost use Rattle.cmwq_types.specs.declared.reply.Reply.{Reply};
+ghost use Rattle.std.specs.Prelude.{◌≡◌, ◌∷◌, ◌++◌, [], Some, false, replicate};
 
 use cmwq_types::{Event, Instr, Place, Refusal, Reply};
 
@@ -44,4 +46,19 @@ pub fn each_way_of_placing_goes_to_that_pool()
     ensures queues { reply_to each_kind (run each_kind g_queues_b) (Instr.Step 2)
         ≡ Reply.Event (record { 0 = 6 }) (Event.Queues (record { 0 = 1 }) false) }
     ensures queued { place_after_all (g_queues_b ++ Instr.Step 2 ∷ []) 1 ≡ Some (Place.Listed 3) }
+{}
+
+/// A work that burns two ticks goes on to its end in three `next`s, no fewer and no more; where nothing is left to do they go on as often as
+/// may be.
+pub fn next_goes_on_to_a_line()
+    ensures gone { HasGone each_kind (run each_kind a_burns) 9 3 (run each_kind (a_burns ++ replicate 3 Instr.Next)) (Reply.Event (record { 0 = 0 }) Event.Finishes) }
+    ensures whole { HasGone each_kind (run each_kind []) 2 2 (run each_kind (replicate 2 Instr.Next)) Reply.Done }
+    ensures sooner { (after : State) (reply : Reply) → HasGone each_kind (run each_kind a_burns) 9 2 after reply → ⊥ }
+    ensures later { (after : State) (reply : Reply) → HasGone each_kind (run each_kind a_burns) 9 4 after reply → ⊥ }
+{}
+
+/// A work that is pending can be queued again and again, which is spent; a disable counts although nothing was pending.
+pub fn what_is_pending_stays_so()
+    ensures again { HasRepeated each_kind (run each_kind (replicate 2 (queue_on_1 1))) (queue_on_1 1) Reply.Already 3 3 (run each_kind (replicate 5 (queue_on_1 1))) }
+    ensures disable { (after : State) → HasRepeated each_kind (run each_kind (disable_it 1 ∷ [])) (disable_it 1) Reply.NotPending 1 1 after → ⊥ }
 {}

@@ -1,9 +1,14 @@
-//! What one may believe of depths and of pools without reading the table.
+//! What one may believe of depths, of pools, and of going on and repeating, without reading the table.
 //!
 //! Each function's contract is a law. The functions do nothing: they carry the laws.
 ghost use Rattle.cmwq_table.specs.Laws.{AtEveryInstruction};
 ghost use Rattle.cmwq_table_laws.specs.Depths.{DisablesOnce, EnablesOnce, LeavesDepths};
 ghost use Rattle.cmwq_table_laws.specs.Pools.{BodiesPlaceInPool, FiresToPool, IsPlacedByFlags, PlacesInPool};
+ghost use Rattle.cmwq_table_laws.specs.Repeating.{GoesOneWay, RepeatsAlike};
+ghost use Rattle.cmwq_table.specs.State.{State};
+ghost use Rattle.cmwq_types.specs.Contents.{ScenarioContents};
+ghost use Rattle.cmwq_types.specs.declared.instr.Instr.{Instr};
+ghost use Rattle.std.specs.Prelude.{ℕ};
 
 /// Each disable that is accepted adds one to the depth of its work, and each enable takes one off, be the work idle, pending or running,
 /// on whatever pool; nothing else changes a depth. (What is refused changes nothing at all.) That disables add up is the kernel's rule.
@@ -27,4 +32,17 @@ pub fn placed_works_go_to_their_pool()
     ensures instruction { AtEveryInstruction PlacesInPool }
     ensures timer { AtEveryInstruction FiresToPool }
     ensures body { AtEveryInstruction BodiesPlaceInPool }
+{}
+
+/// To go on to the next line, at most so often, is one thing: how often `next` is carried out, the state and the last reply don't depend on
+/// the machine.
+#[tactic(auto, using(crate::proofs::RepeatingLemmas::goes_one_way))]
+pub fn machines_go_one_way()
+    ensures { (S : ScenarioContents) (s : State) (most : ℕ) → GoesOneWay S s most }
+{}
+
+/// An instruction that comes out the same again changes nothing but what is spent, and has the same reply each time.
+#[tactic(auto, using(crate::proofs::RepeatingLemmas::repeats_alike))]
+pub fn what_repeats_is_alike()
+    ensures { (S : ScenarioContents) (s : State) (i : Instr) → RepeatsAlike S s i }
 {}
