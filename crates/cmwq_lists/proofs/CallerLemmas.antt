@@ -1,10 +1,15 @@
 -- What a caller cites of lists.
 use Rattle.std.proofs.Common.{◌≡◌, ℕ, zero, suc, ◌+◌, ◌*◌, ◌^◌, ◌<◌, Bool, true, false, nat_lt, length, Option, Some, None, cond, arith, refl, ap, ◌∙◌}
 use Rattle.std.proofs.lemmas.Bool.Decides.{nat_tests}
+use Rattle.std.proofs.lemmas.List.{get_or_past}
 use Rattle.cmwq_types.specs.First.{first_below, first_with, by_least, by_least_two, by_greatest, IsOrder, MatchFirst}
 use Rattle.cmwq_types.proofs.FirstLemmas.{by_least-order, by_least_two-order, by_greatest-order, first_below-is_first, first_below-agree}
-use Rattle.cmwq_lists.specs.ListContents.{is_in, order_at}
+use Rattle.cmwq_lists.specs.ListContents.{ListContents, IsHeld, is_in, order_at}
 use Rattle.cmwq_lists.specs.Ranks.{FirstsAreOfTheTest, LastsAreOfTheTest, TwoKeysAreOne}
+
+-- a work that is held is one of those that there are
+pub held_below : (c : ListContents) (key : ℕ) → IsHeld c key → key < length c.ranks
+held_below c key held = grind (arith, get_or_past)
 
 -- orders that agree on what passes have the same first
 pub first_agree : (one two : ℕ → ℕ → Bool) (test : ℕ → Bool) (n : ℕ) → IsOrder one → ((v w : ℕ) → v < n → w < n → test v ≡ true → test w ≡ true → one v w ≡ two v w) → first_below one test n ≡ first_below two test n
