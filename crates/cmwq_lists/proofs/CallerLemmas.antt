@@ -1,62 +1,40 @@
--- What a caller cites of lists: what stays sorted, and how many nodes are held.
-use Rattle.std.proofs.Common.{◌≡◌, refl, ℕ, ◌+◌, ◌<◌, ◌≤◌, Bool, ◌==◌, true, false, List, [], ◌∷◌, length, cond, nat_lt, arith}
+-- What a caller cites of lists.
+use Rattle.std.proofs.Common.{◌≡◌, ℕ, zero, suc, ◌+◌, ◌*◌, ◌^◌, ◌<◌, Bool, true, false, nat_lt, length, Option, Some, None, cond, arith, refl, ap, ◌∙◌}
 use Rattle.std.proofs.lemmas.Bool.Decides.{nat_tests}
-use Rattle.std.proofs.lemmas.List.Sums.{sum_by-set}
-use Rattle.cmwq_lists.specs.ListContents.{AllAfter, ListContents, Entry, IsSorted, NoneBelow, behind_front, held, list_at, placed, with_list, without}
-use Rattle.cmwq_lists.specs.Ranks.{Rises}
+use Rattle.std.proofs.lemmas.List.{get_or_past}
+use Rattle.cmwq_types.specs.First.{first_below, first_with, by_least, by_least_two, by_greatest, IsOrder, MatchFirst}
+use Rattle.cmwq_types.proofs.FirstLemmas.{by_least-order, by_least_two-order, by_greatest-order, first_below-is_first, first_below-agree}
+use Rattle.cmwq_lists.specs.ListContents.{ListContents, IsHeld, is_in, order_at}
+use Rattle.cmwq_lists.specs.Ranks.{FirstsAreOfTheTest, LastsAreOfTheTest, TwoKeysAreOne}
 
--- orders that rise don't fall
-none_below : (order : ℕ) (entries : List Entry) → AllAfter order entries → NoneBelow order entries
-none_below order [] after = tt
-none_below order (e ∷ rest) after = (omega (arith, after.0), none_below order rest after.1)
+-- a work that is held is one of those that there are
+pub held_below : (c : ListContents) (key : ℕ) → IsHeld c key → key < length c.ranks
+held_below c key held = grind (arith, get_or_past)
 
-pub sorted_of_rises : (entries : List Entry) → Rises entries → IsSorted entries
-sorted_of_rises [] rising = tt
-sorted_of_rises (e ∷ rest) rising = (none_below e.node.order rest rising.0, sorted_of_rises rest rising.1)
-
--- what `insert_by` leaves is sorted
-below_lower : (low order : ℕ) (entries : List Entry) → low ≤ order → NoneBelow order entries → NoneBelow low entries
-below_lower low order [] under above = tt
-below_lower low order (e ∷ rest) under above = (omega (arith, under, above.0), below_lower low order rest under above.1)
-
-below_placed : (low : ℕ) (new : Entry) (entries : List Entry) → low ≤ new.node.order → NoneBelow low entries → NoneBelow low (placed new entries)
-below_placed low new [] under above = (under, tt)
-below_placed low new (e ∷ rest) under above = by_test (nat_lt new.node.order e.node.order) (below_placed low new rest under above.1)
+-- orders that agree on what passes have the same first
+pub first_agree : (one two : ℕ → ℕ → Bool) (test : ℕ → Bool) (n : ℕ) → IsOrder one → ((v w : ℕ) → v < n → w < n → test v ≡ true → test w ≡ true → one v w ≡ two v w) → first_below one test n ≡ first_below two test n
+first_agree one two test zero order same = refl
+first_agree one two test (suc n) order same =
+    let rest : first_below one test n ≡ first_below two test n = first_agree one two test n order (λ v w v_below w_below. same v w (omega arith) (omega arith)) in
+    step (test n) refl (first_below one test n) (first_below-is_first one test n order) ∙ ap (λ (found : Option ℕ). first_with two n (test n) found) rest
   where
-    by_test : (b : Bool) → NoneBelow low (placed new rest) → NoneBelow low (cond b (new ∷ e ∷ rest) (e ∷ placed new rest))
-    by_test true later = (under, above)
-    by_test false later = (above.0, later)
+    step : (b : Bool) → test n ≡ b → (found : Option ℕ) → MatchFirst one test n found → first_with one n b found ≡ first_with two n b found
+    step false e found first = refl
+    step true e None first = refl
+    step true e (Some m) first = ap (λ (b : Bool). Some (cond b n m)) (same n m (omega arith) (omega (arith, first.in_range)) e first.passes)
 
-pub sorted_placed : (new : Entry) (entries : List Entry) → IsSorted entries → IsSorted (placed new entries)
-sorted_placed new [] sorted = (tt, tt)
-sorted_placed new (e ∷ rest) sorted = by_test (nat_lt new.node.order e.node.order) refl (sorted_placed new rest sorted.1)
-  where
-    by_test : (b : Bool) → nat_lt new.node.order e.node.order ≡ b → IsSorted (placed new rest) → IsSorted (cond b (new ∷ e ∷ rest) (e ∷ placed new rest))
-    by_test true lower later = (let under : new.node.order < e.node.order = grind (arith, nat_tests) in ((omega (arith, under), below_lower new.node.order e.node.order rest (omega (arith, under)) sorted.0), sorted))
-    by_test false upper later = (let under : e.node.order ≤ new.node.order = grind (arith, nat_tests) in (below_placed e.node.order new rest under sorted.0, later))
+pub firsts_are_of_the_test : FirstsAreOfTheTest
+firsts_are_of_the_test c list number test holds =
+    first_below-agree (by_least (order_at c)) (is_in c list) test (length c.ranks) holds.works
+    ∙ first_agree (by_least (order_at c)) (by_least number) test (length c.ranks) (by_least-order (order_at c))
+    (λ v w v_below w_below v_passes w_passes. ap (λ (a : ℕ). nat_lt a (order_at c w)) (holds.orders v v_below v_passes) ∙ ap (λ (b : ℕ). nat_lt (number v) b) (holds.orders w w_below w_passes))
 
--- and so is what `pop_front` leaves
-pub sorted_behind_front : (entries : List Entry) → IsSorted entries → IsSorted (behind_front entries)
-sorted_behind_front [] sorted = tt
-sorted_behind_front (e ∷ rest) sorted = sorted.1
+pub lasts_are_of_the_test : LastsAreOfTheTest
+lasts_are_of_the_test c list number test holds =
+    first_below-agree (by_greatest (order_at c)) (is_in c list) test (length c.ranks) holds.works
+    ∙ first_agree (by_greatest (order_at c)) (by_greatest number) test (length c.ranks) (by_greatest-order (order_at c))
+    (λ v w v_below w_below v_passes w_passes. ap (λ (a : ℕ). nat_lt a (order_at c v)) (holds.orders w w_below w_passes) ∙ ap (λ (b : ℕ). nat_lt (number w) b) (holds.orders v v_below v_passes))
 
--- and what `unlink` leaves
-below_without : (low key : ℕ) (entries : List Entry) → NoneBelow low entries → NoneBelow low (without key entries)
-below_without low key [] above = tt
-below_without low key (e ∷ rest) above = by_test (e.key == key) (below_without low key rest above.1)
-  where
-    by_test : (b : Bool) → NoneBelow low (without key rest) → NoneBelow low (cond b rest (e ∷ without key rest))
-    by_test true later = above.1
-    by_test false later = (above.0, later)
-
-pub sorted_without : (key : ℕ) (entries : List Entry) → IsSorted entries → IsSorted (without key entries)
-sorted_without key [] sorted = tt
-sorted_without key (e ∷ rest) sorted = by_test (e.key == key) (sorted_without key rest sorted.1)
-  where
-    by_test : (b : Bool) → IsSorted (without key rest) → IsSorted (cond b rest (e ∷ without key rest))
-    by_test true later = sorted.1
-    by_test false later = (below_without e.node.order key rest sorted.0, later)
-
--- how many nodes are held, once one list is another
-pub held-with_list : (c : ListContents) (list : ℕ) (entries : List Entry) → list < length c.lists → held (with_list c list entries) + length (list_at c list) ≡ held c + length entries
-held-with_list c list entries within = sum_by-set length c.lists list entries [] within
+pub two_keys_are_one : TwoKeysAreOne
+two_keys_are_one key next_key test n small = first_agree (by_least_two key next_key) (by_least (λ w. key w * 2 ^ 64 + next_key w)) test n (by_least_two-order key next_key)
+    (λ v w v_below w_below v_passes w_passes. (let v_small = small v v_below v_passes in let w_small = small w w_below w_passes in grind (arith, nat_tests)))

@@ -1,6 +1,6 @@
 pub mod LinkLemmas
-pub mod LinkingLemmas
-pub mod KeptLemmas
+pub mod CellLemmas
+pub mod ChangeLemmas
 pub mod FindingLemmas
-pub mod RankLemmas
+pub mod SeenLemmas
 pub mod CallerLemmas

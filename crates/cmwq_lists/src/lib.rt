@@ -1,7 +1,8 @@
-//! Linked lists over one slab of nodes: a number of lists, from 0, each of nodes that hold a number to
-//! order them by and a work.
+//! Linked lists over one slab of nodes: a number of lists, from 0, in which works stand by an order each. A work's
+//! number is its node's key.
 #![tactic(auto)]
 
+mod finding;
 mod linking;
 mod list_cell;
 mod lists;

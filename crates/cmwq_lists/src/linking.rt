@@ -1,89 +1,73 @@
-//! Linking a node in and taking one out, where the ends of its list are at hand.
-ghost use Rattle.cmwq_lists.specs.Cells.{back_moved, Changes, list_entry, front_moved, IsChain, IsCut, IsNext, IsTakenOut, OthersKept, with_next, with_prev};
-ghost use Rattle.cmwq_lists.specs.ListContents.{Entry};
-ghost use Rattle.slab.specs.Slab.{ContainsKey, get, HasRoomFor, slab_len};
-ghost use Rattle.std.specs.Prelude.{◌≡◌, ◌≢◌, ◌⊎◌, ℕ, ◌+◌, ◌<◌, ◌^◌, List, ◌∷◌, ◌++◌, IfSome, IsSome, None, Some};
+//! Linking a work in and taking one out, where the ends of its list are at hand.
+ghost use Rattle.cmwq_lists.specs.Cells.{back_moved, cell_at, front_moved, linked_cells, linked_ends, parted_cells, parted_ends, standing_of, with_next, with_prev};
+ghost use Rattle.slab.specs.Slab.{ContainsKey};
+ghost use Rattle.std.specs.Prelude.{◌≡◌, ◌<◌, ◌^◌, IfSome, None, Some};
 
-use crate::list_cell::{Ends, ListCell};
+use crate::list_cell::{Ends, ListCell, Standing};
 use crate::node::Node;
 use slab::Slab;
 
-/// Has the node under a key, or the front of the list, lead on to another.
-fn set_next(cells: &mut Slab<ListCell>, ends: &mut Ends, at: Option<usize>, to: Option<usize>)
+/// Has the work, or the front of the list, lead on to another.
+fn set_next(cells: &mut Slab<ListCell>, ends: &mut Ends, at: Option<u16>, to: Option<u16>)
     requires held { IfSome at (λ key. ContainsKey cells.old key) }
-    ensures cells { Changes (with_next to) (get cells.old) (get cells.new) at }
+    ensures cells { cells.new ≡ with_next cells.old at to }
     ensures ends { ends.new ≡ front_moved ends.old at to }
-    ensures len { slab_len cells.new ≡ slab_len cells.old }
-    ensures capacity { cells.new.capacity ≡ cells.old.capacity }
 {
     match at {
         None => ends.front = to,
-        Some(key) => cells[key].next = to,
+        Some(key) => cells[key as usize].next = to,
     }
 }
 
-/// Has the node under a key, or the back of the list, lead back to another.
-fn set_prev(cells: &mut Slab<ListCell>, ends: &mut Ends, at: Option<usize>, to: Option<usize>)
+/// Has the work, or the back of the list, lead back to another.
+fn set_prev(cells: &mut Slab<ListCell>, ends: &mut Ends, at: Option<u16>, to: Option<u16>)
     requires held { IfSome at (λ key. ContainsKey cells.old key) }
-    ensures cells { Changes (with_prev to) (get cells.old) (get cells.new) at }
+    ensures cells { cells.new ≡ with_prev cells.old at to }
     ensures ends { ends.new ≡ back_moved ends.old at to }
-    ensures len { slab_len cells.new ≡ slab_len cells.old }
-    ensures capacity { cells.new.capacity ≡ cells.old.capacity }
 {
     match at {
         None => ends.back = to,
-        Some(key) => cells[key].prev = to,
+        Some(key) => cells[key as usize].prev = to,
     }
 }
 
-/// The key behind this one, or the first of the list.
-fn key_behind(cells: &Slab<ListCell>, ends: &Ends, at: Option<usize>) -> Option<usize>
-    requires held { IfSome at (λ key. ContainsKey cells.now key) }
-    ensures { IsNext (get cells.now) ends.now at result }
-{
-    match at {
-        None => ends.front,
-        Some(key) => cells[key].next,
-    }
-}
-
-/// Links a node in after the one under a key, or at the front, and gives the new node's key.
+/// Links a work that stands in no list in between these neighbours, and gives its key.
 pub(crate) fn link(
     cells: &mut Slab<ListCell>,
     ends: &mut Ends,
-    list: usize,
-    after: Option<usize>,
+    list: u16,
     node: Node,
+    prev: Option<u16>,
+    next: Option<u16>,
 ) -> usize
-    requires room { HasRoomFor cells.old 1 }
-    requires at { (before : List Entry) × (behind : List Entry) × IsCut (get cells.old) list ends.old before after behind }
-    requires fits { ends.old.len + 1 < 2 ^ 64 }
-    ensures fresh { get cells.old result ≡ None }
-    ensures chain { (before behind : List Entry) → IsCut (get cells.old) list ends.old before after behind → IsChain (get cells.new) list ends.new (before ++ list_entry result node ∷ behind) }
-    ensures others { OthersKept list (get cells.old) (get cells.new) }
-    ensures no_more { (key : ℕ) → IsSome (get cells.new key) → (key ≡ result) ⊎ IsSome (get cells.old key) }
-    ensures len { slab_len cells.new ≡ slab_len cells.old + 1 }
-    ensures capacity { cells.new.capacity ≡ cells.old.capacity }
+    requires work { ContainsKey cells.old node.work.0 }
+    requires prev { IfSome prev (λ key. ContainsKey cells.old key) }
+    requires next { IfSome next (λ key. ContainsKey cells.old key) }
+    ensures key { result ≡ node.work.0 }
+    ensures cells { cells.new ≡ linked_cells cells.old node.work.0 (standing_of list node.order) prev next }
+    ensures ends { ends.new ≡ linked_ends ends.old node.work.0 prev next }
 {
-    let next = key_behind(cells, ends, after);
-    let key = cells.insert_reserved(ListCell::new(node, list, after, next));
-    set_next(cells, ends, after, Some(key));
+    let key = node.work.0;
+    set_next(cells, ends, prev, Some(key));
     set_prev(cells, ends, next, Some(key));
-    ends.len += 1;
-    key
+    cells[key as usize] = ListCell {
+        standing: Some(Standing::new(list, node.order)),
+        prev,
+        next,
+    };
+    key as usize
 }
 
-/// Takes the node under a key out of its list.
-pub(crate) fn take_out(cells: &mut Slab<ListCell>, ends: &mut Ends, key: usize) -> Node
-    requires at { (list : ℕ) × (before : List Entry) × (e : Entry) × (behind : List Entry) × IsChain (get cells.old) list ends.old (before ++ e ∷ behind) × (e.key ≡ key) }
-    ensures taken { (list : ℕ) (before : List Entry) (e : Entry) (behind : List Entry) → IsChain (get cells.old) list ends.old (before ++ e ∷ behind) → e.key ≡ key → IsTakenOut (get cells.old) (get cells.new) list ends.new before e behind result }
-    ensures no_more { (other : ℕ) → IsSome (get cells.new other) → (other ≢ key) × IsSome (get cells.old other) }
-    ensures len { slab_len cells.new + 1 ≡ slab_len cells.old }
-    ensures capacity { cells.new.capacity ≡ cells.old.capacity }
+/// Takes a work out from between its neighbours.
+pub(crate) fn take_out(cells: &mut Slab<ListCell>, ends: &mut Ends, key: usize)
+    requires work { ContainsKey cells.old key }
+    requires prev { IfSome (cell_at cells.old key).prev (λ other. ContainsKey cells.old other) }
+    requires next { IfSome (cell_at cells.old key).next (λ other. ContainsKey cells.old other) }
+    ensures cells { cells.new ≡ parted_cells cells.old key (cell_at cells.old key).prev (cell_at cells.old key).next }
+    ensures ends { ends.new ≡ parted_ends ends.old (cell_at cells.old key).prev (cell_at cells.old key).next }
 {
-    let cell = cells.remove(key);
-    set_next(cells, ends, cell.prev, cell.next);
-    set_prev(cells, ends, cell.next, cell.prev);
-    ends.len -= 1;
-    cell.node()
+    let ListCell { prev, next, .. } = cells[key];
+    set_next(cells, ends, prev, next);
+    set_prev(cells, ends, next, prev);
+    cells[key].standing = None;
 }

@@ -1,70 +1,64 @@
-//! A node as it is stored, with its links.
-ghost use Rattle.cmwq_lists.specs.Cells.{cell_of};
+//! A work's cell: where the work stands, with its links.
+ghost use Rattle.cmwq_lists.specs.Cells.{order_in_cell, seen, standing_of};
 ghost use Rattle.std.specs.Prelude.{◌≡◌, ◌+◌, ◌*◌, ◌/◌, ◌%◌, ◌^◌, nat_lt};
 
-use crate::node::Node;
-use cmwq_types::WorkId;
-
-/// A node of a list, with the list's number and its neighbours' keys. The order is stored as two words,
-/// which is four times as quick as one number of 128 bits.
+/// The list in which a work stands, and the order by which it does, as its upper and its lower half, which is
+/// four times as quick as one number of 128 bits.
 #[derive(Clone, Copy)]
-pub(crate) struct ListCell {
+pub(crate) struct Standing {
+    pub(crate) list: u16,
     pub(crate) high: u64,
     pub(crate) low: u64,
-    pub(crate) work: WorkId,
-    pub(crate) list: usize,
-    pub(crate) prev: Option<usize>,
-    pub(crate) next: Option<usize>,
 }
 
-/// The keys of a list's first and last node, and how many nodes it has.
+/// Where a work stands, if it stands in a list, and its neighbours there.
+#[derive(Clone, Copy)]
+pub(crate) struct ListCell {
+    pub(crate) standing: Option<Standing>,
+    pub(crate) prev: Option<u16>,
+    pub(crate) next: Option<u16>,
+}
+
+/// The first and the last work of a list.
 #[derive(Clone, Copy)]
 pub(crate) struct Ends {
-    pub(crate) front: Option<usize>,
-    pub(crate) back: Option<usize>,
-    pub(crate) len: usize,
+    pub(crate) front: Option<u16>,
+    pub(crate) back: Option<u16>,
+}
+
+impl Standing {
+    pub(crate) fn new(list: u16, order: u128) -> Standing
+        ensures { result ≡ standing_of list order }
+    {
+        Standing {
+            list,
+            high: (order >> 64) as u64,
+            low: (order & 0xffff_ffff_ffff_ffff) as u64,
+        }
+    }
+
+    pub(crate) fn order(&self) -> u128
+        ensures { result ≡ self.now.high * 2 ^ 64 + self.now.low }
+    {
+        u128::from(self.high) * (1 << 64) + u128::from(self.low)
+    }
 }
 
 impl ListCell {
-    /// A node between these neighbours.
-    pub(crate) fn new(node: Node, list: usize, prev: Option<usize>, next: Option<usize>) -> ListCell
-        ensures { result ≡ cell_of list prev node next }
+    /// The order by which the work stands, or 0 where it stands in no list.
+    pub(crate) fn order(&self) -> u128
+        ensures { result ≡ order_in_cell self.now }
     {
-        let (high, low) = halves(node.order);
-        ListCell {
-            high,
-            low,
-            work: node.work,
-            list,
-            prev,
-            next,
+        match self.standing {
+            None => 0,
+            Some(standing) => standing.order(),
         }
-    }
-
-    /// What the node holds.
-    pub(crate) fn node(&self) -> Node
-        ensures { result ≡ record { order = self.now.high * 2 ^ 64 + self.now.low; work = self.now.work } }
-    {
-        let (high, low) = (self.high, self.low);
-        Node {
-            order: u128::from(high) * (1 << 64) + u128::from(low),
-            work: self.work,
-        }
-    }
-
-    /// Whether this node comes after one of this order.
-    pub(crate) fn is_after(&self, order: u128) -> bool
-        ensures { result ≡ nat_lt order (self.now.high * 2 ^ 64 + self.now.low) }
-    {
-        let (high, low) = (self.high, self.low);
-        let (other_high, other_low) = halves(order);
-        other_high < high || (other_high == high && other_low < low)
     }
 }
 
-/// The upper and the lower half of an order.
-fn halves(order: u128) -> (u64, u64)
-    ensures { result ≡ (order / 2 ^ 64, order % 2 ^ 64) }
+/// The key to which a link leads.
+pub(crate) fn key_of(link: Option<u16>) -> Option<usize>
+    ensures { result ≡ link }
 {
-    ((order >> 64) as u64, (order & 0xffff_ffff_ffff_ffff) as u64)
+    link.map(usize::from)
 }

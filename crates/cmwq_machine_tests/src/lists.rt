@@ -1,6 +1,6 @@
 //! Linked lists: the worked example, and calls beside a plain vector.
-ghost use Rattle.cmwq_lists.specs.ListContents.{held, IsSorted, list_at};
-ghost use Rattle.std.specs.Prelude.{◌≡◌, ◌<◌, ◌≤◌, ◌-◌, [], length, replicate, vec_len};
+ghost use Rattle.cmwq_lists.specs.ListContents.{no_ranks};
+ghost use Rattle.std.specs.Prelude.{◌≡◌, ◌<◌, ◌≤◌, ◌-◌, length, vec_len};
 
 use crate::checking::same;
 use cmwq_lists::{Lists, Node};
@@ -9,7 +9,9 @@ use std::alloc::Global;
 use std::process::Abort;
 use std::test::Fail;
 
-fn node(order: u128, work: u16) -> Node {
+fn node(order: u128, work: u16) -> Node
+    ensures { result ≡ record { order = order; work = record { 0 = work } } }
+{
     Node {
         order,
         work: WorkId(work),
@@ -18,12 +20,15 @@ fn node(order: u128, work: u16) -> Node {
 
 /// Puts a node of order 5 and then one of order 3 into the first of two empty lists, and answers the last one's key.
 fn put_two(rt: &impl Abort, lists: &mut Lists) -> usize
-    requires { lists.old.lists ≡ replicate 2 [] }
-    ensures { length lists.new.lists ≡ 2 }
+    requires { lists.old ≡ no_ranks 2 3 }
+    ensures lists { lists.new.lists ≡ 2 }
+    ensures works { length lists.new.ranks ≡ 3 }
 {
-    assert!(rt; !lists.is_full());
+    assert!(rt; !lists.contains(0));
+    assert!(rt; lists.is_above(0, 5));
     lists.push_back(0, node(5, 0));
-    assert!(rt; !lists.is_full());
+    assert!(rt; !lists.contains(1));
+    assert!(rt; lists.is_apart(0, 3));
     lists.insert_by(0, node(3, 1))
 }
 
@@ -31,11 +36,21 @@ fn put_two(rt: &impl Abort, lists: &mut Lists) -> usize
 fn check_held(rt: &impl Abort, lists: &Lists, key: usize) {
     assert!(rt; lists.contains(key));
     same(rt, "the next", lists.next(key), Some(node(5, 0)));
+    same(rt, "its key", lists.next_key(key), Some(0));
+}
+
+/// The node of this key stands in front of the one of order 5, and the other list is empty.
+fn check_ends(rt: &impl Abort, lists: &Lists, key: usize)
+    requires { lists.now.lists ≡ 2 }
+{
+    same(rt, "the first key", lists.front_key(0), Some(key));
+    same(rt, "the last key", lists.back_key(0), Some(0));
+    same(rt, "the other list's", lists.back_key(1), None);
 }
 
 /// Pops the node of this key, and the one of order 5 stands in front then.
 fn check_popped(rt: &impl Abort, lists: &mut Lists, key: usize)
-    requires { length lists.old.lists ≡ 2 }
+    requires { lists.old.lists ≡ 2 }
 {
     same(rt, "popped", lists.pop_front(0), Some(node(3, 1)));
     same(rt, "its key", lists.contains(key), false);
@@ -43,14 +58,27 @@ fn check_popped(rt: &impl Abort, lists: &mut Lists, key: usize)
     same(rt, "the other list", lists.front(1), None);
 }
 
+/// Takes works out that stand in a list and that stand in none, and the one of order 3 is left.
+fn check_taken(rt: &impl Abort, lists: &mut Lists)
+    requires lists { lists.old.lists ≡ 2 }
+    requires works { length lists.old.ranks ≡ 3 }
+{
+    lists.take(0);
+    lists.take(2);
+    same(rt, "the front", lists.front(0), Some(node(3, 1)));
+    same(rt, "the last key", lists.back_key(0), Some(1));
+}
+
 #[test]
 fn the_lesser_order_stands_in_front(rt: HostRuntime) -> Result<(), Fail> {
     let mut lists = Lists::new(rt.alloc(), 2, 3)?;
     let key = put_two(&rt, &mut lists);
     check_held(&rt, &lists, key);
-    let copy = lists.copy()?;
+    check_ends(&rt, &lists, key);
+    let mut copy = lists.copy()?;
     check_popped(&rt, &mut lists, key);
     check_held(&rt, &copy, key);
+    check_taken(&rt, &mut copy);
     Ok(())
 }
 
@@ -60,11 +88,12 @@ fn put_five(
     lists: &mut Lists,
     plain: &mut Vec<(usize, Node)>,
 ) -> Result<(), NoMemory>
-    requires { length lists.old.lists ≡ 1 }
+    requires { lists.old ≡ no_ranks 1 5 }
 {
     for work in 0..5_u16 {
-        assert!(rt; !lists.is_full());
         let new = node(u128::from(work), work);
+        assert!(rt; !lists.contains(usize::from(work)));
+        assert!(rt; lists.is_above(0, new.order));
         let key = lists.push_back(0, new);
         plain.push((key, new))?;
     }
@@ -112,7 +141,7 @@ fn five_nodes_are_unlinked_in_each_order(rt: HostRuntime) -> Result<(), Fail> {
     Ok(())
 }
 
-/// Of the three lists of the thousand calls the one that is sorted.
+/// Of the three lists of the thousand calls the one into which nodes are inserted.
 const SORTED: usize = 2;
 
 /// A node that three lists hold, as one plain vector has it: each list's nodes in their order.
@@ -145,30 +174,47 @@ fn place_of(plain: &[Held], order: u128) -> usize
     plain.len()
 }
 
-fn push(lists: &mut Lists, plain: &mut Vec<Held>, list: usize, node: Node) -> Result<(), NoMemory>
-    requires lists { length lists.old.lists ≡ 3 }
-    requires sorted { IsSorted (list_at lists.old 2) }
+/// Pushes a node back, where its work stands in no list.
+fn push(
+    rt: &impl Abort,
+    lists: &mut Lists,
+    plain: &mut Vec<Held>,
+    list: usize,
+    node: Node,
+) -> Result<(), NoMemory>
+    requires lists { lists.old.lists ≡ 3 }
+    requires works { length lists.old.ranks ≡ 12 }
     requires list { list < 2 }
-    ensures lists { length lists.new.lists ≡ 3 }
-    ensures sorted { IsSorted (list_at lists.new 2) }
+    requires work { node.work.0 < 12 }
+    ensures lists { lists.new.lists ≡ 3 }
+    ensures works { length lists.new.ranks ≡ 12 }
 {
-    if lists.is_full() {
+    if lists.contains(usize::from(node.work.0)) {
         return Ok(());
     }
+    assert!(rt; lists.is_above(list, node.order));
     let key = lists.push_back(list, node);
     plain.push(Held { list, key, node })?;
     Ok(())
 }
 
-fn insert(lists: &mut Lists, plain: &mut Vec<Held>, node: Node) -> Result<(), NoMemory>
-    requires lists { length lists.old.lists ≡ 3 }
-    requires sorted { IsSorted (list_at lists.old 2) }
-    ensures lists { length lists.new.lists ≡ 3 }
-    ensures sorted { IsSorted (list_at lists.new 2) }
+/// Inserts a node into the sorted list, where its work stands in no list.
+fn insert(
+    rt: &impl Abort,
+    lists: &mut Lists,
+    plain: &mut Vec<Held>,
+    node: Node,
+) -> Result<(), NoMemory>
+    requires lists { lists.old.lists ≡ 3 }
+    requires works { length lists.old.ranks ≡ 12 }
+    requires work { node.work.0 < 12 }
+    ensures lists { lists.new.lists ≡ 3 }
+    ensures works { length lists.new.ranks ≡ 12 }
 {
-    if lists.is_full() {
+    if lists.contains(usize::from(node.work.0)) {
         return Ok(());
     }
+    assert!(rt; lists.is_apart(SORTED, node.order));
     let key = lists.insert_by(SORTED, node);
     let place = place_of(plain, node.order);
     plain.insert(
@@ -183,11 +229,11 @@ fn insert(lists: &mut Lists, plain: &mut Vec<Held>, node: Node) -> Result<(), No
 }
 
 fn pop(rt: &impl Abort, lists: &mut Lists, plain: &mut Vec<Held>, list: usize)
-    requires lists { length lists.old.lists ≡ 3 }
-    requires sorted { IsSorted (list_at lists.old 2) }
+    requires lists { lists.old.lists ≡ 3 }
+    requires works { length lists.old.ranks ≡ 12 }
     requires list { list < 3 }
-    ensures lists { length lists.new.lists ≡ 3 }
-    ensures sorted { IsSorted (list_at lists.new 2) }
+    ensures lists { lists.new.lists ≡ 3 }
+    ensures works { length lists.new.ranks ≡ 12 }
 {
     let popped = lists.pop_front(list);
     let at = first_from(plain, 0, list);
@@ -200,10 +246,10 @@ fn pop(rt: &impl Abort, lists: &mut Lists, plain: &mut Vec<Held>, list: usize)
 }
 
 fn unlink(rt: &impl Abort, lists: &mut Lists, plain: &mut Vec<Held>, at: usize)
-    requires lists { length lists.old.lists ≡ 3 }
-    requires sorted { IsSorted (list_at lists.old 2) }
-    ensures lists { length lists.new.lists ≡ 3 }
-    ensures sorted { IsSorted (list_at lists.new 2) }
+    requires lists { lists.old.lists ≡ 3 }
+    requires works { length lists.old.ranks ≡ 12 }
+    ensures lists { lists.new.lists ≡ 3 }
+    ensures works { length lists.new.ranks ≡ 12 }
 {
     let left = plain.len();
     if left == 0 {
@@ -216,7 +262,7 @@ fn unlink(rt: &impl Abort, lists: &mut Lists, plain: &mut Vec<Held>, at: usize)
 
 /// Each list's front.
 fn compare_fronts(rt: &impl Abort, lists: &Lists, plain: &[Held])
-    requires lists { length lists.now.lists ≡ 3 }
+    requires lists { lists.now.lists ≡ 3 }
 {
     for list in 0..3 {
         let first = plain.get(first_from(plain, 0, list)).map(|held| held.node);
@@ -235,6 +281,12 @@ fn compare_nexts(rt: &impl Abort, lists: &Lists, plain: &[Held]) {
     }
 }
 
+/// The order of one of few times and this stamp, as a sleeper's: of those of one time, stamps tell.
+fn order_of(random: u64, stamp: u16) -> u128 {
+    let time = u128::from(stamp) / 16 + u128::from((random >> 50) % 4);
+    time * (1 << 64) + u128::from(stamp)
+}
+
 /// Makes one call, of this random number, on both.
 fn call(
     rt: &impl Abort,
@@ -243,18 +295,18 @@ fn call(
     random: u64,
     stamp: u16,
 ) -> Result<(), NoMemory>
-    requires lists { length lists.old.lists ≡ 3 }
-    requires sorted { IsSorted (list_at lists.old 2) }
-    ensures lists { length lists.new.lists ≡ 3 }
-    ensures sorted { IsSorted (list_at lists.new 2) }
+    requires lists { lists.old.lists ≡ 3 }
+    requires works { length lists.old.ranks ≡ 12 }
+    ensures lists { lists.new.lists ≡ 3 }
+    ensures works { length lists.new.ranks ≡ 12 }
 {
     let list = ((random >> 33) % 3) as usize;
-    let new = node(u128::from(stamp) + u128::from((random >> 50) % 16), stamp);
+    let work = ((random >> 20) % 12) as u16;
     match (random >> 40) % 4 {
         0 => pop(rt, lists, plain, list),
         1 => unlink(rt, lists, plain, (random >> 45) as usize),
-        _ if list == SORTED => insert(lists, plain, new)?,
-        _ => push(lists, plain, list, new)?,
+        _ if list == SORTED => insert(rt, lists, plain, node(order_of(random, stamp), work))?,
+        _ => push(rt, lists, plain, list, node(u128::from(stamp), work))?,
     }
     Ok(())
 }
