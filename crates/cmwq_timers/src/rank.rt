@@ -1,5 +1,5 @@
 //! Which of two timers fires first.
-ghost use Rattle.cmwq_timers.specs.Tree.{lesser, no_rank, rank_of};
+ghost use Rattle.cmwq_timers.specs.Tree.{rank_of, ranks_before};
 ghost use Rattle.std.specs.Prelude.{◌≡◌};
 
 use crate::timer::Timer;
@@ -15,22 +15,15 @@ pub(crate) struct Rank {
 }
 
 impl Rank {
-    /// The rank of a work without a timer. No timer has it, since no work has this number.
-    pub(crate) fn none() -> Rank
-        ensures { result ≡ no_rank }
-    {
-        Rank {
-            order: u128::MAX,
-            work: u16::MAX,
-        }
-    }
-
-    /// The rank of a timer, or of none.
+    /// The rank of a timer, or of none: the greatest, which no timer has, since no work has this number.
     pub(crate) fn of(timer: Option<Timer>) -> Rank
         ensures { result ≡ rank_of timer }
     {
         match timer {
-            None => Rank::none(),
+            None => Rank {
+                order: u128::MAX,
+                work: u16::MAX,
+            },
             Some(timer) => Rank {
                 order: u128::from(timer.due) * (1 << 64) + u128::from(timer.stamp),
                 work: timer.work.0,
@@ -38,16 +31,11 @@ impl Rank {
         }
     }
 
-    /// The lesser of two ranks. Which one it is can't be foretold, so it is found without a jump, by `|` and `min`:
-    /// a jump that the processor foretold wrongly costs more than all else here.
-    pub(crate) fn lesser(self, other: Rank) -> Rank
-        ensures { result ≡ lesser self other }
+    /// Whether the timer of this rank fires before that of the other. Which one does can't be foretold, so it is found without a jump, by `|`
+    /// and `&`: a jump that the processor foretold wrongly costs more than all else here.
+    pub(crate) fn is_before(self, other: Rank) -> bool
+        ensures { result ≡ ranks_before self other }
     {
-        let is_other = (other.order < self.order)
-            | ((other.order == self.order) & (other.work < self.work));
-        Rank {
-            order: self.order.min(other.order),
-            work: if is_other { other.work } else { self.work },
-        }
+        (self.order < other.order) | ((self.order == other.order) & (self.work < other.work))
     }
 }

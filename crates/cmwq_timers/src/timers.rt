@@ -1,6 +1,6 @@
 //! The timers.
 ghost use Rattle.cmwq_timers.specs.Timers.{due_by, least_timer, timer_at, without_timer};
-ghost use Rattle.cmwq_timers.specs.Tree.{AreRanked, IsOwn, IsSettledBut, no_rank, rank_at};
+ghost use Rattle.cmwq_timers.specs.Tree.{AreWinners, AreWonApart, HasLeaves, IsOwn, IsTree, sooner};
 ghost use Rattle.std.specs.Prelude.{◌≡◌, ℕ, ◌+◌, ◌*◌, ◌<◌, ◌≤◌, ◌/◌, ◌^◌, IfOk, IfSome, length, None, replicate, slice_set, Some};
 
 use crate::rank::Rank;
@@ -11,13 +11,13 @@ use std::marker::Model;
 
 /// A timer for each of some works, the works numbered from 0.
 ///
-/// Above the timers is a tree of their ranks: each work has a leaf, and each node above has the lesser of its two
-/// children's, so the root, node 1, has the least. A change of one timer is carried from its leaf to the root. All
-/// room is taken by `new` and `copy`.
+/// Above the timers is a tree of winners: each work has a leaf, and of the works whose leaves lie below a node the one whose timer fires
+/// first has won it, so the winner of node 1, the root, fires first of all. A change of one timer is carried up from its leaf, no further
+/// than to a node that another work wins and had won before. All room is taken by `new` and `copy`.
 #[derive(Drop)]
 pub struct Timers {
     timers: Vec<Option<Timer>>,
-    ranks: Vec<Rank>,
+    winners: Vec<u16>,
 }
 
 impl Model for Timers {
@@ -26,11 +26,11 @@ impl Model for Timers {
 
     ghost Value = { List (Option Timer) };
 
-    ghost use Rattle.cmwq_timers.specs.Tree.{AreRanked};
+    ghost use Rattle.cmwq_timers.specs.Tree.{IsTree};
 
     ghost view = { λ t. t.timers.items };
 
-    ghost invariant = { λ t. AreRanked t.timers.items t.ranks.items };
+    ghost invariant = { λ t. IsTree t.timers.items t.winners.items };
 }
 
 impl Timers {
@@ -41,8 +41,8 @@ impl Timers {
     {
         let works = usize::from(capacity);
         let timers = filled(alloc, None, works)?;
-        let ranks = filled(alloc, Rank::none(), 2 * works)?;
-        Ok(Timers { timers, ranks })
+        let winners = first_winners(alloc, capacity)?;
+        Ok(Timers { timers, winners })
     }
 
     /// Timers equal to these, with the same room. The only error is want of memory.
@@ -51,8 +51,8 @@ impl Timers {
     {
         let alloc = *self.timers.allocator();
         let timers = Vec::from_slice(alloc, &self.timers)?;
-        let ranks = Vec::from_slice(alloc, &self.ranks)?;
-        Ok(Timers { timers, ranks })
+        let winners = Vec::from_slice(alloc, &self.winners)?;
+        Ok(Timers { timers, winners })
     }
 
     /// Starts a work's timer.
@@ -61,8 +61,8 @@ impl Timers {
         requires absent { timer_at self.old timer.work.0 ≡ None }
         ensures put { self.new ≡ slice_set self.old timer.work.0 (Some timer) }
     {
-        let Timers { timers, ranks } = self;
-        change(timers, ranks, usize::from(timer.work.0), Some(timer));
+        let Timers { timers, winners } = self;
+        change(timers, winners, timer.work.0, Some(timer));
     }
 
     /// Takes a work's timer away, if it has one.
@@ -71,8 +71,8 @@ impl Timers {
         ensures rest { self.new ≡ slice_set self.old work.0 None }
     {
         let timer = self.get(work)?;
-        let Timers { timers, ranks } = self;
-        change(timers, ranks, usize::from(work.0), None);
+        let Timers { timers, winners } = self;
+        change(timers, winners, work.0, None);
         Some(timer)
     }
 
@@ -82,8 +82,8 @@ impl Timers {
         ensures least { result ≡ least_timer self.now }
         ensures own { IfSome result (λ timer. timer_at self.now timer.work.0 ≡ Some timer) }
     {
-        let least = self.ranks.get(1)?;
-        self.get(WorkId(least.work))
+        let least = self.winners.get(1)?;
+        self.get(WorkId(*least))
     }
 
     /// Takes away the timer that fires next, if it is due by this tick.
@@ -95,8 +95,8 @@ impl Timers {
         if timer.due > now {
             return None;
         }
-        let Timers { timers, ranks } = self;
-        change(timers, ranks, usize::from(timer.work.0), None);
+        let Timers { timers, winners } = self;
+        change(timers, winners, timer.work.0, None);
         Some(timer)
     }
 
@@ -109,37 +109,73 @@ impl Timers {
     }
 }
 
-/// Gives a work another timer, or none.
-fn change(timers: &mut [Option<Timer>], ranks: &mut [Rank], work: usize, timer: Option<Timer>)
-    requires kept { AreRanked timers.old ranks.old }
-    requires work { work < length timers.old }
-    requires own { IfSome timer (IsOwn work) }
-    ensures kept { AreRanked timers.new ranks.new }
-    ensures timers { timers.new ≡ slice_set timers.old work timer }
+/// The winners of a tree without timers.
+fn first_winners(alloc: Global, works: u16) -> Result<Vec<u16>, NoMemory>
+    ensures { IfOk result (λ winners. AreWinners (replicate works None) winners.items) }
 {
-    timers[work] = timer;
-    let leaf = timers.len() + work;
-    ranks[leaf] = Rank::of(timer);
-    settle(ranks, timers.len(), leaf);
+    let mut winners = filled(alloc, 0, 2 * usize::from(works))?;
+    put_leaves(&mut winners, works);
+    win_left(&mut winners, usize::from(works));
+    Ok(winners)
 }
 
-/// Carries a change at a leaf up to the root.
-fn settle(ranks: &mut [Rank], leaves: usize, leaf: usize)
-    requires ranks { length ranks.old ≡ 2 * leaves }
-    requires fits { leaves < 2 ^ 16 }
-    requires first { 0 < leaf }
-    requires leaf { leaf < 2 * leaves }
-    requires settled { IsSettledBut ranks.old leaves (leaf / 2) }
-    ensures settled { IsSettledBut ranks.new leaves 0 }
-    ensures leaves { (i : ℕ) → leaves ≤ i → rank_at ranks.new i ≡ rank_at ranks.old i }
-    ensures ranks { length ranks.new ≡ length ranks.old }
+/// Has each work win its leaf.
+fn put_leaves(winners: &mut [u16], works: u16)
+    requires { length winners.old ≡ 2 * works }
+    ensures { HasLeaves works winners.new }
 {
-    let mut at = leaf;
-    let mut rank = ranks[at];
-    while at > 1 {
-        let beside = ranks[at + 1 - 2 * (at % 2)];
-        at /= 2;
-        rank = rank.lesser(beside);
-        ranks[at] = rank;
+    for work in 0..works {
+        winners[usize::from(works) + usize::from(work)] = work;
     }
+}
+
+/// Has each inner node won by who has won the first of the two below it.
+fn win_left(winners: &mut [u16], leaves: usize)
+    requires leaves { HasLeaves leaves winners.old }
+    ensures won { AreWinners (replicate leaves None) winners.new }
+{
+    for at in (1..leaves).rev() {
+        winners[at] = winners[2 * at];
+    }
+}
+
+/// Gives a work another timer, or none.
+fn change(timers: &mut [Option<Timer>], winners: &mut [u16], work: u16, timer: Option<Timer>)
+    requires kept { IsTree timers.old winners.old }
+    requires work { work < length timers.old }
+    requires own { IfSome timer (IsOwn work) }
+    ensures kept { IsTree timers.new winners.new }
+    ensures timers { timers.new ≡ slice_set timers.old work timer }
+{
+    timers[usize::from(work)] = timer;
+    settle(timers, winners, work);
+}
+
+/// Lets a work whose timer is another than before win again what it wins, from its leaf up, as far as anything changes.
+fn settle(timers: &[Option<Timer>], winners: &mut [u16], work: u16)
+    requires apart { AreWonApart timers.now winners.old work }
+    ensures won { AreWinners timers.now winners.new }
+{
+    let mut at = timers.len() + usize::from(work);
+    let mut winner = work;
+    while at > 1 {
+        let beside = winners[at + 1 - 2 * (at % 2)];
+        at /= 2;
+        winner = sooner(timers, winner, beside);
+        if winner != work && winners[at] == winner {
+            return;
+        }
+        winners[at] = winner;
+    }
+}
+
+/// Of two works the one whose timer fires first, the first of them where both are the same or neither has one.
+fn sooner(timers: &[Option<Timer>], one: u16, other: u16) -> u16
+    requires one { one < length timers.now }
+    requires other { other < length timers.now }
+    ensures { result ≡ sooner timers.now one other }
+{
+    let first = Rank::of(timers[usize::from(one)]);
+    let second = Rank::of(timers[usize::from(other)]);
+    if second.is_before(first) { other } else { one }
 }
