@@ -6,7 +6,7 @@ use Rattle.cmwq_types.proofs.FirstLemmas.{by_least_two-order, first_below-unique
 use Rattle.cmwq_timers.specs.declared.rank.Rank.{Rank}
 use Rattle.cmwq_timers.specs.declared.timer.Timer.{Timer}
 use Rattle.cmwq_timers.specs.Timers.{timer_at, timer_due, timer_stamp, fires_before, first_to_fire, least_timer}
-use Rattle.cmwq_timers.specs.Tree.{AreWinners, HasLeaves, HasWon, IsOwn, IsTree, no_rank, rank_at, rank_of, ranks_before, sooner, winner_at}
+use Rattle.cmwq_timers.specs.Tree.{AreWinners, HasLeaves, HasWon, IsOwn, IsTree, lesser, no_rank, rank_at, rank_of, ranks_before, sooner, winner_at}
 
 -- ranks are ordered
 pub not_before_itself : (a : Rank) → ranks_before a a ≡ false
@@ -17,6 +17,13 @@ one_way a b before = grind (arith, nat_tests)
 
 pub onward : (a b c : Rank) → ranks_before a b ≡ false → ranks_before b c ≡ false → ranks_before a c ≡ false
 onward a b c first second = grind (arith, nat_tests)
+
+pub lesser-at : (timers : List (Option Timer)) (one other : ℕ) → lesser (rank_at timers one) (rank_at timers other) ≡ rank_at timers (sooner timers one other)
+lesser-at timers one other = by_test (ranks_before (rank_at timers other) (rank_at timers one))
+  where
+    by_test : (test : Bool) → cond test (rank_at timers other) (rank_at timers one) ≡ rank_at timers (cond test other one)
+    by_test true = refl
+    by_test false = refl
 
 pub sooner-won : (timers : List (Option Timer)) (one other : ℕ) → HasWon timers (sooner timers one other) one other
 sooner-won timers one other = by_test (ranks_before (rank_at timers other) (rank_at timers one)) refl

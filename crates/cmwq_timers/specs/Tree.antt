@@ -20,6 +20,9 @@ rank_of (Some timer) = record { order = timer.due * 2 ^ 64 + timer.stamp; work =
 abbrev pub rank_at : List (Option Timer) → ℕ → Rank
 rank_at timers work = rank_of (timer_at timers work)
 
+abbrev pub lesser : Rank → Rank → Rank
+lesser a b = if ranks_before b a then b else a
+
 -- of two works the one whose timer fires first
 abbrev pub sooner : List (Option Timer) → ℕ → ℕ → ℕ
 sooner timers one other = if ranks_before (rank_at timers other) (rank_at timers one) then other else one

@@ -1,5 +1,5 @@
 //! Which of two timers fires first.
-ghost use Rattle.cmwq_timers.specs.Tree.{rank_of, ranks_before};
+ghost use Rattle.cmwq_timers.specs.Tree.{lesser, rank_of, ranks_before};
 ghost use Rattle.std.specs.Prelude.{◌≡◌};
 
 use crate::timer::Timer;
@@ -33,9 +33,22 @@ impl Rank {
 
     /// Whether the timer of this rank fires before that of the other. Which one does can't be foretold, so it is found without a jump, by `|`
     /// and `&`: a jump that the processor foretold wrongly costs more than all else here.
+    #[inline(always)]
     pub(crate) fn is_before(self, other: Rank) -> bool
         ensures { result ≡ ranks_before self other }
     {
         (self.order < other.order) | ((self.order == other.order) & (self.work < other.work))
+    }
+
+    /// The lesser of two ranks, found without a jump.
+    #[inline(always)]
+    pub(crate) fn lesser(self, other: Rank) -> Rank
+        ensures { result ≡ lesser self other }
+    {
+        let is_other = other.is_before(self);
+        Rank {
+            order: self.order.min(other.order),
+            work: if is_other { other.work } else { self.work },
+        }
     }
 }

@@ -1,6 +1,6 @@
 //! The timers.
 ghost use Rattle.cmwq_timers.specs.Timers.{due_by, least_timer, timer_at, without_timer};
-ghost use Rattle.cmwq_timers.specs.Tree.{AreWinners, AreWonApart, HasLeaves, IsOwn, IsTree, sooner};
+ghost use Rattle.cmwq_timers.specs.Tree.{AreWinners, AreWonApart, HasLeaves, IsOwn, IsTree};
 ghost use Rattle.std.specs.Prelude.{◌≡◌, ℕ, ◌+◌, ◌*◌, ◌<◌, ◌≤◌, ◌/◌, ◌^◌, IfOk, IfSome, length, None, replicate, slice_set, Some};
 
 use crate::rank::Rank;
@@ -158,24 +158,20 @@ fn settle(timers: &[Option<Timer>], winners: &mut [u16], work: u16)
 {
     let mut at = timers.len() + usize::from(work);
     let mut winner = work;
+    let mut rank = Rank::of(timers[usize::from(work)]);
     while at > 1 {
-        let beside = winners[at + 1 - 2 * (at % 2)];
+        let other = winners[at + 1 - 2 * (at % 2)];
+        let beside = Rank::of(timers[usize::from(other)]);
         at /= 2;
-        winner = sooner(timers, winner, beside);
+        winner = if beside.is_before(rank) {
+            other
+        } else {
+            winner
+        };
+        rank = rank.lesser(beside);
         if winner != work && winners[at] == winner {
             return;
         }
         winners[at] = winner;
     }
-}
-
-/// Of two works the one whose timer fires first, the first of them where both are the same or neither has one.
-fn sooner(timers: &[Option<Timer>], one: u16, other: u16) -> u16
-    requires one { one < length timers.now }
-    requires other { other < length timers.now }
-    ensures { result ≡ sooner timers.now one other }
-{
-    let first = Rank::of(timers[usize::from(one)]);
-    let second = Rank::of(timers[usize::from(other)]);
-    if second.is_before(first) { other } else { one }
 }

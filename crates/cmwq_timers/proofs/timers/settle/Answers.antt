@@ -1,42 +1,68 @@
-use Rattle.std.proofs.Common.{◌≡◌, ◌+◌, ◌-◌, ◌*◌, ◌%◌, ℕ, arith, ap, ◌∙◌}
-use Rattle.cmwq_timers.specs.Tree.{sooner, winner_at}
+use Rattle.std.proofs.Common.{◌≡◌, ◌+◌, ◌-◌, ◌*◌, ◌%◌, ◌≤◌, Bool, cond, arith, sym, ap, ◌∙◌}
+use Rattle.cmwq_timers.specs.declared.rank.Rank.{Rank}
+use Rattle.cmwq_timers.specs.Tree.{lesser, rank_at, ranks_before, sooner, winner_at}
 use Rattle.cmwq_timers.proofs.SettleLemmas.{arrives, goes-up, sets-out, stops-early}
+use Rattle.cmwq_timers.proofs.TreeLemmas.{lesser-at}
 use Rattle.cmwq_timers.proofs.timers.settle.Goals as goal
+use Rattle.cmwq_timers.proofs.timers.settle.Goals.{then-is_before, else-is_before}
 
 pub loop-at-init : goal.loop-at-init
-loop-at-init c = rw c.from.ensures (sets-out c.args.timers.now c.args.winners.now c.args.work c.requires.apart)
-
-pub sooner-winner-requires-clause-one : goal.sooner-winner-requires-clause-one
-sooner-winner-requires-clause-one c =
-    let way = c.loop-at.invariant in
-    rw way.is (way.works c.loop-at.at way.above way.inside)
-
-pub sooner-winner-requires-clause-other : goal.sooner-winner-requires-clause-other
-sooner-winner-requires-clause-other c =
-    let way = c.loop-at.invariant in
-    let low = c.loop-at-test.true in
-    let inside = way.inside in
-    way.works (c.loop-at.at + 1 - 2 * (c.loop-at.at % 2)) (omega (arith, low)) (omega (arith, low, inside))
+loop-at-init c = record {
+  way = rw c.from.ensures (sets-out c.args.timers.now c.args.winners.now c.args.work c.requires.apart);
+  rank = c.of-rank.ensures ∙ ap (rank_at c.args.timers.now) c.from-2.ensures;
+}
 
 pub returns-then-winners-at : goal.returns-then-winners-at
 returns-then-winners-at c =
-    let way = c.loop-at.invariant in
+    let timers = c.args.timers.now in
+    let was = c.loop-at.invariant in
+    let winners = c.loop-at.winners in
     let at = c.loop-at.at in
-    let is : c.sooner-winner.result ≡ sooner c.args.timers.now (winner_at c.loop-at.winners at) (winner_at c.loop-at.winners (at + 1 - 2 * (at % 2))) =
-    c.sooner-winner.ensures ∙ ap (λ (w : ℕ). sooner c.args.timers.now w (winner_at c.loop-at.winners (at + 1 - 2 * (at % 2)))) way.is
+    let one = winner_at winners at in
+    let other = winner_at winners (at + 1 - 2 * (at % 2)) in
+    let mine : c.loop-at.rank ≡ rank_at timers one = was.rank ∙ ap (rank_at timers) was.way.is in
+    let beside : c.of-beside.result ≡ rank_at timers other = c.of-beside.ensures ∙ ap (rank_at timers) c.from-in-loop-at.ensures in
+    let test : ranks_before (rank_at timers other) (rank_at timers one) ≡ c.is_before.result =
+    sym (c.is_before.ensures ∙ ap (λ (r : Rank). ranks_before r c.loop-at.rank) beside ∙ ap (ranks_before (rank_at timers other)) mine)
     in
-    record { won = stops-early c.args.timers.now c.args.winners.now c.loop-at.winners c.args.work at c.loop-at.winner c.sooner-winner.result c.requires.apart way c.loop-at-test.true is c.if-winner-work.true c.if-winners-at.true }
+    let is : c.if-is_before.winner ≡ sooner timers one other =
+    elim c.if-is_before.branch [
+      | then-is_before w ↦ w.winner-is ∙ sym (ap (λ (b : Bool). cond b other one) (test ∙ w.if-is_before.true))
+      | else-is_before w ↦ w.winner-is ∙ was.way.is ∙ sym (ap (λ (b : Bool). cond b other one) (test ∙ w.if-is_before.false))
+    ]
+    in
+    record { won = stops-early timers c.args.winners.now winners c.args.work at c.loop-at.winner c.if-is_before.winner c.requires.apart was.way c.loop-at-test.true is c.if-winner-work.true c.if-winners-at.true }
 
 pub loop-at-preserved : goal.loop-at-preserved
 loop-at-preserved c =
-    let way = c.loop-at.invariant in
+    let timers = c.args.timers.now in
+    let was = c.loop-at.invariant in
+    let winners = c.loop-at.winners in
     let at = c.loop-at.at in
-    let is : c.sooner-winner.result ≡ sooner c.args.timers.now (winner_at c.loop-at.winners at) (winner_at c.loop-at.winners (at + 1 - 2 * (at % 2))) =
-    c.sooner-winner.ensures ∙ ap (λ (w : ℕ). sooner c.args.timers.now w (winner_at c.loop-at.winners (at + 1 - 2 * (at % 2)))) way.is
+    let one = winner_at winners at in
+    let other = winner_at winners (at + 1 - 2 * (at % 2)) in
+    let mine : c.loop-at.rank ≡ rank_at timers one = was.rank ∙ ap (rank_at timers) was.way.is in
+    let beside : c.of-beside.result ≡ rank_at timers other = c.of-beside.ensures ∙ ap (rank_at timers) c.from-in-loop-at.ensures in
+    let test : ranks_before (rank_at timers other) (rank_at timers one) ≡ c.is_before.result =
+    sym (c.is_before.ensures ∙ ap (λ (r : Rank). ranks_before r c.loop-at.rank) beside ∙ ap (ranks_before (rank_at timers other)) mine)
     in
-    goes-up c.args.timers.now c.args.winners.now c.loop-at.winners c.args.work at c.loop-at.winner c.sooner-winner.result way c.loop-at-test.true is
+    let is : c.if-is_before.winner ≡ sooner timers one other =
+    elim c.if-is_before.branch [
+      | then-is_before w ↦ w.winner-is ∙ sym (ap (λ (b : Bool). cond b other one) (test ∙ w.if-is_before.true))
+      | else-is_before w ↦ w.winner-is ∙ was.way.is ∙ sym (ap (λ (b : Bool). cond b other one) (test ∙ w.if-is_before.false))
+    ]
+    in
+    record {
+      way = goes-up timers c.args.winners.now winners c.args.work at c.loop-at.winner c.if-is_before.winner was.way c.loop-at-test.true is;
+      rank =
+          c.lesser-rank.ensures
+          ∙ ap (λ (r : Rank). lesser r c.of-beside.result) mine
+          ∙ ap (lesser (rank_at timers one)) beside
+          ∙ lesser-at timers one other
+          ∙ ap (rank_at timers) (sym is);
+    }
 
 pub returns : goal.returns
 returns c =
     let top = c.loop-at-test.false in
-    record { won = arrives c.args.timers.now c.args.winners.now c.loop-at.winners c.args.work c.loop-at.at c.loop-at.winner c.loop-at.invariant (omega (arith, top)) }
+    record { won = arrives c.args.timers.now c.args.winners.now c.loop-at.winners c.args.work c.loop-at.at c.loop-at.winner c.loop-at.invariant.way (omega (arith, top)) }
