@@ -1,0 +1,2 @@
+//! Core.
+#![tactic(auto)]

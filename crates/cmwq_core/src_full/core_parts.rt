@@ -1,0 +1,340 @@
+//! A machine's own structure with an index for each question.
+ghost use Rattle.cmwq_table.specs.Moves.{begun};
+ghost use Rattle.std.specs.Prelude.{◌≡◌};
+
+use crate::looking::{copied_flushes, declared_max, idle_workers, pending_works, running_works};
+use cmwq_idle::IdleWorkers;
+use cmwq_parts::Parts;
+use cmwq_queued::{MAX_POOLS, QueuedWorks};
+use cmwq_reads::Sought;
+use cmwq_running::RunningWorks;
+use cmwq_table::{FlushTarget, Pending, Reads, Running, View};
+use cmwq_types::{NoMemory, Place, RESCUER, Scenario, filled};
+use std::alloc::Global;
+use std::marker::Model;
+use std::sync::Arc;
+
+/// A loaded scenario and the whole state of the instruction table: pending works with their lists and timers, running works with their lines
+/// and end times, idle workers as they became idle, and plain numbers for the rest.
+///
+/// All room is taken by `begin` and `copy`.
+#[derive(Drop)]
+pub struct CoreParts {
+    queued: QueuedWorks,
+    running: RunningWorks,
+    workers: IdleWorkers,
+    next: u64,
+    spent: u32,
+    frozen: bool,
+    pressed: bool,
+    max: Vec<u16>,
+    depth: Vec<u16>,
+    flushes: Vec<FlushTarget>,
+}
+
+impl Model for CoreParts {
+    ghost use Rattle.cmwq_core.specs.CoreLayout.{IsLaidOut};
+    ghost use Rattle.cmwq_table.specs.Ready.{Loaded};
+    ghost use Rattle.std.specs.Prelude.{vec_capacity};
+
+    ghost Value = { Loaded };
+
+    ghost view = { λ p. record {
+      scenario = p.queued.scenario;
+      state = record {
+        time = p.running.time;
+        next = p.next;
+        spent = p.spent;
+        frozen = p.frozen;
+        pressed = p.pressed;
+        max = p.max.items;
+        pending = p.queued.pending;
+        running = p.running.running;
+        depth = p.depth.items;
+        idle = p.workers.idle;
+        made = p.workers.made;
+        flushes = p.flushes.items;
+      };
+    } };
+
+    ghost invariant = { λ p. IsLaidOut p.queued p.running p.workers p.next p.max.items p.depth.items (vec_capacity p.flushes) };
+}
+
+impl Reads for CoreParts {
+    ghost loaded = { λ p. p.scenario };
+
+    ghost state = { λ p. p.state };
+
+    fn scenario(&self) -> &Scenario {
+        self.queued.scenario()
+    }
+
+    fn time(&self) -> u64 {
+        self.running.time()
+    }
+
+    fn next_stamp(&self) -> u64 {
+        self.next
+    }
+
+    fn spent(&self) -> u32 {
+        self.spent
+    }
+
+    fn is_frozen(&self) -> bool {
+        self.frozen
+    }
+
+    fn is_pressed(&self) -> bool {
+        self.pressed
+    }
+
+    fn max_of(&self, queue: u8) -> u16 {
+        self.max.get(queue as usize).copied().unwrap_or(0)
+    }
+
+    fn pending_of(&self, w: usize) -> Option<Pending> {
+        self.queued.of(w)
+    }
+
+    fn running_of(&self, w: usize) -> Option<Running> {
+        self.running.of(w)
+    }
+
+    fn depth_of(&self, w: usize) -> u16 {
+        self.depth.get(w).copied().unwrap_or(0)
+    }
+
+    fn idle_of(&self, pool: u8, worker: u8) -> Option<u64> {
+        self.workers.since(pool, worker)
+    }
+
+    fn made_of(&self, pool: u8) -> u8 {
+        self.workers.made_of(pool)
+    }
+
+    fn flush_count(&self) -> usize {
+        self.flushes.len()
+    }
+
+    fn flush_of(&self, number: usize) -> Option<FlushTarget> {
+        self.flushes.get(number).copied()
+    }
+}
+
+impl Parts for CoreParts {
+    fn begin(alloc: Global, scenario: Arc<Scenario>) -> Result<Self, NoMemory> {
+        let works = scenario.works.len();
+        Ok(CoreParts {
+            queued: QueuedWorks::new(alloc, Arc::clone(&scenario)?)?,
+            running: RunningWorks::new(alloc, Arc::clone(&scenario)?)?,
+            workers: IdleWorkers::new(alloc, scenario.pool_count(), scenario.workers)?,
+            next: 0,
+            spent: 0,
+            frozen: false,
+            pressed: false,
+            max: declared_max(alloc, &scenario.queues)?,
+            depth: filled(alloc, 0, works)?,
+            flushes: Vec::with_capacity(alloc, scenario.flushes as usize)?,
+        })
+    }
+
+    fn copy(&self) -> Result<Self, NoMemory> {
+        let alloc = *self.max.allocator();
+        Ok(CoreParts {
+            queued: self.queued.copy()?,
+            running: self.running.copy()?,
+            workers: self.workers.copy()?,
+            next: self.next,
+            spent: self.spent,
+            frozen: self.frozen,
+            pressed: self.pressed,
+            max: Vec::from_slice(alloc, &self.max)?,
+            depth: Vec::from_slice(alloc, &self.depth)?,
+            flushes: copied_flushes(alloc, &self.flushes, self.queued.scenario().flushes as usize)?,
+        })
+    }
+
+    fn look(&self) -> Result<View, NoMemory> {
+        let alloc = *self.max.allocator();
+        Ok(View {
+            time: self.running.time(),
+            next: self.next,
+            spent: self.spent,
+            frozen: self.frozen,
+            pressed: self.pressed,
+            max: Vec::from_slice(alloc, &self.max)?,
+            pending: pending_works(alloc, self.queued.all())?,
+            running: running_works(alloc, &self.running)?,
+            depth: Vec::from_slice(alloc, &self.depth)?,
+            idle: idle_workers(alloc, self.workers.all())?,
+            made: Vec::from_slice(alloc, self.workers.made())?,
+            flushes: Vec::from_slice(alloc, &self.flushes)?,
+        })
+    }
+
+    fn has_room(&self, queue: u8, pool: u8) -> bool {
+        if pool >= MAX_POOLS || queue as usize >= self.queued.scenario().queues.len() {
+            return cmwq_reads::has_room(self, queue, pool);
+        }
+        let active = self.queued.active(queue, pool) + self.running.running_in(queue, pool);
+        active < usize::from(cmwq_reads::limit(self, queue))
+    }
+
+    fn is_busy(&self) -> bool {
+        self.queued.is_busy() || self.running.freezable_running() != 0
+    }
+
+    fn may_start(&self, pool: u8) -> bool {
+        if pool >= MAX_POOLS {
+            return cmwq_reads::may_start(self, pool);
+        }
+        self.running.may_start(pool)
+    }
+
+    fn first_inactive(&self, queue: u8, pool: u8) -> Option<usize> {
+        if pool >= MAX_POOLS || queue as usize >= self.queued.scenario().queues.len() {
+            return cmwq_reads::first(self, Sought::Inactive { queue, pool });
+        }
+        self.queued.first_inactive(queue, pool)
+    }
+
+    fn first_listed(&self, pool: u8) -> Option<usize> {
+        if pool >= MAX_POOLS {
+            return cmwq_reads::first(self, Sought::Listed { pool });
+        }
+        self.queued.first_listed(pool)
+    }
+
+    fn first_rescued(&self, pool: u8) -> Option<usize> {
+        self.first_listed(pool)?;
+        cmwq_reads::first(self, Sought::Rescued { pool })
+    }
+
+    fn first_due(&self) -> Option<usize> {
+        self.queued.first_due(self.running.time())
+    }
+
+    fn first_slept(&self, pool: u8) -> Option<usize> {
+        if pool >= MAX_POOLS {
+            return cmwq_reads::first(self, Sought::Slept { pool });
+        }
+        self.running.first_slept(pool)
+    }
+
+    fn ready_head(&self, pool: u8) -> Option<usize> {
+        if pool >= MAX_POOLS {
+            return cmwq_reads::ready_head(self, pool);
+        }
+        self.running.ready_head(pool)
+    }
+
+    fn free_worker(&self, pool: u8) -> Option<u8> {
+        match self.workers.last(pool) {
+            Some(worker) => Some(worker),
+            None => cmwq_reads::new_worker(self, pool),
+        }
+    }
+
+    fn bear(&mut self, w: usize, place: Place) {
+        let stamp = self.next;
+        self.queued.put(
+            w,
+            Pending {
+                born: stamp,
+                stamp,
+                place,
+            },
+        );
+        self.next = stamp + 1;
+    }
+
+    fn unpend(&mut self, w: usize, _p: Pending) {
+        self.queued.take(w);
+    }
+
+    fn enlist(&mut self, _queue: u8, pool: u8, w: usize) {
+        if let Some(p) = self.queued.of(w) {
+            let stamp = self.next;
+            let place = Place::Listed(pool);
+            self.queued.list(w, Pending { stamp, place, ..p });
+            self.next = stamp + 1;
+        }
+    }
+
+    fn defer(&mut self, pool: u8, w: usize) {
+        self.queued.defer(w, pool);
+    }
+
+    fn start_on(&mut self, pool: u8, w: usize, worker: u8, p: Pending) {
+        let stamp = self.next;
+        self.queued.take(w);
+        self.workers.start(pool, worker);
+        self.running.begin(w, p.born, pool, worker, stamp);
+        self.next = stamp + 1;
+    }
+
+    fn rescue(&mut self, pool: u8, w: usize, p: Pending) {
+        let stamp = self.next;
+        self.queued.take(w);
+        self.running.begin(w, p.born, pool, RESCUER, stamp);
+        self.next = stamp + 1;
+    }
+
+    fn go_on(&mut self, w: usize, _r: Running, left: u32) {
+        self.running.go_on(w, left);
+    }
+
+    fn sleep(&mut self, w: usize, _r: Running, until: u64) {
+        self.running.sleep(w, until);
+    }
+
+    fn wake(&mut self, _pool: u8, w: usize) {
+        let stamp = self.next;
+        self.running.wake(w, stamp);
+        self.next = stamp + 1;
+    }
+
+    fn begin_again(&mut self, w: usize, r: Running, p: Pending) {
+        let stamp = self.next;
+        self.queued.take(w);
+        self.running.begin(w, p.born, r.pool, r.worker, stamp);
+        self.next = stamp + 1;
+    }
+
+    fn retire(&mut self, w: usize, r: Running) {
+        self.running.retire(w);
+        if r.worker != RESCUER {
+            self.workers.retire(r.pool, r.worker, self.next);
+            self.next += 1;
+        }
+    }
+
+    fn tick(&mut self) {
+        self.running.tick();
+    }
+
+    fn set_depth(&mut self, w: usize, depth: u16) {
+        self.depth[w] = depth;
+    }
+
+    fn set_max(&mut self, queue: u8, max: u16) {
+        self.max[queue as usize] = max;
+    }
+
+    fn set_frozen(&mut self, frozen: bool) {
+        self.frozen = frozen;
+    }
+
+    fn set_pressed(&mut self, pressed: bool) {
+        self.pressed = pressed;
+    }
+
+    fn push_flush(&mut self, target: FlushTarget) {
+        self.flushes.push(target).unwrap();
+    }
+
+    fn spend(&mut self, count: u32) {
+        self.spent += count;
+    }
+}
