@@ -1,0 +1,1 @@
+-- The counts are those that the table asks for.
