@@ -2,7 +2,7 @@
 use Rattle.std.proofs.Common.{◌≡◌, ◌≢◌, ℕ, ◌+◌, ◌*◌, ◌<◌, ◌≤◌, Bool, true, false, cond, nat_lt, List, length, get_or, replicate, set, Option, Some, None, IfSome, arith, refl, sym, ap, ◌∙◌, inl, inr, subst}
 use Rattle.std.proofs.lemmas.Bool.{cases_eq, cases_lt}
 use Rattle.std.proofs.lemmas.Bool.Decides.{nat_tests}
-use Rattle.std.proofs.lemmas.List.{get_or-replicate, get_or-set_same, get_or-set_other, get_or_past, length-replicate, length-set, set-set, set-get_or}
+use Rattle.std.proofs.lemmas.List.{get_or-replicate, get_or-set_same, get_or-set_other, get_or_past, length-replicate, length-set, set-set}
 use Rattle.cmwq_types.specs.Contents.{ScenarioContents}
 use Rattle.cmwq_types.specs.Scenario.{flags_at, queue_of}
 use Rattle.cmwq_types.specs.Setting.{IsSetting}
@@ -23,10 +23,6 @@ use Rattle.cmwq_timers.specs.declared.timer.Timer.{Timer}
 -- taken out of its list and put into another
 pub relisted : (c : ListContents) (w list stamp : ℕ) → with_node (with_rank c w None) list (record { order = stamp; work = record { 0 = w } }) ≡ with_rank c w (ranked (Some list) stamp)
 relisted c w list stamp = ap (λ (ranks : List (Option Rank)). record c { ranks = ranks }) (set-set c.ranks w None (ranked (Some list) stamp))
-
--- no timer, once more taken away, is the same
-pub untouched : (timers : List (Option Timer)) (w : ℕ) → timer_at timers w ≡ None → set timers w None ≡ timers
-untouched timers w none = ap (set timers w) (sym none) ∙ set-get_or timers w None
 
 -- The lists.
 
@@ -104,11 +100,11 @@ indexed_with S pending lists later_lists timers later_timers active busy later_a
     | inr differs ↦ get_or-set_other timers w v (timer_of w p) None differs ∙ is.timed v ∙ ap (timer_of v) (sym (apart v differs))
   ];
   active_counted = subst (λ (counts : List ℕ). IsTallied counts (active_classes S (set pending w p)) (length S.works))
-    (ap (λ (o : Option Pending). changed active (active_class (queue_of S w) (pending_at pending w)) (active_class (queue_of S w) o)) here ∙ sym reactive)
-    (changed_is_tallied active (active_classes S pending) (active_classes S (set pending w p)) (length S.works) w is.active_counted below (λ v differs. ap (active_class (queue_of S v)) (sym (apart v differs))));
+      (ap (λ (o : Option Pending). changed active (active_class (queue_of S w) (pending_at pending w)) (active_class (queue_of S w) o)) here ∙ sym reactive)
+      (changed_is_tallied active (active_classes S pending) (active_classes S (set pending w p)) (length S.works) w is.active_counted below (λ v differs. ap (active_class (queue_of S v)) (sym (apart v differs))));
   busy_counted = subst (λ (counts : List ℕ). IsTallied counts (busy_classes S (set pending w p)) (length S.works))
-    (ap (λ (o : Option Pending). changed busy (busy_class (flags_at S (queue_of S w)).freezable (pending_at pending w)) (busy_class (flags_at S (queue_of S w)).freezable o)) here ∙ sym rebusy)
-    (changed_is_tallied busy (busy_classes S pending) (busy_classes S (set pending w p)) (length S.works) w is.busy_counted below (λ v differs. ap (busy_class (flags_at S (queue_of S v)).freezable) (sym (apart v differs))));
+      (ap (λ (o : Option Pending). changed busy (busy_class (flags_at S (queue_of S w)).freezable (pending_at pending w)) (busy_class (flags_at S (queue_of S w)).freezable o)) here ∙ sym rebusy)
+      (changed_is_tallied busy (busy_classes S pending) (busy_classes S (set pending w p)) (length S.works) w is.busy_counted below (λ v differs. ap (busy_class (flags_at S (queue_of S v)).freezable) (sym (apart v differs))));
 }
   where
     here : pending_at (set pending w p) w ≡ p
@@ -131,9 +127,9 @@ nothing_indexed S pending lists timers active busy setting idle unlisted untimed
   ranks = λ w. ap (λ (c : ListContents). rank_at c w) unlisted ∙ none_at Rank (length S.works) w ∙ ap (rank_of (queue_of S w)) (sym (none w));
   timed = λ w. ap (λ (ts : List (Option Timer)). timer_at ts w) untimed ∙ none_at Timer (length S.works) w ∙ ap (timer_of w) (sym (none w));
   active_counted = subst (λ (counts : List ℕ). IsTallied counts (active_classes S pending) (length S.works)) (sym inactive)
-    (empty_is_tallied (MAX_POOLS * length S.queues) (active_classes S pending) (length S.works) (λ w below. ap (active_class (queue_of S w)) (none w)));
+      (empty_is_tallied (MAX_POOLS * length S.queues) (active_classes S pending) (length S.works) (λ w below. ap (active_class (queue_of S w)) (none w)));
   busy_counted = subst (λ (counts : List ℕ). IsTallied counts (busy_classes S pending) (length S.works)) (sym unbusy)
-    (empty_is_tallied 1 (busy_classes S pending) (length S.works) (λ w below. ap (busy_class (flags_at S (queue_of S w)).freezable) (none w)));
+      (empty_is_tallied 1 (busy_classes S pending) (length S.works) (λ w below. ap (busy_class (flags_at S (queue_of S w)).freezable) (none w)));
 }
   where
     none_at : (A : Type 0) (n w : ℕ) → get_or (replicate {A = Option A} n None) w None ≡ None

@@ -179,17 +179,18 @@ impl QueuedWorks {
         requires newest { IsNewest self.old.pending p.stamp }
         ensures { self.new ≡ with_pending self.old w (Some p) }
     {
-        self.set(w, Some(p));
+        self.change(w, None, Some(p));
     }
 
-    /// Gives a pending work another place and stamp, or makes it pending. Its stamp is then greater than those of all works
-    /// that were pending.
+    /// Gives a pending work another place and stamp. The stamp is greater than those of all pending works. It is as `put`
+    /// where the work isn't pending.
     pub fn list(&mut self, w: usize, p: Pending)
         requires work { w < length self.old.scenario.works }
         requires newest { IsNewest self.old.pending p.stamp }
         ensures { self.new ≡ with_pending self.old w (Some p) }
     {
-        self.set(w, Some(p));
+        let was = self.of(w);
+        self.change(w, was, Some(p));
     }
 
     /// Takes a work off, if it is pending.
@@ -197,39 +198,43 @@ impl QueuedWorks {
         requires work { w < length self.old.scenario.works }
         ensures { self.new ≡ with_pending self.old w None }
     {
-        self.set(w, None);
+        let was = self.of(w);
+        self.change(w, was, None);
     }
 
-    /// Has a pending work wait in the pool for the end of its run. It keeps its stamp, for it stands in no list.
+    /// Has a pending work wait in the pool for the end of its run. It keeps its stamp, and stands in no list. A work that
+    /// isn't pending stays so.
     pub fn defer(&mut self, w: usize, pool: u8)
         requires work { w < length self.old.scenario.works }
         ensures { self.new ≡ with_pending self.old w (deferred_in pool (pending_at self.old.pending w)) }
     {
-        let deferred = deferred_in(self.of(w), pool);
-        self.set(w, deferred);
+        let was = self.of(w);
+        self.change(w, was, deferred_in(was, pool));
     }
 
-    /// Has a work pend otherwise, or not at all, and each index with it.
-    fn set(&mut self, w: usize, p: Option<Pending>)
+    /// Has a work pend otherwise than it did, or not at all, and each index with it.
+    fn change(&mut self, w: usize, was: Option<Pending>, becomes: Option<Pending>)
         requires work { w < length self.old.scenario.works }
-        requires newest { IfSome (list_of (queue_of self.old.scenario w) p) (λ list. IsNewest self.old.pending (pending_stamp p)) }
-        ensures { self.new ≡ with_pending self.old w p }
+        requires was { pending_at self.old.pending w ≡ was }
+        requires newest { IfSome (list_of (queue_of self.old.scenario w) becomes) (λ list. IsNewest self.old.pending (pending_stamp becomes)) }
+        ensures { self.new ≡ with_pending self.old w becomes }
     {
         let queue = self.scenario.queue_of(w);
         let work = WorkId(w as u16);
         let freezable = self.scenario.flags_of(queue).freezable;
-        let was = self.of(w);
-        relist(&mut self.lists, w, list_of(queue, p), stamp_of(p));
+        let from = list_of(queue, was);
+        let to = list_of(queue, becomes);
+        relist(&mut self.lists, w, from, to, stamp_of(becomes));
         retime(
             &mut self.timers,
             work,
             timer_of(work, was),
-            timer_of(work, p),
+            timer_of(work, becomes),
         );
         self.active
-            .change(active_class(queue, was), active_class(queue, p));
+            .change(active_class(queue, was), active_class(queue, becomes));
         self.busy
-            .change(busy_class(freezable, was), busy_class(freezable, p));
-        self.pending[w] = p;
+            .change(busy_class(freezable, was), busy_class(freezable, becomes));
+        self.pending[w] = becomes;
     }
 }

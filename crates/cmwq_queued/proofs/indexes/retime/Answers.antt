@@ -1,9 +1,8 @@
 use Rattle.std.proofs.Common.{◌≡◌, List, Option, None, Some, IfSome, set, ap, sym, subst, ◌∙◌}
 use Rattle.std.proofs.lemmas.List.{set-set}
-use Rattle.cmwq_queued.proofs.indexes.retime.Goals as goal
-use Rattle.cmwq_queued.proofs.indexes.retime.Goals.{then-is_some, else-is_some}
-use Rattle.cmwq_timers.specs.declared.timer.Timer.{Timer}
 use Rattle.cmwq_types.specs.declared.instr.WorkId.{WorkId}
+use Rattle.cmwq_queued.proofs.indexes.retime.Goals as goal
+use Rattle.cmwq_timers.specs.declared.timer.Timer.{Timer}
 
 pub returns-in-Some : goal.returns-in-Some
 returns-in-Some c =
@@ -11,11 +10,8 @@ returns-in-Some c =
     let w = c.args.work.0 in
     let timer = c.in-Some.timer in
     let own : timer.work ≡ c.args.work = subst (λ (o : Option Timer). IfSome o (λ t. t.work ≡ c.args.work)) c.in-Some.is c.requires.own in
-    let taken : set c.if-is_some.timers w (Some timer) ≡ set timers w (Some timer) = elim c.if-is_some.branch [
-      | then-is_some b ↦ ap (λ (ts : List (Option Timer)). set ts w (Some timer)) (b.timers-is ∙ b.take.ensures.rest) ∙ set-set timers w None (Some timer)
-      | else-is_some b ↦ ap (λ (ts : List (Option Timer)). set ts w (Some timer)) b.timers-is
-    ] in
     c.put.ensures.put
-    ∙ ap (λ (at : WorkId). set c.if-is_some.timers at.0 (Some timer)) own
-    ∙ taken
+    ∙ ap (λ (at : WorkId). set c.untime.new.timers at.0 (Some timer)) own
+    ∙ ap (λ (ts : List (Option Timer)). set ts w (Some timer)) c.untime.ensures
+    ∙ set-set timers w None (Some timer)
     ∙ ap (set timers w) (sym c.in-Some.is)

@@ -1,1 +1,0 @@
--- The counts are those that the table asks for.
