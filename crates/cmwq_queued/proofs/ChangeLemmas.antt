@@ -24,42 +24,6 @@ use Rattle.cmwq_timers.specs.declared.timer.Timer.{Timer}
 pub relisted : (c : ListContents) (w list stamp : ℕ) → with_node (with_rank c w None) list (record { order = stamp; work = record { 0 = w } }) ≡ with_rank c w (ranked (Some list) stamp)
 relisted c w list stamp = ap (λ (ranks : List (Option Rank)). record c { ranks = ranks }) (set-set c.ranks w None (ranked (Some list) stamp))
 
--- The lists.
-
--- a new stamp is above all of a list
-pub above_all : (S : ScenarioContents) (pending : List (Option Pending)) (lists : ListContents) (timers : List (Option Timer)) (active busy : List ℕ) → IsIndexed S pending lists timers active busy → (stamp : ℕ) → IsNewest pending stamp → (list : ℕ) → IsAbove lists list stamp
-above_all S pending lists timers active busy is stamp newest list w stands =
-    let at = order_is_stamp S pending lists timers active busy is list w stands in
-    let low = stamp_low (pending_at pending w) (newest w) (sym (ap (is_of list) (is.ranks w)) ∙ stands) in
-    omega (arith, at, low)
-  where
-    stamp_low : (p : Option Pending) → IfSome p (λ p. p.stamp < stamp) → is_of list (rank_of (queue_of S w) p) ≡ true → pending_stamp p < stamp
-    stamp_low None low is = absurd (cc)
-    stamp_low (Some p) low is = low
-
--- each list that a place gives is there
-pub lists_in_range : (S : ScenarioContents) (pending : List (Option Pending)) (lists : ListContents) (timers : List (Option Timer)) (active busy : List ℕ) → IsIndexed S pending lists timers active busy → (w : ℕ) (p : Option Pending) → w < length S.works
-    → IfSome (list_of (queue_of S w) p) (λ list. list < lists.lists)
-lists_in_range S pending lists timers active busy is w None below = tt
-lists_in_range S pending lists timers active busy is w (Some p) below = by_place p.place
-  where
-    queue : queue_of S w < length S.queues
-    queue = is.setting.declared w below
-
-    by_place : (at : Place) → IfSome (list_at (queue_of S w) at) (λ list. list < lists.lists)
-    by_place (place.Timer due cpu) = tt
-    by_place (place.Deferred pool) = tt
-    by_place (place.Listed pool) = by_test (nat_lt pool MAX_POOLS) refl
-      where
-        by_test : (b : Bool) → nat_lt pool MAX_POOLS ≡ b → IfSome (cond b (Some pool) None) (λ list. list < lists.lists)
-        by_test true e = (let small : pool < MAX_POOLS = grind (arith, nat_tests) in omega (arith, small, is.list_room))
-        by_test false e = tt
-    by_place (place.Inactive pool) = by_test (nat_lt pool MAX_POOLS) refl
-      where
-        by_test : (b : Bool) → nat_lt pool MAX_POOLS ≡ b → IfSome (cond b (Some (MAX_POOLS + (MAX_POOLS * queue_of S w + pool))) None) (λ list. list < lists.lists)
-        by_test true e = (let small : pool < MAX_POOLS = grind (arith, nat_tests) in omega (arith, small, is.list_room, queue))
-        by_test false e = tt
-
 -- The tallies.
 
 -- what stands in a class is counted there, and no class is full

@@ -32,9 +32,9 @@ first_alike before same p q (suc n) order tests orders =
 
 -- Lists.
 
--- what a number that a pool gives is, where the pool is below one that is
-no_pool : (at number list stamp : ℕ) → is_of list (ranked (in_pool at number) stamp) ≡ nat_lt at MAX_POOLS && (number == list)
-no_pool at number list stamp = by_test (nat_lt at MAX_POOLS)
+-- what stands in a list that a pool gives
+stands_in_pool : (at number list stamp : ℕ) → is_of list (ranked (in_pool at number) stamp) ≡ nat_lt at MAX_POOLS && (number == list)
+stands_in_pool at number list stamp = by_test (nat_lt at MAX_POOLS)
   where
     by_test : (b : Bool) → is_of list (ranked (cond b (Some number) None) stamp) ≡ b && (number == list)
     by_test true = refl
@@ -47,8 +47,8 @@ listed_test queue pool (Some p) small = by_place p.place
   where
     by_place : (at : Place) → is_of pool (ranked (list_at queue at) p.stamp) ≡ is_listed at pool
     by_place (place.Timer due cpu) = refl
-    by_place (place.Inactive at) = no_pool at (inactive_list queue at) pool p.stamp ∙ grind (arith, nat_tests)
-    by_place (place.Listed at) = no_pool at at pool p.stamp ∙ grind (arith, nat_tests)
+    by_place (place.Inactive at) = stands_in_pool at (inactive_list queue at) pool p.stamp ∙ grind (arith, nat_tests)
+    by_place (place.Listed at) = stands_in_pool at at pool p.stamp ∙ grind (arith, nat_tests)
     by_place (place.Deferred at) = refl
 
 -- the list of a queue and a pool holds the queue's works that are inactive there
@@ -66,8 +66,8 @@ inactive_test queue other pool (Some p) small = by_place p.place
 
     by_place : (at : Place) → is_of (inactive_list queue pool) (ranked (list_at other at) p.stamp) ≡ (other == queue) && is_inactive at pool
     by_place (place.Timer due cpu) = fails (other == queue)
-    by_place (place.Inactive at) = no_pool at (inactive_list other at) (inactive_list queue pool) p.stamp ∙ grind (arith, nat_tests)
-    by_place (place.Listed at) = no_pool at at (inactive_list queue pool) p.stamp ∙ grind (arith, nat_tests)
+    by_place (place.Inactive at) = stands_in_pool at (inactive_list other at) (inactive_list queue pool) p.stamp ∙ grind (arith, nat_tests)
+    by_place (place.Listed at) = stands_in_pool at at (inactive_list queue pool) p.stamp ∙ grind (arith, nat_tests)
     by_place (place.Deferred at) = fails (other == queue)
 
 -- what stands in a list stands there by its stamp
@@ -78,69 +78,9 @@ stamp_of_rank queue list p is = by_list (list_of queue p) is
     by_list None is = absurd (cc)
     by_list (Some l) is = refl
 
-pub order_is_stamp : (S : ScenarioContents) (pending : List (Option Pending)) (lists : ListContents) (timers : List (Option Timer)) (active busy : List ℕ) → IsIndexed S pending lists timers active busy → (list w : ℕ) → is_in lists list w ≡ true → order_at lists w ≡ pending_stamp (pending_at pending w)
-order_is_stamp S pending lists timers active busy is list w stands =
-    ap order_in (is.ranks w) ∙ stamp_of_rank (queue_of S w) list (pending_at pending w) (sym (ap (is_of list) (is.ranks w)) ∙ stands)
-
--- the first of a list is the first by stamp of the works that it holds
-first_of_list : (S : ScenarioContents) (pending : List (Option Pending)) (lists : ListContents) (timers : List (Option Timer)) (active busy : List ℕ) → IsIndexed S pending lists timers active busy → (list : ℕ) (stands test : ℕ → Bool)
-    → ((w : ℕ) → stands w ≡ test w) → ((w : ℕ) → stands w ≡ true → is_in lists list w ≡ true)
-    → first_below (by_least (order_at lists)) stands (length lists.ranks) ≡ first_below (by_least (λ w. pending_stamp (pending_at pending w))) test (length S.works)
-first_of_list S pending lists timers active busy is list stands test same within =
-    ap (λ (n : ℕ). first_below (by_least (order_at lists)) stands n) is.listed_works
-    ∙ first_alike (by_least (order_at lists)) (by_least (λ w. pending_stamp (pending_at pending w))) stands test (length S.works) (by_least-order (order_at lists)) same
-    (λ a b p q. ap (λ (x : ℕ). nat_lt x (order_at lists b)) (stamp a p) ∙ ap (λ (x : ℕ). nat_lt (pending_stamp (pending_at pending a)) x) (stamp b q))
-  where
-    stamp : (w : ℕ) → stands w ≡ true → order_at lists w ≡ pending_stamp (pending_at pending w)
-    stamp w passes = order_is_stamp S pending lists timers active busy is list w (within w passes)
-
-pub first_listed_is : (S : ScenarioContents) (pending : List (Option Pending)) (lists : ListContents) (timers : List (Option Timer)) (active busy : List ℕ) → IsIndexed S pending lists timers active busy → (pool : ℕ) → pool < MAX_POOLS
-    → first_in lists pool ≡ first_listed S (pending_state S pending) pool
-first_listed_is S pending lists timers active busy is pool small =
-    first_of_list S pending lists timers active busy is pool (is_in lists pool) (λ w. pends (λ place. is_listed place pool) (pending_at pending w))
-    (λ w. ap (is_of pool) (is.ranks w) ∙ listed_test (queue_of S w) pool (pending_at pending w) small) (λ w passes. passes)
-
-pub first_inactive_is : (S : ScenarioContents) (pending : List (Option Pending)) (lists : ListContents) (timers : List (Option Timer)) (active busy : List ℕ) → IsIndexed S pending lists timers active busy → (queue pool : ℕ) → pool < MAX_POOLS
-    → first_in lists (inactive_list queue pool) ≡ first_inactive S (pending_state S pending) queue pool
-first_inactive_is S pending lists timers active busy is queue pool small =
-    first_of_list S pending lists timers active busy is (inactive_list queue pool) (is_in lists (inactive_list queue pool)) (λ w. (queue_of S w == queue) && pends (λ place. is_inactive place pool) (pending_at pending w))
-    (λ w. ap (is_of (inactive_list queue pool)) (is.ranks w) ∙ inactive_test queue (queue_of S w) pool (pending_at pending w) small) (λ w passes. passes)
-
--- a listed work's rank
-listed_rank : (S : ScenarioContents) (pending : List (Option Pending)) (lists : ListContents) (timers : List (Option Timer)) (active busy : List ℕ) → IsIndexed S pending lists timers active busy → (pool w : ℕ) → pool < MAX_POOLS
-    → pends (λ place. is_listed place pool) (pending_at pending w) ≡ true → is_in lists pool w ≡ true
-listed_rank S pending lists timers active busy is pool w small listed = ap (is_of pool) (is.ranks w) ∙ listed_test (queue_of S w) pool (pending_at pending w) small ∙ listed
-
-pub listed_behind_is : (S : ScenarioContents) (pending : List (Option Pending)) (lists : ListContents) (timers : List (Option Timer)) (active busy : List ℕ) → IsIndexed S pending lists timers active busy → (pool w : ℕ) → pool < MAX_POOLS
-    → pends (λ place. is_listed place pool) (pending_at pending w) ≡ true → next_in lists w ≡ listed_behind S pending pool w
-listed_behind_is S pending lists timers active busy is pool w small listed =
-    first_of_list S pending lists timers active busy is pool (is_after lists w) (λ v. pends (λ place. is_listed place pool) (pending_at pending v) && nat_lt (pending_stamp (pending_at pending w)) (pending_stamp (pending_at pending v)))
-    tests (λ v passes. here v ∙ grind (arith, nat_tests, passes))
-  where
-    stands : is_in lists pool w ≡ true
-    stands = listed_rank S pending lists timers active busy is pool w small listed
-
-    list_is : (o : Option Rank) → is_of pool o ≡ true → list_in o ≡ pool
-    list_is None e = absurd (cc)
-    list_is (Some r) e = grind (arith, nat_tests)
-
-    here : (v : ℕ) → is_in lists pool v ≡ is_in lists (list_in (rank_at lists w)) v
-    here v = ap (λ (l : ℕ). is_in lists l v) (sym (list_is (rank_at lists w) stands))
-
-    guarded : (v : ℕ) (b : Bool) → is_in lists pool v ≡ b → b && nat_lt (order_at lists w) (order_at lists v) ≡ b && nat_lt (pending_stamp (pending_at pending w)) (pending_stamp (pending_at pending v))
-    guarded v false e = refl
-    guarded v true e =
-        ap (λ (x : ℕ). nat_lt x (order_at lists v)) (order_is_stamp S pending lists timers active busy is pool w stands)
-        ∙ ap (λ (x : ℕ). nat_lt (pending_stamp (pending_at pending w)) x) (order_is_stamp S pending lists timers active busy is pool v e)
-
-    tests : (v : ℕ) → is_after lists w v ≡ pends (λ place. is_listed place pool) (pending_at pending v) && nat_lt (pending_stamp (pending_at pending w)) (pending_stamp (pending_at pending v))
-    tests v =
-        ap (λ (b : Bool). b && nat_lt (order_at lists w) (order_at lists v)) (sym (here v))
-        ∙ guarded v (is_in lists pool v) refl
-        ∙ ap (λ (b : Bool). b && nat_lt (pending_stamp (pending_at pending w)) (pending_stamp (pending_at pending v))) (ap (is_of pool) (is.ranks v) ∙ listed_test (queue_of S v) pool (pending_at pending v) small)
-
 -- Timers.
 
+-- the works with a timer, when theirs is due, and its stamp
 timer_test : (w : ℕ) (p : Option Pending) → is_some (timer_of w p) ≡ pends is_timer p
 timer_test w None = refl
 timer_test w (Some p) = by_place p.place
@@ -170,24 +110,6 @@ timer_stamp_is w (Some p) some = by_place p.place some
     by_place (place.Inactive at) some = absurd (cc)
     by_place (place.Listed at) some = absurd (cc)
     by_place (place.Deferred at) some = absurd (cc)
-
--- the first timer to fire is that of the first work with a timer
-first_to_fire_is : (S : ScenarioContents) (pending : List (Option Pending)) (lists : ListContents) (timers : List (Option Timer)) (active busy : List ℕ) → IsIndexed S pending lists timers active busy → first_to_fire timers ≡ first_timed S pending
-first_to_fire_is S pending lists timers active busy is =
-    ap (λ (n : ℕ). first_below (fires_before timers) (λ w. is_some (timer_at timers w)) n) is.timed_works
-    ∙ first_alike (fires_before timers) (by_least_two (λ w. pending_due (pending_at pending w)) (λ w. pending_stamp (pending_at pending w))) (λ w. is_some (timer_at timers w)) (λ w. pends is_timer (pending_at pending w)) (length S.works)
-    (by_least_two-order (λ w. timer_due (timer_at timers w)) (λ w. timer_stamp (timer_at timers w)))
-    (λ w. ap is_some (is.timed w) ∙ timer_test w (pending_at pending w))
-    (λ a b p q. cc_two (dues a) (dues b) (stamps a p) (stamps b q))
-  where
-    dues : (w : ℕ) → timer_due (timer_at timers w) ≡ pending_due (pending_at pending w)
-    dues w = ap timer_due (is.timed w) ∙ timer_due_is w (pending_at pending w)
-
-    stamps : (w : ℕ) → is_some (timer_at timers w) ≡ true → timer_stamp (timer_at timers w) ≡ pending_stamp (pending_at pending w)
-    stamps w some = ap timer_stamp (is.timed w) ∙ timer_stamp_is w (pending_at pending w) (sym (ap is_some (is.timed w)) ∙ some)
-
-    cc_two : {d e s t d_is e_is s_is t_is : ℕ} → d ≡ d_is → e ≡ e_is → s ≡ s_is → t ≡ t_is → (nat_lt d e || ((d == e) && nat_lt s t)) ≡ (nat_lt d_is e_is || ((d_is == e_is) && nat_lt s_is t_is))
-    cc_two one two three four = rw (one, two, three, four) refl
 
 -- a work, if it passes
 abbrev if_passes : (ℕ → Bool) → Option ℕ → Option ℕ
@@ -220,6 +142,7 @@ first_of_due before test due both (suc n) tests sooner later =
     step true false e None = rw e refl
     step true here e (Some m) = of_two m here (due m) e refl (before n m) refl
 
+-- a timer that has run out is one that is due
 due_test : (time : ℕ) (p : Option Pending) → pends (λ place. is_due place time) p ≡ pends is_timer p && nat_le (pending_due p) time
 due_test time None = refl
 due_test time (Some p) = by_place p.place
@@ -255,41 +178,123 @@ own_due w (Some p) some = by_place p.place some
 first_to_fire_has : (timers : List (Option Timer)) → MatchFirst (fires_before timers) (λ w. is_some (timer_at timers w)) (length timers) (first_to_fire timers)
 first_to_fire_has timers = first_below-is_first (fires_before timers) (λ w. is_some (timer_at timers w)) (length timers) (by_least_two-order (λ w. timer_due (timer_at timers w)) (λ w. timer_stamp (timer_at timers w)))
 
-pub first_due_is : (S : ScenarioContents) (pending : List (Option Pending)) (lists : ListContents) (timers : List (Option Timer)) (active busy : List ℕ) → IsIndexed S pending lists timers active busy → (time : ℕ)
-    → work_if_due time (least_timer timers) ≡ first_due S (record (pending_state S pending) { time = time })
-first_due_is S pending lists timers active busy is time =
-    of_found (first_to_fire timers) (first_to_fire_has timers)
-    ∙ ap (if_passes due) (first_to_fire_is S pending lists timers active busy is)
-    ∙ sym (first_of_due (by_least_two (λ w. pending_due (pending_at pending w)) (λ w. pending_stamp (pending_at pending w))) (λ w. pends is_timer (pending_at pending w)) due (λ w. pends (λ place. is_due place time) (pending_at pending w)) (length S.works)
-    (λ w. due_test time (pending_at pending w)) (λ a b here there. grind (arith, nat_tests)) (λ a b here there. grind (arith, nat_tests)))
-  where
-    due : ℕ → Bool
-    due w = nat_le (pending_due (pending_at pending w)) time
+-- What the indexes tell.
+module _ (S : ScenarioContents) (pending : List (Option Pending)) (lists : ListContents) (timers : List (Option Timer)) (active busy : List ℕ) (is : IsIndexed S pending lists timers active busy) where
+  -- the same, of a work
+  pub order_is_stamp : (list w : ℕ) → is_in lists list w ≡ true → order_at lists w ≡ pending_stamp (pending_at pending w)
+  order_is_stamp list w stands =
+      ap order_in (is.ranks w) ∙ stamp_of_rank (queue_of S w) list (pending_at pending w) (sym (ap (is_of list) (is.ranks w)) ∙ stands)
 
-    of_found : (o : Option ℕ) → MatchFirst (fires_before timers) (λ w. is_some (timer_at timers w)) (length timers) o → work_if_due time (timer_found timers o) ≡ if_passes due o
-    of_found None first = refl
-    of_found (Some m) first = ap (work_if_due time) (is.timed m) ∙ own_if_due m time (pending_at pending m) (sym (ap is_some (is.timed m)) ∙ first.passes)
+  -- the first of a list is the first by stamp of the works that it holds
+  first_of_list : (list : ℕ) (stands test : ℕ → Bool)
+      → ((w : ℕ) → stands w ≡ test w) → ((w : ℕ) → stands w ≡ true → is_in lists list w ≡ true)
+      → first_below (by_least (order_at lists)) stands (length lists.ranks) ≡ first_below (by_least (λ w. pending_stamp (pending_at pending w))) test (length S.works)
+  first_of_list list stands test same within =
+      ap (λ (n : ℕ). first_below (by_least (order_at lists)) stands n) is.listed_works
+      ∙ first_alike (by_least (order_at lists)) (by_least (λ w. pending_stamp (pending_at pending w))) stands test (length S.works) (by_least-order (order_at lists)) same
+      (λ a b p q. ap (λ (x : ℕ). nat_lt x (order_at lists b)) (stamp a p) ∙ ap (λ (x : ℕ). nat_lt (pending_stamp (pending_at pending a)) x) (stamp b q))
+    where
+      stamp : (w : ℕ) → stands w ≡ true → order_at lists w ≡ pending_stamp (pending_at pending w)
+      stamp w passes = order_is_stamp list w (within w passes)
 
-pub next_due_is : (S : ScenarioContents) (pending : List (Option Pending)) (lists : ListContents) (timers : List (Option Timer)) (active busy : List ℕ) → IsIndexed S pending lists timers active busy
-    → option_map (λ (t : Timer). t.due) (least_timer timers) ≡ next_due S pending
-next_due_is S pending lists timers active busy is =
-    of_found (first_to_fire timers) (first_to_fire_has timers)
-    ∙ ap (λ (o : Option ℕ). option_map (λ (w : ℕ). pending_due (pending_at pending w)) o) (first_to_fire_is S pending lists timers active busy is)
-  where
-    of_found : (o : Option ℕ) → MatchFirst (fires_before timers) (λ w. is_some (timer_at timers w)) (length timers) o → option_map (λ (t : Timer). t.due) (timer_found timers o) ≡ option_map (λ (w : ℕ). pending_due (pending_at pending w)) o
-    of_found None first = refl
-    of_found (Some m) first = ap (λ (o : Option Timer). option_map (λ (t : Timer). t.due) o) (is.timed m) ∙ own_due m (pending_at pending m) (sym (ap is_some (is.timed m)) ∙ first.passes)
+  -- the first of a worklist
+  pub first_listed_is : (pool : ℕ) → pool < MAX_POOLS → first_in lists pool ≡ first_listed S (pending_state S pending) pool
+  first_listed_is pool small =
+      first_of_list pool (is_in lists pool) (λ w. pends (λ place. is_listed place pool) (pending_at pending w))
+      (λ w. ap (is_of pool) (is.ranks w) ∙ listed_test (queue_of S w) pool (pending_at pending w) small) (λ w passes. passes)
 
--- The same, of what a contract sees and of the timer that was found.
+  -- the first of a list of inactive works
+  pub first_inactive_is : (queue pool : ℕ) → pool < MAX_POOLS → first_in lists (inactive_list queue pool) ≡ first_inactive S (pending_state S pending) queue pool
+  first_inactive_is queue pool small =
+      first_of_list (inactive_list queue pool) (is_in lists (inactive_list queue pool)) (λ w. (queue_of S w == queue) && pends (λ place. is_inactive place pool) (pending_at pending w))
+      (λ w. ap (is_of (inactive_list queue pool)) (is.ranks w) ∙ inactive_test queue (queue_of S w) pool (pending_at pending w) small) (λ w passes. passes)
 
-pub due_seen : (S : ScenarioContents) (pending : List (Option Pending)) (lists : ListContents) (timers : List (Option Timer)) (active busy : List ℕ) (seen : QueuedContents) → IsIndexed S pending lists timers active busy → record { scenario = S; pending = pending } ≡ seen → (time : ℕ) (found : Option Timer) → found ≡ least_timer timers
-    → work_if_due time found ≡ first_due seen.scenario (record (pending_state seen.scenario seen.pending) { time = time })
-due_seen S pending lists timers active busy seen is view time found least =
-    ap (work_if_due time) least ∙ first_due_is S pending lists timers active busy is time
-    ∙ ap (λ (m : QueuedContents). first_due m.scenario (record (pending_state m.scenario m.pending) { time = time })) view
+  -- a listed work stands in the pool's list
+  listed_rank : (pool w : ℕ) → pool < MAX_POOLS
+      → pends (λ place. is_listed place pool) (pending_at pending w) ≡ true → is_in lists pool w ≡ true
+  listed_rank pool w small listed = ap (is_of pool) (is.ranks w) ∙ listed_test (queue_of S w) pool (pending_at pending w) small ∙ listed
 
-pub next_seen : (S : ScenarioContents) (pending : List (Option Pending)) (lists : ListContents) (timers : List (Option Timer)) (active busy : List ℕ) (seen : QueuedContents) → IsIndexed S pending lists timers active busy → record { scenario = S; pending = pending } ≡ seen → (found : Option Timer) → found ≡ least_timer timers
-    → option_map (λ (t : Timer). t.due) found ≡ next_due seen.scenario seen.pending
-next_seen S pending lists timers active busy seen is view found least =
-    ap (λ (o : Option Timer). option_map (λ (t : Timer). t.due) o) least ∙ next_due_is S pending lists timers active busy is
-    ∙ ap (λ (m : QueuedContents). next_due m.scenario m.pending) view
+  -- the first of those behind it there
+  pub listed_behind_is : (pool w : ℕ) → pool < MAX_POOLS
+      → pends (λ place. is_listed place pool) (pending_at pending w) ≡ true → next_in lists w ≡ listed_behind S pending pool w
+  listed_behind_is pool w small listed =
+      first_of_list pool (is_after lists w) (λ v. pends (λ place. is_listed place pool) (pending_at pending v) && nat_lt (pending_stamp (pending_at pending w)) (pending_stamp (pending_at pending v)))
+      tests (λ v passes. here v ∙ grind (arith, nat_tests, passes))
+    where
+      stands : is_in lists pool w ≡ true
+      stands = listed_rank pool w small listed
+
+      list_is : (o : Option Rank) → is_of pool o ≡ true → list_in o ≡ pool
+      list_is None e = absurd (cc)
+      list_is (Some r) e = grind (arith, nat_tests)
+
+      here : (v : ℕ) → is_in lists pool v ≡ is_in lists (list_in (rank_at lists w)) v
+      here v = ap (λ (l : ℕ). is_in lists l v) (sym (list_is (rank_at lists w) stands))
+
+      guarded : (v : ℕ) (b : Bool) → is_in lists pool v ≡ b → b && nat_lt (order_at lists w) (order_at lists v) ≡ b && nat_lt (pending_stamp (pending_at pending w)) (pending_stamp (pending_at pending v))
+      guarded v false e = refl
+      guarded v true e =
+          ap (λ (x : ℕ). nat_lt x (order_at lists v)) (order_is_stamp pool w stands)
+          ∙ ap (λ (x : ℕ). nat_lt (pending_stamp (pending_at pending w)) x) (order_is_stamp pool v e)
+
+      tests : (v : ℕ) → is_after lists w v ≡ pends (λ place. is_listed place pool) (pending_at pending v) && nat_lt (pending_stamp (pending_at pending w)) (pending_stamp (pending_at pending v))
+      tests v =
+          ap (λ (b : Bool). b && nat_lt (order_at lists w) (order_at lists v)) (sym (here v))
+          ∙ guarded v (is_in lists pool v) refl
+          ∙ ap (λ (b : Bool). b && nat_lt (pending_stamp (pending_at pending w)) (pending_stamp (pending_at pending v))) (ap (is_of pool) (is.ranks v) ∙ listed_test (queue_of S v) pool (pending_at pending v) small)
+
+  -- the first timer to fire is that of the first work with a timer
+  first_to_fire_is : first_to_fire timers ≡ first_timed S pending
+  first_to_fire_is =
+      ap (λ (n : ℕ). first_below (fires_before timers) (λ w. is_some (timer_at timers w)) n) is.timed_works
+      ∙ first_alike (fires_before timers) (by_least_two (λ w. pending_due (pending_at pending w)) (λ w. pending_stamp (pending_at pending w))) (λ w. is_some (timer_at timers w)) (λ w. pends is_timer (pending_at pending w)) (length S.works)
+      (by_least_two-order (λ w. timer_due (timer_at timers w)) (λ w. timer_stamp (timer_at timers w)))
+      (λ w. ap is_some (is.timed w) ∙ timer_test w (pending_at pending w))
+      (λ a b p q. alike_by_two (dues a) (dues b) (stamps a p) (stamps b q))
+    where
+      dues : (w : ℕ) → timer_due (timer_at timers w) ≡ pending_due (pending_at pending w)
+      dues w = ap timer_due (is.timed w) ∙ timer_due_is w (pending_at pending w)
+
+      stamps : (w : ℕ) → is_some (timer_at timers w) ≡ true → timer_stamp (timer_at timers w) ≡ pending_stamp (pending_at pending w)
+      stamps w some = ap timer_stamp (is.timed w) ∙ timer_stamp_is w (pending_at pending w) (sym (ap is_some (is.timed w)) ∙ some)
+
+      alike_by_two : {d e s t d_is e_is s_is t_is : ℕ} → d ≡ d_is → e ≡ e_is → s ≡ s_is → t ≡ t_is → (nat_lt d e || ((d == e) && nat_lt s t)) ≡ (nat_lt d_is e_is || ((d_is == e_is) && nat_lt s_is t_is))
+      alike_by_two one two three four = rw (one, two, three, four) refl
+
+  -- of the timers that have run out, the first
+  pub first_due_is : (time : ℕ) → work_if_due time (least_timer timers) ≡ first_due S (record (pending_state S pending) { time = time })
+  first_due_is time =
+      of_found (first_to_fire timers) (first_to_fire_has timers)
+      ∙ ap (if_passes due) first_to_fire_is
+      ∙ sym (first_of_due (by_least_two (λ w. pending_due (pending_at pending w)) (λ w. pending_stamp (pending_at pending w))) (λ w. pends is_timer (pending_at pending w)) due (λ w. pends (λ place. is_due place time) (pending_at pending w)) (length S.works)
+      (λ w. due_test time (pending_at pending w)) (λ a b here there. grind (arith, nat_tests)) (λ a b here there. grind (arith, nat_tests)))
+    where
+      due : ℕ → Bool
+      due w = nat_le (pending_due (pending_at pending w)) time
+
+      of_found : (o : Option ℕ) → MatchFirst (fires_before timers) (λ w. is_some (timer_at timers w)) (length timers) o → work_if_due time (timer_found timers o) ≡ if_passes due o
+      of_found None first = refl
+      of_found (Some m) first = ap (work_if_due time) (is.timed m) ∙ own_if_due m time (pending_at pending m) (sym (ap is_some (is.timed m)) ∙ first.passes)
+
+  -- when it is due
+  pub next_due_is : option_map (λ (t : Timer). t.due) (least_timer timers) ≡ next_due S pending
+  next_due_is =
+      of_found (first_to_fire timers) (first_to_fire_has timers)
+      ∙ ap (λ (o : Option ℕ). option_map (λ (w : ℕ). pending_due (pending_at pending w)) o) first_to_fire_is
+    where
+      of_found : (o : Option ℕ) → MatchFirst (fires_before timers) (λ w. is_some (timer_at timers w)) (length timers) o → option_map (λ (t : Timer). t.due) (timer_found timers o) ≡ option_map (λ (w : ℕ). pending_due (pending_at pending w)) o
+      of_found None first = refl
+      of_found (Some m) first = ap (λ (o : Option Timer). option_map (λ (t : Timer). t.due) o) (is.timed m) ∙ own_due m (pending_at pending m) (sym (ap is_some (is.timed m)) ∙ first.passes)
+
+  -- the same, of what a contract sees and of the timer that was found
+  pub due_seen : (seen : QueuedContents) → record { scenario = S; pending = pending } ≡ seen → (time : ℕ) (found : Option Timer) → found ≡ least_timer timers
+      → work_if_due time found ≡ first_due seen.scenario (record (pending_state seen.scenario seen.pending) { time = time })
+  due_seen seen view time found least =
+      ap (work_if_due time) least ∙ first_due_is time
+      ∙ ap (λ (m : QueuedContents). first_due m.scenario (record (pending_state m.scenario m.pending) { time = time })) view
+
+  pub next_seen : (seen : QueuedContents) → record { scenario = S; pending = pending } ≡ seen → (found : Option Timer) → found ≡ least_timer timers
+      → option_map (λ (t : Timer). t.due) found ≡ next_due seen.scenario seen.pending
+  next_seen seen view found least =
+      ap (λ (o : Option Timer). option_map (λ (t : Timer). t.due) o) least ∙ next_due_is
+      ∙ ap (λ (m : QueuedContents). next_due m.scenario m.pending) view

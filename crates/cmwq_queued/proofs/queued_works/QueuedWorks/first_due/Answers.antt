@@ -6,4 +6,4 @@ pub returns-clause-first : goal.returns-clause-first
 returns-clause-first c =
     let q = c.self.inside in
     c.work_if_due.ensures
-    ∙ due_seen q.scenario.value q.pending.items q.lists q.timers q.active q.busy c.args.self.now c.self.invariant c.self.view_is c.args.time c.least.result c.least.ensures.least
+    ∙ due_seen q.scenario.value q.pending.items q.lists q.timers q.active q.busy c.self.invariant c.args.self.now c.self.view_is c.args.time c.least.result c.least.ensures.least

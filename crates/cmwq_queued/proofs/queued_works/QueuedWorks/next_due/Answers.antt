@@ -6,4 +6,4 @@ pub returns : goal.returns
 returns c =
     let q = c.self.inside in
     c.due_of.ensures
-    ∙ next_seen q.scenario.value q.pending.items q.lists q.timers q.active q.busy c.args.self.now c.self.invariant c.self.view_is c.least.result c.least.ensures.least
+    ∙ next_seen q.scenario.value q.pending.items q.lists q.timers q.active q.busy c.self.invariant c.args.self.now c.self.view_is c.least.result c.least.ensures.least
