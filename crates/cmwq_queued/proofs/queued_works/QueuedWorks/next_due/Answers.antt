@@ -1,0 +1,9 @@
+use Rattle.std.proofs.Common.{◌∙◌}
+use Rattle.cmwq_queued.proofs.FoundLemmas.{next_seen}
+use Rattle.cmwq_queued.proofs.queued_works.QueuedWorks.next_due.Goals as goal
+
+pub returns : goal.returns
+returns c =
+    let q = c.self.inside in
+    c.due_of.ensures
+    ∙ next_seen q.scenario.value q.pending.items q.lists q.timers q.active q.busy c.self.invariant c.args.self.now c.self.view_is c.least.result c.least.ensures.least
