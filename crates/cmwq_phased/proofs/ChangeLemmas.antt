@@ -1,5 +1,5 @@
 -- A change of one run, and a start with none.
-use Rattle.std.proofs.Common.{◌≡◌, ◌≢◌, ℕ, ◌+◌, ◌*◌, ◌^◌, ◌<◌, ◌≤◌, Bool, true, false, cond, List, length, replicate, set, Option, Some, None, IfSome, arith, refl, sym, ap, subst, ◌∙◌, inl, inr}
+use Rattle.std.proofs.Common.{◌≡◌, ◌≢◌, ℕ, ◌*◌, ◌^◌, ◌<◌, ◌≤◌, Bool, true, false, List, length, replicate, set, Option, Some, None, IfSome, arith, refl, sym, ap, subst, ◌∙◌, inl, inr}
 use Rattle.std.specs.Prelude.{slice_index_or}
 use Rattle.std.proofs.lemmas.Bool.{cases_eq, cases_lt}
 use Rattle.std.proofs.lemmas.List.{get_or-set_same, get_or-set_other, get_or-replicate, get_or_past, length-set, length-replicate, set-get_or}
@@ -17,7 +17,6 @@ use Rattle.cmwq_phased.specs.declared.counts.Counts.{Counts}
 use Rattle.cmwq_phased.specs.declared.pools.TheConstants.{MAX_POOLS}
 use Rattle.cmwq_tally.specs.TallyContents.{IsTallied, changed, count_of}
 use Rattle.cmwq_tally.proofs.TallyLemmas.{changed-length, changed_is_tallied, each_is_counted, empty_is_tallied, few_are_counted}
-use Rattle.cmwq_timers.specs.Timers.{timer_at}
 use Rattle.cmwq_timers.specs.declared.timer.Timer.{Timer}
 
 -- One work runs otherwise.
@@ -61,12 +60,18 @@ timed_with S runs alarms w run timed long inside = record {
   ties = ties_with alarms runs alarm_of w run (omega (arith, inside, timed.long)) (omega (arith, inside, long)) timed.ties;
 }
 
+pub timed_still : (S : ScenarioContents) (runs : List (Option Run)) (alarms : List (Option Timer)) (w : ℕ) (run : Option Run) → AreTimed S runs alarms → length runs ≡ length S.works → w < length S.works → alarm_of w (run_at runs w) ≡ alarm_of w run
+    → AreTimed S (set runs w run) alarms
+timed_still S runs alarms w run timed long inside same =
+    let kept : set alarms w (alarm_of w run) ≡ alarms = ap (set alarms w) (sym same ∙ sym (timed.ties w)) ∙ set-get_or alarms w None in
+    subst (AreTimed S (set runs w run)) kept (timed_with S runs alarms w run timed long inside)
+
 tallied_with : (counts : List ℕ) (runs : List (Option Run)) (class : ℕ → Option Run → Option ℕ) (works w : ℕ) (run : Option Run) → IsTallied counts (λ v. class v (run_at runs v)) works → w < works → w < length runs
     → IsTallied (changed counts (class w (run_at runs w)) (class w run)) (λ v. class v (run_at (set runs w run) v)) works
 tallied_with counts runs class works w run right inside runs_inside =
     subst (λ (o : Option Run). IsTallied (changed counts (class w (run_at runs w)) (class w o)) (λ v. class v (run_at (set runs w run) v)) works) (get_or-set_same runs w run None runs_inside)
     (changed_is_tallied counts (λ v. class v (run_at runs v)) (λ v. class v (run_at (set runs w run) v)) works w right inside
-     (λ v other. ap (class v) (sym (get_or-set_other runs w v run None other))))
+    (λ v other. ap (class v) (sym (get_or-set_other runs w v run None other))))
 
 pub counted_with : (S : ScenarioContents) (runs : List (Option Run)) (c : Counts) (w : ℕ) (run : Option Run) → AreCounted S runs c → length runs ≡ length S.works → w < length S.works
     → AreCounted S (set runs w run) (record {
@@ -92,13 +97,13 @@ own_with : (runs : List (Option Run)) (w : ℕ) (run : Option Run) → w < lengt
 own_with runs w run inside own alone u v a b u_is v_is same =
     elim (cases_eq u w) [
       | inl u_here ↦ elim (cases_eq v w) [
-          | inl v_here ↦ u_here ∙ sym v_here
-          | inr v_other ↦ absurd (clash run a b v v_other (here u u_here a u_is) (other v v_other b v_is) alone same)
-        ]
+        | inl v_here ↦ u_here ∙ sym v_here
+        | inr v_other ↦ absurd (clash run a b v v_other (here u u_here a u_is) (other v v_other b v_is) alone same)
+      ]
       | inr u_other ↦ elim (cases_eq v w) [
-          | inl v_here ↦ absurd (clash run b a u u_other (here v v_here b v_is) (other u u_other a u_is) alone (sym same))
-          | inr v_other ↦ own u v a b (other u u_other a u_is) (other v v_other b v_is) same
-        ]
+        | inl v_here ↦ absurd (clash run b a u u_other (here v v_here b v_is) (other u u_other a u_is) alone (sym same))
+        | inr v_other ↦ own u v a b (other u u_other a u_is) (other v v_other b v_is) same
+      ]
     ]
   where
     here : (v : ℕ) → v ≡ w → (r : Run) → run_at (set runs w run) v ≡ Some r → run ≡ Some r

@@ -1,13 +1,12 @@
 -- Who stands in a list of the lines, and by which order; and who is first there.
-use Rattle.std.proofs.Common.{◌≡◌, ◌≢◌, ℕ, ◌+◌, ◌*◌, ◌^◌, ◌<◌, Bool, true, false, ◌&&◌, ◌==◌, nat_lt, cond, List, length, set, Option, Some, None, IfSome, arith, refl, sym, ap, subst, ◌∙◌, inl, inr}
+use Rattle.std.proofs.Common.{◌≡◌, ◌≢◌, ℕ, ◌+◌, ◌*◌, ◌^◌, ◌<◌, Bool, true, false, ◌&&◌, ◌==◌, nat_lt, cond, List, length, Option, Some, None, IfSome, arith, refl, sym, ap, subst, ◌∙◌, inl, inr}
 use Rattle.std.proofs.lemmas.Bool.{cases_eq}
 use Rattle.std.proofs.lemmas.Bool.Decides.{nat_tests}
-use Rattle.std.proofs.lemmas.List.{get_or-set_same, get_or-set_other, get_or_past}
-use Rattle.std.specs.Prelude.{if◌then◌else◌}
+use Rattle.std.proofs.lemmas.List.{get_or-set_same, get_or-set_other}
 use Rattle.cmwq_types.specs.Contents.{ScenarioContents}
-use Rattle.cmwq_types.specs.First.{first_below, by_least, by_least_two}
+use Rattle.cmwq_types.specs.First.{first_below, by_least}
 use Rattle.cmwq_types.specs.Scenario.{is_unbound}
-use Rattle.cmwq_lists.specs.ListContents.{ListContents, IsApart, first_in, is_in, is_of, order_at, order_in, rank_at, with_rank}
+use Rattle.cmwq_lists.specs.ListContents.{ListContents, IsApart, first_in, is_in, is_of, order_in, with_rank}
 use Rattle.cmwq_lists.specs.Ranks.{Holds}
 use Rattle.cmwq_lists.proofs.CallerLemmas.{firsts_are_of_the_test, two_keys_are_one}
 use Rattle.cmwq_phases.specs.Runs.{HasOwnStamp, first_in_line, first_rested, is_awake, is_in_line, is_ready, is_rested, run_at, run_sleep, run_stamp, with_run}
@@ -15,7 +14,6 @@ use Rattle.cmwq_phases.specs.declared.run.Phase.{Phase}
 use Rattle.cmwq_phases.specs.declared.run.Phase.TheVariants.{Ready, Held, Burning, Asleep, Slept}
 use Rattle.cmwq_phases.specs.declared.run.Run.{Run}
 use Rattle.cmwq_phased.specs.Indexes.{AreLined, AreRuns, IsApartFromOthers, rank_of, standing_of, stands_by}
-use Rattle.cmwq_phased.specs.PhasedContents.{PhasedContents}
 use Rattle.cmwq_phased.specs.declared.lines.Standing.{Standing}
 use Rattle.cmwq_phased.specs.declared.pools.TheConstants.{MAX_POOLS}
 

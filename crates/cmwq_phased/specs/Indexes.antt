@@ -13,7 +13,6 @@ use Rattle.cmwq_phases.specs.Runs.{alarm_in, is_awake, run_at}
 use Rattle.cmwq_phases.specs.declared.run.Phase.{Phase}
 use Rattle.cmwq_phases.specs.declared.run.Phase.TheVariants.{Ready, Held, Burning, Asleep, Slept}
 use Rattle.cmwq_phases.specs.declared.run.Run.{Run}
-use Rattle.cmwq_tally.specs.TallyContents.{IsTallied}
 use Rattle.cmwq_timers.specs.Timers.{timer_at}
 use Rattle.cmwq_timers.specs.declared.timer.Timer.{Timer}
 

@@ -58,5 +58,9 @@ pub(crate) fn rescued_class(queue: u8, run: Option<Run>) -> Option<usize>
 pub(crate) fn busy_class(freezable: bool, run: Option<Run>) -> Option<usize>
     ensures { result ≡ busy_class freezable run }
 {
-    if freezable && run.is_some() { Some(0) } else { None }
+    if freezable && run.is_some() {
+        Some(0)
+    } else {
+        None
+    }
 }

@@ -1,4 +1,4 @@
-use Rattle.std.proofs.Common.{◌≡◌, ℕ, List, Option, Some, None, IfSome, ap, set, sym, ◌∙◌}
+use Rattle.std.proofs.Common.{List, Option, Some, None, ap, sym, ◌∙◌}
 use Rattle.std.proofs.lemmas.List.{set-set}
 use Rattle.cmwq_lists.specs.ListContents.{ListContents, Rank, with_rank}
 use Rattle.cmwq_phased.specs.Indexes.{rank_of, ranked}

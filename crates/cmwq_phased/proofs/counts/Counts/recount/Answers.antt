@@ -1,10 +1,9 @@
-use Rattle.std.proofs.Common.{◌≡◌, ◌<◌, ℕ, Bool, List, Option, length, set, ap, subst, sym, ◌∙◌}
-use Rattle.cmwq_types.specs.Scenario.{flags_at, queue_of}
+use Rattle.std.proofs.Common.{◌≡◌, ℕ, List, Option, length, set, ap, sym, ◌∙◌}
+use Rattle.cmwq_types.specs.Scenario.{flags_at}
 use Rattle.cmwq_types.specs.declared.scenario.Flags.{Flags}
 use Rattle.cmwq_phased.specs.Counted.{AreCounted}
 use Rattle.cmwq_phased.specs.Indexes.{awake_class, awake_classes, busy_class, busy_classes, rescued_class, rescued_classes, running_class, running_classes}
 use Rattle.cmwq_phases.specs.Runs.{run_at}
-use Rattle.cmwq_phased.specs.declared.counts.Counts.{Counts}
 use Rattle.cmwq_phases.specs.declared.run.Run.{Run}
 use Rattle.cmwq_tally.specs.TallyContents.{changed}
 use Rattle.cmwq_types.specs.Contents.{ScenarioContents}
@@ -79,4 +78,4 @@ returns c =
     let awake = c.change-2.ensures.changed ∙ agree (changed t.awake) c.awake_class.ensures c.awake_class-2.ensures ∙ ap (λ (f : Flags). changed t.awake (awake_class f.cpu_intensive (run_at runs w)) (awake_class f.cpu_intensive run)) same_flags in
     let rescued = c.change-3.ensures.changed ∙ agree (changed t.rescued) c.rescued_class.ensures c.rescued_class-2.ensures ∙ ap (λ (q : ℕ). changed t.rescued (rescued_class q (run_at runs w)) (rescued_class q run)) same_queue in
     let busy = c.change-4.ensures.changed ∙ agree (changed t.busy) c.busy_class.ensures c.busy_class-2.ensures ∙ ap (λ (f : Flags). changed t.busy (busy_class f.freezable (run_at runs w)) (busy_class f.freezable run)) same_flags in
-    record { counted = counted_as S (set runs w run) running awake rescued busy (counted_with S runs t w run c.requires.counted c.requires.runs.long c.requires.work); }
+    record { counted = counted_as S (set runs w run) running awake rescued busy (counted_with S runs t w run c.requires.counted c.requires.runs.long c.requires.work) }

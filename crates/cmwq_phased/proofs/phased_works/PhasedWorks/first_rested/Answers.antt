@@ -1,4 +1,4 @@
-use Rattle.std.proofs.Common.{◌≡◌, Option, ap, ◌∙◌}
+use Rattle.std.proofs.Common.{ap, ◌∙◌}
 use Rattle.cmwq_lists.specs.ListContents.{first_in}
 use Rattle.cmwq_phases.specs.Runs.{first_rested}
 use Rattle.cmwq_phased.specs.PhasedContents.{PhasedContents}

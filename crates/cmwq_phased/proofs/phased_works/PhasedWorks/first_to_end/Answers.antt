@@ -1,4 +1,4 @@
-use Rattle.std.proofs.Common.{◌≡◌, Option, Some, None, ap, ◌∙◌}
+use Rattle.std.proofs.Common.{Some, None, ap, ◌∙◌}
 use Rattle.cmwq_phases.specs.Runs.{first_to_end}
 use Rattle.cmwq_phased.specs.PhasedContents.{PhasedContents}
 use Rattle.cmwq_phased.proofs.CountLemmas.{first_to_end_found}

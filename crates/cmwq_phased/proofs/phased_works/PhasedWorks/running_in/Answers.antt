@@ -1,4 +1,4 @@
-use Rattle.std.proofs.Common.{◌≡◌, ◌≤◌, ℕ, length, arith}
+use Rattle.std.proofs.Common.{arith}
 use Rattle.cmwq_phased.specs.Indexes.{running_classes}
 use Rattle.cmwq_phased.proofs.CountLemmas.{few_counted}
 use Rattle.cmwq_phased.proofs.phased_works.PhasedWorks.running_in.Goals as goal

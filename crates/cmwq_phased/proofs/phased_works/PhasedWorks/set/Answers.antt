@@ -1,4 +1,4 @@
-use Rattle.std.proofs.Common.{rules, ◌≡◌, ◌<◌, ◌^◌, ℕ, List, Option, IfSome, length, set, subst, sym}
+use Rattle.std.proofs.Common.{rules, ◌<◌, ◌^◌, IfSome, length, subst, sym}
 use Rattle.cmwq_phases.specs.Runs.{HasOwnStamp}
 use Rattle.cmwq_phased.specs.PhasedContents.{PhasedContents}
 use Rattle.cmwq_phased.proofs.ChangeLemmas.{runs_with}
