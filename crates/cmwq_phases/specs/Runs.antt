@@ -1,5 +1,5 @@
 -- Counts, and the first, of runs, apart from the time.
-use Rattle.std.specs.Prelude.{◌≡◌, ◌≢◌, ℕ, ◌+◌, Bool, true, false, not, ◌&&◌, List, length, Option, Some, None, IfSome, if◌then◌else◌, ◌==◌, is_some, slice_index_or}
+use Rattle.std.specs.Prelude.{◌≢◌, ℕ, Bool, true, false, not, ◌&&◌, List, length, Option, Some, None, IfSome, if◌then◌else◌, ◌==◌, is_some, slice_index_or}
 use Rattle.cmwq_types.specs.Contents.{ScenarioContents}
 use Rattle.cmwq_types.specs.First.{count_below, first_below, by_least, by_least_two}
 use Rattle.cmwq_types.specs.Scenario.{flags_at, is_unbound, queue_of}

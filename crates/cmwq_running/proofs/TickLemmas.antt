@@ -1,0 +1,157 @@
+-- A tick of the table is a step of the time, and nothing else.
+use Rattle.std.proofs.Common.{◌≡◌, ℕ, zero, suc, ◌+◌, ◌-◌, ◌<◌, ◌≤◌, Bool, true, false, cond, ◌&&◌, ◌||◌, ◌==◌, List, [], ◌∷◌, Option, Some, None, IfSome, arith, refl, sym, ap, subst, ◌∙◌}
+use Rattle.std.specs.Prelude.{is_none, is_some, option_map}
+use Rattle.cmwq_types.specs.Contents.{ScenarioContents}
+use Rattle.cmwq_types.specs.Scenario.{flags_at, is_high, is_unbound}
+use Rattle.cmwq_table.specs.Counts.{burns, first_runnable, is_runnable, is_some_work}
+use Rattle.cmwq_table.specs.Moves.{burned, one_less, tick}
+use Rattle.cmwq_table.specs.State.{State}
+use Rattle.cmwq_table.specs.declared.state.Running.{Running}
+use Rattle.cmwq_phases.specs.Phases.{IsTimely, left_in, mode_in, shown, shown_all}
+use Rattle.cmwq_phases.specs.Runs.{alarm_in, awake_in, rescued_of, run_alarm, run_at}
+use Rattle.cmwq_phases.specs.declared.run.Phase.{Phase}
+use Rattle.cmwq_phases.specs.declared.run.Phase.TheVariants.{Ready, Held, Burning, Asleep, Slept}
+use Rattle.cmwq_phases.specs.declared.run.Run.{Run}
+use Rattle.cmwq_running.specs.Heads.{AreOnTime, AreTimely, GoIn, HaveHeads, IsGoing, IsHeading, IsOnTime, NoneEndsBefore, first_awake, may_burn}
+use Rattle.cmwq_running.specs.RunningContents.{RunningContents, running_state}
+use Rattle.cmwq_running.specs.Ticks.{HasRunning, MovesAlike, ticks}
+use Rattle.cmwq_running.proofs.ShownLemmas.{first_runnable_is, first_slept_is, has_free_rescuer_is, may_start_is, ready_head_is, runs_is}
+
+-- who has ticks left burns just where the table says so
+abbrev IsRight : Bool → Phase → Type 0
+IsRight burns Ready = Unit {0}
+IsRight burns (Held left) = burns ≡ false
+IsRight burns (Burning end) = burns ≡ true
+IsRight burns (Asleep until) = Unit {0}
+IsRight burns (Slept until) = Unit {0}
+
+left_after : (time : ℕ) (burns : Bool) (phase : Phase) → IsRight burns phase → left_in (time + 1) phase ≡ cond burns (left_in time phase - 1) (left_in time phase)
+left_after time true Ready right = refl
+left_after time false Ready right = refl
+left_after time true (Held left) right = absurd (cc)
+left_after time false (Held left) right = refl
+left_after time true (Burning end) right = omega arith
+left_after time false (Burning end) right = absurd (cc)
+left_after time true (Asleep until) right = refl
+left_after time false (Asleep until) right = refl
+left_after time true (Slept until) right = refl
+left_after time false (Slept until) right = refl
+
+abbrev IfRight : ℕ → (Option Running → Bool) → Option Run → Type 0
+IfRight time burns None = burns None ≡ false
+IfRight time burns (Some r) = IsRight (burns (Some (shown time r))) r.phase
+
+shown_after : (time : ℕ) (burns : Option Running → Bool) (r : Option Run) → IfRight time burns r
+    → cond (burns (option_map (shown time) r)) (one_less (option_map (shown time) r)) (option_map (shown time) r) ≡ option_map (shown (time + 1)) r
+shown_after time burns None right = rw right refl
+shown_after time burns (Some r) right = by_test (burns (Some (shown time r))) right
+  where
+    by_test : (b : Bool) → IsRight b r.phase → cond b (one_less (Some (shown time r))) (Some (shown time r)) ≡ Some (shown (time + 1) r)
+    by_test true right = ap (λ (left : ℕ). Some (record (shown time r) { left = left })) (sym (left_after time true r.phase right))
+    by_test false right = ap (λ (left : ℕ). Some (record (shown time r) { left = left })) (sym (left_after time false r.phase right))
+
+burned_shown : (time : ℕ) (test : ℕ → Option Running → Bool) (w : ℕ) (rs : List (Option Run)) → ((i : ℕ) → IfRight time (test (w + i)) (run_at rs i)) → burned test w (shown_all time rs) ≡ shown_all (time + 1) rs
+burned_shown time test w [] right = refl
+burned_shown time test w (r ∷ rs) right =
+    let here : IfRight time (test w) r = subst (λ (k : ℕ). IfRight time (test k) r) (omega arith) (right 0) in
+    let rest = burned_shown time test (w + 1) rs (λ i. subst (λ (k : ℕ). IfRight time (test k) (run_at rs i)) (omega arith) (right (suc i))) in
+    ap (λ (x : Option Running). x ∷ burned test (w + 1) (shown_all time rs)) (shown_after time (test w) r here) ∙ ap (λ (xs : List (Option Running)). option_map (shown (time + 1)) r ∷ xs) rest
+
+-- in the table's words
+
+right_by : (unbound head high none : Bool) (phase : Phase) → IsHeading unbound head phase → IsGoing (unbound || (high || none)) phase → IsRight (cond unbound (is_runnable (mode_in phase)) (head && (high || none))) phase
+right_by unbound head high none Ready heading going = tt
+right_by true head high none (Held left) heading going = absurd (let bound = heading.0 in cc)
+right_by false true high none (Held left) heading going = going
+right_by false false high none (Held left) heading going = refl
+right_by true head high none (Burning end) heading going = refl
+right_by false true high none (Burning end) heading going = going
+right_by false false high none (Burning end) heading going = absurd (cc)
+right_by unbound head high none (Asleep until) heading going = tt
+right_by unbound head high none (Slept until) heading going = tt
+
+burns_is : (S : ScenarioContents) (s : State) (rs : List (Option Run)) (w : ℕ) (r : Run) → s.running ≡ shown_all s.time rs
+    → burns S s w (Some (shown s.time r))
+    ≡ cond (is_unbound S r.pool) (is_runnable (mode_in r.phase)) (is_some_work (first_awake S rs r.pool) w && (is_high r.pool || is_none (first_awake S rs (r.pool + 1))))
+burns_is S s rs w r is =
+    ap (λ (head : Option ℕ). cond (is_unbound S r.pool) (is_runnable (mode_in r.phase)) (is_some_work head w && (is_high r.pool || is_none (first_runnable S s (r.pool + 1))))) (first_runnable_is S s rs r.pool is)
+    ∙ ap (λ (head : Option ℕ). cond (is_unbound S r.pool) (is_runnable (mode_in r.phase)) (is_some_work (first_awake S rs r.pool) w && (is_high r.pool || is_none head))) (first_runnable_is S s rs (r.pool + 1) is)
+
+right_of : (S : ScenarioContents) (s : State) (rs : List (Option Run)) → s.running ≡ shown_all s.time rs → HaveHeads S rs → ((pool : ℕ) → GoIn S rs pool) → (w : ℕ) → IfRight s.time (burns S s w) (run_at rs w)
+right_of S s rs is heads going w = of_run (run_at rs w) (heads w) (λ pool. going pool w)
+  where
+    of_run : (r : Option Run) → IfSome r (λ r. IsHeading (is_unbound S r.pool) (is_some_work (first_awake S rs r.pool) w) r.phase)
+        → ((pool : ℕ) → IfSome r (λ r. r.pool ≡ pool → IsGoing (may_burn S rs pool) r.phase)) → IfRight s.time (burns S s w) r
+    of_run None heading goes = refl
+    of_run (Some r) heading goes =
+        subst (λ (b : Bool). IsRight b r.phase) (sym (burns_is S s rs w r is))
+        (right_by (is_unbound S r.pool) (is_some_work (first_awake S rs r.pool) w) (is_high r.pool) (is_none (first_awake S rs (r.pool + 1))) r.phase heading (goes r.pool refl))
+
+-- a tick is a step of the time
+pub tick_shown : (S : ScenarioContents) (s : State) (rs : List (Option Run)) → s.running ≡ shown_all s.time rs → HaveHeads S rs → ((pool : ℕ) → GoIn S rs pool) → (tick S s).running ≡ shown_all (s.time + 1) rs
+tick_shown S s rs is heads going =
+    ap (λ (xs : List (Option Running)). burned (burns S s) 0 xs) is
+    ∙ burned_shown s.time (burns S s) 0 rs (λ i. subst (λ (k : ℕ). IfRight s.time (burns S s k) (run_at rs i)) (omega arith) (right_of S s rs is heads going i))
+
+state_same : (s : State) (time : ℕ) (xs : List (Option Running)) → s.time ≡ time → s.running ≡ xs → s ≡ record s { time = time; running = xs }
+state_same s time xs e is = ap (λ (t : ℕ). record s { time = t }) e ∙ ap (λ (xs : List (Option Running)). record s { time = time; running = xs }) is
+
+-- so many ticks are so many steps of the time
+pub ticks_shown : (S : ScenarioContents) (n : ℕ) (s : State) (rs : List (Option Run)) → s.running ≡ shown_all s.time rs → HaveHeads S rs → ((pool : ℕ) → GoIn S rs pool)
+    → ticks S s n ≡ record s { time = s.time + n; running = shown_all (s.time + n) rs }
+ticks_shown S zero s rs is heads going = state_same s (s.time + 0) (shown_all (s.time + 0) rs) (omega arith) (is ∙ ap (λ (t : ℕ). shown_all t rs) (omega arith))
+ticks_shown S (suc n) s rs is heads going =
+    let after = tick_shown S s rs is heads going in
+    ticks_shown S n (tick S s) rs after heads going
+    ∙ ap (λ (t : ℕ). record s { time = t; running = shown_all t rs }) (omega arith)
+
+-- As long as nothing ends all stays timely.
+
+timely_later : (time n : ℕ) (phase : Phase) → IsTimely time phase → IfSome (alarm_in phase) (λ end. time + n < end) → IsTimely (time + n) phase
+timely_later time n Ready timely before = tt
+timely_later time n (Held left) timely before = timely
+timely_later time n (Burning end) timely before = (let soon = timely.1 in (omega (arith, before), omega (arith, soon)))
+timely_later time n (Asleep until) timely before = before
+timely_later time n (Slept until) timely before = omega (arith, timely)
+
+on_time_later : (time n : ℕ) (phase : Phase) → IsTimely time phase → IfSome (alarm_in phase) (λ end. time + n ≤ end) → IsOnTime (time + n) phase
+on_time_later time n Ready timely before = tt
+on_time_later time n (Held left) timely before = timely
+on_time_later time n (Burning end) timely before = (let soon = timely.1 in (before, omega (arith, soon)))
+on_time_later time n (Asleep until) timely before = before
+on_time_later time n (Slept until) timely before = omega (arith, timely)
+
+all_timely_later : (time n m : ℕ) (rs : List (Option Run)) → AreTimely time rs → NoneEndsBefore (time + m) rs → n < m → AreTimely (time + n) rs
+all_timely_later time n m rs timely ends earlier w = of_run (run_at rs w) (timely w) (ends w)
+  where
+    of_alarm : (alarm : Option ℕ) → IfSome alarm (λ end. time + m ≤ end) → IfSome alarm (λ end. time + n < end)
+    of_alarm None later = tt
+    of_alarm (Some end) later = omega (arith, later, earlier)
+
+    of_run : (r : Option Run) → IfSome r (λ r. IsTimely time r.phase) → IfSome (run_alarm r) (λ end. time + m ≤ end) → IfSome r (λ r. IsTimely (time + n) r.phase)
+    of_run None right later = tt
+    of_run (Some r) right later = timely_later time n r.phase right (of_alarm (alarm_in r.phase) later)
+
+pub all_on_time_later : (time m : ℕ) (rs : List (Option Run)) → AreTimely time rs → NoneEndsBefore (time + m) rs → AreOnTime (time + m) rs
+all_on_time_later time m rs timely ends w = of_run (run_at rs w) (timely w) (ends w)
+  where
+    of_run : (r : Option Run) → IfSome r (λ r. IsTimely time r.phase) → IfSome (run_alarm r) (λ end. time + m ≤ end) → IfSome r (λ r. IsOnTime (time + m) r.phase)
+    of_run None right later = tt
+    of_run (Some r) right later = on_time_later time m r.phase right later
+
+-- in two states at two times, both timely, the runs say the same of moves
+moves_alike : (S : ScenarioContents) (s t : State) (rs : List (Option Run)) → s.running ≡ shown_all s.time rs → t.running ≡ shown_all t.time rs → AreTimely s.time rs → AreTimely t.time rs → MovesAlike S s t
+moves_alike S s t rs one other timely later = record {
+  ready = λ pool. ready_head_is S t rs pool other later ∙ sym (ready_head_is S s rs pool one timely);
+  slept = λ pool. first_slept_is S t rs pool other later ∙ sym (first_slept_is S s rs pool one timely);
+  may_start = λ pool. may_start_is S t rs other pool ∙ sym (may_start_is S s rs one pool);
+  runs = λ w. runs_is S t rs other w ∙ sym (runs_is S s rs one w);
+  rescuer = λ queue. has_free_rescuer_is S t rs other queue ∙ sym (has_free_rescuer_is S s rs one queue);
+}
+
+-- while nothing ends the runs say the same of moves
+pub ticks_alike : (S : ScenarioContents) (s : State) (rs : List (Option Run)) (n m : ℕ) → s.running ≡ shown_all s.time rs → HaveHeads S rs → ((pool : ℕ) → GoIn S rs pool) → AreTimely s.time rs
+    → NoneEndsBefore (s.time + m) rs → n < m → MovesAlike S s (ticks S s n)
+ticks_alike S s rs n m is heads going timely ends earlier =
+    subst (λ (t : State). MovesAlike S s t) (sym (ticks_shown S n s rs is heads going))
+    (moves_alike S s (record s { time = s.time + n; running = shown_all (s.time + n) rs }) rs is refl timely (all_timely_later s.time n m rs timely ends earlier))

@@ -1,0 +1,3 @@
+//! The running works of a machine and its time.
+#![tactic(auto)]
+
