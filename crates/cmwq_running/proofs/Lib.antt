@@ -1,3 +1,4 @@
 pub mod AlikeLemmas
+pub mod HeadLemmas
 pub mod ShownLemmas
 pub mod TickLemmas

@@ -1,9 +1,10 @@
 -- Who has ticks left to burn, and how time passes for him. No public clause cites this module.
-use Rattle.std.specs.Prelude.{◌≡◌, ℕ, ◌+◌, ◌<◌, ◌≤◌, ◌^◌, Bool, true, false, ◌&&◌, ◌||◌, ◌==◌, if◌then◌else◌, is_none, List, length, Option, Some, None, IfSome}
+use Rattle.std.specs.Prelude.{◌≡◌, ◌≢◌, ℕ, ◌+◌, ◌-◌, ◌<◌, ◌≤◌, ◌^◌, Bool, true, false, ◌&&◌, ◌||◌, ◌==◌, if◌then◌else◌, is_none, is_some, nat_le, List, length, Option, Some, None, IfSome}
 use Rattle.cmwq_types.specs.Contents.{ScenarioContents}
-use Rattle.cmwq_types.specs.First.{first_below, by_least}
+use Rattle.cmwq_types.specs.First.{count_below, first_below, by_least}
 use Rattle.cmwq_types.specs.Scenario.{is_high, is_unbound}
 use Rattle.cmwq_table.specs.Counts.{is_some_work}
+use Rattle.cmwq_phased.specs.PhasedContents.{PhasedContents}
 use Rattle.cmwq_phases.specs.Phases.{IsTimely}
 use Rattle.cmwq_phases.specs.Runs.{first_in_line, is_awake, is_ready, run_alarm, run_at, run_stamp, with_run}
 use Rattle.cmwq_phases.specs.declared.run.Phase.{Phase}
@@ -73,9 +74,76 @@ NoneEndsBefore time runs = (w : ℕ) → IfSome (run_alarm (run_at runs w)) (λ 
 abbrev pub IsEarly : ℕ → Type 0
 IsEarly time = time < 2 ^ 63 + 2 ^ 33
 
--- what is kept of the running works at a time
-pub record AreKept (S : ScenarioContents) (time : ℕ) (runs : List (Option Run)) : Type 0 where
-  pub early : IsEarly time
-  pub timely : AreTimely time runs
+-- only who is a head has ticks left, and burns them just where he may
+pub record AreHeaded (S : ScenarioContents) (runs : List (Option Run)) : Type 0 where
   pub heads : HaveHeads S runs
   pub going : (pool : ℕ) → GoIn S runs pool
+
+-- what is kept of the running works at a time
+pub record AreKept (time : ℕ) (works : PhasedContents) : Type 0 where
+  pub early : IsEarly time
+  pub timely : AreTimely time works.runs
+  pub headed : AreHeaded works.scenario works.runs
+
+-- A change of one work.
+
+-- no ticks are left to it
+abbrev pub IsStill : Phase → Type 0
+IsStill Ready = Unit {0}
+IsStill (Held left) = ⊥
+IsStill (Burning end) = ⊥
+IsStill (Asleep until) = Unit {0}
+IsStill (Slept until) = Unit {0}
+
+-- if it is runnable it stands behind all others
+abbrev pub ComesLast : List (Option Run) → ℕ → Option Run → Type 0
+ComesLast runs w None = Unit {0}
+ComesLast runs w (Some r) = is_awake r.phase ≡ true → (v : ℕ) → v ≢ w → IfSome (run_at runs v) (λ q. q.stamp < r.stamp)
+
+-- the pool is the normal one of the CPU whose high pool this is
+pub record IsBeside (S : ScenarioContents) (other pool : ℕ) : Type 0 where
+  pub bound : is_unbound S other ≡ false
+  pub high : is_high other ≡ true
+  pub next : pool + 1 ≡ other
+
+-- it is beside the pool of the work, if that runs
+abbrev pub IfBeside : ScenarioContents → Option Run → ℕ → Type 0
+IfBeside S (Some r) pool = IsBeside S r.pool pool
+IfBeside S None pool = ⊥
+
+-- the phase once the head of its pool may burn from this time on, or may not
+abbrev pub paced : Bool → ℕ → Phase → Phase
+paced may time Ready = Ready
+paced may time (Held left) = if may then Burning (time + left) else Held left
+paced may time (Burning end) = if may then Burning end else Held (end - time)
+paced may time (Asleep until) = Asleep until
+paced may time (Slept until) = Slept until
+
+abbrev pub in_phase : Run → Phase → Run
+in_phase r phase = record r { phase = phase }
+
+abbrev pub paced_run : Bool → ℕ → Option Run → Option Run
+paced_run may time (Some r) = Some (in_phase r (paced may time r.phase))
+paced_run may time None = None
+
+-- with so many ticks left, before it is known whether it may burn
+abbrev pub with_left : ℕ → Phase
+with_left left = if left == 0 then Ready else Held left
+
+-- asleep until this time, which may be over
+abbrev pub asleep_until : ℕ → ℕ → Phase
+asleep_until time until = if nat_le until time then Slept until else Asleep until
+
+-- What ends.
+
+-- the phase that follows at the time, if this one has ended
+abbrev pub ended : ℕ → Phase → Option Phase
+ended time Ready = None
+ended time (Held left) = None
+ended time (Burning end) = if nat_le end time then Some Ready else None
+ended time (Asleep until) = if nat_le until time then Some (Slept until) else None
+ended time (Slept until) = None
+
+-- how many works have an alarm
+abbrev pub alarm_count : PhasedContents → ℕ
+alarm_count works = count_below (λ w. is_some (run_alarm (run_at works.runs w))) (length works.scenario.works)

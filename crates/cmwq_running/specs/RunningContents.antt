@@ -3,6 +3,8 @@ use Rattle.std.specs.Prelude.{ℕ, false, List, [], Option}
 use Rattle.cmwq_types.specs.Contents.{ScenarioContents}
 use Rattle.cmwq_table.specs.State.{State}
 use Rattle.cmwq_table.specs.declared.state.Running.{Running}
+use Rattle.cmwq_phased.specs.PhasedContents.{PhasedContents}
+use Rattle.cmwq_phases.specs.Phases.{shown_all}
 
 pub record RunningContents : Type 0 where
   pub scenario : ScenarioContents
@@ -29,3 +31,7 @@ running_state time running = record {
 
 abbrev pub state_of : RunningContents → State
 state_of m = running_state m.time m.running
+
+-- works by their phases, as they are seen at a time
+abbrev pub seen : ℕ → PhasedContents → RunningContents
+seen time works = record { scenario = works.scenario; time = time; running = shown_all time works.runs }
