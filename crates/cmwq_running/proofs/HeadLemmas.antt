@@ -9,7 +9,7 @@ use Rattle.cmwq_types.specs.First.{by_least, IsFirst}
 use Rattle.cmwq_types.specs.Scenario.{is_high, is_unbound}
 use Rattle.cmwq_types.proofs.FirstLemmas.{by_least-order}
 use Rattle.cmwq_table.specs.Counts.{is_some_work}
-use Rattle.cmwq_phased.specs.PhasedContents.{HaveOwnStamps}
+use Rattle.cmwq_phased.specs.PhasedContents.{HaveOwnStamps, PhasedContents}
 use Rattle.cmwq_phases.specs.Runs.{is_awake, run_at, run_stamp, with_run}
 use Rattle.cmwq_phases.specs.declared.run.Phase.{Phase}
 use Rattle.cmwq_phases.specs.declared.run.Phase.TheVariants.{Ready, Held, Burning, Asleep, Slept}
@@ -93,6 +93,9 @@ pub record IsChange (S : ScenarioContents) (rs : List (Option Run)) (w : ℕ) (n
   pub own : HaveOwnStamps rs
   pub still : IfSome new (λ r. IsStill r.phase)
   pub last : ComesLast rs w new
+
+pub change_of : (S : ScenarioContents) (rs : List (Option Run)) (w : ℕ) (new : Option Run) → w < length S.works → length rs ≡ length S.works → HaveOwnStamps rs → IfSome new (λ r. IsStill r.phase) → ComesLast rs w new → IsChange S rs w new
+change_of S rs w new within long own still last = record { within = (omega (arith, within, long)); own = own; still = still; last = last }
 
 module _ (S : ScenarioContents) (rs : List (Option Run)) (w : ℕ) (new : Option Run) (change : IsChange S rs w new) where
   -- another work that is the head of its pool is so still
@@ -261,3 +264,20 @@ module _ (S : ScenarioContents) (rs : List (Option Run)) (w : ℕ) (new : Option
       of_new : (o : Option Run) → IfSome o (λ r. IsStill r.phase) → IfSome o (λ a. a.pool ≡ pool → IsGoing (may_burn S (set rs w new) pool) a.phase)
       of_new None still = tt
       of_new (Some r) still = λ is. still_going (may_burn S (set rs w new) pool) r.phase still
+
+-- The pools beside that of the work, as it ran and as it runs, are balanced one after the other.
+pub balanced : (S : ScenarioContents) (rs : List (Option Run)) (w : ℕ) (new : Option Run) (changed one two : PhasedContents) (old : Option Run)
+    → IsChange S rs w new → changed ≡ record { scenario = S; runs = set rs w new } → old ≡ run_at rs w → one.scenario ≡ changed.scenario
+    → ((pool : ℕ) → GoIn S rs pool)
+    → ((pool : ℕ) → GoIn changed.scenario changed.runs pool ⊎ IfBeside changed.scenario old pool → GoIn one.scenario one.runs pool)
+    → ((pool : ℕ) → GoIn one.scenario one.runs pool ⊎ IfBeside one.scenario new pool → GoIn two.scenario two.runs pool)
+    → (pool : ℕ) → GoIn two.scenario two.runs pool
+balanced S rs w new changed one two old change is was same going first second pool =
+    second pool (elim (change_go S rs w new change pool (going pool)) [
+      | inl goes ↦ inl (first pool (inl (subst (λ (m : PhasedContents). GoIn m.scenario m.runs pool) (sym is) goes)))
+      | inr beside ↦
+          elim beside [
+            | inl then ↦ inl (first pool (inr (subst (λ (m : PhasedContents). IfBeside m.scenario old pool) (sym is) (subst (λ (o : Option Run). IfBeside S o pool) (sym was) then))))
+            | inr now ↦ inr (subst (λ (T : ScenarioContents). IfBeside T new pool) (sym (same ∙ ap (λ (m : PhasedContents). m.scenario) is)) now)
+          ]
+    ])

@@ -9,12 +9,14 @@ use Rattle.cmwq_types.proofs.FirstLemmas.{by_least-order, by_least_two-order, co
 use Rattle.cmwq_table.specs.Counts.{burns, first_ready, first_runnable, first_slept, has_free_rescuer, if_ready, is_counted, is_rescuer, is_runnable, is_slept, is_some_work, may_start, ready_head, runs, running_stamp, running_until, runs_on_rescuer}
 use Rattle.cmwq_table.specs.State.{State, running_at}
 use Rattle.cmwq_table.specs.declared.state.Running.{Running}
+use Rattle.cmwq_phased.specs.PhasedContents.{PhasedContents}
 use Rattle.cmwq_phases.specs.Phases.{IsTimely, left_in, mode_in, shown, shown_all}
 use Rattle.cmwq_phases.specs.Runs.{awake_in, first_in_line, first_rested, freezable_running, is_awake, is_in_line, is_ready, is_rested, rescued_of, run_at, run_sleep, run_stamp, running_in, with_run}
 use Rattle.cmwq_phases.specs.declared.run.Phase.{Phase}
 use Rattle.cmwq_phases.specs.declared.run.Phase.TheVariants.{Ready, Held, Burning, Asleep, Slept}
 use Rattle.cmwq_phases.specs.declared.run.Run.{Run}
 use Rattle.cmwq_running.specs.Heads.{AreTimely, first_awake, if_run_ready, may_burn, ready_run}
+use Rattle.cmwq_running.specs.RunningContents.{seen}
 use Rattle.cmwq_running.proofs.AlikeLemmas.{first_alike, first_of}
 
 -- what is shown of one work
@@ -256,3 +258,46 @@ module _ (S : ScenarioContents) (s : State) (rs : List (Option Run)) (is : s.run
   freezable_running_is =
       count_below-agree (λ w. (flags_at S (queue_of S w)).freezable && is_some (running_at s w)) (λ w. (flags_at S (queue_of S w)).freezable && is_some (run_at rs w)) (length S.works)
       (λ w below. ap (λ (b : Bool). (flags_at S (queue_of S w)).freezable && b) (runs_is w))
+
+-- what is seen, by its parts
+pub seen_is : (time : ℕ) (works : PhasedContents) (S : ScenarioContents) (running : List (Option Running)) → works.scenario ≡ S → shown_all time works.runs ≡ running → seen time works ≡ record { scenario = S; time = time; running = running }
+seen_is time works S running same is =
+    ap (λ (T : ScenarioContents). record { scenario = T; time = time; running = shown_all time works.runs }) same ∙ ap (λ (xs : List (Option Running)). record { scenario = S; time = time; running = xs }) is
+
+-- the run of a work that the table has so
+pub record IsRunOf (time : ℕ) (rs : List (Option Run)) (w : ℕ) (r : Running) : Type 0 where
+  pub q : Run
+  pub at : run_at rs w ≡ Some q
+  pub shows : shown time q ≡ r
+
+pub run_of : (time : ℕ) (rs : List (Option Run)) (w : ℕ) (r : Running) → slice_index_or (shown_all time rs) w None ≡ Some r → IsRunOf time rs w r
+run_of time rs w r is = by_run (run_at rs w) refl (sym (at_shown time rs w) ∙ is)
+  where
+    by_run : (o : Option Run) → run_at rs w ≡ o → option_map (shown time) o ≡ Some r → IsRunOf time rs w r
+    by_run None at none = absurd (cc)
+    by_run (Some q) at some = record { q = q; at = at; shows = (cc) }
+
+-- who is ready is the first in line, and has nothing left
+pub record IsReadyRun (S : ScenarioContents) (rs : List (Option Run)) (pool w : ℕ) : Type 0 where
+  pub first : first_in_line S rs pool ≡ Some w
+  pub ready : with_run (λ r. is_ready r.phase) (run_at rs w) ≡ true
+
+pub ready_of : (S : ScenarioContents) (rs : List (Option Run)) (pool w : ℕ) → ready_run S rs pool ≡ Some w → IsReadyRun S rs pool w
+ready_of S rs pool w is = by_first (first_in_line S rs pool) refl is
+  where
+    by_ready : (v : ℕ) → first_in_line S rs pool ≡ Some v → (b : Bool) → with_run (λ r. is_ready r.phase) (run_at rs v) ≡ b → cond b (Some v) None ≡ Some w → IsReadyRun S rs pool w
+    by_ready v first true ready same =
+        let one : v ≡ w = cc in
+        record { first = first ∙ ap Some one; ready = subst (λ (k : ℕ). with_run (λ r. is_ready r.phase) (run_at rs k) ≡ true) one ready }
+    by_ready v first false ready same = absurd (cc)
+
+    by_first : (o : Option ℕ) → first_in_line S rs pool ≡ o → if_run_ready rs o ≡ Some w → IsReadyRun S rs pool w
+    by_first None first none = absurd (cc)
+    by_first (Some v) first found = by_ready v first (with_run (λ r. is_ready r.phase) (run_at rs v)) refl found
+
+pub phase_ready : (phase : Phase) → is_ready phase ≡ true → phase ≡ Ready
+phase_ready Ready is = refl
+phase_ready (Held left) is = absurd (cc)
+phase_ready (Burning end) is = absurd (cc)
+phase_ready (Asleep until) is = absurd (cc)
+phase_ready (Slept until) is = absurd (cc)

@@ -7,13 +7,14 @@ use Rattle.cmwq_table.specs.Counts.{burns, first_runnable, is_runnable, is_some_
 use Rattle.cmwq_table.specs.Moves.{burned, one_less, tick}
 use Rattle.cmwq_table.specs.State.{State}
 use Rattle.cmwq_table.specs.declared.state.Running.{Running}
+use Rattle.cmwq_phased.specs.PhasedContents.{PhasedContents}
 use Rattle.cmwq_phases.specs.Phases.{IsTimely, left_in, mode_in, shown, shown_all}
 use Rattle.cmwq_phases.specs.Runs.{alarm_in, awake_in, rescued_of, run_alarm, run_at}
 use Rattle.cmwq_phases.specs.declared.run.Phase.{Phase}
 use Rattle.cmwq_phases.specs.declared.run.Phase.TheVariants.{Ready, Held, Burning, Asleep, Slept}
 use Rattle.cmwq_phases.specs.declared.run.Run.{Run}
-use Rattle.cmwq_running.specs.Heads.{AreOnTime, AreTimely, GoIn, HaveHeads, IsGoing, IsHeading, IsOnTime, NoneEndsBefore, first_awake, may_burn}
-use Rattle.cmwq_running.specs.RunningContents.{RunningContents, running_state}
+use Rattle.cmwq_running.specs.Heads.{AreHeaded, AreKept, AreOnTime, AreTimely, GoIn, HaveHeads, IsGoing, IsHeading, IsOnTime, NoneEndsBefore, first_awake, may_burn}
+use Rattle.cmwq_running.specs.RunningContents.{RunningContents, seen}
 use Rattle.cmwq_running.specs.Ticks.{HasRunning, MovesAlike, ticks}
 use Rattle.cmwq_running.proofs.ShownLemmas.{first_runnable_is, first_slept_is, has_free_rescuer_is, may_start_is, ready_head_is, runs_is}
 
@@ -155,3 +156,32 @@ pub ticks_alike : (S : ScenarioContents) (s : State) (rs : List (Option Run)) (n
 ticks_alike S s rs n m is heads going timely ends earlier =
     subst (λ (t : State). MovesAlike S s t) (sym (ticks_shown S n s rs is heads going))
     (moves_alike S s (record s { time = s.time + n; running = shown_all (s.time + n) rs }) rs is refl timely (all_timely_later s.time n m rs timely ends earlier))
+
+-- What is seen of it.
+
+has_shown : (time : ℕ) (works : PhasedContents) (m : RunningContents) → seen time works ≡ m → (s : State) → HasRunning m s → s.running ≡ shown_all s.time works.runs
+has_shown time works m view s has =
+    has.running ∙ sym (ap (λ (m : RunningContents). m.running) view)
+    ∙ ap (λ (t : ℕ). shown_all t works.runs) (sym (has.time ∙ sym (ap (λ (m : RunningContents). m.time) view)))
+
+has_time : (time : ℕ) (works : PhasedContents) (m : RunningContents) → seen time works ≡ m → (s : State) → HasRunning m s → s.time ≡ time
+has_time time works m view s has = has.time ∙ sym (ap (λ (m : RunningContents). m.time) view)
+
+-- so many ticks come to the time that went by
+pub passed_seen : (time : ℕ) (works after : PhasedContents) (m : RunningContents) → seen time works ≡ m → AreHeaded works.scenario works.runs
+    → (n count : ℕ) → count ≡ n → seen (time + count) after ≡ seen (time + count) works → (s : State) → HasRunning m s
+    → ticks m.scenario s n ≡ record s { time = time + count; running = shown_all (time + count) after.runs }
+passed_seen time works after m view headed n count same is s has =
+    ap (λ (S : ScenarioContents). ticks S s n) (sym (ap (λ (m : RunningContents). m.scenario) view))
+    ∙ ticks_shown works.scenario n s works.runs (has_shown time works m view s has) headed.heads headed.going
+    ∙ ap (λ (t : ℕ). record s { time = t; running = shown_all t works.runs }) (ap (λ (t : ℕ). t + n) (has_time time works m view s has) ∙ ap (λ (k : ℕ). time + k) (sym same))
+    ∙ ap (λ (xs : List (Option Running)). record s { time = time + count; running = xs }) (sym (ap (λ (m : RunningContents). m.running) is))
+
+-- before each of them the runs say the same of moves
+pub alike_seen : (time : ℕ) (works : PhasedContents) (m : RunningContents) → seen time works ≡ m → AreKept time works → (n : ℕ) → NoneEndsBefore (time + n) works.runs
+    → (s : State) → HasRunning m s → (earlier : ℕ) → earlier < n → MovesAlike m.scenario s (ticks m.scenario s earlier)
+alike_seen time works m view kept n ends s has earlier below =
+    let at : time ≡ s.time = sym (has_time time works m view s has) in
+    subst (λ (S : ScenarioContents). MovesAlike S s (ticks S s earlier)) (ap (λ (m : RunningContents). m.scenario) view)
+    (ticks_alike works.scenario s works.runs earlier n (has_shown time works m view s has) kept.headed.heads kept.headed.going
+    (subst (λ (t : ℕ). AreTimely t works.runs) at kept.timely) (subst (λ (t : ℕ). NoneEndsBefore (t + n) works.runs) at ends) below)

@@ -1,8 +1,10 @@
 //! Who has his CPU: the heads of a CPU's high pool, else those of its normal pool, and all runnable works of the unbound pools.
+ghost use Rattle.cmwq_phased.specs.declared.pools.TheConstants.{MAX_POOLS};
 ghost use Rattle.cmwq_phases.specs.Phases.{IsTimely, shown_all};
-ghost use Rattle.cmwq_phases.specs.Runs.{run_at};
-ghost use Rattle.cmwq_running.specs.Heads.{AreTimely, GoIn, HaveHeads, IsBeside, IsEarly, may_burn, paced, paced_run, with_left};
-ghost use Rattle.std.specs.Prelude.{◌≡◌, ◌<◌, ◌⊎◌, ℕ, length, slice_set};
+ghost use Rattle.cmwq_phases.specs.Runs.{is_ready, run_at, with_run};
+ghost use Rattle.cmwq_running.specs.Heads.{AreTimely, GoIn, HaveHeads, IsBeside, IsEarly, may_burn, paced, paced_run, ready_run, with_left};
+ghost use Rattle.cmwq_types.specs.declared.limits.TheConstants.{MAX_WORKS};
+ghost use Rattle.std.specs.Prelude.{◌≡◌, ◌<◌, ◌⊎◌, ℕ, IfSome, length, slice_set};
 
 use cmwq_phased::PhasedWorks;
 use cmwq_phases::{Phase, Run};
@@ -22,7 +24,8 @@ pub(crate) fn with_left(left: u32) -> Phase
 pub(crate) fn paced(phase: Phase, may: bool, time: u64) -> Phase
     requires early { IsEarly time }
     requires timely { IsTimely time phase }
-    ensures { result ≡ paced may time phase }
+    ensures paced { result ≡ paced may time phase }
+    ensures timely { IsTimely time result }
 {
     match phase {
         Phase::Held(left) if may => Phase::Burning(time + u64::from(left)),
@@ -38,12 +41,34 @@ pub(crate) fn may_burn(works: &PhasedWorks, pool: u8) -> bool
     works.scenario().is_unbound(pool) || pool % 2 == 1 || works.first_in_line(pool + 1).is_none()
 }
 
+/// Of the heads of the pool the first that has nothing left to burn.
+pub(crate) fn ready_run(works: &PhasedWorks, pool: u8) -> Option<usize>
+    requires pool { pool < MAX_POOLS }
+    ensures first { result ≡ ready_run works.now.scenario works.now.runs pool }
+    ensures in_range { IfSome result (λ w. w < length works.now.scenario.works) }
+    ensures few { IfSome result (λ w. w < MAX_WORKS) }
+{
+    let w = works.first_in_line(pool)?;
+    if is_ready(works.of(w)) { Some(w) } else { None }
+}
+
+/// Whether the work that runs so, if it runs, has nothing left to burn, and doesn't sleep.
+fn is_ready(run: Option<Run>) -> bool
+    ensures { result ≡ with_run (λ r. is_ready r.phase) run }
+{
+    match run {
+        None => false,
+        Some(run) => matches!(run.phase, Phase::Ready),
+    }
+}
+
 /// Lets a work that has ticks left burn from now on, or hold.
 fn pace(works: &mut PhasedWorks, time: u64, w: usize, may: bool)
     requires work { w < length works.old.scenario.works }
     requires early { IsEarly time }
     requires timely { AreTimely time works.old.runs }
-    ensures { works.new ≡ record works.old { runs = slice_set works.old.runs w (paced_run may time (run_at works.old.runs w)) } }
+    ensures paced { works.new ≡ record works.old { runs = slice_set works.old.runs w (paced_run may time (run_at works.old.runs w)) } }
+    ensures timely { AreTimely time works.new.runs }
 {
     works.own_stamps();
     match works.of(w) {

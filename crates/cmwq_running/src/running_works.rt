@@ -14,6 +14,7 @@ ghost use Rattle.std.specs.Prelude.{◌≡◌, ◌<◌, ◌≤◌, ◌+◌, ◌^
 
 use crate::changing::{change, fall_asleep, go_on, wake};
 use crate::ending::{end_by, ticks_to_end};
+use crate::pacing::ready_run;
 use cmwq_phased::PhasedWorks;
 use cmwq_phases::{Phase, Run};
 use cmwq_table::Running;
@@ -106,13 +107,7 @@ impl RunningWorks {
         ensures in_range { IfSome result (λ w. w < length self.now.scenario.works) }
         ensures few { IfSome result (λ w. w < MAX_WORKS) }
     {
-        let w = self.works.first_in_line(pool)?;
-        let run = self.works.of(w)?;
-        if matches!(run.phase, Phase::Ready) {
-            Some(w)
-        } else {
-            None
-        }
+        ready_run(&self.works, pool)
     }
 
     /// How many works of the queue run in the pool.
