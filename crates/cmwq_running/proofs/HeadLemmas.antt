@@ -149,14 +149,14 @@ some_work (Some v) w is = (let same : v ≡ w = grind (arith, nat_tests) in ap S
 pub is_work : (w : ℕ) → is_some_work (Some w) w ≡ true
 is_work w = grind (arith, nat_tests)
 
-still_heading : (unbound head : Bool) (phase : Phase) → IsStill phase → IsHeading unbound head phase
+pub still_heading : (unbound head : Bool) (phase : Phase) → IsStill phase → IsHeading unbound head phase
 still_heading unbound head Ready still = tt
 still_heading unbound head (Held left) still = absurd still
 still_heading unbound head (Burning end) still = absurd still
 still_heading unbound head (Asleep until) still = tt
 still_heading unbound head (Slept until) still = tt
 
-still_going : (may : Bool) (phase : Phase) → IsStill phase → IsGoing may phase
+pub still_going : (may : Bool) (phase : Phase) → IsStill phase → IsGoing may phase
 still_going may Ready still = tt
 still_going may (Held left) still = absurd still
 still_going may (Burning end) still = absurd still

@@ -1,4 +1,5 @@
 pub mod AlikeLemmas
+pub mod EndLemmas
 pub mod HeadLemmas
 pub mod PaceLemmas
 pub mod ShownLemmas

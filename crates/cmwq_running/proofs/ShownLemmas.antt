@@ -35,6 +35,9 @@ pub length-shown : (time : ℕ) (rs : List (Option Run)) → length (shown_all t
 length-shown time [] = refl
 length-shown time (r ∷ rs) = ap suc (length-shown time rs)
 
+pub length_of_shown : (time : ℕ) (rs xs : List (Option Run)) → shown_all time rs ≡ shown_all time xs → length rs ≡ length xs
+length_of_shown time rs xs same = sym (length-shown time rs) ∙ ap length same ∙ length-shown time xs
+
 pub read_shown : (s : State) (rs : List (Option Run)) (w : ℕ) → s.running ≡ shown_all s.time rs → running_at s w ≡ option_map (shown s.time) (run_at rs w)
 read_shown s rs w is = ap (λ (xs : List (Option Running)). slice_index_or xs w None) is ∙ at_shown s.time rs w
 

@@ -74,8 +74,9 @@ NoneEndsBefore time runs = (w : ℕ) → IfSome (run_alarm (run_at runs w)) (λ 
 abbrev pub IsEarly : ℕ → Type 0
 IsEarly time = time < 2 ^ 63 + 2 ^ 33
 
--- only who is a head has ticks left, and burns them just where he may
+-- there is a place for each work; only who is a head has ticks left, and burns them just where he may
 pub record AreHeaded (S : ScenarioContents) (runs : List (Option Run)) : Type 0 where
+  pub long : length runs ≡ length S.works
   pub heads : HaveHeads S runs
   pub going : (pool : ℕ) → GoIn S runs pool
 

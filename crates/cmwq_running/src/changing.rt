@@ -27,7 +27,6 @@ pub(crate) fn change(works: &mut PhasedWorks, time: u64, w: usize, run: Option<R
 {
     let old = works.of(w);
     works.own_stamps();
-    works.scenario();
     works.set(w, run);
     balance_beside(works, time, old);
     balance_beside(works, time, run);
@@ -43,7 +42,6 @@ pub(crate) fn go_on(works: &mut PhasedWorks, time: u64, w: usize, r: Running, le
     ensures kept { AreKept time works.new }
 {
     works.own_stamps();
-    works.scenario();
     let may = may_burn(works, r.pool);
     let phase = paced(with_left(left), may, time);
     works.set(w, Some(onward(r, phase)));
@@ -59,7 +57,6 @@ pub(crate) fn fall_asleep(works: &mut PhasedWorks, time: u64, w: usize, r: Runni
     ensures kept { AreKept time works.new }
 {
     works.own_stamps();
-    works.scenario();
     let phase = asleep_until(until, time);
     change(works, time, w, Some(onward(r, phase)));
 }

@@ -3,7 +3,7 @@ ghost use Rattle.cmwq_phases.specs.Phases.{shown_all};
 ghost use Rattle.cmwq_phases.specs.Runs.{alarm_in, first_to_end};
 ghost use Rattle.cmwq_running.specs.Heads.{AreHeaded, AreOnTime, AreTimely, NoneEndsBefore, alarm_count, end_of, ended};
 ghost use Rattle.cmwq_running.specs.RunningContents.{seen};
-ghost use Rattle.std.specs.Prelude.{◌≡◌, ◌<◌, ◌≤◌, ◌+◌, IsFalse, IsTrue, Some};
+ghost use Rattle.std.specs.Prelude.{◌≡◌, ◌<◌, ◌≤◌, ◌+◌, IsFalse, IsTrue, Some, length};
 
 use cmwq_phased::PhasedWorks;
 use cmwq_phases::{Phase, Run};
@@ -47,7 +47,6 @@ fn end_at(works: &mut PhasedWorks, time: u64, w: usize) -> bool
     ensures timely { IsFalse result → AreTimely time works.new.runs }
 {
     works.own_stamps();
-    works.scenario();
     let Some(run) = works.of(w) else {
         return false;
     };
@@ -73,6 +72,7 @@ fn ended(phase: Phase, time: u64) -> Option<Phase>
 
 /// How many ticks can pass, at most so many, until a burn or a sleep ends.
 pub(crate) fn ticks_to_end(works: &PhasedWorks, time: u64, most: u32) -> u32
+    requires long { length works.now.runs ≡ length works.now.scenario.works }
     requires timely { AreTimely time works.now.runs }
     ensures few { result ≤ most }
     ensures none_ends { NoneEndsBefore (time + result) works.now.runs }
