@@ -3,4 +3,5 @@ pub mod EndLemmas
 pub mod HeadLemmas
 pub mod PaceLemmas
 pub mod ShownLemmas
+pub mod StepLemmas
 pub mod TickLemmas
