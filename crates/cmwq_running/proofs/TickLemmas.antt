@@ -1,11 +1,15 @@
 -- A tick of the table is a step of the time, and nothing else.
-use Rattle.std.proofs.Common.{◌≡◌, ℕ, zero, suc, ◌+◌, ◌-◌, ◌<◌, ◌≤◌, Bool, true, false, cond, ◌&&◌, ◌||◌, ◌==◌, List, [], ◌∷◌, Option, Some, None, IfSome, arith, refl, sym, ap, subst, ◌∙◌}
+use Rattle.std.proofs.Common.{◌≡◌, ℕ, zero, suc, ◌+◌, ◌-◌, ◌<◌, ◌≤◌, Bool, true, false, cond, ◌&&◌, ◌||◌, ◌==◌, List, [], ◌∷◌, length, Option, Some, None, IfSome, arith, refl, sym, ap, subst, ◌∙◌}
 use Rattle.std.specs.Prelude.{is_none, is_some, option_map}
 use Rattle.cmwq_types.specs.Contents.{ScenarioContents}
-use Rattle.cmwq_types.specs.Scenario.{flags_at, is_high, is_unbound}
-use Rattle.cmwq_table.specs.Counts.{burns, first_runnable, is_runnable, is_some_work}
-use Rattle.cmwq_table.specs.Moves.{burned, one_less, tick}
-use Rattle.cmwq_table.specs.State.{State}
+use Rattle.cmwq_types.specs.First.{by_least}
+use Rattle.cmwq_types.specs.Scenario.{is_high, is_unbound, pool_count, queue_of}
+use Rattle.cmwq_types.specs.declared.moves.Move.{Move}
+use Rattle.cmwq_types.specs.declared.moves.Move.TheVariants.{Advance, Rescue, Wake}
+use Rattle.cmwq_types.proofs.FirstLemmas.{first_below-agree}
+use Rattle.cmwq_table.specs.Counts.{burns, can_be_rescued, first_listed, first_rescued, first_runnable, first_slept, free_worker, has_free_rescuer, is_listed, is_runnable, is_some_work, may_start, or_else, pending_before, pends, ready_head}
+use Rattle.cmwq_table.specs.Moves.{as_move, burned, first_moving, next_move, one_less, start_first, start_move, start_or_rescue, take_listed, tick}
+use Rattle.cmwq_table.specs.State.{State, pending_at, running_at}
 use Rattle.cmwq_table.specs.declared.state.Running.{Running}
 use Rattle.cmwq_phased.specs.PhasedContents.{PhasedContents}
 use Rattle.cmwq_phases.specs.Phases.{IsTimely, left_in, mode_in, shown, shown_all}
@@ -15,7 +19,7 @@ use Rattle.cmwq_phases.specs.declared.run.Phase.TheVariants.{Ready, Held, Burnin
 use Rattle.cmwq_phases.specs.declared.run.Run.{Run}
 use Rattle.cmwq_running.specs.Heads.{AreHeaded, AreKept, AreOnTime, AreTimely, GoIn, HaveHeads, IsGoing, IsHeading, IsOnTime, NoneEndsBefore, first_awake, may_burn}
 use Rattle.cmwq_running.specs.RunningContents.{RunningContents, seen}
-use Rattle.cmwq_running.specs.Ticks.{HasRunning, MovesAlike, ticks}
+use Rattle.cmwq_running.specs.Ticks.{HasRunning, MoveAlike, ticks}
 use Rattle.cmwq_running.proofs.ShownLemmas.{first_runnable_is, first_slept_is, has_free_rescuer_is, may_start_is, ready_head_is, runs_is}
 
 -- who has ticks left burns just where the table says so
@@ -140,22 +144,70 @@ all_on_time_later time m rs timely ends w = of_run (run_at rs w) (timely w) (end
     of_run None right later = tt
     of_run (Some r) right later = on_time_later time m r.phase right later
 
--- in two states at two times, both timely, the runs say the same of moves
-moves_alike : (S : ScenarioContents) (s t : State) (rs : List (Option Run)) → s.running ≡ shown_all s.time rs → t.running ≡ shown_all t.time rs → AreTimely s.time rs → AreTimely t.time rs → MovesAlike S s t
-moves_alike S s t rs one other timely later = record {
-  ready = λ pool. ready_head_is S t rs pool other later ∙ sym (ready_head_is S s rs pool one timely);
-  slept = λ pool. first_slept_is S t rs pool other later ∙ sym (first_slept_is S s rs pool one timely);
-  may_start = λ pool. may_start_is S t rs other pool ∙ sym (may_start_is S s rs one pool);
-  runs = λ w. runs_is S t rs other w ∙ sym (runs_is S s rs one w);
-  rescuer = λ queue. has_free_rescuer_is S t rs other queue ∙ sym (has_free_rescuer_is S s rs one queue);
-}
+-- Two states that differ in time and running works alone, both timely.
+module _ (S : ScenarioContents) (s : State) (time : ℕ) (running : List (Option Running)) (rs : List (Option Run))
+    (one : s.running ≡ shown_all s.time rs) (other : running ≡ shown_all time rs) (timely : AreTimely s.time rs) (later : AreTimely time rs) where
+  abbrev t : State
+  t = record s { time = time; running = running }
 
--- while nothing ends the runs say the same of moves
+  ready_same : (pool : ℕ) → ready_head S t pool ≡ ready_head S s pool
+  ready_same pool = ready_head_is S t rs pool other later ∙ sym (ready_head_is S s rs pool one timely)
+
+  slept_same : (pool : ℕ) → first_slept S t pool ≡ first_slept S s pool
+  slept_same pool = first_slept_is S t rs pool other later ∙ sym (first_slept_is S s rs pool one timely)
+
+  runs_same : (w : ℕ) → is_some (running_at t w) ≡ is_some (running_at s w)
+  runs_same w = runs_is S t rs other w ∙ sym (runs_is S s rs one w)
+
+  none_of : (a b : Option Running) → is_some a ≡ is_some b → is_none a ≡ is_none b
+  none_of None None same = refl
+  none_of None (Some q) same = absurd (cc)
+  none_of (Some r) None same = absurd (cc)
+  none_of (Some r) (Some q) same = refl
+
+  taken_alike : (w : ℕ) (a b : Option Running) (worker : Option ℕ) → is_some a ≡ is_some b → take_listed w a worker ≡ take_listed w b worker
+  taken_alike w None None worker same = refl
+  taken_alike w None (Some q) worker same = absurd (cc)
+  taken_alike w (Some r) None worker same = absurd (cc)
+  taken_alike w (Some r) (Some q) worker same = refl
+
+  first_same : (o worker : Option ℕ) → start_first t o worker ≡ start_first s o worker
+  first_same None worker = refl
+  first_same (Some w) worker = taken_alike w (running_at t w) (running_at s w) worker (runs_same w)
+
+  rescued_same : (pool : ℕ) → first_rescued S t pool ≡ first_rescued S s pool
+  rescued_same pool =
+      first_below-agree (pending_before s) (can_be_rescued S t pool) (can_be_rescued S s pool) (length S.works)
+      (λ w below.
+        ap (λ (b : Bool). pends (λ place. is_listed place pool) (pending_at s w) && (b && has_free_rescuer S t (queue_of S w))) (none_of (running_at t w) (running_at s w) (runs_same w))
+        ∙ ap (λ (b : Bool). pends (λ place. is_listed place pool) (pending_at s w) && (is_none (running_at s w) && b)) (has_free_rescuer_is S t rs other (queue_of S w) ∙ sym (has_free_rescuer_is S s rs one (queue_of S w))))
+
+  start_same : (pool : ℕ) → start_move S t pool ≡ start_move S s pool
+  start_same pool =
+      ap (λ (b : Bool). cond b (start_or_rescue S t pool) None) (may_start_is S t rs other pool ∙ sym (may_start_is S s rs one pool))
+      ∙ ap (λ (o : Option Move). cond (may_start S s pool) (or_else o (as_move Rescue (first_rescued S t pool))) None) (first_same (first_listed S s pool) (free_worker S s pool))
+      ∙ ap (λ (o : Option ℕ). cond (may_start S s pool) (or_else (start_first s (first_listed S s pool) (free_worker S s pool)) (as_move Rescue o)) None) (rescued_same pool)
+
+  moves_same : (pool : ℕ) → next_move S t pool ≡ next_move S s pool
+  moves_same pool =
+      ap (λ (o : Option ℕ). or_else (as_move Advance o) (or_else (as_move Wake (first_slept S t pool)) (start_move S t pool))) (ready_same pool)
+      ∙ ap (λ (o : Option ℕ). or_else (as_move Advance (ready_head S s pool)) (or_else (as_move Wake o) (start_move S t pool))) (slept_same pool)
+      ∙ ap (λ (o : Option Move). or_else (as_move Advance (ready_head S s pool)) (or_else (as_move Wake (first_slept S s pool)) o)) (start_same pool)
+
+  move_alike : MoveAlike S s t
+  move_alike = record {
+    ready = ready_same;
+    slept = slept_same;
+    moves = moves_same;
+    moving = first_below-agree (by_least (λ pool. pool)) (λ pool. is_some (next_move S t pool)) (λ pool. is_some (next_move S s pool)) (pool_count S) (λ pool below. ap is_some (moves_same pool));
+  }
+
+-- while nothing ends each pool has the move that it had
 pub ticks_alike : (S : ScenarioContents) (s : State) (rs : List (Option Run)) (n m : ℕ) → s.running ≡ shown_all s.time rs → HaveHeads S rs → ((pool : ℕ) → GoIn S rs pool) → AreTimely s.time rs
-    → NoneEndsBefore (s.time + m) rs → n < m → MovesAlike S s (ticks S s n)
+    → NoneEndsBefore (s.time + m) rs → n < m → MoveAlike S s (ticks S s n)
 ticks_alike S s rs n m is heads going timely ends earlier =
-    subst (λ (t : State). MovesAlike S s t) (sym (ticks_shown S n s rs is heads going))
-    (moves_alike S s (record s { time = s.time + n; running = shown_all (s.time + n) rs }) rs is refl timely (all_timely_later s.time n m rs timely ends earlier))
+    subst (λ (t : State). MoveAlike S s t) (sym (ticks_shown S n s rs is heads going))
+    (move_alike S s (s.time + n) (shown_all (s.time + n) rs) rs is refl timely (all_timely_later s.time n m rs timely ends earlier))
 
 -- What is seen of it.
 
@@ -179,9 +231,9 @@ passed_seen time works after m view headed n count same is s has =
 
 -- before each of them the runs say the same of moves
 pub alike_seen : (time : ℕ) (works : PhasedContents) (m : RunningContents) → seen time works ≡ m → AreKept time works → (n : ℕ) → NoneEndsBefore (time + n) works.runs
-    → (s : State) → HasRunning m s → (earlier : ℕ) → earlier < n → MovesAlike m.scenario s (ticks m.scenario s earlier)
+    → (s : State) → HasRunning m s → (earlier : ℕ) → earlier < n → MoveAlike m.scenario s (ticks m.scenario s earlier)
 alike_seen time works m view kept n ends s has earlier below =
     let at : time ≡ s.time = sym (has_time time works m view s has) in
-    subst (λ (S : ScenarioContents). MovesAlike S s (ticks S s earlier)) (ap (λ (m : RunningContents). m.scenario) view)
+    subst (λ (S : ScenarioContents). MoveAlike S s (ticks S s earlier)) (ap (λ (m : RunningContents). m.scenario) view)
     (ticks_alike works.scenario s works.runs earlier n (has_shown time works m view s has) kept.headed.heads kept.headed.going
     (subst (λ (t : ℕ). AreTimely t works.runs) at kept.timely) (subst (λ (t : ℕ). NoneEndsBefore (t + n) works.runs) at ends) below)

@@ -1,7 +1,7 @@
 //! The running works and the time.
 ghost use Rattle.cmwq_phased.specs.declared.pools.TheConstants.{MAX_POOLS};
 ghost use Rattle.cmwq_running.specs.RunningContents.{state_of, woken_run};
-ghost use Rattle.cmwq_running.specs.Ticks.{HasRunning, MovesAlike, ticks};
+ghost use Rattle.cmwq_running.specs.Ticks.{HasRunning, MoveAlike, ticks};
 ghost use Rattle.cmwq_table.specs.Counts.{burns, first_slept, has_free_rescuer, may_start, ready_head, runs};
 ghost use Rattle.cmwq_table.specs.Moves.{begun, burned};
 ghost use Rattle.cmwq_table.specs.State.{State, running_at};
@@ -215,14 +215,15 @@ impl RunningWorks {
         end_by(works, *time);
     }
 
-    /// Lets ticks pass, at most so many, until a burn or a sleep ends, and answers how many. Before each of them who runs says the same of the
-    /// moves of each pool as before the first.
+    /// Lets ticks pass, at most so many, until a burn or a sleep ends, and answers how many. Before each of them each pool has the next move that
+    /// it had before the first, whatever else the state has.
     pub fn pass(&mut self, most: u32) -> u32
         requires time { self.old.time < 2 ^ 63 }
         ensures few { result ≤ most }
         ensures scenario { self.new.scenario ≡ self.old.scenario }
+        ensures time { self.new.time ≡ self.old.time + result }
         ensures passed { (s : State) → HasRunning self.old s → ticks self.old.scenario s result ≡ record s { time = self.new.time; running = self.new.running } }
-        ensures alike { (s : State) → HasRunning self.old s → (earlier : ℕ) → earlier < result → MovesAlike self.old.scenario s (ticks self.old.scenario s earlier) }
+        ensures alike { (s : State) → HasRunning self.old s → (earlier : ℕ) → earlier < result → MoveAlike self.old.scenario s (ticks self.old.scenario s earlier) }
     {
         let RunningWorks { time, works } = self;
         let count = ticks_to_end(works, *time, most);

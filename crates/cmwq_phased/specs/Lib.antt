@@ -1,0 +1,4 @@
+pub mod Counted
+pub mod Indexed
+pub mod Indexes
+pub mod PhasedContents

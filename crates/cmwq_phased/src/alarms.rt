@@ -1,0 +1,66 @@
+//! The alarms of running works: of those whom time alone ends.
+ghost use Rattle.cmwq_phased.specs.Indexes.{AreRuns, AreTimed, alarm_of};
+ghost use Rattle.cmwq_phases.specs.Runs.{alarm_in};
+ghost use Rattle.std.specs.Prelude.{◌≡◌, ◌<◌, IfSome, length, slice_set};
+
+use cmwq_phases::{Phase, Run};
+use cmwq_timers::{Timer, Timers};
+use cmwq_types::{Scenario, WorkId};
+
+/// The alarm of a work that runs so, if it has one.
+pub(crate) fn alarm_of(work: WorkId, run: Option<Run>) -> Option<Timer>
+    ensures { result ≡ alarm_of work.0 run }
+{
+    let run = run?;
+    let due = alarm_in(run.phase)?;
+    Some(Timer {
+        due,
+        stamp: run.stamp,
+        work,
+        cpu: 0,
+    })
+}
+
+/// When time alone ends the phase, if it does.
+fn alarm_in(phase: Phase) -> Option<u64>
+    ensures { result ≡ alarm_in phase }
+{
+    match phase {
+        Phase::Burning(end) => Some(end),
+        Phase::Asleep(until) => Some(until),
+        Phase::Ready | Phase::Held(_) | Phase::Slept(_) => None,
+    }
+}
+
+/// Gives a work the alarm that it has when it runs so, if any. Where it has that alarm already nothing is touched.
+pub(crate) fn set_alarm(
+    alarms: &mut Timers,
+    scenario: &Scenario,
+    runs: &[Option<Run>],
+    w: usize,
+    run: Option<Run>,
+)
+    requires runs { AreRuns scenario.now runs.now }
+    requires timed { AreTimed scenario.now runs.now alarms.old }
+    requires work { w < length scenario.now.works }
+    ensures timed { AreTimed scenario.now (slice_set runs.now w run) alarms.new }
+{
+    let work = WorkId(w as u16);
+    let was = alarm_of(work, runs[w]);
+    let now = alarm_of(work, run);
+    if now != was {
+        ring_at(alarms, work, now);
+    }
+}
+
+/// Takes a work's alarm away, if it has one, and gives it the new one, if there is one.
+fn ring_at(alarms: &mut Timers, work: WorkId, alarm: Option<Timer>)
+    requires work { work.0 < length alarms.old }
+    requires own { IfSome alarm (λ timer. timer.work ≡ work) }
+    ensures { alarms.new ≡ slice_set alarms.old work.0 alarm }
+{
+    alarms.take(work);
+    if let Some(timer) = alarm {
+        alarms.put(timer);
+    }
+}

@@ -1,0 +1,79 @@
+//! How many running works stand in each class.
+ghost use Rattle.cmwq_phased.specs.Counted.{AreCounted, no_counts};
+ghost use Rattle.cmwq_phased.specs.Indexes.{AreRuns};
+ghost use Rattle.std.specs.Prelude.{◌≡◌, ◌<◌, IfOk, length, slice_set};
+
+use crate::classes::{awake_class, busy_class, rescued_class, running_class};
+use crate::pools::MAX_POOLS;
+use cmwq_phases::Run;
+use cmwq_tally::Tally;
+use cmwq_types::{NoMemory, Scenario};
+use std::alloc::Global;
+
+/// The tallies: of the works of a queue that run in a pool, of those of a pool that are awake, of those of a queue that run on its rescuer,
+/// and of those of freezable queues.
+#[derive(Drop)]
+pub(crate) struct Counts {
+    pub(crate) running: Tally,
+    pub(crate) awake: Tally,
+    pub(crate) rescued: Tally,
+    pub(crate) busy: Tally,
+}
+
+impl Counts {
+    /// The tallies for so many queues, of whose works none runs.
+    pub(crate) fn new(alloc: Global, queues: u8) -> Result<Counts, NoMemory>
+        ensures { IfOk result (λ made. made ≡ no_counts queues) }
+    {
+        let queues = usize::from(queues);
+        let pools = usize::from(MAX_POOLS);
+        Ok(Counts {
+            running: Tally::new(alloc, pools * queues)?,
+            awake: Tally::new(alloc, pools)?,
+            rescued: Tally::new(alloc, queues)?,
+            busy: Tally::new(alloc, 1)?,
+        })
+    }
+
+    /// Tallies equal to these.
+    pub(crate) fn copy(&self) -> Result<Counts, NoMemory>
+        ensures { IfOk result (λ copy. copy ≡ self.now) }
+    {
+        Ok(Counts {
+            running: self.running.copy()?,
+            awake: self.awake.copy()?,
+            rescued: self.rescued.copy()?,
+            busy: self.busy.copy()?,
+        })
+    }
+
+    /// Counts a work where it is counted when it runs so, and no longer where it is counted as it runs.
+    pub(crate) fn recount(
+        &mut self,
+        scenario: &Scenario,
+        runs: &[Option<Run>],
+        w: usize,
+        run: Option<Run>,
+    )
+        requires runs { AreRuns scenario.now runs.now }
+        requires counted { AreCounted scenario.now runs.now self.old }
+        requires work { w < length scenario.now.works }
+        ensures counted { AreCounted scenario.now (slice_set runs.now w run) self.new }
+    {
+        let was = runs[w];
+        let queue = scenario.queue_of(w);
+        let flags = scenario.flags_of(queue);
+        let intensive = flags.cpu_intensive;
+        let freezable = flags.freezable;
+        let Counts {
+            running,
+            awake,
+            rescued,
+            busy,
+        } = self;
+        running.change(running_class(queue, was), running_class(queue, run));
+        awake.change(awake_class(intensive, was), awake_class(intensive, run));
+        rescued.change(rescued_class(queue, was), rescued_class(queue, run));
+        busy.change(busy_class(freezable, was), busy_class(freezable, run));
+    }
+}

@@ -1,0 +1,189 @@
+//! The running works, with their indexes.
+ghost use Rattle.cmwq_phased.specs.PhasedContents.{HaveOwnStamps};
+ghost use Rattle.cmwq_phased.specs.declared.pools.TheConstants.{MAX_POOLS};
+ghost use Rattle.cmwq_phases.specs.Runs.{HasOwnStamp, awake_in, first_in_line, first_rested, first_to_end, freezable_running, rescued_of, run_at, running_in};
+ghost use Rattle.cmwq_types.specs.Setting.{IsSetting};
+ghost use Rattle.cmwq_types.specs.declared.limits.TheConstants.{MAX_WORKS};
+ghost use Rattle.std.specs.Prelude.{◌≡◌, ◌<◌, ◌≤◌, IfOk, IfSome, None, length, replicate, slice_set};
+
+use crate::alarms::set_alarm;
+use crate::classes::class_in;
+use crate::counts::Counts;
+use crate::lines::{line_up, rested_list};
+use crate::pools::MAX_POOLS;
+use cmwq_lists::Lists;
+use cmwq_phases::Run;
+use cmwq_timers::Timers;
+use cmwq_types::{NoMemory, Scenario, filled};
+use std::alloc::Global;
+use std::marker::Model;
+use std::sync::Arc;
+
+/// How each work of a scenario runs, if it runs, and who of them is the first, and how many there are.
+///
+/// Those in a pool's line stand in one list, those of it whose sleep is over in another, so who is first there is known at once; who has
+/// an alarm stands in a tree of alarms, and of each class that is asked for a count is kept. A run changes by `set` alone. Of a pool whose
+/// number is `MAX_POOLS` or more nothing is known but its works' runs. All room is taken by `new` and `copy`.
+#[derive(Drop)]
+pub struct PhasedWorks {
+    scenario: Arc<Scenario>,
+    runs: Vec<Option<Run>>,
+    lines: Lists,
+    alarms: Timers,
+    counts: Counts,
+}
+
+impl Model for PhasedWorks {
+    ghost use Rattle.cmwq_phased.specs.PhasedContents.{PhasedContents};
+
+    ghost Value = { PhasedContents };
+
+    ghost use Rattle.cmwq_phased.specs.Indexed.{AreIndexed};
+
+    ghost view = { λ p. record { scenario = p.scenario.value; runs = p.runs.items } };
+
+    ghost invariant = { λ p. AreIndexed p.scenario.value p.runs.items p.lines p.alarms p.counts };
+}
+
+impl PhasedWorks {
+    /// The works of a valid scenario, of which none runs. The only error is want of memory.
+    pub fn new(alloc: Global, scenario: Arc<Scenario>) -> Result<PhasedWorks, NoMemory>
+        requires setting { IsSetting scenario.value }
+        ensures scenario { IfOk result (λ made. made.scenario ≡ scenario.value) }
+        ensures idle { IfOk result (λ made. made.runs ≡ replicate (length scenario.value.works) None) }
+    {
+        let works = scenario.works.len();
+        let queues = scenario.queues.len();
+        Ok(PhasedWorks {
+            runs: filled(alloc, None, works)?,
+            lines: Lists::new(alloc, 2 * u16::from(MAX_POOLS), works as u16)?,
+            alarms: Timers::new(alloc, works as u16)?,
+            counts: Counts::new(alloc, queues as u8)?,
+            scenario,
+        })
+    }
+
+    /// Works that run as these do, apart from them. The scenario is shared. The only error is want of memory.
+    pub fn copy(&self) -> Result<PhasedWorks, NoMemory>
+        ensures { IfOk result (λ copy. copy ≡ self.now) }
+    {
+        let alloc = *self.runs.allocator();
+        Ok(PhasedWorks {
+            scenario: Arc::clone(&self.scenario)?,
+            runs: Vec::from_slice(alloc, &self.runs)?,
+            lines: self.lines.copy()?,
+            alarms: self.alarms.copy()?,
+            counts: self.counts.copy()?,
+        })
+    }
+
+    /// The scenario of the works.
+    pub fn scenario(&self) -> &Scenario
+        ensures scenario { result.now ≡ self.now.scenario }
+        ensures setting { IsSetting self.now.scenario }
+        ensures works { length self.now.runs ≡ length self.now.scenario.works }
+    {
+        &self.scenario
+    }
+
+    /// How the work runs, if it does. Where there is no such work, `None`.
+    pub fn of(&self, w: usize) -> Option<Run>
+        ensures { result ≡ run_at self.now.runs w }
+    {
+        self.runs.get(w).copied().unwrap_or(None)
+    }
+
+    /// Lets a work run otherwise, or not at all. No other work may run under the stamp of the new run.
+    ///
+    /// A line is touched only where the work's place in one changes, an alarm or a count only where that changes.
+    pub fn set(&mut self, w: usize, run: Option<Run>)
+        requires work { w < length self.old.scenario.works }
+        requires own_stamp { HasOwnStamp self.old.runs w run }
+        ensures { self.new ≡ record self.old { runs = slice_set self.old.runs w run } }
+    {
+        let PhasedWorks {
+            scenario,
+            runs,
+            lines,
+            alarms,
+            counts,
+        } = self;
+        line_up(lines, scenario, runs, w, run);
+        set_alarm(alarms, scenario, runs, w, run);
+        counts.recount(scenario, runs, w, run);
+        runs[w] = run;
+    }
+
+    /// The first in the pool's line, by stamp: of those runnable in a bound pool, of those that have nothing left to burn in an unbound one.
+    pub fn first_in_line(&self, pool: u8) -> Option<usize>
+        requires pool { pool < MAX_POOLS }
+        ensures first { result ≡ first_in_line self.now.scenario self.now.runs pool }
+        ensures in_range { IfSome result (λ w. w < length self.now.scenario.works) }
+        ensures few { IfSome result (λ w. w < MAX_WORKS) }
+    {
+        self.lines.front_key(usize::from(pool))
+    }
+
+    /// The first of those in the pool whose sleep is over, by the time at which it was over, and then by stamp.
+    pub fn first_rested(&self, pool: u8) -> Option<usize>
+        requires pool { pool < MAX_POOLS }
+        ensures first { result ≡ first_rested self.now.scenario self.now.runs pool }
+        ensures in_range { IfSome result (λ w. w < length self.now.scenario.works) }
+        ensures few { IfSome result (λ w. w < MAX_WORKS) }
+    {
+        self.lines.front_key(rested_list(pool))
+    }
+
+    /// The first whose burn or sleep time ends, by the time at which it does, and then by stamp.
+    pub fn first_to_end(&self) -> Option<usize>
+        ensures first { result ≡ first_to_end self.now.scenario self.now.runs }
+        ensures in_range { IfSome result (λ w. w < length self.now.scenario.works) }
+        ensures few { IfSome result (λ w. w < MAX_WORKS) }
+    {
+        let alarm = self.alarms.least()?;
+        Some(usize::from(alarm.work.0))
+    }
+
+    /// How many works of the queue run in the pool.
+    pub fn running_in(&self, queue: u8, pool: u8) -> usize
+        requires pool { pool < MAX_POOLS }
+        requires queue { queue < length self.now.scenario.queues }
+        ensures running { result ≡ running_in self.now.scenario self.now.runs queue pool }
+        ensures few { result ≤ length self.now.scenario.works }
+    {
+        usize::from(self.counts.running.of(class_in(queue, pool)))
+    }
+
+    /// How many works that run in the pool are runnable and count towards its concurrency level.
+    pub fn awake_in(&self, pool: u8) -> usize
+        requires pool { pool < MAX_POOLS }
+        ensures awake { result ≡ awake_in self.now.scenario self.now.runs pool }
+        ensures few { result ≤ length self.now.scenario.works }
+    {
+        usize::from(self.counts.awake.of(usize::from(pool)))
+    }
+
+    /// How many works of the queue run on its rescuer.
+    pub fn rescued_of(&self, queue: u8) -> usize
+        requires queue { queue < length self.now.scenario.queues }
+        ensures rescued { result ≡ rescued_of self.now.scenario self.now.runs queue }
+        ensures few { result ≤ length self.now.scenario.works }
+    {
+        usize::from(self.counts.rescued.of(usize::from(queue)))
+    }
+
+    /// How many works of freezable queues run.
+    pub fn freezable_running(&self) -> usize
+        ensures running { result ≡ freezable_running self.now.scenario self.now.runs }
+        ensures few { result ≤ length self.now.scenario.works }
+    {
+        usize::from(self.counts.busy.of(0))
+    }
+
+    /// No two works run under one stamp.
+    pub fn own_stamps(&self)
+        ensures { HaveOwnStamps self.now.runs }
+    {
+        let _runs = &self.runs;
+    }
+}
