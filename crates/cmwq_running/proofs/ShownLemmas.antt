@@ -1,5 +1,5 @@
 -- What the table's words come to on running works by their phases.
-use Rattle.std.proofs.Common.{◌≡◌, ◌≢◌, ℕ, zero, suc, ◌+◌, ◌-◌, ◌<◌, ◌≤◌, Bool, true, false, cond, ◌&&◌, ◌||◌, ◌==◌, List, [], ◌∷◌, length, map, set, Option, Some, None, IfSome, arith, refl, sym, ap, subst, ◌∙◌}
+use Rattle.std.proofs.Common.{◌≡◌, ◌≢◌, ℕ, zero, suc, ◌+◌, ◌-◌, ◌<◌, ◌≤◌, Bool, true, false, cond, ◌&&◌, ◌||◌, ◌==◌, List, [], ◌∷◌, length, map, replicate, set, Option, Some, None, IfSome, arith, refl, sym, ap, subst, ◌∙◌}
 use Rattle.std.specs.Prelude.{slice_index_or, is_none, is_some, nat_le, nat_lt, not, option_map}
 use Rattle.std.proofs.lemmas.Bool.Decides.{nat_tests}
 use Rattle.cmwq_types.specs.Contents.{ScenarioContents}
@@ -304,3 +304,8 @@ phase_ready (Held left) is = absurd (cc)
 phase_ready (Burning end) is = absurd (cc)
 phase_ready (Asleep until) is = absurd (cc)
 phase_ready (Slept until) is = absurd (cc)
+
+-- where none runs none shows
+pub none_shown : (time n : ℕ) → shown_all time (replicate n None) ≡ replicate n None
+none_shown time zero = refl
+none_shown time (suc n) = ap (λ (xs : List (Option Running)). None ∷ xs) (none_shown time n)
