@@ -1,23 +1,22 @@
 -- Burns and sleeps end with time, and nothing of it shows.
-use Rattle.std.proofs.Common.{◌≡◌, ◌≢◌, ℕ, ◌+◌, ◌-◌, ◌<◌, ◌≤◌, Bool, true, false, cond, ◌&&◌, ◌||◌, ◌==◌, List, length, set, Option, Some, None, IfSome, arith, refl, sym, ap, subst, ◌∙◌, inl, inr}
+use Rattle.std.proofs.Common.{◌≡◌, ℕ, ◌+◌, ◌-◌, ◌<◌, ◌≤◌, Bool, true, false, cond, ◌&&◌, ◌||◌, ◌==◌, List, length, set, Option, Some, None, IfSome, arith, refl, sym, ap, subst, ◌∙◌, inl, inr}
 use Rattle.std.specs.Prelude.{is_some, min, nat_le, nat_lt, option_map}
 use Rattle.std.proofs.Math.Seq.{map-set_same}
 use Rattle.std.proofs.lemmas.Bool.{cases_lt}
 use Rattle.std.proofs.lemmas.Bool.Decides.{nat_tests}
 use Rattle.std.proofs.lemmas.List.{get_or_past, length-set}
 use Rattle.cmwq_types.specs.Contents.{ScenarioContents}
-use Rattle.cmwq_types.specs.First.{by_least_two, first_below, IsFirst, MatchFirst}
+use Rattle.cmwq_types.specs.First.{by_least_two, IsFirst, MatchFirst}
 use Rattle.cmwq_types.specs.Scenario.{is_unbound}
 use Rattle.cmwq_types.specs.declared.reply.Mode.{Mode}
 use Rattle.cmwq_types.proofs.FirstLemmas.{by_least_two-order, first_below-is_first}
 use Rattle.cmwq_table.specs.Counts.{is_some_work}
-use Rattle.cmwq_phased.specs.PhasedContents.{PhasedContents}
 use Rattle.cmwq_phases.specs.Phases.{IsTimely, left_in, mode_in, shown, shown_all}
 use Rattle.cmwq_phases.specs.Runs.{alarm_in, first_to_end, is_awake, number_or_0, run_alarm, run_at, run_stamp}
 use Rattle.cmwq_phases.specs.declared.run.Phase.{Phase}
 use Rattle.cmwq_phases.specs.declared.run.Phase.TheVariants.{Ready, Held, Burning, Asleep, Slept}
 use Rattle.cmwq_phases.specs.declared.run.Run.{Run}
-use Rattle.cmwq_running.specs.Heads.{AreHeaded, AreOnTime, AreTimely, GoIn, IsOnTime, IsStill, NoneEndsBefore, alarm_count, end_of, ended, first_awake, in_phase, may_burn}
+use Rattle.cmwq_running.specs.Heads.{AreHeaded, AreOnTime, AreTimely, IsOnTime, IsStill, NoneEndsBefore, alarm_count, end_of, ended, first_awake, in_phase, may_burn}
 use Rattle.cmwq_running.proofs.AlikeLemmas.{fewer_below}
 use Rattle.cmwq_running.proofs.HeadLemmas.{IsSwap, at_changed, at_other, still_going, still_heading, swap_go, swap_have_heads}
 use Rattle.cmwq_running.proofs.PaceLemmas.{within_of}

@@ -1,5 +1,5 @@
 -- What a change of one work leaves of the heads of pools.
-use Rattle.std.proofs.Common.{◌≡◌, ◌≢◌, ◌⊎◌, ℕ, zero, suc, ◌+◌, ◌*◌, ◌<◌, ◌≤◌, Bool, true, false, cond, ◌&&◌, ◌||◌, ◌==◌, List, length, set, Option, Some, None, IfSome, arith, refl, sym, ap, subst, ◌∙◌, inl, inr}
+use Rattle.std.proofs.Common.{◌≡◌, ◌≢◌, ◌⊎◌, ℕ, ◌+◌, ◌<◌, Bool, true, false, ◌&&◌, ◌||◌, ◌==◌, List, length, set, Option, Some, None, IfSome, arith, refl, sym, ap, subst, ◌∙◌, inl, inr}
 use Rattle.std.specs.Prelude.{is_none, nat_lt}
 use Rattle.std.proofs.lemmas.Bool.{cases_eq}
 use Rattle.std.proofs.lemmas.Bool.Decides.{nat_tests}
@@ -14,7 +14,7 @@ use Rattle.cmwq_phases.specs.Runs.{is_awake, run_at, run_stamp, with_run}
 use Rattle.cmwq_phases.specs.declared.run.Phase.{Phase}
 use Rattle.cmwq_phases.specs.declared.run.Phase.TheVariants.{Ready, Held, Burning, Asleep, Slept}
 use Rattle.cmwq_phases.specs.declared.run.Run.{Run}
-use Rattle.cmwq_running.specs.Heads.{AreHeaded, ComesLast, GoIn, HaveHeads, IfBeside, IsBeside, IsGoing, IsHeading, IsStill, first_awake, may_burn}
+use Rattle.cmwq_running.specs.Heads.{ComesLast, GoIn, HaveHeads, IfBeside, IsBeside, IsGoing, IsHeading, IsStill, first_awake, may_burn}
 use Rattle.cmwq_running.proofs.AlikeLemmas.{first_alike, first_is, first_of, none_alike}
 
 -- the runnable of a pool
@@ -104,16 +104,16 @@ module _ (S : ScenarioContents) (rs : List (Option Run)) (w : ℕ) (new : Option
       first_is (λ k. run_stamp (run_at (set rs w new) k)) (λ k. in_pool q.pool (run_at (set rs w new) k)) (length S.works) v first.in_range
       (ap (in_pool q.pool) (at_other rs w v new other) ∙ first.passes)
       (λ k lower apart passes.
-        subst (λ (n : ℕ). n < run_stamp (run_at (set rs w new) k)) (sym (ap run_stamp (at_other rs w v new other) ∙ ap run_stamp at))
-        (elim (cases_eq k w) [
-          | inl here ↦
-              subst (λ (j : ℕ). q.stamp < run_stamp (run_at (set rs w new) j)) (sym here)
-              (subst (λ (o : Option Run). q.stamp < run_stamp o) (sym (at_changed rs w new change.within))
-              (joined new change.last (sym (ap (in_pool q.pool) (ap (run_at (set rs w new)) here ∙ at_changed rs w new change.within)) ∙ passes)))
-          | inr beside ↦
-              subst (λ (o : Option Run). q.stamp < run_stamp o) (sym (at_other rs w k new beside))
-              (stayed k apart (run_at rs k) refl (sym (ap (in_pool q.pool) (at_other rs w k new beside)) ∙ passes) (first.least k lower (sym (ap (in_pool q.pool) (at_other rs w k new beside)) ∙ passes)))
-        ]))
+      subst (λ (n : ℕ). n < run_stamp (run_at (set rs w new) k)) (sym (ap run_stamp (at_other rs w v new other) ∙ ap run_stamp at))
+      (elim (cases_eq k w) [
+        | inl here ↦
+            subst (λ (j : ℕ). q.stamp < run_stamp (run_at (set rs w new) j)) (sym here)
+            (subst (λ (o : Option Run). q.stamp < run_stamp o) (sym (at_changed rs w new change.within))
+            (joined new change.last (sym (ap (in_pool q.pool) (ap (run_at (set rs w new)) here ∙ at_changed rs w new change.within)) ∙ passes)))
+        | inr beside ↦
+            subst (λ (o : Option Run). q.stamp < run_stamp o) (sym (at_other rs w k new beside))
+            (stayed k apart (run_at rs k) refl (sym (ap (in_pool q.pool) (at_other rs w k new beside)) ∙ passes) (first.least k lower (sym (ap (in_pool q.pool) (at_other rs w k new beside)) ∙ passes)))
+      ]))
     where
       first : IsFirst (by_least (λ k. run_stamp (run_at rs k))) (λ k. in_pool q.pool (run_at rs k)) (length S.works) v
       first = first_of (λ k. run_stamp (run_at rs k)) (λ k. in_pool q.pool (run_at rs k)) (length S.works) v head

@@ -1,5 +1,5 @@
 -- A burn is paused and goes on, and nothing of it shows.
-use Rattle.std.proofs.Common.{◌≡◌, ◌≢◌, ◌⊎◌, ℕ, ◌+◌, ◌-◌, ◌*◌, ◌<◌, ◌≤◌, Bool, true, false, cond, ◌&&◌, ◌||◌, ◌==◌, List, length, set, Option, Some, None, IfSome, arith, refl, sym, ap, subst, ◌∙◌, inl, inr}
+use Rattle.std.proofs.Common.{◌≡◌, ◌≢◌, ◌⊎◌, ℕ, ◌-◌, ◌<◌, Bool, true, false, ◌&&◌, ◌==◌, List, length, set, Option, Some, None, IfSome, arith, refl, sym, ap, subst, ◌∙◌, inl, inr}
 use Rattle.std.specs.Prelude.{option_map}
 use Rattle.std.proofs.Math.Seq.{map-set_same}
 use Rattle.std.proofs.lemmas.Bool.{cases_eq, cases_lt}
@@ -8,16 +8,15 @@ use Rattle.std.proofs.lemmas.List.{get_or_past}
 use Rattle.cmwq_types.specs.Contents.{ScenarioContents}
 use Rattle.cmwq_types.specs.Scenario.{is_high, is_unbound}
 use Rattle.cmwq_table.specs.Counts.{is_some_work}
-use Rattle.cmwq_table.specs.declared.state.Running.{Running}
 use Rattle.cmwq_phased.specs.PhasedContents.{HaveOwnStamps}
-use Rattle.cmwq_phases.specs.Phases.{IsTimely, left_in, mode_in, shown, shown_all}
-use Rattle.cmwq_phases.specs.Runs.{HasOwnStamp, first_in_line, is_awake, run_at, run_stamp, with_run}
+use Rattle.cmwq_phases.specs.Phases.{left_in, mode_in, shown, shown_all}
+use Rattle.cmwq_phases.specs.Runs.{HasOwnStamp, first_in_line, is_awake, run_at, run_stamp}
 use Rattle.cmwq_phases.specs.declared.run.Phase.{Phase}
 use Rattle.cmwq_phases.specs.declared.run.Phase.TheVariants.{Ready, Held, Burning, Asleep, Slept}
 use Rattle.cmwq_phases.specs.declared.run.Run.{Run}
-use Rattle.cmwq_running.specs.Heads.{AreHeaded, AreTimely, GoIn, HaveHeads, IsBeside, IsGoing, IsHeading, first_awake, in_phase, may_burn, paced, paced_run}
+use Rattle.cmwq_running.specs.Heads.{GoIn, HaveHeads, IsBeside, IsGoing, IsHeading, first_awake, in_phase, may_burn, paced, paced_run}
 use Rattle.cmwq_running.proofs.AlikeLemmas.{first_of}
-use Rattle.cmwq_running.proofs.HeadLemmas.{IsSwap, in_pool, is_work, some_work, swap_go, swap_have_heads}
+use Rattle.cmwq_running.proofs.HeadLemmas.{IsSwap, in_pool, is_work, swap_go, swap_have_heads}
 use Rattle.cmwq_running.proofs.ShownLemmas.{first_in_line_bound}
 
 -- Phases.

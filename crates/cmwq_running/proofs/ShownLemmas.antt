@@ -1,12 +1,12 @@
 -- What the table's words come to on running works by their phases.
-use Rattle.std.proofs.Common.{◌≡◌, ◌≢◌, ℕ, zero, suc, ◌+◌, ◌-◌, ◌<◌, ◌≤◌, Bool, true, false, cond, ◌&&◌, ◌||◌, ◌==◌, List, [], ◌∷◌, length, map, replicate, set, Option, Some, None, IfSome, arith, refl, sym, ap, subst, ◌∙◌}
-use Rattle.std.specs.Prelude.{slice_index_or, is_none, is_some, nat_le, nat_lt, not, option_map}
+use Rattle.std.proofs.Common.{◌≡◌, ℕ, zero, suc, Bool, true, false, cond, ◌&&◌, ◌||◌, ◌==◌, List, [], ◌∷◌, length, replicate, set, Option, Some, None, IfSome, arith, refl, sym, ap, subst, ◌∙◌}
+use Rattle.std.specs.Prelude.{slice_index_or, is_some, nat_lt, not, option_map}
 use Rattle.std.proofs.lemmas.Bool.Decides.{nat_tests}
 use Rattle.cmwq_types.specs.Contents.{ScenarioContents}
-use Rattle.cmwq_types.specs.First.{count_below, first_below, by_least, by_least_two, IsFirst}
-use Rattle.cmwq_types.specs.Scenario.{flags_at, is_high, is_unbound, queue_of}
+use Rattle.cmwq_types.specs.First.{count_below, first_below, by_least, by_least_two}
+use Rattle.cmwq_types.specs.Scenario.{flags_at, is_unbound, queue_of}
 use Rattle.cmwq_types.proofs.FirstLemmas.{by_least-order, by_least_two-order, count_below-agree}
-use Rattle.cmwq_table.specs.Counts.{burns, first_ready, first_runnable, first_slept, has_free_rescuer, if_ready, is_counted, is_rescuer, is_runnable, is_slept, is_some_work, may_start, ready_head, runs, running_stamp, running_until, runs_on_rescuer}
+use Rattle.cmwq_table.specs.Counts.{first_ready, first_runnable, first_slept, has_free_rescuer, if_ready, is_counted, is_rescuer, is_runnable, is_slept, may_start, ready_head, runs, running_stamp, running_until, runs_on_rescuer}
 use Rattle.cmwq_table.specs.State.{State, running_at}
 use Rattle.cmwq_table.specs.declared.state.Running.{Running}
 use Rattle.cmwq_phased.specs.PhasedContents.{PhasedContents}
@@ -15,7 +15,7 @@ use Rattle.cmwq_phases.specs.Runs.{awake_in, first_in_line, first_rested, freeza
 use Rattle.cmwq_phases.specs.declared.run.Phase.{Phase}
 use Rattle.cmwq_phases.specs.declared.run.Phase.TheVariants.{Ready, Held, Burning, Asleep, Slept}
 use Rattle.cmwq_phases.specs.declared.run.Run.{Run}
-use Rattle.cmwq_running.specs.Heads.{AreTimely, first_awake, if_run_ready, may_burn, ready_run}
+use Rattle.cmwq_running.specs.Heads.{AreTimely, first_awake, if_run_ready, ready_run}
 use Rattle.cmwq_running.specs.RunningContents.{seen}
 use Rattle.cmwq_running.proofs.AlikeLemmas.{first_alike, first_of}
 

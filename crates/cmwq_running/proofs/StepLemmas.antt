@@ -1,17 +1,17 @@
 -- The ready head of a pool goes on, or falls asleep; a sleeper wakes.
-use Rattle.std.proofs.Common.{◌≡◌, ◌≢◌, ℕ, ◌+◌, ◌-◌, ◌<◌, ◌≤◌, Bool, true, false, cond, ◌&&◌, ◌||◌, ◌==◌, List, length, set, Option, Some, None, IfSome, arith, refl, sym, ap, subst, ◌∙◌, inl, inr}
-use Rattle.std.specs.Prelude.{is_some, nat_le, nat_lt, option_map, slice_index_or}
+use Rattle.std.proofs.Common.{◌≡◌, ◌≢◌, ℕ, ◌+◌, ◌<◌, Bool, true, false, cond, ◌&&◌, ◌==◌, List, length, set, Option, Some, None, IfSome, arith, refl, sym, ap, subst, ◌∙◌, inl, inr}
+use Rattle.std.specs.Prelude.{is_some, nat_le, option_map, slice_index_or}
 use Rattle.std.proofs.lemmas.Bool.{cases_eq}
 use Rattle.std.proofs.lemmas.Bool.Decides.{nat_tests}
 use Rattle.std.proofs.lemmas.List.{length-set}
 use Rattle.cmwq_types.specs.Contents.{ScenarioContents}
-use Rattle.cmwq_types.specs.First.{by_least_two, first_below, IsFirst, MatchFirst}
-use Rattle.cmwq_types.specs.Scenario.{is_high, is_unbound}
+use Rattle.cmwq_types.specs.First.{by_least_two, MatchFirst}
+use Rattle.cmwq_types.specs.Scenario.{is_unbound}
 use Rattle.cmwq_types.specs.declared.reply.Mode.{Mode}
 use Rattle.cmwq_types.specs.declared.reply.Mode.TheVariants as mode
 use Rattle.cmwq_types.proofs.FirstLemmas.{by_least_two-order, first_below-is_first}
-use Rattle.cmwq_table.specs.Counts.{first_slept, is_slept, is_some_work, ready_head, runs, running_stamp, running_until}
-use Rattle.cmwq_table.specs.State.{State, running_at}
+use Rattle.cmwq_table.specs.Counts.{first_slept, is_some_work, ready_head}
+use Rattle.cmwq_table.specs.State.{running_at}
 use Rattle.cmwq_table.specs.declared.state.Running.{Running}
 use Rattle.cmwq_phased.specs.PhasedContents.{HaveOwnStamps, PhasedContents}
 use Rattle.cmwq_phases.specs.Phases.{IsTimely, left_in, mode_in, shown, shown_all}
@@ -19,11 +19,11 @@ use Rattle.cmwq_phases.specs.Runs.{HasOwnStamp, first_in_line, first_rested, is_
 use Rattle.cmwq_phases.specs.declared.run.Phase.{Phase}
 use Rattle.cmwq_phases.specs.declared.run.Phase.TheVariants.{Ready, Held, Burning, Asleep, Slept}
 use Rattle.cmwq_phases.specs.declared.run.Run.{Run}
-use Rattle.cmwq_running.specs.Heads.{AreHeaded, AreKept, AreTimely, ComesLast, GoIn, IsGoing, IsHeading, asleep_until, first_awake, may_burn, paced, ready_run, with_left}
+use Rattle.cmwq_running.specs.Heads.{AreHeaded, AreKept, AreTimely, ComesLast, IsGoing, IsHeading, asleep_until, first_awake, may_burn, paced, with_left}
 use Rattle.cmwq_running.specs.RunningContents.{onward_run, seen, state_of, woken_run}
 use Rattle.cmwq_running.proofs.HeadLemmas.{IsSwap, at_changed, at_other, is_work, swap_go, swap_have_heads}
 use Rattle.cmwq_running.proofs.PaceLemmas.{head_may, own_stamp, paced_awake, paced_goes, paced_left, paced_mode, within_of}
-use Rattle.cmwq_running.proofs.ShownLemmas.{IsReadyRun, IsRunOf, at_shown, first_in_line_bound, first_slept_is, phase_ready, ready_head_is, ready_of, run_of}
+use Rattle.cmwq_running.proofs.ShownLemmas.{at_shown, first_in_line_bound, first_slept_is, phase_ready, ready_head_is, ready_of, run_of}
 
 -- The ready head.
 

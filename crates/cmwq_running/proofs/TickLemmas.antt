@@ -1,5 +1,5 @@
 -- A tick of the table is a step of the time, and nothing else.
-use Rattle.std.proofs.Common.{◌≡◌, ℕ, zero, suc, ◌+◌, ◌-◌, ◌<◌, ◌≤◌, Bool, true, false, cond, ◌&&◌, ◌||◌, ◌==◌, List, [], ◌∷◌, length, Option, Some, None, IfSome, arith, refl, sym, ap, subst, ◌∙◌}
+use Rattle.std.proofs.Common.{◌≡◌, ℕ, zero, suc, ◌+◌, ◌-◌, ◌<◌, ◌≤◌, Bool, true, false, cond, ◌&&◌, ◌||◌, List, [], ◌∷◌, length, Option, Some, None, IfSome, arith, refl, sym, ap, subst, ◌∙◌}
 use Rattle.std.specs.Prelude.{is_none, is_some, option_map}
 use Rattle.cmwq_types.specs.Contents.{ScenarioContents}
 use Rattle.cmwq_types.specs.First.{by_least}
@@ -8,12 +8,12 @@ use Rattle.cmwq_types.specs.declared.moves.Move.{Move}
 use Rattle.cmwq_types.specs.declared.moves.Move.TheVariants.{Advance, Rescue, Wake}
 use Rattle.cmwq_types.proofs.FirstLemmas.{first_below-agree}
 use Rattle.cmwq_table.specs.Counts.{burns, can_be_rescued, first_listed, first_rescued, first_runnable, first_slept, free_worker, has_free_rescuer, is_listed, is_runnable, is_some_work, may_start, or_else, pending_before, pends, ready_head}
-use Rattle.cmwq_table.specs.Moves.{as_move, burned, first_moving, next_move, one_less, start_first, start_move, start_or_rescue, take_listed, tick}
+use Rattle.cmwq_table.specs.Moves.{as_move, burned, next_move, one_less, start_first, start_move, start_or_rescue, take_listed, tick}
 use Rattle.cmwq_table.specs.State.{State, pending_at, running_at}
 use Rattle.cmwq_table.specs.declared.state.Running.{Running}
 use Rattle.cmwq_phased.specs.PhasedContents.{PhasedContents}
 use Rattle.cmwq_phases.specs.Phases.{IsTimely, left_in, mode_in, shown, shown_all}
-use Rattle.cmwq_phases.specs.Runs.{alarm_in, awake_in, rescued_of, run_alarm, run_at}
+use Rattle.cmwq_phases.specs.Runs.{alarm_in, run_alarm, run_at}
 use Rattle.cmwq_phases.specs.declared.run.Phase.{Phase}
 use Rattle.cmwq_phases.specs.declared.run.Phase.TheVariants.{Ready, Held, Burning, Asleep, Slept}
 use Rattle.cmwq_phases.specs.declared.run.Run.{Run}
@@ -179,8 +179,8 @@ module _ (S : ScenarioContents) (s : State) (time : ℕ) (running : List (Option
   rescued_same pool =
       first_below-agree (pending_before s) (can_be_rescued S t pool) (can_be_rescued S s pool) (length S.works)
       (λ w below.
-        ap (λ (b : Bool). pends (λ place. is_listed place pool) (pending_at s w) && (b && has_free_rescuer S t (queue_of S w))) (none_of (running_at t w) (running_at s w) (runs_same w))
-        ∙ ap (λ (b : Bool). pends (λ place. is_listed place pool) (pending_at s w) && (is_none (running_at s w) && b)) (has_free_rescuer_is S t rs other (queue_of S w) ∙ sym (has_free_rescuer_is S s rs one (queue_of S w))))
+      ap (λ (b : Bool). pends (λ place. is_listed place pool) (pending_at s w) && (b && has_free_rescuer S t (queue_of S w))) (none_of (running_at t w) (running_at s w) (runs_same w))
+      ∙ ap (λ (b : Bool). pends (λ place. is_listed place pool) (pending_at s w) && (is_none (running_at s w) && b)) (has_free_rescuer_is S t rs other (queue_of S w) ∙ sym (has_free_rescuer_is S s rs one (queue_of S w))))
 
   start_same : (pool : ℕ) → start_move S t pool ≡ start_move S s pool
   start_same pool =

@@ -100,7 +100,16 @@ pub(crate) fn wake(works: &mut PhasedWorks, time: u64, pool: u8, w: usize, stamp
         None => {}
         Some(run) => {
             let phase = Phase::Ready;
-            change(works, time, w, Some(Run { stamp, phase, ..run }));
+            change(
+                works,
+                time,
+                w,
+                Some(Run {
+                    stamp,
+                    phase,
+                    ..run
+                }),
+            );
         }
     }
 }

@@ -66,7 +66,8 @@ fn ended(phase: Phase, time: u64) -> Option<Phase>
     match phase {
         Phase::Burning(end) if end <= time => Some(Phase::Ready),
         Phase::Asleep(until) if until <= time => Some(Phase::Slept(until)),
-        Phase::Ready | Phase::Held(_) | Phase::Burning(_) | Phase::Asleep(_) | Phase::Slept(_) => None,
+        Phase::Ready | Phase::Held(_) | Phase::Burning(_) | Phase::Asleep(_) | Phase::Slept(_) =>
+            None,
     }
 }
 

@@ -30,7 +30,8 @@ pub(crate) fn paced(phase: Phase, may: bool, time: u64) -> Phase
     match phase {
         Phase::Held(left) if may => Phase::Burning(time + u64::from(left)),
         Phase::Burning(end) if !may => Phase::Held(end.saturating_sub(time) as u32),
-        Phase::Ready | Phase::Held(_) | Phase::Burning(_) | Phase::Asleep(_) | Phase::Slept(_) => phase,
+        Phase::Ready | Phase::Held(_) | Phase::Burning(_) | Phase::Asleep(_) | Phase::Slept(_) =>
+            phase,
     }
 }
 

@@ -1,4 +1,4 @@
-use Rattle.std.proofs.Common.{◌≡◌, ℕ, Bool, List, Option, Some, set, refl, sym, ap, subst, ◌∙◌}
+use Rattle.std.proofs.Common.{◌≡◌, Bool, Some, set, sym, ap, subst, ◌∙◌}
 use Rattle.cmwq_table.specs.declared.state.Running.{Running}
 use Rattle.cmwq_phased.specs.PhasedContents.{PhasedContents}
 use Rattle.cmwq_phases.specs.Phases.{IsTimely, shown, shown_all}
@@ -6,7 +6,7 @@ use Rattle.cmwq_phases.specs.Runs.{HasOwnStamp}
 use Rattle.cmwq_phases.specs.declared.run.Phase.{Phase}
 use Rattle.cmwq_phases.specs.declared.run.Run.{Run}
 use Rattle.cmwq_running.specs.Heads.{AreKept, may_burn, paced, with_left}
-use Rattle.cmwq_running.specs.RunningContents.{onward_run, seen}
+use Rattle.cmwq_running.specs.RunningContents.{onward_run}
 use Rattle.cmwq_running.proofs.ShownLemmas.{seen_is, shown_set}
 use Rattle.cmwq_running.proofs.StepLemmas.{IsReadyHead, go_on_kept, go_on_shown, onward_own, ready_head_of}
 use Rattle.cmwq_running.proofs.changing.go_on.Goals as goal

@@ -1,8 +1,8 @@
-use Rattle.std.proofs.Common.{◌≡◌, ℕ, List, Option, Some, set, refl, sym, ap, subst, ◌∙◌}
+use Rattle.std.proofs.Common.{Option, set, sym, ap, ◌∙◌}
 use Rattle.cmwq_table.specs.declared.state.Running.{Running}
 use Rattle.cmwq_phases.specs.Phases.{shown_all}
 use Rattle.cmwq_phases.specs.declared.run.Phase.TheVariants.{Ready}
-use Rattle.cmwq_running.specs.RunningContents.{RunningContents, seen}
+use Rattle.cmwq_running.specs.RunningContents.{seen}
 use Rattle.cmwq_running.proofs.StepLemmas.{has_slept, newest_last, newest_own, slept_runs, woken_shown}
 use Rattle.cmwq_running.proofs.changing.wake.Goals as goal
 
@@ -22,4 +22,4 @@ pub returns-in-Some-clause-seen : goal.returns-in-Some-clause-seen
 returns-in-Some-clause-seen c =
     c.change.ensures.seen
     ∙ ap (λ (r : Option Running). record (seen c.args.time c.args.works.now) { running = set (shown_all c.args.time c.args.works.now.runs) c.args.w r })
-      (woken_shown c.args.time c.args.stamp c.args.works.now c.args.w (has_slept c.args.time c.args.works.now c.args.pool c.args.w c.requires.kept.timely c.requires.first) c.in-Some.run' (sym c.of.ensures ∙ c.in-Some.is))
+    (woken_shown c.args.time c.args.stamp c.args.works.now c.args.w (has_slept c.args.time c.args.works.now c.args.pool c.args.w c.requires.kept.timely c.requires.first) c.in-Some.run' (sym c.of.ensures ∙ c.in-Some.is))

@@ -1,4 +1,4 @@
-use Rattle.std.proofs.Common.{◌≡◌, ◌<◌, Option, ℕ, IfSome, refl, sym, ap, subst, ◌∙◌}
+use Rattle.std.proofs.Common.{◌<◌, Option, ℕ, IfSome, sym, subst, ◌∙◌}
 use Rattle.cmwq_running.proofs.EndLemmas.{all_timely, none_ends}
 use Rattle.cmwq_running.proofs.ending.end_first.Goals as goal
 

@@ -1,4 +1,4 @@
-use Rattle.std.proofs.Common.{◌≡◌, ◌≤◌, ◌+◌, Option, ℕ, sym, ap, ◌∙◌}
+use Rattle.std.proofs.Common.{ℕ, sym, ap, ◌∙◌}
 use Rattle.std.specs.Prelude.{min, ◌-◌}
 use Rattle.cmwq_running.proofs.EndLemmas.{none_before, none_before_next}
 use Rattle.cmwq_running.proofs.ending.ticks_to_end.Goals as goal

@@ -1,11 +1,11 @@
-use Rattle.std.proofs.Common.{◌≡◌, ◌⊎◌, ℕ, ◌-◌, ◌%◌, ◌==◌, true, false, Bool, List, Option, Some, arith, sym, ap, subst, ◌∙◌}
+use Rattle.std.proofs.Common.{◌≡◌, ◌-◌, true, false, Some, arith, sym, ap, subst, ◌∙◌}
 use Rattle.std.proofs.lemmas.Bool.Decides.{nat_tests}
 use Rattle.cmwq_types.specs.Contents.{ScenarioContents}
 use Rattle.cmwq_types.specs.Scenario.{is_high, is_unbound}
 use Rattle.cmwq_phased.specs.PhasedContents.{PhasedContents}
 use Rattle.cmwq_phases.specs.Phases.{shown_all}
 use Rattle.cmwq_phases.specs.Runs.{first_in_line}
-use Rattle.cmwq_running.specs.Heads.{GoIn, HaveHeads, IsBeside}
+use Rattle.cmwq_running.specs.Heads.{GoIn, HaveHeads}
 use Rattle.cmwq_running.proofs.PaceLemmas.{all_shown_paced, paced_going, paced_heads}
 use Rattle.cmwq_running.proofs.pacing.balance.Goals as goal
 

@@ -1,4 +1,4 @@
-use Rattle.std.proofs.Common.{◌≡◌, ◌<◌, ℕ, Option, Some, IfSome, sym, subst}
+use Rattle.std.proofs.Common.{◌<◌, ℕ, IfSome, sym, subst}
 use Rattle.cmwq_table.specs.State.{running_at}
 use Rattle.cmwq_phases.specs.declared.run.Phase.TheVariants.{Ready}
 use Rattle.cmwq_running.specs.RunningContents.{RunningContents, state_of}

@@ -1,4 +1,4 @@
-use Rattle.std.proofs.Common.{◌≡◌, refl, sym, ap, ◌∙◌}
+use Rattle.std.proofs.Common.{refl, sym, ap, ◌∙◌}
 use Rattle.cmwq_table.specs.Counts.{first_slept}
 use Rattle.cmwq_running.specs.RunningContents.{RunningContents, seen, state_of}
 use Rattle.cmwq_running.proofs.ShownLemmas.{first_slept_is}

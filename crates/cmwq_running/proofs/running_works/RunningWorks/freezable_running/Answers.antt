@@ -1,4 +1,4 @@
-use Rattle.std.proofs.Common.{◌≡◌, ◌&&◌, length, refl, sym, ap, ◌∙◌}
+use Rattle.std.proofs.Common.{◌&&◌, length, refl, sym, ap, ◌∙◌}
 use Rattle.std.specs.Prelude.{is_some}
 use Rattle.cmwq_types.specs.First.{count_below}
 use Rattle.cmwq_types.specs.Scenario.{flags_at, queue_of}

@@ -1,4 +1,4 @@
-use Rattle.std.proofs.Common.{◌≡◌, List, Option, length, ap, ◌∙◌}
+use Rattle.std.proofs.Common.{List, Option, length, ap, ◌∙◌}
 use Rattle.cmwq_phases.specs.Phases.{shown_all}
 use Rattle.cmwq_phases.specs.declared.run.Run.{Run}
 use Rattle.cmwq_running.proofs.ShownLemmas.{none_shown, seen_is}

@@ -1,10 +1,3 @@
-use Rattle.std.proofs.Common.{◌≡◌, ◌+◌, ◌<◌, List, Option, ℕ, refl, sym, ap, subst, ◌∙◌}
-use Rattle.cmwq_table.specs.State.{State}
-use Rattle.cmwq_table.specs.declared.state.Running.{Running}
-use Rattle.cmwq_types.specs.Contents.{ScenarioContents}
-use Rattle.cmwq_phases.specs.Phases.{shown_all}
-use Rattle.cmwq_running.specs.RunningContents.{RunningContents, seen}
-use Rattle.cmwq_running.specs.Ticks.{HasRunning, MoveAlike, ticks}
 use Rattle.cmwq_running.proofs.TickLemmas.{passed_seen, alike_seen}
 use Rattle.cmwq_running.proofs.running_works.RunningWorks.pass.Goals as goal
 

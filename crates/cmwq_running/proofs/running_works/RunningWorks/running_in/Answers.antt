@@ -1,4 +1,4 @@
-use Rattle.std.proofs.Common.{◌≡◌, ◌&&◌, ◌==◌, length, refl, sym, ap, ◌∙◌}
+use Rattle.std.proofs.Common.{◌&&◌, ◌==◌, length, refl, sym, ap, ◌∙◌}
 use Rattle.cmwq_types.specs.First.{count_below}
 use Rattle.cmwq_types.specs.Scenario.{queue_of}
 use Rattle.cmwq_table.specs.Counts.{runs}

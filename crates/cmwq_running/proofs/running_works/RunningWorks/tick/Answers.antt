@@ -1,4 +1,4 @@
-use Rattle.std.proofs.Common.{◌≡◌, ◌+◌, List, Option, ℕ, refl, sym, ap, ◌∙◌}
+use Rattle.std.proofs.Common.{◌+◌, List, Option, refl, sym, ap, ◌∙◌}
 use Rattle.cmwq_table.specs.Counts.{burns}
 use Rattle.cmwq_table.specs.Moves.{burned}
 use Rattle.cmwq_table.specs.declared.state.Running.{Running}
@@ -13,5 +13,5 @@ pub returns : goal.returns
 returns c =
     c.end_by.ensures.seen
     ∙ ap (λ (xs : List (Option Running)). record { scenario = c.self.inside.works.scenario; time = c.self.inside.time + 1; running = xs })
-      (sym (tick_shown c.self.inside.works.scenario (state_of (seen c.self.inside.time c.self.inside.works)) c.self.inside.works.runs refl c.self.invariant.headed.heads c.self.invariant.headed.going))
+    (sym (tick_shown c.self.inside.works.scenario (state_of (seen c.self.inside.time c.self.inside.works)) c.self.inside.works.runs refl c.self.invariant.headed.heads c.self.invariant.headed.going))
     ∙ ap ticked c.self.view_is
