@@ -1,1 +1,3 @@
+pub mod FoundLemmas
+pub mod LayoutLemmas
 pub mod StaffLemmas

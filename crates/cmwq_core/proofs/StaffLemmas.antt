@@ -80,7 +80,7 @@ pub data IsFree (idle : List (Option ℕ)) (made : List ℕ) (pool worker : ℕ)
   waits : is_some (stamp_at idle (seat pool worker)) ≡ true → IsFree idle made pool worker
   new : worker ≡ made_in made pool → IsFree idle made pool worker
 
-abbrev made_after : List ℕ → ℕ → ℕ → ℕ
+abbrev pub made_after : List ℕ → ℕ → ℕ → ℕ
 made_after made pool worker = if worker == made_in made pool then worker + 1 else made_in made pool
 
 -- a work starts on a free worker

@@ -1,1 +1,2 @@
+pub mod CoreLayout
 pub mod Staff

@@ -2,7 +2,8 @@
 ghost use Rattle.cmwq_table.specs.Moves.{begun};
 ghost use Rattle.std.specs.Prelude.{◌≡◌};
 
-use crate::looking::{copied_flushes, declared_max, idle_workers, pending_works, running_works};
+use crate::beginning::{copied_flushes, declared_max};
+use crate::looking::{idle_workers, pending_works, running_works};
 use cmwq_idle::IdleWorkers;
 use cmwq_parts::Parts;
 use cmwq_queued::{MAX_POOLS, QueuedWorks};
@@ -281,17 +282,17 @@ impl Parts for CoreParts {
         self.next = stamp + 1;
     }
 
-    fn go_on(&mut self, w: usize, _r: Running, left: u32) {
-        self.running.go_on(w, left);
+    fn go_on(&mut self, w: usize, r: Running, left: u32) {
+        self.running.go_on(w, r, left);
     }
 
-    fn sleep(&mut self, w: usize, _r: Running, until: u64) {
-        self.running.sleep(w, until);
+    fn sleep(&mut self, w: usize, r: Running, until: u64) {
+        self.running.sleep(w, r, until);
     }
 
-    fn wake(&mut self, _pool: u8, w: usize) {
+    fn wake(&mut self, pool: u8, w: usize) {
         let stamp = self.next;
-        self.running.wake(w, stamp);
+        self.running.wake(pool, w, stamp);
         self.next = stamp + 1;
     }
 

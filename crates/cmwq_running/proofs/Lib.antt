@@ -1,0 +1,7 @@
+pub mod AlikeLemmas
+pub mod EndLemmas
+pub mod HeadLemmas
+pub mod PaceLemmas
+pub mod ShownLemmas
+pub mod StepLemmas
+pub mod TickLemmas

@@ -1,0 +1,35 @@
+use Rattle.std.proofs.Common.{length, sym, ap, subst, ◌∙◌}
+use Rattle.std.proofs.lemmas.List.{length-set}
+use Rattle.cmwq_types.specs.Contents.{ScenarioContents}
+use Rattle.cmwq_phased.specs.PhasedContents.{PhasedContents}
+use Rattle.cmwq_phases.specs.Phases.{shown_all}
+use Rattle.cmwq_running.specs.Heads.{HaveHeads}
+use Rattle.cmwq_running.proofs.HeadLemmas.{balanced, change_of, change_have_heads}
+use Rattle.cmwq_running.proofs.ShownLemmas.{length_of_shown, seen_is, shown_set}
+use Rattle.cmwq_running.proofs.changing.change.Goals as goal
+
+pub balance_beside-requires-clause-heads : goal.balance_beside-requires-clause-heads
+balance_beside-requires-clause-heads c =
+    subst (λ (m : PhasedContents). HaveHeads m.scenario m.runs) (sym c.set.ensures)
+    (change_have_heads c.args.works.now.scenario c.args.works.now.runs c.args.w c.args.run (change_of c.args.works.now.scenario c.args.works.now.runs c.args.w c.args.run c.requires.work c.requires.kept.headed.long c.own_stamps.ensures c.requires.still c.requires.last) c.requires.kept.headed.heads)
+
+pub returns-clause-seen : goal.returns-clause-seen
+returns-clause-seen c =
+    seen_is c.args.time c.balance_beside-2.new.works _ _ (c.balance_beside-2.ensures.scenario ∙ c.balance_beside.ensures.scenario ∙ ap (λ (m : PhasedContents). m.scenario) c.set.ensures)
+    (c.balance_beside-2.ensures.shown ∙ c.balance_beside.ensures.shown ∙ ap (λ (m : PhasedContents). shown_all c.args.time m.runs) c.set.ensures
+    ∙ shown_set c.args.time c.args.works.now.runs c.args.w c.args.run)
+
+pub returns-clause-kept : goal.returns-clause-kept
+returns-clause-kept c = record {
+  early = c.requires.kept.early;
+  timely = c.balance_beside-2.ensures.timely;
+  headed = record {
+    long =
+        length_of_shown c.args.time c.balance_beside-2.new.works.runs c.set.new.self.runs (c.balance_beside-2.ensures.shown ∙ c.balance_beside.ensures.shown)
+        ∙ ap (λ (m : PhasedContents). length m.runs) c.set.ensures ∙ length-set c.args.works.now.runs c.args.w c.args.run ∙ c.requires.kept.headed.long
+        ∙ ap (λ (S : ScenarioContents). length S.works) (sym (c.balance_beside-2.ensures.scenario ∙ c.balance_beside.ensures.scenario ∙ ap (λ (m : PhasedContents). m.scenario) c.set.ensures));
+    heads = c.balance_beside-2.ensures.heads;
+    going = balanced c.args.works.now.scenario c.args.works.now.runs c.args.w c.args.run c.set.new.self c.balance_beside.new.works c.balance_beside-2.new.works c.of-old.result
+        (change_of c.args.works.now.scenario c.args.works.now.runs c.args.w c.args.run c.requires.work c.requires.kept.headed.long c.own_stamps.ensures c.requires.still c.requires.last) c.set.ensures c.of-old.ensures c.balance_beside.ensures.scenario c.requires.kept.headed.going c.balance_beside.ensures.going c.balance_beside-2.ensures.going;
+  };
+}
