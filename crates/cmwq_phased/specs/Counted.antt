@@ -16,10 +16,7 @@ no_counts queues = record {
   busy = replicate 1 0;
 }
 
-<<<<<<< HEAD
 -- each tally has the counts of its classes
-=======
->>>>>>> 99d425c23e323702450873bfb77be178fbaedded
 pub record AreCounted (S : ScenarioContents) (runs : List (Option Run)) (c : Counts) : Type 0 where
   pub running_long : length c.running ≡ MAX_POOLS * length S.queues
   pub awake_long : length c.awake ≡ MAX_POOLS

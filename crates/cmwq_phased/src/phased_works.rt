@@ -109,11 +109,7 @@ impl PhasedWorks {
             counts,
         } = self;
         line_up(lines, scenario, runs, w, run);
-<<<<<<< HEAD
         set_alarm(alarms, runs, w, run);
-=======
-        set_alarm(alarms, scenario, runs, w, run);
->>>>>>> 99d425c23e323702450873bfb77be178fbaedded
         counts.recount(scenario, runs, w, run);
         runs[w] = run;
     }
