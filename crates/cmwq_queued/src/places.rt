@@ -10,7 +10,7 @@ use cmwq_table::Pending;
 use cmwq_timers::Timer;
 use cmwq_types::{Place, WorkId};
 
-/// What a queue and a pool have in common has this number.
+/// The number of the class of a queue's works in a pool.
 pub(crate) fn class_in(queue: u8, pool: u8) -> usize
     ensures { result ≡ MAX_POOLS * queue + pool }
 {
@@ -100,7 +100,7 @@ pub(crate) fn stamp_of(pending: Option<Pending>) -> u64
     }
 }
 
-/// The same where it is deferred in the pool.
+/// How a work is pending that was pending so, once it is deferred in the pool.
 pub(crate) fn deferred_in(pending: Option<Pending>, pool: u8) -> Option<Pending>
     ensures { result ≡ deferred_in pool pending }
 {
