@@ -1,5 +1,5 @@
 -- A change of one run, and a start with none.
-use Rattle.std.proofs.Common.{◌≡◌, ◌≢◌, ℕ, ◌*◌, ◌^◌, ◌<◌, ◌≤◌, Bool, true, false, List, length, replicate, set, Option, Some, None, IfSome, arith, refl, sym, ap, subst, ◌∙◌, inl, inr}
+use Rattle.std.proofs.Common.{◌≡◌, ◌≢◌, ℕ, ◌*◌, ◌^◌, ◌<◌, Bool, true, false, List, length, replicate, set, Option, Some, None, IfSome, arith, refl, sym, ap, subst, ◌∙◌, inl, inr}
 use Rattle.std.specs.Prelude.{slice_index_or}
 use Rattle.std.proofs.lemmas.Bool.{cases_eq, cases_lt}
 use Rattle.std.proofs.lemmas.List.{get_or-set_same, get_or-set_other, get_or-replicate, get_or_past, length-set, length-replicate, set-get_or}
@@ -15,8 +15,8 @@ use Rattle.cmwq_phased.specs.Indexes.{AreLined, AreRuns, AreTimed, alarm_of, awa
 use Rattle.cmwq_phased.specs.PhasedContents.{HaveOwnStamps}
 use Rattle.cmwq_phased.specs.declared.counts.Counts.{Counts}
 use Rattle.cmwq_phased.specs.declared.pools.TheConstants.{MAX_POOLS}
-use Rattle.cmwq_tally.specs.TallyContents.{IsTallied, changed, count_of}
-use Rattle.cmwq_tally.proofs.TallyLemmas.{changed-length, changed_is_tallied, each_is_counted, empty_is_tallied, few_are_counted}
+use Rattle.cmwq_tally.specs.TallyContents.{IsTallied, changed}
+use Rattle.cmwq_tally.proofs.TallyLemmas.{changed-length, changed_is_tallied, empty_is_tallied}
 use Rattle.cmwq_timers.specs.declared.timer.Timer.{Timer}
 
 -- One work runs otherwise.
@@ -38,6 +38,7 @@ all_with P runs w run inside each here v =
       | inr other ↦ subst P (sym (get_or-set_other runs w v run None other)) (each v)
     ]
 
+-- its place in a line is another
 pub lined_with : (S : ScenarioContents) (runs : List (Option Run)) (lines : ListContents) (w : ℕ) (run : Option Run) → AreLined S runs lines → length runs ≡ length S.works → w < length S.works
     → AreLined S (set runs w run) (with_rank lines w (rank_of (standing_of S run)))
 lined_with S runs lines w run lined long inside = record {
@@ -46,26 +47,27 @@ lined_with S runs lines w run lined long inside = record {
   ties = ties_with lines.ranks runs (λ v r. rank_of (standing_of S r)) w run (omega (arith, inside, lined.long)) (omega (arith, inside, long)) lined.ties;
 }
 
--- a line, and an alarm, that stay as they are are right where the new run is to have the same
+-- its place in a line is the same
 pub lined_still : (S : ScenarioContents) (runs : List (Option Run)) (lines : ListContents) (w : ℕ) (run : Option Run) → AreLined S runs lines → length runs ≡ length S.works → w < length S.works → standing_of S (run_at runs w) ≡ standing_of S run
     → AreLined S (set runs w run) lines
 lined_still S runs lines w run lined long inside same =
     let kept : set lines.ranks w (rank_of (standing_of S run)) ≡ lines.ranks = ap (set lines.ranks w) (ap rank_of (sym same) ∙ sym (lined.ties w)) ∙ set-get_or lines.ranks w None in
     subst (λ (rs : List (Option Rank)). AreLined S (set runs w run) (record lines { ranks = rs })) kept (lined_with S runs lines w run lined long inside)
 
-pub timed_with : (S : ScenarioContents) (runs : List (Option Run)) (alarms : List (Option Timer)) (w : ℕ) (run : Option Run) → AreTimed S runs alarms → length runs ≡ length S.works → w < length S.works
-    → AreTimed S (set runs w run) (set alarms w (alarm_of w run))
-timed_with S runs alarms w run timed long inside = record {
-  long = length-set alarms w (alarm_of w run) ∙ timed.long;
-  ties = ties_with alarms runs alarm_of w run (omega (arith, inside, timed.long)) (omega (arith, inside, long)) timed.ties;
+-- its alarm is another
+pub timed_with : (runs : List (Option Run)) (alarms : List (Option Timer)) (w : ℕ) (run : Option Run) → AreTimed runs alarms → w < length runs → AreTimed (set runs w run) (set alarms w (alarm_of w run))
+timed_with runs alarms w run timed inside = record {
+  long = length-set alarms w (alarm_of w run) ∙ timed.long ∙ sym (length-set runs w run);
+  ties = ties_with alarms runs alarm_of w run (omega (arith, inside, timed.long)) inside timed.ties;
 }
 
-pub timed_still : (S : ScenarioContents) (runs : List (Option Run)) (alarms : List (Option Timer)) (w : ℕ) (run : Option Run) → AreTimed S runs alarms → length runs ≡ length S.works → w < length S.works → alarm_of w (run_at runs w) ≡ alarm_of w run
-    → AreTimed S (set runs w run) alarms
-timed_still S runs alarms w run timed long inside same =
+-- its alarm is the same
+pub timed_still : (runs : List (Option Run)) (alarms : List (Option Timer)) (w : ℕ) (run : Option Run) → AreTimed runs alarms → w < length runs → alarm_of w (run_at runs w) ≡ alarm_of w run → AreTimed (set runs w run) alarms
+timed_still runs alarms w run timed inside same =
     let kept : set alarms w (alarm_of w run) ≡ alarms = ap (set alarms w) (sym same ∙ sym (timed.ties w)) ∙ set-get_or alarms w None in
-    subst (AreTimed S (set runs w run)) kept (timed_with S runs alarms w run timed long inside)
+    subst (AreTimed (set runs w run)) kept (timed_with runs alarms w run timed inside)
 
+-- one tally
 tallied_with : (counts : List ℕ) (runs : List (Option Run)) (class : ℕ → Option Run → Option ℕ) (works w : ℕ) (run : Option Run) → IsTallied counts (λ v. class v (run_at runs v)) works → w < works → w < length runs
     → IsTallied (changed counts (class w (run_at runs w)) (class w run)) (λ v. class v (run_at (set runs w run) v)) works
 tallied_with counts runs class works w run right inside runs_inside =
@@ -73,6 +75,7 @@ tallied_with counts runs class works w run right inside runs_inside =
     (changed_is_tallied counts (λ v. class v (run_at runs v)) (λ v. class v (run_at (set runs w run) v)) works w right inside
     (λ v other. ap (class v) (sym (get_or-set_other runs w v run None other))))
 
+-- all tallies
 pub counted_with : (S : ScenarioContents) (runs : List (Option Run)) (c : Counts) (w : ℕ) (run : Option Run) → AreCounted S runs c → length runs ≡ length S.works → w < length S.works
     → AreCounted S (set runs w run) (record {
       running = changed c.running (running_classes S runs w) (running_class (queue_of S w) run);
@@ -93,6 +96,7 @@ counted_with S runs c w run counted long inside =
       busy = tallied_with c.busy runs (λ v r. busy_class (flags_at S (queue_of S v)).freezable r) (length S.works) w run counted.busy inside there;
     }
 
+-- no two works run under one stamp still
 own_with : (runs : List (Option Run)) (w : ℕ) (run : Option Run) → w < length runs → HaveOwnStamps runs → HasOwnStamp runs w run → HaveOwnStamps (set runs w run)
 own_with runs w run inside own alone u v a b u_is v_is same =
     elim (cases_eq u w) [
@@ -119,6 +123,7 @@ own_with runs w run inside own alone u v a b u_is v_is same =
         let r_is : r ≡ a = cc in
         differs (sym same ∙ ap (λ (q : Run). q.stamp) (sym r_is))
 
+-- the runs themselves
 pub runs_with : (S : ScenarioContents) (runs : List (Option Run)) (w : ℕ) (run : Option Run) → AreRuns S runs → w < length S.works → IfSome run (λ r. r.stamp < 2 ^ 64) → HasOwnStamp runs w run → AreRuns S (set runs w run)
 runs_with S runs w run are inside small own =
     let there : w < length runs = omega (arith, inside, are.long) in
@@ -129,18 +134,9 @@ runs_with S runs w run are inside small own =
       own = own_with runs w run there are.own own;
     }
 
--- What a tally asks of a change.
-
-pub class_counted : (counts : List ℕ) (class : ℕ → Option ℕ) (works w : ℕ) (from : Option ℕ) → IsTallied counts class works → w < works → class w ≡ from → IfSome from (λ i. i < length counts → 0 < count_of counts i)
-class_counted counts class works w None right inside is = tt
-class_counted counts class works w (Some i) right inside is = each_is_counted counts class works w i right inside is
-
-pub class_room : (counts : List ℕ) (class : ℕ → Option ℕ) (works : ℕ) (to : Option ℕ) → IsTallied counts class works → works ≤ 256 → IfSome to (λ i. count_of counts i < 65535)
-class_room counts class works None right few = tt
-class_room counts class works (Some i) right few = (let most : count_of counts i ≤ works = few_are_counted counts class works i right in omega arith)
-
 -- No work runs yet.
 
+-- in a list of nothing is nothing
 nowhere : {X : Type 0} (n v : ℕ) (none : Option X) → slice_index_or (replicate n none) v none ≡ none
 nowhere n v none =
     elim (cases_lt v n) [
@@ -148,6 +144,7 @@ nowhere n v none =
       | inr ge ↦ get_or_past (replicate n none) v none (omega (arith, length-replicate n none))
     ]
 
+-- nothing stands, rings or is counted
 pub indexed_new : (S : ScenarioContents) → IsSetting S → AreIndexed S (replicate (length S.works) None) (no_ranks (2 * MAX_POOLS) (length S.works)) (replicate (length S.works) None) (no_counts (length S.queues))
 indexed_new S setting = record {
   are_runs = record {
@@ -162,7 +159,7 @@ indexed_new S setting = record {
     ties = λ v. nowhere {X = Rank} works v None ∙ sym (ap (λ (o : Option Run). rank_of (standing_of S o)) (idle v));
   };
   are_timed = record {
-    long = length-replicate works None;
+    long = length-replicate {A = Option Timer} works None ∙ sym (length-replicate {A = Option Run} works None);
     ties = λ v. nowhere {X = Timer} works v None ∙ sym (ap (alarm_of v) (idle v));
   };
   are_counted = record {

@@ -1,3 +1,4 @@
+pub mod AlarmLemmas
 pub mod ChangeLemmas
 pub mod CountLemmas
 pub mod LineLemmas

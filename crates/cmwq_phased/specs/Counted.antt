@@ -16,6 +16,7 @@ no_counts queues = record {
   busy = replicate 1 0;
 }
 
+-- each tally has the counts of its classes
 pub record AreCounted (S : ScenarioContents) (runs : List (Option Run)) (c : Counts) : Type 0 where
   pub running_long : length c.running ≡ MAX_POOLS * length S.queues
   pub awake_long : length c.awake ≡ MAX_POOLS

@@ -8,8 +8,9 @@ use Rattle.cmwq_phased.specs.declared.counts.Counts.{Counts}
 use Rattle.cmwq_phases.specs.declared.run.Run.{Run}
 use Rattle.cmwq_timers.specs.declared.timer.Timer.{Timer}
 
+-- runs, lines, alarms and counts, in step
 pub record AreIndexed (S : ScenarioContents) (runs : List (Option Run)) (lines : ListContents) (alarms : List (Option Timer)) (counts : Counts) : Type 0 where
   pub are_runs : AreRuns S runs
   pub are_lined : AreLined S runs lines
-  pub are_timed : AreTimed S runs alarms
+  pub are_timed : AreTimed runs alarms
   pub are_counted : AreCounted S runs counts

@@ -33,10 +33,12 @@ stands_by unbound r (Burning end) = if unbound then None else Some (in_line r)
 stands_by unbound r (Asleep until) = None
 stands_by unbound r (Slept until) = Some (among_rested until r)
 
+-- where a work that runs so stands; nowhere where its pool's number is too great
 abbrev pub standing_of : ScenarioContents → Option Run → Option Standing
 standing_of S (Some r) = if nat_lt r.pool MAX_POOLS then stands_by (is_unbound S r.pool) r r.phase else None
 standing_of S None = None
 
+-- the same for the lists
 abbrev pub ranked : Standing → Rank
 ranked s = record { list = s.list; order = s.order }
 
@@ -80,13 +82,15 @@ busy_class freezable run = if freezable && is_some run then Some 0 else None
 
 -- How the indexes are tied to the runs: by work.
 
+-- each work stands where it does when it runs so
 pub record AreLined (S : ScenarioContents) (runs : List (Option Run)) (lines : ListContents) : Type 0 where
   pub many : lines.lists ≡ 2 * MAX_POOLS
   pub long : length lines.ranks ≡ length S.works
   pub ties : (w : ℕ) → rank_at lines w ≡ rank_of (standing_of S (run_at runs w))
 
-pub record AreTimed (S : ScenarioContents) (runs : List (Option Run)) (alarms : List (Option Timer)) : Type 0 where
-  pub long : length alarms ≡ length S.works
+-- each work has the alarm that it has when it runs so
+pub record AreTimed (runs : List (Option Run)) (alarms : List (Option Timer)) : Type 0 where
+  pub long : length alarms ≡ length runs
   pub ties : (w : ℕ) → timer_at alarms w ≡ alarm_of w (run_at runs w)
 
 -- the class of each work, in each of the four tallies
@@ -103,6 +107,7 @@ rescued_classes S runs w = rescued_class (queue_of S w) (run_at runs w)
 abbrev pub busy_classes : ScenarioContents → List (Option Run) → ℕ → Option ℕ
 busy_classes S runs w = busy_class (flags_at S (queue_of S w)).freezable (run_at runs w)
 
+-- the runs of a valid scenario's works, by stamps of their own
 pub record AreRuns (S : ScenarioContents) (runs : List (Option Run)) : Type 0 where
   pub setting : IsSetting S
   pub long : length runs ≡ length S.works

@@ -1,11 +1,12 @@
 //! The alarms of running works: of those whom time alone ends.
-ghost use Rattle.cmwq_phased.specs.Indexes.{AreRuns, AreTimed, alarm_of};
+ghost use Rattle.cmwq_phased.specs.Indexes.{AreTimed, alarm_of};
 ghost use Rattle.cmwq_phases.specs.Runs.{alarm_in};
+ghost use Rattle.cmwq_types.specs.declared.limits.TheConstants.{MAX_WORKS};
 ghost use Rattle.std.specs.Prelude.{◌≡◌, ◌<◌, IfSome, length, slice_set};
 
 use cmwq_phases::{Phase, Run};
 use cmwq_timers::{Timer, Timers};
-use cmwq_types::{Scenario, WorkId};
+use cmwq_types::WorkId;
 
 /// The alarm of a work that runs so, if it has one.
 pub(crate) fn alarm_of(work: WorkId, run: Option<Run>) -> Option<Timer>
@@ -33,17 +34,11 @@ fn alarm_in(phase: Phase) -> Option<u64>
 }
 
 /// Gives a work the alarm that it has when it runs so, if any. Where it has that alarm already nothing is touched.
-pub(crate) fn set_alarm(
-    alarms: &mut Timers,
-    scenario: &Scenario,
-    runs: &[Option<Run>],
-    w: usize,
-    run: Option<Run>,
-)
-    requires runs { AreRuns scenario.now runs.now }
-    requires timed { AreTimed scenario.now runs.now alarms.old }
-    requires work { w < length scenario.now.works }
-    ensures timed { AreTimed scenario.now (slice_set runs.now w run) alarms.new }
+pub(crate) fn set_alarm(alarms: &mut Timers, runs: &[Option<Run>], w: usize, run: Option<Run>)
+    requires timed { AreTimed runs.now alarms.old }
+    requires work { w < length runs.now }
+    requires few { w < MAX_WORKS }
+    ensures timed { AreTimed (slice_set runs.now w run) alarms.new }
 {
     let work = WorkId(w as u16);
     let was = alarm_of(work, runs[w]);

@@ -109,7 +109,7 @@ impl PhasedWorks {
             counts,
         } = self;
         line_up(lines, scenario, runs, w, run);
-        set_alarm(alarms, scenario, runs, w, run);
+        set_alarm(alarms, runs, w, run);
         counts.recount(scenario, runs, w, run);
         runs[w] = run;
     }

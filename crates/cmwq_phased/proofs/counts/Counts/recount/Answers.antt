@@ -7,7 +7,8 @@ use Rattle.cmwq_phases.specs.Runs.{run_at}
 use Rattle.cmwq_phases.specs.declared.run.Run.{Run}
 use Rattle.cmwq_tally.specs.TallyContents.{changed}
 use Rattle.cmwq_types.specs.Contents.{ScenarioContents}
-use Rattle.cmwq_phased.proofs.ChangeLemmas.{class_counted, class_room, counted_with}
+use Rattle.cmwq_phased.proofs.ChangeLemmas.{counted_with}
+use Rattle.cmwq_phased.proofs.CountLemmas.{class_counted, class_room}
 use Rattle.cmwq_phased.proofs.counts.Counts.recount.Goals as goal
 
 agree : (f : Option ℕ → Option ℕ → List ℕ) {a b c d : Option ℕ} → a ≡ b → c ≡ d → f a c ≡ f b d

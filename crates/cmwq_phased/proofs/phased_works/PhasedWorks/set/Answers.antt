@@ -14,6 +14,6 @@ invariant_of-self c =
     record {
       are_runs = runs_with S runs c.args.w c.args.run c.self.invariant.are_runs inside small own;
       are_lined = rw (c.deref.ensures, c.deref-2.ensures.value) at c.line_up.ensures.lined;
-      are_timed = rw (c.deref-3.ensures, c.deref-4.ensures.value) at c.set_alarm.ensures.timed;
-      are_counted = rw (c.deref-5.ensures, c.deref-6.ensures.value) at c.recount.ensures.counted;
+      are_timed = rw c.deref-3.ensures.value at c.set_alarm.ensures.timed;
+      are_counted = rw (c.deref-4.ensures, c.deref-5.ensures.value) at c.recount.ensures.counted;
     }
