@@ -10,8 +10,9 @@ use Rattle.cmwq_running.proofs.changing.change.Goals as goal
 
 pub balance_beside-requires-clause-heads : goal.balance_beside-requires-clause-heads
 balance_beside-requires-clause-heads c =
-    subst (λ (m : PhasedContents). HaveHeads m.scenario m.runs) (sym c.set.ensures)
-    (change_have_heads c.args.works.now.scenario c.args.works.now.runs c.args.w c.args.run (change_of c.args.works.now.scenario c.args.works.now.runs c.args.w c.args.run c.requires.work c.requires.kept.headed.long c.own_stamps.ensures c.requires.still c.requires.last) c.requires.kept.headed.heads)
+    let old = c.args.works.now in
+    let change = change_of old.scenario old.runs c.args.w c.args.run c.requires.work c.requires.kept.headed.long c.own_stamps.ensures c.requires.still c.requires.last in
+    subst (λ (m : PhasedContents). HaveHeads m.scenario m.runs) (sym c.set.ensures) (change_have_heads old.scenario old.runs c.args.w c.args.run change c.requires.kept.headed.heads)
 
 pub returns-clause-seen : goal.returns-clause-seen
 returns-clause-seen c =
@@ -20,16 +21,20 @@ returns-clause-seen c =
     ∙ shown_set c.args.time c.args.works.now.runs c.args.w c.args.run)
 
 pub returns-clause-kept : goal.returns-clause-kept
-returns-clause-kept c = record {
-  early = c.requires.kept.early;
-  timely = c.balance_beside-2.ensures.timely;
-  headed = record {
-    long =
-        length_of_shown c.args.time c.balance_beside-2.new.works.runs c.set.new.self.runs (c.balance_beside-2.ensures.shown ∙ c.balance_beside.ensures.shown)
-        ∙ ap (λ (m : PhasedContents). length m.runs) c.set.ensures ∙ length-set c.args.works.now.runs c.args.w c.args.run ∙ c.requires.kept.headed.long
-        ∙ ap (λ (S : ScenarioContents). length S.works) (sym (c.balance_beside-2.ensures.scenario ∙ c.balance_beside.ensures.scenario ∙ ap (λ (m : PhasedContents). m.scenario) c.set.ensures));
-    heads = c.balance_beside-2.ensures.heads;
-    going = balanced c.args.works.now.scenario c.args.works.now.runs c.args.w c.args.run c.set.new.self c.balance_beside.new.works c.balance_beside-2.new.works c.of-old.result
-        (change_of c.args.works.now.scenario c.args.works.now.runs c.args.w c.args.run c.requires.work c.requires.kept.headed.long c.own_stamps.ensures c.requires.still c.requires.last) c.set.ensures c.of-old.ensures c.balance_beside.ensures.scenario c.requires.kept.headed.going c.balance_beside.ensures.going c.balance_beside-2.ensures.going;
-  };
-}
+returns-clause-kept c =
+    let old = c.args.works.now in
+    let change = change_of old.scenario old.runs c.args.w c.args.run c.requires.work c.requires.kept.headed.long c.own_stamps.ensures c.requires.still c.requires.last in
+    let scenario = c.balance_beside-2.ensures.scenario ∙ c.balance_beside.ensures.scenario ∙ ap (λ (m : PhasedContents). m.scenario) c.set.ensures in
+    record {
+      early = c.requires.kept.early;
+      timely = c.balance_beside-2.ensures.timely;
+      headed = record {
+        long =
+            length_of_shown c.args.time c.balance_beside-2.new.works.runs c.set.new.self.runs (c.balance_beside-2.ensures.shown ∙ c.balance_beside.ensures.shown)
+            ∙ ap (λ (m : PhasedContents). length m.runs) c.set.ensures ∙ length-set old.runs c.args.w c.args.run ∙ c.requires.kept.headed.long
+            ∙ ap (λ (S : ScenarioContents). length S.works) (sym scenario);
+        heads = c.balance_beside-2.ensures.heads;
+        going = balanced old.scenario old.runs c.args.w c.args.run c.set.new.self c.balance_beside.new.works c.balance_beside-2.new.works c.of-old.result change c.set.ensures
+            c.of-old.ensures c.balance_beside.ensures.scenario c.requires.kept.headed.going c.balance_beside.ensures.going c.balance_beside-2.ensures.going;
+      };
+    }
