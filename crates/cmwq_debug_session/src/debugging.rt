@@ -14,7 +14,7 @@ ghost use Rattle.std.specs.Prelude.{◌≡◌, ◌<◌, ◌≤◌, ◌+◌, ◌�
 
 use cmwq_debug::Debugger;
 use cmwq_debug_lines::{answer, line_length};
-use cmwq_plain::Plain;
+use cmwq_core::Core;
 use cmwq_play::{empty_chunk, judge, read_some};
 use cmwq_runs::expanded;
 use cmwq_streams::{PlayError, Sink, Source, put_all};
@@ -148,7 +148,7 @@ pub fn debug<R: Source, W: Sink>(
 {
     judge(&scenario)?;
     let scenario = Arc::new(alloc, scenario)?;
-    let mut debugger = opened::<Plain>(alloc, &scenario, &scenario.actors[0])?;
+    let mut debugger = opened::<Core>(alloc, &scenario, &scenario.actors[0])?;
     talk(alloc, &scenario, &mut debugger, commands, writer)
 }
 

@@ -6,7 +6,7 @@ ghost use Rattle.std.specs.Io.KnownBytes.{Keeps};
 ghost use Rattle.std.specs.Prelude.{◌≡◌, ◌⊎◌, Err, IfErr, IfOk, false, length};
 
 use crate::rendering::drawing_of;
-use cmwq_plain::Plain;
+use cmwq_core::Core;
 use cmwq_play::{judge, read_text};
 use cmwq_settle::settled;
 use cmwq_streams::{PlayError, Sink, Source, put_all};
@@ -39,7 +39,7 @@ pub fn draw<R: Source, W: Sink>(
     ensures no_memory { result ≡ Err PlayError.NoMemory → Keeps (W.contents writer.old) (W.contents writer.new) }
 {
     let scenario = read_text(alloc, reader)?;
-    let text = drawn::<Plain>(alloc, drawing, scenario)?;
+    let text = drawn::<Core>(alloc, drawing, scenario)?;
     put_all(writer, &text)
 }
 

@@ -9,7 +9,7 @@ ghost use Rattle.std.specs.Prelude.{◌≡◌, Err, false};
 
 use crate::answering::{Asked, is_unknown};
 use crate::changes::tell_changes;
-use cmwq_plain::Plain;
+use cmwq_core::Core;
 use cmwq_play::{judge, read_text};
 use cmwq_streams::{PlayError, Sink, Source};
 use cmwq_table::Machine;
@@ -41,7 +41,7 @@ pub fn why<R: Source, W: Sink>(
     ensures writes { Writes (ComesTo (AreChanges (said_to question.entry) looks) (R.remaining reader.old)) (W.contents writer.old) (W.contents writer.new) (W.failed writer.new) result }
 {
     let scenario = read_text(alloc, reader)?;
-    explain::<Plain, W>(alloc, question, looks, scenario, writer)
+    explain::<Core, W>(alloc, question, looks, scenario, writer)
 }
 
 /// Tells the answer to the question along the run of a scenario's one actor. The text's reader has judged the scenario already.

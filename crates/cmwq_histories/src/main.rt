@@ -8,7 +8,7 @@
 mod printing;
 mod timing;
 
-use cmwq_plain::Plain;
+use cmwq_core::Core;
 use cmwq_play::{Marked, PlayError, read_text};
 use cmwq_table::Machine;
 use cmwq_types::Scenario;
@@ -27,5 +27,5 @@ fn issue_and_print<M: Machine, R: Print>(
 
 fn main(rt: HostRuntime) -> Result<(), PlayError> {
     let scenario = read_text(rt.alloc(), &mut Marked::new(rt.stdin()))?;
-    issue_and_print::<Plain, HostRuntime>(&rt, rt.alloc(), scenario)
+    issue_and_print::<Core, HostRuntime>(&rt, rt.alloc(), scenario)
 }

@@ -10,7 +10,7 @@ ghost use Rattle.std.specs.Str.{IsAscii, IsUtf8};
 
 use crate::play_numbers::fit;
 use cmwq_lines::{Block, ReplyLines};
-use cmwq_plain::Plain;
+use cmwq_core::Core;
 use cmwq_table::{Machine, is_silent};
 use cmwq_types::{Instr, NoMemory, Reply, Scenario};
 use std::alloc::Global;
@@ -30,7 +30,7 @@ pub(crate) fn comments(
     ensures short { IfOk result (λ text. length text ≤ 256 * length instrs.now) }
 {
     let scenario = Arc::new(alloc, scenario)?;
-    let machine = Plain::begin(alloc, Arc::clone(&scenario)?)?;
+    let machine = Core::begin(alloc, Arc::clone(&scenario)?)?;
     comments_of(alloc, &scenario, machine, instrs)
 }
 

@@ -10,7 +10,7 @@ ghost use Rattle.std.specs.Prelude.{◌≡◌, ◌≤◌, ◌↔◌, [], Err, If
 use crate::leaving::played_text;
 use cmwq_actors::{Enactment, Ending, Gate, enact};
 use cmwq_engine::Entry;
-use cmwq_plain::Plain;
+use cmwq_core::Core;
 use cmwq_streams::{PlayError, Sink, put_all};
 use cmwq_table::Machine;
 use cmwq_types::{Instr, NoMemory, Scenario};
@@ -52,7 +52,7 @@ pub fn play<'x, R: Threads + Wait + Clock + Sync, G: Gate, W: Sink>(
     if scenario.actors.is_empty() {
         return Err(PlayError::Actors);
     }
-    let (ending, text) = acted::<R, Plain, G>(rt, alloc, scenario, capacity, gate)?;
+    let (ending, text) = acted::<R, Core, G>(rt, alloc, scenario, capacity, gate)?;
     put_all(writer, &text)?;
     play_end(ending)
 }

@@ -6,6 +6,7 @@ ghost use Rattle.std.specs.Prelude.{◌≤◌, length};
 use crate::checking::same;
 use crate::examples::MAX_ACTIVE_3;
 use crate::machines::scenario;
+use cmwq_core::Core;
 use cmwq_debug::Debugger;
 use cmwq_debug_lines::answer;
 use cmwq_plain::Plain;
@@ -288,7 +289,11 @@ fn check_text<M: Machine>(rt: &impl Abort, alloc: Global, text: &[u8], talk: Tal
 #[test]
 fn each_command_line_is_answered(rt: HostRuntime) {
     check_text::<Plain>(&rt, rt.alloc(), MAX_ACTIVE_3.text, THERE_AND_BACK);
+    check_text::<Core>(&rt, rt.alloc(), MAX_ACTIVE_3.text, THERE_AND_BACK);
     check_text::<Plain>(&rt, rt.alloc(), MAX_ACTIVE_3.text, OTHER_LINES);
+    check_text::<Core>(&rt, rt.alloc(), MAX_ACTIVE_3.text, OTHER_LINES);
     check_text::<Plain>(&rt, rt.alloc(), MANY_KINDS, EVERY_KIND);
+    check_text::<Core>(&rt, rt.alloc(), MANY_KINDS, EVERY_KIND);
     check_text::<Plain>(&rt, rt.alloc(), A_FLUSH, A_WORK_CALLED_FLUSH);
+    check_text::<Core>(&rt, rt.alloc(), A_FLUSH, A_WORK_CALLED_FLUSH);
 }

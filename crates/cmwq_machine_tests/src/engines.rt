@@ -5,6 +5,7 @@ use crate::checking::same;
 use crate::debugging::instrs_of;
 use crate::examples::{EXAMPLES, Example, STEPS_RUN_OUT};
 use crate::machines::scenario;
+use cmwq_core::Core;
 use cmwq_engine::{Engine, Entry, Full};
 use cmwq_plain::Plain;
 use cmwq_table::{Machine, ReplyLine};
@@ -87,6 +88,7 @@ fn check_example<M: Machine>(rt: &impl Abort, alloc: Global, example: &Example) 
 fn histories_of_the_examples_are_entered_one_by_one(rt: HostRuntime) {
     for example in EXAMPLES {
         check_example::<Plain>(&rt, rt.alloc(), &example);
+        check_example::<Core>(&rt, rt.alloc(), &example);
     }
 }
 
@@ -101,4 +103,5 @@ fn check_full<M: Machine>(rt: &impl Abort, alloc: Global) {
 #[test]
 fn an_engine_without_room_is_full_at_once(rt: HostRuntime) {
     check_full::<Plain>(&rt, rt.alloc());
+    check_full::<Core>(&rt, rt.alloc());
 }

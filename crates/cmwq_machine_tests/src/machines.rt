@@ -2,6 +2,7 @@
 use crate::checking::same;
 use crate::examples::TWO_WORKS;
 use cmwq_asm::assemble;
+use cmwq_core::Core;
 use cmwq_plain::Plain;
 use cmwq_table::{LoadError, Machine, View};
 use cmwq_types::{Event, Fault, Instr, QueueId, Reply, Scenario, WorkId};
@@ -21,7 +22,7 @@ pub(crate) fn scenario(rt: &impl Abort, alloc: Global, text: &[u8]) -> Scenario 
 }
 
 /// A machine at the start of the scenario that the text spells.
-fn loaded<M: Machine>(rt: &impl Abort, alloc: Global, text: &[u8]) -> M {
+pub(crate) fn loaded<M: Machine>(rt: &impl Abort, alloc: Global, text: &[u8]) -> M {
     M::load(alloc, &scenario(rt, alloc, text)).expect(rt, "a valid scenario")
 }
 
@@ -34,7 +35,7 @@ fn exec_all<M: Machine>(rt: &impl Abort, machine: &mut M, rows: &[(Instr, Reply)
 }
 
 /// The whole state of the machine.
-fn whole_view<M: Machine>(rt: &impl Abort, machine: &M) -> View {
+pub(crate) fn whole_view<M: Machine>(rt: &impl Abort, machine: &M) -> View {
     machine.look().expect(rt, "memory is left")
 }
 
@@ -84,6 +85,7 @@ fn check_alone<M: Machine>(rt: &impl Abort, source: &mut M, copy: &mut M, before
 #[test]
 fn a_copy_goes_on_alone(rt: HostRuntime) {
     check_copy::<Plain>(&rt, rt.alloc());
+    check_copy::<Core>(&rt, rt.alloc());
 }
 
 /// Two instructions at a scenario's start, and what a look then shows.
@@ -179,6 +181,7 @@ fn check_looked<M: Machine>(rt: &impl Abort, alloc: Global, row: &Looked) {
 fn a_look_shows_the_state(rt: HostRuntime) {
     for row in LOOKED {
         check_looked::<Plain>(&rt, rt.alloc(), &row);
+        check_looked::<Core>(&rt, rt.alloc(), &row);
     }
 }
 
@@ -254,6 +257,7 @@ fn check_largest<M: Machine>(rt: &impl Abort, alloc: Global) {
 #[test]
 fn the_largest_scenario_runs(rt: HostRuntime) {
     check_largest::<Plain>(&rt, rt.alloc());
+    check_largest::<Core>(&rt, rt.alloc());
 }
 
 /// A scenario of 17 CPUs is refused.
@@ -267,4 +271,5 @@ fn check_not_loaded<M: Machine>(rt: &impl Abort, alloc: Global) {
 #[test]
 fn a_scenario_with_a_fault_is_not_loaded(rt: HostRuntime) {
     check_not_loaded::<Plain>(&rt, rt.alloc());
+    check_not_loaded::<Core>(&rt, rt.alloc());
 }

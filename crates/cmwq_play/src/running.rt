@@ -16,7 +16,7 @@ use crate::replies::Replies;
 use crate::session::Session;
 use crate::teller::Teller;
 use cmwq_lines::ReplyLines;
-use cmwq_plain::Plain;
+use cmwq_core::Core;
 use cmwq_runs::room_behind;
 use cmwq_streams::{BlockWriter, PlayError, Sink, Source};
 use cmwq_table::Machine;
@@ -42,7 +42,7 @@ pub fn run<R: Source, W: Sink>(
     ensures answers { Answers IsRun IsRunFault (R.remaining reader.old) result }
     ensures writes { Writes (IsRun (R.remaining reader.old)) (W.contents writer.old) (W.contents writer.new) (W.failed writer.new) result }
 {
-    tell_run::<Plain, Replies, R, W>(alloc, Replies, reader, writer)
+    tell_run::<Core, Replies, R, W>(alloc, Replies, reader, writer)
 }
 
 /// Reads a scenario's text, issues its one actor's instructions on a machine, and writes what the teller tells of them as it comes, a

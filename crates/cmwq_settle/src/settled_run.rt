@@ -10,7 +10,7 @@ ghost use Rattle.std.specs.Prelude.{◌≡◌, ◌⊎◌, Err, IfErr, OnOk, fals
 
 use crate::counting::{Nexts, counted};
 use crate::extending::with_nexts;
-use cmwq_plain::Plain;
+use cmwq_core::Core;
 use cmwq_play::{judge, print_actor, read_text};
 use cmwq_streams::{PlayError, Sink, Source};
 use cmwq_table::Machine;
@@ -41,7 +41,7 @@ pub fn run_settled<R: Source, W: Sink>(
 {
     let scenario = read_text(alloc, reader)?;
     judge(&scenario)?;
-    count_and_print::<Plain, W>(alloc, scenario, writer)
+    count_and_print::<Core, W>(alloc, scenario, writer)
 }
 
 /// Counts on one machine how many `next` are to follow the one actor's instructions, and issues all on another, whose lines it writes.

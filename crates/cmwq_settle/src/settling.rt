@@ -9,7 +9,7 @@ ghost use Rattle.std.specs.Prelude.{◌≡◌, ◌⊎◌, Err, IfErr, IfOk, fals
 
 use crate::counting::{Nexts, counted};
 use crate::extending::with_nexts;
-use cmwq_plain::Plain;
+use cmwq_core::Core;
 use cmwq_play::{judge, read_text, write_listing};
 use cmwq_streams::{PlayError, Sink, Source};
 use cmwq_types::{Actor, MAX_LINES, NoMemory, Scenario};
@@ -54,7 +54,7 @@ pub fn settled(alloc: Global, scenario: Scenario) -> Result<Scenario, PlayError>
 {
     judge(&scenario)?;
     let shared = Arc::new(alloc, scenario.copy()?)?;
-    let Nexts::Settle(n) = counted::<Plain>(alloc, &shared)? else {
+    let Nexts::Settle(n) = counted::<Core>(alloc, &shared)? else {
         return Err(PlayError::NeverQuiet);
     };
     let actor = with_nexts(alloc, &scenario.actors[0], n)?;

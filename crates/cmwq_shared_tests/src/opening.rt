@@ -8,7 +8,7 @@ use cmwq_asm::assemble;
 use cmwq_engine::{Engine, Entry, Shared};
 use cmwq_lock::Opener;
 use cmwq_machine_tests::examples::TWO_WORKS;
-use cmwq_plain::Plain;
+use cmwq_core::Core;
 use cmwq_table::{LoadError, Machine};
 use cmwq_types::{Instr, Reply, Scenario};
 use std::alloc::Global;
@@ -53,7 +53,7 @@ fn check_engine<M: Machine>(rt: &impl Abort, alloc: Global) {
 
 #[test]
 fn an_engine_opens_or_answers_no_memory(rt: HostRuntime) {
-    check_engine::<Plain>(&rt, rt.alloc());
+    check_engine::<Core>(&rt, rt.alloc());
 }
 
 /// A shared engine with room for three entries, and its opener.
@@ -87,5 +87,5 @@ fn check_shared<M: Machine>(rt: &impl Abort, alloc: Global) {
 
 #[test]
 fn a_shared_engine_opens_or_answers_no_memory(rt: HostRuntime) {
-    check_shared::<Plain>(&rt, rt.alloc());
+    check_shared::<Core>(&rt, rt.alloc());
 }

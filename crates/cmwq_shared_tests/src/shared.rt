@@ -1,4 +1,4 @@
-//! Shared engines over `Plain`: what no clause says of them, that their calls succeed, for one thread and for two.
+//! Shared engines over `Core`: what no clause says of them, that their calls succeed, for one thread and for two.
 ghost use Rattle.std.specs.Prelude.{◌≡◌, ◌≤◌};
 ghost use Rattle.cmwq_types.specs.declared.limits.TheConstants.{MAX_HISTORY};
 ghost use Rattle.cmwq_lock.specs.Tokens.{opener_view};
@@ -10,7 +10,7 @@ use cmwq_asm::assemble;
 use cmwq_engine::{Engine, Full, IssueError, Receipt, Shared, StillOut};
 use cmwq_lock::{Drawn, NotYet, Opener, Pass};
 use cmwq_machine_tests::examples::TWO_WORKS;
-use cmwq_plain::Plain;
+use cmwq_core::Core;
 use cmwq_table::Machine;
 use cmwq_types::{Instr, Place, Reply, WorkId, WorkState};
 use std::alloc::Global;
@@ -209,7 +209,7 @@ fn check_order<M: Machine>(rt: &impl Abort, alloc: Global) {
 
 #[test]
 fn two_callers_issue_in_the_order_of_their_tickets(rt: HostRuntime) {
-    check_order::<Plain>(&rt, rt.alloc());
+    check_order::<Core>(&rt, rt.alloc());
 }
 
 /// Two callers issue and meet, and the first issues on.
@@ -226,7 +226,7 @@ fn check_meeting<M: Machine>(rt: &impl Abort, alloc: Global) {
 
 #[test]
 fn a_caller_issues_on_after_a_meeting(rt: HostRuntime) {
-    check_meeting::<Plain>(&rt, rt.alloc());
+    check_meeting::<Core>(&rt, rt.alloc());
 }
 
 /// With 64 callers out, one more is refused.
@@ -240,7 +240,7 @@ fn check_64_out<M: Machine>(rt: &impl Abort, alloc: Global) {
 
 #[test]
 fn refuses_a_pass_while_64_callers_are_out(rt: HostRuntime) {
-    check_64_out::<Plain>(&rt, rt.alloc());
+    check_64_out::<Core>(&rt, rt.alloc());
 }
 
 /// Whether the work that was asked for is pending.
@@ -342,5 +342,5 @@ fn check_seeing<M: Machine + Send + Sync, R: Threads + Wait + Clock + Abort + Sy
 
 #[test]
 fn two_threads_see_each_others_work_pending_and_meet(rt: HostRuntime) {
-    check_seeing::<Plain, HostRuntime>(&rt, rt.alloc());
+    check_seeing::<Core, HostRuntime>(&rt, rt.alloc());
 }

@@ -5,7 +5,7 @@ ghost use Rattle.cmwq_tell.specs.RunTold.{IsToldRun};
 ghost use Rattle.std.specs.Prelude.{◌≡◌, false};
 
 use crate::told::Whole;
-use cmwq_plain::Plain;
+use cmwq_core::Core;
 use cmwq_play::tell_run;
 use cmwq_streams::{PlayError, Sink, Source};
 use std::alloc::Global;
@@ -29,5 +29,5 @@ pub fn run_told<R: Source, W: Sink>(
     ensures answers { Answers IsToldRun IsRunFault (R.remaining reader.old) result }
     ensures writes { Writes (IsToldRun (R.remaining reader.old)) (W.contents writer.old) (W.contents writer.new) (W.failed writer.new) result }
 {
-    tell_run::<Plain, Whole, R, W>(alloc, Whole { alloc }, reader, writer)
+    tell_run::<Core, Whole, R, W>(alloc, Whole { alloc }, reader, writer)
 }
