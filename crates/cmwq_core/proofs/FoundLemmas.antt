@@ -1,18 +1,16 @@
 -- What the table's words come to, of parts that answer quickly.
-use Rattle.std.proofs.Common.{◌≡◌, ◌≢◌, ◌⊎◌, ℕ, zero, suc, ◌+◌, ◌-◌, ◌<◌, ◌≤◌, Bool, true, false, cond, ◌&&◌, ◌||◌, ◌==◌, not, List, [], ◌∷◌, length, get_or, Option, Some, None, IfSome, arith, refl, sym, ap, subst, ◌∙◌, inl, inr}
-use Rattle.std.specs.Prelude.{if◌then◌else◌, is_none, is_some, nat_lt}
+use Rattle.std.proofs.Common.{◌≡◌, ℕ, zero, suc, ◌+◌, ◌-◌, ◌<◌, ◌≤◌, Bool, true, false, cond, ◌&&◌, ◌||◌, ◌==◌, not, List, [], ◌∷◌, length, Option, Some, None, IfSome, arith, refl, sym, ap, subst, ◌∙◌}
+use Rattle.std.specs.Prelude.{is_none, is_some, nat_lt}
 use Rattle.std.proofs.lemmas.Bool.Decides.{nat_tests}
 use Rattle.std.proofs.lemmas.Option.{same_Some}
 use Rattle.cmwq_types.specs.Contents.{ScenarioContents}
-use Rattle.cmwq_types.specs.First.{IsFirst, MatchFirst, by_greatest, by_least, count_below, first_below, or_else}
-use Rattle.cmwq_types.specs.Scenario.{flags_at, queue_of}
-use Rattle.cmwq_types.proofs.FirstLemmas.{by_greatest-order, by_least-order, count_below-agree, first_below-is_first, first_below-none}
-use Rattle.cmwq_table.specs.Counts.{can_be_rescued, first_inactive, first_listed, first_rescued, free_worker, has_free_rescuer, idle_stamp, is_activated, is_busy, is_inactive, is_listed, last_idle, new_worker, pending_stamp, pends}
+use Rattle.cmwq_types.specs.First.{IsFirst, MatchFirst, by_greatest, by_least, count_below, or_else}
+use Rattle.cmwq_types.specs.Scenario.{queue_of}
+use Rattle.cmwq_types.proofs.FirstLemmas.{by_greatest-order, by_least-order, first_below-is_first, first_below-none}
+use Rattle.cmwq_table.specs.Counts.{can_be_rescued, first_inactive, first_listed, first_rescued, free_worker, has_free_rescuer, idle_stamp, is_inactive, is_listed, last_idle, new_worker, pending_stamp, pends}
 use Rattle.cmwq_table.specs.Moves.{burned, one_less}
-use Rattle.cmwq_table.specs.State.{State, idle_at, made_at, pending_at, running_at, seat}
-use Rattle.cmwq_table.specs.declared.state.Pending.{Pending}
+use Rattle.cmwq_table.specs.State.{State, idle_at, made_at, pending_at, running_at}
 use Rattle.cmwq_table.specs.declared.state.Running.{Running}
-use Rattle.cmwq_idle.specs.Idle.{made_in, stamp_at}
 use Rattle.cmwq_core.specs.Staff.{runs_at}
 use Rattle.cmwq_core.proofs.LayoutLemmas.{RunsOnAs}
 use Rattle.cmwq_core.proofs.StaffLemmas.{IsFree}
@@ -66,7 +64,7 @@ none_rescued S s pool none =
   where
     listed : (w : ℕ) → w < length S.works → pends (λ place. is_listed place pool) (pending_at s w) ≡ false
     listed = subst (λ (o : Option ℕ). MatchFirst (by_least (λ w. pending_stamp (pending_at s w))) (λ w. pends (λ place. is_listed place pool) (pending_at s w)) (length S.works) o) none
-      (first_below-is_first (by_least (λ w. pending_stamp (pending_at s w))) (λ w. pends (λ place. is_listed place pool) (pending_at s w)) (length S.works) (by_least-order (λ w. pending_stamp (pending_at s w))))
+        (first_below-is_first (by_least (λ w. pending_stamp (pending_at s w))) (λ w. pends (λ place. is_listed place pool) (pending_at s w)) (length S.works) (by_least-order (λ w. pending_stamp (pending_at s w))))
 
 -- the first inactive work is pending
 pub inactive_pends : (S : ScenarioContents) (s : State) (queue pool w : ℕ) → first_inactive S s queue pool ≡ Some w → pending_at s w ≡ None → ⊥
@@ -74,7 +72,7 @@ inactive_pends S s queue pool w first none = by_queue (queue_of S w == queue) is
   where
     is : IsFirst (by_least (λ w. pending_stamp (pending_at s w))) (λ w. (queue_of S w == queue) && pends (λ place. is_inactive place pool) (pending_at s w)) (length S.works) w
     is = subst (λ (o : Option ℕ). MatchFirst (by_least (λ w. pending_stamp (pending_at s w))) (λ w. (queue_of S w == queue) && pends (λ place. is_inactive place pool) (pending_at s w)) (length S.works) o) first
-      (first_below-is_first (by_least (λ w. pending_stamp (pending_at s w))) (λ w. (queue_of S w == queue) && pends (λ place. is_inactive place pool) (pending_at s w)) (length S.works) (by_least-order (λ w. pending_stamp (pending_at s w))))
+        (first_below-is_first (by_least (λ w. pending_stamp (pending_at s w))) (λ w. (queue_of S w == queue) && pends (λ place. is_inactive place pool) (pending_at s w)) (length S.works) (by_least-order (λ w. pending_stamp (pending_at s w))))
 
     by_queue : (b : Bool) → (b && pends (λ place. is_inactive place pool) (pending_at s w)) ≡ true → ⊥
     by_queue false e = absurd (cc)

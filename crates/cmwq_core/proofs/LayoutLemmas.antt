@@ -1,24 +1,21 @@
 -- What each single change leaves of the layout.
-use Rattle.std.proofs.Common.{◌≡◌, ◌≢◌, ◌⊎◌, ℕ, ◌+◌, ◌*◌, ◌<◌, ◌≤◌, Bool, true, false, List, length, get_or, set, Option, Some, None, IfSome, arith, refl, sym, ap, subst, ◌∙◌, inl, inr}
+use Rattle.std.proofs.Common.{◌≡◌, ◌⊎◌, ℕ, ◌+◌, ◌<◌, ◌≤◌, true, List, length, get_or, set, Option, Some, None, IfSome, arith, refl, sym, ap, subst, ◌∙◌, inl, inr}
 use Rattle.std.specs.Prelude.{is_some}
 use Rattle.std.proofs.lemmas.List.{length-set}
-use Rattle.std.proofs.lemmas.Bool.Decides.{nat_tests}
 use Rattle.std.proofs.lemmas.Option.{same_Some}
-use Rattle.cmwq_types.specs.Contents.{ScenarioContents}
 use Rattle.cmwq_types.specs.First.{or_else}
 use Rattle.cmwq_types.specs.Scenario.{pool_count}
-use Rattle.cmwq_types.specs.declared.limits.TheConstants.{MAX_WORKERS, RESCUER}
-use Rattle.cmwq_parts.specs.Cpus.{HasCpu, HasCpuIfPending}
+use Rattle.cmwq_parts.specs.Cpus.{HasCpuIfPending}
 use Rattle.cmwq_table.specs.Counts.{is_rescuer}
 use Rattle.cmwq_table.specs.State.{seat}
 use Rattle.cmwq_table.specs.declared.state.Pending.{Pending}
 use Rattle.cmwq_table.specs.declared.state.Running.{Running}
-use Rattle.cmwq_idle.specs.Idle.{IsIdleBefore, WorkersContents, made_in, stamp_at}
-use Rattle.cmwq_queued.specs.QueuedContents.{IsNewest, QueuedContents, pending_at, with_pending}
+use Rattle.cmwq_idle.specs.Idle.{WorkersContents, made_in, stamp_at}
+use Rattle.cmwq_queued.specs.QueuedContents.{QueuedContents, pending_at, with_pending}
 use Rattle.cmwq_running.specs.RunningContents.{RunningContents}
-use Rattle.cmwq_core.specs.CoreLayout.{AreSized, IsLaidOut, RanBefore}
-use Rattle.cmwq_core.specs.Staff.{AreStaffed, RunsOnWorker, runs_at}
-use Rattle.cmwq_core.proofs.StaffLemmas.{IsFree, RunsOn, RanSo, made_after, set_read, staffed_from, staffed_retire, staffed_set, staffed_start}
+use Rattle.cmwq_core.specs.CoreLayout.{AreSized, IsLaidOut}
+use Rattle.cmwq_core.specs.Staff.{RunsOnWorker, runs_at}
+use Rattle.cmwq_core.proofs.StaffLemmas.{IsFree, RunsOn, made_after, set_read, staffed_from, staffed_retire, staffed_set, staffed_start}
 
 -- what holds of each entry of a list holds when one place was written, if it holds of what was written
 pub each_set : {A : Type 0} (P : Option A → Type 0) (xs : List (Option A)) (i : ℕ) (o : Option A) → ((j : ℕ) → P (get_or xs j None)) → P o → (j : ℕ) → P (get_or (set xs i o) j None)
@@ -116,7 +113,7 @@ laid_pending q r k next max depth room w p is low cpu = record {
   staffed = is.staffed;
 }
 
-abbrev with_run : RunningContents → ℕ → Option Running → RunningContents
+abbrev pub with_run : RunningContents → ℕ → Option Running → RunningContents
 with_run r w o = record r { running = set r.running w o }
 
 -- a work runs otherwise, on the worker on which it ran or on a rescuer, or not at all
@@ -145,7 +142,7 @@ laid_onward q r after k next max depth room is same long stems = record {
   timers = is.timers;
   before = record { pend = is.before.pend; run = λ w. before w (runs_at after.running w) refl; rest = is.before.rest };
   staffed = staffed_from (pool_count q.scenario) q.scenario.workers r.running after.running k.idle k.made is.staffed
-    (λ w p on. let was = stems w p on.runs in record { before = was.before; runs = record { runs = was.runs; employed = ap is_rescuer was.worker ∙ on.employed }; pool = was.pool; worker = was.worker });
+      (λ w p on. let was = stems w p on.runs in record { before = was.before; runs = record { runs = was.runs; employed = ap is_rescuer was.worker ∙ on.employed }; pool = was.pool; worker = was.worker });
 }
   where
     before : (w : ℕ) (o : Option Running) → runs_at after.running w ≡ o → IfSome o (λ p. p.stamp < next)
@@ -157,8 +154,8 @@ pub laid_start : (q : QueuedContents) (r : RunningContents) (k : WorkersContents
     → IsFree k.idle k.made p.pool p.worker → IsLaidOut q (with_run r w (Some p)) (record k { idle = set k.idle (seat p.pool p.worker) None; made = set k.made p.pool (made_after k.made p.pool p.worker) }) next max depth room
 laid_start q r k next max depth room w p is still small low free = record {
   sized = sized_running q r (with_run r w (Some p)) (record k { idle = set k.idle (seat p.pool p.worker) None; made = set k.made p.pool (made_after k.made p.pool p.worker) }) max depth room
-    (sized_workers q r k (record k { idle = set k.idle (seat p.pool p.worker) None; made = set k.made p.pool (made_after k.made p.pool p.worker) }) max depth room is.sized refl (length-set k.idle (seat p.pool p.worker) None) (length-set k.made p.pool (made_after k.made p.pool p.worker)))
-    refl (length-set r.running w (Some p));
+      (sized_workers q r k (record k { idle = set k.idle (seat p.pool p.worker) None; made = set k.made p.pool (made_after k.made p.pool p.worker) }) max depth room is.sized refl (length-set k.idle (seat p.pool p.worker) None) (length-set k.made p.pool (made_after k.made p.pool p.worker)))
+      refl (length-set r.running w (Some p));
   timers = is.timers;
   before = record {
     pend = is.before.pend;
@@ -175,7 +172,7 @@ laid_retire q r k next max depth room w p laid on =
     let is = laid_later q r k next (next + 1) max depth room laid (omega arith) in
     record {
       sized = sized_running q r (with_run r w None) (record k { idle = set k.idle (seat p.pool p.worker) (Some next) }) max depth room
-        (sized_workers q r k (record k { idle = set k.idle (seat p.pool p.worker) (Some next) }) max depth room is.sized refl (length-set k.idle (seat p.pool p.worker) (Some next)) refl) refl (length-set r.running w None);
+          (sized_workers q r k (record k { idle = set k.idle (seat p.pool p.worker) (Some next) }) max depth room is.sized refl (length-set k.idle (seat p.pool p.worker) (Some next)) refl) refl (length-set r.running w None);
       timers = is.timers;
       before = record {
         pend = is.before.pend;

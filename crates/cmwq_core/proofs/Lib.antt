@@ -1,3 +1,5 @@
+pub mod CoverLemmas
 pub mod FoundLemmas
+pub mod KeptLemmas
 pub mod LayoutLemmas
 pub mod StaffLemmas

@@ -1,15 +1,15 @@
 -- What changes leave of who runs on which worker.
-use Rattle.std.proofs.Common.{◌≡◌, ◌≢◌, ◌⊎◌, ℕ, ◌+◌, ◌*◌, ◌<◌, ◌≤◌, Bool, true, false, cond, ◌==◌, List, length, get_or, set, Option, Some, None, IfSome, arith, refl, sym, ap, subst, ◌∙◌, inl, inr}
+use Rattle.std.proofs.Common.{◌≡◌, ◌≢◌, ◌⊎◌, ℕ, ◌+◌, ◌*◌, ◌<◌, ◌≤◌, Bool, true, false, cond, ◌==◌, List, length, get_or, set, Option, Some, None, arith, refl, sym, ap, subst, ◌∙◌, inl, inr}
 use Rattle.std.specs.Prelude.{if◌then◌else◌, is_some}
 use Rattle.std.proofs.lemmas.Bool.{cases_eq, cases_lt}
 use Rattle.std.proofs.lemmas.Bool.Decides.{nat_tests}
 use Rattle.std.proofs.lemmas.Option.{same_Some}
 use Rattle.std.proofs.lemmas.List.{get_or-set_same, get_or-set_other, get_or_past, set_past}
-use Rattle.cmwq_types.specs.declared.limits.TheConstants.{MAX_WORKERS, RESCUER}
+use Rattle.cmwq_types.specs.declared.limits.TheConstants.{MAX_WORKERS}
 use Rattle.cmwq_table.specs.Counts.{is_rescuer}
 use Rattle.cmwq_table.specs.State.{seat}
 use Rattle.cmwq_table.specs.declared.state.Running.{Running}
-use Rattle.cmwq_idle.specs.Idle.{IsIdleBefore, made_in, stamp_at}
+use Rattle.cmwq_idle.specs.Idle.{made_in, stamp_at}
 use Rattle.cmwq_core.specs.Staff.{AreStaffed, RunsOnWorker, runs_at}
 
 -- what is read of a list in which one place was written: what was written, or what was there
@@ -35,11 +35,11 @@ staffed_from pools workers running after idle made staffed stems = record {
   few = λ w r on. (let was = stems w r on in subst (λ (n : ℕ). n < workers) was.worker (staffed.few w was.before was.runs));
   working = λ w r on. (let was = stems w r on in ap (stamp_at idle) (sym (same_seat w r was)) ∙ staffed.working w was.before was.runs);
   alone = λ v w q r on other pools_are workers_are there. (let was = stems v q on in let too = stems w r other in
-    staffed.alone v w was.before too.before was.runs too.runs (was.pool ∙ pools_are ∙ sym too.pool) (was.worker ∙ workers_are ∙ sym too.worker) (subst (λ (n : ℕ). n < pools) (sym too.pool) there));
+      staffed.alone v w was.before too.before was.runs too.runs (was.pool ∙ pools_are ∙ sym too.pool) (was.worker ∙ workers_are ∙ sym too.worker) (subst (λ (n : ℕ). n < pools) (sym too.pool) there));
   hired = λ w r on there. (let was = stems w r on in
-    let low = staffed.hired w was.before was.runs (subst (λ (n : ℕ). n < pools) (sym was.pool) there) in
-    let at = ap (made_in made) was.pool in
-    omega (arith, low, at, was.worker));
+      let low = staffed.hired w was.before was.runs (subst (λ (n : ℕ). n < pools) (sym was.pool) there) in
+      let at = ap (made_in made) was.pool in
+      omega (arith, low, at, was.worker));
   idle_hired = staffed.idle_hired;
 }
   where
@@ -128,9 +128,9 @@ staffed_start pools workers running idle made w r staffed long still small free 
     alone_of v u q p (inl here) (inl too) pool worker there = here.0 ∙ sym too.0
     alone_of v u q p (inr other) (inr too) pool worker there = staffed.alone v u q p other.1 too.1 pool worker there
     alone_of v u q p (inl here) (inr too) pool worker there = absurd (let at = ap (λ (r : Running). r.pool) here.1 in let on = ap (λ (r : Running). r.worker) here.1 in
-      let no = nobody u p too.1 (sym pool ∙ at) (sym worker ∙ on) (subst (λ (n : ℕ). n < pools) (sym pool ∙ at) there) free in cc)
+        let no = nobody u p too.1 (sym pool ∙ at) (sym worker ∙ on) (subst (λ (n : ℕ). n < pools) (sym pool ∙ at) there) free in cc)
     alone_of v u q p (inr other) (inl too) pool worker there = absurd (let at = ap (λ (r : Running). r.pool) too.1 in let on = ap (λ (r : Running). r.worker) too.1 in
-      let no = nobody v q other.1 (pool ∙ at) (worker ∙ on) (subst (λ (n : ℕ). n < pools) at there) free in cc)
+        let no = nobody v q other.1 (pool ∙ at) (worker ∙ on) (subst (λ (n : ℕ). n < pools) at there) free in cc)
 
     -- each pool has made as many workers as before, or one more
     more : (pool : ℕ) → made_in made pool ≤ made_in (set made r.pool (made_after made r.pool r.worker)) pool
@@ -144,7 +144,7 @@ staffed_start pools workers running idle made w r staffed long still small free 
         by_pool (inr differs) range = (let e = get_or-set_other made r.pool pool (made_after made r.pool r.worker) 0 differs in omega (arith, e))
         by_pool which (inr past) = (let e = ap (λ (ns : List ℕ). made_in ns pool) (set_past made r.pool (made_after made r.pool r.worker) past) in omega (arith, e))
         by_pool (inl is) (inl inside) = subst (λ (k : ℕ). made_in made k ≤ made_in (set made r.pool (made_after made r.pool r.worker)) k) (sym is)
-          (subst (λ (n : ℕ). made_in made r.pool ≤ n) (sym (get_or-set_same made r.pool (made_after made r.pool r.worker) 0 inside)) (by_count (r.worker == made_in made r.pool) refl))
+            (subst (λ (n : ℕ). made_in made r.pool ≤ n) (sym (get_or-set_same made r.pool (made_after made r.pool r.worker) 0 inside)) (by_count (r.worker == made_in made r.pool) refl))
 
     here_hired : r.pool < pools → IsFree idle made r.pool r.worker → r.worker < made_in (set made r.pool (made_after made r.pool r.worker)) r.pool
     here_hired there how = subst (λ (n : ℕ). r.worker < n) (sym (get_or-set_same made r.pool (made_after made r.pool r.worker) 0 (subst (λ (n : ℕ). r.pool < n) (sym long) there))) (by_count (r.worker == made_in made r.pool) refl how)

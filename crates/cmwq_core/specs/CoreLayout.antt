@@ -1,14 +1,16 @@
 -- What holds of the parts beside what each of them keeps for itself.
-use Rattle.std.specs.Prelude.{◌≡◌, ℕ, ◌*◌, ◌<◌, ◌≤◌, List, length, Option, IfSome}
+use Rattle.std.specs.Prelude.{◌≡◌, Bool, ℕ, ◌*◌, ◌<◌, ◌≤◌, List, length, Option, IfSome}
 use Rattle.cmwq_types.specs.Scenario.{pool_count}
 use Rattle.cmwq_types.specs.Setting.{IsSetting}
 use Rattle.cmwq_types.specs.declared.limits.TheConstants.{MAX_WORKERS}
 use Rattle.cmwq_parts.specs.Cpus.{HasCpuIfPending}
+use Rattle.cmwq_parts.specs.declared.pool_set.PoolSet.{PoolSet}
 use Rattle.cmwq_idle.specs.Idle.{IsIdleBefore, WorkersContents}
 use Rattle.cmwq_queued.specs.QueuedContents.{IsNewest, QueuedContents, pending_at}
 use Rattle.cmwq_running.specs.RunningContents.{RunningContents}
 use Rattle.cmwq_table.specs.declared.state.Pending.{Pending}
 use Rattle.cmwq_table.specs.declared.state.Running.{Running}
+use Rattle.cmwq_core.specs.Moving.{IsCovered}
 use Rattle.cmwq_core.specs.Staff.{AreStaffed, runs_at}
 
 -- each work that runs does so under a stamp before this one
@@ -40,3 +42,8 @@ pub record IsLaidOut (queued : QueuedContents) (running : RunningContents) (work
   pub timers : (w : ℕ) → HasCpuIfPending queued.scenario (pending_at queued.pending w)
   pub before : AreBefore queued.pending running.running workers.idle next
   pub staffed : AreStaffed (pool_count queued.scenario) queued.scenario.workers running.running workers.idle workers.made
+
+-- the parts are laid out so, and each pool that has a move is one of the set's
+pub record IsKept (queued : QueuedContents) (running : RunningContents) (workers : WorkersContents) (next : ℕ) (pressed : Bool) (moving : PoolSet) (max depth : List ℕ) (room : ℕ) : Type 0 where
+  pub laid : IsLaidOut queued running workers next max depth room
+  pub covered : IsCovered queued running workers pressed moving

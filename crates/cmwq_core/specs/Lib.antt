@@ -1,2 +1,3 @@
 pub mod CoreLayout
+pub mod Moving
 pub mod Staff

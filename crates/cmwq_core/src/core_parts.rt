@@ -4,8 +4,9 @@ ghost use Rattle.std.specs.Prelude.{◌≡◌};
 
 use crate::beginning::{copied_flushes, declared_max};
 use crate::looking::{idle_workers, pending_works, running_works};
+use crate::moving::{listed_pool, with, with_some, without};
 use cmwq_idle::IdleWorkers;
-use cmwq_parts::Parts;
+use cmwq_parts::{Parts, PoolSet};
 use cmwq_queued::{MAX_POOLS, QueuedWorks};
 use cmwq_reads::Sought;
 use cmwq_running::RunningWorks;
@@ -24,6 +25,7 @@ pub struct CoreParts {
     queued: QueuedWorks,
     running: RunningWorks,
     workers: IdleWorkers,
+    moving: PoolSet,
     next: u64,
     spent: u32,
     frozen: bool,
@@ -34,7 +36,7 @@ pub struct CoreParts {
 }
 
 impl Model for CoreParts {
-    ghost use Rattle.cmwq_core.specs.CoreLayout.{IsLaidOut};
+    ghost use Rattle.cmwq_core.specs.CoreLayout.{IsKept};
     ghost use Rattle.cmwq_table.specs.Ready.{Loaded};
     ghost use Rattle.std.specs.Prelude.{vec_capacity};
 
@@ -58,7 +60,7 @@ impl Model for CoreParts {
       };
     } };
 
-    ghost invariant = { λ p. IsLaidOut p.queued p.running p.workers p.next p.max.items p.depth.items (vec_capacity p.flushes) };
+    ghost invariant = { λ p. IsKept p.queued p.running p.workers p.next p.pressed p.moving p.max.items p.depth.items (vec_capacity p.flushes) };
 }
 
 impl Reads for CoreParts {
@@ -130,6 +132,7 @@ impl Parts for CoreParts {
             queued: QueuedWorks::new(alloc, Arc::clone(&scenario)?)?,
             running: RunningWorks::new(alloc, Arc::clone(&scenario)?)?,
             workers: IdleWorkers::new(alloc, scenario.pool_count(), scenario.workers)?,
+            moving: PoolSet::all(),
             next: 0,
             spent: 0,
             frozen: false,
@@ -146,13 +149,18 @@ impl Parts for CoreParts {
             queued: self.queued.copy()?,
             running: self.running.copy()?,
             workers: self.workers.copy()?,
+            moving: self.moving,
             next: self.next,
             spent: self.spent,
             frozen: self.frozen,
             pressed: self.pressed,
             max: Vec::from_slice(alloc, &self.max)?,
             depth: Vec::from_slice(alloc, &self.depth)?,
-            flushes: copied_flushes(alloc, &self.flushes, self.queued.scenario().flushes as usize)?,
+            flushes: copied_flushes(
+                alloc,
+                &self.flushes,
+                self.queued.scenario().flushes as usize,
+            )?,
         })
     }
 
@@ -184,6 +192,14 @@ impl Parts for CoreParts {
 
     fn is_busy(&self) -> bool {
         self.queued.is_busy() || self.running.freezable_running() != 0
+    }
+
+    fn may_move(&self) -> PoolSet {
+        self.moving
+    }
+
+    fn settle(&mut self, pool: u8) {
+        self.moving = without(self.moving, pool);
     }
 
     fn may_start(&self, pool: u8) -> bool {
@@ -247,11 +263,13 @@ impl Parts for CoreParts {
                 place,
             },
         );
+        self.moving = with_some(self.moving, listed_pool(place));
         self.next = stamp + 1;
     }
 
-    fn unpend(&mut self, w: usize, _p: Pending) {
+    fn unpend(&mut self, w: usize, p: Pending) {
         self.queued.take(w);
+        self.moving = with_some(self.moving, listed_pool(p.place));
     }
 
     fn enlist(&mut self, _queue: u8, pool: u8, w: usize) {
@@ -259,12 +277,14 @@ impl Parts for CoreParts {
             let stamp = self.next;
             let place = Place::Listed(pool);
             self.queued.list(w, Pending { stamp, place, ..p });
+            self.moving = with(self.moving, pool);
             self.next = stamp + 1;
         }
     }
 
     fn defer(&mut self, pool: u8, w: usize) {
         self.queued.defer(w, pool);
+        self.moving = with(self.moving, pool);
     }
 
     fn start_on(&mut self, pool: u8, w: usize, worker: u8, p: Pending) {
@@ -272,6 +292,7 @@ impl Parts for CoreParts {
         self.queued.take(w);
         self.workers.start(pool, worker);
         self.running.begin(w, p.born, pool, worker, stamp);
+        self.moving = with(self.moving, pool);
         self.next = stamp + 1;
     }
 
@@ -279,20 +300,24 @@ impl Parts for CoreParts {
         let stamp = self.next;
         self.queued.take(w);
         self.running.begin(w, p.born, pool, RESCUER, stamp);
+        self.moving = PoolSet::all();
         self.next = stamp + 1;
     }
 
     fn go_on(&mut self, w: usize, r: Running, left: u32) {
         self.running.go_on(w, r, left);
+        self.moving = with(self.moving, r.pool);
     }
 
     fn sleep(&mut self, w: usize, r: Running, until: u64) {
         self.running.sleep(w, r, until);
+        self.moving = with(self.moving, r.pool);
     }
 
     fn wake(&mut self, pool: u8, w: usize) {
         let stamp = self.next;
         self.running.wake(pool, w, stamp);
+        self.moving = with(self.moving, pool);
         self.next = stamp + 1;
     }
 
@@ -300,19 +325,27 @@ impl Parts for CoreParts {
         let stamp = self.next;
         self.queued.take(w);
         self.running.begin(w, p.born, r.pool, r.worker, stamp);
+        self.moving = with(self.moving, r.pool);
         self.next = stamp + 1;
     }
 
     fn retire(&mut self, w: usize, r: Running) {
         self.running.retire(w);
-        if r.worker != RESCUER {
-            self.workers.retire(r.pool, r.worker, self.next);
-            self.next += 1;
+        if r.worker == RESCUER {
+            self.moving = PoolSet::all();
+            return;
+        }
+        self.workers.retire(r.pool, r.worker, self.next);
+        self.next += 1;
+        self.moving = with(self.moving, r.pool);
+        if let Some(p) = self.queued.of(w) {
+            self.moving = with_some(self.moving, listed_pool(p.place));
         }
     }
 
     fn tick(&mut self) {
         self.running.tick();
+        self.moving = PoolSet::all();
     }
 
     fn set_depth(&mut self, w: usize, depth: u16) {
@@ -329,6 +362,7 @@ impl Parts for CoreParts {
 
     fn set_pressed(&mut self, pressed: bool) {
         self.pressed = pressed;
+        self.moving = PoolSet::all();
     }
 
     fn push_flush(&mut self, target: FlushTarget) {

@@ -4,10 +4,10 @@
 mod beginning;
 mod core_parts;
 mod looking;
-
-pub use core_parts::CoreParts;
+mod moving;
 
 use cmwq_exec::Driven;
+pub use core_parts::CoreParts;
 
 /// The machine that carries out the instruction table over indexes that each change keeps up to date.
 pub type Core = Driven<CoreParts>;

@@ -5,10 +5,10 @@ ghost use Rattle.cmwq_engine.specs.Shared.{IsOpenerOf};
 
 use crate::checking::same;
 use cmwq_asm::assemble;
+use cmwq_core::Core;
 use cmwq_engine::{Engine, Entry, Shared};
 use cmwq_lock::Opener;
 use cmwq_machine_tests::examples::TWO_WORKS;
-use cmwq_core::Core;
 use cmwq_table::{LoadError, Machine};
 use cmwq_types::{Instr, Reply, Scenario};
 use std::alloc::Global;

@@ -1,4 +1,4 @@
-use Rattle.std.proofs.Common.{◌≡◌, sym, ◌∙◌}
+use Rattle.std.proofs.Common.{sym, ◌∙◌}
 use Rattle.cmwq_core.proofs.FoundLemmas.{none_rescued}
 use Rattle.cmwq_core.proofs.core_parts.CorePartsParts.first_rescued.Goals as goal
 

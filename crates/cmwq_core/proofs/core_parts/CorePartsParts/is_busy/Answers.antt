@@ -1,4 +1,4 @@
-use Rattle.std.proofs.Common.{◌≡◌, Bool, true, false, ◌&&◌, ◌||◌, ◌==◌, not, ℕ, length, sym, ap, ◌∙◌}
+use Rattle.std.proofs.Common.{◌≡◌, Bool, ◌&&◌, ◌||◌, ◌==◌, not, ℕ, length, sym, ap, ◌∙◌}
 use Rattle.std.specs.Prelude.{is_some}
 use Rattle.cmwq_types.specs.Contents.{ScenarioContents}
 use Rattle.cmwq_types.specs.First.{count_below}
@@ -8,7 +8,6 @@ use Rattle.cmwq_table.specs.Ready.{Loaded}
 use Rattle.cmwq_table.specs.State.{pending_at, running_at}
 use Rattle.cmwq_running.specs.RunningContents.{state_of}
 use Rattle.cmwq_core.specs.contracts.core_parts.CoreParts.{the_view}
-use Rattle.cmwq_core.specs.declared.core_parts.CoreParts.TheInside.{Inside}
 use Rattle.cmwq_core.proofs.FoundLemmas.{and_or, some_of_either}
 use Rattle.cmwq_core.proofs.core_parts.CorePartsParts.is_busy.Goals as goal
 
@@ -29,5 +28,5 @@ returns-then-is_busy c =
 pub returns-else-is_busy : goal.returns-else-is_busy
 returns-else-is_busy c =
     let seen : Loaded = the_view c.self.inside in
-    let running = c.freezable_running.ensures.running ∙ ap (λ (S : ScenarioContents). count_below (λ w. (flags_at S (queue_of S w)).freezable && is_some (running_at (state_of c.self.inside.running) w)) (length S.works)) c.self.invariant.sized.same in
+    let running = c.freezable_running.ensures.running ∙ ap (λ (S : ScenarioContents). count_below (λ w. (flags_at S (queue_of S w)).freezable && is_some (running_at (state_of c.self.inside.running) w)) (length S.works)) c.self.invariant.laid.sized.same in
     ap (λ (n : ℕ). not (n == 0)) running ∙ sym (either seen ∙ ap (λ (b : Bool). b || not (count_below (run_busy seen) (length seen.scenario.works) == 0)) (sym c.is_busy.ensures ∙ c.if-is_busy.false)) ∙ ap (λ (m : Loaded). is_busy m.scenario m.state) c.self.view_is
