@@ -12,9 +12,9 @@ ghost use Rattle.cmwq_types.specs.declared.limits.TheConstants.{MAX_TEXT, MAX_WO
 ghost use Rattle.std.specs.Io.KnownBytes.{Appends, Consumes, IsAtEnd, Keeps};
 ghost use Rattle.std.specs.Prelude.{◌≡◌, ◌<◌, ◌≤◌, ◌+◌, ◌↔◌, ◌⊎◌, Err, IfErr, IfOk, IfSome, List, Ok, OnErr, OnOk, drop, false, length, take, true, ℕ};
 
+use cmwq_core::Core;
 use cmwq_debug::Debugger;
 use cmwq_debug_lines::{answer, line_length};
-use cmwq_core::Core;
 use cmwq_play::{empty_chunk, judge, read_some};
 use cmwq_runs::expanded;
 use cmwq_streams::{PlayError, Sink, Source, put_all};

@@ -9,8 +9,8 @@ ghost use Rattle.std.specs.Prelude.{◌≡◌, ◌≤◌, ◌+◌, ◌*◌, ◌+
 ghost use Rattle.std.specs.Str.{IsAscii, IsUtf8};
 
 use crate::play_numbers::fit;
-use cmwq_lines::{Block, ReplyLines};
 use cmwq_core::Core;
+use cmwq_lines::{Block, ReplyLines};
 use cmwq_table::{Machine, is_silent};
 use cmwq_types::{Instr, NoMemory, Reply, Scenario};
 use std::alloc::Global;

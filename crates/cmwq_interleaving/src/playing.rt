@@ -9,8 +9,8 @@ ghost use Rattle.std.specs.Prelude.{◌≡◌, ◌≤◌, ◌↔◌, [], Err, If
 
 use crate::leaving::played_text;
 use cmwq_actors::{Enactment, Ending, Gate, enact};
-use cmwq_engine::Entry;
 use cmwq_core::Core;
+use cmwq_engine::Entry;
 use cmwq_streams::{PlayError, Sink, put_all};
 use cmwq_table::Machine;
 use cmwq_types::{Instr, NoMemory, Scenario};
