@@ -3,3 +3,4 @@ pub mod FoundLemmas
 pub mod KeptLemmas
 pub mod LayoutLemmas
 pub mod StaffLemmas
+pub mod TickLemmas

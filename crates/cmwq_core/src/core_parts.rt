@@ -4,7 +4,7 @@ ghost use Rattle.std.specs.Prelude.{◌≡◌};
 
 use crate::beginning::{copied_flushes, declared_max};
 use crate::looking::{idle_workers, pending_works, running_works};
-use crate::moving::{listed_pool, with, with_some, without};
+use crate::moving::{listed_pool, unless_still, with, with_some, without};
 use cmwq_idle::IdleWorkers;
 use cmwq_parts::{Parts, PoolSet};
 use cmwq_queued::{MAX_POOLS, QueuedWorks};
@@ -344,8 +344,18 @@ impl Parts for CoreParts {
     }
 
     fn tick(&mut self) {
+        let still = self.running.still_for(1);
         self.running.tick();
-        self.moving = PoolSet::all();
+        self.moving = unless_still(self.moving, still);
+    }
+
+    fn pass(&mut self, most: u32) -> u32 {
+        if self.moving.first().is_some() {
+            return 0;
+        }
+        let until_due = self.until_due(most);
+        let still = self.running.still_for(until_due);
+        self.running.pass(still)
     }
 
     fn set_depth(&mut self, w: usize, depth: u16) {
@@ -371,5 +381,21 @@ impl Parts for CoreParts {
 
     fn spend(&mut self, count: u32) {
         self.spent += count;
+    }
+}
+
+impl CoreParts {
+    ghost use Rattle.cmwq_queued.specs.QueuedContents.{next_due};
+    ghost use Rattle.std.specs.Prelude.{◌-◌, ◌≤◌, IfSome};
+
+    /// For how many ticks, at most so many, no timer is due.
+    fn until_due(&self, most: u32) -> u32
+        ensures few { result ≤ most }
+        ensures due { IfSome (next_due self.now.scenario self.now.state.pending) (λ due. result ≤ due - self.now.state.time) }
+    {
+        match self.queued.next_due() {
+            None => most,
+            Some(due) => due.saturating_sub(self.running.time()).min(u64::from(most)) as u32,
+        }
     }
 }

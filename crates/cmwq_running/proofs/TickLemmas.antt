@@ -19,7 +19,8 @@ use Rattle.cmwq_phases.specs.declared.run.Phase.TheVariants.{Ready, Held, Burnin
 use Rattle.cmwq_phases.specs.declared.run.Run.{Run}
 use Rattle.cmwq_running.specs.Heads.{AreHeaded, AreKept, AreOnTime, AreTimely, GoIn, HaveHeads, IsGoing, IsHeading, IsOnTime, NoneEndsBefore, first_awake, may_burn}
 use Rattle.cmwq_running.specs.RunningContents.{RunningContents, seen}
-use Rattle.cmwq_running.specs.Ticks.{HasRunning, MoveAlike, ticks}
+use Rattle.cmwq_parts.specs.SettledTicks.{ticks}
+use Rattle.cmwq_running.specs.Ticks.{HasRunning, MoveAlike}
 use Rattle.cmwq_running.proofs.ShownLemmas.{first_runnable_is, first_slept_is, has_free_rescuer_is, may_start_is, ready_head_is, runs_is}
 
 -- who has ticks left burns just where the table says so

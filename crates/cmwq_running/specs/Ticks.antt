@@ -1,15 +1,10 @@
 -- Ticks, and what stays the same as long as no burn or sleep ends.
-use Rattle.std.specs.Prelude.{◌≡◌, ℕ, zero, suc}
+use Rattle.std.specs.Prelude.{◌≡◌, ℕ}
 use Rattle.cmwq_types.specs.Contents.{ScenarioContents}
 use Rattle.cmwq_table.specs.Counts.{first_slept, ready_head}
-use Rattle.cmwq_table.specs.Moves.{first_moving, next_move, tick}
+use Rattle.cmwq_table.specs.Moves.{first_moving, next_move}
 use Rattle.cmwq_table.specs.State.{State}
 use Rattle.cmwq_running.specs.RunningContents.{RunningContents}
-
--- the state after so many ticks
-abbrev pub ticks : ScenarioContents → State → ℕ → State
-ticks S s zero = s
-ticks S s (suc count) = ticks S (tick S s) count
 
 -- a state of the table that has this time and these running works, whatever else it has
 pub record HasRunning (m : RunningContents) (s : State) : Type 0 where

@@ -1,7 +1,8 @@
 //! The running works and the time.
+ghost use Rattle.cmwq_parts.specs.SettledTicks.{ticks};
 ghost use Rattle.cmwq_phased.specs.declared.pools.TheConstants.{MAX_POOLS};
 ghost use Rattle.cmwq_running.specs.RunningContents.{state_of, woken_run};
-ghost use Rattle.cmwq_running.specs.Ticks.{HasRunning, MoveAlike, ticks};
+ghost use Rattle.cmwq_running.specs.Ticks.{HasRunning, MoveAlike};
 ghost use Rattle.cmwq_table.specs.Counts.{burns, first_slept, has_free_rescuer, may_start, ready_head, runs};
 ghost use Rattle.cmwq_table.specs.Moves.{begun, burned};
 ghost use Rattle.cmwq_table.specs.State.{State, running_at};
@@ -213,6 +214,14 @@ impl RunningWorks {
         let RunningWorks { time, works } = self;
         *time += 1;
         end_by(works, *time);
+    }
+
+    /// For how many ticks, at most so many, no burn and no sleep ends.
+    pub fn still_for(&self, most: u32) -> u32
+        ensures few { result ≤ most }
+        ensures alike { (s : State) → HasRunning self.now s → (later : ℕ) → later ≤ result → MoveAlike self.now.scenario s (ticks self.now.scenario s later) }
+    {
+        ticks_to_end(&self.works, self.time, most.saturating_add(1)).saturating_sub(1)
     }
 
     /// Lets ticks pass, at most so many, until a burn or a sleep ends, and answers how many. Before each of them each pool has the next move that
