@@ -44,11 +44,10 @@ impl Line<'_> {
         self
     }
 
-    /// Words whose length isn't known here.
+    /// Takes so many bytes away from the line's end.
     #[inline]
-    pub fn words(mut self, words: &[u8]) -> Self {
-        self.room[self.at..self.at + words.len()].copy_from_slice(words);
-        self.at += words.len();
+    pub fn cut(mut self, bytes: u8) -> Self {
+        self.at -= bytes as usize;
         self
     }
 
@@ -86,16 +85,29 @@ impl Lines {
             short.len = len as u8 + 1;
         }
         let mut lines = Lines { output, time: 0, time_text: Short { bytes: [0; 16], len: 0 }, names };
-        lines.show(0);
+        lines.show_anew(0);
         lines
     }
 
-    /// Makes the text of a time.
+    /// Makes the text of a time. Where only its last digit is another than before, only that is changed.
     fn show(&mut self, time: u64) {
+        let last = &mut self.time_text.bytes[self.time_text.len as usize % 16 - 2];
+        let digit = u64::from(*last) + (time - self.time);
+        if digit <= b'9'.into() {
+            *last = digit as u8;
+            self.time = time;
+        } else {
+            self.show_anew(time);
+        }
+    }
+
+    fn show_anew(&mut self, time: u64) {
+        let mut text = [b' '; 32];
+        let len = decimal::put(&mut text, 0, time);
+        text[len] = b' ';
         self.time = time;
-        let at = decimal::put(&mut self.time_text.bytes, 0, time);
-        self.time_text.bytes[at] = b' ';
-        self.time_text.len = at as u8 + 1;
+        self.time_text.bytes.copy_from_slice(&text[..16]);
+        self.time_text.len = len as u8 + 1;
     }
 
     /// Writes a line that begins with this time.

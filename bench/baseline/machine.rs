@@ -47,40 +47,27 @@ pub struct Work {
     pub running_born: u64,
     /// The stamp of its running half.
     pub stamp: u64,
-    /// Which operation comes next.
+    /// Which operation comes next, among those of all works.
     pub pc: u32,
-    /// Where its body begins.
-    pub body: u32,
     /// How much more often it was disabled than enabled.
     pub depth: u16,
     /// Where it runs.
     pub pool: u8,
     pub worker: u8,
-    pub queue: u8,
-    /// Its pool on CPU 0, and how many pools further that on the next CPU is.
-    first_pool: u8,
-    pools_apart: u8,
-    /// Whether it counts for the concurrency level of its pool while it is runnable.
-    pub is_counted: bool,
 }
 
 impl Work {
-    /// A work of no scenario.
-    const NONE: Work = Work {
+    /// A work that does nothing.
+    const IDLE: Work = Work {
         place: Place::Idle,
         run: Run::Still,
         pending_born: 0,
         running_born: 0,
         stamp: 0,
         pc: 0,
-        body: 0,
         depth: 0,
         pool: 0,
         worker: 0,
-        queue: 0,
-        first_pool: 0,
-        pools_apart: 0,
-        is_counted: false,
     };
 
     /// Whether it runs.
@@ -100,12 +87,19 @@ impl Work {
     pub fn is_placed(&self) -> bool {
         matches!(self.place, Place::Inactive(_) | Place::Listed(_) | Place::Deferred(_))
     }
+}
 
-    /// The pool where it is placed from a CPU: that where it runs, else that of its queue.
-    #[inline]
-    pub fn pool_from(&self, cpu: u8) -> u8 {
-        if self.runs() { self.pool } else { self.first_pool + self.pools_apart * cpu }
-    }
+/// What stays as it is of a work.
+#[derive(Clone, Copy)]
+pub struct Role {
+    /// Where its body begins.
+    pub body: u32,
+    pub queue: u8,
+    /// Its pool on CPU 0, and how many pools further that on the next CPU is.
+    first_pool: u8,
+    pools_apart: u8,
+    /// Whether it counts for the concurrency level of its pool while it is runnable.
+    pub is_counted: bool,
 }
 
 /// A queue.
@@ -150,7 +144,8 @@ pub struct Machine<'s> {
     pub scenario: &'s Scenario,
     pub lines: Lines,
     pub time: u64,
-    pub spent: u32,
+    /// How many instructions can still be accepted, questions aside.
+    pub steps_left: u32,
     pub frozen: bool,
     pub pressed: bool,
     /// The next stamp.
@@ -159,18 +154,20 @@ pub struct Machine<'s> {
     pub mask: u64,
     /// The number of the first unbound pool.
     pub unbound: u8,
-    pub works: Box<[Work; WORKS]>,
+    pub works: [Work; WORKS],
+    pub roles: [Role; WORKS],
     pub queues: [Queue; QUEUES],
-    pub pools: Box<[Pool; POOLS]>,
+    pub pools: [Pool; POOLS],
     /// Of the unbound pools the runnable works that have nothing left to burn.
     pub ready: [Stamps; 2],
     /// Of each queue in each pool how many of its works are active.
-    active: Box<[[u16; POOLS]; QUEUES]>,
+    active: [[u16; POOLS]; QUEUES],
     /// The worklists of the pools, and behind these the inactive works of each queue in each pool.
     pub lists: Lists,
-    pub timers: Heap,
+    /// Delayed works, by due time and stamp.
+    pub timers: Heap<u128>,
     /// Those that burn or sleep, by the times at which that ends.
-    pub alarms: Heap,
+    pub alarms: Heap<u64>,
     /// How many works of freezable queues are active.
     pub busy: u32,
     pub flushes: Vec<Flush>,
@@ -185,18 +182,20 @@ fn inactive_list(queue: u8, pool: u8) -> usize {
     POOLS + queue as usize * POOLS + pool as usize
 }
 
-fn new_works(scenario: &Scenario) -> Box<[Work; WORKS]> {
-    let mut works = Box::new([Work::NONE; WORKS]);
-    for (work, declared) in works.iter_mut().zip(&scenario.works) {
-        let flags = scenario.queues[declared.queue as usize].flags;
+fn roles_of(scenario: &Scenario) -> [Role; WORKS] {
+    let mut roles = [Role { body: 0, queue: 0, first_pool: 0, pools_apart: 0, is_counted: false }; WORKS];
+    for (role, work) in roles.iter_mut().zip(&scenario.works) {
+        let flags = scenario.queues[work.queue as usize].flags;
         let is_unbound = flags.has(Flags::UNBOUND.with(Flags::ORDERED));
-        work.body = declared.body;
-        work.queue = declared.queue;
-        work.first_pool = if is_unbound { 2 * scenario.cpus } else { 0 } + u8::from(flags.has(Flags::HIGHPRI));
-        work.pools_apart = if is_unbound { 0 } else { 2 };
-        work.is_counted = !is_unbound && !flags.has(Flags::CPU_INTENSIVE);
+        *role = Role {
+            body: work.body,
+            queue: work.queue,
+            first_pool: if is_unbound { 2 * scenario.cpus } else { 0 } + u8::from(flags.has(Flags::HIGHPRI)),
+            pools_apart: if is_unbound { 0 } else { 2 },
+            is_counted: !is_unbound && !flags.has(Flags::CPU_INTENSIVE),
+        };
     }
-    works
+    roles
 }
 
 fn new_queues(scenario: &Scenario) -> [Queue; QUEUES] {
@@ -223,17 +222,18 @@ impl<'s> Machine<'s> {
             scenario,
             lines,
             time: 0,
-            spent: 0,
+            steps_left: scenario.steps,
             frozen: false,
             pressed: false,
             next: 0,
             mask: 0,
             unbound: 2 * scenario.cpus,
-            works: new_works(scenario),
+            works: [Work::IDLE; WORKS],
+            roles: roles_of(scenario),
             queues: new_queues(scenario),
-            pools: Box::new([pool; POOLS]),
+            pools: [pool; POOLS],
             ready: [Stamps::new(), Stamps::new()],
-            active: Box::new([[0; POOLS]; QUEUES]),
+            active: [[0; POOLS]; QUEUES],
             lists: Lists::new(POOLS + POOLS * scenario.queues.len()),
             timers: Heap::new(),
             alarms: Heap::new(),
@@ -293,8 +293,10 @@ impl<'s> Machine<'s> {
     /// Places a work that doesn't pend, from a CPU.
     pub fn place(&mut self, number: u8, cpu: u8) {
         let born = self.stamp();
+        let Role { queue, first_pool, pools_apart, .. } = self.roles[number as usize];
         let work = &mut self.works[number as usize];
-        let (queue, pool) = (work.queue, work.pool_from(cpu));
+        // It goes where it runs, else to its queue's pool.
+        let pool = if work.runs() { work.pool } else { first_pool + pools_apart * cpu };
         work.pending_born = born;
         if self.has_room(queue, pool) {
             self.enlist(number, queue, pool);
@@ -340,9 +342,8 @@ impl<'s> Machine<'s> {
 
     /// Takes a work off, so that it doesn't pend any more, and fills what it leaves. Says whether it was pending.
     pub fn take_off(&mut self, number: u8) -> bool {
-        let work = &mut self.works[number as usize];
-        let queue = work.queue;
-        match std::mem::replace(&mut work.place, Place::Idle) {
+        let queue = self.roles[number as usize].queue;
+        match std::mem::replace(&mut self.works[number as usize].place, Place::Idle) {
             Place::Idle => return false,
             Place::Timer { .. } => self.timers.take(number),
             // Where a work is inactive there is no room, and then there is nothing to fill.
@@ -367,27 +368,24 @@ impl<'s> Machine<'s> {
         self.place(work, cpu);
     }
 
-    /// The worker of the pool that takes the next work, if there is one: that which became idle last, else a new one.
-    #[inline]
-    pub fn take_worker(&mut self, pool: u8) -> Option<u8> {
-        let most = self.scenario.workers;
-        let pool = &mut self.pools[pool as usize];
-        if pool.idle_count > 0 {
-            pool.idle_count -= 1;
-            return Some(pool.idle[pool.idle_count as usize % WORKERS]);
-        }
-        if self.pressed || pool.made == most {
-            return None;
-        }
-        pool.made += 1;
-        Some(pool.made - 1)
-    }
-
     /// Whether the pool has a worker that could take a work.
     #[inline]
     pub fn has_worker(&self, pool: u8) -> bool {
         let pool = &self.pools[pool as usize];
         pool.idle_count > 0 || !self.pressed && pool.made < self.scenario.workers
+    }
+
+    /// The worker of the pool that takes the next work: that which became idle last, else a new one.
+    #[inline]
+    pub fn take_worker(&mut self, pool: u8) -> u8 {
+        let pool = &mut self.pools[pool as usize];
+        if pool.idle_count > 0 {
+            pool.idle_count -= 1;
+            pool.idle[pool.idle_count as usize % WORKERS]
+        } else {
+            pool.made += 1;
+            pool.made - 1
+        }
     }
 
     /// The worker of the pool becomes idle.

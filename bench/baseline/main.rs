@@ -64,7 +64,7 @@ fn bytes_of(path: &str) -> io::Result<Vec<u8>> {
 
 fn read(path: &str) -> Result<Scenario, Failure> {
     let text = bytes_of(path).map_err(|error| (3, format!("{path}: {error}")))?;
-    parse::parse(text).map_err(|fault| (1, format!("line {}: {}", fault.line, fault.why)))
+    parse::parse(text).map_err(|(line, why)| (1, format!("line {line}: {why:?}")))
 }
 
 fn finished(output: Output) -> Result<(), Failure> {

@@ -1,6 +1,22 @@
 //! What happens by itself: moves of pools, timers that fire, and ticks.
+use crate::heap::by_time;
 use crate::machine::{Machine, Place, RESCUER, Run};
 use crate::scenario::{Flags, Op};
+
+/// A move of a pool, with the work that it moves.
+#[derive(Clone, Copy)]
+pub enum Move {
+    /// A head that has nothing left to burn goes on to its next operation.
+    Advance(u8),
+    /// A work that has slept becomes runnable.
+    Wake(u8),
+    /// The first listed work, which doesn't run, begins on a worker.
+    Start(u8),
+    /// The first listed work still runs: it waits there.
+    Defer(u8),
+    /// A listed work begins on its queue's rescuer.
+    Rescue(u8),
+}
 
 impl Machine<'_> {
     /// Whether the pool is an unbound one.
@@ -13,30 +29,25 @@ impl Machine<'_> {
     #[inline]
     pub fn go_on(&mut self) {
         if self.timers.time() <= self.time {
-            return self.fire_first();
+            self.fire_first();
+        } else if let Some((pool, first)) = self.first_move() {
+            self.make(pool, first);
+        } else {
+            self.tick();
         }
-        while self.mask != 0 {
-            let pool = self.mask.trailing_zeros() as u8;
-            if self.move_pool(pool) {
-                return;
-            }
-            self.mask &= self.mask - 1;
-        }
-        self.tick();
     }
 
-    /// Whether something can happen without time.
-    pub fn is_unsettled(&mut self) -> bool {
-        if self.timers.time() <= self.time {
-            return true;
-        }
+    /// The move of the least pool that has one. Pools that have none are marked no more.
+    #[inline]
+    pub fn first_move(&mut self) -> Option<(u8, Move)> {
         while self.mask != 0 {
-            if self.has_move(self.mask.trailing_zeros() as u8) {
-                return true;
+            let pool = self.mask.trailing_zeros() as u8;
+            if let Some(first) = self.next_move(pool) {
+                return Some((pool, first));
             }
             self.mask &= self.mask - 1;
         }
-        false
+        None
     }
 
     /// Fires the first timer, which has run out.
@@ -63,8 +74,8 @@ impl Machine<'_> {
         self.alarms.pop();
         let work = &mut self.works[number as usize];
         let (pool, stamp) = (work.pool, work.stamp);
-        if let Run::Asleep { .. } = work.run {
-            self.pools[pool as usize].slept.push(number);
+        if let Run::Asleep { until } = work.run {
+            self.end_sleep(pool, number, until);
         } else {
             work.run = Run::Ready;
             if self.is_unbound(pool) {
@@ -72,6 +83,18 @@ impl Machine<'_> {
             }
         }
         self.mark(pool);
+    }
+
+    /// A sleeper has slept. Among those that have slept up to the same time the order is that of their stamps.
+    #[inline]
+    fn end_sleep(&mut self, pool: u8, number: u8, until: u64) {
+        let works = &self.works;
+        let stamp = works[number as usize].stamp;
+        let comes_after = |other: u8| {
+            let other = &works[other as usize];
+            other.stamp > stamp && matches!(other.run, Run::Asleep { until: its } if its == until)
+        };
+        self.pools[pool as usize].slept.insert(number, comes_after);
     }
 
     /// The first head of the pool that has nothing left to burn.
@@ -90,59 +113,49 @@ impl Machine<'_> {
         self.pools[pool as usize].counted == 0
     }
 
-    /// Whether the pool has a move.
-    pub fn has_move(&self, pool: u8) -> bool {
-        if self.ready_head(pool).is_some() || !self.pools[pool as usize].slept.is_empty() {
-            return true;
-        }
-        if !self.may_start(pool) {
-            return false;
-        }
-        match self.lists.first(pool as usize) {
-            None => false,
-            Some(work) => self.works[work as usize].runs() || self.has_worker(pool) || self.first_rescued(pool).is_some(),
-        }
-    }
-
-    /// The pool makes its move, if it has one.
+    /// The next move of the pool.
     #[inline]
-    pub fn move_pool(&mut self, pool: u8) -> bool {
+    pub fn next_move(&self, pool: u8) -> Option<Move> {
         if let Some(work) = self.ready_head(pool) {
-            self.advance(pool, work);
-            return true;
+            return Some(Move::Advance(work));
         }
         if let Some(work) = self.pools[pool as usize].slept.first() {
-            self.wake(pool, work);
-            return true;
+            return Some(Move::Wake(work));
         }
         if !self.may_start(pool) {
-            return false;
+            return None;
         }
-        match self.lists.first(pool as usize) {
-            None => false,
-            Some(work) => self.start_first(pool, work),
+        let work = self.lists.first(pool as usize)?;
+        if self.works[work as usize].runs() {
+            Some(Move::Defer(work))
+        } else if self.has_worker(pool) {
+            Some(Move::Start(work))
+        } else {
+            self.first_rescued(pool).map(Move::Rescue)
         }
     }
 
-    /// The first work of the pool's worklist is taken from it, or another one by a rescuer.
-    fn start_first(&mut self, pool: u8, work: u8) -> bool {
-        if self.works[work as usize].runs() {
-            self.lists.take(work);
-            self.works[work as usize].place = Place::Deferred(pool);
-            self.lines.write(self.time, |line| line.name(work).text(b"defers\n"));
-            return true;
+    /// Makes the next move of the pool.
+    pub fn make(&mut self, pool: u8, next: Move) {
+        match next {
+            Move::Advance(work) => self.advance(pool, work),
+            Move::Wake(work) => self.wake(pool, work),
+            Move::Start(work) => {
+                let worker = self.take_worker(pool);
+                self.start(pool, work, worker);
+                self.lines.write(self.time, |line| line.name(work).text(b"starts\n"));
+            }
+            Move::Defer(work) => {
+                self.lists.take(work);
+                self.works[work as usize].place = Place::Deferred(pool);
+                self.lines.write(self.time, |line| line.name(work).text(b"defers\n"));
+            }
+            Move::Rescue(work) => {
+                self.queues[self.roles[work as usize].queue as usize].has_free_rescuer = false;
+                self.start(pool, work, RESCUER);
+                self.lines.write(self.time, |line| line.name(work).text(b"starts on rescuer\n"));
+            }
         }
-        if let Some(worker) = self.take_worker(pool) {
-            self.start(pool, work, worker);
-            self.lines.write(self.time, |line| line.name(work).text(b"starts\n"));
-            return true;
-        }
-        let Some(rescued) = self.first_rescued(pool) else { return false };
-        let queue = self.works[rescued as usize].queue;
-        self.queues[queue as usize].has_free_rescuer = false;
-        self.start(pool, rescued, RESCUER);
-        self.lines.write(self.time, |line| line.name(rescued).text(b"starts on rescuer\n"));
-        true
     }
 
     /// The first listed work of the pool that doesn't run and whose queue's rescuer is free.
@@ -152,8 +165,8 @@ impl Machine<'_> {
         }
         let mut listed = self.lists.first(pool as usize);
         while let Some(number) = listed {
-            let work = &self.works[number as usize];
-            if self.queues[work.queue as usize].has_free_rescuer && !work.runs() {
+            let queue = self.roles[number as usize].queue;
+            if self.queues[queue as usize].has_free_rescuer && !self.works[number as usize].runs() {
                 return listed;
             }
             listed = self.lists.behind(number);
@@ -181,21 +194,21 @@ impl Machine<'_> {
         work.run = Run::Ready;
         work.running_born = work.pending_born;
         work.stamp = stamp;
-        work.pc = work.body;
+        work.pc = self.roles[number as usize].body;
     }
 
     /// A work that is ready, with a fresh stamp, goes behind the runnable ones of the pool.
     #[inline]
     fn become_runnable(&mut self, pool: u8, number: u8) {
-        let work = &self.works[number as usize];
         if self.is_unbound(pool) {
-            self.ready[(pool - self.unbound) as usize].add(work.stamp, number);
+            let stamp = self.works[number as usize].stamp;
+            self.ready[(pool - self.unbound) as usize].add(stamp, number);
             return;
         }
         let kept = &mut self.pools[pool as usize];
         let is_first = kept.runnable.is_empty();
         kept.runnable.push(number);
-        kept.counted += u8::from(work.is_counted);
+        kept.counted += u8::from(self.roles[number as usize].is_counted);
         if is_first && pool % 2 == 1 {
             self.pause(pool - 1);
         }
@@ -210,7 +223,7 @@ impl Machine<'_> {
         }
         let kept = &mut self.pools[pool as usize];
         kept.runnable.pop();
-        kept.counted -= u8::from(self.works[number as usize].is_counted);
+        kept.counted -= u8::from(self.roles[number as usize].is_counted);
         if kept.runnable.is_empty() && pool % 2 == 1 {
             self.resume(pool - 1);
         }
@@ -233,7 +246,7 @@ impl Machine<'_> {
         if let Run::Paused { left } = work.run {
             let end = self.time + left;
             work.run = Run::Burning { end };
-            self.alarms.add(end, work.stamp, head);
+            self.alarms.add(by_time(end, head));
         }
     }
 
@@ -279,7 +292,7 @@ impl Machine<'_> {
         let end = self.time + u64::from(ticks);
         let work = &mut self.works[number as usize];
         work.run = Run::Burning { end };
-        self.alarms.add(end, work.stamp, number);
+        self.alarms.add(by_time(end, number));
     }
 
     /// A head goes to sleep.
@@ -289,7 +302,7 @@ impl Machine<'_> {
         let until = self.time + u64::from(ticks);
         let work = &mut self.works[number as usize];
         work.run = Run::Asleep { until };
-        self.alarms.add(until, work.stamp, number);
+        self.alarms.add(by_time(until, number));
     }
 
     /// A body queues a work.
@@ -307,8 +320,9 @@ impl Machine<'_> {
 
     /// A work is at the end of its body.
     fn finish(&mut self, pool: u8, number: u8) {
+        let queue = self.roles[number as usize].queue;
         let work = &self.works[number as usize];
-        let (queue, worker) = (work.queue, work.worker);
+        let worker = work.worker;
         let is_deferred = matches!(work.place, Place::Deferred(_));
         self.leave_runnable(pool, number);
         self.discount_active(queue, pool);

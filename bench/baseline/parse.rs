@@ -1,7 +1,7 @@
 //! What a scenario's text spells.
 use crate::names::Names;
 use crate::scenario::{ACTORS, Actor, Flags, Instr, Line, Name, Op, QUEUES, Queue, Scenario, WORKERS, WORKS, Work};
-use crate::words::{Fault, PADDING, Word, Words};
+use crate::words::{PADDING, Word, Words};
 
 /// The most bytes of a text.
 const TEXT: usize = 4_194_304;
@@ -66,17 +66,39 @@ mod first {
 const MAX: Word = Word::of("max");
 const TIMES: Word = Word::of("*");
 
-/// The scenario that a text spells, or what is wrong with the text.
-pub fn parse(mut text: Vec<u8>) -> Result<Scenario, Fault> {
+/// What is wrong with a text.
+#[derive(Clone, Copy, Debug)]
+pub enum Why {
+    TooLong,
+    NoUtf8,
+    /// The line can't stand there, or none can that begins so.
+    BadLine,
+    MissingWord,
+    BadName,
+    BadNumber,
+    BadFlag,
+    OutOfRange,
+    Duplicate,
+    Unknown,
+    ExtraWord,
+    TooMany,
+}
+
+/// The scenario that a text spells, or what is wrong with the text, and in which line, from 1; line 0 is the text as a whole.
+pub fn parse(mut text: Vec<u8>) -> Result<Scenario, (usize, Why)> {
     if text.len() > TEXT {
-        return Err(Fault { line: 0, why: "the text is too long" });
+        return Err((0, Why::TooLong));
     }
     if let Err(error) = std::str::from_utf8(&text) {
         let line = 1 + text[..error.valid_up_to()].iter().filter(|&&byte| byte == b'\n').count();
-        return Err(Fault { line, why: "no UTF-8" });
+        return Err((line, Why::NoUtf8));
     }
     text.extend_from_slice(&[b'\n'; PADDING]);
-    Parser::new(&text).scenario()
+    let mut parser = Parser::new(&text);
+    match parser.read() {
+        Ok(()) => Ok(parser.scenario),
+        Err(why) => Err((parser.words.line(), why)),
+    }
 }
 
 /// What was read so far.
@@ -102,203 +124,205 @@ impl<'t> Parser<'t> {
         Parser { words: Words::new(text), queue_names: Names::new(), work_names: Names::new(), scenario }
     }
 
-    fn scenario(mut self) -> Result<Scenario, Fault> {
+    fn read(&mut self) -> Result<(), Why> {
         self.scenario.cpus = self.head(first::CPUS, 1, 16)? as u8;
         self.scenario.workers = self.head(first::WORKERS, 1, WORKERS as u32)? as u8;
         self.scenario.steps = self.head(first::STEPS, 1, u32::MAX)?;
         self.scenario.flushes = self.head(first::FLUSHES, 0, 1024)? as u16;
-        let mut word = self.words.begin()?;
-        while word == Some(first::QUEUE) {
+        let mut word = self.words.begin();
+        while word == first::QUEUE {
             self.queue()?;
-            word = self.words.begin()?;
+            word = self.words.begin();
         }
-        while word == Some(first::WORK) {
+        while word == first::WORK {
             self.work()?;
-            word = self.words.begin()?;
+            word = self.words.begin();
         }
         for work in 0..self.scenario.works.len() {
             self.body(work, word)?;
-            word = self.words.begin()?;
+            word = self.words.begin();
         }
-        self.actors(word)?;
-        Ok(self.scenario)
+        self.actors(word)
     }
 
     /// A line of the head: its word, and a number from `least` to `most`.
-    fn head(&mut self, first: Word, least: u32, most: u32) -> Result<u32, Fault> {
-        if self.words.begin()? != Some(first) {
-            return self.words.fault("the next line of the head is missing");
+    fn head(&mut self, first: Word, least: u32, most: u32) -> Result<u32, Why> {
+        if self.words.begin() != first {
+            return Err(Why::BadLine);
         }
         let number = self.number(least, most)?;
-        self.words.end()?;
+        self.end()?;
         Ok(number)
     }
 
+    /// Goes to the next line, if this one has no further word.
     #[inline]
-    fn needed(&mut self) -> Result<Word, Fault> {
-        match self.words.word()? {
-            Some(word) => Ok(word),
-            None => self.words.fault("a word is missing"),
-        }
+    fn end(&mut self) -> Result<(), Why> {
+        if self.words.end() { Ok(()) } else { Err(Why::ExtraWord) }
     }
 
     #[inline]
-    fn number(&mut self, least: u32, most: u32) -> Result<u32, Fault> {
-        match self.needed()?.number() {
+    fn number(&mut self, least: u32, most: u32) -> Result<u32, Why> {
+        match self.words.word().number() {
             Some(number) if u64::from(least) <= number && number <= u64::from(most) => Ok(number as u32),
-            Some(_) => self.words.fault("a number out of its limits"),
-            None => self.words.fault("no number"),
+            Some(_) => Err(Why::OutOfRange),
+            None => Err(Why::BadNumber),
         }
     }
 
     #[inline]
-    fn byte(&mut self) -> Result<u8, Fault> {
+    fn byte(&mut self) -> Result<u8, Why> {
         Ok(self.number(0, 255)? as u8)
     }
 
-    fn new_name(&mut self) -> Result<Word, Fault> {
-        let name = self.needed()?;
-        if name.is_name() { Ok(name) } else { self.words.fault("no name") }
+    fn new_name(&mut self) -> Result<Word, Why> {
+        match self.words.word() {
+            Word::NONE => Err(Why::MissingWord),
+            name if name.is_name() => Ok(name),
+            _ => Err(Why::BadName),
+        }
     }
 
     /// The number of a declared work.
     #[inline]
-    fn declared_work(&mut self) -> Result<u8, Fault> {
-        let name = self.needed()?;
+    fn declared_work(&mut self) -> Result<u8, Why> {
+        let name = self.words.word();
         match self.work_names.find(name) {
             Some(number) => Ok(number as u8),
-            None => self.words.fault("no such work"),
+            None => Err(Why::Unknown),
         }
     }
 
     /// The number of a declared queue.
     #[inline]
-    fn declared_queue(&mut self) -> Result<u8, Fault> {
-        let name = self.needed()?;
+    fn declared_queue(&mut self) -> Result<u8, Why> {
+        let name = self.words.word();
         match self.queue_names.find(name) {
             Some(number) => Ok(number as u8),
-            None => self.words.fault("no such queue"),
+            None => Err(Why::Unknown),
         }
     }
 
     /// What stands behind the word `queue` of a declaration.
-    fn queue(&mut self) -> Result<(), Fault> {
+    fn queue(&mut self) -> Result<(), Why> {
         let name = self.new_name()?;
         if !self.queue_names.add(name, self.scenario.queues.len()) {
-            return self.words.fault("the name was there");
+            return Err(Why::Duplicate);
         }
-        if self.needed()? != MAX {
-            return self.words.fault("`max` is missing");
+        if self.words.word() != MAX {
+            return Err(Why::MissingWord);
         }
         let max = self.number(1, 512)? as u16;
         let flags = self.flags()?;
-        self.words.end()?;
+        self.end()?;
         if flags.has(Flags::ORDERED) && max != 1 {
-            return self.words.fault("an ordered queue of another `max` than 1");
+            return Err(Why::OutOfRange);
         }
         if self.scenario.queues.len() == QUEUES {
-            return self.words.fault("too many queues");
+            return Err(Why::TooMany);
         }
         self.scenario.queues.push(Queue { name: Name(name.0), max, flags });
         Ok(())
     }
 
-    fn flags(&mut self) -> Result<Flags, Fault> {
+    fn flags(&mut self) -> Result<Flags, Why> {
         let mut flags = Flags::default();
-        while let Some(word) = self.words.word()? {
+        loop {
+            let word = self.words.word();
+            if word == Word::NONE {
+                return Ok(flags);
+            }
             match FLAGS.iter().find(|(it, _)| *it == word) {
                 Some((_, flag)) if !flags.has(*flag) => flags = flags.with(*flag),
-                Some(_) => return self.words.fault("the flag was there"),
-                None => return self.words.fault("no flag"),
+                Some(_) => return Err(Why::Duplicate),
+                None => return Err(Why::BadFlag),
             }
         }
-        Ok(flags)
     }
 
     /// What stands behind the word `work`.
-    fn work(&mut self) -> Result<(), Fault> {
+    fn work(&mut self) -> Result<(), Why> {
         if self.scenario.works.len() == WORKS {
-            return self.words.fault("too many works");
+            return Err(Why::TooMany);
         }
         let name = self.new_name()?;
         if !self.work_names.add(name, self.scenario.works.len()) {
-            return self.words.fault("the name was there");
+            return Err(Why::Duplicate);
         }
         let queue = self.declared_queue()?;
-        self.words.end()?;
+        self.end()?;
         self.scenario.works.push(Work { name: Name(name.0), queue, body: 0 });
         Ok(())
     }
 
     /// The body of this work, of which the first word was read.
-    fn body(&mut self, work: usize, word: Option<Word>) -> Result<(), Fault> {
-        if word != Some(first::BODY) || self.needed()?.0 != self.scenario.works[work].name.0 {
-            return self.words.fault("the body of the next work is missing");
+    fn body(&mut self, work: usize, word: Word) -> Result<(), Why> {
+        if word != first::BODY || self.words.word().0 != self.scenario.works[work].name.0 {
+            return Err(Why::BadLine);
         }
-        self.words.end()?;
+        self.end()?;
         let start = self.scenario.ops.len();
         self.scenario.works[work].body = start as u32;
         loop {
             let op = self.op()?;
-            self.words.end()?;
+            self.end()?;
             self.scenario.ops.push(op);
             if let Op::Finish = op {
                 return Ok(());
             }
             if self.scenario.ops.len() - start == OPS {
-                return self.words.fault("a body of too many operations");
+                return Err(Why::TooMany);
             }
         }
     }
 
-    fn op(&mut self) -> Result<Op, Fault> {
-        match self.words.begin()? {
-            Some(first::BURN) => Ok(Op::Burn(self.number(1, TICKS)?)),
-            Some(first::SLEEP) => Ok(Op::Sleep(self.number(1, TICKS)?)),
-            Some(first::QUEUE) => {
+    fn op(&mut self) -> Result<Op, Why> {
+        match self.words.begin() {
+            first::BURN => Ok(Op::Burn(self.number(1, TICKS)?)),
+            first::SLEEP => Ok(Op::Sleep(self.number(1, TICKS)?)),
+            first::QUEUE => {
                 let work = self.declared_work()?;
                 let cpu = self.number(0, u32::from(self.scenario.cpus) - 1)? as u8;
                 Ok(Op::Queue { work, cpu })
             }
-            Some(first::FINISH) => Ok(Op::Finish),
-            _ => self.words.fault("no operation"),
+            first::FINISH => Ok(Op::Finish),
+            _ => Err(Why::BadLine),
         }
     }
 
     /// The actors, of which the first word was read.
-    fn actors(&mut self, mut word: Option<Word>) -> Result<(), Fault> {
+    fn actors(&mut self, mut word: Word) -> Result<(), Why> {
         let mut names = Names::new();
-        while let Some(actor) = word {
-            if actor != first::ACTOR {
-                return self.words.fault("no actor's line");
+        while word != Word::NONE {
+            if word != first::ACTOR {
+                return Err(Why::BadLine);
             }
             let name = self.new_name()?;
             if !names.add(name, self.scenario.actors.len()) {
-                return self.words.fault("the name was there");
+                return Err(Why::Duplicate);
             }
-            self.words.end()?;
+            self.end()?;
             if self.scenario.actors.len() == ACTORS {
-                return self.words.fault("too many actors");
+                return Err(Why::TooMany);
             }
-            let (lines, next) = self.lines()?;
+            let mut lines = Vec::new();
+            word = self.lines(&mut lines)?;
             self.scenario.actors.push(Actor { name: Name(name.0), lines });
-            word = next;
         }
         Ok(())
     }
 
-    /// The lines of an actor, and the first word of what follows.
-    fn lines(&mut self) -> Result<(Vec<Line>, Option<Word>), Fault> {
-        let mut lines = Vec::new();
+    /// The lines of an actor. Gives the first word of what follows.
+    fn lines(&mut self, lines: &mut Vec<Line>) -> Result<Word, Why> {
         loop {
-            let word = match self.words.begin()? {
-                Some(word) if word != first::ACTOR => word,
-                end => return Ok((lines, end)),
-            };
+            let word = self.words.begin();
+            if word == first::ACTOR || word == Word::NONE {
+                return Ok(word);
+            }
             let instr = self.instr(word)?;
             let times = self.times()?;
             if lines.len() == LINES {
-                return self.words.fault("too many lines");
+                return Err(Why::TooMany);
             }
             lines.push(Line { instr, times });
         }
@@ -306,19 +330,19 @@ impl<'t> Parser<'t> {
 
     /// How often a line stands; goes to the next line.
     #[inline]
-    fn times(&mut self) -> Result<u32, Fault> {
-        let times = match self.words.word()? {
-            None => 1,
-            Some(TIMES) => self.number(1, 65_535)?,
-            Some(_) => return self.words.fault("a word too many"),
+    fn times(&mut self) -> Result<u32, Why> {
+        let times = match self.words.word() {
+            Word::NONE => 1,
+            TIMES => self.number(1, 65_535)?,
+            _ => return Err(Why::ExtraWord),
         };
-        self.words.end()?;
+        self.end()?;
         Ok(times)
     }
 
     /// The instruction that begins with this word.
     #[inline]
-    fn instr(&mut self, word: Word) -> Result<Instr, Fault> {
+    fn instr(&mut self, word: Word) -> Result<Instr, Why> {
         Ok(match word {
             first::QUEUE => Instr::Queue { work: self.declared_work()?, cpu: self.byte()? },
             first::DELAY => Instr::Delay { work: self.declared_work()?, cpu: self.byte()?, ticks: self.number(0, u32::MAX)? },
@@ -342,7 +366,7 @@ impl<'t> Parser<'t> {
             first::ENABLE => Instr::Enable(self.declared_work()?),
             first::PRESSURE => Instr::Pressure,
             first::RELIEF => Instr::Relief,
-            _ => return self.words.fault("no instruction"),
+            _ => return Err(Why::BadLine),
         })
     }
 }

@@ -1,10 +1,46 @@
 //! The instructions of an actor.
+use crate::heap::by_time_and_stamp;
 use crate::lines::Line;
 use crate::machine::{Flush, Machine, Place, RESCUER, Run};
 use crate::scenario::{self, Flags, Instr};
 
 /// Why an instruction was refused, as its line says it.
-type Refusal = &'static [u8];
+struct Why {
+    text: [u8; 24],
+    len: u8,
+}
+
+/// A refusal.
+type Refusal = &'static Why;
+
+impl Why {
+    const fn named(name: &str) -> Why {
+        let (mut text, mut at) = (*b"refused                 ", 8);
+        while at < 8 + name.len() {
+            text[at] = name.as_bytes()[at - 8];
+            at += 1;
+        }
+        text[at] = b'\n';
+        Why { text, len: at as u8 + 1 }
+    }
+}
+
+static NO_SUCH_CPU: Why = Why::named("NoSuchCpu");
+static NO_SUCH_POOL: Why = Why::named("NoSuchPool");
+static NO_SUCH_FLUSH: Why = Why::named("NoSuchFlush");
+static BAD_COUNT: Why = Why::named("BadCount");
+static SPENT: Why = Why::named("Spent");
+static TOO_MANY_FLUSHES: Why = Why::named("TooManyFlushes");
+static ORDERED: Why = Why::named("Ordered");
+static ALREADY_FROZEN: Why = Why::named("AlreadyFrozen");
+static NOT_FROZEN: Why = Why::named("NotFrozen");
+static NOTHING_TO_DO: Why = Why::named("NothingToDo");
+static UNSETTLED: Why = Why::named("Unsettled");
+static DISABLED: Why = Why::named("Disabled");
+static TOO_DEEP: Why = Why::named("TooDeep");
+static NOT_DISABLED: Why = Why::named("NotDisabled");
+static ALREADY_PRESSED: Why = Why::named("AlreadyPressed");
+static NOT_PRESSED: Why = Why::named("NotPressed");
 
 /// The most often that a work can be disabled.
 const MAX_DEPTH: u16 = 65_535;
@@ -12,40 +48,40 @@ const MAX_DEPTH: u16 = 65_535;
 impl Machine<'_> {
     /// Carries out an actor's line.
     pub fn perform(&mut self, line: &scenario::Line) {
-        for _ in 0..line.times {
-            self.issue(line.instr);
+        let times = line.times;
+        match line.instr {
+            Instr::Queue { work, cpu } => self.repeat(times, |it| it.queue_after(work, cpu, 0)),
+            Instr::Delay { work, cpu, ticks } => self.repeat(times, |it| it.queue_after(work, cpu, ticks)),
+            Instr::Mod { work, cpu, ticks } => self.repeat(times, |it| it.modify(work, cpu, ticks)),
+            Instr::Cancel(work) => self.repeat(times, |it| it.cancel(work)),
+            Instr::CancelSync(work) => self.repeat(times, |it| it.cancel_sync(work)),
+            Instr::Flush(work) => self.repeat(times, |it| it.flush(work)),
+            Instr::FlushDelayed(work) => self.repeat(times, |it| it.flush_delayed(work)),
+            Instr::FlushQueue(queue) => self.repeat(times, |it| it.flush_queue(queue)),
+            Instr::SetMax { queue, max } => self.repeat(times, |it| it.set_max(queue, max)),
+            Instr::Freeze => self.repeat(times, |it| it.freeze()),
+            Instr::Thaw => self.repeat(times, |it| it.thaw()),
+            Instr::Fire => self.repeat(times, |it| it.fire_due()),
+            Instr::Step(pool) => self.repeat(times, |it| it.step(pool)),
+            Instr::Tick => self.repeat(times, |it| it.tick_settled()),
+            Instr::Next => self.repeat(times, |it| it.next()),
+            Instr::Ask(flush) => self.repeat(times, |it| it.ask(flush)),
+            Instr::Busy => self.repeat(times, |it| it.answer(it.busy > 0)),
+            Instr::State(work) => self.repeat(times, |it| it.state(work)),
+            Instr::Disable(work) => self.repeat(times, |it| it.disable(work)),
+            Instr::Enable(work) => self.repeat(times, |it| it.enable(work)),
+            Instr::Pressure => self.repeat(times, |it| it.press(true)),
+            Instr::Relief => self.repeat(times, |it| it.press(false)),
         }
     }
 
-    /// Carries out an instruction, and writes the line of its reply.
+    /// Carries out an instruction so many times, one after another, and writes the line of each refusal.
     #[inline]
-    fn issue(&mut self, instr: Instr) {
-        let outcome = match instr {
-            Instr::Next => self.next(),
-            Instr::Ask(flush) => self.ask(flush),
-            Instr::Busy => self.answer(self.busy > 0),
-            Instr::State(work) => self.state(work),
-            Instr::Queue { work, cpu } => self.queue_after(work, cpu, 0),
-            Instr::Delay { work, cpu, ticks } => self.queue_after(work, cpu, ticks),
-            Instr::Mod { work, cpu, ticks } => self.modify(work, cpu, ticks),
-            Instr::Cancel(work) => self.cancel(work),
-            Instr::CancelSync(work) => self.cancel_sync(work),
-            Instr::Flush(work) => self.flush(work),
-            Instr::FlushDelayed(work) => self.flush_delayed(work),
-            Instr::FlushQueue(queue) => self.flush_queue(queue),
-            Instr::SetMax { queue, max } => self.set_max(queue, max),
-            Instr::Freeze => self.freeze(),
-            Instr::Thaw => self.thaw(),
-            Instr::Fire => self.fire_due(),
-            Instr::Step(pool) => self.step(pool),
-            Instr::Tick => self.tick_settled(),
-            Instr::Disable(work) => self.disable(work),
-            Instr::Enable(work) => self.enable(work),
-            Instr::Pressure => self.press(true),
-            Instr::Relief => self.press(false),
-        };
-        if let Err(refusal) = outcome {
-            self.lines.write(self.time, |line| line.text(b"refused ").words(refusal));
+    fn repeat(&mut self, times: u32, issue: impl Fn(&mut Self) -> Result<(), Refusal>) {
+        for _ in 0..times {
+            if let Err(Why { text, len }) = issue(self) {
+                self.lines.write(self.time, |line| line.text(text).cut(24 - len));
+            }
         }
     }
 
@@ -64,19 +100,19 @@ impl Machine<'_> {
 
     #[inline]
     fn judge_cpu(&self, cpu: u8) -> Result<(), Refusal> {
-        if cpu < self.scenario.cpus { Ok(()) } else { Err(b"NoSuchCpu\n") }
+        if cpu < self.scenario.cpus { Ok(()) } else { Err(&NO_SUCH_CPU) }
     }
 
     /// Refuses where the steps are spent.
     #[inline]
     fn judge_spent(&self) -> Result<(), Refusal> {
-        if self.spent < self.scenario.steps { Ok(()) } else { Err(b"Spent\n") }
+        if self.steps_left > 0 { Ok(()) } else { Err(&SPENT) }
     }
 
     /// Refuses where the steps are spent, or no further flush can be given.
     fn judge_flush(&self) -> Result<(), Refusal> {
         self.judge_spent()?;
-        if self.flushes.len() < self.scenario.flushes as usize { Ok(()) } else { Err(b"TooManyFlushes\n") }
+        if self.flushes.len() < self.scenario.flushes as usize { Ok(()) } else { Err(&TOO_MANY_FLUSHES) }
     }
 
     /// Refuses to queue a work on a CPU that isn't there, where the steps are spent, or where the work is disabled.
@@ -84,13 +120,13 @@ impl Machine<'_> {
     fn judge_queue(&self, work: u8, cpu: u8) -> Result<(), Refusal> {
         self.judge_cpu(cpu)?;
         self.judge_spent()?;
-        if self.works[work as usize].depth == 0 { Ok(()) } else { Err(b"Disabled\n") }
+        if self.works[work as usize].depth == 0 { Ok(()) } else { Err(&DISABLED) }
     }
 
     #[inline]
     fn next(&mut self) -> Result<(), Refusal> {
         self.judge_spent()?;
-        self.spent += 1;
+        self.steps_left -= 1;
         self.go_on();
         Ok(())
     }
@@ -104,13 +140,13 @@ impl Machine<'_> {
         let stamp = self.stamp();
         let due = self.time + u64::from(ticks);
         self.works[number as usize].place = Place::Timer { due, cpu };
-        self.timers.add(due, stamp, number);
+        self.timers.add(by_time_and_stamp(due, stamp, number));
     }
 
     #[inline]
     fn queue_after(&mut self, work: u8, cpu: u8, ticks: u32) -> Result<(), Refusal> {
         self.judge_queue(work, cpu)?;
-        self.spent += 1;
+        self.steps_left -= 1;
         if self.works[work as usize].pends() {
             return self.tell(b"already\n");
         }
@@ -121,14 +157,14 @@ impl Machine<'_> {
     #[inline]
     fn modify(&mut self, number: u8, cpu: u8, ticks: u32) -> Result<(), Refusal> {
         self.judge_queue(number, cpu)?;
-        self.spent += 1;
+        self.steps_left -= 1;
         let work = &mut self.works[number as usize];
         match work.place {
             Place::Timer { .. } if ticks > 0 => {
                 let due = self.time + u64::from(ticks);
                 work.place = Place::Timer { due, cpu };
                 let stamp = self.stamp();
-                self.timers.change(due, stamp, number);
+                self.timers.change(by_time_and_stamp(due, stamp, number));
             }
             Place::Idle => {
                 self.place_after(number, cpu, ticks);
@@ -144,18 +180,20 @@ impl Machine<'_> {
 
     fn cancel(&mut self, work: u8) -> Result<(), Refusal> {
         self.judge_spent()?;
-        self.spent += 1;
+        self.steps_left -= 1;
         if self.take_off(work) { self.tell(b"cancelled\n") } else { self.tell(b"not pending\n") }
     }
 
     fn cancel_sync(&mut self, work: u8) -> Result<(), Refusal> {
         self.judge_flush()?;
-        self.spent += 1;
+        self.steps_left -= 1;
         let was_pending = self.take_off(work);
         let target = self.running_instance(work);
         let number = self.give_flush(target);
-        let words: &[u8] = if was_pending { b"cancelled flush " } else { b"not pending flush " };
-        self.lines.write(self.time, |line| line.words(words).number(number).text(b"\n"));
+        self.lines.write(self.time, |line| {
+            let line = if was_pending { line.text(b"cancelled flush ") } else { line.text(b"not pending flush ") };
+            line.number(number).text(b"\n")
+        });
         Ok(())
     }
 
@@ -190,13 +228,13 @@ impl Machine<'_> {
 
     fn flush(&mut self, work: u8) -> Result<(), Refusal> {
         self.judge_flush()?;
-        self.spent += 1;
+        self.steps_left -= 1;
         self.flush_last(work)
     }
 
     fn flush_delayed(&mut self, work: u8) -> Result<(), Refusal> {
         self.judge_flush()?;
-        self.spent += 1;
+        self.steps_left -= 1;
         if let Place::Timer { cpu, .. } = self.works[work as usize].place {
             self.fire(work, cpu);
         }
@@ -205,19 +243,19 @@ impl Machine<'_> {
 
     fn flush_queue(&mut self, queue: u8) -> Result<(), Refusal> {
         self.judge_flush()?;
-        self.spent += 1;
+        self.steps_left -= 1;
         self.tell_flush(Flush::Queue { queue, bound: self.next, done: 0 })
     }
 
     fn set_max(&mut self, queue: u8, max: u32) -> Result<(), Refusal> {
         if max == 0 || max > 512 {
-            return Err(b"BadCount\n");
+            return Err(&BAD_COUNT);
         }
         self.judge_spent()?;
         if self.queues[queue as usize].flags.has(Flags::ORDERED) {
-            return Err(b"Ordered\n");
+            return Err(&ORDERED);
         }
-        self.spent += 1;
+        self.steps_left -= 1;
         self.queues[queue as usize].max = max as u16;
         self.set_limit(queue);
         self.fill_everywhere(queue);
@@ -227,9 +265,9 @@ impl Machine<'_> {
     fn freeze(&mut self) -> Result<(), Refusal> {
         self.judge_spent()?;
         if self.frozen {
-            return Err(b"AlreadyFrozen\n");
+            return Err(&ALREADY_FROZEN);
         }
-        self.spent += 1;
+        self.steps_left -= 1;
         self.frozen = true;
         for queue in 0..self.scenario.queues.len() {
             self.set_limit(queue as u8);
@@ -240,9 +278,9 @@ impl Machine<'_> {
     fn thaw(&mut self) -> Result<(), Refusal> {
         self.judge_spent()?;
         if !self.frozen {
-            return Err(b"NotFrozen\n");
+            return Err(&NOT_FROZEN);
         }
-        self.spent += 1;
+        self.steps_left -= 1;
         self.frozen = false;
         for queue in 0..self.scenario.queues.len() {
             self.set_limit(queue as u8);
@@ -254,9 +292,9 @@ impl Machine<'_> {
     fn fire_due(&mut self) -> Result<(), Refusal> {
         self.judge_spent()?;
         if self.timers.time() > self.time {
-            return Err(b"NothingToDo\n");
+            return Err(&NOTHING_TO_DO);
         }
-        self.spent += 1;
+        self.steps_left -= 1;
         self.fire_first();
         Ok(())
     }
@@ -264,24 +302,22 @@ impl Machine<'_> {
     #[inline]
     fn step(&mut self, pool: u8) -> Result<(), Refusal> {
         if pool >= self.unbound + 2 {
-            return Err(b"NoSuchPool\n");
+            return Err(&NO_SUCH_POOL);
         }
         self.judge_spent()?;
-        if self.mask & 1 << pool == 0 || !self.move_pool(pool) {
-            self.mask &= !(1 << pool);
-            return Err(b"NothingToDo\n");
-        }
-        self.spent += 1;
+        let Some(next) = self.next_move(pool) else { return Err(&NOTHING_TO_DO) };
+        self.steps_left -= 1;
+        self.make(pool, next);
         Ok(())
     }
 
     #[inline]
     fn tick_settled(&mut self) -> Result<(), Refusal> {
         self.judge_spent()?;
-        if self.is_unsettled() {
-            return Err(b"Unsettled\n");
+        if self.timers.time() <= self.time || self.first_move().is_some() {
+            return Err(&UNSETTLED);
         }
-        self.spent += 1;
+        self.steps_left -= 1;
         self.tick();
         Ok(())
     }
@@ -289,7 +325,7 @@ impl Machine<'_> {
     #[inline]
     fn ask(&mut self, flush: u16) -> Result<(), Refusal> {
         if flush as usize >= self.flushes.len() {
-            return Err(b"NoSuchFlush\n");
+            return Err(&NO_SUCH_FLUSH);
         }
         let is_done = self.is_done(flush as usize);
         self.answer(is_done)
@@ -299,7 +335,7 @@ impl Machine<'_> {
         self.judge_spent()?;
         let work = &mut self.works[number as usize];
         if work.depth == MAX_DEPTH {
-            return Err(b"TooDeep\n");
+            return Err(&TOO_DEEP);
         }
         work.depth += 1;
         self.cancel(number)
@@ -309,11 +345,11 @@ impl Machine<'_> {
         self.judge_spent()?;
         let work = &mut self.works[number as usize];
         if work.depth == 0 {
-            return Err(b"NotDisabled\n");
+            return Err(&NOT_DISABLED);
         }
         work.depth -= 1;
         let is_enabled = work.depth == 0;
-        self.spent += 1;
+        self.steps_left -= 1;
         self.answer(is_enabled)
     }
 
@@ -321,9 +357,9 @@ impl Machine<'_> {
     fn press(&mut self, pressed: bool) -> Result<(), Refusal> {
         self.judge_spent()?;
         if self.pressed == pressed {
-            return Err(if pressed { b"AlreadyPressed\n" } else { b"NotPressed\n" });
+            return Err(if pressed { &ALREADY_PRESSED } else { &NOT_PRESSED });
         }
-        self.spent += 1;
+        self.steps_left -= 1;
         self.pressed = pressed;
         self.mark_all();
         Ok(())
@@ -332,7 +368,7 @@ impl Machine<'_> {
     /// Writes where a work is.
     #[inline]
     fn state(&mut self, number: u8) -> Result<(), Refusal> {
-        let work = self.works[number as usize];
+        let work = &self.works[number as usize];
         self.lines.write(self.time, |line| {
             let line = put_place(line.name(number), work.place);
             match work.run {
