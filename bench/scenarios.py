@@ -2,14 +2,16 @@
 
     python3 scenarios.py FOLDER [NAME=SIZE ..]
 
-SIZE is about how many instructions the scenario's actor has; what isn't named has the size of the table below. Each NAME.cmwq has a companion
-NAME.empty, which is the same but for its actor, who has no lines; those of f_list and f_run have no comments either.
+SIZE is about how many instructions the scenario's actor has, and of f_list and f_run, which are the texts of texts.py, how many lines; what
+isn't named has the size of the table below. Each NAME.cmwq has a companion NAME.empty, which is the same but for its actor, who has no lines;
+those of f_list and f_run have no comments either.
 
 The sizes are small, so that a program that scans its works for each instruction can be measured, too."""
 import pathlib
 import sys
 
-LARGEST = 4_194_304
+import texts
+
 NEXT = "next"
 
 SIZES = {
@@ -20,7 +22,7 @@ SIZES = {
     "e_ticks": 10_000,
     "e_ticks_wide": 2_000,
     "f_list": 82_484,
-    "f_run": 71,
+    "f_run": 65_608,
     "g_events": 10_000,
     "g_short": 20_000,
     "g_state": 4_000,
@@ -98,7 +100,7 @@ def wide_body(numbers):
     for _at in range(63):
         kind = numbers.below(4)
         work, cpu = numbers.below(256), numbers.below(16)
-        ops.append([f"burn {1 + numbers.below(4)}", f"sleep {1 + numbers.below(9)}", f"queue w{work} {cpu}", f"queue w{work} {cpu}"][kind])
+        ops.append([f"burn {1 + numbers.below(4)}", f"burn {1 + numbers.below(4)}", f"sleep {1 + numbers.below(9)}", f"queue w{work} {cpu}"][kind])
     return ops
 
 
@@ -110,15 +112,21 @@ def b_wide(size):
     queues += [("q30", "max 1 ordered"), ("q31", "max 1 highpri freezable ordered mem_reclaim")]
     works = [(f"w{at}", f"q{at % 32}", wide_body(numbers)) for at in range(256)]
     actor = [f"queue w{at} {numbers.below(16)}" for at in range(256)]
-    asks = ["flush w7", "flush_queue q3", "cancel_sync w9", "flush_delayed w8"] * 4
-    for turn in range(max(1, (size - 256) // 64)):
-        work, cpu = numbers.below(256), numbers.below(16)
-        others = [f"delay w{work} {cpu} {numbers.below(30)}", f"mod w{numbers.below(256)} {cpu} {numbers.below(30)}", f"cancel w{numbers.below(256)}"]
-        limits = [["freeze", "thaw", "pressure", "relief"][turn % 4], f"set_max q{numbers.below(30)} {1 + numbers.below(8)}"]
-        depths = [f"disable w{numbers.below(8)}", f"enable w{numbers.below(8)}"]
-        questions = ["busy", f"state w{work}", f"ask {numbers.below(16)}"]
-        actor += [*others, *asks[turn : turn + 1], NEXT + " * 24", *limits, *questions, NEXT + " * 28", *depths]
-    return [*head(16, 8, 1024), *declared(queues, works)], actor[:4096]
+    # Of 14 lines the turns are made, and 4,096 lines are the most.
+    going = f"{NEXT} * {53 * -(-size // 30_000)}"
+    while sum(map(times_of, actor)) < size:
+        actor += wide_turn(numbers, going)
+    return [*head(16, 8, 1024), *declared(queues, works)], actor
+
+
+def wide_turn(numbers, going):
+    """Lines that ask for a bit of everything, between lines that let the machine go on."""
+    work, cpu, turn = numbers.below(256), numbers.below(16), numbers.below(4)
+    others = [f"delay w{work} {cpu} {numbers.below(30)}", f"mod w{numbers.below(256)} {cpu} {numbers.below(30)}", f"cancel w{numbers.below(256)}"]
+    flush = [f"flush w{work}", f"flush_queue q{work % 32}", f"cancel_sync w{work}", f"flush_delayed w{work}"][turn]
+    limits = [["freeze", "thaw", "pressure", "relief"][turn], f"set_max q{numbers.below(30)} {1 + numbers.below(8)}"]
+    questions = ["busy", f"state w{work}", f"ask {numbers.below(16)}"]
+    return [*others, flush, going, *limits, *questions, going, f"disable w{numbers.below(8)}", f"enable w{numbers.below(8)}"]
 
 
 def c_timers(size):
@@ -157,27 +165,6 @@ def e_ticks_wide(size):
     queues = [("q", "max 4"), ("u", "max 512 unbound")]
     starts = [*(f"queue b{at} {at}" for at in range(16)), *(f"queue u{at} 0" for at in range(64)), f"{NEXT} * 160"]
     return [*head(16, 64), *declared(queues, works)], [*starts, *repeated(NEXT, max(1, size - 240))]
-
-
-def f_list(size):
-    """Every line that a scenario may have, each with the longest words and a comment."""
-    queues = [f"q{number:014}" for number in range(32)]
-    works = [f"w{number:014}" for number in range(256)]
-    text = [*head(16, 64, 1024), *(f"queue {name} max 512 highpri unbound cpu_intensive freezable" for name in queues)]
-    text += [f"work {name} {queues[at % 32]}" for at, name in enumerate(works)]
-    for name in works:
-        text += [f"body {name}", *[f"queue {works[255]} 15"] * 63, "finish"]
-    for number in range(16):
-        text += [f"actor t{number:014}", *[f"delay {works[255]} 255 4294967295 * 65535"] * 4096]
-    return [f"{line} # {at:06}" for at, line in enumerate(text[:size])]
-
-
-def f_run(size):
-    """A text of the greatest length: comments, and some lines of a scenario."""
-    lines = [*head(16, 64, 1024), "queue q max 1", "work a q", "body a", "finish", "actor t", *["tick"] * size]
-    left = LARGEST - sum(len(line) + 1 for line in lines)
-    comment = "# " + "x" * 61
-    return [*[comment] * (left // (len(comment) + 1)), *lines]
 
 
 def g_events(size):
@@ -228,7 +215,7 @@ GROWING = {"works": works_of, "cpus": cpus_of, "sleepers": sleepers_of}
 def texts_of(name, size):
     """The lines of a scenario and those of its companion."""
     if name in ("f_list", "f_run"):
-        lines = {"f_list": f_list, "f_run": f_run}[name](size)
+        lines = texts.lines()[:size] if name == "f_list" else texts.comments()[-size:]
         plain = [line.partition(" #")[0] for line in lines if not line.startswith("#")]
         first = next(at for at, line in enumerate(plain) if line.startswith("actor "))
         return lines, plain[: first + 1]
@@ -243,7 +230,7 @@ def main(folder, *changed):
     for name, size in sizes.items():
         for ending, lines in zip(("cmwq", "empty"), texts_of(name, size)):
             text = "".join(f"{line}\n" for line in lines)
-            assert len(text) <= LARGEST, (name, len(text))
+            assert len(text) <= texts.LARGEST, (name, len(text))
             pathlib.Path(folder, f"{name}.{ending}").write_text(text, "utf-8")
 
 
