@@ -5,6 +5,7 @@ scenario, and run it. The scenarios are the same on each run, by their numbers.
 
 It ends at the first scenario on which they differ, which it leaves as disagreement.cmwq in the current folder. It is no part of the gate."""
 import os
+import shutil
 import subprocess
 import sys
 import tempfile
@@ -93,8 +94,9 @@ def main(program, baseline, count="1000", first="0"):
             with open(path, "w", encoding="utf-8") as it:
                 it.write(text)
             for command in ("run", "list"):
-                if said(program, command, path) != said(baseline, command, path) or said(baseline, command, path)[0]:
-                    os.replace(path, "disagreement.cmwq")
+                theirs = said(baseline, command, path)
+                if theirs[0] or said(program, command, path) != theirs:
+                    shutil.copy(path, "disagreement.cmwq")
                     sys.exit(f"agree: they don't {command} scenario {number} alike: disagreement.cmwq")
     print(f"agree: {count} scenarios, from number {first} on, are run and listed alike")
 

@@ -168,9 +168,10 @@ def e_ticks_wide(size):
 
 
 def g_events(size):
-    """Events upon events, and no time: eight works of eight CPUs queue each other, each time with a line."""
-    works = [(f"work_number_{at:03}", "q", [f"queue work_number_{(at + 1 + turn % 7) % 8:03} {at}" for turn in range(61)]) for at in range(8)]
-    return [*head(8, 4), *declared([("q", "max 8")], works)], [*(f"queue work_number_{at:03} {at}" for at in range(8)), *repeated(NEXT, size - 8)]
+    """Events upon events, and no time: eight works on eight CPUs queue each other, and each event has a line."""
+    names = [f"work_number_{at:03}" for at in range(8)]
+    works = [(name, "q", [f"queue {names[(at + step) % 8]} {(at * step) % 8}" for step in (1, 3, 6)]) for at, name in enumerate(names)]
+    return [*head(8, 4), *declared([("q", "max 8")], works)], [*(f"queue {name} {at}" for at, name in enumerate(names)), *repeated(NEXT, size - 8)]
 
 
 def g_short(size):
