@@ -67,17 +67,18 @@ def times(draw, line):
 def scenario(number):
     """The text of the scenario of this number."""
     draw = Draw(number * 7_919 + 1)
-    draw.below(2)
     cpus, workers, queue_count, work_count = draw.among(SIZES)
     queues = [f"q{at}" for at in range(1 + draw.below(queue_count))]
     works = [f"w{at}" for at in range(1 + draw.below(work_count))]
-    front = [f"cpus {cpus}", f"workers {workers}", f"steps {draw.among([300, 100_000, 100_000])}", f"flushes {draw.among([0, 3, 200])}"]
+    front = [f"cpus {cpus}", f"workers {workers}", f"steps {draw.among([300, 200_000, 200_000])}", f"flushes {draw.among([0, 3, 200])}"]
     front += declared([(name, queue_words(draw)) for name in queues], [(name, draw.among(queues), body(draw, cpus, works)) for name in works])
     lines = []
     for _turn in range(draw.among([20, 150, 600])):
         line = instruction(draw, cpus, works, queues)
         count = times(draw, line)
         lines.append(line if count == 1 else f"{line} * {count}")
+    if draw.chance(2):
+        lines += [f"disable {works[0]} * 65535", f"disable {works[0]} * 2", f"enable {works[0]} * 65535", f"enable {works[0]}"]
     return "".join(f"{line}\n" for line in [*front, "actor t", *lines])
 
 

@@ -4,43 +4,43 @@ use crate::lines::Line;
 use crate::machine::{Flush, Machine, Place, RESCUER, Run};
 use crate::scenario::{self, Flags, Instr};
 
-/// Why an instruction was refused, as its line says it.
-struct Why {
+/// Reason an instruction was refused, as its line says it.
+struct Reason {
     text: [u8; 24],
     len: u8,
 }
 
 /// A refusal.
-type Refusal = &'static Why;
+type Refusal = &'static Reason;
 
-impl Why {
-    const fn named(name: &str) -> Why {
+impl Reason {
+    const fn named(name: &str) -> Reason {
         let (mut text, mut at) = (*b"refused                 ", 8);
         while at < 8 + name.len() {
             text[at] = name.as_bytes()[at - 8];
             at += 1;
         }
         text[at] = b'\n';
-        Why { text, len: at as u8 + 1 }
+        Reason { text, len: at as u8 + 1 }
     }
 }
 
-static NO_SUCH_CPU: Why = Why::named("NoSuchCpu");
-static NO_SUCH_POOL: Why = Why::named("NoSuchPool");
-static NO_SUCH_FLUSH: Why = Why::named("NoSuchFlush");
-static BAD_COUNT: Why = Why::named("BadCount");
-static SPENT: Why = Why::named("Spent");
-static TOO_MANY_FLUSHES: Why = Why::named("TooManyFlushes");
-static ORDERED: Why = Why::named("Ordered");
-static ALREADY_FROZEN: Why = Why::named("AlreadyFrozen");
-static NOT_FROZEN: Why = Why::named("NotFrozen");
-static NOTHING_TO_DO: Why = Why::named("NothingToDo");
-static UNSETTLED: Why = Why::named("Unsettled");
-static DISABLED: Why = Why::named("Disabled");
-static TOO_DEEP: Why = Why::named("TooDeep");
-static NOT_DISABLED: Why = Why::named("NotDisabled");
-static ALREADY_PRESSED: Why = Why::named("AlreadyPressed");
-static NOT_PRESSED: Why = Why::named("NotPressed");
+static NO_SUCH_CPU: Reason = Reason::named("NoSuchCpu");
+static NO_SUCH_POOL: Reason = Reason::named("NoSuchPool");
+static NO_SUCH_FLUSH: Reason = Reason::named("NoSuchFlush");
+static BAD_COUNT: Reason = Reason::named("BadCount");
+static SPENT: Reason = Reason::named("Spent");
+static TOO_MANY_FLUSHES: Reason = Reason::named("TooManyFlushes");
+static ORDERED: Reason = Reason::named("Ordered");
+static ALREADY_FROZEN: Reason = Reason::named("AlreadyFrozen");
+static NOT_FROZEN: Reason = Reason::named("NotFrozen");
+static NOTHING_TO_DO: Reason = Reason::named("NothingToDo");
+static UNSETTLED: Reason = Reason::named("Unsettled");
+static DISABLED: Reason = Reason::named("Disabled");
+static TOO_DEEP: Reason = Reason::named("TooDeep");
+static NOT_DISABLED: Reason = Reason::named("NotDisabled");
+static ALREADY_PRESSED: Reason = Reason::named("AlreadyPressed");
+static NOT_PRESSED: Reason = Reason::named("NotPressed");
 
 /// The most often that a work can be disabled.
 const MAX_DEPTH: u16 = 65_535;
@@ -79,7 +79,7 @@ impl Machine<'_> {
     #[inline]
     fn repeat(&mut self, times: u32, issue: impl Fn(&mut Self) -> Result<(), Refusal>) {
         for _ in 0..times {
-            if let Err(Why { text, len }) = issue(self) {
+            if let Err(Reason { text, len }) = issue(self) {
                 self.lines.write(self.time, |line| line.text(text).cut(24 - len));
             }
         }
