@@ -2,8 +2,8 @@
 
     python3 scenarios.py FOLDER [NAME=SIZE ..]
 
-SIZE is about how many instructions the scenario's actor has, and of f_list and f_run, which are the texts of texts.py, how many lines; what
-isn't named has the size of the table below. Each NAME.cmwq has a companion NAME.empty, which is the same but for its actor, who has no lines;
+SIZE is about how many instructions the scenario's actor has; of f_list, the larger text of texts.py, how many lines stand behind the first
+actor's name, and of f_run, its other text, how many comments. What isn't named has the size of the table below. Each NAME.cmwq has a companion NAME.empty, which is the same but for its actor, who has no lines;
 those of f_list and f_run have no comments either.
 
 The sizes are small, so that a program that scans its works for each instruction can be measured, too."""
@@ -21,8 +21,8 @@ SIZES = {
     "d_sleepers": 3_000,
     "e_ticks": 10_000,
     "e_ticks_wide": 2_000,
-    "f_list": 82_484,
-    "f_run": 65_608,
+    "f_list": 65_551,
+    "f_run": 65_528,
     "g_events": 10_000,
     "g_short": 20_000,
     "g_state": 4_000,
@@ -61,8 +61,8 @@ def declared(queues, works):
 
 
 def repeated(line, times):
-    """The line so many times, in as few lines as can be."""
-    most = 65_535
+    """The line so many times, in as few lines as can be; once at least."""
+    most, times = 65_535, max(1, times)
     counts = [most] * (times // most) + [times % most] * (times % most > 0)
     return [line if count == 1 else f"{line} * {count}" for count in counts]
 
@@ -216,10 +216,11 @@ GROWING = {"works": works_of, "cpus": cpus_of, "sleepers": sleepers_of}
 def texts_of(name, size):
     """The lines of a scenario and those of its companion."""
     if name in ("f_list", "f_run"):
-        lines = texts.lines()[:size] if name == "f_list" else texts.comments()[-size:]
+        lines = texts.lines() if name == "f_list" else texts.comments()
         plain = [line.partition(" #")[0] for line in lines if not line.startswith("#")]
         first = next(at for at, line in enumerate(plain) if line.startswith("actor "))
-        return lines, plain[: first + 1]
+        kept = lines[: first + 1 + size] if name == "f_list" else lines[len(lines) - len(plain) - size :]
+        return kept, plain[: first + 1]
     kind, _, count = name.partition("_")
     front, actor = GROWING[kind](int(count), size) if kind in GROWING else {it.__name__: it for it in LETTERED}[name](size)
     return [*front, "actor t", *actor], [*front, "actor t"]
