@@ -25,7 +25,7 @@ SIZES = {
     "f_run": 65_528,
     "g_events": 10_000,
     "g_short": 20_000,
-    "g_state": 4_000,
+    "g_state": 30_000,
     "works_4": 8_000,
     "works_16": 8_000,
     "works_64": 8_000,
@@ -133,7 +133,7 @@ def c_timers(size):
     """The timers of 256 works are set anew, over and over, eight times each; ticks pass, or timers fire, each sixteenth time."""
     numbers = Numbers(3)
     works = [(f"w{at}", "q", []) for at in range(256)]
-    block = [f"mod w{numbers.below(256)} 0 {100 + numbers.below(2000)}" if at % 16 else NEXT for at in range(1_600)]
+    block = [f"mod w{numbers.below(256)} 0 {100 + numbers.below(2000)}" if at % 16 else NEXT for at in range(400)]
     actor = [f"delay w{at} 0 {1000 + numbers.below(1000)}" for at in range(256)]
     left, lines = size - 256, []
     for line in again_and_again(block, max(left, 8 * len(block)), 8):
@@ -188,7 +188,7 @@ def g_state(size):
     queues = [("p", "max 512"), ("q", "max 3"), ("r", "max 4 highpri"), ("u", "max 16 unbound")]
     starts = [f"delay {name} {at % 16} {at}" if at % 5 == 0 else f"queue {name} {at % 16}" for at, (name, _q, _o) in enumerate(works) if at % 3]
     asks = [f"state {name}" for name, _queue, _ops in works]
-    return [*head(16, 4), *declared(queues, works)], [*starts, f"{NEXT} * 200", *again_and_again(asks, size - len(starts) - 200, 16)]
+    return [*head(16, 4), *declared(queues, works)], [*starts, f"{NEXT} * 60", *again_and_again(asks, size - len(starts) - 60, 16)]
 
 
 def works_of(count, size):
