@@ -2,7 +2,7 @@
 ghost use Rattle.cmwq_table.specs.Moves.{begun};
 ghost use Rattle.std.specs.Prelude.{◌≡◌};
 
-use crate::beginning::{copied_flushes, declared_max};
+use crate::beginning::{Numbers, Works, copied_numbers, copied_works, first_numbers, first_works};
 use crate::looking::{idle_workers, pending_works, running_works};
 use crate::moving::{listed_pool, unless_still, with, with_some, without};
 use cmwq_idle::IdleWorkers;
@@ -11,7 +11,7 @@ use cmwq_queued::{MAX_POOLS, QueuedWorks};
 use cmwq_reads::Sought;
 use cmwq_running::RunningWorks;
 use cmwq_table::{FlushTarget, Pending, Reads, Running, View};
-use cmwq_types::{NoMemory, Place, RESCUER, Scenario, filled};
+use cmwq_types::{NoMemory, Place, RESCUER, Scenario};
 use std::alloc::Global;
 use std::marker::Model;
 use std::sync::Arc;
@@ -127,40 +127,50 @@ impl Reads for CoreParts {
 
 impl Parts for CoreParts {
     fn begin(alloc: Global, scenario: Arc<Scenario>) -> Result<Self, NoMemory> {
-        let works = scenario.works.len();
+        let Works { queued, running } = first_works(alloc, &scenario)?;
+        let Numbers {
+            max,
+            depth,
+            flushes,
+        } = first_numbers(alloc, &scenario)?;
+        let workers = IdleWorkers::new(alloc, scenario.pool_count(), scenario.workers)?;
         Ok(CoreParts {
-            queued: QueuedWorks::new(alloc, Arc::clone(&scenario)?)?,
-            running: RunningWorks::new(alloc, Arc::clone(&scenario)?)?,
-            workers: IdleWorkers::new(alloc, scenario.pool_count(), scenario.workers)?,
+            queued,
+            running,
+            workers,
             moving: PoolSet::all(),
             next: 0,
             spent: 0,
             frozen: false,
             pressed: false,
-            max: declared_max(alloc, &scenario.queues)?,
-            depth: filled(alloc, 0, works)?,
-            flushes: Vec::with_capacity(alloc, scenario.flushes as usize)?,
+            max,
+            depth,
+            flushes,
         })
     }
 
     fn copy(&self) -> Result<Self, NoMemory> {
+        let room = self.queued.scenario().flushes as usize;
         let alloc = *self.max.allocator();
+        let Works { queued, running } = copied_works(&self.queued, &self.running)?;
+        let Numbers {
+            max,
+            depth,
+            flushes,
+        } = copied_numbers(alloc, &self.max, &self.depth, &self.flushes, room)?;
+        let workers = self.workers.copy()?;
         Ok(CoreParts {
-            queued: self.queued.copy()?,
-            running: self.running.copy()?,
-            workers: self.workers.copy()?,
+            queued,
+            running,
+            workers,
             moving: self.moving,
             next: self.next,
             spent: self.spent,
             frozen: self.frozen,
             pressed: self.pressed,
-            max: Vec::from_slice(alloc, &self.max)?,
-            depth: Vec::from_slice(alloc, &self.depth)?,
-            flushes: copied_flushes(
-                alloc,
-                &self.flushes,
-                self.queued.scenario().flushes as usize,
-            )?,
+            max,
+            depth,
+            flushes,
         })
     }
 
