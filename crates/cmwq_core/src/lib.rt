@@ -1,4 +1,5 @@
-//! `Core`: the instruction table over linked lists, timers, end times and counters. Nothing that `run` does takes a scan of the works.
+//! `Core`: the instruction table over linked lists, timers, end times and counters. Works are scanned only where a queue's flush is judged, where
+//! a rescuer is sought for a listed work, and for a look.
 #![tactic(auto)]
 
 mod beginning;
