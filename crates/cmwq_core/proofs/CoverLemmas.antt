@@ -1,6 +1,6 @@
 -- Which pools a change leaves without a move.
 use Rattle.std.proofs.Common.{◌≡◌, ◌≢◌, ◌⊎◌, ℕ, ◌<◌, ◌≤◌, Bool, true, false, cond, ◌==◌, length, get_or, set, Option, Some, None, IfSome, arith, refl, sym, ap, subst, ◌∙◌, inl, inr}
-use Rattle.std.specs.Prelude.{is_none, is_some, ◌&&◌}
+use Rattle.std.specs.Prelude.{is_none, is_some, ◌&&◌, ◌||◌}
 use Rattle.std.proofs.lemmas.Bool.Decides.{nat_tests}
 use Rattle.std.proofs.lemmas.List.{get_or-set_other}
 use Rattle.cmwq_types.specs.Contents.{ScenarioContents}
@@ -154,6 +154,10 @@ far_made S s pool other n apart = record {
 }
 
 -- Coverings.
+
+pub neither : (a b : Bool) → (a || b) ≡ false → (a ≡ false) × (b ≡ false)
+neither true b e = absurd (cc)
+neither false b e = (refl, e)
 
 pub far_is_same : (S : ScenarioContents) (s t : State) (pool : ℕ) → IsFar S s t pool → next_move S s pool ≡ next_move S t pool
 unfolding FarPoolsStay

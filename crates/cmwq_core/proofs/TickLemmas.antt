@@ -49,9 +49,9 @@ ticks_pending S s (suc n) = ticks_pending S (tick S s) n
 pub covered_alike : (q : QueuedContents) (r after : RunningContents) (k : WorkersContents) (pressed : Bool) (pools : PoolSet) → IsCovered q r k pressed pools → MoveAlike q.scenario (moving_state q r k pressed) (moving_state q after k pressed) → IsCovered q after k pressed pools
 covered_alike q r after k pressed pools is alike pool small clear = alike.moves pool ∙ is pool small clear
 
--- where no pool may have a move, none has one
-pub none_moving : (S : ScenarioContents) (s : State) → S.cpus ≤ 16 → ((pool : ℕ) → pool < 64 → next_move S s pool ≡ None) → first_moving S s ≡ None
-none_moving S s few none = first_below-none (by_least (λ pool. pool)) (λ pool. is_some (next_move S s pool)) (pool_count S) (by_least-order (λ pool. pool)) (λ pool h. ap is_some (none pool (omega (arith, h, few))))
+-- where no pool has a move, none is the first
+pub none_moving : (S : ScenarioContents) (s : State) → ((pool : ℕ) → pool < pool_count S → next_move S s pool ≡ None) → first_moving S s ≡ None
+none_moving S s none = first_below-none (by_least (λ pool. pool)) (λ pool. is_some (next_move S s pool)) (pool_count S) (by_least-order (λ pool. pool)) (λ pool h. ap is_some (none pool h))
 
 -- before the first timer is due, none is
 pub none_due : (S : ScenarioContents) (s : State) → IfSome (next_due S s.pending) (λ due. s.time < due) → first_due S s ≡ None
@@ -94,8 +94,3 @@ none_due_then S s n most left below = none_due S (ticks S s n) (subst (λ (ps : 
     by_due : (o : Option ℕ) → IfSome o (λ due. most ≤ due - s.time) → IfSome o (λ due. (ticks S s n).time < due)
     by_due None left = tt
     by_due (Some due) left = (let now = ticks_time S s n in omega (arith, left, below, now))
-
--- what holds of nothing found holds where nothing was found
-pub if_none : {A : Type 0} (o : Option A) (P : Type 0) → is_some o ≡ false → IfNone o P → P
-if_none None P none is = is
-if_none (Some x) P none is = absurd (cc)

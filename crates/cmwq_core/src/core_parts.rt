@@ -4,7 +4,7 @@ ghost use Rattle.std.specs.Prelude.{◌≡◌};
 
 use crate::beginning::{Numbers, Works, copied_numbers, copied_works, first_numbers, first_works};
 use crate::looking::{idle_workers, pending_works, running_works};
-use crate::moving::{listed_pool, unless_still, with, with_some, without};
+use crate::moving::{listed_pool, with, with_some, without};
 use cmwq_idle::IdleWorkers;
 use cmwq_parts::{Parts, PoolSet};
 use cmwq_queued::{MAX_POOLS, QueuedWorks};
@@ -354,13 +354,12 @@ impl Parts for CoreParts {
     }
 
     fn tick(&mut self) {
-        let still = self.running.still_for(1);
-        self.running.tick();
-        self.moving = unless_still(self.moving, still);
+        let ended = self.running.tick();
+        self.moving = self.moving.union(ended);
     }
 
     fn pass(&mut self, most: u32) -> u32 {
-        if self.moving.first().is_some() {
+        if !self.is_settled() {
             return 0;
         }
         let until_due = self.until_due(most);
@@ -396,7 +395,18 @@ impl Parts for CoreParts {
 
 impl CoreParts {
     ghost use Rattle.cmwq_queued.specs.QueuedContents.{next_due};
-    ghost use Rattle.std.specs.Prelude.{◌-◌, ◌≤◌, IfSome};
+    ghost use Rattle.cmwq_table.specs.Moves.{first_moving};
+    ghost use Rattle.std.specs.Prelude.{◌-◌, ◌≤◌, IfSome, None, true};
+
+    /// Whether no pool is noted as one that may have a move.
+    fn is_settled(&self) -> bool
+        ensures { result ≡ true → first_moving self.now.scenario self.now.state ≡ None }
+    {
+        match self.moving.first() {
+            None => true,
+            Some(pool) => pool >= self.queued.scenario().pool_count(),
+        }
+    }
 
     /// For how many ticks, at most so many, no timer is due.
     fn until_due(&self, most: u32) -> u32

@@ -1,7 +1,7 @@
 //! Sets of pools that may have a move.
 ghost use Rattle.cmwq_core.specs.Moving.{IsGrown, listed_pool};
 ghost use Rattle.cmwq_parts.specs.PoolSets.{has_pool};
-ghost use Rattle.std.specs.Prelude.{◌≡◌, ◌≢◌, ◌<◌, ℕ, Some, false, true};
+ghost use Rattle.std.specs.Prelude.{◌≡◌, ◌≢◌, ◌<◌, ℕ, Some};
 
 use cmwq_parts::PoolSet;
 use cmwq_types::Place;
@@ -20,11 +20,7 @@ pub(crate) fn listed_pool(place: Place) -> Option<u8>
 pub(crate) fn with(pools: PoolSet, pool: u8) -> PoolSet
     ensures { IsGrown pools (Some pool) result }
 {
-    if pool < 64 {
-        PoolSet(pools.0 | (1 << pool))
-    } else {
-        pools
-    }
+    pools.with(pool)
 }
 
 /// The set with this pool, if there is one.
@@ -46,13 +42,4 @@ pub(crate) fn without(pools: PoolSet, pool: u8) -> PoolSet
     } else {
         pools
     }
-}
-
-/// The set after some ticks, in so many of which no burn and no sleep ended: where none of them is known to be still, each pool may have
-/// a move.
-pub(crate) fn unless_still(pools: PoolSet, still: u32) -> PoolSet
-    ensures all { still ≡ 0 → (pool : ℕ) → pool < 64 → has_pool result pool ≡ true }
-    ensures same { 0 < still → result ≡ pools }
-{
-    if still == 0 { PoolSet::all() } else { pools }
 }

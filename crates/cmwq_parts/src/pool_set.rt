@@ -1,6 +1,6 @@
 //! Worker pools as the bits of a number.
 ghost use Rattle.cmwq_parts.specs.PoolSets.{has_pool};
-ghost use Rattle.std.specs.Prelude.{◌≡◌, ◌≢◌, ℕ, ◌<◌, ◌≤◌, IfNone, IfSome, false, true};
+ghost use Rattle.std.specs.Prelude.{◌≡◌, ◌≢◌, ℕ, ◌<◌, ◌≤◌, ◌||◌, ◌==◌, IfNone, IfSome, false, true};
 
 /// Worker pools with numbers below 64, the bits of a number.
 #[derive(Clone, Copy)]
@@ -32,6 +32,24 @@ impl PoolSet {
             return None;
         }
         Some(self.0.trailing_zeros() as u8)
+    }
+
+    /// The set with this pool, which is as it was where the number is 64 or more.
+    pub fn with(self, pool: u8) -> PoolSet
+        ensures { (other : ℕ) → other < 64 → has_pool result other ≡ (has_pool self other || (other == pool)) }
+    {
+        if pool < 64 {
+            PoolSet(self.0 | (1 << pool))
+        } else {
+            self
+        }
+    }
+
+    /// The pools of this set and those of the other.
+    pub fn union(self, other: PoolSet) -> PoolSet
+        ensures { (pool : ℕ) → pool < 64 → has_pool result pool ≡ (has_pool self pool || has_pool other pool) }
+    {
+        PoolSet(self.0 | other.0)
     }
 
     /// The set without one of its pools.

@@ -1,9 +1,9 @@
 -- A tick of the table is a step of the time, and nothing else.
-use Rattle.std.proofs.Common.{◌≡◌, ℕ, zero, suc, ◌+◌, ◌-◌, ◌<◌, ◌≤◌, Bool, true, false, cond, ◌&&◌, ◌||◌, List, [], ◌∷◌, length, Option, Some, None, IfSome, arith, refl, sym, ap, subst, ◌∙◌}
+use Rattle.std.proofs.Common.{◌≡◌, ℕ, zero, suc, ◌+◌, ◌-◌, ◌<◌, ◌≤◌, Bool, true, false, cond, ◌&&◌, ◌||◌, ◌==◌, List, [], ◌∷◌, length, Option, Some, None, IfSome, arith, refl, sym, ap, subst, ◌∙◌}
 use Rattle.std.specs.Prelude.{is_none, is_some, option_map}
 use Rattle.cmwq_types.specs.Contents.{ScenarioContents}
 use Rattle.cmwq_types.specs.First.{by_least}
-use Rattle.cmwq_types.specs.Scenario.{is_high, is_unbound, pool_count, queue_of}
+use Rattle.cmwq_types.specs.Scenario.{flags_at, is_high, is_unbound, pool_count, queue_of}
 use Rattle.cmwq_types.specs.declared.moves.Move.{Move}
 use Rattle.cmwq_types.specs.declared.moves.Move.TheVariants.{Advance, Rescue, Wake}
 use Rattle.cmwq_types.proofs.FirstLemmas.{first_below-agree}
@@ -19,8 +19,12 @@ use Rattle.cmwq_phases.specs.declared.run.Phase.TheVariants.{Ready, Held, Burnin
 use Rattle.cmwq_phases.specs.declared.run.Run.{Run}
 use Rattle.cmwq_running.specs.Heads.{AreHeaded, AreKept, AreOnTime, AreTimely, GoIn, HaveHeads, IsGoing, IsHeading, IsOnTime, NoneEndsBefore, first_awake, may_burn}
 use Rattle.cmwq_running.specs.RunningContents.{RunningContents, seen}
+use Rattle.cmwq_parts.specs.PoolSets.{has_pool}
 use Rattle.cmwq_parts.specs.SettledTicks.{ticks}
+use Rattle.cmwq_parts.specs.declared.pool_set.PoolSet.{PoolSet}
 use Rattle.cmwq_running.specs.Ticks.{HasRunning, MoveAlike}
+use Rattle.cmwq_running.specs.Pools.{AreAlikeIn, AreAlikeOutside}
+use Rattle.cmwq_running.proofs.PoolLemmas.{alike_here, awake_alike, ready_alike, rescued_alike, rested_alike}
 use Rattle.cmwq_running.proofs.ShownLemmas.{first_runnable_is, first_slept_is, has_free_rescuer_is, may_start_is, ready_head_is, runs_is}
 
 -- who has ticks left burns just where the table says so
@@ -145,20 +149,20 @@ all_on_time_later time m rs timely ends w = of_run (run_at rs w) (timely w) (end
     of_run None right later = tt
     of_run (Some r) right later = on_time_later time m r.phase right later
 
--- Two states that differ in time and running works alone, both timely.
-module _ (S : ScenarioContents) (s : State) (time : ℕ) (running : List (Option Running)) (rs : List (Option Run))
-    (one : s.running ≡ shown_all s.time rs) (other : running ≡ shown_all time rs) (timely : AreTimely s.time rs) (later : AreTimely time rs) where
+-- Two states that differ in time and running works alone, both timely, in which a pool sees the same works run.
+module _ (S : ScenarioContents) (s : State) (time : ℕ) (running : List (Option Running)) (rs xs : List (Option Run))
+    (one : s.running ≡ shown_all s.time rs) (other : running ≡ shown_all time xs) (timely : AreTimely s.time rs) (later : AreTimely time xs) (pool : ℕ) (alike : AreAlikeIn pool rs xs) where
   abbrev t : State
   t = record s { time = time; running = running }
 
-  ready_same : (pool : ℕ) → ready_head S t pool ≡ ready_head S s pool
-  ready_same pool = ready_head_is S t rs pool other later ∙ sym (ready_head_is S s rs pool one timely)
+  pub ready_same : ready_head S t pool ≡ ready_head S s pool
+  ready_same = ready_head_is S t xs pool other later ∙ sym (ready_alike S rs xs pool alike) ∙ sym (ready_head_is S s rs pool one timely)
 
-  slept_same : (pool : ℕ) → first_slept S t pool ≡ first_slept S s pool
-  slept_same pool = first_slept_is S t rs pool other later ∙ sym (first_slept_is S s rs pool one timely)
+  pub slept_same : first_slept S t pool ≡ first_slept S s pool
+  slept_same = first_slept_is S t xs pool other later ∙ sym (rested_alike S rs xs pool alike) ∙ sym (first_slept_is S s rs pool one timely)
 
   runs_same : (w : ℕ) → is_some (running_at t w) ≡ is_some (running_at s w)
-  runs_same w = runs_is S t rs other w ∙ sym (runs_is S s rs one w)
+  runs_same w = runs_is S t xs other w ∙ sym (alike w).runs ∙ sym (runs_is S s rs one w)
 
   none_of : (a b : Option Running) → is_some a ≡ is_some b → is_none a ≡ is_none b
   none_of None None same = refl
@@ -176,32 +180,46 @@ module _ (S : ScenarioContents) (s : State) (time : ℕ) (running : List (Option
   first_same None worker = refl
   first_same (Some w) worker = taken_alike w (running_at t w) (running_at s w) worker (runs_same w)
 
-  rescued_same : (pool : ℕ) → first_rescued S t pool ≡ first_rescued S s pool
-  rescued_same pool =
+  free_same : (queue : ℕ) → has_free_rescuer S t queue ≡ has_free_rescuer S s queue
+  free_same queue =
+      has_free_rescuer_is S t xs other queue
+      ∙ ap (λ (n : ℕ). (flags_at S queue).mem_reclaim && (n == 0)) (sym (rescued_alike S rs xs pool alike queue))
+      ∙ sym (has_free_rescuer_is S s rs one queue)
+
+  rescued_same : first_rescued S t pool ≡ first_rescued S s pool
+  rescued_same =
       first_below-agree (pending_before s) (can_be_rescued S t pool) (can_be_rescued S s pool) (length S.works)
       (λ w below.
       ap (λ (b : Bool). pends (λ place. is_listed place pool) (pending_at s w) && (b && has_free_rescuer S t (queue_of S w))) (none_of (running_at t w) (running_at s w) (runs_same w))
-      ∙ ap (λ (b : Bool). pends (λ place. is_listed place pool) (pending_at s w) && (is_none (running_at s w) && b)) (has_free_rescuer_is S t rs other (queue_of S w) ∙ sym (has_free_rescuer_is S s rs one (queue_of S w))))
+      ∙ ap (λ (b : Bool). pends (λ place. is_listed place pool) (pending_at s w) && (is_none (running_at s w) && b)) (free_same (queue_of S w)))
 
-  start_same : (pool : ℕ) → start_move S t pool ≡ start_move S s pool
-  start_same pool =
-      ap (λ (b : Bool). cond b (start_or_rescue S t pool) None) (may_start_is S t rs other pool ∙ sym (may_start_is S s rs one pool))
+  may_same : may_start S t pool ≡ may_start S s pool
+  may_same = may_start_is S t xs other pool ∙ ap (λ (n : ℕ). is_unbound S pool || (n == 0)) (sym (awake_alike S rs xs pool alike)) ∙ sym (may_start_is S s rs one pool)
+
+  start_same : start_move S t pool ≡ start_move S s pool
+  start_same =
+      ap (λ (b : Bool). cond b (start_or_rescue S t pool) None) may_same
       ∙ ap (λ (o : Option Move). cond (may_start S s pool) (or_else o (as_move Rescue (first_rescued S t pool))) None) (first_same (first_listed S s pool) (free_worker S s pool))
-      ∙ ap (λ (o : Option ℕ). cond (may_start S s pool) (or_else (start_first s (first_listed S s pool) (free_worker S s pool)) (as_move Rescue o)) None) (rescued_same pool)
+      ∙ ap (λ (o : Option ℕ). cond (may_start S s pool) (or_else (start_first s (first_listed S s pool) (free_worker S s pool)) (as_move Rescue o)) None) rescued_same
 
-  moves_same : (pool : ℕ) → next_move S t pool ≡ next_move S s pool
-  moves_same pool =
-      ap (λ (o : Option ℕ). or_else (as_move Advance o) (or_else (as_move Wake (first_slept S t pool)) (start_move S t pool))) (ready_same pool)
-      ∙ ap (λ (o : Option ℕ). or_else (as_move Advance (ready_head S s pool)) (or_else (as_move Wake o) (start_move S t pool))) (slept_same pool)
-      ∙ ap (λ (o : Option Move). or_else (as_move Advance (ready_head S s pool)) (or_else (as_move Wake (first_slept S s pool)) o)) (start_same pool)
+  pub moves_same : next_move S t pool ≡ next_move S s pool
+  moves_same =
+      ap (λ (o : Option ℕ). or_else (as_move Advance o) (or_else (as_move Wake (first_slept S t pool)) (start_move S t pool))) ready_same
+      ∙ ap (λ (o : Option ℕ). or_else (as_move Advance (ready_head S s pool)) (or_else (as_move Wake o) (start_move S t pool))) slept_same
+      ∙ ap (λ (o : Option Move). or_else (as_move Advance (ready_head S s pool)) (or_else (as_move Wake (first_slept S s pool)) o)) start_same
 
-  move_alike : MoveAlike S s t
-  move_alike = record {
-    ready = ready_same;
-    slept = slept_same;
-    moves = moves_same;
-    moving = first_below-agree (by_least (λ pool. pool)) (λ pool. is_some (next_move S t pool)) (λ pool. is_some (next_move S s pool)) (pool_count S) (λ pool below. ap is_some (moves_same pool));
-  }
+-- where all works run the same each pool has the move that it had
+move_alike : (S : ScenarioContents) (s : State) (time : ℕ) (running : List (Option Running)) (rs : List (Option Run)) → s.running ≡ shown_all s.time rs → running ≡ shown_all time rs → AreTimely s.time rs → AreTimely time rs
+    → MoveAlike S s (record s { time = time; running = running })
+move_alike S s time running rs one other timely later = record {
+  ready = λ pool. ready_same S s time running rs rs one other timely later pool (alike_here pool rs);
+  slept = λ pool. slept_same S s time running rs rs one other timely later pool (alike_here pool rs);
+  moves = moves;
+  moving = first_below-agree (by_least (λ pool. pool)) (λ pool. is_some (next_move S (record s { time = time; running = running }) pool)) (λ pool. is_some (next_move S s pool)) (pool_count S) (λ pool below. ap is_some (moves pool));
+}
+  where
+    moves : (pool : ℕ) → next_move S (record s { time = time; running = running }) pool ≡ next_move S s pool
+    moves pool = moves_same S s time running rs rs one other timely later pool (alike_here pool rs)
 
 -- while nothing ends each pool has the move that it had
 pub ticks_alike : (S : ScenarioContents) (s : State) (rs : List (Option Run)) (n m : ℕ) → s.running ≡ shown_all s.time rs → HaveHeads S rs → ((pool : ℕ) → GoIn S rs pool) → AreTimely s.time rs
@@ -238,3 +256,15 @@ alike_seen time works m view kept n ends s has earlier below =
     subst (λ (S : ScenarioContents). MoveAlike S s (ticks S s earlier)) (ap (λ (m : RunningContents). m.scenario) view)
     (ticks_alike works.scenario s works.runs earlier n (has_shown time works m view s has) kept.headed.heads kept.headed.going
     (subst (λ (t : ℕ). AreTimely t works.runs) at kept.timely) (subst (λ (t : ℕ). NoneEndsBefore (t + n) works.runs) at ends) below)
+
+-- after a tick a pool in which no burn and no sleep ended has the move that it had
+pub elsewhere_seen : (time : ℕ) (works after : PhasedContents) (m : RunningContents) (pools : PoolSet) → seen time works ≡ m → AreKept time works → AreTimely (time + 1) after.runs
+    → seen (time + 1) after ≡ seen (time + 1) works → AreAlikeOutside pools works.runs after.runs
+    → (s : State) → HasRunning m s → (pool : ℕ) → pool < 64 → has_pool pools pool ≡ false → next_move m.scenario (tick m.scenario s) pool ≡ next_move m.scenario s pool
+elsewhere_seen time works after m pools view kept timely same alike s has pool small clear =
+    let at : time ≡ s.time = sym (has_time time works m view s has) in
+    let shown : s.running ≡ shown_all s.time works.runs = has_shown time works m view s has in
+    subst (λ (S : ScenarioContents). next_move S (tick S s) pool ≡ next_move S s pool) (ap (λ (m : RunningContents). m.scenario) view)
+    (moves_same works.scenario s (s.time + 1) (tick works.scenario s).running works.runs after.runs shown
+    (tick_shown works.scenario s works.runs shown kept.headed.heads kept.headed.going ∙ subst (λ (t : ℕ). shown_all (t + 1) works.runs ≡ shown_all (t + 1) after.runs) at (sym (ap (λ (m : RunningContents). m.running) same)))
+    (subst (λ (t : ℕ). AreTimely t works.runs) at kept.timely) (subst (λ (t : ℕ). AreTimely (t + 1) after.runs) at timely) pool (alike pool small clear))

@@ -1,3 +1,4 @@
 pub mod Heads
+pub mod Pools
 pub mod RunningContents
 pub mod Ticks

@@ -2,59 +2,70 @@
 ghost use Rattle.cmwq_phases.specs.Phases.{shown_all};
 ghost use Rattle.cmwq_phases.specs.Runs.{alarm_in, first_to_end};
 ghost use Rattle.cmwq_running.specs.Heads.{AreHeaded, AreOnTime, AreTimely, NoneEndsBefore, alarm_count, end_of, ended};
+ghost use Rattle.cmwq_running.specs.Pools.{AreAlikeIn, AreAlikeOutside};
 ghost use Rattle.cmwq_running.specs.RunningContents.{seen};
-ghost use Rattle.std.specs.Prelude.{◌≡◌, ◌<◌, ◌≤◌, ◌+◌, IsFalse, IsTrue, Some, length};
+ghost use Rattle.std.specs.Prelude.{◌≡◌, ◌≢◌, ◌<◌, ◌≤◌, ◌+◌, ℕ, IfSome, None, Some, length};
 
+use cmwq_parts::PoolSet;
 use cmwq_phased::PhasedWorks;
 use cmwq_phases::{Phase, Run};
 
-/// Ends the burns and sleeps that end by this time. Nothing of it shows.
-pub(crate) fn end_by(works: &mut PhasedWorks, time: u64)
+/// Ends the burns and sleeps that end by this time, and answers in which pools some did. Nothing of it shows.
+pub(crate) fn end_by(works: &mut PhasedWorks, time: u64) -> PoolSet
     requires on_time { AreOnTime time works.old.runs }
     requires headed { AreHeaded works.old.scenario works.old.runs }
     ensures seen { seen time works.new ≡ seen time works.old }
     ensures timely { AreTimely time works.new.runs }
     ensures headed { AreHeaded works.new.scenario works.new.runs }
+    ensures elsewhere { AreAlikeOutside result works.old.runs works.new.runs }
 {
-    while end_first(works, time) {}
+    let mut pools = PoolSet::none();
+    while let Some(pool) = end_first(works, time) {
+        pools = pools.with(pool);
+    }
+    pools
 }
 
-/// Ends the burn or sleep that ends first, if it ends by this time, and tells whether it does.
-fn end_first(works: &mut PhasedWorks, time: u64) -> bool
+/// Ends the burn or sleep that ends first, if it ends by this time, and answers in which pool, if it does.
+fn end_first(works: &mut PhasedWorks, time: u64) -> Option<u8>
     requires on_time { AreOnTime time works.old.runs }
     requires headed { AreHeaded works.old.scenario works.old.runs }
     ensures seen { seen time works.new ≡ seen time works.old }
     ensures on_time { AreOnTime time works.new.runs }
     ensures headed { AreHeaded works.new.scenario works.new.runs }
-    ensures fewer { IsTrue result → alarm_count works.new < alarm_count works.old }
-    ensures timely { IsFalse result → AreTimely time works.new.runs }
+    ensures fewer { IfSome result (λ _. alarm_count works.new < alarm_count works.old) }
+    ensures elsewhere { IfSome result (λ pool. (other : ℕ) → other ≢ pool → AreAlikeIn other works.old.runs works.new.runs) }
+    ensures timely { result ≡ None → AreTimely time works.new.runs }
+    ensures same { result ≡ None → works.new ≡ works.old }
 {
     match works.first_to_end() {
-        None => false,
+        None => None,
         Some(w) => end_at(works, time, w),
     }
 }
 
-/// Ends the burn or sleep of the work that is the first to end, if it ends by this time, and tells whether it does.
-fn end_at(works: &mut PhasedWorks, time: u64, w: usize) -> bool
+/// Ends the burn or sleep of the work that is the first to end, if it ends by this time, and answers in which pool, if it does.
+fn end_at(works: &mut PhasedWorks, time: u64, w: usize) -> Option<u8>
     requires first { first_to_end works.old.scenario works.old.runs ≡ Some w }
     requires on_time { AreOnTime time works.old.runs }
     requires headed { AreHeaded works.old.scenario works.old.runs }
     ensures seen { seen time works.new ≡ seen time works.old }
     ensures on_time { AreOnTime time works.new.runs }
     ensures headed { AreHeaded works.new.scenario works.new.runs }
-    ensures fewer { IsTrue result → alarm_count works.new < alarm_count works.old }
-    ensures timely { IsFalse result → AreTimely time works.new.runs }
+    ensures fewer { IfSome result (λ _. alarm_count works.new < alarm_count works.old) }
+    ensures elsewhere { IfSome result (λ pool. (other : ℕ) → other ≢ pool → AreAlikeIn other works.old.runs works.new.runs) }
+    ensures timely { result ≡ None → AreTimely time works.new.runs }
+    ensures same { result ≡ None → works.new ≡ works.old }
 {
     works.own_stamps();
     let Some(run) = works.of(w) else {
-        return false;
+        return None;
     };
     match ended(run.phase, time) {
-        None => false,
+        None => None,
         Some(phase) => {
             works.set(w, Some(Run { phase, ..run }));
-            true
+            Some(run.pool)
         }
     }
 }

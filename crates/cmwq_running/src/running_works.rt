@@ -1,21 +1,23 @@
 //! The running works and the time.
+ghost use Rattle.cmwq_parts.specs.PoolSets.{has_pool};
 ghost use Rattle.cmwq_parts.specs.SettledTicks.{ticks};
 ghost use Rattle.cmwq_phased.specs.declared.pools.TheConstants.{MAX_POOLS};
 ghost use Rattle.cmwq_running.specs.RunningContents.{state_of, woken_run};
 ghost use Rattle.cmwq_running.specs.Ticks.{HasRunning, MoveAlike};
 ghost use Rattle.cmwq_table.specs.Counts.{burns, first_slept, has_free_rescuer, may_start, ready_head, runs};
-ghost use Rattle.cmwq_table.specs.Moves.{begun, burned};
+ghost use Rattle.cmwq_table.specs.Moves.{begun, burned, next_move, tick};
 ghost use Rattle.cmwq_table.specs.State.{State, running_at};
 ghost use Rattle.cmwq_types.specs.First.{count_below};
 ghost use Rattle.cmwq_types.specs.Scenario.{flags_at, queue_of};
 ghost use Rattle.cmwq_types.specs.Setting.{IsSetting};
 ghost use Rattle.cmwq_types.specs.declared.limits.TheConstants.{MAX_OPS, MAX_WORKS};
 ghost use Rattle.cmwq_types.specs.declared.reply.Mode.TheVariants.{Asleep};
-ghost use Rattle.std.specs.Prelude.{◌≡◌, ◌<◌, ◌≤◌, ◌+◌, ◌^◌, ◌&&◌, ◌==◌, ℕ, IfOk, IfSome, None, Some, is_some, length, replicate, slice_set, true};
+ghost use Rattle.std.specs.Prelude.{◌≡◌, ◌<◌, ◌≤◌, ◌+◌, ◌^◌, ◌&&◌, ◌==◌, ℕ, IfOk, IfSome, None, Some, false, is_some, length, replicate, slice_set, true};
 
 use crate::changing::{change, fall_asleep, go_on, wake};
 use crate::ending::{end_by, ticks_to_end};
 use crate::pacing::ready_run;
+use cmwq_parts::PoolSet;
 use cmwq_phased::PhasedWorks;
 use cmwq_phases::{Phase, Run};
 use cmwq_table::Running;
@@ -206,14 +208,16 @@ impl RunningWorks {
         change(works, *time, w, None);
     }
 
-    /// Lets one tick of time pass: who has a CPU burns.
-    pub fn tick(&mut self)
+    /// Lets one tick of time pass: who has a CPU burns. Answers in which pools a burn or a sleep ended. Each other one whose number is below 64
+    /// has the next move that it had, whatever else the state has.
+    pub fn tick(&mut self) -> PoolSet
         requires time { self.old.time < 2 ^ 63 }
-        ensures { self.new ≡ record self.old { time = self.old.time + 1; running = burned (burns self.old.scenario (state_of self.old)) 0 self.old.running } }
+        ensures ticked { self.new ≡ record self.old { time = self.old.time + 1; running = burned (burns self.old.scenario (state_of self.old)) 0 self.old.running } }
+        ensures elsewhere { (s : State) → HasRunning self.old s → (pool : ℕ) → pool < 64 → has_pool result pool ≡ false → next_move self.old.scenario (tick self.old.scenario s) pool ≡ next_move self.old.scenario s pool }
     {
         let RunningWorks { time, works } = self;
         *time += 1;
-        end_by(works, *time);
+        end_by(works, *time)
     }
 
     /// For how many ticks, at most so many, no burn and no sleep ends.

@@ -35,7 +35,7 @@ returns-in-Some-ended-clause-headed c =
     (end_headed c.args.works.now.scenario c.args.works.now.runs c.args.time c.args.w c.in-Some.run' c.in-Some-ended.phase (at c) (follow c) c.requires.headed)
 
 pub returns-in-Some-ended-clause-fewer : goal.returns-in-Some-ended-clause-fewer
-returns-in-Some-ended-clause-fewer c is =
+returns-in-Some-ended-clause-fewer c =
     subst (λ (m : PhasedContents). alarm_count m < alarm_count c.args.works.now) (sym c.set.ensures)
     (end_fewer c.args.works.now.scenario c.args.works.now.runs c.args.time c.args.w c.in-Some.run' c.in-Some-ended.phase (at c) (follow c)
     (first_ends c.args.works.now.scenario c.args.works.now.runs c.requires.headed.long c.args.w c.requires.first).in_range)
