@@ -1,3 +1,4 @@
 pub mod CoreLayout
 pub mod Moving
+pub mod Rescuing
 pub mod Staff

@@ -5,6 +5,7 @@ ghost use Rattle.std.specs.Prelude.{◌≡◌};
 use crate::beginning::{Numbers, Works, copied_numbers, copied_works, first_numbers, first_works};
 use crate::looking::{idle_workers, pending_works, running_works};
 use crate::moving::{listed_pool, with, with_some, without};
+use crate::rescuing::first_rescued;
 use cmwq_idle::IdleWorkers;
 use cmwq_parts::{Parts, PoolSet};
 use cmwq_queued::{MAX_POOLS, QueuedWorks};
@@ -234,8 +235,10 @@ impl Parts for CoreParts {
     }
 
     fn first_rescued(&self, pool: u8) -> Option<usize> {
-        self.first_listed(pool)?;
-        cmwq_reads::first(self, Sought::Rescued { pool })
+        if pool >= MAX_POOLS {
+            return cmwq_reads::first(self, Sought::Rescued { pool });
+        }
+        first_rescued(&self.queued, &self.running, pool)
     }
 
     fn first_due(&self) -> Option<usize> {

@@ -1,11 +1,12 @@
-//! `Core`: the instruction table over linked lists, timers, end times and counters. Works are scanned only where a queue's flush is judged, where
-//! a rescuer is sought for a listed work, and for a look.
+//! `Core`: the instruction table over linked lists, timers, end times and counters. Works are scanned only where a queue's flush is judged,
+//! and for a look.
 #![tactic(auto)]
 
 mod beginning;
 mod core_parts;
 mod looking;
 mod moving;
+mod rescuing;
 
 use cmwq_exec::Driven;
 pub use core_parts::CoreParts;

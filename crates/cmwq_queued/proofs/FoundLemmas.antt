@@ -9,9 +9,9 @@ use Rattle.cmwq_types.specs.Scenario.{queue_of}
 use Rattle.cmwq_types.specs.declared.reply.Place.{Place}
 use Rattle.cmwq_types.specs.declared.reply.Place.TheVariants as place
 use Rattle.cmwq_types.proofs.FirstLemmas.{by_least-order, by_least_two-order, first_below-is_first}
-use Rattle.cmwq_lists.specs.ListContents.{ListContents, Rank, first_in, is_after, is_in, is_of, list_in, next_in, order_at, order_in, rank_at}
+use Rattle.cmwq_lists.specs.ListContents.{IsInOrder, ListContents, Rank, first_in, is_after, is_in, is_of, list_in, next_in, order_at, order_in, rank_at}
 use Rattle.cmwq_queued.specs.Indexes.{IsIndexed, in_pool, inactive_list, list_at, list_of, rank_of, ranked, timer_of, timer_with, work_if_due}
-use Rattle.cmwq_queued.specs.QueuedContents.{QueuedContents, first_timed, is_timer, listed_behind, next_due, pending_at, pending_state}
+use Rattle.cmwq_queued.specs.QueuedContents.{HaveOwnStamps, QueuedContents, first_timed, is_timer, listed_behind, next_due, pending_at, pending_state}
 use Rattle.cmwq_queued.specs.declared.pools.TheConstants.{MAX_POOLS}
 use Rattle.cmwq_table.specs.Counts.{first_due, first_inactive, first_listed, is_due, is_inactive, is_listed, pending_due, pending_stamp, pends}
 use Rattle.cmwq_table.specs.declared.state.Pending.{Pending}
@@ -213,6 +213,13 @@ module _ (S : ScenarioContents) (pending : List (Option Pending)) (lists : ListC
   listed_rank : (pool w : ℕ) → pool < MAX_POOLS
       → pends (λ place. is_listed place pool) (pending_at pending w) ≡ true → is_in lists pool w ≡ true
   listed_rank pool w small listed = ap (is_of pool) (is.ranks w) ∙ listed_test (queue_of S w) pool (pending_at pending w) small ∙ listed
+
+  -- no two of them have one stamp
+  pub listed_apart : IsInOrder lists → (pool : ℕ) → pool < MAX_POOLS → HaveOwnStamps pending pool
+  listed_apart order pool small v w here there same =
+      let one = listed_rank pool v small here in
+      let other = listed_rank pool w small there in
+      order.apart pool v w one other (order_is_stamp pool v one ∙ same ∙ sym (order_is_stamp pool w other))
 
   -- the first of those behind it there
   pub listed_behind_is : (pool w : ℕ) → pool < MAX_POOLS

@@ -1,5 +1,5 @@
 -- What a contract sees of `QueuedWorks`: a scenario and the finite map of its pending works, as a list with one place a work.
-use Rattle.std.specs.Prelude.{ℕ, Bool, true, false, ◌&&◌, ◌==◌, ◌<◌, nat_lt, List, length, Option, Some, None, IfSome, option_map, slice_index_or, slice_set}
+use Rattle.std.specs.Prelude.{◌≡◌, ℕ, Bool, true, false, ◌&&◌, ◌==◌, ◌<◌, nat_lt, List, length, Option, Some, None, IfSome, option_map, slice_index_or, slice_set}
 use Rattle.cmwq_types.specs.Contents.{ScenarioContents}
 use Rattle.cmwq_types.specs.First.{count_below, first_below, by_least, by_least_two}
 use Rattle.cmwq_types.specs.Scenario.{flags_at, queue_of}
@@ -39,6 +39,12 @@ listed_behind S pending pool w =
     first_below (by_least (λ v. pending_stamp (pending_at pending v)))
     (λ v. pends (λ place. is_listed place pool) (pending_at pending v) && nat_lt (pending_stamp (pending_at pending w)) (pending_stamp (pending_at pending v)))
     (length S.works)
+
+-- no two works on the pool's worklist have one stamp
+abbrev pub HaveOwnStamps : List (Option Pending) → ℕ → Type 0
+HaveOwnStamps pending pool =
+    (v w : ℕ) → pends (λ place. is_listed place pool) (pending_at pending v) ≡ true → pends (λ place. is_listed place pool) (pending_at pending w) ≡ true
+    → pending_stamp (pending_at pending v) ≡ pending_stamp (pending_at pending w) → v ≡ w
 
 -- Timers.
 

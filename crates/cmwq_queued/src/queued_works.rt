@@ -1,6 +1,6 @@
 //! The pending works.
 ghost use Rattle.cmwq_queued.specs.Indexes.{list_of};
-ghost use Rattle.cmwq_queued.specs.QueuedContents.{IsNewest, deferred_in, listed_behind, next_due, pending_active, pending_at, pending_busy, pending_state, with_pending};
+ghost use Rattle.cmwq_queued.specs.QueuedContents.{HaveOwnStamps, IsNewest, deferred_in, listed_behind, next_due, pending_active, pending_at, pending_busy, pending_state, with_pending};
 ghost use Rattle.cmwq_queued.specs.declared.pools.TheConstants.{MAX_POOLS};
 ghost use Rattle.cmwq_table.specs.Counts.{first_due, first_inactive, first_listed, is_listed, pending_stamp, pends};
 ghost use Rattle.cmwq_types.specs.Scenario.{queue_of};
@@ -127,6 +127,15 @@ impl QueuedWorks {
         ensures few { IfSome result (λ v. v < MAX_WORKS) }
     {
         self.lists.next_key(w)
+    }
+
+    /// No two works on the pool's worklist have one stamp.
+    pub fn own_stamps(&self, pool: u8)
+        requires pool { pool < MAX_POOLS }
+        ensures { HaveOwnStamps self.now.pending pool }
+    {
+        let _ = pool;
+        self.lists.orders_differ();
     }
 
     /// The first of the queue's inactive works in the pool.

@@ -1,7 +1,7 @@
-use Rattle.std.proofs.Common.{sym, ◌∙◌}
-use Rattle.cmwq_core.proofs.FoundLemmas.{none_rescued}
+use Rattle.std.proofs.Common.{◌≡◌, ap, ◌∙◌}
+use Rattle.cmwq_table.specs.Counts.{first_rescued}
+use Rattle.cmwq_table.specs.Ready.{Loaded}
 use Rattle.cmwq_core.proofs.core_parts.CorePartsParts.first_rescued.Goals as goal
 
-pub returns-in_err-first_listed-clause-first : goal.returns-in_err-first_listed-clause-first
-returns-in_err-first_listed-clause-first c =
-    c.from_residual.ensures ∙ sym (none_rescued c.args.self.now.scenario c.args.self.now.state c.args.pool (sym c.first_listed.ensures.first ∙ c.in_err-first_listed.was))
+pub returns-clause-first : goal.returns-clause-first
+returns-clause-first c = c.first_rescued.ensures.first ∙ ap (λ (m : Loaded). first_rescued m.scenario m.state c.args.pool) c.self.view_is
