@@ -1,2 +1,3 @@
 mod BlockLemmas
 mod PutLemmas
+pub mod RepeatedLemmas

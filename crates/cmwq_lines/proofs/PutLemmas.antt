@@ -1,8 +1,7 @@
 -- What texts that are put one behind another come to.
-use Rattle.std.proofs.Common.{◌≡◌, ◌≤◌, ◌+◌, ◌-◌, ℕ, List, ◌∷◌, ◌++◌, [], length, take, drop, ap, sym, subst, refl, ◌∙◌, arith, rules, append_assoc, length-append, length-take, length-drop}
+use Rattle.std.proofs.Common.{◌≡◌, ◌≤◌, ◌+◌, ◌-◌, ℕ, List, ◌∷◌, ◌++◌, [], length, take, drop, ap, sym, ◌∙◌, arith, append_assoc, length-append, length-take, length-drop}
 use Rattle.std.proofs.Math.Seq.{take-append-add}
 use Rattle.std.proofs.lemmas.List.{length-take-le, take-append-le, take-take, take_at}
-use Rattle.std.proofs.lemmas.Slice.{overwrites}
 use Rattle.cmwq_types.specs.Contents.{ScenarioContents}
 use Rattle.cmwq_types.specs.declared.instr.Instr.{Instr}
 use Rattle.cmwq_types.specs.declared.reply.Reply.{Reply}

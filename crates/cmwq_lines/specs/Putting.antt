@@ -1,5 +1,5 @@
 -- What is put behind the first bytes of a block.
-use Rattle.std.specs.Prelude.{◌≡◌, ℕ, ◌+◌, List, [], ◌∷◌, ◌++◌, length, take}
+use Rattle.std.specs.Prelude.{◌≡◌, ℕ, zero, suc, ◌+◌, List, [], ◌∷◌, ◌++◌, length, take}
 
 -- the text stands behind the first `at` bytes, which stay, and ends at `end`
 pub record Puts (old : List ℕ) (at : ℕ) (new : List ℕ) (end : ℕ) (text : List ℕ) : Type 0 where
@@ -14,3 +14,8 @@ spaced text = 32 ∷ text
 -- a line feed behind the text
 abbrev pub ended : List ℕ → List ℕ
 ended text = text ++ 10 ∷ []
+
+-- the text so many times
+abbrev pub repeated : List ℕ → ℕ → List ℕ
+repeated text zero = []
+repeated text (suc times) = text ++ repeated text times

@@ -1,6 +1,7 @@
 //! A text that grows by short texts.
+ghost use Rattle.cmwq_lines.specs.Putting.{repeated};
 ghost use Rattle.std.specs.Fmt.{AppendsText};
-ghost use Rattle.std.specs.Prelude.{◌≡◌, ◌+◌, ◌≤◌, [], OnOk, length, take};
+ghost use Rattle.std.specs.Prelude.{◌≡◌, ◌+◌, ◌-◌, ◌*◌, ◌≤◌, ◌<◌, ◌++◌, [], OnOk, drop, length, take, ℕ};
 
 use cmwq_types::NoMemory;
 use std::alloc::Global;
@@ -67,6 +68,25 @@ impl Block {
         make_room(bytes, *len, more)
     }
 
+    /// Writes what stands behind the first `start` bytes so many times more behind itself. It fails only for want of memory.
+    pub fn repeat_end(&mut self, start: usize, more: u32) -> Result<(), NoMemory>
+        requires { start ≤ length self.old }
+        ensures { OnOk result (self.new ≡ self.old ++ repeated (drop start self.old) more) }
+    {
+        let Block { bytes, len } = self;
+        let Some(added) = (*len - start).checked_mul(more as usize) else {
+            return Err(NoMemory);
+        };
+        if added == 0 {
+            return Ok(());
+        }
+        make_room(bytes, *len, added)?;
+        let end = *len + added;
+        copy_on(bytes.as_mut_slice(), start, *len, end);
+        *len = end;
+        Ok(())
+    }
+
     /// Writes the text behind what is there. It fails also where the text's own `fmt` fails, as for a `String`; what is there then is lost.
     pub fn write_fmt<D: Display + Drop>(&mut self, text: D) -> Result<(), NoMemory>
         ensures { OnOk result (AppendsText self.old self.new (D.output text)) }
@@ -121,4 +141,20 @@ fn grow(bytes: &mut Vec<u8>, more: usize) -> Result<(), NoMemory>
     };
     bytes.resize(len, 0)?;
     Ok(())
+}
+
+/// Copies what stands from `start` to `there` behind itself again and again up to `end`: each time all that stands there by then.
+fn copy_on(bytes: &mut [u8], start: usize, there: usize, end: usize)
+    requires some { start < there }
+    requires within { (there ≤ end) × (end ≤ length bytes.old) }
+    ensures long { length bytes.new ≡ length bytes.old }
+    ensures text { (more : ℕ) → end ≡ there + more * (there - start) → take end bytes.new ≡ take there bytes.old ++ repeated (drop start (take there bytes.old)) more }
+{
+    let mut at = there;
+    while at < end {
+        let (done, free) = bytes.split_at_mut(at);
+        let some = (at - start).min(end - at);
+        free[..some].copy_from_slice(&done[start..start + some]);
+        at += some;
+    }
 }

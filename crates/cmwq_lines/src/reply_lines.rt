@@ -1,5 +1,5 @@
 //! The lines of a scenario's replies.
-ghost use Rattle.cmwq_lines.specs.Putting.{Puts, ended, spaced};
+ghost use Rattle.cmwq_lines.specs.Putting.{Puts, ended, repeated, spaced};
 ghost use Rattle.cmwq_table.specs.Events.{already_text, event_text, refusal_text, reply_line, reply_words, was_text, work_name};
 ghost use Rattle.cmwq_types.specs.declared.instr.Instr.{Instr};
 ghost use Rattle.std.specs.Fmt.{decimal};
@@ -85,6 +85,32 @@ impl<'s> ReplyLines<'s> {
             }
             None => self.print(block, time, instr, reply),
         }
+    }
+
+    /// Writes the line of a reply at a time to an instruction so many times behind what the block has. It is put together once.
+    ///
+    /// It fails only for want of memory. What the block has then is lost.
+    #[inline]
+    pub fn push_times(
+        &mut self,
+        block: &mut Block,
+        time: u64,
+        instr: Instr,
+        reply: &Reply,
+        times: u32,
+    ) -> Result<(), NoMemory>
+        ensures same { self.new ≡ self.old }
+        ensures lines { OnOk result (block.new ≡ block.old ++ repeated (reply_line self.old time instr reply.now) times) }
+    {
+        if times == 0 {
+            return Ok(());
+        }
+        let start = block.len();
+        self.push(block, time, instr, reply)?;
+        if times == 1 {
+            return Ok(());
+        }
+        block.repeat_end(start, times - 1)
     }
 
     /// Writes a reply's line as `ReplyLine` prints it.

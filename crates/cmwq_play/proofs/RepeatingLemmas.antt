@@ -13,7 +13,8 @@ use Rattle.cmwq_table.proofs.TimesLemmas.{after_times-last}
 use Rattle.cmwq_streams.specs.Blocks.{Sends, SendsFront, kept, sink}
 use Rattle.cmwq_streams.specs.declared.error.PlayError.{PlayError}
 use Rattle.cmwq_streams.proofs.CallerLemmas.{front_more}
-use Rattle.cmwq_play.specs.Repeating.{HasTold, repeated}
+use Rattle.cmwq_play.specs.Repeating.{HasTold}
+use Rattle.cmwq_lines.specs.Putting.{repeated}
 use Rattle.cmwq_play.specs.Session.{Issued, Stopped}
 use Rattle.cmwq_play.specs.Telling.{kept_from}
 use Rattle.cmwq_play.specs.declared.replies.Replies.{Replies}
@@ -104,18 +105,6 @@ module _ (S : ScenarioContents) (s once after : State) (i : Instr) (r : Reply) (
       (same-events S once i r once.time more again.replies (λ k within. ap (λ (t : State). t.time) (again.same k within)))
       ∙ ap (λ (t : ℕ). repeated (reply_line S t i r) (suc more)) (sym time)
       ∙ ap (repeated (reply_line S after.time i r)) place
-
--- once more is one line at the end
-pub repeated-more : (text : List ℕ) (times : ℕ) → repeated text times ++ text ≡ repeated text (suc times)
-repeated-more text zero = sym (append-nil text)
-repeated-more text (suc times) = append_assoc text (repeated text times) text ∙ ap (λ (rest : List ℕ). text ++ rest) (repeated-more text times)
-
--- and a front of so many are those that came before
-pub repeated-front : (text : List ℕ) (some more : ℕ) → repeated text some ++ repeated text more ≡ repeated text (some + more)
-repeated-front text zero more = let place : more ≡ zero + more = omega arith in ap (repeated text) place
-repeated-front text (suc some) more =
-    let place : suc (some + more) ≡ suc some + more = omega arith in
-    append_assoc text (repeated text some) (repeated text more) ∙ ap (λ (rest : List ℕ). text ++ rest) (repeated-front text some more) ∙ ap (repeated text) place
 
 -- What a session has told that issued an instruction several times at once: the machine first, and then it wrote the lines.
 module _ {M W : Type 0} (loaded : M → ScenarioContents) (state : M → State) (contents : W → Option (List ℕ)) (failed : W → Bool) (old : Session M W) (machine : M)

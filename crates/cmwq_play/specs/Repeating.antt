@@ -1,5 +1,5 @@
 -- An instruction that a session issues several times at once.
-use Rattle.std.specs.Prelude.{ℕ, zero, suc, List, [], ◌++◌, ◌<◌, ◌≤◌, Bool, Option, replicate}
+use Rattle.std.specs.Prelude.{ℕ, List, ◌<◌, ◌≤◌, Bool, Option, replicate}
 use Rattle.cmwq_types.specs.Contents.{ScenarioContents}
 use Rattle.cmwq_types.specs.declared.instr.Instr.{Instr}
 use Rattle.cmwq_table.specs.Events.{events_from}
@@ -7,11 +7,6 @@ use Rattle.cmwq_table.specs.Repeats.{after_times}
 use Rattle.cmwq_table.specs.State.{State}
 use Rattle.cmwq_play.specs.Session.{Issued}
 use Rattle.cmwq_play.specs.declared.session.Session.{Session}
-
--- the text so many times
-abbrev pub repeated : List ℕ → ℕ → List ℕ
-repeated text zero = []
-repeated text (suc times) = text ++ repeated text times
 
 -- the instruction was issued so often, at least once and at most so often, and its lines were written
 pub record HasTold {M W : Type 0} (loaded : M → ScenarioContents) (state : M → State) (contents : W → Option (List ℕ)) (failed : W → Bool)

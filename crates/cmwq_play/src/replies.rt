@@ -1,5 +1,6 @@
 //! The lines of replies.
-ghost use Rattle.cmwq_play.specs.Repeating.{HasTold, repeated};
+ghost use Rattle.cmwq_lines.specs.Putting.{repeated};
+ghost use Rattle.cmwq_play.specs.Repeating.{HasTold};
 ghost use Rattle.cmwq_play.specs.Session.{CanIssue, Issues, Stopped};
 ghost use Rattle.cmwq_table.specs.Events.{events_from, reply_line, told};
 ghost use Rattle.cmwq_table.specs.Table.{table};
@@ -11,6 +12,9 @@ use crate::teller::Teller;
 use cmwq_streams::{PlayError, Sink};
 use cmwq_table::Machine;
 use cmwq_types::{Instr, Reply};
+
+/// How many lines of a reply are kept back at once. In a block of lines there is as much room.
+const TOGETHER: u32 = 128;
 
 /// Tells the line of each reply, if it has one.
 #[derive(Drop)]
@@ -96,9 +100,12 @@ impl<M: Machine, W: Sink> Session<'_, '_, M, W> {
             (repeated (reply_line self.old.scenario.now (M.state self.old.machine).time instr reply.now) times) result }
     {
         let time = self.machine.now();
-        for _turn in 0..times {
+        let mut left = times;
+        while left > 0 {
+            let some = left.min(TOGETHER);
             self.lines
-                .write_reply(&mut self.replies, time, instr, reply)?;
+                .write_replies(&mut self.replies, time, instr, reply, some)?;
+            left -= some;
         }
         Ok(())
     }

@@ -1,4 +1,5 @@
 //! A writer of text that goes out a block at a time.
+ghost use Rattle.cmwq_lines.specs.Putting.{repeated};
 ghost use Rattle.cmwq_streams.specs.Sending.{HasSent, HasSentFront, IsSendError};
 ghost use Rattle.cmwq_table.specs.Events.{reply_line};
 ghost use Rattle.std.specs.Prelude.{◌≡◌, ◌≤◌, ◌↔◌, [], Err, IfErr, IfSome, OnErr, OnOk, false, length, true};
@@ -88,6 +89,31 @@ impl<'w, W: Sink> BlockWriter<'w, W> {
         ensures why { IfErr result (λ error. IsSendError error) }
     {
         lines.push(&mut self.block, time, instr, reply)?;
+        self.send_full()
+    }
+
+    /// Writes the line of a reply at a time to an instruction so many times behind what is kept back, and sends it all where it is more
+    /// than a block. All the lines are kept back first, so let them be few.
+    ///
+    /// The errors are `Write`, exactly where the `Sink` failed, and `NoMemory`. Then what is kept back is lost.
+    pub fn write_replies(
+        &mut self,
+        lines: &mut ReplyLines<'_>,
+        time: u64,
+        instr: Instr,
+        reply: &Reply,
+        times: u32,
+    ) -> Result<(), PlayError>
+        requires sound { W.failed (sink self.old) ≡ false }
+        ensures scenario { lines.new ≡ lines.old }
+        ensures same { SharesSink self.old self.new }
+        ensures ok { OnOk result (Sends W.contents self.old self.new (repeated (reply_line lines.old time instr reply.now) times)) }
+        ensures kept { OnOk result (length (kept self.new) ≤ 8192) }
+        ensures err { OnErr result (SendsFront W.contents self.old self.new (repeated (reply_line lines.old time instr reply.now) times)) }
+        ensures failed { (result ≡ Err PlayError.Write) ↔ (W.failed (sink self.new) ≡ true) }
+        ensures why { IfErr result (λ error. IsSendError error) }
+    {
+        lines.push_times(&mut self.block, time, instr, reply, times)?;
         self.send_full()
     }
 

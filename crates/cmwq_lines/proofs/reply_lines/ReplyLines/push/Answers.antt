@@ -1,10 +1,10 @@
-use Rattle.std.proofs.Common.{◌≡◌, ◌+◌, ◌≤◌, List, ℕ, [], ◌∷◌, ◌++◌, OnOk, length, take, ap, sym, subst, refl, ◌∙◌, arith, append-nil}
+use Rattle.std.proofs.Common.{◌≡◌, ◌≤◌, List, ℕ, ◌++◌, OnOk, length, take, ap, sym, subst, refl, ◌∙◌, arith, append-nil}
 use Rattle.std.proofs.lemmas.List.{with_items_is}
 use Rattle.std.specs.Fmt.{decimal}
 use Rattle.std.specs.Vec.{with_items}
 use Rattle.cmwq_types.specs.Contents.{ScenarioContents}
-use Rattle.cmwq_table.specs.Events.{is_silent, reply_line, reply_words}
-use Rattle.cmwq_lines.specs.Putting.{Puts, ended, spaced}
+use Rattle.cmwq_table.specs.Events.{reply_line, reply_words}
+use Rattle.cmwq_lines.specs.Putting.{ended, spaced}
 use Rattle.cmwq_lines.proofs.PutLemmas.{line_of, no_line, puts_behind, puts_then, puts_within}
 use Rattle.cmwq_lines.proofs.reply_lines.ReplyLines.push.Goals as goal
 

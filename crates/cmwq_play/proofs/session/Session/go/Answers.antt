@@ -4,7 +4,7 @@ use Rattle.cmwq_types.specs.Contents.{ScenarioContents}
 use Rattle.cmwq_types.specs.declared.instr.Instr.TheVariants.{Next}
 use Rattle.cmwq_table.specs.Events.{reply_line}
 use Rattle.cmwq_table.specs.Repeats.{HasGone}
-use Rattle.cmwq_play.specs.Repeating.{repeated}
+use Rattle.cmwq_lines.specs.Putting.{repeated}
 use Rattle.cmwq_play.proofs.RepeatingLemmas.{batch-stopped, batch-told, gone-events}
 use Rattle.cmwq_play.proofs.session.Session.go.Goals as goal
 

@@ -4,7 +4,7 @@ use Rattle.cmwq_types.specs.Contents.{ScenarioContents}
 use Rattle.cmwq_table.specs.Events.{reply_line}
 use Rattle.cmwq_table.specs.Repeats.{HasRepeated}
 use Rattle.cmwq_table.specs.Table.{table}
-use Rattle.cmwq_play.specs.Repeating.{repeated}
+use Rattle.cmwq_lines.specs.Putting.{repeated}
 use Rattle.cmwq_play.proofs.RepeatingLemmas.{batch-stopped, batch-told, repeated-events, repeated-reached}
 use Rattle.cmwq_play.proofs.session.Session.repeat.Goals as goal
 
