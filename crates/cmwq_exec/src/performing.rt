@@ -126,13 +126,16 @@ fn modify<P: Parts>(going: &mut Going<P>, w: WorkId, cpu: u8, ticks: u32) -> Res
     if going.is_disabled(w) {
         return Err(Refusal::Disabled);
     }
-    if going.parts.pending_of(w.0 as usize).is_none() {
-        going.place_after(w.0 as usize, cpu, ticks);
-        return Ok(Reply::Queued);
+    match going.parts.pending_of(w.0 as usize) {
+        Some(p) => {
+            going.replace(w.0 as usize, p, cpu, ticks);
+            Ok(Reply::Changed)
+        }
+        None => {
+            going.place_after(w.0 as usize, cpu, ticks);
+            Ok(Reply::Queued)
+        }
     }
-    going.take_off(w.0 as usize);
-    going.place_after(w.0 as usize, cpu, ticks);
-    Ok(Reply::Changed)
 }
 
 /// Takes a pending work off.
