@@ -10,6 +10,7 @@ use Rattle.cmwq_table.specs.Repeats.{HasGone, after_times, reply_behind}
 use Rattle.cmwq_table.specs.State.{State}
 use Rattle.cmwq_table.proofs.TimesLemmas.{after_times-more, reply_behind-more}
 use Rattle.cmwq_exec.specs.Advances.{HasAdvanced}
+use Rattle.cmwq_exec.proofs.NextLemmas.{advanced-within}
 use Rattle.cmwq_exec.proofs.RepeatedLemmas.{kept-times}
 
 abbrev SaysNothing : ScenarioContents → State → ℕ → Type 0
@@ -42,6 +43,14 @@ advanced-on begun was new most count more reply is before within advances =
       last = advanced.last ∙ reply_behind-more S Next count (more - 1) s ∙ ap (reply_behind S s Next) place;
       silent = λ earlier below. silent-at S s count more earlier before advanced.silent below (cases_lt earlier count);
     }
+
+-- the same where it was to advance less often
+pub advanced-turn : (begun was new : Loaded) (most count less more : ℕ) (reply : Reply)
+    → was ≡ record begun { state = after_times begun.scenario begun.state Next count }
+    → ((k : ℕ) → k < count → SaysNothing begun.scenario begun.state k)
+    → count < most → less ≤ most - count → HasAdvanced was less more new reply → HasAdvanced begun most (count + more) new reply
+advanced-turn begun was new most count less more reply is before within low advances =
+    advanced-on begun was new most count more reply is before within (advanced-within was new less (most - count) more reply low advances)
 
 silent-last : (begun new : Loaded) (most count : ℕ) (reply : Reply) → HasAdvanced begun most count new reply → is_silent reply ≡ true
     → (earlier : ℕ) → earlier < count → (earlier + 1 < count) ⊎ (count ≤ earlier + 1) → SaysNothing begun.scenario begun.state earlier

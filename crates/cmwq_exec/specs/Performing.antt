@@ -4,6 +4,8 @@ use Rattle.cmwq_types.specs.Contents.{ScenarioContents}
 use Rattle.cmwq_types.specs.declared.instr.Instr.{Instr}
 use Rattle.cmwq_types.specs.declared.reply.Refusal.{Refusal}
 use Rattle.cmwq_types.specs.declared.reply.Reply.{Reply}
+use Rattle.cmwq_types.specs.declared.reply.Reply.TheVariants.{Done, Event}
+use Rattle.cmwq_parts.specs.declared.pool_moves.Happened.{Happened}
 use Rattle.cmwq_table.specs.Ready.{Loaded}
 use Rattle.cmwq_table.specs.State.{State}
 use Rattle.cmwq_table.specs.Table.{effect, situation}
@@ -20,3 +22,12 @@ performed S s i = unless_refused s (situation S s i) (effect S s i)
 pub record Performs (old : Loaded) (i : Instr) (new : Loaded) (answer : Result Reply Refusal) : Type 0 where
   pub state : new ≡ record old { state = (performed old.scenario old.state i).0 }
   pub answered : answer ≡ (performed old.scenario old.state i).1
+
+-- the reply that tells what happened
+abbrev pub event_reply : Happened → Reply
+event_reply happened = Event happened.work happened.event
+
+-- the reply to `next`: nothing happened where it ticked
+abbrev pub next_reply : Option Happened → Reply
+next_reply (Some happened) = event_reply happened
+next_reply None = Done

@@ -1,6 +1,6 @@
 //! The instructions: each one's situation is judged and its effect carried out together, so that what was
 //! found for the one serves the other.
-ghost use Rattle.cmwq_exec.specs.Performing.{Performs};
+ghost use Rattle.cmwq_exec.specs.Performing.{Performs, event_reply, next_reply};
 ghost use Rattle.cmwq_parts.specs.FoundMoves.{IsFound, move_of};
 ghost use Rattle.cmwq_table.specs.Counts.{first_due, is_done};
 ghost use Rattle.cmwq_table.specs.Moves.{first_moving};
@@ -13,7 +13,7 @@ ghost use Rattle.std.specs.Prelude.{◌≡◌, ◌<◌, ◌≤◌, ◌+◌, ◌^
 
 use crate::disabling::{disable, enable};
 use crate::flushing::{cancel_sync, flush_delayed, flush_last, flush_queue};
-use cmwq_parts::{Found, Going, Parts};
+use cmwq_parts::{Going, Happened, Parts};
 use cmwq_reads::{flush_target, is_question, refused_at_once};
 use cmwq_types::{Cause, Event, Instr, QueueId, Refusal, Reply, WorkId, WorkRun, WorkState};
 
@@ -69,7 +69,7 @@ fn perform<P: Parts>(going: &mut Going<P>, instr: Instr) -> Result<Reply, Refusa
         Instr::Fire => fire_first(going),
         Instr::Step(pool) => step(going, pool),
         Instr::Tick => tick_if_settled(going),
-        Instr::Next => Ok(next(going)),
+        Instr::Next => next_reply(going),
         Instr::Ask(flush) => Ok(ask(going, flush as usize)),
         Instr::Busy => Ok(yes_or_no(going.parts.is_busy())),
         Instr::State(w) => Ok(found(going, w.0 as usize)),
@@ -126,13 +126,16 @@ fn modify<P: Parts>(going: &mut Going<P>, w: WorkId, cpu: u8, ticks: u32) -> Res
     if going.is_disabled(w) {
         return Err(Refusal::Disabled);
     }
-    if going.parts.pending_of(w.0 as usize).is_none() {
-        going.place_after(w.0 as usize, cpu, ticks);
-        return Ok(Reply::Queued);
+    match going.parts.pending_of(w.0 as usize) {
+        Some(p) => {
+            going.replace(w.0 as usize, p, cpu, ticks);
+            Ok(Reply::Changed)
+        }
+        None => {
+            going.place_after(w.0 as usize, cpu, ticks);
+            Ok(Reply::Queued)
+        }
     }
-    going.take_off(w.0 as usize);
-    going.place_after(w.0 as usize, cpu, ticks);
-    Ok(Reply::Changed)
 }
 
 /// Takes a pending work off.
@@ -209,15 +212,15 @@ fn relieve<P: Parts>(going: &mut Going<P>) -> Result<Reply, Refusal>
 }
 
 /// Fires the timer of the work, the first one that has run out.
-fn fire_due<P: Parts>(going: &mut Going<P>, w: usize) -> Reply
+fn fire_due<P: Parts>(going: &mut Going<P>, w: usize) -> Happened
     requires work { w < length going.old.scenario.works }
     requires few { w < MAX_WORKS }
     requires stamps { going.old.state.next < 2 ^ 60 }
     ensures state { going.new ≡ record going.old { state = (fired_first going.old.scenario going.old.state (Some w)).0 } }
-    ensures reply { result ≡ (fired_first going.old.scenario going.old.state (Some w)).1 }
+    ensures happened { event_reply result ≡ (fired_first going.old.scenario going.old.state (Some w)).1 }
 {
     going.fire(w);
-    Reply::Event {
+    Happened {
         work: WorkId(w as u16),
         event: Event::Fires,
     }
@@ -229,7 +232,7 @@ fn fire_first<P: Parts>(going: &mut Going<P>) -> Result<Reply, Refusal>
     ensures { Performs going.old instr.Fire going.new result }
 {
     match going.parts.first_due() {
-        Some(w) => Ok(fire_due(going, w)),
+        Some(w) => Ok(event_reply(fire_due(going, w))),
         None => Err(Refusal::NothingToDo),
     }
 }
@@ -241,7 +244,7 @@ fn step<P: Parts>(going: &mut Going<P>, pool: u8) -> Result<Reply, Refusal>
     ensures { Performs going.old (instr.Step pool) going.new result }
 {
     match going.next_move(pool) {
-        Some(next) => Ok(going.make_move(pool, next)),
+        Some(next) => Ok(event_reply(going.make_move(pool, next))),
         None => Err(Refusal::NothingToDo),
     }
 }
@@ -264,21 +267,45 @@ fn tick_if_settled<P: Parts>(going: &mut Going<P>) -> Result<Reply, Refusal>
 }
 
 /// Fires a due timer, else lets the least pool that has a move make it, else ticks.
-fn next<P: Parts>(going: &mut Going<P>) -> Reply
+#[inline(never)]
+fn next_reply<P: Parts>(going: &mut Going<P>) -> Result<Reply, Refusal>
+    requires time { going.old.state.time < 2 ^ 60 }
+    requires stamps { going.old.state.next < 2 ^ 60 }
+    ensures { Performs going.old instr.Next going.new result }
+{
+    match next(going) {
+        Some(happened) => Ok(event_reply(happened)),
+        None => Ok(Reply::Done),
+    }
+}
+
+/// Fires a due timer, else lets the least pool that has a move make it, else ticks. Answers what happened: nothing where it ticked.
+#[inline(always)]
+pub(crate) fn next<P: Parts>(going: &mut Going<P>) -> Option<Happened>
     requires time { going.old.state.time < 2 ^ 60 }
     requires stamps { going.old.state.next < 2 ^ 60 }
     ensures state { going.new ≡ record going.old { state = (next going.old.scenario going.old.state (first_due going.old.scenario going.old.state)).0 } }
-    ensures reply { result ≡ (next going.old.scenario going.old.state (first_due going.old.scenario going.old.state)).1 }
+    ensures happened { next_reply result ≡ (next going.old.scenario going.old.state (first_due going.old.scenario going.old.state)).1 }
 {
     if let Some(w) = going.parts.first_due() {
-        return fire_due(going, w);
+        return Some(fire_due(going, w));
     }
     match going.first_move() {
-        Some((pool, next)) => going.make_move(pool, next),
+        Some((pool, next)) => Some(going.make_move(pool, next)),
         None => {
             going.parts.tick();
-            Reply::Done
+            None
         }
+    }
+}
+
+/// The reply that tells what happened.
+pub(crate) fn event_reply(happened: Happened) -> Reply
+    ensures { result ≡ event_reply happened }
+{
+    Reply::Event {
+        work: happened.work,
+        event: happened.event,
     }
 }
 

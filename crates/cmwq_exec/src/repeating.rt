@@ -1,14 +1,14 @@
 //! What is carried out several times at once: `next` up to a reply with a line, and what comes out the same.
 ghost use Rattle.cmwq_exec.specs.Advances.{HasAdvanced};
+ghost use Rattle.cmwq_exec.specs.Performing.{next_reply};
 ghost use Rattle.cmwq_table.specs.Ready.{IsKept};
 ghost use Rattle.cmwq_table.specs.Repeats.{HasAnswered, HasGone, HasRepeated};
-ghost use Rattle.std.specs.Prelude.{◌≡◌, ◌+◌, ◌<◌, ◌≤◌};
+ghost use Rattle.std.specs.Prelude.{◌≡◌, ◌+◌, ◌-◌, ◌<◌, ◌≤◌};
 
-use crate::performing::{exec, spend};
-use cmwq_parts::{Going, Parts};
+use crate::performing::{event_reply, next, spend};
+use cmwq_parts::{Going, Happened, Parts};
 use cmwq_reads::is_question;
-use cmwq_table::is_silent;
-use cmwq_types::{Instr, Reply};
+use cmwq_types::{Instr, Refusal, Reply};
 
 /// Carries out `next` until a reply has a line, at least once and at most so many times. Answers how often that was, and the last reply.
 pub(crate) fn go<P: Parts>(going: &mut Going<P>, most: u32) -> (u32, Reply)
@@ -20,28 +20,46 @@ pub(crate) fn go<P: Parts>(going: &mut Going<P>, most: u32) -> (u32, Reply)
 {
     let mut count = 0;
     loop {
-        let (more, reply) = advance(going, most - count);
+        let left = steps_left(going);
+        if left == 0 {
+            return (count + 1, Reply::Refused(Refusal::Spent));
+        }
+        let (more, happened) = advance(going, left.min(most - count));
         count += more;
-        if count == most || !is_silent(reply) {
-            return (count, reply);
+        if let Some(happened) = happened {
+            return (count, event_reply(happened));
+        }
+        if count == most {
+            return (count, Reply::Done);
         }
     }
 }
 
-/// Lets the ticks pass before which the machine is known to be settled, each as a `next` and at most so many; where none is, carries out
-/// one `next`. Answers how many that was, and the last reply.
-fn advance<P: Parts>(going: &mut Going<P>, most: u32) -> (u32, Reply)
-    requires some { 0 < most }
-    requires kept { IsKept going.old }
-    ensures { HasAdvanced going.old most result.0 going.new result.1 }
+/// How many steps are left.
+fn steps_left<P: Parts>(going: &Going<P>) -> u32
+    requires { IsKept going.now }
+    ensures { result ≡ going.now.scenario.steps - going.now.state.spent }
 {
-    let left = going.parts.scenario().steps - going.parts.spent();
-    let passed = going.parts.pass(most.min(left));
-    if passed == 0 {
-        return (1, exec(going, Instr::Next));
+    going.parts.scenario().steps - going.parts.spent()
+}
+
+/// Lets the ticks pass before which the machine is known to be settled, each as a `next` and at most so many; where none is, carries out
+/// one `next`. Answers how many that was, and what happened in the last.
+#[inline(always)]
+fn advance<P: Parts>(going: &mut Going<P>, most: u32) -> (u32, Option<Happened>)
+    requires some { 0 < most }
+    requires left { going.old.state.spent + most ≤ going.old.scenario.steps }
+    requires kept { IsKept going.old }
+    ensures { HasAdvanced going.old most result.0 going.new (next_reply result.1) }
+{
+    let passed = going.parts.pass(most);
+    if passed != 0 {
+        spend(going, passed);
+        return (passed, None);
     }
-    spend(going, passed);
-    (passed, Reply::Done)
+    let happened = next(going);
+    spend(going, 1);
+    (1, happened)
 }
 
 /// Carries out again, at most so many times, the instruction that was the last and was answered so, where it is known to change nothing but
@@ -77,7 +95,7 @@ fn spend_again<P: Parts>(going: &mut Going<P>, most: u32) -> u32
     ensures left { going.old.state.spent + result ≤ going.old.scenario.steps }
     ensures spent { going.new ≡ record going.old { state = record going.old.state { spent = going.old.state.spent + result } } }
 {
-    let left = going.parts.scenario().steps - going.parts.spent();
+    let left = steps_left(going);
     let count = most.min(left);
     spend(going, count);
     count

@@ -3,14 +3,15 @@ ghost use Rattle.cmwq_parts.specs.Cpus.{HasCpu};
 ghost use Rattle.cmwq_parts.specs.PoolSets.{has_pool};
 ghost use Rattle.cmwq_parts.specs.SettledTicks.{AreSettled, ticks};
 ghost use Rattle.cmwq_table.specs.Counts.{first_due, first_inactive, first_listed, first_rescued, first_slept, free_worker, has_room, is_busy, is_deferred, is_done, may_start, ready_head};
-ghost use Rattle.cmwq_table.specs.Moves.{begin_again, begin_on, deferred, enlist, first_moving, newborn, next_move, retire, started_on, taking, tick, with_depth, with_flush, with_pending, with_pressed, with_running, woken};
+ghost use Rattle.cmwq_table.specs.Moves.{begin_again, begin_on, deferred, enlist, first_moving, newborn, next_move, retire, set_timer, started_on, taking, tick, with_depth, with_flush, with_pending, with_pressed, with_running, woken};
 ghost use Rattle.cmwq_table.specs.Ready.{holding};
 ghost use Rattle.cmwq_table.specs.State.{pending_at, running_at, start};
 ghost use Rattle.cmwq_table.specs.View.{view_of};
+ghost use Rattle.cmwq_types.specs.Places.{is_placed};
 ghost use Rattle.cmwq_types.specs.Setting.{IsSetting};
 ghost use Rattle.cmwq_types.specs.declared.limits.TheConstants.{MAX_OPS, MAX_WORKS, RESCUER};
 ghost use Rattle.cmwq_types.specs.declared.reply.Mode.TheVariants.{Asleep};
-ghost use Rattle.std.specs.Prelude.{◌≡◌, ◌<◌, ◌≤◌, ◌+◌, ◌^◌, ℕ, IfOk, IfSome, None, Some, is_some, length, slice_set, true};
+ghost use Rattle.std.specs.Prelude.{◌≡◌, ◌<◌, ◌≤◌, ◌+◌, ◌^◌, ℕ, IfOk, IfSome, None, Some, false, is_some, length, slice_set, true};
 
 use crate::pool_set::PoolSet;
 use cmwq_reads::Sought;
@@ -159,6 +160,20 @@ pub trait Parts: Reads + Drop {
         requires pending { pending_at (Self.state self.old) w ≡ Some p }
         ensures cpu { HasCpu (Self.loaded self.old) p.place }
         ensures unpended { holding (Self.loaded self.new) (Self.state self.new) ≡ holding (Self.loaded self.old) (with_pending (Self.state self.old) w None) };
+
+    /// Takes the pending work with its timer off, and makes a new instance of it with another timer. One fresh stamp is its birth and
+    /// its stamp.
+    fn set_timer(&mut self, w: usize, p: Pending, due: u64, cpu: u8)
+        requires work { w < length (Self.loaded self.old).works }
+        requires pending { pending_at (Self.state self.old) w ≡ Some p }
+        requires timer { is_placed p.place ≡ false }
+        requires cpu { cpu < (Self.loaded self.old).cpus }
+        requires stamps { (Self.state self.old).next < 2 ^ 63 }
+        ensures { holding (Self.loaded self.new) (Self.state self.new) ≡ holding (Self.loaded self.old) (set_timer (with_pending (Self.state self.old) w None) w cpu due) }
+    {
+        self.unpend(w, p);
+        self.bear(w, Place::Timer { due, cpu });
+    }
 
     /// Lists the queue's first inactive work in the pool, under a fresh stamp.
     fn enlist(&mut self, queue: u8, pool: u8, w: usize)

@@ -1,13 +1,14 @@
 //! Placing works in worker pools, and filling what has room.
-ghost use Rattle.cmwq_table.specs.Moves.{fill, fill_from, fill_one, fire, place, place_after, pool_for, take_off};
+ghost use Rattle.cmwq_table.specs.Moves.{fill, fill_from, fill_one, fire, place, place_after, pool_for, take_off, taken_off};
 ghost use Rattle.cmwq_table.specs.Ready.{Takes};
 ghost use Rattle.cmwq_table.specs.State.{is_disabled, pending_at};
 ghost use Rattle.cmwq_types.specs.Setting.{IsSetting};
 ghost use Rattle.cmwq_types.specs.declared.limits.TheConstants.{MAX_WORKS};
-ghost use Rattle.std.specs.Prelude.{◌≡◌, ◌<◌, ◌≤◌, ◌+◌, ◌^◌, IsFalse, None, length};
+ghost use Rattle.std.specs.Prelude.{◌≡◌, ◌<◌, ◌≤◌, ◌+◌, ◌^◌, IsFalse, None, Some, length};
 
 use crate::going::Going;
 use crate::parts::Parts;
+use cmwq_table::Pending;
 use cmwq_types::{Place, WorkId};
 
 impl<P: Parts> Going<P> {
@@ -134,6 +135,24 @@ impl<P: Parts> Going<P> {
             let queue = self.parts.scenario().queue_of(w);
             self.parts.unpend(w, p);
             self.fill_from(queue, p.place);
+        }
+    }
+
+    /// Takes the pending work off, and places it after so many ticks, at once after none.
+    pub fn replace(&mut self, w: usize, p: Pending, cpu: u8, ticks: u32)
+        requires work { w < length self.old.scenario.works }
+        requires pending { pending_at self.old.state w ≡ Some p }
+        requires cpu { cpu < self.old.scenario.cpus }
+        requires time { self.old.state.time < 2 ^ 63 }
+        requires stamps { self.old.state.next < 2 ^ 62 }
+        ensures { self.new ≡ record self.old { state = place_after self.old.scenario (taken_off self.old.scenario self.old.state w (Some p)) w cpu ticks } }
+    {
+        if ticks != 0 && !p.place.is_placed() {
+            let due = self.parts.time() + u64::from(ticks);
+            self.parts.set_timer(w, p, due, cpu);
+        } else {
+            self.take_off(w);
+            self.place_after(w, cpu, ticks);
         }
     }
 

@@ -1,18 +1,16 @@
 //! The moves of a worker pool: which one is next, and what each does.
 ghost use Rattle.cmwq_parts.specs.FoundMoves.{IsFirstMove, IsFound, if_found, move_of};
 ghost use Rattle.cmwq_table.specs.Counts.{first_listed, first_rescued, free_worker, ready_head};
-ghost use Rattle.cmwq_table.specs.Moves.{advance, carry_out, come_to_end, finish, next_move, queue_from_body, rescued, start_first, start_move, started};
+ghost use Rattle.cmwq_table.specs.Moves.{advance, carry_out, come_to_end, finish, moved, moved_work, next_move, queue_from_body, rescued, start_first, start_move, started};
 ghost use Rattle.cmwq_table.specs.Ready.{Takes};
 ghost use Rattle.cmwq_table.specs.State.{is_disabled, pending_at, running_at};
-ghost use Rattle.cmwq_table.specs.Table.{stepped};
 ghost use Rattle.cmwq_types.specs.Scenario.{op_at};
-ghost use Rattle.cmwq_types.specs.declared.reply.Reply.TheVariants as reply;
 ghost use Rattle.std.specs.Prelude.{◌≡◌, ◌<◌, ◌^◌, IfSome, None, Some, length};
 
 use crate::going::Going;
 use crate::parts::Parts;
 use cmwq_table::Running;
-use cmwq_types::{Event, Op, Reply, WorkId};
+use cmwq_types::{Event, Op, WorkId};
 
 /// The next move of a worker pool, as it was found.
 #[derive(Clone, Copy)]
@@ -29,8 +27,18 @@ pub enum Found {
     Rescue(WorkId),
 }
 
+/// What a move of the machine did, and the work that it did it to.
+#[derive(Clone, Copy)]
+pub struct Happened {
+    /// The work that was moved.
+    pub work: WorkId,
+    /// What happened to it.
+    pub event: Event,
+}
+
 impl<P: Parts> Going<P> {
     /// The next move of the pool: advance, else wake, else start.
+    #[inline(always)]
     pub fn next_move(&self, pool: u8) -> Option<Found>
         ensures next { if_found result ≡ next_move self.now.scenario self.now.state pool }
         ensures fits { IfSome result (IsFound self.now.scenario self.now.state pool) }
@@ -46,6 +54,7 @@ impl<P: Parts> Going<P> {
 
     /// The move that takes a listed work, if the pool may start one: the first listed work, else the first
     /// that a rescuer can take.
+    #[inline(always)]
     fn start_move(&self, pool: u8) -> Option<Found>
         ensures next { if_found result ≡ start_move self.now.scenario self.now.state pool }
         ensures fits { IfSome result (IsFound self.now.scenario self.now.state pool) }
@@ -62,6 +71,7 @@ impl<P: Parts> Going<P> {
     }
 
     /// The move that takes the first listed work. A work that runs is deferred; any other wants a worker.
+    #[inline(always)]
     fn start_first(&self, pool: u8) -> Option<Found>
         ensures next { if_found result ≡ start_first self.now.state (first_listed self.now.scenario self.now.state pool) (free_worker self.now.scenario self.now.state pool) }
         ensures fits { IfSome result (IsFound self.now.scenario self.now.state pool) }
@@ -76,6 +86,7 @@ impl<P: Parts> Going<P> {
 
     /// The least pool that has a move, and its move. Of the pools that may have one it asks each in turn, and lets the parts know which
     /// have none.
+    #[inline(always)]
     pub fn first_move(&mut self) -> Option<(u8, Found)>
         ensures same { self.new ≡ self.old }
         ensures first { IsFirstMove self.old.scenario self.old.state result }
@@ -97,38 +108,45 @@ impl<P: Parts> Going<P> {
     }
 
     /// Makes the pool's move, and tells what it did.
-    pub fn make_move(&mut self, pool: u8, next: Found) -> Reply
+    #[inline(always)]
+    pub fn make_move(&mut self, pool: u8, next: Found) -> Happened
         requires fits { IsFound self.old.scenario self.old.state pool next }
         requires time { self.old.state.time < 2 ^ 60 }
         requires stamps { self.old.state.next < 2 ^ 60 }
-        ensures state { self.new ≡ record self.old { state = (stepped self.old.scenario self.old.state pool (Some (move_of next))).0 } }
-        ensures reply { result ≡ (stepped self.old.scenario self.old.state pool (Some (move_of next))).1 }
+        ensures state { self.new ≡ record self.old { state = (moved self.old.scenario self.old.state pool (move_of next)).0 } }
+        ensures work { result.work ≡ moved_work (move_of next) }
+        ensures event { result.event ≡ (moved self.old.scenario self.old.state pool (move_of next)).1 }
     {
         match next {
             Found::Advance(work) => {
                 let event = self.advance(pool, work.0 as usize);
-                event_reply(work, event)
+                Happened { work, event }
             }
             Found::Wake(work) => {
                 self.parts.wake(pool, work.0 as usize);
-                event_reply(work, Event::Wakes)
+                let event = Event::Wakes;
+                Happened { work, event }
             }
             Found::Start(work, worker) => {
                 self.start(pool, work.0 as usize, worker);
-                event_reply(work, Event::Starts)
+                let event = Event::Starts;
+                Happened { work, event }
             }
             Found::Defer(work) => {
                 self.parts.defer(pool, work.0 as usize);
-                event_reply(work, Event::Defers)
+                let event = Event::Defers;
+                Happened { work, event }
             }
             Found::Rescue(work) => {
                 self.take_to_rescuer(pool, work.0 as usize);
-                event_reply(work, Event::StartsOnRescuer)
+                let event = Event::StartsOnRescuer;
+                Happened { work, event }
             }
         }
     }
 
     /// The ready head of the pool carries out the operation that it has come to.
+    #[inline(always)]
     #[tactic(auto, using(cmwq_table::proofs::HeadLemmas::heads))]
     fn advance(&mut self, pool: u8, w: usize) -> Event
         requires work { w < length self.old.scenario.works }
@@ -145,6 +163,7 @@ impl<P: Parts> Going<P> {
     }
 
     /// The running work carries out the operation that it has come to.
+    #[inline(always)]
     fn carry_out(&mut self, w: usize, r: Running) -> Event
         requires work { w < length self.old.scenario.works }
         requires running { running_at self.old.state w ≡ Some r }
@@ -253,10 +272,4 @@ impl<P: Parts> Going<P> {
             self.parts.rescue(pool, w, p);
         }
     }
-}
-
-fn event_reply(work: WorkId, event: Event) -> Reply
-    ensures { result ≡ reply.Event work event }
-{
-    Reply::Event { work, event }
 }

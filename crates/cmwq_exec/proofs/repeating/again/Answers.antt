@@ -1,7 +1,5 @@
-use Rattle.std.proofs.Common.{◌≡◌, ◌+◌, refl, sym, ap, ◌∙◌, subst}
-use Rattle.cmwq_types.specs.declared.instr.Instr.{Instr}
+use Rattle.std.proofs.Common.{refl, sym, ap, ◌∙◌, subst}
 use Rattle.cmwq_types.specs.declared.instr.Instr.TheVariants.{Cancel, Delay, Queue}
-use Rattle.cmwq_types.specs.declared.reply.Reply.{Reply}
 use Rattle.cmwq_types.specs.declared.reply.Reply.TheVariants.{Already, NotPending, Refused}
 use Rattle.cmwq_table.specs.Ready.{Loaded}
 use Rattle.cmwq_table.specs.Repeats.{HasRepeated}

@@ -1,43 +1,103 @@
-use Rattle.std.proofs.Common.{◌≡◌, ◌+◌, true, arith}
+use Rattle.std.proofs.Common.{◌≡◌, ◌+◌, ◌-◌, ◌≤◌, true, false, arith, sym, ap, ◌∙◌, subst}
+use Rattle.cmwq_types.specs.declared.reply.Refusal.TheVariants.{Spent}
+use Rattle.cmwq_types.specs.declared.reply.Reply.{Reply}
+use Rattle.cmwq_types.specs.declared.reply.Reply.TheVariants.{Done, Refused}
 use Rattle.cmwq_table.specs.Events.{is_silent}
-use Rattle.cmwq_exec.proofs.AdvanceLemmas.{advanced-kept, advanced-on, gone-so-far, silent-all}
+use Rattle.cmwq_exec.specs.Advances.{HasAdvanced}
+use Rattle.cmwq_exec.specs.Performing.{next_reply}
+use Rattle.cmwq_exec.proofs.AdvanceLemmas.{advanced-kept, advanced-on, advanced-turn, gone-so-far, silent-all}
+use Rattle.cmwq_exec.proofs.NextLemmas.{refused-advances}
 use Rattle.cmwq_exec.proofs.repeating.go.Goals as goal
-use Rattle.cmwq_exec.proofs.repeating.go.Goals.{then-count-most-via-then-count-most, then-count-most-via-else-count-most+then-not-is_silent}
+
+pub returns-then-left-eq0-clause-gone : goal.returns-then-left-eq0-clause-gone
+returns-then-left-eq0-clause-gone g c =
+    let begun = c.args.going.now in
+    let at = c.loop-most.going in
+    let was = c.loop-most.invariant in
+    let count = c.loop-most.count in
+    let few = was.few in
+    let spent : at.scenario.steps ≤ at.state.spent = omega (arith, c.steps_left-left.ensures, c.if-left-eq0.true) in
+    let refused = refused-advances at (c.args.most - count) (omega (arith, few)) spent in
+    gone-so-far begun at c.args.most (count + 1) (Refused Spent)
+    (advanced-on begun at at c.args.most count 1 (Refused Spent) was.state was.silent was.few refused)
+    (λ quiet. absurd (let spoken = quiet in cc))
+
+pub returns-in-Some-clause-gone : goal.returns-in-Some-clause-gone
+returns-in-Some-clause-gone g c =
+    let begun = c.args.going.now in
+    let at = c.loop-most.going in
+    let was = c.loop-most.invariant in
+    let count = c.loop-most.count in
+    let more = c.advance-more.result.0 in
+    let new = c.advance-more.new.going in
+    let reply = next_reply c.advance-more.result.1 in
+    let low : c.min.result ≤ c.args.most - count = omega (arith, c.min.ensures) in
+    let told : reply ≡ c.event_reply.result = ap next_reply c.in-Some.is ∙ sym c.event_reply.ensures in
+    let advanced = advanced-turn begun at new c.args.most count c.min.result more reply was.state was.silent was.few low c.advance-more.ensures in
+    gone-so-far begun new c.args.most (count + more) c.event_reply.result
+    (subst (λ (r : Reply). HasAdvanced begun c.args.most (count + more) new r) told advanced)
+    (λ quiet. absurd (let spoken : is_silent c.event_reply.result ≡ false = ap is_silent c.event_reply.ensures in cc))
+
+pub returns-in-Some-clause-kept : goal.returns-in-Some-clause-kept
+returns-in-Some-clause-kept g c =
+    let begun = c.args.going.now in
+    let at = c.loop-most.going in
+    let was = c.loop-most.invariant in
+    let count = c.loop-most.count in
+    let more = c.advance-more.result.0 in
+    let new = c.advance-more.new.going in
+    let reply = next_reply c.advance-more.result.1 in
+    let low : c.min.result ≤ c.args.most - count = omega (arith, c.min.ensures) in
+    advanced-kept begun new c.args.most (count + more) reply c.requires.kept
+    (advanced-turn begun at new c.args.most count c.min.result more reply was.state was.silent was.few low c.advance-more.ensures)
 
 pub returns-then-count-most-clause-gone : goal.returns-then-count-most-clause-gone
 returns-then-count-most-clause-gone g c =
     let begun = c.args.going.now in
-    let was = c.loop-count.invariant in
+    let at = c.loop-most.going in
+    let was = c.loop-most.invariant in
+    let count = c.loop-most.count in
     let more = c.advance-more.result.0 in
-    let reply = c.advance-more.result.1 in
-    let advanced = advanced-on begun c.loop-count.going c.advance-more.new.going c.args.most c.loop-count.count more reply was.state was.silent was.few c.advance-more.ensures in
-    gone-so-far begun c.advance-more.new.going c.args.most (c.loop-count.count + more) reply advanced
-    (λ quiet. elim c.then-count-most.branch [
-      | then-count-most-via-then-count-most w ↦ w.if-count-most.true
-      | then-count-most-via-else-count-most+then-not-is_silent w ↦ absurd (let told = w.is_silent.ensures in let spoken = w.if-not-is_silent.true in cc)
-    ])
+    let new = c.advance-more.new.going in
+    let reply = next_reply c.advance-more.result.1 in
+    let low : c.min.result ≤ c.args.most - count = omega (arith, c.min.ensures) in
+    let told : reply ≡ Done = ap next_reply c.in_default.is in
+    let advanced = advanced-turn begun at new c.args.most count c.min.result more reply was.state was.silent was.few low c.advance-more.ensures in
+    gone-so-far begun new c.args.most (count + more) Done
+    (subst (λ (r : Reply). HasAdvanced begun c.args.most (count + more) new r) told advanced)
+    (λ quiet. c.if-count-most.true)
 
 pub returns-then-count-most-clause-kept : goal.returns-then-count-most-clause-kept
 returns-then-count-most-clause-kept g c =
     let begun = c.args.going.now in
-    let was = c.loop-count.invariant in
-    let advanced = advanced-on begun c.loop-count.going c.advance-more.new.going c.args.most c.loop-count.count c.advance-more.result.0 c.advance-more.result.1 was.state was.silent was.few c.advance-more.ensures in
-    advanced-kept begun c.advance-more.new.going c.args.most (c.loop-count.count + c.advance-more.result.0) c.advance-more.result.1 c.requires.kept advanced
+    let at = c.loop-most.going in
+    let was = c.loop-most.invariant in
+    let count = c.loop-most.count in
+    let more = c.advance-more.result.0 in
+    let new = c.advance-more.new.going in
+    let reply = next_reply c.advance-more.result.1 in
+    let low : c.min.result ≤ c.args.most - count = omega (arith, c.min.ensures) in
+    advanced-kept begun new c.args.most (count + more) reply c.requires.kept
+    (advanced-turn begun at new c.args.most count c.min.result more reply was.state was.silent was.few low c.advance-more.ensures)
 
-pub loop-count-preserved : goal.loop-count-preserved
-loop-count-preserved g c =
+pub loop-most-preserved : goal.loop-most-preserved
+loop-most-preserved g c =
     let begun = c.args.going.now in
-    let was = c.loop-count.invariant in
-    let count = c.loop-count.count + c.advance-more.result.0 in
-    let reply = c.advance-more.result.1 in
-    let advanced = advanced-on begun c.loop-count.going c.advance-more.new.going c.args.most c.loop-count.count c.advance-more.result.0 reply was.state was.silent was.few c.advance-more.ensures in
+    let at = c.loop-most.going in
+    let was = c.loop-most.invariant in
+    let count = c.loop-most.count in
+    let more = c.advance-more.result.0 in
+    let new = c.advance-more.new.going in
+    let reply = next_reply c.advance-more.result.1 in
+    let low : c.min.result ≤ c.args.most - count = omega (arith, c.min.ensures) in
+    let advanced = advanced-turn begun at new c.args.most count c.min.result more reply was.state was.silent was.few low c.advance-more.ensures in
     let some = advanced.some in
     let few = advanced.few in
     let apart = c.if-count-most.false in
-    let quiet : is_silent reply ≡ true = (let told = c.is_silent.ensures in let spoken = c.if-not-is_silent.false in cc) in
+    let quiet : is_silent reply ≡ true = ap (λ o. is_silent (next_reply o)) c.in_default.is in
     record {
       few = (omega (arith, few, apart));
       state = advanced.state;
-      kept = advanced-kept begun c.advance-more.new.going c.args.most count reply c.requires.kept advanced;
-      silent = silent-all begun c.advance-more.new.going c.args.most count reply advanced quiet;
+      kept = advanced-kept begun new c.args.most (count + more) reply c.requires.kept advanced;
+      silent = silent-all begun new c.args.most (count + more) reply advanced quiet;
     }
