@@ -53,7 +53,7 @@ fn end_at(works: &mut PhasedWorks, time: u64, w: usize) -> bool
     match ended(run.phase, time) {
         None => false,
         Some(phase) => {
-            works.set(w, Some(Run { phase, ..run }));
+            works.carry_on(w, run, Run { phase, ..run });
             true
         }
     }
