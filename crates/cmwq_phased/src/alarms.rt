@@ -1,5 +1,5 @@
 //! The alarms of running works: of those whom time alone ends.
-ghost use Rattle.cmwq_phased.specs.Indexes.{AreTimed, alarm_of};
+ghost use Rattle.cmwq_phased.specs.Indexes.{AreTimed, alarm_of, rings_by};
 ghost use Rattle.cmwq_phases.specs.Runs.{alarm_in, run_at};
 ghost use Rattle.cmwq_timers.specs.Timers.{timer_at};
 ghost use Rattle.cmwq_types.specs.declared.limits.TheConstants.{MAX_WORKS};
@@ -22,6 +22,17 @@ pub(crate) fn alarm_of(work: WorkId, run: Option<Run>) -> Option<Timer>
         work,
         cpu: 0,
     })
+}
+
+/// The work of an alarm that rings by this time.
+#[inline(always)]
+pub(crate) fn rings_by(alarm: Option<Timer>, time: u64) -> Option<usize>
+    ensures { result ≡ rings_by time alarm }
+{
+    match alarm {
+        Some(alarm) if alarm.due <= time => Some(usize::from(alarm.work.0)),
+        _ => None,
+    }
 }
 
 /// When time alone ends the phase, if it does.

@@ -1,12 +1,12 @@
 //! The running works, with their indexes.
-ghost use Rattle.cmwq_phased.specs.PhasedContents.{HaveOwnStamps};
+ghost use Rattle.cmwq_phased.specs.PhasedContents.{HaveOwnStamps, if_ends_by};
 ghost use Rattle.cmwq_phased.specs.declared.pools.TheConstants.{MAX_POOLS};
 ghost use Rattle.cmwq_phases.specs.Runs.{HasOwnStamp, awake_in, first_in_line, first_rested, first_to_end, freezable_running, rescued_of, run_at, running_in};
 ghost use Rattle.cmwq_types.specs.Setting.{IsSetting};
 ghost use Rattle.cmwq_types.specs.declared.limits.TheConstants.{MAX_WORKS};
 ghost use Rattle.std.specs.Prelude.{◌≡◌, ◌<◌, ◌≤◌, IfOk, IfSome, None, Some, length, replicate, slice_set};
 
-use crate::alarms::set_alarm;
+use crate::alarms::{rings_by, set_alarm};
 use crate::classes::class_in;
 use crate::counts::Counts;
 use crate::lines::{line_up, line_up_in_pool, rested_list};
@@ -181,6 +181,16 @@ impl PhasedWorks {
     {
         let alarm = self.alarms.least()?;
         Some(usize::from(alarm.work.0))
+    }
+
+    /// The same, if its burn or sleep ends by this time. It's quick where none does.
+    #[inline(always)]
+    pub fn first_to_end_by(&self, time: u64) -> Option<usize>
+        ensures first { result ≡ if_ends_by self.now.runs time (first_to_end self.now.scenario self.now.runs) }
+        ensures in_range { IfSome result (λ w. w < length self.now.scenario.works) }
+        ensures few { IfSome result (λ w. w < MAX_WORKS) }
+    {
+        rings_by(self.alarms.least(), time)
     }
 
     /// How many works of the queue run in the pool.
