@@ -1,13 +1,14 @@
 -- Whose alarm is the first.
-use Rattle.std.proofs.Common.{◌≡◌, ℕ, Bool, true, ◌&&◌, ◌==◌, nat_lt, List, length, Option, Some, None, refl, sym, ap, ◌∙◌}
-use Rattle.std.specs.Prelude.{is_some, option_map, ◌||◌}
+use Rattle.std.proofs.Common.{◌≡◌, ℕ, Bool, true, ◌&&◌, ◌==◌, nat_lt, cond, List, length, Option, Some, None, refl, sym, ap, ◌∙◌}
+use Rattle.std.specs.Prelude.{is_some, nat_le, option_map, ◌||◌}
 use Rattle.cmwq_types.specs.Contents.{ScenarioContents}
 use Rattle.cmwq_types.specs.First.{first_below, by_least_two, MatchFirst}
 use Rattle.cmwq_types.proofs.FirstLemmas.{by_least_two-order, first_below-agree, first_below-is_first}
 use Rattle.cmwq_lists.proofs.CallerLemmas.{first_agree}
 use Rattle.cmwq_phases.specs.Runs.{alarm_in, first_to_end, number_or_0, run_alarm, run_at, run_stamp}
 use Rattle.cmwq_phases.specs.declared.run.Run.{Run}
-use Rattle.cmwq_phased.specs.Indexes.{AreTimed, alarm_at, alarm_of}
+use Rattle.cmwq_phased.specs.Indexes.{AreTimed, alarm_at, alarm_of, rings_by}
+use Rattle.cmwq_phased.specs.PhasedContents.{if_ends_by}
 use Rattle.cmwq_timers.specs.Timers.{fires_before, first_to_fire, least_timer, timer_at, timer_due, timer_found, timer_stamp}
 use Rattle.cmwq_timers.specs.declared.timer.Timer.{Timer}
 
@@ -83,3 +84,26 @@ first_to_end_found S runs alarms found timed long is =
     by_first (Some w) first =
         let tie = timed.ties w in
         ap (option_map (λ (timer : Timer). timer.work.0)) tie ∙ sym (alarm_work w (run_at runs w) (sym (ap is_some tie) ∙ first.passes))
+
+-- whether it rings by a time
+alarm_rings : (time w : ℕ) (run : Option Run) → is_some (alarm_of w run) ≡ true → rings_by time (alarm_of w run) ≡ cond (nat_le (number_or_0 (run_alarm run)) time) (Some w) None
+alarm_rings time w None some = absurd (cc)
+alarm_rings time w (Some r) some = by_due (alarm_in r.phase) some
+  where
+    by_due : (due : Option ℕ) → is_some (alarm_at w r.stamp due) ≡ true → rings_by time (alarm_at w r.stamp due) ≡ cond (nat_le (number_or_0 due) time) (Some w) None
+    by_due None some = absurd (cc)
+    by_due (Some due) some = refl
+
+-- the work of the least alarm, if that rings by a time, is the first to end, if it ends by then
+pub ends_by_found : (S : ScenarioContents) (runs : List (Option Run)) (alarms : List (Option Timer)) (found : Option Timer) (time : ℕ) → AreTimed runs alarms → length runs ≡ length S.works → found ≡ least_timer alarms
+    → rings_by time found ≡ if_ends_by runs time (first_to_end S runs)
+ends_by_found S runs alarms found time timed long is =
+    ap (rings_by time) is
+    ∙ by_first (first_to_fire alarms) (first_below-is_first (fires_before alarms) (λ w. is_some (timer_at alarms w)) (length alarms) (by_least_two-order (λ w. timer_due (timer_at alarms w)) (λ w. timer_stamp (timer_at alarms w))))
+    ∙ ap (if_ends_by runs time) (first_to_end_is S runs alarms timed long)
+  where
+    by_first : (o : Option ℕ) → MatchFirst (fires_before alarms) (λ w. is_some (timer_at alarms w)) (length alarms) o → rings_by time (timer_found alarms o) ≡ if_ends_by runs time o
+    by_first None none = refl
+    by_first (Some w) first =
+        let tie = timed.ties w in
+        ap (rings_by time) tie ∙ alarm_rings time w (run_at runs w) (sym (ap is_some tie) ∙ first.passes)

@@ -1,21 +1,24 @@
 -- A change of one run, and a start with none.
-use Rattle.std.proofs.Common.{◌≡◌, ◌≢◌, ℕ, ◌*◌, ◌^◌, ◌<◌, Bool, true, false, List, length, replicate, set, Option, Some, None, IfSome, arith, refl, sym, ap, subst, ◌∙◌, inl, inr}
-use Rattle.std.specs.Prelude.{slice_index_or}
+use Rattle.std.proofs.Common.{◌≡◌, ◌≢◌, ℕ, ◌*◌, ◌^◌, ◌<◌, Bool, true, false, ◌&&◌, nat_lt, cond, List, length, replicate, set, Option, Some, None, IfSome, arith, refl, sym, ap, subst, ◌∙◌, inl, inr}
+use Rattle.std.specs.Prelude.{not, slice_index_or}
 use Rattle.std.proofs.lemmas.Bool.{cases_eq, cases_lt}
 use Rattle.std.proofs.lemmas.List.{get_or-set_same, get_or-set_other, get_or-replicate, get_or_past, length-set, length-replicate, set-get_or}
 use Rattle.cmwq_types.specs.Contents.{ScenarioContents}
-use Rattle.cmwq_types.specs.Scenario.{flags_at, queue_of}
+use Rattle.cmwq_types.specs.First.{count_below}
+use Rattle.cmwq_types.specs.Scenario.{flags_at, is_unbound, queue_of}
 use Rattle.cmwq_types.specs.Setting.{IsSetting}
+use Rattle.cmwq_types.proofs.FirstLemmas.{count_below-agree}
 use Rattle.cmwq_lists.specs.ListContents.{ListContents, Rank, no_ranks, with_rank}
-use Rattle.cmwq_phases.specs.Runs.{HasOwnStamp, run_at}
+use Rattle.cmwq_phases.specs.Runs.{HasOwnStamp, is_awake, run_at}
 use Rattle.cmwq_phases.specs.declared.run.Run.{Run}
 use Rattle.cmwq_phased.specs.Counted.{AreCounted, no_counts}
 use Rattle.cmwq_phased.specs.Indexed.{AreIndexed}
-use Rattle.cmwq_phased.specs.Indexes.{AreLined, AreRuns, AreTimed, alarm_of, awake_class, awake_classes, busy_class, busy_classes, rank_of, rescued_class, rescued_classes, running_class, running_classes, standing_of}
+use Rattle.cmwq_phased.specs.Indexes.{AreLined, AreRuns, AreTimed, alarm_of, awake_class, awake_classes, busy_class, busy_classes, rank_of, rescued_class, rescued_classes, running_class, running_classes, standing_of, stands_by}
 use Rattle.cmwq_phased.specs.PhasedContents.{HaveOwnStamps}
 use Rattle.cmwq_phased.specs.declared.counts.Counts.{Counts}
+use Rattle.cmwq_phased.specs.declared.lines.Standing.{Standing}
 use Rattle.cmwq_phased.specs.declared.pools.TheConstants.{MAX_POOLS}
-use Rattle.cmwq_tally.specs.TallyContents.{IsTallied, changed}
+use Rattle.cmwq_tally.specs.TallyContents.{IsTallied, changed, is_class}
 use Rattle.cmwq_tally.proofs.TallyLemmas.{changed-length, changed_is_tallied, empty_is_tallied}
 use Rattle.cmwq_timers.specs.declared.timer.Timer.{Timer}
 
@@ -75,6 +78,21 @@ tallied_with counts runs class works w run right inside runs_inside =
     (changed_is_tallied counts (λ v. class v (run_at runs v)) (λ v. class v (run_at (set runs w run) v)) works w right inside
     (λ v other. ap (class v) (sym (get_or-set_other runs w v run None other))))
 
+-- one in whose classes nothing changes
+tallied_still : (counts : List ℕ) (runs : List (Option Run)) (class : ℕ → Option Run → Option ℕ) (works w : ℕ) (run : Option Run) → IsTallied counts (λ v. class v (run_at runs v)) works → w < length runs → class w (run_at runs w) ≡ class w run
+    → IsTallied counts (λ v. class v (run_at (set runs w run) v)) works
+tallied_still counts runs class works w run right inside same = record {
+  counted = λ i h. right.counted i h ∙ count_below-agree (λ v. is_class i (class v (run_at runs v))) (λ v. is_class i (class v (run_at (set runs w run) v))) works (λ v below. ap (is_class i) (alike v));
+}
+  where
+    alike : (v : ℕ) → class v (run_at runs v) ≡ class v (run_at (set runs w run) v)
+    alike v = elim (cases_eq v w) [
+      | inl here ↦
+          ap (λ (k : ℕ). class k (run_at runs k)) here ∙ same ∙ ap (class w) (sym (get_or-set_same runs w run None inside))
+          ∙ sym (ap (λ (k : ℕ). class k (run_at (set runs w run) k)) here)
+      | inr other ↦ ap (class v) (sym (get_or-set_other runs w v run None other))
+    ]
+
 -- all tallies
 pub counted_with : (S : ScenarioContents) (runs : List (Option Run)) (c : Counts) (w : ℕ) (run : Option Run) → AreCounted S runs c → length runs ≡ length S.works → w < length S.works
     → AreCounted S (set runs w run) (record {
@@ -95,6 +113,61 @@ counted_with S runs c w run counted long inside =
       rescued = tallied_with c.rescued runs (λ v r. rescued_class (queue_of S v) r) (length S.works) w run counted.rescued inside there;
       busy = tallied_with c.busy runs (λ v r. busy_class (flags_at S (queue_of S v)).freezable r) (length S.works) w run counted.busy inside there;
     }
+
+-- The work stays in its pool and on its worker.
+module _ (S : ScenarioContents) (runs : List (Option Run)) (c : Counts) (w : ℕ) (was run : Run) (counted : AreCounted S runs c) (long : length runs ≡ length S.works) (inside : w < length S.works) (at : run_at runs w ≡ Some was)
+    (pool : run.pool ≡ was.pool) (worker : run.worker ≡ was.worker) where
+  there : w < length runs
+  there = omega (arith, inside, long)
+
+  running_same : running_classes S runs w ≡ running_class (queue_of S w) (Some run)
+  running_same = ap (running_class (queue_of S w)) at ∙ ap (λ (p : ℕ). running_class (queue_of S w) (Some (record run { pool = p }))) (sym pool)
+
+  rescued_same : rescued_classes S runs w ≡ rescued_class (queue_of S w) (Some run)
+  rescued_same = ap (rescued_class (queue_of S w)) at ∙ ap (λ (k : ℕ). rescued_class (queue_of S w) (Some (record run { worker = k }))) (sym worker)
+
+  busy_same : busy_classes S runs w ≡ busy_class (flags_at S (queue_of S w)).freezable (Some run)
+  busy_same = ap (busy_class (flags_at S (queue_of S w)).freezable) at
+
+  -- the tally of those that are awake follows
+  pub counted_awake : AreCounted S (set runs w (Some run)) (record c { awake = changed c.awake (awake_classes S runs w) (awake_class (flags_at S (queue_of S w)).cpu_intensive (Some run)) })
+  counted_awake = record {
+    running_long = counted.running_long;
+    awake_long = changed-length c.awake (awake_classes S runs w) (awake_class (flags_at S (queue_of S w)).cpu_intensive (Some run)) ∙ counted.awake_long;
+    rescued_long = counted.rescued_long;
+    busy_long = counted.busy_long;
+    running = tallied_still c.running runs (λ v r. running_class (queue_of S v) r) (length S.works) w (Some run) counted.running there running_same;
+    awake = tallied_with c.awake runs (λ v r. awake_class (flags_at S (queue_of S v)).cpu_intensive r) (length S.works) w (Some run) counted.awake inside there;
+    rescued = tallied_still c.rescued runs (λ v r. rescued_class (queue_of S v) r) (length S.works) w (Some run) counted.rescued there rescued_same;
+    busy = tallied_still c.busy runs (λ v r. busy_class (flags_at S (queue_of S v)).freezable r) (length S.works) w (Some run) counted.busy there busy_same;
+  }
+
+  -- it neither falls asleep nor wakes
+  pub counted_still : is_awake was.phase ≡ is_awake run.phase → AreCounted S (set runs w (Some run)) c
+  counted_still same = record {
+    running_long = counted.running_long;
+    awake_long = counted.awake_long;
+    rescued_long = counted.rescued_long;
+    busy_long = counted.busy_long;
+    running = tallied_still c.running runs (λ v r. running_class (queue_of S v) r) (length S.works) w (Some run) counted.running there running_same;
+    awake = tallied_still c.awake runs (λ v r. awake_class (flags_at S (queue_of S v)).cpu_intensive r) (length S.works) w (Some run) counted.awake there (awake_same (flags_at S (queue_of S w)).cpu_intensive);
+    rescued = tallied_still c.rescued runs (λ v r. rescued_class (queue_of S v) r) (length S.works) w (Some run) counted.rescued there rescued_same;
+    busy = tallied_still c.busy runs (λ v r. busy_class (flags_at S (queue_of S v)).freezable r) (length S.works) w (Some run) counted.busy there busy_same;
+  }
+    where
+      awake_same : (intensive : Bool) → awake_class intensive (run_at runs w) ≡ awake_class intensive (Some run)
+      awake_same intensive =
+          ap (awake_class intensive) at
+          ∙ ap (λ (b : Bool). cond (b && not intensive) (Some was.pool) None) same
+          ∙ ap (λ (p : ℕ). cond (is_awake run.phase && not intensive) (Some p) None) (sym pool)
+
+-- where it stays in its place in line by what is known of it, it stands as it stood
+pub stands_still : (S : ScenarioContents) (was run : Run) (unbound : Bool) → run.pool ≡ was.pool → unbound ≡ is_unbound S run.pool → stands_by unbound was was.phase ≡ stands_by unbound run run.phase → standing_of S (Some was) ≡ standing_of S (Some run)
+stands_still S was run unbound pool is same =
+    ap (λ (p : ℕ). cond (nat_lt p MAX_POOLS) (stands_by (is_unbound S p) was was.phase) None) (sym pool)
+    ∙ ap (λ (b : Bool). cond (nat_lt run.pool MAX_POOLS) (stands_by b was was.phase) None) (sym is)
+    ∙ ap (λ (s : Option Standing). cond (nat_lt run.pool MAX_POOLS) s None) same
+    ∙ ap (λ (b : Bool). cond (nat_lt run.pool MAX_POOLS) (stands_by b run run.phase) None) is
 
 -- no two works run under one stamp still
 own_with : (runs : List (Option Run)) (w : ℕ) (run : Option Run) → w < length runs → HaveOwnStamps runs → HasOwnStamp runs w run → HaveOwnStamps (set runs w run)

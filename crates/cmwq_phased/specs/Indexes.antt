@@ -1,6 +1,6 @@
 -- Where a running work stands in each index: in a line, among the alarms, in a class that is counted. No public clause
 -- cites this module.
-use Rattle.std.specs.Prelude.{◌≡◌, ◌≢◌, ℕ, ◌+◌, ◌*◌, ◌^◌, ◌<◌, Bool, true, not, ◌&&◌, ◌==◌, if◌then◌else◌, nat_lt, is_some, List, length, Option, Some, None, IfSome, option_map}
+use Rattle.std.specs.Prelude.{◌≡◌, ◌≢◌, ℕ, ◌+◌, ◌*◌, ◌^◌, ◌<◌, Bool, true, not, ◌&&◌, ◌==◌, if◌then◌else◌, nat_le, nat_lt, is_some, List, length, Option, Some, None, IfSome, option_map}
 use Rattle.cmwq_types.specs.Contents.{ScenarioContents}
 use Rattle.cmwq_types.specs.Scenario.{flags_at, is_unbound, queue_of}
 use Rattle.cmwq_types.specs.Setting.{IsSetting}
@@ -58,6 +58,11 @@ alarm_at w stamp None = None
 abbrev pub alarm_of : ℕ → Option Run → Option Timer
 alarm_of w (Some r) = alarm_at w r.stamp (alarm_in r.phase)
 alarm_of w None = None
+
+-- the work of an alarm that rings by this time
+abbrev pub rings_by : ℕ → Option Timer → Option ℕ
+rings_by time (Some alarm) = if nat_le alarm.due time then Some alarm.work.0 else None
+rings_by time None = None
 
 -- Classes.
 

@@ -35,7 +35,9 @@ pub(crate) fn awake_class(intensive: bool, run: Option<Run>) -> Option<usize>
     }
 }
 
-fn is_awake(phase: Phase) -> bool
+/// Whether a work in this phase is awake: it doesn't sleep.
+#[inline(always)]
+pub(crate) fn is_awake(phase: Phase) -> bool
     ensures { result ≡ is_awake phase }
 {
     match phase {

@@ -1,9 +1,10 @@
 //! How many running works stand in each class.
 ghost use Rattle.cmwq_phased.specs.Counted.{AreCounted, no_counts};
 ghost use Rattle.cmwq_phased.specs.Indexes.{AreRuns};
-ghost use Rattle.std.specs.Prelude.{◌≡◌, ◌<◌, IfOk, length, slice_set};
+ghost use Rattle.cmwq_phases.specs.Runs.{run_at};
+ghost use Rattle.std.specs.Prelude.{◌≡◌, ◌<◌, IfOk, Some, length, slice_set};
 
-use crate::classes::{awake_class, busy_class, rescued_class, running_class};
+use crate::classes::{awake_class, busy_class, is_awake, rescued_class, running_class};
 use crate::pools::MAX_POOLS;
 use cmwq_phases::Run;
 use cmwq_tally::Tally;
@@ -47,20 +48,23 @@ impl Counts {
         })
     }
 
-    /// Counts a work where it is counted when it runs so, and no longer where it is counted as it runs.
+    /// Counts a work where it is counted when it runs so, and no longer where it is counted as it ran.
+    #[inline(always)]
     pub(crate) fn recount(
         &mut self,
         scenario: &Scenario,
         runs: &[Option<Run>],
         w: usize,
+        was: Option<Run>,
         run: Option<Run>,
     )
+        requires was { run_at runs.now w ≡ was }
         requires runs { AreRuns scenario.now runs.now }
         requires counted { AreCounted scenario.now runs.now self.old }
         requires work { w < length scenario.now.works }
         ensures counted { AreCounted scenario.now (slice_set runs.now w run) self.new }
     {
-        let was = runs[w];
+        let _runs = runs;
         let queue = scenario.queue_of(w);
         let flags = scenario.flags_of(queue);
         let intensive = flags.cpu_intensive;
@@ -75,5 +79,33 @@ impl Counts {
         awake.change(awake_class(intensive, was), awake_class(intensive, run));
         rescued.change(rescued_class(queue, was), rescued_class(queue, run));
         busy.change(busy_class(freezable, was), busy_class(freezable, run));
+    }
+
+    /// The same where the work stays in its pool and on its worker. Where it neither falls asleep nor wakes nothing is touched.
+    #[inline(always)]
+    pub(crate) fn recount_in_place(
+        &mut self,
+        scenario: &Scenario,
+        runs: &[Option<Run>],
+        w: usize,
+        was: Run,
+        run: Run,
+    )
+        requires was { run_at runs.now w ≡ Some was }
+        requires pool { run.pool ≡ was.pool }
+        requires worker { run.worker ≡ was.worker }
+        requires runs { AreRuns scenario.now runs.now }
+        requires counted { AreCounted scenario.now runs.now self.old }
+        requires work { w < length scenario.now.works }
+        ensures counted { AreCounted scenario.now (slice_set runs.now w (Some run)) self.new }
+    {
+        let _runs = runs;
+        if is_awake(was.phase) == is_awake(run.phase) {
+            return;
+        }
+        let intensive = scenario.flags_of(scenario.queue_of(w)).cpu_intensive;
+        let before = awake_class(intensive, Some(was));
+        let after = awake_class(intensive, Some(run));
+        self.awake.change(before, after);
     }
 }

@@ -2,11 +2,12 @@
 ghost use Rattle.cmwq_lists.specs.ListContents.{with_rank};
 ghost use Rattle.cmwq_phased.specs.Indexes.{AreLined, AreRuns, IsApartFromOthers, rank_of, standing_of, stands_by};
 ghost use Rattle.cmwq_phased.specs.declared.pools.TheConstants.{MAX_POOLS};
-ghost use Rattle.cmwq_phases.specs.Runs.{HasOwnStamp};
+ghost use Rattle.cmwq_phases.specs.Runs.{HasOwnStamp, run_at};
 ghost use Rattle.cmwq_types.specs.Setting.{IsSetting};
 ghost use Rattle.cmwq_types.specs.declared.limits.TheConstants.{MAX_WORKS};
-ghost use Rattle.std.specs.Prelude.{◌≡◌, ◌+◌, ◌<◌, IfSome, length, slice_set};
+ghost use Rattle.std.specs.Prelude.{◌≡◌, ◌+◌, ◌<◌, IfSome, IsTrue, Some, length, slice_set};
 
+use crate::classes::is_awake;
 use crate::pools::MAX_POOLS;
 use cmwq_lists::{Lists, Node};
 use cmwq_phases::{Phase, Run};
@@ -27,6 +28,7 @@ pub(crate) fn rested_list(pool: u8) -> usize
 }
 
 /// Where a work that runs so stands, if anywhere.
+#[inline(always)]
 pub(crate) fn standing_of(scenario: &Scenario, run: Option<Run>) -> Option<Standing>
     requires setting { IsSetting scenario.now }
     ensures { result ≡ standing_of scenario.now run }
@@ -57,7 +59,8 @@ fn stands_by(unbound: bool, run: Run) -> Option<Standing>
     }
 }
 
-/// Lets a work stand where it does when it runs so, if anywhere. Where it stands there already nothing is touched.
+/// Lets a work stand where it does when it runs so, if anywhere.
+#[inline(always)]
 pub(crate) fn line_up(
     lines: &mut Lists,
     scenario: &Scenario,
@@ -71,11 +74,41 @@ pub(crate) fn line_up(
     requires own_stamp { HasOwnStamp runs.now w run }
     ensures lined { AreLined scenario.now (slice_set runs.now w run) lines.new }
 {
-    let was = standing_of(scenario, runs[w]);
-    let now = standing_of(scenario, run);
-    if now != was {
-        move_to(lines, w, now);
+    let _runs = runs;
+    move_to(lines, w, standing_of(scenario, run));
+}
+
+/// The same where the work stays in its pool. Where it's known at once that it stays in its place nothing is touched.
+#[inline(always)]
+pub(crate) fn line_up_in_pool(
+    lines: &mut Lists,
+    scenario: &Scenario,
+    runs: &[Option<Run>],
+    w: usize,
+    was: Run,
+    run: Run,
+)
+    requires runs { AreRuns scenario.now runs.now }
+    requires lined { AreLined scenario.now runs.now lines.old }
+    requires work { w < length scenario.now.works }
+    requires was { run_at runs.now w ≡ Some was }
+    requires pool { run.pool ≡ was.pool }
+    requires own_stamp { HasOwnStamp runs.now w (Some run) }
+    ensures lined { AreLined scenario.now (slice_set runs.now w (Some run)) lines.new }
+{
+    if !stays_in_line(scenario.is_unbound(run.pool), was, run) {
+        line_up(lines, scenario, runs, w, Some(run));
     }
+}
+
+/// Whether it's known at once that a work that stays in its pool, an unbound or a bound one, stays in its place: in a bound one
+/// who is awake stands in line by his stamp.
+#[inline(always)]
+fn stays_in_line(unbound: bool, was: Run, run: Run) -> bool
+    requires pool { run.pool ≡ was.pool }
+    ensures { IsTrue result → stands_by unbound was was.phase ≡ stands_by unbound run run.phase }
+{
+    !unbound && was.stamp == run.stamp && is_awake(was.phase) && is_awake(run.phase)
 }
 
 /// Takes a work out of the list in which it stands, if it does, and puts it where it is to stand, if anywhere.

@@ -1,15 +1,15 @@
 //! The running works, with their indexes.
-ghost use Rattle.cmwq_phased.specs.PhasedContents.{HaveOwnStamps};
+ghost use Rattle.cmwq_phased.specs.PhasedContents.{HaveOwnStamps, if_ends_by};
 ghost use Rattle.cmwq_phased.specs.declared.pools.TheConstants.{MAX_POOLS};
 ghost use Rattle.cmwq_phases.specs.Runs.{HasOwnStamp, awake_in, first_in_line, first_rested, first_to_end, freezable_running, rescued_of, run_at, running_in};
 ghost use Rattle.cmwq_types.specs.Setting.{IsSetting};
 ghost use Rattle.cmwq_types.specs.declared.limits.TheConstants.{MAX_WORKS};
-ghost use Rattle.std.specs.Prelude.{◌≡◌, ◌<◌, ◌≤◌, IfOk, IfSome, None, length, replicate, slice_set};
+ghost use Rattle.std.specs.Prelude.{◌≡◌, ◌<◌, ◌≤◌, IfOk, IfSome, None, Some, length, replicate, slice_set};
 
-use crate::alarms::set_alarm;
+use crate::alarms::{rings_by, set_alarm};
 use crate::classes::class_in;
 use crate::counts::Counts;
-use crate::lines::{line_up, rested_list};
+use crate::lines::{line_up, line_up_in_pool, rested_list};
 use crate::pools::MAX_POOLS;
 use cmwq_lists::Lists;
 use cmwq_phases::Run;
@@ -22,8 +22,8 @@ use std::sync::Arc;
 /// How each work of a scenario runs, if it runs, and who of them is the first, and how many there are.
 ///
 /// Those in a pool's line stand in one list, those of it whose sleep is over in another, so who is first there is known at once; who has
-/// an alarm stands in a tree of alarms, and of each class that is asked for a count is kept. A run changes by `set` alone. Of a pool whose
-/// number is `MAX_POOLS` or more nothing is known but its works' runs. All room is taken by `new` and `copy`.
+/// an alarm stands in a tree of alarms, and of each class that is asked for a count is kept. A run changes by `set` and `carry_on` alone. Of a
+/// pool whose number is `MAX_POOLS` or more nothing is known but its works' runs. All room is taken by `new` and `copy`.
 #[derive(Drop)]
 pub struct PhasedWorks {
     scenario: Arc<Scenario>,
@@ -94,10 +94,23 @@ impl PhasedWorks {
     }
 
     /// Lets a work run otherwise, or not at all. No other work may run under the stamp of the new run.
-    ///
-    /// A line is touched only where the work's place in one changes, an alarm or a count only where that changes.
+    #[inline(always)]
     pub fn set(&mut self, w: usize, run: Option<Run>)
         requires work { w < length self.old.scenario.works }
+        requires own_stamp { HasOwnStamp self.old.runs w run }
+        ensures { self.new ≡ record self.old { runs = slice_set self.old.runs w run } }
+    {
+        match self.of(w) {
+            None => self.change(w, None, run),
+            was => self.change(w, was, run),
+        }
+    }
+
+    /// Lets a work that runs or doesn't run so run otherwise, or not at all.
+    #[inline(always)]
+    fn change(&mut self, w: usize, was: Option<Run>, run: Option<Run>)
+        requires work { w < length self.old.scenario.works }
+        requires was { run_at self.old.runs w ≡ was }
         requires own_stamp { HasOwnStamp self.old.runs w run }
         ensures { self.new ≡ record self.old { runs = slice_set self.old.runs w run } }
     {
@@ -109,9 +122,35 @@ impl PhasedWorks {
             counts,
         } = self;
         line_up(lines, scenario, runs, w, run);
-        set_alarm(alarms, runs, w, run);
-        counts.recount(scenario, runs, w, run);
+        set_alarm(alarms, runs, w, was, run);
+        counts.recount(scenario, runs, w, was, run);
         runs[w] = run;
+    }
+
+    /// Lets a work that runs so run otherwise, in the same pool and on the same worker. No other work may run under the stamp of the new run.
+    ///
+    /// It is as `set`, and quicker: a line is touched only where the work's place in one may change, an alarm where it had one or gets one,
+    /// a count where it falls asleep or wakes.
+    #[inline(always)]
+    pub fn carry_on(&mut self, w: usize, was: Run, run: Run)
+        requires work { w < length self.old.scenario.works }
+        requires was { run_at self.old.runs w ≡ Some was }
+        requires pool { run.pool ≡ was.pool }
+        requires worker { run.worker ≡ was.worker }
+        requires own_stamp { HasOwnStamp self.old.runs w (Some run) }
+        ensures { self.new ≡ record self.old { runs = slice_set self.old.runs w (Some run) } }
+    {
+        let PhasedWorks {
+            scenario,
+            runs,
+            lines,
+            alarms,
+            counts,
+        } = self;
+        line_up_in_pool(lines, scenario, runs, w, was, run);
+        set_alarm(alarms, runs, w, Some(was), Some(run));
+        counts.recount_in_place(scenario, runs, w, was, run);
+        runs[w] = Some(run);
     }
 
     /// The first in the pool's line, by stamp: of those runnable in a bound pool, of those that have nothing left to burn in an unbound one.
@@ -142,6 +181,16 @@ impl PhasedWorks {
     {
         let alarm = self.alarms.least()?;
         Some(usize::from(alarm.work.0))
+    }
+
+    /// The same, if its burn or sleep ends by this time. It's quick where none does.
+    #[inline(always)]
+    pub fn first_to_end_by(&self, time: u64) -> Option<usize>
+        ensures first { result ≡ if_ends_by self.now.runs time (first_to_end self.now.scenario self.now.runs) }
+        ensures in_range { IfSome result (λ w. w < length self.now.scenario.works) }
+        ensures few { IfSome result (λ w. w < MAX_WORKS) }
+    {
+        rings_by(self.alarms.least(), time)
     }
 
     /// How many works of the queue run in the pool.

@@ -2,14 +2,14 @@
 use Rattle.std.proofs.Common.{◌≡◌, ◌≢◌, ℕ, ◌+◌, ◌*◌, ◌<◌, ◌≤◌, Bool, true, false, cond, nat_lt, List, length, get_or, replicate, set, Option, Some, None, IfSome, arith, refl, sym, ap, ◌∙◌, inl, inr, subst}
 use Rattle.std.proofs.lemmas.Bool.{cases_eq, cases_lt}
 use Rattle.std.proofs.lemmas.Bool.Decides.{nat_tests}
-use Rattle.std.proofs.lemmas.List.{get_or-replicate, get_or-set_same, get_or-set_other, get_or_past, length-replicate, length-set, set-set}
+use Rattle.std.proofs.lemmas.List.{get_or-replicate, get_or-set_same, get_or-set_other, get_or_past, length-replicate, length-set, set-get_or, set-set}
 use Rattle.cmwq_types.specs.Contents.{ScenarioContents}
 use Rattle.cmwq_types.specs.Scenario.{flags_at, queue_of}
 use Rattle.cmwq_types.specs.Setting.{IsSetting}
 use Rattle.cmwq_types.specs.declared.reply.Place.{Place}
 use Rattle.cmwq_types.specs.declared.reply.Place.TheVariants as place
 use Rattle.cmwq_lists.specs.ListContents.{IsAbove, ListContents, Rank, is_of, no_ranks, rank_at, with_node, with_rank}
-use Rattle.cmwq_queued.specs.Indexes.{IsIndexed, active_class, active_classes, busy_class, busy_classes, list_at, list_of, rank_of, ranked, timer_of}
+use Rattle.cmwq_queued.specs.Indexes.{IsIndexed, active_class, active_classes, busy_class, busy_classes, is_grouped, list_at, list_of, rank_of, ranked, timer_of}
 use Rattle.cmwq_queued.specs.QueuedContents.{IsNewest, pending_at}
 use Rattle.cmwq_queued.specs.declared.pools.TheConstants.{MAX_POOLS}
 use Rattle.cmwq_queued.proofs.FoundLemmas.{order_is_stamp}
@@ -37,6 +37,38 @@ counted_in counts class works w is below = by_class (class w) refl
 pub has_room_for_one : (counts : List ℕ) (class : ℕ → Option ℕ) (works : ℕ) → IsTallied counts class works → works ≤ 256 → (to : Option ℕ) → IfSome to (λ i. count_of counts i < 65535)
 has_room_for_one counts class works is few None = tt
 has_room_for_one counts class works is few (Some i) = omega (arith, few, few_are_counted counts class works i is)
+
+-- What stands in no list and in no class.
+
+-- it is in no group
+pub record IsNowhere (queue : ℕ) (freezable : Bool) (p : Option Pending) : Type 0 where
+  pub list : list_of queue p ≡ None
+  pub active : active_class queue p ≡ None
+  pub busy : busy_class freezable p ≡ None
+
+pub nowhere : (queue : ℕ) (freezable : Bool) (p : Option Pending) → is_grouped p ≡ false → IsNowhere queue freezable p
+nowhere queue freezable None apart = record { list = refl; active = refl; busy = refl }
+nowhere queue freezable (Some p) apart = by_place p.place apart
+  where
+    by_place : (at : Place) → is_grouped (Some (record p { place = at })) ≡ false → IsNowhere queue freezable (Some (record p { place = at }))
+    by_place (place.Timer due cpu) apart = record { list = refl; active = refl; busy = not_busy freezable }
+      where
+        not_busy : (b : Bool) → busy_class b (Some (record p { place = place.Timer due cpu })) ≡ None
+        not_busy true = refl
+        not_busy false = refl
+    by_place (place.Inactive pool) apart = absurd (cc)
+    by_place (place.Listed pool) apart = absurd (cc)
+    by_place (place.Deferred pool) apart = absurd (cc)
+
+-- a work that goes from nowhere to nowhere leaves the lists and counts as they are
+pub lists_stay : (lists : ListContents) (w stamp : ℕ) (to : Option ℕ) → rank_at lists w ≡ None → to ≡ None → lists ≡ with_rank lists w (ranked to stamp)
+lists_stay lists w stamp to none is = sym (
+    ap (λ (o : Option ℕ). with_rank lists w (ranked o stamp)) is
+    ∙ ap (λ (ranks : List (Option Rank)). record lists { ranks = ranks }) (ap (set lists.ranks w) (sym none) ∙ set-get_or lists.ranks w None)
+    )
+
+pub counts_stay : (counts : List ℕ) (from to : Option ℕ) → from ≡ None → to ≡ None → counts ≡ changed counts from to
+counts_stay counts from to from_is to_is = rw (from_is, to_is) refl
 
 -- All together.
 

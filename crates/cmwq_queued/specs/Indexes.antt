@@ -1,13 +1,13 @@
 -- Where a pending work stands in each index: in a list, among the timers, in a class that is counted. No public clause
 -- cites this module.
-use Rattle.std.specs.Prelude.{◌≡◌, ℕ, ◌+◌, ◌*◌, Bool, ◌&&◌, if◌then◌else◌, nat_le, nat_lt, List, length, Option, Some, None}
+use Rattle.std.specs.Prelude.{◌≡◌, ℕ, ◌+◌, ◌*◌, Bool, false, not, ◌&&◌, if◌then◌else◌, nat_le, nat_lt, List, length, Option, Some, None}
 use Rattle.cmwq_types.specs.Contents.{ScenarioContents}
 use Rattle.cmwq_types.specs.Scenario.{flags_at, queue_of}
 use Rattle.cmwq_types.specs.Setting.{IsSetting}
 use Rattle.cmwq_types.specs.declared.reply.Place.{Place}
 use Rattle.cmwq_types.specs.declared.reply.Place.TheVariants as place
 use Rattle.cmwq_lists.specs.ListContents.{ListContents, Rank, rank_at}
-use Rattle.cmwq_queued.specs.QueuedContents.{pending_at}
+use Rattle.cmwq_queued.specs.QueuedContents.{is_timer, pending_at}
 use Rattle.cmwq_queued.specs.declared.pools.TheConstants.{MAX_POOLS}
 use Rattle.cmwq_table.specs.Counts.{is_activated, pending_stamp}
 use Rattle.cmwq_table.specs.declared.state.Pending.{Pending}
@@ -33,6 +33,11 @@ list_at queue (place.Deferred pool) = None
 abbrev pub list_of : ℕ → Option Pending → Option ℕ
 list_of queue (Some p) = list_at queue p.place
 list_of queue None = None
+
+-- whether a work that is pending so may stand in a list or in a class
+abbrev pub is_grouped : Option Pending → Bool
+is_grouped (Some p) = not (is_timer p.place)
+is_grouped None = false
 
 abbrev pub ranked : Option ℕ → ℕ → Option Rank
 ranked (Some list) stamp = Some (record { list = list; order = stamp })

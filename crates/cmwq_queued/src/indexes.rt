@@ -10,6 +10,7 @@ use cmwq_timers::{Timer, Timers};
 use cmwq_types::WorkId;
 
 /// Puts a work at the back of a list, if one is given, and takes it out of the one in which it stands, if it stands in one.
+#[inline(always)]
 pub(crate) fn relist(
     lists: &mut Lists,
     w: usize,
@@ -38,6 +39,7 @@ pub(crate) fn relist(
 }
 
 /// Takes a work out of its list, if it has one. Where it has none, nothing is touched.
+#[inline(always)]
 fn unlist(lists: &mut Lists, w: usize, list: Option<usize>)
     requires work { w < length lists.old.ranks }
     requires list { list ≡ None → rank_at lists.old w ≡ None }
@@ -49,6 +51,7 @@ fn unlist(lists: &mut Lists, w: usize, list: Option<usize>)
 }
 
 /// Gives a work another timer, or none.
+#[inline(always)]
 pub(crate) fn retime(timers: &mut Timers, work: WorkId, was: Option<Timer>, becomes: Option<Timer>)
     requires work { work.0 < length timers.old }
     requires was { timer_at timers.old work.0 ≡ was }
@@ -63,11 +66,12 @@ pub(crate) fn retime(timers: &mut Timers, work: WorkId, was: Option<Timer>, beco
 }
 
 /// Takes a work's timer away, if it has one. Where it has none, nothing is touched.
+#[inline(always)]
 fn untime(timers: &mut Timers, work: WorkId, timer: Option<Timer>)
     requires timer { timer_at timers.old work.0 ≡ timer }
     ensures { timers.new ≡ slice_set timers.old work.0 None }
 {
     if timer.is_some() {
-        timers.take(work);
+        timers.stop(work);
     }
 }

@@ -1,5 +1,5 @@
 //! What the place of a pending work means for each index: its list, its timer, and the classes in which it is counted.
-ghost use Rattle.cmwq_queued.specs.Indexes.{active_class, busy_class, inactive_list, list_of, timer_of, work_if_due};
+ghost use Rattle.cmwq_queued.specs.Indexes.{active_class, busy_class, inactive_list, is_grouped, list_of, timer_of, work_if_due};
 ghost use Rattle.cmwq_queued.specs.declared.pools.TheConstants.{MAX_POOLS};
 ghost use Rattle.cmwq_queued.specs.QueuedContents.{deferred_in};
 ghost use Rattle.cmwq_table.specs.Counts.{pending_stamp};
@@ -25,6 +25,7 @@ pub(crate) fn inactive_list(queue: u8, pool: u8) -> usize
 }
 
 /// The number of the list in which a work of the queue that is pending so stands, if it stands in one.
+#[inline(always)]
 pub(crate) fn list_of(queue: u8, pending: Option<Pending>) -> Option<usize>
     ensures { result ≡ list_of queue pending }
 {
@@ -35,7 +36,19 @@ pub(crate) fn list_of(queue: u8, pending: Option<Pending>) -> Option<usize>
     }
 }
 
+/// Whether a work that is pending so may stand in a list or be counted: it is pending, and not with a timer.
+#[inline(always)]
+pub(crate) fn is_grouped(pending: Option<Pending>) -> bool
+    ensures { result ≡ is_grouped pending }
+{
+    match pending {
+        None => false,
+        Some(pending) => !matches!(pending.place, Place::Timer { .. }),
+    }
+}
+
 /// The timer of a work that is pending so, if it has one.
+#[inline(always)]
 pub(crate) fn timer_of(work: WorkId, pending: Option<Pending>) -> Option<Timer>
     ensures { result ≡ timer_of work.0 pending }
 {
@@ -69,6 +82,7 @@ pub(crate) fn work_if_due(timer: Option<Timer>, time: u64) -> Option<usize>
 }
 
 /// The class in which a work of the queue that is pending so is counted as active in its pool, if in any.
+#[inline(always)]
 pub(crate) fn active_class(queue: u8, pending: Option<Pending>) -> Option<usize>
     ensures { result ≡ active_class queue pending }
 {
@@ -81,6 +95,7 @@ pub(crate) fn active_class(queue: u8, pending: Option<Pending>) -> Option<usize>
 }
 
 /// The class in which it is counted as active where its queue is freezable: the one that there is.
+#[inline(always)]
 pub(crate) fn busy_class(freezable: bool, pending: Option<Pending>) -> Option<usize>
     ensures { result ≡ busy_class freezable pending }
 {
@@ -91,6 +106,7 @@ pub(crate) fn busy_class(freezable: bool, pending: Option<Pending>) -> Option<us
 }
 
 /// The stamp of a pending work's place, and 0 where it isn't pending.
+#[inline(always)]
 pub(crate) fn stamp_of(pending: Option<Pending>) -> u64
     ensures { result ≡ pending_stamp pending }
 {
@@ -101,6 +117,7 @@ pub(crate) fn stamp_of(pending: Option<Pending>) -> u64
 }
 
 /// How a work is pending that was pending so, once it is deferred in the pool.
+#[inline(always)]
 pub(crate) fn deferred_in(pending: Option<Pending>, pool: u8) -> Option<Pending>
     ensures { result ≡ deferred_in pool pending }
 {

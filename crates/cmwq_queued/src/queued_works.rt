@@ -10,8 +10,8 @@ ghost use Rattle.std.specs.Prelude.{◌≡◌, ◌==◌, ◌<◌, IfOk, IfSome, 
 
 use crate::indexes::{relist, retime};
 use crate::places::{
-    active_class, busy_class, class_in, deferred_in, due_of, inactive_list, list_of, stamp_of,
-    timer_of, work_if_due,
+    active_class, busy_class, class_in, deferred_in, due_of, inactive_list, is_grouped, list_of,
+    stamp_of, timer_of, work_if_due,
 };
 use crate::pools::MAX_POOLS;
 use cmwq_lists::Lists;
@@ -221,29 +221,34 @@ impl QueuedWorks {
         self.change(w, was, deferred_in(was, pool));
     }
 
-    /// Has a work pend otherwise than it did, or not at all, and each index with it.
+    /// Has a work pend otherwise than it did, or not at all, and each index with it: its list and the counts only where it may have stood in one,
+    /// or may do so.
+    #[inline(always)]
     fn change(&mut self, w: usize, was: Option<Pending>, becomes: Option<Pending>)
         requires work { w < length self.old.scenario.works }
         requires was { pending_at self.old.pending w ≡ was }
         requires newest { IfSome (list_of (queue_of self.old.scenario w) becomes) (λ list. IsNewest self.old.pending (pending_stamp becomes)) }
         ensures { self.new ≡ with_pending self.old w becomes }
     {
-        let queue = self.scenario.queue_of(w);
+        self.pending[w] = becomes;
         let work = WorkId(w as u16);
-        let freezable = self.scenario.flags_of(queue).freezable;
-        let from = list_of(queue, was);
-        let to = list_of(queue, becomes);
-        relist(&mut self.lists, w, from, to, stamp_of(becomes));
         retime(
             &mut self.timers,
             work,
             timer_of(work, was),
             timer_of(work, becomes),
         );
+        if !is_grouped(was) && !is_grouped(becomes) {
+            return;
+        }
+        let queue = self.scenario.queue_of(w);
+        let freezable = self.scenario.flags_of(queue).freezable;
+        let from = list_of(queue, was);
+        let to = list_of(queue, becomes);
+        relist(&mut self.lists, w, from, to, stamp_of(becomes));
         self.active
             .change(active_class(queue, was), active_class(queue, becomes));
         self.busy
             .change(busy_class(freezable, was), busy_class(freezable, becomes));
-        self.pending[w] = becomes;
     }
 }

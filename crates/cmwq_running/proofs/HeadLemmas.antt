@@ -265,6 +265,21 @@ module _ (S : ScenarioContents) (rs : List (Option Run)) (w : ℕ) (new : Option
       of_new None still = tt
       of_new (Some r) still = λ is. still_going (may_burn S (set rs w new) pool) r.phase still
 
+-- Where the work stays in its pool, that beside it is balanced once.
+pub balanced_once : (S : ScenarioContents) (rs : List (Option Run)) (w : ℕ) (was run : Run) (changed one : PhasedContents)
+    → IsChange S rs w (Some run) → changed ≡ record { scenario = S; runs = set rs w (Some run) } → run_at rs w ≡ Some was → run.pool ≡ was.pool
+    → ((pool : ℕ) → GoIn S rs pool)
+    → ((pool : ℕ) → GoIn changed.scenario changed.runs pool ⊎ IsBeside changed.scenario run.pool pool → GoIn one.scenario one.runs pool)
+    → (pool : ℕ) → GoIn one.scenario one.runs pool
+balanced_once S rs w was run changed one change is at same going balance pool =
+    balance pool (elim (change_go S rs w (Some run) change pool (going pool)) [
+      | inl goes ↦ inl (subst (λ (m : PhasedContents). GoIn m.scenario m.runs pool) (sym is) goes)
+      | inr beside ↦ inr (subst (λ (m : PhasedContents). IsBeside m.scenario run.pool pool) (sym is) (elim beside [
+        | inl then ↦ subst (λ (p : ℕ). IsBeside S p pool) (sym same) (subst (λ (o : Option Run). IfBeside S o pool) at then)
+        | inr now ↦ now
+      ]))
+    ])
+
 -- The pools beside that of the work, as it ran and as it runs, are balanced one after the other.
 pub balanced : (S : ScenarioContents) (rs : List (Option Run)) (w : ℕ) (new : Option Run) (changed one two : PhasedContents) (old : Option Run)
     → IsChange S rs w new → changed ≡ record { scenario = S; runs = set rs w new } → old ≡ run_at rs w → one.scenario ≡ changed.scenario

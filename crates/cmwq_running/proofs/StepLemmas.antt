@@ -20,7 +20,7 @@ use Rattle.cmwq_phases.specs.declared.run.Phase.{Phase}
 use Rattle.cmwq_phases.specs.declared.run.Phase.TheVariants.{Ready, Held, Burning, Asleep, Slept}
 use Rattle.cmwq_phases.specs.declared.run.Run.{Run}
 use Rattle.cmwq_running.specs.Heads.{AreHeaded, AreKept, AreTimely, ComesLast, IsGoing, IsHeading, asleep_until, first_awake, may_burn, paced, with_left}
-use Rattle.cmwq_running.specs.RunningContents.{onward_run, seen, state_of, woken_run}
+use Rattle.cmwq_running.specs.RunningContents.{onward_run, ready_as, seen, state_of, woken_run}
 use Rattle.cmwq_running.proofs.HeadLemmas.{IsSwap, at_changed, at_other, is_work, swap_go, swap_have_heads}
 use Rattle.cmwq_running.proofs.PaceLemmas.{head_may, own_stamp, paced_awake, paced_goes, paced_left, paced_mode, within_of}
 use Rattle.cmwq_running.proofs.ShownLemmas.{at_shown, first_in_line_bound, first_slept_is, phase_ready, ready_head_is, ready_of, run_of}
@@ -78,7 +78,7 @@ free_heading head time (Asleep until) = tt
 free_heading head time (Slept until) = tt
 
 -- with another run that is timely all are so still
-timely_set : (time : ℕ) (rs : List (Option Run)) (w : ℕ) (r : Run) → w < length rs → AreTimely time rs → IsTimely time r.phase → AreTimely time (set rs w (Some r))
+pub timely_set : (time : ℕ) (rs : List (Option Run)) (w : ℕ) (r : Run) → w < length rs → AreTimely time rs → IsTimely time r.phase → AreTimely time (set rs w (Some r))
 timely_set time rs w r within timely right v = elim (cases_eq v w) [
   | inl here ↦ subst (λ (o : Option Run). IfSome o (λ r. IsTimely time r.phase)) (sym (ap (run_at (set rs w (Some r))) here ∙ at_changed rs w (Some r) within)) right
   | inr other ↦ subst (λ (o : Option Run). IfSome o (λ r. IsTimely time r.phase)) (sym (at_other rs w v (Some r) other)) (timely v)
@@ -90,6 +90,10 @@ module _ (time : ℕ) (works : PhasedContents) (w : ℕ) (r : Running) (kept : A
 
   pool_is : r.pool ≡ is.q.pool
   pool_is = ap (λ (r : Running). r.pool) (sym is.shows)
+
+  -- how it runs, by what is known of it
+  pub ready_run_is : run_at works.runs w ≡ Some (ready_as r)
+  ready_run_is = is.at ∙ ap (λ (phase : Phase). Some (record is.q { phase = phase })) is.ready ∙ ap (λ (r : Running). Some (ready_as r)) is.shows
 
   stamp_is : r.stamp ≡ is.q.stamp
   stamp_is = ap (λ (r : Running). r.stamp) (sym is.shows)

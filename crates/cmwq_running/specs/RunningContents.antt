@@ -7,6 +7,7 @@ use Rattle.cmwq_table.specs.declared.state.Running.{Running}
 use Rattle.cmwq_phased.specs.PhasedContents.{PhasedContents}
 use Rattle.cmwq_phases.specs.Phases.{shown_all}
 use Rattle.cmwq_phases.specs.declared.run.Phase.{Phase}
+use Rattle.cmwq_phases.specs.declared.run.Phase.TheVariants.{Ready}
 use Rattle.cmwq_phases.specs.declared.run.Run.{Run}
 
 pub record RunningContents : Type 0 where
@@ -45,5 +46,9 @@ woken_run stamp (Some r) = Some (record r { mode = Runnable; stamp = stamp })
 woken_run stamp None = None
 
 -- the running work in this phase, at its next operation
+-- the running work in its table's words, where it has nothing left to burn
+abbrev pub ready_as : Running → Run
+ready_as r = record { born = r.born; stamp = r.stamp; phase = Ready; pool = r.pool; worker = r.worker; pc = r.pc }
+
 abbrev pub onward_run : Running → Phase → Run
 onward_run r phase = record { born = r.born; stamp = r.stamp; phase = phase; pool = r.pool; worker = r.worker; pc = r.pc + 1 }

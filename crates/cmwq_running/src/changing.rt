@@ -1,8 +1,8 @@
 //! A work begins, wakes, falls asleep or ends.
 ghost use Rattle.cmwq_phases.specs.Phases.{IsTimely, shown, shown_all};
-ghost use Rattle.cmwq_phases.specs.Runs.{HasOwnStamp};
+ghost use Rattle.cmwq_phases.specs.Runs.{HasOwnStamp, run_at};
 ghost use Rattle.cmwq_running.specs.Heads.{AreKept, AreTimely, ComesLast, GoIn, HaveHeads, IfBeside, IsEarly, IsStill, asleep_until};
-ghost use Rattle.cmwq_running.specs.RunningContents.{onward_run, seen, state_of, woken_run};
+ghost use Rattle.cmwq_running.specs.RunningContents.{onward_run, ready_as, seen, state_of, woken_run};
 ghost use Rattle.cmwq_table.specs.Counts.{first_slept, ready_head};
 ghost use Rattle.cmwq_table.specs.State.{running_at};
 ghost use Rattle.cmwq_types.specs.declared.limits.TheConstants.{MAX_OPS};
@@ -15,6 +15,7 @@ use cmwq_phases::{Phase, Run};
 use cmwq_table::Running;
 
 /// Lets a work run so, with no ticks left, or not run at all. If it is runnable, it stands behind all others of its pool.
+#[inline(always)]
 pub(crate) fn change(works: &mut PhasedWorks, time: u64, w: usize, run: Option<Run>)
     requires work { w < length works.old.scenario.works }
     requires kept { AreKept time works.old }
@@ -32,6 +33,26 @@ pub(crate) fn change(works: &mut PhasedWorks, time: u64, w: usize, run: Option<R
     balance_beside(works, time, run);
 }
 
+/// The same where the work ran so, and stays in its pool and on its worker.
+#[inline(always)]
+fn carry_on(works: &mut PhasedWorks, time: u64, w: usize, was: Run, run: Run)
+    requires work { w < length works.old.scenario.works }
+    requires was { run_at works.old.runs w ≡ Some was }
+    requires pool { run.pool ≡ was.pool }
+    requires worker { run.worker ≡ was.worker }
+    requires kept { AreKept time works.old }
+    requires still { IsStill run.phase }
+    requires timely { IsTimely time run.phase }
+    requires own_stamp { HasOwnStamp works.old.runs w (Some run) }
+    requires last { ComesLast works.old.runs w (Some run) }
+    ensures seen { seen time works.new ≡ record (seen time works.old) { running = slice_set (shown_all time works.old.runs) w (Some (shown time run)) } }
+    ensures kept { AreKept time works.new }
+{
+    works.own_stamps();
+    works.carry_on(w, was, run);
+    balance(works, time, run.pool);
+}
+
 /// The running work, the ready head of its pool, goes on to the next operation, with so many ticks to burn first. It stays in its place.
 pub(crate) fn go_on(works: &mut PhasedWorks, time: u64, w: usize, r: Running, left: u32)
     requires kept { AreKept time works.old }
@@ -44,7 +65,7 @@ pub(crate) fn go_on(works: &mut PhasedWorks, time: u64, w: usize, r: Running, le
     works.own_stamps();
     let may = may_burn(works, r.pool);
     let phase = paced(with_left(left), may, time);
-    works.set(w, Some(onward(r, phase)));
+    works.carry_on(w, ready_as(r), onward(r, phase));
 }
 
 /// The running work, the ready head of its pool, goes on to the next operation, and sleeps until this time first.
@@ -58,7 +79,7 @@ pub(crate) fn fall_asleep(works: &mut PhasedWorks, time: u64, w: usize, r: Runni
 {
     works.own_stamps();
     let phase = asleep_until(until, time);
-    change(works, time, w, Some(onward(r, phase)));
+    carry_on(works, time, w, ready_as(r), onward(r, phase));
 }
 
 /// Asleep until this time, which may be over.
@@ -69,6 +90,20 @@ fn asleep_until(until: u64, time: u64) -> Phase
         Phase::Slept(until)
     } else {
         Phase::Asleep(until)
+    }
+}
+
+/// The running work, with nothing left to burn.
+fn ready_as(r: Running) -> Run
+    ensures { result ≡ ready_as r }
+{
+    Run {
+        born: r.born,
+        stamp: r.stamp,
+        phase: Phase::Ready,
+        pool: r.pool,
+        worker: r.worker,
+        pc: r.pc,
     }
 }
 
@@ -100,15 +135,16 @@ pub(crate) fn wake(works: &mut PhasedWorks, time: u64, pool: u8, w: usize, stamp
         None => {}
         Some(run) => {
             let phase = Phase::Ready;
-            change(
+            carry_on(
                 works,
                 time,
                 w,
-                Some(Run {
+                run,
+                Run {
                     stamp,
                     phase,
                     ..run
-                }),
+                },
             );
         }
     }

@@ -64,7 +64,7 @@ fn end_at(works: &mut PhasedWorks, time: u64, w: usize) -> Option<u8>
     match ended(run.phase, time) {
         None => None,
         Some(phase) => {
-            works.set(w, Some(Run { phase, ..run }));
+            works.carry_on(w, run, Run { phase, ..run });
             Some(run.pool)
         }
     }

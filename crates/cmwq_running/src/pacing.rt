@@ -77,7 +77,7 @@ fn pace(works: &mut PhasedWorks, time: u64, w: usize, may: bool)
         Some(run) => {
             let phase = paced(run.phase, may, time);
             if phase != run.phase {
-                works.set(w, Some(Run { phase, ..run }));
+                works.carry_on(w, run, Run { phase, ..run });
             }
         }
     }

@@ -71,9 +71,17 @@ impl Timers {
         ensures rest { self.new ≡ slice_set self.old work.0 None }
     {
         let timer = self.get(work)?;
+        self.stop(work);
+        Some(timer)
+    }
+
+    /// Takes a work's timer away, if it has one, and tells nothing of it: so it is quicker than `take`.
+    pub fn stop(&mut self, work: WorkId)
+        requires room { work.0 < length self.old }
+        ensures { self.new ≡ slice_set self.old work.0 None }
+    {
         let Timers { timers, winners } = self;
         change(timers, winners, work.0, None);
-        Some(timer)
     }
 
     /// The timer that fires next: the least by due and then stamp, and of equal ones that of the work of

@@ -10,7 +10,7 @@ returns-in-Some c =
     let work = c.args.work.0 in
     let own : c.in-Some.timer.work ≡ c.args.work = rw c.in-Some.is at c.requires.own in
     c.put.ensures.put
-    ∙ ap (λ (ts : List (Option Timer)). set ts c.in-Some.timer.work.0 (Some c.in-Some.timer)) c.take.ensures.rest
+    ∙ ap (λ (ts : List (Option Timer)). set ts c.in-Some.timer.work.0 (Some c.in-Some.timer)) c.silence.ensures
     ∙ ap (λ (v : WorkId). set (set alarms work None) v.0 (Some c.in-Some.timer)) own
     ∙ set-set alarms work None (Some c.in-Some.timer)
     ∙ ap (set alarms work) (sym c.in-Some.is)

@@ -1,12 +1,14 @@
-use Rattle.std.proofs.Common.{◌≡◌, ◌<◌, ℕ, length, set, Option, IfSome, arith, ap, sym, subst, ◌∙◌}
-use Rattle.cmwq_lists.specs.ListContents.{with_rank}
+use Rattle.std.proofs.Common.{rules, ◌≡◌, false, None, ◌<◌, ℕ, length, set, Option, IfSome, arith, ap, sym, subst, ◌∙◌}
+use Rattle.cmwq_lists.specs.ListContents.{rank_at, with_rank}
 use Rattle.cmwq_types.specs.Contents.{ScenarioContents}
 use Rattle.cmwq_types.specs.Scenario.{flags_at, queue_of}
 use Rattle.cmwq_types.specs.declared.scenario.Flags.{Flags}
-use Rattle.cmwq_queued.specs.Indexes.{active_class, active_classes, busy_class, busy_classes, list_of, ranked}
+use Rattle.cmwq_queued.specs.Indexes.{active_class, active_classes, busy_class, busy_classes, is_grouped, list_of, ranked}
 use Rattle.cmwq_queued.specs.QueuedContents.{QueuedContents, pending_at}
-use Rattle.cmwq_queued.proofs.ChangeLemmas.{counted_in, has_room_for_one, indexed_with}
+use Rattle.cmwq_queued.proofs.ChangeLemmas.{IsNowhere, counted_in, counts_stay, has_room_for_one, indexed_with, lists_stay, nowhere}
 use Rattle.cmwq_queued.proofs.queued_works.QueuedWorks.change.Goals as goal
+use Rattle.cmwq_table.specs.Counts.{pending_stamp}
+use Rattle.cmwq_table.specs.declared.state.Pending.{Pending}
 use Rattle.cmwq_tally.specs.TallyContents.{changed, count_of}
 
 pub overflow_cast-work : goal.overflow_cast-work
@@ -51,6 +53,27 @@ change-requires-2-clause-room c =
 
 pub invariant_of-self : goal.invariant_of-self
 invariant_of-self c =
+    let q = c.self.inside in
+    let S = q.scenario.value in
+    let pending = q.pending.items in
+    let w = c.args.w in
+    let p = c.args.becomes in
+    let below : w < length S.works = subst (λ (m : QueuedContents). w < length m.scenario.works) (sym c.self.view_is) c.requires.work in
+    let was : c.args.was ≡ pending_at pending w = sym (ap (λ (m : QueuedContents). pending_at m.pending w) c.self.view_is ∙ c.requires.was) in
+    let retimes = c.retime.ensures ∙ ap (set q.timers w) c.timer_of-2.ensures in
+    let was_apart : is_grouped c.args.was ≡ false = search rules in
+    let is_apart : is_grouped p ≡ false = search rules in
+    let before = subst (λ (o : Option Pending). IsNowhere (queue_of S w) (flags_at S (queue_of S w)).freezable o) was (nowhere (queue_of S w) (flags_at S (queue_of S w)).freezable c.args.was was_apart) in
+    let after = nowhere (queue_of S w) (flags_at S (queue_of S w)).freezable p is_apart in
+    let unlisted : rank_at q.lists w ≡ None = c.self.invariant.ranks w ∙ ap (λ (o : Option ℕ). ranked o (pending_stamp (pending_at pending w))) before.list in
+    indexed_with S pending q.lists q.lists q.timers c.retime.new.timers q.active q.busy q.active q.busy c.self.invariant w p below
+    (lists_stay q.lists w (pending_stamp p) (list_of (queue_of S w) p) unlisted after.list)
+    retimes
+    (counts_stay q.active (active_class (queue_of S w) (pending_at pending w)) (active_class (queue_of S w) p) before.active after.active)
+    (counts_stay q.busy (busy_class (flags_at S (queue_of S w)).freezable (pending_at pending w)) (busy_class (flags_at S (queue_of S w)).freezable p) before.busy after.busy)
+
+pub invariant_of-self-2 : goal.invariant_of-self-2
+invariant_of-self-2 c =
     let q = c.self.inside in
     let S = q.scenario.value in
     let pending = q.pending.items in

@@ -2,7 +2,7 @@ use Rattle.std.proofs.Common.{rules, ◌<◌, ◌^◌, IfSome, length, subst, sy
 use Rattle.cmwq_phases.specs.Runs.{HasOwnStamp}
 use Rattle.cmwq_phased.specs.PhasedContents.{PhasedContents}
 use Rattle.cmwq_phased.proofs.ChangeLemmas.{runs_with}
-use Rattle.cmwq_phased.proofs.phased_works.PhasedWorks.set.Goals as goal
+use Rattle.cmwq_phased.proofs.phased_works.PhasedWorks.change.Goals as goal
 
 pub invariant_of-self : goal.invariant_of-self
 invariant_of-self c =
