@@ -11,6 +11,7 @@ use Rattle.cmwq_types.specs.Scenario.{is_unbound}
 use Rattle.cmwq_types.specs.declared.reply.Mode.{Mode}
 use Rattle.cmwq_types.proofs.FirstLemmas.{by_least_two-order, first_below-is_first}
 use Rattle.cmwq_table.specs.Counts.{is_some_work}
+use Rattle.cmwq_phased.specs.PhasedContents.{if_ends_by}
 use Rattle.cmwq_phases.specs.Phases.{IsTimely, left_in, mode_in, shown, shown_all}
 use Rattle.cmwq_phases.specs.Runs.{alarm_in, first_to_end, is_awake, number_or_0, run_alarm, run_at, run_stamp}
 use Rattle.cmwq_phases.specs.declared.run.Phase.{Phase}
@@ -159,6 +160,26 @@ module _ (S : ScenarioContents) (rs : List (Option Run)) (long : length rs ≡ l
       by_alarm None none later = absurd (let passes = (first_ends w is).passes in let gone : run_alarm (run_at rs w) ≡ None = has ∙ none in cc)
       by_alarm (Some end) some later = further end later (run_alarm (run_at rs v)) (ends_after w is end (has ∙ some) v)
 
+  -- where none ends by the time, all end later
+  pub none_by : (time : ℕ) → if_ends_by rs time (first_to_end S rs) ≡ None → (v : ℕ) → IfSome (run_alarm (run_at rs v)) (λ end. time < end)
+  none_by time none v = by_first (first_to_end S rs) refl none
+    where
+      further : (end : ℕ) → time < end → (o : Option ℕ) → IfSome o (λ e. end ≤ e) → IfSome o (λ e. time < e)
+      further end soon None after = tt
+      further end soon (Some e) after = omega (arith, soon, after)
+
+      by_alarm : (w : ℕ) → first_to_end S rs ≡ Some w → (o : Option ℕ) → run_alarm (run_at rs w) ≡ o → nat_le (number_or_0 o) time ≡ false → IfSome (run_alarm (run_at rs v)) (λ e. time < e)
+      by_alarm w is None at late = absurd (let passes = (first_ends w is).passes in cc)
+      by_alarm w is (Some end) at late = further end (grind (arith, nat_tests)) (run_alarm (run_at rs v)) (ends_after w is end at v)
+
+      by_test : (w : ℕ) → first_to_end S rs ≡ Some w → (b : Bool) → nat_le (number_or_0 (run_alarm (run_at rs w))) time ≡ b → cond b (Some w) None ≡ None → IfSome (run_alarm (run_at rs v)) (λ e. time < e)
+      by_test w is true e none = absurd (cc)
+      by_test w is false e none = by_alarm w is (run_alarm (run_at rs w)) refl e
+
+      by_first : (o : Option ℕ) → first_to_end S rs ≡ o → if_ends_by rs time o ≡ None → IfSome (run_alarm (run_at rs v)) (λ e. time < e)
+      by_first None is none = subst (λ (o : Option ℕ). IfSome o (λ e. time < e)) (sym (none_ends is v)) tt
+      by_first (Some w) is none = by_test w is (nat_le (number_or_0 (run_alarm (run_at rs w))) time) refl none
+
   -- some time before the first ends, or none does, nothing ends
   pub none_before : (time n : ℕ) → ((end : ℕ) → end_of rs (first_to_end S rs) ≡ Some end → time + n ≤ end) → NoneEndsBefore (time + n) rs
   none_before time n early v = by_first (first_to_end S rs) refl
@@ -174,6 +195,15 @@ module _ (S : ScenarioContents) (rs : List (Option Run)) (long : length rs ≡ l
       by_first : (o : Option ℕ) → first_to_end S rs ≡ o → IfSome (run_alarm (run_at rs v)) (λ e. time + n ≤ e)
       by_first None none = subst (λ (o : Option ℕ). IfSome o (λ e. time + n ≤ e)) (sym (none_ends none v)) tt
       by_first (Some w) is = by_end w is (run_alarm (run_at rs w)) refl
+
+-- who ends by the time is the first to end
+pub first_by : (rs : List (Option Run)) (time : ℕ) (o : Option ℕ) (w : ℕ) → if_ends_by rs time o ≡ Some w → o ≡ Some w
+first_by rs time None w is = absurd (cc)
+first_by rs time (Some v) w is = by_test (nat_le (number_or_0 (run_alarm (run_at rs v))) time) is
+  where
+    by_test : (b : Bool) → cond b (Some v) None ≡ Some w → Some v ≡ Some w
+    by_test true e = e
+    by_test false e = absurd (cc)
 
 -- It ends.
 

@@ -38,7 +38,7 @@ fn end_first(works: &mut PhasedWorks, time: u64) -> Option<u8>
     ensures timely { result ≡ None → AreTimely time works.new.runs }
     ensures same { result ≡ None → works.new ≡ works.old }
 {
-    match works.first_to_end() {
+    match works.first_to_end_by(time) {
         None => None,
         Some(w) => end_at(works, time, w),
     }
