@@ -1,4 +1,4 @@
-use Rattle.std.proofs.Common.{◌≡◌, List, ℕ, ap, append-nil, refl, subst, sym, ◌∙◌}
+use Rattle.std.proofs.Common.{◌≡◌, List, ℕ, ap, append-nil, subst, sym, ◌∙◌}
 use Rattle.cmwq_lines.specs.Putting.{repeated}
 use Rattle.cmwq_table.specs.Events.{reply_line}
 use Rattle.cmwq_play.specs.Session.{Issues}
