@@ -1,3 +1,4 @@
 mod BlockLemmas
+mod NumberLemmas
 mod PutLemmas
 pub mod RepeatedLemmas

@@ -1,7 +1,7 @@
 -- What texts that are put one behind another come to.
 use Rattle.std.proofs.Common.{◌≡◌, ◌≤◌, ◌+◌, ◌-◌, ℕ, List, ◌∷◌, ◌++◌, [], length, take, drop, ap, sym, ◌∙◌, arith, append_assoc, length-append, length-take, length-drop}
 use Rattle.std.proofs.Math.Seq.{take-append-add}
-use Rattle.std.proofs.lemmas.List.{length-take-le, take-append-le, take-take, take_at}
+use Rattle.std.proofs.lemmas.List.{length-take-le, take-append-le}
 use Rattle.cmwq_types.specs.Contents.{ScenarioContents}
 use Rattle.cmwq_types.specs.declared.instr.Instr.{Instr}
 use Rattle.cmwq_types.specs.declared.reply.Reply.{Reply}
@@ -33,14 +33,7 @@ puts_then old mid new at m n first second a b = record {
 }
 
 module _ (old : List ℕ) (at : ℕ) (new : List ℕ) (end : ℕ) (text : List ℕ) (puts : Puts old at new end text) (room : at ≤ length old) where
-  -- what stood before stays
-  pub puts_behind : take at new ≡ take at old
-  puts_behind =
-      sym (take-take at end new (omega (arith, puts.ends)))
-      ∙ ap (λ (front : List ℕ). take at front) puts.text_is
-      ∙ take_at (take at old) text at (length-take-le at old room)
-
-  -- and the text ends within the block
+  -- the text ends within the block
   pub puts_within : end ≤ length new
   puts_within = omega (arith, length-take end new, ap length puts.text_is, length-append (take at old) text, length-take-le at old room, puts.ends)
 

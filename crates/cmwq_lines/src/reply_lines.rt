@@ -1,23 +1,26 @@
 //! The lines of a scenario's replies.
 ghost use Rattle.cmwq_lines.specs.Putting.{Puts, ended, repeated, spaced};
-ghost use Rattle.cmwq_table.specs.Events.{already_text, event_text, refusal_text, reply_line, reply_words, was_text, work_name};
+ghost use Rattle.cmwq_table.specs.Events.{already_text, asked_name, event_text, is_silent, place_text, refusal_text, reply_line, reply_words, run_text, was_text, work_name, worker_text};
 ghost use Rattle.cmwq_types.specs.declared.instr.Instr.{Instr};
 ghost use Rattle.std.specs.Fmt.{decimal};
-ghost use Rattle.std.specs.Prelude.{◌≡◌, ◌+◌, ◌≤◌, ◌++◌, IfOk, IfSome, None, OnOk, codes, length, map};
+ghost use Rattle.std.specs.Prelude.{◌≡◌, ◌+◌, ◌≤◌, ◌++◌, IfOk, OnOk, false, true, codes, length, map};
 
 use crate::block::{Block, make_room};
 use crate::numbered::Numbered;
 use crate::short::{Short, put_text};
-use cmwq_table::{ReplyLine, is_silent};
-use cmwq_types::{Event, Instr, NoMemory, Refusal, Reply, Scenario, WorkDecl, WorkId};
+use cmwq_table::is_silent;
+use cmwq_types::{
+    Event, Instr, Mode, NoMemory, Place, RESCUER, Refusal, Reply, Scenario, WorkDecl, WorkId,
+    WorkRun,
+};
 use std::alloc::Global;
 use std::marker::Model;
 
 /// No line that is put together from parts has as many bytes, with the room of one part more.
-const ROOM: usize = 128;
+const ROOM: usize = 192;
 
 /// How many numbers keep their text.
-const NUMBERS: u32 = 64;
+const NUMBERS: u64 = 64;
 
 /// Writes the lines of a scenario's replies. Contracts see the scenario.
 ///
@@ -61,7 +64,44 @@ impl<'s> ReplyLines<'s> {
     /// Writes the line of a reply at a time to an instruction behind what the block has: nothing where the reply has no line.
     ///
     /// It fails only for want of memory. What the block has then is lost.
+    #[inline(always)]
     pub fn push(
+        &mut self,
+        block: &mut Block,
+        time: u64,
+        instr: Instr,
+        reply: &Reply,
+    ) -> Result<(), NoMemory>
+        ensures same { self.new ≡ self.old }
+        ensures line { OnOk result (block.new ≡ block.old ++ reply_line self.old time instr reply.now) }
+    {
+        if matches!(reply, Reply::Event { .. }) && self.push_event(block, time, reply) {
+            return Ok(());
+        }
+        self.push_any(block, time, instr, reply)
+    }
+
+    /// Writes the line of an event where the block has room for it, and answers whether it did.
+    #[inline(never)]
+    fn push_event(&mut self, block: &mut Block, time: u64, reply: &Reply) -> bool
+        ensures same { self.new ≡ self.old }
+        ensures line { result ≡ true → (asked : Instr) → block.new ≡ block.old ++ reply_line self.old time asked reply.now }
+        ensures none { result ≡ false → block.new ≡ block.old }
+    {
+        let Reply::Event { work, event } = reply else {
+            return false;
+        };
+        let Block { bytes, len } = block;
+        if bytes.len() - *len < ROOM {
+            return false;
+        }
+        *len = self.put_event_line(bytes.as_mut_slice(), *len, time, *work, *event);
+        true
+    }
+
+    /// Writes the line of any reply, as `push` does.
+    #[inline(never)]
+    fn push_any(
         &mut self,
         block: &mut Block,
         time: u64,
@@ -76,21 +116,14 @@ impl<'s> ReplyLines<'s> {
         }
         let Block { bytes, len } = block;
         make_room(bytes, *len, ROOM)?;
-        let kept = bytes.as_mut_slice();
-        let at = self.time.put(time, kept, *len);
-        match self.put_words(kept, at, *reply) {
-            Some(end) => {
-                *len = end;
-                Ok(())
-            }
-            None => self.print(block, time, instr, reply),
-        }
+        *len = self.put_line(bytes.as_mut_slice(), *len, time, instr, reply);
+        Ok(())
     }
 
     /// Writes the line of a reply at a time to an instruction so many times behind what the block has. It is put together once.
     ///
     /// It fails only for want of memory. What the block has then is lost.
-    #[inline]
+    #[inline(always)]
     pub fn push_times(
         &mut self,
         block: &mut Block,
@@ -113,36 +146,64 @@ impl<'s> ReplyLines<'s> {
         block.repeat_end(start, times - 1)
     }
 
-    /// Writes a reply's line as `ReplyLine` prints it.
-    #[cold]
-    #[inline(never)]
-    fn print(
-        &self,
-        block: &mut Block,
+    /// Puts the line of an event, and answers where it ends.
+    #[inline(always)]
+    fn put_event_line(
+        &mut self,
+        block: &mut [u8],
+        at: usize,
+        time: u64,
+        work: WorkId,
+        event: Event,
+    ) -> usize
+        requires { at + 192 ≤ length block.old }
+        ensures same { self.new ≡ self.old }
+        ensures line { (asked : Instr) → Puts block.old at block.new result (reply_line self.old time asked (Reply.Event work event)) }
+    {
+        let at = self.put_time(block, at, time);
+        self.put_work_event(block, at, work, event)
+    }
+
+    /// Puts the line of a reply that has one, and answers where it ends.
+    #[inline(always)]
+    fn put_line(
+        &mut self,
+        block: &mut [u8],
+        at: usize,
         time: u64,
         instr: Instr,
         reply: &Reply,
-    ) -> Result<(), NoMemory>
-        ensures { OnOk result (block.new ≡ block.old ++ reply_line self.now time instr reply.now) }
+    ) -> usize
+        requires room { at + 192 ≤ length block.old }
+        requires told { is_silent reply.now ≡ false }
+        ensures same { self.new ≡ self.old }
+        ensures line { Puts block.old at block.new result (reply_line self.old time instr reply.now) }
     {
-        let line = ReplyLine {
-            scenario: self.scenario,
-            time,
-            instr,
-            reply: *reply,
-        };
-        write!(block, "{line}")
+        let at = self.put_time(block, at, time);
+        self.put_words(block, at, instr, reply)
     }
 
-    /// Puts what the line says behind the time, and answers where it ends; `None` where it isn't made of parts.
+    /// Puts the time.
     #[inline(always)]
-    fn put_words(&mut self, block: &mut [u8], at: usize, reply: Reply) -> Option<usize>
-        requires { at + 104 ≤ length block.old }
+    fn put_time(&mut self, block: &mut [u8], at: usize, time: u64) -> usize
+        requires { at + 24 ≤ length block.old }
         ensures same { self.new ≡ self.old }
-        ensures words { IfSome result (λ end. (asked : Instr) → Puts block.old at block.new end (spaced (ended (reply_words self.old asked reply)))) }
-        ensures none { result ≡ None → block.new ≡ block.old }
+        ensures time { Puts block.old at block.new result (decimal time) }
+        ensures short { length (decimal time) ≤ 24 }
     {
-        let end = match reply {
+        self.time.set(time);
+        self.time.put(block, at)
+    }
+
+    /// Puts what the line says behind the time, and answers where it ends.
+    #[inline(always)]
+    fn put_words(&mut self, block: &mut [u8], at: usize, instr: Instr, reply: &Reply) -> usize
+        requires { at + 168 ≤ length block.old }
+        ensures same { self.new ≡ self.old }
+        ensures words { Puts block.old at block.new result (spaced (ended (reply_words self.old instr reply.now))) }
+    {
+        match *reply {
+            Reply::Queued | Reply::Done => put_text(block, at, *b" \n"),
             Reply::Already => put_text(block, at, *b" already\n"),
             Reply::Changed => put_text(block, at, *b" changed\n"),
             Reply::Cancelled => put_text(block, at, *b" cancelled\n"),
@@ -151,20 +212,112 @@ impl<'s> ReplyLines<'s> {
             Reply::No => put_text(block, at, *b" no\n"),
             Reply::Flush(flush) => {
                 let at = put_text(block, at, *b" flush ");
-                self.put_number(block, at, u32::from(flush))
+                self.put_number(block, at, u64::from(flush))
             }
             Reply::Sync { was, flush } => {
                 let at = put_was(block, at, was);
-                self.put_number(block, at, u32::from(flush))
+                self.put_number(block, at, u64::from(flush))
             }
-            Reply::Event { work, event } => {
-                let at = self.put_name(block, at, work);
-                self.put_event(block, at, event)
+            Reply::Found(state) => {
+                let at = self.put_asked(block, at, instr);
+                let at = self.put_place(block, at, state.place);
+                self.put_run(block, at, state.run)
             }
+            Reply::Event { work, event } => self.put_work_event(block, at, work, event),
             Reply::Refused(why) => put_refusal(block, at, why),
-            Reply::Queued | Reply::Done | Reply::Found(_) => return None,
+        }
+    }
+
+    /// Puts a blank and the name of the work that the instruction asks for.
+    fn put_asked(&self, block: &mut [u8], at: usize, instr: Instr) -> usize
+        requires { at + 24 ≤ length block.old }
+        ensures name { Puts block.old at block.new result (spaced (asked_name self.now instr)) }
+        ensures short { length (spaced (asked_name self.now instr)) ≤ 24 }
+    {
+        match instr {
+            Instr::State(work) => self.put_name(block, at, work),
+            _ => put_text(block, at, *b" "),
+        }
+    }
+
+    /// Puts a blank and where a work waits.
+    fn put_place(&mut self, block: &mut [u8], at: usize, place: Option<Place>) -> usize
+        requires { at + 34 ≤ length block.old }
+        ensures same { self.new ≡ self.old }
+        ensures words { Puts block.old at block.new result (spaced (place_text place)) }
+        ensures short { length (spaced (place_text place)) ≤ 34 }
+    {
+        let Some(place) = place else {
+            return put_text(block, at, *b" idle");
         };
-        Some(end)
+        match place {
+            Place::Timer { due, .. } => {
+                let at = put_text(block, at, *b" timer ");
+                self.put_decimal(block, at, due)
+            }
+            Place::Inactive(pool) => {
+                let at = put_text(block, at, *b" inactive ");
+                self.put_decimal(block, at, u64::from(pool))
+            }
+            Place::Listed(pool) => {
+                let at = put_text(block, at, *b" listed ");
+                self.put_decimal(block, at, u64::from(pool))
+            }
+            Place::Deferred(pool) => {
+                let at = put_text(block, at, *b" deferred ");
+                self.put_decimal(block, at, u64::from(pool))
+            }
+        }
+    }
+
+    /// Puts a blank, where a work runs, and a line feed.
+    fn put_run(&mut self, block: &mut [u8], at: usize, run: Option<WorkRun>) -> usize
+        requires { at + 90 ≤ length block.old }
+        ensures same { self.new ≡ self.old }
+        ensures words { Puts block.old at block.new result (spaced (ended (run_text run))) }
+    {
+        let Some(run) = run else {
+            return put_text(block, at, *b" still\n");
+        };
+        match run.mode {
+            Mode::Runnable => {
+                let at = put_text(block, at, *b" runs ");
+                let at = self.put_worker(block, at, run);
+                put_text(block, at, *b"\n")
+            }
+            Mode::Asleep(until) => {
+                let at = put_text(block, at, *b" asleep ");
+                let at = self.put_worker(block, at, run);
+                let at = put_text(block, at, *b" ");
+                self.put_number(block, at, until)
+            }
+        }
+    }
+
+    /// Puts a pool, and the worker that works for it.
+    fn put_worker(&mut self, block: &mut [u8], at: usize, run: WorkRun) -> usize
+        requires { at + 49 ≤ length block.old }
+        ensures same { self.new ≡ self.old }
+        ensures words { Puts block.old at block.new result (worker_text run) }
+        ensures short { length (worker_text run) ≤ 49 }
+    {
+        let at = self.put_decimal(block, at, u64::from(run.pool));
+        let at = put_text(block, at, *b"/");
+        if run.worker == RESCUER {
+            return put_text(block, at, *b"rescuer");
+        }
+        self.put_decimal(block, at, u64::from(run.worker))
+    }
+
+    /// Puts what an event's line says behind the time.
+    #[inline(always)]
+    fn put_work_event(&mut self, block: &mut [u8], at: usize, work: WorkId, event: Event) -> usize
+        requires { at + 104 ≤ length block.old }
+        ensures same { self.new ≡ self.old }
+        ensures words { (asked : Instr) → Puts block.old at block.new result (spaced (ended (reply_words self.old asked (Reply.Event work event)))) }
+    {
+        let at = self.put_name(block, at, work);
+        self.put_event(block, at, event)
     }
 
     /// Puts what an event's line says behind the name of its work.
@@ -178,11 +331,11 @@ impl<'s> ReplyLines<'s> {
             Event::Starts => put_text(block, at, *b" starts\n"),
             Event::Burns(ticks) => {
                 let at = put_text(block, at, *b" burns ");
-                self.put_number(block, at, ticks)
+                self.put_number(block, at, u64::from(ticks))
             }
             Event::Sleeps(ticks) => {
                 let at = put_text(block, at, *b" sleeps ");
-                self.put_number(block, at, ticks)
+                self.put_number(block, at, u64::from(ticks))
             }
             Event::Wakes => put_text(block, at, *b" wakes\n"),
             Event::Finishes => put_text(block, at, *b" finishes\n"),
@@ -218,14 +371,26 @@ impl<'s> ReplyLines<'s> {
 
     /// Puts the number and a line feed.
     #[inline(always)]
-    fn put_number(&mut self, block: &mut [u8], at: usize, number: u32) -> usize
+    fn put_number(&mut self, block: &mut [u8], at: usize, number: u64) -> usize
         requires { at + 25 ≤ length block.old }
         ensures same { self.new ≡ self.old }
         ensures number { Puts block.old at block.new result (ended (decimal number)) }
     {
-        let numbered = &mut self.numbers[(number % NUMBERS) as usize];
-        let at = numbered.put(u64::from(number), block, at);
+        let at = self.put_decimal(block, at, number);
         put_text(block, at, *b"\n")
+    }
+
+    /// Puts the number.
+    #[inline(always)]
+    fn put_decimal(&mut self, block: &mut [u8], at: usize, number: u64) -> usize
+        requires { at + 24 ≤ length block.old }
+        ensures same { self.new ≡ self.old }
+        ensures number { Puts block.old at block.new result (decimal number) }
+        ensures short { length (decimal number) ≤ 24 }
+    {
+        let numbered = &mut self.numbers[(number % NUMBERS) as usize];
+        numbered.set(number);
+        numbered.put(block, at)
     }
 }
 
@@ -302,7 +467,7 @@ fn first_numbers(alloc: Global) -> Result<Vec<Numbered>, NoMemory>
 {
     let mut numbers = Vec::with_capacity(alloc, NUMBERS as usize)?;
     for number in 0..NUMBERS {
-        numbers.push(Numbered::new(u64::from(number)))?;
+        numbers.push(Numbered::new(number))?;
     }
     Ok(numbers)
 }

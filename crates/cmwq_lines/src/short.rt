@@ -1,9 +1,7 @@
 //! Short texts, and how they are put behind what a block has.
 ghost use Rattle.cmwq_lines.specs.Putting.{Puts};
-ghost use Rattle.std.specs.Fmt.{decimal};
 ghost use Rattle.std.specs.Prelude.{◌≡◌, ◌+◌, ◌≤◌, ◌<◌, ◌∷◌, length};
 
-use itoa::write_digits;
 use std::marker::Model;
 
 /// How many bytes a copy of a short text has.
@@ -39,20 +37,6 @@ impl Short {
         Short {
             bytes,
             len: end as u8,
-        }
-    }
-
-    /// The decimal digits of the number.
-    pub(crate) fn decimal(number: u64) -> Short
-        ensures { result ≡ decimal number }
-    {
-        let mut digits = [0u8; 2 * COPIED];
-        let start = write_digits(number, &mut digits, COPIED);
-        let mut bytes = [0u8; COPIED];
-        bytes.copy_from_slice(&digits[start..start + COPIED]);
-        Short {
-            bytes,
-            len: (COPIED - start) as u8,
         }
     }
 

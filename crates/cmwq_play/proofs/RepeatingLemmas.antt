@@ -1,11 +1,11 @@
 -- The lines of an instruction that is issued several times.
-use Rattle.std.proofs.Common.{◌≡◌, ℕ, zero, suc, ◌+◌, ◌-◌, ◌<◌, ◌≤◌, List, [], ◌∷◌, ◌++◌, Bool, true, Option, refl, sym, ap, ◌∙◌, subst, arith, append_assoc, append-nil, replicate}
+use Rattle.std.proofs.Common.{◌≡◌, ℕ, zero, suc, ◌+◌, ◌-◌, ◌<◌, ◌≤◌, List, [], ◌∷◌, ◌++◌, Bool, true, Option, refl, sym, ap, ◌∙◌, subst, arith, append_assoc, replicate}
 use Rattle.cmwq_types.specs.Contents.{ScenarioContents}
 use Rattle.cmwq_types.specs.declared.instr.Instr.{Instr}
 use Rattle.cmwq_types.specs.declared.instr.Instr.TheVariants.{Next}
 use Rattle.cmwq_types.specs.declared.reply.Reply.{Reply}
 use Rattle.cmwq_runs.proofs.LineLemmas.{replicate_add, replicate_rest}
-use Rattle.cmwq_table.specs.Events.{events_from, event_line_at, is_silent, reply_line, reply_words, told}
+use Rattle.cmwq_table.specs.Events.{events_from, is_silent, reply_line, told}
 use Rattle.cmwq_table.specs.Repeats.{HasGone, HasRepeated, after_times, reply_behind}
 use Rattle.cmwq_table.specs.State.{State}
 use Rattle.cmwq_table.specs.Table.{after_all, table}

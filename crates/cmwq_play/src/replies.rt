@@ -75,7 +75,7 @@ impl<M: Machine, W: Sink> Session<'_, '_, M, W> {
         ensures err { IfErr result (Stopped M.loaded M.state W.contents W.failed self.old self.new (events_from self.old.scenario.now (M.state self.old.machine) (replicate most instr.Next))) }
     {
         let (count, reply) = self.machine.go(most);
-        self.tell(Instr::Next, &reply, 1)?;
+        self.tell_once(Instr::Next, &reply)?;
         Ok(count)
     }
 
@@ -93,8 +93,34 @@ impl<M: Machine, W: Sink> Session<'_, '_, M, W> {
         Ok(count)
     }
 
+    /// Writes the line of a reply at the machine's time to an instruction.
+    #[inline(always)]
+    fn tell_once(&mut self, instr: Instr, reply: &Reply) -> Result<(), PlayError>
+        requires ready { CanIssue M.loaded M.state W.contents W.failed self.old }
+        ensures { Issues M.loaded M.state W.contents W.failed self.old self.new (M.state self.old.machine)
+            (reply_line self.old.scenario.now (M.state self.old.machine).time instr reply.now) result }
+    {
+        let time = self.machine.now();
+        self.lines
+            .write_reply(&mut self.replies, time, instr, reply)
+    }
+
     /// Writes the line of a reply at the machine's time to an instruction, so many times.
+    #[inline(always)]
     fn tell(&mut self, instr: Instr, reply: &Reply, times: u32) -> Result<(), PlayError>
+        requires ready { CanIssue M.loaded M.state W.contents W.failed self.old }
+        ensures { Issues M.loaded M.state W.contents W.failed self.old self.new (M.state self.old.machine)
+            (repeated (reply_line self.old.scenario.now (M.state self.old.machine).time instr reply.now) times) result }
+    {
+        if times == 1 {
+            return self.tell_once(instr, reply);
+        }
+        self.tell_times(instr, reply, times)
+    }
+
+    /// Writes the line as `tell` does, so many lines at a time.
+    #[inline(never)]
+    fn tell_times(&mut self, instr: Instr, reply: &Reply, times: u32) -> Result<(), PlayError>
         requires ready { CanIssue M.loaded M.state W.contents W.failed self.old }
         ensures { Issues M.loaded M.state W.contents W.failed self.old self.new (M.state self.old.machine)
             (repeated (reply_line self.old.scenario.now (M.state self.old.machine).time instr reply.now) times) result }

@@ -72,6 +72,7 @@ impl<'w, W: Sink> BlockWriter<'w, W> {
     /// Writes the line of a reply at a time to an instruction behind what is kept back, and sends it all where it is more than a block.
     ///
     /// The errors are `Write`, exactly where the `Sink` failed, and `NoMemory`. Then what is kept back is lost.
+    #[inline(always)]
     pub fn write_reply(
         &mut self,
         lines: &mut ReplyLines<'_>,
@@ -96,6 +97,7 @@ impl<'w, W: Sink> BlockWriter<'w, W> {
     /// than a block. All the lines are kept back first, so let them be few.
     ///
     /// The errors are `Write`, exactly where the `Sink` failed, and `NoMemory`. Then what is kept back is lost.
+    #[inline(always)]
     pub fn write_replies(
         &mut self,
         lines: &mut ReplyLines<'_>,
@@ -118,7 +120,7 @@ impl<'w, W: Sink> BlockWriter<'w, W> {
     }
 
     /// Sends what is kept back where it is more than a block. The only error is `Write`, exactly where the `Sink` failed.
-    #[inline]
+    #[inline(always)]
     fn send_full(&mut self) -> Result<(), PlayError>
         requires sound { W.failed (sink self.old) ≡ false }
         ensures same { SharesSink self.old self.new }

@@ -3,7 +3,7 @@ use Rattle.cmwq_streams.specs.Blocks.{Sends, SharesSink}
 use Rattle.cmwq_table.specs.Events.{reply_line}
 use Rattle.cmwq_lines.specs.Putting.{repeated}
 use Rattle.cmwq_play.specs.Session.{CanIssue}
-use Rattle.cmwq_play.proofs.session.Session.tell.Given as goal
+use Rattle.cmwq_play.proofs.session.Session.tell_times.Given as goal
 
 -- the line was written as often as it isn't left
 abbrev pub invariant-loop-left : goal.invariant-loop-left
