@@ -1,5 +1,6 @@
 -- Laws on the tree of winners: who stands at a node, and at the root.
-use Rattle.std.proofs.Common.{◌≡◌, ◌⊎◌, ℕ, zero, suc, ◌+◌, ◌-◌, ◌*◌, ◌/◌, ◌<◌, ◌≤◌, Bool, true, false, ◌||◌, ◌&&◌, ◌==◌, nat_lt, List, length, Option, Some, None, is_some, IfSome, cond, arith, refl, sym, ap, subst, ◌∙◌, inl, inr}
+use Rattle.std.proofs.Common.{◌≡◌, ◌⊎◌, ℕ, zero, suc, ◌+◌, ◌-◌, ◌*◌, ◌/◌, ◌<◌, ◌≤◌, Bool, true, false, ◌||◌, ◌&&◌, ◌==◌, nat_lt, List, length, Option, Some, None, is_some, IfSome, cond, arith, refl, sym, ap, subst, ◌∙◌, inl, inr, ◌∷◌, map, replicate, set}
+use Rattle.std.proofs.lemmas.List.{get_or-replicate, length-replicate, map-set}
 use Rattle.std.proofs.lemmas.Bool.{cases_eq, cases_lt}
 use Rattle.std.proofs.lemmas.Bool.Decides.{nat_tests}
 use Rattle.cmwq_types.proofs.FirstLemmas.{by_least_two-order, first_below-unique, first_below-none}
@@ -173,3 +174,21 @@ module _ (timers : List (Option Timer)) (winners : List ℕ) (kept : IsTree time
       by_cases (Some r) is =
           let inside = won-inside (length timers) winners kept.won.tree (λ i above inner. (kept.won.won i above inner).is_one) (2 * length timers) 1 (omega arith) (omega arith) (omega (arith, some_room)) in
           rw (first_is (winner_at winners 1) r refl inside is) refl
+
+-- Ranks beside the timers.
+
+-- no work has a timer
+pub ranked_new : (works : ℕ) → replicate works no_rank ≡ map rank_of (replicate works None)
+ranked_new zero = refl
+ranked_new (suc n) = ap (λ (ranks : List Rank). no_rank ∷ ranks) (ranked_new n)
+
+-- the tree then
+pub tree_new : (works : ℕ) (timers : List (Option Timer)) (winners : List ℕ) → timers ≡ replicate works None → AreWinners (replicate works None) winners → IsTree timers winners
+tree_new works timers winners is won = subst (λ (ts : List (Option Timer)). IsTree ts winners) (sym is) (record {
+  own = λ w inside. subst (λ (o : Option Timer). IfSome o (IsOwn w)) (sym (get_or-replicate works w None None (subst (λ (n : ℕ). w < n) (length-replicate works None) inside))) tt;
+  won = won;
+})
+
+-- one work has another timer
+pub ranked_with : (timers : List (Option Timer)) (ranks : List Rank) (work : ℕ) (timer : Option Timer) → ranks ≡ map rank_of timers → set ranks work (rank_of timer) ≡ map rank_of (set timers work timer)
+ranked_with timers ranks work timer is = ap (λ (rs : List Rank). set rs work (rank_of timer)) is ∙ sym (map-set rank_of timers work timer)

@@ -1,5 +1,5 @@
 -- How the works win in a tree. No public clause cites this module.
-use Rattle.std.specs.Prelude.{◌≡◌, ◌≢◌, ◌⊎◌, ℕ, ◌+◌, ◌-◌, ◌*◌, ◌^◌, ◌<◌, Bool, false, ◌&&◌, ◌||◌, ◌==◌, if◌then◌else◌, nat_lt, List, length, Option, Some, None, IfSome, slice_index_or}
+use Rattle.std.specs.Prelude.{◌≡◌, ◌≢◌, ◌⊎◌, ℕ, ◌+◌, ◌-◌, ◌*◌, ◌^◌, ◌<◌, Bool, false, ◌&&◌, ◌||◌, ◌==◌, if◌then◌else◌, nat_lt, List, length, map, Option, Some, None, IfSome, slice_index_or}
 use Rattle.cmwq_timers.specs.declared.rank.Rank.{Rank}
 use Rattle.cmwq_timers.specs.declared.timer.Timer.{Timer}
 use Rattle.cmwq_timers.specs.Timers.{timer_at}
@@ -67,3 +67,8 @@ pub record AreWonApart (timers : List (Option Timer)) (winners : List ℕ) (work
 pub record IsTree (timers : List (Option Timer)) (winners : List ℕ) : Type 0 where
   pub own : (w : ℕ) → w < length timers → IfSome (timer_at timers w) (IsOwn w)
   pub won : AreWinners timers winners
+
+-- the same, and the rank of each work stands beside its timer
+pub record IsKept (timers : List (Option Timer)) (ranks : List Rank) (winners : List ℕ) : Type 0 where
+  pub tree : IsTree timers winners
+  pub ranked : ranks ≡ map rank_of timers

@@ -1,7 +1,7 @@
 //! The timers.
 ghost use Rattle.cmwq_timers.specs.Timers.{due_by, least_timer, timer_at, without_timer};
-ghost use Rattle.cmwq_timers.specs.Tree.{AreWinners, AreWonApart, HasLeaves, IsOwn, IsTree};
-ghost use Rattle.std.specs.Prelude.{◌≡◌, ℕ, ◌+◌, ◌*◌, ◌<◌, ◌≤◌, ◌/◌, ◌^◌, IfOk, IfSome, length, None, replicate, slice_set, Some};
+ghost use Rattle.cmwq_timers.specs.Tree.{AreWinners, AreWonApart, HasLeaves, IsKept, IsOwn, rank_at, rank_of};
+ghost use Rattle.std.specs.Prelude.{◌≡◌, ℕ, ◌+◌, ◌*◌, ◌<◌, ◌≤◌, ◌/◌, ◌^◌, IfOk, IfSome, length, map, None, replicate, slice_set, Some};
 
 use crate::rank::Rank;
 use crate::timer::Timer;
@@ -11,12 +11,13 @@ use std::marker::Model;
 
 /// A timer for each of some works, the works numbered from 0.
 ///
-/// Above the timers is a tree of winners: each work has a leaf, and of the works whose leaves lie below a node the one whose timer fires
+/// Beside the timers stand their ranks, and above them is a tree of winners: each work has a leaf, and of the works whose leaves lie below a node the one whose timer fires
 /// first has won it, so the winner of node 1, the root, fires first of all. A change of one timer is carried up from its leaf, no further
 /// than to a node that another work wins and had won before. All room is taken by `new` and `copy`.
 #[derive(Drop)]
 pub struct Timers {
     timers: Vec<Option<Timer>>,
+    ranks: Vec<Rank>,
     winners: Vec<u16>,
 }
 
@@ -26,11 +27,11 @@ impl Model for Timers {
 
     ghost Value = { List (Option Timer) };
 
-    ghost use Rattle.cmwq_timers.specs.Tree.{IsTree};
+    ghost use Rattle.cmwq_timers.specs.Tree.{IsKept};
 
     ghost view = { λ t. t.timers.items };
 
-    ghost invariant = { λ t. IsTree t.timers.items t.winners.items };
+    ghost invariant = { λ t. IsKept t.timers.items t.ranks.items t.winners.items };
 }
 
 impl Timers {
@@ -41,8 +42,13 @@ impl Timers {
     {
         let works = usize::from(capacity);
         let timers = filled(alloc, None, works)?;
+        let ranks = filled(alloc, Rank::of(None), works)?;
         let winners = first_winners(alloc, capacity)?;
-        Ok(Timers { timers, winners })
+        Ok(Timers {
+            timers,
+            ranks,
+            winners,
+        })
     }
 
     /// Timers equal to these, with the same room. The only error is want of memory.
@@ -51,8 +57,13 @@ impl Timers {
     {
         let alloc = *self.timers.allocator();
         let timers = Vec::from_slice(alloc, &self.timers)?;
+        let ranks = Vec::from_slice(alloc, &self.ranks)?;
         let winners = Vec::from_slice(alloc, &self.winners)?;
-        Ok(Timers { timers, winners })
+        Ok(Timers {
+            timers,
+            ranks,
+            winners,
+        })
     }
 
     /// Starts a work's timer.
@@ -61,8 +72,12 @@ impl Timers {
         requires absent { timer_at self.old timer.work.0 ≡ None }
         ensures put { self.new ≡ slice_set self.old timer.work.0 (Some timer) }
     {
-        let Timers { timers, winners } = self;
-        change(timers, winners, timer.work.0, Some(timer));
+        let Timers {
+            timers,
+            ranks,
+            winners,
+        } = self;
+        change(timers, ranks, winners, timer.work.0, Some(timer));
     }
 
     /// Takes a work's timer away, if it has one.
@@ -80,8 +95,12 @@ impl Timers {
         requires room { work.0 < length self.old }
         ensures { self.new ≡ slice_set self.old work.0 None }
     {
-        let Timers { timers, winners } = self;
-        change(timers, winners, work.0, None);
+        let Timers {
+            timers,
+            ranks,
+            winners,
+        } = self;
+        change(timers, ranks, winners, work.0, None);
     }
 
     /// The timer that fires next: the least by due and then stamp, and of equal ones that of the work of
@@ -103,8 +122,12 @@ impl Timers {
         if timer.due > now {
             return None;
         }
-        let Timers { timers, winners } = self;
-        change(timers, winners, timer.work.0, None);
+        let Timers {
+            timers,
+            ranks,
+            winners,
+        } = self;
+        change(timers, ranks, winners, timer.work.0, None);
         Some(timer)
     }
 
@@ -148,28 +171,47 @@ fn win_left(winners: &mut [u16], leaves: usize)
 }
 
 /// Gives a work another timer, or none.
-fn change(timers: &mut [Option<Timer>], winners: &mut [u16], work: u16, timer: Option<Timer>)
-    requires kept { IsTree timers.old winners.old }
+fn change(
+    timers: &mut [Option<Timer>],
+    ranks: &mut [Rank],
+    winners: &mut [u16],
+    work: u16,
+    timer: Option<Timer>,
+)
+    requires kept { IsKept timers.old ranks.old winners.old }
     requires work { work < length timers.old }
     requires own { IfSome timer (IsOwn work) }
-    ensures kept { IsTree timers.new winners.new }
+    ensures kept { IsKept timers.new ranks.new winners.new }
     ensures timers { timers.new ≡ slice_set timers.old work timer }
 {
     timers[usize::from(work)] = timer;
-    settle(timers, winners, work);
+    ranks[usize::from(work)] = Rank::of(timer);
+    settle(timers, ranks, winners, work);
+}
+
+/// The rank of a work's timer.
+#[inline(always)]
+fn rank_at(timers: &[Option<Timer>], ranks: &[Rank], work: u16) -> Rank
+    requires ranked { ranks.now ≡ map rank_of timers.now }
+    requires work { work < length timers.now }
+    ensures { result ≡ rank_at timers.now work }
+{
+    let _timers = timers;
+    ranks[usize::from(work)]
 }
 
 /// Lets a work whose timer is another than before win again what it wins, from its leaf up, as far as anything changes.
-fn settle(timers: &[Option<Timer>], winners: &mut [u16], work: u16)
+fn settle(timers: &[Option<Timer>], ranks: &[Rank], winners: &mut [u16], work: u16)
+    requires ranked { ranks.now ≡ map rank_of timers.now }
     requires apart { AreWonApart timers.now winners.old work }
     ensures won { AreWinners timers.now winners.new }
 {
     let mut at = timers.len() + usize::from(work);
     let mut winner = work;
-    let mut rank = Rank::of(timers[usize::from(work)]);
+    let mut rank = rank_at(timers, ranks, work);
     while at > 1 {
         let other = winners[at + 1 - 2 * (at % 2)];
-        let beside = Rank::of(timers[usize::from(other)]);
+        let beside = rank_at(timers, ranks, other);
         at /= 2;
         winner = if beside.is_before(rank) {
             other

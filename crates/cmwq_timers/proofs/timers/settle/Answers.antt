@@ -1,4 +1,4 @@
-use Rattle.std.proofs.Common.{◌≡◌, ◌+◌, ◌-◌, ◌*◌, ◌%◌, ◌≤◌, Bool, cond, arith, sym, ap, ◌∙◌}
+use Rattle.std.proofs.Common.{◌≡◌, ◌+◌, ◌-◌, ◌*◌, ◌%◌, Bool, cond, arith, sym, ap, ◌∙◌}
 use Rattle.cmwq_timers.specs.declared.rank.Rank.{Rank}
 use Rattle.cmwq_timers.specs.Tree.{lesser, rank_at, ranks_before, sooner, winner_at}
 use Rattle.cmwq_timers.proofs.SettleLemmas.{arrives, goes-up, sets-out, stops-early}
@@ -9,7 +9,7 @@ use Rattle.cmwq_timers.proofs.timers.settle.Goals.{then-is_before, else-is_befor
 pub loop-at-init : goal.loop-at-init
 loop-at-init c = record {
   way = rw c.from.ensures (sets-out c.args.timers.now c.args.winners.now c.args.work c.requires.apart);
-  rank = c.of-rank.ensures ∙ ap (rank_at c.args.timers.now) c.from-2.ensures;
+  rank = c.rank_at-rank.ensures;
 }
 
 pub returns-then-winners-at : goal.returns-then-winners-at
@@ -21,7 +21,7 @@ returns-then-winners-at c =
     let one = winner_at winners at in
     let other = winner_at winners (at + 1 - 2 * (at % 2)) in
     let mine : c.loop-at.rank ≡ rank_at timers one = was.rank ∙ ap (rank_at timers) was.way.is in
-    let beside : c.of-beside.result ≡ rank_at timers other = c.of-beside.ensures ∙ ap (rank_at timers) c.from-in-loop-at.ensures in
+    let beside : c.rank_at-beside.result ≡ rank_at timers other = c.rank_at-beside.ensures in
     let test : ranks_before (rank_at timers other) (rank_at timers one) ≡ c.is_before.result =
     sym (c.is_before.ensures ∙ ap (λ (r : Rank). ranks_before r c.loop-at.rank) beside ∙ ap (ranks_before (rank_at timers other)) mine)
     in
@@ -42,7 +42,7 @@ loop-at-preserved c =
     let one = winner_at winners at in
     let other = winner_at winners (at + 1 - 2 * (at % 2)) in
     let mine : c.loop-at.rank ≡ rank_at timers one = was.rank ∙ ap (rank_at timers) was.way.is in
-    let beside : c.of-beside.result ≡ rank_at timers other = c.of-beside.ensures ∙ ap (rank_at timers) c.from-in-loop-at.ensures in
+    let beside : c.rank_at-beside.result ≡ rank_at timers other = c.rank_at-beside.ensures in
     let test : ranks_before (rank_at timers other) (rank_at timers one) ≡ c.is_before.result =
     sym (c.is_before.ensures ∙ ap (λ (r : Rank). ranks_before r c.loop-at.rank) beside ∙ ap (ranks_before (rank_at timers other)) mine)
     in
@@ -56,7 +56,7 @@ loop-at-preserved c =
       way = goes-up timers c.args.winners.now winners c.args.work at c.loop-at.winner c.if-is_before.winner was.way c.loop-at-test.true is;
       rank =
           c.lesser-rank.ensures
-          ∙ ap (λ (r : Rank). lesser r c.of-beside.result) mine
+          ∙ ap (λ (r : Rank). lesser r c.rank_at-beside.result) mine
           ∙ ap (lesser (rank_at timers one)) beside
           ∙ lesser-at timers one other
           ∙ ap (rank_at timers) (sym is);

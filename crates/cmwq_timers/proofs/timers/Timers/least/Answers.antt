@@ -11,6 +11,6 @@ returns-clause-least c =
     let winners = c.self.inside.winners.items in
     let look = c.in_ok-least.ensures.lookup in
     let root : c.in_ok-least.least.now ≡ winner_at winners 1 = look.3.1 0 ∙ ap (λ (ws : List ℕ). winner_at ws 1) c.deref.ensures.value in
-    let some_room : 0 < length timers = omega (arith, look.3.0, ap (λ (ws : List ℕ). length ws) c.deref.ensures.value, c.self.invariant.won.tree.long) in
-    let least = root_is_least timers winners c.self.invariant some_room in
+    let some_room : 0 < length timers = omega (arith, look.3.0, ap (λ (ws : List ℕ). length ws) c.deref.ensures.value, c.self.invariant.tree.won.tree.long) in
+    let least = root_is_least timers winners c.self.invariant.tree some_room in
     c.get-2.ensures.timer ∙ ap (λ (ts : List (Option Timer)). timer_at ts c.in_ok-least.least.now) (sym c.self.view_is) ∙ ap (timer_at timers) root ∙ least ∙ ap least_timer c.self.view_is
