@@ -12,6 +12,7 @@ use cmwq_queued::{MAX_POOLS, QueuedWorks};
 use cmwq_reads::Sought;
 use cmwq_running::RunningWorks;
 use cmwq_table::{FlushTarget, Pending, Reads, Running, View};
+use cmwq_timers::Timers;
 use cmwq_types::{NoMemory, Place, RESCUER, Scenario};
 use std::alloc::Global;
 use std::marker::Model;
@@ -397,9 +398,19 @@ impl Parts for CoreParts {
 }
 
 impl CoreParts {
+    ghost use Rattle.cmwq_queued.specs.Indexes.{timer_of};
     ghost use Rattle.cmwq_queued.specs.QueuedContents.{next_due};
     ghost use Rattle.cmwq_table.specs.Moves.{first_moving};
-    ghost use Rattle.std.specs.Prelude.{◌-◌, ◌≤◌, IfSome, None, true};
+    ghost use Rattle.cmwq_table.specs.State.{pending_at};
+    ghost use Rattle.cmwq_timers.specs.Timers.{timer_at};
+    ghost use Rattle.std.specs.Prelude.{◌-◌, ◌≤◌, ℕ, IfSome, None, true};
+
+    /// The timers of the machine: one of each work that waits for one, by due time in ticks and then by stamp.
+    pub fn timers(&self) -> &Timers
+        ensures { (w : ℕ) → timer_at result.now w ≡ timer_of w (pending_at self.now.state w) }
+    {
+        self.queued.timers()
+    }
 
     /// Whether no pool is noted as one that may have a move.
     fn is_settled(&self) -> bool

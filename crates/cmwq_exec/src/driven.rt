@@ -6,6 +6,7 @@ ghost use Rattle.std.specs.Prelude.{◌≡◌, IfOk};
 use crate::performing::exec;
 use crate::repeating::{again, go};
 use cmwq_parts::{Going, Parts};
+use cmwq_pool::Pool;
 use cmwq_table::{FlushTarget, LoadError, Machine, Pending, Reads, Running, View};
 use cmwq_types::{Instr, NoMemory, Reply, Scenario};
 use std::alloc::Global;
@@ -135,6 +136,23 @@ impl<P: Parts> Machine for Driven<P> {
 }
 
 impl<P: Parts> Driven<P> {
+    ghost use Rattle.cmwq_pool.specs.PoolContents.{pool_of};
+
+    /// The worker pool of this number, from 0, lent for reading.
+    pub fn pool(&self, number: u8) -> Pool<'_, P>
+        ensures { result ≡ pool_of self.now number }
+    {
+        Pool::new(&self.going, number)
+    }
+
+    /// The machine's own structure, lent for reading.
+    pub fn parts(&self) -> &P
+        ensures scenario { P.loaded result.now ≡ self.now.scenario }
+        ensures state { P.state result.now ≡ self.now.state }
+    {
+        &self.going.parts
+    }
+
     /// A machine in the start state of a valid scenario, which is copied.
     fn of_copy(alloc: Global, scenario: &Scenario) -> Result<Self, NoMemory>
         requires { IsValid scenario.now }

@@ -1,5 +1,5 @@
--- Where a pending work stands in each index: in a list, among the timers, in a class that is counted. No public clause
--- cites this module.
+-- Where a pending work stands in each index: in a list, among the timers, in a class that is counted. Of this module public clauses
+-- cite `timer_of` alone.
 use Rattle.std.specs.Prelude.{◌≡◌, ℕ, ◌+◌, ◌*◌, Bool, false, not, ◌&&◌, if◌then◌else◌, nat_le, nat_lt, List, length, Option, Some, None}
 use Rattle.cmwq_types.specs.Contents.{ScenarioContents}
 use Rattle.cmwq_types.specs.Scenario.{flags_at, queue_of}

@@ -1,12 +1,13 @@
 //! The pending works.
-ghost use Rattle.cmwq_queued.specs.Indexes.{list_of};
+ghost use Rattle.cmwq_queued.specs.Indexes.{list_of, timer_of};
+ghost use Rattle.cmwq_timers.specs.Timers.{timer_at};
 ghost use Rattle.cmwq_queued.specs.QueuedContents.{HaveOwnStamps, IsNewest, deferred_in, listed_behind, next_due, pending_active, pending_at, pending_busy, pending_state, with_pending};
 ghost use Rattle.cmwq_queued.specs.declared.pools.TheConstants.{MAX_POOLS};
 ghost use Rattle.cmwq_table.specs.Counts.{first_due, first_inactive, first_listed, is_listed, pending_stamp, pends};
 ghost use Rattle.cmwq_types.specs.Scenario.{queue_of};
 ghost use Rattle.cmwq_types.specs.Setting.{IsSetting};
 ghost use Rattle.cmwq_types.specs.declared.limits.TheConstants.{MAX_WORKS};
-ghost use Rattle.std.specs.Prelude.{◌≡◌, ◌==◌, ◌<◌, IfOk, IfSome, None, Some, length, not, replicate, slice_set, true};
+ghost use Rattle.std.specs.Prelude.{◌≡◌, ◌==◌, ◌<◌, ℕ, IfOk, IfSome, None, Some, length, not, replicate, slice_set, true};
 
 use crate::indexes::{relist, retime};
 use crate::places::{
@@ -106,6 +107,13 @@ impl QueuedWorks {
         ensures { result.now ≡ self.now.pending }
     {
         &self.pending
+    }
+
+    /// The timers: one of each work that waits for one.
+    pub fn timers(&self) -> &Timers
+        ensures { (w : ℕ) → timer_at result.now w ≡ timer_of w (pending_at self.now.pending w) }
+    {
+        &self.timers
     }
 
     /// The first work on the pool's worklist.
