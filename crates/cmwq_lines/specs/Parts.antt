@@ -12,7 +12,7 @@ pub record HasParts (S : ScenarioContents) (names : List (List ℕ)) (numbers : 
   pub names_are : names ≡ spaced_names S.works
   pub many : length numbers ≡ 64
 
--- the digits of the number begin at `start` and end before the 24th byte
+-- the digits of the number begin at `start` and end with the 24th byte
 pub record EndsWithin (digits : List ℕ) (start number : ℕ) : Type 0 where
   pub text_is : drop start digits ≡ decimal number ++ drop 24 digits
   pub ends : start + length (decimal number) ≡ 24
