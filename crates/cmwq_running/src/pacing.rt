@@ -3,8 +3,9 @@ ghost use Rattle.cmwq_phased.specs.declared.pools.TheConstants.{MAX_POOLS};
 ghost use Rattle.cmwq_phases.specs.Phases.{IsTimely, shown_all};
 ghost use Rattle.cmwq_phases.specs.Runs.{is_ready, run_at, with_run};
 ghost use Rattle.cmwq_running.specs.Heads.{AreTimely, GoIn, HaveHeads, IsBeside, IsEarly, may_burn, paced, paced_run, ready_run, with_left};
+ghost use Rattle.cmwq_types.specs.Scenario.{is_high, is_unbound};
 ghost use Rattle.cmwq_types.specs.declared.limits.TheConstants.{MAX_WORKS};
-ghost use Rattle.std.specs.Prelude.{◌≡◌, ◌<◌, ◌⊎◌, ℕ, IfSome, length, slice_set};
+ghost use Rattle.std.specs.Prelude.{◌≡◌, ◌<◌, ◌⊎◌, ℕ, IfSome, false, length, slice_set, true};
 
 use cmwq_phased::PhasedWorks;
 use cmwq_phases::{Phase, Run};
@@ -84,6 +85,7 @@ fn pace(works: &mut PhasedWorks, time: u64, w: usize, may: bool)
 }
 
 /// Lets the head of the normal pool beside this one, if this is a CPU's high pool, burn just where it may. Nothing of it shows.
+#[inline(always)]
 pub(crate) fn balance(works: &mut PhasedWorks, time: u64, high: u8)
     requires early { IsEarly time }
     requires timely { AreTimely time works.old.runs }
@@ -97,6 +99,23 @@ pub(crate) fn balance(works: &mut PhasedWorks, time: u64, high: u8)
     if high % 2 == 0 || works.scenario().is_unbound(high) {
         return;
     }
+    balance_normal(works, time, high);
+}
+
+/// Lets the head of the normal pool beside this high one burn just where it may.
+fn balance_normal(works: &mut PhasedWorks, time: u64, high: u8)
+    requires bound { is_unbound works.old.scenario high ≡ false }
+    requires high { is_high high ≡ true }
+    requires pool { high < MAX_POOLS }
+    requires early { IsEarly time }
+    requires timely { AreTimely time works.old.runs }
+    requires heads { HaveHeads works.old.scenario works.old.runs }
+    ensures scenario { works.new.scenario ≡ works.old.scenario }
+    ensures shown { shown_all time works.new.runs ≡ shown_all time works.old.runs }
+    ensures timely { AreTimely time works.new.runs }
+    ensures heads { HaveHeads works.new.scenario works.new.runs }
+    ensures going { (pool : ℕ) → GoIn works.old.scenario works.old.runs pool ⊎ IsBeside works.old.scenario high pool → GoIn works.new.scenario works.new.runs pool }
+{
     let normal = high - 1;
     let may = may_burn(works, normal);
     match works.first_in_line(normal) {

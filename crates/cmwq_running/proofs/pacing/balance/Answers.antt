@@ -1,32 +1,11 @@
-use Rattle.std.proofs.Common.{◌≡◌, true, false, arith, sym, ap, subst, ◌∙◌}
+use Rattle.std.proofs.Common.{arith, sym, ap, ◌∙◌}
 use Rattle.std.proofs.lemmas.Bool.Decides.{nat_tests}
 use Rattle.cmwq_types.specs.Contents.{ScenarioContents}
-use Rattle.cmwq_types.specs.Scenario.{is_high, is_unbound}
-use Rattle.cmwq_phased.specs.PhasedContents.{PhasedContents}
-use Rattle.cmwq_phases.specs.Phases.{shown_all}
-use Rattle.cmwq_running.specs.Heads.{GoIn, HaveHeads}
-use Rattle.cmwq_running.proofs.PaceLemmas.{all_shown_paced, paced_going, paced_heads}
+use Rattle.cmwq_types.specs.Scenario.{is_unbound}
 use Rattle.cmwq_running.proofs.pacing.balance.Goals as goal
 
-bound : (c : goal.After-pace) → is_unbound c.args.works.now.scenario c.args.high ≡ false
-bound c = ap (λ (S : ScenarioContents). is_unbound S c.args.high) (sym c.scenario.ensures.scenario) ∙ sym c.is_unbound.ensures ∙ c.if-is_unbound.false
+pub balance_normal-requires-clause-bound : goal.balance_normal-requires-clause-bound
+balance_normal-requires-clause-bound c = ap (λ (S : ScenarioContents). is_unbound S c.args.high) (sym c.scenario.ensures.scenario) ∙ sym c.is_unbound.ensures ∙ c.if-is_unbound.false
 
-odd : (c : goal.After-pace) → is_high c.args.high ≡ true
-odd c = (let even = c.if-high-eq0.false in grind (arith, nat_tests))
-
-pub returns-in-Some-clause-shown : goal.returns-in-Some-clause-shown
-returns-in-Some-clause-shown c =
-    ap (λ (m : PhasedContents). shown_all c.args.time m.runs) c.pace.ensures.paced
-    ∙ all_shown_paced c.may_burn-may.result c.args.time c.args.works.now.runs c.in-Some.w
-
-pub returns-in-Some-clause-heads : goal.returns-in-Some-clause-heads
-returns-in-Some-clause-heads c =
-    let first = sym c.first_in_line.ensures.first ∙ c.in-Some.is in
-    subst (λ (m : PhasedContents). HaveHeads m.scenario m.runs) (sym c.pace.ensures.paced)
-    (paced_heads c.args.works.now.scenario c.args.works.now.runs c.args.time c.args.high c.in-Some.w c.may_burn-may.result (bound c) (odd c) c.requires.heads c.may_burn-may.ensures first)
-
-pub returns-in-Some-clause-going : goal.returns-in-Some-clause-going
-returns-in-Some-clause-going c pool may_go =
-    let first = sym c.first_in_line.ensures.first ∙ c.in-Some.is in
-    subst (λ (m : PhasedContents). GoIn m.scenario m.runs pool) (sym c.pace.ensures.paced)
-    (paced_going c.args.works.now.scenario c.args.works.now.runs c.args.time c.args.high c.in-Some.w c.may_burn-may.result (bound c) (odd c) c.requires.heads c.may_burn-may.ensures first pool may_go)
+pub balance_normal-requires-clause-high : goal.balance_normal-requires-clause-high
+balance_normal-requires-clause-high c = (let even = c.if-high-eq0.false in grind (arith, nat_tests))
