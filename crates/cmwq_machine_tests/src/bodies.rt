@@ -5,12 +5,40 @@ use crate::debugging::instrs_of;
 use crate::examples::{EXAMPLES, Example};
 use crate::machines::{loaded, scenario, whole_view};
 use cmwq_core::Core;
+use cmwq_exec::Driven;
+use cmwq_parts::Parts;
 use cmwq_plain::Plain;
-use cmwq_table::Machine;
+use cmwq_pool::Pool;
+use cmwq_table::{Machine, Reads};
 use std::alloc::Global;
 use std::process::Abort;
 
-/// Carries out the example's instructions on both, and compares each reply, and what a look then shows.
+/// Compares what two pools show of so many works.
+fn check_pool<A: Parts, B: Parts>(
+    rt: &impl Abort,
+    one: &Pool<'_, A>,
+    other: &Pool<'_, B>,
+    works: usize,
+) {
+    same(rt, "made", one.made(), other.made());
+    same(rt, "counted", one.counted(), other.counted());
+    same(rt, "next", one.next_move(), other.next_move());
+    same(rt, "idle", one.idle(0), other.idle(0));
+    for w in 0..works {
+        same(rt, w, one.pend(w), other.pend(w));
+        same(rt, w, one.run(w), other.run(w));
+    }
+}
+
+/// Compares what each pool of both machines shows.
+fn check_pools<A: Parts, B: Parts>(rt: &impl Abort, one: &Driven<A>, other: &Driven<B>) {
+    let works = one.scenario().works.len();
+    for number in 0..one.scenario().pool_count() {
+        check_pool(rt, &one.pool(number), &other.pool(number), works);
+    }
+}
+
+/// Carries out the example's instructions on both, and compares each reply, and what a look and the pools then show.
 fn check_alike(rt: &impl Abort, alloc: Global, example: &Example) {
     let instrs = instrs_of(rt, alloc, &scenario(rt, alloc, example.text));
     let mut plain: Plain = loaded(rt, alloc, example.text);
@@ -18,6 +46,7 @@ fn check_alike(rt: &impl Abort, alloc: Global, example: &Example) {
     for instr in &instrs {
         same(rt, *instr, core.exec(*instr), plain.exec(*instr));
         same(rt, *instr, &whole_view(rt, &core), &whole_view(rt, &plain));
+        check_pools(rt, &core, &plain);
     }
 }
 
