@@ -6,6 +6,7 @@ use Rattle.std.proofs.lemmas.Bool.Decides.{nat_tests}
 use Rattle.std.proofs.lemmas.List.{get_or-set_same, get_or_past, length-replicate, set_past}
 use Rattle.std.proofs.lemmas.Option.{same_Some}
 use Rattle.cmwq_types.specs.Contents.{ScenarioContents}
+use Rattle.cmwq_types.specs.Places.{is_placed}
 use Rattle.cmwq_types.specs.Scenario.{pool_count}
 use Rattle.cmwq_types.specs.Setting.{IsSetting}
 use Rattle.cmwq_types.specs.declared.limits.TheConstants.{MAX_WORKERS}
@@ -48,6 +49,21 @@ kept_pending q r k next after pressed pools later max depth room w p touched is 
   laid = laid_pending q r k after max depth room w p (laid_later q r k next after max depth room is.laid rises) low cpu;
   covered = covered_after q (with_pending q w p) r r k k pressed pools later touched is.covered grown refl (λ other apart. far_pending q.scenario (moving_state q r k pressed) w other p (far other apart).0 (far other apart).1);
 }
+
+not_listed : (place : Place) → is_placed place ≡ false → listed_pool place ≡ None
+not_listed (Timer due cpu) out = refl
+not_listed (Inactive pool) out = cc
+not_listed (Listed pool) out = cc
+not_listed (Deferred pool) out = cc
+
+-- a work with a timer gets another one
+pub kept_timer : (q : QueuedContents) (r : RunningContents) (k : WorkersContents) (next : ℕ) (pressed : Bool) (pools : PoolSet) (max depth : List ℕ) (room w due cpu : ℕ) (p : Pending) → IsKept q r k next pressed pools max depth room
+    → pending_at (moving_state q r k pressed) w ≡ Some p → is_placed p.place ≡ false → cpu < q.scenario.cpus
+    → IsKept (with_pending q w (Some (record { born = next; stamp = next; place = Timer due cpu }))) r k (next + 1) pressed pools max depth room
+kept_timer q r k next pressed pools max depth room w due cpu p is pends out there =
+    let unlisted : listed_in (pending_at (moving_state q r k pressed) w) ≡ None = ap listed_in pends ∙ not_listed p.place out in
+    kept_pending q r k next (next + 1) pressed pools pools max depth room w (Some (record { born = next; stamp = next; place = Timer due cpu })) None is (omega arith) (omega arith) there (grown_none pools)
+    (λ other apart. (subst (λ (o : Option ℕ). IfSome o (λ pool. other ≢ pool)) (sym unlisted) tt, tt))
 
 -- a listed work waits where it runs
 pub kept_deferred : (q : QueuedContents) (r : RunningContents) (k : WorkersContents) (next : ℕ) (pressed : Bool) (pools later : PoolSet) (max depth : List ℕ) (room w pool : ℕ) → IsKept q r k next pressed pools max depth room → listed_in (pending_at (moving_state q r k pressed) w) ≡ Some pool → IsGrown pools (Some pool) later

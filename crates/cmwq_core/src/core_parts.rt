@@ -286,6 +286,14 @@ impl Parts for CoreParts {
         self.moving = with_some(self.moving, listed_pool(p.place));
     }
 
+    fn set_timer(&mut self, w: usize, _p: Pending, due: u64, cpu: u8) {
+        let born = self.next;
+        let place = Place::Timer { due, cpu };
+        let stamp = born;
+        self.queued.list(w, Pending { born, stamp, place });
+        self.next = born + 1;
+    }
+
     fn enlist(&mut self, _queue: u8, pool: u8, w: usize) {
         if let Some(p) = self.queued.of(w) {
             let stamp = self.next;
