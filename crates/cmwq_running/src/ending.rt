@@ -45,6 +45,7 @@ fn end_first(works: &mut PhasedWorks, time: u64) -> Option<u8>
 }
 
 /// Ends the burn or sleep of the work that is the first to end, if it ends by this time, and answers in which pool, if it does.
+#[inline(never)]
 fn end_at(works: &mut PhasedWorks, time: u64, w: usize) -> Option<u8>
     requires first { first_to_end works.old.scenario works.old.runs ≡ Some w }
     requires on_time { AreOnTime time works.old.runs }
