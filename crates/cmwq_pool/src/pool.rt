@@ -12,6 +12,7 @@ use cmwq_types::{Move, Place};
 use std::marker::Model;
 
 /// A worker pool of a machine, lent for reading. Contracts see the machine's scenario and state, and the pool's number.
+#[derive(Drop)]
 pub struct Pool<'a, P: Parts> {
     machine: &'a Going<P>,
     number: u8,
