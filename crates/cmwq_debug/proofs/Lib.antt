@@ -1,2 +1,3 @@
+pub mod CheckpointLemmas
 pub mod LowestLemmas
 pub mod MovingLemmas

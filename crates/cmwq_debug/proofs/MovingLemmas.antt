@@ -1,5 +1,5 @@
 -- Carrying out the instructions of a list, one after another.
-use Rattle.std.proofs.Common.{◌≡◌, ℕ, zero, suc, ◌+◌, ◌<◌, ◌≤◌, Bool, true, false, ◌&&◌, List, [], ◌∷◌, ◌++◌, length, Option, Some, None, take, arith, refl, sym, ap, ◌∙◌, subst}
+use Rattle.std.proofs.Common.{◌≡◌, ℕ, zero, suc, ◌+◌, ◌-◌, ◌<◌, ◌≤◌, Bool, true, false, ◌&&◌, List, [], ◌∷◌, ◌++◌, length, Option, Some, None, take, arith, refl, sym, ap, ◌∙◌, subst}
 use Rattle.std.proofs.lemmas.Bool.Decides.{nat_tests}
 use Rattle.std.proofs.lemmas.Grind.{common_steps}
 use Rattle.std.specs.Prelude.{is_some, nat_le, slice_index_or}
@@ -11,7 +11,9 @@ use Rattle.cmwq_table.proofs.RunLemmas.{after_all-append}
 use Rattle.cmwq_table.specs.State.{State, start}
 use Rattle.cmwq_table.specs.Table.{run, table}
 use Rattle.cmwq_debug.specs.Breaks.{lowest, said_of}
+use Rattle.cmwq_debug.specs.Checkpoints.{Comes, Passes, Spread}
 use Rattle.cmwq_debug.specs.Debugging.{Session, break_of, run_end, session_of, stop}
+use Rattle.cmwq_debug.specs.Replaying.{Course, HasAdvanced, HasGoneTo, next_reply}
 use Rattle.cmwq_debug.specs.declared.breaks.Break.{Break}
 use Rattle.cmwq_debug.proofs.LowestLemmas.{lowest-is, lowest-more, lowest-none}
 
@@ -34,12 +36,35 @@ module _ (S loaded : ScenarioContents) (instrs : List Instr) (k : ℕ) (s t : St
       let more : take (k + 1) instrs ≡ take k instrs ++ slice_index_or instrs k Next ∷ [] = grind (arith, common_steps) in
       ap (λ (after : State × Reply). after.0) answered ∙ sym (ap (run S) more ∙ after_all-append S (start S) (take k instrs) (slice_index_or instrs k Next ∷ []))
 
-  -- what is said of it
-  pub said : (breaks : List (Option Break)) (from before after : ℕ) → before ≡ s.time → after ≡ t.time → said_of breaks before after reply ≡ break_of (session_of S instrs from breaks) k
-  said breaks from before after is_before is_after =
-      ap (λ (time : ℕ). said_of breaks time after reply) (is_before ∙ ap (λ (at : State). at.time) state)
-      ∙ ap (λ (time : ℕ). said_of breaks (run S (take k instrs)).time time reply) (is_after ∙ ap (λ (at : State). at.time) reached)
-      ∙ ap (said_of breaks (run S (take k instrs)).time (run S (take (k + 1) instrs)).time) (ap (λ (after : State × Reply). after.1) answered)
+-- what is said of the next instruction
+pub said : (c : Course) (S : ScenarioContents) (I : List Instr) (k from : ℕ) (breaks : List (Option Break)) (before after : ℕ) (reply : Reply) → c.scenario ≡ S → c.instrs ≡ I → c.position ≡ k
+    → before ≡ (run S (take k I)).time → after ≡ (run S (take (k + 1) I)).time → reply ≡ next_reply c → said_of breaks before after reply ≡ break_of (session_of S I from breaks) k
+said c S I k from breaks before after reply scenario instrs position is_before is_after is_reply =
+    let told : next_reply c ≡ (table S (run S (take k I)) (slice_index_or I k Next)).1 = rw (scenario, instrs, position) refl in
+    ap (λ (time : ℕ). said_of breaks time after reply) is_before ∙ ap (λ (time : ℕ). said_of breaks (run S (take k I)).time time reply) is_after
+    ∙ ap (said_of breaks (run S (take k I)).time (run S (take (k + 1) I)).time) (is_reply ∙ told)
+
+-- going on by one instruction
+passes-more : (s t u : Spread) (from k : ℕ) → from ≤ k → Passes s from (k - from) t → Comes t (k + 1) u → Passes s from (k + 1 - from) u
+passes-more s t u from k forward so_far comes =
+    let more : suc (k - from) ≡ k + 1 - from = omega (arith, forward) in
+    let there : k + 1 ≡ from + suc (k - from) = omega (arith, forward) in
+    subst (λ (n : ℕ). Passes s from n u) more (t, so_far, subst (λ (n : ℕ). Comes t n u) there comes)
+
+pub gone-none : (c : Course) (k : ℕ) → k ≡ c.position → HasGoneTo c k c
+gone-none c k at =
+    let none : 0 ≡ k - c.position = omega (arith, at) in
+    record { scenario = refl; instrs = refl; position = sym at; spread = subst (λ (n : ℕ). Passes c.spread c.position n c.spread) none refl }
+
+pub gone-more : (start now new : Course) (k : ℕ) → start.position ≤ k → HasGoneTo start k now → HasAdvanced now new → HasGoneTo start (k + 1) new
+gone-more start now new k forward so_far one =
+    let at : now.position + 1 ≡ k + 1 = ap (λ (n : ℕ). n + 1) so_far.position in
+    record {
+      scenario = one.scenario ∙ so_far.scenario;
+      instrs = one.instrs ∙ so_far.instrs;
+      position = one.position ∙ at;
+      spread = passes-more start.spread now.spread new.spread start.position k forward so_far.spread (subst (λ (n : ℕ). Comes now.spread n new.spread) at one.spread);
+    }
 
 -- A run from a position on.
 

@@ -181,12 +181,3 @@ OpensDebugger session S instrs (Err load.NoMemory) = IsValid S
 abbrev pub Meets : Outcome → Session → Session → Result Said DebugError → Type 0
 Meets outcome old new (Ok told) = outcome ≡ (new, Ok (answer_of told))
 Meets outcome old new (Err why) = (new ≡ old) × ((why ≡ error.NoMemory) ⊎ (outcome ≡ (old, Err why)))
-
--- A debugger between commands: its machine is in the state after the first instructions, up to the position.
-pub record IsDebugging (d : Session) (scenario : ScenarioContents) (reached : State) : Type 0 where
-  pub valid : IsValid d.scenario
-  pub loaded : scenario ≡ d.scenario
-  pub state : reached ≡ state_at d d.position
-  pub within : d.position ≤ length d.instrs
-  pub short : length d.instrs ≤ MAX_HISTORY
-  pub places : length d.breaks ≡ MAX_BREAKS

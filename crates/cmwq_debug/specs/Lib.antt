@@ -1,2 +1,4 @@
 pub mod Breaks
+pub mod Checkpoints
 pub mod Debugging
+pub mod Replaying

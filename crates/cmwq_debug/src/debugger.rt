@@ -1,17 +1,21 @@
 //! The debugger.
-ghost use Rattle.cmwq_debug.specs.Debugging.{Answer, At, Meets, OpensDebugger, answer_of, breaks_on, breaks_on_work, does, dumps_pool, goes, goes_back, opened, removed, run_end, runs_on, says, state_at, stop, tells_waits, tells_why, time_at, Text};
+ghost use Rattle.cmwq_debug.specs.Debugging.{Answer, At, Meets, OpensDebugger, answer_of, breaks_on, breaks_on_work, does, dumps_pool, goes, goes_back, opened, removed, runs_on, says, state_at, tells_waits, tells_why, time_at, Text};
 ghost use Rattle.cmwq_debug.specs.Breaks.{break_at};
+ghost use Rattle.cmwq_debug.specs.Checkpoints.{AreRising};
+ghost use Rattle.cmwq_debug.specs.declared.checkpoints.TheConstants.{MAX_CHECKPOINTS};
 ghost use Rattle.cmwq_dump.specs.Dump.{dump, pool_lines};
 ghost use Rattle.cmwq_flush_waits.specs.FlushText.{flush_lines};
 ghost use Rattle.cmwq_why_text.specs.WhyText.{why_line};
 ghost use Rattle.cmwq_types.specs.Faults.{IsValid};
 ghost use Rattle.cmwq_types.specs.Scenario.{pool_count};
 ghost use Rattle.cmwq_types.specs.declared.limits.TheConstants.{MAX_HISTORY};
+ghost use Rattle.std.specs.List.{All};
 ghost use Rattle.std.specs.Prelude.{◌≡◌, ◌+◌, ◌⊎◌, ◌<◌, ◌≤◌, Err, IfErr, IfOk, IfSome, MatchOption, None, Ok, OnErr, OnOk, Some, length, string_bytes};
 
 use crate::breaks::{Break, MAX_BREAKS, free};
+use crate::checkpoints::Checkpoint;
 use crate::command::{Command, DebugError, EventKind, Said};
-use crate::positions::{carry_forward, run_on};
+use crate::replay::Replay;
 use cmwq_dump::{dump_text, pool_text};
 use cmwq_flush_waits::flush_text;
 use cmwq_table::{LoadError, Machine};
@@ -24,25 +28,26 @@ use std::sync::Arc;
 /// A debugger over a scenario and a list of instructions: it stands at a position, which is how many of them
 /// have been carried out, and has up to [`MAX_BREAKS`] breaks.
 ///
+/// On its way forward it makes checkpoints, so that on its way back it carries out no more instructions than lie between two of them.
+///
 /// In the contracts it is a `Session`. Commands and answers are this project's own.
 #[derive(Drop)]
 pub struct Debugger<M: Machine> {
     alloc: Global,
-    scenario: Arc<Scenario>,
-    instrs: Vec<Instr>,
-    machine: M,
-    position: usize,
+    replay: Replay<M>,
     breaks: [Option<Break>; MAX_BREAKS],
 }
 
 impl<M: Machine> Model for Debugger<M> {
-    ghost use Rattle.cmwq_debug.specs.Debugging.{IsDebugging, Session, session_of};
+    ghost use Rattle.cmwq_debug.specs.Debugging.{Session, session_of};
+    ghost use Rattle.cmwq_debug.specs.declared.breaks.TheConstants.{MAX_BREAKS};
+    ghost use Rattle.std.specs.Prelude.{◌≡◌, length};
 
     ghost Value = { Session };
 
-    ghost view = { λ d. session_of d.scenario.value d.instrs.items d.position d.breaks };
+    ghost view = { λ d. session_of d.replay.scenario d.replay.instrs d.replay.position d.breaks };
 
-    ghost invariant = { λ d. IsDebugging (session_of d.scenario.value d.instrs.items d.position d.breaks) (M.loaded d.machine) (M.state d.machine) };
+    ghost invariant = { λ d. length d.breaks ≡ MAX_BREAKS };
 }
 
 impl<M: Machine> Debugger<M> {
@@ -72,13 +77,9 @@ impl<M: Machine> Debugger<M> {
         requires short { length instrs.items ≤ MAX_HISTORY }
         ensures debugger { IfOk result (λ debugger. debugger ≡ opened scenario.value instrs.items) }
     {
-        let machine = M::begin(alloc, Arc::clone(&scenario)?)?;
         Ok(Debugger {
             alloc,
-            scenario,
-            instrs,
-            machine,
-            position: 0,
+            replay: Replay::begin(alloc, scenario, instrs)?,
             breaks: [None; MAX_BREAKS],
         })
     }
@@ -92,6 +93,21 @@ impl<M: Machine> Debugger<M> {
         ensures same { OnErr result (self.new ≡ self.old) }
     {
         self.obey(command)
+    }
+
+    /// The checkpoints, by position: copies of the machine that were made on the way forward. It takes no memory.
+    ///
+    /// They stand at multiples of a spacing of [`crate::FIRST_SPACING`] instructions, which is doubled, while those at its odd multiples are
+    /// dropped, where there would be more than [`MAX_CHECKPOINTS`]. One for which there was no memory is missing.
+    pub fn checkpoints(&self) -> &[Checkpoint<M>]
+        ensures rising { AreRising result.now }
+        ensures few { length result.now ≤ MAX_CHECKPOINTS }
+        ensures behind_start { All (λ c. 0 < c.at) result.now }
+        ensures within { All (λ c. c.at ≤ length self.now.instrs) result.now }
+        ensures loaded { All (λ c. M.loaded c.machine ≡ self.now.scenario) result.now }
+        ensures state { All (λ c. M.state c.machine ≡ state_at self.now c.at) result.now }
+    {
+        self.replay.checkpoints()
     }
 
     fn obey(&mut self, command: Command) -> Result<Said, DebugError>
@@ -130,13 +146,14 @@ impl<M: Machine> Debugger<M> {
     fn step(&mut self, n: u32) -> Result<Said, DebugError>
         ensures { Meets (goes self.old (self.old.position + n)) self.old self.new result }
     {
-        self.go(self.position as u64 + u64::from(n))
+        let position = self.replay.position() as u64;
+        self.go(position + u64::from(n))
     }
 
     fn back(&mut self, n: u32) -> Result<Said, DebugError>
         ensures { Meets (goes_back self.old n) self.old self.new result }
     {
-        let position = self.position as u64;
+        let position = self.replay.position() as u64;
         if u64::from(n) > position {
             return Err(DebugError::PastStart);
         }
@@ -147,55 +164,11 @@ impl<M: Machine> Debugger<M> {
     fn go(&mut self, to: u64) -> Result<Said, DebugError>
         ensures { Meets (goes self.old to) self.old self.new result }
     {
-        if to > self.instrs.len() as u64 {
+        if to > self.replay.end() as u64 {
             return Err(DebugError::PastEnd);
         }
-        self.reach(to as usize)?;
+        self.replay.reach(self.alloc, to as usize)?;
         Ok(self.at(None))
-    }
-
-    /// Brings the machine to the position.
-    fn reach(&mut self, to: usize) -> Result<(), NoMemory>
-        requires { to ≤ length self.old.instrs }
-        ensures ok { OnOk result (self.new ≡ record self.old { position = to }) }
-        ensures err { OnErr result (self.new ≡ self.old) }
-    {
-        if to < self.position {
-            self.rewind()?;
-        }
-        self.forward(to);
-        Ok(())
-    }
-
-    /// Loads the scenario again.
-    fn rewind(&mut self) -> Result<(), NoMemory>
-        ensures ok { OnOk result (self.new ≡ record self.old { position = 0 }) }
-        ensures err { OnErr result (self.new ≡ self.old) }
-    {
-        let fresh = M::begin(self.alloc, Arc::clone(&self.scenario)?)?;
-        let Debugger {
-            machine,
-            position,
-            ..
-        } = self;
-        *machine = fresh;
-        *position = 0;
-        Ok(())
-    }
-
-    fn forward(&mut self, to: usize)
-        requires forward { self.old.position ≤ to }
-        requires within { to ≤ length self.old.instrs }
-        ensures { self.new ≡ record self.old { position = to } }
-    {
-        let Debugger {
-            machine,
-            instrs,
-            position,
-            ..
-        } = self;
-        carry_forward(machine, instrs, *position, to);
-        *position = to;
     }
 
     /// Where the debugger stands.
@@ -203,44 +176,27 @@ impl<M: Machine> Debugger<M> {
         ensures { answer_of result ≡ At self.now.position (time_at self.now self.now.position) by }
     {
         Said::At {
-            position: self.position as u32,
-            now: self.machine.now(),
+            position: self.replay.position() as u32,
+            now: self.replay.machine().now(),
             by,
         }
     }
 
+    /// Goes forward up to the first instruction after which a break matches, or to the end.
     fn run(&mut self) -> Result<Said, DebugError>
         ensures { Meets (runs_on self.old) self.old self.new result }
     {
-        if self.position == self.instrs.len() {
+        if self.replay.position() == self.replay.end() {
             return Err(DebugError::PastEnd);
         }
-        let by = self.run_on();
-        Ok(self.at(by))
-    }
-
-    /// Goes forward up to the first instruction after which a break matches, and answers its number; or to
-    /// the end.
-    fn run_on(&mut self) -> Option<u8>
-        ensures position { self.new ≡ record self.old { position = (run_end self.old (stop self.old)).0 } }
-        ensures by { result ≡ (run_end self.old (stop self.old)).1 }
-    {
-        let Debugger {
-            machine,
-            instrs,
-            position,
-            breaks,
-            ..
-        } = self;
-        let end = run_on(machine, instrs, *position, breaks);
-        *position = end.position;
-        end.by.map(|by| by as u8)
+        let by = self.replay.run_on(&self.breaks);
+        Ok(self.at(by.map(|by| by as u8)))
     }
 
     fn break_on_work(&mut self, work: WorkId, event: EventKind) -> Result<Said, DebugError>
         ensures { Meets (breaks_on_work self.old work event) self.old self.new result }
     {
-        if work.0 as usize >= self.scenario.works.len() {
+        if work.0 as usize >= self.replay.scenario().works.len() {
             return Err(DebugError::NoSuchWork);
         }
         self.break_on(Break::OnWork(work, event))
@@ -274,23 +230,24 @@ impl<M: Machine> Debugger<M> {
     fn dump(&self) -> Result<Said, DebugError>
         ensures { Meets (says self.now (Text (dump self.now.scenario (state_at self.now self.now.position)))) self.now self.now result }
     {
-        Ok(Said::Text(dump_text(self.alloc, &self.machine)?))
+        Ok(Said::Text(dump_text(self.alloc, self.replay.machine())?))
     }
 
     fn dump_pool(&self, pool: u8) -> Result<Said, DebugError>
         ensures { Meets (dumps_pool self.now pool) self.now self.now result }
     {
-        if pool >= self.machine.scenario().pool_count() {
+        let machine = self.replay.machine();
+        if pool >= machine.scenario().pool_count() {
             return Err(DebugError::NoSuchPool);
         }
-        Ok(Said::Text(pool_text(self.alloc, &self.machine, pool)?))
+        Ok(Said::Text(pool_text(self.alloc, machine, pool)?))
     }
 
     fn why(&self, work: WorkId) -> Result<Said, DebugError>
         ensures { Meets (tells_why self.now work.0) self.now self.now result }
     {
-        if (work.0 as usize) < self.scenario.works.len() {
-            let line = work_text(self.alloc, &self.machine, work)?;
+        if (work.0 as usize) < self.replay.scenario().works.len() {
+            let line = work_text(self.alloc, self.replay.machine(), work)?;
             Ok(Said::Text(line.into_bytes()))
         } else {
             Err(DebugError::NoSuchWork)
@@ -300,7 +257,7 @@ impl<M: Machine> Debugger<M> {
     fn why_flush(&self, flush: u32) -> Result<Said, DebugError>
         ensures { Meets (tells_waits self.now (flush_lines self.now.scenario (state_at self.now self.now.position) flush)) self.now self.now result }
     {
-        match flush_text(self.alloc, &self.machine, flush as usize)? {
+        match flush_text(self.alloc, self.replay.machine(), flush as usize)? {
             Some(lines) => Ok(Said::Text(lines.into_bytes())),
             None => Err(DebugError::NoSuchFlush),
         }

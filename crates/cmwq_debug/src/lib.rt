@@ -2,10 +2,12 @@
 #![tactic(auto)]
 
 mod breaks;
+mod checkpoints;
 mod command;
 mod debugger;
-mod positions;
+mod replay;
 
 pub use breaks::MAX_BREAKS;
+pub use checkpoints::{Checkpoint, FIRST_SPACING, MAX_CHECKPOINTS};
 pub use command::{Command, DebugError, EventKind, Said};
 pub use debugger::Debugger;

@@ -9,8 +9,8 @@ use Rattle.cmwq_debug.proofs.debugger.Debugger.dump_pool.Goals as goal
 pub returns : goal.returns
 returns g c =
     let d = c.args.self.now in
-    let reached = g.M.Reads.state c.self.inside.machine in
-    let loaded : g.M.Reads.loaded c.self.inside.machine ≡ d.scenario = search rules in
+    let reached = g.M.Reads.state c.machine-machine.result.now in
+    let loaded : g.M.Reads.loaded c.machine-machine.result.now ≡ d.scenario = search rules in
     let state : reached ≡ state_at d d.position = search rules in
     let counted : c.pool_count.result ≡ pool_count d.scenario = c.pool_count.ensures ∙ ap pool_count (c.scenario.ensures.scenario ∙ loaded) in
     let there : c.args.pool < pool_count d.scenario = omega (arith, counted, c.if-pool-pool_count.false) in
