@@ -1,5 +1,5 @@
 -- Checkpoints by position: which are up to a position, where one more goes, and how far apart they are.
-use Rattle.std.proofs.Common.{leb, leb-false, leb-true, ◌≡◌, ℕ, zero, suc, ◌+◌, ◌-◌, ◌*◌, ◌%◌, ◌/◌, ◌<◌, ◌≤◌, Bool, true, false, List, [], ◌∷◌, ◌++◌, length, map, Option, Some, None, take, drop, arith, refl, sym, ap, ◌∙◌, subst, inl, inr}
+use Rattle.std.proofs.Common.{leb, leb-false, leb-true, ◌≡◌, ℕ, zero, suc, ◌+◌, ◌-◌, ◌*◌, ◌%◌, ◌/◌, ◌<◌, ◌≤◌, Bool, true, false, List, [], ◌∷◌, ◌++◌, length, Option, Some, None, take, drop, arith, refl, sym, ap, ◌∙◌, subst, inl, inr}
 use Rattle.std.proofs.lemmas.Bool.{cases_lt}
 use Rattle.std.proofs.lemmas.Bool.Decides.{nat_tests}
 use Rattle.std.proofs.lemmas.List.{append-nil, get_or-map, get_or_default, length-map, map-append, places, take-append-drop}
@@ -8,7 +8,7 @@ use Rattle.std.proofs.lemmas.List.Folds.{list_any_at, list_any_none}
 use Rattle.std.proofs.lemmas.List.Kept.{AllPairs-cons}
 use Rattle.std.proofs.lemmas.Nat.{div-add-mod', mul-le}
 use Rattle.std.proofs.Math.Nat.{lt_of_mul-lt-mul_right, mul_assoc, mul_comm, pow-succ'}
-use Rattle.std.specs.List.{All, AllPairs, AllWithin, Contains, filter, insert, last_or}
+use Rattle.std.specs.List.{All, AllPairs, AllWithin, Contains, filter, last_or}
 use Rattle.std.specs.List.Sorted.{IsNonDecreasingBy}
 use Rattle.std.specs.Prelude.{cond, if◌then◌else◌, ◌^◌, nat_le, nat_lt, slice_index_or, ◌==◌, ◌||◌}
 use Rattle.cmwq_types.specs.declared.limits.TheConstants.{MAX_HISTORY}

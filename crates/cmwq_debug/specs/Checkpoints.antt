@@ -1,5 +1,5 @@
 -- Where a debugger has checkpoints, which are copies of its machine along the list of instructions.
-use Rattle.std.specs.Prelude.{◌≡◌, ◌⊎◌, ◌<◌, ◌≤◌, ◌*◌, ◌%◌, ◌==◌, ◌&&◌, ◌++◌, ℕ, suc, zero, ◌+◌, Bool, false, not, List, [], ◌∷◌, length, map, Option, Some, None, if◌then◌else◌, nat_le, nat_lt, true}
+use Rattle.std.specs.Prelude.{◌≡◌, ◌⊎◌, ◌<◌, ◌≤◌, ◌*◌, ◌%◌, ◌==◌, ◌&&◌, ◌++◌, ℕ, suc, zero, ◌+◌, Bool, not, List, [], ◌∷◌, length, map, Option, None, if◌then◌else◌, nat_le, nat_lt, true}
 use Rattle.std.specs.List.{All, AllPairs, Contains, filter, last_or, list_any}
 use Rattle.cmwq_types.specs.Contents.{ScenarioContents}
 use Rattle.cmwq_table.specs.State.{State}

@@ -1,12 +1,11 @@
 -- What a debugger says: a fold over its commands, of a position and breaks. Each answer is read off the table's
 -- run over the first instructions of the list.
-use Rattle.std.specs.Prelude.{◌≡◌, ◌⊎◌, ◌≤◌, ℕ, ◌+◌, ◌-◌, ◌&&◌, List, [], ◌∷◌, length, replicate, take, Option, Some, None, Result, Ok, Err, if◌then◌else◌, is_some, nat_le, nat_lt, slice_index_or, slice_set}
+use Rattle.std.specs.Prelude.{◌≡◌, ◌⊎◌, ℕ, ◌+◌, ◌-◌, ◌&&◌, List, [], ◌∷◌, length, replicate, take, Option, Some, None, Result, Ok, Err, if◌then◌else◌, is_some, nat_le, nat_lt, slice_index_or, slice_set}
 use Rattle.cmwq_types.specs.Contents.{ScenarioContents}
 use Rattle.cmwq_types.specs.Faults.{first_fault, IsValid}
 use Rattle.cmwq_types.specs.Scenario.{pool_count}
 use Rattle.cmwq_types.specs.declared.instr.Instr.{Instr}
 use Rattle.cmwq_types.specs.declared.instr.WorkId.{WorkId}
-use Rattle.cmwq_types.specs.declared.limits.TheConstants.{MAX_HISTORY}
 use Rattle.cmwq_types.specs.declared.instr.Instr.TheVariants.{Next}
 use Rattle.cmwq_types.specs.declared.reply.Reply.{Reply}
 use Rattle.cmwq_table.specs.State.{State}

@@ -172,6 +172,7 @@ impl<M: Machine> Checkpoints<M> {
         ensures up_to { All (λ c. c.at ≤ position) (take result self.now.checkpoints) }
         ensures above { All (λ c. position < c.at) (drop result self.now.checkpoints) }
     {
-        self.held.partition_point(|checkpoint| checkpoint.at <= position)
+        self.held
+            .partition_point(|checkpoint| checkpoint.at <= position)
     }
 }

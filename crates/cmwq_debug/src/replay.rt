@@ -133,7 +133,8 @@ impl<M: Machine> Replay<M> {
     fn skip(&mut self, to: usize)
         requires forward { self.old.position ≤ to }
         requires within { to ≤ length self.old.instrs }
-        ensures { HasTurned self.old to self.new }
+        ensures turned { HasTurned self.old to self.new }
+        ensures ahead { self.old.position ≤ self.new.position }
     {
         let Some(checkpoint) = self.checkpoints.nearest(to as u32) else {
             return;

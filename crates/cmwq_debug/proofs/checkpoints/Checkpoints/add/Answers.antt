@@ -1,8 +1,8 @@
-use Rattle.std.proofs.Common.{◌≡◌, ◌⊎◌, ◌∙◌, ◌≤◌, ◌<◌, ◌++◌, ◌∷◌, List, ℕ, ap, drop, inl, inr, length, refl, rules, take, true}
+use Rattle.std.proofs.Common.{◌≡◌, ◌⊎◌, ◌≤◌, ◌<◌, ◌++◌, ◌∷◌, List, ℕ, ap, drop, inl, inr, refl, rules, take, true}
 use Rattle.std.proofs.lemmas.List.Elements.{All-contains_itself, All-weaker}
-use Rattle.std.specs.List.{All, Contains}
+use Rattle.std.specs.List.{Contains}
 use Rattle.cmwq_types.specs.declared.limits.TheConstants.{MAX_HISTORY}
-use Rattle.cmwq_debug.specs.Checkpoints.{is_due, positions_of}
+use Rattle.cmwq_debug.specs.Checkpoints.{is_due}
 use Rattle.cmwq_debug.specs.declared.checkpoints.Checkpoint.{Checkpoint}
 use Rattle.cmwq_debug.specs.declared.checkpoints.TheConstants.{MAX_CHECKPOINTS}
 use Rattle.cmwq_debug.proofs.CheckpointLemmas.{inserted-all, inserted-few, inserted-positions, inserted-rising}
@@ -36,7 +36,7 @@ returns-clause-ok g c =
     let made : c.insert.new.self.items ≡ take n items ++ e ∷ drop n items = search rules in
     let spacing : c.self.inside.spacing ≡ c.args.self.now.spacing = search rules in
     rw (made, spacing) (ap (λ (ps : List ℕ). record { positions = ps; spacing = c.args.self.now.spacing })
-      (inserted-positions n items e k refl c.count_up_to-place.ensures.up_to c.count_up_to-place.ensures.above))
+    (inserted-positions n items e k refl c.count_up_to-place.ensures.up_to c.count_up_to-place.ensures.above))
 
 pub returns-clause-copies : goal.returns-clause-copies
 returns-clause-copies g c =

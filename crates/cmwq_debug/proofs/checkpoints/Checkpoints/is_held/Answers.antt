@@ -1,6 +1,6 @@
 use Rattle.std.proofs.Common.{◌≡◌, ◌∙◌, ◌-◌, ap, arith, false, nat_eq, nat_lt, rules, slice_index_or, suc, sym}
 use Rattle.std.proofs.lemmas.Bool.Decides.{nat_tests}
-use Rattle.cmwq_debug.specs.Checkpoints.{AreRising, is_held, positions_of}
+use Rattle.cmwq_debug.specs.Checkpoints.{AreRising}
 use Rattle.cmwq_debug.specs.declared.checkpoints.Checkpoint.{Checkpoint}
 use Rattle.cmwq_debug.proofs.CheckpointLemmas.{held-nowhere, held-where-last}
 use Rattle.cmwq_debug.proofs.checkpoints.Checkpoints.is_held.Goals as goal

@@ -1,8 +1,8 @@
-use Rattle.std.proofs.Common.{◌≡◌, ◌∙◌, ◌*◌, ◌^◌, ◌<◌, ◌≤◌, ap, arith, false, length, refl, rules, sym, true}
+use Rattle.std.proofs.Common.{◌≡◌, ◌∙◌, ◌*◌, ◌<◌, ◌≤◌, ap, arith, length, refl, rules, sym}
 use Rattle.std.proofs.lemmas.List.Elements.{All-contains, All-contains_itself, All-weaker}
 use Rattle.std.specs.List.{Contains}
 use Rattle.cmwq_types.specs.declared.limits.TheConstants.{MAX_HISTORY}
-use Rattle.cmwq_debug.specs.Checkpoints.{has_room, spread_of, thinned_up_to}
+use Rattle.cmwq_debug.specs.Checkpoints.{spread_of}
 use Rattle.cmwq_debug.specs.declared.checkpoints.TheConstants.{MAX_CHECKPOINTS}
 use Rattle.cmwq_debug.proofs.CheckpointLemmas.{has-more-room, is-full, one-thinner, room-first, wide}
 use Rattle.cmwq_debug.proofs.checkpoints.Checkpoints.make_room.Goals as goal

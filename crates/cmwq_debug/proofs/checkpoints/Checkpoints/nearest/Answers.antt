@@ -1,5 +1,4 @@
-use Rattle.std.proofs.Common.{◌≡◌, ◌∙◌, ◌-◌, ◌+◌, ◌≤◌, Some, arith, rules, sym, ap, suc, slice_index_or}
-use Rattle.cmwq_debug.specs.Checkpoints.{nearest, positions_of}
+use Rattle.std.proofs.Common.{◌≡◌, ◌∙◌, ◌-◌, Some, arith, rules, sym, ap, suc, slice_index_or}
 use Rattle.cmwq_debug.specs.declared.checkpoints.Checkpoint.{Checkpoint}
 use Rattle.cmwq_debug.proofs.CheckpointLemmas.{last-below, last-near, none-near}
 use Rattle.cmwq_debug.proofs.checkpoints.Checkpoints.nearest.Goals as goal
@@ -15,7 +14,7 @@ returns-in_default-clause-nearest g c =
     let there : c.index.result.now ≡ slice_index_or c.args.self.now.checkpoints (c.count_up_to.result - 1) c.index.result.now = rw (← held) c.index.ensures in
     ap (λ (e : Checkpoint g.row.M.Denot). Some e.at) there
     ∙ sym (last-near c.args.position c.count_up_to.result (c.count_up_to.result - 1) c.args.self.now.checkpoints c.index.result.now
-      c.count_up_to.ensures.up_to c.count_up_to.ensures.above more c.count_up_to.ensures.within)
+    c.count_up_to.ensures.up_to c.count_up_to.ensures.above more c.count_up_to.ensures.within)
 
 pub returns-in_default-clause-below : goal.returns-in_default-clause-below
 returns-in_default-clause-below g c =
@@ -23,5 +22,5 @@ returns-in_default-clause-below g c =
     let held : c.self.inside.held.items ≡ c.args.self.now.checkpoints = search rules in
     let there : c.index.result.now ≡ slice_index_or c.args.self.now.checkpoints (c.count_up_to.result - 1) c.index.result.now = rw (← held) c.index.ensures in
     let below = last-below c.args.position c.count_up_to.result (c.count_up_to.result - 1) c.args.self.now.checkpoints c.index.result.now
-        c.count_up_to.ensures.up_to more c.count_up_to.ensures.within in
+    c.count_up_to.ensures.up_to more c.count_up_to.ensures.within in
     omega (arith, below, ap (λ (e : Checkpoint g.row.M.Denot). e.at) there)

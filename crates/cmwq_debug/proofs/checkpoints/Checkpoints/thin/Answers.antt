@@ -1,10 +1,10 @@
-use Rattle.std.proofs.Common.{◌≡◌, ◌∙◌, ◌*◌, ◌≤◌, ◌<◌, Bool, List, ℕ, ap, arith, rules, subst, sym}
+use Rattle.std.proofs.Common.{◌≡◌, ◌∙◌, ◌*◌, ◌≤◌, ◌<◌, Bool, List, ℕ, ap, arith, rules}
 use Rattle.std.proofs.lemmas.Fn.{filter_same}
 use Rattle.std.proofs.lemmas.List.Elements.{All-contains_itself, All-filter, filter_passes}
 use Rattle.std.proofs.lemmas.List.Kept.{AllPairs-filter}
-use Rattle.std.specs.List.{All, Contains, filter}
+use Rattle.std.specs.List.{Contains, filter}
 use Rattle.cmwq_types.specs.declared.limits.TheConstants.{MAX_HISTORY}
-use Rattle.cmwq_debug.specs.Checkpoints.{Spread, is_due, positions_of}
+use Rattle.cmwq_debug.specs.Checkpoints.{is_due, positions_of}
 use Rattle.cmwq_debug.specs.declared.checkpoints.Checkpoint.{Checkpoint}
 use Rattle.cmwq_debug.proofs.CheckpointLemmas.{positions-filter, wide}
 use Rattle.cmwq_debug.proofs.checkpoints.Checkpoints.thin.Goals as goal

@@ -1,4 +1,4 @@
-use Rattle.std.proofs.Common.{◌≡◌, ◌≤◌, arith, rules}
+use Rattle.std.proofs.Common.{rules}
 use Rattle.cmwq_debug.proofs.MovingLemmas.{gone-more}
 use Rattle.cmwq_debug.proofs.replay.Replay.go_forward.Goals as goal
 

@@ -1,5 +1,4 @@
-use Rattle.std.proofs.Common.{◌≡◌, ◌∙◌, ◌+◌, ◌≤◌, ℕ, None, Option, ap, arith, refl, rules, subst, sym, take, ◌&&◌}
-use Rattle.std.specs.Prelude.{is_some, nat_le}
+use Rattle.std.proofs.Common.{◌≡◌, ◌∙◌, ◌+◌, ℕ, None, Option, ap, arith, rules, subst, sym, take}
 use Rattle.cmwq_table.specs.Table.{run}
 use Rattle.cmwq_debug.specs.Breaks.{lowest}
 use Rattle.cmwq_debug.specs.Debugging.{break_of, run_end, session_of, stop}
@@ -29,7 +28,7 @@ returns-then-is_some-clause-gone g c =
     let before_is : c.now-before.result ≡ (run S (take k I)).time = search rules in
     let after_is : c.now.result ≡ (run S (take (k + 1) I)).time = search rules in
     let by : c.said_of-by.result ≡ break_of d k = c.said_of-by.ensures.lowest ∙ said c.loop-step.self S I k start.position c.args.breaks.now c.now-before.result c.now.result c.advance-reply.result
-        so_far.gone.scenario so_far.gone.instrs so_far.gone.position before_is after_is c.advance-reply.ensures.reply in
+    so_far.gone.scenario so_far.gone.instrs so_far.gone.position before_is after_is c.advance-reply.ensures.reply in
     let end : (k + 1, c.said_of-by.result) ≡ run_end d (stop d) = stopped d k c.said_of-by.result so_far.forward (search rules) so_far.none (search rules) by in
     subst (λ (n : ℕ). HasGoneTo start n c.advance-reply.new.self) (ap (λ (e : ℕ × Option ℕ). e.0) end)
     (gone-more start c.loop-step.self c.advance-reply.new.self k so_far.forward so_far.gone c.advance-reply.ensures.advanced)
@@ -45,7 +44,7 @@ returns-then-is_some-clause-by g c =
     let before_is : c.now-before.result ≡ (run S (take k I)).time = search rules in
     let after_is : c.now.result ≡ (run S (take (k + 1) I)).time = search rules in
     let by : c.said_of-by.result ≡ break_of d k = c.said_of-by.ensures.lowest ∙ said c.loop-step.self S I k start.position c.args.breaks.now c.now-before.result c.now.result c.advance-reply.result
-        so_far.gone.scenario so_far.gone.instrs so_far.gone.position before_is after_is c.advance-reply.ensures.reply in
+    so_far.gone.scenario so_far.gone.instrs so_far.gone.position before_is after_is c.advance-reply.ensures.reply in
     ap (λ (e : ℕ × Option ℕ). e.1) (stopped d k c.said_of-by.result so_far.forward (search rules) so_far.none (search rules) by)
 
 pub loop-step-preserved : goal.loop-step-preserved
@@ -59,7 +58,7 @@ loop-step-preserved g c =
     let before_is : c.now-before.result ≡ (run S (take k I)).time = search rules in
     let after_is : c.now.result ≡ (run S (take (k + 1) I)).time = search rules in
     let by : c.said_of-by.result ≡ break_of d k = c.said_of-by.ensures.lowest ∙ said c.loop-step.self S I k start.position c.args.breaks.now c.now-before.result c.now.result c.advance-reply.result
-        so_far.gone.scenario so_far.gone.instrs so_far.gone.position before_is after_is c.advance-reply.ensures.reply in
+    so_far.gone.scenario so_far.gone.instrs so_far.gone.position before_is after_is c.advance-reply.ensures.reply in
     record {
       gone = gone-more start c.loop-step.self c.advance-reply.new.self k so_far.forward so_far.gone c.advance-reply.ensures.advanced;
       forward = omega (arith, so_far.forward);
