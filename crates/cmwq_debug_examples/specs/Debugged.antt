@@ -1,10 +1,11 @@
 -- Worked examples of debugging: a scenario, instructions, commands, and what is said to each.
-use Rattle.std.specs.Prelude.{ℕ, List, [], ◌∷◌, Some, None, Result, Ok, Err, codes, replicate, ◌++◌}
+use Rattle.std.specs.Prelude.{ℕ, zero, suc, ◌*◌, List, [], ◌∷◌, Some, None, Result, Ok, Err, codes, replicate, ◌++◌}
 use Rattle.std.specs.List.{flat_map}
 use Rattle.cmwq_types.specs.Contents.{ScenarioContents}
 use Rattle.cmwq_types.specs.Scenario.{expand}
 use Rattle.cmwq_types.specs.declared.instr.Instr.{Instr}
 use Rattle.cmwq_types.specs.declared.instr.Instr.TheVariants as instr
+use Rattle.cmwq_debug.specs.Checkpoints.{Spread}
 use Rattle.cmwq_debug.specs.Debugging.{Answer, At, Broke, Cleared, Text, answers, opened}
 use Rattle.cmwq_debug.specs.declared.command.Command.{Command}
 use Rattle.cmwq_debug.specs.declared.command.Command.TheVariants as command
@@ -208,3 +209,14 @@ hold_answers =
     stands_at 13 3 ∷ Ok (Text hold_at_13) ∷ stands_at 21 6 ∷ Ok (Text (text_of_lines (codes "flush 0 done" ∷ [])))
     ∷ Ok (Text (text_of_lines (codes "b not pending" ∷ []))) ∷ stands_at 18 5 ∷ Ok (Text (text_of_lines (codes "b ready, goes on next" ∷ [])))
     ∷ Ok (Text (text_of_lines (codes "a not pending" ∷ []))) ∷ []
+
+-- Checkpoints on a long way.
+
+-- the first multiples of a number
+abbrev pub multiples : ℕ → ℕ → List ℕ
+multiples zero spacing = []
+multiples (suc n) spacing = multiples n spacing ++ suc n * spacing ∷ []
+
+-- so many checkpoints, at the first multiples of the spacing
+abbrev pub spread_at : ℕ → ℕ → Spread
+spread_at count spacing = record { positions = multiples count spacing; spacing = spacing }

@@ -2,7 +2,8 @@
 //! one dump reads, or what is said to some commands. No other crate stands on this one.
 #![tactic(auto)]
 
-ghost use Rattle.cmwq_debug_examples.specs.Debugged.{commands_answered, chain_answers, chain_questions, disabled_breaks, disabled_breaks_answers, each_event, each_event_answers, each_event_breaks, event_breaks, event_breaks_answers, hold_answers, hold_questions, all_instrs, many_breaks, many_breaks_answers, refusal_breaks, refusal_breaks_answers, refusals, rescuer_breaks, rescuer_breaks_answers, there_and_back, there_and_back_answers};
+ghost use Rattle.cmwq_debug.specs.Checkpoints.{no_checkpoints, passed};
+ghost use Rattle.cmwq_debug_examples.specs.Debugged.{commands_answered, chain_answers, chain_questions, disabled_breaks, disabled_breaks_answers, each_event, each_event_answers, each_event_breaks, event_breaks, event_breaks_answers, hold_answers, hold_questions, all_instrs, many_breaks, many_breaks_answers, refusal_breaks, refusal_breaks_answers, refusals, rescuer_breaks, rescuer_breaks_answers, spread_at, there_and_back, there_and_back_answers};
 ghost use Rattle.cmwq_debug_examples.specs.Dumps.{dumped, many_kinds, many_kinds_dump, many_kinds_lines, many_kinds_pool_1, pool_dumped, busy_cpus, two_cpus_dump, busy_cpus_lines};
 ghost use Rattle.cmwq_examples.specs.Rows.{disabled_twice, pressed, queues_itself, three_works};
 ghost use Rattle.cmwq_reason_examples.specs.Waiting.{chain, hold};
@@ -83,4 +84,12 @@ pub fn scenarios_are_valid()
     ensures many_kinds { IsValid many_kinds }
     ensures busy_cpus { IsValid busy_cpus }
     ensures each_event { IsValid each_event }
+{}
+
+/// Checkpoints on a long way there and back, where there is memory for each: at each 64th position, until there would be more than 256 of
+/// them; then those at odd multiples of 64 are dropped, and they go on at each 128th.
+pub fn checkpoints_stand_further_apart_on_a_long_way()
+    ensures first { passed no_checkpoints 0 1000 ≡ spread_at 15 64 }
+    ensures full { passed (spread_at 15 64) 999 15385 ≡ spread_at 256 64 }
+    ensures thinned { passed (spread_at 256 64) 16384 64 ≡ spread_at 128 128 }
 {}

@@ -10,8 +10,8 @@ use cmwq_core::Core;
 use cmwq_debug::Debugger;
 use cmwq_debug_lines::answer;
 use cmwq_plain::Plain;
-use cmwq_table::Machine;
-use cmwq_types::{Instr, MAX_HISTORY, MAX_WORKS, Scenario};
+use cmwq_table::{LoadError, Machine};
+use cmwq_types::{Instr, MAX_HISTORY, MAX_WORKS, NoMemory, Scenario};
 use std::alloc::Global;
 use std::process::Abort;
 
@@ -235,6 +235,78 @@ const A_WORK_CALLED_FLUSH: Talk = Talk {
     ],
 };
 
+/// A long wait, over which checkpoints become too many.
+const A_LONG_WAIT: &[u8] = b"cpus 1
+workers 1
+steps 20000
+flushes 0
+actor x
+tick * 16448
+";
+
+/// A command on the long wait, what is said to it, and which checkpoints there are then: so many, at the first multiples of a spacing.
+#[derive(Clone, Copy)]
+struct Way {
+    line: &'static str,
+    said: &'static [u8],
+    checkpoints: usize,
+    spacing: u32,
+}
+
+const LONG_WAY: [Way; 6] = [
+    Way {
+        line: "goto 1000",
+        said: b"at 1000 now 1000\n",
+        checkpoints: 15,
+        spacing: 64,
+    },
+    Way {
+        line: "back 1",
+        said: b"at 999 now 999\n",
+        checkpoints: 15,
+        spacing: 64,
+    },
+    Way {
+        line: "goto 16384",
+        said: b"at 16384 now 16384\n",
+        checkpoints: 256,
+        spacing: 64,
+    },
+    Way {
+        line: "goto 16448",
+        said: b"at 16448 now 16448\n",
+        checkpoints: 128,
+        spacing: 128,
+    },
+    Way {
+        line: "back 16448",
+        said: b"at 0 now 0\n",
+        checkpoints: 128,
+        spacing: 128,
+    },
+    Way {
+        line: "back 1",
+        said: b"refused PastStart\n",
+        checkpoints: 128,
+        spacing: 128,
+    },
+];
+
+/// Ways there and back on the long wait, of which each says the same however often it is gone.
+const GOTOS: Talk = Talk {
+    name: "gotos",
+    lines: &[
+        ("goto 700", b"at 700 now 700\n"),
+        ("dump pool 0", b"pool 0 counted 0 made 0 idle\n"),
+        ("goto 699", b"at 699 now 699\n"),
+        ("goto 127", b"at 127 now 127\n"),
+        ("goto 640", b"at 640 now 640\n"),
+        ("goto 63", b"at 63 now 63\n"),
+        ("dump pool 0", b"pool 0 counted 0 made 0 idle\n"),
+        ("goto 700", b"at 700 now 700\n"),
+    ],
+};
+
 /// The instructions of the scenario's first actor, in order.
 pub(crate) fn instrs_of(rt: &impl Abort, alloc: Global, scenario: &Scenario) -> Vec<Instr> {
     let mut instrs = Vec::new(alloc);
@@ -296,4 +368,80 @@ fn each_command_line_is_answered(rt: HostRuntime) {
     check_text::<Core>(&rt, rt.alloc(), MANY_KINDS, EVERY_KIND);
     check_text::<Plain>(&rt, rt.alloc(), A_FLUSH, A_WORK_CALLED_FLUSH);
     check_text::<Core>(&rt, rt.alloc(), A_FLUSH, A_WORK_CALLED_FLUSH);
+}
+
+/// Compares at which positions there are checkpoints. Only ticks pass, so the machine at each shows its position as its time.
+fn check_checkpoints<M: Machine>(rt: &impl Abort, debugger: &Debugger<M>, way: Way) {
+    let held = debugger.checkpoints();
+    same(rt, way.line, held.len(), way.checkpoints);
+    let mut at: u32 = 0;
+    for checkpoint in held {
+        at = at.saturating_add(way.spacing);
+        same(rt, way.line, checkpoint.at, at);
+        same(rt, way.line, checkpoint.machine.now(), u64::from(at));
+    }
+}
+
+/// Goes the long way, and compares what is said and which checkpoints there are.
+fn check_way<M: Machine>(rt: &impl Abort, alloc: Global) {
+    let scenario = scenario(rt, alloc, A_LONG_WAIT);
+    let instrs = instrs_of(rt, alloc, &scenario);
+    if instrs.len() > MAX_HISTORY as usize || scenario.works.len() > MAX_WORKS {
+        return;
+    }
+    let opened = Debugger::open(alloc, &scenario, instrs);
+    let mut debugger: Debugger<M> = opened.expect(rt, "the long way");
+    for way in LONG_WAY {
+        check_line(rt, alloc, &scenario, &mut debugger, way.line, way.said);
+        check_checkpoints(rt, &debugger, way);
+    }
+}
+
+#[test]
+fn checkpoints_stand_further_apart_on_a_long_way(rt: HostRuntime) {
+    check_way::<Plain>(&rt, rt.alloc());
+    check_way::<Core>(&rt, rt.alloc());
+}
+
+/// Says the line to a debugger, once more where memory was refused, and compares what it says.
+fn check_again<M: Machine>(
+    rt: &impl Abort,
+    alloc: Global,
+    scenario: &Scenario,
+    debugger: &mut Debugger<M>,
+    line: &str,
+    want: &[u8],
+)
+    requires { length scenario.now.works ≤ MAX_WORKS }
+{
+    let said = match answer(alloc, scenario, debugger, line.as_bytes()) {
+        Ok(said) => said,
+        Err(NoMemory) => {
+            answer(alloc, scenario, debugger, line.as_bytes()).expect(rt, "memory is left again")
+        }
+    };
+    same(rt, line, &said[..], want);
+}
+
+/// Goes there and back, where an allocation may be refused on the way.
+fn check_gotos<M: Machine>(rt: &impl Abort, alloc: Global) {
+    let scenario = scenario(rt, alloc, A_LONG_WAIT);
+    let instrs = instrs_of(rt, alloc, &scenario);
+    if instrs.len() > MAX_HISTORY as usize || scenario.works.len() > MAX_WORKS {
+        return;
+    }
+    let opened: Result<Debugger<M>, LoadError> = Debugger::open(alloc, &scenario, instrs);
+    let Ok(mut debugger) = opened else {
+        return;
+    };
+    for (line, want) in GOTOS.lines {
+        check_again(rt, alloc, &scenario, &mut debugger, line, want);
+    }
+}
+
+/// With `--fail-alloc N` the N-th allocation is refused: a command that finds no memory says the same when it is said again.
+#[test]
+fn a_refused_command_can_be_said_again(rt: HostRuntime) {
+    check_gotos::<Plain>(&rt, rt.alloc());
+    check_gotos::<Core>(&rt, rt.alloc());
 }
