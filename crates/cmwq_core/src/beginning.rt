@@ -1,5 +1,5 @@
-//! What of a machine's parts takes room, at the start of a scenario and in a copy. It is made in stages: each function has at most one thing to
-//! drop where memory is wanting.
+//! What of a machine's parts takes room, at the start of a scenario and in a copy. It is made in stages, so that each function has little to drop
+//! where memory is wanting.
 ghost use Rattle.cmwq_idle.specs.Idle.{no_workers};
 ghost use Rattle.cmwq_queued.specs.QueuedContents.{QueuedContents};
 ghost use Rattle.cmwq_running.specs.RunningContents.{RunningContents};

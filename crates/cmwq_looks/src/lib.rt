@@ -1,4 +1,4 @@
-//! What the bodies of machines alike make of their state: the vectors of a start state, those of a copy, and what a look shows of a map.
+//! What the structures of all machines make alike: vectors of a start state and of a copy, and what a look shows of a map.
 #![tactic(auto)]
 
 mod beginning;
