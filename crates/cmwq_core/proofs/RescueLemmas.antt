@@ -1,9 +1,9 @@
 -- The walk along a worklist, up to the first work that a rescuer can take.
-use Rattle.std.proofs.Common.{◌≡◌, ◌≢◌, ℕ, zero, suc, ◌+◌, ◌<◌, ◌≤◌, Bool, true, false, cond, ◌&&◌, Option, Some, None, arith, refl, sym, ap, subst, ◌∙◌, inl, inr}
+use Rattle.std.proofs.Common.{◌≡◌, ◌≢◌, ℕ, zero, suc, ◌+◌, ◌<◌, ◌≤◌, Bool, true, false, cond, ◌&&◌, Option, Some, None, arith, refl, ap, ◌∙◌, inl, inr}
 use Rattle.std.specs.Prelude.{nat_lt}
 use Rattle.std.proofs.lemmas.Bool.{cases_eq, cases_lt}
 use Rattle.std.proofs.lemmas.Bool.Decides.{nat_tests}
-use Rattle.cmwq_types.specs.First.{IsFirst, MatchFirst, by_least, count_below, first_below}
+use Rattle.cmwq_types.specs.First.{MatchFirst, by_least, count_below, first_below}
 use Rattle.cmwq_types.proofs.FirstLemmas.{by_least-order, first_below-is_first, first_below-none, first_below-unique}
 
 -- Works with keys, some of which are listed.

@@ -2,11 +2,12 @@
 ghost use Rattle.cmwq_table.specs.Moves.{begun};
 ghost use Rattle.std.specs.Prelude.{◌≡◌};
 
-use crate::beginning::{Numbers, Works, copied_numbers, copied_works, first_numbers, first_works};
-use crate::looking::{idle_workers, pending_works, running_works};
+use crate::beginning::{Stores, copied_stores, first_stores};
+use crate::looking::running_works;
 use crate::moving::{listed_pool, with, with_some, without};
 use crate::rescuing::first_rescued;
 use cmwq_idle::IdleWorkers;
+use cmwq_looks::{entries, idle_workers};
 use cmwq_parts::{Parts, PoolSet};
 use cmwq_queued::{MAX_POOLS, QueuedWorks};
 use cmwq_reads::Sought;
@@ -129,50 +130,43 @@ impl Reads for CoreParts {
 
 impl Parts for CoreParts {
     fn begin(alloc: Global, scenario: Arc<Scenario>) -> Result<Self, NoMemory> {
-        let Works { queued, running } = first_works(alloc, &scenario)?;
-        let Numbers {
-            max,
-            depth,
-            flushes,
-        } = first_numbers(alloc, &scenario)?;
-        let workers = IdleWorkers::new(alloc, scenario.pool_count(), scenario.workers)?;
+        let Stores { works, others } = first_stores(alloc, &scenario)?;
         Ok(CoreParts {
-            queued,
-            running,
-            workers,
+            queued: works.queued,
+            running: works.running,
+            workers: others.workers,
             moving: PoolSet::all(),
             next: 0,
             spent: 0,
             frozen: false,
             pressed: false,
-            max,
-            depth,
-            flushes,
+            max: others.numbers.max,
+            depth: others.numbers.depth,
+            flushes: others.numbers.flushes,
         })
     }
 
     fn copy(&self) -> Result<Self, NoMemory> {
-        let room = self.queued.scenario().flushes as usize;
-        let alloc = *self.max.allocator();
-        let Works { queued, running } = copied_works(&self.queued, &self.running)?;
-        let Numbers {
-            max,
-            depth,
-            flushes,
-        } = copied_numbers(alloc, &self.max, &self.depth, &self.flushes, room)?;
-        let workers = self.workers.copy()?;
+        let Stores { works, others } = copied_stores(
+            &self.queued,
+            &self.running,
+            &self.workers,
+            &self.max,
+            &self.depth,
+            &self.flushes,
+        )?;
         Ok(CoreParts {
-            queued,
-            running,
-            workers,
+            queued: works.queued,
+            running: works.running,
+            workers: others.workers,
             moving: self.moving,
             next: self.next,
             spent: self.spent,
             frozen: self.frozen,
             pressed: self.pressed,
-            max,
-            depth,
-            flushes,
+            max: others.numbers.max,
+            depth: others.numbers.depth,
+            flushes: others.numbers.flushes,
         })
     }
 
@@ -185,7 +179,7 @@ impl Parts for CoreParts {
             frozen: self.frozen,
             pressed: self.pressed,
             max: Vec::from_slice(alloc, &self.max)?,
-            pending: pending_works(alloc, self.queued.all())?,
+            pending: entries(alloc, self.queued.all())?,
             running: running_works(alloc, &self.running)?,
             depth: Vec::from_slice(alloc, &self.depth)?,
             idle: idle_workers(alloc, self.workers.all())?,
@@ -371,12 +365,11 @@ impl Parts for CoreParts {
     }
 
     fn pass(&mut self, most: u32) -> u32 {
-        if !self.is_settled() {
-            return 0;
+        if self.is_settled() {
+            self.pass_settled(most)
+        } else {
+            0
         }
-        let until_due = self.until_due(most);
-        let still = self.running.still_for(until_due);
-        self.running.pass(still)
     }
 
     fn set_depth(&mut self, w: usize, depth: u16) {
@@ -406,18 +399,34 @@ impl Parts for CoreParts {
 }
 
 impl CoreParts {
+    ghost use Rattle.cmwq_parts.specs.SettledTicks.{AreSettled, ticks};
     ghost use Rattle.cmwq_queued.specs.Indexes.{timer_of};
     ghost use Rattle.cmwq_queued.specs.QueuedContents.{next_due};
     ghost use Rattle.cmwq_table.specs.Moves.{first_moving};
+    ghost use Rattle.cmwq_table.specs.Ready.{holding};
     ghost use Rattle.cmwq_table.specs.State.{pending_at};
     ghost use Rattle.cmwq_timers.specs.Timers.{timer_at};
-    ghost use Rattle.std.specs.Prelude.{◌-◌, ◌≤◌, ℕ, IfSome, None, true};
+    ghost use Rattle.std.specs.Prelude.{◌-◌, ◌<◌, ◌≤◌, ◌^◌, ℕ, IfSome, None, true};
 
     /// The timers of the machine: one of each work that waits for one, by due time in ticks and then by stamp.
     pub fn timers(&self) -> &Timers
         ensures { (w : ℕ) → timer_at result.now w ≡ timer_of w (pending_at self.now.state w) }
     {
         self.queued.timers()
+    }
+
+    /// Lets at most so many ticks pass, until a timer is due or a burn or sleep ends. Answers how many.
+    #[inline(never)]
+    fn pass_settled(&mut self, most: u32) -> u32
+        requires time { self.old.state.time < 2 ^ 63 }
+        requires moving { first_moving self.old.scenario self.old.state ≡ None }
+        ensures few { result ≤ most }
+        ensures settled { AreSettled self.old.scenario self.old.state result }
+        ensures passed { self.new ≡ holding self.old.scenario (ticks self.old.scenario self.old.state result) }
+    {
+        let until_due = self.until_due(most);
+        let still = self.running.still_for(until_due);
+        self.running.pass(still)
     }
 
     /// Whether no pool is noted as one that may have a move.

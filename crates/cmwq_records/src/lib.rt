@@ -2,9 +2,7 @@
 //! instruction table asks of it is answered by a scan. What an instruction does isn't known here.
 #![tactic(auto)]
 
-mod beginning;
 mod burning_heads;
-mod looking;
 mod records;
 mod rest;
 

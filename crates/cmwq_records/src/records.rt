@@ -3,8 +3,7 @@ ghost use Rattle.cmwq_table.specs.Moves.{begun};
 ghost use Rattle.cmwq_table.specs.State.{seat};
 ghost use Rattle.std.specs.Prelude.{◌≡◌, slice_set};
 
-use crate::beginning::{copied_flushes, declared_max};
-use crate::looking::{entries, idle_workers};
+use cmwq_looks::{copied_flushes, declared_max, entries, idle_workers};
 use cmwq_parts::{Parts, PoolSet};
 use cmwq_table::{FlushTarget, Pending, Reads, Running, View};
 use cmwq_types::{MAX_WORKERS, Mode, NoMemory, Place, RESCUER, Scenario, filled};

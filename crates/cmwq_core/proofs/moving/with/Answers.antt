@@ -1,4 +1,4 @@
-use Rattle.std.proofs.Common.{◌≡◌, ◌≢◌, ℕ, Bool, true, false, ◌||◌, ◌==◌, arith, refl, sym, ◌∙◌}
+use Rattle.std.proofs.Common.{◌==◌, arith, sym, ◌∙◌}
 use Rattle.std.proofs.lemmas.Bool.Decides.{nat_tests}
 use Rattle.cmwq_parts.specs.PoolSets.{has_pool}
 use Rattle.cmwq_core.proofs.CoverLemmas.{neither}

@@ -1,4 +1,4 @@
-use Rattle.std.proofs.Common.{ℕ, ◌<◌, IfSome, length}
+use Rattle.std.proofs.Common.{◌<◌, IfSome, length}
 use Rattle.cmwq_types.specs.declared.limits.TheConstants.{MAX_WORKS}
 use Rattle.cmwq_queued.specs.QueuedContents.{pending_at}
 use Rattle.cmwq_table.specs.Counts.{is_listed, pending_stamp, pends}

@@ -1,4 +1,4 @@
-use Rattle.std.proofs.Common.{◌≡◌, ap, ◌∙◌}
+use Rattle.std.proofs.Common.{ap, ◌∙◌}
 use Rattle.cmwq_queued.specs.Indexes.{timer_of}
 use Rattle.cmwq_table.specs.Ready.{Loaded}
 use Rattle.cmwq_table.specs.State.{pending_at}

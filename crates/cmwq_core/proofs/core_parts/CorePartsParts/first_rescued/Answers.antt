@@ -1,4 +1,4 @@
-use Rattle.std.proofs.Common.{◌≡◌, ap, ◌∙◌}
+use Rattle.std.proofs.Common.{ap, ◌∙◌}
 use Rattle.cmwq_table.specs.Counts.{first_rescued}
 use Rattle.cmwq_table.specs.Ready.{Loaded}
 use Rattle.cmwq_core.proofs.core_parts.CorePartsParts.first_rescued.Goals as goal

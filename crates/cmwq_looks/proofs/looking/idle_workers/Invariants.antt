@@ -1,6 +1,6 @@
 use Rattle.std.proofs.Common.{◌≡◌, ◌++◌, drop}
 use Rattle.cmwq_table.specs.View.{idle_from}
-use Rattle.cmwq_core.proofs.looking.idle_workers.Given as goal
+use Rattle.cmwq_looks.proofs.looking.idle_workers.Given as goal
 
 -- the workers so far and those of what is left are all
 abbrev pub invariant-loop-seat : goal.invariant-loop-seat

@@ -1,4 +1,4 @@
-//! What a view shows of the records' maps.
+//! What a view shows of a machine's maps.
 ghost use Rattle.cmwq_table.specs.View.{entries_from, idle_from};
 ghost use Rattle.cmwq_types.specs.declared.limits.TheConstants.{MAX_CPUS, MAX_WORKERS, MAX_WORKS};
 ghost use Rattle.std.specs.Prelude.{◌≡◌, ◌≤◌, ◌+◌, ◌*◌, IfOk, length};
@@ -8,10 +8,7 @@ use cmwq_types::{MAX_WORKERS, NoMemory, WorkId};
 use std::alloc::Global;
 
 /// The entries of a map from works, by rising number.
-pub(crate) fn entries<T: Copy>(
-    alloc: Global,
-    map: &[Option<T>],
-) -> Result<Vec<(WorkId, T)>, NoMemory>
+pub fn entries<T: Copy>(alloc: Global, map: &[Option<T>]) -> Result<Vec<(WorkId, T)>, NoMemory>
     requires { length map.now ≤ MAX_WORKS }
     ensures { IfOk result (λ entries. entries.items ≡ entries_from 0 map.now) }
 {
@@ -25,7 +22,7 @@ pub(crate) fn entries<T: Copy>(
 }
 
 /// The idle workers, by pool and worker.
-pub(crate) fn idle_workers(alloc: Global, idle: &[Option<u64>]) -> Result<Vec<IdleWorker>, NoMemory>
+pub fn idle_workers(alloc: Global, idle: &[Option<u64>]) -> Result<Vec<IdleWorker>, NoMemory>
     requires { length idle.now ≤ MAX_WORKERS * (2 * MAX_CPUS + 2) }
     ensures { IfOk result (λ workers. workers.items ≡ idle_from 0 idle.now) }
 {

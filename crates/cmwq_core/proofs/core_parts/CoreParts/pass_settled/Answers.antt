@@ -1,4 +1,4 @@
-use Rattle.std.proofs.Common.{◌≡◌, ◌≤◌, ◌-◌, ℕ, IfSome, None, length, arith, refl, sym, ap, subst, ◌∙◌}
+use Rattle.std.proofs.Common.{◌≡◌, ◌≤◌, ◌-◌, IfSome, None, length, arith, refl, sym, ap, subst, ◌∙◌}
 use Rattle.std.specs.Vec.{vec_capacity}
 use Rattle.cmwq_types.specs.Contents.{ScenarioContents}
 use Rattle.cmwq_parts.specs.SettledTicks.{IsSettled, ticks}
@@ -12,7 +12,7 @@ use Rattle.cmwq_core.specs.Staff.{runs_at}
 use Rattle.cmwq_core.specs.contracts.core_parts.CoreParts.{the_view}
 use Rattle.cmwq_core.proofs.LayoutLemmas.{laid_onward}
 use Rattle.cmwq_core.proofs.TickLemmas.{covered_alike, none_due_then, ticks_long, ticks_stems}
-use Rattle.cmwq_core.proofs.core_parts.CorePartsParts.pass.Goals as goal
+use Rattle.cmwq_core.proofs.core_parts.CoreParts.pass_settled.Goals as goal
 
 pub returns-clause-settled : goal.returns-clause-settled
 returns-clause-settled c earlier below =
@@ -21,7 +21,7 @@ returns-clause-settled c earlier below =
     let due = subst (λ (m : Loaded). IfSome (next_due m.scenario m.state.pending) (λ due. c.until_due-until_due.result ≤ due - m.state.time)) (sym c.self.view_is) c.until_due-until_due.ensures.due in
     let alike = subst (λ (S : ScenarioContents). MoveAlike S seen.state (ticks S seen.state earlier)) c.self.invariant.laid.sized.same
     (c.still_for-still.ensures.alike seen.state (record { time = refl; running = refl }) earlier (omega (arith, below, c.pass.ensures.few))) in
-    let still = subst (λ (m : Loaded). first_moving m.scenario m.state ≡ None) (sym c.self.view_is) (c.is_settled.ensures (let settled = c.if-not-is_settled.false in cc)) in
+    let still = subst (λ (m : Loaded). first_moving m.scenario m.state ≡ None) (sym c.self.view_is) c.requires.moving in
     subst (λ (m : Loaded). IsSettled m.scenario (ticks m.scenario m.state earlier)) c.self.view_is (
       none_due_then seen.scenario seen.state earlier c.until_due-until_due.result due (omega (arith, below, c.pass.ensures.few, c.still_for-still.ensures.few)),
       alike.moving ∙ still,
