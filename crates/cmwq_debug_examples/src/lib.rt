@@ -87,9 +87,10 @@ pub fn scenarios_are_valid()
 {}
 
 /// Checkpoints on a long way there and back, where there is memory for each: at each 64th position, until there would be more than 256 of
-/// them; then those at odd multiples of 64 are dropped, and they go on at each 128th.
+/// them; then those at odd multiples of 64 are dropped, and they go on at each 128th. Another way over them makes none anew.
 pub fn checkpoints_stand_further_apart_on_a_long_way()
     ensures first { passed no_checkpoints 0 1000 ≡ spread_at 15 64 }
     ensures full { passed (spread_at 15 64) 999 15385 ≡ spread_at 256 64 }
     ensures thinned { passed (spread_at 256 64) 16384 64 ≡ spread_at 128 128 }
+    ensures again { passed (spread_at 128 128) 0 16384 ≡ spread_at 128 128 }
 {}

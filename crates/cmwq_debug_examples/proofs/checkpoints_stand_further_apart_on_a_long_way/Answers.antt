@@ -14,3 +14,7 @@ returns-clause-full c = refl
 pub returns-clause-thinned : goal.returns-clause-thinned
 unfolding thinned_up_to
 returns-clause-thinned c = refl
+
+pub returns-clause-again : goal.returns-clause-again
+unfolding thinned_up_to
+returns-clause-again c = refl
