@@ -5,7 +5,7 @@ and its image have its listing; so has an image that is read, and of its listing
 prints with more, and `run --settle` of what `settle` writes; a debugger at a position says what `why` says of it, by whatever way
 it came there; what a play leaves prints its comments.
 
-    python3 gate/fuzz.py PROGRAM [--seconds N | --turns N] [--seed S] [--turn T]
+    python3 gate/fuzz.py PROGRAM [--seconds N] [--turns N] [--seed S] [--turn T]
 
 Without words 120 seconds, with the commit's hash as the seed. A turn goes by the seed and its number alone: --turn T tries one again. A
 failure is told with its command line, and the files that it needs are kept."""
@@ -75,6 +75,11 @@ class Bench:
             raise Failure(f"no document says that it ends with {ran.returncode} and says {ran.stderr[-200:]!r}")
         return Ended(ran.returncode, ran.stdout, ran.stderr)
 
+    def made(self, name):
+        """What a file has that a command line made, or None."""
+        path = f"{self.room}/{name}"
+        return hostile.bytes_of(path) if os.path.exists(path) else None
+
     def want(self, is_so, what):
         if not is_so:
             raise Failure(what)
@@ -99,7 +104,7 @@ def try_faulty(bench, rng, verdict, content):
         command, *rest = line.split()
         ended = bench.run(command, TEXT, *rest, *(["out"] if command == "asm" else []))
         bench.want(ended == wanted, f"check says {verdict.errors!r}, and this {ended}")
-    bench.want("asm" not in bench.last or not hostile.bytes_of(f"{bench.room}/out"), "there is an image of a faulty text")
+    bench.want("asm" not in bench.last or bench.made("out") == b"", "there is an image of a faulty text")
 
 
 def try_good(bench, listed):
@@ -155,6 +160,7 @@ def try_why(bench, rng, listed):
         said = bench.run("debug", TEXT, given=f"goto {position}\nwhy {' '.join(what).replace('--', '')}\n".encode())
         if not why.status:
             now = re.match(rb"at (\d+ now \d+) ", why.output)
+            bench.want(now, "it doesn't say at which position")
             bench.want(said == (0, b"at %s\n" % now[1] + why.output[len(now[0]):], b""), f"why says {why}, and the debugger {said}")
         else:
             refused = {b"past the end\n": b"refused PastEnd\n", b"no such flush\n": b"refused NoSuchFlush\n"}.get(why.errors)
@@ -198,7 +204,7 @@ def try_image(bench, rng, found):
     bench.write(TEXT, shown.output)
     bench.want(bench.run("list", TEXT) == shown, "what an image shows isn't a listing")
     bench.want(bench.run("asm", TEXT, "out") == Ended(0, b"", b""), "no image is made of what an image shows")
-    bench.want(hostile.bytes_of(f"{bench.room}/out") == content[:5] + b"\x03" + content[6:], "the listing has another image")
+    bench.want(bench.made("out") == content[:5] + b"\x03" + content[6:], "the listing has another image")
     return "image"
 
 
@@ -218,7 +224,7 @@ def try_words(bench, rng, found):
         bench.write(name, content)
     words = mutations.words(rng, found.uses)
     ended = bench.run(*words, given=mutations.commands(rng, found.sessions))
-    changed = {name for name, content in found.files.items() if hostile.bytes_of(f"{bench.room}/{name}") != content}
+    changed = {name for name, content in found.files.items() if bench.made(name) != content}
     bench.want(not changed or words[:1] == [b"asm"], f"{sorted(changed)} have changed")
     return f"command line of status {ended.status}"
 
@@ -231,7 +237,7 @@ def found_in(program, room):
     hostile.fill(program, room)
     lessons = sorted(glob.glob(f"{hostile.TOP}/scenarios/*.cmwq")) + [f"{room}/{name}" for name in ("every.cmwq", "asks.cmwq", "restless.cmwq")]
     for number, lesson in enumerate(lessons):
-        subprocess.run([program, "asm", lesson, f"{room}/image{number}"], timeout=60)
+        hostile.make_image(program, lesson, f"image{number}", room)
     images = [content for number in range(len(lessons)) if os.path.exists(path := f"{room}/image{number}") and (content := hostile.bytes_of(path))]
     sessions = [hostile.bytes_of(path).decode() for path in sorted(glob.glob(f"{hostile.TOP}/scenarios/*.debug"))]
     sessions += [given for _, given in hostile.USES if given]
@@ -246,17 +252,16 @@ def try_turn(bench, found, seed, turn):
     try:
         return part(bench, rng, found), None
     except Failure as failure:
-        kept = tempfile.mkdtemp(prefix=f"fuzz-{str(seed)[:12]}-{turn}-")
+        kept = tempfile.mkdtemp(prefix=f"fuzz-{re.sub(r'[^0-9A-Za-z]', '', seed)[:12]}-{turn}-")
         shutil.copytree(bench.room, kept, dirs_exist_ok=True)
         return "failure", f"turn {turn} of seed {seed}: {[os.fsdecode(word) for word in bench.last]} in {kept}, with the file given: {failure}"
 
 
 def try_turns(job):
     """What the turns of one process came to, and its failures: up to these turns, or until this time."""
-    program, seed, turns, until = job
+    program, found, seed, turns, until = job
     counts, failures = collections.Counter(), []
     with tempfile.TemporaryDirectory(prefix="fuzz-") as room:
-        found = found_in(program, room)
         for turn in turns:
             if time.monotonic() > until or len(failures) >= FAILURES:
                 break
@@ -271,8 +276,10 @@ def try_turns(job):
 
 def fuzzed(program, seed, turns, seconds):
     """What all turns came to, and the failures."""
-    processes, until = len(os.sched_getaffinity(0)), time.monotonic() + seconds
-    jobs = [(os.path.abspath(program), seed, turns[at::processes], until) for at in range(processes)]
+    processes, until, program = len(os.sched_getaffinity(0)), time.monotonic() + seconds, os.path.abspath(program)
+    with tempfile.TemporaryDirectory(prefix="fuzz-") as room:
+        found = found_in(program, room)
+    jobs = [(program, found, seed, turns[at::processes], until) for at in range(processes)]
     with multiprocessing.Pool(processes) as pool:
         results = pool.map(try_turns, jobs, 1)
     return sum((counts for counts, _ in results), collections.Counter()), [failure for _, failures in results for failure in failures]

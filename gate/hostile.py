@@ -188,12 +188,17 @@ def words_of(line):
     return [] if line == "-" else line.split(" ")
 
 
+def make_image(program, text, image, room):
+    """Has the program make an image, if it can."""
+    subprocess.run([program, "asm", text, image], cwd=room, stdout=subprocess.DEVNULL, stderr=subprocess.DEVNULL, timeout=60)
+
+
 def fill(program, room):
     """Writes the files that the command lines need into an empty folder."""
     for name, text in FILES.items():
         with open(f"{room}/{name}", "w", encoding="utf-8") as it:
             it.write(text)
-    subprocess.run([program, "asm", "every.cmwq", "every.image"], cwd=room, timeout=60)
+    make_image(program, "every.cmwq", "every.image", room)
 
 
 def files_in(room):

@@ -183,8 +183,8 @@ def path_faults(streams, line, ends):
     return [] if is_well else [("a file that can't be used", f"ends otherwise, with {outcome[:3]}")]
 
 
-def all_faults(program, uses):
-    """What is wrong, each fault with its situation and its command line; and how many runs there were."""
+def all_faults(program, uses, paths):
+    """What is wrong, each fault with its situation and its command line."""
     faults = []
     with tempfile.TemporaryDirectory(prefix="streams-") as room:
         os.mkdir(f"{room}/files")
@@ -193,13 +193,13 @@ def all_faults(program, uses):
             whole, counts = streams.run(use)
             found = situation_faults(streams, use, whole) + call_faults(streams, use, whole, counts)
             faults += [(situation, use, fault) for situation, fault in found]
-        faults += [(situation, (line, ""), fault) for line, ends in PATHS.items() for situation, fault in path_faults(streams, line, ends)]
+        faults += [(situation, (line, ""), fault) for line, ends in paths.items() for situation, fault in path_faults(streams, line, ends)]
     return faults
 
 
 def main(program):
     uses = [*hostile.all_uses(), ("run many.cmwq", ""), ("run --tell many.cmwq", "")]
-    found = all_faults(program, uses)
+    found = all_faults(program, uses, PATHS)
     faults = [f"{hostile.shown(use)}: {situation}: {fault}" for situation, use, fault in found if (situation, fault) not in KNOWN]
     faults += [f"{situation}: none {fault}, which stands among what is known" for situation, fault in KNOWN if (situation, fault) not in {(it[0], it[2]) for it in found}]
     print("".join(f"hostile streams: {fault}\n" for fault in faults), end="")

@@ -97,7 +97,8 @@ def main(program, *options):
     commit = (options[1:] or (hostile.commit(),))[0] if options[:1] == ("--quick",) else None
     uses = hostile.all_uses()
     found = results(program, uses, None if commit is None else int(commit, 16) % SHARES)
-    faults = hostile.uncovered(uses) + [fault for it in found.values() for fault in it.faults]
+    well = [use for use, it in found.items() if it.status == 0]
+    faults = hostile.uncovered(well) + [fault for it in found.values() for fault in it.faults]
     print(table(found), *(f"refused memory: {fault}" for fault in faults), sep="\n")
     calls, refused = sum(it.count for it in found.values()), sum(it.kinds.get(NO, 0) + it.kinds.get(AS, 0) for it in found.values())
     print(f"refused memory: {len(uses)} command lines, {calls} calls, {refused} refused, {len(faults)} faults")
