@@ -5,6 +5,7 @@ over good streams, or it says `read` or `write`, in one line, with its status, a
     python3 gate/hostile_streams.py PROGRAM"""
 import os
 import resource
+import subprocess
 import sys
 import tempfile
 import threading
@@ -19,6 +20,15 @@ MOST = 200
 # What can't be opened or made, besides files that aren't there.
 PATHS = {line: hostile.READ for line in ("run .", "list .", "show .", "debug .", "asm . out.image", "asm every.cmwq/file out.image")}
 PATHS |= {line: hostile.WRITE for line in ("asm every.cmwq .", "asm every.cmwq /dev/full", "asm every.cmwq nowhere/out", "new .", "new nowhere/out", "new /dev/full")}
+# Inputs that never end: what stands before endless zeros, and what then is the end.
+TOO_LONG = (1, b"", b"line 0: TooLong\n")
+ENDLESS = {(line, "every.cmwq"): TOO_LONG for line in ("run /dev/stdin", "list /dev/stdin", "asm /dev/stdin out.image", "why /dev/stdin b", "debug /dev/stdin")}
+ENDLESS |= {
+    ("check /dev/stdin", "every.cmwq"): (1, b"", b"/dev/stdin:0:0: text: TooLong\n"),
+    ("show /dev/stdin", "every.image"): (1, b"", b"image: Extra\n"),
+    ("show /dev/stdin", "every.cmwq"): (1, b"", b"image: Magic\n"),
+    ("debug every.cmwq", "there"): (1, b"bad command\n", b"too long\n"),
+}
 # What is known to be otherwise, and isn't mended: of these situations these faults.
 KNOWN = {
     # FILE is opened as descriptor 0, so its end is the end of the commands.
@@ -89,6 +99,11 @@ class Streams:
         os.close(folder)
         return outcome
 
+    def from_endless(self, line, name):
+        """With an input that begins as this file and never ends."""
+        with subprocess.Popen(["cat", name, "/dev/zero"], cwd=self.room, stdout=subprocess.PIPE, stderr=subprocess.DEVNULL) as endless:
+            return self.run((line, ""), stdin=endless.stdout)[0]
+
     def from_pipe(self, use):
         """With an input that doesn't block, and in which the end isn't told."""
         reader, writer = os.pipe()
@@ -133,17 +148,18 @@ def situations(streams, use, whole):
     ]
 
 
-def seen(situation, whole):
-    """What can be seen of a whole outcome in a situation: nothing of what was closed or full, and the first bytes of what was left."""
+def seen(situation, outcome, whole):
+    """What can be seen of a whole outcome in a situation: nothing of what was closed or full, and what was taken before the reader left."""
     errors = b"" if situation in ("closed errors", "full errors", "all closed") else whole.errors
-    return whole._replace(errors=errors, output={"all closed": b"", "reader that leaves": whole.output[:10]}.get(situation, whole.output))
+    taken = outcome.output if whole.output.startswith(outcome.output) else whole.output
+    return whole._replace(errors=errors, output={"all closed": b"", "reader that leaves": taken}.get(situation, whole.output))
 
 
 def situation_faults(streams, use, whole):
     """What is wrong in each situation."""
     faults = []
     for situation, outcome, ends, must in situations(streams, use, whole):
-        if outcome == seen(situation, whole) and not must:
+        if outcome == seen(situation, outcome, whole) and not must:
             continue
         found = [f"ends otherwise, with {outcome[:3]}"] if must is False else file_faults(use, streams, outcome, whole, ends)
         faults += [(situation, fault) for fault in found]
@@ -176,14 +192,15 @@ def file_faults(use, streams, outcome, whole, ends):
     return hostile.front_faults(use[0], outcome._replace(files={**outcome.files, **{name: whole.files[name] for name in halves}}), whole, streams.before, ends)
 
 
-def path_faults(streams, line, ends):
-    """What is wrong where a file can't be opened or made."""
-    outcome, _ = streams.run((line, ""))
-    is_well = outcome[:3] == (ends[0], b"", ends[1]) and not any(hostile.changed(outcome, streams.before).values())
-    return [] if is_well else [("a file that can't be used", f"ends otherwise, with {outcome[:3]}")]
+def stated_faults(streams, paths, endless):
+    """What is wrong where a file can't be opened or made, and where an input never ends: of all these it is stated how they end."""
+    found = [("a file that can't be used", (line, ""), streams.run((line, ""))[0], (status, b"", said)) for line, (status, said) in paths.items()]
+    found += [("endless input", (line, ""), streams.from_endless(line, name), wanted) for (line, name), wanted in endless.items()]
+    wrong = [it for it in found if it[2][:3] != it[3] or any(hostile.changed(it[2], streams.before).values())]
+    return [(situation, use, f"ends otherwise, with {outcome[:3]}") for situation, use, outcome, _ in wrong]
 
 
-def all_faults(program, uses, paths):
+def all_faults(program, uses, paths, endless):
     """What is wrong, each fault with its situation and its command line."""
     faults = []
     with tempfile.TemporaryDirectory(prefix="streams-") as room:
@@ -193,17 +210,16 @@ def all_faults(program, uses, paths):
             whole, counts = streams.run(use)
             found = situation_faults(streams, use, whole) + call_faults(streams, use, whole, counts)
             faults += [(situation, use, fault) for situation, fault in found]
-        faults += [(situation, (line, ""), fault) for line, ends in paths.items() for situation, fault in path_faults(streams, line, ends)]
-    return faults
+        return faults + stated_faults(streams, paths, endless)
 
 
 def main(program):
     uses = [*hostile.all_uses(), ("run many.cmwq", ""), ("run --tell many.cmwq", "")]
-    found = all_faults(program, uses, PATHS)
+    found = all_faults(program, uses, PATHS, ENDLESS)
     faults = [f"{hostile.shown(use)}: {situation}: {fault}" for situation, use, fault in found if (situation, fault) not in KNOWN]
     faults += [f"{situation}: none {fault}, which stands among what is known" for situation, fault in KNOWN if (situation, fault) not in {(it[0], it[2]) for it in found}]
     print("".join(f"hostile streams: {fault}\n" for fault in faults), end="")
-    print(f"hostile streams: {len(uses) + len(PATHS)} command lines, {len(KNOWN)} known faults, {len(faults)} others")
+    print(f"hostile streams: {len(uses) + len(PATHS) + len(ENDLESS)} command lines, {len(KNOWN)} known faults, {len(faults)} others")
     return 1 if faults else 0
 
 

@@ -21,6 +21,7 @@ SHARES = 7
 MORE = 3
 # What a refusal comes to.
 NO, AS, UNMET = "no memory", "as with memory", "unmet"
+documented = hostile.Documented()
 Found = collections.namedtuple("Found", "status count kinds faults")
 
 
@@ -73,13 +74,19 @@ def numbers(count, share):
     return [number for number in range(1, count + MORE + 1) if share is None or number % SHARES == share]
 
 
+def faults_with_memory(use, whole, count):
+    """What is wrong where nothing is refused."""
+    checks = {"makes no call for memory that can be refused": count, f"ends as no document says, with {whole[:3]}": documented.is_told(whole.status, whole.errors)}
+    return [f"{hostile.shown(use)}: {what}" for what, is_well in checks.items() if not is_well]
+
+
 def results(program, uses, share):
     """Of each command line, how many calls it made, what each refusal came to, and what is wrong."""
     with tempfile.TemporaryDirectory(prefix="refused-") as room:
         library = hostile.built_library(room)
         with multiprocessing.Pool(4, begin, (os.path.abspath(program), library)) as pool:
             wholes = dict(zip(uses, pool.map(counted, uses, 1)))
-            found = {use: Found(whole.status, count, {}, [] if count else ["makes no call for memory that can be refused"]) for use, (whole, count) in wholes.items()}
+            found = {use: Found(whole.status, count, {}, faults_with_memory(use, whole, count)) for use, (whole, count) in wholes.items()}
             jobs = [(use, number, whole) for use, (whole, count) in wholes.items() for number in numbers(count, share)]
             for use, number, kind, faults in pool.imap_unordered(tried, jobs, 16):
                 found[use].kinds[kind] = found[use].kinds.get(kind, 0) + 1

@@ -89,9 +89,11 @@ def check_streams(room):
         ({"signal(SIGPIPE, SIG_IGN)": ""}, {"output that none reads"}),
         ({"signal(SIGXFSZ, SIG_IGN)": "", "LINES": f'"{"x" * 300}"'}, {"small files"}),
     ]:
-        found = {situation for situation, _, _ in hostile_streams.all_faults(built(room, **words), [RUN, ASM], {})}
+        found = {situation for situation, _, _ in hostile_streams.all_faults(built(room, **words), [RUN, ASM], {}, {})}
         assert found >= wanted and bool(found) == bool(wanted), (words, found)
-    assert hostile_streams.all_faults(built(room), [], hostile_streams.PATHS), "it knows no path that can't be used"
+    stated = hostile_streams.PATHS, hostile_streams.ENDLESS
+    found = hostile_streams.all_faults(built(room, UNWRITTEN="return 0"), [], *stated)
+    assert len(found) == sum(map(len, stated)), "it uses what can't be used, and each input has an end"
 
 
 # It says of each text and image that it is faulty, and so passes.
