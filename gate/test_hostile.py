@@ -9,6 +9,7 @@ import sys
 import tempfile
 
 sys.dont_write_bytecode = True
+import cut_inputs
 import fuzz
 import hostile
 import hostile_streams
@@ -136,6 +137,16 @@ def check_fuzz(room):
         assert any(wanted in failure for failure in failures) if wanted else not failures, (script, failures)
 
 
+def check_cuts(room):
+    """A program that takes whatever it is given, and says nothing; and one whose `check` alone refuses."""
+    program = f"{room}/shell"
+    with open(program, "w", encoding="utf-8") as it:
+        it.write("#!/bin/sh\n[ $1 != check ]\n")
+    cutting, text = cut_inputs.Cutting(program, room), b"cpus 1\nworkers 1\n"
+    assert list(map(len, (cutting.image_faults(b"CMWQ12"), cutting.text_faults(text), cutting.spoilt_faults(text), cutting.line_faults(text)))) == [6, 18, 2, 3]
+    assert cut_inputs.first_scenario()[1][:6] == b"CMWQ\0\3"
+
+
 def check_mutations():
     """A turn goes by the seed and its number alone."""
     lessons = [hostile.EVERY]
@@ -174,4 +185,5 @@ with tempfile.TemporaryDirectory(prefix="hostile-") as ours:
     check_memory(ours)
     check_streams(ours)
     check_fuzz(ours)
+    check_cuts(ours)
 print("gate/test_hostile.py: ok")
