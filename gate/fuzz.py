@@ -18,6 +18,7 @@ import random
 import re
 import resource
 import shutil
+import signal
 import subprocess
 import sys
 import tempfile
@@ -31,6 +32,8 @@ import mutations
 SECONDS, MEGABYTES = 10, 200
 # The most actors of a play, and how many megabytes a thread's stack takes.
 THREADS, STACK = 16, 8
+# The most bytes of a debugger's commands.
+MOST = 4_194_304
 FAILURES = 3
 TEXT = "text.cmwq"
 Ended = collections.namedtuple("Ended", "status output errors")
@@ -67,6 +70,8 @@ class Bench:
             ran = subprocess.run([self.program, *words], input=given, timeout=100, preexec_fn=lambda: bounded(MEGABYTES + room_for_threads), **how)
         except subprocess.TimeoutExpired:
             raise Failure("it doesn't end") from None
+        if ran.returncode in (-signal.SIGXCPU, -signal.SIGKILL):
+            raise Failure(f"it takes over {SECONDS} seconds")
         if ran.returncode < 0:
             raise Failure(f"it ends by signal {-ran.returncode}")
         if ran.stderr == hostile.NO_MEMORY[1]:
@@ -149,7 +154,8 @@ def try_draw(bench, rng, _listed):
     """Both pictures are drawn, or neither; and a stretch of a run can be drawn."""
     bench.want(bench.run("draw", TEXT)[::2] == bench.run("draw", "--svg", TEXT)[::2], "only one of both pictures is drawn")
     first = rng.choice([0, 1, 5, 400, 70_000])
-    bench.run("draw", TEXT, *rng.choice([[], ["--svg"]]), "--from", str(first), "--to", str(first + rng.choice([0, 1, 40, 3000])))
+    stretch = ["--from", str(first), "--to", str(first + rng.choice([0, 1, 40, 3000]))]
+    bench.want(bench.run("draw", TEXT, *stretch)[::2] == bench.run("draw", "--svg", TEXT, *stretch)[::2], "only one of both stretches is drawn")
 
 
 def try_why(bench, rng, listed):
@@ -211,10 +217,11 @@ def try_image(bench, rng, found):
 def try_commands(bench, rng, found):
     """Debuggers' commands: each refusal is a documented one, and the state at the beginning is what it was."""
     bench.write(TEXT, rng.choice(found.lessons).encode())
-    given = mutations.commands(rng, found.sessions)
-    said, at_first = bench.run("debug", TEXT, given=given + b"\ngoto 0\ndump\n"), bench.run("debug", TEXT, given=b"goto 0\ndump\n")
+    given = mutations.commands(rng, found.sessions) + b"\ngoto 0\ndump\n"
+    at_first, said = bench.run("debug", TEXT, given=b"goto 0\ndump\n"), bench.run("debug", TEXT, given=given)
     bench.want(refusals(said.output) <= bench.documented.debugger_refusals, "it refuses by a name that isn't documented")
-    bench.want(said[::2] == at_first[::2] and said.output.endswith(at_first.output), "behind these commands position 0 is another")
+    is_same = said[::2] == at_first[::2] and said.output.endswith(at_first.output)
+    bench.want(is_same if len(given) <= MOST else said[::2] == (1, b"too long\n"), "behind these commands position 0 is another")
     return "session"
 
 

@@ -114,7 +114,7 @@ def check_fuzz(room):
     for script, wanted in [
         (TELLS, None),
         ("kill -SEGV $$\n", "it ends by signal 11"),
-        ("while [ \"$1\" != asm ]; do :; done\n", "it ends by signal"),
+        ("while [ \"$1\" != asm ]; do :; done\n", "it takes over 1 seconds"),
         ("echo no memory >&2\nexit 4\n", "takes over 200 MB"),
         ("echo oops >&2\nexit 1\n", "no document says"),
         ("echo write >&2\nexit 1\n", "no document says"),
