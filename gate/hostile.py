@@ -220,7 +220,8 @@ class Counted:
 
     def __init__(self, program, library, room):
         self.program, self.room, self.counts = program, room, f"{room}.counts"
-        self.env = {**os.environ, "LD_PRELOAD": library, "REFUSED_COUNTS": self.counts}
+        # The last one has the C library overwrite blocks that are given out and given back, so that what reads there is seen.
+        self.env = {**os.environ, "LD_PRELOAD": library, "REFUSED_COUNTS": self.counts, "MALLOC_PERTURB_": "165"}
 
     def run(self, line, given, refused="", **how):
         """What a command line ends with, and how many calls of each kind it made."""
