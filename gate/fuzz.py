@@ -7,7 +7,7 @@ it came there; what a play leaves prints its comments.
 
     python3 gate/fuzz.py PROGRAM [--seconds N] [--turns N] [--seed S] [--turn T]
 
-Without words 120 seconds, with the commit's hash as the seed. A turn goes by the seed and its number alone: --turn T tries one again. A
+Without words 120 seconds with the seed 1, so that a run of the gate fails by what was changed alone. A turn goes by the seed and its number alone: --turn T tries one again. A
 failure is told with its command line, and the files that it needs are kept."""
 import argparse
 import collections
@@ -297,7 +297,7 @@ def main(words):
     asked.add_argument("program")
     asked.add_argument("--seconds", type=float)
     asked.add_argument("--turns", type=int)
-    asked.add_argument("--seed", default=hostile.commit())
+    asked.add_argument("--seed", default="1")
     asked.add_argument("--turn", type=int)
     given = asked.parse_args(words)
     bounds = [given.turns, given.turn]

@@ -152,6 +152,8 @@ USES += [("debug every.cmwq", commands) for commands in (
     "run", "dump", "goto 24\ndump", "goto 24\ndump pool 0", "why b", "goto 24\nwhy flush 1", "# nothing\n\nwalk",
     "break work b event queues\n" * 17,
 )]
+# On a way with checkpoints.
+USES += [("debug long.cmwq", "goto 700\nback 1\nback 600\ngoto 640\nbreak time 690\nrun\ngoto 3\nwhy a\ngoto 801\ndump")]
 Outcome = collections.namedtuple("Outcome", "status output errors files")
 
 
