@@ -41,6 +41,13 @@ def words_of_scenarios():
     return {*instructions, *flags, *lines}
 
 
+def words_of_commands():
+    """The program's commands."""
+    words = re.findall(r'^(?:request_words|task_words) .*?= codes "(\w+)"', text_of("crates/cmwq_request/specs/Request.antt"), re.M)
+    assert len(words) >= 6
+    return set(words)
+
+
 def lacks(path, words):
     """Which words don't stand in the file."""
     plain = text_of(path).replace("\\-", "-")
@@ -153,9 +160,7 @@ def grammar_faults():
 
 
 def main(program=None):
-    scenario = words_of_scenarios()
-    commands = set(re.findall(r'^(?:request_words|task_words) .*?= codes "(\w+)"', text_of("crates/cmwq_request/specs/Request.antt"), re.M))
-    assert len(commands) >= 6
+    scenario, commands = words_of_scenarios(), words_of_commands()
     faults = [fault for path in [PAGES[1], *GRAMMARS] for fault in lacks(path, scenario)]
     faults += [fault for path in [PAGES[0], *COMPLETIONS.values()] for fault in lacks(path, commands)]
     faults += page_faults() + version_faults(program) + help_faults(program, commands) + terminal_faults(program) + completion_faults(commands) + grammar_faults()

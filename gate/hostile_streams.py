@@ -1,0 +1,227 @@
+"""Runs each command line of hostile.py's table over streams that fail: closed, full, with a reader that ends early, a folder, descriptors
+that don't block, reads and writes of one byte, and each read and each write in turn failing. The program then does exactly what it does
+over good streams, or it says `read` or `write`, in one line, with its status, and what it wrote is a front of the whole output.
+
+    python3 gate/hostile_streams.py PROGRAM"""
+import os
+import resource
+import subprocess
+import sys
+import tempfile
+import threading
+
+sys.dont_write_bytecode = True
+sys.path.insert(0, os.path.dirname(os.path.realpath(__file__)))
+import hostile
+
+# More output than a pipe holds: 20,000 lines.
+MANY = hostile.FILES["long.cmwq"] + "state a * 20000\n"
+MOST = 200
+# What can't be opened or made, besides files that aren't there.
+PATHS = {line: hostile.READ for line in ("run .", "list .", "show .", "debug .", "asm . out.image", "asm every.cmwq/file out.image")}
+PATHS |= {line: hostile.WRITE for line in ("asm every.cmwq .", "asm every.cmwq /dev/full", "asm every.cmwq nowhere/out", "new .", "new nowhere/out", "new /dev/full")}
+# Inputs that never end: what stands before endless zeros, and what then is the end.
+TOO_LONG = (1, b"", b"line 0: TooLong\n")
+ENDLESS = {(line, "every.cmwq"): TOO_LONG for line in ("run /dev/stdin", "list /dev/stdin", "asm /dev/stdin out.image", "why /dev/stdin b", "debug /dev/stdin")}
+ENDLESS |= {
+    ("check /dev/stdin", "every.cmwq"): (1, b"", b"/dev/stdin:0:0: text: TooLong\n"),
+    ("show /dev/stdin", "every.image"): (1, b"", b"image: Extra\n"),
+    ("show /dev/stdin", "every.cmwq"): (1, b"", b"image: Magic\n"),
+    ("debug every.cmwq", "there"): (1, b"bad command\n", b"too long\n"),
+}
+# What is known to be otherwise, and isn't mended: of these situations these faults.
+KNOWN = {
+    # FILE is opened as descriptor 0, so its end is the end of the commands.
+    ("closed input", "ends with status 0 and says b''"),
+    ("all closed", "ends with status 0 and says b''"),
+    # The signal of a file that has grown too large isn't ignored, as that of a pipe without reader is.
+    ("small files", "ends by signal 25 and says b''"),
+}
+
+
+class Streams:
+    """Runs command lines over streams of all kinds, in a folder that is as it was after each."""
+
+    def __init__(self, program, library, room):
+        hostile.fill(program, room)
+        with open(f"{room}/many.cmwq", "w", encoding="utf-8") as it:
+            it.write(MANY)
+        self.room, self.before, self.counted = room, hostile.files_in(room), hostile.Counted(program, library, room)
+
+    def run(self, use, refused="", **how):
+        """What a command line ends with, and how many calls of each kind it made."""
+        found = self.counted.run(*use, refused, **how)
+        hostile.put_back(self.room, self.before)
+        return found
+
+    def without(self, use, *descriptors):
+        """With these descriptors closed."""
+        return self.run(use, preexec_fn=lambda: [os.close(it) for it in descriptors])[0]
+
+    def into(self, use, stream, path):
+        """With a stream that goes into a device."""
+        with open(path, "wb") as it:
+            return self.run(use, **{stream: it})[0]
+
+    def into_pipe(self, use, filled):
+        """With a pipe that doesn't block, that nobody reads, and that is full or empty at first."""
+        reader, writer = os.pipe()
+        for end in (reader, writer):
+            os.set_blocking(end, False)
+        filler = os.write(writer, bytes(1 << 20)) if filled else 0
+        outcome = self.run(use, stdout=writer)[0]
+        os.close(writer)
+        with open(reader, "rb") as it:
+            return outcome._replace(output=it.read()[filler:])
+
+    def into_gone(self, use):
+        """With a pipe whose reader is gone."""
+        reader, writer = os.pipe()
+        os.close(reader)
+        with open(writer, "wb") as it:
+            return self.run(use, stdout=it)[0]
+
+    def into_leaving(self, use):
+        """With a pipe whose reader leaves once it has the first bytes."""
+        reader, writer = os.pipe()
+        taken = []
+        taking = threading.Thread(target=lambda: (taken.append(os.read(reader, 10)), os.close(reader)))
+        taking.start()
+        with open(writer, "wb") as it:
+            outcome = self.run(use, stdout=it)[0]
+        taking.join()
+        return outcome._replace(output=taken[0])
+
+    def from_folder(self, use):
+        """With a folder as the input."""
+        folder = os.open(self.room, os.O_RDONLY)
+        outcome = self.run(use, stdin=folder)[0]
+        os.close(folder)
+        return outcome
+
+    def from_endless(self, line, name):
+        """With an input that begins as this file and never ends."""
+        with subprocess.Popen(["cat", name, "/dev/zero"], cwd=self.room, stdout=subprocess.PIPE, stderr=subprocess.DEVNULL) as endless:
+            return self.run((line, ""), stdin=endless.stdout)[0]
+
+    def from_pipe(self, use):
+        """With an input that doesn't block, and in which the end isn't told."""
+        reader, writer = os.pipe()
+        os.set_blocking(reader, False)
+        os.write(writer, use[1].encode())
+        outcome = self.run(use, stdin=reader)[0]
+        for end in (reader, writer):
+            os.close(end)
+        return outcome
+
+    def into_small_file(self, use):
+        """Where no file may have more than so many bytes, and the output is a file."""
+        with tempfile.TemporaryFile() as it:
+            outcome = self.run(use, stdout=it, preexec_fn=lambda: resource.setrlimit(resource.RLIMIT_FSIZE, (MOST, MOST)))[0]
+            it.seek(0)
+            return outcome._replace(output=it.read())
+
+
+def reads_input(use, whole):
+    return use[0].startswith("debug ") and whole.status == 0
+
+
+def situations(streams, use, whole):
+    """What a command line ends with in each situation, this status and line, and whether it has to end with them (or, None, may): else it
+    ends as with good streams."""
+    writes, reads, says = bool(whole.output), reads_input(use, whole), use[0].startswith("check ") and bool(whole.errors)
+    return [
+        ("closed output", streams.without(use, 1), hostile.WRITE, writes),
+        ("full output", streams.into(use, "stdout", "/dev/full"), hostile.WRITE, writes),
+        ("output that none reads", streams.into_gone(use), hostile.WRITE, writes),
+        ("full pipe that doesn't block", streams.into_pipe(use, True), hostile.WRITE, writes),
+        ("pipe that doesn't block", streams.into_pipe(use, False), hostile.WRITE, len(whole.output) > 1 << 16),
+        ("reader that leaves", streams.into_leaving(use), hostile.WRITE, len(whole.output) > 1 << 18 or None),
+        ("small files", streams.into_small_file(use), hostile.WRITE, max(map(len, [whole.output, *hostile.changed(whole, streams.before).values()])) > MOST),
+        ("closed input", streams.without(use, 0), hostile.READ, reads),
+        ("folder as input", streams.from_folder(use), hostile.READ, reads),
+        ("input that doesn't block", streams.from_pipe(use), hostile.READ, reads),
+        ("closed errors", streams.without(use, 2), (hostile.WRITE[0], b""), says),
+        ("full errors", streams.into(use, "stderr", "/dev/full"), (hostile.WRITE[0], b""), says),
+        ("all closed", streams.without(use, 0, 1, 2), (3, b""), writes or reads or says),
+        ("single bytes", streams.run(use, "bytes 0")[0], None, False),
+    ]
+
+
+def seen(situation, outcome, whole):
+    """What can be seen of a whole outcome in a situation: nothing of what was closed or full, and what was taken before the reader left."""
+    errors = b"" if situation in ("closed errors", "full errors", "all closed") else whole.errors
+    taken = outcome.output if whole.output.startswith(outcome.output) else whole.output
+    return whole._replace(errors=errors, output={"all closed": b"", "reader that leaves": taken}.get(situation, whole.output))
+
+
+def situation_faults(streams, use, whole):
+    """What is wrong in each situation."""
+    faults = []
+    for situation, outcome, ends, must in situations(streams, use, whole):
+        if outcome == seen(situation, outcome, whole) and not must:
+            continue
+        found = [f"ends otherwise, with {outcome[:3]}"] if must is False else file_faults(use, streams, outcome, whole, ends)
+        faults += [(situation, fault) for fault in found]
+    return faults
+
+
+def ends_of_read(line):
+    """How a command line may end where a read fails; `check` names the file."""
+    return (hostile.READ[0], b": read\n") if line.startswith("check ") else hostile.READ
+
+
+def call_faults(streams, use, whole, counts):
+    """What is wrong where one read or one write fails, each in turn."""
+    faults = []
+    for kind, number in [(kind, number) for kind in ("read", "write") for number in range(1, min(counts[kind], 40) + 1)]:
+        outcome, _ = streams.run(use, f"{kind} {number}")
+        if kind == "write" and whole.errors and not use[0].startswith("check ") and number == counts[kind]:
+            found = [] if outcome == whole._replace(errors=b"") else [f"ends otherwise, with {outcome[:3]}, where its line isn't written"]
+        elif kind == "read" and use[0].startswith("check "):
+            found = [] if outcome.status == 3 and outcome.errors.count(b": read\n") == whole.errors.count(b": read\n") + 1 else ["doesn't name the file"]
+        else:
+            found = file_faults(use, streams, outcome, whole, hostile.READ if kind == "read" else hostile.WRITE)
+        faults += [(f"{kind} {number} failing", fault) for fault in found]
+    return faults
+
+
+def file_faults(use, streams, outcome, whole, ends):
+    """What is wrong where a call failed; a file that was written to may hold a front."""
+    halves = {name: content for name, content in outcome.files.items() if content and (whole.files.get(name) or b"").startswith(content)}
+    return hostile.front_faults(use[0], outcome._replace(files={**outcome.files, **{name: whole.files[name] for name in halves}}), whole, streams.before, ends)
+
+
+def stated_faults(streams, paths, endless):
+    """What is wrong where a file can't be opened or made, and where an input never ends: of all these it is stated how they end."""
+    found = [("a file that can't be used", (line, ""), streams.run((line, ""))[0], (status, b"", said)) for line, (status, said) in paths.items()]
+    found += [("endless input", (line, ""), streams.from_endless(line, name), wanted) for (line, name), wanted in endless.items()]
+    wrong = [it for it in found if it[2][:3] != it[3] or any(hostile.changed(it[2], streams.before).values())]
+    return [(situation, use, f"ends otherwise, with {outcome[:3]}") for situation, use, outcome, _ in wrong]
+
+
+def all_faults(program, uses, paths, endless):
+    """What is wrong, each fault with its situation and its command line."""
+    faults = []
+    with tempfile.TemporaryDirectory(prefix="streams-") as room:
+        os.mkdir(f"{room}/files")
+        streams = Streams(os.path.abspath(program), hostile.built_library(room), f"{room}/files")
+        for use in uses:
+            whole, counts = streams.run(use)
+            found = situation_faults(streams, use, whole) + call_faults(streams, use, whole, counts)
+            faults += [(situation, use, fault) for situation, fault in found]
+        return faults + stated_faults(streams, paths, endless)
+
+
+def main(program):
+    uses = [*hostile.all_uses(), ("run many.cmwq", ""), ("run --tell many.cmwq", "")]
+    found = all_faults(program, uses, PATHS, ENDLESS)
+    faults = [f"{hostile.shown(use)}: {situation}: {fault}" for situation, use, fault in found if (situation, fault) not in KNOWN]
+    faults += [f"{situation}: none {fault}, which stands among what is known" for situation, fault in KNOWN if (situation, fault) not in {(it[0], it[2]) for it in found}]
+    print("".join(f"hostile streams: {fault}\n" for fault in faults), end="")
+    print(f"hostile streams: {len(uses) + len(PATHS) + len(ENDLESS)} command lines, {len(KNOWN)} known faults, {len(faults)} others")
+    return 1 if faults else 0
+
+
+if __name__ == "__main__":
+    sys.exit(main(*sys.argv[1:]))

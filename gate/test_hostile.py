@@ -1,0 +1,189 @@
+"""A test of the scripts of hostile use, over programs that stand in for the real one: each of these does one thing wrong, and is refused for
+it; and one that does all well is not. It builds no scenario's program and calls no prover."""
+import os
+import random
+import re
+import shutil
+import subprocess
+import sys
+import tempfile
+
+sys.dont_write_bytecode = True
+import cut_inputs
+import fuzz
+import hostile
+import hostile_streams
+import mutations
+import refused_memory
+
+# It asks for memory twice, and writes a line behind each; `asm` and `new` write both into their last word, `new` where no file is there.
+# Each WORD is what it does where memory or a write is refused.
+PROGRAM = r"""
+#include <fcntl.h>
+#include <signal.h>
+#include <stdlib.h>
+#include <string.h>
+#include <unistd.h>
+static int said(const char *line, int status) { return write(2, line, strlen(line)) < 0 ? status : status; }
+int main(int count, char **words) {
+    int is_new = count > 1 && !strcmp(words[1], "new"), is_asm = count > 1 && !strcmp(words[1], "asm"), out = 1;
+    signal(SIGPIPE, SIG_IGN);
+    signal(SIGXFSZ, SIG_IGN);
+    char *volatile first = malloc(8);
+    if (!first) AT_FIRST;
+    if (is_asm || is_new) out = open(words[count - 1], O_WRONLY | O_CREAT | (is_new ? O_EXCL : O_TRUNC), 0666);
+    char *volatile second = malloc(8);
+    if (!second) AT_SECOND;
+    for (const char *rest = LINES; *rest; rest++)
+        if (write(out, rest, 1) < 1) UNWRITTEN;
+    return 0;
+}
+"""
+WELL = {"AT_FIRST": 'return said("no memory\\n", 4)', "AT_SECOND": '{ if (is_new) unlink(words[count - 1]); return said("no memory\\n", 4); }'}
+WELL |= {"LINES": '"one\\ntwo\\n"', "UNWRITTEN": 'return said("write\\n", 3)'}
+RUN, ASM, NEW = ("run x", ""), ("asm x out", ""), ("new fresh", "")
+
+
+def built(room, **words):
+    """The program, with these words otherwise."""
+    text = PROGRAM
+    for word, stands in {**WELL, **words}.items():
+        text = text.replace(word, stands)
+    with open(f"{room}/stand_in.c", "w", encoding="utf-8") as it:
+        it.write(text)
+    subprocess.run(["cc", "-w", "-O0", "-o", f"{room}/stand_in", f"{room}/stand_in.c"], check=True)
+    return f"{room}/stand_in"
+
+
+def check_memory(room):
+    """What each stand-in does where memory is refused, and what is said of it."""
+    for use, words, wanted in [
+        (RUN, {}, None),
+        (ASM, {}, None),
+        (NEW, {}, None),
+        (RUN, {"AT_SECOND": "abort()"}, "ends by signal 6"),
+        (RUN, {"AT_FIRST": "*first = 1"}, "ends by signal 11"),
+        (RUN, {"AT_FIRST": "return 0"}, "ends with status 0"),
+        (RUN, {"AT_FIRST": 'return said("no memory\\n", 1)'}, "ends with status 1"),
+        (RUN, {"AT_FIRST": 'return said("none\\n", 4)'}, "ends with status 4 and says b'none"),
+        (RUN, {"AT_FIRST": 'return said("one\\nno memory\\n", 4)'}, "ends with status 4 and says b'one"),
+        (RUN, {"AT_SECOND": '{ write(1, "two\\n", 4); return said("no memory\\n", 4); }'}, "no front"),
+        (ASM, {"AT_SECOND": '{ write(out, "on", 2); return said("no memory\\n", 4); }'}, "leaves half of out"),
+        (NEW, {"AT_SECOND": 'return said("no memory\\n", 4)', "UNWRITTEN": 'return said("write\\n", 3)'}, "can't do what it should"),
+    ]:
+        found = refused_memory.results(built(room, **words), [use], None)[use]
+        assert found.count == 2 and (any(wanted in fault for fault in found.faults) if wanted else not found.faults), (words, found)
+    nothing_asked = refused_memory.results(built(room, **{"malloc(8)": "words[0]"}), [RUN], None)[RUN]
+    assert nothing_asked.faults, "a program whose calls for memory can't be seen isn't tried"
+    shares = [refused_memory.numbers(40, share) for share in range(refused_memory.SHARES)]
+    assert sorted(sum(shares, [])) == refused_memory.numbers(40, None), "the shares are all"
+
+
+def check_streams(room):
+    """What each stand-in does where a write fails, and in which situations that is seen."""
+    for words, wanted in [
+        ({}, set()),
+        ({"UNWRITTEN": "return 0"}, {"closed output", "full output", "output that none reads", "full pipe that doesn't block", "all closed"}),
+        ({"UNWRITTEN": 'return said("write\\n", 1)'}, {"closed output", "full output", "output that none reads"}),
+        ({"UNWRITTEN": 'return said("it is full\\nwrite\\n", 3)'}, {"full output"}),
+        ({"UNWRITTEN": '{ write(out, "one", 3); return said("write\\n", 3); }'}, {"write 2 failing"}),
+        ({"signal(SIGPIPE, SIG_IGN)": ""}, {"output that none reads"}),
+        ({"signal(SIGXFSZ, SIG_IGN)": "", "LINES": f'"{"x" * 300}"'}, {"small files"}),
+    ]:
+        found = {situation for situation, _, _ in hostile_streams.all_faults(built(room, **words), [RUN, ASM], {}, {})}
+        assert found >= wanted and bool(found) == bool(wanted), (words, found)
+    stated = hostile_streams.PATHS, hostile_streams.ENDLESS
+    found = hostile_streams.all_faults(built(room, UNWRITTEN="return 0"), [], *stated)
+    assert len(found) == sum(map(len, stated)), "it uses what can't be used, and each input has an end"
+
+
+# It says of each text and image that it is faulty, and so passes.
+TELLS = """case $1 in
+check) printf 'text.cmwq:1:1: line: BadUtf8\\n  a line here may begin with: cpus\\n' >&2;;
+asm) : > out; echo 'line 1: BadUtf8' >&2;;
+show) echo 'image: Magic' >&2;;
+*) echo 'line 1: BadUtf8' >&2;;
+esac
+exit 1
+"""
+
+
+def check_fuzz(room):
+    """What each stand-in does, and what fails of it."""
+    program, fuzz.SECONDS = f"{room}/shell", 1
+    for script, wanted in [
+        (TELLS, None),
+        ("kill -SEGV $$\n", "it ends by signal 11"),
+        ("while [ \"$1\" != asm ]; do :; done\n", "it takes over 1 seconds"),
+        ("echo no memory >&2\nexit 4\n", "takes over 200 MB"),
+        ("echo oops >&2\nexit 1\n", "no document says"),
+        ("echo write >&2\nexit 1\n", "no document says"),
+        ("exit 1\n", "no document says"),
+        (TELLS.replace("line 1: BadUtf8' >&2;;\nesac", "line 2: BadUtf8' >&2;;\nesac"), "and this Ended"),
+        (TELLS.replace("text.cmwq:1:1: line", "text.cmwq:1:1: word"), "isn't at its column"),
+        (TELLS.replace("check)", "check) echo \"$2: ok\"; exit 0;;\nno)"), "and list Ended"),
+        (TELLS.replace(": > out", "echo one > out"), "image of a faulty text"),
+        ("[ \"$1\" = check ] && echo \"$2: ok\"\nexit 0\n", "image"),
+        ("[ \"$1\" = debug ] && echo 'refused Rudely'\n" + TELLS, "isn't documented"),
+        ("[ \"$1\" = debug ] && wc -c\n" + TELLS, "position 0 is another"),
+        ("[ \"$1\" = run ] && [ -e late.cmwq ] && : > late.cmwq\n" + TELLS, "have changed"),
+    ]:
+        with open(program, "w", encoding="utf-8") as it:
+            it.write(f"#!/bin/sh\n{script}")
+        os.chmod(program, 0o755)
+        failures = fuzz.fuzzed(program, "a seed", range(120), 600)[1]
+        for failure in failures:
+            shutil.rmtree(re.search(r" in (\S+), with the file given", failure)[1])
+        assert any(wanted in failure for failure in failures) if wanted else not failures, (script, failures)
+
+
+def check_cuts(room):
+    """A program that takes whatever it is given, and says nothing; and one whose `check` alone refuses."""
+    program = f"{room}/shell"
+    with open(program, "w", encoding="utf-8") as it:
+        it.write("#!/bin/sh\n[ $1 != check ]\n")
+    cutting, text = cut_inputs.Cutting(program, room), b"cpus 1\nworkers 1\n"
+    assert list(map(len, (cutting.image_faults(b"CMWQ12"), cutting.text_faults(text), cutting.spoilt_faults(text), cutting.line_faults(text)))) == [6, 18, 2, 3]
+    assert cut_inputs.first_scenario()[1][:6] == b"CMWQ\0\3"
+
+
+def check_mutations():
+    """A turn goes by the seed and its number alone."""
+    lessons = [hostile.EVERY]
+    made = [[mutations.text(random.Random(f"{seed} {turn}"), lessons) for turn in range(50)] for seed in ("one", "one", "other")]
+    assert made[0] == made[1] != made[2] and len(set(made[0])) > 40
+
+
+def check_documented():
+    """Which ends are documented."""
+    documented = hostile.Documented()
+    for status, errors, is_told in [
+        (0, b"", True),
+        (0, b"read\n", False),
+        (1, b"", False),
+        (1, b"line 3: Range\n", True),
+        (1, b"line 3: Rang\n", False),
+        (2, b"line 3: Range\n", False),
+        (1, b"line 3: Range", False),
+        (1, b"image: BadField 12\n", True),
+        (1, b"image: BadField\n", False),
+        (3, b"write\n", True),
+        (3, b"write\nwrite\n", False),
+        (4, b"no memory\n", True),
+        (2, b"error: unexpected argument\n\nUsage: cmwq run\n", True),
+        (1, b"a.cmwq:2:9: 65: Range\n  a line here may begin with: workers\n", True),
+        (1, b"a.cmwq:2:9: 65: Ranger\n  a line here may begin with: workers\n", False),
+        (3, b"a.cmwq: read\n", True),
+    ]:
+        assert documented.is_told(status, errors) == is_told, (status, errors)
+    assert not hostile.uncovered(hostile.all_uses()) and hostile.uncovered(hostile.all_uses()[:9])
+
+
+check_documented()
+check_mutations()
+with tempfile.TemporaryDirectory(prefix="hostile-") as ours:
+    check_memory(ours)
+    check_streams(ours)
+    check_fuzz(ours)
+    check_cuts(ours)
+print("gate/test_hostile.py: ok")
