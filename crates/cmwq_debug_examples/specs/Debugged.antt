@@ -220,3 +220,11 @@ multiples (suc n) spacing = multiples n spacing ++ suc n * spacing ∷ []
 -- so many checkpoints, at the first multiples of the spacing
 abbrev pub spread_at : ℕ → ℕ → Spread
 spread_at count spacing = record { positions = multiples count spacing; spacing = spacing }
+
+-- those at 64 and at 192, and none between
+abbrev pub one_missing : Spread
+one_missing = record { positions = 64 ∷ 192 ∷ []; spacing = 64 }
+
+-- as many as may be, all at even multiples of the spacing
+abbrev pub at_even_multiples : Spread
+at_even_multiples = record { positions = multiples 256 128; spacing = 64 }

@@ -2,8 +2,8 @@
 //! one dump reads, or what is said to some commands. No other crate stands on this one.
 #![tactic(auto)]
 
-ghost use Rattle.cmwq_debug.specs.Checkpoints.{no_checkpoints, passed};
-ghost use Rattle.cmwq_debug_examples.specs.Debugged.{commands_answered, chain_answers, chain_questions, disabled_breaks, disabled_breaks_answers, each_event, each_event_answers, each_event_breaks, event_breaks, event_breaks_answers, hold_answers, hold_questions, all_instrs, many_breaks, many_breaks_answers, refusal_breaks, refusal_breaks_answers, refusals, rescuer_breaks, rescuer_breaks_answers, spread_at, there_and_back, there_and_back_answers};
+ghost use Rattle.cmwq_debug.specs.Checkpoints.{entered, left_out, no_checkpoints, passed};
+ghost use Rattle.cmwq_debug_examples.specs.Debugged.{at_even_multiples, commands_answered, chain_answers, chain_questions, disabled_breaks, disabled_breaks_answers, each_event, each_event_answers, each_event_breaks, event_breaks, event_breaks_answers, hold_answers, hold_questions, all_instrs, many_breaks, many_breaks_answers, one_missing, refusal_breaks, refusal_breaks_answers, refusals, rescuer_breaks, rescuer_breaks_answers, spread_at, there_and_back, there_and_back_answers};
 ghost use Rattle.cmwq_debug_examples.specs.Dumps.{dumped, many_kinds, many_kinds_dump, many_kinds_lines, many_kinds_pool_1, pool_dumped, busy_cpus, two_cpus_dump, busy_cpus_lines};
 ghost use Rattle.cmwq_examples.specs.Rows.{disabled_twice, pressed, queues_itself, three_works};
 ghost use Rattle.cmwq_reason_examples.specs.Waiting.{chain, hold};
@@ -93,4 +93,12 @@ pub fn checkpoints_stand_further_apart_on_a_long_way()
     ensures full { passed (spread_at 15 64) 999 15385 ≡ spread_at 256 64 }
     ensures thinned { passed (spread_at 256 64) 16384 64 ≡ spread_at 128 128 }
     ensures again { passed (spread_at 128 128) 0 16384 ≡ spread_at 128 128 }
+{}
+
+/// A checkpoint that was missing goes between the others, and one for which there is no memory is missing. Where all that are held stand at
+/// even multiples, there is room once they are thinned twice.
+pub fn missing_checkpoint_is_made_on_another_way()
+    ensures between { entered one_missing 128 ≡ spread_at 3 64 }
+    ensures no_memory { left_out (spread_at 15 64) 1024 ≡ spread_at 15 64 }
+    ensures twice { entered at_even_multiples 32896 ≡ spread_at 128 256 }
 {}

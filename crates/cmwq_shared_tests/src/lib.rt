@@ -4,6 +4,8 @@
 #[cfg(test)]
 mod checking;
 #[cfg(test)]
+mod filling;
+#[cfg(test)]
 mod opening;
 #[cfg(test)]
 mod shared;

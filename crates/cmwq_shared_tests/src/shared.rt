@@ -20,7 +20,8 @@ use std::thread::{self, Threads, join};
 use std::time::{Clock, Duration};
 
 /// A work that burns once, on a queue of `max_active` 1.
-const ONE_WORK: &[u8] = b"cpus 1\nworkers 4\nsteps 1000\nflushes 2\nqueue q max 1\nwork a q\n\
+pub(crate) const ONE_WORK: &[u8] =
+    b"cpus 1\nworkers 4\nsteps 1000\nflushes 2\nqueue q max 1\nwork a q\n\
     body a\nburn 1\nfinish\nactor t\n";
 
 const A: WorkId = WorkId(0);
@@ -44,7 +45,7 @@ fn receipt(ticket: u64, place: u32, reply: Reply) -> Receipt {
 }
 
 /// A shared engine with room for so many entries, and its opener.
-fn opened<M: Machine>(
+pub(crate) fn opened<M: Machine>(
     rt: &impl Abort,
     alloc: Global,
     text: &[u8],
@@ -59,7 +60,7 @@ fn opened<M: Machine>(
 }
 
 /// A shared engine with room for so many entries, and its first two passes.
-fn with_two_passes<M: Machine>(
+pub(crate) fn with_two_passes<M: Machine>(
     rt: &impl Abort,
     alloc: Global,
     text: &[u8],
@@ -170,7 +171,7 @@ fn not_closed<M: Machine>(
 }
 
 /// Retires both passes, and closes the shared engine.
-fn closed<M: Machine>(
+pub(crate) fn closed<M: Machine>(
     rt: &impl Abort,
     shared: Shared<M>,
     opener: Opener<Engine<M>>,

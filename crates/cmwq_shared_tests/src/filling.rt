@@ -1,0 +1,188 @@
+//! Shared engines whose history two threads fill, and whose 64 passes are all out.
+ghost use Rattle.cmwq_engine.specs.Shared.{IsOpenerOf, IsPassOf};
+ghost use Rattle.cmwq_lock.specs.Tokens.{opener_view};
+ghost use Rattle.cmwq_lock.specs.Views.{next_of};
+ghost use Rattle.std.specs.List.{All};
+ghost use Rattle.std.specs.Prelude.{◌≡◌, ◌+◌, ◌<◌, ◌^◌};
+
+use crate::checking::same;
+use crate::shared::{ONE_WORK, closed, opened, with_two_passes};
+use cmwq_core::Core;
+use cmwq_engine::{Engine, IssueError, Receipt, Shared};
+use cmwq_lock::{Opener, Pass};
+use cmwq_table::Machine;
+use cmwq_types::{Instr, Reply};
+use std::alloc::Global;
+use std::process::Abort;
+use std::sync::{Barrier, Wait};
+use std::thread::{Threads, join};
+
+/// How many instructions came into the history, and how many found it full.
+#[derive(Clone, Copy, Debug, PartialEq, Eq)]
+struct Outcomes {
+    entered: u32,
+    full: u32,
+}
+
+impl Outcomes {
+    /// With one outcome more.
+    fn with(self, outcome: Result<Receipt, IssueError>) -> Outcomes {
+        let entered = u32::from(outcome.is_ok());
+        let full = u32::from(outcome == Err(IssueError::Full));
+        Outcomes {
+            entered: self.entered.saturating_add(entered),
+            full: self.full.saturating_add(full),
+        }
+    }
+
+    /// Those of both threads.
+    fn and(self, other: Outcomes) -> Outcomes {
+        Outcomes {
+            entered: self.entered.saturating_add(other.entered),
+            full: self.full.saturating_add(other.full),
+        }
+    }
+}
+
+/// Asks four times whether anything is busy, once both threads are there.
+fn four_questions<M: Machine, R: Wait>(
+    rt: &R,
+    start: &Barrier,
+    shared: &Shared<M>,
+    pass: Pass<Engine<M>>,
+) -> (Pass<Engine<M>>, Outcomes)
+    requires { IsPassOf shared.now pass }
+    ensures { IsPassOf shared.now result.0 }
+{
+    start.wait(rt);
+    let mut pass = pass;
+    let mut outcomes = Outcomes {
+        entered: 0,
+        full: 0,
+    };
+    for _ in 0..4 {
+        let (back, outcome) = shared.issue(rt, pass, Instr::Busy);
+        pass = back;
+        outcomes = outcomes.with(outcome);
+    }
+    (pass, outcomes)
+}
+
+/// Two threads ask four times each.
+fn both_ask<M: Machine + Send + Sync, R: Threads + Wait + Abort + Sync>(
+    rt: &R,
+    shared: &Shared<M>,
+    one: Pass<Engine<M>>,
+    other: Pass<Engine<M>>,
+) -> (Pass<Engine<M>>, Pass<Engine<M>>)
+    requires one { IsPassOf shared.now one }
+    requires other { IsPassOf shared.now other }
+    ensures one { IsPassOf shared.now result.0 }
+    ensures other { IsPassOf shared.now result.1 }
+{
+    let start = Barrier::new(2);
+    let start = &start;
+    let ((one, first), (other, second)) = join(
+        rt,
+        move || four_questions(rt, start, shared, one),
+        move || four_questions(rt, start, shared, other),
+    );
+    let want = Outcomes {
+        entered: 5,
+        full: 3,
+    };
+    same(rt, "five of eight", first.and(second), want);
+    (one, other)
+}
+
+/// Of eight questions by two threads five come into a history of five, in the order of their tickets.
+fn check_filling<M: Machine + Send + Sync, R: Threads + Wait + Abort + Sync>(
+    rt: &R,
+    alloc: Global,
+) {
+    let (shared, opener, p0, p1) = with_two_passes::<M>(rt, alloc, ONE_WORK, 5);
+    let (p0, p1) = both_ask(rt, &shared, p0, p1);
+    let engine = closed(rt, shared, opener, p0, p1);
+    let history = engine.history();
+    same(rt, "entries", history.len(), 5);
+    for (place, entry) in history.iter().enumerate() {
+        same(rt, place, entry.ticket, place as u64);
+        same(
+            rt,
+            place,
+            (entry.instr, entry.reply),
+            (Instr::Busy, Reply::No),
+        );
+    }
+}
+
+#[test]
+fn two_threads_fill_a_history(rt: HostRuntime) {
+    check_filling::<Core, HostRuntime>(&rt, rt.alloc());
+}
+
+/// So many passes more.
+fn more_passes<M: Machine>(
+    rt: &impl Abort,
+    alloc: Global,
+    shared: &Shared<M>,
+    opener: &mut Opener<Engine<M>>,
+    count: u32,
+) -> Vec<Pass<Engine<M>>>
+    requires opener { IsOpenerOf shared.now opener.old }
+    requires room { next_of (opener_view opener.old) + count < 2 ^ 32 }
+    ensures opener { IsOpenerOf shared.now opener.new }
+    ensures next { next_of (opener_view opener.new) ≡ next_of (opener_view opener.old) + count }
+    ensures passes { All (IsPassOf shared.now) result.items }
+{
+    let mut passes = Vec::new(alloc);
+    for _ in 0..count {
+        let pass = shared.pass(opener).expect(rt, "fewer than 64 are out");
+        passes.push(pass).expect(rt, "memory is left");
+    }
+    passes
+}
+
+/// Retires the passes.
+fn retire_all<M: Machine>(
+    shared: &Shared<M>,
+    opener: &mut Opener<Engine<M>>,
+    passes: Vec<Pass<Engine<M>>>,
+)
+    requires opener { IsOpenerOf shared.now opener.old }
+    requires passes { All (IsPassOf shared.now) passes.items }
+    ensures { IsOpenerOf shared.now opener.new }
+{
+    for pass in passes {
+        shared.retire(opener, pass);
+    }
+}
+
+/// With 64 callers out one more is refused. Once one is retired there is one more, and what it issues stands in the history under its own
+/// number.
+fn check_caller_64<M: Machine, R: Wait + Abort>(rt: &R, alloc: Global) {
+    let (shared, mut opener) = opened::<M>(rt, alloc, ONE_WORK, 1);
+    let mut passes = more_passes(rt, alloc, &shared, &mut opener, 64);
+    match shared.pass(&mut opener) {
+        Ok(_) => panic!(rt; "64 passes are out"),
+        Err(_too_many) => {}
+    }
+    let last = passes.pop().expect(rt, "64 passes are out");
+    shared.retire(&mut opener, last);
+    let pass = shared.pass(&mut opener).expect(rt, "63 passes are out");
+    let (pass, _) = shared.issue(rt, pass, Instr::Busy);
+    shared.retire(&mut opener, pass);
+    retire_all(&shared, &mut opener, passes);
+    match shared.close(opener) {
+        Ok(engine) => {
+            let callers = engine.history().iter().map(|entry| entry.caller);
+            assert!(rt; callers.eq([64].iter().copied()));
+        }
+        Err(_) => panic!(rt; "no pass is out"),
+    }
+}
+
+#[test]
+fn a_pass_after_the_64th_has_a_number_of_its_own(rt: HostRuntime) {
+    check_caller_64::<Core, HostRuntime>(&rt, rt.alloc());
+}
