@@ -195,10 +195,13 @@ fn do_on_file<F: FileStore, W: Sink>(
 }
 
 /// Makes the image file of the scenario whose text is in the file. The image file is made anew
-/// first, and it stays empty where there is a fault before the image is written.
+/// first, and it stays empty where there is a fault before the image is written. One file can't be both: that is `Write`, and nothing is lost.
 fn asm<F: FileStore>(alloc: Global, files: &F, file: &str, out: &str) -> Result<(), PlayError>
     ensures answers { IfSome (F.bytes files.now file.now) (λ bytes. Answers (IsOutput (image VERSION)) IsTextFault (Some bytes) result) }
 {
+    if files.is_one_file(file, out) {
+        return Err(PlayError::Write);
+    }
     let mut writer = files.make(out)?;
     let mut reader = files.open(file)?;
     cmwq_play::to_image(alloc, &mut reader, &mut writer)

@@ -2,7 +2,8 @@
 ghost use Rattle.std.specs.Prelude.{◌≡◌, ℕ, IfErr, IfOk, IfSome, List, None, Option, Some, false};
 
 use cmwq_play::{Marked, PlayError, Sink, Source};
-use std::fs::File;
+use std::fs::{File, metadata};
+use std::os::unix::fs::MetadataExt;
 use std::rt::Files;
 
 /// Where files are opened to be read and made to be written.
@@ -25,6 +26,9 @@ pub trait FileStore {
     fn make(&self, path: &str) -> Result<Self::Writer, PlayError>
         ensures sound { IfOk result (λ writer. Self.Writer.failed writer ≡ false) }
         ensures why { IfErr result (λ error. error ≡ PlayError.Write) };
+
+    /// Whether both paths are those of one regular file that is there. Of what can't be looked at it answers no.
+    fn is_one_file(&self, one: &str, other: &str) -> bool;
 
     /// The file of this path, made to be written, where there is none yet. The only error is `Write`.
     fn make_new(&self, path: &str) -> Result<Self::Writer, PlayError>
@@ -56,6 +60,15 @@ impl<R: Files> FileStore for Disk<'_, R> {
     fn make(&self, path: &str) -> Result<Marked<R::File>, PlayError> {
         let file = File::create(self.rt, path).map_err(|_| PlayError::Write)?;
         Ok(Marked::new(file))
+    }
+
+    fn is_one_file(&self, one: &str, other: &str) -> bool {
+        match (metadata(self.rt, one), metadata(self.rt, other)) {
+            (Ok(one), Ok(other)) => {
+                one.is_file() && one.dev() == other.dev() && one.ino() == other.ino()
+            }
+            _ => false,
+        }
     }
 
     fn make_new(&self, path: &str) -> Result<Marked<R::File>, PlayError> {

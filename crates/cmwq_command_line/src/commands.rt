@@ -115,7 +115,7 @@ fn asm_command<'a>(alloc: Global) -> Result<Command<'a>, AllocError>
     on_text(alloc, "asm", "Makes the image of a scenario")?.arg(argument(
         alloc,
         "OUT",
-        "The image file to make. What it held is lost, even where FILE has a fault: asm FILE FILE destroys its input",
+        "The image file to make. What it held is lost, even where FILE has a fault; it can't be FILE itself",
     ))
 }
 

@@ -352,8 +352,8 @@ const TOLD: [(&str, u8, &[u8], &[u8]); 7] = [
           Usage: cmwq asm <FILE> <OUT>\n\n\
           Arguments:\n  \
           <FILE>  The scenario's text\n  \
-          <OUT>   The image file to make. What it held is lost, even where FILE has a fault: \
-          asm FILE FILE destroys its input\n\n\
+          <OUT>   The image file to make. What it held is lost, even where FILE has a fault; \
+          it can't be FILE itself\n\n\
           Options:\n  \
           -h, --help  Print help\n\n\
           Prints nothing.\n\n\
