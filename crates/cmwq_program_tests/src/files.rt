@@ -384,8 +384,10 @@ fn an_image_file_is_made_before_the_text_is_opened(rt: HostRuntime) {
     check_emptied(&rt, file, out, PlayError::Read);
     put_file(&rt, file, b"cpus 17\n");
     check_emptied(&rt, file, out, at_first(Why::Fault(Fault::Range)));
-    // One path for both: the text is gone before it is opened.
-    check_emptied(&rt, file, file, at_first(Why::MissingWord));
+    // One path for both: nothing is lost.
+    let both = Request::Asm { file, out: file };
+    check_answer(&rt, both, Err(PlayError::Write), b"");
+    check_file(&rt, file, b"cpus 17\n");
     let _ = fs::remove_dir_all(&rt, "cmwq_asm_faults");
 }
 
