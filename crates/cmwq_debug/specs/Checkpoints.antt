@@ -1,5 +1,5 @@
 -- Where a debugger has checkpoints, which are copies of its machine along the list of instructions.
-use Rattle.std.specs.Prelude.{◌≡◌, ◌⊎◌, ◌<◌, ◌≤◌, ◌*◌, ◌%◌, ◌==◌, ◌&&◌, ◌++◌, ℕ, suc, zero, ◌+◌, Bool, not, List, [], ◌∷◌, length, map, Option, None, if◌then◌else◌, nat_le, nat_lt, true}
+use Rattle.std.specs.Prelude.{◌≡◌, ◌⊎◌, ◌<◌, ◌≤◌, ◌*◌, ◌%◌, ◌==◌, ◌&&◌, ◌++◌, ℕ, suc, zero, ◌+◌, Bool, not, List, [], ◌∷◌, length, map, Option, Some, None, if◌then◌else◌, nat_le, nat_lt, true}
 use Rattle.std.specs.List.{All, AllPairs, Contains, filter, last_or, list_any}
 use Rattle.cmwq_types.specs.Contents.{ScenarioContents}
 use Rattle.cmwq_table.specs.State.{State}
@@ -47,6 +47,14 @@ with_due s k = if is_due s.spacing k then with_position s k else s
 -- the greatest position with a checkpoint that isn't above this one
 abbrev pub nearest : List ℕ → ℕ → Option ℕ
 nearest positions k = last_or None (filter (λ p. nat_le p k) positions)
+
+abbrev pub or_start : Option ℕ → ℕ
+or_start (Some p) = p
+or_start None = 0
+
+-- where a way back to the position begins: at the nearest checkpoint that isn't above it, else at the start
+abbrev pub turn_for : Spread → ℕ → ℕ
+turn_for s k = or_start (nearest s.positions k)
 
 -- there is a checkpoint at the position
 abbrev pub is_held : List ℕ → ℕ → Bool

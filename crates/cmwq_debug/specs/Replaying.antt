@@ -1,5 +1,5 @@
 -- A list of instructions that is carried out on a machine, forwards and back, and where it has checkpoints.
-use Rattle.std.specs.Prelude.{◌≡◌, ◌≤◌, ℕ, ◌+◌, ◌-◌, List, length, take, slice_index_or}
+use Rattle.std.specs.Prelude.{◌≡◌, ◌⊎◌, ◌≤◌, ℕ, ◌+◌, ◌-◌, List, length, take, slice_index_or}
 use Rattle.std.specs.List.{All}
 use Rattle.cmwq_types.specs.Contents.{ScenarioContents}
 use Rattle.cmwq_types.specs.Faults.{IsValid}
@@ -9,7 +9,7 @@ use Rattle.cmwq_types.specs.declared.limits.TheConstants.{MAX_HISTORY}
 use Rattle.cmwq_types.specs.declared.reply.Reply.{Reply}
 use Rattle.cmwq_table.specs.State.{State}
 use Rattle.cmwq_table.specs.Table.{run, table}
-use Rattle.cmwq_debug.specs.Checkpoints.{Comes, Passes, Spread, no_checkpoints}
+use Rattle.cmwq_debug.specs.Checkpoints.{Comes, Passes, Spread, no_checkpoints, turn_for}
 use Rattle.cmwq_debug.specs.declared.checkpoints.Checkpoint.{Checkpoint}
 
 -- A scenario, a list of instructions, how many of them were carried out, and where there are checkpoints.
@@ -44,12 +44,13 @@ pub record HasGoneTo (old : Course) (to : ℕ) (new : Course) : Type 0 where
   pub position : new.position ≡ to
   pub spread : Passes old.spread old.position (to - old.position) new.spread
 
--- another position was taken, one that isn't above this one, with the checkpoints that there were
+-- A way to the position begins where it may: where it was, or where a way back begins, with the checkpoints that there were.
 pub record HasTurned (old : Course) (to : ℕ) (new : Course) : Type 0 where
   pub below : new.position ≤ to
   pub same : new ≡ record old { position = new.position }
+  pub from : (new.position ≡ turn_for old.spread to) ⊎ (new.position ≡ old.position)
 
--- the position was come to from such a one
+-- the position was come to from such a beginning
 pub record HasReached (old : Course) (to : ℕ) (new : Course) : Type 0 where
   pub turned : Course
   pub back : HasTurned old to turned

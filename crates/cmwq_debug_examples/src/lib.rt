@@ -2,7 +2,7 @@
 //! one dump reads, or what is said to some commands. No other crate stands on this one.
 #![tactic(auto)]
 
-ghost use Rattle.cmwq_debug.specs.Checkpoints.{entered, left_out, no_checkpoints, passed};
+ghost use Rattle.cmwq_debug.specs.Checkpoints.{entered, left_out, no_checkpoints, passed, turn_for};
 ghost use Rattle.cmwq_debug_examples.specs.Debugged.{at_even_multiples, commands_answered, chain_answers, chain_questions, disabled_breaks, disabled_breaks_answers, each_event, each_event_answers, each_event_breaks, event_breaks, event_breaks_answers, hold_answers, hold_questions, all_instrs, many_breaks, many_breaks_answers, one_missing, refusal_breaks, refusal_breaks_answers, refusals, rescuer_breaks, rescuer_breaks_answers, spread_at, there_and_back, there_and_back_answers};
 ghost use Rattle.cmwq_debug_examples.specs.Dumps.{dumped, many_kinds, many_kinds_dump, many_kinds_lines, many_kinds_pool_1, pool_dumped, busy_cpus, two_cpus_dump, busy_cpus_lines};
 ghost use Rattle.cmwq_examples.specs.Rows.{disabled_twice, pressed, queues_itself, three_works};
