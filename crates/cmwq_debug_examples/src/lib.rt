@@ -102,3 +102,10 @@ pub fn missing_checkpoint_is_made_on_another_way()
     ensures no_memory { left_out (spread_at 15 64) 1024 ≡ spread_at 15 64 }
     ensures twice { entered at_even_multiples 32896 ≡ spread_at 128 256 }
 {}
+
+/// A way back begins at a checkpoint at the position, else at the one before it, and in front of all at the start.
+pub fn way_back_begins_at_the_nearest_checkpoint()
+    ensures there { turn_for (spread_at 15 64) 960 ≡ 960 }
+    ensures before { turn_for (spread_at 15 64) 959 ≡ 896 }
+    ensures start { turn_for (spread_at 15 64) 63 ≡ 0 }
+{}
