@@ -130,6 +130,10 @@ impl<P: Parts> Machine for Driven<P> {
         self.going.parts.look()
     }
 
+    fn is_settled(&self) -> bool {
+        self.going.is_settled()
+    }
+
     fn now(&self) -> u64 {
         self.going.parts.time()
     }

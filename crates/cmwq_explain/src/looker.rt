@@ -12,9 +12,8 @@ ghost use Rattle.std.specs.Prelude.{◌≡◌, [], IfErr, IfOk, OnOk};
 use crate::said::LastSaid;
 use crate::sayer::Sayer;
 use cmwq_play::{Session, Teller};
-use cmwq_reads::is_settled;
 use cmwq_streams::{PlayError, Sink};
-use cmwq_table::{Machine, Reads};
+use cmwq_table::Machine;
 use cmwq_tasks::Looks;
 use cmwq_types::{Instr, Line};
 use std::alloc::Global;
@@ -57,11 +56,11 @@ impl<P: Sayer> Teller for Looker<'_, P> {
 
 impl<P: Sayer> Looker<'_, P> {
     /// Whether the position, at which this machine is, is one that is looked at.
-    fn is_looked_at<R: Reads>(&self, machine: &R, is_last: bool) -> bool
-        ensures { result ≡ looks_here self.now (R.loaded machine.now) is_last (R.state machine.now) }
+    fn is_looked_at<M: Machine>(&self, machine: &M, is_last: bool) -> bool
+        ensures { result ≡ looks_here self.now (M.loaded machine.now) is_last (M.state machine.now) }
     {
         match self.looks {
-            Looks::Settled => is_last || is_settled(machine),
+            Looks::Settled => is_last || machine.is_settled(),
             Looks::Every => true,
             Looks::At(position) => self.position == position,
         }

@@ -1,12 +1,15 @@
 -- What is known of the pools that no set of pools has.
-use Rattle.std.proofs.Common.{◌≡◌, ℕ, ◌+◌, ◌*◌, ◌<◌, ◌≤◌, Bool, true, false, Option, None, arith, refl, sym, ap, ◌∙◌}
+use Rattle.std.proofs.Common.{◌≡◌, ℕ, ◌<◌, ◌≤◌, Bool, true, false, Option, Some, None, arith, refl, ap, ◌∙◌}
 use Rattle.std.specs.Prelude.{is_some}
 use Rattle.cmwq_types.specs.Contents.{ScenarioContents}
 use Rattle.cmwq_types.specs.First.{first_below, by_least}
 use Rattle.cmwq_types.proofs.FirstLemmas.{by_least-order, first_below-none}
 use Rattle.cmwq_table.specs.Moves.{next_move}
 use Rattle.cmwq_table.specs.State.{State}
+use Rattle.cmwq_types.specs.declared.moves.Move.{Move}
+use Rattle.cmwq_parts.specs.FoundMoves.{if_found}
 use Rattle.cmwq_parts.specs.PoolSets.{has_pool}
+use Rattle.cmwq_parts.specs.declared.pool_moves.Found.{Found}
 use Rattle.cmwq_parts.specs.declared.pool_set.PoolSet.{PoolSet}
 
 -- each pool that has a move is in the set
@@ -31,3 +34,12 @@ pub none-moves : (S : ScenarioContents) (s : State) (set : PoolSet) (n : ℕ) �
 none-moves S s set n covers few out =
     first_below-none (by_least (λ pool. pool)) (λ pool. is_some (next_move S s pool)) n (by_least-order (λ pool. pool))
     (λ pool below. left-out (is_some (next_move S s pool)) (has_pool set pool) (covers pool (omega arith)) (out pool below))
+
+-- a move was found where there is one
+pub found-moves : (found : Option Found) → is_some (if_found found) ≡ is_some found
+found-moves (Some found) = refl
+found-moves None = refl
+
+pub still-if-none : (move : Option Move) → is_some move ≡ false → move ≡ None
+still-if-none None is = refl
+still-if-none (Some move) is = absurd (let not : true ≡ false = is in cc)

@@ -1,11 +1,11 @@
 //! The moves of a worker pool: which one is next, and what each does.
 ghost use Rattle.cmwq_parts.specs.FoundMoves.{IsFirstMove, IsFound, if_found, move_of};
-ghost use Rattle.cmwq_table.specs.Counts.{first_listed, first_rescued, free_worker, ready_head};
-ghost use Rattle.cmwq_table.specs.Moves.{advance, carry_out, come_to_end, finish, moved, moved_work, next_move, queue_from_body, rescued, start_first, start_move, started};
+ghost use Rattle.cmwq_table.specs.Counts.{first_due, first_listed, first_rescued, free_worker, ready_head};
+ghost use Rattle.cmwq_table.specs.Moves.{advance, carry_out, come_to_end, finish, first_moving, moved, moved_work, next_move, queue_from_body, rescued, start_first, start_move, started};
 ghost use Rattle.cmwq_table.specs.Ready.{Takes};
 ghost use Rattle.cmwq_table.specs.State.{is_disabled, pending_at, running_at};
 ghost use Rattle.cmwq_types.specs.Scenario.{op_at};
-ghost use Rattle.std.specs.Prelude.{◌≡◌, ◌<◌, ◌^◌, IfSome, None, Some, length};
+ghost use Rattle.std.specs.Prelude.{◌≡◌, ◌&&◌, ◌<◌, ◌^◌, IfSome, None, Some, is_none, length};
 
 use crate::going::Going;
 use crate::parts::Parts;
@@ -105,6 +105,31 @@ impl<P: Parts> Going<P> {
             left = left.without(pool);
         }
         None
+    }
+
+    /// Whether nothing can happen without time: no timer is due, and no pool has a move.
+    pub fn is_settled(&self) -> bool
+        ensures { result ≡ (is_none (first_due self.now.scenario self.now.state) && is_none (first_moving self.now.scenario self.now.state)) }
+    {
+        self.parts.first_due().is_none() && self.has_no_move()
+    }
+
+    /// Whether no pool has a move. Of the pools that may have one it asks each in turn.
+    fn has_no_move(&self) -> bool
+        ensures { result ≡ is_none (first_moving self.now.scenario self.now.state) }
+    {
+        let pools = self.parts.scenario().pool_count();
+        let mut left = self.parts.may_move();
+        while let Some(pool) = left.first() {
+            if pool >= pools {
+                return true;
+            }
+            if self.next_move(pool).is_some() {
+                return false;
+            }
+            left = left.without(pool);
+        }
+        true
     }
 
     /// Makes the pool's move, and tells what it did.

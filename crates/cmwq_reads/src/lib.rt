@@ -10,7 +10,7 @@ mod tally;
 mod workers;
 
 pub use flushes::{flush_target, is_done};
-pub use pool_moves_sought::{has_no_move, is_settled, is_spent, next_move, ready_head};
+pub use pool_moves_sought::{is_spent, next_move, ready_head};
 pub use refusing::{is_question, refused_at_once};
 pub use sought::{Sought, fires_before, first, pending_before, running_before, wakes_before};
 pub use tally::{Tally, active, count, has_room, is_busy, is_counted, level, limit, may_start};

@@ -1,8 +1,8 @@
 //! The next move of a worker pool.
-ghost use Rattle.cmwq_table.specs.Counts.{first_due, first_listed, first_runnable, free_worker, if_ready, ready_head};
-ghost use Rattle.cmwq_table.specs.Moves.{first_moving, next_move, start_first, start_move};
+ghost use Rattle.cmwq_table.specs.Counts.{first_listed, first_runnable, free_worker, if_ready, ready_head};
+ghost use Rattle.cmwq_table.specs.Moves.{next_move, start_first, start_move};
 ghost use Rattle.cmwq_types.specs.declared.limits.TheConstants.{MAX_WORKS};
-ghost use Rattle.std.specs.Prelude.{◌≡◌, ◌&&◌, ◌<◌, IfSome, is_none, length, nat_lt, not};
+ghost use Rattle.std.specs.Prelude.{◌≡◌, ◌<◌, IfSome, length, nat_lt, not};
 
 use crate::sought::{Sought, first};
 use crate::tally::may_start;
@@ -15,25 +15,6 @@ pub fn is_spent<R: Reads>(machine: &R) -> bool
     ensures { result ≡ not (nat_lt (R.state machine.now).spent (R.loaded machine.now).steps) }
 {
     machine.spent() >= machine.scenario().steps
-}
-
-/// Whether no timer is due and no pool has a move.
-pub fn is_settled<R: Reads>(machine: &R) -> bool
-    ensures { result ≡ (is_none (first_due (R.loaded machine.now) (R.state machine.now)) && is_none (first_moving (R.loaded machine.now) (R.state machine.now))) }
-{
-    first(machine, Sought::Due).is_none() && has_no_move(machine)
-}
-
-/// Whether no pool has a move.
-pub fn has_no_move<R: Reads>(machine: &R) -> bool
-    ensures { result ≡ is_none (first_moving (R.loaded machine.now) (R.state machine.now)) }
-{
-    for pool in 0..machine.scenario().pool_count() {
-        if next_move(machine, pool).is_some() {
-            return false;
-        }
-    }
-    true
 }
 
 /// The next move of the pool: advance, else wake, else start.

@@ -1,11 +1,13 @@
 //! What a machine is: a body that carries out the instruction table.
+ghost use Rattle.cmwq_table.specs.Counts.{first_due};
+ghost use Rattle.cmwq_table.specs.Moves.{first_moving};
 ghost use Rattle.cmwq_table.specs.State.{start};
 ghost use Rattle.cmwq_table.specs.Machine.{Loads};
 ghost use Rattle.cmwq_table.specs.Repeats.{HasAnswered, HasGone, HasRepeated};
 ghost use Rattle.cmwq_table.specs.Table.{table};
 ghost use Rattle.cmwq_types.specs.Faults.{IsValid};
 ghost use Rattle.cmwq_table.specs.View.{view_of};
-ghost use Rattle.std.specs.Prelude.{◌≡◌, ◌<◌, IfOk};
+ghost use Rattle.std.specs.Prelude.{◌≡◌, ◌&&◌, ◌<◌, IfOk, is_none};
 
 use crate::reads::Reads;
 use crate::reply_line::is_silent;
@@ -89,6 +91,10 @@ pub trait Machine: Reads + Drop {
     /// Every part of the state.
     fn look(&self) -> Result<View, NoMemory>
         ensures view { IfOk result (λ view. view ≡ view_of (Self.state self.now)) };
+
+    /// Whether nothing can happen without time: no timer is due, and no pool has a move.
+    fn is_settled(&self) -> bool
+        ensures { result ≡ (is_none (first_due (Self.loaded self.now) (Self.state self.now)) && is_none (first_moving (Self.loaded self.now) (Self.state self.now))) };
 
     /// The time, in ticks since the scenario was loaded.
     fn now(&self) -> u64
