@@ -1,7 +1,7 @@
 //! The timers.
 ghost use Rattle.cmwq_timers.specs.Timers.{due_by, least_timer, timer_at, without_timer};
-ghost use Rattle.cmwq_timers.specs.Tree.{IsKept, IsOwn, rank_of};
-ghost use Rattle.std.specs.Prelude.{◌≡◌, ℕ, ◌+◌, ◌*◌, ◌<◌, ◌≤◌, ◌/◌, ◌^◌, IfOk, IfSome, length, None, replicate, slice_set, Some};
+ghost use Rattle.cmwq_timers.specs.Tree.{IsKept};
+ghost use Rattle.std.specs.Prelude.{◌≡◌, ◌<◌, IfOk, IfSome, length, None, replicate, slice_set, Some};
 
 use crate::rank::{LAST_STAMP, rank_of};
 use crate::scan::first_of_all;
@@ -64,7 +64,9 @@ impl Timers {
         ensures put { self.new ≡ slice_set self.old timer.work.0 (Some timer) }
     {
         let Timers { timers, ranks } = self;
-        start(timers, ranks, timer);
+        let work = usize::from(timer.work.0);
+        timers[work] = Some(timer);
+        lower(ranks, timers.len() + work, rank_of(Some(timer)));
     }
 
     /// Takes a work's timer away, if it has one.
@@ -83,7 +85,9 @@ impl Timers {
         ensures { self.new ≡ slice_set self.old work.0 None }
     {
         let Timers { timers, ranks } = self;
-        end(timers, ranks, work.0);
+        let work = usize::from(work.0);
+        timers[work] = None;
+        raise(ranks, timers.len() + work);
     }
 
     /// The timer that fires next: the least by due and then stamp, and of equal ones that of the work of
@@ -109,8 +113,7 @@ impl Timers {
         if timer.due > now {
             return None;
         }
-        let Timers { timers, ranks } = self;
-        end(timers, ranks, timer.work.0);
+        self.stop(timer.work);
         Some(timer)
     }
 
@@ -121,29 +124,4 @@ impl Timers {
     {
         *self.timers.get(usize::from(work.0))?
     }
-}
-
-/// Gives a work that has no timer this one.
-fn start(timers: &mut [Option<Timer>], ranks: &mut [u128], timer: Timer)
-    requires kept { IsKept timers.old ranks.old }
-    requires room { timer.work.0 < length timers.old }
-    requires absent { timer_at timers.old timer.work.0 ≡ None }
-    ensures kept { IsKept timers.new ranks.new }
-    ensures timers { timers.new ≡ slice_set timers.old timer.work.0 (Some timer) }
-{
-    let work = usize::from(timer.work.0);
-    timers[work] = Some(timer);
-    lower(ranks, timers.len() + work, rank_of(Some(timer)));
-}
-
-/// Takes a work's timer away, if it has one.
-fn end(timers: &mut [Option<Timer>], ranks: &mut [u128], work: u16)
-    requires kept { IsKept timers.old ranks.old }
-    requires work { work < length timers.old }
-    ensures kept { IsKept timers.new ranks.new }
-    ensures timers { timers.new ≡ slice_set timers.old work None }
-{
-    let work = usize::from(work);
-    timers[work] = None;
-    raise(ranks, timers.len() + work);
 }

@@ -1,6 +1,6 @@
 //! The tree of ranks.
-ghost use Rattle.cmwq_timers.specs.Tree.{AreSettled, HasGiven, IsLeaf, rank_at, rank_of};
-ghost use Rattle.std.specs.Prelude.{◌≡◌, ◌≤◌, ◌^◌, ◌-◌};
+ghost use Rattle.cmwq_timers.specs.Tree.{AreSettled, HasGiven, IsLeaf, rank_at};
+ghost use Rattle.std.specs.Prelude.{◌≡◌, ◌-◌, ◌^◌, ◌≤◌};
 
 /// Gives a leaf a lesser rank, and so each node above that had none so low.
 pub(crate) fn lower(ranks: &mut [u128], leaf: usize, rank: u128)
@@ -21,8 +21,9 @@ pub(crate) fn lower(ranks: &mut [u128], leaf: usize, rank: u128)
     }
 }
 
-/// Gives a leaf the greatest rank, and each node above that had the leaf's the least that is left below it. Which of two ranks is the
-/// lesser can't be foretold, so it is found without a jump.
+/// Gives a leaf the greatest rank, and each node above that had the leaf's the lesser of the two below it. Which of these is the lesser can't be
+/// foretold, so it is found without a jump: both are read anew on each step, since of one that is kept from the step before a jump is made. A node
+/// has another rank than the leaf had where their lower halves, stamp and work, differ.
 pub(crate) fn raise(ranks: &mut [u128], leaf: usize)
     requires settled { AreSettled ranks.old }
     requires leaf { IsLeaf ranks.old leaf }
@@ -30,16 +31,13 @@ pub(crate) fn raise(ranks: &mut [u128], leaf: usize)
     ensures given { HasGiven ranks.old ranks.new leaf (2 ^ 128 - 1) }
 {
     let was = ranks[leaf];
-    let mut at = leaf;
-    let mut rank = u128::MAX;
-    ranks[at] = rank;
-    while at > 1 {
-        let above = at / 2;
-        if ranks[above] % (1 << 64) != was % (1 << 64) {
+    ranks[leaf] = u128::MAX;
+    let mut at = leaf / 2;
+    while at > 0 {
+        if ranks[at] % (1 << 64) != was % (1 << 64) {
             return;
         }
-        rank = rank.min(ranks[4 * above + 1 - at]);
-        ranks[above] = rank;
-        at = above;
+        ranks[at] = ranks[2 * at].min(ranks[2 * at + 1]);
+        at /= 2;
     }
 }

@@ -1,7 +1,7 @@
 use Rattle.cmwq_timers.proofs.TreeLemmas.{IsLowering}
 use Rattle.cmwq_timers.proofs.tree.lower.Given as goal
 
--- all below this node have the lesser ranks
+-- all nodes but this one have the lesser ranks
 abbrev pub invariant-loop-at : goal.invariant-loop-at
 invariant-loop-at l = IsLowering l.fn.ranks l.ranks l.leaf l.rank l.at
 
