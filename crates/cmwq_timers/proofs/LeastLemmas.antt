@@ -1,5 +1,5 @@
 -- From the root's rank to the timer that fires first.
-use Rattle.std.proofs.Common.{◌≡◌, ◌⊎◌, ℕ, zero, suc, ◌+◌, ◌-◌, ◌*◌, ◌/◌, ◌%◌, ◌^◌, ◌<◌, ◌≤◌, Bool, true, false, ◌||◌, ◌&&◌, ◌==◌, nat_lt, min, List, length, Option, Some, None, is_some, IfSome, arith, refl, sym, ap, subst, ◌∙◌, inl, inr}
+use Rattle.std.proofs.Common.{◌≡◌, ℕ, zero, suc, ◌+◌, ◌-◌, ◌*◌, ◌/◌, ◌%◌, ◌^◌, ◌<◌, ◌≤◌, Bool, true, false, ◌||◌, ◌&&◌, ◌==◌, nat_lt, List, length, Option, Some, None, is_some, IfSome, arith, refl, sym, ap, subst, ◌∙◌, inl, inr}
 use Rattle.std.proofs.lemmas.Bool.{cases_lt}
 use Rattle.std.proofs.lemmas.Bool.Decides.{nat_tests}
 use Rattle.std.proofs.lemmas.List.{get_or_past}
@@ -7,7 +7,7 @@ use Rattle.cmwq_types.proofs.FirstLemmas.{by_least_two-order, first_below-unique
 use Rattle.cmwq_timers.specs.declared.timer.Timer.{Timer}
 use Rattle.cmwq_timers.specs.Timers.{timer_at, timer_due, timer_stamp, fires_before, first_to_fire, least_timer, timer_found}
 use Rattle.cmwq_timers.specs.Tree.{IsKept, IsOwn, last_stamp, rank_at, rank_of}
-use Rattle.cmwq_timers.proofs.TreeLemmas.{beside, pair}
+use Rattle.cmwq_timers.proofs.TreeLemmas.{pair}
 
 -- Ranks beside timers.
 
@@ -82,7 +82,7 @@ module _ (timers : List (Option Timer)) (ranks : List ℕ) (kept : IsKept timers
   root_least (suc fuel) i bound above inside =
       elim (cases_lt 1 i) [
         | inl lower ↦
-            let lesser = kept.settled (i / 2) (omega arith) (omega arith) ∙ pair ranks i in
+            let lesser = kept.tree (i / 2) (omega arith) (omega arith) ∙ pair ranks i in
             let far = root_least fuel (i / 2) (omega arith) (omega arith) (omega arith) in
             omega (arith, lesser, far)
         | inr here ↦
@@ -101,7 +101,7 @@ module _ (timers : List (Option Timer)) (ranks : List ℕ) (kept : IsKept timers
   of_work (suc fuel) i bound above inside =
       elim (cases_lt i (length timers)) [
         | inl inner ↦
-            let lesser = kept.settled i above (omega (arith, inner, long)) in
+            let lesser = kept.tree i above (omega (arith, inner, long)) in
             elim (cases_lt (rank_at ranks (2 * i)) (rank_at ranks (2 * i + 1))) [
               | inl left ↦
                   let far = of_work fuel (2 * i) (omega arith) (omega arith) (omega (arith, inner, long)) in
@@ -126,8 +126,8 @@ module _ (timers : List (Option Timer)) (ranks : List ℕ) (kept : IsKept timers
     none_is : rank_at ranks 1 ≡ rank_of None → least_timer timers ≡ None
     none_is none =
         ap (timer_found timers) (first_below-none (fires_before timers) (λ w. is_some (timer_at timers w)) (length timers)
-          (by_least_two-order (λ w. timer_due (timer_at timers w)) (λ w. timer_stamp (timer_at timers w)))
-          (λ k inside. no_timer k inside (is_some (timer_at timers k)) refl))
+        (by_least_two-order (λ w. timer_due (timer_at timers w)) (λ w. timer_stamp (timer_at timers w)))
+        (λ k inside. no_timer k inside (is_some (timer_at timers k)) refl))
       where
         no_timer : (k : ℕ) → k < length timers → (b : Bool) → is_some (timer_at timers k) ≡ b → is_some (timer_at timers k) ≡ false
         no_timer k inside false e = e

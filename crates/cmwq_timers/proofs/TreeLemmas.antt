@@ -1,8 +1,8 @@
 -- Laws on the tree of ranks: what a change of one node does, up to the root.
-use Rattle.std.proofs.Common.{◌≡◌, ◌≢◌, ◌⊎◌, ℕ, zero, suc, ◌+◌, ◌-◌, ◌*◌, ◌/◌, ◌%◌, ◌^◌, ◌<◌, ◌≤◌, List, length, min, set, arith, refl, sym, ap, subst, ◌∙◌, inl, inr}
+use Rattle.std.proofs.Common.{◌≡◌, ◌≢◌, ◌⊎◌, ℕ, ◌+◌, ◌-◌, ◌*◌, ◌/◌, ◌<◌, ◌≤◌, List, length, min, set, arith, refl, sym, ap, subst, ◌∙◌, inl, inr}
 use Rattle.std.proofs.lemmas.Bool.{cases_eq, cases_lt}
 use Rattle.std.proofs.lemmas.List.{get_or-set_same, get_or-set_other, length-set}
-use Rattle.cmwq_timers.specs.Tree.{AreSettled, AreSettledBut, HasGiven, HasLesser, IsLeaf, rank_at}
+use Rattle.cmwq_timers.specs.Tree.{IsTree, IsTreeBut, HasGiven, HasLesser, IsLeaf, rank_at}
 
 -- the node that stands beside one
 abbrev pub beside : ℕ → ℕ
@@ -62,10 +62,10 @@ pub record IsOnTheWay (was ranks : List ℕ) (leaf rank at : ℕ) : Type 0 where
   pub below : length ranks ≤ 2 * leaf
   pub inside : 2 * at < length ranks
   pub given : HasGiven was ranks leaf rank
-  pub but : AreSettledBut ranks at
+  pub but : IsTreeBut ranks at
 
-sets-out : (ranks : List ℕ) (leaf rank : ℕ) → AreSettled ranks → IsLeaf ranks leaf → IsOnTheWay ranks (set ranks leaf rank) leaf rank (leaf / 2)
-sets-out ranks leaf rank settled is =
+sets-out : (ranks : List ℕ) (leaf rank : ℕ) → IsTree ranks → IsLeaf ranks leaf → IsOnTheWay ranks (set ranks leaf rank) leaf rank (leaf / 2)
+sets-out ranks leaf rank tree is =
     let long = length-set ranks leaf rank in
     let inside = is.inside in
     let above = is.above in
@@ -79,7 +79,7 @@ sets-out ranks leaf rank settled is =
         here = here ranks leaf rank inside;
         others = λ l leaf_too apart. other ranks leaf rank inside l apart;
       };
-      but = λ i low inner apart. unmoved ranks leaf rank inside i (λ same. absurd (omega (arith, same, inner, above, long))) apart (settled i low (omega (arith, inner, long)));
+      but = λ i low inner apart. unmoved ranks leaf rank inside i (λ same. absurd (omega (arith, same, inner, above, long))) apart (tree i low (omega (arith, inner, long)));
     }
 
 goes-up : (was ranks : List ℕ) (leaf rank at next : ℕ) → IsOnTheWay was ranks leaf rank at → 0 < at → next ≡ min (rank_at ranks (2 * at)) (rank_at ranks (2 * at + 1))
@@ -108,7 +108,7 @@ goes-up was ranks leaf rank at next way low lesser =
           ];
     }
 
-ends : (was ranks : List ℕ) (leaf rank at : ℕ) → IsOnTheWay was ranks leaf rank at → (0 < at → HasLesser ranks at) → AreSettled ranks
+ends : (was ranks : List ℕ) (leaf rank at : ℕ) → IsOnTheWay was ranks leaf rank at → (0 < at → HasLesser ranks at) → IsTree ranks
 ends was ranks leaf rank at way here i above inner =
     elim (cases_eq i at) [
       | inl same ↦ subst (HasLesser ranks) (sym same) (here (omega (arith, same, above)))
@@ -122,11 +122,11 @@ above-on was ranks leaf rank at way low above =
     way.but (at / 2) above (omega (arith, inner)) (λ same. absurd (omega (arith, same, low)))
 
 -- and above a leaf
-above-leaf : (ranks : List ℕ) (leaf : ℕ) → AreSettled ranks → IsLeaf ranks leaf → 0 < leaf / 2 → HasLesser ranks (leaf / 2)
-above-leaf ranks leaf settled is above =
+above-leaf : (ranks : List ℕ) (leaf : ℕ) → IsTree ranks → IsLeaf ranks leaf → 0 < leaf / 2 → HasLesser ranks (leaf / 2)
+above-leaf ranks leaf tree is above =
     let inside = is.inside in
     let even = is.even in
-    settled (leaf / 2) above (omega (arith, inside, even))
+    tree (leaf / 2) above (omega (arith, inside, even))
 
 -- A lesser rank: where it counts as well, this node has the lesser one too.
 abbrev pub Counts : List ℕ → ℕ → ℕ → Type 0
@@ -143,10 +143,10 @@ pub record IsLowering (was ranks : List ℕ) (leaf rank at : ℕ) : Type 0 where
   pub way : IsOnTheWay was ranks leaf rank at
   pub counts : Counts ranks rank at
 
-pub lowering-sets-out : (ranks : List ℕ) (leaf rank : ℕ) → AreSettled ranks → IsLeaf ranks leaf → rank ≤ rank_at ranks leaf → IsLowering ranks (set ranks leaf rank) leaf rank (leaf / 2)
-lowering-sets-out ranks leaf rank settled is less = record {
-  way = sets-out ranks leaf rank settled is;
-  counts = counts-above ranks leaf rank is.inside (above-leaf ranks leaf settled is) less;
+pub lowering-sets-out : (ranks : List ℕ) (leaf rank : ℕ) → IsTree ranks → IsLeaf ranks leaf → rank ≤ rank_at ranks leaf → IsLowering ranks (set ranks leaf rank) leaf rank (leaf / 2)
+lowering-sets-out ranks leaf rank tree is less = record {
+  way = sets-out ranks leaf rank tree is;
+  counts = counts-above ranks leaf rank is.inside (above-leaf ranks leaf tree is) less;
 }
 
 pub lowering-goes-up : (was ranks : List ℕ) (leaf rank at : ℕ) → IsLowering was ranks leaf rank at → 0 < at → rank < rank_at ranks at → IsLowering was (set ranks at rank) leaf rank (at / 2)
@@ -159,7 +159,7 @@ lowering-goes-up was ranks leaf rank at lowering low less =
       counts = counts-above ranks at rank (omega (arith, inner)) (above-on was ranks leaf rank at way low) (omega (arith, less));
     }
 
-pub lowering-ends : (was ranks : List ℕ) (leaf rank at : ℕ) → IsLowering was ranks leaf rank at → (0 < at → rank_at ranks at ≤ rank) → AreSettled ranks
+pub lowering-ends : (was ranks : List ℕ) (leaf rank at : ℕ) → IsLowering was ranks leaf rank at → (0 < at → rank_at ranks at ≤ rank) → IsTree ranks
 lowering-ends was ranks leaf rank at lowering least = ends was ranks leaf rank at lowering.way (λ low. let no_more = least low in let counts = lowering.counts low in omega (arith, no_more, counts))
 
 -- A greater rank: this node has the lesser one, or it has the rank that the leaf had, and those below it have none lower.
@@ -186,10 +186,10 @@ pub record IsRaising (was ranks : List ℕ) (leaf low most at : ℕ) : Type 0 wh
   pub way : IsOnTheWay was ranks leaf most at
   pub had : HadIt ranks low at
 
-pub raising-sets-out : (ranks : List ℕ) (leaf most : ℕ) → AreSettled ranks → IsLeaf ranks leaf → rank_at ranks leaf ≤ most → IsRaising ranks (set ranks leaf most) leaf (rank_at ranks leaf) most (leaf / 2)
-raising-sets-out ranks leaf most settled is no_more = record {
-  way = sets-out ranks leaf most settled is;
-  had = had-above ranks leaf most (rank_at ranks leaf) is.inside (above-leaf ranks leaf settled is) refl no_more;
+pub raising-sets-out : (ranks : List ℕ) (leaf most : ℕ) → IsTree ranks → IsLeaf ranks leaf → rank_at ranks leaf ≤ most → IsRaising ranks (set ranks leaf most) leaf (rank_at ranks leaf) most (leaf / 2)
+raising-sets-out ranks leaf most tree is no_more = record {
+  way = sets-out ranks leaf most tree is;
+  had = had-above ranks leaf most (rank_at ranks leaf) is.inside (above-leaf ranks leaf tree is) refl no_more;
 }
 
 pub raising-goes-up : (was ranks : List ℕ) (leaf low most at : ℕ) → IsRaising was ranks leaf low most at → 0 < at
@@ -205,12 +205,12 @@ raising-goes-up was ranks leaf low most at raising high =
           elim (raising.had high) [
             | inl lesser ↦ λ above.
                 inl (
-                  above-new ranks at next inside high ∙ above-on was ranks leaf most at way high above ∙ pair ranks at
-                  ∙ ap (λ (r : ℕ). min r (rank_at ranks (beside at))) lesser ∙ sym (pair-new ranks at next inside high)
+                above-new ranks at next inside high ∙ above-on was ranks leaf most at way high above ∙ pair ranks at
+                ∙ ap (λ (r : ℕ). min r (rank_at ranks (beside at))) lesser ∙ sym (pair-new ranks at next inside high)
                 )
             | inr had ↦ had-above ranks at next low inside (above-on was ranks leaf most at way high) had.0 had.1
           ];
     }
 
-pub raising-ends : (was ranks : List ℕ) (leaf low most at : ℕ) → IsRaising was ranks leaf low most at → (0 < at → rank_at ranks at ≢ low) → AreSettled ranks
+pub raising-ends : (was ranks : List ℕ) (leaf low most at : ℕ) → IsRaising was ranks leaf low most at → (0 < at → rank_at ranks at ≢ low) → IsTree ranks
 raising-ends was ranks leaf low most at raising apart = ends was ranks leaf most at raising.way (λ above. elim (raising.had above) [ inl lesser ↦ lesser | inr had ↦ absurd (apart above had.0) ])

@@ -1,5 +1,5 @@
 -- How timers are ranked, and the tree of their ranks. No public clause cites this module.
-use Rattle.std.specs.Prelude.{◌≡◌, ◌≢◌, ◌⊎◌, ℕ, ◌+◌, ◌-◌, ◌*◌, ◌/◌, ◌^◌, ◌<◌, ◌≤◌, List, length, Option, Some, None, IfSome, min, slice_index_or}
+use Rattle.std.specs.Prelude.{◌≡◌, ◌≢◌, ℕ, ◌+◌, ◌-◌, ◌*◌, ◌/◌, ◌^◌, ◌<◌, ◌≤◌, List, length, Option, Some, None, IfSome, min, slice_index_or}
 use Rattle.cmwq_timers.specs.declared.timer.Timer.{Timer}
 use Rattle.cmwq_timers.specs.Timers.{timer_at}
 
@@ -28,12 +28,12 @@ abbrev pub HasLesser : List ℕ → ℕ → Type 0
 HasLesser ranks node = rank_at ranks node ≡ min (rank_at ranks (2 * node)) (rank_at ranks (2 * node + 1))
 
 -- each inner node has, but this one may not
-abbrev pub AreSettledBut : List ℕ → ℕ → Type 0
-AreSettledBut ranks node = (i : ℕ) → 0 < i → 2 * i < length ranks → i ≢ node → HasLesser ranks i
+abbrev pub IsTreeBut : List ℕ → ℕ → Type 0
+IsTreeBut ranks node = (i : ℕ) → 0 < i → 2 * i < length ranks → i ≢ node → HasLesser ranks i
 
 -- each inner node has
-abbrev pub AreSettled : List ℕ → Type 0
-AreSettled ranks = (i : ℕ) → 0 < i → 2 * i < length ranks → HasLesser ranks i
+abbrev pub IsTree : List ℕ → Type 0
+IsTree ranks = (i : ℕ) → 0 < i → 2 * i < length ranks → HasLesser ranks i
 
 -- a leaf, of as many as there are works
 pub record IsLeaf (ranks : List ℕ) (leaf : ℕ) : Type 0 where
@@ -47,10 +47,10 @@ pub record HasGiven (was ranks : List ℕ) (leaf rank : ℕ) : Type 0 where
   pub here : rank_at ranks leaf ≡ rank
   pub others : (l : ℕ) → length was ≤ 2 * l → l ≢ leaf → rank_at ranks l ≡ rank_at was l
 
--- each work has its own timer or none, its leaf has the rank of that, and the tree is settled
+-- each work has its own timer or none, its leaf has the rank of that, and above the leaves is the tree
 pub record IsKept (timers : List (Option Timer)) (ranks : List ℕ) : Type 0 where
   pub few : length timers < 2 ^ 16
   pub long : length ranks ≡ 2 * length timers
   pub own : (w : ℕ) → w < length timers → IfSome (timer_at timers w) (IsOwn w)
   pub leaves : (w : ℕ) → w < length timers → rank_at ranks (length timers + w) ≡ rank_of (timer_at timers w)
-  pub settled : AreSettled ranks
+  pub tree : IsTree ranks

@@ -1,5 +1,5 @@
 //! Which of two timers fires first.
-ghost use Rattle.cmwq_timers.specs.Tree.{last_stamp, rank_of};
+ghost use Rattle.cmwq_timers.specs.Tree.{rank_of};
 ghost use Rattle.std.specs.Prelude.{◌≡◌};
 
 use crate::timer::Timer;
@@ -7,8 +7,9 @@ use crate::timer::Timer;
 /// From this stamp on all have one rank.
 pub(crate) const LAST_STAMP: u64 = (1 << 48) - 1;
 
-/// Where a work's timer stands among the others: the timer of least rank fires first. In a rank stand when the timer is due, in 64 bits, its
-/// stamp, in 48, and the work, in 16. No timer has the rank of none, since no work has the number of all ones.
+/// Where a work's timer stands among the others: the timer of least rank fires first. In a rank stand the tick at which the timer is due, in 64
+/// bits, its stamp, in 48, and the work, in 16. A work without a timer has the rank of all ones, and no timer has that, since no work has the
+/// number of all ones.
 #[inline(always)]
 pub(crate) fn rank_of(timer: Option<Timer>) -> u128
     ensures { result ≡ rank_of timer }

@@ -4,7 +4,7 @@ ghost use Rattle.cmwq_timers.specs.Tree.{IsKept};
 ghost use Rattle.std.specs.Prelude.{◌≡◌, ◌<◌, IfOk, IfSome, length, None, replicate, slice_set, Some};
 
 use crate::rank::{LAST_STAMP, rank_of};
-use crate::scan::first_of_all;
+use crate::scan::first_scanned;
 use crate::timer::Timer;
 use crate::tree::{lower, raise};
 use cmwq_types::{NoMemory, WorkId, filled};
@@ -99,7 +99,7 @@ impl Timers {
         let rank = self.ranks.get(1)?;
         let timer = self.get(WorkId((*rank % (1 << 16)) as u16))?;
         if timer.stamp >= LAST_STAMP {
-            return *self.timers.get(first_of_all(&self.timers))?;
+            return *self.timers.get(first_scanned(&self.timers))?;
         }
         Some(timer)
     }

@@ -1,13 +1,13 @@
 //! The tree of ranks.
-ghost use Rattle.cmwq_timers.specs.Tree.{AreSettled, HasGiven, IsLeaf, rank_at};
+ghost use Rattle.cmwq_timers.specs.Tree.{IsTree, HasGiven, IsLeaf, rank_at};
 ghost use Rattle.std.specs.Prelude.{◌≡◌, ◌-◌, ◌^◌, ◌≤◌};
 
 /// Gives a leaf a lesser rank, and so each node above that had none so low.
 pub(crate) fn lower(ranks: &mut [u128], leaf: usize, rank: u128)
-    requires settled { AreSettled ranks.old }
+    requires tree { IsTree ranks.old }
     requires leaf { IsLeaf ranks.old leaf }
     requires lesser { rank ≤ rank_at ranks.old leaf }
-    ensures settled { AreSettled ranks.new }
+    ensures tree { IsTree ranks.new }
     ensures given { HasGiven ranks.old ranks.new leaf rank }
 {
     ranks[leaf] = rank;
@@ -25,9 +25,9 @@ pub(crate) fn lower(ranks: &mut [u128], leaf: usize, rank: u128)
 /// foretold, so it is found without a jump: both are read anew on each step, since of one that is kept from the step before a jump is made. A node
 /// has another rank than the leaf had where their lower halves, stamp and work, differ.
 pub(crate) fn raise(ranks: &mut [u128], leaf: usize)
-    requires settled { AreSettled ranks.old }
+    requires tree { IsTree ranks.old }
     requires leaf { IsLeaf ranks.old leaf }
-    ensures settled { AreSettled ranks.new }
+    ensures tree { IsTree ranks.new }
     ensures given { HasGiven ranks.old ranks.new leaf (2 ^ 128 - 1) }
 {
     let was = ranks[leaf];

@@ -3,8 +3,8 @@ use Rattle.cmwq_timers.specs.Tree.{rank_at}
 use Rattle.cmwq_timers.proofs.TreeLemmas.{IsRaising, raising-ends, raising-goes-up}
 use Rattle.cmwq_timers.proofs.tree.raise.Goals as goal
 
-pub returns-then-ranks-at-clause-settled : goal.returns-then-ranks-at-clause-settled
-returns-then-ranks-at-clause-settled c =
+pub returns-then-ranks-at-clause-tree : goal.returns-then-ranks-at-clause-tree
+returns-then-ranks-at-clause-tree c =
     let was = c.args.ranks.now in
     let differs = c.if-ranks-at.true in
     raising-ends was c.loop-at.ranks c.args.leaf (rank_at was c.args.leaf) (2 ^ 128 - 1) c.loop-at.at c.loop-at.invariant (λ above same. differs (ap (λ (rank : ℕ). rank % 2 ^ 64) same))

@@ -1,5 +1,4 @@
 use Rattle.std.proofs.Common.{◌-◌, ◌^◌}
-use Rattle.cmwq_timers.specs.Tree.{rank_at}
 use Rattle.cmwq_timers.proofs.TreeLemmas.{IsRaising}
 use Rattle.cmwq_timers.proofs.tree.raise.Given as goal
 

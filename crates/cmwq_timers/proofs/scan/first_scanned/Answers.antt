@@ -1,7 +1,7 @@
-use Rattle.std.proofs.Common.{rules, ◌≡◌, ◌<◌, ◌≤◌, length, None, arith, ap, sym, ◌∙◌}
+use Rattle.std.proofs.Common.{rules, ◌≡◌, length, None, arith, ap, sym, ◌∙◌}
 use Rattle.std.proofs.lemmas.List.{get_or_past}
 use Rattle.cmwq_timers.specs.Timers.{first_to_fire, timer_found}
-use Rattle.cmwq_timers.proofs.scan.first_of_all.Goals as goal
+use Rattle.cmwq_timers.proofs.scan.first_scanned.Goals as goal
 
 pub returns-in-None : goal.returns-in-None
 returns-in-None c =

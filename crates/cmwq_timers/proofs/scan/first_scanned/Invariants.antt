@@ -1,7 +1,7 @@
 use Rattle.std.proofs.Common.{◌≡◌, ◌<◌, IfSome, is_some}
 use Rattle.cmwq_types.specs.First.{first_below}
 use Rattle.cmwq_timers.specs.Timers.{fires_before, timer_at}
-use Rattle.cmwq_timers.proofs.scan.first_of_all.Given as goal
+use Rattle.cmwq_timers.proofs.scan.first_scanned.Given as goal
 
 -- the first of the works that were looked at
 abbrev pub invariant-loop-w : goal.invariant-loop-w
