@@ -35,7 +35,7 @@ IsTreeBut ranks node = (i : ℕ) → 0 < i → 2 * i < length ranks → i ≢ no
 abbrev pub IsTree : List ℕ → Type 0
 IsTree ranks = (i : ℕ) → 0 < i → 2 * i < length ranks → HasLesser ranks i
 
--- a leaf, of as many as there are works
+-- a leaf: the nodes are even in number, counted from 0, and the leaves are the second half
 pub record IsLeaf (ranks : List ℕ) (leaf : ℕ) : Type 0 where
   pub even : length ranks ≡ 2 * (length ranks / 2)
   pub above : length ranks ≤ 2 * leaf

@@ -1,5 +1,5 @@
 //! The tree of ranks.
-ghost use Rattle.cmwq_timers.specs.Tree.{IsTree, HasGiven, IsLeaf, rank_at};
+ghost use Rattle.cmwq_timers.specs.Tree.{HasGiven, IsLeaf, IsTree, rank_at};
 ghost use Rattle.std.specs.Prelude.{◌≡◌, ◌-◌, ◌^◌, ◌≤◌};
 
 /// Gives a leaf a lesser rank, and so each node above that had none so low.
@@ -21,9 +21,11 @@ pub(crate) fn lower(ranks: &mut [u128], leaf: usize, rank: u128)
     }
 }
 
-/// Gives a leaf the greatest rank, and each node above that had the leaf's the lesser of the two below it. Which of these is the lesser can't be
-/// foretold, so it is found without a jump: both are read anew on each step, since of one that is kept from the step before a jump is made. A node
-/// has another rank than the leaf had where their lower halves, stamp and work, differ.
+/// Gives a leaf the greatest rank, and each node above that had the leaf's the lesser of the two below it. A node has another rank than the leaf
+/// had where their lower halves differ, which are stamp and work.
+///
+/// Which of two ranks is the lesser can't be foretold, so it is found without a jump. Both are read on each step: where the one of the step before
+/// is kept, a jump is made, and one that the processor foretells wrongly costs more than all else here.
 pub(crate) fn raise(ranks: &mut [u128], leaf: usize)
     requires tree { IsTree ranks.old }
     requires leaf { IsLeaf ranks.old leaf }
