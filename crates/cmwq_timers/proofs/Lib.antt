@@ -1,2 +1,2 @@
-pub mod SettleLemmas
+pub mod LeastLemmas
 pub mod TreeLemmas

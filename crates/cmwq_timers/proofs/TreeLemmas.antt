@@ -1,194 +1,216 @@
--- Laws on the tree of winners: who stands at a node, and at the root.
-use Rattle.std.proofs.Common.{◌≡◌, ◌⊎◌, ℕ, zero, suc, ◌+◌, ◌-◌, ◌*◌, ◌/◌, ◌<◌, ◌≤◌, Bool, true, false, ◌||◌, ◌&&◌, ◌==◌, nat_lt, List, length, Option, Some, None, is_some, IfSome, cond, arith, refl, sym, ap, subst, ◌∙◌, inl, inr, ◌∷◌, map, replicate, set}
-use Rattle.std.proofs.lemmas.List.{get_or-replicate, length-replicate, map-set}
+-- Laws on the tree of ranks: what a change of one node does, up to the root.
+use Rattle.std.proofs.Common.{◌≡◌, ◌≢◌, ◌⊎◌, ℕ, ◌+◌, ◌-◌, ◌*◌, ◌/◌, ◌<◌, ◌≤◌, List, length, min, set, arith, refl, sym, ap, subst, ◌∙◌, inl, inr}
 use Rattle.std.proofs.lemmas.Bool.{cases_eq, cases_lt}
-use Rattle.std.proofs.lemmas.Bool.Decides.{nat_tests}
-use Rattle.cmwq_types.proofs.FirstLemmas.{by_least_two-order, first_below-unique, first_below-none}
-use Rattle.cmwq_timers.specs.declared.rank.Rank.{Rank}
-use Rattle.cmwq_timers.specs.declared.timer.Timer.{Timer}
-use Rattle.cmwq_timers.specs.Timers.{timer_at, timer_due, timer_stamp, fires_before, first_to_fire, least_timer}
-use Rattle.cmwq_timers.specs.Tree.{AreWinners, HasLeaves, HasWon, IsOwn, IsTree, lesser, no_rank, rank_at, rank_of, ranks_before, sooner, winner_at}
+use Rattle.std.proofs.lemmas.List.{get_or-set_same, get_or-set_other, length-set}
+use Rattle.cmwq_timers.specs.Tree.{IsTree, IsTreeBut, HasGiven, HasLesser, IsLeaf, rank_at}
 
--- ranks are ordered
-pub not_before_itself : (a : Rank) → ranks_before a a ≡ false
-not_before_itself a = grind (arith, nat_tests)
+-- the node that stands beside one
+abbrev pub beside : ℕ → ℕ
+beside node = 4 * (node / 2) + 1 - node
 
-pub one_way : (a b : Rank) → ranks_before a b ≡ true → ranks_before b a ≡ false
-one_way a b before = grind (arith, nat_tests)
+-- a node and the one beside it are the two below the one above
+pub pair : (ranks : List ℕ) (node : ℕ) → min (rank_at ranks (2 * (node / 2))) (rank_at ranks (2 * (node / 2) + 1)) ≡ min (rank_at ranks node) (rank_at ranks (beside node))
+pair ranks node = elim (cases_eq node (2 * (node / 2))) [
+  | inl even ↦
+      let right : 2 * (node / 2) + 1 ≡ beside node = omega (arith, even) in
+      ap (λ (k : ℕ). min (rank_at ranks k) (rank_at ranks (2 * (node / 2) + 1))) (sym even) ∙ ap (λ (k : ℕ). min (rank_at ranks node) (rank_at ranks k)) right
+  | inr odd ↦
+      let here : 2 * (node / 2) + 1 ≡ node = omega (arith, odd) in
+      let left : 2 * (node / 2) ≡ beside node = omega (arith, here) in
+      let swapped : min (rank_at ranks (beside node)) (rank_at ranks node) ≡ min (rank_at ranks node) (rank_at ranks (beside node)) = omega arith in
+      ap (λ (k : ℕ). min (rank_at ranks k) (rank_at ranks (2 * (node / 2) + 1))) left ∙ ap (λ (k : ℕ). min (rank_at ranks (beside node)) (rank_at ranks k)) here ∙ swapped
+]
 
-pub onward : (a b c : Rank) → ranks_before a b ≡ false → ranks_before b c ≡ false → ranks_before a c ≡ false
-onward a b c first second = grind (arith, nat_tests)
+-- One node has another rank.
+module _ (ranks : List ℕ) (node rank : ℕ) (inside : node < length ranks) where
+  abbrev new : List ℕ
+  new = set ranks node rank
 
-pub lesser-at : (timers : List (Option Timer)) (one other : ℕ) → lesser (rank_at timers one) (rank_at timers other) ≡ rank_at timers (sooner timers one other)
-lesser-at timers one other = by_test (ranks_before (rank_at timers other) (rank_at timers one))
-  where
-    by_test : (test : Bool) → cond test (rank_at timers other) (rank_at timers one) ≡ rank_at timers (cond test other one)
-    by_test true = refl
-    by_test false = refl
+  pub other : (i : ℕ) → i ≢ node → rank_at new i ≡ rank_at ranks i
+  other i apart = get_or-set_other ranks node i rank 0 apart
 
-pub sooner-won : (timers : List (Option Timer)) (one other : ℕ) → HasWon timers (sooner timers one other) one other
-sooner-won timers one other = by_test (ranks_before (rank_at timers other) (rank_at timers one)) refl
-  where
-    by_test : (test : Bool) → ranks_before (rank_at timers other) (rank_at timers one) ≡ test → HasWon timers (cond test other one) one other
-    by_test true e = record { is_one = inr refl; not_after_one = one_way (rank_at timers other) (rank_at timers one) e; not_after_other = not_before_itself (rank_at timers other) }
-    by_test false e = record { is_one = inl refl; not_after_one = not_before_itself (rank_at timers one); not_after_other = e }
+  pub here : rank_at new node ≡ rank
+  here = get_or-set_same ranks node rank 0 inside
 
-pub won-swapped : (timers : List (Option Timer)) (winner one other : ℕ) → HasWon timers winner one other → HasWon timers winner other one
-won-swapped timers winner one other is = record {
-  is_one = elim is.is_one [ inl left ↦ inr left | inr right ↦ inl right ];
-  not_after_one = is.not_after_other;
-  not_after_other = is.not_after_one;
+  -- a node that is neither that nor the one above it has the lesser rank as before
+  pub unmoved : (i : ℕ) → i ≢ node → i ≢ node / 2 → HasLesser ranks i → HasLesser new i
+  unmoved i apart below lesser =
+      let left = other (2 * i) (λ same. absurd (below (omega (arith, same)))) in
+      let right = other (2 * i + 1) (λ same. absurd (below (omega (arith, same)))) in
+      rw (other i apart, left, right) lesser
+
+  -- so has that one, where its rank is that of the two below it
+  pub lesser-here : 0 < node → rank ≡ min (rank_at ranks (2 * node)) (rank_at ranks (2 * node + 1)) → HasLesser new node
+  lesser-here above is =
+      let left = other (2 * node) (λ same. absurd (omega (arith, same, above))) in
+      let right = other (2 * node + 1) (λ same. absurd (omega (arith, same, above))) in
+      rw (here, left, right) is
+
+  -- above it and the one beside it
+  pub pair-new : 0 < node → min (rank_at new (2 * (node / 2))) (rank_at new (2 * (node / 2) + 1)) ≡ min rank (rank_at ranks (beside node))
+  pair-new above =
+      pair new node
+      ∙ ap (λ (r : ℕ). min r (rank_at new (beside node))) here
+      ∙ ap (min rank) (other (beside node) (λ same. absurd (omega (arith, same))))
+
+  pub above-new : 0 < node → rank_at new (node / 2) ≡ rank_at ranks (node / 2)
+  above-new above = other (node / 2) (λ same. absurd (omega (arith, same, above)))
+
+-- A change on its way up: all nodes but this one have the lesser ranks.
+pub record IsOnTheWay (was ranks : List ℕ) (leaf rank at : ℕ) : Type 0 where
+  pub even : length ranks ≡ 2 * (length ranks / 2)
+  pub below : length ranks ≤ 2 * leaf
+  pub inside : 2 * at < length ranks
+  pub given : HasGiven was ranks leaf rank
+  pub but : IsTreeBut ranks at
+
+sets-out : (ranks : List ℕ) (leaf rank : ℕ) → IsTree ranks → IsLeaf ranks leaf → IsOnTheWay ranks (set ranks leaf rank) leaf rank (leaf / 2)
+sets-out ranks leaf rank tree is =
+    let long = length-set ranks leaf rank in
+    let inside = is.inside in
+    let above = is.above in
+    let even = is.even in
+    record {
+      even = omega (arith, long, even);
+      below = omega (arith, long, above);
+      inside = omega (arith, long, inside, even);
+      given = record {
+        long = long;
+        here = here ranks leaf rank inside;
+        others = λ l leaf_too apart. other ranks leaf rank inside l apart;
+      };
+      but = λ i low inner apart. unmoved ranks leaf rank inside i (λ same. absurd (omega (arith, same, inner, above, long))) apart (tree i low (omega (arith, inner, long)));
+    }
+
+goes-up : (was ranks : List ℕ) (leaf rank at next : ℕ) → IsOnTheWay was ranks leaf rank at → 0 < at → next ≡ min (rank_at ranks (2 * at)) (rank_at ranks (2 * at + 1))
+    → IsOnTheWay was (set ranks at next) leaf rank (at / 2)
+goes-up was ranks leaf rank at next way low lesser =
+    let long = length-set ranks at next in
+    let inner = way.inside in
+    let inside : at < length ranks = omega (arith, inner) in
+    let even = way.even in
+    let below = way.below in
+    let given = way.given in
+    let as_long = given.long in
+    record {
+      even = omega (arith, long, even);
+      below = omega (arith, long, below);
+      inside = omega (arith, long, inner);
+      given = record {
+        long = long ∙ as_long;
+        here = other ranks at next inside leaf (λ same. absurd (omega (arith, same, inner, below))) ∙ given.here;
+        others = λ l leaf_too apart. other ranks at next inside l (λ same. absurd (omega (arith, same, inner, leaf_too, as_long))) ∙ given.others l leaf_too apart;
+      };
+      but = λ i above i_inner apart.
+          elim (cases_eq i at) [
+            | inl same ↦ subst (HasLesser (set ranks at next)) (sym same) (lesser-here ranks at next inside low lesser)
+            | inr differs ↦ unmoved ranks at next inside i differs apart (way.but i above (omega (arith, i_inner, long)) differs)
+          ];
+    }
+
+ends : (was ranks : List ℕ) (leaf rank at : ℕ) → IsOnTheWay was ranks leaf rank at → (0 < at → HasLesser ranks at) → IsTree ranks
+ends was ranks leaf rank at way here i above inner =
+    elim (cases_eq i at) [
+      | inl same ↦ subst (HasLesser ranks) (sym same) (here (omega (arith, same, above)))
+      | inr differs ↦ way.but i above inner differs
+    ]
+
+-- the node above, on the way
+above-on : (was ranks : List ℕ) (leaf rank at : ℕ) → IsOnTheWay was ranks leaf rank at → 0 < at → 0 < at / 2 → HasLesser ranks (at / 2)
+above-on was ranks leaf rank at way low above =
+    let inner = way.inside in
+    way.but (at / 2) above (omega (arith, inner)) (λ same. absurd (omega (arith, same, low)))
+
+-- and above a leaf
+above-leaf : (ranks : List ℕ) (leaf : ℕ) → IsTree ranks → IsLeaf ranks leaf → 0 < leaf / 2 → HasLesser ranks (leaf / 2)
+above-leaf ranks leaf tree is above =
+    let inside = is.inside in
+    let even = is.even in
+    tree (leaf / 2) above (omega (arith, inside, even))
+
+-- A lesser rank: where it counts as well, this node has the lesser one too.
+abbrev pub Counts : List ℕ → ℕ → ℕ → Type 0
+Counts ranks rank at = 0 < at → min (rank_at ranks at) rank ≡ min (rank_at ranks (2 * at)) (rank_at ranks (2 * at + 1))
+
+counts-above : (ranks : List ℕ) (node rank : ℕ) → node < length ranks → (0 < node / 2 → HasLesser ranks (node / 2)) → rank ≤ rank_at ranks node → Counts (set ranks node rank) rank (node / 2)
+counts-above ranks node rank inside lesser less above =
+    let low : 0 < node = omega (arith, above) in
+    let is : rank_at ranks (node / 2) ≡ min (rank_at ranks node) (rank_at ranks (beside node)) = lesser above ∙ pair ranks node in
+    let least : min (rank_at ranks (node / 2)) rank ≡ min rank (rank_at ranks (beside node)) = omega (arith, is, less) in
+    ap (λ (r : ℕ). min r rank) (above-new ranks node rank inside low) ∙ least ∙ sym (pair-new ranks node rank inside low)
+
+pub record IsLowering (was ranks : List ℕ) (leaf rank at : ℕ) : Type 0 where
+  pub way : IsOnTheWay was ranks leaf rank at
+  pub counts : Counts ranks rank at
+
+pub lowering-sets-out : (ranks : List ℕ) (leaf rank : ℕ) → IsTree ranks → IsLeaf ranks leaf → rank ≤ rank_at ranks leaf → IsLowering ranks (set ranks leaf rank) leaf rank (leaf / 2)
+lowering-sets-out ranks leaf rank tree is less = record {
+  way = sets-out ranks leaf rank tree is;
+  counts = counts-above ranks leaf rank is.inside (above-leaf ranks leaf tree is) less;
 }
 
--- no winner fires before the root's
-root_least : (timers : List (Option Timer)) (winners : List ℕ) → AreWinners timers winners → (fuel i : ℕ) → i ≤ fuel → 0 < i → i < 2 * length timers
-    → ranks_before (rank_at timers (winner_at winners i)) (rank_at timers (winner_at winners 1)) ≡ false
-root_least timers winners are zero i bound above inside = absurd (omega arith)
-root_least timers winners are (suc fuel) i bound above inside =
-    let rank : ℕ → Rank = λ node. rank_at timers (winner_at winners node) in
-    elim (cases_lt 1 i) [
+pub lowering-goes-up : (was ranks : List ℕ) (leaf rank at : ℕ) → IsLowering was ranks leaf rank at → 0 < at → rank < rank_at ranks at → IsLowering was (set ranks at rank) leaf rank (at / 2)
+lowering-goes-up was ranks leaf rank at lowering low less =
+    let way = lowering.way in
+    let inner = way.inside in
+    let counts = lowering.counts low in
+    record {
+      way = goes-up was ranks leaf rank at rank way low (omega (arith, counts, less));
+      counts = counts-above ranks at rank (omega (arith, inner)) (above-on was ranks leaf rank at way low) (omega (arith, less));
+    }
+
+pub lowering-ends : (was ranks : List ℕ) (leaf rank at : ℕ) → IsLowering was ranks leaf rank at → (0 < at → rank_at ranks at ≤ rank) → IsTree ranks
+lowering-ends was ranks leaf rank at lowering least = ends was ranks leaf rank at lowering.way (λ low. let no_more = least low in let counts = lowering.counts low in omega (arith, no_more, counts))
+
+-- A greater rank: this node has the lesser one, or it has the rank that the leaf had, and those below it have none lower.
+abbrev pub HadIt : List ℕ → ℕ → ℕ → Type 0
+HadIt ranks low at = 0 < at → HasLesser ranks at ⊎ ((rank_at ranks at ≡ low) × (low ≤ min (rank_at ranks (2 * at)) (rank_at ranks (2 * at + 1))))
+
+had-above : (ranks : List ℕ) (node rank low : ℕ) → node < length ranks → (0 < node / 2 → HasLesser ranks (node / 2)) → rank_at ranks node ≡ low → low ≤ rank → HadIt (set ranks node rank) low (node / 2)
+had-above ranks node rank low inside lesser was no_less above =
+    let high : 0 < node = omega (arith, above) in
+    let is : rank_at ranks (node / 2) ≡ min (rank_at ranks node) (rank_at ranks (beside node)) = lesser above ∙ pair ranks node in
+    let stays = above-new ranks node rank inside high in
+    let both = pair-new ranks node rank inside high in
+    elim (cases_lt (rank_at ranks (beside node)) low) [
       | inl lower ↦
-          let parent = are.won (i / 2) (omega arith) (omega arith) in
-          let far = root_least timers winners are fuel (i / 2) (omega arith) (omega arith) (omega arith) in
-          elim (cases_eq i (2 * (i / 2))) [
-            | inl even ↦ onward (rank i) (rank (i / 2)) (rank 1) (ap (λ (k : ℕ). ranks_before (rank k) (rank (i / 2))) even ∙ parent.not_after_one) far
-            | inr odd ↦
-                let here : i ≡ 2 * (i / 2) + 1 = omega (arith, odd) in
-                onward (rank i) (rank (i / 2)) (rank 1) (ap (λ (k : ℕ). ranks_before (rank k) (rank (i / 2))) here ∙ parent.not_after_other) far
-          ]
-      | inr here ↦
-          let same : i ≡ 1 = omega arith in
-          ap (λ (k : ℕ). ranks_before (rank k) (rank 1)) same ∙ not_before_itself (rank 1)
+          let least : rank_at ranks (node / 2) ≡ min rank (rank_at ranks (beside node)) = omega (arith, is, was, no_less, lower) in
+          inl (stays ∙ least ∙ sym both)
+      | inr higher ↦
+          let had : rank_at ranks (node / 2) ≡ low = omega (arith, is, was, higher) in
+          let none_lower : low ≤ min rank (rank_at ranks (beside node)) = omega (arith, no_less, higher) in
+          inr (stays ∙ had, subst (λ (r : ℕ). low ≤ r) (sym both) none_lower)
     ]
 
--- each winner is a work
-pub won-inside : (works : ℕ) (winners : List ℕ) → HasLeaves works winners
-    → ((i : ℕ) → 0 < i → i < works → (winner_at winners i ≡ winner_at winners (2 * i)) ⊎ (winner_at winners i ≡ winner_at winners (2 * i + 1)))
-    → (fuel i : ℕ) → 2 * works ≤ fuel + i → 0 < i → i < 2 * works → winner_at winners i < works
-won-inside works winners tree one zero i bound above inside = absurd (omega arith)
-won-inside works winners tree one (suc fuel) i bound above inside =
-    elim (cases_lt i works) [
-      | inl inner ↦
-          elim (one i above inner) [
-            | inl left ↦ rw left (won-inside works winners tree one fuel (2 * i) (omega arith) (omega arith) (omega arith))
-            | inr right ↦ rw right (won-inside works winners tree one fuel (2 * i + 1) (omega arith) (omega arith) (omega arith))
-          ]
-      | inr leaf ↦
-          let at : i ≡ works + (i - works) = omega arith in
-          rw (ap (winner_at winners) at ∙ tree.leaves (i - works) (omega arith)) (omega arith)
-    ]
+pub record IsRaising (was ranks : List ℕ) (leaf low most at : ℕ) : Type 0 where
+  pub way : IsOnTheWay was ranks leaf most at
+  pub had : HadIt ranks low at
 
--- From the order of ranks to the order in which timers fire.
-abbrev pub fires : Timer → Timer → Bool
-fires a b = nat_lt a.due b.due || ((a.due == b.due) && nat_lt a.stamp b.stamp)
+pub raising-sets-out : (ranks : List ℕ) (leaf most : ℕ) → IsTree ranks → IsLeaf ranks leaf → rank_at ranks leaf ≤ most → IsRaising ranks (set ranks leaf most) leaf (rank_at ranks leaf) most (leaf / 2)
+raising-sets-out ranks leaf most tree is no_more = record {
+  way = sets-out ranks leaf most tree is;
+  had = had-above ranks leaf most (rank_at ranks leaf) is.inside (above-leaf ranks leaf tree is) refl no_more;
+}
 
-pub fires_after_lower : (r t : Timer) (v w : ℕ) → IsOwn w r → IsOwn v t → ranks_before (rank_of (Some t)) (rank_of (Some r)) ≡ false → v < w → fires r t ≡ true
-fires_after_lower r t v w own_r own_t later lower =
-    let r_is = own_r.work_is in
-    let t_is = own_t.work_is in
-    let r_small = own_r.stamp in
-    let t_small = own_t.stamp in
-    grind (arith, nat_tests)
+pub raising-goes-up : (was ranks : List ℕ) (leaf low most at : ℕ) → IsRaising was ranks leaf low most at → 0 < at
+    → IsRaising was (set ranks at (min (rank_at ranks (2 * at)) (rank_at ranks (2 * at + 1)))) leaf low most (at / 2)
+raising-goes-up was ranks leaf low most at raising high =
+    let way = raising.way in
+    let inner = way.inside in
+    let inside : at < length ranks = omega (arith, inner) in
+    let next = min (rank_at ranks (2 * at)) (rank_at ranks (2 * at + 1)) in
+    record {
+      way = goes-up was ranks leaf most at next way high refl;
+      had =
+          elim (raising.had high) [
+            | inl lesser ↦ λ above.
+                inl (
+                above-new ranks at next inside high ∙ above-on was ranks leaf most at way high above ∙ pair ranks at
+                ∙ ap (λ (r : ℕ). min r (rank_at ranks (beside at))) lesser ∙ sym (pair-new ranks at next inside high)
+                )
+            | inr had ↦ had-above ranks at next low inside (above-on was ranks leaf most at way high) had.0 had.1
+          ];
+    }
 
-pub fires_not_before : (r t : Timer) (v w : ℕ) → IsOwn w r → IsOwn v t → ranks_before (rank_of (Some t)) (rank_of (Some r)) ≡ false → fires t r ≡ false
-fires_not_before r t v w own_r own_t later =
-    let r_small = own_r.stamp in
-    let t_small = own_t.stamp in
-    grind (arith, nat_tests)
-
--- each timer's rank comes before that of no timer
-pub before_none : (t : Timer) (w : ℕ) → IsOwn w t → w < 65535 → ranks_before (rank_of (Some t)) no_rank ≡ true
-before_none t w own inside =
-    let is = own.work_is in
-    let due_small = own.due in
-    let stamp_small = own.stamp in
-    grind (arith, nat_tests)
-
--- a work that has a timer
-pub record HasOwn (timers : List (Option Timer)) (w : ℕ) : Type 0 where
-  pub timer : Timer
-  pub is : timer_at timers w ≡ Some timer
-  pub own : IsOwn w timer
-
-pub has_own : (timers : List (Option Timer)) (w : ℕ) → IfSome (timer_at timers w) (IsOwn w) → is_some (timer_at timers w) ≡ true → HasOwn timers w
-has_own timers w own has = by_cases (timer_at timers w) refl own has
-  where
-    by_cases : (o : Option Timer) → timer_at timers w ≡ o → IfSome o (IsOwn w) → is_some o ≡ true → HasOwn timers w
-    by_cases None is own has = absurd (cc)
-    by_cases (Some t) is own has = record { timer = t; is = is; own = own }
-
-module _ (timers : List (Option Timer)) (winners : List ℕ) (kept : IsTree timers winners) where
-  -- no work's timer fires before that of the root's winner
-  root_before : (w : ℕ) → w < length timers → ranks_before (rank_at timers w) (rank_at timers (winner_at winners 1)) ≡ false
-  root_before w inside =
-      let n = length timers in
-      ap (λ (v : ℕ). ranks_before (rank_at timers v) (rank_at timers (winner_at winners 1))) (sym (kept.won.tree.leaves w inside))
-      ∙ root_least timers winners kept.won (n + w) (n + w) (omega arith) (omega arith) (omega arith)
-
-  -- the root's winner, where it has a timer, fires first
-  first_is : (w : ℕ) (r : Timer) → winner_at winners 1 ≡ w → w < length timers → timer_at timers w ≡ Some r → first_to_fire timers ≡ Some w
-  first_is w r root inside is =
-      first_below-unique (fires_before timers) (λ w. is_some (timer_at timers w)) (length timers) w (by_least_two-order (λ w. timer_due (timer_at timers w)) (λ w. timer_stamp (timer_at timers w))) inside (rw is refl)
-      (λ k lower has.
-      let k_inside : k < length timers = omega (arith, lower, inside) in
-      let other = has_own timers k (kept.own k k_inside) has in
-      rw (is, other.is) (fires_after_lower r other.timer k w own other.own (later k other.timer k_inside other.is) lower))
-      (λ k k_inside has.
-      let other = has_own timers k (kept.own k k_inside) has in
-      rw (is, other.is) (fires_not_before r other.timer k w own other.own (later k other.timer k_inside other.is)))
-    where
-      own : IsOwn w r
-      own = subst (λ (o : Option Timer). IfSome o (IsOwn w)) is (kept.own w inside)
-
-      later : (k : ℕ) (t : Timer) → k < length timers → timer_at timers k ≡ Some t → ranks_before (rank_of (Some t)) (rank_of (Some r)) ≡ false
-      later k t k_inside t_is =
-          ap (λ (o : Option Timer). ranks_before (rank_of o) (rank_of (Some r))) (sym t_is)
-          ∙ ap (λ (o : Option Timer). ranks_before (rank_at timers k) (rank_of o)) (sym is)
-          ∙ ap (λ (v : ℕ). ranks_before (rank_at timers k) (rank_at timers v)) (sym root)
-          ∙ root_before k k_inside
-
-  -- where the root's winner has no timer, there is none
-  none_is : timer_at timers (winner_at winners 1) ≡ None → first_to_fire timers ≡ None
-  none_is none =
-      first_below-none (fires_before timers) (λ w. is_some (timer_at timers w)) (length timers) (by_least_two-order (λ w. timer_due (timer_at timers w)) (λ w. timer_stamp (timer_at timers w)))
-      (λ k inside. no_timer k inside (is_some (timer_at timers k)) refl)
-    where
-      no_timer : (k : ℕ) → k < length timers → (b : Bool) → is_some (timer_at timers k) ≡ b → is_some (timer_at timers k) ≡ false
-      no_timer k inside false e = e
-      no_timer k inside true e =
-          let other = has_own timers k (kept.own k inside) e in
-          let before = before_none other.timer k other.own (omega (arith, inside, kept.won.tree.fits)) in
-          let not_before : ranks_before (rank_of (Some other.timer)) no_rank ≡ false =
-          ap (λ (o : Option Timer). ranks_before (rank_of o) no_rank) (sym other.is)
-          ∙ ap (λ (o : Option Timer). ranks_before (rank_at timers k) (rank_of o)) (sym none)
-          ∙ root_before k inside
-          in
-          absurd (cc)
-
-  -- the timer of the root's winner fires first, and there is none where that work has none
-  pub root_is_least : 0 < length timers → timer_at timers (winner_at winners 1) ≡ least_timer timers
-  root_is_least some_room = by_cases (timer_at timers (winner_at winners 1)) refl
-    where
-      by_cases : (o : Option Timer) → timer_at timers (winner_at winners 1) ≡ o → timer_at timers (winner_at winners 1) ≡ least_timer timers
-      by_cases None is = rw (none_is is) is
-      by_cases (Some r) is =
-          let inside = won-inside (length timers) winners kept.won.tree (λ i above inner. (kept.won.won i above inner).is_one) (2 * length timers) 1 (omega arith) (omega arith) (omega (arith, some_room)) in
-          rw (first_is (winner_at winners 1) r refl inside is) refl
-
--- Ranks beside the timers.
-
--- no work has a timer
-pub ranked_new : (works : ℕ) → replicate works no_rank ≡ map rank_of (replicate works None)
-ranked_new zero = refl
-ranked_new (suc n) = ap (λ (ranks : List Rank). no_rank ∷ ranks) (ranked_new n)
-
--- the tree then
-pub tree_new : (works : ℕ) (timers : List (Option Timer)) (winners : List ℕ) → timers ≡ replicate works None → AreWinners (replicate works None) winners → IsTree timers winners
-tree_new works timers winners is won = subst (λ (ts : List (Option Timer)). IsTree ts winners) (sym is) (record {
-  own = λ w inside. subst (λ (o : Option Timer). IfSome o (IsOwn w)) (sym (get_or-replicate works w None None (subst (λ (n : ℕ). w < n) (length-replicate works None) inside))) tt;
-  won = won;
-})
-
--- one work has another timer
-pub ranked_with : (timers : List (Option Timer)) (ranks : List Rank) (work : ℕ) (timer : Option Timer) → ranks ≡ map rank_of timers → set ranks work (rank_of timer) ≡ map rank_of (set timers work timer)
-ranked_with timers ranks work timer is = ap (λ (rs : List Rank). set rs work (rank_of timer)) is ∙ sym (map-set rank_of timers work timer)
+pub raising-ends : (was ranks : List ℕ) (leaf low most at : ℕ) → IsRaising was ranks leaf low most at → (0 < at → rank_at ranks at ≢ low) → IsTree ranks
+raising-ends was ranks leaf low most at raising apart = ends was ranks leaf most at raising.way (λ above. elim (raising.had above) [ inl lesser ↦ lesser | inr had ↦ absurd (apart above had.0) ])

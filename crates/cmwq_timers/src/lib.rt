@@ -2,8 +2,10 @@
 #![tactic(auto)]
 
 mod rank;
+mod scan;
 mod timer;
 mod timers;
+mod tree;
 
 pub use timer::Timer;
 pub use timers::Timers;
