@@ -10,11 +10,11 @@ use crate::checking::same;
 use cmwq_lock::{Call, Drawn, Kept, NotDrawn, NotDrawnWhy, NotYet, Opener, Pass, TicketLock};
 use std::alloc::Global;
 use std::process::Abort;
-use std::sync::Wait;
+use std::sync::{Barrier, Wait};
 use std::thread::{self, Threads};
 
 /// The most turns that a history has room for.
-const ROOM: usize = 200_000;
+const ROOM: usize = 800_000;
 
 /// A turn as the history has it: its ticket, its caller, and how many turns this caller had begun before.
 #[derive(Clone, Copy, Debug, PartialEq, Eq)]
@@ -130,9 +130,10 @@ fn one_turn<R: Wait + Abort>(
     }
 }
 
-/// A caller's turns.
+/// A caller's turns, which begin once all callers are there.
 fn turns<R: Wait + Abort>(
     rt: &R,
+    start: &Barrier,
     lock: &TicketLock<History>,
     pass: Pass<History>,
     count: u32,
@@ -140,6 +141,7 @@ fn turns<R: Wait + Abort>(
     requires { IsPassOf ⟦<History as Kept>⟧ lock.now pass }
     ensures { IsPassOf ⟦<History as Kept>⟧ lock.now result }
 {
+    start.wait(rt);
     let mut pass = pass;
     for number in 0..count {
         pass = one_turn(rt, lock, pass, number);
@@ -178,7 +180,11 @@ fn all_turns<R: Threads + Wait + Abort + Sync>(
     requires { All (IsPassOf ⟦<History as Kept>⟧ lock.now) passes.items }
     ensures { All (IsPassOf ⟦<History as Kept>⟧ lock.now) result.items }
 {
-    thread::map_vec(rt, passes, &|pass| turns(rt, lock, pass, count)).expect(rt, "memory is left")
+    let start = Barrier::new(passes.len());
+    thread::map_vec(rt, passes, &|pass| turns(rt, &start, lock, pass, count)).expect(
+        rt,
+        "memory is left",
+    )
 }
 
 fn retire_all(lock: &TicketLock<History>, opener: &mut Opener<History>, passes: Vec<Pass<History>>)
@@ -231,14 +237,14 @@ fn check_load<R: Threads + Wait + Abort + Sync>(rt: &R, alloc: Global, callers: 
     }
 }
 
-/// 200,000 turns.
+/// 800,000 turns.
 #[test]
 fn eight_threads_leave_one_history(rt: HostRuntime) {
-    check_load(&rt, rt.alloc(), 8, 25_000);
+    check_load(&rt, rt.alloc(), 8, 100_000);
 }
 
-/// 64,000 turns.
+/// 128,000 turns.
 #[test]
 fn sixty_four_threads_leave_one_history(rt: HostRuntime) {
-    check_load(&rt, rt.alloc(), 64, 1_000);
+    check_load(&rt, rt.alloc(), 64, 2_000);
 }
