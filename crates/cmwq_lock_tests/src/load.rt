@@ -149,7 +149,7 @@ fn turns<R: Wait + Abort>(
     pass
 }
 
-/// So many passes.
+/// Gives out so many passes.
 fn passes_of(
     rt: &impl Abort,
     alloc: Global,
@@ -197,7 +197,7 @@ fn retire_all(lock: &TicketLock<History>, opener: &mut Opener<History>, passes: 
     }
 }
 
-/// The history that so many callers leave, each with so many turns.
+/// The history that so many callers leave, each with so many turns. All passes come back, and all threads have ended.
 fn history_of<R: Threads + Wait + Abort + Sync>(
     rt: &R,
     alloc: Global,
@@ -237,13 +237,13 @@ fn check_load<R: Threads + Wait + Abort + Sync>(rt: &R, alloc: Global, callers: 
     }
 }
 
-/// 800,000 turns.
+/// 100,000 turns each, 800,000 in all.
 #[test]
 fn eight_threads_leave_one_history(rt: HostRuntime) {
     check_load(&rt, rt.alloc(), 8, 100_000);
 }
 
-/// 128,000 turns.
+/// 2,000 turns each, 128,000 in all: with more threads than cores each turn waits longer for one certain thread.
 #[test]
 fn sixty_four_threads_leave_one_history(rt: HostRuntime) {
     check_load(&rt, rt.alloc(), 64, 2_000);
