@@ -252,20 +252,38 @@ def counting(count):
     return scenario, [*((line, "", said) for line, said in known.items()), ("debug FILE", *session)]
 
 
+def taken_from(path):
+    """What a file has that a command made, if it did, which is then gone."""
+    content = hostile.bytes_of(path) if os.path.exists(path) else b""
+    if os.path.exists(path):
+        os.remove(path)
+    return content
+
+
 class Limits:
     """Has the program read inputs, and notes which end otherwise than they should."""
 
     def __init__(self, program, room):
         self.program, self.room, self.path, self.tried, self.faults = os.path.abspath(program), room, f"{room}/input", 0, []
 
-    def run(self, line, content, given=""):
+    def run(self, line, content, given="", errors=subprocess.PIPE):
         """What a command line over a file ends with: its status, its output and its errors."""
         with open(self.path, "wb") as it:
             it.write(content)
         self.tried += 1
         words = [self.path if it == "FILE" else it for it in line.split(" ")]
-        ran = subprocess.run([self.program, *words], cwd=self.room, input=given.encode(), stdout=subprocess.PIPE, stderr=subprocess.PIPE, timeout=MOST_SECONDS)
-        return ran.returncode, ran.stdout.decode("utf-8", "replace"), ran.stderr.decode("utf-8", "replace")
+        ran = subprocess.run([self.program, *words], cwd=self.room, input=given.encode(), stdout=subprocess.PIPE, stderr=errors, timeout=MOST_SECONDS)
+        return ran.returncode, ran.stdout.decode("utf-8", "replace"), (ran.stderr or b"").decode("utf-8", "replace")
+
+    def run_at_terminal(self, line, content):
+        """The same, with a terminal for its errors."""
+        ours, theirs = os.openpty()
+        os.set_blocking(ours, False)
+        status, said, _ = self.run(line, content, errors=theirs)
+        with open(ours, "rb", buffering=0) as it:
+            shown = it.read(4096) or b""
+        os.close(theirs)
+        return status, said, shown.decode("utf-8", "replace").replace("\r\n", "\n")
 
     def want(self, what, found, ends, output=None):
         """Notes what ends otherwise. No output is wanted where it is None."""
@@ -285,7 +303,7 @@ class Limits:
         self.want_listed(f"{what} the text", "list FILE", text(**parts), text(**parts))
         self.want_listed(f"{what} the image", "show FILE", image(**parts), text(**parts))
         self.want(f"{what} asm", self.run("asm FILE out", text(**parts)), GOOD, "")
-        self.faults += [] if hostile.bytes_of(f"{self.room}/out") == image(**parts) else [f"{what} asm makes another image than is wanted"]
+        self.faults += [] if taken_from(f"{self.room}/out") == image(**parts) else [f"{what} asm makes another image than is wanted"]
 
     def try_refused(self, row, value, reason):
         """A text's fault is told at its line."""
@@ -325,6 +343,14 @@ class Limits:
         for size in (63, 64, 65):
             told = f"{self.path}:1:1: {'x' * min(size, 64)}: BadWord\n  a line here may begin with: cpus\n"
             self.want(f"check of a word of {size} bytes", self.run("check FILE", b"x" * size), (1, told), "")
+
+    def try_terminal(self):
+        """A line of which all is shown, and not all; a column that is shown, and one behind it."""
+        for line, is_shown in [(b"x" * 100, True), (b"x" * 101, True), (b" " * 99 + b"x", True), (b" " * 100 + b"x", False)]:
+            column, word = line.index(b"x") + 1, line.strip().decode()[:64]
+            shown = f"  {line.decode()[:100]}\n  {' ' * (column - 1)}^\n" if is_shown else ""
+            told = f"{self.path}:1:{column}: {word}: \x1b[1;31mBadWord\x1b[0m\n{shown}  a line here may begin with: cpus\n"
+            self.want(f"check of {line[-2:]}, {len(line)} bytes, at a terminal", self.run_at_terminal("check FILE", line), (1, told), "")
 
     def try_other_sizes(self):
         """The debugger's commands, of which one more byte is too long, and images that are longer than the longest."""
@@ -369,7 +395,7 @@ class Limits:
             self.try_row(row)
         for patch in PATCHES:
             self.try_patch(*patch)
-        for part in (self.try_runs, self.try_longest_text, self.try_check, self.try_other_sizes, self.try_counts, self.try_actors):
+        for part in (self.try_runs, self.try_longest_text, self.try_check, self.try_terminal, self.try_other_sizes, self.try_counts, self.try_actors):
             part()
 
 
@@ -438,10 +464,10 @@ def play_is_well(program, room, played):
 def output_faults(program, room, outputs):
     """Which outputs are otherwise than they should be: the listings, the image, the runs that are the same, and the play."""
     printed, drawn, told = (outputs[line] for line in (f"run {ONE}", f"draw {ONE} --from 0 --to 500", f"run --tell {ONE}"))
-    listing, image_made = hostile.bytes_of(f"{room}/{ALL}"), hostile.bytes_of(f"{room}/made.image") if os.path.exists(f"{room}/made.image") else b""
+    listing = hostile.bytes_of(f"{room}/{ALL}")
     same = {f"list {ALL}": listing, "show all.image": listing, f"settle {ONE}": hostile.bytes_of(f"{room}/{ONE}"), f"run --settle {ONE}": printed}
     checks = {line: outputs[line] == content for line, content in {**same, f"draw {ONE} --from 0 --to 500 --settle": drawn}.items()}
-    checks[f"asm {ALL} made.image"] = image_made == hostile.bytes_of(f"{room}/all.image")
+    checks[f"asm {ALL} made.image"] = taken_from(f"{room}/made.image") == hostile.bytes_of(f"{room}/all.image")
     checks[f"run --tell {ONE}"] = printed and b"".join(line for line in told.splitlines(True) if not line.startswith(b"#")) == printed
     checks[f"play {ALL} --capacity 4096"] = play_is_well(program, room, outputs[f"play {ALL} --capacity 4096"])
     return [f"{line} has another output than it should" for line, is_well in checks.items() if not is_well]
