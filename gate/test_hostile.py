@@ -111,9 +111,17 @@ exit 1
 """
 
 
+def shell_program(room, script):
+    """A program of these lines of a shell."""
+    with open(f"{room}/shell", "w", encoding="utf-8") as it:
+        it.write(f"#!/bin/sh\n{script}")
+    os.chmod(f"{room}/shell", 0o755)
+    return f"{room}/shell"
+
+
 def check_fuzz(room):
     """What each stand-in does, and what fails of it."""
-    program, fuzz.SECONDS = f"{room}/shell", 1
+    fuzz.SECONDS = 1
     for script, wanted in [
         (TELLS, None),
         ("kill -SEGV $$\n", "it ends by signal 11"),
@@ -131,10 +139,7 @@ def check_fuzz(room):
         ("[ \"$1\" = debug ] && wc -c\n" + TELLS, "position 0 is another"),
         ("[ \"$1\" = run ] && [ -e late.cmwq ] && : > late.cmwq\n" + TELLS, "have changed"),
     ]:
-        with open(program, "w", encoding="utf-8") as it:
-            it.write(f"#!/bin/sh\n{script}")
-        os.chmod(program, 0o755)
-        failures = fuzz.fuzzed(program, "a seed", range(120), 600)[1]
+        failures = fuzz.fuzzed(shell_program(room, script), "a seed", range(120), 600)[1]
         for failure in failures:
             shutil.rmtree(re.search(r" in (\S+), with the file given", failure)[1])
         assert any(wanted in failure for failure in failures) if wanted else not failures, (script, failures)
@@ -142,10 +147,7 @@ def check_fuzz(room):
 
 def check_cuts(room):
     """A program that takes whatever it is given, and says nothing; and one whose `check` alone refuses."""
-    program = f"{room}/shell"
-    with open(program, "w", encoding="utf-8") as it:
-        it.write("#!/bin/sh\n[ $1 != check ]\n")
-    cutting, text = cut_inputs.Cutting(program, room), b"cpus 1\nworkers 1\n"
+    cutting, text = cut_inputs.Cutting(shell_program(room, "[ $1 != check ]\n"), room), b"cpus 1\nworkers 1\n"
     assert list(map(len, (cutting.image_faults(b"CMWQ12"), cutting.text_faults(text), cutting.spoilt_faults(text), cutting.line_faults(text)))) == [6, 18, 2, 3]
     assert cut_inputs.first_scenario()[1][:6] == b"CMWQ\0\3"
 
@@ -158,14 +160,6 @@ case $cpus in
 *) echo 'line 1: Range' >&2; exit 1;;
 esac
 """
-
-
-def shell_program(room, script):
-    """A program of these lines of a shell."""
-    with open(f"{room}/shell", "w", encoding="utf-8") as it:
-        it.write(f"#!/bin/sh\n{script}")
-    os.chmod(f"{room}/shell", 0o755)
-    return f"{room}/shell"
 
 
 def check_limits(room):
