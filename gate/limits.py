@@ -399,14 +399,13 @@ class Limits:
             part()
 
 
-# The greatest scenario with all actors; with one who has as many instructions as there may be; and with one who has fewer, for `why` that looks
-# at settled positions alone, which takes over a minute for as many.
-ALL, ONE, FEWER = "all.cmwq", "one.cmwq", "fewer.cmwq"
-GREATEST = {ALL: (16, MOST_INSTRUCTIONS, 2000), ONE: (1, MOST_INSTRUCTIONS, 2000), FEWER: (1, 40_000, 60)}
+# The greatest scenario with all actors, and with one.
+ALL, ONE = "all.cmwq", "one.cmwq"
+GREATEST = {ALL: (16, MOST_INSTRUCTIONS, 2000), ONE: (1, MOST_INSTRUCTIONS, 2000)}
 LAST = longest("w", 255)
 SESSION = "".join([*(f"{line}\n" for line, _ in SIXTEEN), "run\nrun\n", f"goto {MOST_INSTRUCTIONS}\nback 1\n", *(f"why {longest('w', at)}\n" for at in range(256)), "goto 3000\ndump\nwhy flush 0\n"])
 MEASURED = [(line, "") for line in f"""
-check {ALL} {ONE} {FEWER}
+check {ALL} {ONE}
 list {ALL}
 asm {ALL} made.image
 show all.image
@@ -422,8 +421,8 @@ why {ONE} {LAST} --every
 why {ONE} {LAST} --at {MOST_INSTRUCTIONS}
 why {ONE} --flush 5 --every
 why {ONE} --flush 5 --at {MOST_INSTRUCTIONS}
-why {FEWER} {LAST}
-why {FEWER} --flush 5
+why {ONE} {LAST}
+why {ONE} --flush 5
 """.split("\n")[1:-1]] + [(f"debug {ONE}", SESSION)]
 Took = collections.namedtuple("Took", "seconds megabytes status errors output")
 
@@ -475,7 +474,7 @@ def output_faults(program, room, outputs):
 
 def uncovered():
     """Which word of scenarios doesn't stand in the greatest one, and which command doesn't read it."""
-    words = set(text(**greatest(*GREATEST[FEWER])).decode().split())
+    words = set(text(**greatest(*GREATEST[ONE])).decode().split())
     commands = {line.split()[0] for line, _ in MEASURED}
     missing = [*(user_files.words_of_scenarios() - words), *(user_files.words_of_commands() - commands - {"new"})]
     return [f"the greatest scenario lacks {word}" for word in sorted(missing)]
