@@ -1,5 +1,7 @@
 """A test of the scripts of hostile use, over programs that stand in for the real one: each of these does one thing wrong, and is refused for
 it; and one that does all well is not. It builds no scenario's program and calls no prover."""
+import contextlib
+import io
 import os
 import random
 import re
@@ -13,6 +15,7 @@ import cut_inputs
 import fuzz
 import hostile
 import hostile_streams
+import limits
 import mutations
 import refused_memory
 
@@ -108,9 +111,17 @@ exit 1
 """
 
 
+def shell_program(room, script):
+    """A program of these lines of a shell."""
+    with open(f"{room}/shell", "w", encoding="utf-8") as it:
+        it.write(f"#!/bin/sh\n{script}")
+    os.chmod(f"{room}/shell", 0o755)
+    return f"{room}/shell"
+
+
 def check_fuzz(room):
     """What each stand-in does, and what fails of it."""
-    program, fuzz.SECONDS = f"{room}/shell", 1
+    fuzz.SECONDS = 1
     for script, wanted in [
         (TELLS, None),
         ("kill -SEGV $$\n", "it ends by signal 11"),
@@ -128,10 +139,7 @@ def check_fuzz(room):
         ("[ \"$1\" = debug ] && wc -c\n" + TELLS, "position 0 is another"),
         ("[ \"$1\" = run ] && [ -e late.cmwq ] && : > late.cmwq\n" + TELLS, "have changed"),
     ]:
-        with open(program, "w", encoding="utf-8") as it:
-            it.write(f"#!/bin/sh\n{script}")
-        os.chmod(program, 0o755)
-        failures = fuzz.fuzzed(program, "a seed", range(120), 600)[1]
+        failures = fuzz.fuzzed(shell_program(room, script), "a seed", range(120), 600)[1]
         for failure in failures:
             shutil.rmtree(re.search(r" in (\S+), with the file given", failure)[1])
         assert any(wanted in failure for failure in failures) if wanted else not failures, (script, failures)
@@ -139,12 +147,70 @@ def check_fuzz(room):
 
 def check_cuts(room):
     """A program that takes whatever it is given, and says nothing; and one whose `check` alone refuses."""
-    program = f"{room}/shell"
-    with open(program, "w", encoding="utf-8") as it:
-        it.write("#!/bin/sh\n[ $1 != check ]\n")
-    cutting, text = cut_inputs.Cutting(program, room), b"cpus 1\nworkers 1\n"
+    cutting, text = cut_inputs.Cutting(shell_program(room, "[ $1 != check ]\n"), room), b"cpus 1\nworkers 1\n"
     assert list(map(len, (cutting.image_faults(b"CMWQ12"), cutting.text_faults(text), cutting.spoilt_faults(text), cutting.line_faults(text)))) == [6, 18, 2, 3]
     assert cut_inputs.first_scenario()[1][:6] == b"CMWQ\0\3"
+
+
+# It knows the limit of CPUs, of which it lists a text.
+CPUS = """read -r _ cpus < $2
+case $cpus in
+???????????*) echo 'line 1: BadNumber' >&2; exit 1;;
+[1-9]|1[0-6]) cat $2;;
+*) echo 'line 1: Range' >&2; exit 1;;
+esac
+"""
+
+
+def check_limits(room):
+    """What each stand-in does with texts of so many CPUs, and which of them are told."""
+    for changed, stands, wanted in [
+        ("", "", []),
+        ("1[0-6]", "1[0-7]", ["17"]),
+        ("1[0-6]", "1[0-5]", ["16"]),
+        ("[1-9]|", "[2-9]|", ["1"]),
+        ("[1-9]|", "[0-9]|", ["0"]),
+        ("BadNumber", "Range", ["10000000000"]),
+        ("line 1: Range", "line 2: Range", ["0", "17", "9999999999"]),
+        ("'line 1: Range' >&2; exit 1", "'line 1: Range' >&2; exit 2", ["0", "17", "9999999999"]),
+        ("echo 'line 1: BadNumber'", "echo said; echo 'line 1: BadNumber'", ["10000000000"]),
+        ("cat $2", "cat $2 $2", ["1", "16"]),
+    ]:
+        found = limits.Limits(shell_program(room, CPUS.replace(changed, stands) if changed else CPUS), room)
+        row = limits.ROWS[0]._replace(image={})
+        for value, reason in row.refused.items():
+            found.try_refused(row, value, reason)
+        for value in row.taken:
+            found.want_listed(f"cpus, {value}: the text", "list FILE", limits.text(cpus=value), limits.text(cpus=value))
+        assert sorted(fault.split(":")[0].removeprefix("cpus, ") for fault in found.faults) == sorted(wanted), (stands, found.faults)
+
+
+def check_greatest(room):
+    """A program that says nothing fails wherever something has to be said; and what a command takes, and how it ends, is seen."""
+    with contextlib.redirect_stdout(io.StringIO()):
+        silent = limits.greatest_faults(shell_program(room, '[ "$1" != play ] || { echo full >&2; exit 4; }\n'), room, limits.MEASURED)
+    assert [fault.split()[0] for fault in silent] == ["list", "show", "settle", "asm", "run", "play"], silent
+    assert not limits.uncovered()
+    for script, bounds, wanted in [
+        ("exit 0\n", {}, []),
+        ("timeout 1 sh -c 'while :; do :; done'; exit 0\n", {"SECONDS": 0.2}, ["seconds"]),
+        ("exit 0\n", {"MEGABYTES": 1}, ["MB"]),
+        ("exit 1\n", {}, ["ends with status 1"]),
+        ("echo said >&2\n", {}, ["ends with status 0"]),
+        ("kill -SEGV $$\n", {}, ["ends with status -11"]),
+        ("exec sleep 60\n", {"MOST_SECONDS": 1}, ["ends with status -14"]),
+    ]:
+        found = cost_faults_within(bounds, shell_program(room, script), room)
+        assert len(found) == len(wanted) and all(it in fault for it, fault in zip(wanted, found)), (script, found)
+
+
+def cost_faults_within(bounds, program, room):
+    """What is wrong with what the program took, where these bounds are otherwise."""
+    before = {name: getattr(limits, name) for name in bounds}
+    vars(limits).update(bounds)
+    found = limits.cost_faults("run x", limits.measured(program, room, "run x", ""))
+    vars(limits).update(before)
+    return found
 
 
 def check_mutations():
@@ -186,4 +252,6 @@ with tempfile.TemporaryDirectory(prefix="hostile-") as ours:
     check_streams(ours)
     check_fuzz(ours)
     check_cuts(ours)
+    check_limits(ours)
+    check_greatest(ours)
 print("gate/test_hostile.py: ok")

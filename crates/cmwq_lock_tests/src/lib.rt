@@ -4,6 +4,8 @@
 #[cfg(test)]
 mod checking;
 #[cfg(test)]
+mod load;
+#[cfg(test)]
 mod meeting;
 #[cfg(test)]
 mod turns;

@@ -1,0 +1,250 @@
+//! Up to 64 callers at once, each with many turns: what comes out is one history that has each caller's turns once, in its order.
+ghost use Rattle.cmwq_lock_tests.specs.declared.load.TheConstants.{ROOM};
+ghost use Rattle.std.proofs.Common.{lit≤};
+ghost use Rattle.std.specs.List.{All};
+ghost use Rattle.std.specs.Prelude.{◌≡◌, ◌+◌, ◌<◌, ◌≤◌, ◌^◌, length, vec_capacity};
+ghost use Rattle.cmwq_lock.specs.Tokens.{IsDrawnOf, IsOpenerOf, IsPassOf, opener_view};
+ghost use Rattle.cmwq_lock.specs.Views.{next_of};
+
+use crate::checking::same;
+use cmwq_lock::{Call, Drawn, Kept, NotDrawn, NotDrawnWhy, NotYet, Opener, Pass, TicketLock};
+use std::alloc::Global;
+use std::process::Abort;
+use std::sync::{Barrier, Wait};
+use std::thread::{self, Threads};
+
+/// The most turns that a history has room for.
+const ROOM: usize = 800_000;
+
+/// A turn as the history has it: its ticket, its caller, and how many turns this caller had begun before.
+#[derive(Clone, Copy, Debug, PartialEq, Eq)]
+struct Turn {
+    ticket: u64,
+    caller: u32,
+    number: u32,
+}
+
+/// All turns, in the order in which they were taken.
+#[derive(Drop)]
+struct History {
+    turns: Vec<Turn>,
+}
+
+impl Kept for History {
+    type Origin = ();
+
+    type Entry = Turn;
+
+    ghost origin = { λ kept. tt };
+
+    ghost log = { λ kept. kept.turns.items };
+
+    ghost ticket = { λ turn. turn.ticket };
+
+    ghost caller = { λ turn. turn.caller };
+
+    ghost legal = { λ origin log. length log ≤ ROOM };
+
+    ghost sound = { λ kept. (length kept.turns.items ≤ ROOM) × (ROOM ≤ vec_capacity kept.turns) };
+
+    ghost empty_is_legal = { λ origin. lit≤ tt };
+
+    ghost sound_is_legal = { λ kept sound. sound.0 };
+}
+
+/// Enters a caller's turn of this number, if there is room.
+#[derive(Drop)]
+struct Enter {
+    number: u32,
+}
+
+impl Call<History> for Enter {
+    type Out = ();
+
+    ghost tells = { λ origin call before after ticket caller out. out ≡ tt };
+
+    fn apply(self, value: &mut History, ticket: u64, caller: u32) {
+        if value.turns.len() < ROOM {
+            value.turns.push_reserved(Turn {
+                ticket,
+                caller,
+                number: self.number,
+            });
+        }
+    }
+}
+
+/// Draws a ticket, again and again where another caller was faster. It says so, with a ticket that is drawn and a later one.
+fn drawn_at_last<R: Wait + Abort>(
+    rt: &R,
+    lock: &TicketLock<History>,
+    pass: Pass<History>,
+) -> Drawn<History>
+    requires { IsPassOf ⟦<History as Kept>⟧ lock.now pass }
+    ensures { IsDrawnOf ⟦<History as Kept>⟧ lock.now result }
+{
+    let mut pass = pass;
+    for _ in rt.forever() {
+        match lock.draw(pass) {
+            Ok(drawn) => return drawn,
+            Err(NotDrawn { pass: again, why }) => {
+                check_raced(rt, why);
+                pass = again;
+            }
+        }
+    }
+    unreachable!()
+}
+
+fn check_raced(rt: &impl Abort, why: NotDrawnWhy) {
+    match why {
+        NotDrawnWhy::Raced { loaded, found } => assert!(rt; loaded < found, "{loaded} {found}"),
+        NotDrawnWhy::Exhausted => panic!(rt; "tickets are left"),
+    }
+}
+
+/// Takes a turn. Where it hasn't come, an earlier ticket has the turn.
+fn one_turn<R: Wait + Abort>(
+    rt: &R,
+    lock: &TicketLock<History>,
+    pass: Pass<History>,
+    number: u32,
+) -> Pass<History>
+    requires { IsPassOf ⟦<History as Kept>⟧ lock.now pass }
+    ensures { IsPassOf ⟦<History as Kept>⟧ lock.now result }
+{
+    let drawn = drawn_at_last(rt, lock, pass);
+    match lock.try_take(drawn, Enter { number }) {
+        Ok((pass, _, ())) => pass,
+        Err(
+            NotYet {
+                drawn,
+                ticket,
+                served,
+                call,
+            },
+        ) => {
+            assert!(rt; served < ticket, "{served} {ticket}");
+            lock.take(rt, drawn, call).0
+        }
+    }
+}
+
+/// A caller's turns, which begin once all callers are there.
+fn turns<R: Wait + Abort>(
+    rt: &R,
+    start: &Barrier,
+    lock: &TicketLock<History>,
+    pass: Pass<History>,
+    count: u32,
+) -> Pass<History>
+    requires { IsPassOf ⟦<History as Kept>⟧ lock.now pass }
+    ensures { IsPassOf ⟦<History as Kept>⟧ lock.now result }
+{
+    start.wait(rt);
+    let mut pass = pass;
+    for number in 0..count {
+        pass = one_turn(rt, lock, pass, number);
+    }
+    pass
+}
+
+/// Gives out so many passes.
+fn passes_of(
+    rt: &impl Abort,
+    alloc: Global,
+    lock: &TicketLock<History>,
+    opener: &mut Opener<History>,
+    count: u32,
+) -> Vec<Pass<History>>
+    requires opener { IsOpenerOf ⟦<History as Kept>⟧ lock.now opener.old }
+    requires room { next_of (opener_view opener.old) + count < 2 ^ 32 }
+    ensures opener { IsOpenerOf ⟦<History as Kept>⟧ lock.now opener.new }
+    ensures passes { All (IsPassOf ⟦<History as Kept>⟧ lock.now) result.items }
+{
+    let mut passes = Vec::new(alloc);
+    for _ in 0..count {
+        let pass = lock.pass(opener).expect(rt, "fewer than 64 are out");
+        passes.push(pass).expect(rt, "memory is left");
+    }
+    passes
+}
+
+/// All callers' turns, each caller in a thread of its own, all of which have ended then.
+fn all_turns<R: Threads + Wait + Abort + Sync>(
+    rt: &R,
+    lock: &TicketLock<History>,
+    passes: Vec<Pass<History>>,
+    count: u32,
+) -> Vec<Pass<History>>
+    requires { All (IsPassOf ⟦<History as Kept>⟧ lock.now) passes.items }
+    ensures { All (IsPassOf ⟦<History as Kept>⟧ lock.now) result.items }
+{
+    let start = Barrier::new(passes.len());
+    thread::map_vec(rt, passes, &|pass| turns(rt, &start, lock, pass, count)).expect(
+        rt,
+        "memory is left",
+    )
+}
+
+fn retire_all(lock: &TicketLock<History>, opener: &mut Opener<History>, passes: Vec<Pass<History>>)
+    requires opener { IsOpenerOf ⟦<History as Kept>⟧ lock.now opener.old }
+    requires passes { All (IsPassOf ⟦<History as Kept>⟧ lock.now) passes.items }
+    ensures { IsOpenerOf ⟦<History as Kept>⟧ lock.now opener.new }
+{
+    for pass in passes {
+        lock.retire(opener, pass);
+    }
+}
+
+/// The history that so many callers leave, each with so many turns. All passes come back, and all threads have ended.
+fn history_of<R: Threads + Wait + Abort + Sync>(
+    rt: &R,
+    alloc: Global,
+    callers: u32,
+    count: u32,
+) -> Vec<Turn> {
+    let turns = Vec::with_capacity(alloc, ROOM).expect(rt, "memory is left");
+    let opened = TicketLock::open(alloc, History { turns });
+    let (lock, mut opener) = opened.expect(rt, "memory is left");
+    let passes = passes_of(rt, alloc, &lock, &mut opener, callers);
+    let passes = all_turns(rt, &lock, passes, count);
+    retire_all(&lock, &mut opener, passes);
+    match lock.close(opener) {
+        Ok(history) => history.turns,
+        Err(_) => panic!(rt; "no pass is out"),
+    }
+}
+
+/// The turns have the tickets 0, 1, .., and each caller's numbers rise from 0. Answers how many each caller has had.
+fn counts_of(rt: &impl Abort, alloc: Global, turns: &[Turn], callers: usize) -> Vec<u32> {
+    let mut counts = vec![in alloc; 0u32; callers].expect(rt, "memory is left");
+    for (place, turn) in turns.iter().enumerate() {
+        same(rt, place, turn.ticket, place as u64);
+        let count = counts.get_mut(turn.caller as usize).expect(rt, "a caller");
+        same(rt, place, turn.number, *count);
+        *count = count.saturating_add(1);
+    }
+    counts
+}
+
+/// So many callers leave a history of all their turns.
+fn check_load<R: Threads + Wait + Abort + Sync>(rt: &R, alloc: Global, callers: u32, count: u32) {
+    let turns = history_of(rt, alloc, callers, count);
+    let counts = counts_of(rt, alloc, turns.as_slice(), callers as usize);
+    for (caller, found) in counts.iter().enumerate() {
+        same(rt, caller, *found, count);
+    }
+}
+
+/// 100,000 turns each, 800,000 in all.
+#[test]
+fn eight_threads_leave_one_history(rt: HostRuntime) {
+    check_load(&rt, rt.alloc(), 8, 100_000);
+}
+
+/// 2,000 turns each, 128,000 in all: with more threads than cores each turn waits longer for one certain thread.
+#[test]
+fn sixty_four_threads_leave_one_history(rt: HostRuntime) {
+    check_load(&rt, rt.alloc(), 64, 2_000);
+}
