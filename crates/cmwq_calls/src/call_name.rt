@@ -1,6 +1,5 @@
 //! The calls, by their names.
 
-use crate::consuming::ConsumingCall;
 use crate::debugging::{Asked, Way};
 use crate::engines::EngineCall;
 use crate::machines::MachineCall;
@@ -24,7 +23,8 @@ pub(crate) enum CallName {
     Debugger(Asked),
     Task(Task<'static>),
     Stream(StreamCall),
-    Consuming(ConsumingCall),
+    Debug,
+    Play,
 }
 
 /// The work that is asked about.
@@ -154,8 +154,8 @@ const CALLS: [(&str, CallName); 57] = [
     ),
     ("check", CallName::Stream(StreamCall::Check)),
     ("new", CallName::Stream(StreamCall::New)),
-    ("debug", CallName::Consuming(ConsumingCall::Debug)),
-    ("play", CallName::Consuming(ConsumingCall::Play)),
+    ("debug", CallName::Debug),
+    ("play", CallName::Play),
 ];
 
 /// The call of this name, if there is one.

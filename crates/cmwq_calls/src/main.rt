@@ -6,12 +6,13 @@
 //! where memory is ample. Memory that is refused outside of the call ends the program with `no memory` and the status of that fault.
 #![tactic(auto)]
 
+mod acting;
 mod call_name;
-mod consuming;
 mod debugging;
 mod engines;
 mod instructions;
 mod machines;
+mod session;
 mod showing;
 mod stores;
 mod streams;
@@ -52,7 +53,8 @@ fn try_named<R: Print + Threads + Wait + Clock + Sync>(
         CallName::Debugger(call) => debugging::try_command::<Core, R>(rt, alloc, call, text),
         CallName::Task(task) => streams::try_task(rt, alloc, task, text),
         CallName::Stream(call) => streams::try_stream(rt, alloc, call, text),
-        CallName::Consuming(call) => consuming::try_consuming(rt, alloc, call, text),
+        CallName::Debug => session::try_debug(rt, alloc, text),
+        CallName::Play => acting::try_play(rt, alloc, text),
     }
 }
 

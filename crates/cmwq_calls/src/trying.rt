@@ -30,8 +30,9 @@ pub(crate) trait Tried {
     ) -> Result<(), PlayError>;
 }
 
-/// Makes the call, and makes it again where it answered `NoMemory`. Prints what the caller holds behind `= held`; what the call writes
-/// behind `= call`; and what it came to: `= no memory`, `= fault` or `= ok`, and what it answered.
+/// Makes the call, and makes it again where it answered `NoMemory`. Prints what the caller holds behind `= held`; behind `= call` what the
+/// call writes; and what it came to: behind `= ` its fault, or behind `= ok` what it answered. Where it is made again all that is printed
+/// again.
 pub(crate) fn try_call<R: Print, T: Tried>(
     rt: &R,
     alloc: Global,
@@ -50,19 +51,22 @@ fn is_refused<R: Print, T: Tried>(rt: &R, alloc: Global, tried: &mut T) -> Resul
     say(rt, "= held")?;
     tried.show_held(rt, alloc)?;
     say(rt, "= call")?;
-    match tried.call(alloc, given) {
-        Err(PlayError::NoMemory) => {
-            say(rt, "\n= no memory")?;
-            Ok(true)
-        }
-        Err(fault) => {
-            say(rt, format_args!("\n= {fault}"))?;
-            Ok(false)
-        }
-        Ok(answer) => {
-            say(rt, "\n= ok")?;
-            tried.show_answer(rt, alloc, answer)?;
-            Ok(false)
-        }
+    let outcome = tried.call(alloc, given);
+    let is_refused = show_outcome(rt, &outcome)?;
+    if let Ok(answer) = outcome {
+        tried.show_answer(rt, alloc, answer)?;
     }
+    Ok(is_refused)
+}
+
+/// Prints what a call came to, and answers whether memory was refused to it.
+pub(crate) fn show_outcome<R: Print, T>(
+    rt: &R,
+    outcome: &Result<T, PlayError>,
+) -> Result<bool, PlayError> {
+    match outcome {
+        Ok(_) => say(rt, "\n= ok")?,
+        Err(fault) => say(rt, format_args!("\n= {fault}"))?,
+    }
+    Ok(matches!(outcome, Err(PlayError::NoMemory)))
 }
