@@ -120,6 +120,12 @@ NEVER = {"Step", "Goto-copy", "Run", "BreakWork", "BreakTime", "BreakRefusal", "
 class Caller(refused_memory.Worker):
     """Judges what a call came to."""
 
+    @staticmethod
+    def shown(use):
+        """A call as a fault shows it."""
+        call, text = use
+        return f"{call} on {next((name for name, it in SCENARIOS.items() if it == text), 'no scenario')}"
+
     def fill(self, program):
         """The program needs no file."""
 
@@ -161,11 +167,10 @@ def missing(program):
 
 
 def faults_of_rows(found):
-    """What is wrong of each call: with a refusal, or because none of them is told."""
-    told = {call for (call, _), it in found.items() if it.kinds.get(refused_memory.NO)}
-    said = [f"{call}: answers `no memory`, which it never should" for call in sorted(told & NEVER)]
-    silent = [f"{call}: never answers `no memory`" for call in sorted({call for call, _ in found} - told - NEVER)]
-    return [fault for it in found.values() for fault in it.faults] + said + silent
+    """What is wrong of each row: with a refusal, or because none of them is told, or is."""
+    wrong = [(call, name, call in NEVER) for (call, name), it in found.items() if bool(it.kinds.get(refused_memory.NO)) == (call in NEVER)]
+    said = [f"{call} on {name}: {'answers `no memory`, which it never should' if never else 'never answers `no memory`'}" for call, name, never in wrong]
+    return [fault for it in found.values() for fault in it.faults] + said
 
 
 def table(found):

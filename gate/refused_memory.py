@@ -28,6 +28,8 @@ Found = collections.namedtuple("Found", "status count kinds faults")
 class Worker:
     """What one process needs to run command lines: a folder of its own, and the files that belong there."""
 
+    shown = staticmethod(hostile.shown)
+
     def __init__(self, program, library):
         self.room = tempfile.mkdtemp(dir=os.path.dirname(library))
         self.fill(program)
@@ -90,11 +92,11 @@ def results(program, uses, share, kind=Worker):
         library = hostile.built_library(room)
         with multiprocessing.Pool(4, begin, (kind, os.path.abspath(program), library)) as pool:
             wholes = dict(zip(uses, pool.map(counted, uses, 1)))
-            found = {use: Found(whole.status, count, {}, [f"{hostile.shown(use)}: {it}" for it in kind.faults_with_memory(whole, count)]) for use, (whole, count) in wholes.items()}
+            found = {use: Found(whole.status, count, {}, [f"{kind.shown(use)}: {it}" for it in kind.faults_with_memory(whole, count)]) for use, (whole, count) in wholes.items()}
             jobs = [(use, number, whole) for use, (whole, count) in wholes.items() for number in numbers(count, share)]
             for use, number, came_to, faults in pool.imap_unordered(tried, jobs, 16):
                 found[use].kinds[came_to] = found[use].kinds.get(came_to, 0) + 1
-                found[use].faults.extend(f"{hostile.shown(use)}: with call {number} refused it {fault}" for fault in faults)
+                found[use].faults.extend(f"{kind.shown(use)}: with call {number} refused it {fault}" for fault in faults)
     return found
 
 
