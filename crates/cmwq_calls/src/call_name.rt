@@ -160,9 +160,14 @@ const CALLS: [(&str, CallName); 57] = [
 
 /// The call of this name, if there is one.
 pub(crate) fn named(word: &str) -> Option<CallName> {
-    for (name, call) in CALLS {
-        if name == word {
-            return Some(call);
+    found(&CALLS, word)
+}
+
+/// The call of this name among these, if there is one.
+fn found(calls: &[(&str, CallName)], word: &str) -> Option<CallName> {
+    for (name, call) in calls {
+        if *name == word {
+            return Some(*call);
         }
     }
     None
