@@ -1,5 +1,6 @@
 //! The calls, by their names.
 
+use crate::bodies::{Body, BodyCall};
 use crate::debugging::{Asked, Way};
 use crate::engines::EngineCall;
 use crate::machines::MachineCall;
@@ -11,17 +12,11 @@ use cmwq_tasks::{Drawing, Looks, Question, RunKind, Span, Task};
 use cmwq_types::WorkId;
 
 /// A call, by what it is made on.
-#[derive(Clone, Copy)]
 pub(crate) enum CallName {
     Text(TextCall),
     Lists(StoreCall),
     Timers(StoreCall),
-    OnPlain(MachineCall),
-    OnCore(MachineCall),
-    Engine(EngineCall),
-    OpenDebugger,
-    Debugger(Asked),
-    Task(Task<'static>),
+    On(Body, BodyCall),
     Stream(StreamCall),
     Debug,
     Play,
@@ -56,7 +51,7 @@ const SOME: Drawing = Drawing {
 };
 
 /// Each call with its name.
-const CALLS: [(&str, CallName); 57] = [
+pub(crate) const CALLS: [(&str, CallName); 57] = [
     ("Scenario::copy", CallName::Text(TextCall::Copy)),
     ("assemble", CallName::Text(TextCall::Assemble)),
     ("read_text", CallName::Text(TextCall::ReadText)),
@@ -67,90 +62,192 @@ const CALLS: [(&str, CallName); 57] = [
     ("Lists::copy", CallName::Lists(StoreCall::Copy)),
     ("Timers::new", CallName::Timers(StoreCall::New)),
     ("Timers::copy", CallName::Timers(StoreCall::Copy)),
-    ("Plain::load", CallName::OnPlain(MachineCall::Load)),
-    ("Plain::copy", CallName::OnPlain(MachineCall::Copy)),
-    ("Plain::look", CallName::OnPlain(MachineCall::Look)),
-    ("Core::load", CallName::OnCore(MachineCall::Load)),
-    ("Core::copy", CallName::OnCore(MachineCall::Copy)),
-    ("Core::look", CallName::OnCore(MachineCall::Look)),
-    ("dump_text", CallName::OnCore(MachineCall::Dump)),
-    ("Engine::open", CallName::Engine(EngineCall::Open)),
-    ("Shared::open", CallName::Engine(EngineCall::OpenShared)),
-    ("TicketLock::open", CallName::Engine(EngineCall::OpenLock)),
-    ("Debugger::open", CallName::OpenDebugger),
-    ("Step", CallName::Debugger(Asked::Going(Way::Step))),
-    ("Back", CallName::Debugger(Asked::Going(Way::Back))),
-    ("Goto", CallName::Debugger(Asked::Going(Way::Goto))),
-    ("Goto-copy", CallName::Debugger(Asked::Going(Way::GotoCopy))),
-    ("Run", CallName::Debugger(Asked::Going(Way::Run))),
+    (
+        "Plain::load",
+        CallName::On(Body::Plain, BodyCall::Machine(MachineCall::Load)),
+    ),
+    (
+        "Plain::copy",
+        CallName::On(Body::Plain, BodyCall::Machine(MachineCall::Copy)),
+    ),
+    (
+        "Plain::look",
+        CallName::On(Body::Plain, BodyCall::Machine(MachineCall::Look)),
+    ),
+    (
+        "Core::load",
+        CallName::On(Body::Core, BodyCall::Machine(MachineCall::Load)),
+    ),
+    (
+        "Core::copy",
+        CallName::On(Body::Core, BodyCall::Machine(MachineCall::Copy)),
+    ),
+    (
+        "Core::look",
+        CallName::On(Body::Core, BodyCall::Machine(MachineCall::Look)),
+    ),
+    (
+        "dump_text",
+        CallName::On(Body::Core, BodyCall::Machine(MachineCall::Dump)),
+    ),
+    (
+        "Engine::open",
+        CallName::On(Body::Core, BodyCall::Engine(EngineCall::Open)),
+    ),
+    (
+        "Shared::open",
+        CallName::On(Body::Core, BodyCall::Engine(EngineCall::OpenShared)),
+    ),
+    (
+        "TicketLock::open",
+        CallName::On(Body::Core, BodyCall::Engine(EngineCall::OpenLock)),
+    ),
+    (
+        "Debugger::open",
+        CallName::On(Body::Core, BodyCall::OpenDebugger),
+    ),
+    (
+        "Step",
+        CallName::On(Body::Core, BodyCall::Debugger(Asked::Going(Way::Step))),
+    ),
+    (
+        "Back",
+        CallName::On(Body::Core, BodyCall::Debugger(Asked::Going(Way::Back))),
+    ),
+    (
+        "Goto",
+        CallName::On(Body::Core, BodyCall::Debugger(Asked::Going(Way::Goto))),
+    ),
+    (
+        "Goto-copy",
+        CallName::On(Body::Core, BodyCall::Debugger(Asked::Going(Way::GotoCopy))),
+    ),
+    (
+        "Run",
+        CallName::On(Body::Core, BodyCall::Debugger(Asked::Going(Way::Run))),
+    ),
     (
         "BreakWork",
-        CallName::Debugger(Asked::There(Command::BreakWork {
-            work: WorkId(1),
-            event: EventKind::Finishes,
-        })),
+        CallName::On(
+            Body::Core,
+            BodyCall::Debugger(Asked::There(Command::BreakWork {
+                work: WorkId(1),
+                event: EventKind::Finishes,
+            })),
+        ),
     ),
     (
         "BreakTime",
-        CallName::Debugger(Asked::There(Command::BreakTime(9))),
+        CallName::On(
+            Body::Core,
+            BodyCall::Debugger(Asked::There(Command::BreakTime(9))),
+        ),
     ),
     (
         "BreakRefusal",
-        CallName::Debugger(Asked::There(Command::BreakRefusal)),
+        CallName::On(
+            Body::Core,
+            BodyCall::Debugger(Asked::There(Command::BreakRefusal)),
+        ),
     ),
-    ("Clear", CallName::Debugger(Asked::There(Command::Clear(1)))),
-    ("Dump", CallName::Debugger(Asked::There(Command::Dump))),
+    (
+        "Clear",
+        CallName::On(
+            Body::Core,
+            BodyCall::Debugger(Asked::There(Command::Clear(1))),
+        ),
+    ),
+    (
+        "Dump",
+        CallName::On(Body::Core, BodyCall::Debugger(Asked::There(Command::Dump))),
+    ),
     (
         "DumpPool",
-        CallName::Debugger(Asked::There(Command::DumpPool(0))),
+        CallName::On(
+            Body::Core,
+            BodyCall::Debugger(Asked::There(Command::DumpPool(0))),
+        ),
     ),
     (
         "Why",
-        CallName::Debugger(Asked::There(Command::Why(WorkId(1)))),
+        CallName::On(
+            Body::Core,
+            BodyCall::Debugger(Asked::There(Command::Why(WorkId(1)))),
+        ),
     ),
     (
         "WhyFlush",
-        CallName::Debugger(Asked::There(Command::WhyFlush(0))),
+        CallName::On(
+            Body::Core,
+            BodyCall::Debugger(Asked::There(Command::WhyFlush(0))),
+        ),
     ),
-    ("run", CallName::Task(Task::Run(RunKind::Plain))),
-    ("run_told", CallName::Task(Task::Run(RunKind::Told))),
-    ("run_settled", CallName::Task(Task::Run(RunKind::Settled))),
-    ("settle_text", CallName::Task(Task::Settle)),
-    ("list_text", CallName::Task(Task::List)),
-    ("from_image", CallName::Task(Task::Show)),
+    (
+        "run",
+        CallName::Stream(StreamCall::Do(Task::Run(RunKind::Plain))),
+    ),
+    (
+        "run_told",
+        CallName::Stream(StreamCall::Do(Task::Run(RunKind::Told))),
+    ),
+    (
+        "run_settled",
+        CallName::Stream(StreamCall::Do(Task::Run(RunKind::Settled))),
+    ),
+    (
+        "settle_text",
+        CallName::Stream(StreamCall::Do(Task::Settle)),
+    ),
+    ("list_text", CallName::Stream(StreamCall::Do(Task::List))),
+    ("from_image", CallName::Stream(StreamCall::Do(Task::Show))),
     ("to_image", CallName::Stream(StreamCall::ToImage)),
-    ("draw", CallName::Task(Task::Draw(DRAWN))),
-    ("draw-settled", CallName::Task(Task::Draw(SETTLED))),
+    ("draw", CallName::Stream(StreamCall::Do(Task::Draw(DRAWN)))),
+    (
+        "draw-settled",
+        CallName::Stream(StreamCall::Do(Task::Draw(SETTLED))),
+    ),
     (
         "draw-svg",
-        CallName::Task(Task::Draw(Drawing { svg: true, ..DRAWN })),
+        CallName::Stream(StreamCall::Do(Task::Draw(Drawing { svg: true, ..DRAWN }))),
     ),
     (
         "draw-settled-svg",
-        CallName::Task(Task::Draw(Drawing {
+        CallName::Stream(StreamCall::Do(Task::Draw(Drawing {
             svg: true,
             ..SETTLED
-        })),
+        }))),
     ),
-    ("draw-some", CallName::Task(Task::Draw(SOME))),
+    (
+        "draw-some",
+        CallName::Stream(StreamCall::Do(Task::Draw(SOME))),
+    ),
     (
         "draw-some-svg",
-        CallName::Task(Task::Draw(Drawing { svg: true, ..SOME })),
+        CallName::Stream(StreamCall::Do(Task::Draw(Drawing { svg: true, ..SOME }))),
     ),
-    ("why", CallName::Task(Task::Why(WORK, Looks::Settled))),
-    ("why-every", CallName::Task(Task::Why(WORK, Looks::Every))),
-    ("why-at", CallName::Task(Task::Why(WORK, Looks::At(9)))),
+    (
+        "why",
+        CallName::Stream(StreamCall::Do(Task::Why(WORK, Looks::Settled))),
+    ),
+    (
+        "why-every",
+        CallName::Stream(StreamCall::Do(Task::Why(WORK, Looks::Every))),
+    ),
+    (
+        "why-at",
+        CallName::Stream(StreamCall::Do(Task::Why(WORK, Looks::At(9)))),
+    ),
     (
         "why-flush",
-        CallName::Task(Task::Why(Question::Flush(0), Looks::Settled)),
+        CallName::Stream(StreamCall::Do(Task::Why(Question::Flush(0), Looks::Settled))),
     ),
     (
         "why-flush-every",
-        CallName::Task(Task::Why(Question::Flush(0), Looks::Every)),
+        CallName::Stream(StreamCall::Do(Task::Why(Question::Flush(0), Looks::Every))),
     ),
     (
         "why-flush-at",
-        CallName::Task(Task::Why(Question::Flush(0), Looks::At(24))),
+        CallName::Stream(StreamCall::Do(Task::Why(Question::Flush(0), Looks::At(24)))),
     ),
     ("check", CallName::Stream(StreamCall::Check)),
     ("new", CallName::Stream(StreamCall::New)),
@@ -158,16 +255,11 @@ const CALLS: [(&str, CallName); 57] = [
     ("play", CallName::Play),
 ];
 
-/// The call of this name, if there is one.
-pub(crate) fn named(word: &str) -> Option<CallName> {
-    found(&CALLS, word)
-}
-
-/// The call of this name among these, if there is one.
-fn found(calls: &[(&str, CallName)], word: &str) -> Option<CallName> {
-    for (name, call) in calls {
+/// What has this name among these, if something has it.
+pub(crate) fn found<'a, T>(all: &'a [(&str, T)], word: &str) -> Option<&'a T> {
+    for (name, it) in all {
         if *name == word {
-            return Some(*call);
+            return Some(it);
         }
     }
     None

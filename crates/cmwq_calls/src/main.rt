@@ -7,6 +7,7 @@
 #![tactic(auto)]
 
 mod acting;
+mod bodies;
 mod call_name;
 mod debugging;
 mod engines;
@@ -19,7 +20,8 @@ mod streams;
 mod texts;
 mod trying;
 
-use call_name::{CallName, named};
+use bodies::{Body, BodyCall, try_body};
+use call_name::{CALLS, CallName, found};
 use cmwq_core::Core;
 use cmwq_outcome::fault;
 use cmwq_plain::Plain;
@@ -35,56 +37,70 @@ use std::{env, io};
 /// The status where the word names no call.
 const USAGE: u8 = 2;
 
+/// Makes a call of the machine of vectors.
+fn try_plain<R: Print>(
+    rt: &R,
+    alloc: Global,
+    call: BodyCall,
+    text: &[u8],
+) -> Result<(), PlayError> {
+    try_body::<Plain, R>(rt, alloc, call, text)
+}
+
+/// Makes a call of the machine of lists.
+fn try_core<R: Print>(rt: &R, alloc: Global, call: BodyCall, text: &[u8]) -> Result<(), PlayError> {
+    try_body::<Core, R>(rt, alloc, call, text)
+}
+
 /// Makes the call, of the scenario of this text where it takes one.
 fn try_named<R: Print + Threads + Wait + Clock + Sync>(
     rt: &R,
     alloc: Global,
-    name: CallName,
+    name: &CallName,
     text: &[u8],
 ) -> Result<(), PlayError> {
     match name {
-        CallName::Lists(call) => stores::try_lists(rt, alloc, call),
-        CallName::Timers(call) => stores::try_timers(rt, alloc, call),
-        CallName::Text(call) => texts::try_text(rt, alloc, call, text),
-        CallName::OnPlain(call) => machines::try_machine::<Plain, R>(rt, alloc, call, text),
-        CallName::OnCore(call) => machines::try_machine::<Core, R>(rt, alloc, call, text),
-        CallName::Engine(call) => engines::try_engine::<Core, R>(rt, alloc, call, text),
-        CallName::OpenDebugger => debugging::try_open::<Core, R>(rt, alloc, text),
-        CallName::Debugger(call) => debugging::try_command::<Core, R>(rt, alloc, call, text),
-        CallName::Task(task) => streams::try_task(rt, alloc, task, text),
-        CallName::Stream(call) => streams::try_stream(rt, alloc, call, text),
+        CallName::Lists(call) => stores::try_lists(rt, alloc, *call),
+        CallName::Timers(call) => stores::try_timers(rt, alloc, *call),
+        CallName::Text(call) => texts::try_text(rt, alloc, *call, text),
+        CallName::On(Body::Plain, call) => try_plain(rt, alloc, *call, text),
+        CallName::On(Body::Core, call) => try_core(rt, alloc, *call, text),
+        CallName::Stream(call) => streams::try_stream(rt, alloc, *call, text),
         CallName::Debug => session::try_debug(rt, alloc, text),
         CallName::Play => acting::try_play(rt, alloc, text),
     }
 }
 
-/// Makes the call, of the scenario whose text the reader has, and gives the exit status.
-fn try_read<R: Print + Threads + Wait + Clock + Sync, I: Read + Drop>(
+/// Makes the call that the one word names, of the scenario whose text the reader has, and gives the exit status.
+fn try_words<R: Print + Threads + Wait + Clock + Sync, I: Read + Drop>(
     rt: &R,
     alloc: Global,
-    name: CallName,
+    words: &[String],
     input: I,
 ) -> Result<u8, PlayError> {
+    let Some(word) = words.get(1) else {
+        return Ok(USAGE);
+    };
+    let Some(name) = found(&CALLS, word.as_str()) else {
+        return Ok(USAGE);
+    };
     let text = read_whole(alloc, &mut Marked::new(input))?;
     try_named(rt, alloc, name, &text)?;
     Ok(0)
 }
 
-/// The call that the one word names, if it names one.
-fn call_asked(rt: &HostRuntime) -> Result<Option<CallName>, PlayError> {
+/// The words of the command line, or none where they aren't all text.
+fn words_given(rt: &HostRuntime) -> Result<Option<Vec<String>>, PlayError> {
     match env::args(rt) {
-        Ok(words) => {
-            let words = words.collect::<Vec<String>>(rt.alloc())?;
-            Ok(words.get(1).and_then(|word| named(word.as_str())))
-        }
+        Ok(words) => Ok(Some(words.collect(rt.alloc())?)),
         Err(error) if error.kind() == io::ErrorKind::OutOfMemory => Err(PlayError::NoMemory),
         Err(_) => Ok(None),
     }
 }
 
 fn main(rt: HostRuntime) -> ExitCode {
-    let outcome = match call_asked(&rt) {
-        Ok(Some(name)) => try_read(&rt, rt.alloc(), name, rt.stdin()),
+    let outcome = match words_given(&rt) {
+        Ok(Some(words)) => try_words(&rt, rt.alloc(), &words, rt.stdin()),
         Ok(None) => Ok(USAGE),
         Err(error) => Err(error),
     };

@@ -68,25 +68,24 @@ impl<X: Print> Tried for Piped<'_, X> {
     }
 }
 
-/// Makes the call of a task, whose reader has this text; or, where it reads an image, that of the text's scenario.
-pub(crate) fn try_task<R: Print>(
+/// Makes a call whose reader has this text; or, where it reads an image, that of the text's scenario.
+pub(crate) fn try_stream<R: Print>(
     rt: &R,
     alloc: Global,
-    task: Task<'static>,
+    call: StreamCall,
     text: &[u8],
 ) -> Result<(), PlayError> {
-    let call = StreamCall::Do(task);
-    match task {
-        Task::Show => {
+    match call {
+        StreamCall::Do(Task::Show) => {
             let image = written(alloc, &assemble(alloc, text)?)?;
-            try_stream(rt, alloc, call, &image)
+            try_piped(rt, alloc, call, &image)
         }
-        _ => try_stream(rt, alloc, call, text),
+        _ => try_piped(rt, alloc, call, text),
     }
 }
 
 /// Makes a call whose reader has this input.
-pub(crate) fn try_stream<R: Print>(
+fn try_piped<R: Print>(
     rt: &R,
     alloc: Global,
     call: StreamCall,
