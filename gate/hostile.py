@@ -1,4 +1,4 @@
-"""What the scripts of hostile use share (refused_memory.py, fuzz.py, hostile_streams.py): a table of command lines, in each of the
+"""What the scripts of hostile use share (refused_memory.py, refused_calls.py, fuzz.py, hostile_streams.py): a table of command lines, in each of the
 program's forms, with the files that they need; what the program ends with; and the faults that docs/FORMATS.md documents."""
 import collections
 import os

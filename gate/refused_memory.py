@@ -28,10 +28,16 @@ Found = collections.namedtuple("Found", "status count kinds faults")
 class Worker:
     """What one process needs to run command lines: a folder of its own, and the files that belong there."""
 
+    shown = staticmethod(hostile.shown)
+
     def __init__(self, program, library):
         self.room = tempfile.mkdtemp(dir=os.path.dirname(library))
-        hostile.fill(program, self.room)
+        self.fill(program)
         self.before, self.counted = hostile.files_in(self.room), hostile.Counted(program, library, self.room)
+
+    def fill(self, program):
+        """Writes the files that the command lines need."""
+        hostile.fill(program, self.room)
 
     def run(self, use, number=0):
         """What a command line ends with where this call for memory is refused, and how many it made."""
@@ -50,11 +56,17 @@ class Worker:
         hostile.put_back(self.room, self.before)
         return kind, faults
 
+    @staticmethod
+    def faults_with_memory(whole, count):
+        """What is wrong where nothing is refused."""
+        checks = {"makes no call for memory that can be refused": count, f"ends as no document says, with {whole[:3]}": documented.is_told(whole.status, whole.errors)}
+        return [what for what, is_well in checks.items() if not is_well]
 
-def begin(program, library):
-    """Begins in a process of the pool."""
+
+def begin(kind, program, library):
+    """Begins in a process of the pool, with a worker of this kind."""
     global worker
-    worker = Worker(program, library)
+    worker = kind(program, library)
 
 
 def counted(use):
@@ -74,23 +86,17 @@ def numbers(count, share):
     return [number for number in range(1, count + MORE + 1) if share is None or number % SHARES == share]
 
 
-def faults_with_memory(use, whole, count):
-    """What is wrong where nothing is refused."""
-    checks = {"makes no call for memory that can be refused": count, f"ends as no document says, with {whole[:3]}": documented.is_told(whole.status, whole.errors)}
-    return [f"{hostile.shown(use)}: {what}" for what, is_well in checks.items() if not is_well]
-
-
-def results(program, uses, share):
-    """Of each command line, how many calls it made, what each refusal came to, and what is wrong."""
+def results(program, uses, share, kind=Worker):
+    """Of each command line, how many calls it made, what each refusal came to, and what is wrong, as this kind of worker judges."""
     with tempfile.TemporaryDirectory(prefix="refused-") as room:
         library = hostile.built_library(room)
-        with multiprocessing.Pool(4, begin, (os.path.abspath(program), library)) as pool:
+        with multiprocessing.Pool(4, begin, (kind, os.path.abspath(program), library)) as pool:
             wholes = dict(zip(uses, pool.map(counted, uses, 1)))
-            found = {use: Found(whole.status, count, {}, faults_with_memory(use, whole, count)) for use, (whole, count) in wholes.items()}
+            found = {use: Found(whole.status, count, {}, [f"{kind.shown(use)}: {it}" for it in kind.faults_with_memory(whole, count)]) for use, (whole, count) in wholes.items()}
             jobs = [(use, number, whole) for use, (whole, count) in wholes.items() for number in numbers(count, share)]
-            for use, number, kind, faults in pool.imap_unordered(tried, jobs, 16):
-                found[use].kinds[kind] = found[use].kinds.get(kind, 0) + 1
-                found[use].faults.extend(f"{hostile.shown(use)}: with call {number} refused it {fault}" for fault in faults)
+            for use, number, came_to, faults in pool.imap_unordered(tried, jobs, 16):
+                found[use].kinds[came_to] = found[use].kinds.get(came_to, 0) + 1
+                found[use].faults.extend(f"{kind.shown(use)}: with call {number} refused it {fault}" for fault in faults)
     return found
 
 

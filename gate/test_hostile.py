@@ -17,6 +17,7 @@ import hostile
 import hostile_streams
 import limits
 import mutations
+import refused_calls
 import refused_memory
 
 # It asks for memory twice, and writes a line behind each; `asm` and `new` write both into their last word, `new` where no file is there.
@@ -42,14 +43,33 @@ int main(int count, char **words) {
     return 0;
 }
 """
+# It asks for memory before a call and in it, and makes the call again where none is given to it.
+CALLED = r"""
+#include <stdlib.h>
+#include <string.h>
+#include <unistd.h>
+static int put(const char *text) { return write(1, text, strlen(text)) < 0; }
+static int said(const char *line, int status) { return write(2, line, strlen(line)) < 0 ? status : status; }
+int main() {
+    char *volatile before = malloc(8);
+    if (!before) BEFORE;
+    put("= held\nit\n= call\none\n");
+    char *volatile within = malloc(8);
+    if (!within) WITHIN;
+    put("two\n\n= ok\nthree\n= held\nit\n");
+    return 0;
+}
+"""
+AGAIN = '"\\n= no memory\\n= held\\nit\\n= call\\none\\n"'
 WELL = {"AT_FIRST": 'return said("no memory\\n", 4)', "AT_SECOND": '{ if (is_new) unlink(words[count - 1]); return said("no memory\\n", 4); }'}
 WELL |= {"LINES": '"one\\ntwo\\n"', "UNWRITTEN": 'return said("write\\n", 3)'}
+WELL |= {"BEFORE": 'return said("no memory\\n", 4)', "WITHIN": f"put({AGAIN})"}
 RUN, ASM, NEW = ("run x", ""), ("asm x out", ""), ("new fresh", "")
 
 
-def built(room, **words):
+def built(room, program=PROGRAM, **words):
     """The program, with these words otherwise."""
-    text = PROGRAM
+    text = program
     for word, stands in {**WELL, **words}.items():
         text = text.replace(word, stands)
     with open(f"{room}/stand_in.c", "w", encoding="utf-8") as it:
@@ -80,6 +100,27 @@ def check_memory(room):
     assert nothing_asked.faults, "a program whose calls for memory can't be seen isn't tried"
     shares = [refused_memory.numbers(40, share) for share in range(refused_memory.SHARES)]
     assert sorted(sum(shares, [])) == refused_memory.numbers(40, None), "the shares are all"
+
+
+def check_calls(room):
+    """What each stand-in does where memory is refused to a call, and what is said of it."""
+    for call, words, wanted in [
+        ("list", {}, None),
+        ("list", {"WITHIN": 'put("")'}, "never answers"),
+        ("list", {"WITHIN": 'return said("no memory\\n", 4)'}, "never answers"),
+        ("new", {}, "which it never should"),
+        ("list", {"BEFORE": 'return said("no memory\\n", 1)'}, "ends with status 1"),
+        ("list", {"BEFORE": 'put("other\\n")'}, "ends with status 0"),
+        ("list", {"WITHIN": "abort()"}, "ends by signal 6"),
+        ("list", {"WITHIN": f"put({AGAIN}), abort()"}, "ends by signal 6"),
+        ("list", {"WITHIN": f"return put({AGAIN})"}, "when it is made again"),
+        ("list", {"WITHIN": f"put({AGAIN.replace('it', 'other')})"}, "what its caller holds"),
+        ("list", {"WITHIN": f'put("other" {AGAIN})'}, "no front"),
+    ]:
+        found = refused_memory.results(built(room, CALLED, **words), [(call, "")], None, refused_calls.Caller)[call, ""]
+        faults = refused_calls.faults_of_rows({(call, "a scenario"): found})
+        assert any(wanted in fault for fault in faults) if wanted else not faults, (words, faults)
+    assert not refused_calls.uncovered(), "each call stands in the table"
 
 
 def check_streams(room):
@@ -249,6 +290,7 @@ check_documented()
 check_mutations()
 with tempfile.TemporaryDirectory(prefix="hostile-") as ours:
     check_memory(ours)
+    check_calls(ours)
     check_streams(ours)
     check_fuzz(ours)
     check_cuts(ours)

@@ -1,0 +1,266 @@
+//! The calls, by their names.
+
+use crate::bodies::{Body, BodyCall};
+use crate::debugging::{Asked, Way};
+use crate::engines::EngineCall;
+use crate::machines::MachineCall;
+use crate::stores::StoreCall;
+use crate::streams::StreamCall;
+use crate::texts::TextCall;
+use cmwq_debug::{Command, EventKind};
+use cmwq_tasks::{Drawing, Looks, Question, RunKind, Span, Task};
+use cmwq_types::WorkId;
+
+/// A call, by what it is made on.
+pub(crate) enum CallName {
+    Text(TextCall),
+    Lists(StoreCall),
+    Timers(StoreCall),
+    On(Body, BodyCall),
+    Stream(StreamCall),
+    Debug,
+    Play,
+}
+
+/// The work that is asked about.
+const WORK: Question<'static> = Question::Work("b");
+
+/// The whole run, as text.
+const DRAWN: Drawing = Drawing {
+    settle: false,
+    svg: false,
+    span: Span {
+        from: None,
+        to: None,
+    },
+};
+
+/// The settled run, as text.
+const SETTLED: Drawing = Drawing {
+    settle: true,
+    ..DRAWN
+};
+
+/// Some ticks of the run, as text.
+const SOME: Drawing = Drawing {
+    span: Span {
+        from: Some(2),
+        to: Some(9),
+    },
+    ..DRAWN
+};
+
+/// Each call with its name.
+pub(crate) const CALLS: [(&str, CallName); 57] = [
+    ("Scenario::copy", CallName::Text(TextCall::Copy)),
+    ("assemble", CallName::Text(TextCall::Assemble)),
+    ("read_text", CallName::Text(TextCall::ReadText)),
+    ("list", CallName::Text(TextCall::List)),
+    ("read", CallName::Text(TextCall::Read)),
+    ("write", CallName::Text(TextCall::Write)),
+    ("Lists::new", CallName::Lists(StoreCall::New)),
+    ("Lists::copy", CallName::Lists(StoreCall::Copy)),
+    ("Timers::new", CallName::Timers(StoreCall::New)),
+    ("Timers::copy", CallName::Timers(StoreCall::Copy)),
+    (
+        "Plain::load",
+        CallName::On(Body::Plain, BodyCall::Machine(MachineCall::Load)),
+    ),
+    (
+        "Plain::copy",
+        CallName::On(Body::Plain, BodyCall::Machine(MachineCall::Copy)),
+    ),
+    (
+        "Plain::look",
+        CallName::On(Body::Plain, BodyCall::Machine(MachineCall::Look)),
+    ),
+    (
+        "Core::load",
+        CallName::On(Body::Core, BodyCall::Machine(MachineCall::Load)),
+    ),
+    (
+        "Core::copy",
+        CallName::On(Body::Core, BodyCall::Machine(MachineCall::Copy)),
+    ),
+    (
+        "Core::look",
+        CallName::On(Body::Core, BodyCall::Machine(MachineCall::Look)),
+    ),
+    (
+        "dump_text",
+        CallName::On(Body::Core, BodyCall::Machine(MachineCall::Dump)),
+    ),
+    (
+        "Engine::open",
+        CallName::On(Body::Core, BodyCall::Engine(EngineCall::Open)),
+    ),
+    (
+        "Shared::open",
+        CallName::On(Body::Core, BodyCall::Engine(EngineCall::OpenShared)),
+    ),
+    (
+        "TicketLock::open",
+        CallName::On(Body::Core, BodyCall::Engine(EngineCall::OpenLock)),
+    ),
+    (
+        "Debugger::open",
+        CallName::On(Body::Core, BodyCall::OpenDebugger),
+    ),
+    (
+        "Step",
+        CallName::On(Body::Core, BodyCall::Debugger(Asked::Going(Way::Step))),
+    ),
+    (
+        "Back",
+        CallName::On(Body::Core, BodyCall::Debugger(Asked::Going(Way::Back))),
+    ),
+    (
+        "Goto",
+        CallName::On(Body::Core, BodyCall::Debugger(Asked::Going(Way::Goto))),
+    ),
+    (
+        "Goto-copy",
+        CallName::On(Body::Core, BodyCall::Debugger(Asked::Going(Way::GotoCopy))),
+    ),
+    (
+        "Run",
+        CallName::On(Body::Core, BodyCall::Debugger(Asked::Going(Way::Run))),
+    ),
+    (
+        "BreakWork",
+        CallName::On(
+            Body::Core,
+            BodyCall::Debugger(Asked::There(Command::BreakWork {
+                work: WorkId(1),
+                event: EventKind::Finishes,
+            })),
+        ),
+    ),
+    (
+        "BreakTime",
+        CallName::On(
+            Body::Core,
+            BodyCall::Debugger(Asked::There(Command::BreakTime(9))),
+        ),
+    ),
+    (
+        "BreakRefusal",
+        CallName::On(
+            Body::Core,
+            BodyCall::Debugger(Asked::There(Command::BreakRefusal)),
+        ),
+    ),
+    (
+        "Clear",
+        CallName::On(
+            Body::Core,
+            BodyCall::Debugger(Asked::There(Command::Clear(1))),
+        ),
+    ),
+    (
+        "Dump",
+        CallName::On(Body::Core, BodyCall::Debugger(Asked::There(Command::Dump))),
+    ),
+    (
+        "DumpPool",
+        CallName::On(
+            Body::Core,
+            BodyCall::Debugger(Asked::There(Command::DumpPool(0))),
+        ),
+    ),
+    (
+        "Why",
+        CallName::On(
+            Body::Core,
+            BodyCall::Debugger(Asked::There(Command::Why(WorkId(1)))),
+        ),
+    ),
+    (
+        "WhyFlush",
+        CallName::On(
+            Body::Core,
+            BodyCall::Debugger(Asked::There(Command::WhyFlush(0))),
+        ),
+    ),
+    (
+        "run",
+        CallName::Stream(StreamCall::Do(Task::Run(RunKind::Plain))),
+    ),
+    (
+        "run_told",
+        CallName::Stream(StreamCall::Do(Task::Run(RunKind::Told))),
+    ),
+    (
+        "run_settled",
+        CallName::Stream(StreamCall::Do(Task::Run(RunKind::Settled))),
+    ),
+    (
+        "settle_text",
+        CallName::Stream(StreamCall::Do(Task::Settle)),
+    ),
+    ("list_text", CallName::Stream(StreamCall::Do(Task::List))),
+    ("from_image", CallName::Stream(StreamCall::Do(Task::Show))),
+    ("to_image", CallName::Stream(StreamCall::ToImage)),
+    ("draw", CallName::Stream(StreamCall::Do(Task::Draw(DRAWN)))),
+    (
+        "draw-settled",
+        CallName::Stream(StreamCall::Do(Task::Draw(SETTLED))),
+    ),
+    (
+        "draw-svg",
+        CallName::Stream(StreamCall::Do(Task::Draw(Drawing { svg: true, ..DRAWN }))),
+    ),
+    (
+        "draw-settled-svg",
+        CallName::Stream(StreamCall::Do(Task::Draw(Drawing {
+            svg: true,
+            ..SETTLED
+        }))),
+    ),
+    (
+        "draw-some",
+        CallName::Stream(StreamCall::Do(Task::Draw(SOME))),
+    ),
+    (
+        "draw-some-svg",
+        CallName::Stream(StreamCall::Do(Task::Draw(Drawing { svg: true, ..SOME }))),
+    ),
+    (
+        "why",
+        CallName::Stream(StreamCall::Do(Task::Why(WORK, Looks::Settled))),
+    ),
+    (
+        "why-every",
+        CallName::Stream(StreamCall::Do(Task::Why(WORK, Looks::Every))),
+    ),
+    (
+        "why-at",
+        CallName::Stream(StreamCall::Do(Task::Why(WORK, Looks::At(9)))),
+    ),
+    (
+        "why-flush",
+        CallName::Stream(StreamCall::Do(Task::Why(Question::Flush(0), Looks::Settled))),
+    ),
+    (
+        "why-flush-every",
+        CallName::Stream(StreamCall::Do(Task::Why(Question::Flush(0), Looks::Every))),
+    ),
+    (
+        "why-flush-at",
+        CallName::Stream(StreamCall::Do(Task::Why(Question::Flush(0), Looks::At(24)))),
+    ),
+    ("check", CallName::Stream(StreamCall::Check)),
+    ("new", CallName::Stream(StreamCall::New)),
+    ("debug", CallName::Debug),
+    ("play", CallName::Play),
+];
+
+/// What has this name among these, if something has it.
+pub(crate) fn found<'a, T>(all: &'a [(&str, T)], word: &str) -> Option<&'a T> {
+    for (name, it) in all {
+        if *name == word {
+            return Some(it);
+        }
+    }
+    None
+}

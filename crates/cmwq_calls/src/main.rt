@@ -1,0 +1,108 @@
+//! The program `cmwq_calls`, for the gate: it makes the library call that its one word names, prints what the call answers and what its
+//! caller holds before and after, and makes the call again where it answered that memory ran out. The text of a scenario comes from
+//! standard input.
+//!
+//! `gate/refused_calls.py` has each call's 1st, 2nd, .. allocation refused in turn, and compares what is printed with what is printed
+//! where memory is ample. Memory that is refused outside of the call ends the program with `no memory` and the status of that fault.
+#![tactic(auto)]
+
+mod acting;
+mod bodies;
+mod call_name;
+mod debugging;
+mod engines;
+mod instructions;
+mod machines;
+mod session;
+mod showing;
+mod stores;
+mod streams;
+mod texts;
+mod trying;
+
+use bodies::{Body, BodyCall, try_body};
+use call_name::{CALLS, CallName, found};
+use cmwq_core::Core;
+use cmwq_outcome::fault;
+use cmwq_plain::Plain;
+use cmwq_play::{Marked, PlayError, read_whole};
+use std::alloc::Global;
+use std::io::Read;
+use std::process::ExitCode;
+use std::sync::Wait;
+use std::thread::Threads;
+use std::time::Clock;
+use std::{env, io};
+
+/// The status where the word names no call.
+const USAGE: u8 = 2;
+
+/// Makes a call of the machine of vectors.
+fn try_plain<R: Print>(
+    rt: &R,
+    alloc: Global,
+    call: BodyCall,
+    text: &[u8],
+) -> Result<(), PlayError> {
+    try_body::<Plain, R>(rt, alloc, call, text)
+}
+
+/// Makes a call of the machine of lists.
+fn try_core<R: Print>(rt: &R, alloc: Global, call: BodyCall, text: &[u8]) -> Result<(), PlayError> {
+    try_body::<Core, R>(rt, alloc, call, text)
+}
+
+/// Makes the call, of the scenario of this text where it takes one.
+fn try_named<R: Print + Threads + Wait + Clock + Sync>(
+    rt: &R,
+    alloc: Global,
+    name: &CallName,
+    text: &[u8],
+) -> Result<(), PlayError> {
+    match name {
+        CallName::Lists(call) => stores::try_lists(rt, alloc, *call),
+        CallName::Timers(call) => stores::try_timers(rt, alloc, *call),
+        CallName::Text(call) => texts::try_text(rt, alloc, *call, text),
+        CallName::On(Body::Plain, call) => try_plain(rt, alloc, *call, text),
+        CallName::On(Body::Core, call) => try_core(rt, alloc, *call, text),
+        CallName::Stream(call) => streams::try_stream(rt, alloc, *call, text),
+        CallName::Debug => session::try_debug(rt, alloc, text),
+        CallName::Play => acting::try_play(rt, alloc, text),
+    }
+}
+
+/// Makes the call that the one word names, of the scenario whose text the reader has, and gives the exit status.
+fn try_words<R: Print + Threads + Wait + Clock + Sync, I: Read + Drop>(
+    rt: &R,
+    alloc: Global,
+    words: &[String],
+    input: I,
+) -> Result<u8, PlayError> {
+    let Some(word) = words.get(1) else {
+        return Ok(USAGE);
+    };
+    let Some(name) = found(&CALLS, word.as_str()) else {
+        return Ok(USAGE);
+    };
+    let text = read_whole(alloc, &mut Marked::new(input))?;
+    try_named(rt, alloc, name, &text)?;
+    Ok(0)
+}
+
+/// The words of the command line, or none where they aren't all text.
+fn words_given(rt: &HostRuntime) -> Result<Option<Vec<String>>, PlayError> {
+    match env::args(rt) {
+        Ok(words) => Ok(Some(words.collect(rt.alloc())?)),
+        Err(error) if error.kind() == io::ErrorKind::OutOfMemory => Err(PlayError::NoMemory),
+        Err(_) => Ok(None),
+    }
+}
+
+fn main(rt: HostRuntime) -> ExitCode {
+    let outcome = match words_given(&rt) {
+        Ok(Some(words)) => try_words(&rt, rt.alloc(), &words, rt.stdin()),
+        Ok(None) => Ok(USAGE),
+        Err(error) => Err(error),
+    };
+    fault::end_with(&mut Marked::new(rt.stderr()), outcome)
+}

@@ -1,0 +1,64 @@
+//! What is printed of scenarios, machines and bytes.
+
+use cmwq_play::PlayError;
+use cmwq_table::Machine;
+use cmwq_types::Scenario;
+use std::fmt::Display;
+use std::io;
+use std::io::Write;
+
+/// Prints a line. It takes no memory.
+pub(crate) fn say<R: Print, D: Display + Drop>(rt: &R, line: D) -> Result<(), PlayError> {
+    rt.println(line).map_err(|_failed| PlayError::Write)
+}
+
+/// Prints all of a scenario.
+pub(crate) fn show_scenario<R: Print>(rt: &R, scenario: &Scenario) -> Result<(), PlayError> {
+    println!(rt; "{scenario:?}").map_err(|_failed| PlayError::Write)
+}
+
+/// Prints a machine's whole state.
+pub(crate) fn show_machine<M: Machine, R: Print>(rt: &R, machine: &M) -> Result<(), PlayError> {
+    let view = machine.look()?;
+    println!(rt; "{view:?}").map_err(|_failed| PlayError::Write)
+}
+
+/// Prints bytes that are a text.
+pub(crate) fn show_text<R: Print>(rt: &R, text: &[u8]) -> Result<(), PlayError> {
+    rt.write_all(text).map_err(|_failed| PlayError::Write)
+}
+
+/// A writer that prints what it takes.
+#[derive(Drop)]
+pub(crate) struct Printer<'r, R> {
+    pub(crate) rt: &'r R,
+}
+
+impl<R: Print> Write for Printer<'_, R> {
+    fn write(&mut self, buf: &[u8]) -> io::Result<usize> {
+        self.rt.write_some(buf)
+    }
+
+    fn flush(&mut self) -> io::Result<()> {
+        Ok(())
+    }
+}
+
+/// A writer that prints each byte that it takes as two digits.
+#[derive(Drop)]
+pub(crate) struct HexPrinter<'r, R> {
+    pub(crate) rt: &'r R,
+}
+
+impl<R: Print> Write for HexPrinter<'_, R> {
+    fn write(&mut self, buf: &[u8]) -> io::Result<usize> {
+        for byte in buf {
+            print!(self.rt; "{byte:02x}")?;
+        }
+        Ok(buf.len())
+    }
+
+    fn flush(&mut self) -> io::Result<()> {
+        Ok(())
+    }
+}

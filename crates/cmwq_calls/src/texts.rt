@@ -1,0 +1,105 @@
+//! Scenarios, their texts and their images: copied, read and written.
+
+use crate::showing::{HexPrinter, show_scenario, show_text};
+use crate::trying::{Tried, try_call};
+use cmwq_asm::assemble;
+use cmwq_image::{read, write};
+use cmwq_list::list;
+use cmwq_play::{Marked, PlayError, put_all, read_text};
+use cmwq_types::Scenario;
+use std::alloc::Global;
+
+/// A call on a scenario, its text or its image.
+#[derive(Clone, Copy)]
+pub(crate) enum TextCall {
+    Copy,
+    Assemble,
+    ReadText,
+    List,
+    Read,
+    Write,
+}
+
+/// What such a call answers.
+#[derive(Drop)]
+enum Answer {
+    Scenario(Scenario),
+    Text(Vec<u8>),
+    Image(Vec<u8>),
+}
+
+/// A scenario with its text and its image.
+#[derive(Drop)]
+struct OnText<'t> {
+    text: &'t [u8],
+    scenario: Scenario,
+    image: Vec<u8>,
+    call: TextCall,
+}
+
+impl Tried for OnText<'_> {
+    type Given = ();
+
+    type Answer = Answer;
+
+    fn show_held<R: Print>(&mut self, rt: &R, _alloc: Global) -> Result<(), PlayError> {
+        show_scenario(rt, &self.scenario)
+    }
+
+    fn given(&self, _alloc: Global) -> Result<(), PlayError> {
+        Ok(())
+    }
+
+    fn call(&mut self, alloc: Global, _given: ()) -> Result<Answer, PlayError> {
+        match self.call {
+            TextCall::Copy => Ok(Answer::Scenario(self.scenario.copy()?)),
+            TextCall::Assemble => Ok(Answer::Scenario(assemble(alloc, self.text)?)),
+            TextCall::ReadText => {
+                let reader = &mut Marked::new(self.text);
+                Ok(Answer::Scenario(read_text(alloc, reader)?))
+            }
+            TextCall::List => Ok(Answer::Text(list(alloc, &self.scenario)?)),
+            TextCall::Read => Ok(Answer::Scenario(read(alloc, &self.image)?)),
+            TextCall::Write => Ok(Answer::Image(written(alloc, &self.scenario)?)),
+        }
+    }
+
+    fn show_answer<R: Print>(
+        &mut self,
+        rt: &R,
+        _alloc: Global,
+        answer: Answer,
+    ) -> Result<(), PlayError> {
+        match answer {
+            Answer::Scenario(scenario) => show_scenario(rt, &scenario),
+            Answer::Text(text) => show_text(rt, &text),
+            Answer::Image(image) => put_all(&mut Marked::new(HexPrinter { rt }), &image),
+        }
+    }
+}
+
+/// The image of a scenario that was read, and so is valid.
+pub(crate) fn written(alloc: Global, scenario: &Scenario) -> Result<Vec<u8>, PlayError> {
+    match scenario.check() {
+        Ok(()) => Ok(write(alloc, scenario)?),
+        Err(_fault) => Err(PlayError::NoMemory),
+    }
+}
+
+/// Makes a call on the scenario of this text.
+pub(crate) fn try_text<R: Print>(
+    rt: &R,
+    alloc: Global,
+    call: TextCall,
+    text: &[u8],
+) -> Result<(), PlayError> {
+    let scenario = assemble(alloc, text)?;
+    let image = written(alloc, &scenario)?;
+    let mut tried = OnText {
+        text,
+        scenario,
+        image,
+        call,
+    };
+    try_call(rt, alloc, &mut tried)
+}
