@@ -3,16 +3,16 @@ _cmwq() {
     local word=${COMP_WORDS[COMP_CWORD]} command=${COMP_WORDS[1]-}
     COMPREPLY=()
     if ((COMP_CWORD == 1)); then
-        mapfile -t COMPREPLY < <(compgen -W 'new run settle draw why list asm show debug play check help --help --version' -- "$word")
+        mapfile -t COMPREPLY < <(compgen -W 'new run settle draw why list asm show debug play check help --explain --help --version' -- "$word")
     elif [[ $command == help ]]; then
         mapfile -t COMPREPLY < <(compgen -W 'new run settle draw why list asm show debug play check help' -- "$word")
     elif [[ $word == -* ]]; then
-        local options=--help
+        local options='--explain --help'
         case $command in
-            run) options='--settle --tell --help' ;;
-            draw) options='--settle --svg --from --to --help' ;;
-            why) options='--flush --at --every --help' ;;
-            play) options='--capacity --help' ;;
+            run) options='--settle --tell --explain --help' ;;
+            draw) options='--settle --svg --from --to --explain --help' ;;
+            why) options='--flush --at --every --explain --help' ;;
+            play) options='--capacity --explain --help' ;;
         esac
         mapfile -t COMPREPLY < <(compgen -W "$options" -- "$word")
     elif [[ ${COMP_WORDS[COMP_CWORD - 1]} != @(--capacity|--from|--to|--flush|--at) ]]; then

@@ -24,4 +24,5 @@ complete -c cmwq -n "__fish_seen_subcommand_from why" -l at -x -d 'Look at this 
 complete -c cmwq -n "__fish_seen_subcommand_from why" -l every -d 'Look at every position'
 complete -c cmwq -n "__fish_seen_subcommand_from play" -l capacity -x -d 'How many instructions can be issued in all'
 complete -c cmwq -n "not __fish_seen_subcommand_from $commands" -s V -l version -d 'Print version'
+complete -c cmwq -l explain -d 'Say what can be done about a fault'
 complete -c cmwq -s h -l help -d 'Print help'

@@ -1,7 +1,8 @@
 //! The program `cmwq`: words in, status out.
 #![tactic(auto)]
 
-use cmwq_command::{Disk, ProgramSetting, carry_out};
+use cmwq_advice::take_explain;
+use cmwq_command::{Disk, ProgramSetting, advise, carry_out};
 use cmwq_outcome::{Look, fault, tell};
 use cmwq_play::{Marked, PlayError};
 use cmwq_request::request;
@@ -13,32 +14,57 @@ use std::{env, io};
 const LOGIC: &str = "dac8208d650f15bf";
 
 fn main(rt: HostRuntime) -> ExitCode {
-    let outcome = match words_given(&rt) {
-        Ok(Some(words)) => carry_out(
-            &rt,
-            &Disk { rt: &rt },
-            ProgramSetting {
-                logic: LOGIC,
-                look: look_of_verdicts(&rt),
-            },
-            words.as_slice(),
-            rt.stdin(),
-            &mut Marked::new(rt.stdout()),
-            &mut Marked::new(rt.stderr()),
-        ),
-        Ok(None) => tell_not_text(&rt),
-        Err(error) => Err(error),
+    let mut words = match words_given(&rt) {
+        Ok(Some(words)) => words,
+        Ok(None) => return end_with(&rt, tell_not_text(&rt)),
+        Err(error) => return end_with(&rt, Err(error)),
     };
+    let look = look_of_verdicts(&rt, take_explain(&mut words));
+    let outcome = carry_out(
+        &rt,
+        &Disk { rt: &rt },
+        ProgramSetting { logic: LOGIC, look },
+        words.as_slice(),
+        rt.stdin(),
+        &mut Marked::new(rt.stdout()),
+        &mut Marked::new(rt.stderr()),
+    );
+    let code = end_with(&rt, outcome);
+    if let Err(fault) = outcome {
+        advise_on(&rt, look, words.as_slice(), fault);
+    }
+    code
+}
+
+/// Tells the fault that the program ends with, if there is one, and gives the exit status.
+fn end_with(rt: &HostRuntime, outcome: Result<u8, PlayError>) -> ExitCode {
     fault::end_with(&mut Marked::new(rt.stderr()), outcome)
 }
 
-/// How verdicts look on standard error.
-fn look_of_verdicts(rt: &HostRuntime) -> Look {
-    if rt.stderr().is_terminal() {
-        Look::Terminal
-    } else {
-        Look::Plain
+/// Where advice is asked for, or standard error is a terminal, tells what can be done about the fault.
+fn advise_on(rt: &HostRuntime, look: Look, words: &[String], fault: PlayError) {
+    if look == Look::Plain {
+        return;
     }
+    let mut errors = Marked::new(rt.stderr());
+    // The fault is told, and there is nobody left to tell where advice can't be.
+    let _ = advise(rt.alloc(), &Disk { rt }, look, words, fault, &mut errors);
+}
+
+/// How verdicts look on standard error. A terminal has colours, unless its user wants none (no-color.org).
+fn look_of_verdicts(rt: &HostRuntime, is_asked: bool) -> Look {
+    match (rt.stderr().is_terminal(), is_asked) {
+        (true, _) if wants_no_colours(rt) => Look::Pointed,
+        (true, _) => Look::Terminal,
+        (false, true) => Look::Pointed,
+        (false, false) => Look::Plain,
+    }
+}
+
+/// Whether `NO_COLOR` is there and isn't empty, or `TERM` is `dumb`.
+fn wants_no_colours(rt: &HostRuntime) -> bool {
+    let is_dumb = env::var(rt, "TERM").is_ok_and(|name| name.as_str() == "dumb");
+    is_dumb || env::var(rt, "NO_COLOR").is_ok_and(|wish| !wish.is_empty())
 }
 
 /// The words of the command line, or none where they aren't all text.

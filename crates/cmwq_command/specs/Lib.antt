@@ -1,2 +1,3 @@
+pub mod Advised
 pub mod Carried
 pub mod Tasks

@@ -1,8 +1,10 @@
 //! Where files are opened and made.
 ghost use Rattle.std.specs.Prelude.{◌≡◌, ℕ, IfErr, IfOk, IfSome, List, None, Option, Some, false};
 
+use cmwq_advice::Trouble;
 use cmwq_play::{Marked, PlayError, Sink, Source};
 use std::fs::{File, metadata};
+use std::io::ErrorKind;
 use std::os::unix::fs::MetadataExt;
 use std::rt::Files;
 
@@ -29,6 +31,12 @@ pub trait FileStore {
 
     /// Whether both paths are those of one regular file that is there. Of what can't be looked at it answers no.
     fn is_one_file(&self, one: &str, other: &str) -> bool;
+
+    /// Why the file of this path can't be read, as far as can be seen.
+    fn trouble_with_reading(&self, path: &str) -> Trouble;
+
+    /// Why the file of this path, which mustn't be there yet if it is to be new, can't be made, as far as can be seen.
+    fn trouble_with_making(&self, path: &str, is_new: bool) -> Trouble;
 
     /// The file of this path, made to be written, where there is none yet. The only error is `Write`.
     fn make_new(&self, path: &str) -> Result<Self::Writer, PlayError>
@@ -71,8 +79,49 @@ impl<R: Files> FileStore for Disk<'_, R> {
         }
     }
 
+    fn trouble_with_reading(&self, path: &str) -> Trouble {
+        match File::open(self.rt, path) {
+            Err(error) => trouble_with_opening(error.kind()),
+            Ok(_) if is_folder(self.rt, path) => Trouble::IsFolder,
+            Ok(_) => Trouble::Unreadable,
+        }
+    }
+
+    fn trouble_with_making(&self, path: &str, is_new: bool) -> Trouble {
+        if metadata(self.rt, path).is_ok() && is_new {
+            return Trouble::IsThere;
+        }
+        if is_folder(self.rt, path) {
+            return Trouble::IsFolder;
+        }
+        match path.rsplit_once('/') {
+            Some((folder, _)) if !folder.is_empty() && !is_folder(self.rt, folder) => {
+                Trouble::NoFolder
+            }
+            _ => Trouble::Unwritable,
+        }
+    }
+
     fn make_new(&self, path: &str) -> Result<Marked<R::File>, PlayError> {
         let file = File::create_new(self.rt, path).map_err(|_| PlayError::Write)?;
         Ok(Marked::new(file))
+    }
+}
+
+/// Why a file can't be opened, by what the system says.
+fn trouble_with_opening(kind: ErrorKind) -> Trouble {
+    match kind {
+        ErrorKind::NotFound | ErrorKind::NotADirectory => Trouble::NoFile,
+        ErrorKind::PermissionDenied => Trouble::Denied,
+        ErrorKind::IsADirectory => Trouble::IsFolder,
+        _ => Trouble::Unreadable,
+    }
+}
+
+/// Whether the path is that of a folder.
+fn is_folder<R: Files>(rt: &R, path: &str) -> bool {
+    match metadata(rt, path) {
+        Ok(found) => found.is_dir(),
+        Err(_) => false,
     }
 }

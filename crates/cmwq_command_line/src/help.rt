@@ -19,6 +19,8 @@ Examples:
   cmwq play scenarios/race.cmwq --capacity 100
   cmwq check first.cmwq scenarios/race.cmwq
 
+Every command takes --explain, anywhere among its words: behind the line of a fault it says what can be done about it, as at a terminal.
+
 The formats of scenarios and images, the debugger's commands, and what each fault means, are in docs/FORMATS.md.
 
 Exit status:

@@ -1,4 +1,4 @@
--- How a verdict looks: in plain bytes, or as a terminal shows it, with a colour and a caret.
+-- How a verdict looks: in plain bytes, with a caret, or as a terminal shows it, with a caret and a colour.
 use Rattle.std.specs.Prelude.{◌==◌, ◌-◌, ℕ, List, [], ◌∷◌, ◌++◌, codes, drop, map, nat_lt, take, if◌then◌else◌}
 use Rattle.cmwq_types.specs.Faults.{within}
 use Rattle.cmwq_grammar.specs.Cutting.{lines_of}
@@ -18,6 +18,7 @@ plain = 27 ∷ codes "[0m"
 
 abbrev pub why_words : Look → Why → List ℕ
 why_words look.Plain why = why_name why
+why_words look.Pointed why = why_name why
 why_words look.Terminal why = red ++ why_name why ++ plain
 
 -- A byte of a line as it is shown: a tab stays one, a carriage return is a blank, and `?` stands for what else can't be seen. Below
@@ -37,7 +38,11 @@ abbrev pub pointed_first : List (List ℕ) → ℕ → List ℕ
 pointed_first [] column = []
 pointed_first (line ∷ more) column = pointed line column
 
--- what points at a column of the fault's line
+-- what points at a column of the fault's line, where it has one
+abbrev pub pointer_below : List ℕ → FaultAt → ℕ → List ℕ
+pointer_below text fault column = if fault.line == 0 then [] else pointed_first (lines_of (drop (start_of text fault) text)) column
+
 abbrev pub pointer : Look → List ℕ → FaultAt → ℕ → List ℕ
 pointer look.Plain text fault column = []
-pointer look.Terminal text fault column = if fault.line == 0 then [] else pointed_first (lines_of (drop (start_of text fault) text)) column
+pointer look.Pointed text fault column = pointer_below text fault column
+pointer look.Terminal text fault column = pointer_below text fault column

@@ -15,6 +15,8 @@ use cmwq_types::NoMemory;
 pub enum Look {
     /// As plain bytes, for files and editors.
     Plain,
+    /// With the fault's line and a caret below the column, in plain bytes.
+    Pointed,
     /// As a terminal shows it: the reason in red, and the fault's line with a caret below the column.
     Terminal,
 }
@@ -24,7 +26,7 @@ pub(crate) fn push_why(told: &mut Vec<u8>, look: Look, why: Why) -> Result<(), N
     ensures { OnOk result (told.new.items ≡ told.old.items ++ why_words look why) }
 {
     match look {
-        Look::Plain => told.extend_from_slice(why_name(why).as_bytes())?,
+        Look::Plain | Look::Pointed => told.extend_from_slice(why_name(why).as_bytes())?,
         Look::Terminal => push_red(told, why_name(why).as_bytes())?,
     }
     Ok(())

@@ -18,8 +18,9 @@ use std::alloc::Global;
 /// line`, or `end of text`, for a line in which no word is at fault `line`, and for a text that is too long `text`. Of a word the
 /// first 64 bytes are shown, and `?` for each that isn't a visible character of ASCII. The second line is `  a line here may begin
 /// with: WORD, WORD`, of just those words with which some scenario's text goes on after the lines before the fault's, or `  no line
-/// may stand here`; a text that is too long has no second line. As a terminal shows it, the reason is red, and between the two stands
-/// the fault's line, its first 100 bytes, with a caret below the column where that is among them. It fails only for want of memory.
+/// may stand here`; a text that is too long has no second line. Where it is to point at the place, the fault's line stands between the two, its
+/// first 100 bytes, with a caret below the column where that is among them; as a terminal shows it, the reason is red as well. It fails only
+/// for want of memory.
 pub fn verdict(
     alloc: Global,
     look: Look,

@@ -1,0 +1,161 @@
+-- What a person is told to do about the fault that a command ended with. The lines are this project's own.
+use Rattle.std.specs.Prelude.{◌≡◌, ◌⊎◌, ℕ, suc, Bool, true, false, List, [], ◌∷◌, ◌++◌, ◌==◌, length, take, drop, Option, None, Some, codes, option_map, unwrap_or, nat_lt, if◌then◌else◌}
+use Rattle.std.specs.Fmt.{decimal}
+use Rattle.std.specs.List.{flat_map}
+use Rattle.cmwq_types.specs.Contents.{ActorContents, ScenarioContents, WorkContents}
+use Rattle.cmwq_types.specs.Scenario.{expand}
+use Rattle.cmwq_types.specs.declared.limits.TheConstants.{MAX_HISTORY}
+use Rattle.cmwq_grammar.specs.Grammar.{Spells}
+use Rattle.cmwq_asm.specs.declared.fault.AsmError.TheVariants as texts
+use Rattle.cmwq_image.specs.declared.error.ImageError.{ImageError}
+use Rattle.cmwq_image.specs.declared.error.ImageError.TheVariants as images
+use Rattle.cmwq_request.specs.declared.request.Request.{Request}
+use Rattle.cmwq_request.specs.declared.request.Request.TheVariants.{New, Do, Asm, Debug, Play}
+use Rattle.cmwq_streams.specs.declared.error.PlayError.{PlayError}
+use Rattle.cmwq_streams.specs.declared.error.PlayError.TheVariants as errors
+use Rattle.cmwq_tasks.specs.declared.question.Question.TheVariants.{Work}
+use Rattle.cmwq_tasks.specs.declared.task.Task.TheVariants.{Settle, Why}
+use Rattle.cmwq_verdict.specs.Verdicts.{IsVerdict}
+use Rattle.cmwq_verdict.specs.declared.looks.Look.{Look}
+use Rattle.cmwq_advice.specs.Nearest.{nearest, work_name}
+use Rattle.cmwq_advice.specs.declared.advising.Found.{Found}
+use Rattle.cmwq_advice.specs.declared.trouble.Trouble.{Trouble}
+use Rattle.cmwq_advice.specs.declared.trouble.Trouble.TheVariants as trouble
+
+abbrev pub line : List ℕ → List ℕ
+line text = codes "  " ++ text ++ 10 ∷ []
+
+-- a file that can't be read or made
+
+abbrev pub trouble_words : Trouble → List ℕ
+trouble_words trouble.NoFile = codes ": no such file"
+trouble_words trouble.NoFolder = codes ": no such folder"
+trouble_words trouble.IsThere = codes " is there already; new doesn't overwrite"
+trouble_words trouble.IsInput = codes " is the scenario's own text; asm doesn't overwrite it"
+trouble_words trouble.IsFolder = codes " is a folder"
+trouble_words trouble.Denied = codes ": permission denied"
+trouble_words trouble.Unreadable = codes ": it can't be read"
+trouble_words trouble.Unwritable = codes ": it can't be written"
+
+abbrev pub trouble_line : (file : List ℕ) → Trouble → List ℕ
+trouble_line file why = line (file ++ trouble_words why)
+
+abbrev pub trouble_lines : (file : Option (List ℕ)) → Option Trouble → List ℕ
+trouble_lines (Some file) (Some why) = trouble_line file why
+trouble_lines (Some file) None = []
+trouble_lines None why = []
+
+-- the file that a command reads, and the one that it makes
+abbrev pub file_read : Request → Option (List ℕ)
+file_read (Do file task) = Some file.now
+file_read (Asm file out) = Some file.now
+file_read (Debug file) = Some file.now
+file_read (Play file capacity) = Some file.now
+file_read request = None
+
+abbrev pub file_made : Request → Option (List ℕ)
+file_made (New file) = option_map (λ path. path.now) file
+file_made (Asm file out) = Some out.now
+file_made request = None
+
+-- what is wrong with an image
+abbrev pub image_words : ImageError → List ℕ
+image_words images.Magic = line (codes "an image begins with CMWQ: this is none that cmwq asm made")
+image_words images.Version = line (codes "the image is of a version that this program doesn't know")
+image_words images.Truncated = line (codes "the image ends too early: a part of it is lost")
+image_words images.Extra = line (codes "bytes follow behind the image's end")
+image_words (images.BadField offset) = line (codes "at this offset, in bytes from 0, the image has what can't stand there")
+image_words (images.Fault fault) = line (codes "the image's scenario isn't one")
+image_words images.NoMemory = []
+
+-- what there is too much of, and how much there may be
+abbrev pub full_words : Request → List ℕ
+full_words (Play file capacity) = line (codes "--capacity says how many instructions fit: 4096 at most")
+full_words (Do file Settle) = line (codes "settled, the actor would have more than 4096 lines, or 1048576 instructions")
+full_words request = line (codes "the actor has more than 1048576 instructions")
+
+abbrev pub memory_words : List ℕ
+memory_words = line (codes "a shorter run, or a picture of fewer ticks (--from, --to), takes less memory")
+
+-- where neither a file nor its scenario has to be looked at
+abbrev pub plain_words : Request → PlayError → List ℕ
+plain_words request errors.Full = full_words request
+plain_words request errors.NeverQuiet = line (codes "works queue each other again and again, so it goes on for ever")
+plain_words request errors.NoSuchFlush = line (codes "flushes are numbered from 0, as they are given: cmwq run prints each with its number")
+plain_words request errors.TooLong = line (codes "a text has at most 4194304 bytes, and so have the commands of a debugger")
+plain_words request errors.Tickets = line (codes "the lock has no ticket left")
+plain_words request (errors.Image error) = image_words error
+plain_words request errors.NoMemory = memory_words
+plain_words request (errors.Asm texts.NoMemory) = memory_words
+plain_words request fault = []
+
+-- what has to be seen in the scenario
+
+abbrev pub several_line : (file : List ℕ) → ℕ → List ℕ
+several_line file count = line (file ++ codes " has " ++ decimal count ++ codes " actors: this command takes one, and `cmwq play` several")
+
+abbrev pub actors_line : (file : List ℕ) → ℕ → List ℕ
+actors_line file count =
+    if count == 0
+    then line (file ++ codes " has no actor: `actor NAME` and its instructions are missing at the end")
+    else several_line file count
+
+-- the name of the work that was asked for
+abbrev pub asked_work : Request → List ℕ
+asked_work (Do file (Why (Work name) looks)) = name.now
+asked_work request = []
+
+abbrev pub name_list : List WorkContents → List ℕ
+name_list works = flat_map (λ work. codes ", " ++ work.name) works
+
+-- all works, the one first whose name is most like the word
+abbrev pub works_by : (file : List ℕ) → ScenarioContents → Option ℕ → List ℕ
+works_by file S None = line (file ++ codes " has no works")
+works_by file S (Some w) =
+    codes "  works of " ++ file ++ codes ", the nearest first: " ++ work_name S w ++ name_list (take w S.works) ++ name_list (drop (suc w) S.works) ++ 10 ∷ []
+
+abbrev pub works_line : (file : List ℕ) → ScenarioContents → (word : List ℕ) → List ℕ
+works_line file S word = works_by file S (nearest S word)
+
+abbrev pub last_position : ℕ → List ℕ
+last_position count = if nat_lt MAX_HISTORY count then [] else line (codes "the last position is " ++ decimal count)
+
+abbrev pub end_of : List ActorContents → List ℕ
+end_of [] = []
+end_of (actor ∷ others) = last_position (length (expand actor))
+
+abbrev pub end_line : ScenarioContents → List ℕ
+end_line S = end_of S.actors
+
+abbrev pub on_scenario : Request → (file : List ℕ) → PlayError → ScenarioContents → List ℕ
+on_scenario request file errors.Actors S = actors_line file (length S.actors)
+on_scenario request file errors.NoSuchWork S = works_line file S (asked_work request)
+on_scenario request file errors.PastEnd S = end_line S
+on_scenario request file fault S = []
+
+-- these are the lines, where the text of the file that was read shows the fault: its verdict, and else what its scenario says
+abbrev pub wants_text : PlayError → Bool
+wants_text (errors.Asm (texts.At line why)) = true
+wants_text errors.Actors = true
+wants_text errors.NoSuchWork = true
+wants_text errors.PastEnd = true
+wants_text fault = false
+
+abbrev pub file_named : Request → List ℕ
+file_named request = unwrap_or (file_read request) []
+
+module _ (look : Look) (request : Request) where
+  abbrev pub IsOnText : PlayError → (text told : List ℕ) → Type 0
+  IsOnText fault text told =
+      IsVerdict look (file_named request) text (Some told) ⊎ ((S : ScenarioContents) × Spells text S × (told ≡ on_scenario request (file_named request) fault S))
+
+  abbrev pub IsByText : PlayError → Bool → (text : Option (List ℕ)) → (told : List ℕ) → Type 0
+  IsByText fault true (Some text) told = IsOnText fault text told
+  IsByText fault true None told = told ≡ plain_words request fault
+  IsByText fault false text told = told ≡ plain_words request fault
+
+  -- these are the lines, by what was found out
+  abbrev pub IsAdvice : Found → PlayError → (told : List ℕ) → Type 0
+  IsAdvice found errors.Read told = told ≡ trouble_lines (file_read request) found.trouble
+  IsAdvice found errors.Write told = told ≡ trouble_lines (file_made request) found.trouble
+  IsAdvice found fault told = IsByText fault (wants_text fault) (option_map (λ text. text.now) found.text) told

@@ -1,0 +1,14 @@
+//! What a person can do about the fault that a command ended with: lines that follow the one that tells it.
+#![tactic(auto)]
+
+mod advising;
+mod explain_option;
+mod line;
+mod nearest;
+mod on_scenario;
+mod plain;
+mod trouble;
+
+pub use advising::{Found, advice, file_made, file_read, wants_text};
+pub use explain_option::{EXPLAIN, take_explain};
+pub use trouble::Trouble;

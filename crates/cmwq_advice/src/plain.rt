@@ -1,0 +1,62 @@
+//! What can be done about a fault by itself.
+ghost use Rattle.cmwq_advice.specs.Advice.{full_words, image_words, plain_words};
+ghost use Rattle.std.specs.Prelude.{◌≡◌};
+
+use cmwq_asm::AsmError;
+use cmwq_image::ImageError;
+use cmwq_request::request::Request;
+use cmwq_streams::PlayError;
+use cmwq_tasks::Task;
+
+/// What can be done about a fault, where neither a file nor its scenario has to be looked at for that; else no text.
+pub(crate) fn plain_words(request: &Request<'_>, fault: PlayError) -> &'static str
+    ensures { result.now ≡ plain_words request.now fault }
+{
+    match fault {
+        PlayError::Full => full_words(request),
+        PlayError::NeverQuiet =>
+            "  works queue each other again and again, so it goes on for ever\n",
+        PlayError::NoSuchFlush => {
+            "  flushes are numbered from 0, as they are given: cmwq run prints each with its number\n"
+        }
+        PlayError::TooLong => {
+            "  a text has at most 4194304 bytes, and so have the commands of a debugger\n"
+        }
+        PlayError::Tickets => "  the lock has no ticket left\n",
+        PlayError::Image(error) => image_words(error),
+        PlayError::NoMemory | PlayError::Asm(AsmError::NoMemory) => {
+            "  a shorter run, or a picture of fewer ticks (--from, --to), takes less memory\n"
+        }
+        _ => "",
+    }
+}
+
+/// What there is too much of, and how much there may be.
+fn full_words(request: &Request<'_>) -> &'static str
+    ensures { result.now ≡ full_words request.now }
+{
+    match request {
+        Request::Play { .. } => "  --capacity says how many instructions fit: 4096 at most\n",
+        Request::Do {
+            file: _,
+            task: Task::Settle,
+        } => "  settled, the actor would have more than 4096 lines, or 1048576 instructions\n",
+        _ => "  the actor has more than 1048576 instructions\n",
+    }
+}
+
+/// What is wrong with an image.
+fn image_words(error: ImageError) -> &'static str
+    ensures { result.now ≡ image_words error }
+{
+    match error {
+        ImageError::Magic => "  an image begins with CMWQ: this is none that cmwq asm made\n",
+        ImageError::Version => "  the image is of a version that this program doesn't know\n",
+        ImageError::Truncated => "  the image ends too early: a part of it is lost\n",
+        ImageError::Extra => "  bytes follow behind the image's end\n",
+        ImageError::BadField(_) =>
+            "  at this offset, in bytes from 0, the image has what can't stand there\n",
+        ImageError::Fault(_) => "  the image's scenario isn't one\n",
+        ImageError::NoMemory => "",
+    }
+}
