@@ -17,13 +17,12 @@ use Rattle.cmwq_tasks.specs.declared.question.Question.TheVariants.{Work}
 use Rattle.cmwq_tasks.specs.declared.task.Task.TheVariants.{Settle, Why}
 use Rattle.cmwq_verdict.specs.Verdicts.{IsVerdict}
 use Rattle.cmwq_verdict.specs.declared.looks.Look.{Look}
+use Rattle.cmwq_advice.specs.Lines.{line}
 use Rattle.cmwq_advice.specs.Nearest.{nearest, work_name}
+use Rattle.cmwq_advice.specs.Reasons.{mended}
 use Rattle.cmwq_advice.specs.declared.advising.Found.{Found}
 use Rattle.cmwq_advice.specs.declared.trouble.Trouble.{Trouble}
 use Rattle.cmwq_advice.specs.declared.trouble.Trouble.TheVariants as trouble
-
-abbrev pub line : List ℕ → List ℕ
-line text = codes "  " ++ text ++ 10 ∷ []
 
 -- a file that can't be read or made
 
@@ -133,7 +132,8 @@ on_scenario request file errors.NoSuchWork S = works_line file S (asked_work req
 on_scenario request file errors.PastEnd S = end_line S
 on_scenario request file fault S = []
 
--- these are the lines, where the text of the file that was read shows the fault: its verdict, and else what its scenario says
+-- these are the lines, where the text of the file that was read shows the fault: its verdict and what mends it, and else what its
+-- scenario says
 abbrev pub wants_text : PlayError → Bool
 wants_text (errors.Asm (texts.At line why)) = true
 wants_text errors.Actors = true
@@ -147,7 +147,8 @@ file_named request = unwrap_or (file_read request) []
 module _ (look : Look) (request : Request) where
   abbrev pub IsOnText : PlayError → (text told : List ℕ) → Type 0
   IsOnText fault text told =
-      IsVerdict look (file_named request) text (Some told) ⊎ ((S : ScenarioContents) × Spells text S × (told ≡ on_scenario request (file_named request) fault S))
+      ((verdict : List ℕ) × IsVerdict look (file_named request) text (Some verdict) × (told ≡ verdict ++ mended fault))
+      ⊎ ((S : ScenarioContents) × Spells text S × (told ≡ on_scenario request (file_named request) fault S))
 
   abbrev pub IsByText : PlayError → Bool → (text : Option (List ℕ)) → (told : List ℕ) → Type 0
   IsByText fault true (Some text) told = IsOnText fault text told

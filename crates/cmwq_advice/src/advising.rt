@@ -4,6 +4,7 @@ ghost use Rattle.std.specs.Prelude.{◌≡◌, ◌↔◌, IfOk, IsTrue, option_m
 
 use crate::on_scenario::on_scenario;
 use crate::plain::plain_words;
+use crate::reasons::mended;
 use crate::trouble::Trouble;
 use cmwq_asm::{AsmError, assemble};
 use cmwq_request::request::Request;
@@ -22,7 +23,7 @@ pub struct Found<'a> {
 }
 
 /// What a person can do about the fault that the request's command ended with: lines, each behind two blanks, or none where there is
-/// nothing to say. Of a faulty text it is the verdict, as `check` tells it. It fails only for want of memory.
+/// nothing to say. Of a faulty text it is the verdict, as `check` tells it, and a sentence on the reason. It fails only for want of memory.
 pub fn advice(
     alloc: Global,
     look: Look,
@@ -93,8 +94,8 @@ fn trouble_lines(
     }
 }
 
-/// What can be done about a fault that shows in the text of the file that was read: its verdict where it is faulty, and else what its
-/// scenario says.
+/// What can be done about a fault that shows in the text of the file that was read: its verdict where it is faulty, with what mends it, and
+/// else what its scenario says.
 fn on_text(
     alloc: Global,
     look: Look,
@@ -105,7 +106,8 @@ fn on_text(
     ensures { IfOk result (λ told. IsOnText look request.now fault text.now told.items) }
 {
     let file = file_read(request).unwrap_or("");
-    if let Some(told) = verdict(alloc, look, file, text)? {
+    if let Some(mut told) = verdict(alloc, look, file, text)? {
+        told.extend_from_slice(mended(fault).as_bytes())?;
         return Ok(told);
     }
     match assemble(alloc, text) {

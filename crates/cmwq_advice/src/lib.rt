@@ -7,6 +7,7 @@ mod line;
 mod nearest;
 mod on_scenario;
 mod plain;
+mod reasons;
 mod trouble;
 
 pub use advising::{Found, advice, file_made, file_read, wants_text};

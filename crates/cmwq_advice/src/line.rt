@@ -1,5 +1,5 @@
 //! One line.
-ghost use Rattle.cmwq_advice.specs.Advice.{line};
+ghost use Rattle.cmwq_advice.specs.Lines.{line};
 ghost use Rattle.std.specs.List.{flat_map};
 ghost use Rattle.std.specs.Prelude.{◌≡◌, IfOk};
 
