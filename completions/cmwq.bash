@@ -1,6 +1,27 @@
 # Completion of cmwq for bash: put it into /usr/share/bash-completion/completions/cmwq, or source it.
+
+# Prints the first word behind the command that is no option and no option's value, up to the one that is completed.
+_cmwq_file() {
+    local at
+    for ((at = 2; at < COMP_CWORD; at++)); do
+        if [[ ${COMP_WORDS[at]} != -* && ${COMP_WORDS[at - 1]} != @(--capacity|--from|--to|--flush|--at) ]]; then
+            printf '%s\n' "${COMP_WORDS[at]}"
+            return
+        fi
+    done
+}
+
+# Offers scenarios and folders; where there are none, any file.
+_cmwq_scenarios() {
+    compopt -o filenames 2> /dev/null
+    mapfile -t COMPREPLY < <(compgen -f -X '!*.cmwq' -- "$1"; compgen -d -- "$1")
+    if ((!${#COMPREPLY[@]})); then
+        mapfile -t COMPREPLY < <(compgen -f -- "$1")
+    fi
+}
+
 _cmwq() {
-    local word=${COMP_WORDS[COMP_CWORD]} command=${COMP_WORDS[1]-}
+    local word=${COMP_WORDS[COMP_CWORD]} command=${COMP_WORDS[1]-} file
     COMPREPLY=()
     if ((COMP_CWORD == 1)); then
         mapfile -t COMPREPLY < <(compgen -W 'new run settle draw why list asm show debug play check help --explain --help --version' -- "$word")
@@ -15,9 +36,15 @@ _cmwq() {
             play) options='--capacity --explain --help' ;;
         esac
         mapfile -t COMPREPLY < <(compgen -W "$options" -- "$word")
-    elif [[ ${COMP_WORDS[COMP_CWORD - 1]} != @(--capacity|--from|--to|--flush|--at) ]]; then
+    elif [[ ${COMP_WORDS[COMP_CWORD - 1]} == @(--capacity|--from|--to|--flush|--at) ]]; then
+        return
+    elif [[ $command == why ]] && file=$(_cmwq_file) && [[ -n $file ]]; then
+        mapfile -t COMPREPLY < <(compgen -W "$(sed -n 's/^[[:blank:]]*work[[:blank:]]\{1,\}\([a-z][a-z0-9_]*\).*/\1/p' -- "$file" 2> /dev/null)" -- "$word")
+    elif [[ $command == @(show|new) || ($command == asm && -n $(_cmwq_file)) ]]; then
         compopt -o filenames 2> /dev/null
         mapfile -t COMPREPLY < <(compgen -f -- "$word")
+    else
+        _cmwq_scenarios "$word"
     fi
 }
 complete -F _cmwq cmwq

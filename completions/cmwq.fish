@@ -1,4 +1,18 @@
 # Completion of cmwq for fish: put it into ~/.config/fish/completions.
+
+# The works of the scenario in FILE, the first word behind `why` that is no option and no option's value.
+function __cmwq_works
+    set -l words (commandline -opc)
+    set -l before
+    for word in $words[3..]
+        if not string match -q -- '-*' $word; and not contains -- "$before" --flush --at
+            sed -n 's/^[[:blank:]]*work[[:blank:]]\{1,\}\([a-z][a-z0-9_]*\).*/\1/p' -- $word 2>/dev/null
+            return
+        end
+        set before $word
+    end
+end
+
 set -l commands new run settle draw why list asm show debug play check help
 complete -c cmwq -n "not __fish_seen_subcommand_from $commands" -f
 complete -c cmwq -n "not __fish_seen_subcommand_from $commands" -a new -d 'Write a scenario to start from, with comments'
@@ -14,6 +28,8 @@ complete -c cmwq -n "not __fish_seen_subcommand_from $commands" -a play -d 'Let 
 complete -c cmwq -n "not __fish_seen_subcommand_from $commands" -a check -d "Tell whether scenarios' texts are good, or where their first faults are"
 complete -c cmwq -n "not __fish_seen_subcommand_from $commands" -a help -d 'Say what there is, or what a command does'
 complete -c cmwq -n "__fish_seen_subcommand_from help" -f -a "$commands"
+complete -c cmwq -n "__fish_seen_subcommand_from run settle draw why list asm debug play check" -k -xa "(__fish_complete_suffix .cmwq)"
+complete -c cmwq -n "__fish_seen_subcommand_from why" -k -xa "(__cmwq_works)" -d work
 complete -c cmwq -n "__fish_seen_subcommand_from run draw" -l settle -d 'Go on until the machine is quiet'
 complete -c cmwq -n "__fish_seen_subcommand_from run" -l tell -d 'Write instructions and unseen changes too'
 complete -c cmwq -n "__fish_seen_subcommand_from draw" -l svg -d 'Write an SVG picture'

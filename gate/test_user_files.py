@@ -135,9 +135,14 @@ def fish_completes(*words):
 def completion_faults(commands):
     shells = {"bash": bash_completes, "zsh": zsh_completes, "fish": fish_completes}
     shells = {shell: completes for shell, completes in shells.items() if shutil.which(shell)}
-    faults = [f"{COMPLETIONS[shell]}: {shell} says {out}" for shell in shells if (out := said(shell, "-n", COMPLETIONS[shell]))]
-    for words, want in [(("ru",), ["run"]), (("run", "docs/FORM"), ["docs/FORMATS.md"]), (("play", "--c"), ["--capacity"]), (("why", "--fl"), ["--flush"]), (("help", "de"), ["debug"]), (("--v",), ["--version"])]:
-        faults += [f"{shell} completes {words} as {found}" for shell, completes in shells.items() if (found := completes(*words)) != want]
+    rows = [(("ru",), ["run"]), (("run", "docs/FORM"), ["docs/FORMATS.md"]), (("play", "--c"), ["--capacity"]), (("why", "--fl"), ["--flush"]), (("help", "de"), ["debug"])]
+    rows += [(("--v",), ["--version"]), (("run", "--ex"), ["--explain"]), (("run", "scenarios/rac"), ["scenarios/race.cmwq"])]
+    with tempfile.NamedTemporaryFile("w", suffix=".cmwq") as file:
+        file.write("work handler q # and one that is no scenario's: work hat\n  work other q\n")
+        file.flush()
+        rows += [(("why", file.name, "ha"), ["handler"]), (("why", "--at", "3", file.name, "oth"), ["other"])]
+        faults = [f"{shell} completes {words} as {found}" for words, want in rows for shell, completes in shells.items() if (found := completes(*words))[:1] != want]
+    faults += [f"{COMPLETIONS[shell]}: {shell} says {out}" for shell in shells if (out := said(shell, "-n", COMPLETIONS[shell]))]
     if not commands <= set(bash_completes("")):
         faults.append("bash doesn't offer each command")
     return faults
@@ -159,11 +164,24 @@ def grammar_faults():
     return faults
 
 
+def extension_faults():
+    """The extension beside the TextMate grammar names what is there, and has the program's version."""
+    about, grammar = json.loads(text_of("editors/package.json")), json.loads(text_of("editors/cmwq.tmLanguage.json"))
+    language, colours = about["contributes"]["languages"][0], about["contributes"]["grammars"][0]
+    json.loads(text_of(f"editors/{language['configuration']}"))
+    faults = [] if os.path.isfile(f"{TOP}/editors/{colours['path']}") else ["the extension has no grammar"]
+    if (colours["scopeName"], colours["language"], language["extensions"]) != (grammar["scopeName"], language["id"], [".cmwq"]):
+        faults.append("the extension's language isn't the grammar's")
+    if f'VERSION: &str = "{about["version"]}";' not in text_of("crates/cmwq_command_line/src/help.rt"):
+        faults.append("the extension is of another version")
+    return faults
+
+
 def main(program=None):
     scenario, commands = words_of_scenarios(), words_of_commands()
     faults = [fault for path in [PAGES[1], *GRAMMARS] for fault in lacks(path, scenario)]
     faults += [fault for path in [PAGES[0], *COMPLETIONS.values()] for fault in lacks(path, commands)]
-    faults += page_faults() + version_faults(program) + help_faults(program, commands) + terminal_faults(program) + completion_faults(commands) + grammar_faults()
+    faults += page_faults() + version_faults(program) + help_faults(program, commands) + terminal_faults(program) + completion_faults(commands) + grammar_faults() + extension_faults()
     print("".join(f"user files: {fault}\n" for fault in faults), end="")
     print(f"user files: {len(scenario)} words and {len(commands)} commands compared, {len(faults)} faults")
     return 1 if faults else 0

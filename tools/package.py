@@ -17,8 +17,11 @@ OBJECT = f"{kit.TOP}/crates/cmwq/out/cmwq.o"
 PARTS = [
     ("man/cmwq.1", "share/man/man1/cmwq.1"),
     ("man/cmwq-scenario.5", "share/man/man5/cmwq-scenario.5"),
-    ("completions", "share/completions"),
-    ("editors", "share/editors"),
+    ("completions/cmwq.bash", "share/bash-completion/completions/cmwq"),
+    ("completions/_cmwq", "share/zsh/site-functions/_cmwq"),
+    ("completions/cmwq.fish", "share/fish/vendor_completions.d/cmwq.fish"),
+    ("editors/vim", "share/vim/vimfiles"),
+    *((f"editors/{name}", f"share/cmwq/vscode/{name}") for name in ("package.json", "language-configuration.json", "cmwq.tmLanguage.json")),
     ("scenarios", "scenarios"),
     ("docs/FORMATS.md", "docs/FORMATS.md"),
     ("docs/KERNEL.md", "docs/KERNEL.md"),
@@ -31,8 +34,8 @@ README = """cmwq {version}: Linux's concurrency-managed workqueue, emulated
     bin/cmwq help                  all commands
 
 bin/cmwq runs on any Linux on x86-64 (x86-64-v2, since 2009); it needs no library of the system. share/man has its pages (man -l share/man/man1/cmwq.1),
-share/completions what bash, zsh and fish complete, share/editors the colours of scenario texts. scenarios/README.md is a
-course of lessons, in which ./cmwq stands for the program; docs/FORMATS.md is the reference.
+and so have bash, zsh and fish their completions and vim its colours there: copied into /usr/local, or any prefix that these look into, all is found.
+share/cmwq/vscode is an extension for Visual Studio Code (copy it to ~/.vscode/extensions/cmwq). scenarios/README.md is a course of lessons, in which ./cmwq stands for the program; docs/FORMATS.md is the reference.
 """
 
 
