@@ -1,14 +1,15 @@
 -- What is reached from instances that are there: all whom these blame, and whom those blame, to the last.
-use Rattle.std.proofs.Common.{◌≡◌, ◌⊎◌, ℕ, zero, suc, ◌*◌, ◌<◌, ◌≤◌, Bool, true, false, cond, List, [], ◌∷◌, ◌++◌, length, take, Option, Some, None, arith, refl, sym, ap, ◌∙◌, subst, inl, inr, append_assoc}
+use Rattle.std.proofs.Common.{Bor, ◌≡◌, ◌⊎◌, ℕ, zero, suc, ◌*◌, ◌<◌, ◌≤◌, Bool, true, false, cond, List, [], ◌∷◌, ◌++◌, length, take, Option, Some, None, arith, refl, sym, ap, ◌∙◌, subst, inl, inr, append_assoc}
 use Rattle.std.proofs.Math.Nat.{eq-or-lt_of_le}
 use Rattle.std.proofs.Math.Seq.{take-append_seam}
 use Rattle.std.proofs.lemmas.List.{append-nil, take-append-le}
 use Rattle.std.proofs.lemmas.Map.Keys.{IsDistinct-push}
 use Rattle.std.proofs.lemmas.Map.Made.{length-le_from_is_member}
-use Rattle.std.proofs.lemmas.Option.{slice_get_cases, slice_get_past, slice_get_within}
+use Rattle.std.proofs.lemmas.Option.{slice_get-get_or, slice_get_cases, slice_get_past, slice_get_within}
 use Rattle.std.specs.Cmp.{IsEquivalence}
-use Rattle.std.specs.List.{AllByRecursion, IsDistinct, list_any}
-use Rattle.std.specs.Prelude.{nat_lt, slice_get, ◌==◌, ◌||◌}
+use Rattle.std.specs.List.{AllByRecursion, HoldsAt, IsDistinct, list_any}
+use Rattle.std.specs.Option.{MatchOption, option_copied, option_or}
+use Rattle.std.specs.Prelude.{nat_lt, slice_get, ◌==◌, ◌||◌, IfSome, IsSome}
 use Rattle.cmwq_types.specs.Contents.{ScenarioContents}
 use Rattle.cmwq_types.specs.Scenario.{queue_of}
 use Rattle.cmwq_table.specs.Counts.{placed_born, runs}
@@ -19,13 +20,15 @@ use Rattle.cmwq_table.specs.declared.state.FlushTarget.TheVariants as target
 use Rattle.cmwq_table.specs.declared.state.Pending.{Pending}
 use Rattle.cmwq_table.specs.declared.state.Running.{Running}
 use Rattle.cmwq_reasons.specs.Laws.{BlamesWhoIsThere, IsAmong, IsThere}
-use Rattle.cmwq_reasons.specs.Reasons.{birth, instances_born, is_same, pending_half, put_all_by_birth, put_by_birth, reason_if_pending, reason_if_running, reason_in_place, reason_of_running, running_half, waits, waits_below, work_of}
+use Rattle.cmwq_reasons.specs.Reasons.{birth, holders, instances_born, is_same, pending_half, put_all_by_birth, put_by_birth, reason_if_pending, reason_if_running, reason_in_place, reason_of, reason_of_running, running_half, waits, waits_below, work_of}
 use Rattle.cmwq_reasons.specs.declared.reason.Instance.{Instance}
 use Rattle.cmwq_reasons.specs.declared.reason.Instance.TheVariants as instance
 use Rattle.cmwq_reasons.specs.declared.reason.Reason.{Reason}
 use Rattle.cmwq_reasons.proofs.MoverLemmas.{same-false, same-refl, same-true}
 use Rattle.cmwq_reasons.proofs.RankLemmas.{among-append, one-named}
+use Rattle.cmwq_flush_waits.specs.Holders.{HasHolders}
 use Rattle.cmwq_flush_waits.specs.Laws.{AreReached, IsBlamedByOne, ReachesAllBlamed}
+use Rattle.cmwq_flush_waits.specs.declared.reaching.Full.{Full}
 use Rattle.cmwq_flush_waits.specs.Waits.{blamed, blamed_for, blamed_if_any, reached, with_blamed_below, with_instance, with_instances}
 
 -- Instances in lists.
@@ -208,11 +211,52 @@ has all [] y there = absurd there
 has all (z ∷ ys) y (inl is) = keeps (with_instance all z) ys y (subst (λ (v : Instance). IsAmong v (with_instance all z)) (sym is) (has-one all z (list_any (is_same z) all) refl))
 has all (z ∷ ys) y (inr later) = has (with_instance all z) ys y later
 
+-- who is there isn't put there again
+stands-one : (all : List Instance) (y : Instance) (b : Bool) → b ≡ true → cond b all (all ++ y ∷ []) ≡ all
+stands-one all y true e = refl
+stands-one all y false e = cc
+
+stands : (all ys : List Instance) → ((x : Instance) → IsAmong x ys → IsAmong x all) → with_instances all ys ≡ all
+stands all [] there = refl
+stands all (y ∷ ys) there =
+    ap (λ (xs : List Instance). with_instances xs ys) (stands-one all y (list_any (is_same y) all) (among-any y all (there y (inl refl))))
+    ∙ stands all ys (λ x later. there x (inr later))
+
 stays : (all ys : List Instance) (k : ℕ) → k < length all → slice_get (with_instances all ys) k ≡ slice_get all k
 stays all [] k less = refl
 stays all (y ∷ ys) k less =
     let longer : length all ≤ length (with_instance all y) = longer-one all y (list_any (is_same y) all) in
     stays (with_instance all y) ys k (omega arith) ∙ stays-one all y (list_any (is_same y) all) k less
+
+-- what `get` and `copied` give
+pub read-at : (r : Option (Bor Instance)) (xs : List Instance) (k : ℕ) (x : Instance) → MatchOption r (length xs ≤ k) (λ y. (k < length xs) × HoldsAt (λ z. y.now ≡ z) xs k)
+    → option_copied r ≡ Some x → slice_get xs k ≡ Some x
+read-at (Some y) xs k x found e = slice_get-get_or xs k x found.0 ∙ ap Some (sym (found.1 x)) ∙ e
+read-at None xs k x past e = cc
+
+-- The holders of a full queue, who were put there.
+
+module _ (S : ScenarioContents) (s : State) where
+  -- whom the one at this place blames
+  pub blamed-at : (all : List Instance) (place : ℕ) (x : Instance) (n : ℕ) (why : Option Reason) → slice_get all place ≡ Some x → n ≡ work_of x → why ≡ reason_of S s x
+      → blamed_for S s n why ≡ blamed_if_any S s (slice_get all place)
+  blamed-at all place x n why at is reason =
+      ap (λ (m : ℕ). blamed_for S s m why) is ∙ ap (λ (r : Option Reason). blamed_for S s (work_of x) r) reason ∙ sym (ap (blamed_if_any S s) at)
+
+  -- those who stand there aren't put there again
+  pub held-stand : (found held : Option Full) (all ys : List Instance) → HasHolders S s held all → IfSome found (λ full. ys ≡ holders S s full.queue full.pool) → IsSome found × (found ≡ held)
+      → with_instances all ys ≡ all
+  held-stand (Some full) (Some other) all ys there are is =
+      let same : full ≡ other = (let both = is.1 in cc) in
+      stands all ys (λ x among. there x (subst (λ (f : Full). IsAmong x (holders S s f.queue f.pool)) same (subst (λ (xs : List Instance). IsAmong x xs) are among)))
+  held-stand (Some full) None all ys there are is = (let both = is.1 in cc)
+  held-stand None held all ys there are is = (let none = is.0 in cc)
+
+  pub held-after : (found held : Option Full) (all ys : List Instance) → HasHolders S s held all → IfSome found (λ full. ys ≡ holders S s full.queue full.pool)
+      → HasHolders S s (option_or found held) (with_instances all ys)
+  held-after (Some full) held all ys there are = λ x among. has all ys x (subst (λ (xs : List Instance). IsAmong x xs) (sym are) among)
+  held-after None (Some full) all ys there are = λ x among. keeps all ys x (there x among)
+  held-after None None all ys there are = tt
 
 -- From instances that are there on.
 

@@ -1,3 +1,4 @@
 pub mod FlushText
+pub mod Holders
 pub mod Laws
 pub mod Waits

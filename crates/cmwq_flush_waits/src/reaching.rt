@@ -1,14 +1,22 @@
 //! The instances that some wait for, and those that these wait for, down to the last.
-ghost use Rattle.cmwq_reasons.specs.Reasons.{is_same, work_of};
-ghost use Rattle.cmwq_flush_waits.specs.Waits.{blamed, reached, with_blamed, with_instance, with_instances};
+ghost use Rattle.cmwq_reasons.specs.Reasons.{holders, is_same, work_of};
+ghost use Rattle.cmwq_flush_waits.specs.Holders.{HasHolders};
+ghost use Rattle.cmwq_flush_waits.specs.Waits.{blamed_for, reached, with_blamed, with_instance, with_instances};
 ghost use Rattle.std.specs.List.{list_any};
-ghost use Rattle.std.specs.Prelude.{◌≡◌, IfOk, OnOk};
+ghost use Rattle.std.specs.Prelude.{◌≡◌, IfOk, IfSome, IsSome, IsTrue, OnOk};
 
-use cmwq_reasons::Instance;
+use cmwq_reasons::{Instance, Reason};
 use cmwq_table::Reads;
 use cmwq_types::{NoMemory, WorkId};
 use cmwq_why::{causes, is_same, reason_of};
 use std::alloc::Global;
+
+/// A queue whose limit is taken up in a pool.
+#[derive(Clone, Copy)]
+struct Full {
+    queue: u8,
+    pool: u8,
+}
 
 /// These instances, then those whom they blame, and so on, each once.
 pub(crate) fn reached<R: Reads>(
@@ -20,38 +28,75 @@ pub(crate) fn reached<R: Reads>(
 {
     let mut all = Vec::new(alloc);
     all.extend_from_slice(instances)?;
+    let mut held = None;
     for place in 0..2 * machine.scenario().works.len() {
-        add_blamed(alloc, machine, &mut all, place)?;
+        held = add_blamed(alloc, machine, &mut all, place, held)?;
     }
     Ok(all)
 }
 
-/// Adds those whom the instance at the place blames, if there is one.
+/// Adds those whom the instance at the place blames, if there is one. It answers of which full queue the holders were added last: they
+/// aren't found again for the next instance that waits for the same.
 fn add_blamed<R: Reads>(
     alloc: Global,
     machine: &R,
     all: &mut Vec<Instance>,
     place: usize,
-) -> Result<(), NoMemory>
-    ensures { OnOk result (all.new.items ≡ with_blamed (R.loaded machine.now) (R.state machine.now) all.old.items place) }
+    held: Option<Full>,
+) -> Result<Option<Full>, NoMemory>
+    requires { HasHolders (R.loaded machine.now) (R.state machine.now) held all.old.items }
+    ensures blamed { OnOk result (all.new.items ≡ with_blamed (R.loaded machine.now) (R.state machine.now) all.old.items place) }
+    ensures held { IfOk result (λ held. HasHolders (R.loaded machine.now) (R.state machine.now) held all.new.items) }
 {
     let Some(instance) = all.get(place).copied() else {
-        return Ok(());
+        return Ok(held);
     };
-    let blamed = blamed(alloc, machine, instance)?;
-    add_all(all, &blamed)
+    let work = work_of(instance);
+    let reason = reason_of(machine, instance);
+    let full = full_queue(machine, work, reason);
+    if is_held(full, held) {
+        return Ok(held);
+    }
+    let blamed = blamed_for(alloc, machine, work, reason)?;
+    add_all(all, &blamed)?;
+    Ok(full.or(held))
 }
 
-/// Those whom the instance blames.
-fn blamed<R: Reads>(
+/// The queue for which an instance of the work waits for this reason, if it is full.
+fn full_queue<R: Reads>(machine: &R, work: WorkId, reason: Option<Reason>) -> Option<Full>
+    ensures { IfSome result (λ full. blamed_for (R.loaded machine.now) (R.state machine.now) work.0 reason
+        ≡ holders (R.loaded machine.now) (R.state machine.now) full.queue full.pool) }
+{
+    match reason {
+        Some(Reason::Inactive(pool)) => Some(Full {
+            queue: machine.scenario().queue_of(work.0 as usize),
+            pool,
+        }),
+        _ => None,
+    }
+}
+
+/// Whether there is such a queue, and it is the one whose holders were added.
+fn is_held(full: Option<Full>, held: Option<Full>) -> bool
+    ensures { IsTrue result → IsSome full × (full ≡ held) }
+{
+    match (full, held) {
+        (Some(full), Some(held)) => full.queue == held.queue && full.pool == held.pool,
+        _ => false,
+    }
+}
+
+/// Those whom an instance of the work blames for this reason.
+fn blamed_for<R: Reads>(
     alloc: Global,
     machine: &R,
-    instance: Instance,
+    work: WorkId,
+    reason: Option<Reason>,
 ) -> Result<Vec<Instance>, NoMemory>
-    ensures { IfOk result (λ instances. instances.items ≡ blamed (R.loaded machine.now) (R.state machine.now) instance) }
+    ensures { IfOk result (λ instances. instances.items ≡ blamed_for (R.loaded machine.now) (R.state machine.now) work.0 reason) }
 {
-    match reason_of(machine, instance) {
-        Some(reason) => causes(alloc, machine, work_of(instance), reason),
+    match reason {
+        Some(reason) => causes(alloc, machine, work, reason),
         None => Ok(Vec::new(alloc)),
     }
 }

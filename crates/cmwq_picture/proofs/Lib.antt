@@ -3,4 +3,5 @@ pub mod LawLemmas
 pub mod ListLemmas
 pub mod RecordingLemmas
 pub mod RowLemmas
+pub mod StretchLemmas
 pub mod TickLemmas

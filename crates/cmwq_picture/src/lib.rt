@@ -4,6 +4,8 @@
 mod acting;
 mod cell;
 mod column;
+mod columns;
+mod equality;
 pub mod laws;
 mod moment;
 mod picturing;

@@ -10,7 +10,7 @@ ghost use Rattle.cmwq_types.specs.declared.limits.TheConstants.{MAX_STEPS};
 ghost use Rattle.std.specs.Prelude.{◌≡◌, ◌<◌, ◌≤◌, [], ◌∷◌, ◌++◌, Err, IfErr, IfOk, OnOk, length, true};
 
 use crate::acting::is_act;
-use crate::column::Column;
+use crate::columns::Columns;
 use crate::moment::Moment;
 use crate::span::{MAX_COLUMNS, is_drawn, is_open};
 use cmwq_runs::Instructions;
@@ -29,7 +29,7 @@ pub(crate) struct Recorder<'s, M: Machine> {
     span: Span,
     /// Whether the actor did something since the last tick.
     acted: bool,
-    columns: Vec<Column>,
+    columns: Columns,
 }
 
 impl<'s, M: Machine> Model for Recorder<'s, M> {
@@ -38,9 +38,9 @@ impl<'s, M: Machine> Model for Recorder<'s, M> {
 
     ghost Value = { Recording };
 
-    ghost view = { λ r. recording_of r.scenario.now r.span (M.state r.machine) r.acted r.columns.items };
+    ghost view = { λ r. recording_of r.scenario.now r.span (M.state r.machine) r.acted r.columns };
 
-    ghost invariant = { λ r. IsRecording (recording_of r.scenario.now r.span (M.state r.machine) r.acted r.columns.items)
+    ghost invariant = { λ r. IsRecording (recording_of r.scenario.now r.span (M.state r.machine) r.acted r.columns)
         × (M.loaded r.machine ≡ r.scenario.now) };
 }
 
@@ -73,7 +73,7 @@ impl<'s, M: Machine> Recorder<'s, M> {
             machine,
             span,
             acted: false,
-            columns: Vec::new(alloc),
+            columns: Columns::new(alloc),
         }
     }
 
@@ -128,11 +128,11 @@ impl<'s, M: Machine> Recorder<'s, M> {
     }
 
     /// The columns.
-    pub(crate) fn into_columns(self) -> Vec<Column>
-        ensures columns { result.items ≡ self.entry.columns }
+    pub(crate) fn into_columns(self) -> Columns
+        ensures columns { result ≡ self.entry.columns }
         ensures setting { IsSetting self.entry.scenario }
-        ensures few { length result.items ≤ MAX_STEPS }
-        ensures narrow { is_open self.entry.span ≡ true → length result.items ≤ MAX_COLUMNS }
+        ensures few { length result ≤ MAX_STEPS }
+        ensures narrow { is_open self.entry.span ≡ true → length result ≤ MAX_COLUMNS }
     {
         let Recorder {
             scenario: _,

@@ -7,7 +7,7 @@ ghost use Rattle.std.specs.List.{flat_map, list_any, range_with_len};
 ghost use Rattle.std.specs.Prelude.{◌≡◌, ◌<◌, ◌+◌, ◌*◌, [], ◌∷◌, ◌++◌, IfOk, OnOk, length, map, not};
 
 use crate::cell::Cell;
-use crate::column::Column;
+use crate::columns::Columns;
 use crate::row::{Row, Title};
 use cmwq_types::{NoMemory, QueueId, Scenario, WorkId};
 use std::alloc::Global;
@@ -17,7 +17,7 @@ use std::alloc::Global;
 pub(crate) fn rows(
     alloc: Global,
     scenario: &Scenario,
-    columns: &[Column],
+    columns: &Columns,
 ) -> Result<Vec<Row>, NoMemory>
     requires { IsSetting scenario.now }
     ensures { IfOk result (λ rows. rows.items ≡ cut_rows scenario.now columns.now (titles scenario.now)) }
@@ -35,7 +35,7 @@ pub(crate) fn rows(
 fn push_works(
     alloc: Global,
     scenario: &Scenario,
-    columns: &[Column],
+    columns: &Columns,
     rows: &mut Vec<Row>,
 ) -> Result<(), NoMemory>
     requires { IsSetting scenario.now }
@@ -53,7 +53,7 @@ fn push_works(
 fn push_cpus(
     alloc: Global,
     scenario: &Scenario,
-    columns: &[Column],
+    columns: &Columns,
     rows: &mut Vec<Row>,
 ) -> Result<(), NoMemory>
     requires { IsSetting scenario.now }
@@ -69,7 +69,7 @@ fn push_cpus(
 fn push_workers(
     alloc: Global,
     scenario: &Scenario,
-    columns: &[Column],
+    columns: &Columns,
     rows: &mut Vec<Row>,
 ) -> Result<(), NoMemory>
     requires { IsSetting scenario.now }
@@ -84,7 +84,7 @@ fn push_workers(
 fn push_workers_of(
     alloc: Global,
     scenario: &Scenario,
-    columns: &[Column],
+    columns: &Columns,
     rows: &mut Vec<Row>,
     pool: u8,
 ) -> Result<(), NoMemory>
@@ -107,7 +107,7 @@ fn push_workers_of(
 fn push_rescuers(
     alloc: Global,
     scenario: &Scenario,
-    columns: &[Column],
+    columns: &Columns,
     rows: &mut Vec<Row>,
 ) -> Result<(), NoMemory>
     requires { IsSetting scenario.now }
@@ -124,7 +124,7 @@ fn push_rescuers(
 fn push(
     alloc: Global,
     scenario: &Scenario,
-    columns: &[Column],
+    columns: &Columns,
     rows: &mut Vec<Row>,
     title: Title,
 ) -> Result<(), NoMemory>
@@ -139,19 +139,11 @@ fn push(
 }
 
 /// The row: a cell from each column.
-fn cut(
-    alloc: Global,
-    scenario: &Scenario,
-    columns: &[Column],
-    title: Title,
-) -> Result<Row, NoMemory>
+fn cut(alloc: Global, scenario: &Scenario, columns: &Columns, title: Title) -> Result<Row, NoMemory>
     requires { IsSetting scenario.now }
     ensures { IfOk result (λ row. row ≡ cut scenario.now columns.now title) }
 {
-    let mut cells = Vec::with_capacity(alloc, columns.len())?;
-    for column in columns {
-        cells.push(column.cell(scenario, title))?;
-    }
+    let cells = columns.cells(alloc, scenario, title)?;
     Ok(Row { title, cells })
 }
 

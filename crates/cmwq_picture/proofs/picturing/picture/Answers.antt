@@ -1,9 +1,7 @@
-use Rattle.std.proofs.Common.{◌≡◌, Err, List, ap, length, rules, ◌∙◌}
+use Rattle.std.proofs.Common.{◌≡◌, Err, ap, length, ◌∙◌}
 use Rattle.std.proofs.lemmas.Result.{err_from_is_err_and}
 use Rattle.cmwq_types.specs.Scenario.{expand_lines}
 use Rattle.cmwq_types.proofs.SettingLemmas.{IsSetting-valid}
-use Rattle.cmwq_picture.specs.Column.{ColumnContents, cut_rows}
-use Rattle.cmwq_picture.specs.Picture.{titles}
 use Rattle.cmwq_picture.specs.Recording.{Recording, issued_all}
 use Rattle.cmwq_streams.specs.declared.error.PlayError.{PlayError}
 use Rattle.cmwq_picture.proofs.RecordingLemmas.{pictured, refused}
@@ -24,9 +22,9 @@ returns g c =
     let instrs = expand_lines c.args.lines.now in
     let r = c.issue_all.new.self in
     let is : r ≡ issued_all c.new-recorder.result instrs = c.in_ok-issue_all.ensures.ok in
-    let columns = c.into_columns-columns.result.items in
-    let counted : c.len.result ≡ length columns = search rules in
-    let cut = c.in_ok-rows.ensures ∙ ap (λ (cs : List ColumnContents). cut_rows S cs (titles S)) c.deref.ensures.value in
+    let columns = c.into_columns-columns.result in
+    let counted : c.len.result ≡ length columns = c.len.ensures in
+    let cut = c.in_ok-rows.ensures in
     record {
       picture = rw c.from_time.ensures (pictured S c.args.span instrs r columns c.len.result c.in_ok-rows.rows.items (IsSetting-valid S c.requires.valid)
           (is ∙ ap (λ (q : Recording). issued_all q instrs) c.new-recorder.ensures) c.into_columns-columns.ensures.columns c.into_columns-columns.ensures.narrow counted cut);

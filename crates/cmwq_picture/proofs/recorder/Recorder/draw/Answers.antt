@@ -1,4 +1,4 @@
-use Rattle.std.proofs.Common.{◌≡◌, List, [], ◌∷◌, ◌++◌, ap, subst, ◌∙◌}
+use Rattle.std.proofs.Common.{◌≡◌, [], ◌∷◌, ◌++◌, ap, subst, ◌∙◌}
 use Rattle.cmwq_types.specs.Contents.{ScenarioContents}
 use Rattle.cmwq_table.specs.Ready.{Loaded}
 use Rattle.cmwq_picture.specs.Column.{ColumnContents, column_of}
@@ -11,9 +11,9 @@ returns-clause-ok g c =
     let S = inside.scenario.now in
     let s = g.M.Reads.state inside.machine in
     let acted = c.args.acted in
-    let old = inside.columns.items in
-    let pushed : c.push.new.self.items ≡ old ++ column_of S s acted ∷ [] =
-    c.in_ok-push.ensures.items
+    let old = inside.columns in
+    let pushed : c.push.new.self ≡ old ++ column_of S s acted ∷ [] =
+    c.in_ok-push.ensures.pushed
     ∙ ap (λ (one : ColumnContents). old ++ one ∷ []) (c.in_ok-column.ensures ∙ ap (λ (m : Loaded). column_of m.scenario m.state acted) c.in_ok-moment.ensures ∙ ap (λ (T : ScenarioContents). column_of T s acted) c.self.invariant.1) in
-    subst (λ (r : Recording). recording_of S inside.span s inside.acted c.push.new.self.items ≡ record r { columns = r.columns ++ column_of r.scenario r.state acted ∷ [] })
+    subst (λ (r : Recording). recording_of S inside.span s inside.acted c.push.new.self ≡ record r { columns = r.columns ++ column_of r.scenario r.state acted ∷ [] })
     c.self.view_is (ap (recording_of S inside.span s inside.acted) pushed)

@@ -13,7 +13,7 @@ invariant_of-self g c =
     let S = inside.scenario.now in
     let s = g.M.Reads.state inside.machine in
     let exact = c.exec-reply.ensures.exact ∙ ap (λ (T : ScenarioContents). table T s c.args.instr) c.self.invariant.1 in (
-      kept-after (recording_of S inside.span s inside.acted inside.columns.items) c.args.instr _ _ c.if-self.acted c.self.invariant.0 exact,
+      kept-after (recording_of S inside.span s inside.acted inside.columns) c.args.instr _ _ c.if-self.acted c.self.invariant.0 exact,
       c.exec-reply.ensures.scenario ∙ c.self.invariant.1,
     )
 
@@ -23,7 +23,7 @@ invariant_of-self-then-is_drawn g c =
     let S = inside.scenario.now in
     let s = g.M.Reads.state inside.machine in
     let exact = c.exec-reply.ensures.exact ∙ ap (λ (T : ScenarioContents). table T s c.args.instr) c.self.invariant.1 in (
-      kept-after (recording_of S inside.span s inside.acted inside.columns.items) c.args.instr _ _ false c.self.invariant.0 exact,
+      kept-after (recording_of S inside.span s inside.acted inside.columns) c.args.instr _ _ false c.self.invariant.0 exact,
       c.exec-reply.ensures.scenario ∙ c.self.invariant.1,
     )
 
@@ -33,7 +33,7 @@ invariant_of-self-else-is_drawn g c =
     let S = inside.scenario.now in
     let s = g.M.Reads.state inside.machine in
     let exact = c.exec-reply.ensures.exact ∙ ap (λ (T : ScenarioContents). table T s c.args.instr) c.self.invariant.1 in (
-      kept-after (recording_of S inside.span s inside.acted inside.columns.items) c.args.instr _ _ false c.self.invariant.0 exact,
+      kept-after (recording_of S inside.span s inside.acted inside.columns) c.args.instr _ _ false c.self.invariant.0 exact,
       c.exec-reply.ensures.scenario ∙ c.self.invariant.1,
     )
 
@@ -45,7 +45,7 @@ draw-requires g c =
     let t = g.M.Reads.state c.exec-reply.new.self in
     let exact = c.exec-reply.ensures.exact ∙ ap (λ (T : ScenarioContents). table T s c.args.instr) c.self.invariant.1 in
     let differs : t.time ≢ s.time = λ same. c.if-now-time.false (c.now.ensures ∙ same ∙ sym c.now-time.ensures) in
-    record { later = room-after (recording_of S inside.span s inside.acted inside.columns.items) c.args.instr t _ c.self.invariant.0 exact differs }
+    record { later = room-after (recording_of S inside.span s inside.acted inside.columns) c.args.instr t _ c.self.invariant.0 exact differs }
 
 pub returns-then-is_drawn-clause-ok : goal.returns-then-is_drawn-clause-ok
 returns-then-is_drawn-clause-ok g c =
@@ -63,7 +63,7 @@ returns-then-is_drawn-clause-ok g c =
       | else-self b ↦ b.acted-is ∙ b.is_act-acted.ensures ∙ sym (ap (λ (before : Bool). before || is_act x answer) b.if-self.false)
     ] in
     let drawn : is_drawn inside.span s.time ≡ true = ap (is_drawn inside.span) (sym c.now-time.ensures) ∙ sym c.is_drawn.ensures ∙ c.if-is_drawn.true in
-    let whole = drawn-after (recording_of S inside.span s inside.acted inside.columns.items) x t answer c.if-self.acted c.self.invariant.0.setting exact flag differs drawn
+    let whole = drawn-after (recording_of S inside.span s inside.acted inside.columns) x t answer c.if-self.acted c.self.invariant.0.setting exact flag differs drawn
     ∙ ap (λ (r : Recording). issued r x) c.self.view_is in
     on_ok c.draw.result (λ same. same ∙ whole) c.draw.ensures.ok
 
@@ -83,7 +83,7 @@ returns-then-is_drawn-clause-wide g c = λ wide.
       | else-self b ↦ b.acted-is ∙ b.is_act-acted.ensures ∙ sym (ap (λ (before : Bool). before || is_act x answer) b.if-self.false)
     ] in
     let drawn : is_drawn inside.span s.time ≡ true = ap (is_drawn inside.span) (sym c.now-time.ensures) ∙ sym c.is_drawn.ensures ∙ c.if-is_drawn.true in
-    let whole = drawn-after (recording_of S inside.span s inside.acted inside.columns.items) x t answer c.if-self.acted c.self.invariant.0.setting exact flag differs drawn
+    let whole = drawn-after (recording_of S inside.span s inside.acted inside.columns) x t answer c.if-self.acted c.self.invariant.0.setting exact flag differs drawn
     ∙ ap (λ (r : Recording). issued r x) c.self.view_is in
     ap overflows (sym whole) ∙ c.draw.ensures.wide wide
 
@@ -97,5 +97,5 @@ returns-clause-ok g c =
     let exact = c.exec-reply.ensures.exact ∙ ap (λ (T : ScenarioContents). table T s x) c.self.invariant.1 in
     let differs : t.time ≢ s.time = λ same. c.if-now-time.false (c.now.ensures ∙ same ∙ sym c.now-time.ensures) in
     let undrawn : is_drawn inside.span s.time ≡ false = ap (is_drawn inside.span) (sym c.now-time.ensures) ∙ sym c.is_drawn.ensures ∙ c.if-is_drawn.false in
-    passes-after (recording_of S inside.span s inside.acted inside.columns.items) x t c.exec-reply.result c.self.invariant.0.setting exact differs undrawn
+    passes-after (recording_of S inside.span s inside.acted inside.columns) x t c.exec-reply.result c.self.invariant.0.setting exact differs undrawn
     ∙ ap (λ (r : Recording). issued r x) c.self.view_is
