@@ -1,4 +1,4 @@
-//! Up to 64 callers at once, each with many turns: what comes out is one history that has each caller's turns once, in its order.
+//! 64 callers in several threads, each with many turns: what comes out is one history that has each caller's turns once, in its order.
 ghost use Rattle.cmwq_lock_tests.specs.declared.load.TheConstants.{ROOM};
 ghost use Rattle.std.proofs.Common.{lit≤};
 ghost use Rattle.std.specs.List.{All};
@@ -130,10 +130,9 @@ fn one_turn<R: Wait + Abort>(
     }
 }
 
-/// A caller's turns, which begin once all callers are there.
+/// A caller's turns.
 fn turns<R: Wait + Abort>(
     rt: &R,
-    start: &Barrier,
     lock: &TicketLock<History>,
     pass: Pass<History>,
     count: u32,
@@ -141,7 +140,6 @@ fn turns<R: Wait + Abort>(
     requires { IsPassOf ⟦<History as Kept>⟧ lock.now pass }
     ensures { IsPassOf ⟦<History as Kept>⟧ lock.now result }
 {
-    start.wait(rt);
     let mut pass = pass;
     for number in 0..count {
         pass = one_turn(rt, lock, pass, number);
@@ -170,9 +168,10 @@ fn passes_of(
     passes
 }
 
-/// All callers' turns, each caller in a thread of its own, all of which have ended then.
-fn all_turns<R: Threads + Wait + Abort + Sync>(
+/// The turns of one thread's callers, one caller after another, which begin once all threads are there.
+fn turns_of_all<R: Wait + Abort>(
     rt: &R,
+    start: &Barrier,
     lock: &TicketLock<History>,
     passes: Vec<Pass<History>>,
     count: u32,
@@ -180,11 +179,32 @@ fn all_turns<R: Threads + Wait + Abort + Sync>(
     requires { All (IsPassOf ⟦<History as Kept>⟧ lock.now) passes.items }
     ensures { All (IsPassOf ⟦<History as Kept>⟧ lock.now) result.items }
 {
-    let start = Barrier::new(passes.len());
-    thread::map_vec(rt, passes, &|pass| turns(rt, &start, lock, pass, count)).expect(
+    let mut done = Vec::new(*passes.allocator());
+    start.wait(rt);
+    for pass in passes {
+        let pass = turns(rt, lock, pass, count);
+        done.push(pass).expect(rt, "memory is left");
+    }
+    done
+}
+
+/// All callers' turns, each thread with so many callers. All threads have ended then.
+fn all_turns<R: Threads + Wait + Abort + Sync>(
+    rt: &R,
+    lock: &TicketLock<History>,
+    groups: Vec<Vec<Pass<History>>>,
+    count: u32,
+) -> Vec<Vec<Pass<History>>>
+    requires { All (λ passes. All (IsPassOf ⟦<History as Kept>⟧ lock.now) passes.items) groups.items }
+    ensures { All (λ passes. All (IsPassOf ⟦<History as Kept>⟧ lock.now) passes.items) result.items }
+{
+    let start = Barrier::new(groups.len());
+    thread::map_vec(
         rt,
-        "memory is left",
+        groups,
+        &|passes| { turns_of_all(rt, &start, lock, passes, count) },
     )
+    .expect(rt, "memory is left")
 }
 
 fn retire_all(lock: &TicketLock<History>, opener: &mut Opener<History>, passes: Vec<Pass<History>>)
@@ -197,19 +217,46 @@ fn retire_all(lock: &TicketLock<History>, opener: &mut Opener<History>, passes: 
     }
 }
 
-/// The history that so many callers leave, each with so many turns. All passes come back, and all threads have ended.
+/// The passes in groups of so many.
+fn grouped(
+    rt: &impl Abort,
+    lock: &TicketLock<History>,
+    passes: Vec<Pass<History>>,
+    size: usize,
+) -> Vec<Vec<Pass<History>>>
+    requires { All (IsPassOf ⟦<History as Kept>⟧ lock.now) passes.items }
+    ensures { All (λ passes. All (IsPassOf ⟦<History as Kept>⟧ lock.now) passes.items) result.items }
+{
+    let _ = lock;
+    let alloc = *passes.allocator();
+    let mut groups = Vec::new(alloc);
+    let mut group = Vec::new(alloc);
+    for pass in passes {
+        group.push(pass).expect(rt, "memory is left");
+        if group.len() >= size {
+            groups.push(group).expect(rt, "memory is left");
+            group = Vec::new(alloc);
+        }
+    }
+    groups
+}
+
+/// The history that 64 callers leave, so many of them in a thread, and each with so many turns. All passes come back, and all threads have ended.
 fn history_of<R: Threads + Wait + Abort + Sync>(
     rt: &R,
     alloc: Global,
-    callers: u32,
+    callers: usize,
     count: u32,
 ) -> Vec<Turn> {
     let turns = Vec::with_capacity(alloc, ROOM).expect(rt, "memory is left");
     let opened = TicketLock::open(alloc, History { turns });
     let (lock, mut opener) = opened.expect(rt, "memory is left");
-    let passes = passes_of(rt, alloc, &lock, &mut opener, callers);
-    let passes = all_turns(rt, &lock, passes, count);
-    retire_all(&lock, &mut opener, passes);
+    let passes = passes_of(rt, alloc, &lock, &mut opener, 64);
+    let groups = grouped(rt, &lock, passes, callers);
+    let groups = all_turns(rt, &lock, groups, count);
+    for passes in groups {
+        retire_all(&lock, &mut opener, passes);
+    }
     match lock.close(opener) {
         Ok(history) => history.turns,
         Err(_) => panic!(rt; "no pass is out"),
@@ -228,22 +275,22 @@ fn counts_of(rt: &impl Abort, alloc: Global, turns: &[Turn], callers: usize) -> 
     counts
 }
 
-/// So many callers leave a history of all their turns.
-fn check_load<R: Threads + Wait + Abort + Sync>(rt: &R, alloc: Global, callers: u32, count: u32) {
+/// 64 callers, so many of them in a thread, leave a history of all their turns.
+fn check_load<R: Threads + Wait + Abort + Sync>(rt: &R, alloc: Global, callers: usize, count: u32) {
     let turns = history_of(rt, alloc, callers, count);
-    let counts = counts_of(rt, alloc, turns.as_slice(), callers as usize);
+    let counts = counts_of(rt, alloc, turns.as_slice(), 64);
     for (caller, found) in counts.iter().enumerate() {
         same(rt, caller, *found, count);
     }
 }
 
-/// 100,000 turns each, 800,000 in all.
+/// 12,500 turns each, 100,000 a thread.
 #[test]
 fn eight_threads_leave_one_history(rt: HostRuntime) {
-    check_load(&rt, rt.alloc(), 8, 100_000);
+    check_load(&rt, rt.alloc(), 8, 12_500);
 }
 
-/// 2,000 turns each, 128,000 in all: with more threads than cores each turn waits longer for one certain thread.
+/// 2,000 turns each: with more threads than cores each turn waits longer for one certain thread.
 #[test]
 fn sixty_four_threads_leave_one_history(rt: HostRuntime) {
     check_load(&rt, rt.alloc(), 64, 2_000);

@@ -1,0 +1,10 @@
+use Rattle.std.specs.List.{All}
+use Rattle.cmwq_lock.specs.Tokens.{IsPassOf}
+use Rattle.cmwq_lock_tests.proofs.load.turns_of_all.Given as goal
+
+abbrev pub invariant-loop-pass : goal.invariant-loop-pass
+invariant-loop-pass g l = record {
+  next : (goal.iterator-loop-pass g).can_next l.pass-iterator;
+  finite : (goal.iterator-loop-pass g).is_finite l.pass-iterator;
+  done : All (IsPassOf _ l.lock) l.done.items;
+}
