@@ -391,9 +391,17 @@ fn endless(bytes: &[u8]) -> Input<'_> {
 #[test]
 fn input_without_end_is_refused(rt: HostRuntime) {
     let too_long = at(0, Why::TooLong);
-    let reads = check_refused(&rt, rt.alloc(), Command::Run, endless(b""), too_long);
-    // 4,194,305 bytes, 4,096 a call
-    same(&rt, "reads", reads, 1025);
+    for command in [
+        Command::Run,
+        Command::List,
+        Command::Asm,
+        Command::Settle,
+        Command::Draw,
+    ] {
+        let reads = check_refused(&rt, rt.alloc(), command, endless(b""), too_long);
+        // 4,194,305 bytes, 4,096 a call
+        same(&rt, "reads", reads, 1025);
+    }
     let input = endless(&IMAGE_OF_STEPS_RUN_OUT);
     let extra = PlayError::Image(ImageError::Extra);
     check_refused(&rt, rt.alloc(), Command::Show, input, extra);
