@@ -137,6 +137,14 @@ play asks.cmwq --capacity 0
 check every.cmwq
 check every.cmwq faulty.cmwq nothing.cmwq late.cmwq asks.cmwq
 check late.cmwq
+run --explain nothing.cmwq
+run faulty.cmwq --explain
+run --explain asks.cmwq
+why --explain every.cmwq nobody
+why every.cmwq b --at 999 --explain
+new --explain there
+asm every.cmwq every.cmwq --explain
+show --explain faulty.image
 help
 --help
 --version
@@ -217,6 +225,12 @@ def put_back(room, files):
             it.write(files[name])
 
 
+def without_advice(errors):
+    """What a command says on standard error, less the advice behind a fault's line, if each line is whole."""
+    first, end, _ = errors.partition(b"\n")
+    return first + end if errors.endswith(b"\n") and not first.startswith(b"error: ") else errors
+
+
 class Counted:
     """Runs a program whose calls for memory, reads and writes are counted, and one of them fails."""
 
@@ -232,7 +246,8 @@ class Counted:
         streams = {"stdout": subprocess.PIPE, "stderr": subprocess.PIPE, **({} if "stdin" in how else {"input": given.encode()})}
         try:
             ran = subprocess.run([self.program, *words_of(line)], cwd=self.room, env={**self.env, "REFUSED": refused}, timeout=60, **{**streams, **how})
-            ended = ran.returncode, ran.stdout or b"", ran.stderr or b""
+            errors = without_advice(ran.stderr or b"") if "--explain" in words_of(line) else ran.stderr or b""
+            ended = ran.returncode, ran.stdout or b"", errors
         except subprocess.TimeoutExpired:
             ended = -signal.SIGKILL, b"", b"it was killed after a minute"
         counts = dict(zip(KINDS, struct.unpack(f"={len(KINDS)}Q", bytes_of(self.counts))))
