@@ -176,7 +176,10 @@ def call_faults(streams, use, whole, counts):
     faults = []
     for kind, number in [(kind, number) for kind in ("read", "write") for number in range(1, min(counts[kind], 40) + 1)]:
         outcome, _ = streams.run(use, f"{kind} {number}")
-        if kind == "write" and whole.errors and not use[0].startswith("check ") and number == counts[kind]:
+        if "--explain" in use[0] and outcome in (whole, whole._replace(errors=b"" if kind == "write" else whole.errors)):
+            # It failed behind the fault's line, or there.
+            found = []
+        elif kind == "write" and whole.errors and not use[0].startswith("check ") and number == counts[kind]:
             found = [] if outcome == whole._replace(errors=b"") else [f"ends otherwise, with {outcome[:3]}, where its line isn't written"]
         elif kind == "read" and use[0].startswith("check "):
             found = [] if outcome.status == 3 and outcome.errors.count(b": read\n") == whole.errors.count(b": read\n") + 1 else ["doesn't name the file"]

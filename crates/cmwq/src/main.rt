@@ -13,6 +13,8 @@ use std::{env, io};
 /// The logic that the program's proofs rest on, as `rt version` names it; the gate compares the two.
 const LOGIC: &str = "dac8208d650f15bf";
 
+/// Does what the words ask. A fault that was told is followed by what can be done about it, where that is asked for or standard error is a
+/// terminal.
 fn main(rt: HostRuntime) -> ExitCode {
     let mut words = match words_given(&rt) {
         Ok(Some(words)) => words,
@@ -29,9 +31,18 @@ fn main(rt: HostRuntime) -> ExitCode {
         &mut Marked::new(rt.stdout()),
         &mut Marked::new(rt.stderr()),
     );
-    let code = end_with(&rt, outcome);
-    if let Err(fault) = outcome {
-        advise_on(&rt, look, words.as_slice(), fault);
+    let mut errors = Marked::new(rt.stderr());
+    let code = fault::end_with(&mut errors, outcome);
+    if let (Err(fault), false) = (outcome, look == Look::Plain || errors.failed) {
+        // Where advice can't be told there is nobody left to tell that.
+        let _ = advise(
+            rt.alloc(),
+            &Disk { rt: &rt },
+            look,
+            words.as_slice(),
+            fault,
+            &mut errors,
+        );
     }
     code
 }
@@ -39,16 +50,6 @@ fn main(rt: HostRuntime) -> ExitCode {
 /// Tells the fault that the program ends with, if there is one, and gives the exit status.
 fn end_with(rt: &HostRuntime, outcome: Result<u8, PlayError>) -> ExitCode {
     fault::end_with(&mut Marked::new(rt.stderr()), outcome)
-}
-
-/// Where advice is asked for, or standard error is a terminal, tells what can be done about the fault.
-fn advise_on(rt: &HostRuntime, look: Look, words: &[String], fault: PlayError) {
-    if look == Look::Plain {
-        return;
-    }
-    let mut errors = Marked::new(rt.stderr());
-    // The fault is told, and there is nobody left to tell where advice can't be.
-    let _ = advise(rt.alloc(), &Disk { rt }, look, words, fault, &mut errors);
 }
 
 /// How verdicts look on standard error. A terminal has colours, unless its user wants none (no-color.org).
