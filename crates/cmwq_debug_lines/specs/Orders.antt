@@ -9,6 +9,9 @@ use Rattle.cmwq_debug.specs.declared.command.Command.{Command}
 use Rattle.cmwq_debug.specs.declared.command.Command.TheVariants as command
 use Rattle.cmwq_debug.specs.declared.command.EventKind.{EventKind}
 use Rattle.cmwq_debug.specs.declared.command.EventKind.TheVariants as kind
+use Rattle.cmwq_debug_lines.specs.Verbs.{verb_of}
+use Rattle.cmwq_debug_lines.specs.declared.verb.Verb.{Verb}
+use Rattle.cmwq_debug_lines.specs.declared.verb.Verb.TheVariants as verb
 use Rattle.cmwq_debug_lines.specs.declared.order.Order.{Order}
 use Rattle.cmwq_debug_lines.specs.declared.order.Order.TheVariants.{Nothing, Bad, NoWork, Do}
 
@@ -82,16 +85,28 @@ why_order S (name ∷ []) = why_work (work_named S name)
 why_order S (word ∷ number ∷ rest) =
     if bytes_eq word (codes "flush") then with_number command.WhyFlush 4294967295 (number ∷ rest) else Bad
 
+-- a command with a number, or with 1 where no word stands
+abbrev pub with_count : (ℕ → Command) → List (List ℕ) → Order
+with_count make [] = Do (make 1)
+with_count make (number ∷ rest) = with_number make 4294967295 (number ∷ rest)
+
+-- what a verb tells with the words behind it
+abbrev pub verb_order : ScenarioContents → Verb → List (List ℕ) → Order
+verb_order S verb.Step rest = with_count command.Step rest
+verb_order S verb.Back rest = with_count command.Back rest
+verb_order S verb.Goto rest = with_number command.Goto 4294967295 rest
+verb_order S verb.Break rest = break_order S rest
+verb_order S verb.Clear rest = with_number command.Clear 255 rest
+verb_order S verb.Run rest = alone command.Run rest
+verb_order S verb.Dump rest = dump_order rest
+verb_order S verb.Why rest = why_order S rest
+
+-- the same, where the first word stands for a verb
+abbrev pub read_order : ScenarioContents → Option Verb → List (List ℕ) → Order
+read_order S None rest = Bad
+read_order S (Some verb) rest = verb_order S verb rest
+
 -- what a line of these words tells
 abbrev pub order_of : ScenarioContents → List (List ℕ) → Order
 order_of S [] = Nothing
-order_of S (word ∷ rest) =
-    if bytes_eq word (codes "step") then with_number command.Step 4294967295 rest
-    else if bytes_eq word (codes "back") then with_number command.Back 4294967295 rest
-    else if bytes_eq word (codes "goto") then with_number command.Goto 4294967295 rest
-    else if bytes_eq word (codes "break") then break_order S rest
-    else if bytes_eq word (codes "clear") then with_number command.Clear 255 rest
-    else if bytes_eq word (codes "run") then alone command.Run rest
-    else if bytes_eq word (codes "dump") then dump_order rest
-    else if bytes_eq word (codes "why") then why_order S rest
-    else Bad
+order_of S (word ∷ rest) = read_order S (verb_of word) rest

@@ -1,11 +1,12 @@
 //! Reading an order off the words of a line.
-ghost use Rattle.cmwq_debug_lines.specs.Orders.{alone, break_order, dump_order, kind_of, on_work, order_of, why_order, why_work, with_number, work_break, work_named};
+ghost use Rattle.cmwq_debug_lines.specs.Orders.{alone, break_order, dump_order, kind_of, on_work, order_of, verb_order, why_order, why_work, with_count, with_number, work_break, work_named};
 ghost use Rattle.cmwq_debug.specs.declared.command.Command.{Command};
 ghost use Rattle.cmwq_types.specs.declared.limits.TheConstants.{MAX_WORKS};
 ghost use Rattle.cmwq_scan.specs.Words.{words_in};
 ghost use Rattle.std.specs.Prelude.{◌≡◌, ◌<◌, ◌≤◌, ℕ, IfSome, length};
 
 use crate::order::Order;
+use crate::verb::Verb;
 use cmwq_debug::{Command, EventKind};
 use cmwq_scan::{Token, is_word, number_in};
 use cmwq_types::{Scenario, WorkId};
@@ -18,25 +19,38 @@ pub(crate) fn order_of(scenario: &Scenario, words: &[Token]) -> Order
     let [word, rest @ ..] = words else {
         return Order::Nothing;
     };
-    let word = word.bytes();
-    if is_word(word, b"step") {
-        number_order(Command::Step, u32::MAX, rest)
-    } else if is_word(word, b"back") {
-        number_order(Command::Back, u32::MAX, rest)
-    } else if is_word(word, b"goto") {
-        number_order(Command::Goto, u32::MAX, rest)
-    } else if is_word(word, b"break") {
-        break_order(scenario, rest)
-    } else if is_word(word, b"clear") {
-        number_order(|number| Command::Clear(number as u8), 255, rest)
-    } else if is_word(word, b"run") {
-        alone(Command::Run, rest)
-    } else if is_word(word, b"dump") {
-        dump_order(rest)
-    } else if is_word(word, b"why") {
-        why_order(scenario, rest)
-    } else {
-        Order::Bad
+    match Verb::read(word.bytes()) {
+        Some(verb) => verb_order(scenario, verb, rest),
+        None => Order::Bad,
+    }
+}
+
+/// What the verb tells with the words behind it.
+fn verb_order(scenario: &Scenario, verb: Verb, words: &[Token]) -> Order
+    requires { length scenario.now.works ≤ MAX_WORKS }
+    ensures { result ≡ verb_order scenario.now verb (words_in words.now) }
+{
+    match verb {
+        Verb::Step => count_order(Command::Step, words),
+        Verb::Back => count_order(Command::Back, words),
+        Verb::Goto => number_order(Command::Goto, u32::MAX, words),
+        Verb::Break => break_order(scenario, words),
+        Verb::Clear => number_order(|number| Command::Clear(number as u8), 255, words),
+        Verb::Run => alone(Command::Run, words),
+        Verb::Dump => dump_order(words),
+        Verb::Why => why_order(scenario, words),
+    }
+}
+
+/// The command with the number that these words are, or with 1 where there are none.
+fn count_order<F: FnOnce(u32) -> Command>(command: F, words: &[Token]) -> Order
+    requires { (n : ℕ) → n ≤ 4294967295 → F.pre command n }
+    ensures { (made : ℕ → Command) → ((n : ℕ) → (told : Command) → n ≤ 4294967295 → F.post command n told → told ≡ made n)
+        → result ≡ with_count made (words_in words.now) }
+{
+    match words {
+        [] => Order::Do(command(1)),
+        _ => number_order(command, u32::MAX, words),
     }
 }
 
