@@ -5,15 +5,15 @@ use Rattle.cmwq_types.specs.Contents.{ScenarioContents}
 use Rattle.cmwq_grammar.specs.LineFields.{number_within}
 use Rattle.cmwq_grammar.specs.declared.why.Why.{Why}
 use Rattle.cmwq_scan.specs.LastFields.{last}
+use Rattle.cmwq_debug.specs.EventWords.{kind_of}
 use Rattle.cmwq_debug.specs.declared.command.Command.{Command}
 use Rattle.cmwq_debug.specs.declared.command.Command.TheVariants as command
 use Rattle.cmwq_debug.specs.declared.command.EventKind.{EventKind}
-use Rattle.cmwq_debug.specs.declared.command.EventKind.TheVariants as kind
 use Rattle.cmwq_debug_lines.specs.Verbs.{verb_of}
 use Rattle.cmwq_debug_lines.specs.declared.verb.Verb.{Verb}
 use Rattle.cmwq_debug_lines.specs.declared.verb.Verb.TheVariants as verb
 use Rattle.cmwq_debug_lines.specs.declared.order.Order.{Order}
-use Rattle.cmwq_debug_lines.specs.declared.order.Order.TheVariants.{Nothing, Bad, NoWork, Do}
+use Rattle.cmwq_debug_lines.specs.declared.order.Order.TheVariants.{Nothing, Bad, NoWork, Help, Do}
 
 -- a command with the number that was read
 abbrev pub number_order : (ℕ → Command) → Result ℕ Why → Order
@@ -32,18 +32,6 @@ only order (word ∷ rest) = Bad
 abbrev pub alone : Command → List (List ℕ) → Order
 alone command words = only (Do command) words
 
-abbrev pub kind_of : List ℕ → Option EventKind
-kind_of word =
-    if bytes_eq word (codes "starts") then Some kind.Starts
-    else if bytes_eq word (codes "burns") then Some kind.Burns
-    else if bytes_eq word (codes "sleeps") then Some kind.Sleeps
-    else if bytes_eq word (codes "wakes") then Some kind.Wakes
-    else if bytes_eq word (codes "finishes") then Some kind.Finishes
-    else if bytes_eq word (codes "defers") then Some kind.Defers
-    else if bytes_eq word (codes "fires") then Some kind.Fires
-    else if bytes_eq word (codes "queues") then Some kind.Queues
-    else None
-
 -- the number of the work of this name
 abbrev pub work_named : ScenarioContents → List ℕ → Option ℕ
 work_named S name = position (λ work. bytes_eq work.name name) S.works
@@ -59,6 +47,16 @@ abbrev pub work_break : ScenarioContents → List (List ℕ) → Order
 work_break S (name ∷ word ∷ event ∷ []) = if bytes_eq word (codes "event") then on_work (work_named S name) (kind_of event) else Bad
 work_break S _ = Bad
 
+-- a break on the activation of this work
+abbrev pub on_activation : Option ℕ → Order
+on_activation (Some w) = Do (command.BreakActivation (record { 0 = w }))
+on_activation None = NoWork
+
+-- behind `break activates`
+abbrev pub activation_break : ScenarioContents → List (List ℕ) → Order
+activation_break S (name ∷ []) = on_activation (work_named S name)
+activation_break S _ = Bad
+
 -- behind `break`
 abbrev pub break_order : ScenarioContents → List (List ℕ) → Order
 break_order S [] = Bad
@@ -66,6 +64,7 @@ break_order S (word ∷ rest) =
     if bytes_eq word (codes "work") then work_break S rest
     else if bytes_eq word (codes "time") then with_number command.BreakTime 4294967295 rest
     else if bytes_eq word (codes "refusal") then alone command.BreakRefusal rest
+    else if bytes_eq word (codes "activates") then activation_break S rest
     else Bad
 
 -- behind `dump`
@@ -97,9 +96,11 @@ verb_order S verb.Back rest = with_count command.Back rest
 verb_order S verb.Goto rest = with_number command.Goto 4294967295 rest
 verb_order S verb.Break rest = break_order S rest
 verb_order S verb.Clear rest = with_number command.Clear 255 rest
+verb_order S verb.List rest = alone command.List rest
 verb_order S verb.Run rest = alone command.Run rest
 verb_order S verb.Dump rest = dump_order rest
 verb_order S verb.Why rest = why_order S rest
+verb_order S verb.Help rest = only Help rest
 
 -- the same, where the first word stands for a verb
 abbrev pub read_order : ScenarioContents → Option Verb → List (List ℕ) → Order

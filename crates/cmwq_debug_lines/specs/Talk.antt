@@ -8,8 +8,9 @@ use Rattle.cmwq_debug.specs.Debugging.{Answer, At, Broke, Cleared, Text, Session
 use Rattle.cmwq_debug.specs.declared.command.DebugError.{DebugError}
 use Rattle.cmwq_debug.specs.declared.command.DebugError.TheVariants as error
 use Rattle.cmwq_debug_lines.specs.Orders.{order_of}
+use Rattle.cmwq_debug_lines.specs.Verbs.{help_text}
 use Rattle.cmwq_debug_lines.specs.declared.order.Order.{Order}
-use Rattle.cmwq_debug_lines.specs.declared.order.Order.TheVariants.{Nothing, Bad, NoWork, Do}
+use Rattle.cmwq_debug_lines.specs.declared.order.Order.TheVariants.{Nothing, Bad, NoWork, Help, Do}
 
 -- the break that stopped a run
 abbrev pub by_text : Option ℕ → List ℕ
@@ -44,6 +45,7 @@ abbrev pub obeyed : Session → Order → Session × List ℕ
 obeyed d Nothing = (d, [])
 obeyed d Bad = (d, codes "bad command" ++ 10 ∷ [])
 obeyed d NoWork = (d, refused_text error.NoSuchWork)
+obeyed d Help = (d, help_text)
 obeyed d (Do command) = ((does d command).0, answer_line (does d command).1)
 
 -- the same after a line; S has the names of works

@@ -11,6 +11,8 @@ pub enum Order {
     Bad,
     /// To break on a work that isn't declared, or to tell why it isn't further.
     NoWork,
+    /// To tell the commands.
+    Help,
     /// To carry out the command.
     Do(Command),
 }

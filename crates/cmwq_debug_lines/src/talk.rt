@@ -6,6 +6,7 @@ ghost use Rattle.std.specs.Prelude.{◌≡◌, ◌≤◌, IfOk, OnOk, length};
 
 use crate::commands_read::order_of;
 use crate::order::Order;
+use crate::verb::help_text;
 use cmwq_debug::{Command, DebugError, Debugger, Said};
 use cmwq_scan::{Tokens, read_tokens};
 use cmwq_table::Machine;
@@ -45,6 +46,7 @@ fn obey<M: Machine>(
         Order::Nothing => Ok(Vec::new(alloc)),
         Order::Bad => Ok(format!(in alloc; "bad command\n")?.into_bytes()),
         Order::NoWork => refused_text(alloc, DebugError::NoSuchWork),
+        Order::Help => Ok(help_text(alloc)?.into_bytes()),
         Order::Do(command) => answer_command(alloc, debugger, command),
     }
 }

@@ -1,9 +1,11 @@
 //! The words that commands begin with, and what may stand for them.
-ghost use Rattle.cmwq_debug_lines.specs.Verbs.{first_spelled, is_begun, only_begun, spelling, verb_of};
+ghost use Rattle.cmwq_debug_lines.specs.Verbs.{first_spelled, help_lines, help_text, is_begun, only_begun, spelling, usage, verb_of};
 ghost use Rattle.std.specs.List.{list_any};
-ghost use Rattle.std.specs.Prelude.{◌≡◌};
+ghost use Rattle.std.specs.Prelude.{◌≡◌, ◌++◌, IfOk, OnOk, string_bytes};
 
 use cmwq_scan::is_word;
+use cmwq_types::NoMemory;
+use std::alloc::Global;
 
 /// What the first word of a command tells. `spelling` of the specs is the table of them.
 #[derive(Clone, Copy, Debug)]
@@ -13,20 +15,24 @@ pub enum Verb {
     Goto,
     Break,
     Clear,
+    List,
     Run,
     Dump,
     Why,
+    Help,
 }
 
-const VERBS: [Verb; 8] = [
+const VERBS: [Verb; 10] = [
     Verb::Step,
     Verb::Back,
     Verb::Goto,
     Verb::Break,
     Verb::Clear,
+    Verb::List,
     Verb::Run,
     Verb::Dump,
     Verb::Why,
+    Verb::Help,
 ];
 
 impl Verb {
@@ -50,9 +56,33 @@ impl Verb {
             Verb::Goto => "goto",
             Verb::Break => "break",
             Verb::Clear => "clear",
+            Verb::List => "list",
             Verb::Run => "run",
             Verb::Dump => "dump",
             Verb::Why => "why",
+            Verb::Help => "help",
+        }
+    }
+
+    /// What stands behind it, and what that does.
+    fn usage(self) -> &'static str
+        ensures { result.now ≡ usage self }
+    {
+        match self {
+            Verb::Step => " [N]: goes forward by N instructions, or by 1",
+            Verb::Back => " [N]: goes back by N instructions, or by 1",
+            Verb::Goto => " K: goes to position K",
+            Verb::Break => " work W event E | time T | refusal | activates W: makes a break",
+            Verb::Clear => " I: removes break I",
+            Verb::List => ": tells the breaks",
+            Verb::Run => {
+                ": goes forward up to the first instruction that a break matches, or to the end"
+            }
+            Verb::Dump => " [pool P]: tells the state, or what is in pool P",
+            Verb::Why => " W | flush F: tells why work W isn't further, or what flush F waits for",
+            Verb::Help => {
+                ": tells the commands; the first word may be cut short where no other one begins so"
+            }
         }
     }
 
@@ -62,6 +92,26 @@ impl Verb {
     {
         self.as_str().as_bytes().starts_with(word)
     }
+}
+
+/// The commands, a line each. The only error is want of memory.
+pub(crate) fn help_text(alloc: Global) -> Result<String, NoMemory>
+    ensures { IfOk result (λ text. string_bytes text ≡ help_text) }
+{
+    let mut text = String::new(alloc);
+    push_lines(&mut text, &VERBS)?;
+    Ok(text)
+}
+
+/// Appends a line for each of these.
+fn push_lines(text: &mut String, verbs: &[Verb]) -> Result<(), NoMemory>
+    ensures { OnOk result (string_bytes text.new ≡ string_bytes text.old ++ help_lines verbs.now) }
+{
+    for verb in verbs {
+        let (word, usage) = (verb.as_str(), verb.usage());
+        writeln!(text, "{word}{usage}")?;
+    }
+    Ok(())
 }
 
 /// The first of these that is spelled so.
