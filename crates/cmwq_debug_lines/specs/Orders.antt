@@ -13,7 +13,7 @@ use Rattle.cmwq_debug_lines.specs.Verbs.{verb_of}
 use Rattle.cmwq_debug_lines.specs.declared.verb.Verb.{Verb}
 use Rattle.cmwq_debug_lines.specs.declared.verb.Verb.TheVariants as verb
 use Rattle.cmwq_debug_lines.specs.declared.order.Order.{Order}
-use Rattle.cmwq_debug_lines.specs.declared.order.Order.TheVariants.{Nothing, Bad, NoWork, Help, Do}
+use Rattle.cmwq_debug_lines.specs.declared.order.Order.TheVariants.{Nothing, Bad, NoWork, Help, Quit, Do}
 
 -- a command with the number that was read
 abbrev pub number_order : (ℕ → Command) → Result ℕ Why → Order
@@ -101,6 +101,7 @@ verb_order S verb.Run rest = alone command.Run rest
 verb_order S verb.Dump rest = dump_order rest
 verb_order S verb.Why rest = why_order S rest
 verb_order S verb.Help rest = only Help rest
+verb_order S verb.Quit rest = only Quit rest
 
 -- the same, where the first word stands for a verb
 abbrev pub read_order : ScenarioContents → Option Verb → List (List ℕ) → Order

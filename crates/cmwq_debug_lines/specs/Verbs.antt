@@ -17,10 +17,11 @@ spelling verb.Run = codes "run"
 spelling verb.Dump = codes "dump"
 spelling verb.Why = codes "why"
 spelling verb.Help = codes "help"
+spelling verb.Quit = codes "quit"
 
 abbrev pub verbs : List Verb
 verbs =
-    verb.Step ∷ verb.Back ∷ verb.Goto ∷ verb.Break ∷ verb.Clear ∷ verb.List ∷ verb.Run ∷ verb.Dump ∷ verb.Why ∷ verb.Help ∷ []
+    verb.Step ∷ verb.Back ∷ verb.Goto ∷ verb.Break ∷ verb.Clear ∷ verb.List ∷ verb.Run ∷ verb.Dump ∷ verb.Why ∷ verb.Help ∷ verb.Quit ∷ []
 
 -- the first of these that is spelled so
 abbrev pub first_spelled : List Verb → List ℕ → Option Verb
@@ -57,6 +58,7 @@ usage verb.Run = codes ": goes forward up to the first instruction that a break 
 usage verb.Dump = codes " [pool P]: tells the state, or what is in pool P"
 usage verb.Why = codes " W | flush F: tells why work W isn't further, or what flush F waits for"
 usage verb.Help = codes ": tells the commands; the first word may be cut short where no other one begins so"
+usage verb.Quit = codes ": ends the session"
 
 -- a line for each of these
 abbrev pub help_lines : List Verb → List ℕ

@@ -41,6 +41,7 @@ fn verb_order(scenario: &Scenario, verb: Verb, words: &[Token]) -> Order
         Verb::Dump => dump_order(words),
         Verb::Why => why_order(scenario, words),
         Verb::Help => only(Order::Help, words),
+        Verb::Quit => only(Order::Quit, words),
     }
 }
 

@@ -13,6 +13,8 @@ pub enum Order {
     NoWork,
     /// To tell the commands.
     Help,
+    /// To end the session.
+    Quit,
     /// To carry out the command.
     Do(Command),
 }

@@ -20,9 +20,10 @@ pub enum Verb {
     Dump,
     Why,
     Help,
+    Quit,
 }
 
-const VERBS: [Verb; 10] = [
+const VERBS: [Verb; 11] = [
     Verb::Step,
     Verb::Back,
     Verb::Goto,
@@ -33,6 +34,7 @@ const VERBS: [Verb; 10] = [
     Verb::Dump,
     Verb::Why,
     Verb::Help,
+    Verb::Quit,
 ];
 
 impl Verb {
@@ -61,6 +63,7 @@ impl Verb {
             Verb::Dump => "dump",
             Verb::Why => "why",
             Verb::Help => "help",
+            Verb::Quit => "quit",
         }
     }
 
@@ -83,6 +86,7 @@ impl Verb {
             Verb::Help => {
                 ": tells the commands; the first word may be cut short where no other one begins so"
             }
+            Verb::Quit => ": ends the session",
         }
     }
 
