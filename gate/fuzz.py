@@ -32,6 +32,8 @@ import mutations
 SECONDS, MEGABYTES = 10, 200
 # The most actors of a play, and how many megabytes a thread's stack takes.
 THREADS, STACK = 16, 8
+# A line that ends a debugger's session.
+QUIT = re.compile(rb"^[ \t]*(?:q|qu|qui|quit)[ \t]*(?:#.*)?\r?$", re.M)
 # The most bytes of a debugger's commands.
 MOST = 4_194_304
 FAILURES = 3
@@ -215,13 +217,14 @@ def try_image(bench, rng, found):
 
 
 def try_commands(bench, rng, found):
-    """Debuggers' commands: each refusal is a documented one, and the state at the beginning is what it was."""
+    """Debuggers' commands: each refusal is a documented one, and the state at the beginning is what it was, unless `quit` came before."""
     bench.write(TEXT, rng.choice(found.lessons).encode())
     given = mutations.commands(rng, found.sessions) + b"\ngoto 0\ndump\n"
     at_first, said = bench.run("debug", TEXT, given=b"goto 0\ndump\n"), bench.run("debug", TEXT, given=given)
     bench.want(refusals(said.output) <= bench.documented.debugger_refusals, "it refuses by a name that isn't documented")
-    is_same = said[::2] == at_first[::2] and said.output.endswith(at_first.output)
-    bench.want(is_same if len(given) <= MOST else said[::2] == (1, b"too long\n"), "behind these commands position 0 is another")
+    is_same = said[::2] == at_first[::2] and (QUIT.search(given) or said.output.endswith(at_first.output))
+    is_long = len(given) > MOST and (QUIT.search(given) or said[::2] == (1, b"too long\n"))
+    bench.want(is_long or is_same and len(given) <= MOST, "behind these commands position 0 is another")
     return "session"
 
 

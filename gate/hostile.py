@@ -158,7 +158,7 @@ draw --from x every.cmwq
 USES += [("debug every.cmwq", commands) for commands in (
     "", "step 9", "goto 24\nback 3", "goto 99", "break work a event starts\nrun", "break time 3\nrun\nrun", "break refusal\nclear 0\nclear 0",
     "run", "dump", "goto 24\ndump", "goto 24\ndump pool 0", "why b", "goto 24\nwhy flush 1", "# nothing\n\nwalk",
-    "break work b event queues\n" * 17,
+    "break work b event queues\n" * 17, "list\nbreak activates b\nbreak time 3\nlist\nrun\nrun\nback", "help", "s\nb\nquit\ndump",
 )]
 # On a way with checkpoints.
 USES += [("debug long.cmwq", "goto 700\nback 1\nback 600\ngoto 640\nbreak time 690\nrun\ngoto 3\nwhy a\ngoto 801\ndump")]

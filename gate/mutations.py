@@ -119,7 +119,7 @@ def text(rng, lessons):
 def commands(rng, sessions):
     """A debugger's commands, from a session's."""
     lines = rng.choice(sessions).split("\n")
-    words = sorted(hostile.debugger_commands()) + EVENTS + ["work", "event", "time", "refusal", "pool", "flush"] + "a b c d e w0 u x y".split()
+    words = sorted(hostile.debugger_commands()) + EVENTS + ["work", "event", "time", "refusal", "activates", "pool", "flush"] + "a b c d e w0 u x y".split()
     for _ in range(rng.choice([1, 2, 4, 8, 16])):
         change_lines(rng, lines, sessions, words)
     content = "\n".join(lines).encode()

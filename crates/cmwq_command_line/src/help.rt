@@ -153,10 +153,11 @@ Example:
 
 const DEBUG: &str = "\
 Commands are lines of standard input: step N, back N, goto K, run, break work W event E, break time T,
-break refusal, clear I, dump, dump pool P, why W, why flush F. Prints the answer to each before the next is read.
+break refusal, break activates W, clear I, list, dump, dump pool P, why W, why flush F, help, quit. Prints the answer to each
+before the next is read.
 
 Exit status:
-  0  the input ended; refused and bad commands are answered in lines of their own
+  0  the input ended, or `quit` came; refused and bad commands are answered in lines of their own
   1  `line 6: Duplicate`: the text's first fault; `actors`: there isn't exactly one actor; `too long`: the commands
   2  the command line is wrong
   3  `read`: FILE or the commands can't be read; `write`: the output can't be written

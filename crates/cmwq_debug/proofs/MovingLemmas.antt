@@ -2,19 +2,23 @@
 use Rattle.std.proofs.Common.{◌≡◌, ℕ, zero, suc, ◌+◌, ◌-◌, ◌<◌, ◌≤◌, Bool, true, false, ◌&&◌, List, [], ◌∷◌, ◌++◌, length, Option, Some, None, take, arith, refl, sym, ap, ◌∙◌, subst}
 use Rattle.std.proofs.lemmas.Bool.Decides.{nat_tests}
 use Rattle.std.proofs.lemmas.Grind.{common_steps}
-use Rattle.std.specs.Prelude.{is_some, nat_le, slice_index_or}
+use Rattle.std.proofs.lemmas.List.{get_or-map}
+use Rattle.std.specs.Prelude.{is_some, map, nat_le, slice_index_or}
 use Rattle.cmwq_types.specs.Contents.{ScenarioContents}
+use Rattle.cmwq_types.proofs.FirstLemmas.{first_below-agree}
+use Rattle.cmwq_types.specs.First.{by_least}
 use Rattle.cmwq_types.specs.declared.instr.Instr.{Instr}
 use Rattle.cmwq_types.specs.declared.instr.Instr.TheVariants.{Next}
 use Rattle.cmwq_types.specs.declared.reply.Reply.{Reply}
 use Rattle.cmwq_table.proofs.RunLemmas.{after_all-append}
 use Rattle.cmwq_table.specs.State.{State, start}
 use Rattle.cmwq_table.specs.Table.{run, table}
-use Rattle.cmwq_debug.specs.Breaks.{lowest, said_of}
+use Rattle.cmwq_debug.specs.Breaks.{break_at, lowest, matches_seen, matches_there, said_by, said_of, seen, sight_at}
 use Rattle.cmwq_debug.specs.Checkpoints.{Comes, Passes, Spread}
 use Rattle.cmwq_debug.specs.Debugging.{Session, break_of, run_end, session_of, stop}
 use Rattle.cmwq_debug.specs.Replaying.{Course, HasAdvanced, HasGoneTo, next_reply}
 use Rattle.cmwq_debug.specs.declared.breaks.Break.{Break}
+use Rattle.cmwq_debug.specs.declared.breaks.Sight.{Sight}
 use Rattle.cmwq_debug.proofs.LowestLemmas.{lowest-is, lowest-more, lowest-none}
 
 -- an element that is there doesn't depend on what is read elsewhere
@@ -36,13 +40,24 @@ module _ (S loaded : ScenarioContents) (instrs : List Instr) (k : ℕ) (s t : St
       let more : take (k + 1) instrs ≡ take k instrs ++ slice_index_or instrs k Next ∷ [] = grind (arith, common_steps) in
       ap (λ (after : State × Reply). after.0) answered ∙ sym (ap (run S) more ∙ after_all-append S (start S) (take k instrs) (slice_index_or instrs k Next ∷ []))
 
+-- what the breaks saw of a state
+sight_is : (s : State) (breaks : List (Option Break)) (i : ℕ) → i < length breaks → sight_at (map (seen s) breaks) i ≡ seen s (break_at breaks i)
+sight_is s breaks i less = get_or-map (seen s) breaks i None (record { time = 0; pending = None }) less
+
+by_sights : (breaks : List (Option Break)) (sights : List Sight) (s t : State) (reply : Reply) → sights ≡ map (seen s) breaks → said_by breaks sights t reply ≡ said_of breaks s t reply
+by_sights breaks sights s t reply is =
+    ap (λ (all : List Sight). said_by breaks all t reply) is
+    ∙ first_below-agree (by_least (λ k. k)) (λ i. matches_seen (sight_at (map (seen s) breaks) i) t reply (break_at breaks i)) (λ i. matches_there s t reply (break_at breaks i)) (length breaks)
+    (λ i less. ap (λ (before : Sight). matches_seen before t reply (break_at breaks i)) (sight_is s breaks i less))
+
 -- what is said of the next instruction
-pub said : (c : Course) (S : ScenarioContents) (I : List Instr) (k from : ℕ) (breaks : List (Option Break)) (before after : ℕ) (reply : Reply) → c.scenario ≡ S → c.instrs ≡ I → c.position ≡ k
-    → before ≡ (run S (take k I)).time → after ≡ (run S (take (k + 1) I)).time → reply ≡ next_reply c → said_of breaks before after reply ≡ break_of (session_of S I from breaks) k
-said c S I k from breaks before after reply scenario instrs position is_before is_after is_reply =
+pub said : (c : Course) (S : ScenarioContents) (I : List Instr) (k from : ℕ) (breaks : List (Option Break)) (sights : List Sight) (before after : State) (reply : Reply) → c.scenario ≡ S → c.instrs ≡ I → c.position ≡ k
+    → before ≡ run S (take k I) → after ≡ run S (take (k + 1) I) → sights ≡ map (seen before) breaks → reply ≡ next_reply c → said_by breaks sights after reply ≡ break_of (session_of S I from breaks) k
+said c S I k from breaks sights before after reply scenario instrs position is_before is_after saw is_reply =
     let told : next_reply c ≡ (table S (run S (take k I)) (slice_index_or I k Next)).1 = rw (scenario, instrs, position) refl in
-    ap (λ (time : ℕ). said_of breaks time after reply) is_before ∙ ap (λ (time : ℕ). said_of breaks (run S (take k I)).time time reply) is_after
-    ∙ ap (said_of breaks (run S (take k I)).time (run S (take (k + 1) I)).time) (is_reply ∙ told)
+    by_sights breaks sights before after reply saw
+    ∙ ap (λ (s : State). said_of breaks s after reply) is_before ∙ ap (λ (t : State). said_of breaks (run S (take k I)) t reply) is_after
+    ∙ ap (said_of breaks (run S (take k I)) (run S (take (k + 1) I))) (is_reply ∙ told)
 
 -- going on by one instruction
 passes-more : (s t u : Spread) (from k : ℕ) → from ≤ k → Passes s from (k - from) t → Comes t (k + 1) u → Passes s from (k + 1 - from) u
@@ -96,3 +111,8 @@ module _ (d : Session) where
       let passes : matched k ≡ true = and-both (nat_le d.position k) (is_some (break_of d k)) (grind (arith, nat_tests)) (ap (λ (o : Option ℕ). is_some o) (sym is) ∙ holds) in
       let first : stop d ≡ Some k = lowest-is matched k (length d.instrs) none passes less in
       ap (λ (o : Option ℕ). (k + 1, o)) is ∙ sym (ap (run_end d) first)
+
+  pub unstopped : (k : ℕ) → k ≡ length d.instrs → lowest matched k ≡ None → (k, None) ≡ run_end d (stop d)
+  unstopped k end none =
+      let all : stop d ≡ None = subst (λ (n : ℕ). lowest matched n ≡ None) end none in
+      ap (λ (n : ℕ). (n, None)) end ∙ sym (ap (run_end d) all)

@@ -15,13 +15,13 @@ use Rattle.cmwq_table.specs.declared.machine.LoadError.TheVariants as load
 use Rattle.cmwq_dump.specs.Dump.{dump, pool_lines}
 use Rattle.cmwq_why_text.specs.WhyText.{why_line}
 use Rattle.cmwq_flush_waits.specs.FlushText.{flush_lines}
+use Rattle.cmwq_debug.specs.BreakLines.{list_text}
 use Rattle.cmwq_debug.specs.Breaks.{break_at, free, lowest, said_of}
 use Rattle.cmwq_debug.specs.declared.breaks.TheConstants.{MAX_BREAKS}
 use Rattle.cmwq_debug.specs.declared.breaks.Break.{Break}
-use Rattle.cmwq_debug.specs.declared.breaks.Break.TheVariants.{OnWork, OnTime, OnRefusal}
+use Rattle.cmwq_debug.specs.declared.breaks.Break.TheVariants.{OnWork, OnTime, OnRefusal, OnActivation}
 use Rattle.cmwq_debug.specs.declared.command.Command.{Command}
 use Rattle.cmwq_debug.specs.declared.command.Command.TheVariants as command
-use Rattle.cmwq_debug.specs.declared.command.EventKind.{EventKind}
 use Rattle.cmwq_debug.specs.declared.command.DebugError.{DebugError}
 use Rattle.cmwq_debug.specs.declared.command.DebugError.TheVariants as error
 use Rattle.cmwq_debug.specs.declared.command.Said.{Said}
@@ -58,7 +58,7 @@ reply_at d k = (table d.scenario (state_at d k) (instr_at_position d k)).1
 
 -- the break that is said of it
 abbrev pub break_of : Session → ℕ → Option ℕ
-break_of d k = said_of d.breaks (time_at d k) (time_at d (k + 1)) (reply_at d k)
+break_of d k = said_of d.breaks (state_at d k) (state_at d (k + 1)) (reply_at d k)
 
 -- What is said to a command.
 pub data Answer : Type 0 where
@@ -100,9 +100,10 @@ put d break None = refuses d error.TooManyBreaks
 abbrev pub breaks_on : Session → Break → Outcome
 breaks_on d break = put d break (free d.breaks)
 
-abbrev pub breaks_on_work : Session → WorkId → EventKind → Outcome
-breaks_on_work d work kind =
-    if nat_lt work.0 (length d.scenario.works) then breaks_on d (OnWork work kind) else refuses d error.NoSuchWork
+-- the same for a break on a work, if there is such a work
+abbrev pub breaks_on_work : Session → WorkId → Break → Outcome
+breaks_on_work d work break =
+    if nat_lt work.0 (length d.scenario.works) then breaks_on d break else refuses d error.NoSuchWork
 
 abbrev pub removed : Session → ℕ → Option Break → Outcome
 removed d i (Some break) = says (record d { breaks = slice_set d.breaks i None }) (Cleared i)
@@ -144,9 +145,11 @@ abbrev pub does : Session → Command → Outcome
 does d (command.Step n) = goes d (d.position + n)
 does d (command.Back n) = goes_back d n
 does d (command.Goto k) = goes d k
-does d (command.BreakWork work kind) = breaks_on_work d work kind
+does d (command.BreakWork work kind) = breaks_on_work d work (OnWork work kind)
 does d (command.BreakTime time) = breaks_on d (OnTime time)
 does d command.BreakRefusal = breaks_on d OnRefusal
+does d (command.BreakActivation work) = breaks_on_work d work (OnActivation work)
+does d command.List = says d (Text (list_text d.scenario d.breaks))
 does d (command.Clear i) = removed d i (break_at d.breaks i)
 does d command.Run = runs_on d
 does d command.Dump = says d (Text (dump d.scenario (state_at d d.position)))

@@ -1,10 +1,11 @@
-//! Breaks: which replies they match, and which of several is said.
-ghost use Rattle.cmwq_debug.specs.Breaks.{break_at, free, is_kind, matches, matches_there, said_of, tells};
+//! Breaks: which instructions they match, and which of several is said.
+ghost use Rattle.cmwq_debug.specs.Breaks.{break_at, free, is_activation, is_kind, is_listed_from, matches, matches_seen, said_by, seen, tells, watched};
 ghost use Rattle.cmwq_table.specs.Events.{is_refusal};
-ghost use Rattle.std.specs.Prelude.{◌≡◌, ◌<◌, ◌≤◌, IfSome, length};
+ghost use Rattle.std.specs.Prelude.{◌≡◌, ◌<◌, ◌≤◌, IfSome, length, map};
 
 use crate::command::EventKind;
-use cmwq_types::{Event, Reply, WorkId};
+use cmwq_table::{Pending, Reads};
+use cmwq_types::{Event, Place, Reply, WorkId};
 
 /// The most breaks at once.
 pub const MAX_BREAKS: usize = 16;
@@ -18,17 +19,29 @@ pub(crate) enum Break {
     OnTime(u32),
     /// A refused instruction.
     OnRefusal,
+    /// An instruction that activates the work.
+    OnActivation(WorkId),
+}
+
+/// What a break sees of a machine.
+#[derive(Clone, Copy, Debug)]
+pub(crate) struct Sight {
+    /// The time.
+    pub time: u64,
+    /// The pending instance of the work whose activation it waits for.
+    pub pending: Option<Pending>,
 }
 
 impl Break {
-    /// Whether the break matches an instruction, by the times before and after it and the reply to it.
-    fn matches(self, before: u64, after: u64, reply: Reply) -> bool
+    /// Whether the break matches an instruction, by what it sees before and after it and the reply to it.
+    fn matches(self, before: Sight, after: Sight, reply: Reply) -> bool
         ensures { result ≡ matches self before after reply }
     {
         match self {
             Break::OnWork(work, kind) => tells(work, kind, reply),
-            Break::OnTime(time) => after == u64::from(time) && before != u64::from(time),
+            Break::OnTime(time) => after.time == u64::from(time) && before.time != u64::from(time),
             Break::OnRefusal => matches!(reply, Reply::Refused(_)),
+            Break::OnActivation(_) => is_activation(before.pending, after.pending),
         }
     }
 }
@@ -65,30 +78,82 @@ fn is_kind(kind: EventKind, event: Event) -> bool
     }
 }
 
-/// The number of the lowest break that matches an instruction, by the times before and after it and the reply
-/// to it.
-pub(crate) fn said_of(
-    breaks: &[Option<Break>],
-    before: u64,
-    after: u64,
+/// Whether the pending instance that a work had is activated.
+fn is_activation(before: Option<Pending>, after: Option<Pending>) -> bool
+    ensures { result ≡ is_activation before after }
+{
+    match (before, after) {
+        (Some(before), Some(after)) => {
+            is_listed_from(before.place, after.place) && after.born == before.born
+        }
+        _ => false,
+    }
+}
+
+fn is_listed_from(before: Place, after: Place) -> bool
+    ensures { result ≡ is_listed_from before after }
+{
+    matches!((before, after), (Place::Inactive(_), Place::Listed(_)))
+}
+
+/// What each of the breaks sees of the machine.
+pub(crate) fn sights<M: Reads>(
+    breaks: &[Option<Break>; MAX_BREAKS],
+    machine: &M,
+) -> [Sight; MAX_BREAKS]
+    ensures { result ≡ map (seen (M.state machine.now)) breaks.now }
+{
+    let mut sights = [seen(None, machine); MAX_BREAKS];
+    for place in 0..MAX_BREAKS {
+        sights[place] = seen(breaks[place], machine);
+    }
+    sights
+}
+
+/// What a break sees of the machine.
+fn seen<M: Reads>(there: Option<Break>, machine: &M) -> Sight
+    ensures { result ≡ seen (M.state machine.now) there }
+{
+    Sight {
+        time: machine.time(),
+        pending: watched(there, machine),
+    }
+}
+
+/// The pending instance that a break watches.
+fn watched<M: Reads>(there: Option<Break>, machine: &M) -> Option<Pending>
+    ensures { result ≡ watched (M.state machine.now) there }
+{
+    match there {
+        Some(Break::OnActivation(work)) => machine.pending_of(work.0 as usize),
+        _ => None,
+    }
+}
+
+/// The number of the lowest break that matches the instruction that led to the machine's state, by what each saw before it and
+/// the reply to it.
+pub(crate) fn said_by<M: Reads>(
+    breaks: &[Option<Break>; MAX_BREAKS],
+    sights: &[Sight; MAX_BREAKS],
+    machine: &M,
     reply: Reply,
 ) -> Option<usize>
-    ensures lowest { result ≡ said_of breaks.now before after reply }
+    ensures lowest { result ≡ said_by breaks.now sights.now (M.state machine.now) reply }
     ensures in_range { IfSome result (λ i. i < length breaks.now) }
 {
-    for i in 0..breaks.len() {
-        if matches_there(breaks[i], before, after, reply) {
+    for i in 0..MAX_BREAKS {
+        if matches_seen(breaks[i], sights[i], machine, reply) {
             return Some(i);
         }
     }
     None
 }
 
-fn matches_there(there: Option<Break>, before: u64, after: u64, reply: Reply) -> bool
-    ensures { result ≡ matches_there before after reply there }
+fn matches_seen<M: Reads>(there: Option<Break>, before: Sight, machine: &M, reply: Reply) -> bool
+    ensures { result ≡ matches_seen before (M.state machine.now) reply there }
 {
     match there {
-        Some(there) => there.matches(before, after, reply),
+        Some(on) => on.matches(before, seen(there, machine), reply),
         None => false,
     }
 }

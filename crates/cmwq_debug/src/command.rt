@@ -23,6 +23,11 @@ pub enum Command {
     BreakTime(u32),
     /// Makes a break on each refused instruction. Refused as `BreakTime` is.
     BreakRefusal,
+    /// Makes a break on each instruction that activates the work: its pending instance was inactive and is listed.
+    /// One that is listed as it is placed isn't activated. Refused as `BreakWork` is.
+    BreakActivation(WorkId),
+    /// Tells the breaks.
+    List,
     /// Removes the break. Refused, as `NoSuchBreak`, where no break has the number.
     Clear(u8),
     /// Goes forward by at least one instruction, up to the first after which a break matches, or to the
@@ -73,7 +78,7 @@ pub enum Said {
     Broke(u8),
     /// The break of this number is removed.
     Cleared(u8),
-    /// The dump text, a pool's part of it, or why a work isn't further or a flush isn't done, as bytes.
+    /// The dump text, a pool's part of it, why a work isn't further or a flush isn't done, or the breaks, as bytes.
     Text(Vec<u8>),
 }
 

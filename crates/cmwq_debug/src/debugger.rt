@@ -1,5 +1,6 @@
 //! The debugger.
 ghost use Rattle.cmwq_debug.specs.Debugging.{Answer, At, Meets, OpensDebugger, answer_of, breaks_on, breaks_on_work, does, dumps_pool, goes, goes_back, opened, removed, runs_on, says, state_at, tells_waits, tells_why, time_at, Text};
+ghost use Rattle.cmwq_debug.specs.BreakLines.{list_text};
 ghost use Rattle.cmwq_debug.specs.Breaks.{break_at};
 ghost use Rattle.cmwq_debug.specs.Checkpoints.{AreRising};
 ghost use Rattle.cmwq_debug.specs.declared.checkpoints.TheConstants.{MAX_CHECKPOINTS};
@@ -12,9 +13,10 @@ ghost use Rattle.cmwq_types.specs.declared.limits.TheConstants.{MAX_HISTORY};
 ghost use Rattle.std.specs.List.{All};
 ghost use Rattle.std.specs.Prelude.{◌≡◌, ◌+◌, ◌⊎◌, ◌<◌, ◌≤◌, Err, IfErr, IfOk, IfSome, MatchOption, None, Ok, OnErr, OnOk, Some, length, string_bytes};
 
+use crate::break_lines::list_text;
 use crate::breaks::{Break, MAX_BREAKS, free};
 use crate::checkpoints::Checkpoint;
-use crate::command::{Command, DebugError, EventKind, Said};
+use crate::command::{Command, DebugError, Said};
 use crate::replay::Replay;
 use cmwq_dump::{dump_text, pool_text};
 use cmwq_flush_waits::flush_text;
@@ -117,9 +119,14 @@ impl<M: Machine> Debugger<M> {
             Command::Step(n) => self.step(n),
             Command::Back(n) => self.back(n),
             Command::Goto(to) => self.go(u64::from(to)),
-            Command::BreakWork { work, event } => self.break_on_work(work, event),
+            Command::BreakWork { work, event } => self.break_on_work(
+                work,
+                Break::OnWork(work, event),
+            ),
             Command::BreakTime(time) => self.break_on(Break::OnTime(time)),
             Command::BreakRefusal => self.break_on(Break::OnRefusal),
+            Command::BreakActivation(work) => self.break_on_work(work, Break::OnActivation(work)),
+            Command::List => self.list(),
             Command::Clear(number) => self.clear(number),
             Command::Run => self.run(),
             Command::Dump => self.dump(),
@@ -193,13 +200,14 @@ impl<M: Machine> Debugger<M> {
         Ok(self.at(by.map(|by| by as u8)))
     }
 
-    fn break_on_work(&mut self, work: WorkId, event: EventKind) -> Result<Said, DebugError>
-        ensures { Meets (breaks_on_work self.old work event) self.old self.new result }
+    /// Makes a break on the work, if there is such a work.
+    fn break_on_work(&mut self, work: WorkId, on: Break) -> Result<Said, DebugError>
+        ensures { Meets (breaks_on_work self.old work on) self.old self.new result }
     {
         if work.0 as usize >= self.replay.scenario().works.len() {
             return Err(DebugError::NoSuchWork);
         }
-        self.break_on(Break::OnWork(work, event))
+        self.break_on(on)
     }
 
     /// Makes a break at the lowest free place.
@@ -213,6 +221,13 @@ impl<M: Machine> Debugger<M> {
             }
             None => Err(DebugError::TooManyBreaks),
         }
+    }
+
+    fn list(&self) -> Result<Said, DebugError>
+        ensures { Meets (says self.now (Text (list_text self.now.scenario self.now.breaks))) self.now self.now result }
+    {
+        let lines = list_text(self.alloc, self.replay.scenario(), &self.breaks)?;
+        Ok(Said::Text(lines.into_bytes()))
     }
 
     fn clear(&mut self, number: u8) -> Result<Said, DebugError>

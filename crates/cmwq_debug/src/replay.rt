@@ -8,7 +8,7 @@ ghost use Rattle.cmwq_types.specs.declared.limits.TheConstants.{MAX_HISTORY};
 ghost use Rattle.std.specs.List.{All};
 ghost use Rattle.std.specs.Prelude.{◌≡◌, ◌<◌, ◌≤◌, IfOk, IfSome, OnErr, OnOk, length};
 
-use crate::breaks::{Break, said_of};
+use crate::breaks::{Break, MAX_BREAKS, said_by, sights};
 use crate::checkpoints::{Checkpoint, Checkpoints};
 use cmwq_table::Machine;
 use cmwq_types::{Instr, NoMemory, Reply, Scenario};
@@ -161,15 +161,15 @@ impl<M: Machine> Replay<M> {
     }
 
     /// Carries out instructions up to the first after which a break matches, and answers its number; or to the end.
-    pub(crate) fn run_on(&mut self, breaks: &[Option<Break>]) -> Option<usize>
+    pub(crate) fn run_on(&mut self, breaks: &[Option<Break>; MAX_BREAKS]) -> Option<usize>
         ensures gone { HasGoneTo self.old (run_end (session_of self.old.scenario self.old.instrs self.old.position breaks.now) (stop (session_of self.old.scenario self.old.instrs self.old.position breaks.now))).0 self.new }
         ensures by { result ≡ (run_end (session_of self.old.scenario self.old.instrs self.old.position breaks.now) (stop (session_of self.old.scenario self.old.instrs self.old.position breaks.now))).1 }
         ensures in_range { IfSome result (λ i. i < length breaks.now) }
     {
         for _step in self.position..self.instrs.len() {
-            let before = self.machine.now();
+            let before = sights(breaks, &self.machine);
             let reply = self.advance();
-            let by = said_of(breaks, before, self.machine.now(), reply);
+            let by = said_by(breaks, &before, &self.machine, reply);
             if by.is_some() {
                 return by;
             }

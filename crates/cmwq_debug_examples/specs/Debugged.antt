@@ -14,8 +14,11 @@ use Rattle.cmwq_debug.specs.declared.command.DebugError.TheVariants as error
 use Rattle.cmwq_debug.specs.declared.command.EventKind.{EventKind}
 use Rattle.cmwq_debug.specs.declared.command.EventKind.TheVariants as kind
 use Rattle.cmwq_types.specs.Scenario.{plain_flags}
+use Rattle.cmwq_types.specs.declared.scenario.Line.{Line}
 use Rattle.cmwq_types.specs.declared.scenario.Op.TheVariants as op
-use Rattle.cmwq_examples.specs.Declare.{delay, queue, queues, scenario, times, work}
+use Rattle.cmwq_debug_lines.specs.declared.order.Order.{Order}
+use Rattle.cmwq_debug_lines.specs.declared.order.Order.TheVariants as order
+use Rattle.cmwq_examples.specs.Declare.{cancel, delay, enqueue, queue, queues, scenario, times, work}
 use Rattle.cmwq_types.specs.Listing.{text_of_lines}
 
 -- what a debugger of these instructions says to the commands
@@ -161,6 +164,77 @@ refusal_breaks =
 abbrev pub refusal_breaks_answers : List (Result Answer DebugError)
 refusal_breaks_answers =
     Ok (Broke 0) ∷ Ok (Broke 1) ∷ Ok (Broke 2) ∷ at_break 1 0 2 ∷ at_break 2 1 1 ∷ at_break 3 1 2 ∷ Err error.PastEnd ∷ []
+
+-- `mod W C 0`
+abbrev pub modify_on : ℕ → ℕ → Line
+modify_on w cpu = record { instr = instr.Mod (record { 0 = w }) cpu 0; times = 1 }
+
+-- A queue of one: a is listed as it is placed, b and c are inactive. Then b goes to the other CPU, anew, where it is listed; a is taken off, and c is
+-- activated.
+
+abbrev pub activation : ScenarioContents
+activation =
+    record
+    (scenario 1000 (queue (codes "q") 1 plain_flags ∷ [])
+    (work (codes "a") 0 (op.Finish ∷ []) ∷ work (codes "b") 0 (op.Finish ∷ []) ∷ work (codes "c") 0 (op.Finish ∷ []) ∷ [])
+    (enqueue 0 0 ∷ enqueue 1 0 ∷ enqueue 2 0 ∷ modify_on 1 1 ∷ cancel 0 ∷ []))
+    { cpus = 2 }
+
+-- `break activates W`
+abbrev pub break_activation : ℕ → Command
+break_activation w = command.BreakActivation (record { 0 = w })
+
+abbrev pub activation_breaks : List Command
+activation_breaks =
+    break_activation 3 ∷ break_activation 0 ∷ break_activation 1 ∷ break_activation 2 ∷ command.Run ∷ command.Back 1 ∷ command.Dump
+    ∷ command.Clear 2 ∷ command.Run ∷ []
+
+abbrev pub dump_before_activation : List ℕ
+dump_before_activation =
+    text_of_lines (
+    codes "now 0 spent 4 frozen no" ∷ codes "queue q max 1" ∷ codes "pool 0 counted 0 made 0 idle" ∷ codes "listed a" ∷ codes "inactive c" ∷
+    codes "pool 1 counted 0 made 0 idle" ∷ codes "pool 2 counted 0 made 0 idle" ∷ codes "listed b" ∷ codes "pool 3 counted 0 made 0 idle" ∷
+    codes "pool 4 counted 0 made 0 idle" ∷ codes "pool 5 counted 0 made 0 idle" ∷ [])
+
+abbrev pub activation_answers : List (Result Answer DebugError)
+activation_answers =
+    Err error.NoSuchWork ∷ Ok (Broke 0) ∷ Ok (Broke 1) ∷ Ok (Broke 2) ∷ at_break 5 0 2 ∷ stands_at 4 0 ∷ Ok (Text dump_before_activation)
+    ∷ Ok (Cleared 2) ∷ stands_at 5 0 ∷ []
+
+-- The breaks that are set, as they come and go.
+
+abbrev pub list_questions : List Command
+list_questions =
+    command.List ∷ command.BreakTime 15 ∷ command.BreakRefusal ∷ break_on 1 kind.Wakes ∷ break_activation 2 ∷ command.Clear 1 ∷ command.List
+    ∷ command.BreakTime 0 ∷ command.List ∷ []
+
+abbrev pub list_answers : List (Result Answer DebugError)
+list_answers =
+    Ok (Text (text_of_lines (codes "no breaks" ∷ []))) ∷ Ok (Broke 0) ∷ Ok (Broke 1) ∷ Ok (Broke 2) ∷ Ok (Broke 3) ∷ Ok (Cleared 1)
+    ∷ Ok (Text (text_of_lines (codes "break 0 time 15" ∷ codes "break 2 work b event wakes" ∷ codes "break 3 activates c" ∷ [])))
+    ∷ Ok (Broke 1)
+    ∷ Ok (Text (text_of_lines (codes "break 0 time 15" ∷ codes "break 1 time 0" ∷ codes "break 2 work b event wakes" ∷ codes "break 3 activates c" ∷ []))) ∷ []
+
+-- Words that are cut short, and what the lines tell. Both `back` and `break` begin with b.
+
+abbrev pub short_words : List (List (List ℕ))
+short_words =
+    (codes "s" ∷ []) ∷ (codes "st" ∷ codes "3" ∷ []) ∷ (codes "b" ∷ []) ∷ (codes "ba" ∷ []) ∷ (codes "steps" ∷ []) ∷ (codes "step" ∷ codes "1" ∷ codes "1" ∷ [])
+    ∷ (codes "br" ∷ codes "activates" ∷ codes "c" ∷ []) ∷ (codes "br" ∷ codes "act" ∷ codes "c" ∷ []) ∷ (codes "break" ∷ codes "activates" ∷ codes "d" ∷ []) ∷ (codes "l" ∷ [])
+    ∷ (codes "h" ∷ codes "s" ∷ []) ∷ (codes "quit" ∷ codes "1" ∷ []) ∷ (codes "q" ∷ []) ∷ []
+
+abbrev pub short_orders : List Order
+short_orders =
+    order.Do (command.Step 1) ∷ order.Do (command.Step 3) ∷ order.Bad ∷ order.Do (command.Back 1) ∷ order.Bad ∷ order.Bad
+    ∷ order.Do (break_activation 2) ∷ order.Bad ∷ order.NoWork ∷ order.Do command.List
+    ∷ order.Bad ∷ order.Bad ∷ order.Quit ∷ []
+
+-- a session that is ended before its commands are
+abbrev pub ended_session : List ℕ
+ended_session = text_of_lines (codes "s" ∷ codes "q" ∷ codes "s" ∷ [])
+
+abbrev pub said_in_ended_session : List ℕ
+said_in_ended_session = text_of_lines (codes "at 1 now 0" ∷ [])
 
 -- Sixteen breaks, and a seventeenth.
 

@@ -3,12 +3,14 @@
 #![tactic(auto)]
 
 ghost use Rattle.cmwq_debug.specs.Checkpoints.{entered, left_out, no_checkpoints, passed, turn_for};
-ghost use Rattle.cmwq_debug_examples.specs.Debugged.{at_even_multiples, commands_answered, chain_answers, chain_questions, disabled_breaks, disabled_breaks_answers, each_event, each_event_answers, each_event_breaks, event_breaks, event_breaks_answers, hold_answers, hold_questions, all_instrs, many_breaks, many_breaks_answers, one_missing, refusal_breaks, refusal_breaks_answers, refusals, rescuer_breaks, rescuer_breaks_answers, spread_at, there_and_back, there_and_back_answers};
+ghost use Rattle.cmwq_debug_examples.specs.Debugged.{activation, activation_answers, activation_breaks, at_even_multiples, commands_answered, chain_answers, chain_questions, disabled_breaks, disabled_breaks_answers, each_event, each_event_answers, each_event_breaks, ended_session, event_breaks, event_breaks_answers, hold_answers, hold_questions, list_answers, list_questions, all_instrs, many_breaks, many_breaks_answers, one_missing, refusal_breaks, refusal_breaks_answers, refusals, rescuer_breaks, rescuer_breaks_answers, said_in_ended_session, short_orders, short_words, spread_at, there_and_back, there_and_back_answers};
+ghost use Rattle.cmwq_debug_lines.specs.Orders.{order_of};
+ghost use Rattle.cmwq_debug_lines.specs.Talk.{debugged};
 ghost use Rattle.cmwq_debug_examples.specs.Dumps.{dumped, many_kinds, many_kinds_dump, many_kinds_lines, many_kinds_pool_1, pool_dumped, busy_cpus, two_cpus_dump, busy_cpus_lines};
 ghost use Rattle.cmwq_examples.specs.Rows.{disabled_twice, pressed, queues_itself, three_works};
 ghost use Rattle.cmwq_reason_examples.specs.Waiting.{chain, hold};
 ghost use Rattle.cmwq_types.specs.Faults.{IsValid};
-ghost use Rattle.std.specs.Prelude.{◌≡◌, []};
+ghost use Rattle.std.specs.Prelude.{◌≡◌, [], map};
 
 /// A dump with a line of each kind: memory is short, idle workers by their last use, sleepers by the tick at which they wake,
 /// timers that run out together by their setting, disabled works by their numbers, and a flush that is done beside one that
@@ -63,6 +65,28 @@ pub fn refused_instruction_makes_no_time()
     ensures { commands_answered queues_itself refusals refusal_breaks ≡ refusal_breaks_answers }
 {}
 
+/// A break on activation stops a run where a work that was inactive is listed: not where one is listed as it is placed, nor where one is placed anew
+/// in the stead of an inactive instance.
+pub fn activated_work_was_inactive()
+    ensures { commands_answered activation (all_instrs activation) activation_breaks ≡ activation_answers }
+{}
+
+/// The breaks are listed by their numbers, each as it was given.
+pub fn breaks_are_listed_as_they_were_given()
+    ensures { commands_answered activation (all_instrs activation) list_questions ≡ list_answers }
+{}
+
+/// A word that begins one command's word alone is that command, and one that begins several is none; words behind it aren't cut short. A step is one where
+/// no number stands.
+pub fn words_may_be_cut_short()
+    ensures { map (order_of activation) short_words ≡ short_orders }
+{}
+
+/// What stands behind `quit` isn't answered.
+pub fn quit_ends_the_session()
+    ensures { debugged activation (all_instrs activation) ended_session ≡ said_in_ended_session }
+{}
+
 /// There are sixteen places for breaks; a work that isn't there is told before that they are taken.
 pub fn seventeenth_break_is_refused()
     ensures { commands_answered queues_itself [] many_breaks ≡ many_breaks_answers }
@@ -84,6 +108,7 @@ pub fn scenarios_are_valid()
     ensures many_kinds { IsValid many_kinds }
     ensures busy_cpus { IsValid busy_cpus }
     ensures each_event { IsValid each_event }
+    ensures activation { IsValid activation }
 {}
 
 /// Checkpoints on a long way there and back, where there is memory for each: at each 64th position, until there would be more than 256 of

@@ -8,8 +8,9 @@ use Rattle.cmwq_debug.specs.Debugging.{Answer, At, Broke, Cleared, Text, Session
 use Rattle.cmwq_debug.specs.declared.command.DebugError.{DebugError}
 use Rattle.cmwq_debug.specs.declared.command.DebugError.TheVariants as error
 use Rattle.cmwq_debug_lines.specs.Orders.{order_of}
+use Rattle.cmwq_debug_lines.specs.Verbs.{help_text}
 use Rattle.cmwq_debug_lines.specs.declared.order.Order.{Order}
-use Rattle.cmwq_debug_lines.specs.declared.order.Order.TheVariants.{Nothing, Bad, NoWork, Do}
+use Rattle.cmwq_debug_lines.specs.declared.order.Order.TheVariants.{Nothing, Bad, NoWork, Help, Quit, Do}
 
 -- the break that stopped a run
 abbrev pub by_text : Option ℕ → List ℕ
@@ -39,21 +40,32 @@ abbrev pub answer_line : Result Answer DebugError → List ℕ
 answer_line (Ok answer) = answer_text answer
 answer_line (Err why) = refused_text why
 
--- where the debugger stands after an order, and what is said to it
-abbrev pub obeyed : Session → Order → Session × List ℕ
-obeyed d Nothing = (d, [])
-obeyed d Bad = (d, codes "bad command" ++ 10 ∷ [])
-obeyed d NoWork = (d, refused_text error.NoSuchWork)
-obeyed d (Do command) = ((does d command).0, answer_line (does d command).1)
+-- where the debugger stands after an order, and what is said to it; nothing is, where it ends the session
+abbrev pub obeyed : Session → Order → Session × Option (List ℕ)
+obeyed d Nothing = (d, Some [])
+obeyed d Bad = (d, Some (codes "bad command" ++ 10 ∷ []))
+obeyed d NoWork = (d, Some (refused_text error.NoSuchWork))
+obeyed d Help = (d, Some help_text)
+obeyed d Quit = (d, None)
+obeyed d (Do command) = ((does d command).0, Some (answer_line (does d command).1))
 
 -- the same after a line; S has the names of works
-unfoldable pub line_said : ScenarioContents → Session → List ℕ → Session × List ℕ
+unfoldable pub line_said : ScenarioContents → Session → List ℕ → Session × Option (List ℕ)
 line_said S d line = obeyed d (order_of S (words_of line))
+
+abbrev pub text_said : Option (List ℕ) → List ℕ
+text_said (Some text) = text
+text_said None = []
+
+-- what is said to a line, and then to those behind it; nothing more, where it ended the session
+abbrev pub said_before : Option (List ℕ) → List ℕ → List ℕ
+said_before (Some text) rest = text ++ rest
+said_before None rest = []
 
 -- what is said to the lines, one after another
 abbrev pub lines_said : ScenarioContents → Session → List (List ℕ) → List ℕ
 lines_said S d [] = []
-lines_said S d (line ∷ lines) = (line_said S d line).1 ++ lines_said S (line_said S d line).0 lines
+lines_said S d (line ∷ lines) = said_before (line_said S d line).1 (lines_said S (line_said S d line).0 lines)
 
 -- what a debugger of these instructions says to a text of commands
 abbrev pub debugged : ScenarioContents → List Instr → List ℕ → List ℕ

@@ -1,11 +1,12 @@
 //! Reading an order off the words of a line.
-ghost use Rattle.cmwq_debug_lines.specs.Orders.{alone, break_order, dump_order, kind_of, on_work, order_of, why_order, why_work, with_number, work_break, work_named};
+ghost use Rattle.cmwq_debug_lines.specs.Orders.{activation_break, alone, break_order, dump_order, on_activation, on_work, only, order_of, verb_order, why_order, why_work, with_count, with_number, work_break, work_named};
 ghost use Rattle.cmwq_debug.specs.declared.command.Command.{Command};
 ghost use Rattle.cmwq_types.specs.declared.limits.TheConstants.{MAX_WORKS};
 ghost use Rattle.cmwq_scan.specs.Words.{words_in};
 ghost use Rattle.std.specs.Prelude.{◌≡◌, ◌<◌, ◌≤◌, ℕ, IfSome, length};
 
 use crate::order::Order;
+use crate::verb::Verb;
 use cmwq_debug::{Command, EventKind};
 use cmwq_scan::{Token, is_word, number_in};
 use cmwq_types::{Scenario, WorkId};
@@ -18,25 +19,41 @@ pub(crate) fn order_of(scenario: &Scenario, words: &[Token]) -> Order
     let [word, rest @ ..] = words else {
         return Order::Nothing;
     };
-    let word = word.bytes();
-    if is_word(word, b"step") {
-        number_order(Command::Step, u32::MAX, rest)
-    } else if is_word(word, b"back") {
-        number_order(Command::Back, u32::MAX, rest)
-    } else if is_word(word, b"goto") {
-        number_order(Command::Goto, u32::MAX, rest)
-    } else if is_word(word, b"break") {
-        break_order(scenario, rest)
-    } else if is_word(word, b"clear") {
-        number_order(|number| Command::Clear(number as u8), 255, rest)
-    } else if is_word(word, b"run") {
-        alone(Command::Run, rest)
-    } else if is_word(word, b"dump") {
-        dump_order(rest)
-    } else if is_word(word, b"why") {
-        why_order(scenario, rest)
-    } else {
-        Order::Bad
+    match Verb::read(word.bytes()) {
+        Some(verb) => verb_order(scenario, verb, rest),
+        None => Order::Bad,
+    }
+}
+
+/// What the verb tells with the words behind it.
+fn verb_order(scenario: &Scenario, verb: Verb, words: &[Token]) -> Order
+    requires { length scenario.now.works ≤ MAX_WORKS }
+    ensures { result ≡ verb_order scenario.now verb (words_in words.now) }
+{
+    match verb {
+        Verb::Step => count_order(Command::Step, words),
+        Verb::Back => count_order(Command::Back, words),
+        Verb::Goto => number_order(Command::Goto, u32::MAX, words),
+        Verb::Break => break_order(scenario, words),
+        Verb::Clear => number_order(|number| Command::Clear(number as u8), 255, words),
+        Verb::List => alone(Command::List, words),
+        Verb::Run => alone(Command::Run, words),
+        Verb::Dump => dump_order(words),
+        Verb::Why => why_order(scenario, words),
+        Verb::Help => only(Order::Help, words),
+        Verb::Quit => only(Order::Quit, words),
+    }
+}
+
+/// The command with the number that these words are, or with 1 where there are none.
+fn count_order<F: FnOnce(u32) -> Command>(command: F, words: &[Token]) -> Order
+    requires { (n : ℕ) → n ≤ 4294967295 → F.pre command n }
+    ensures { (made : ℕ → Command) → ((n : ℕ) → (told : Command) → n ≤ 4294967295 → F.post command n told → told ≡ made n)
+        → result ≡ with_count made (words_in words.now) }
+{
+    match words {
+        [] => Order::Do(command(1)),
+        _ => number_order(command, u32::MAX, words),
     }
 }
 
@@ -56,11 +73,14 @@ fn number_order<F: FnOnce(u32) -> Command>(command: F, high: u32, words: &[Token
 fn alone(command: Command, words: &[Token]) -> Order
     ensures { result ≡ alone command (words_in words.now) }
 {
-    if words.is_empty() {
-        Order::Do(command)
-    } else {
-        Order::Bad
-    }
+    only(Order::Do(command), words)
+}
+
+/// The order, where no word stands behind it.
+fn only(order: Order, words: &[Token]) -> Order
+    ensures { result ≡ only order (words_in words.now) }
+{
+    if words.is_empty() { order } else { Order::Bad }
 }
 
 /// Behind `dump`.
@@ -116,6 +136,8 @@ fn break_order(scenario: &Scenario, words: &[Token]) -> Order
         number_order(Command::BreakTime, u32::MAX, rest)
     } else if is_word(word, b"refusal") {
         alone(Command::BreakRefusal, rest)
+    } else if is_word(word, b"activates") {
+        activation_break(scenario, rest)
     } else {
         Order::Bad
     }
@@ -128,7 +150,7 @@ fn work_break(scenario: &Scenario, words: &[Token]) -> Order
 {
     match words {
         [name, word, event] if is_word(word.bytes(), b"event") => {
-            on_work(scenario, name.bytes(), kind_of(event.bytes()))
+            on_work(scenario, name.bytes(), EventKind::read(event.bytes()))
         }
         _ => Order::Bad,
     }
@@ -151,6 +173,28 @@ fn on_work(scenario: &Scenario, name: &[u8], event: Option<EventKind>) -> Order
     }
 }
 
+/// Behind `break activates`: a work's name.
+fn activation_break(scenario: &Scenario, words: &[Token]) -> Order
+    requires { length scenario.now.works ≤ MAX_WORKS }
+    ensures { result ≡ activation_break scenario.now (words_in words.now) }
+{
+    match words {
+        [name] => on_activation(scenario, name.bytes()),
+        _ => Order::Bad,
+    }
+}
+
+/// A break on the activation of the work of this name.
+fn on_activation(scenario: &Scenario, name: &[u8]) -> Order
+    requires { length scenario.now.works ≤ MAX_WORKS }
+    ensures { result ≡ on_activation (work_named scenario.now name.now) }
+{
+    match work_named(scenario, name) {
+        Some(w) => Order::Do(Command::BreakActivation(WorkId(w as u16))),
+        None => Order::NoWork,
+    }
+}
+
 /// The number of the work of this name, if the scenario has one.
 pub fn work_named(scenario: &Scenario, name: &[u8]) -> Option<usize>
     ensures named { result ≡ work_named scenario.now name.now }
@@ -160,29 +204,4 @@ pub fn work_named(scenario: &Scenario, name: &[u8]) -> Option<usize>
         .works
         .iter()
         .position(|work| is_word(work.name.as_bytes(), name))
-}
-
-/// The kind of event that the word names.
-fn kind_of(word: &[u8]) -> Option<EventKind>
-    ensures { result ≡ kind_of word.now }
-{
-    if is_word(word, b"starts") {
-        Some(EventKind::Starts)
-    } else if is_word(word, b"burns") {
-        Some(EventKind::Burns)
-    } else if is_word(word, b"sleeps") {
-        Some(EventKind::Sleeps)
-    } else if is_word(word, b"wakes") {
-        Some(EventKind::Wakes)
-    } else if is_word(word, b"finishes") {
-        Some(EventKind::Finishes)
-    } else if is_word(word, b"defers") {
-        Some(EventKind::Defers)
-    } else if is_word(word, b"fires") {
-        Some(EventKind::Fires)
-    } else if is_word(word, b"queues") {
-        Some(EventKind::Queues)
-    } else {
-        None
-    }
 }

@@ -4,6 +4,7 @@
 mod commands_read;
 mod order;
 mod talk;
+mod verb;
 mod whole_lines;
 
 pub use commands_read::work_named;

@@ -11,6 +11,10 @@ pub enum Order {
     Bad,
     /// To break on a work that isn't declared, or to tell why it isn't further.
     NoWork,
+    /// To tell the commands.
+    Help,
+    /// To end the session.
+    Quit,
     /// To carry out the command.
     Do(Command),
 }

@@ -2,18 +2,19 @@
 ghost use Rattle.cmwq_debug.specs.Debugging.{At, answer_of, does};
 ghost use Rattle.cmwq_debug_lines.specs.Talk.{answer_text, error_name, line_said, obeyed, refused_text, answer_line};
 ghost use Rattle.cmwq_types.specs.declared.limits.TheConstants.{MAX_WORKS};
-ghost use Rattle.std.specs.Prelude.{◌≡◌, ◌≤◌, IfOk, OnOk, length};
+ghost use Rattle.std.specs.Prelude.{◌≡◌, ◌≤◌, IfOk, OnOk, length, option_map};
 
 use crate::commands_read::order_of;
 use crate::order::Order;
+use crate::verb::help_text;
 use cmwq_debug::{Command, DebugError, Debugger, Said};
 use cmwq_scan::{Tokens, read_tokens};
 use cmwq_table::Machine;
 use cmwq_types::{NoMemory, Scenario};
 use std::alloc::Global;
 
-/// Carries out what the command line tells the debugger, and gives what is said to it, as bytes. The names of works
-/// are the scenario's.
+/// Carries out what the command line tells the debugger, and gives what is said to it, as bytes; `None` where the line ends the
+/// session. The names of works are the scenario's.
 ///
 /// Where memory runs out, the line may have been carried out without being answered.
 #[tactic(auto, unfolding(crate::specs::Talk::line_said))]
@@ -22,31 +23,34 @@ pub fn answer<M: Machine>(
     scenario: &Scenario,
     debugger: &mut Debugger<M>,
     line: &[u8],
-) -> Result<Vec<u8>, NoMemory>
+) -> Result<Option<Vec<u8>>, NoMemory>
     requires { length scenario.now.works ≤ MAX_WORKS }
     ensures debugger { OnOk result (debugger.new ≡ (line_said scenario.now debugger.old line.now).0) }
-    ensures text { IfOk result (λ text. text.items ≡ (line_said scenario.now debugger.old line.now).1) }
+    ensures text { IfOk result (λ said. option_map (λ text. text.items) said ≡ (line_said scenario.now debugger.old line.now).1) }
 {
     let mut words = Tokens::new(alloc);
     read_tokens(&mut words, line)?;
     obey(alloc, debugger, order_of(scenario, &words))
 }
 
-/// Carries out an order, and gives what is said to it.
+/// Carries out an order, and gives what is said to it, if the session goes on.
 fn obey<M: Machine>(
     alloc: Global,
     debugger: &mut Debugger<M>,
     order: Order,
-) -> Result<Vec<u8>, NoMemory>
+) -> Result<Option<Vec<u8>>, NoMemory>
     ensures debugger { OnOk result (debugger.new ≡ (obeyed debugger.old order).0) }
-    ensures text { IfOk result (λ text. text.items ≡ (obeyed debugger.old order).1) }
+    ensures text { IfOk result (λ said. option_map (λ text. text.items) said ≡ (obeyed debugger.old order).1) }
 {
-    match order {
-        Order::Nothing => Ok(Vec::new(alloc)),
-        Order::Bad => Ok(format!(in alloc; "bad command\n")?.into_bytes()),
-        Order::NoWork => refused_text(alloc, DebugError::NoSuchWork),
-        Order::Do(command) => answer_command(alloc, debugger, command),
-    }
+    let said = match order {
+        Order::Nothing => Vec::new(alloc),
+        Order::Bad => format!(in alloc; "bad command\n")?.into_bytes(),
+        Order::NoWork => refused_text(alloc, DebugError::NoSuchWork)?,
+        Order::Help => help_text(alloc)?.into_bytes(),
+        Order::Quit => return Ok(None),
+        Order::Do(command) => answer_command(alloc, debugger, command)?,
+    };
+    Ok(Some(said))
 }
 
 /// Carries out a command, and gives what is said to it.

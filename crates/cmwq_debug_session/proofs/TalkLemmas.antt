@@ -11,9 +11,9 @@ use Rattle.cmwq_streams.specs.Sending.{HasSentFront, IsSendError}
 use Rattle.cmwq_streams.specs.declared.error.PlayError.{PlayError}
 use Rattle.cmwq_streams.specs.declared.error.PlayError.TheVariants.{Read, Write, TooLong, NoMemory}
 use Rattle.cmwq_play.specs.Commands.{Reads}
-use Rattle.cmwq_debug_session.specs.Told.{IsAnswered, IsTalkError, Talks, ToldFront}
+use Rattle.cmwq_debug_session.specs.Told.{IsAnswered, IsTalkError, Talks, ToldFront, ToldToItsEnd}
 use Rattle.cmwq_play.proofs.CommandLemmas.{err_is, reads_err, reads_ok, sending_no_read}
-use Rattle.cmwq_debug_session.proofs.ToldLemmas.{consumes_more, front_more_heard, front_so_far, front_whole, long_known, told_whole}
+use Rattle.cmwq_debug_session.proofs.ToldLemmas.{consumes_more, ended_more_heard, front_more_heard, front_so_far, front_whole, long_known, told_whole}
 
 consumes_kept : (input mid left : Option (List ℕ)) (text : List ℕ) → Consumes input mid text → Keeps mid left → Consumes input left text
 consumes_kept None mid left text heard kept = tt
@@ -40,6 +40,9 @@ sending_not_long (Ok x) why is = cc
 sending_not_long (Err Write) why is = cc
 sending_not_long (Err NoMemory) why is = cc
 sending_not_long (Err other) why is = elim why [ ]
+
+ok_is_not : (error : PlayError) (r : Result (Unit {0}) PlayError) → r ≡ Ok tt → r ≢ Err error
+ok_is_not error r is at = cc
 
 module _ (input mid left before now : Option (List ℕ)) (unreadable broken : Bool) (S : ScenarioContents) (d e : Session) (text : List ℕ) (done : ℕ) (so_far : IsAnswered input mid before now S d text done e) where
   -- a read failed, or memory ran out behind it
@@ -81,6 +84,18 @@ module _ (input mid left before now : Option (List ℕ)) (unreadable broken : Bo
       why = sending_talks r why;
     }
 
+    -- a line of what was heard ended the session
+    pub talks_to_its_end : (after : Option (List ℕ)) (rest : List ℕ) → rest ≡ drop done both → ToldToItsEnd now after S e rest → broken ≡ false → Talks input left before after unreadable broken S d (Ok tt)
+    talks_to_its_end after rest behind ended sound = record {
+      reads = reads_ok input left unreadable n (Ok tt) (ok_is_not Read (Ok tt) refl) reads;
+      told = ended_more_heard input mid left before now after S d e text more both rest done so_far heard grown behind ended;
+      front = tt;
+      answered = λ is. cc;
+      too_long = λ is. cc;
+      write = (λ is. cc, λ is. cc);
+      why = tt;
+    }
+
     -- the commands are too long
     pub talks_too_long : MAX_TEXT < length both → broken ≡ false → Talks input left before now unreadable broken S d (Err TooLong)
     talks_too_long long sound = record {
@@ -94,7 +109,7 @@ module _ (input mid left before now : Option (List ℕ)) (unreadable broken : Bo
     }
 
     -- of what is said to the whole lines that were heard a front went out
-    pub talks_cut_short : (after : Option (List ℕ)) (rest : List ℕ) (error : PlayError) (r : Result ℕ PlayError) → r ≡ Err error → rest ≡ drop done both → ToldFront now after S e rest
+    pub talks_cut_short : (after : Option (List ℕ)) (rest : List ℕ) (error : PlayError) (r : Result (Option ℕ) PlayError) → r ≡ Err error → rest ≡ drop done both → ToldFront now after S e rest
         → IsSendError error → ((r ≡ Err Write) ↔ (broken ≡ true)) → Talks input left before after unreadable broken S d (Err error)
     talks_cut_short after rest error r same behind front why write = record {
       reads = reads_ok input left unreadable n (Err error) (sending_no_read (Err error) why) reads;

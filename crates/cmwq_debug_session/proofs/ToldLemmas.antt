@@ -6,18 +6,18 @@ use Rattle.std.proofs.lemmas.Grind.{common_steps}
 use Rattle.std.proofs.lemmas.List.{drop-drop, drop-take, length-drop, take-append-drop, take_rest}
 use Rattle.std.specs.Io.KnownBytes.{Appends, Consumes, IsAtEnd}
 use Rattle.std.specs.List.{slice_split}
-use Rattle.std.specs.Prelude.{◌==◌, slice_index_or}
+use Rattle.std.specs.Prelude.{◌==◌, is_some, slice_index_or}
 use Rattle.cmwq_types.specs.Contents.{ActorContents, ScenarioContents}
 use Rattle.cmwq_types.specs.Scenario.{expand}
 use Rattle.cmwq_types.specs.declared.limits.TheConstants.{MAX_TEXT}
 use Rattle.cmwq_grammar.specs.Cutting.{lines_of, without_empty_last}
 use Rattle.cmwq_debug.specs.Debugging.{Session, opened}
-use Rattle.cmwq_debug_lines.specs.Talk.{line_said, lines_said}
+use Rattle.cmwq_debug_lines.specs.Talk.{line_said, lines_said, said_before, text_said}
 use Rattle.cmwq_play.specs.Commands.{Reads}
 use Rattle.cmwq_streams.specs.Sending.{HasSentFront}
 use Rattle.cmwq_streams.specs.declared.error.PlayError.{PlayError}
 use Rattle.cmwq_streams.specs.declared.error.PlayError.TheVariants.{Read}
-use Rattle.cmwq_debug_session.specs.Told.{HasNoLine, IsAnswered, Told, ToldFront}
+use Rattle.cmwq_debug_session.specs.Told.{HasNoLine, IsAnswered, Told, ToldFront, ToldToItsEnd}
 use Rattle.cmwq_streams.proofs.CallerLemmas.{appends_both, appends_none, front_of_more}
 
 -- Cutting off a line.
@@ -31,19 +31,50 @@ lines_of-cut line rest one =
     ap without_empty_last (slice_split_at (λ byte. byte == 10) line 10 rest one refl)
     ∙ without_empty_last-more line (slice_split (λ byte. byte == 10) rest) (omega (arith, length-slice_split (λ (byte : ℕ). byte == 10) rest))
 
+-- of what is said to a line and those behind it, a front of what is said to the line
+front_said : (before after : Option (List ℕ)) (said : Option (List ℕ)) (rest : List ℕ) → HasSentFront before after (text_said said) → HasSentFront before after (said_before said rest)
+front_said before after (Some text) rest front = front_of_more before after text rest front
+front_said before after None rest front = front
+
+-- what is said where the session goes on
+said_some : (said : Option (List ℕ)) → is_some said ≡ true → said ≡ Some (text_said said)
+said_some (Some text) goes_on = refl
+said_some None goes_on = cc
+
+said_none : (said : Option (List ℕ)) → is_some said ≡ false → said ≡ None
+said_none (Some text) ends = cc
+said_none None ends = refl
+
+said_alone : (said : Option (List ℕ)) → said_before said [] ≡ text_said said
+said_alone (Some text) = append-nil text
+said_alone None = refl
+
 module _ (S : ScenarioContents) where
   -- nothing was said to nothing
   pub told_nothing : (now : Option (List ℕ)) (d : Session) → Told now now S d [] d
   told_nothing now d = ([], appends_none now, λ more. refl)
 
   -- one line, with its line feed
-  pub told_line : (before after : Option (List ℕ)) (d : Session) (line : List ℕ) → HasNoLine line → Appends before after (line_said S d line).1 → Told before after S d (line ++ 10 ∷ []) (line_said S d line).0
-  told_line before after d line one sent = (
-    (line_said S d line).1,
+  pub told_line : (before after : Option (List ℕ)) (d : Session) (line said : List ℕ) → HasNoLine line → (line_said S d line).1 ≡ Some said → Appends before after said
+      → Told before after S d (line ++ 10 ∷ []) (line_said S d line).0
+  told_line before after d line said one is sent = (
+    said,
     sent,
     λ more.
-        ap (λ (bytes : List ℕ). lines_said S d (lines_of bytes)) (append_assoc line (10 ∷ []) more) ∙ ap (lines_said S d) (lines_of-cut line more one),
+        ap (λ (bytes : List ℕ). lines_said S d (lines_of bytes)) (append_assoc line (10 ∷ []) more) ∙ ap (lines_said S d) (lines_of-cut line more one)
+        ∙ ap (λ (first : Option (List ℕ)). said_before first (lines_said S (line_said S d line).0 (lines_of more))) is,
   )
+
+  -- a line that ends the session
+  pub ended_line : (before after : Option (List ℕ)) (d : Session) (line rest : List ℕ) → HasNoLine line → is_some (line_said S d line).1 ≡ false → Appends before after (text_said (line_said S d line).1)
+      → ToldToItsEnd before after S d (line ++ 10 ∷ rest)
+  ended_line before after d line rest one ends sent more =
+      let none : (line_said S d line).1 ≡ None = said_none (line_said S d line).1 ends in
+      subst (λ (text : List ℕ). Appends before after text)
+      (ap text_said none
+      ∙ sym (ap (λ (bytes : List ℕ). lines_said S d (lines_of bytes)) (append_assoc line (10 ∷ rest) more) ∙ ap (lines_said S d) (lines_of-cut line (rest ++ more) one)
+      ∙ ap (λ (first : Option (List ℕ)). said_before first (lines_said S (line_said S d line).0 (lines_of (rest ++ more)))) none))
+      sent
 
   -- some lines and then others
   pub told_both : (before now after : Option (List ℕ)) (d e f : Session) (first second : List ℕ) → Told before now S d first e → Told now after S e second f → Told before after S d (first ++ second) f
@@ -66,12 +97,19 @@ module _ (S : ScenarioContents) where
             ∙ sym (ap (λ (bytes : List ℕ). lines_said S d (lines_of bytes)) (append_assoc first rest more)),
       )
 
+  -- some lines, and then more, of which one ends the session
+  pub told_then_ended : (before now after : Option (List ℕ)) (d e : Session) (first rest : List ℕ) → Told before now S d first e → ToldToItsEnd now after S e rest → ToldToItsEnd before after S d (first ++ rest)
+  told_then_ended before now after d e first rest a ended more =
+      subst (λ (text : List ℕ). Appends before after text)
+      (sym (ap (λ (bytes : List ℕ). lines_said S d (lines_of bytes)) (append_assoc first rest more) ∙ a.2 (rest ++ more)))
+      (appends_both before now after a.0 (lines_said S e (lines_of (rest ++ more))) a.1 (ended more))
+
   -- a front of what is said to a line
-  pub front_line : (before after : Option (List ℕ)) (d : Session) (line rest : List ℕ) → HasNoLine line → HasSentFront before after (line_said S d line).1 → ToldFront before after S d (line ++ 10 ∷ rest)
+  pub front_line : (before after : Option (List ℕ)) (d : Session) (line rest : List ℕ) → HasNoLine line → HasSentFront before after (text_said (line_said S d line).1) → ToldFront before after S d (line ++ 10 ∷ rest)
   front_line before after d line rest one front more =
       subst (λ (text : List ℕ). HasSentFront before after text)
       (sym (ap (λ (bytes : List ℕ). lines_said S d (lines_of bytes)) (append_assoc line (10 ∷ rest) more) ∙ ap (lines_said S d) (lines_of-cut line (rest ++ more) one)))
-      (front_of_more before after (line_said S d line).1 (lines_said S (line_said S d line).0 (lines_of (rest ++ more))) front)
+      (front_said before after (line_said S d line).1 (lines_said S (line_said S d line).0 (lines_of (rest ++ more))) front)
 
   -- nothing more than what was said to whole lines
   pub told_front : (before after : Option (List ℕ)) (d e : Session) (first rest : List ℕ) → Told before after S d first e → ToldFront before after S d (first ++ rest)
@@ -105,10 +143,11 @@ line_within text rest taken n is whole =
 -- the text up to a place, and one line more
 pub told_step : (S : ScenarioContents) (before now after : Option (List ℕ)) (d e f : Session) (text rest : List ℕ) (done n : ℕ) → rest ≡ drop done text
     → take (n + 1) rest ≡ take n rest ++ 10 ∷ [] → HasNoLine (take n rest) → Told before now S d (take done text) e → f ≡ (line_said S e (take n rest)).0
-    → Appends now after (line_said S e (take n rest)).1 → Told before after S d (take (done + (n + 1)) text) f
-told_step S before now after d e f text rest done n is whole one so_far stands sent =
+    → is_some (line_said S e (take n rest)).1 ≡ true → Appends now after (text_said (line_said S e (take n rest)).1) → Told before after S d (take (done + (n + 1)) text) f
+told_step S before now after d e f text rest done n is whole one so_far stands goes_on sent =
+    let said = (line_said S e (take n rest)).1 in
     let line : Told now after S e (take n rest ++ 10 ∷ []) f =
-    subst (λ (to : Session). Told now after S e (take n rest ++ 10 ∷ []) to) (sym stands) (told_line S now after e (take n rest) one sent) in
+    subst (λ (to : Session). Told now after S e (take n rest ++ 10 ∷ []) to) (sym stands) (told_line S now after e (take n rest) (text_said said) one (said_some said goes_on) sent) in
     subst (λ (all : List ℕ). Told before after S d all f) (sym (line_more text rest done n is whole))
     (told_both S before now after d e f (take done text) (take n rest ++ 10 ∷ []) so_far line)
 
@@ -184,8 +223,8 @@ pub lines_of-one : (text : List ℕ) → HasNoLine text → 0 < length text → 
 lines_of-one [] one some = absurd (omega arith)
 lines_of-one (byte ∷ bytes) one some = ap without_empty_last (slice_split_none (λ byte. byte == 10) (byte ∷ bytes) one) ∙ without_empty_last-one byte bytes
 
-pub last_said : (S : ScenarioContents) (d : Session) (text : List ℕ) → HasNoLine text → 0 < length text → lines_said S d (lines_of text) ≡ (line_said S d text).1
-last_said S d text one some = ap (lines_said S d) (lines_of-one text one some) ∙ append-nil (line_said S d text).1
+pub last_said : (S : ScenarioContents) (d : Session) (text : List ℕ) → HasNoLine text → 0 < length text → lines_said S d (lines_of text) ≡ text_said (line_said S d text).1
+last_said S d text one some = ap (lines_said S d) (lines_of-one text one some) ∙ said_alone (line_said S d text).1
 
 -- Between two reads.
 
@@ -225,6 +264,25 @@ front_more_heard input mid left before now after S d e text more both rest done 
     front_known input left before after S d both (consumes_more input mid left text more both so_far.heard heard is)
     (subst (λ (all : List ℕ). ToldFront before after S d all) joined
     (told_then_front S before now after d e (take done both) rest (subst (λ (all : List ℕ). Told before now S d all e) (sym same) so_far.told) front))
+
+-- an input of which a line that was heard ended the session
+ended_known : (input left : Option (List ℕ)) (before after : Option (List ℕ)) (S : ScenarioContents) (d : Session) (text : List ℕ) → Consumes input left text → ToldToItsEnd before after S d text
+    → IfSome input (λ bytes. Appends before after (lines_said S d (lines_of bytes)))
+ended_known None left before after S d text heard ended = tt
+ended_known (Some bytes) None before after S d text heard ended = absurd heard
+ended_known (Some bytes) (Some rest) before after S d text heard ended =
+    subst (λ (all : List ℕ). Appends before after (lines_said S d (lines_of all))) (sym heard) (ended rest)
+
+-- more was heard, and a line of it ended the session
+pub ended_more_heard : (input mid left before now after : Option (List ℕ)) (S : ScenarioContents) (d e : Session) (text more both rest : List ℕ) (done : ℕ)
+    → IsAnswered input mid before now S d text done e → Consumes mid left more → both ≡ text ++ more → rest ≡ drop done both → ToldToItsEnd now after S e rest
+    → IfSome input (λ bytes. Appends before after (lines_said S d (lines_of bytes)))
+ended_more_heard input mid left before now after S d e text more both rest done so_far heard is behind ended =
+    let same : take done both ≡ take done text = taken_before text more both done so_far.within is in
+    let joined : take done both ++ rest ≡ both = ap (λ (last : List ℕ). take done both ++ last) behind ∙ take-append-drop done both in
+    ended_known input left before after S d both (consumes_more input mid left text more both so_far.heard heard is)
+    (subst (λ (all : List ℕ). ToldToItsEnd before after S d all) joined
+    (told_then_ended S before now after d e (take done both) rest (subst (λ (all : List ℕ). Told before now S d all e) (sym same) so_far.told) ended))
 
 -- an error before more was answered
 pub front_so_far : (input mid before now : Option (List ℕ)) (S : ScenarioContents) (d e : Session) (text : List ℕ) (done : ℕ)

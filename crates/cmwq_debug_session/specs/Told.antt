@@ -25,6 +25,10 @@ Told before after S d lines e =
 abbrev pub ToldFront : Option (List ℕ) → Option (List ℕ) → ScenarioContents → Session → List ℕ → Type 0
 ToldFront before after S d bytes = (more : List ℕ) → HasSentFront before after (lines_said S d (lines_of (bytes ++ more)))
 
+-- A line of these bytes ended the session: what is said to them was written, and no more is said, whatever comes behind them.
+abbrev pub ToldToItsEnd : Option (List ℕ) → Option (List ℕ) → ScenarioContents → Session → List ℕ → Type 0
+ToldToItsEnd before after S d bytes = (more : List ℕ) → Appends before after (lines_said S d (lines_of (bytes ++ more)))
+
 abbrev pub HasNoLine : List ℕ → Type 0
 HasNoLine bytes = All (λ byte. (byte == 10) ≡ false) bytes
 

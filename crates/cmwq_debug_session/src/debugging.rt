@@ -1,16 +1,16 @@
 //! `debug`: from command lines to what the debugger says to them.
-ghost use Rattle.cmwq_debug_lines.specs.Talk.{line_said, lines_said};
+ghost use Rattle.cmwq_debug_lines.specs.Talk.{line_said, lines_said, text_said};
 ghost use Rattle.cmwq_grammar.specs.Cutting.{lines_of};
 ghost use Rattle.cmwq_streams.specs.Sending.{HasSentFront, IsSendError};
 ghost use Rattle.cmwq_play.specs.Commands.{Reads};
-ghost use Rattle.cmwq_debug_session.specs.Told.{HasNoLine, IsFrontTold, IsTalkError, IsTalked, IsDebugged, Talks, Told, ToldFront};
+ghost use Rattle.cmwq_debug_session.specs.Told.{HasNoLine, IsFrontTold, IsTalkError, IsTalked, IsDebugged, Talks, Told, ToldFront, ToldToItsEnd};
 ghost use Rattle.cmwq_play.specs.Runs.{CanRun, IsRefused, IsRunOf};
 ghost use Rattle.cmwq_debug.specs.Debugging.{opened};
 ghost use Rattle.cmwq_types.specs.Faults.{IsValid};
 ghost use Rattle.cmwq_types.specs.Scenario.{expand};
 ghost use Rattle.cmwq_types.specs.declared.limits.TheConstants.{MAX_TEXT, MAX_WORKS};
 ghost use Rattle.std.specs.Io.KnownBytes.{Appends, Consumes, IsAtEnd, Keeps};
-ghost use Rattle.std.specs.Prelude.{◌≡◌, ◌<◌, ◌≤◌, ◌+◌, ◌↔◌, ◌⊎◌, Err, IfErr, IfOk, IfSome, List, Ok, OnErr, OnOk, drop, false, length, take, true, ℕ};
+ghost use Rattle.std.specs.Prelude.{◌≡◌, ◌<◌, ◌≤◌, ◌+◌, ◌↔◌, ◌⊎◌, Err, IfErr, IfNone, IfOk, IfSome, List, Ok, OnErr, OnOk, drop, false, is_some, length, take, true, ℕ};
 
 use cmwq_core::Core;
 use cmwq_debug::Debugger;
@@ -23,40 +23,45 @@ use cmwq_types::{Actor, MAX_TEXT, NoMemory, Scenario};
 use std::alloc::Global;
 use std::sync::Arc;
 
-/// Carries out one command line, and writes what is said to it.
+/// Carries out one command line, and writes what is said to it. It answers whether the session goes on.
 fn answer_line<M: Machine, W: Sink>(
     alloc: Global,
     scenario: &Scenario,
     debugger: &mut Debugger<M>,
     line: &[u8],
     writer: &mut W,
-) -> Result<(), PlayError>
+) -> Result<bool, PlayError>
     requires works { length scenario.now.works ≤ MAX_WORKS }
     requires sound { W.failed writer.old ≡ false }
     ensures debugger { OnOk result (debugger.new ≡ (line_said scenario.now debugger.old line.now).0) }
-    ensures ok { OnOk result (Appends (W.contents writer.old) (W.contents writer.new) (line_said scenario.now debugger.old line.now).1) }
-    ensures err { OnErr result (HasSentFront (W.contents writer.old) (W.contents writer.new) (line_said scenario.now debugger.old line.now).1) }
+    ensures goes_on { IfOk result (λ goes_on. goes_on ≡ is_some (line_said scenario.now debugger.old line.now).1) }
+    ensures ok { OnOk result (Appends (W.contents writer.old) (W.contents writer.new) (text_said (line_said scenario.now debugger.old line.now).1)) }
+    ensures err { OnErr result (HasSentFront (W.contents writer.old) (W.contents writer.new) (text_said (line_said scenario.now debugger.old line.now).1)) }
     ensures why { IfErr result (λ error. IsSendError error) }
     ensures write { (result ≡ Err PlayError.Write) ↔ (W.failed writer.new ≡ true) }
 {
-    let said = answer(alloc, scenario, debugger, line)?;
-    put_all(writer, &said)
+    let Some(said) = answer(alloc, scenario, debugger, line)? else {
+        return Ok(false);
+    };
+    put_all(writer, &said)?;
+    Ok(true)
 }
 
-/// Answers each whole line of the text, and says how many bytes these take. What a line says has gone out before
-/// the next one is carried out.
+/// Answers each whole line of the text, and says how many bytes these take; `None` where one of them ended the session, and what
+/// stands behind it isn't answered. What a line says has gone out before the next one is carried out.
 fn answer_lines<M: Machine, W: Sink>(
     alloc: Global,
     scenario: &Scenario,
     debugger: &mut Debugger<M>,
     text: &[u8],
     writer: &mut W,
-) -> Result<usize, PlayError>
+) -> Result<Option<usize>, PlayError>
     requires works { length scenario.now.works ≤ MAX_WORKS }
     requires sound { W.failed writer.old ≡ false }
-    ensures told { IfOk result (λ taken. Told (W.contents writer.old) (W.contents writer.new) scenario.now debugger.old (take taken text.now) debugger.new) }
-    ensures within { IfOk result (λ taken. taken ≤ length text.now) }
-    ensures begun { IfOk result (λ taken. HasNoLine (drop taken text.now)) }
+    ensures told { IfOk result (λ answered. IfSome answered (λ taken. Told (W.contents writer.old) (W.contents writer.new) scenario.now debugger.old (take taken text.now) debugger.new)) }
+    ensures within { IfOk result (λ answered. IfSome answered (λ taken. taken ≤ length text.now)) }
+    ensures begun { IfOk result (λ answered. IfSome answered (λ taken. HasNoLine (drop taken text.now))) }
+    ensures ended { IfOk result (λ answered. IfNone answered (ToldToItsEnd (W.contents writer.old) (W.contents writer.new) scenario.now debugger.old text.now)) }
     ensures front { OnErr result (ToldFront (W.contents writer.old) (W.contents writer.new) scenario.now debugger.old text.now) }
     ensures why { IfErr result (λ error. IsSendError error) }
     ensures write { (result ≡ Err PlayError.Write) ↔ (W.failed writer.new ≡ true) }
@@ -64,10 +69,12 @@ fn answer_lines<M: Machine, W: Sink>(
     let mut taken = 0;
     while let Some(len) = line_length(&text[taken..]) {
         let line = &text[taken..][..len];
-        answer_line(alloc, scenario, debugger, line, writer)?;
+        if !answer_line(alloc, scenario, debugger, line, writer)? {
+            return Ok(None);
+        }
         taken += len + 1;
     }
-    Ok(taken)
+    Ok(Some(taken))
 }
 
 /// Answers what is left at the end: a last line that no line feed ends.
@@ -89,10 +96,11 @@ fn answer_rest<M: Machine, W: Sink>(
     if text.is_empty() {
         return Ok(());
     }
-    answer_line(alloc, scenario, debugger, text, writer)
+    answer_line(alloc, scenario, debugger, text, writer)?;
+    Ok(())
 }
 
-/// Hears the commands to their end, and answers them as they come: before more is read, each whole line that was heard
+/// Hears the commands to their end, or up to one that ends the session, and answers them as they come: before more is read, each whole line that was heard
 /// has been answered.
 fn talk<M: Machine, R: Source, W: Sink>(
     alloc: Global,
@@ -115,7 +123,10 @@ fn talk<M: Machine, R: Source, W: Sink>(
         if text.len() > MAX_TEXT {
             return Err(PlayError::TooLong);
         }
-        done += answer_lines(alloc, scenario, debugger, &text[done..], writer)?;
+        match answer_lines(alloc, scenario, debugger, &text[done..], writer)? {
+            Some(taken) => done += taken,
+            None => return Ok(()),
+        }
     }
     unreachable!()
 }
@@ -124,7 +135,7 @@ fn talk<M: Machine, R: Source, W: Sink>(
 /// The commands are lines of text, and `docs/FORMATS.md` lists them.
 ///
 /// What a command says has gone out before the next one is carried out, and what all whole lines that were read say
-/// before more is read; so a person sees each answer before the next command. It answers `Actors` and `Full` as `run` does,
+/// before more is read; so a person sees each answer before the next command. Behind `quit` nothing is read. It answers `Actors` and `Full` as `run` does,
 /// before anything is read; then nothing is written. `TooLong` comes where more than 4,194,304 bytes of commands come.
 /// On each fault what was written is a front of what is said to the whole input.
 pub fn debug<R: Source, W: Sink>(

@@ -57,7 +57,6 @@ const OTHER_LINES: Talk = Talk {
         ("  \t# nothing", b""),
         ("step 1 # one instruction\r", b"at 1 now 0\n"),
         ("Step 1", b"bad command\n"),
-        ("step", b"bad command\n"),
         ("step 01", b"bad command\n"),
         ("step 4294967296", b"bad command\n"),
         ("step 1 2 3 4 5 6 7 8 9 10 11", b"bad command\n"),
@@ -84,6 +83,98 @@ const OTHER_LINES: Talk = Talk {
         ("run", b"at 34 now 20 break 0\n"),
         ("clear 0", b"cleared 0\n"),
         ("run", b"at 44 now 25\n"),
+        ("run", b"refused PastEnd\n"),
+    ],
+};
+
+/// Words that are cut short, and breaks as they are listed.
+const SHORT_LINES: Talk = Talk {
+    name: "short lines",
+    lines: &[
+        ("l", b"no breaks\n"),
+        ("s", b"at 1 now 0\n"),
+        ("step", b"at 2 now 0\n"),
+        ("st 3", b"at 5 now 0\n"),
+        ("back", b"at 4 now 0\n"),
+        ("ba 4", b"at 0 now 0\n"),
+        ("b 1", b"bad command\n"),
+        ("steps", b"bad command\n"),
+        ("g 12 # goto", b"at 12 now 5\n"),
+        ("br work w0 event wakes", b"break 0\n"),
+        ("br work w0 event wake", b"bad command\n"),
+        ("bre t 5", b"bad command\n"),
+        ("brea activates w2", b"break 1\n"),
+        ("break activates w3", b"refused NoSuchWork\n"),
+        ("break activates", b"bad command\n"),
+        ("break activates w1 w2", b"bad command\n"),
+        ("break refusal", b"break 2\n"),
+        ("break time 17", b"break 3\n"),
+        ("c 2", b"cleared 2\n"),
+        (
+            "list",
+            b"break 0 work w0 event wakes\nbreak 1 activates w2\nbreak 3 time 17\n",
+        ),
+        ("list 1", b"bad command\n"),
+        ("help 1", b"bad command\n"),
+        ("quit 1", b"bad command\n"),
+        (
+            "h",
+            b"step [N]: goes forward by N instructions, or by 1
+back [N]: goes back by N instructions, or by 1
+goto K: goes to position K
+break work W event E | time T | refusal | activates W: makes a break
+clear I: removes break I
+list: tells the breaks
+run: goes forward up to the first instruction that a break matches, or to the end
+dump [pool P]: tells the state, or what is in pool P
+why W | flush F: tells why work W isn't further, or what flush F waits for
+help: tells the commands; the first word may be cut short where no other one begins so
+quit: ends the session
+",
+        ),
+    ],
+};
+
+/// A queue of one: the first work is listed as it is queued, the others are inactive. Then the second one goes to the other CPU, anew, where it is listed,
+/// and the first is taken off, which activates the third.
+const THREE_PLACED: &[u8] = b"cpus 2
+workers 1
+steps 100
+flushes 0
+queue q max 1
+work a q
+work b q
+work c q
+body a
+finish
+body b
+finish
+body c
+finish
+actor t
+queue a 0
+queue b 0
+queue c 0
+mod b 1 0
+cancel a
+";
+
+/// A break on activation stops where an inactive work is listed, and at no placing.
+const ACTIVATION: Talk = Talk {
+    name: "activation",
+    lines: &[
+        ("break activates a", b"break 0\n"),
+        ("break activates b", b"break 1\n"),
+        ("break activates c", b"break 2\n"),
+        ("run", b"at 5 now 0 break 2\n"),
+        ("dump pool 0", b"pool 0 counted 0 made 0 idle\nlisted c\n"),
+        ("back", b"at 4 now 0\n"),
+        (
+            "dump pool 0",
+            b"pool 0 counted 0 made 0 idle\nlisted a\ninactive c\n",
+        ),
+        ("clear 2", b"cleared 2\n"),
+        ("run", b"at 5 now 0\n"),
         ("run", b"refused PastEnd\n"),
     ],
 };
@@ -330,6 +421,7 @@ fn check_line<M: Machine>(
     requires { length scenario.now.works ≤ MAX_WORKS }
 {
     let said = answer(alloc, scenario, debugger, line.as_bytes()).expect(rt, "memory is left");
+    let said = said.expect(rt, "the session goes on");
     same(rt, line, &said[..], want);
 }
 
@@ -364,6 +456,10 @@ fn each_command_line_is_answered(rt: HostRuntime) {
     check_text::<Core>(&rt, rt.alloc(), MAX_ACTIVE_3.text, THERE_AND_BACK);
     check_text::<Plain>(&rt, rt.alloc(), MAX_ACTIVE_3.text, OTHER_LINES);
     check_text::<Core>(&rt, rt.alloc(), MAX_ACTIVE_3.text, OTHER_LINES);
+    check_text::<Plain>(&rt, rt.alloc(), MAX_ACTIVE_3.text, SHORT_LINES);
+    check_text::<Core>(&rt, rt.alloc(), MAX_ACTIVE_3.text, SHORT_LINES);
+    check_text::<Plain>(&rt, rt.alloc(), THREE_PLACED, ACTIVATION);
+    check_text::<Core>(&rt, rt.alloc(), THREE_PLACED, ACTIVATION);
     check_text::<Plain>(&rt, rt.alloc(), MANY_KINDS, EVERY_KIND);
     check_text::<Core>(&rt, rt.alloc(), MANY_KINDS, EVERY_KIND);
     check_text::<Plain>(&rt, rt.alloc(), A_FLUSH, A_WORK_CALLED_FLUSH);
@@ -420,6 +516,7 @@ fn check_again<M: Machine>(
             answer(alloc, scenario, debugger, line.as_bytes()).expect(rt, "memory is left again")
         }
     };
+    let said = said.expect(rt, "the session goes on");
     same(rt, line, &said[..], want);
 }
 

@@ -51,6 +51,22 @@ fn a_command_is_answered_before_the_next_one_is_read(rt: HostRuntime) {
     }
 }
 
+/// Behind `quit` nothing is read, neither what the next read would give nor what came with it.
+#[test]
+fn nothing_is_read_behind_quit(rt: HostRuntime) {
+    let sessions: [&[u8]; 3] = [b"step\nquit\nstep\n", b"step\nquit\nst", b"step\nquit"];
+    for (number, commands) in sessions.iter().enumerate() {
+        for read in [1, 7, 10, 4096] {
+            let mut input = reading_of(commands, read);
+            input.endless = number < 2;
+            let outcome = debugged(rt.alloc(), input, writing_to(rt.alloc(), 4096));
+            same(&rt, (number, read), outcome.result, Ok(()));
+            let said = outcome.written.as_slice();
+            same(&rt, (number, read), said, &b"at 1 now 0\n"[..]);
+        }
+    }
+}
+
 /// How many bytes are said to each of the commands and to those before it.
 const SAID_UP_TO: [usize; 8] = [0, 12, 20, 41, 52, 70, 86, 106];
 
