@@ -51,7 +51,7 @@ const SOME: Drawing = Drawing {
 };
 
 /// Each call with its name.
-pub(crate) const CALLS: [(&str, CallName); 57] = [
+pub(crate) const CALLS: [(&str, CallName); 59] = [
     ("Scenario::copy", CallName::Text(TextCall::Copy)),
     ("assemble", CallName::Text(TextCall::Assemble)),
     ("read_text", CallName::Text(TextCall::ReadText)),
@@ -149,6 +149,17 @@ pub(crate) const CALLS: [(&str, CallName); 57] = [
             Body::Core,
             BodyCall::Debugger(Asked::There(Command::BreakRefusal)),
         ),
+    ),
+    (
+        "BreakActivation",
+        CallName::On(
+            Body::Core,
+            BodyCall::Debugger(Asked::There(Command::BreakActivation(WorkId(1)))),
+        ),
+    ),
+    (
+        "List",
+        CallName::On(Body::Core, BodyCall::Debugger(Asked::There(Command::List))),
     ),
     (
         "Clear",
