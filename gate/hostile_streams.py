@@ -140,7 +140,8 @@ def situations(streams, use, whole):
         ("small files", streams.into_small_file(use), hostile.WRITE, max(map(len, [whole.output, *hostile.changed(whole, streams.before).values()])) > MOST),
         ("closed input", streams.without(use, 0), hostile.READ, reads),
         ("folder as input", streams.from_folder(use), hostile.READ, reads),
-        ("input that doesn't block", streams.from_pipe(use), hostile.READ, reads),
+        # Behind `quit` nothing is read.
+        ("input that doesn't block", streams.from_pipe(use), hostile.READ, reads and "quit" not in use[1].split("\n")),
         ("closed errors", streams.without(use, 2), (hostile.WRITE[0], b""), says),
         ("full errors", streams.into(use, "stderr", "/dev/full"), (hostile.WRITE[0], b""), says),
         ("all closed", streams.without(use, 0, 1, 2), (3, b""), writes or reads or says),
