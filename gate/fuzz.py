@@ -76,11 +76,12 @@ class Bench:
             raise Failure(f"it takes over {SECONDS} seconds")
         if ran.returncode < 0:
             raise Failure(f"it ends by signal {-ran.returncode}")
-        if ran.stderr == hostile.NO_MEMORY[1]:
+        errors = hostile.without_advice(ran.stderr) if "--explain" in map(os.fsdecode, words) and ran.returncode != 2 else ran.stderr
+        if errors == hostile.NO_MEMORY[1]:
             raise Failure(f"it takes over {MEGABYTES} MB")
-        if not self.documented.is_told(ran.returncode, ran.stderr):
+        if not self.documented.is_told(ran.returncode, errors):
             raise Failure(f"no document says that it ends with {ran.returncode} and says {ran.stderr[-200:]!r}")
-        return Ended(ran.returncode, ran.stdout, ran.stderr)
+        return Ended(ran.returncode, ran.stdout, errors)
 
     def made(self, name):
         """What a file has that a command line made, or None."""
