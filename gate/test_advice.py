@@ -22,6 +22,7 @@ FILES = {
     "restless.cmwq": HEAD + QUEUE + WORKS + BODIES + "actor t\nqueue blink 0\n",
     "busy.cmwq": HEAD + "actor one\nbusy * 3\nactor other\nbusy\n",
     "long.cmwq": HEAD + "actor t\n" + "busy * 65535\n" * 16 + "busy * 17\n",
+    "lines.cmwq": HEAD + QUEUE + WORKS + BODIES + "actor t\nqueue mail 0\n" + "busy\n" * 4095,
     "kernel.cmwq": HEAD + "queue q max 0\n" + WORKS + BODIES + ACTOR,
     "flag.cmwq": HEAD + "queue q max 1 freezeable\n" + WORKS + BODIES + ACTOR,
     "wq.cmwq": HEAD + "queue q max 1 WQ_UNBOUND\n" + WORKS + BODIES + ACTOR,
@@ -53,6 +54,7 @@ ROWS = [
     ("play nosuch.cmwq --capacity 3", 3, "read", "  nosuch.cmwq: no such file"),
     ("show nosuch.image", 3, "read", "  nosuch.image: no such file"),
     ("new there", 3, "write", "  there is there already; new doesn't overwrite"),
+    ("new empty.cmwq", 3, "write", "  empty.cmwq: it can't be written"),
     ("new nowhere/first.cmwq", 3, "write", "  nowhere/first.cmwq: no such folder"),
     ("new folder", 3, "write", "  folder is there already; new doesn't overwrite"),
     ("asm good.cmwq good.cmwq", 3, "write", "  good.cmwq is the scenario's own text; asm doesn't overwrite it"),
@@ -85,14 +87,20 @@ ROWS = [
     # what the scenario hasn't
     ("why good.cmwq blnk", 1, "no such work", "  works of good.cmwq, the nearest first: blink, mail"),
     ("why good.cmwq mial", 1, "no such work", "  works of good.cmwq, the nearest first: mail, blink"),
+    # what both begin with is cut, what both end with, and then the longer one counts; of two names so near the first is told
+    ("why good.cmwq blin", 1, "no such work", "  works of good.cmwq, the nearest first: blink, mail"),
+    ("why good.cmwq link", 1, "no such work", "  works of good.cmwq, the nearest first: blink, mail"),
+    ("why good.cmwq b", 1, "no such work", "  works of good.cmwq, the nearest first: mail, blink"),
     ("why workless.cmwq a", 1, "no such work", "  workless.cmwq has no works"),
     ("why good.cmwq mail --at 999", 1, "past the end", "  the last position is 4"),
     ("why good.cmwq --flush 7", 1, "no such flush", "  flushes are numbered from 0, as they are given: cmwq run prints each with its number"),
     # what is too much
     ("run long.cmwq", 4, "full", "  the actor has more than 1048576 instructions"),
+    ("settle lines.cmwq", 4, "full", "  settled, the actor would have more than 4096 lines, or 1048576 instructions"),
+    ("draw --settle lines.cmwq", 4, "full", "  settled, the actor would have more than 4096 lines, or 1048576 instructions"),
     ("play busy.cmwq --capacity 2", 4, "full", "  --capacity says how many instructions fit: 4096 at most"),
-    ("settle restless.cmwq", 1, "never quiet", "  works queue each other again and again, so it goes on for ever"),
-    ("draw --settle restless.cmwq", 1, "never quiet", "  works queue each other again and again, so it goes on for ever"),
+    ("settle restless.cmwq", 1, "never quiet", "  a work is still pending or runs when steps or 1048576 instructions are over: it wants more steps, a thaw or relief, or never ends"),
+    ("draw --settle restless.cmwq", 1, "never quiet", "  a work is still pending or runs when steps or 1048576 instructions are over: it wants more steps, a thaw or relief, or never ends"),
 ]
 
 

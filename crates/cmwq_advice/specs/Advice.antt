@@ -14,7 +14,7 @@ use Rattle.cmwq_request.specs.declared.request.Request.TheVariants.{New, Do, Asm
 use Rattle.cmwq_streams.specs.declared.error.PlayError.{PlayError}
 use Rattle.cmwq_streams.specs.declared.error.PlayError.TheVariants as errors
 use Rattle.cmwq_tasks.specs.declared.question.Question.TheVariants.{Work}
-use Rattle.cmwq_tasks.specs.declared.task.Task.TheVariants.{Settle, Why}
+use Rattle.cmwq_tasks.specs.declared.task.Task.TheVariants.{Draw, Settle, Why}
 use Rattle.cmwq_verdict.specs.Verdicts.{IsVerdict}
 use Rattle.cmwq_verdict.specs.declared.looks.Look.{Look}
 use Rattle.cmwq_advice.specs.Lines.{line}
@@ -68,10 +68,15 @@ image_words (images.Fault fault) = line (codes "the image's scenario isn't one")
 image_words images.NoMemory = []
 
 -- what there is too much of, and how much there may be
+abbrev pub actor_words : (is_settled : Bool) → List ℕ
+actor_words true = line (codes "settled, the actor would have more than 4096 lines, or 1048576 instructions")
+actor_words false = line (codes "the actor has more than 1048576 instructions")
+
 abbrev pub full_words : Request → List ℕ
 full_words (Play file capacity) = line (codes "--capacity says how many instructions fit: 4096 at most")
-full_words (Do file Settle) = line (codes "settled, the actor would have more than 4096 lines, or 1048576 instructions")
-full_words request = line (codes "the actor has more than 1048576 instructions")
+full_words (Do file Settle) = actor_words true
+full_words (Do file (Draw drawing)) = actor_words drawing.settle
+full_words request = actor_words false
 
 abbrev pub memory_words : List ℕ
 memory_words = line (codes "a shorter run, or a picture of fewer ticks (--from, --to), takes less memory")
@@ -79,7 +84,7 @@ memory_words = line (codes "a shorter run, or a picture of fewer ticks (--from, 
 -- where neither a file nor its scenario has to be looked at
 abbrev pub plain_words : Request → PlayError → List ℕ
 plain_words request errors.Full = full_words request
-plain_words request errors.NeverQuiet = line (codes "works queue each other again and again, so it goes on for ever")
+plain_words request errors.NeverQuiet = line (codes "a work is still pending or runs when steps or 1048576 instructions are over: it wants more steps, a thaw or relief, or never ends")
 plain_words request errors.NoSuchFlush = line (codes "flushes are numbered from 0, as they are given: cmwq run prints each with its number")
 plain_words request errors.TooLong = line (codes "a text has at most 4194304 bytes, and so have the commands of a debugger")
 plain_words request errors.Tickets = line (codes "the lock has no ticket left")

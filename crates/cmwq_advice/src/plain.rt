@@ -1,5 +1,5 @@
 //! What can be done about a fault by itself.
-ghost use Rattle.cmwq_advice.specs.Advice.{full_words, image_words, plain_words};
+ghost use Rattle.cmwq_advice.specs.Advice.{actor_words, full_words, image_words, plain_words};
 ghost use Rattle.std.specs.Prelude.{◌≡◌};
 
 use cmwq_asm::AsmError;
@@ -15,7 +15,7 @@ pub(crate) fn plain_words(request: &Request<'_>, fault: PlayError) -> &'static s
     match fault {
         PlayError::Full => full_words(request),
         PlayError::NeverQuiet =>
-            "  works queue each other again and again, so it goes on for ever\n",
+            "  a work is still pending or runs when steps or 1048576 instructions are over: it wants more steps, a thaw or relief, or never ends\n",
         PlayError::NoSuchFlush => {
             "  flushes are numbered from 0, as they are given: cmwq run prints each with its number\n"
         }
@@ -40,8 +40,23 @@ fn full_words(request: &Request<'_>) -> &'static str
         Request::Do {
             file: _,
             task: Task::Settle,
-        } => "  settled, the actor would have more than 4096 lines, or 1048576 instructions\n",
-        _ => "  the actor has more than 1048576 instructions\n",
+        } => actor_words(true),
+        Request::Do {
+            file: _,
+            task: Task::Draw(drawing),
+        } => actor_words(drawing.settle),
+        _ => actor_words(false),
+    }
+}
+
+/// What an actor has too much of, or would have, settled.
+fn actor_words(is_settled: bool) -> &'static str
+    ensures { result.now ≡ actor_words is_settled }
+{
+    if is_settled {
+        "  settled, the actor would have more than 4096 lines, or 1048576 instructions\n"
+    } else {
+        "  the actor has more than 1048576 instructions\n"
     }
 }
 

@@ -88,7 +88,7 @@ impl<R: Files> FileStore for Disk<'_, R> {
     }
 
     fn trouble_with_making(&self, path: &str, is_new: bool) -> Trouble {
-        if metadata(self.rt, path).is_ok() && is_new {
+        if is_new && has_something(self.rt, path) {
             return Trouble::IsThere;
         }
         if is_folder(self.rt, path) {
@@ -115,6 +115,14 @@ fn trouble_with_opening(kind: ErrorKind) -> Trouble {
         ErrorKind::PermissionDenied => Trouble::Denied,
         ErrorKind::IsADirectory => Trouble::IsFolder,
         _ => Trouble::Unreadable,
+    }
+}
+
+/// Whether a folder has the path, or a file that isn't empty. One that is empty may have been made just now, and couldn't be written.
+fn has_something<R: Files>(rt: &R, path: &str) -> bool {
+    match metadata(rt, path) {
+        Ok(found) => found.is_dir() || found.len() > 0,
+        Err(_) => false,
     }
 }
 
