@@ -1,2 +1,4 @@
 pub mod Drawn
+pub mod Picking
 pub mod Rendered
+pub mod WorksFound

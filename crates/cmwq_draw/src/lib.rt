@@ -2,7 +2,10 @@
 #![tactic(auto)]
 
 mod drawing_run;
+pub mod examples;
+mod picking;
 mod rendering;
 
 pub use drawing_run::draw;
+pub use picking::undeclared;
 pub use rendering::drawing_of;

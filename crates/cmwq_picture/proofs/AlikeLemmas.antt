@@ -60,6 +60,8 @@ RunsAlike None None = Unit {0}
 pub record LooksAlike (works : ℕ) (s t : State) : Type 0 where
   pub pending : (w : ℕ) → w < works → pending_at t w ≡ pending_at s w
   pub running : (w : ℕ) → w < works → RunsAlike (running_at s w) (running_at t w)
+  pub frozen : t.frozen ≡ s.frozen
+  pub pressed : t.pressed ≡ s.pressed
 
 stamps-alike : (a b : Option Running) → RunsAlike a b → running_stamp b ≡ running_stamp a
 stamps-alike (Some r) (Some q) alike = alike.3
@@ -135,7 +137,7 @@ module _ (S : ScenarioContents) (s t : State) (alike : LooksAlike (length S.work
       let works = map-agree (work_sign S t) (work_sign S s) 0 n (λ w less. works-alike w (running_at s w) (running_at t w) (alike.running w (omega arith)) (alike.pending w (omega arith))) in
       let pending = map-agree (pending_sign t) (pending_sign s) 0 n (λ w less. beside-alike (running_at s w) (running_at t w) (pending_at s w) (pending_at t w) (alike.running w (omega arith)) (alike.pending w (omega arith))) in
       let burners = filter_map-agree (burning S t) (burning S s) 0 n (λ w less. burning-alike w (running_at s w) (running_at t w) (alike.running w (omega arith))) in
-      rw (works, pending, burners) refl
+      rw (works, pending, burners, alike.frozen, alike.pressed) refl
 
 -- A tick.
 
@@ -151,7 +153,7 @@ burned-alike f w (r ∷ rs) zero = burned-one r (f w r)
 burned-alike f w (r ∷ rs) (suc i) = burned-alike f (w + 1) rs i
 
 tick-alike : (S : ScenarioContents) (s : State) (spent works : ℕ) → LooksAlike works s (record (tick S s) { spent = spent })
-tick-alike S s spent works = record { pending = λ w less. refl; running = λ w less. burned-alike (burns S s) 0 s.running w }
+tick-alike S s spent works = record { pending = λ w less. refl; running = λ w less. burned-alike (burns S s) 0 s.running w; frozen = refl; pressed = refl }
 
 -- a tick leaves the column as it was
 pub column-ticks : (S : ScenarioContents) (s t : State) (acted : Bool) → IsTick S s t → column_of S t acted ≡ column_of S s acted

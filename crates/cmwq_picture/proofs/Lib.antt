@@ -1,4 +1,5 @@
 pub mod AlikeLemmas
+pub mod FoldLemmas
 pub mod LawLemmas
 pub mod ListLemmas
 pub mod RecordingLemmas

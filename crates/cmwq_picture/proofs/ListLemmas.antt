@@ -1,9 +1,8 @@
 -- Lists of what a function gives of each number below a bound.
-use Rattle.std.proofs.Common.{◌≡◌, ℕ, zero, suc, ◌+◌, ◌<◌, List, [], ◌∷◌, ◌++◌, append-nil, length, length-append, map, Option, Some, None, arith, refl, sym, ap, ◌∙◌}
-use Rattle.std.proofs.lemmas.Grind.{flat_map-append}
+use Rattle.std.proofs.Common.{◌≡◌, ℕ, zero, suc, ◌+◌, ◌<◌, List, [], ◌∷◌, ◌++◌, length, length-append, map, Option, Some, None, arith, refl, sym, ap, ◌∙◌}
 use Rattle.std.proofs.lemmas.List.Elements.{filter_map-append}
 use Rattle.std.proofs.lemmas.List.FromFn.{map-range_with_len_more}
-use Rattle.std.specs.List.{cons_option, filter_map, flat_map, range_with_len}
+use Rattle.std.specs.List.{cons_option, filter_map, range_with_len}
 
 -- functions that agree below a number give one list
 
@@ -40,8 +39,5 @@ map-pushed {A} f n x old new so_far is pushed =
 pub length-pushed : {A : Type 0} (x : A) (old new : List A) (n : ℕ) → length old ≡ n → new ≡ old ++ x ∷ [] → length new ≡ n + 1
 length-pushed x old new n long pushed = (let all = ap length pushed ∙ length-append old (x ∷ []) in omega (arith, all, long))
 
-pub flat_map-more : {A : Type 0} (f : ℕ → List A) (n : ℕ) → flat_map f (range_with_len 0 (n + 1)) ≡ flat_map f (range_with_len 0 n) ++ f n
-flat_map-more {A} f n =
-    let last : 0 + n ≡ n = omega arith in
-    ap (flat_map f) (range-more 0 n) ∙ flat_map-append f (range_with_len 0 n) ((0 + n) ∷ []) ∙ ap (λ (k : ℕ). flat_map f (range_with_len 0 n) ++ flat_map f (k ∷ [])) last
-    ∙ ap (λ (xs : List A). flat_map f (range_with_len 0 n) ++ xs) (append-nil (f n))
+pub below-more : (n : ℕ) → range_with_len 0 (n + 1) ≡ range_with_len 0 n ++ n ∷ []
+below-more n = (let last : 0 + n ≡ n = omega arith in range-more 0 n ∙ ap (λ (k : ℕ). range_with_len 0 n ++ k ∷ []) last)

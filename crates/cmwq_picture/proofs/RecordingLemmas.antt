@@ -1,9 +1,8 @@
 -- What a recording comes to: the picture's columns.
-use Rattle.std.proofs.Common.{◌≡◌, ◌≢◌, ℕ, ◌+◌, ◌<◌, ◌≤◌, Bool, true, false, cond, ◌&&◌, ◌||◌, List, [], ◌∷◌, ◌++◌, length, map, length-append, append_assoc, append-nil, Result, Ok, Err, OnOk, arith, refl, sym, subst, ap, ◌∙◌}
+use Rattle.std.proofs.Common.{◌≡◌, ◌≢◌, ℕ, zero, suc, ◌+◌, ◌<◌, ◌≤◌, Bool, true, false, cond, ◌&&◌, ◌||◌, List, [], ◌∷◌, ◌++◌, length, map, append_assoc, append-nil, Result, Ok, Err, OnOk, arith, refl, sym, subst, ap, ◌∙◌}
 use Rattle.std.proofs.lemmas.Bool.Decides.{nat_tests}
-use Rattle.std.proofs.lemmas.List.{length-map}
 use Rattle.std.specs.List.{filter, list_any}
-use Rattle.std.specs.Prelude.{nat_lt, ◌==◌}
+use Rattle.std.specs.Prelude.{nat_le, nat_lt, ◌==◌}
 use Rattle.cmwq_types.specs.Contents.{ScenarioContents}
 use Rattle.cmwq_types.specs.Setting.{IsSetting}
 use Rattle.cmwq_types.specs.declared.instr.Instr.{Instr}
@@ -12,14 +11,17 @@ use Rattle.cmwq_table.proofs.CounterLemmas.{table-counters}
 use Rattle.cmwq_table.specs.State.{State, start}
 use Rattle.cmwq_table.specs.Table.{table}
 use Rattle.cmwq_picture.specs.Column.{ColumnContents, column_of, cut_rows}
-use Rattle.cmwq_picture.specs.PictureContents.{RowContents}
-use Rattle.cmwq_picture.specs.Picture as specs
-use Rattle.cmwq_picture.specs.Picture.{Draws, IsDrawError, acts_from, columns, from_time, is_act, is_drawn, is_open, is_too_wide, ticks_from, titles}
+use Rattle.cmwq_picture.specs.ExtentContents.{ExtentContents}
+use Rattle.cmwq_picture.specs.Folding.{columns_drawn, edges_from, is_long, is_open, is_wide, stretches_of, ticks_drawn}
+use Rattle.cmwq_picture.specs.PictureContents.{PictureContents, RowContents}
+use Rattle.cmwq_picture.specs.Picture.{acted_at, acts_from, columns, from_time, is_act, is_before, is_drawn, ticks_from, titles}
+use Rattle.cmwq_picture.specs.PictureOfRun.{Draws, IsDrawError, acts as run_acts, is_folded, picture_of, ticks_told}
+use Rattle.cmwq_picture.specs.declared.row.Act.{Act}
 use Rattle.cmwq_streams.specs.declared.error.PlayError.{PlayError}
 use Rattle.cmwq_streams.specs.declared.error.PlayError.TheVariants.{TooWide, NoMemory}
 use Rattle.cmwq_picture.specs.declared.span.TheConstants.{MAX_COLUMNS}
-use Rattle.cmwq_picture.proofs.RowLemmas.{rows-cut}
-use Rattle.cmwq_picture.specs.Recording.{IsRecording, Recording, recording_begun, issued, issued_all, new_columns, overflows}
+use Rattle.cmwq_picture.proofs.StretchLemmas.{stretches-fit, stretches-longer}
+use Rattle.cmwq_picture.specs.Recording.{IsRecording, Recording, recording_begun, issued, issued_all, new_acts, new_columns, noted, overflows}
 use Rattle.cmwq_tasks.specs.declared.drawing.Span.{Span}
 use Rattle.cmwq_picture.proofs.TickLemmas.{time-goes_on, time-ticks}
 use Rattle.cmwq_picture.proofs.AlikeLemmas.{column-ticks}
@@ -34,107 +36,114 @@ pub issued_all-append : (r : Recording) (xs ys : List Instr) → issued_all r (x
 issued_all-append r [] ys = refl
 issued_all-append r (x ∷ xs) ys = issued_all-append (issued r x) xs ys
 
-overflows-longer : (r : Recording) (more : List ColumnContents) (s : State) (acted : Bool) → overflows r ≡ true → overflows (record r { columns = r.columns ++ more; state = s; acted = acted }) ≡ true
-overflows-longer r more s acted wide =
-    let longer = length-append r.columns more in
+overflows-longer : (r : Recording) (more : List ColumnContents) (s : State) (acted : Bool) (acts : List Act) → overflows r ≡ true
+    → overflows (record r { columns = r.columns ++ more; state = s; acted = acted; acts = acts }) ≡ true
+overflows-longer r more s acted acts wide =
+    let longer = stretches-longer r.columns more in
     grind (arith, nat_tests, longer)
 
 -- An instruction keeps what holds of a recording, be it drawn or not yet.
-pub kept : (r : Recording) (i : Instr) (acted : Bool) → IsRecording r → IsRecording (record r { state = (table r.scenario r.state i).0; acted = acted })
-kept r i acted holds =
+pub kept : (r : Recording) (i : Instr) (acted : Bool) (acts : List Act) → IsRecording r → IsRecording (record r { state = (table r.scenario r.state i).0; acted = acted; acts = acts })
+kept r i acted acts holds =
     let goes_on = time-goes_on r.scenario r.state i holds.setting in
     record {
       setting = holds.setting;
       counters = table-counters r.scenario r.state i holds.setting holds.counters;
       few = omega (arith, goes_on, holds.few);
-      narrow = holds.narrow;
+      late = λ some. (let late = holds.late some in omega (arith, goes_on, late));
     }
 
 -- What an instruction leaves: no tick, a tick that isn't drawn, and one that is.
 
-stayed-if : (r : Recording) (t : State) (acted b : Bool) → b ≡ false → record r { state = t; acted = acted } ≡ record r { state = t; acted = cond b false acted; columns = r.columns ++ cond (b && is_drawn r.span r.state.time) (column_of r.scenario r.state acted ∷ []) [] }
-stayed-if r t acted true e = absurd cc
-stayed-if r t acted false e = ap (λ (cs : List ColumnContents). record r { state = t; acted = acted; columns = cs }) (sym (append-nil r.columns))
+stayed-if : (r : Recording) (t : State) (acted b : Bool) (acts : List Act) → b ≡ false
+    → record r { state = t; acted = acted; acts = acts } ≡ record r { state = t; acted = cond b false acted; acts = acts; columns = r.columns ++ cond (b && is_drawn r.span r.state.time) (column_of r.scenario r.state acted ∷ []) [] }
+stayed-if r t acted true acts e = absurd cc
+stayed-if r t acted false acts e = ap (λ (cs : List ColumnContents). record r { state = t; acted = acted; acts = acts; columns = cs }) (sym (append-nil r.columns))
 
-pub issued-stays : (r : Recording) (i : Instr) → (table r.scenario r.state i).0.time ≡ r.state.time
-    → record r { state = (table r.scenario r.state i).0; acted = r.acted || is_act i (table r.scenario r.state i).1 } ≡ issued r i
-issued-stays r i stays =
-    let t = table r.scenario r.state i in
-    let same : nat_lt r.state.time t.0.time ≡ false = grind (arith, nat_tests) in
-    stayed-if r t.0 (r.acted || is_act i t.1) (nat_lt r.state.time t.0.time) same
+passed-if : (r : Recording) (t : State) (acted b d : Bool) (acts : List Act) (cs : List ColumnContents) → b ≡ true → cs ≡ r.columns ++ cond d (column_of r.scenario r.state acted ∷ []) []
+    → record r { state = t; acted = false; acts = acts; columns = cs } ≡ record r { state = t; acted = cond b false acted; acts = acts; columns = r.columns ++ cond (b && d) (column_of r.scenario r.state acted ∷ []) [] }
+passed-if r t acted true d acts cs e is = ap (λ (cs : List ColumnContents). record r { state = t; acted = false; acts = acts; columns = cs }) is
+passed-if r t acted false d acts cs e is = absurd cc
 
-passed-if : (r : Recording) (t : State) (acted b d : Bool) (cs : List ColumnContents) → b ≡ true → cs ≡ r.columns ++ cond d (column_of r.scenario r.state acted ∷ []) []
-    → record r { state = t; acted = false; columns = cs } ≡ record r { state = t; acted = cond b false acted; columns = r.columns ++ cond (b && d) (column_of r.scenario r.state acted ∷ []) [] }
-passed-if r t acted true d cs e is = ap (λ (cs : List ColumnContents). record r { state = t; acted = false; columns = cs }) is
-passed-if r t acted false d cs e is = absurd cc
+-- a machine has come to t, and has answered
+module _ (r : Recording) (i : Instr) (t : State) (answer : Reply) (is : (t, answer) ≡ table r.scenario r.state i) where
+  abbrev after : State × Reply
+  after = table r.scenario r.state i
 
--- time has gone on where it isn't what it was
-gone-on : (r : Recording) (i : Instr) → IsSetting r.scenario → (table r.scenario r.state i).0.time ≢ r.state.time → nat_lt r.state.time (table r.scenario r.state i).0.time ≡ true
-gone-on r i setting differs =
-    let least = time-goes_on r.scenario r.state i setting in
-    let less : r.state.time < (table r.scenario r.state i).0.time = omega (arith, least, differs) in
-    grind (arith, nat_tests)
+  at : t ≡ after.0
+  at = ap (λ (after : State × Reply). after.0) is
 
-pub issued-passes : (r : Recording) (i : Instr) → IsSetting r.scenario → (table r.scenario r.state i).0.time ≢ r.state.time → is_drawn r.span r.state.time ≡ false
-    → record r { state = (table r.scenario r.state i).0; acted = false } ≡ issued r i
-issued-passes r i setting differs undrawn =
-    let t = table r.scenario r.state i in
-    let acted = r.acted || is_act i t.1 in
-    let none : r.columns ≡ r.columns ++ cond (is_drawn r.span r.state.time) (column_of r.scenario r.state acted ∷ []) [] =
-    sym (ap (λ (d : Bool). r.columns ++ cond d (column_of r.scenario r.state acted ∷ []) []) undrawn ∙ append-nil r.columns) in
-    passed-if r t.0 acted (nat_lt r.state.time t.0.time) (is_drawn r.span r.state.time) r.columns (gone-on r i setting differs) none
+  -- what is recorded then, before the time is looked at
+  abbrev pub told : Recording
+  told = noted (record r { state = t }) r.state.time i answer
 
-pub issued-drawn : (r : Recording) (i : Instr) → IsSetting r.scenario → (table r.scenario r.state i).0.time ≢ r.state.time → is_drawn r.span r.state.time ≡ true
-    → record r { state = (table r.scenario r.state i).0; acted = false; columns = r.columns ++ column_of r.scenario (table r.scenario r.state i).0 (r.acted || is_act i (table r.scenario r.state i).1) ∷ [] } ≡ issued r i
-issued-drawn r i setting differs drawn =
-    let t = table r.scenario r.state i in
-    let acted = r.acted || is_act i t.1 in
-    let later : r.state.time < t.0.time = (let least = time-goes_on r.scenario r.state i setting in omega (arith, least, differs)) in
-    let same : column_of r.scenario t.0 acted ≡ column_of r.scenario r.state acted = column-ticks r.scenario r.state t.0 acted (time-ticks r.scenario r.state i setting later) in
-    let one : r.columns ++ column_of r.scenario t.0 acted ∷ [] ≡ r.columns ++ cond (is_drawn r.span r.state.time) (column_of r.scenario r.state acted ∷ []) [] =
-    ap (λ (c : ColumnContents). r.columns ++ c ∷ []) same ∙ sym (ap (λ (d : Bool). r.columns ++ cond d (column_of r.scenario r.state acted ∷ []) []) drawn) in
-    passed-if r t.0 acted (nat_lt r.state.time t.0.time) (is_drawn r.span r.state.time) (r.columns ++ column_of r.scenario t.0 acted ∷ []) (gone-on r i setting differs) one
+  abbrev then-acted : Bool
+  then-acted = r.acted || is_act i after.1
 
--- The same of what a machine has come to and answered.
+  abbrev then-acts : List Act
+  then-acts = r.acts ++ new_acts r.span r.state.time i after.1
 
-pub stays-after : (r : Recording) (i : Instr) (t : State) (answer : Reply) (acted : Bool) → (t, answer) ≡ table r.scenario r.state i → acted ≡ (r.acted || is_act i answer)
-    → t.time ≡ r.state.time → record r { state = t; acted = acted } ≡ issued r i
-stays-after r i t answer acted is flag stays =
-    let next = table r.scenario r.state i in
-    let at : t ≡ next.0 = ap (λ (after : State × Reply). after.0) is in
-    let told : answer ≡ next.1 = ap (λ (after : State × Reply). after.1) is in
-    let acted_is : acted ≡ (r.acted || is_act i next.1) = flag ∙ ap (λ (x : Reply). r.acted || is_act i x) told in
-    ap (λ (u : State). record r { state = u; acted = acted }) at ∙ ap (λ (b : Bool). record r { state = next.0; acted = b }) acted_is
-    ∙ issued-stays r i (sym (ap (λ (u : State). u.time) at) ∙ stays)
+  told-is : told ≡ record r { state = after.0; acted = then-acted; acts = then-acts }
+  told-is = ap (λ (next : State × Reply). noted (record r { state = next.0 }) r.state.time i next.1) is
 
-pub passes-after : (r : Recording) (i : Instr) (t : State) (answer : Reply) → IsSetting r.scenario → (t, answer) ≡ table r.scenario r.state i → t.time ≢ r.state.time
-    → is_drawn r.span r.state.time ≡ false → record r { state = t; acted = false } ≡ issued r i
-passes-after r i t answer setting is differs undrawn =
-    let at : t ≡ (table r.scenario r.state i).0 = ap (λ (after : State × Reply). after.0) is in
-    ap (λ (u : State). record r { state = u; acted = false }) at ∙ issued-passes r i setting (λ e. differs (ap (λ (u : State). u.time) at ∙ e)) undrawn
+  -- with the time that was asked for before
+  pub told-at : (time : ℕ) → time ≡ r.state.time → noted (record r { state = t }) time i answer ≡ told
+  told-at time same = ap (λ (time : ℕ). noted (record r { state = t }) time i answer) same
 
-pub drawn-after : (r : Recording) (i : Instr) (t : State) (answer : Reply) (acted : Bool) → IsSetting r.scenario → (t, answer) ≡ table r.scenario r.state i
-    → acted ≡ (r.acted || is_act i answer) → t.time ≢ r.state.time → is_drawn r.span r.state.time ≡ true
-    → record r { state = t; acted = false; columns = r.columns ++ column_of r.scenario t acted ∷ [] } ≡ issued r i
-drawn-after r i t answer acted setting is flag differs drawn =
-    let next = table r.scenario r.state i in
-    let at : t ≡ next.0 = ap (λ (after : State × Reply). after.0) is in
-    let told : answer ≡ next.1 = ap (λ (after : State × Reply). after.1) is in
-    let acted_is : acted ≡ (r.acted || is_act i next.1) = flag ∙ ap (λ (x : Reply). r.acted || is_act i x) told in
-    ap (λ (u : State). record r { state = u; acted = false; columns = r.columns ++ column_of r.scenario u acted ∷ [] }) at
-    ∙ ap (λ (b : Bool). record r { state = next.0; acted = false; columns = r.columns ++ column_of r.scenario next.0 b ∷ [] }) acted_is
-    ∙ issued-drawn r i setting (λ e. differs (ap (λ (u : State). u.time) at ∙ e)) drawn
+  pub moved-kept : IsRecording r → IsRecording (record r { state = t })
+  moved-kept holds = subst (λ (u : State). IsRecording (record r { state = u })) (sym at) (kept r i r.acted r.acts holds)
 
-pub kept-after : (r : Recording) (i : Instr) (t : State) (answer : Reply) (acted : Bool) → IsRecording r → (t, answer) ≡ table r.scenario r.state i → IsRecording (record r { state = t; acted = acted })
-kept-after r i t answer acted holds is =
-    subst (λ (u : State). IsRecording (record r { state = u; acted = acted })) (sym (ap (λ (after : State × Reply). after.0) is)) (kept r i acted holds)
+  pub told-kept : IsRecording r → IsRecording told
+  told-kept holds = subst IsRecording (sym told-is) (kept r i then-acted then-acts holds)
 
--- there is room for a column
-pub room-after : (r : Recording) (i : Instr) (t : State) (answer : Reply) → IsRecording r → (t, answer) ≡ table r.scenario r.state i → t.time ≢ r.state.time → length r.columns < t.time
-room-after r i t answer holds is differs =
-    let at : t.time ≡ (table r.scenario r.state i).0.time = ap (λ (after : State × Reply). after.0.time) is in
-    let least = time-goes_on r.scenario r.state i holds.setting in
-    omega (arith, at, least, differs, holds.few)
+  pub stays-after : t.time ≡ r.state.time → told ≡ issued r i
+  stays-after stays =
+      let still : after.0.time ≡ r.state.time = sym (ap (λ (u : State). u.time) at) ∙ stays in
+      let same : nat_lt r.state.time after.0.time ≡ false = grind (arith, nat_tests) in
+      told-is ∙ stayed-if r after.0 then-acted (nat_lt r.state.time after.0.time) then-acts same
+
+  module _ (setting : IsSetting r.scenario) (differs : t.time ≢ r.state.time) where
+    -- time has gone on where it isn't what it was
+    time-on : r.state.time < after.0.time
+    time-on =
+        let least = time-goes_on r.scenario r.state i setting in
+        let apart : after.0.time ≢ r.state.time = λ e. differs (ap (λ (u : State). u.time) at ∙ e) in
+        omega (arith, least, apart)
+
+    gone-on : nat_lt r.state.time after.0.time ≡ true
+    gone-on = (let less = time-on in grind (arith, nat_tests))
+
+    pub passes-after : is_drawn r.span r.state.time ≡ false → record told { acted = false } ≡ issued r i
+    passes-after undrawn =
+        let none : r.columns ≡ r.columns ++ cond (is_drawn r.span r.state.time) (column_of r.scenario r.state then-acted ∷ []) [] =
+        sym (ap (λ (d : Bool). r.columns ++ cond d (column_of r.scenario r.state then-acted ∷ []) []) undrawn ∙ append-nil r.columns) in
+        ap (λ (q : Recording). record q { acted = false }) told-is
+        ∙ passed-if r after.0 then-acted (nat_lt r.state.time after.0.time) (is_drawn r.span r.state.time) then-acts r.columns gone-on none
+
+    pub drawn-after : is_drawn r.span r.state.time ≡ true
+        → record told { acted = false; columns = r.columns ++ column_of r.scenario t told.acted ∷ [] } ≡ issued r i
+    drawn-after drawn =
+        let same : column_of r.scenario after.0 then-acted ≡ column_of r.scenario r.state then-acted =
+        column-ticks r.scenario r.state after.0 then-acted (time-ticks r.scenario r.state i setting time-on) in
+        let one : r.columns ++ column_of r.scenario after.0 then-acted ∷ [] ≡ r.columns ++ cond (is_drawn r.span r.state.time) (column_of r.scenario r.state then-acted ∷ []) [] =
+        ap (λ (c : ColumnContents). r.columns ++ c ∷ []) same ∙ sym (ap (λ (d : Bool). r.columns ++ cond d (column_of r.scenario r.state then-acted ∷ []) []) drawn) in
+        ap (λ (q : Recording). record q { acted = false; columns = q.columns ++ column_of q.scenario q.state q.acted ∷ [] }) told-is
+        ∙ passed-if r after.0 then-acted (nat_lt r.state.time after.0.time) (is_drawn r.span r.state.time) then-acts
+        (r.columns ++ column_of r.scenario after.0 then-acted ∷ []) gone-on one
+
+    -- there is room for a column
+    pub room-after : IsRecording r → is_drawn r.span r.state.time ≡ true → from_time r.span.from + length r.columns < t.time
+    room-after holds drawn =
+        let on : r.state.time < t.time = subst (λ (u : State). r.state.time < u.time) (sym at) time-on in
+        room-if (length r.columns) (from_time r.span.from) r.state.time t.time on (begun (nat_le (from_time r.span.from) r.state.time) (is_before r.state.time r.span.to) drawn) holds.late
+      where
+        begun : (a b : Bool) → (a && b) ≡ true → a ≡ true
+        begun true b e = refl
+        begun false b e = absurd cc
+
+        room-if : (n from time next : ℕ) → time < next → nat_le from time ≡ true → (0 < n → from + n ≤ time) → from + n < next
+        room-if zero from time next on is late = (let least : from ≤ time = grind (arith, nat_tests) in omega arith)
+        room-if (suc n) from time next on is late = (let least = late (omega arith) in omega arith)
 
 -- what overflows once overflows ever after
 pub overflows-stays : (r : Recording) (instrs : List Instr) → overflows r ≡ true → overflows (issued_all r instrs) ≡ true
@@ -142,9 +151,26 @@ overflows-stays r [] wide = wide
 overflows-stays r (i ∷ is) wide =
     let next = table r.scenario r.state i in
     let acted = r.acted || is_act i next.1 in
-    overflows-stays (issued r i) is (overflows-longer r (new_columns r next.0 acted) next.0 (cond (nat_lt r.state.time next.0.time) false acted) wide)
+    overflows-stays (issued r i) is
+    (overflows-longer r (new_columns r next.0 acted) next.0 (cond (nat_lt r.state.time next.0.time) false acted) (r.acts ++ new_acts r.span r.state.time i next.1) wide)
 
 -- Times.
+
+-- the times at which the actor did something
+abbrev times_from : ScenarioContents → State → List Instr → List ℕ
+times_from S s [] = []
+times_from S s (i ∷ is) = cond (is_act i (table S s i).1) (s.time ∷ []) [] ++ times_from S (table S s i).0 is
+
+acted-if : (b : Bool) (act : Act) (acts : List Act) (times : List ℕ) (at : ℕ) → acted_at acts at ≡ list_any (λ time. time == at) times
+    → acted_at (cond b (act ∷ []) [] ++ acts) at ≡ list_any (λ time. time == at) (cond b (act.time ∷ []) [] ++ times)
+acted-if true act acts times at same = ap (λ (b : Bool). (act.time == at) || b) same
+acted-if false act acts times at same = same
+
+acted-times : (S : ScenarioContents) (s : State) (instrs : List Instr) (at : ℕ) → acted_at (acts_from S s instrs) at ≡ list_any (λ time. time == at) (times_from S s instrs)
+acted-times S s [] at = refl
+acted-times S s (i ∷ is) at =
+    let next = table S s i in
+    acted-if (is_act i next.1) (record { time = s.time; instr = i }) (acts_from S next.0 is) (times_from S next.0 is) at (acted-times S next.0 is at)
 
 -- each tick of a run begins at its time or later
 abbrev AllLater : ℕ → List State → Type 0
@@ -179,11 +205,11 @@ module _ (S : ScenarioContents) (setting : IsSetting S) where
   acts-later-if true s acts none = (omega arith, none)
   acts-later-if false s acts none = none
 
-  acts-later : (s : State) (instrs : List Instr) → NoneBefore s.time (acts_from S s instrs)
+  acts-later : (s : State) (instrs : List Instr) → NoneBefore s.time (times_from S s instrs)
   acts-later s [] = tt
   acts-later s (i ∷ is) =
       let next = table S s i in
-      acts-later-if (is_act i next.1) s (acts_from S next.0 is) (none-weaker s.time next.0.time (acts_from S next.0 is) (time-goes_on S s i setting) (acts-later next.0 is))
+      acts-later-if (is_act i next.1) s (times_from S next.0 is) (none-weaker s.time next.0.time (times_from S next.0 is) (time-goes_on S s i setting) (acts-later next.0 is))
 
 none-at : (time : ℕ) (acts : List ℕ) → NoneBefore (time + 1) acts → list_any (λ act. act == time) acts ≡ false
 none-at time [] none = refl
@@ -194,11 +220,11 @@ none-at time (act ∷ acts) none =
 -- Columns.
 
 -- whether the actor acted at the time of the state, where it did something before at this time, and then at those
-abbrev pub acted_at : Bool → ℕ → List ℕ → State → Bool
-acted_at before time acts s = (before && (time == s.time)) || list_any (λ act. act == s.time) acts
+abbrev pub flag_at : Bool → ℕ → List ℕ → State → Bool
+flag_at before time acts s = (before && (time == s.time)) || list_any (λ act. act == s.time) acts
 
 abbrev recorded : ScenarioContents → Bool → ℕ → List ℕ → List State → List ColumnContents
-recorded S before time acts states = map (λ s. column_of S s (acted_at before time acts s)) states
+recorded S before time acts states = map (λ s. column_of S s (flag_at before time acts s)) states
 
 -- a flag that is the same for each of these states
 recorded-same : (S : ScenarioContents) (f g : State → Bool) (least : ℕ) (states : List State) → AllLater least states → ((s : State) → least ≤ s.time → f s ≡ g s)
@@ -222,7 +248,7 @@ once : (e a : Bool) → (e || a) ≡ (e || (e || a))
 once true a = refl
 once false a = refl
 
-flag-stays : (before act : Bool) (time : ℕ) (acts : List ℕ) (s : State) → acted_at (before || act) time acts s ≡ acted_at before time (cond act (time ∷ []) [] ++ acts) s
+flag-stays : (before act : Bool) (time : ℕ) (acts : List ℕ) (s : State) → flag_at (before || act) time acts s ≡ flag_at before time (cond act (time ∷ []) [] ++ acts) s
 flag-stays true true time acts s = once (time == s.time) (list_any (λ act. act == s.time) acts)
 flag-stays true false time acts s = refl
 flag-stays false true time acts s = refl
@@ -249,7 +275,7 @@ acts-with : (act : Bool) (time : ℕ) (acts : List ℕ) (at : ℕ) → list_any 
 acts-with true time acts at = refl
 acts-with false time acts at = refl
 
-flag-later : (before act : Bool) (time next : ℕ) (acts : List ℕ) (s : State) → time < s.time → acted_at false next acts s ≡ acted_at before time (cond act (time ∷ []) [] ++ acts) s
+flag-later : (before act : Bool) (time next : ℕ) (acts : List ℕ) (s : State) → time < s.time → flag_at false next acts s ≡ flag_at before time (cond act (time ∷ []) [] ++ acts) s
 flag-later before act time next acts s later =
     let apart : (time == s.time) ≡ false = grind (arith, nat_tests) in
     neither before act (time == s.time) (list_any (λ act. act == s.time) acts) (list_any (λ act. act == s.time) (cond act (time ∷ []) [] ++ acts)) apart (acts-with act time acts s.time)
@@ -263,7 +289,7 @@ either before act e a rest is none same =
     let first : (before && e) ≡ before = ap (λ (b : Bool). before && b) is ∙ and-true before in
     sym (ap (λ (b : Bool). b || rest) first ∙ ap (λ (b : Bool). before || b) (same ∙ within act e a is none))
 
-flag-here : (before act : Bool) (s : State) (acts : List ℕ) → NoneBefore (s.time + 1) acts → (before || act) ≡ acted_at before s.time (cond act (s.time ∷ []) [] ++ acts) s
+flag-here : (before act : Bool) (s : State) (acts : List ℕ) → NoneBefore (s.time + 1) acts → (before || act) ≡ flag_at before s.time (cond act (s.time ∷ []) [] ++ acts) s
 flag-here before act s acts none =
     let same : (s.time == s.time) ≡ true = grind (arith, nat_tests) in
     either before act (s.time == s.time) (list_any (λ act. act == s.time) acts) (list_any (λ act. act == s.time) (cond act (s.time ∷ []) [] ++ acts)) same (none-at s.time acts none) (acts-with act s.time acts s.time)
@@ -282,7 +308,7 @@ module _ (S : ScenarioContents) (setting : IsSetting S) (span : Span) (s : State
   next = (table S s i).0
 
   abbrev acts_then : List ℕ
-  acts_then = acts_from S next is
+  acts_then = times_from S next is
 
   abbrev acts : Bool
   acts = is_act i (table S s i).1
@@ -295,8 +321,8 @@ module _ (S : ScenarioContents) (setting : IsSetting S) (span : Span) (s : State
       ≡ recorded S before s.time (cond acts (s.time ∷ []) [] ++ acts_then) (filter (λ s. is_drawn span s.time) (s ∷ ticks_from S next is))
   tick-recorded less =
       let states = filter (λ s. is_drawn span s.time) (ticks_from S next is) in
-      let f = acted_at false next.time acts_then in
-      let g = acted_at before s.time (cond acts (s.time ∷ []) [] ++ acts_then) in
+      let f = flag_at false next.time acts_then in
+      let g = flag_at before s.time (cond acts (s.time ∷ []) [] ++ acts_then) in
       drawn-first S f g (before || acts) (is_drawn span s.time) s states (flag-here before acts s acts_then (later less))
       (recorded-same S f g next.time states (drawn-later next.time span (ticks_from S next is) (ticks-later S setting next is))
       (λ u above. flag-later before acts s.time next.time acts_then u (omega arith)))
@@ -307,7 +333,7 @@ module _ (S : ScenarioContents) (setting : IsSetting S) (span : Span) (s : State
   stay-recorded same =
       let states = filter (λ s. is_drawn span s.time) (ticks_from S next is) in
       ap (λ (time : ℕ). recorded S (before || acts) time acts_then states) same
-      ∙ recorded-same S (acted_at (before || acts) s.time acts_then) (acted_at before s.time (cond acts (s.time ∷ []) [] ++ acts_then)) next.time states
+      ∙ recorded-same S (flag_at (before || acts) s.time acts_then) (flag_at before s.time (cond acts (s.time ∷ []) [] ++ acts_then)) next.time states
       (drawn-later next.time span (ticks_from S next is) (ticks-later S setting next is)) (λ u above. flag-stays before acts s.time acts_then u)
 
   one-recorded : (b : Bool) → nat_lt s.time next.time ≡ b
@@ -320,58 +346,92 @@ module _ (S : ScenarioContents) (setting : IsSetting S) (span : Span) (s : State
       stay-recorded same
 
 pub all-recorded : (r : Recording) (instrs : List Instr) → IsSetting r.scenario
-    → (issued_all r instrs).columns ≡ r.columns ++ recorded r.scenario r.acted r.state.time (acts_from r.scenario r.state instrs) (filter (λ s. is_drawn r.span s.time) (ticks_from r.scenario r.state instrs))
+    → (issued_all r instrs).columns ≡ r.columns ++ recorded r.scenario r.acted r.state.time (times_from r.scenario r.state instrs) (filter (λ s. is_drawn r.span s.time) (ticks_from r.scenario r.state instrs))
 all-recorded r [] setting = sym (append-nil r.columns)
 all-recorded r (i ∷ is) setting =
     let S = r.scenario in
     let t = (table S r.state i).0 in
     let acted = r.acted || is_act i (table S r.state i).1 in
     all-recorded (issued r i) is setting
-    ∙ append_assoc r.columns (new_columns r t acted) (recorded S (cond (nat_lt r.state.time t.time) false acted) t.time (acts_from S t is) (filter (λ s. is_drawn r.span s.time) (ticks_from S t is)))
+    ∙ append_assoc r.columns (new_columns r t acted) (recorded S (cond (nat_lt r.state.time t.time) false acted) t.time (times_from S t is) (filter (λ s. is_drawn r.span s.time) (ticks_from S t is)))
     ∙ ap (λ (cs : List ColumnContents). r.columns ++ cs) (one-recorded S setting r.span r.state i is r.acted (nat_lt r.state.time t.time) refl)
 
 -- the columns of a whole run
-pub run-recorded : (S : ScenarioContents) (span : Span) (instrs : List Instr) → IsSetting S
-    → (issued_all (recording_begun S span) instrs).columns ≡ map (λ s. column_of S s (acted_at false 0 (acts_from S (start S) instrs) s)) (columns S instrs span)
-run-recorded S span instrs setting = all-recorded (recording_begun S span) instrs setting
+run-recorded : (S : ScenarioContents) (span : Span) (instrs : List Instr) → IsSetting S → (issued_all (recording_begun S span) instrs).columns ≡ ticks_told S instrs span
+run-recorded S span instrs setting =
+    all-recorded (recording_begun S span) instrs setting
+    ∙ told-all (columns S instrs span)
+  where
+    told-all : (states : List State) → map (λ s. column_of S s (flag_at false 0 (times_from S (start S) instrs) s)) states ≡ map (λ s. column_of S s (acted_at (run_acts S instrs) s.time)) states
+    told-all [] = refl
+    told-all (s ∷ states) =
+        ap (λ (b : Bool). column_of S s b ∷ map (λ s. column_of S s (flag_at false 0 (times_from S (start S) instrs) s)) states) (sym (acted-times S (start S) instrs s.time))
+        ∙ ap (λ (cs : List ColumnContents). column_of S s (acted_at (run_acts S instrs) s.time) ∷ cs) (told-all states)
+
+-- What the actor did in the span.
+
+acts-if : (b d : Bool) (act : Act) (p : Act → Bool) (acts : List Act) → p act ≡ d → cond (b && d) (act ∷ []) [] ++ filter p acts ≡ filter p (cond b (act ∷ []) [] ++ acts)
+acts-if true true act p acts is = sym (ap (λ (c : Bool). cond c (act ∷ filter p acts) (filter p acts)) is)
+acts-if true false act p acts is = sym (ap (λ (c : Bool). cond c (act ∷ filter p acts) (filter p acts)) is)
+acts-if false d act p acts is = refl
+
+all-noted : (r : Recording) (instrs : List Instr) → (issued_all r instrs).acts ≡ r.acts ++ filter (λ act. is_drawn r.span act.time) (acts_from r.scenario r.state instrs)
+all-noted r [] = sym (append-nil r.acts)
+all-noted r (i ∷ is) =
+    let next = table r.scenario r.state i in
+    let rest = acts_from r.scenario next.0 is in
+    let p : Act → Bool = λ act. is_drawn r.span act.time in
+    all-noted (issued r i) is ∙ append_assoc r.acts (new_acts r.span r.state.time i next.1) (filter p rest)
+    ∙ ap (λ (more : List Act). r.acts ++ more) (acts-if (is_act i next.1) (is_drawn r.span r.state.time) (record { time = r.state.time; instr = i }) p rest refl)
 
 -- The picture.
+
+scenario-stays : (r : Recording) (instrs : List Instr) → (issued_all r instrs).scenario ≡ r.scenario
+scenario-stays r [] = refl
+scenario-stays r (i ∷ is) = scenario-stays (issued r i) is
 
 span-stays : (r : Recording) (instrs : List Instr) → (issued_all r instrs).span ≡ r.span
 span-stays r [] = refl
 span-stays r (i ∷ is) = span-stays (issued r i) is
 
--- a recording overflows where the picture is too wide
-overflows-is : (S : ScenarioContents) (span : Span) (instrs : List Instr) → IsSetting S → overflows (issued_all (recording_begun S span) instrs) ≡ is_too_wide S instrs span
-overflows-is S span instrs setting =
-    let states = columns S instrs span in
-    let columns_are = run-recorded S span instrs setting in
-    let many = ap length columns_are ∙ length-map states (λ s. column_of S s (acted_at false 0 (acts_from S (start S) instrs) s)) in
-    ap (λ (at : Span). is_open at && nat_lt MAX_COLUMNS (length (issued_all (recording_begun S span) instrs).columns)) (span-stays (recording_begun S span) instrs)
-    ∙ ap (λ (n : ℕ). is_open span && nat_lt MAX_COLUMNS n) many
+wider : (b : Bool) (m n : ℕ) → m ≤ n → (b && nat_lt MAX_COLUMNS m) ≡ true → (b && nat_lt MAX_COLUMNS n) ≡ true
+wider true m n less wide = grind (arith, nat_tests)
+wider false m n less wide = wide
 
-pub refused : (S : ScenarioContents) (span : Span) (instrs : List Instr) (r : Recording) (why : PlayError) → IsSetting S → r ≡ recording_begun S span → IsDrawError why
-    → (why ≡ TooWide → overflows (issued_all r instrs) ≡ true) → Draws S instrs span (Err why)
-refused S span instrs r TooWide setting is of wide =
-    sym (overflows-is S span instrs setting) ∙ ap (λ (q : Recording). overflows (issued_all q instrs)) (sym is) ∙ wide refl
-refused S span instrs r NoMemory setting is of wide = tt
-refused S span instrs r other setting is of wide = of
+-- a picture of a recording that overflows is too wide
+pub refused : (S : ScenarioContents) (extent : ExtentContents) (instrs : List Instr) (r : Recording) (why : PlayError) → IsSetting S → r ≡ recording_begun S extent.span → IsDrawError why
+    → (why ≡ TooWide → overflows (issued_all r instrs) ≡ true) → Draws S instrs extent (Err why)
+refused S extent instrs r TooWide setting is of wide =
+    let columns_are = run-recorded S extent.span instrs setting in
+    let over : overflows (issued_all (recording_begun S extent.span) instrs) ≡ true = ap (λ (q : Recording). overflows (issued_all q instrs)) (sym is) ∙ wide refl in
+    let stretches : (is_open extent.span && nat_lt MAX_COLUMNS (length (stretches_of (ticks_told S instrs extent.span)))) ≡ true =
+    ap (λ (cs : List ColumnContents). is_open extent.span && nat_lt MAX_COLUMNS (length (stretches_of cs))) (sym columns_are)
+    ∙ ap (λ (at : Span). is_open at && nat_lt MAX_COLUMNS (length (stretches_of (issued_all (recording_begun S extent.span) instrs).columns))) (sym (span-stays (recording_begun S extent.span) instrs))
+    ∙ over in
+    wider (is_open extent.span) _ _ (stretches-fit true (ticks_told S instrs extent.span)) stretches
+refused S extent instrs r NoMemory setting is of wide = tt
+refused S extent instrs r other setting is of wide = of
 
-narrow-if : (b : Bool) (n : ℕ) → (b ≡ true → n ≤ MAX_COLUMNS) → (b && nat_lt MAX_COLUMNS n) ≡ false
-narrow-if true n few = (let most : n ≤ MAX_COLUMNS = few refl in grind (arith, nat_tests))
-narrow-if false n few = refl
+-- what was recorded of the run
+pub recorded-run : (S : ScenarioContents) (span : Span) (instrs : List Instr) (r : Recording) → IsSetting S → r ≡ issued_all (recording_begun S span) instrs
+    → (r.columns ≡ ticks_told S instrs span) × (r.acts ≡ filter (λ act. is_drawn span act.time) (run_acts S instrs)) × (r.span ≡ span) × (r.scenario ≡ S)
+recorded-run S span instrs r setting is =
+    let begun = recording_begun S span in (
+      ap (λ (q : Recording). q.columns) is ∙ run-recorded S span instrs setting,
+      ap (λ (q : Recording). q.acts) is ∙ all-noted begun instrs,
+      ap (λ (q : Recording). q.span) is ∙ span-stays begun instrs,
+      ap (λ (q : Recording). q.scenario) is ∙ scenario-stays begun instrs,
+    )
 
-pub pictured : (S : ScenarioContents) (span : Span) (instrs : List Instr) (r : Recording) (cs : List ColumnContents) (ticks : ℕ) (rows : List RowContents) → IsSetting S
-    → r ≡ issued_all (recording_begun S span) instrs → cs ≡ r.columns → (is_open r.span ≡ true → length cs ≤ MAX_COLUMNS) → ticks ≡ length cs → rows ≡ cut_rows S cs (titles S)
-    → Draws S instrs span (Ok (record { from = from_time span.from; ticks = ticks; rows = rows }))
-pictured S span instrs r cs ticks rows setting is are few counted cut =
-    let acts = acts_from S (start S) instrs in
-    let states = columns S instrs span in
-    let recorded_as : cs ≡ map (λ s. column_of S s (acted_at false 0 acts s)) states = are ∙ ap (λ (q : Recording). q.columns) is ∙ run-recorded S span instrs setting in
-    let many : ticks ≡ length states = counted ∙ ap length recorded_as ∙ length-map states (λ s. column_of S s (acted_at false 0 acts s)) in
-    let shown : rows ≡ specs.rows S acts states = cut ∙ ap (λ (columns : List ColumnContents). cut_rows S columns (titles S)) recorded_as ∙ rows-cut S acts (acted_at false 0 acts) (λ s. refl) states in
-    let narrow : overflows r ≡ false = ap (λ (columns : List ColumnContents). is_open r.span && nat_lt MAX_COLUMNS (length columns)) (sym are) ∙ narrow-if (is_open r.span) (length cs) few in (
-      ap (λ (ticks : ℕ). record { from = from_time span.from; ticks = ticks; rows = rows }) many
-          ∙ ap (λ (all : List RowContents). record { from = from_time span.from; ticks = length states; rows = all }) shown,
-      sym (overflows-is S span instrs setting) ∙ ap overflows (sym is) ∙ narrow,
+pub pictured : (S : ScenarioContents) (extent : ExtentContents) (instrs : List Instr) (cs : List ColumnContents) (fold : Bool) (edges : List ℕ) (rows : List RowContents) (done : List Act)
+    → cs ≡ ticks_told S instrs extent.span → done ≡ filter (λ act. is_drawn extent.span act.time) (run_acts S instrs) → is_wide extent.span cs ≡ false
+    → fold ≡ (extent.fold || is_long extent.span cs) → edges ≡ edges_from (from_time extent.span.from) (ticks_drawn fold (stretches_of cs))
+    → rows ≡ cut_rows S (columns_drawn fold (stretches_of cs)) (titles S extent.works)
+    → Draws S instrs extent (Ok (record { edges = edges; rows = rows; acts = done }))
+pictured S extent instrs cs fold edges rows done told noted narrow folding edges_are cut =
+    let whole : List ColumnContents → Bool → List Act → PictureContents = λ cs fold acts. picture_of S extent.works fold (from_time extent.span.from) cs acts in
+    let drawn : record { edges = edges; rows = rows; acts = done } ≡ whole cs fold done = rw (edges_are, cut) refl in (
+      drawn ∙ ap (λ (b : Bool). whole cs b done) folding ∙ ap (λ (cs : List ColumnContents). whole cs (extent.fold || is_long extent.span cs) done) told
+          ∙ ap (λ (done : List Act). whole (ticks_told S instrs extent.span) (is_folded S instrs extent) done) noted,
+      ap (is_wide extent.span) (sym told) ∙ narrow,
     )

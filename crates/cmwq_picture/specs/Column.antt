@@ -1,4 +1,4 @@
--- What a column keeps of a state, and what rows read off it. No public clause cites this module.
+-- What is told of a tick, and what rows read off it.
 use Rattle.std.specs.Prelude.{ℕ, Bool, List, length, map, Option, Some, None, if◌then◌else◌, slice_index_or}
 use Rattle.std.specs.List.{filter, filter_map, find}
 use Rattle.cmwq_types.specs.Contents.{ScenarioContents}
@@ -6,18 +6,20 @@ use Rattle.cmwq_table.specs.Counts.{burns}
 use Rattle.cmwq_table.specs.State.{State, running_at}
 use Rattle.cmwq_table.specs.declared.state.Running.{Running}
 use Rattle.cmwq_picture.specs.PictureContents.{RowContents}
-use Rattle.cmwq_picture.specs.Picture.{act_cell, below, pending_sign, stands_in_picture, stands_in, work_sign}
+use Rattle.cmwq_picture.specs.Picture.{act_cell, below, lasting_cell, pending_sign, stands_in_picture, stands_in, work_sign}
 use Rattle.cmwq_picture.specs.declared.cell.Cell.{Cell}
 use Rattle.cmwq_picture.specs.declared.cell.Cell.TheVariants.{Empty, Burner}
 use Rattle.cmwq_picture.specs.declared.column.Burning.{Burning}
 use Rattle.cmwq_picture.specs.declared.row.Title.{Title}
 use Rattle.cmwq_picture.specs.declared.row.Title.TheVariants as title
 
--- what each work does and who burns, by number, and whether the actor did something
+-- what each work does and who burns, by number; whether there is a freeze, and memory pressure; and whether the actor did something
 pub record ColumnContents : Type 0 where
   pub works : List Cell
   pub pending : List Cell
   pub burners : List Burning
+  pub frozen : Bool
+  pub pressed : Bool
   pub acted : Bool
 
 -- where a running work burns
@@ -34,6 +36,8 @@ column_of S s acted =
       works = map (work_sign S s) (below (length S.works));
       pending = map (pending_sign s) (below (length S.works));
       burners = filter_map (burning S s) (below (length S.works));
+      frozen = s.frozen;
+      pressed = s.pressed;
       acted = acted;
     }
 
@@ -53,6 +57,8 @@ cell_shown S (title.Pending w) column = slice_index_or column.pending w.0 Empty
 cell_shown S (title.Cpu cpu) column = burner_in S (title.Cpu cpu) column.burners
 cell_shown S (title.Worker pool worker) column = burner_in S (title.Worker pool worker) column.burners
 cell_shown S (title.Rescuer queue) column = burner_in S (title.Rescuer queue) column.burners
+cell_shown S title.Frozen column = lasting_cell column.frozen
+cell_shown S title.Pressed column = lasting_cell column.pressed
 cell_shown S title.Actor column = act_cell column.acted
 
 abbrev pub cut : ScenarioContents → List ColumnContents → Title → RowContents

@@ -10,4 +10,4 @@ abbrev pub column_eq : ColumnContents → ColumnContents → Bool
 column_eq x y =
     pointwise cell.ghosts.eq x.works y.works
     && (pointwise cell.ghosts.eq x.pending y.pending
-    && (pointwise burning.ghosts.eq x.burners y.burners && beq x.acted y.acted))
+    && (pointwise burning.ghosts.eq x.burners y.burners && (beq x.frozen y.frozen && (beq x.pressed y.pressed && beq x.acted y.acted))))

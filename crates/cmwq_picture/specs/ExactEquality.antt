@@ -12,7 +12,7 @@ use Rattle.cmwq_types.specs.ExactEquality.{exact, same_work_id, told}
 use Rattle.cmwq_picture.specs.Column.{ColumnContents}
 use Rattle.cmwq_picture.specs.Equality.{column_eq}
 use Rattle.cmwq_picture.specs.declared.cell.Cell.{Cell}
-use Rattle.cmwq_picture.specs.declared.cell.Cell.TheVariants.{Empty, Does, Burner, Acts}
+use Rattle.cmwq_picture.specs.declared.cell.Cell.TheVariants.{Empty, Does, Burner, Acts, Lasts}
 use Rattle.cmwq_picture.specs.declared.cell.Sign.{Sign}
 use Rattle.cmwq_picture.specs.declared.cell.Sign.TheVariants.{Burns, Waits, Sleeps, Listed, Inactive, Timed, Deferred}
 use Rattle.cmwq_picture.specs.declared.column.Burning.{Burning}
@@ -37,6 +37,7 @@ same_cell Empty Empty h = refl
 same_cell (Does a) (Does b) h = ap Does (same_sign a b h)
 same_cell (Burner v) (Burner w) h = ap Burner (same_work_id v w h)
 same_cell Acts Acts h = refl
+same_cell Lasts Lasts h = refl
 same_cell x y h = absurd (true≢false (sym h))
 
 same_burning : (x y : Burning) → burning.ghosts.eq x y ≡ true → x ≡ y
@@ -60,16 +61,22 @@ column_eq_is_exact x y =
     let works = Decides-cells x.works y.works in
     let pending = Decides-cells x.pending y.pending in
     let burners = Decides-burners x.burners y.burners in
+    let frozen = booleans_Decides x.frozen y.frozen in
+    let pressed = booleans_Decides x.pressed y.pressed in
     let acted = booleans_Decides x.acted y.acted in
-    let last = pointwise burning.ghosts.eq x.burners y.burners && beq x.acted y.acted in (
+    let flags = beq x.frozen y.frozen && (beq x.pressed y.pressed && beq x.acted y.acted) in
+    let last = pointwise burning.ghosts.eq x.burners y.burners && flags in (
       λ h.
           let a = and_parts (pointwise cell.ghosts.eq x.works y.works) (pointwise cell.ghosts.eq x.pending y.pending && last) h in
           let b = and_parts (pointwise cell.ghosts.eq x.pending y.pending) last a.1 in
-          let c = and_parts (pointwise burning.ghosts.eq x.burners y.burners) (beq x.acted y.acted) b.1 in
-          λ i. record { works = works.0 a.0 i; pending = pending.0 b.0 i; burners = burners.0 c.0 i; acted = acted.0 c.1 i },
+          let c = and_parts (pointwise burning.ghosts.eq x.burners y.burners) flags b.1 in
+          let d = and_parts (beq x.frozen y.frozen) (beq x.pressed y.pressed && beq x.acted y.acted) c.1 in
+          let e = and_parts (beq x.pressed y.pressed) (beq x.acted y.acted) d.1 in
+          λ i. record { works = works.0 a.0 i; pending = pending.0 b.0 i; burners = burners.0 c.0 i; frozen = frozen.0 d.0 i; pressed = pressed.0 e.0 i; acted = acted.0 e.1 i },
       λ e.
           both_true (works.1 (ap (λ c. c.works) e))
-          (both_true (pending.1 (ap (λ c. c.pending) e)) (both_true (burners.1 (ap (λ c. c.burners) e)) (acted.1 (ap (λ c. c.acted) e)))),
+          (both_true (pending.1 (ap (λ c. c.pending) e)) (both_true (burners.1 (ap (λ c. c.burners) e))
+          (both_true (frozen.1 (ap (λ c. c.frozen) e)) (both_true (pressed.1 (ap (λ c. c.pressed) e)) (acted.1 (ap (λ c. c.acted) e)))))),
     )
 
 -- what an answer of the test says

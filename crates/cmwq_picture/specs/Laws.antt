@@ -1,5 +1,5 @@
 -- What one may believe of every picture.
-use Rattle.std.specs.Prelude.{◌≡◌, ◌↔◌, ℕ, ◌+◌, ◌/◌, ◌<◌, false, true, List, length, Some, None, slice_index_or}
+use Rattle.std.specs.Prelude.{◌≡◌, ◌⊎◌, ◌↔◌, ℕ, ◌+◌, ◌/◌, ◌<◌, Bool, false, true, List, [], ◌∷◌, ◌++◌, length, map, replicate, Some, None, slice_index_or}
 use Rattle.cmwq_types.specs.Contents.{ScenarioContents}
 use Rattle.cmwq_types.specs.Faults.{IsValid}
 use Rattle.cmwq_types.specs.Scenario.{is_unbound}
@@ -8,9 +8,15 @@ use Rattle.cmwq_table.specs.Counts.{burns}
 use Rattle.cmwq_table.specs.State.{State, pending_at, running_at}
 use Rattle.cmwq_table.specs.Table.{run}
 use Rattle.cmwq_table.specs.declared.state.Running.{Running}
+use Rattle.cmwq_picture.specs.Column.{ColumnContents, cell_shown}
+use Rattle.cmwq_picture.specs.Folding.{columns_drawn, stretches_of, ticks_drawn}
 use Rattle.cmwq_picture.specs.Picture.{cell, columns, from_time, work_sign}
+use Rattle.cmwq_picture.specs.PictureOfRun.{acts, ticks_told}
 use Rattle.cmwq_picture.specs.declared.cell.Cell.TheVariants.{Empty, Burner}
+use Rattle.cmwq_picture.specs.declared.row.Act.{Act}
+use Rattle.cmwq_picture.specs.declared.row.Title.{Title}
 use Rattle.cmwq_picture.specs.declared.row.Title.TheVariants as title
+use Rattle.cmwq_picture.specs.declared.span.TheConstants.{MAX_UNFOLDED}
 use Rattle.cmwq_tasks.specs.declared.drawing.Span.{Span}
 
 -- Columns.
@@ -49,5 +55,36 @@ BurnsAlone =
 -- So the row of a CPU shows each bound work that burns there.
 unfoldable pub ShowsEachBurner : Type 0
 ShowsEachBurner =
-    (S : ScenarioContents) (s : State) (acts : List ℕ) (w : ℕ) (r : Running) → w < length S.works → BurnsBound S s w r
+    (S : ScenarioContents) (s : State) (acts : List Act) (w : ℕ) (r : Running) → w < length S.works → BurnsBound S s w r
     → cell S acts (title.Cpu (r.pool / 2)) s ≡ Burner (record { 0 = w })
+
+-- Folded columns.
+
+-- the row is of a work that there is, or of none
+abbrev pub IsDeclaredRow : ScenarioContents → Title → Type 0
+IsDeclaredRow S (title.Work w) = w.0 < length S.works
+IsDeclaredRow S (title.Pending w) = w.0 < length S.works
+IsDeclaredRow S other = Unit {0}
+
+-- each of these as often as it has ticks
+abbrev pub written_out : {A : Type 0} → List A → List ℕ → List A
+written_out [] ticks = []
+written_out (x ∷ xs) [] = []
+written_out (x ∷ xs) (n ∷ ns) = replicate n x ++ written_out xs ns
+
+-- Folded or not, a cell of a row shows what is so at each tick for which its column stands.
+unfoldable pub ShowsEachTick : Type 0
+ShowsEachTick =
+    (S : ScenarioContents) (instrs : List Instr) (span : Span) (fold : Bool) (row : Title) → IsDeclaredRow S row
+    → written_out (map (cell_shown S row) (columns_drawn fold (stretches_of (ticks_told S instrs span)))) (ticks_drawn fold (stretches_of (ticks_told S instrs span)))
+    ≡ map (cell S (acts S instrs) row) (columns S instrs span)
+
+-- A column stands for one tick, or for more than MAX_UNFOLDED, at none of which the actor did anything.
+abbrev pub StandsForTicks : List ColumnContents → List ℕ → Type 0
+StandsForTicks [] ticks = Unit {0}
+StandsForTicks (column ∷ columns) [] = Unit {0}
+StandsForTicks (column ∷ columns) (n ∷ ns) = ((n ≡ 1) ⊎ ((MAX_UNFOLDED < n) × (column.acted ≡ false))) × StandsForTicks columns ns
+
+unfoldable pub FoldsLongStretches : Type 0
+FoldsLongStretches =
+    (columns : List ColumnContents) (fold : Bool) → StandsForTicks (columns_drawn fold (stretches_of columns)) (ticks_drawn fold (stretches_of columns))

@@ -1,8 +1,11 @@
 pub mod Column
 pub mod Equality
 pub mod ExactEquality
+pub mod ExtentContents
+pub mod Folding
 pub mod Laws
 pub mod Picture
 pub mod PictureContents
+pub mod PictureOfRun
 pub mod Recording
 pub mod Stretches

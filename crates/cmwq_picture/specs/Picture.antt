@@ -1,10 +1,11 @@
 -- What a picture of a run shows: a row for each work, CPU and worker, and a column for each tick.
-use Rattle.std.specs.Prelude.{◌≡◌, ℕ, ◌*◌, ◌/◌, Bool, true, false, not, ◌&&◌, ◌||◌, List, [], ◌∷◌, ◌++◌, length, map, Option, Some, None, is_none, Result, Ok, Err, if◌then◌else◌, nat_le, nat_lt, ◌==◌}
+use Rattle.std.specs.Prelude.{◌≡◌, ℕ, ◌*◌, ◌/◌, Bool, true, false, not, ◌&&◌, ◌||◌, List, [], ◌∷◌, ◌++◌, length, map, Option, Some, None, if◌then◌else◌, nat_le, nat_lt, ◌==◌}
 use Rattle.std.specs.List.{filter, find, flat_map, list_any, range_with_len}
 use Rattle.cmwq_types.specs.Contents.{ScenarioContents}
 use Rattle.cmwq_types.specs.Scenario.{is_unbound, queue_of}
 use Rattle.cmwq_types.specs.declared.instr.Instr.{Instr}
 use Rattle.cmwq_types.specs.declared.instr.Instr.TheVariants as instr
+use Rattle.cmwq_types.specs.declared.instr.WorkId.{WorkId}
 use Rattle.cmwq_types.specs.declared.reply.Mode.{Mode}
 use Rattle.cmwq_types.specs.declared.reply.Mode.TheVariants.{Runnable, Asleep}
 use Rattle.cmwq_types.specs.declared.reply.Place.{Place}
@@ -16,17 +17,15 @@ use Rattle.cmwq_table.specs.State.{State, pending_at, running_at, start}
 use Rattle.cmwq_table.specs.Table.{is_question, table}
 use Rattle.cmwq_table.specs.declared.state.Pending.{Pending}
 use Rattle.cmwq_table.specs.declared.state.Running.{Running}
-use Rattle.cmwq_picture.specs.PictureContents.{PictureContents, RowContents}
+use Rattle.cmwq_picture.specs.PictureContents.{RowContents}
 use Rattle.cmwq_picture.specs.declared.cell.Cell.{Cell}
-use Rattle.cmwq_picture.specs.declared.cell.Cell.TheVariants.{Empty, Does, Burner, Acts}
+use Rattle.cmwq_picture.specs.declared.cell.Cell.TheVariants.{Empty, Does, Burner, Acts, Lasts}
 use Rattle.cmwq_picture.specs.declared.cell.Sign.{Sign}
 use Rattle.cmwq_picture.specs.declared.cell.Sign.TheVariants as sign
-use Rattle.cmwq_streams.specs.declared.error.PlayError.{PlayError}
-use Rattle.cmwq_streams.specs.declared.error.PlayError.TheVariants.{TooWide, NoMemory}
+use Rattle.cmwq_picture.specs.declared.row.Act.{Act}
 use Rattle.cmwq_picture.specs.declared.row.Title.{Title}
 use Rattle.cmwq_picture.specs.declared.row.Title.TheVariants as title
 use Rattle.cmwq_tasks.specs.declared.drawing.Span.{Span}
-use Rattle.cmwq_picture.specs.declared.span.TheConstants.{MAX_COLUMNS}
 use Rattle.cmwq_table.specs.Events.{is_refusal}
 
 -- the numbers below n
@@ -94,6 +93,15 @@ second_cell None p = Empty
 abbrev pub pending_sign : State → ℕ → Cell
 pending_sign s w = second_cell (running_at s w) (pending_at s w)
 
+-- a work that is pending or runs waits unless it burns
+abbrev pub is_waiting_sign : Sign → Bool
+is_waiting_sign sign.Burns = false
+is_waiting_sign other = true
+
+abbrev pub shows_waiting : Cell → Bool
+shows_waiting (Does sign) = is_waiting_sign sign
+shows_waiting other = false
+
 -- Who burns.
 
 -- whether a work that burns in the pool, on the worker, stands in the row: on the CPU whose normal or high pool it is, on a
@@ -129,28 +137,38 @@ is_own_move i = false
 abbrev pub is_act : Instr → Reply → Bool
 is_act i answer = not (is_own_move i || is_question i || is_refusal answer)
 
--- the times at which the actor did something
-abbrev pub acts_from : ScenarioContents → State → List Instr → List ℕ
+-- what the actor did, and when
+abbrev pub acts_from : ScenarioContents → State → List Instr → List Act
 acts_from S s [] = []
-acts_from S s (i ∷ is) = (if is_act i (table S s i).1 then s.time ∷ [] else []) ++ acts_from S (table S s i).0 is
+acts_from S s (i ∷ is) =
+    (if is_act i (table S s i).1 then record { time = s.time; instr = i } ∷ [] else []) ++ acts_from S (table S s i).0 is
+
+-- whether it did something at this time
+abbrev pub acted_at : List Act → ℕ → Bool
+acted_at acts time = list_any (λ act. act.time == time) acts
 
 abbrev pub act_cell : Bool → Cell
 act_cell true = Acts
 act_cell false = Empty
 
+-- Freezes, and memory pressure.
+
+abbrev pub lasting_cell : Bool → Cell
+lasting_cell true = Lasts
+lasting_cell false = Empty
+
 -- Rows.
 
--- the cell of a row at the state just before a tick, where the actor did something at these times
-abbrev pub cell : ScenarioContents → List ℕ → Title → State → Cell
+-- the cell of a row at the state just before a tick, where the actor did this
+abbrev pub cell : ScenarioContents → List Act → Title → State → Cell
 cell S acts (title.Work w) s = work_sign S s w.0
 cell S acts (title.Pending w) s = pending_sign s w.0
 cell S acts (title.Cpu cpu) s = burner S s (title.Cpu cpu)
 cell S acts (title.Worker pool worker) s = burner S s (title.Worker pool worker)
 cell S acts (title.Rescuer queue) s = burner S s (title.Rescuer queue)
-cell S acts title.Actor s = act_cell (list_any (λ time. time == s.time) acts)
-
-abbrev pub row : ScenarioContents → List ℕ → List State → Title → RowContents
-row S acts states title = record { title = title; cells = map (cell S acts title) states }
+cell S acts title.Frozen s = lasting_cell s.frozen
+cell S acts title.Pressed s = lasting_cell s.pressed
+cell S acts title.Actor s = act_cell (acted_at acts s.time)
 
 -- the row of a CPU and that of the actor always stand
 abbrev pub stands_empty : Title → Bool
@@ -171,42 +189,15 @@ work_titles w = title.Work (record { 0 = w }) ∷ title.Pending (record { 0 = w 
 abbrev pub worker_titles : ScenarioContents → ℕ → List Title
 worker_titles S pool = map (λ worker. title.Worker pool worker) (below S.workers)
 
--- all rows that can stand, from the top: works, CPUs, the workers of the two unbound pools, rescuers, and the actor
-abbrev pub titles : ScenarioContents → List Title
-titles S =
-    flat_map work_titles (below (length S.works)) ++ map (λ cpu. title.Cpu cpu) (below S.cpus)
+-- whether the work has rows: one of these alone, where they are given
+abbrev pub is_picked : Option (List WorkId) → ℕ → Bool
+is_picked (Some works) w = list_any (λ work. work.0 == w) works
+is_picked None w = true
+
+-- all rows that can stand, from the top: works, CPUs, the workers of the two unbound pools, rescuers, freezes, pressure, and the actor
+abbrev pub titles : ScenarioContents → Option (List WorkId) → List Title
+titles S picked =
+    flat_map work_titles (filter (is_picked picked) (below (length S.works))) ++ map (λ cpu. title.Cpu cpu) (below S.cpus)
     ++ flat_map (worker_titles S) (range_with_len (2 * S.cpus) 2)
-    ++ map (λ queue. title.Rescuer (record { 0 = queue })) (below (length S.queues)) ++ title.Actor ∷ []
-
--- these rows, over these columns
-abbrev pub rows : ScenarioContents → List ℕ → List State → List RowContents
-rows S acts states = filter stands_in_picture (map (row S acts states) (titles S))
-
--- one end of the span isn't given: then at most MAX_COLUMNS columns are drawn
-abbrev pub is_open : Span → Bool
-is_open span = is_none span.from || is_none span.to
-
-abbrev pub is_too_wide : ScenarioContents → List Instr → Span → Bool
-is_too_wide S instrs span = is_open span && nat_lt MAX_COLUMNS (length (columns S instrs span))
-
--- the picture of the instructions' run
-abbrev pub picture : ScenarioContents → List Instr → Span → PictureContents
-picture S instrs span =
-    record {
-      from = from_time span.from;
-      ticks = length (columns S instrs span);
-      rows = rows S (acts_from S (start S) instrs) (columns S instrs span);
-    }
-
--- there is no picture for one of these reasons
-abbrev pub IsDrawError : PlayError → Type 0
-IsDrawError TooWide = Unit {0}
-IsDrawError NoMemory = Unit {0}
-IsDrawError other = ⊥
-
--- what is answered: the picture, or why there is none
-abbrev pub Draws : ScenarioContents → List Instr → Span → Result PictureContents PlayError → Type 0
-Draws S instrs span (Ok drawn) = (drawn ≡ picture S instrs span) × (is_too_wide S instrs span ≡ false)
-Draws S instrs span (Err TooWide) = is_too_wide S instrs span ≡ true
-Draws S instrs span (Err NoMemory) = Unit {0}
-Draws S instrs span (Err other) = ⊥
+    ++ map (λ queue. title.Rescuer (record { 0 = queue })) (below (length S.queues))
+    ++ title.Frozen ∷ title.Pressed ∷ title.Actor ∷ []

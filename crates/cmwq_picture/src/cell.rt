@@ -1,4 +1,6 @@
 //! What a row shows in one tick.
+ghost use Rattle.cmwq_picture.specs.Picture.{is_waiting_sign};
+ghost use Rattle.std.specs.Prelude.{◌≡◌};
 
 use cmwq_types::WorkId;
 
@@ -32,4 +34,26 @@ pub enum Cell {
     Burner(WorkId),
     /// The actor did something.
     Acts,
+    /// What the row is named for is so.
+    Lasts,
+}
+
+impl Cell {
+    ghost use Rattle.cmwq_picture.specs.Picture.{shows_waiting};
+
+    /// Whether it shows a work that waits: one that is pending or runs, and doesn't burn.
+    pub fn is_waiting(self) -> bool
+        ensures { result ≡ shows_waiting self }
+    {
+        match self {
+            Cell::Does(sign) => is_waiting_sign(sign),
+            _ => false,
+        }
+    }
+}
+
+fn is_waiting_sign(sign: Sign) -> bool
+    ensures { result ≡ is_waiting_sign sign }
+{
+    !matches!(sign, Sign::Burns)
 }

@@ -1,6 +1,6 @@
 //! What is kept of a tick: what each work does, and who burns.
 ghost use Rattle.cmwq_picture.specs.Column.{burner_in, cell_shown};
-ghost use Rattle.cmwq_picture.specs.Picture.{act_cell, stands_in};
+ghost use Rattle.cmwq_picture.specs.Picture.{act_cell, lasting_cell, stands_in};
 ghost use Rattle.cmwq_types.specs.Setting.{IsSetting};
 ghost use Rattle.std.specs.Prelude.{◌≡◌, slice_index_or};
 
@@ -45,6 +45,10 @@ pub(crate) struct Column {
     pub(crate) pending: Vec<Cell>,
     /// Who burns, by number.
     pub(crate) burners: Vec<Burning>,
+    /// Whether there is a freeze.
+    pub(crate) frozen: bool,
+    /// Whether there is memory pressure.
+    pub(crate) pressed: bool,
     /// Whether the actor did something at its time.
     pub(crate) acted: bool,
 }
@@ -58,6 +62,8 @@ impl Model for Column {
       works = column.works.items;
       pending = column.pending.items;
       burners = column.burners.items;
+      frozen = column.frozen;
+      pressed = column.pressed;
       acted = column.acted;
     } };
 }
@@ -74,6 +80,8 @@ impl Column {
             Title::Cpu(_) | Title::Worker { .. } | Title::Rescuer(_) => {
                 burner_in(scenario, title, &self.burners)
             }
+            Title::Frozen => lasting_cell(self.frozen),
+            Title::Pressed => lasting_cell(self.pressed),
             Title::Actor => act_cell(self.acted),
         }
     }
@@ -103,4 +111,10 @@ fn act_cell(acted: bool) -> Cell
     ensures { result ≡ act_cell acted }
 {
     if acted { Cell::Acts } else { Cell::Empty }
+}
+
+fn lasting_cell(lasts: bool) -> Cell
+    ensures { result ≡ lasting_cell lasts }
+{
+    if lasts { Cell::Lasts } else { Cell::Empty }
 }

@@ -1,22 +1,19 @@
 //! The columns of a picture, of which equal neighbours are kept once.
-ghost use Rattle.cmwq_picture.specs.Column.{cell_shown};
+ghost use Rattle.cmwq_picture.specs.Folding.{added, stretches_of};
 ghost use Rattle.cmwq_picture.specs.Stretches.{spread};
-ghost use Rattle.cmwq_types.specs.Setting.{IsSetting};
 ghost use Rattle.cmwq_types.specs.declared.limits.TheConstants.{MAX_STEPS};
-ghost use Rattle.std.specs.Prelude.{◌≡◌, ◌<◌, [], ◌∷◌, ◌++◌, IfOk, OnErr, OnOk, length, map};
+ghost use Rattle.std.specs.Prelude.{◌≡◌, ◌<◌, [], ◌∷◌, ◌++◌, OnErr, OnOk, length};
 
-use crate::cell::Cell;
 use crate::column::Column;
-use crate::row::Title;
-use cmwq_types::{NoMemory, Scenario};
+use cmwq_types::NoMemory;
 use std::alloc::Global;
 use std::marker::Model;
 
 /// A column, and how many that are equal to it stand side by side.
 #[derive(Drop)]
-struct Stretch {
-    column: Column,
-    count: u32,
+pub(crate) struct Stretch {
+    pub(crate) column: Column,
+    pub(crate) count: u32,
 }
 
 /// Columns in order. Equal ones that stand beside each other take up the memory of one.
@@ -29,6 +26,7 @@ pub(crate) struct Columns {
 
 impl Model for Columns {
     ghost use Rattle.cmwq_picture.specs.Column.{ColumnContents};
+    ghost use Rattle.cmwq_picture.specs.Folding.{stretches_of};
     ghost use Rattle.cmwq_picture.specs.Stretches.{spread};
     ghost use Rattle.std.specs.Prelude.{◌≡◌, List, length};
 
@@ -36,7 +34,8 @@ impl Model for Columns {
 
     ghost view = { λ columns. spread columns.stretches.items };
 
-    ghost invariant = { λ columns. columns.count ≡ length (spread columns.stretches.items) };
+    ghost invariant = { λ columns. (columns.count ≡ length (spread columns.stretches.items))
+        × (stretches_of (spread columns.stretches.items) ≡ columns.stretches.items) };
 }
 
 impl Columns {
@@ -69,26 +68,25 @@ impl Columns {
         Ok(())
     }
 
-    /// Their cells in the row of this title.
-    pub(crate) fn cells(
-        &self,
-        alloc: Global,
-        scenario: &Scenario,
-        title: Title,
-    ) -> Result<Vec<Cell>, NoMemory>
-        requires { IsSetting scenario.now }
-        ensures { IfOk result (λ cells. cells.items ≡ map (cell_shown scenario.now title) self.now) }
+    /// How many stretches of equal ones there are.
+    pub(crate) fn stretch_count(&self) -> usize
+        ensures { result ≡ length (stretches_of self.now) }
     {
-        let mut cells = Vec::with_capacity(alloc, self.count)?;
-        push_cells(&mut cells, scenario, &self.stretches, title)?;
-        Ok(cells)
+        self.stretches.len()
+    }
+
+    /// The stretches of equal ones.
+    pub(crate) fn stretches(&self) -> &[Stretch]
+        ensures { result.now ≡ stretches_of self.now }
+    {
+        &self.stretches
     }
 }
 
 /// One column more, at the end: where the last one is equal, that one stands once more.
 fn push_column(stretches: &mut Vec<Stretch>, column: Column) -> Result<(), NoMemory>
     requires { length (spread stretches.old.items) < MAX_STEPS }
-    ensures pushed { OnOk result (spread stretches.new.items ≡ spread stretches.old.items ++ column ∷ []) }
+    ensures pushed { OnOk result (stretches.new.items ≡ added stretches.old.items column) }
     ensures unchanged { OnErr result (stretches.new.items ≡ stretches.old.items) }
 {
     let length = stretches.len();
@@ -97,22 +95,5 @@ fn push_column(stretches: &mut Vec<Stretch>, column: Column) -> Result<(), NoMem
         return Ok(());
     }
     stretches.push(Stretch { column, count: 1 })?;
-    Ok(())
-}
-
-/// The cells of these columns in the row of the title, behind those that are there.
-fn push_cells(
-    cells: &mut Vec<Cell>,
-    scenario: &Scenario,
-    stretches: &[Stretch],
-    title: Title,
-) -> Result<(), NoMemory>
-    requires { IsSetting scenario.now }
-    ensures { OnOk result (cells.new.items ≡ cells.old.items ++ map (cell_shown scenario.now title) (spread stretches.now)) }
-{
-    for stretch in stretches {
-        let cell = stretch.column.cell(scenario, title);
-        cells.resize(cells.len() + stretch.count as usize, cell)?;
-    }
     Ok(())
 }

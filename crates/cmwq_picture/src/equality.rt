@@ -19,6 +19,8 @@ impl PartialEq for Column {
         self.works == other.works
             && self.pending == other.pending
             && self.burners == other.burners
+            && self.frozen == other.frozen
+            && self.pressed == other.pressed
             && self.acted == other.acted
     }
 }

@@ -1,5 +1,5 @@
 //! What one may believe of every picture, as laws: the functions do nothing, they carry the laws.
-ghost use Rattle.cmwq_picture.specs.Laws.{BurnsAlone, HasConsecutiveTicks, HasEachTick, IsEmptyWhereNothingIsDone, ShowsEachBurner};
+ghost use Rattle.cmwq_picture.specs.Laws.{BurnsAlone, FoldsLongStretches, HasConsecutiveTicks, HasEachTick, IsEmptyWhereNothingIsDone, ShowsEachBurner, ShowsEachTick};
 
 /// The columns are ticks one after another, from the first time of the span on.
 #[tactic(auto, using(crate::proofs::LawLemmas::consecutive_ticks))]
@@ -29,4 +29,16 @@ pub fn bound_works_burn_alone()
 #[tactic(auto, using(crate::proofs::LawLemmas::shows_each_burner))]
 pub fn row_of_a_cpu_shows_each_burner()
     ensures { ShowsEachBurner }
+{}
+
+/// Folded or not, a cell shows what is so at each of the ticks for which its column stands: at none of them a sign changes.
+#[tactic(auto, using(crate::proofs::FoldLemmas::shows_each_tick))]
+pub fn cell_shows_each_of_its_ticks()
+    ensures { ShowsEachTick }
+{}
+
+/// A column stands for one tick, or for more than 20 at which the actor did nothing.
+#[tactic(auto, using(crate::proofs::FoldLemmas::folds_long_stretches))]
+pub fn only_long_stretches_are_folded()
+    ensures { FoldsLongStretches }
 {}

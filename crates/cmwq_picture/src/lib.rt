@@ -1,4 +1,4 @@
-//! What a picture of a run shows: a row for each work, CPU and worker, and a column for each tick.
+//! What a picture of a run shows: a row for each work, CPU and worker, and a column for each tick, or for many in which nothing changes.
 #![tactic(auto)]
 
 mod acting;
@@ -6,6 +6,8 @@ mod cell;
 mod column;
 mod columns;
 mod equality;
+mod extent;
+mod folding;
 pub mod laws;
 mod moment;
 mod picturing;
@@ -15,6 +17,7 @@ mod rows;
 mod span;
 
 pub use cell::{Cell, Sign};
+pub use extent::Extent;
 pub use picturing::picture;
-pub use row::{Picture, Row, Title};
-pub use span::MAX_COLUMNS;
+pub use row::{Act, Hint, Picture, Row, Title};
+pub use span::{MAX_COLUMNS, MAX_UNFOLDED};

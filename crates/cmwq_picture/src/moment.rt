@@ -59,6 +59,8 @@ impl<'a, R: Reads> Moment<'a, R> {
             works: self.works(alloc)?,
             pending: self.pending_works(alloc)?,
             burners: self.burners(alloc)?,
+            frozen: self.machine.is_frozen(),
+            pressed: self.machine.is_pressed(),
             acted,
         })
     }

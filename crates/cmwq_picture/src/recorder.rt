@@ -1,23 +1,25 @@
 //! A scenario's run on a machine, recorded column by column.
 ghost use Rattle.cmwq_picture.specs.Column.{column_of};
-ghost use Rattle.cmwq_picture.specs.Picture.{IsDrawError};
-ghost use Rattle.cmwq_picture.specs.Recording.{recording_begun, issued, issued_all, overflows};
+ghost use Rattle.cmwq_picture.specs.Picture.{from_time};
+ghost use Rattle.cmwq_picture.specs.PictureOfRun.{IsDrawError};
+ghost use Rattle.cmwq_picture.specs.Recording.{recording_begun, issued, issued_all, noted, overflows};
 ghost use Rattle.cmwq_table.specs.State.{start};
 ghost use Rattle.cmwq_types.specs.Faults.{IsValid};
 ghost use Rattle.cmwq_types.specs.Scenario.{expand_lines};
 ghost use Rattle.cmwq_types.specs.Setting.{IsSetting};
 ghost use Rattle.cmwq_types.specs.declared.limits.TheConstants.{MAX_STEPS};
-ghost use Rattle.std.specs.Prelude.{◌≡◌, ◌<◌, ◌≤◌, [], ◌∷◌, ◌++◌, Err, IfErr, IfOk, OnOk, length, true};
+ghost use Rattle.std.specs.Prelude.{◌≡◌, ◌<◌, ◌≤◌, ◌+◌, [], ◌∷◌, ◌++◌, Err, IfErr, IfOk, OnOk, length, true};
 
 use crate::acting::is_act;
 use crate::columns::Columns;
 use crate::moment::Moment;
+use crate::row::Act;
 use crate::span::{MAX_COLUMNS, is_drawn, is_open};
 use cmwq_runs::Instructions;
 use cmwq_streams::PlayError;
 use cmwq_table::Machine;
 use cmwq_tasks::Span;
-use cmwq_types::{Instr, Line, Scenario};
+use cmwq_types::{Instr, Line, NoMemory, Reply, Scenario};
 use std::alloc::Global;
 use std::marker::Model;
 
@@ -29,6 +31,8 @@ pub(crate) struct Recorder<'s, M: Machine> {
     span: Span,
     /// Whether the actor did something since the last tick.
     acted: bool,
+    /// What it did in the span.
+    acts: Vec<Act>,
     columns: Columns,
 }
 
@@ -38,23 +42,23 @@ impl<'s, M: Machine> Model for Recorder<'s, M> {
 
     ghost Value = { Recording };
 
-    ghost view = { λ r. recording_of r.scenario.now r.span (M.state r.machine) r.acted r.columns };
+    ghost view = { λ r. recording_of r.scenario.now r.span (M.state r.machine) r.acted r.acts.items r.columns };
 
-    ghost invariant = { λ r. IsRecording (recording_of r.scenario.now r.span (M.state r.machine) r.acted r.columns)
+    ghost invariant = { λ r. IsRecording (recording_of r.scenario.now r.span (M.state r.machine) r.acted r.acts.items r.columns)
         × (M.loaded r.machine ≡ r.scenario.now) };
 }
 
 impl<'s, M: Machine> Recorder<'s, M> {
     ghost use Rattle.cmwq_picture.specs.Column.{column_of};
-    ghost use Rattle.cmwq_picture.specs.Picture.{IsDrawError, is_open};
-    ghost use Rattle.cmwq_picture.specs.declared.span.TheConstants.{MAX_COLUMNS};
-    ghost use Rattle.cmwq_picture.specs.Recording.{recording_begun, issued, issued_all, overflows};
+    ghost use Rattle.cmwq_picture.specs.Picture.{from_time};
+    ghost use Rattle.cmwq_picture.specs.PictureOfRun.{IsDrawError};
+    ghost use Rattle.cmwq_picture.specs.Recording.{recording_begun, issued, issued_all, noted, overflows};
     ghost use Rattle.cmwq_table.specs.State.{start};
     ghost use Rattle.cmwq_types.specs.Faults.{IsValid};
     ghost use Rattle.cmwq_types.specs.Scenario.{expand_lines};
     ghost use Rattle.cmwq_types.specs.Setting.{IsSetting};
     ghost use Rattle.cmwq_types.specs.declared.limits.TheConstants.{MAX_STEPS};
-    ghost use Rattle.std.specs.Prelude.{◌<◌, ◌≤◌, [], ◌∷◌, ◌++◌, Err, IfErr, OnOk, length, true};
+    ghost use Rattle.std.specs.Prelude.{◌<◌, ◌≤◌, ◌+◌, [], ◌∷◌, ◌++◌, Err, IfErr, OnOk, length, true};
 
     /// Nothing is recorded yet.
     pub(crate) fn new(
@@ -73,13 +77,14 @@ impl<'s, M: Machine> Recorder<'s, M> {
             machine,
             span,
             acted: false,
+            acts: Vec::new(alloc),
             columns: Columns::new(alloc),
         }
     }
 
     /// Issues the lines' instructions.
     ///
-    /// It answers `TooWide` as soon as it has come to one column too many.
+    /// It answers `TooWide` as soon as it has come to more stretches in which nothing changes than a picture may have columns.
     pub(crate) fn issue_all(&mut self, alloc: Global, lines: &[Line]) -> Result<(), PlayError>
         ensures ok { OnOk result (self.new ≡ issued_all self.old (expand_lines lines.now)) }
         ensures why { IfErr result (λ error. IsDrawError error) }
@@ -99,11 +104,11 @@ impl<'s, M: Machine> Recorder<'s, M> {
     {
         let time = self.machine.now();
         let reply = self.machine.exec(instr);
-        let acted = self.acted || is_act(instr, reply);
+        self.note(time, instr, reply)?;
         if self.machine.now() == time {
-            self.acted = acted;
             return Ok(());
         }
+        let acted = self.acted;
         self.acted = false;
         if is_drawn(self.span, time) {
             return self.draw(alloc, acted);
@@ -111,36 +116,61 @@ impl<'s, M: Machine> Recorder<'s, M> {
         Ok(())
     }
 
+    /// Notes what the actor did, if it did something by this instruction.
+    fn note(&mut self, time: u64, instr: Instr, reply: Reply) -> Result<(), NoMemory>
+        ensures { OnOk result (self.new ≡ noted self.old time instr reply) }
+    {
+        if !is_act(instr, reply) {
+            return Ok(());
+        }
+        self.acted = true;
+        if is_drawn(self.span, time) {
+            self.acts.push(Act { time, instr })?;
+        }
+        Ok(())
+    }
+
     /// One column more, for the tick that has just passed: it has changed no sign.
     fn draw(&mut self, alloc: Global, acted: bool) -> Result<(), PlayError>
-        requires later { length self.old.columns < self.old.state.time }
+        requires later { from_time self.old.span.from + length self.old.columns < self.old.state.time }
         ensures ok { OnOk result (self.new ≡ record self.old { columns = self.old.columns ++ column_of self.old.scenario self.old.state acted ∷ [] }) }
         ensures why { IfErr result (λ error. IsDrawError error) }
         ensures wide { result ≡ Err PlayError.TooWide → overflows (record self.old { columns = self.old.columns ++ column_of self.old.scenario self.old.state acted ∷ [] }) ≡ true }
     {
-        if is_open(self.span) && self.columns.len() == MAX_COLUMNS {
-            return Err(PlayError::TooWide);
-        }
         let moment = Moment::new(alloc, &self.machine)?;
         let column = moment.column(alloc, acted)?;
         self.columns.push(column)?;
+        if is_open(self.span) && self.columns.stretch_count() > MAX_COLUMNS {
+            return Err(PlayError::TooWide);
+        }
         Ok(())
     }
 
-    /// The columns.
-    pub(crate) fn into_columns(self) -> Columns
-        ensures columns { result ≡ self.entry.columns }
+    /// What was recorded.
+    pub(crate) fn into_recorded(self) -> Recorded
+        ensures columns { result.columns ≡ self.entry.columns }
+        ensures acts { result.acts.items ≡ self.entry.acts }
         ensures setting { IsSetting self.entry.scenario }
-        ensures few { length result ≤ MAX_STEPS }
-        ensures narrow { is_open self.entry.span ≡ true → length result ≤ MAX_COLUMNS }
+        ensures few { length self.entry.columns ≤ MAX_STEPS }
+        ensures late { 0 < length self.entry.columns → from_time self.entry.span.from + length self.entry.columns ≤ MAX_STEPS }
     {
         let Recorder {
             scenario: _,
             machine: _,
             span: _,
             acted: _,
+            acts,
             columns,
         } = self;
-        columns
+        Recorded { columns, acts }
     }
+}
+
+/// What was recorded of a run.
+#[derive(Drop)]
+pub(crate) struct Recorded {
+    /// The columns, one a tick.
+    pub(crate) columns: Columns,
+    /// What the actor did.
+    pub(crate) acts: Vec<Act>,
 }

@@ -1,7 +1,7 @@
 //! A picture of a run, and its rows.
 
 use crate::cell::Cell;
-use cmwq_types::{QueueId, WorkId};
+use cmwq_types::{Instr, QueueId, WorkId};
 use std::marker::Model;
 
 /// Whose row it is.
@@ -22,16 +22,47 @@ pub enum Title {
     },
     /// The rescuer of a queue, where it runs a work for an unbound pool.
     Rescuer(QueueId),
+    /// Whether there is a freeze.
+    Frozen,
+    /// Whether there is memory pressure.
+    Pressed,
     /// Who gave the instructions.
     Actor,
 }
 
-/// One row: a cell a tick.
+/// Something that the actor did.
+#[derive(Clone, Copy, Debug, PartialEq, Eq)]
+pub struct Act {
+    /// When, in ticks.
+    pub time: u64,
+    /// What.
+    pub instr: Instr,
+}
+
+/// What is to be said of a rectangle of a row, where it begins.
+#[derive(Debug, Drop)]
+pub struct Hint {
+    /// The number of the row, from 0.
+    pub row: usize,
+    /// The line.
+    pub text: String,
+}
+
+impl Model for Hint {
+    ghost use Rattle.cmwq_picture.specs.PictureContents.{HintContents};
+    ghost use Rattle.std.specs.Prelude.{string_bytes};
+
+    ghost Value = { HintContents };
+
+    ghost view = { λ hint. record { row = hint.row; text = string_bytes hint.text } };
+}
+
+/// One row: a cell a column.
 #[derive(Debug, Drop)]
 pub struct Row {
     /// Whose row it is.
     pub title: Title,
-    /// What it shows, tick by tick.
+    /// What it shows, column by column.
     pub cells: Vec<Cell>,
 }
 
@@ -43,15 +74,16 @@ impl Model for Row {
     ghost view = { λ row. record { title = row.title; cells = row.cells.items } };
 }
 
-/// The rows of a span of ticks. The first cell of each row is the tick from `from` to `from + 1`.
+/// The rows of a span of ticks, and what the actor did in it.
 #[derive(Debug, Drop)]
 pub struct Picture {
-    /// The time of the first column, in ticks.
-    pub from: u64,
-    /// How many cells each row has.
-    pub ticks: u32,
+    /// The time at which each column begins, and last the time at which the last one ends, in ticks. A column stands for one tick, or
+    /// for more than 20 in which nothing changes.
+    pub edges: Vec<u64>,
     /// The rows, from the top.
     pub rows: Vec<Row>,
+    /// What the actor did, in order.
+    pub acts: Vec<Act>,
 }
 
 impl Model for Picture {
@@ -60,8 +92,8 @@ impl Model for Picture {
     ghost Value = { PictureContents };
 
     ghost view = { λ picture. record {
-      from = picture.from;
-      ticks = picture.ticks;
+      edges = picture.edges.items;
       rows = picture.rows.items;
+      acts = picture.acts.items;
     } };
 }

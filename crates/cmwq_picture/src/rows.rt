@@ -1,59 +1,80 @@
 //! Rows, as they are cut from the columns.
 ghost use Rattle.cmwq_picture.specs.Column.{cut, cut_rows, cell_shown};
-ghost use Rattle.cmwq_picture.specs.Picture.{below, is_empty_cell, stands_in_picture, stands_empty, titles, work_titles, worker_titles};
+ghost use Rattle.cmwq_picture.specs.ExtentContents.{picked_works};
+ghost use Rattle.cmwq_picture.specs.Picture.{below, is_empty_cell, is_picked, stands_in_picture, stands_empty, titles, work_titles, worker_titles};
 ghost use Rattle.cmwq_picture.specs.declared.row.Title.TheVariants as title;
 ghost use Rattle.cmwq_types.specs.Setting.{IsSetting};
-ghost use Rattle.std.specs.List.{flat_map, list_any, range_with_len};
+ghost use Rattle.std.specs.List.{filter, flat_map, list_any, range_with_len};
 ghost use Rattle.std.specs.Prelude.{◌≡◌, ◌<◌, ◌+◌, ◌*◌, [], ◌∷◌, ◌++◌, IfOk, OnOk, length, map, not};
 
 use crate::cell::Cell;
-use crate::columns::Columns;
+use crate::extent::is_picked;
+use crate::folding::DrawnColumns;
 use crate::row::{Row, Title};
 use cmwq_types::{NoMemory, QueueId, Scenario, WorkId};
 use std::alloc::Global;
 
-/// The rows of these columns, from the top: works, CPUs, the workers of the unbound pools, rescuers, and the actor. The row
-/// of a CPU and that of the actor always stand, each other one where a cell of it isn't empty.
+/// The rows of these columns, from the top: works, all or these alone, CPUs, the workers of the unbound pools, rescuers, freezes,
+/// memory pressure, and the actor. The row of a CPU and that of the actor always stand, each other one where a cell of it isn't empty.
 pub(crate) fn rows(
     alloc: Global,
     scenario: &Scenario,
-    columns: &Columns,
+    columns: &DrawnColumns<'_>,
+    works: Option<&[WorkId]>,
 ) -> Result<Vec<Row>, NoMemory>
     requires { IsSetting scenario.now }
-    ensures { IfOk result (λ rows. rows.items ≡ cut_rows scenario.now columns.now (titles scenario.now)) }
+    ensures { IfOk result (λ rows. rows.items ≡ cut_rows scenario.now columns.now (titles scenario.now (picked_works works.entry))) }
 {
     let mut rows = Vec::new(alloc);
-    push_works(alloc, scenario, columns, &mut rows)?;
+    push_works(alloc, scenario, columns, works, &mut rows)?;
     push_cpus(alloc, scenario, columns, &mut rows)?;
     push_workers(alloc, scenario, columns, &mut rows)?;
     push_rescuers(alloc, scenario, columns, &mut rows)?;
+    push(alloc, scenario, columns, &mut rows, Title::Frozen)?;
+    push(alloc, scenario, columns, &mut rows, Title::Pressed)?;
     push(alloc, scenario, columns, &mut rows, Title::Actor)?;
     Ok(rows)
 }
 
-/// Pushes the two rows of each work, as far as they stand.
+/// Pushes the two rows of each work that has rows, as far as they stand.
 fn push_works(
     alloc: Global,
     scenario: &Scenario,
-    columns: &Columns,
+    columns: &DrawnColumns<'_>,
+    works: Option<&[WorkId]>,
     rows: &mut Vec<Row>,
 ) -> Result<(), NoMemory>
     requires { IsSetting scenario.now }
-    ensures { OnOk result (rows.new.items ≡ rows.old.items ++ cut_rows scenario.now columns.now (flat_map work_titles (below (length scenario.now.works)))) }
+    ensures { OnOk result (rows.new.items ≡ rows.old.items ++ cut_rows scenario.now columns.now (flat_map work_titles (filter (is_picked (picked_works works.entry)) (below (length scenario.now.works))))) }
 {
     for w in 0..scenario.works.len() {
-        let work = WorkId(w as u16);
-        push(alloc, scenario, columns, rows, Title::Work(work))?;
-        push(alloc, scenario, columns, rows, Title::Pending(work))?;
+        if is_picked(works, w) {
+            push_work(alloc, scenario, columns, rows, WorkId(w as u16))?;
+        }
     }
     Ok(())
+}
+
+/// Pushes the two rows of the work, as far as they stand.
+fn push_work(
+    alloc: Global,
+    scenario: &Scenario,
+    columns: &DrawnColumns<'_>,
+    rows: &mut Vec<Row>,
+    work: WorkId,
+) -> Result<(), NoMemory>
+    requires { IsSetting scenario.now }
+    ensures { OnOk result (rows.new.items ≡ rows.old.items ++ cut_rows scenario.now columns.now (work_titles work.0)) }
+{
+    push(alloc, scenario, columns, rows, Title::Work(work))?;
+    push(alloc, scenario, columns, rows, Title::Pending(work))
 }
 
 /// Pushes the row of each CPU.
 fn push_cpus(
     alloc: Global,
     scenario: &Scenario,
-    columns: &Columns,
+    columns: &DrawnColumns<'_>,
     rows: &mut Vec<Row>,
 ) -> Result<(), NoMemory>
     requires { IsSetting scenario.now }
@@ -69,7 +90,7 @@ fn push_cpus(
 fn push_workers(
     alloc: Global,
     scenario: &Scenario,
-    columns: &Columns,
+    columns: &DrawnColumns<'_>,
     rows: &mut Vec<Row>,
 ) -> Result<(), NoMemory>
     requires { IsSetting scenario.now }
@@ -84,7 +105,7 @@ fn push_workers(
 fn push_workers_of(
     alloc: Global,
     scenario: &Scenario,
-    columns: &Columns,
+    columns: &DrawnColumns<'_>,
     rows: &mut Vec<Row>,
     pool: u8,
 ) -> Result<(), NoMemory>
@@ -107,7 +128,7 @@ fn push_workers_of(
 fn push_rescuers(
     alloc: Global,
     scenario: &Scenario,
-    columns: &Columns,
+    columns: &DrawnColumns<'_>,
     rows: &mut Vec<Row>,
 ) -> Result<(), NoMemory>
     requires { IsSetting scenario.now }
@@ -124,7 +145,7 @@ fn push_rescuers(
 fn push(
     alloc: Global,
     scenario: &Scenario,
-    columns: &Columns,
+    columns: &DrawnColumns<'_>,
     rows: &mut Vec<Row>,
     title: Title,
 ) -> Result<(), NoMemory>
@@ -139,7 +160,12 @@ fn push(
 }
 
 /// The row: a cell from each column.
-fn cut(alloc: Global, scenario: &Scenario, columns: &Columns, title: Title) -> Result<Row, NoMemory>
+fn cut(
+    alloc: Global,
+    scenario: &Scenario,
+    columns: &DrawnColumns<'_>,
+    title: Title,
+) -> Result<Row, NoMemory>
     requires { IsSetting scenario.now }
     ensures { IfOk result (λ row. row ≡ cut scenario.now columns.now title) }
 {

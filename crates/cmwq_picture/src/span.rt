@@ -1,11 +1,15 @@
 //! Which ticks of a run are drawn.
-ghost use Rattle.cmwq_picture.specs.Picture.{from_time, is_before, is_drawn, is_open};
+ghost use Rattle.cmwq_picture.specs.Folding.{is_open};
+ghost use Rattle.cmwq_picture.specs.Picture.{from_time, is_before, is_drawn};
 ghost use Rattle.std.specs.Prelude.{◌≡◌};
 
 use cmwq_tasks::Span;
 
 /// The most columns of a picture unless both ends of its span are given.
 pub const MAX_COLUMNS: usize = 500;
+
+/// The most ticks in which nothing changes that aren't folded.
+pub const MAX_UNFOLDED: u32 = 20;
 
 /// The time from which on ticks are drawn, where this end of the span is given or not.
 pub(crate) fn from_time(from: Option<u64>) -> u64

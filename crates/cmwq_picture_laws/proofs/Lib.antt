@@ -1,3 +1,5 @@
 pub mod Columns
 pub mod Conclusions
 pub mod Counting
+pub mod Declared
+pub mod Runs

@@ -1,3 +1,5 @@
+pub mod Drawings
 pub mod Examples
+pub mod Folded
 pub mod Pictures
 pub mod Signs

@@ -1,15 +1,17 @@
 -- Worked examples of pictures: a scenario, the lines of its one actor, a span, and the picture's rows.
-use Rattle.std.specs.Prelude.{ℕ, List, [], ◌∷◌, Some, None, true, codes}
+use Rattle.std.specs.Prelude.{ℕ, List, [], ◌∷◌, Some, None, true, false, codes, map}
 use Rattle.cmwq_types.specs.Contents.{ScenarioContents}
 use Rattle.cmwq_types.specs.Scenario.{expand_lines, plain_flags}
+use Rattle.cmwq_types.specs.declared.instr.Instr.{Instr}
 use Rattle.cmwq_types.specs.declared.instr.Instr.TheVariants as instr
 use Rattle.cmwq_types.specs.declared.scenario.Line.{Line}
 use Rattle.cmwq_types.specs.declared.scenario.Op.TheVariants as op
 use Rattle.cmwq_examples.specs.Declare.{delay, enqueue, highpri, queue, queues, scenario, state, times, unbound, work}
 use Rattle.cmwq_picture.specs.PictureContents.{PictureContents, RowContents}
-use Rattle.cmwq_picture.specs.Picture.{picture}
+use Rattle.cmwq_picture.specs.PictureOfRun.{picture}
+use Rattle.cmwq_picture.specs.declared.row.Act.{Act}
 use Rattle.cmwq_picture.specs.declared.cell.Cell.{Cell}
-use Rattle.cmwq_picture.specs.declared.cell.Cell.TheVariants.{Empty, Does, Burner, Acts}
+use Rattle.cmwq_picture.specs.declared.cell.Cell.TheVariants.{Empty, Does, Burner, Acts, Lasts}
 use Rattle.cmwq_picture.specs.declared.cell.Sign.TheVariants.{Burns, Waits, Sleeps, Listed, Inactive, Timed, Deferred}
 use Rattle.cmwq_picture.specs.declared.row.Title.{Title}
 use Rattle.cmwq_picture.specs.declared.row.Title.TheVariants as title
@@ -18,11 +20,19 @@ use Rattle.cmwq_tasks.specs.declared.drawing.Span.{Span}
 -- Short words for pictures.
 
 abbrev pub pictured : ScenarioContents → List Line → Span → PictureContents
-pictured S lines span = picture S (expand_lines lines) span
+pictured S lines span = picture S (expand_lines lines) (record { span = span; fold = false; works = None })
+
+abbrev pub act_at : ℕ → Instr → Act
+act_at time i = record { time = time; instr = i }
 
 -- the whole run
 abbrev pub whole : Span
 whole = record { from = None; to = None }
+
+-- folded, with rows of these works alone
+abbrev pub folded : ScenarioContents → List Line → List ℕ → PictureContents
+folded S lines works =
+    picture S (expand_lines lines) (record { span = whole; fold = true; works = Some (map (λ w. record { 0 = w }) works) })
 
 -- the ticks from one time on, before another
 abbrev pub between : ℕ → ℕ → Span
@@ -57,14 +67,14 @@ sharing_lines =
 abbrev pub sharing_picture : PictureContents
 sharing_picture =
     record {
-      from = 0;
-      ticks = 5;
+      edges = 0 ∷ 1 ∷ 2 ∷ 3 ∷ 4 ∷ 5 ∷ [];
       rows =
           work_row 0 (Does Burns ∷ Does Sleeps ∷ Does Sleeps ∷ Empty ∷ Empty ∷ [])
           ∷ work_row 1 (Does Listed ∷ Does Burns ∷ Does Burns ∷ Empty ∷ Empty ∷ [])
           ∷ work_row 2 (Empty ∷ Does Inactive ∷ Does Inactive ∷ Does Burns ∷ Empty ∷ [])
           ∷ row_of_cells (title.Cpu 0) (work_burns 0 ∷ work_burns 1 ∷ work_burns 1 ∷ work_burns 2 ∷ Empty ∷ [])
           ∷ row_of_cells title.Actor (Acts ∷ Acts ∷ Empty ∷ Empty ∷ Empty ∷ []) ∷ [];
+      acts = act_at 0 (instr.Queue (record { 0 = 0 }) 0) ∷ act_at 0 (instr.Queue (record { 0 = 1 }) 0) ∷ act_at 1 (instr.Queue (record { 0 = 2 }) 0) ∷ [];
     }
 
 -- A work of high priority takes the CPU from another one, which waits for it.
@@ -81,11 +91,11 @@ taken_cpu_lines = enqueue 0 0 ∷ times instr.Next 3 ∷ enqueue 1 0 ∷ times i
 abbrev pub taken_cpu_picture : PictureContents
 taken_cpu_picture =
     record {
-      from = 1;
-      ticks = 2;
+      edges = 1 ∷ 2 ∷ 3 ∷ [];
       rows =
           work_row 0 (Does Waits ∷ Does Burns ∷ []) ∷ work_row 1 (Does Burns ∷ Empty ∷ [])
           ∷ row_of_cells (title.Cpu 0) (work_burns 1 ∷ work_burns 0 ∷ []) ∷ row_of_cells title.Actor (Acts ∷ Empty ∷ []) ∷ [];
+      acts = act_at 1 (instr.Queue (record { 0 = 1 }) 0) ∷ [];
     }
 
 -- A work queues itself while it runs: its second instance is listed until the pool's turn comes to it, and then deferred.
@@ -101,11 +111,11 @@ queued_while_running_lines = enqueue 0 0 ∷ times instr.Next 7 ∷ []
 abbrev pub queued_while_running_picture : PictureContents
 queued_while_running_picture =
     record {
-      from = 0;
-      ticks = 2;
+      edges = 0 ∷ 1 ∷ 2 ∷ [];
       rows =
           work_row 0 (Does Burns ∷ Does Sleeps ∷ []) ∷ pending_row 0 (Does Listed ∷ Does Deferred ∷ [])
           ∷ row_of_cells (title.Cpu 0) (work_burns 0 ∷ Empty ∷ []) ∷ row_of_cells title.Actor (Acts ∷ Empty ∷ []) ∷ [];
+      acts = act_at 0 (instr.Queue (record { 0 = 0 }) 0) ∷ [];
     }
 
 -- A worker of the unbound pool burns beside a rescuer, since there is no other worker; a third work waits for its timer.
@@ -126,15 +136,36 @@ rescuer_burns_lines = enqueue 0 0 ∷ enqueue 1 0 ∷ delay 2 5 ∷ times instr.
 abbrev pub rescuer_burns_picture : PictureContents
 rescuer_burns_picture =
     record {
-      from = 0;
-      ticks = 1;
+      edges = 0 ∷ 1 ∷ [];
       rows =
           work_row 0 (Does Burns ∷ []) ∷ work_row 1 (Does Burns ∷ []) ∷ work_row 2 (Does Timed ∷ [])
           ∷ row_of_cells (title.Cpu 0) (Empty ∷ []) ∷ row_of_cells (title.Worker 2 0) (work_burns 0 ∷ [])
           ∷ row_of_cells (title.Rescuer (record { 0 = 1 })) (work_burns 1 ∷ []) ∷ row_of_cells title.Actor (Acts ∷ []) ∷ [];
+      acts = act_at 0 (instr.Queue (record { 0 = 0 }) 0) ∷ act_at 0 (instr.Queue (record { 0 = 1 }) 0) ∷ act_at 0 (instr.Delay (record { 0 = 2 }) 0 5) ∷ [];
     }
 
 -- A run in which no tick passes has the rows that always stand, and no column.
 
 abbrev pub empty_picture : PictureContents
-empty_picture = record { from = 0; ticks = 0; rows = row_of_cells (title.Cpu 0) [] ∷ row_of_cells title.Actor [] ∷ [] }
+empty_picture = record { edges = 0 ∷ []; rows = row_of_cells (title.Cpu 0) [] ∷ row_of_cells title.Actor [] ∷ []; acts = [] }
+
+-- A work sleeps for 22 ticks while there is a freeze; another one, whose row isn't asked for, waits behind it. The sleep but for its first tick, at
+-- which the actor freezes, has one column.
+
+abbrev pub long_sleep : ScenarioContents
+long_sleep =
+    scenario 1000 (queue (codes "q") 1 plain_flags ∷ [])
+    (work (codes "a") 0 (op.Burn 1 ∷ op.Sleep 23 ∷ op.Finish ∷ []) ∷ work (codes "b") 0 (op.Finish ∷ []) ∷ []) []
+
+abbrev pub long_sleep_lines : List Line
+long_sleep_lines = enqueue 0 0 ∷ enqueue 1 0 ∷ times instr.Next 3 ∷ times instr.Freeze 1 ∷ times instr.Next 26 ∷ times instr.Thaw 1 ∷ []
+
+abbrev pub long_sleep_picture : PictureContents
+long_sleep_picture =
+    record {
+      edges = 0 ∷ 1 ∷ 2 ∷ 24 ∷ [];
+      rows =
+          work_row 0 (Does Burns ∷ Does Sleeps ∷ Does Sleeps ∷ []) ∷ row_of_cells (title.Cpu 0) (work_burns 0 ∷ Empty ∷ Empty ∷ [])
+          ∷ row_of_cells title.Frozen (Empty ∷ Lasts ∷ Lasts ∷ []) ∷ row_of_cells title.Actor (Acts ∷ Acts ∷ Empty ∷ []) ∷ [];
+      acts = act_at 0 (instr.Queue (record { 0 = 0 }) 0) ∷ act_at 0 (instr.Queue (record { 0 = 1 }) 0) ∷ act_at 1 instr.Freeze ∷ act_at 24 instr.Thaw ∷ [];
+    }

@@ -1,4 +1,5 @@
-//! What one may count in a picture. The function does nothing: it carries the law.
+//! What one may count in a picture, and which runs are folded. The functions do nothing: they carry the laws.
+ghost use Rattle.cmwq_picture_laws.specs.Folded.{FoldsLongRuns};
 ghost use Rattle.cmwq_picture_laws.specs.Signs.{ShowsItsBody};
 
 /// In the ticks from the start of an instance to its end, its work's row shows as many in which it burns as the burns of its
@@ -6,4 +7,10 @@ ghost use Rattle.cmwq_picture_laws.specs.Signs.{ShowsItsBody};
 #[tactic(auto, using(crate::proofs::Conclusions::shows_its_body))]
 pub fn rows_show_the_burns_of_bodies()
     ensures { ShowsItsBody }
+{}
+
+/// The picture of a whole run is folded where that is asked, and unasked just where the run has more ticks than a picture may have columns.
+#[tactic(auto, using(crate::proofs::Runs::folds_long_runs))]
+pub fn long_runs_are_folded_unasked()
+    ensures { FoldsLongRuns }
 {}

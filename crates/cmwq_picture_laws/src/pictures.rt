@@ -1,6 +1,6 @@
 //! Worked examples of pictures, as theorems over the definitions: each function's contract says what one picture shows.
-ghost use Rattle.cmwq_picture_laws.specs.Pictures.{queued_while_running, queued_while_running_lines, queued_while_running_picture, between, empty_picture, pictured, rescuer_burns, rescuer_burns_lines, rescuer_burns_picture, sharing, sharing_lines, sharing_picture, taken_cpu, taken_cpu_lines, taken_cpu_picture, whole};
-ghost use Rattle.std.specs.Prelude.{◌≡◌, []};
+ghost use Rattle.cmwq_picture_laws.specs.Pictures.{folded, long_sleep, long_sleep_lines, long_sleep_picture, queued_while_running, queued_while_running_lines, queued_while_running_picture, between, empty_picture, pictured, rescuer_burns, rescuer_burns_lines, rescuer_burns_picture, sharing, sharing_lines, sharing_picture, taken_cpu, taken_cpu_lines, taken_cpu_picture, whole};
+ghost use Rattle.std.specs.Prelude.{◌≡◌, ◌∷◌, []};
 
 /// Two works share a CPU, and a third one waits for room in their queue. What was refused and a question leave no mark.
 pub fn works_share_a_cpu()
@@ -25,4 +25,9 @@ pub fn rescuer_burns_beside_a_worker()
 /// A run in which no time passes has no column.
 pub fn empty_run_has_no_column()
     ensures { pictured sharing [] whole ≡ empty_picture }
+{}
+
+/// A long sleep has one column, but for the tick at which the actor freezes; the freeze has a row; and of the works one alone has rows.
+pub fn long_sleep_is_folded()
+    ensures { folded long_sleep long_sleep_lines (0 ∷ []) ≡ long_sleep_picture }
 {}

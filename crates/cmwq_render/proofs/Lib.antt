@@ -1,1 +1,1 @@
-pub mod BarLemmas
+pub mod LetterLemmas

@@ -1,40 +1,13 @@
--- What the rectangles are: each covers a run of equal cells that is as long as can be, and those of two rows stand apart.
-use Rattle.std.specs.Prelude.{◌≡◌, ◌≢◌, ◌≤◌, ◌<◌, ◌+◌, ℕ, Bool, ◌&&◌, List, [], ◌∷◌, map, nat_le, nat_lt, slice_index_or}
-use Rattle.std.specs.List.{filter}
-use Rattle.cmwq_picture.specs.declared.cell.Cell.{Cell}
-use Rattle.cmwq_picture.specs.declared.cell.Cell.TheVariants.{Empty, Does, Burner, Acts}
-use Rattle.cmwq_render.specs.Bars.{bars}
-use Rattle.cmwq_render.specs.Layout.{y_of}
-use Rattle.cmwq_render.specs.declared.bars.Bar.{Bar}
+-- What the letters of works are.
+use Rattle.std.specs.Prelude.{◌≡◌, ◌≤◌, ℕ, length, ◌==◌}
+use Rattle.std.specs.List.{IsDistinct}
+use Rattle.cmwq_types.specs.Contents.{ScenarioContents}
+use Rattle.cmwq_render.specs.Letters.{letters}
 
--- whether the rectangle stands over the tick
-abbrev pub covers : ℕ → Bar → Bool
-covers tick bar = nat_le bar.from tick && nat_lt tick bar.to
+-- Where there are at most 62 works, each has a letter.
+unfoldable pub EachHasOne : Type 0
+EachHasOne = (S : ScenarioContents) → length S.works ≤ 62 → length (letters S) ≡ length S.works
 
--- what is to be seen of a cell: of an empty one nothing
-abbrev pub seen_cells : Cell → List Cell
-seen_cells Empty = []
-seen_cells (Does sign) = Does sign ∷ []
-seen_cells (Burner w) = Burner w ∷ []
-seen_cells Acts = Acts ∷ []
-
--- over each tick stands one rectangle, which shows its cell, and none where the cell is empty, or behind the last one
-unfoldable pub CoversEachCellOnce : Type 0
-CoversEachCellOnce =
-    (cells : List Cell) (tick : ℕ) → map (λ bar. bar.cell) (filter (covers tick) (bars cells)) ≡ seen_cells (slice_index_or cells tick Empty)
-
--- They stand from left to right, and where two touch they show different cells.
-abbrev pub Differs : Bar → List Bar → Type 0
-Differs bar [] = Unit {0}
-Differs bar (next ∷ others) = (bar.to ≤ next.from) × (bar.to ≡ next.from → bar.cell ≢ next.cell) × Differs next others
-
-abbrev pub NeighboursDiffer : List Bar → Type 0
-NeighboursDiffer [] = Unit {0}
-NeighboursDiffer (bar ∷ others) = Differs bar others
-
-unfoldable pub RunsAreWhole : Type 0
-RunsAreWhole = (cells : List Cell) → NeighboursDiffer (bars cells)
-
--- The rectangles of a row are 14 high and begin 3 below the row's upper edge; they end above those of each later row.
-unfoldable pub RowsStandApart : Type 0
-RowsStandApart = (row other : ℕ) → row < other → y_of row + 3 + 14 < y_of other + 3
+-- No two works have the same.
+unfoldable pub NoTwoAreAlike : Type 0
+NoTwoAreAlike = (S : ScenarioContents) → IsDistinct (λ one other. one == other) (letters S)

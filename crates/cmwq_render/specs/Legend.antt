@@ -4,7 +4,7 @@ use Rattle.std.specs.List.{filter, list_any}
 use Rattle.cmwq_picture.specs.PictureContents.{RowContents}
 use Rattle.cmwq_picture.specs.contracts.cell.CellPartialEq.TheImpl as cell_eq
 use Rattle.cmwq_picture.specs.declared.cell.Cell.{Cell}
-use Rattle.cmwq_picture.specs.declared.cell.Cell.TheVariants.{Empty, Does, Burner, Acts}
+use Rattle.cmwq_picture.specs.declared.cell.Cell.TheVariants.{Empty, Does, Burner, Acts, Lasts}
 use Rattle.cmwq_picture.specs.declared.cell.Sign.{Sign}
 use Rattle.cmwq_picture.specs.declared.cell.Sign.TheVariants as sign
 
@@ -49,5 +49,6 @@ explained rows = filter (is_shown rows) explicable
 abbrev pub meaning : Cell → List ℕ
 meaning (Does sign) = sign_meaning sign
 meaning Acts = codes "the actor acts"
+meaning Lasts = []
 meaning Empty = []
 meaning (Burner w) = []

@@ -1,9 +1,9 @@
-pub mod Bars
+pub mod Acts
 pub mod Examples
+pub mod Gaps
 pub mod Labels
 pub mod Laws
-pub mod Layout
 pub mod Legend
+pub mod Letters
 pub mod Sketch
-pub mod Svg
 pub mod Times

@@ -1,7 +1,7 @@
 //! Worked pictures, as theorems over the definitions: the functions do nothing.
-ghost use Rattle.cmwq_render.specs.Examples.{each_sign, each_sign_text, first_table, first_table_text, long_times_text, named_work, names, one_name, only_times, short_times_text, three_names, two_rows, two_rows_svg};
+ghost use Rattle.cmwq_render.specs.Examples.{alike, each_sign, each_sign_text, first_table, first_table_text, kept_free, last_of_63, last_of_63_text, long_times_text, named_work, names, namesakes, only_times, short_times_text, three_names};
+ghost use Rattle.cmwq_render.specs.Letters.{letters};
 ghost use Rattle.cmwq_render.specs.Sketch.{picture_text};
-ghost use Rattle.cmwq_render.specs.Svg.{svg_text};
 ghost use Rattle.std.specs.Prelude.{◌≡◌, ◌∷◌, [], codes};
 
 /// The first table of the kernel's document.
@@ -11,7 +11,7 @@ pub fn first_table_is_drawn()
 
 /// Each sign has its letter and its words, each kind of row its label, and the times begin with the first column's.
 pub fn each_sign_is_drawn()
-    ensures { picture_text (names (named_work (codes "a") ∷ named_work (codes "b") ∷ [])) each_sign ≡ each_sign_text }
+    ensures { picture_text (names (named_work (codes "a") ∷ named_work (codes "bc") ∷ [])) each_sign ≡ each_sign_text }
 {}
 
 /// Times of four digits stand over each fifth column, longer ones over each twentieth. Where no sign occurs, there is no legend.
@@ -20,7 +20,14 @@ pub fn times_have_room()
     ensures long { picture_text (names []) (only_times 9980 20) ≡ long_times_text }
 {}
 
-/// Two rows as SVG: each label, rectangle, name and line of the legend has its place.
-pub fn two_rows_are_drawn_as_svg()
-    ensures { svg_text one_name two_rows ≡ two_rows_svg }
+/// A work has the first letter of its name that is left and begins no other name, else the first of all letters, and else any that is left.
+pub fn letters_are_given()
+    ensures alike { letters alike ≡ codes "xya3" }
+    ensures kept { letters kept_free ≡ codes "acbd" }
+    ensures many { letters (namesakes 62) ≡ codes "yabcdefghijklmnopqrstuvwzABCDEFGHIJKLMNOPQRSTUVWXYZ0123456789x" }
+{}
+
+/// Where there are more works than letters, none has one.
+pub fn many_works_have_no_letters()
+    ensures { picture_text (namesakes 63) last_of_63 ≡ last_of_63_text }
 {}

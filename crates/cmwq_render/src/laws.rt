@@ -1,20 +1,14 @@
-//! What the rectangles of rows are, as laws: the functions do nothing, they carry the laws.
-ghost use Rattle.cmwq_render.specs.Laws.{CoversEachCellOnce, RowsStandApart, RunsAreWhole};
+//! What the letters of works are, as laws: the functions do nothing, they carry the laws.
+ghost use Rattle.cmwq_render.specs.Laws.{EachHasOne, NoTwoAreAlike};
 
-/// Over each tick of a row stands one rectangle, which shows the tick's cell, and none where it is empty.
-#[tactic(auto, using(crate::proofs::BarLemmas::each_cell_once))]
-pub fn each_cell_is_covered_once()
-    ensures { CoversEachCellOnce }
+/// Where a scenario has at most 62 works, each has a letter.
+#[tactic(auto, using(crate::proofs::LetterLemmas::one_each))]
+pub fn each_work_has_a_letter()
+    ensures { EachHasOne }
 {}
 
-/// The rectangles of a row stand from left to right, and two that touch show different cells.
-#[tactic(auto, using(crate::proofs::BarLemmas::whole_runs))]
-pub fn touching_rectangles_differ()
-    ensures { RunsAreWhole }
-{}
-
-/// The rectangles of two rows stand apart.
-#[tactic(auto, using(crate::proofs::BarLemmas::rows_apart))]
-pub fn rows_stand_apart()
-    ensures { RowsStandApart }
+/// No two works of a scenario have the same letter.
+#[tactic(auto, using(crate::proofs::LetterLemmas::no_two))]
+pub fn no_two_works_have_one_letter()
+    ensures { NoTwoAreAlike }
 {}

@@ -20,8 +20,8 @@ const EXPLICABLE: [Cell; 8] = [
 ];
 
 /// What the legend of a picture with these rows explains: the signs that occur in it, and whether the actor acts. That
-/// a name on the row of a CPU or worker is who burns there goes without saying.
-pub(crate) fn explained(alloc: Global, rows: &[Row]) -> Result<Vec<Cell>, NoMemory>
+/// a name on the row of a CPU or worker is who burns there goes without saying. The only error is want of memory.
+pub fn explained(alloc: Global, rows: &[Row]) -> Result<Vec<Cell>, NoMemory>
     ensures { IfOk result (λ cells. cells.items ≡ explained rows.now) }
 {
     Ok(
@@ -48,13 +48,13 @@ fn shows(cells: &[Cell], cell: Cell) -> bool
 }
 
 /// What a cell says, in words. Of one that shows nothing, and of a burner, whose name says it, there is nothing to say.
-pub(crate) fn meaning(cell: Cell) -> &'static str
+pub fn meaning(cell: Cell) -> &'static str
     ensures { result.now ≡ meaning cell }
 {
     match cell {
         Cell::Does(sign) => sign_meaning(sign),
         Cell::Acts => "the actor acts",
-        Cell::Empty | Cell::Burner(_) => "",
+        Cell::Empty | Cell::Burner(_) | Cell::Lasts => "",
     }
 }
 

@@ -5,6 +5,6 @@ mod drawing;
 mod question;
 mod task;
 
-pub use drawing::{Drawing, Span};
-pub use question::{Looks, Question};
+pub use drawing::{Drawing, Form, Span, Style};
+pub use question::{Inquiry, Looks, Question};
 pub use task::{RunKind, Task};

@@ -9,6 +9,17 @@ pub enum Question<'a> {
     Flush(u64),
 }
 
+/// A question to a scenario's run.
+#[derive(Clone, Copy, Debug, PartialEq, Eq)]
+pub struct Inquiry<'a> {
+    /// What is asked.
+    pub question: Question<'a>,
+    /// Where the machine is looked at.
+    pub looks: Looks,
+    /// Whether the run goes on until the machine is quiet, as with `settled`.
+    pub settle: bool,
+}
+
 /// The positions of a run at which a command looks at the machine. At position `k` the first `k` instructions have been carried out.
 #[derive(Clone, Copy, Debug, PartialEq, Eq)]
 pub enum Looks {
@@ -18,4 +29,6 @@ pub enum Looks {
     Every,
     /// At this one alone.
     At(u64),
+    /// At the settled ones, and at the last one, where it is this tick.
+    Time(u64),
 }

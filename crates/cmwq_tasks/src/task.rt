@@ -1,7 +1,7 @@
 //! What is done with one input.
 
 use crate::drawing::Drawing;
-use crate::question::{Looks, Question};
+use crate::question::Inquiry;
 
 /// How a scenario is run.
 #[derive(Clone, Copy, Debug, PartialEq, Eq)]
@@ -12,6 +12,8 @@ pub enum RunKind {
     Settled,
     /// As far as they go, with each instruction and what it changes unseen.
     Told,
+    /// On by `next` until the machine is quiet, with each instruction and what it changes unseen.
+    ToldSettled,
 }
 
 /// What is done with an input: the text of a scenario, or an image.
@@ -26,7 +28,7 @@ pub enum Task<'a> {
     /// The scenario of the image is listed.
     Show,
     /// The scenario's run is drawn.
-    Draw(Drawing),
+    Draw(Drawing<'a>),
     /// The question to the scenario's run is answered.
-    Why(Question<'a>, Looks),
+    Why(Inquiry<'a>),
 }

@@ -15,5 +15,5 @@ returns-clause-ok g c =
     let pushed : c.push.new.self ≡ old ++ column_of S s acted ∷ [] =
     c.in_ok-push.ensures.pushed
     ∙ ap (λ (one : ColumnContents). old ++ one ∷ []) (c.in_ok-column.ensures ∙ ap (λ (m : Loaded). column_of m.scenario m.state acted) c.in_ok-moment.ensures ∙ ap (λ (T : ScenarioContents). column_of T s acted) c.self.invariant.1) in
-    subst (λ (r : Recording). recording_of S inside.span s inside.acted c.push.new.self ≡ record r { columns = r.columns ++ column_of r.scenario r.state acted ∷ [] })
-    c.self.view_is (ap (recording_of S inside.span s inside.acted) pushed)
+    subst (λ (r : Recording). recording_of S inside.span s inside.acted inside.acts.items c.push.new.self ≡ record r { columns = r.columns ++ column_of r.scenario r.state acted ∷ [] })
+    c.self.view_is (ap (recording_of S inside.span s inside.acted inside.acts.items) pushed)

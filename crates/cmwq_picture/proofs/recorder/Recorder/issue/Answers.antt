@@ -1,10 +1,10 @@
-use Rattle.std.proofs.Common.{◌≡◌, ◌≢◌, Bool, ◌||◌, false, true, ap, sym, ◌∙◌}
+use Rattle.std.proofs.Common.{◌≡◌, ◌≢◌, ◌+◌, ◌<◌, ◌∷◌, ◌++◌, [], ap, false, length, subst, sym, true, ◌∙◌}
 use Rattle.cmwq_types.specs.Contents.{ScenarioContents}
 use Rattle.cmwq_table.specs.Table.{table}
-use Rattle.cmwq_picture.specs.Picture.{is_act, is_drawn}
+use Rattle.cmwq_picture.specs.Column.{column_of}
+use Rattle.cmwq_picture.specs.Picture.{from_time, is_drawn}
 use Rattle.cmwq_picture.specs.Recording.{Recording, issued, overflows, recording_of}
-use Rattle.cmwq_picture.proofs.RecordingLemmas.{drawn-after, kept-after, on_ok, passes-after, room-after}
-use Rattle.cmwq_picture.proofs.recorder.Recorder.issue.Goals.{then-self, else-self}
+use Rattle.cmwq_picture.proofs.RecordingLemmas.{drawn-after, moved-kept, on_ok, passes-after, room-after, stays-after, told, told-at}
 use Rattle.cmwq_picture.proofs.recorder.Recorder.issue.Goals as goal
 
 pub invariant_of-self : goal.invariant_of-self
@@ -13,27 +13,7 @@ invariant_of-self g c =
     let S = inside.scenario.now in
     let s = g.M.Reads.state inside.machine in
     let exact = c.exec-reply.ensures.exact ∙ ap (λ (T : ScenarioContents). table T s c.args.instr) c.self.invariant.1 in (
-      kept-after (recording_of S inside.span s inside.acted inside.columns) c.args.instr _ _ c.if-self.acted c.self.invariant.0 exact,
-      c.exec-reply.ensures.scenario ∙ c.self.invariant.1,
-    )
-
-pub invariant_of-self-then-is_drawn : goal.invariant_of-self-then-is_drawn
-invariant_of-self-then-is_drawn g c =
-    let inside = c.self.inside in
-    let S = inside.scenario.now in
-    let s = g.M.Reads.state inside.machine in
-    let exact = c.exec-reply.ensures.exact ∙ ap (λ (T : ScenarioContents). table T s c.args.instr) c.self.invariant.1 in (
-      kept-after (recording_of S inside.span s inside.acted inside.columns) c.args.instr _ _ false c.self.invariant.0 exact,
-      c.exec-reply.ensures.scenario ∙ c.self.invariant.1,
-    )
-
-pub invariant_of-self-else-is_drawn : goal.invariant_of-self-else-is_drawn
-invariant_of-self-else-is_drawn g c =
-    let inside = c.self.inside in
-    let S = inside.scenario.now in
-    let s = g.M.Reads.state inside.machine in
-    let exact = c.exec-reply.ensures.exact ∙ ap (λ (T : ScenarioContents). table T s c.args.instr) c.self.invariant.1 in (
-      kept-after (recording_of S inside.span s inside.acted inside.columns) c.args.instr _ _ false c.self.invariant.0 exact,
+      moved-kept (recording_of S inside.span s inside.acted inside.acts.items inside.columns) c.args.instr _ _ exact c.self.invariant.0,
       c.exec-reply.ensures.scenario ∙ c.self.invariant.1,
     )
 
@@ -43,9 +23,17 @@ draw-requires g c =
     let S = inside.scenario.now in
     let s = g.M.Reads.state inside.machine in
     let t = g.M.Reads.state c.exec-reply.new.self in
-    let exact = c.exec-reply.ensures.exact ∙ ap (λ (T : ScenarioContents). table T s c.args.instr) c.self.invariant.1 in
-    let differs : t.time ≢ s.time = λ same. c.if-now-time.false (c.now.ensures ∙ same ∙ sym c.now-time.ensures) in
-    record { later = room-after (recording_of S inside.span s inside.acted inside.columns) c.args.instr t _ c.self.invariant.0 exact differs }
+    let r = recording_of S inside.span s inside.acted inside.acts.items inside.columns in
+    let x = c.args.instr in
+    let answer = c.exec-reply.result in
+    let exact = c.exec-reply.ensures.exact ∙ ap (λ (T : ScenarioContents). table T s x) c.self.invariant.1 in
+    let whole = c.self-2.view_is ∙ c.in_ok-note.ensures ∙ told-at r x t answer exact c.now-time.result c.now-time.ensures in
+    let differs : t.time ≢ s.time = λ same. c.if-now-time.false (c.now.ensures ∙ ap (λ (q : Recording). q.state.time) whole ∙ same ∙ sym c.now-time.ensures) in
+    let drawn : is_drawn inside.span s.time ≡ true =
+    ap (λ (q : Recording). is_drawn q.span s.time) (sym whole) ∙ ap (is_drawn c.self-2.inside.span) (sym c.now-time.ensures) ∙ sym c.is_drawn.ensures ∙ c.if-is_drawn.true in
+    record {
+      later = subst (λ (q : Recording). from_time q.span.from + length q.columns < q.state.time) (sym whole) (room-after r x t answer exact c.self.invariant.0.setting differs c.self.invariant.0 drawn);
+    }
 
 pub returns-then-is_drawn-clause-ok : goal.returns-then-is_drawn-clause-ok
 returns-then-is_drawn-clause-ok g c =
@@ -53,19 +41,17 @@ returns-then-is_drawn-clause-ok g c =
     let S = inside.scenario.now in
     let s = g.M.Reads.state inside.machine in
     let t = g.M.Reads.state c.exec-reply.new.self in
+    let r = recording_of S inside.span s inside.acted inside.acts.items inside.columns in
     let x = c.args.instr in
     let answer = c.exec-reply.result in
     let exact = c.exec-reply.ensures.exact ∙ ap (λ (T : ScenarioContents). table T s x) c.self.invariant.1 in
-    let differs : t.time ≢ s.time = λ same. c.if-now-time.false (c.now.ensures ∙ same ∙ sym c.now-time.ensures) in
-    let flag : c.if-self.acted ≡ (inside.acted || is_act x answer) =
-    elim c.if-self.branch [
-      | then-self b ↦ b.acted-is ∙ b.if-self.true ∙ sym (ap (λ (before : Bool). before || is_act x answer) b.if-self.true)
-      | else-self b ↦ b.acted-is ∙ b.is_act-acted.ensures ∙ sym (ap (λ (before : Bool). before || is_act x answer) b.if-self.false)
-    ] in
-    let drawn : is_drawn inside.span s.time ≡ true = ap (is_drawn inside.span) (sym c.now-time.ensures) ∙ sym c.is_drawn.ensures ∙ c.if-is_drawn.true in
-    let whole = drawn-after (recording_of S inside.span s inside.acted inside.columns) x t answer c.if-self.acted c.self.invariant.0.setting exact flag differs drawn
-    ∙ ap (λ (r : Recording). issued r x) c.self.view_is in
-    on_ok c.draw.result (λ same. same ∙ whole) c.draw.ensures.ok
+    let whole = c.self-2.view_is ∙ c.in_ok-note.ensures ∙ told-at r x t answer exact c.now-time.result c.now-time.ensures in
+    let differs : t.time ≢ s.time = λ same. c.if-now-time.false (c.now.ensures ∙ ap (λ (q : Recording). q.state.time) whole ∙ same ∙ sym c.now-time.ensures) in
+    let drawn : is_drawn inside.span s.time ≡ true =
+    ap (λ (q : Recording). is_drawn q.span s.time) (sym whole) ∙ ap (is_drawn c.self-2.inside.span) (sym c.now-time.ensures) ∙ sym c.is_drawn.ensures ∙ c.if-is_drawn.true in
+    let then : _ ≡ issued r x =
+    ap (λ (q : Recording). record q { acted = false; columns = q.columns ++ column_of q.scenario q.state q.acted ∷ [] }) whole ∙ drawn-after r x t answer exact c.self.invariant.0.setting differs drawn in
+    on_ok c.draw.result (λ same. same ∙ then ∙ ap (λ (r : Recording). issued r x) c.self.view_is) c.draw.ensures.ok
 
 pub returns-then-is_drawn-clause-wide : goal.returns-then-is_drawn-clause-wide
 returns-then-is_drawn-clause-wide g c = λ wide.
@@ -73,19 +59,17 @@ returns-then-is_drawn-clause-wide g c = λ wide.
     let S = inside.scenario.now in
     let s = g.M.Reads.state inside.machine in
     let t = g.M.Reads.state c.exec-reply.new.self in
+    let r = recording_of S inside.span s inside.acted inside.acts.items inside.columns in
     let x = c.args.instr in
     let answer = c.exec-reply.result in
     let exact = c.exec-reply.ensures.exact ∙ ap (λ (T : ScenarioContents). table T s x) c.self.invariant.1 in
-    let differs : t.time ≢ s.time = λ same. c.if-now-time.false (c.now.ensures ∙ same ∙ sym c.now-time.ensures) in
-    let flag : c.if-self.acted ≡ (inside.acted || is_act x answer) =
-    elim c.if-self.branch [
-      | then-self b ↦ b.acted-is ∙ b.if-self.true ∙ sym (ap (λ (before : Bool). before || is_act x answer) b.if-self.true)
-      | else-self b ↦ b.acted-is ∙ b.is_act-acted.ensures ∙ sym (ap (λ (before : Bool). before || is_act x answer) b.if-self.false)
-    ] in
-    let drawn : is_drawn inside.span s.time ≡ true = ap (is_drawn inside.span) (sym c.now-time.ensures) ∙ sym c.is_drawn.ensures ∙ c.if-is_drawn.true in
-    let whole = drawn-after (recording_of S inside.span s inside.acted inside.columns) x t answer c.if-self.acted c.self.invariant.0.setting exact flag differs drawn
-    ∙ ap (λ (r : Recording). issued r x) c.self.view_is in
-    ap overflows (sym whole) ∙ c.draw.ensures.wide wide
+    let whole = c.self-2.view_is ∙ c.in_ok-note.ensures ∙ told-at r x t answer exact c.now-time.result c.now-time.ensures in
+    let differs : t.time ≢ s.time = λ same. c.if-now-time.false (c.now.ensures ∙ ap (λ (q : Recording). q.state.time) whole ∙ same ∙ sym c.now-time.ensures) in
+    let drawn : is_drawn inside.span s.time ≡ true =
+    ap (λ (q : Recording). is_drawn q.span s.time) (sym whole) ∙ ap (is_drawn c.self-2.inside.span) (sym c.now-time.ensures) ∙ sym c.is_drawn.ensures ∙ c.if-is_drawn.true in
+    let then : _ ≡ issued r x =
+    ap (λ (q : Recording). record q { acted = false; columns = q.columns ++ column_of q.scenario q.state q.acted ∷ [] }) whole ∙ drawn-after r x t answer exact c.self.invariant.0.setting differs drawn in
+    ap overflows (sym (then ∙ ap (λ (r : Recording). issued r x) c.self.view_is)) ∙ c.draw.ensures.wide wide
 
 pub returns-clause-ok : goal.returns-clause-ok
 returns-clause-ok g c =
@@ -93,9 +77,13 @@ returns-clause-ok g c =
     let S = inside.scenario.now in
     let s = g.M.Reads.state inside.machine in
     let t = g.M.Reads.state c.exec-reply.new.self in
+    let r = recording_of S inside.span s inside.acted inside.acts.items inside.columns in
     let x = c.args.instr in
+    let answer = c.exec-reply.result in
     let exact = c.exec-reply.ensures.exact ∙ ap (λ (T : ScenarioContents). table T s x) c.self.invariant.1 in
-    let differs : t.time ≢ s.time = λ same. c.if-now-time.false (c.now.ensures ∙ same ∙ sym c.now-time.ensures) in
-    let undrawn : is_drawn inside.span s.time ≡ false = ap (is_drawn inside.span) (sym c.now-time.ensures) ∙ sym c.is_drawn.ensures ∙ c.if-is_drawn.false in
-    passes-after (recording_of S inside.span s inside.acted inside.columns) x t c.exec-reply.result c.self.invariant.0.setting exact differs undrawn
+    let whole = c.self-2.view_is ∙ c.in_ok-note.ensures ∙ told-at r x t answer exact c.now-time.result c.now-time.ensures in
+    let differs : t.time ≢ s.time = λ same. c.if-now-time.false (c.now.ensures ∙ ap (λ (q : Recording). q.state.time) whole ∙ same ∙ sym c.now-time.ensures) in
+    let undrawn : is_drawn inside.span s.time ≡ false =
+    ap (λ (q : Recording). is_drawn q.span s.time) (sym whole) ∙ ap (is_drawn c.self-2.inside.span) (sym c.now-time.ensures) ∙ sym c.is_drawn.ensures ∙ c.if-is_drawn.false in
+    ap (λ (q : Recording). record q { acted = false }) whole ∙ passes-after r x t answer exact c.self.invariant.0.setting differs undrawn
     ∙ ap (λ (r : Recording). issued r x) c.self.view_is

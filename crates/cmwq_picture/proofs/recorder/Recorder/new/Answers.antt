@@ -12,7 +12,7 @@ invariant_of-result g c =
         setting = IsSetting-valid S c.requires.valid;
         counters = subst (λ (s : State). HasCounters S s) (sym c.requires.start) (start-counters S);
         few = search rules;
-        narrow = λ is. search rules;
+        late = λ some. search rules;
       },
       c.requires.loaded,
     )

@@ -1,6 +1,0 @@
-use Rattle.std.proofs.Common.{◌≡◌, ◌++◌, string_bytes}
-use Rattle.cmwq_render.specs.Svg.{time_marks}
-use Rattle.cmwq_render.proofs.document.Frame.push_times.Given as goal
-
-abbrev pub invariant-loop-number : goal.invariant-loop-number
-invariant-loop-number l = string_bytes l.text ≡ string_bytes l.fn.text ++ time_marks l.picture l.self.width l.number

@@ -1,0 +1,15 @@
+use Rattle.std.proofs.Common.{◌≡◌, ◌++◌, List, ℕ, ap, not, sym, ◌∙◌}
+use Rattle.std.proofs.lemmas.List.Elements.{filter-append}
+use Rattle.std.specs.List.{filter}
+use Rattle.cmwq_render.specs.Letters.{alphabet, begins_another}
+use Rattle.cmwq_render.proofs.letters.candidates.Goals as goal
+
+pub returns : goal.returns
+returns c =
+    let p : ℕ → _ = λ x. not (begins_another c.args.w x 0 c.args.works.now) in
+    let name = c.args.name.now in
+    c.in_ok-extend_from_slice.ensures.items ∙ ap (λ (front : List ℕ). front ++ alphabet) (
+    c.in_ok-push_spare-2.ensures ∙ ap (λ (front : List ℕ). front ++ filter p alphabet) (
+    c.in_ok-push_spare.ensures ∙ ap (λ (front : List ℕ). front ++ filter p name) c.new-found.ensures.items
+    ) ∙ sym (filter-append p name alphabet)
+    )

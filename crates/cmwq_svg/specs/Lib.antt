@@ -1,0 +1,7 @@
+pub mod BarTitles
+pub mod Bars
+pub mod Examples
+pub mod Hinted
+pub mod Laws
+pub mod Layout
+pub mod Svg
