@@ -1,5 +1,6 @@
 """A test of what the program says behind the line that tells a fault, where it is asked for that: over a table of things that people get
-wrong. Each is tried with `--explain` and without: without, the fault's line stands alone, and all else is the same.
+wrong. Each is tried with `--explain` and without: without, the fault's line stands alone, and all else is the same. Then of the remarks
+behind runs that end well, and of texts that come by standard input.
 
     python3 gate/test_advice.py PROGRAM"""
 import os
@@ -35,13 +36,37 @@ FILES = {
     "capital.cmwq": HEAD + "queue Q max 1\n",
     "cpus.cmwq": "cpus 17\n",
     "sign.cmwq": "cpus -1\n",
+    "spelt.cmwq": HEAD + "quue q max 1\n",
+    "shout.cmwq": HEAD + "queue q MAX 1\n",
+    "short.cmwq": HEAD + "queue q\n",
+    "bare.cmwq": HEAD + "queue q 1\n",
+    "ordered.cmwq": HEAD + "queue q max 2 ordered\n",
+    "flags.cmwq": HEAD + "queue q max 1 highpri highpri\n",
+    "other.cmwq": HEAD + QUEUE + "work mail p\n",
+    "queues.cmwq": HEAD + "".join(f"queue q{n} max 1\n" for n in range(33)),
+    "many.cmwq": HEAD + QUEUE + "".join(f"work w{n} q\n" for n in range(10)) + "".join(f"body w{n}\nfinish\n" for n in range(10)) + "actor t\ncancel blink\n",
+    "later.cmwq": HEAD + QUEUE + WORKS + "body blink\n",
+    "open.cmwq": HEAD + QUEUE + WORKS + "body mail\ntick\n",
+    "zero.cmwq": HEAD + QUEUE + WORKS + "body mail\nburn 0\n",
+    "cpu.cmwq": HEAD + QUEUE + WORKS + "body mail\nqueue blink 1\n",
+    "unended.cmwq": HEAD + QUEUE + WORKS + "body mail\nburn 1\n",
+    "pool.cmwq": HEAD + QUEUE + WORKS + BODIES + "actor t\nstep 300\n",
+    "times.cmwq": HEAD + QUEUE + WORKS + BODIES + "actor t\nnext * 0\n",
+    "nobody.cmwq": HEAD + QUEUE + WORKS + BODIES + "actor t\ncancel\n",
+    "limit.cmwq": HEAD + QUEUE + WORKS + BODIES + "actor t\nset_max mail 1\n",
+    "actors.cmwq": HEAD + QUEUE + WORKS + BODIES + ACTOR + "actor t\n",
+    "tail.cmwq": "cpus 1 2\n",
+    "refused.cmwq": GOOD + "enable mail\nthaw\n",
+    "once.cmwq": GOOD + "cancel mail\nenable blink * 1\nnext\n",
+    "pending.cmwq": HEAD + QUEUE + WORKS + BODIES + "actor t\nqueue mail 0\nqueue blink 0\n",
+    "mailed.cmwq": HEAD + QUEUE + WORKS + BODIES + "actor t\nqueue mail 0\n",
     "there": "what was there\n",
 }
 
-INSTRUCTIONS = (
-    "queue, delay, mod, cancel, cancel_sync, flush, flush_delayed, flush_queue, set_max, freeze, thaw, fire, step, tick, next, ask, busy, state, "
-    "disable, enable, pressure, relief"
-)
+# what mends a text's fault, where several rows want it
+BAD_WORD = "  this word means nothing here: what may stand is told above"
+UNKNOWN = "  no line before declares a work or a queue of this name"
+EXTRA_WORD = "  the line has a word too many; an instruction is repeated by `* N` behind it"
 
 # A row: the words, the status, the line that tells the fault, and what follows where that is asked for.
 ROWS = [
@@ -67,40 +92,93 @@ ROWS = [
     ("show long.image", 1, "image: Extra", "  bytes follow behind the image's end"),
     ("show late.image", 1, "image: Version", "  the image is of a version that this program doesn't know"),
     # texts
-    ("run kernel.cmwq", 1, "line 5: BadFlags", "kernel.cmwq:5:13: 0: BadFlags\n  queue q max 0\n              ^\n  a line here may begin with: queue, actor\n  max is 1 to 512, and 1 of an ordered queue; a kernel's 0, its default, is 256 in Linux 6.1"),
-    ("list flag.cmwq", 1, "line 5: BadWord", "flag.cmwq:5:15: freezeable: BadWord\n  queue q max 1 freezeable\n                ^\n  a line here may begin with: queue, actor\n  no such word; a flag is highpri, unbound, cpu_intensive, freezable, ordered or mem_reclaim"),
-    ("draw wq.cmwq", 1, "line 5: BadWord", "wq.cmwq:5:15: WQ_UNBOUND: BadWord\n  queue q max 1 WQ_UNBOUND\n                ^\n  a line here may begin with: queue, actor\n  no such word; a flag is highpri, unbound, cpu_intensive, freezable, ordered or mem_reclaim"),
-    ("run order.cmwq", 1, "line 1: Misplaced", "order.cmwq:1:1: workers: Misplaced\n  workers 2\n  ^\n  a line here may begin with: cpus\n  such a line can't stand here; bodies stand in the order of their works"),
+    ("run kernel.cmwq", 1, "line 5: BadFlags", "kernel.cmwq:5:13: 0: BadFlags\n  queue q max 0\n              ^\n  here may stand: a number from 1 to 512\n  max takes 1 to 512; a kernel's 0, its default, is 256 in Linux 6.1 and 6.12"),
+    ("list flag.cmwq", 1, "line 5: BadWord", f"flag.cmwq:5:15: freezeable: BadWord\n  queue q max 1 freezeable\n                ^\n  here may stand: freezable, highpri, unbound, cpu_intensive, ordered, mem_reclaim, or the line's end\n  is freezable meant?\n{BAD_WORD}"),
+    ("draw wq.cmwq", 1, "line 5: BadWord", f"wq.cmwq:5:15: WQ_UNBOUND: BadWord\n  queue q max 1 WQ_UNBOUND\n                ^\n  here may stand: unbound, highpri, cpu_intensive, freezable, ordered, mem_reclaim, or the line's end\n  is unbound meant?\n{BAD_WORD}"),
+    ("run ordered.cmwq", 1, "line 5: BadFlags", "ordered.cmwq:5:15: ordered: BadFlags\n  queue q max 2 ordered\n                ^\n  here may stand: unbound, highpri, cpu_intensive, freezable, mem_reclaim, or the line's end\n  an ordered queue has max 1"),
+    ("run flags.cmwq", 1, "line 5: Duplicate", "flags.cmwq:5:23: highpri: Duplicate\n  queue q max 1 highpri highpri\n                        ^\n  here may stand: unbound, cpu_intensive, freezable, ordered, mem_reclaim, or the line's end\n  no two queues, works or actors have one name, and no flag stands twice"),
+    ("run spelt.cmwq", 1, "line 5: BadWord", f"spelt.cmwq:5:1: quue: BadWord\n  quue q max 1\n  ^\n  a line here may begin with: queue, actor\n  is queue meant?\n{BAD_WORD}"),
+    ("run shout.cmwq", 1, "line 5: BadWord", f"shout.cmwq:5:9: MAX: BadWord\n  queue q MAX 1\n          ^\n  here may stand: max\n  is max meant?\n{BAD_WORD}"),
+    ("run bare.cmwq", 1, "line 5: BadWord", f"bare.cmwq:5:9: 1: BadWord\n  queue q 1\n          ^\n  here may stand: max\n{BAD_WORD}"),
+    ("run short.cmwq", 1, "line 5: MissingWord", "short.cmwq:5:8: end of line: MissingWord\n  queue q\n         ^\n  here may stand: max\n  the line or the text ends before all is said"),
+    ("run queues.cmwq", 1, "line 37: TooMany", "queues.cmwq:37:15: 1: TooMany\n  queue q32 max 1\n                ^\n  a line here may begin with: work, actor\n  at most 32 queues, 256 works of 64 operations, 16 actors of 4096 lines"),
+    ("run order.cmwq", 1, "line 1: Misplaced", "order.cmwq:1:1: workers: Misplaced\n  workers 2\n  ^\n  a line here may begin with: cpus\n  lines stand in this order: cpus, workers, steps, flushes, queues, works, bodies in the order of their works, actors"),
+    ("run later.cmwq", 1, "line 8: Misplaced", "later.cmwq:8:6: blink: Misplaced\n  body blink\n       ^\n  here may stand: mail\n  lines stand in this order: cpus, workers, steps, flushes, queues, works, bodies in the order of their works, actors"),
+    ("run open.cmwq", 1, "line 9: Misplaced", "open.cmwq:9:1: tick: Misplaced\n  tick\n  ^\n  a line here may begin with: burn, sleep, queue, finish\n  the body of mail is open: its operations stand here, and finish ends it"),
     ("asm empty.cmwq made.image", 1, "line 1: MissingWord", "empty.cmwq:1:1: end of text: MissingWord\n  a line here may begin with: cpus\n  the line or the text ends before all is said"),
-    ("settle twice.cmwq", 1, "line 7: Duplicate", "twice.cmwq:7:6: mail: Duplicate\n  work mail q\n       ^\n  a line here may begin with: work, body\n  no two queues, works or actors have one name"),
-    ("debug capital.cmwq", 1, "line 5: BadName", "capital.cmwq:5:7: Q: BadName\n  queue Q max 1\n        ^\n  a line here may begin with: queue, actor\n  a name has 1 to 15 small letters, digits and _, and begins with a letter"),
-    ("run cpus.cmwq", 1, "line 1: Range", "cpus.cmwq:1:6: 17: Range\n  cpus 17\n       ^\n  a line here may begin with: cpus\n  the number is out of its limits"),
-    ("why sign.cmwq mail", 1, "line 1: BadNumber", "sign.cmwq:1:6: -1: BadNumber\n  cpus -1\n       ^\n  a line here may begin with: cpus\n  a number has 1 to 10 digits, no sign, and no 0 in front of others"),
-    ("play endless.cmwq --capacity 3", 1, "line 9: BadBody", "endless.cmwq:9:1: actor: BadBody\n  actor t\n  ^\n  a line here may begin with: burn, sleep, queue, finish\n  a body ends with its one `finish`"),
-    ("run unknown.cmwq", 1, "line 15: Unknown", f"unknown.cmwq:15:7: male: Unknown\n  queue male 0\n        ^\n  a line here may begin with: {INSTRUCTIONS}, actor\n  no work or no queue of this name is declared"),
-    ("run ticks.cmwq", 1, "line 15: ExtraWord", f"ticks.cmwq:15:6: 5: ExtraWord\n  tick 5\n       ^\n  a line here may begin with: {INSTRUCTIONS}, actor\n  the line has a word too many; an instruction is repeated by `* N` behind it"),
+    ("settle twice.cmwq", 1, "line 7: Duplicate", "twice.cmwq:7:6: mail: Duplicate\n  work mail q\n       ^\n  here may stand: a new name\n  no two queues, works or actors have one name, and no flag stands twice"),
+    ("run actors.cmwq", 1, "line 17: Duplicate", "actors.cmwq:17:7: t: Duplicate\n  actor t\n        ^\n  here may stand: a new name\n  no two queues, works or actors have one name, and no flag stands twice"),
+    ("debug capital.cmwq", 1, "line 5: BadName", "capital.cmwq:5:7: Q: BadName\n  queue Q max 1\n        ^\n  here may stand: a new name\n  is q meant?\n  a name has 1 to 15 small letters, digits and _, and begins with a letter"),
+    ("run cpus.cmwq", 1, "line 1: Range", "cpus.cmwq:1:6: 17: Range\n  cpus 17\n       ^\n  here may stand: a number from 1 to 16\n  the number is out of its limits: here stands a number from 1 to 16"),
+    ("why sign.cmwq mail", 1, "line 1: BadNumber", "sign.cmwq:1:6: -1: BadNumber\n  cpus -1\n       ^\n  here may stand: a number from 1 to 16\n  a number has 1 to 10 digits, no sign, and no 0 in front of others"),
+    ("run zero.cmwq", 1, "line 9: Range", "zero.cmwq:9:6: 0: Range\n  burn 0\n       ^\n  here may stand: a number from 1 to 1000000\n  the number is out of its limits: here stands a number from 1 to 1000000"),
+    ("run cpu.cmwq", 1, "line 9: Range", "cpu.cmwq:9:13: 1: Range\n  queue blink 1\n              ^\n  here may stand: the number 0\n  the number is out of its limits: here stands the number 0"),
+    ("run pool.cmwq", 1, "line 15: Range", "pool.cmwq:15:6: 300: Range\n  step 300\n       ^\n  here may stand: a number from 0 to 255\n  the number is out of its limits: here stands a number from 0 to 255"),
+    ("run times.cmwq", 1, "line 15: Range", "times.cmwq:15:8: 0: Range\n  next * 0\n         ^\n  here may stand: a number from 1 to 65535\n  the number is out of its limits: here stands a number from 1 to 65535"),
+    ("play endless.cmwq --capacity 3", 1, "line 9: BadBody", "endless.cmwq:9:1: actor: BadBody\n  actor t\n  ^\n  a line here may begin with: burn, sleep, queue, finish\n  the body of mail lacks the finish that ends it"),
+    ("run unended.cmwq", 1, "line 10: BadBody", "unended.cmwq:10:1: end of text: BadBody\n  a line here may begin with: burn, sleep, queue, finish\n  the body of mail lacks the finish that ends it"),
+    ("run unknown.cmwq", 1, "line 15: Unknown", f"unknown.cmwq:15:7: male: Unknown\n  queue male 0\n        ^\n  here may stand: mail, blink\n  is mail meant?\n{UNKNOWN}"),
+    ("run many.cmwq", 1, "line 37: Unknown", f"many.cmwq:37:8: blink: Unknown\n  cancel blink\n         ^\n  here may stand: w0, w1, w2, w3, w4, w5, w6, w7, 2 more\n{UNKNOWN}"),
+    ("run other.cmwq", 1, "line 6: Unknown", f"other.cmwq:6:11: p: Unknown\n  work mail p\n            ^\n  here may stand: q\n{UNKNOWN}"),
+    ("run limit.cmwq", 1, "line 15: Unknown", f"limit.cmwq:15:9: mail: Unknown\n  set_max mail 1\n          ^\n  here may stand: q\n{UNKNOWN}"),
+    ("run nobody.cmwq", 1, "line 15: MissingWord", "nobody.cmwq:15:7: end of line: MissingWord\n  cancel\n        ^\n  here may stand: mail, blink\n  the line or the text ends before all is said"),
+    ("run ticks.cmwq", 1, "line 15: ExtraWord", f"ticks.cmwq:15:6: 5: ExtraWord\n  tick 5\n       ^\n  here may stand: *, or the line's end\n  is * 5 meant?\n{EXTRA_WORD}"),
+    ("run tail.cmwq", 1, "line 1: ExtraWord", f"tail.cmwq:1:8: 2: ExtraWord\n  cpus 1 2\n         ^\n  the line should end here\n{EXTRA_WORD}"),
     # actors
     ("run two.cmwq", 1, "actors", "  two.cmwq has 2 actors: this command takes one, and `cmwq play` several"),
     ("draw --svg two.cmwq", 1, "actors", "  two.cmwq has 2 actors: this command takes one, and `cmwq play` several"),
     ("debug none.cmwq", 1, "actors", "  none.cmwq has no actor: `actor NAME` and its instructions are missing at the end"),
     ("play none.cmwq --capacity 3", 1, "actors", "  none.cmwq has no actor: `actor NAME` and its instructions are missing at the end"),
     # what the scenario hasn't
-    ("why good.cmwq blnk", 1, "no such work", "  works of good.cmwq, the nearest first: blink, mail"),
-    ("why good.cmwq mial", 1, "no such work", "  works of good.cmwq, the nearest first: mail, blink"),
+    ("why good.cmwq blnk", 1, "no such work", "  no work of good.cmwq is called blnk; the nearest first: blink, mail"),
+    ("why good.cmwq mial", 1, "no such work", "  no work of good.cmwq is called mial; the nearest first: mail, blink"),
     # what both begin with is cut, what both end with, and then the longer one counts; of two names so near the first is told
-    ("why good.cmwq blin", 1, "no such work", "  works of good.cmwq, the nearest first: blink, mail"),
-    ("why good.cmwq link", 1, "no such work", "  works of good.cmwq, the nearest first: blink, mail"),
-    ("why good.cmwq b", 1, "no such work", "  works of good.cmwq, the nearest first: mail, blink"),
+    ("why good.cmwq blin", 1, "no such work", "  no work of good.cmwq is called blin; the nearest first: blink, mail"),
+    ("why good.cmwq link", 1, "no such work", "  no work of good.cmwq is called link; the nearest first: blink, mail"),
+    ("why good.cmwq b", 1, "no such work", "  no work of good.cmwq is called b; the nearest first: mail, blink"),
     ("why workless.cmwq a", 1, "no such work", "  workless.cmwq has no works"),
     ("why good.cmwq mail --at 999", 1, "past the end", "  the last position is 4"),
+    ("why good.cmwq mail --time 999", 1, "past the end", "  the run ends at tick 1"),
+    ("why mailed.cmwq mail --time 9", 1, "past the end", "  the run ends at tick 0"),
+    ("why --settle mailed.cmwq mail --time 9", 1, "past the end", "  the run ends at tick 1"),
+    ("why --settle mailed.cmwq mail --at 9", 1, "past the end", "  the last position is 5"),
+    ("draw good.cmwq --works mail,blnk", 1, "no such work", "  no work of good.cmwq is called blnk; the nearest first: blink, mail"),
+    ("draw good.cmwq --works blink,,male", 1, "no such work", "  no work of good.cmwq is called ; the nearest first: mail, blink"),
+    ("draw good.cmwq --works blnk", 1, "no such work", "  no work of good.cmwq is called blnk; the nearest first: blink, mail"),
     ("why good.cmwq --flush 7", 1, "no such flush", "  flushes are numbered from 0, as they are given: cmwq run prints each with its number"),
     # what is too much
     ("run long.cmwq", 4, "full", "  the actor has more than 1048576 instructions"),
     ("settle lines.cmwq", 4, "full", "  settled, the actor would have more than 4096 lines, or 1048576 instructions"),
     ("draw --settle lines.cmwq", 4, "full", "  settled, the actor would have more than 4096 lines, or 1048576 instructions"),
+    ("run --settle --tell lines.cmwq", 4, "full", "  settled, the actor would have more than 4096 lines, or 1048576 instructions"),
+    ("why --settle lines.cmwq mail", 4, "full", "  settled, the actor would have more than 4096 lines, or 1048576 instructions"),
+    ("debug --settle lines.cmwq", 4, "full", "  settled, the actor would have more than 4096 lines, or 1048576 instructions"),
+    ("why long.cmwq mail", 4, "full", "  the actor has more than 1048576 instructions"),
     ("play busy.cmwq --capacity 2", 4, "full", "  --capacity says how many instructions fit: 4096 at most"),
     ("settle restless.cmwq", 1, "never quiet", "  a work is still pending or runs when steps or 1048576 instructions are over: it wants more steps, a thaw or relief, or never ends"),
     ("draw --settle restless.cmwq", 1, "never quiet", "  a work is still pending or runs when steps or 1048576 instructions are over: it wants more steps, a thaw or relief, or never ends"),
+]
+
+# What is said behind a run that ends well: the words, and the remarks, which stand there only where they are asked for.
+REMARKS = [
+    ("run good.cmwq", ""),
+    ("run refused.cmwq", "2 instructions were refused, the first in line 17\n"),
+    ("run once.cmwq", "1 instruction was refused, in line 18\n"),
+    ("why refused.cmwq mail", ""),
+    ("why pending.cmwq blink", "2 works are pending; --settle goes on until the machine is quiet\n"),
+    ("run pending.cmwq", "2 works are pending; --settle goes on until the machine is quiet\n"),
+    ("draw pending.cmwq", "2 works are pending; --settle goes on until the machine is quiet\n"),
+    ("list pending.cmwq", ""),
+    ("check pending.cmwq", ""),
+]
+
+# What comes by standard input: the words, the text that is there, the status, the fault's line, and what follows where that is asked for.
+STREAMED = [
+    ("run -", "refused.cmwq", 0, "", "2 instructions were refused, the first in line 17\n"),
+    ("list -", "pending.cmwq", 0, "", ""),
+    ("draw -", "cpus.cmwq", 1, "line 1: Range\n", "-:1:6: 17: Range\n  cpus 17\n       ^\n  here may stand: a number from 1 to 16\n  the number is out of its limits: here stands a number from 1 to 16\n"),
+    ("why - blnk", "good.cmwq", 1, "no such work\n", "  no work of - is called blnk; the nearest first: blink, mail\n"),
+    ("run -", "folder", 3, "read\n", "  -: it can't be read\n"),
 ]
 
 
@@ -138,11 +216,29 @@ def faults(program, room):
                 yield f"{' '.join(asked)}: it says {told[2]!r} in place of {wanted!r}"
 
 
+def remarks(program, room):
+    for line, remark in REMARKS:
+        plain, asked = said(program, room, line.split()), said(program, room, ["--explain", *line.split()])
+        if plain[0] != 0 or plain[2] or asked != (plain[0], plain[1], remark):
+            yield f"{line}: it ends with {plain[0]} and says {plain[2]!r}, and {asked[2]!r} where that is asked for"
+
+
+def streamed(program, room):
+    for line, name, status, fault, more in STREAMED:
+        for option, wanted in (([], fault), (["--explain"], fault + more)):
+            handle = os.open(f"{room}/{name}", os.O_RDONLY)
+            ran = subprocess.run([program, *option, *line.split()], cwd=room, stdin=handle, capture_output=True, text=True, timeout=60)
+            os.close(handle)
+            if (ran.returncode, ran.stderr) != (status, wanted):
+                yield f"{line} < {name}: it ends with {ran.returncode} and says {ran.stderr!r} in place of {wanted!r}"
+
+
 def main(program):
     with tempfile.TemporaryDirectory() as room:
         make(room, program)
-        found = list(faults(program, room))
-    print("".join(f"{it}\n" for it in found) + f"test_advice: {len(ROWS)} faults of people, each told with advice and without, {len(found)} otherwise", flush=True)
+        found = [*faults(program, room), *remarks(program, room), *streamed(program, room)]
+    count = len(ROWS) + len(REMARKS) + len(STREAMED)
+    print("".join(f"{it}\n" for it in found) + f"test_advice: {count} command lines of people, each with advice and without, {len(found)} otherwise", flush=True)
     return bool(found)
 
 

@@ -1,11 +1,16 @@
 -- What a person is told to do about the fault that a command ended with. The lines are this project's own.
-use Rattle.std.specs.Prelude.{◌≡◌, ◌⊎◌, ℕ, suc, Bool, true, false, List, [], ◌∷◌, ◌++◌, ◌==◌, length, take, drop, Option, None, Some, codes, option_map, unwrap_or, nat_lt, if◌then◌else◌}
+use Rattle.std.specs.Prelude.{◌≡◌, ◌⊎◌, ℕ, suc, Bool, true, false, List, [], ◌∷◌, ◌++◌, ◌==◌, length, take, drop, Option, None, Some, codes, option_map, unwrap_or, if◌then◌else◌}
+use Rattle.std.specs.Borrow.{Bor}
 use Rattle.std.specs.Fmt.{decimal}
 use Rattle.std.specs.List.{flat_map}
 use Rattle.cmwq_types.specs.Contents.{ActorContents, ScenarioContents, WorkContents}
-use Rattle.cmwq_types.specs.Scenario.{expand}
-use Rattle.cmwq_types.specs.declared.limits.TheConstants.{MAX_HISTORY}
+use Rattle.cmwq_types.specs.Scenario.{expand, work_at}
+use Rattle.cmwq_types.specs.declared.instr.Instr.{Instr}
+use Rattle.cmwq_table.specs.Table.{run}
+use Rattle.cmwq_fitting.specs.Nearness.{nearest}
 use Rattle.cmwq_grammar.specs.Grammar.{Spells}
+use Rattle.cmwq_grammar.specs.Instructions.{work_names}
+use Rattle.cmwq_draw.specs.Picking.{names_from, undeclared}
 use Rattle.cmwq_asm.specs.declared.fault.AsmError.TheVariants as texts
 use Rattle.cmwq_image.specs.declared.error.ImageError.{ImageError}
 use Rattle.cmwq_image.specs.declared.error.ImageError.TheVariants as images
@@ -13,13 +18,18 @@ use Rattle.cmwq_request.specs.declared.request.Request.{Request}
 use Rattle.cmwq_request.specs.declared.request.Request.TheVariants.{New, Do, Asm, Debug, Play}
 use Rattle.cmwq_streams.specs.declared.error.PlayError.{PlayError}
 use Rattle.cmwq_streams.specs.declared.error.PlayError.TheVariants as errors
+use Rattle.cmwq_settle.specs.Settled.{IsSettledIf, IsUnsettledIf}
+use Rattle.cmwq_tasks.specs.declared.question.Inquiry.{Inquiry}
+use Rattle.cmwq_tasks.specs.declared.question.Looks.{Looks}
+use Rattle.cmwq_tasks.specs.declared.question.Looks.TheVariants.{Time}
+use Rattle.cmwq_tasks.specs.declared.question.Question.{Question}
 use Rattle.cmwq_tasks.specs.declared.question.Question.TheVariants.{Work}
-use Rattle.cmwq_tasks.specs.declared.task.Task.TheVariants.{Draw, Settle, Why}
-use Rattle.cmwq_verdict.specs.Verdicts.{IsVerdict}
+use Rattle.cmwq_tasks.specs.declared.task.RunKind.TheVariants.{Settled, ToldSettled}
+use Rattle.cmwq_tasks.specs.declared.task.Task.{Task}
+use Rattle.cmwq_tasks.specs.declared.task.Task.TheVariants.{Draw, Run, Settle, Why}
+use Rattle.cmwq_verdict.specs.Verdicts.{IsExplained}
 use Rattle.cmwq_verdict.specs.declared.looks.Look.{Look}
 use Rattle.cmwq_advice.specs.Lines.{line}
-use Rattle.cmwq_advice.specs.Nearest.{nearest, work_name}
-use Rattle.cmwq_advice.specs.Reasons.{mended}
 use Rattle.cmwq_advice.specs.declared.advising.Found.{Found}
 use Rattle.cmwq_advice.specs.declared.trouble.Trouble.{Trouble}
 use Rattle.cmwq_advice.specs.declared.trouble.Trouble.TheVariants as trouble
@@ -48,7 +58,7 @@ trouble_lines None why = []
 abbrev pub file_read : Request → Option (List ℕ)
 file_read (Do file task) = Some file.now
 file_read (Asm file out) = Some file.now
-file_read (Debug file) = Some file.now
+file_read (Debug file settle) = Some file.now
 file_read (Play file capacity) = Some file.now
 file_read request = None
 
@@ -72,10 +82,19 @@ abbrev pub actor_words : (is_settled : Bool) → List ℕ
 actor_words true = line (codes "settled, the actor would have more than 4096 lines, or 1048576 instructions")
 actor_words false = line (codes "the actor has more than 1048576 instructions")
 
+-- whether the run goes on until the machine is quiet
+abbrev pub is_settled : Task → Bool
+is_settled Settle = true
+is_settled (Run Settled) = true
+is_settled (Run ToldSettled) = true
+is_settled (Draw drawing) = drawing.settle
+is_settled (Why inquiry) = inquiry.settle
+is_settled task = false
+
 abbrev pub full_words : Request → List ℕ
 full_words (Play file capacity) = line (codes "--capacity says how many instructions fit: 4096 at most")
-full_words (Do file Settle) = actor_words true
-full_words (Do file (Draw drawing)) = actor_words drawing.settle
+full_words (Do file task) = actor_words (is_settled task)
+full_words (Debug file settle) = actor_words settle
 full_words request = actor_words false
 
 abbrev pub memory_words : List ℕ
@@ -104,40 +123,65 @@ actors_line file count =
     then line (file ++ codes " has no actor: `actor NAME` and its instructions are missing at the end")
     else several_line file count
 
--- the name of the work that was asked for
-abbrev pub asked_work : Request → List ℕ
-asked_work (Do file (Why (Work name) looks)) = name.now
-asked_work request = []
+-- the name of the work that was asked for, or the first of the names that isn't declared
+abbrev pub work_asked : Question → List ℕ
+work_asked (Work name) = name.now
+work_asked question = []
+
+abbrev pub works_asked : ScenarioContents → Option (Bor (List ℕ)) → List ℕ
+works_asked S (Some names) = unwrap_or (undeclared S (names_from [] names.now)) []
+works_asked S None = []
+
+abbrev pub asked_work : ScenarioContents → Request → List ℕ
+asked_work S (Do file (Why inquiry)) = work_asked inquiry.question
+asked_work S (Do file (Draw drawing)) = works_asked S drawing.works
+asked_work S request = []
 
 abbrev pub name_list : List WorkContents → List ℕ
 name_list works = flat_map (λ work. codes ", " ++ work.name) works
 
--- all works, the one first whose name is most like the word
-abbrev pub works_by : (file : List ℕ) → ScenarioContents → Option ℕ → List ℕ
-works_by file S None = line (file ++ codes " has no works")
-works_by file S (Some w) =
-    codes "  works of " ++ file ++ codes ", the nearest first: " ++ work_name S w ++ name_list (take w S.works) ++ name_list (drop (suc w) S.works) ++ 10 ∷ []
+-- the word, and all works, the one first whose name is most like it
+abbrev pub uncalled : (file word : List ℕ) → List ℕ
+uncalled file word = codes "  no work of " ++ file ++ codes " is called " ++ word ++ codes "; the nearest first: "
+
+abbrev pub works_by : (file word : List ℕ) → ScenarioContents → Option ℕ → List ℕ
+works_by file word S None = line (file ++ codes " has no works")
+works_by file word S (Some w) =
+    uncalled file word ++ (work_at S w).name ++ name_list (take w S.works) ++ name_list (drop (suc w) S.works) ++ 10 ∷ []
 
 abbrev pub works_line : (file : List ℕ) → ScenarioContents → (word : List ℕ) → List ℕ
-works_line file S word = works_by file S (nearest S word)
+works_line file S word = works_by file word S (nearest (work_names S) word)
 
-abbrev pub last_position : ℕ → List ℕ
-last_position count = if nat_lt MAX_HISTORY count then [] else line (codes "the last position is " ++ decimal count)
+-- the instructions of the run of the first actor, and the time at which it ends
+abbrev pub run_instrs : List ActorContents → List Instr
+run_instrs [] = []
+run_instrs (actor ∷ others) = expand actor
 
-abbrev pub end_of : List ActorContents → List ℕ
-end_of [] = []
-end_of (actor ∷ others) = last_position (length (expand actor))
+abbrev pub end_time : ScenarioContents → List ActorContents → ℕ
+end_time S actors = (run S (run_instrs actors)).time
 
-abbrev pub end_line : ScenarioContents → List ℕ
-end_line S = end_of S.actors
+-- where a run ends: at its last tick where one was asked for, else at its last position
+abbrev pub end_of : Looks → ScenarioContents → List ActorContents → List ℕ
+end_of (Time tick) S actors = line (codes "the run ends at tick " ++ decimal (end_time S actors))
+end_of looks S actors = line (codes "the last position is " ++ decimal (length (run_instrs actors)))
 
-abbrev pub on_scenario : Request → (file : List ℕ) → PlayError → ScenarioContents → List ℕ
-on_scenario request file errors.Actors S = actors_line file (length S.actors)
-on_scenario request file errors.NoSuchWork S = works_line file S (asked_work request)
-on_scenario request file errors.PastEnd S = end_line S
-on_scenario request file fault S = []
+-- this is told of the run's end, of the settled run where that is asked; nothing where there is none
+abbrev pub IsEnd : Inquiry → ScenarioContents → (told : List ℕ) → Type 0
+IsEnd inquiry S told =
+    ((T : ScenarioContents) × IsSettledIf inquiry.settle S T × (told ≡ end_of inquiry.looks T T.actors))
+    ⊎ ((error : PlayError) × IsUnsettledIf inquiry.settle S error × (told ≡ []))
 
--- these are the lines, where the text of the file that was read shows the fault: its verdict and what mends it, and else what its
+abbrev pub IsPastEnd : Request → ScenarioContents → (told : List ℕ) → Type 0
+IsPastEnd (Do file (Why inquiry)) S told = IsEnd inquiry S told
+IsPastEnd request S told = told ≡ []
+
+abbrev pub IsOnScenario : Request → (file : List ℕ) → PlayError → ScenarioContents → (told : List ℕ) → Type 0
+IsOnScenario request file errors.Actors S told = told ≡ actors_line file (length S.actors)
+IsOnScenario request file errors.NoSuchWork S told = told ≡ works_line file S (asked_work S request)
+IsOnScenario request file errors.PastEnd S told = IsPastEnd request S told
+IsOnScenario request file fault S told = told ≡ []
+
+-- these are the lines, where the text of the file that was read shows the fault: its verdict with what mends it, and else what its
 -- scenario says
 abbrev pub wants_text : PlayError → Bool
 wants_text (errors.Asm (texts.At line why)) = true
@@ -152,8 +196,8 @@ file_named request = unwrap_or (file_read request) []
 module _ (look : Look) (request : Request) where
   abbrev pub IsOnText : PlayError → (text told : List ℕ) → Type 0
   IsOnText fault text told =
-      ((verdict : List ℕ) × IsVerdict look (file_named request) text (Some verdict) × (told ≡ verdict ++ mended fault))
-      ⊎ ((S : ScenarioContents) × Spells text S × (told ≡ on_scenario request (file_named request) fault S))
+      IsExplained look (file_named request) text (Some told)
+      ⊎ ((S : ScenarioContents) × Spells text S × IsOnScenario request (file_named request) fault S told)
 
   abbrev pub IsByText : PlayError → Bool → (text : Option (List ℕ)) → (told : List ℕ) → Type 0
   IsByText fault true (Some text) told = IsOnText fault text told

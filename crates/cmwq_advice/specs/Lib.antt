@@ -1,5 +1,3 @@
 pub mod Advice
 pub mod ExplainOption
 pub mod Lines
-pub mod Nearest
-pub mod Reasons

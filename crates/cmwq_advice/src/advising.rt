@@ -4,13 +4,12 @@ ghost use Rattle.std.specs.Prelude.{◌≡◌, ◌↔◌, IfOk, IsTrue, option_m
 
 use crate::on_scenario::on_scenario;
 use crate::plain::plain_words;
-use crate::reasons::mended;
 use crate::trouble::Trouble;
 use cmwq_asm::{AsmError, assemble};
 use cmwq_request::request::Request;
 use cmwq_streams::PlayError;
 use cmwq_types::NoMemory;
-use cmwq_verdict::{Look, verdict};
+use cmwq_verdict::{Look, explained_verdict};
 use std::alloc::Global;
 
 /// What was found out about the files of a request, once its command had ended with a fault.
@@ -63,9 +62,9 @@ pub fn file_read<'a>(request: &Request<'a>) -> Option<&'a str>
     match request {
         Request::Do { file, .. }
         | Request::Asm { file, .. }
-        | Request::Debug { file }
+        | Request::Debug { file, .. }
         | Request::Play { file, .. } => Some(*file),
-        Request::New { .. } | Request::Check { .. } | Request::Version => None,
+        Request::New { .. } | Request::Check { .. } | Request::Language | Request::Version => None,
     }
 }
 
@@ -106,12 +105,11 @@ fn on_text(
     ensures { IfOk result (λ told. IsOnText look request.now fault text.now told.items) }
 {
     let file = file_read(request).unwrap_or("");
-    if let Some(mut told) = verdict(alloc, look, file, text)? {
-        told.extend_from_slice(mended(fault).as_bytes())?;
+    if let Some(told) = explained_verdict(alloc, look, file, text)? {
         return Ok(told);
     }
     match assemble(alloc, text) {
-        Ok(scenario) => on_scenario(alloc, request, file, fault, &scenario),
+        Ok(scenario) => on_scenario(alloc, request, file, fault, scenario),
         Err(_) => Err(NoMemory),
     }
 }

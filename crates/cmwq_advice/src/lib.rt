@@ -4,10 +4,9 @@
 mod advising;
 mod explain_option;
 mod line;
-mod nearest;
 mod on_scenario;
+mod past_end;
 mod plain;
-mod reasons;
 mod trouble;
 
 pub use advising::{Found, advice, file_made, file_read, wants_text};

@@ -1,14 +1,18 @@
 //! What can be done about a fault that shows in the scenario.
-ghost use Rattle.cmwq_advice.specs.Advice.{actors_line, asked_work, end_line, name_list, on_scenario, several_line, works_by, works_line};
-ghost use Rattle.std.specs.Prelude.{◌≡◌, ◌++◌, ◌<◌, IfOk, IfSome, OnOk, length, string_bytes};
+ghost use Rattle.cmwq_advice.specs.Advice.{IsOnScenario, actors_line, asked_work, name_list, several_line, uncalled, work_asked, works_asked, works_by, works_line};
+ghost use Rattle.cmwq_grammar.specs.Instructions.{work_names};
+ghost use Rattle.cmwq_types.specs.Faults.{IsValid};
+ghost use Rattle.cmwq_types.specs.declared.limits.TheConstants.{MAX_WORKS};
+ghost use Rattle.std.specs.Prelude.{◌≡◌, ◌++◌, ◌<◌, ◌≤◌, IfOk, IfSome, OnOk, length, map, string_bytes};
 
 use crate::line::line_of;
-use crate::nearest::nearest;
+use crate::past_end::past_end;
+use cmwq_draw::undeclared;
+use cmwq_fitting::nearest;
 use cmwq_request::request::Request;
-use cmwq_runs::room_behind;
 use cmwq_streams::PlayError;
 use cmwq_tasks::{Question, Task};
-use cmwq_types::{MAX_HISTORY, NoMemory, Scenario, WorkDecl};
+use cmwq_types::{NoMemory, Scenario, WorkDecl};
 use itoa::Buffer;
 use std::alloc::Global;
 
@@ -18,14 +22,18 @@ pub(crate) fn on_scenario(
     request: &Request<'_>,
     file: &str,
     fault: PlayError,
-    scenario: &Scenario,
+    scenario: Scenario,
 ) -> Result<Vec<u8>, NoMemory>
-    ensures { IfOk result (λ told. told.items ≡ on_scenario request.now file.now fault scenario.now) }
+    requires { IsValid scenario }
+    ensures { IfOk result (λ told. IsOnScenario request.now file.now fault scenario told.items) }
 {
     match fault {
         PlayError::Actors => actors_line(alloc, file, scenario.actors.len()),
-        PlayError::NoSuchWork => works_line(alloc, file, scenario, asked_work(request)),
-        PlayError::PastEnd => end_line(alloc, scenario),
+        PlayError::NoSuchWork => {
+            let word = asked_work(alloc, request, &scenario)?;
+            works_line(alloc, file, &scenario, &word)
+        }
+        PlayError::PastEnd => past_end(alloc, request, scenario),
         _ => Ok(Vec::new(alloc)),
     }
 }
@@ -57,76 +65,124 @@ fn several_line(alloc: Global, file: &str, count: usize) -> Result<Vec<u8>, NoMe
     Ok(line.into_bytes())
 }
 
-/// The name of the work that was asked for, and no text where none was.
-fn asked_work<'a>(request: &Request<'a>) -> &'a str
-    ensures { result.now ≡ asked_work request.now }
+/// The name of the work that was asked for, or the first of the names that isn't declared; no bytes where none was asked for.
+fn asked_work(
+    alloc: Global,
+    request: &Request<'_>,
+    scenario: &Scenario,
+) -> Result<Vec<u8>, NoMemory>
+    requires { length scenario.now.works ≤ MAX_WORKS }
+    ensures { IfOk result (λ word. word.items ≡ asked_work scenario.now request.now) }
 {
     match request {
         Request::Do {
             file: _,
-            task: Task::Why(Question::Work(name), _),
-        } => *name,
-        _ => "",
+            task: Task::Why(inquiry),
+        } => bytes_of(alloc, work_asked(inquiry.question)),
+        Request::Do {
+            file: _,
+            task: Task::Draw(drawing),
+        } => works_asked(alloc, scenario, drawing.works),
+        _ => Ok(Vec::new(alloc)),
     }
 }
 
-/// The works of the file's scenario, the one first whose name is most like the word.
+/// The first of the names of the works that were to be drawn that isn't declared; no bytes where there is none.
+fn works_asked(alloc: Global, scenario: &Scenario, names: Option<&str>) -> Result<Vec<u8>, NoMemory>
+    requires { length scenario.now.works ≤ MAX_WORKS }
+    ensures { IfOk result (λ word. word.items ≡ works_asked scenario.now names.entry) }
+{
+    let Some(names) = names else {
+        return Ok(Vec::new(alloc));
+    };
+    match undeclared(alloc, scenario, names)? {
+        Some(name) => Ok(name),
+        None => Ok(Vec::new(alloc)),
+    }
+}
+
+/// The text's bytes.
+fn bytes_of(alloc: Global, text: &str) -> Result<Vec<u8>, NoMemory>
+    ensures { IfOk result (λ bytes. bytes.items ≡ text.now) }
+{
+    Ok(String::from_str(alloc, text)?.into_bytes())
+}
+
+/// The name of the work that the question asks for, and no text where it asks for none.
+fn work_asked<'a>(question: Question<'a>) -> &'a str
+    ensures { result.now ≡ work_asked question.entry }
+{
+    match question {
+        Question::Work(name) => name,
+        Question::Flush(_) => "",
+    }
+}
+
+/// That no work of the file's scenario is called so, and its works, the one first whose name is most like the word.
 fn works_line(
     alloc: Global,
     file: &str,
     scenario: &Scenario,
-    word: &str,
+    word: &[u8],
 ) -> Result<Vec<u8>, NoMemory>
     ensures { IfOk result (λ line. line.items ≡ works_line file.now scenario.now word.now) }
 {
-    works_by(alloc, file, scenario, nearest(scenario, word.as_bytes()))
+    let names = work_names(alloc, scenario)?;
+    works_by(alloc, file, word, scenario, nearest(&names, word))
 }
 
-/// The works of the file's scenario, this one first.
+/// The names of the works.
+fn work_names(alloc: Global, scenario: &Scenario) -> Result<Vec<&[u8]>, NoMemory>
+    ensures { IfOk result (λ names. map (λ name. name.now) names.items ≡ work_names scenario.now) }
+{
+    let mut names = Vec::new(alloc);
+    for work in &scenario.works {
+        names.push(work.name.as_bytes())?;
+    }
+    Ok(names)
+}
+
+/// That no work of the file's scenario is called so, and its works, this one first.
 fn works_by(
     alloc: Global,
     file: &str,
+    word: &[u8],
     scenario: &Scenario,
     first: Option<usize>,
 ) -> Result<Vec<u8>, NoMemory>
     requires { IfSome first (λ w. w < length scenario.now.works) }
-    ensures { IfOk result (λ line. line.items ≡ works_by file.now scenario.now first) }
+    ensures { IfOk result (λ line. line.items ≡ works_by file.now word.now scenario.now first) }
 {
     let Some(w) = first else {
         return line_of(alloc, &[file, " has no works"]);
     };
-    let mut line = String::from_str(alloc, "  works of ")?;
-    line.push_str(file)?;
-    line.push_str(", the nearest first: ")?;
-    line.push_str(scenario.work_name(w))?;
+    let mut line = uncalled(alloc, file, word)?;
+    line.extend_from_slice(scenario.work_name(w).as_bytes())?;
     push_names(&mut line, scenario.works.split_at(w).0)?;
     push_names(&mut line, scenario.works.split_at(w + 1).1)?;
-    line.push_str("\n")?;
-    Ok(line.into_bytes())
+    line.push(b'\n')?;
+    Ok(line)
+}
+
+/// That no work of the file's scenario is called so, up to the works.
+fn uncalled(alloc: Global, file: &str, word: &[u8]) -> Result<Vec<u8>, NoMemory>
+    ensures { IfOk result (λ line. line.items ≡ uncalled file.now word.now) }
+{
+    let mut line = bytes_of(alloc, "  no work of ")?;
+    line.extend_from_slice(file.as_bytes())?;
+    line.extend_from_slice(b" is called ")?;
+    line.extend_from_slice(word)?;
+    line.extend_from_slice(b"; the nearest first: ")?;
+    Ok(line)
 }
 
 /// Appends the works' names, each behind a comma.
-fn push_names(line: &mut String, works: &[WorkDecl]) -> Result<(), NoMemory>
-    ensures { OnOk result (string_bytes line.new ≡ string_bytes line.old ++ name_list works.now) }
+fn push_names(line: &mut Vec<u8>, works: &[WorkDecl]) -> Result<(), NoMemory>
+    ensures { OnOk result (line.new.items ≡ line.old.items ++ name_list works.now) }
 {
     for work in works {
-        line.push_str(", ")?;
-        line.push_str(work.name.as_str())?;
+        line.extend_from_slice(b", ")?;
+        line.extend_from_slice(work.name.as_bytes())?;
     }
     Ok(())
-}
-
-/// The last position of the run of the scenario's one actor; nothing where there is no such run.
-fn end_line(alloc: Global, scenario: &Scenario) -> Result<Vec<u8>, NoMemory>
-    ensures { IfOk result (λ line. line.items ≡ end_line scenario.now) }
-{
-    let Some(actor) = scenario.actors.first() else {
-        return Ok(Vec::new(alloc));
-    };
-    let Some(room) = room_behind(&actor.lines) else {
-        return Ok(Vec::new(alloc));
-    };
-    let mut buffer = Buffer::new();
-    let last = buffer.format(MAX_HISTORY - room);
-    line_of(alloc, &["the last position is ", last])
 }

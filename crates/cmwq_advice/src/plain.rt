@@ -1,12 +1,12 @@
 //! What can be done about a fault by itself.
-ghost use Rattle.cmwq_advice.specs.Advice.{actor_words, full_words, image_words, plain_words};
+ghost use Rattle.cmwq_advice.specs.Advice.{actor_words, full_words, image_words, is_settled, plain_words};
 ghost use Rattle.std.specs.Prelude.{◌≡◌};
 
 use cmwq_asm::AsmError;
 use cmwq_image::ImageError;
 use cmwq_request::request::Request;
 use cmwq_streams::PlayError;
-use cmwq_tasks::Task;
+use cmwq_tasks::{RunKind, Task};
 
 /// What can be done about a fault, where neither a file nor its scenario has to be looked at for that; else no text.
 pub(crate) fn plain_words(request: &Request<'_>, fault: PlayError) -> &'static str
@@ -37,15 +37,21 @@ fn full_words(request: &Request<'_>) -> &'static str
 {
     match request {
         Request::Play { .. } => "  --capacity says how many instructions fit: 4096 at most\n",
-        Request::Do {
-            file: _,
-            task: Task::Settle,
-        } => actor_words(true),
-        Request::Do {
-            file: _,
-            task: Task::Draw(drawing),
-        } => actor_words(drawing.settle),
+        Request::Do { file: _, task } => actor_words(is_settled(task)),
+        Request::Debug { file: _, settle } => actor_words(*settle),
         _ => actor_words(false),
+    }
+}
+
+/// Whether the run goes on until the machine is quiet.
+fn is_settled(task: &Task<'_>) -> bool
+    ensures { result ≡ is_settled task.now }
+{
+    match task {
+        Task::Settle | Task::Run(RunKind::Settled) | Task::Run(RunKind::ToldSettled) => true,
+        Task::Draw(drawing) => drawing.settle,
+        Task::Why(inquiry) => inquiry.settle,
+        _ => false,
     }
 }
 

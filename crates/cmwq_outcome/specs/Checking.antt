@@ -1,6 +1,7 @@
 -- What is told of a file's text.
 use Rattle.std.specs.Prelude.{◌≡◌, ◌≤◌, ℕ, List, length, Bool, true, Option, None, Some, IfSome}
 use Rattle.std.specs.Io.KnownBytes.{Appends, Consumes, Keeps}
+use Rattle.cmwq_remarks.specs.Notes.{AreNotes}
 use Rattle.cmwq_types.specs.declared.limits.TheConstants.{MAX_TEXT}
 use Rattle.cmwq_verdict.specs.Verdicts.{IsVerdict, ok_line, unread_line}
 use Rattle.cmwq_verdict.specs.declared.looks.Look.{Look}
@@ -18,10 +19,14 @@ pub record HasRead (input left : Option (List ℕ)) (text : List ℕ) : Type 0 w
   pub read : Consumes input left text
   pub whole : length text ≤ MAX_TEXT → IfSome input (λ all. all ≡ text)
 
--- The file was judged so, and its verdict told: `ok` on the output, all else on the writer for faults.
+-- what is noted of the file, which has this text, was written
+abbrev pub HasNoted : (file text : List ℕ) (errors errors_now : Option (List ℕ)) → Type 0
+HasNoted file text errors errors_now = (told : List ℕ) × AreNotes file text told × Appends errors errors_now told
+
+-- The file was judged so, and its verdict told: `ok` on the output, all else, notes too, on the writer for faults.
 abbrev pub HasTold : (look : Look) (file : List ℕ) (input left : Option (List ℕ)) (has_failed : Bool) (output output_now errors errors_now : Option (List ℕ)) → Judged → Type 0
 HasTold look file input left has_failed output output_now errors errors_now judged.Good =
-    ((text : List ℕ) × HasRead input left text × IsVerdict look file text None) × Appends output output_now (ok_line file) × Keeps errors errors_now
+    ((text : List ℕ) × HasRead input left text × IsVerdict look file text None × HasNoted file text errors errors_now) × Appends output output_now (ok_line file)
 HasTold look file input left has_failed output output_now errors errors_now judged.Faulty =
     (text : List ℕ) × (told : List ℕ) × HasRead input left text × IsVerdict look file text (Some told) × Keeps output output_now × Appends errors errors_now told
 HasTold look file input left has_failed output output_now errors errors_now judged.Unread =
@@ -30,7 +35,7 @@ HasTold look file input left has_failed output output_now errors errors_now judg
 -- the same of a file that has this text
 abbrev pub HasToldOf : (look : Look) (file text : List ℕ) (output output_now errors errors_now : Option (List ℕ)) → Judged → Type 0
 HasToldOf look file text output output_now errors errors_now judged.Good =
-    IsVerdict look file text None × Appends output output_now (ok_line file) × Keeps errors errors_now
+    IsVerdict look file text None × HasNoted file text errors errors_now × Appends output output_now (ok_line file)
 HasToldOf look file text output output_now errors errors_now judged.Faulty =
     (told : List ℕ) × IsVerdict look file text (Some told) × Keeps output output_now × Appends errors errors_now told
 HasToldOf look file text output output_now errors errors_now judged.Unread = ⊥

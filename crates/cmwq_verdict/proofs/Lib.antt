@@ -1,2 +1,3 @@
 mod FrontLemmas
+mod ListLemmas
 mod PlaceLemmas

@@ -2,8 +2,11 @@
 use Rattle.std.proofs.Common.{◌≡◌, ◌≢◌, ℕ, zero, suc, ◌+◌, ◌-◌, ◌<◌, ◌≤◌, ◌⊎◌, inl, inr, Bool, true, false, cond, eqb, List, [], ◌∷◌, ◌++◌, length, get_or, drop, take, arith, length-append, ap, sym, ◌∙◌, refl, subst, Some, Result, Ok, Err}
 use Rattle.std.proofs.lemmas.List.{drop_all, drop_more, take_all}
 use Rattle.std.proofs.lemmas.Option.{slice_get-get_or}
-use Rattle.std.specs.List.{slice_get}
-use Rattle.std.specs.Prelude.{IfOk, MatchResult}
+use Rattle.std.specs.List.{list_any, slice_get}
+use Rattle.std.specs.Str.{bytes_eq}
+use Rattle.cmwq_verdict.specs.OfferLines.{spelled}
+use Rattle.cmwq_verdict.specs.declared.first_words.FirstWord.{FirstWord}
+use Rattle.std.specs.Prelude.{◌||◌, IfOk, MatchResult, map}
 use Rattle.cmwq_types.specs.Contents.{ScenarioContents}
 use Rattle.cmwq_grammar.specs.Cutting.{lines_of}
 use Rattle.cmwq_grammar.specs.FaultLaw.{IsFault}
@@ -116,3 +119,8 @@ module _ (text : List ℕ) (fault : FaultAt) where
   placed (Ok (place.Word column bytes)) line more words some other cut are there = (some, other, (line, more, words, cut, are, there))
   placed (Ok place.Line) line more words some other cut are there = (some, other, (line, more, words, cut, are, there))
   placed (Err e) line more words some other cut are there = tt
+
+-- a word is among the spelled ones where it is how one is spelled
+pub any_spelled : (word : List ℕ) (firsts : List FirstWord) → list_any (bytes_eq word) (map spelled firsts) ≡ list_any (λ first. bytes_eq word (spelled first)) firsts
+any_spelled word [] = refl
+any_spelled word (first ∷ firsts) = ap (λ (b : Bool). bytes_eq word (spelled first) || b) (any_spelled word firsts)

@@ -1,10 +1,9 @@
 -- What is said of the place of a fault: which words a line may begin with there.
-use Rattle.std.specs.Prelude.{◌≡◌, ◌≢◌, ◌-◌, ◌⊎◌, ℕ, List, [], ◌∷◌, ◌++◌, codes, take}
+use Rattle.std.specs.Prelude.{◌-◌, ℕ, List, [], ◌∷◌, ◌++◌, codes, take}
 use Rattle.std.specs.List.{flat_map}
 use Rattle.cmwq_types.specs.Mnemonics.{spelling}
 use Rattle.cmwq_grammar.specs.Cutting.{lines_of}
-use Rattle.cmwq_grammar.specs.Meaning.{FaultAt}
-use Rattle.cmwq_grammar.specs.Offers.{IsNextAfter, words_of_next}
+use Rattle.cmwq_grammar.specs.Offers.{IsNextAfter}
 use Rattle.cmwq_grammar.specs.declared.next.Next.{Next}
 use Rattle.cmwq_verdict.specs.declared.first_words.FirstWord.{FirstWord}
 use Rattle.cmwq_verdict.specs.declared.first_words.FirstWord.TheVariants as first
@@ -31,8 +30,3 @@ offer_line (word ∷ others) = codes "  a line here may begin with: " ++ word ++
 -- this is what a further line may be after the lines before that of the fault
 abbrev pub IsNextAt : List ℕ → ℕ → Next → Type 0
 IsNextAt text line next = IsNextAfter (take (line - 1) (lines_of text)) next
-
--- this is said of a fault's place: nothing where the fault is in no line
-abbrev pub IsOffer : List ℕ → FaultAt → List ℕ → Type 0
-IsOffer text fault told =
-    ((fault.line ≡ 0) × (told ≡ [])) ⊎ ((fault.line ≢ 0) × (next : Next) × IsNextAt text fault.line next × (told ≡ offer_line (words_of_next next)))

@@ -6,8 +6,12 @@ use Rattle.cmwq_types.specs.Faults.{within}
 use Rattle.cmwq_grammar.specs.FaultLaw.{IsFault}
 use Rattle.cmwq_grammar.specs.Grammar.{Spells}
 use Rattle.cmwq_grammar.specs.Meaning.{FaultAt}
+use Rattle.cmwq_grammar.specs.declared.next.Next.{Next}
+use Rattle.cmwq_fitting.specs.declared.offer.Offer.{Offer}
 use Rattle.cmwq_verdict.specs.Looks.{pointer, why_words}
-use Rattle.cmwq_verdict.specs.OfferLines.{IsOffer}
+use Rattle.cmwq_verdict.specs.Mending.{limits_offered, open_body_after, why_sentence}
+use Rattle.cmwq_verdict.specs.Hints.{hint_lines}
+use Rattle.cmwq_verdict.specs.WordPlaces.{IsNext, IsOffer, column_of_place, lines_before, word_of_place}
 use Rattle.cmwq_verdict.specs.FaultPlaces.{IsPlace}
 use Rattle.cmwq_verdict.specs.declared.looks.Look.{Look}
 use Rattle.cmwq_verdict.specs.declared.places.FaultPlace.{FaultPlace}
@@ -20,13 +24,6 @@ visible byte = if within 33 126 byte then byte else 63
 
 abbrev pub shown : List ℕ → List ℕ
 shown word = map visible (take 64 word)
-
-abbrev pub column_of_place : FaultPlace → ℕ
-column_of_place place.Text = 0
-column_of_place place.EndOfText = 1
-column_of_place place.Line = 1
-column_of_place (place.EndOfLine column) = column
-column_of_place (place.Word column bytes) = column
 
 -- what stands there
 abbrev pub subject_of : FaultPlace → List ℕ
@@ -48,10 +45,35 @@ ok_line file = file ++ codes ": ok" ++ 10 ∷ []
 abbrev pub unread_line : List ℕ → List ℕ
 unread_line file = file ++ codes ": read" ++ 10 ∷ []
 
--- this is said of the text of a file: nothing where it spells a scenario, and else its first fault, where that is seen, and what may
--- stand there
-abbrev pub IsVerdict : Look → List ℕ → List ℕ → Option (List ℕ) → Type 0
-IsVerdict look file text None = (S : ScenarioContents) × Spells text S
-IsVerdict look file text (Some told) =
-    (fault : FaultAt) × (place : FaultPlace) × (offer : List ℕ) × IsFault text fault × IsPlace text fault place × IsOffer text fault offer
-    × (told ≡ fault_line look file fault place ++ pointer look text fault (column_of_place place) ++ offer)
+-- A text's first fault, where it is seen, how a further line might be, and what may stand there.
+pub record IsFoundOut (text : List ℕ) (fault : FaultAt) (place : FaultPlace) (next : Option Next) (offer : Option Offer) : Type 0 where
+  pub fault_is : IsFault text fault
+  pub place_is : IsPlace text fault place
+  pub next_is : IsNext text fault next
+  pub offer_is : IsOffer text fault place next offer
+
+-- what mends a fault
+abbrev pub mending_line : (text : List ℕ) → FaultAt → FaultPlace → Option Next → Option Offer → List ℕ
+mending_line text fault place next offer =
+    why_sentence (word_of_place place) (limits_offered offer) (open_body_after (lines_before text fault) next) fault.why
+
+module _ (look : Look) (file text : List ℕ) where
+  -- a fault, and what is said of its place
+  abbrev pub verdict_lines : FaultAt → FaultPlace → Option Next → Option Offer → List ℕ
+  verdict_lines fault place next offer =
+      fault_line look file fault place ++ (pointer look text fault (column_of_place place) ++ hint_lines text fault place next offer)
+
+  -- This is said of the text of a file: nothing where it spells a scenario, and else its first fault, where that is seen, what may
+  -- stand there, and what is meant.
+  abbrev pub IsVerdict : Option (List ℕ) → Type 0
+  IsVerdict None = (S : ScenarioContents) × Spells text S
+  IsVerdict (Some told) =
+      (fault : FaultAt) × (place : FaultPlace) × (next : Option Next) × (offer : Option Offer) × IsFoundOut text fault place next offer
+      × (told ≡ verdict_lines fault place next offer)
+
+  -- the same, and what mends the fault
+  abbrev pub IsExplained : Option (List ℕ) → Type 0
+  IsExplained None = (S : ScenarioContents) × Spells text S
+  IsExplained (Some told) =
+      (fault : FaultAt) × (place : FaultPlace) × (next : Option Next) × (offer : Option Offer) × IsFoundOut text fault place next offer
+      × (told ≡ verdict_lines fault place next offer ++ mending_line text fault place next offer)

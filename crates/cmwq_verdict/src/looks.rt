@@ -4,8 +4,9 @@ ghost use Rattle.cmwq_grammar.specs.Meaning.{fault_at};
 ghost use Rattle.cmwq_verdict.specs.Looks.{blank, pointed, pointer, seen, why_words};
 ghost use Rattle.std.specs.Prelude.{◌≡◌, ◌++◌, ◌∷◌, OnOk, codes, map, take};
 
-use crate::places::{TextFault, line_start, rest_from};
+use crate::places::{line_start, rest_from};
 use crate::reason_names::why_name;
+use cmwq_fitting::TextFault;
 use cmwq_grammar::Why;
 use cmwq_scan::next_line;
 use cmwq_types::NoMemory;

@@ -1,54 +1,36 @@
-//! What may stand in a fault's place.
+//! Which words a line may begin with in a fault's place.
 ghost use Rattle.cmwq_grammar.specs.FaultLaw.{IsFault};
 ghost use Rattle.cmwq_grammar.specs.Meaning.{fault_at};
-ghost use Rattle.cmwq_grammar.specs.Offers.{words_of_next};
-ghost use Rattle.cmwq_grammar.specs.declared.next.Next.{Next};
 ghost use Rattle.cmwq_grammar.specs.declared.why.Why.{Why};
-ghost use Rattle.cmwq_verdict.specs.OfferLines.{IsNextAt, IsOffer, offer_line, spelled};
+ghost use Rattle.cmwq_verdict.specs.OfferLines.{IsNextAt, offer_line, spelled};
 ghost use Rattle.std.specs.List.{flat_map};
 ghost use Rattle.std.specs.Prelude.{◌≡◌, ◌≢◌, ◌++◌, ℕ, List, IfOk, OnOk, codes, map};
 
-use crate::first_words::{FirstWord, words_of};
-use crate::places::{TextFault, line_start};
+use crate::first_words::FirstWord;
+use crate::places::line_start;
 use cmwq_asm::{AsmError, next_after};
+use cmwq_grammar::Next;
 use cmwq_types::NoMemory;
 use std::alloc::Global;
 
-/// The words that a line may begin with in the place of the text's first fault, which is in this line, counted from 1, or behind the
-/// last one: just those with which some scenario's text goes on after the lines before. It fails only for want of memory.
-pub fn next_words(alloc: Global, text: &[u8], line: u32) -> Result<Vec<FirstWord>, NoMemory>
+/// What a line may be in the place of the text's first fault, which is in this line, counted from 1, or behind the last one: just what some
+/// scenario's text goes on with after the lines before. It fails only for want of memory.
+pub(crate) fn next_at(alloc: Global, text: &[u8], line: u32) -> Result<Next, NoMemory>
     requires line { line ≢ 0 }
     requires fault { (why : Why) × IsFault text.now (fault_at line why) }
-    ensures { IfOk result (λ words. (next : Next) × IsNextAt text.now line next × (map spelled words.items ≡ words_of_next next)) }
+    ensures { IfOk result (λ next. IsNextAt text.now line next) }
 {
     let start = line_start(text, line - 1);
     let front = text.split_at(start).0;
     match next_after(alloc, front) {
-        Ok(next) => words_of(alloc, next),
+        Ok(next) => Ok(next),
         Err(AsmError::NoMemory) => Err(NoMemory),
         Err(AsmError::At { .. }) => unreachable!(),
     }
 }
 
-/// Writes what is said of the place of the text's first fault.
-pub(crate) fn push_offer(
-    alloc: Global,
-    told: &mut Vec<u8>,
-    text: &[u8],
-    fault: TextFault,
-) -> Result<(), NoMemory>
-    requires { IsFault text.now (fault_at fault.line fault.why) }
-    ensures { OnOk result ((offer : List ℕ) × IsOffer text.now (fault_at fault.line fault.why) offer × (told.new.items ≡ told.old.items ++ offer)) }
-{
-    if fault.line == 0 {
-        return Ok(());
-    }
-    let words = next_words(alloc, text, fault.line)?;
-    push_offered(told, &words)
-}
-
 /// Writes the line that offers these words.
-fn push_offered(told: &mut Vec<u8>, words: &[FirstWord]) -> Result<(), NoMemory>
+pub(crate) fn push_offered(told: &mut Vec<u8>, words: &[FirstWord]) -> Result<(), NoMemory>
     ensures { OnOk result (told.new.items ≡ told.old.items ++ offer_line (map spelled words.now)) }
 {
     match words {

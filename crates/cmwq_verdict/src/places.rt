@@ -8,17 +8,11 @@ ghost use Rattle.std.specs.List.{All};
 ghost use Rattle.std.specs.Prelude.{◌≡◌, ◌≢◌, ◌+◌, ◌-◌, ◌≤◌, ◌<◌, ◌↔◌, ◌∷◌, ◌==◌, if◌then◌else◌, ℕ, List, IfOk, IsTrue, MatchOption, drop, length};
 
 use cmwq_asm::{AsmError, assemble};
+use cmwq_fitting::TextFault;
 use cmwq_grammar::Why;
 use cmwq_scan::{Token, Tokens, next_line, read_tokens, worded_part};
 use cmwq_types::NoMemory;
 use std::alloc::Global;
-
-/// The fault of a text: its line, counted from 1, and why it is one.
-#[derive(Clone, Copy, Debug)]
-pub(crate) struct TextFault {
-    pub(crate) line: u32,
-    pub(crate) why: Why,
-}
 
 /// Where the first fault of a text is seen. Columns are counted in bytes, from 1.
 #[derive(Clone, Copy, Debug)]

@@ -1,24 +1,33 @@
 //! What is said of a text.
+ghost use Rattle.cmwq_grammar.specs.FaultLaw.{IsFault};
 ghost use Rattle.cmwq_grammar.specs.Meaning.{fault_at};
-ghost use Rattle.cmwq_verdict.specs.Verdicts.{IsVerdict, column_of_place, fault_line, ok_line, unread_line, shown, subject_of, visible};
-ghost use Rattle.std.specs.Prelude.{◌≡◌, ◌++◌, IfOk, OnOk, option_map};
+ghost use Rattle.cmwq_verdict.specs.Verdicts.{IsExplained, IsVerdict, fault_line, ok_line, unread_line, shown, subject_of, verdict_lines, visible};
+ghost use Rattle.cmwq_verdict.specs.WordPlaces.{IsNext};
+ghost use Rattle.std.specs.Prelude.{◌≡◌, ◌++◌, IfOk, OnOk, Some, option_map};
 
+use crate::finding::{Finding, column_of_place, found_of};
+use crate::hints::push_hints;
 use crate::looks::{Look, front_of, push_pointer, push_why};
-use crate::offers::push_offer;
-use crate::places::{FaultPlace, TextFault, place_of_fault};
+use crate::mending::push_mending;
+use crate::places::FaultPlace;
 use cmwq_asm::{AsmError, assemble};
+use cmwq_fitting::TextFault;
 use cmwq_types::NoMemory;
 use std::alloc::Global;
 
-/// What is said of the text of this file: nothing where it spells a scenario, and else a line, `FILE:LINE:COLUMN: WORD: WHY`, and a
-/// second one with the words that a line may begin with there.
+/// What is said of the text of this file: nothing where it spells a scenario, and else a line, `FILE:LINE:COLUMN: WORD: WHY`, and what may
+/// stand there.
 ///
 /// Line and reason are those of the text's first fault. The word is the first one of that line such that the text cut behind it
 /// has this fault, and the column is that of its first byte, counted in bytes from 1. For a word that is missing stands `end of
 /// line`, or `end of text`, for a line in which no word is at fault `line`, and for a text that is too long `text`. Of a word the
-/// first 64 bytes are shown, and `?` for each that isn't a visible character of ASCII. The second line is `  a line here may begin
-/// with: WORD, WORD`, of just those words with which some scenario's text goes on after the lines before the fault's, or `  no line
-/// may stand here`; a text that is too long has no second line. Where it is to point at the place, the fault's line stands between the two, its
+/// first 64 bytes are shown, and `?` for each that isn't a visible character of ASCII.
+///
+/// The second line is `  a line here may begin with: WORD, WORD`, of just those words with which some scenario's text goes on after the lines
+/// before the fault's, or `  no line may stand here`. Behind a first word with which a line may begin it is `  here may stand: THING, THING`: of
+/// `max`, the flags, `*` and the names that lines before declare just those with which the line goes on, the nearest to the word first, and not
+/// more than eight; `a new name`; `a number from LOW to HIGH`; `the line's end`. Where a word is misspelt, and one that may stand there is near, `  is
+/// WORD meant?` follows. A text that is too long has none of these. Where it is to point at the place, the fault's line stands behind the first, its
 /// first 100 bytes, with a caret below the column where that is among them; as a terminal shows it, the reason is red as well. It fails only
 /// for want of memory.
 pub fn verdict(
@@ -33,14 +42,86 @@ pub fn verdict(
         Ok(_) => Ok(None),
         Err(AsmError::At { line, why }) => {
             let fault = TextFault { line, why };
-            let place = place_of_fault(alloc, text, fault)?;
-            let mut told = fault_and_place(alloc, look, file, fault, place)?;
-            push_pointer(&mut told, look, text, fault, column_of_place(place))?;
-            push_offer(alloc, &mut told, text, fault)?;
-            Ok(Some(told))
+            Ok(Some(fault_told(alloc, look, file, text, fault)?))
         }
         Err(AsmError::NoMemory) => Err(NoMemory),
     }
+}
+
+/// What is said of the text of this file, as `verdict` tells it, and behind a fault a sentence on what mends it: that of its reason in the table
+/// `why_sentence` of the specs. It fails only for want of memory.
+pub fn explained_verdict(
+    alloc: Global,
+    look: Look,
+    file: &str,
+    text: &[u8],
+) -> Result<Option<Vec<u8>>, NoMemory>
+    ensures { IfOk result (λ told. IsExplained look file.now text.now (option_map (λ bytes. bytes.items) told)) }
+{
+    match assemble(alloc, text) {
+        Ok(_) => Ok(None),
+        Err(AsmError::At { line, why }) => {
+            let fault = TextFault { line, why };
+            Ok(Some(fault_explained(alloc, look, file, text, fault)?))
+        }
+        Err(AsmError::NoMemory) => Err(NoMemory),
+    }
+}
+
+/// The lines that tell the text's first fault, which is this one.
+fn fault_told(
+    alloc: Global,
+    look: Look,
+    file: &str,
+    text: &[u8],
+    fault: TextFault,
+) -> Result<Vec<u8>, NoMemory>
+    requires { IsFault text.now (fault_at fault.line fault.why) }
+    ensures { IfOk result (λ told. IsVerdict look file.now text.now (Some told.items)) }
+{
+    let found = found_of(alloc, text, fault)?;
+    verdict_lines(alloc, look, file, text, &found)
+}
+
+/// The lines that tell the text's first fault, which is this one, and what mends it.
+fn fault_explained(
+    alloc: Global,
+    look: Look,
+    file: &str,
+    text: &[u8],
+    fault: TextFault,
+) -> Result<Vec<u8>, NoMemory>
+    requires { IsFault text.now (fault_at fault.line fault.why) }
+    ensures { IfOk result (λ told. IsExplained look file.now text.now (Some told.items)) }
+{
+    let found = found_of(alloc, text, fault)?;
+    let mut told = verdict_lines(alloc, look, file, text, &found)?;
+    push_mending(alloc, &mut told, text, &found)?;
+    Ok(told)
+}
+
+/// The lines that tell the text's fault, which was found out.
+fn verdict_lines(
+    alloc: Global,
+    look: Look,
+    file: &str,
+    text: &[u8],
+    found: &Finding<'_>,
+) -> Result<Vec<u8>, NoMemory>
+    requires { IsNext text.now (fault_at found.now.fault.line found.now.fault.why) found.now.next }
+    ensures { IfOk result (λ told. told.items
+        ≡ verdict_lines look file.now text.now (fault_at found.now.fault.line found.now.fault.why) found.now.place found.now.next found.now.offer) }
+{
+    let mut told = fault_and_place(alloc, look, file, found.fault, found.place)?;
+    push_pointer(
+        &mut told,
+        look,
+        text,
+        found.fault,
+        column_of_place(found.place),
+    )?;
+    push_hints(alloc, &mut told, text, found)?;
+    Ok(told)
 }
 
 /// `FILE: ok`, which is said of a good file. It fails only for want of memory.
@@ -75,18 +156,6 @@ fn fault_and_place(
     push_why(&mut told, look, why)?;
     told.push(b'\n')?;
     Ok(told)
-}
-
-/// The column of the place.
-fn column_of_place(place: FaultPlace<'_>) -> usize
-    ensures { result ≡ column_of_place place.entry }
-{
-    match place {
-        FaultPlace::Text => 0,
-        FaultPlace::EndOfText | FaultPlace::Line => 1,
-        FaultPlace::EndOfLine { column } => column,
-        FaultPlace::Word { column, .. } => column,
-    }
 }
 
 /// Writes what stands at the place.

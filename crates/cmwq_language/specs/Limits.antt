@@ -1,0 +1,48 @@
+-- The limits of a scenario, each behind what it limits.
+use Rattle.std.specs.Prelude.{ℕ, List, [], ◌∷◌, ◌++◌, codes}
+use Rattle.std.specs.Fmt.{decimal}
+use Rattle.cmwq_types.specs.declared.limits.TheConstants.{MAX_ACTORS, MAX_CPUS, MAX_FLUSHES, MAX_LINES, MAX_MAX_ACTIVE, MAX_OPS, MAX_QUEUES, MAX_STEPS, MAX_TICKS, MAX_TIMES, MAX_WORKERS, MAX_WORKS}
+use Rattle.cmwq_language.specs.declared.limits.Limited.{Limited}
+use Rattle.cmwq_language.specs.declared.limits.Limited.TheVariants as limited
+
+abbrev pub limit : Limited → ℕ
+limit limited.Cpus = MAX_CPUS
+limit limited.Workers = MAX_WORKERS
+limit limited.Steps = MAX_STEPS
+limit limited.Flushes = MAX_FLUSHES
+limit limited.MaxActive = MAX_MAX_ACTIVE
+limit limited.Queues = MAX_QUEUES
+limit limited.Works = MAX_WORKS
+limit limited.Operations = MAX_OPS
+limit limited.Lines = MAX_LINES
+limit limited.Actors = MAX_ACTORS
+limit limited.Burn = MAX_TICKS
+limit limited.Sleep = MAX_TICKS
+limit limited.Times = MAX_TIMES
+
+abbrev pub before : Limited → List ℕ
+before limited.Cpus = codes "  cpus N: CPUs, 1 to "
+before limited.Workers = codes "\n  workers N: the most workers of a pool, 1 to "
+before limited.Steps = codes "\n  steps N: how many instructions are accepted, questions aside, 1 to "
+before limited.Flushes = codes "\n  flushes N: how many flushes can be given, 0 to "
+before limited.MaxActive = codes "\n  queue NAME max N FLAG..: a queue and its max_active, 1 to "
+before limited.Queues = codes "; queues are at most "
+before limited.Works = codes "\n  work NAME QUEUE: a work of a declared queue; works are at most "
+before limited.Operations = codes "\n  body NAME: what the next work does, in the order of declaration: its operations, at most "
+before limited.Lines = codes "\n  actor NAME: who asks for what: its instructions, in lines of at most "
+before limited.Actors = codes "; actors are at most "
+before limited.Burn = codes "  burn N: keeps the CPU for N ticks, 1 to "
+before limited.Sleep = codes "\n  sleep N: sleeps for N ticks, 1 to "
+before limited.Times = codes "\n  queue WORK CPU: queues a work on a CPU, from 0 on\n  finish: ends the body\n\nInstructions of an actor; `* N` behind one has it so many times, 1 to "
+
+abbrev pub limited_text : Limited → List ℕ
+limited_text limited = before limited ++ decimal (limit limited)
+
+-- what is limited in the lines, in their order, and in bodies and actors' lines
+abbrev pub in_lines : List Limited
+in_lines =
+    limited.Cpus ∷ limited.Workers ∷ limited.Steps ∷ limited.Flushes ∷ limited.MaxActive ∷ limited.Queues ∷ limited.Works ∷ limited.Operations
+    ∷ limited.Lines ∷ limited.Actors ∷ []
+
+abbrev pub in_bodies : List Limited
+in_bodies = limited.Burn ∷ limited.Sleep ∷ limited.Times ∷ []

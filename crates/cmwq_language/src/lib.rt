@@ -1,0 +1,9 @@
+//! What a scenario's text may say, on one page.
+#![tactic(auto)]
+
+pub mod laws;
+mod limits;
+mod meanings;
+mod page;
+
+pub use page::language_page;

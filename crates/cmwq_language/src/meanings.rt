@@ -1,0 +1,107 @@
+//! What flags and instructions mean, and what stands behind an instruction's word.
+ghost use Rattle.cmwq_language.specs.Meanings.{flag_meaning, flag_word, meaning, operand_names};
+ghost use Rattle.std.specs.Prelude.{◌≡◌};
+
+use cmwq_types::{Mnemonic, Shape};
+
+/// A flag of queues. `spelling` of the specs is the table of them.
+#[derive(Clone, Copy, Debug)]
+pub(crate) enum QueueFlag {
+    Highpri,
+    Unbound,
+    CpuIntensive,
+    Freezable,
+    Ordered,
+    MemReclaim,
+}
+
+/// The flags, in the order of a listing.
+pub(crate) const FLAGS: [QueueFlag; 6] = [
+    QueueFlag::Highpri,
+    QueueFlag::Unbound,
+    QueueFlag::CpuIntensive,
+    QueueFlag::Freezable,
+    QueueFlag::Ordered,
+    QueueFlag::MemReclaim,
+];
+
+impl QueueFlag {
+    /// How it is spelled.
+    pub(crate) fn as_str(self) -> &'static str
+        ensures { result.now ≡ flag_word self }
+    {
+        match self {
+            QueueFlag::Highpri => "highpri",
+            QueueFlag::Unbound => "unbound",
+            QueueFlag::CpuIntensive => "cpu_intensive",
+            QueueFlag::Freezable => "freezable",
+            QueueFlag::Ordered => "ordered",
+            QueueFlag::MemReclaim => "mem_reclaim",
+        }
+    }
+
+    /// What it means.
+    pub(crate) fn meaning(self) -> &'static str
+        ensures { result.now ≡ flag_meaning self }
+    {
+        match self {
+            QueueFlag::Highpri => ": its works go to the high pools, which go first on their CPU\n",
+            QueueFlag::Unbound => {
+                ": its works go to a pool of no CPU, where each runnable work burns\n"
+            }
+            QueueFlag::CpuIntensive =>
+                ": its works don't keep others of their pool from starting\n",
+            QueueFlag::Freezable => ": activates nothing from freeze to thaw\n",
+            QueueFlag::Ordered => ": unbound, one work at a time, with max 1\n",
+            QueueFlag::MemReclaim => ": has a rescuer, which runs its works where no worker can\n",
+        }
+    }
+}
+
+/// What stands behind a word of this shape.
+pub(crate) fn operand_names(shape: Shape) -> &'static str
+    ensures { result.now ≡ operand_names shape }
+{
+    match shape {
+        Shape::Alone => "",
+        Shape::Work => " WORK",
+        Shape::WorkCpu => " WORK CPU",
+        Shape::WorkCpuTicks => " WORK CPU N",
+        Shape::Queue => " QUEUE",
+        Shape::QueueNumber => " QUEUE N",
+        Shape::Pool => " POOL",
+        Shape::Flush => " F",
+    }
+}
+
+/// What the instruction of this word does.
+pub(crate) fn meaning(word: Mnemonic) -> &'static str
+    ensures { result.now ≡ meaning word }
+{
+    match word {
+        Mnemonic::Queue => ": queues it on a CPU, unless it is pending\n",
+        Mnemonic::Delay => ": queues it in N ticks, unless it is pending\n",
+        Mnemonic::Mod => ": queues it in N ticks, in place of what it waited for\n",
+        Mnemonic::Cancel => ": takes it off where it is pending\n",
+        Mnemonic::CancelSync => ": the same, and gives a flush of the instance that runs\n",
+        Mnemonic::Flush =>
+            ": gives a flush of its instance that is queued, else of the one that runs\n",
+        Mnemonic::FlushDelayed => ": queues it where its timer runs, and then as flush\n",
+        Mnemonic::FlushQueue => ": gives a flush of all that was queued to it\n",
+        Mnemonic::SetMax => ": changes its max_active\n",
+        Mnemonic::Freeze => ": freezable queues activate nothing\n",
+        Mnemonic::Thaw => ": ends that\n",
+        Mnemonic::Fire => ": the first timer that is due queues its work\n",
+        Mnemonic::Step => ": one move of the pool\n",
+        Mnemonic::Tick => ": a tick passes, where nothing can move\n",
+        Mnemonic::Next => ": fire, else a move of the least pool that has one, else a tick\n",
+        Mnemonic::Ask => ": whether flush F is done\n",
+        Mnemonic::Busy => ": whether a freezable queue has an active work\n",
+        Mnemonic::State => ": where it is\n",
+        Mnemonic::Disable =>
+            ": takes it off, and refuses to queue it until it is enabled as often\n",
+        Mnemonic::Enable => ": takes one disable back\n",
+        Mnemonic::Pressure => ": memory is short: no worker is made\n",
+        Mnemonic::Relief => ": ends that\n",
+    }
+}

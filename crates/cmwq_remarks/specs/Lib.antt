@@ -1,0 +1,4 @@
+pub mod Examples
+pub mod LineNumbers
+pub mod Notes
+pub mod Remarks

@@ -1,0 +1,82 @@
+//! Worked examples of the definitions, as theorems.
+ghost use Rattle.cmwq_examples.specs.Declare.{enqueue, ordered, times, unbound};
+ghost use Rattle.cmwq_grammar.specs.Cutting.{lines_of};
+ghost use Rattle.cmwq_remarks.specs.Examples.{intensive_alone, beside, declared_and_cancelled, five_lines, four_lines, intensive_queue, one_pending, queued_and_thawed, refused_twice, remarks_behind, three_lines, two_refused, intensive_without_works};
+ghost use Rattle.cmwq_remarks.specs.LineNumbers.{line_at, number_from, number_of_last};
+ghost use Rattle.cmwq_remarks.specs.Notes.{is_intensive_beside, notes_from};
+ghost use Rattle.cmwq_remarks.specs.Remarks.{first_refusal, pending_line, refusal_count, refused_line, remarks_of};
+ghost use Rattle.cmwq_tasks.specs.declared.drawing.Drawing.{Drawing};
+ghost use Rattle.cmwq_tasks.specs.declared.question.Inquiry.{Inquiry};
+ghost use Rattle.cmwq_tasks.specs.declared.task.RunKind.TheVariants as kind;
+ghost use Rattle.cmwq_tasks.specs.declared.task.Task.TheVariants as task;
+ghost use Rattle.cmwq_types.specs.Scenario.{plain_flags};
+ghost use Rattle.cmwq_types.specs.declared.instr.Instr.TheVariants as instr;
+ghost use Rattle.std.specs.Prelude.{◌≡◌, ◌∷◌, ◌++◌, [], Some, codes, false, true};
+
+/// Blank lines and comments are counted, and aren't among those that have words.
+pub fn blank_lines_and_comments_are_counted()
+    ensures first { number_from 1 (lines_of four_lines) 0 ≡ 2 }
+    ensures second { number_from 1 (lines_of four_lines) 1 ≡ 4 }
+    ensures last { number_of_last four_lines 1 0 ≡ 4 }
+{}
+
+/// An instruction that stands three times has the places 0 to 2, and the next one place 3.
+pub fn line_has_as_many_places_as_it_stands_times()
+    ensures first { line_at three_lines 0 ≡ 0 }
+    ensures third { line_at three_lines 2 ≡ 0 }
+    ensures fourth { line_at three_lines 3 ≡ 1 }
+    ensures fifth { line_at three_lines 4 ≡ 2 }
+{}
+
+/// Refusals are counted, and the first one is that of the least place.
+pub fn refusals_are_counted()
+    ensures count { refusal_count refused_twice ≡ 2 }
+    ensures first { first_refusal 0 refused_twice ≡ Some 1 }
+    ensures one { refused_line 1 7 ≡ codes "1 instruction was refused, in line 7\n" }
+    ensures two { refused_line 2 7 ≡ codes "2 instructions were refused, the first in line 7\n" }
+{}
+
+/// Where nothing is pending nothing is told.
+pub fn pending_works_are_told_by_their_number()
+    ensures none { pending_line 0 ≡ [] }
+    ensures one { pending_line 1 ≡ codes "1 work is pending; --settle goes on until the machine is quiet\n" }
+    ensures two { pending_line 2 ≡ codes "2 works are pending; --settle goes on until the machine is quiet\n" }
+{}
+
+/// Behind a run it is told what was refused, and what is pending, unless the run goes on; behind a picture and an answer what is pending alone, and
+/// nothing behind what runs nothing.
+pub fn remarks_follow_their_task()
+    ensures run { remarks_behind (task.Run kind.Plain) queued_and_thawed ≡ two_refused ++ one_pending }
+    ensures told { remarks_behind (task.Run kind.Told) queued_and_thawed ≡ two_refused ++ one_pending }
+    ensures settled { remarks_behind (task.Run kind.Settled) queued_and_thawed ≡ two_refused }
+    ensures told_settled { remarks_behind (task.Run kind.ToldSettled) queued_and_thawed ≡ two_refused }
+    ensures drawn { (drawing : Drawing) → drawing.settle ≡ false → remarks_behind (task.Draw drawing) queued_and_thawed ≡ one_pending }
+    ensures settled_drawn { (drawing : Drawing) → drawing.settle ≡ true → remarks_behind (task.Draw drawing) queued_and_thawed ≡ [] }
+    ensures asked { (inquiry : Inquiry) → inquiry.settle ≡ false → remarks_behind (task.Why inquiry) queued_and_thawed ≡ one_pending }
+    ensures settled_asked { (inquiry : Inquiry) → inquiry.settle ≡ true → remarks_behind (task.Why inquiry) queued_and_thawed ≡ [] }
+    ensures listed { remarks_behind task.List queued_and_thawed ≡ [] }
+    ensures settled_text { remarks_behind task.Settle queued_and_thawed ≡ [] }
+{}
+
+/// Where the actor lets the machine move it isn't told what is pending; and nothing is told of a scenario of several actors.
+pub fn actor_that_lets_it_move_is_told_of_no_work()
+    ensures moves { remarks_behind (task.Run kind.Plain) (enqueue 0 0 ∷ enqueue 1 0 ∷ times instr.Next 1 ∷ []) ≡ [] }
+    ensures actors { remarks_of (task.Run kind.Plain) five_lines beside [] ≡ [] }
+{}
+
+/// Nothing is noted of a CPU-intensive queue without works, nor where its works have the CPUs for themselves, or need none.
+pub fn intensive_queue_is_noted_beside_others_alone()
+    ensures beside { is_intensive_beside (intensive_queue plain_flags) 1 ≡ true }
+    ensures unbound { is_intensive_beside (intensive_queue unbound) 1 ≡ false }
+    ensures ordered { is_intensive_beside (intensive_queue ordered) 1 ≡ false }
+    ensures plain { is_intensive_beside beside 0 ≡ false }
+    ensures without_works { is_intensive_beside intensive_without_works 1 ≡ false }
+    ensures alone { is_intensive_beside intensive_alone 1 ≡ false }
+{}
+
+/// A queue is noted where it is declared, and a work that queues itself where it is cancelled, with the lines' numbers; a work that is
+/// queued, another's cancel, and a queue whose flags are plain aren't.
+pub fn notes_stand_at_their_lines()
+    ensures { notes_from beside (codes "f") 1 (lines_of declared_and_cancelled)
+        ≡ codes "f:2: note: c: beside its works others start, and burn only once these sleep or are done: a CPU takes turns here, and a kernel's is shared\nf:4: note: a: cancel_sync lets it queue itself again, and a kernel's doesn't; disable, flush and enable do as a kernel's\n" }
+{}

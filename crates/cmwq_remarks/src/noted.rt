@@ -1,0 +1,237 @@
+//! What is noted of a good text.
+ghost use Rattle.cmwq_grammar.specs.Cutting.{lines_of, words_of};
+ghost use Rattle.cmwq_remarks.specs.Notes.{AreNotes, bound_works, begins_with_max, intensive_note, is_bound, is_bound_work, is_intensive_beside, line_note, note_line, notes_from, place_text, queue_named, queues_itself, queues_work, sync_note, work_named, works_of};
+ghost use Rattle.cmwq_scan.specs.Words.{words_left};
+ghost use Rattle.cmwq_types.specs.declared.limits.TheConstants.{MAX_QUEUES};
+ghost use Rattle.std.specs.List.{list_any};
+ghost use Rattle.std.specs.Prelude.{◌≡◌, ◌<◌, ◌≤◌, ◌++◌, IfOk, IfSome, OnOk, length};
+
+use cmwq_asm::{AsmError, assemble};
+use cmwq_scan::{is_word, next_line, next_word, worded_part};
+use cmwq_types::{Flags, NoMemory, Op, Scenario};
+use itoa::Buffer;
+use std::alloc::Global;
+
+/// What is noted of the file's text, a line each: where it cancels a work and waits for it though its body queues it again, and where a
+/// queue is CPU-intensive beside other works of CPUs. A kernel does otherwise there (`docs/KERNEL.md`). Of a text that spells no scenario
+/// nothing is noted. It fails only for want of memory.
+pub fn notes(alloc: Global, file: &str, text: &[u8]) -> Result<Vec<u8>, NoMemory>
+    ensures { IfOk result (λ told. AreNotes file.now text.now told.items) }
+{
+    match assemble(alloc, text) {
+        Ok(scenario) => notes_on(alloc, file, text, &scenario),
+        Err(AsmError::At { .. }) => Ok(Vec::new(alloc)),
+        Err(AsmError::NoMemory) => Err(NoMemory),
+    }
+}
+
+/// What is noted of the lines of the text, which spells the scenario.
+fn notes_on(
+    alloc: Global,
+    file: &str,
+    text: &[u8],
+    scenario: &Scenario,
+) -> Result<Vec<u8>, NoMemory>
+    requires { length scenario.now.queues ≤ MAX_QUEUES }
+    ensures { IfOk result (λ told. told.items ≡ notes_from scenario.now file.now 1 (lines_of text.now)) }
+{
+    let mut told = Vec::new(alloc);
+    let mut number = 1;
+    let mut rest = text;
+    while let Some((line, behind)) = next_line(rest) {
+        let place = Place {
+            scenario,
+            file,
+            number,
+        };
+        place.push_note(&mut told, line)?;
+        number += 1;
+        rest = behind;
+    }
+    Ok(told)
+}
+
+/// A line of a file, by its number from 1, and the scenario that the file's text spells.
+#[derive(Clone, Copy)]
+struct Place<'a> {
+    scenario: &'a Scenario,
+    file: &'a str,
+    number: usize,
+}
+
+impl Place<'_> {
+    /// Appends what is noted of the line.
+    fn push_note(&self, told: &mut Vec<u8>, line: &[u8]) -> Result<(), NoMemory>
+        requires { length self.now.scenario.now.queues ≤ MAX_QUEUES }
+        ensures { OnOk result (told.new.items ≡ told.old.items ++ line_note self.now.scenario.now self.now.file.now self.now.number (words_of line.now)) }
+    {
+        let Some((word, behind)) = next_word(worded_part(line)) else {
+            return Ok(());
+        };
+        let Some((name, more)) = next_word(behind) else {
+            return Ok(());
+        };
+        if is_word(word, b"cancel_sync") {
+            return self.push_sync_note(told, name);
+        }
+        if is_word(word, b"queue") && begins_with_max(more) {
+            return self.push_intensive_note(told, name);
+        }
+        Ok(())
+    }
+
+    /// Appends the note on a work of this name that is cancelled, if it queues itself.
+    fn push_sync_note(&self, told: &mut Vec<u8>, name: &[u8]) -> Result<(), NoMemory>
+        ensures { OnOk result (told.new.items ≡ told.old.items ++ sync_note self.now.scenario.now self.now.file.now self.now.number name.now (work_named self.now.scenario.now name.now)) }
+    {
+        match work_named(self.scenario, name) {
+            Some(w) if queues_itself(self.scenario, w) => self.push_line(told, name, SYNC),
+            _ => Ok(()),
+        }
+    }
+
+    /// Appends the note on a queue of this name, if it is CPU-intensive beside other works of CPUs.
+    fn push_intensive_note(&self, told: &mut Vec<u8>, name: &[u8]) -> Result<(), NoMemory>
+        requires { length self.now.scenario.now.queues ≤ MAX_QUEUES }
+        ensures { OnOk result (told.new.items ≡ told.old.items ++ intensive_note self.now.scenario.now self.now.file.now self.now.number name.now (queue_named self.now.scenario.now name.now)) }
+    {
+        match queue_named(self.scenario, name) {
+            Some(queue) if is_intensive_beside(self.scenario, queue as u8) => {
+                self.push_line(told, name, INTENSIVE)
+            }
+            _ => Ok(()),
+        }
+    }
+
+    /// Appends a note's line.
+    fn push_line(&self, told: &mut Vec<u8>, name: &[u8], sentence: &str) -> Result<(), NoMemory>
+        ensures { OnOk result (told.new.items ≡ told.old.items ++ note_line self.now.file.now self.now.number name.now sentence.now) }
+    {
+        self.push_place(told)?;
+        told.extend_from_slice(name)?;
+        told.extend_from_slice(b": ")?;
+        told.extend_from_slice(sentence.as_bytes())?;
+        told.extend_from_slice(b"\n")?;
+        Ok(())
+    }
+
+    /// Appends what a note's line begins with.
+    fn push_place(&self, told: &mut Vec<u8>) -> Result<(), NoMemory>
+        ensures { OnOk result (told.new.items ≡ told.old.items ++ place_text self.now.file.now self.now.number) }
+    {
+        told.extend_from_slice(self.file.as_bytes())?;
+        told.extend_from_slice(b":")?;
+        told.extend_from_slice(Buffer::new().format(self.number).as_bytes())?;
+        told.extend_from_slice(b": note: ")?;
+        Ok(())
+    }
+}
+
+const SYNC: &str =
+    "cancel_sync lets it queue itself again, and a kernel's doesn't; disable, flush and enable do as a kernel's";
+
+const INTENSIVE: &str =
+    "beside its works others start, and burn only once these sleep or are done: a CPU takes turns here, and a kernel's is shared";
+
+/// Whether the next word is `max`.
+fn begins_with_max(rest: &[u8]) -> bool
+    ensures { result ≡ begins_with_max (words_left rest.now) }
+{
+    match next_word(rest) {
+        Some((word, _)) => is_word(word, b"max"),
+        None => false,
+    }
+}
+
+/// The number of the work of this name, if there is one.
+fn work_named(scenario: &Scenario, name: &[u8]) -> Option<usize>
+    ensures named { result ≡ work_named scenario.now name.now }
+    ensures in_range { IfSome result (λ w. w < length scenario.now.works) }
+{
+    scenario
+        .works
+        .iter()
+        .position(|work| is_word(work.name.as_bytes(), name))
+}
+
+/// The number of the queue of this name, if there is one.
+fn queue_named(scenario: &Scenario, name: &[u8]) -> Option<usize>
+    ensures named { result ≡ queue_named scenario.now name.now }
+    ensures in_range { IfSome result (λ queue. queue < length scenario.now.queues) }
+{
+    scenario
+        .queues
+        .iter()
+        .position(|queue| is_word(queue.name.as_bytes(), name))
+}
+
+/// Whether the work's body queues the work itself.
+fn queues_itself(scenario: &Scenario, w: usize) -> bool
+    ensures { result ≡ queues_itself scenario.now w }
+{
+    match scenario.works.get(w) {
+        Some(work) => has_queue_of(w, &work.body),
+        None => false,
+    }
+}
+
+/// Whether one of the operations queues this work.
+fn has_queue_of(w: usize, body: &[Op]) -> bool
+    ensures { result ≡ list_any (queues_work w) body.now }
+{
+    body.iter().any(|op| queues_work(w, *op))
+}
+
+/// Whether the operation queues this work.
+fn queues_work(w: usize, op: Op) -> bool
+    ensures { result ≡ queues_work w op }
+{
+    match op {
+        Op::Queue(other, _) => other.0 as usize == w,
+        _ => false,
+    }
+}
+
+/// Whether the queue is CPU-intensive, has works, and its works aren't the only ones that go to the pools of CPUs.
+fn is_intensive_beside(scenario: &Scenario, queue: u8) -> bool
+    ensures { result ≡ is_intensive_beside scenario.now queue }
+{
+    let flags = scenario.flags_of(queue);
+    flags.cpu_intensive
+        && is_bound(flags)
+        && 1 <= works_of(scenario, queue)
+        && 2 <= bound_works(scenario)
+}
+
+/// Whether works of a queue of these flags go to the pools of CPUs.
+fn is_bound(flags: Flags) -> bool
+    ensures { result ≡ is_bound flags }
+{
+    !(flags.unbound || flags.ordered)
+}
+
+/// How many works go to the pools of CPUs.
+fn bound_works(scenario: &Scenario) -> usize
+    ensures { result ≡ bound_works scenario.now }
+{
+    let mut count = 0;
+    for w in 0..scenario.works.len() {
+        if is_bound(scenario.flags_of(scenario.queue_of(w))) {
+            count += 1;
+        }
+    }
+    count
+}
+
+/// How many works the queue has.
+fn works_of(scenario: &Scenario, queue: u8) -> usize
+    ensures { result ≡ works_of scenario.now queue }
+{
+    let mut count = 0;
+    for w in 0..scenario.works.len() {
+        if scenario.queue_of(w) == queue {
+            count += 1;
+        }
+    }
+    count
+}

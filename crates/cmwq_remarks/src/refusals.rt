@@ -1,0 +1,58 @@
+//! Which instructions of a run are refused.
+ghost use Rattle.cmwq_remarks.specs.Remarks.{first_or, first_refusal, refusal_count};
+ghost use Rattle.cmwq_table.specs.Events.{is_refusal};
+ghost use Rattle.cmwq_table.specs.Table.{after_all, replies_from};
+ghost use Rattle.cmwq_types.specs.Scenario.{expand_lines};
+ghost use Rattle.cmwq_types.specs.declared.limits.TheConstants.{MAX_HISTORY};
+ghost use Rattle.std.specs.Prelude.{◌≡◌, ◌≤◌, Some, length};
+
+use cmwq_runs::Instructions;
+use cmwq_table::Machine;
+use cmwq_types::{Line, Reply};
+
+/// The refused instructions of a run.
+#[derive(Clone, Copy, Debug)]
+pub(crate) struct Refusals {
+    /// How many there are.
+    pub(crate) count: u32,
+    /// The place of the first one among all instructions, from 0.
+    pub(crate) first: Option<u32>,
+}
+
+/// Issues the lines' instructions on the machine, and gives those that are refused.
+pub(crate) fn issue_lines<M: Machine>(machine: &mut M, lines: &[Line]) -> Refusals
+    requires { length (expand_lines lines.now) ≤ MAX_HISTORY }
+    ensures count { result.count ≡ refusal_count (replies_from (M.loaded machine.old) (M.state machine.old) (expand_lines lines.now)) }
+    ensures first { result.first ≡ first_refusal 0 (replies_from (M.loaded machine.old) (M.state machine.old) (expand_lines lines.now)) }
+    ensures loaded { M.loaded machine.new ≡ M.loaded machine.old }
+    ensures state { M.state machine.new ≡ after_all (M.loaded machine.old) (M.state machine.old) (expand_lines lines.now) }
+{
+    let mut count = 0;
+    let mut first = None;
+    let mut place = 0;
+    for instr in Instructions::of(lines) {
+        if is_refusal(machine.exec(instr)) {
+            count += 1;
+            first = first_of(first, place);
+        }
+        place += 1;
+    }
+    Refusals { count, first }
+}
+
+/// Whether the reply is a refusal.
+fn is_refusal(reply: Reply) -> bool
+    ensures { result ≡ is_refusal reply }
+{
+    matches!(reply, Reply::Refused(_))
+}
+
+/// The first place, or this one where there was none.
+fn first_of(first: Option<u32>, place: u32) -> Option<u32>
+    ensures { result ≡ first_or first (Some place) }
+{
+    match first {
+        Some(first) => Some(first),
+        None => Some(place),
+    }
+}

@@ -1,0 +1,146 @@
+//! What should be known of a run that ended well.
+ghost use Rattle.cmwq_remarks.specs.Remarks.{AreRemarks, counted, pending_line, pending_told, refused_line, refused_text, remarks_of, run_remarks, stops_by_itself, tells_pending, tells_refusals};
+ghost use Rattle.cmwq_table.specs.State.{start};
+ghost use Rattle.cmwq_types.specs.Faults.{IsValid};
+ghost use Rattle.cmwq_types.specs.Scenario.{expand};
+ghost use Rattle.cmwq_types.specs.declared.limits.TheConstants.{MAX_HISTORY, MAX_LINES};
+ghost use Rattle.std.specs.Prelude.{◌≡◌, ◌≤◌, ◌++◌, IfOk, OnOk, length, string_bytes};
+
+use crate::line_numbers::{count_worded, line_at, number_of_last};
+use crate::pending::{lets_move, pending_count};
+use crate::refusals::{Refusals, issue_lines};
+use cmwq_asm::{AsmError, assemble};
+use cmwq_core::Core;
+use cmwq_play::judge;
+use cmwq_runs::room_behind;
+use cmwq_table::Machine;
+use cmwq_tasks::{RunKind, Task};
+use cmwq_types::{Actor, Line, NoMemory, Scenario};
+use itoa::Buffer;
+use std::alloc::Global;
+use std::sync::Arc;
+
+/// What should be known of the run that the task made of this text, in a line each, or nothing: how many of the actor's instructions were
+/// refused, with the first one's line; and how many works are pending, where the actor never let the machine move and the run doesn't go
+/// on by itself. It fails only for want of memory.
+pub fn remarks(alloc: Global, task: Task<'_>, text: &[u8]) -> Result<Vec<u8>, NoMemory>
+    ensures { IfOk result (λ told. AreRemarks task.entry text.now told.items) }
+{
+    match assemble(alloc, text) {
+        Ok(scenario) => remarks_on::<Core>(alloc, task, text, scenario),
+        Err(AsmError::At { .. }) => Ok(Vec::new(alloc)),
+        Err(AsmError::NoMemory) => Err(NoMemory),
+    }
+}
+
+/// The same of the text's scenario.
+#[tactic(auto, using(crate::proofs::ValidLemmas::few_lines))]
+fn remarks_on<M: Machine>(
+    alloc: Global,
+    task: Task<'_>,
+    text: &[u8],
+    scenario: Scenario,
+) -> Result<Vec<u8>, NoMemory>
+    requires { IsValid scenario }
+    ensures { IfOk result (λ told. told.items ≡ remarks_of task.entry text.now scenario scenario.actors) }
+{
+    if judge(&scenario).is_err() {
+        return Ok(Vec::new(alloc));
+    }
+    let scenario = Arc::new(alloc, scenario)?;
+    let machine = M::begin(alloc, Arc::clone(&scenario)?)?;
+    run_remarks(alloc, task, text, &scenario.actors[0], machine)
+}
+
+/// The same of a run of the scenario's one actor, on a machine at its start.
+fn run_remarks<M: Machine>(
+    alloc: Global,
+    task: Task<'_>,
+    text: &[u8],
+    actor: &Actor,
+    machine: M,
+) -> Result<Vec<u8>, NoMemory>
+    requires runs { length (expand actor.now) ≤ MAX_HISTORY }
+    requires few { length actor.now.lines ≤ MAX_LINES }
+    requires start { M.state machine ≡ start (M.loaded machine) }
+    ensures { IfOk result (λ told. told.items ≡ run_remarks task.entry text.now (M.loaded machine) actor.now) }
+{
+    let mut machine = machine;
+    let refusals = issue_lines(&mut machine, &actor.lines);
+    let mut told = String::new(alloc);
+    if tells_refusals(task) {
+        push_refusals(&mut told, text, &actor.lines, refusals)?;
+    }
+    if tells_pending(task) && !lets_move(&actor.lines) {
+        push_pending(&mut told, pending_count(&machine))?;
+    }
+    Ok(told.into_bytes())
+}
+
+/// Whether refused instructions are told behind the task.
+fn tells_refusals(task: Task<'_>) -> bool
+    ensures { result ≡ tells_refusals task.entry }
+{
+    matches!(task, Task::Run(_))
+}
+
+/// Whether works that are pending are told behind the task: its run ends with the actor's instructions.
+fn tells_pending(task: Task<'_>) -> bool
+    ensures { result ≡ tells_pending task.entry }
+{
+    match task {
+        Task::Run(kind) => matches!(kind, RunKind::Plain | RunKind::Told),
+        Task::Draw(drawing) => !drawing.settle,
+        Task::Why(inquiry) => !inquiry.settle,
+        _ => false,
+    }
+}
+
+/// Appends how many instructions were refused, and the first one's line, if one was.
+fn push_refusals(
+    told: &mut String,
+    text: &[u8],
+    lines: &[Line],
+    refusals: Refusals,
+) -> Result<(), NoMemory>
+    requires { length lines.now ≤ MAX_LINES }
+    ensures { OnOk result (string_bytes told.new ≡ string_bytes told.old ++ refused_text text.now lines.now refusals.count refusals.first) }
+{
+    let Some(place) = refusals.first else {
+        return Ok(());
+    };
+    let number = number_of_last(text, lines.len(), line_at(lines, place));
+    push_count(
+        told,
+        refusals.count as usize,
+        " instruction was refused, in line ",
+        " instructions were refused, the first in line ",
+    )?;
+    told.push_str(Buffer::new().format(number))?;
+    told.push_str("\n")?;
+    Ok(())
+}
+
+/// Appends how many works are pending, if some are, and what goes on with them.
+fn push_pending(told: &mut String, count: usize) -> Result<(), NoMemory>
+    ensures { OnOk result (string_bytes told.new ≡ string_bytes told.old ++ pending_line count) }
+{
+    if count == 0 {
+        return Ok(());
+    }
+    push_count(
+        told,
+        count,
+        " work is pending; --settle goes on until the machine is quiet\n",
+        " works are pending; --settle goes on until the machine is quiet\n",
+    )
+}
+
+/// Appends a number, and what there is one of, or so many.
+fn push_count(told: &mut String, count: usize, one: &str, many: &str) -> Result<(), NoMemory>
+    ensures { OnOk result (string_bytes told.new ≡ string_bytes told.old ++ counted count one.now many.now) }
+{
+    told.push_str(Buffer::new().format(count))?;
+    told.push_str(if count == 1 { one } else { many })?;
+    Ok(())
+}

@@ -1,0 +1,202 @@
+//! What mends a text's fault.
+ghost use Rattle.cmwq_fitting.specs.KnownWords.{last_body};
+ghost use Rattle.cmwq_grammar.specs.Meaning.{fault_at};
+ghost use Rattle.cmwq_verdict.specs.Mending.{body_sentence, fault_sentence, flags_sentence, limits_offered, open_body_after, order_sentence, range_sentence, sentence, why_sentence};
+ghost use Rattle.cmwq_verdict.specs.Verdicts.{mending_line};
+ghost use Rattle.cmwq_verdict.specs.WordPlaces.{IsNext, lines_before};
+ghost use Rattle.std.specs.Prelude.{◌≡◌, ◌++◌, IfOk, OnOk, option_map};
+
+use crate::finding::{Finding, lines_before, word_of_place};
+use crate::hints::limits_text;
+use cmwq_fitting::{Limits, Offer, last_body};
+use cmwq_grammar::{Next, Why};
+use cmwq_scan::is_word;
+use cmwq_types::{Fault, NoMemory};
+use std::alloc::Global;
+
+/// Writes what mends the text's fault.
+pub(crate) fn push_mending(
+    alloc: Global,
+    told: &mut Vec<u8>,
+    text: &[u8],
+    found: &Finding<'_>,
+) -> Result<(), NoMemory>
+    requires { IsNext text.now (fault_at found.now.fault.line found.now.fault.why) found.now.next }
+    ensures { OnOk result (told.new.items ≡ told.old.items
+        ++ mending_line text.now (fault_at found.now.fault.line found.now.fault.why) found.now.place found.now.next found.now.offer) }
+{
+    let body = body_left_open(alloc, text, found)?;
+    let word = word_of_place(found.place);
+    push_reason(
+        alloc,
+        told,
+        word,
+        limits_offered(&found.offer),
+        body,
+        found.fault.why,
+    )
+}
+
+/// The work whose body is open where the fault is.
+fn body_left_open<'t>(
+    alloc: Global,
+    text: &'t [u8],
+    found: &Finding<'_>,
+) -> Result<Option<&'t [u8]>, NoMemory>
+    requires { IsNext text.now (fault_at found.now.fault.line found.now.fault.why) found.now.next }
+    ensures { IfOk result (λ body. option_map (λ name. name.now) body
+        ≡ open_body_after (lines_before text.now (fault_at found.now.fault.line found.now.fault.why)) found.now.next) }
+{
+    match found.next {
+        Some(Next::Operation { .. }) => last_body(alloc, lines_before(text, found.fault)),
+        _ => Ok(None),
+    }
+}
+
+/// The numbers that may stand at the place, if some do.
+fn limits_offered(offer: &Option<Offer<'_>>) -> Option<Limits>
+    ensures { result ≡ limits_offered offer.now }
+{
+    match offer {
+        Some(offer) => offer.limits,
+        None => None,
+    }
+}
+
+/// Writes what mends a line that is refused for this reason, at this word, where these numbers may stand, in this open body.
+fn push_reason(
+    alloc: Global,
+    told: &mut Vec<u8>,
+    word: &[u8],
+    limits: Option<Limits>,
+    body: Option<&[u8]>,
+    why: Why,
+) -> Result<(), NoMemory>
+    ensures { OnOk result (told.new.items ≡ told.old.items ++ why_sentence word.now limits (option_map (λ name. name.now) body.entry) why) }
+{
+    match why {
+        Why::BadUtf8 => push_sentence(
+            told,
+            b"the line has bytes that aren't UTF-8, perhaps in a comment",
+        ),
+        Why::BadWord => push_sentence(
+            told,
+            b"this word means nothing here: what may stand is told above",
+        ),
+        Why::BadName => push_sentence(
+            told,
+            b"a name has 1 to 15 small letters, digits and _, and begins with a letter",
+        ),
+        Why::BadNumber => push_sentence(
+            told,
+            b"a number has 1 to 10 digits, no sign, and no 0 in front of others",
+        ),
+        Why::MissingWord => push_sentence(told, b"the line or the text ends before all is said"),
+        Why::ExtraWord => push_sentence(
+            told,
+            b"the line has a word too many; an instruction is repeated by `* N` behind it",
+        ),
+        Why::Misplaced => push_order(told, body),
+        Why::TooLong => push_sentence(told, b"a text has at most 4194304 bytes"),
+        Why::Fault(fault) => push_fault(alloc, told, word, limits, body, fault),
+    }
+}
+
+/// Writes what mends a line that gives the scenario this fault.
+fn push_fault(
+    alloc: Global,
+    told: &mut Vec<u8>,
+    word: &[u8],
+    limits: Option<Limits>,
+    body: Option<&[u8]>,
+    fault: Fault,
+) -> Result<(), NoMemory>
+    ensures { OnOk result (told.new.items ≡ told.old.items ++ fault_sentence word.now limits (option_map (λ name. name.now) body.entry) fault) }
+{
+    match fault {
+        Fault::Range => push_range(alloc, told, limits),
+        Fault::TooMany => push_sentence(
+            told,
+            b"at most 32 queues, 256 works of 64 operations, 16 actors of 4096 lines",
+        ),
+        Fault::Duplicate => push_sentence(
+            told,
+            b"no two queues, works or actors have one name, and no flag stands twice",
+        ),
+        Fault::Unknown => {
+            push_sentence(
+                told,
+                b"no line before declares a work or a queue of this name",
+            )
+        }
+        Fault::BadBody => push_body_end(told, body),
+        Fault::BadFlags => push_flags_fit(told, is_word(word, b"ordered")),
+    }
+}
+
+/// Writes the numbers that may stand at the place.
+fn push_range(alloc: Global, told: &mut Vec<u8>, limits: Option<Limits>) -> Result<(), NoMemory>
+    ensures { OnOk result (told.new.items ≡ told.old.items ++ range_sentence limits) }
+{
+    let Some(Limits { low, high }) = limits else {
+        return push_sentence(told, b"the number is out of its limits");
+    };
+    let numbers = limits_text(alloc, low, high)?;
+    told.extend_from_slice(b"  the number is out of its limits: here stands ")?;
+    told.extend_from_slice(&numbers)?;
+    told.push(b'\n')?;
+    Ok(())
+}
+
+/// Writes what a queue's `max` takes, or that of an ordered queue.
+fn push_flags_fit(told: &mut Vec<u8>, is_ordered: bool) -> Result<(), NoMemory>
+    ensures { OnOk result (told.new.items ≡ told.old.items ++ flags_sentence is_ordered) }
+{
+    if is_ordered {
+        push_sentence(told, b"an ordered queue has max 1")
+    } else {
+        push_sentence(
+            told,
+            b"max takes 1 to 512; a kernel's 0, its default, is 256 in Linux 6.1 and 6.12",
+        )
+    }
+}
+
+/// Writes which lines may stand, in this open body or outside of bodies.
+fn push_order(told: &mut Vec<u8>, body: Option<&[u8]>) -> Result<(), NoMemory>
+    ensures { OnOk result (told.new.items ≡ told.old.items ++ order_sentence (option_map (λ name. name.now) body.entry)) }
+{
+    let Some(work) = body else {
+        return push_sentence(
+            told,
+            b"lines stand in this order: cpus, workers, steps, flushes, queues, works, bodies in the order of their works, actors",
+        );
+    };
+    told.extend_from_slice(b"  the body of ")?;
+    told.extend_from_slice(work)?;
+    told.extend_from_slice(b" is open: its operations stand here, and finish ends it\n")?;
+    Ok(())
+}
+
+/// Writes what a body lacks, this open one or any.
+fn push_body_end(told: &mut Vec<u8>, body: Option<&[u8]>) -> Result<(), NoMemory>
+    ensures { OnOk result (told.new.items ≡ told.old.items ++ body_sentence (option_map (λ name. name.now) body.entry)) }
+{
+    let Some(work) = body else {
+        return push_sentence(told, b"a body ends with its one finish");
+    };
+    told.extend_from_slice(b"  the body of ")?;
+    told.extend_from_slice(work)?;
+    told.extend_from_slice(b" lacks the finish that ends it\n")?;
+    Ok(())
+}
+
+/// Writes the line of these words.
+fn push_sentence(told: &mut Vec<u8>, words: &[u8]) -> Result<(), NoMemory>
+    ensures { OnOk result (told.new.items ≡ told.old.items ++ sentence words.now) }
+{
+    told.extend_from_slice(b"  ")?;
+    told.extend_from_slice(words)?;
+    told.push(b'\n')?;
+    Ok(())
+}
