@@ -15,7 +15,7 @@ use Rattle.cmwq_table.specs.State.{State, start}
 use Rattle.cmwq_table.specs.Table.{run, table}
 use Rattle.cmwq_debug.specs.Breaks.{break_at, lowest, matches_seen, matches_there, said_by, said_of, seen, sight_at}
 use Rattle.cmwq_debug.specs.Checkpoints.{Comes, Passes, Spread}
-use Rattle.cmwq_debug.specs.Debugging.{Session, break_of, run_end, session_of, stop}
+use Rattle.cmwq_debug.specs.Debugging.{Session, break_of, last_carried, run_end, session_of, stop}
 use Rattle.cmwq_debug.specs.Replaying.{Course, HasAdvanced, HasGoneTo, next_reply}
 use Rattle.cmwq_debug.specs.declared.breaks.Break.{Break}
 use Rattle.cmwq_debug.specs.declared.breaks.Sight.{Sight}
@@ -39,6 +39,14 @@ module _ (S loaded : ScenarioContents) (instrs : List Instr) (k : ℕ) (s t : St
   reached =
       let more : take (k + 1) instrs ≡ take k instrs ++ slice_index_or instrs k Next ∷ [] = grind (arith, common_steps) in
       ap (λ (after : State × Reply). after.0) answered ∙ sym (ap (run S) more ∙ after_all-append S (start S) (take k instrs) (slice_index_or instrs k Next ∷ []))
+
+-- the instruction that was carried out last, and its reply, once it is carried out again
+pub last_is : (c : Course) (S : ScenarioContents) (I : List Instr) (position k : ℕ) (instr : Instr) (reply : Reply) → c.scenario ≡ S → c.instrs ≡ I → c.position ≡ k → position ≡ suc k → k < length I
+    → instr ≡ slice_index_or I k instr → reply ≡ next_reply c → Some (instr, reply) ≡ last_carried S I position
+last_is c S I position k instr reply scenario instrs at next less is_instr is_reply =
+    let told : next_reply c ≡ (table S (run S (take k I)) (slice_index_or I k Next)).1 = rw (scenario, instrs, at) refl in
+    ap (λ (i : Instr). Some (i, reply)) (is_instr ∙ same_there I k instr Next less)
+    ∙ ap (λ (r : Reply). Some (slice_index_or I k Next, r)) (is_reply ∙ told) ∙ sym (ap (last_carried S I) next)
 
 -- what the breaks saw of a state
 sight_is : (s : State) (breaks : List (Option Break)) (i : ℕ) → i < length breaks → sight_at (map (seen s) breaks) i ≡ seen s (break_at breaks i)

@@ -1,6 +1,6 @@
 -- What a debugger says: a fold over its commands, of a position and breaks. Each answer is read off the table's
 -- run over the first instructions of the list.
-use Rattle.std.specs.Prelude.{◌≡◌, ◌⊎◌, ℕ, ◌+◌, ◌-◌, ◌&&◌, List, [], ◌∷◌, length, replicate, take, Option, Some, None, Result, Ok, Err, if◌then◌else◌, is_some, nat_le, nat_lt, slice_index_or, slice_set}
+use Rattle.std.specs.Prelude.{◌≡◌, ◌⊎◌, ℕ, zero, suc, ◌+◌, ◌-◌, ◌&&◌, List, [], ◌∷◌, length, replicate, take, Option, Some, None, Result, Ok, Err, if◌then◌else◌, is_some, nat_le, nat_lt, slice_index_or, slice_set}
 use Rattle.cmwq_types.specs.Contents.{ScenarioContents}
 use Rattle.cmwq_types.specs.Faults.{first_fault, IsValid}
 use Rattle.cmwq_types.specs.Scenario.{pool_count}
@@ -55,6 +55,15 @@ instr_at_position d k = slice_index_or d.instrs k Next
 -- the table's reply to it
 abbrev pub reply_at : Session → ℕ → Reply
 reply_at d k = (table d.scenario (state_at d k) (instr_at_position d k)).1
+
+-- The instruction that was carried out last, where so many of the list were, and the table's reply to it; none at the start.
+abbrev pub last_carried : ScenarioContents → List Instr → ℕ → Option (Instr × Reply)
+last_carried S instrs zero = None
+last_carried S instrs (suc k) =
+    Some (slice_index_or instrs k Next, (table S (run S (take k instrs)) (slice_index_or instrs k Next)).1)
+
+abbrev pub last_of : Session → Option (Instr × Reply)
+last_of d = last_carried d.scenario d.instrs d.position
 
 -- the break that is said of it
 abbrev pub break_of : Session → ℕ → Option ℕ

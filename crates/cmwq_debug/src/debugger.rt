@@ -1,5 +1,5 @@
 //! The debugger.
-ghost use Rattle.cmwq_debug.specs.Debugging.{Answer, At, Meets, OpensDebugger, answer_of, breaks_on, breaks_on_work, does, dumps_pool, goes, goes_back, opened, removed, runs_on, says, state_at, tells_waits, tells_why, time_at, Text};
+ghost use Rattle.cmwq_debug.specs.Debugging.{Answer, At, Meets, OpensDebugger, answer_of, breaks_on, breaks_on_work, does, dumps_pool, goes, goes_back, last_of, opened, removed, runs_on, says, state_at, tells_waits, tells_why, time_at, Text};
 ghost use Rattle.cmwq_debug.specs.BreakLines.{list_text};
 ghost use Rattle.cmwq_debug.specs.Breaks.{break_at};
 ghost use Rattle.cmwq_debug.specs.Checkpoints.{AreRising};
@@ -21,7 +21,7 @@ use crate::replay::Replay;
 use cmwq_dump::{dump_text, pool_text};
 use cmwq_flush_waits::flush_text;
 use cmwq_table::{LoadError, Machine};
-use cmwq_types::{Instr, NoMemory, Scenario, WorkId};
+use cmwq_types::{Instr, NoMemory, Reply, Scenario, WorkId};
 use cmwq_why_text::work_text;
 use std::alloc::Global;
 use std::marker::Model;
@@ -95,6 +95,30 @@ impl<M: Machine> Debugger<M> {
         ensures same { OnErr result (self.new ≡ self.old) }
     {
         self.obey(command)
+    }
+
+    /// How many instructions of the list were carried out.
+    pub fn position(&self) -> u32
+        ensures { result ≡ self.now.position }
+    {
+        self.replay.position() as u32
+    }
+
+    /// The time where it stands, in ticks.
+    pub fn now(&self) -> u64
+        ensures { result ≡ time_at self.now self.now.position }
+    {
+        self.replay.machine().now()
+    }
+
+    /// The instruction that brought it to where it stands, and the reply to that; none at the start. The only error is want of memory.
+    ///
+    /// It is carried out once more, from the nearest checkpoint before it.
+    pub fn last(&mut self) -> Result<Option<(Instr, Reply)>, NoMemory>
+        ensures last { IfOk result (λ last. last ≡ last_of self.old) }
+        ensures same { self.new ≡ self.old }
+    {
+        self.replay.last(self.alloc)
     }
 
     /// The checkpoints, by position: copies of the machine that were made on the way forward. It takes no memory.
@@ -183,8 +207,8 @@ impl<M: Machine> Debugger<M> {
         ensures { answer_of result ≡ At self.now.position (time_at self.now self.now.position) by }
     {
         Said::At {
-            position: self.replay.position() as u32,
-            now: self.replay.machine().now(),
+            position: self.position(),
+            now: self.now(),
             by,
         }
     }

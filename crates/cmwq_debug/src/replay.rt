@@ -1,6 +1,6 @@
 //! A list of instructions that is carried out on a machine, forwards and back, with checkpoints on the way.
 ghost use Rattle.cmwq_debug.specs.Checkpoints.{AreRising};
-ghost use Rattle.cmwq_debug.specs.Debugging.{run_end, session_of, stop};
+ghost use Rattle.cmwq_debug.specs.Debugging.{last_carried, run_end, session_of, stop};
 ghost use Rattle.cmwq_debug.specs.Replaying.{HasAdvanced, HasGoneTo, HasReached, HasTurned, IsThere, at_start, next_reply};
 ghost use Rattle.cmwq_debug.specs.declared.checkpoints.TheConstants.{MAX_CHECKPOINTS};
 ghost use Rattle.cmwq_types.specs.Faults.{IsValid};
@@ -175,6 +175,23 @@ impl<M: Machine> Replay<M> {
             }
         }
         None
+    }
+
+    /// The instruction that was carried out last, and its reply; none at the start. It is carried out once more: the replay goes back by
+    /// one and comes again. The only error is want of memory, for the way back.
+    pub(crate) fn last(&mut self, alloc: Global) -> Result<Option<(Instr, Reply)>, NoMemory>
+        ensures scenario { self.new.scenario ≡ self.old.scenario }
+        ensures instrs { self.new.instrs ≡ self.old.instrs }
+        ensures position { self.new.position ≡ self.old.position }
+        ensures last { IfOk result (λ last. last ≡ last_carried self.old.scenario self.old.instrs self.old.position) }
+    {
+        let position = self.position();
+        if position == 0 {
+            return Ok(None);
+        }
+        self.reach(alloc, position - 1)?;
+        let instr = self.instrs[position - 1];
+        Ok(Some((instr, self.advance())))
     }
 
     /// Carries out the next instruction, and answers its reply.

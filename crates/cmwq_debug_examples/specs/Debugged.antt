@@ -236,6 +236,40 @@ ended_session = text_of_lines (codes "s" ∷ codes "q" ∷ codes "s" ∷ [])
 abbrev pub said_in_ended_session : List ℕ
 said_in_ended_session = text_of_lines (codes "at 1 now 0" ∷ [])
 
+-- At a terminal: there and back, words that are no command, and steps past the end; then the commands end.
+
+abbrev pub typed_commands : List ℕ
+typed_commands = text_of_lines (codes "s" ∷ codes "run" ∷ codes "s" ∷ codes "nonsense" ∷ codes "back 5" ∷ codes "goto 5" ∷ [])
+
+-- behind prompts the answers, and behind each move its instruction and, where a run prints one, its line
+abbrev pub said_at_terminal : List ℕ
+said_at_terminal =
+    codes "0 now 0> " ++ text_of_lines (codes "at 1 now 0" ∷ codes "  queue a 0" ∷ [])
+    ++ codes "1 now 0> " ++ text_of_lines (codes "at 5 now 0" ∷ codes "  cancel a" ∷ codes "  0 cancelled" ∷ [])
+    ++ codes "5 now 0> " ++ text_of_lines (codes "refused PastEnd" ∷ []) ++ codes "5 now 0> " ++ text_of_lines (codes "bad command" ∷ [])
+    ++ codes "5 now 0> " ++ text_of_lines (codes "at 0 now 0" ∷ [])
+    ++ codes "0 now 0> " ++ text_of_lines (codes "at 5 now 0" ∷ codes "  cancel a" ∷ codes "  0 cancelled" ∷ []) ++ codes "5 now 0> " ++ 10 ∷ []
+
+-- at a terminal, where the session is ended before its commands are
+abbrev pub said_at_ended_terminal : List ℕ
+said_at_ended_terminal = codes "0 now 0> " ++ text_of_lines (codes "at 1 now 0" ∷ codes "  queue a 0" ∷ []) ++ codes "1 now 0> "
+
+-- At a terminal where time passes: a work is queued, starts, burns a tick, and finishes.
+
+abbrev pub one_tick : ScenarioContents
+one_tick = scenario 1000 (queue (codes "q") 1 plain_flags ∷ []) (work (codes "a") 0 (op.Burn 1 ∷ op.Finish ∷ []) ∷ []) (enqueue 0 0 ∷ times instr.Next 4 ∷ [])
+
+abbrev pub commands_over_a_tick : List ℕ
+commands_over_a_tick = text_of_lines (codes "s 4" ∷ codes "s" ∷ codes "list" ∷ codes "back 3" ∷ [])
+
+-- position 4 is behind the tick, of which a run prints nothing; back at position 2 it is time 0 again
+abbrev pub said_over_a_tick : List ℕ
+said_over_a_tick =
+    codes "0 now 0> " ++ text_of_lines (codes "at 4 now 1" ∷ codes "  next" ∷ [])
+    ++ codes "4 now 1> " ++ text_of_lines (codes "at 5 now 1" ∷ codes "  next" ∷ codes "  1 a finishes" ∷ [])
+    ++ codes "5 now 1> " ++ text_of_lines (codes "no breaks" ∷ [])
+    ++ codes "5 now 1> " ++ text_of_lines (codes "at 2 now 0" ∷ codes "  next" ∷ codes "  0 a starts" ∷ []) ++ codes "2 now 0> " ++ 10 ∷ []
+
 -- Sixteen breaks, and a seventeenth.
 
 abbrev pub many_breaks : List Command

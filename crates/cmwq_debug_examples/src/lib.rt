@@ -3,9 +3,10 @@
 #![tactic(auto)]
 
 ghost use Rattle.cmwq_debug.specs.Checkpoints.{entered, left_out, no_checkpoints, passed, turn_for};
-ghost use Rattle.cmwq_debug_examples.specs.Debugged.{activation, activation_answers, activation_breaks, at_even_multiples, commands_answered, chain_answers, chain_questions, disabled_breaks, disabled_breaks_answers, each_event, each_event_answers, each_event_breaks, ended_session, event_breaks, event_breaks_answers, hold_answers, hold_questions, list_answers, list_questions, all_instrs, many_breaks, many_breaks_answers, one_missing, refusal_breaks, refusal_breaks_answers, refusals, rescuer_breaks, rescuer_breaks_answers, said_in_ended_session, short_orders, short_words, spread_at, there_and_back, there_and_back_answers};
+ghost use Rattle.cmwq_debug_examples.specs.Debugged.{activation, activation_answers, activation_breaks, at_even_multiples, commands_answered, commands_over_a_tick, chain_answers, chain_questions, disabled_breaks, disabled_breaks_answers, each_event, each_event_answers, each_event_breaks, ended_session, event_breaks, event_breaks_answers, hold_answers, hold_questions, list_answers, list_questions, all_instrs, many_breaks, many_breaks_answers, one_missing, one_tick, refusal_breaks, refusal_breaks_answers, refusals, rescuer_breaks, rescuer_breaks_answers, said_at_ended_terminal, said_at_terminal, said_in_ended_session, said_over_a_tick, short_orders, short_words, spread_at, there_and_back, there_and_back_answers, typed_commands};
 ghost use Rattle.cmwq_debug_lines.specs.Orders.{order_of};
-ghost use Rattle.cmwq_debug_lines.specs.Talk.{debugged};
+ghost use Rattle.cmwq_debug_lines.specs.Prompt.{debugged};
+ghost use Rattle.cmwq_debug_lines.specs.declared.manner.Manner.TheVariants.{Plain, Prompted};
 ghost use Rattle.cmwq_debug_examples.specs.Dumps.{dumped, many_kinds, many_kinds_dump, many_kinds_lines, many_kinds_pool_1, pool_dumped, busy_cpus, two_cpus_dump, busy_cpus_lines};
 ghost use Rattle.cmwq_examples.specs.Rows.{disabled_twice, pressed, queues_itself, three_works};
 ghost use Rattle.cmwq_reason_examples.specs.Waiting.{chain, hold};
@@ -84,7 +85,19 @@ pub fn words_may_be_cut_short()
 
 /// What stands behind `quit` isn't answered.
 pub fn quit_ends_the_session()
-    ensures { debugged activation (all_instrs activation) ended_session ≡ said_in_ended_session }
+    ensures { debugged Plain activation (all_instrs activation) ended_session ≡ said_in_ended_session }
+{}
+
+/// At a terminal a prompt stands before each command, and behind a move the instruction that was carried out last and what a run prints of it: nothing behind
+/// what is refused, and nothing at the start. Where the commands end, the prompt's line does; behind `quit` nothing is said.
+pub fn terminal_has_a_prompt()
+    ensures to_the_end { debugged Prompted activation (all_instrs activation) typed_commands ≡ said_at_terminal }
+    ensures quit { debugged Prompted activation (all_instrs activation) ended_session ≡ said_at_ended_terminal }
+{}
+
+/// A prompt, and what a run prints of the last instruction, have the time there; a tick that passes prints nothing.
+pub fn prompt_has_the_time_there()
+    ensures { debugged Prompted one_tick (all_instrs one_tick) commands_over_a_tick ≡ said_over_a_tick }
 {}
 
 /// There are sixteen places for breaks; a work that isn't there is told before that they are taken.
@@ -109,6 +122,7 @@ pub fn scenarios_are_valid()
     ensures busy_cpus { IsValid busy_cpus }
     ensures each_event { IsValid each_event }
     ensures activation { IsValid activation }
+    ensures one_tick { IsValid one_tick }
 {}
 
 /// Checkpoints on a long way there and back, where there is memory for each: at each 64th position, until there would be more than 256 of

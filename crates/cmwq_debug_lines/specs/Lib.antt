@@ -1,3 +1,4 @@
 pub mod Orders
+pub mod Prompt
 pub mod Talk
 pub mod Verbs

@@ -2,9 +2,8 @@
 use Rattle.std.specs.Prelude.{ℕ, List, [], ◌∷◌, ◌++◌, Option, Some, None, Result, Ok, Err, codes}
 use Rattle.std.specs.Fmt.{decimal}
 use Rattle.cmwq_types.specs.Contents.{ScenarioContents}
-use Rattle.cmwq_types.specs.declared.instr.Instr.{Instr}
-use Rattle.cmwq_grammar.specs.Cutting.{lines_of, words_of}
-use Rattle.cmwq_debug.specs.Debugging.{Answer, At, Broke, Cleared, Text, Session, does, opened}
+use Rattle.cmwq_grammar.specs.Cutting.{words_of}
+use Rattle.cmwq_debug.specs.Debugging.{Answer, At, Broke, Cleared, Text, Session, does}
 use Rattle.cmwq_debug.specs.declared.command.DebugError.{DebugError}
 use Rattle.cmwq_debug.specs.declared.command.DebugError.TheVariants as error
 use Rattle.cmwq_debug_lines.specs.Orders.{order_of}
@@ -52,21 +51,3 @@ obeyed d (Do command) = ((does d command).0, Some (answer_line (does d command).
 -- the same after a line; S has the names of works
 unfoldable pub line_said : ScenarioContents → Session → List ℕ → Session × Option (List ℕ)
 line_said S d line = obeyed d (order_of S (words_of line))
-
-abbrev pub text_said : Option (List ℕ) → List ℕ
-text_said (Some text) = text
-text_said None = []
-
--- what is said to a line, and then to those behind it; nothing more, where it ended the session
-abbrev pub said_before : Option (List ℕ) → List ℕ → List ℕ
-said_before (Some text) rest = text ++ rest
-said_before None rest = []
-
--- what is said to the lines, one after another
-abbrev pub lines_said : ScenarioContents → Session → List (List ℕ) → List ℕ
-lines_said S d [] = []
-lines_said S d (line ∷ lines) = said_before (line_said S d line).1 (lines_said S (line_said S d line).0 lines)
-
--- what a debugger of these instructions says to a text of commands
-abbrev pub debugged : ScenarioContents → List Instr → List ℕ → List ℕ
-debugged S instrs commands = lines_said S (opened S instrs) (lines_of commands)

@@ -2,11 +2,15 @@
 #![tactic(auto)]
 
 mod commands_read;
+mod manner;
 mod order;
+mod prompt;
 mod talk;
 mod verb;
 mod whole_lines;
 
 pub use commands_read::work_named;
+pub use manner::Manner;
+pub use prompt::{answer_in, ending, opening};
 pub use talk::answer;
 pub use whole_lines::line_length;

@@ -34,7 +34,7 @@ pub fn answer<M: Machine>(
 }
 
 /// Carries out an order, and gives what is said to it, if the session goes on.
-fn obey<M: Machine>(
+pub(crate) fn obey<M: Machine>(
     alloc: Global,
     debugger: &mut Debugger<M>,
     order: Order,
@@ -69,7 +69,7 @@ fn answer_command<M: Machine>(
     }
 }
 
-fn said_text(alloc: Global, said: Said) -> Result<Vec<u8>, NoMemory>
+pub(crate) fn said_text(alloc: Global, said: Said) -> Result<Vec<u8>, NoMemory>
     ensures { IfOk result (λ text. text.items ≡ answer_text (answer_of said)) }
 {
     match said {
@@ -90,7 +90,7 @@ fn at_text(alloc: Global, position: u32, now: u64, by: Option<u8>) -> Result<Vec
     Ok(text.into_bytes())
 }
 
-fn refused_text(alloc: Global, why: DebugError) -> Result<Vec<u8>, NoMemory>
+pub(crate) fn refused_text(alloc: Global, why: DebugError) -> Result<Vec<u8>, NoMemory>
     ensures { IfOk result (λ text. text.items ≡ refused_text why) }
 {
     let name = error_name(why);

@@ -3,4 +3,5 @@
 
 mod debugging;
 
+pub use cmwq_debug_lines::Manner;
 pub use debugging::debug;

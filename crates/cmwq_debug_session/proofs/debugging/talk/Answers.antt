@@ -13,7 +13,7 @@ returns-in_err-read_some g c =
     let contents = g.W.Write.contents in
     let p = err_from_is_err_and c.from_residual.result c.from_residual.ensures.1 in
     rw (p.1, p.2) (talks_unheard (remaining c.args.commands.now) (remaining c.loop-turn.commands) (remaining c.read_some.new.reader) (contents c.args.writer.now) (contents c.loop-turn.writer)
-    (g.R.Source.failed c.read_some.new.reader) (g.W.Sink.failed c.loop-turn.writer) c.args.scenario.now c.args.debugger.now c.loop-turn.debugger c.loop-turn.text.items c.loop-turn.done c.loop-turn.invariant.answered
+    (g.R.Source.failed c.read_some.new.reader) (g.W.Sink.failed c.loop-turn.writer) c.args.manner c.args.scenario.now c.args.debugger.now c.loop-turn.debugger c.loop-turn.text.items c.loop-turn.done c.loop-turn.invariant.answered
     c.in_err-read_some.field-0.0
     (reads_more (remaining c.args.commands.now) (remaining c.loop-turn.commands) (remaining c.read_some.new.reader) (g.R.Source.failed c.read_some.new.reader) c.loop-turn.text.items _
     c.loop-turn.invariant.answered.heard c.in_err-read_some.ensures.few c.in_err-read_some.ensures.failed)
@@ -27,7 +27,7 @@ returns-then-branch-eq0 g c =
     let both = c.read_some.new.text.items in
     let lent : c.deref.result.now ≡ both = search rules in
     talks_to_the_end (remaining c.args.commands.now) (remaining c.loop-turn.commands) (remaining c.read_some.new.reader) (contents c.args.writer.now) (contents c.loop-turn.writer)
-    (g.R.Source.failed c.read_some.new.reader) (g.W.Sink.failed c.answer_rest.new.writer) c.args.scenario.now c.args.debugger.now c.loop-turn.debugger c.loop-turn.text.items c.loop-turn.done c.loop-turn.invariant.answered
+    (g.R.Source.failed c.read_some.new.reader) (g.W.Sink.failed c.answer_rest.new.writer) c.args.manner c.args.scenario.now c.args.debugger.now c.loop-turn.debugger c.loop-turn.text.items c.loop-turn.done c.loop-turn.invariant.answered
     heard.0 both c.in_ok-read_some.field-0
     (reads_more (remaining c.args.commands.now) (remaining c.loop-turn.commands) (remaining c.read_some.new.reader) (g.R.Source.failed c.read_some.new.reader) c.loop-turn.text.items _
     c.loop-turn.invariant.answered.heard c.in_ok-read_some.ensures.few c.in_ok-read_some.ensures.failed)
@@ -41,7 +41,7 @@ returns-then-len-gt-MAX_TEXT g c =
     let heard = c.in_ok-read_some.ensures.read in
     let long : MAX_TEXT < length c.read_some.new.text.items = grind (arith, common_steps) in
     talks_too_long (remaining c.args.commands.now) (remaining c.loop-turn.commands) (remaining c.read_some.new.reader) (contents c.args.writer.now) (contents c.loop-turn.writer)
-    (g.R.Source.failed c.read_some.new.reader) (g.W.Sink.failed c.loop-turn.writer) c.args.scenario.now c.args.debugger.now c.loop-turn.debugger c.loop-turn.text.items c.loop-turn.done c.loop-turn.invariant.answered
+    (g.R.Source.failed c.read_some.new.reader) (g.W.Sink.failed c.loop-turn.writer) c.args.manner c.args.scenario.now c.args.debugger.now c.loop-turn.debugger c.loop-turn.text.items c.loop-turn.done c.loop-turn.invariant.answered
     heard.0 c.read_some.new.text.items c.in_ok-read_some.field-0
     (reads_more (remaining c.args.commands.now) (remaining c.loop-turn.commands) (remaining c.read_some.new.reader) (g.R.Source.failed c.read_some.new.reader) c.loop-turn.text.items _
     c.loop-turn.invariant.answered.heard c.in_ok-read_some.ensures.few c.in_ok-read_some.ensures.failed)
@@ -56,7 +56,7 @@ returns-in_err-taken g c =
     let lent : c.deref-in-loop-turn.result.now ≡ both = search rules in
     let p = err_from_is_err_and c.from_residual-in_err-taken.result c.from_residual-in_err-taken.ensures.1 in
     rw (p.1, p.2) (talks_cut_short (remaining c.args.commands.now) (remaining c.loop-turn.commands) (remaining c.read_some.new.reader) (contents c.args.writer.now) (contents c.loop-turn.writer)
-    (g.R.Source.failed c.read_some.new.reader) (g.W.Sink.failed c.answer_lines.new.writer) c.args.scenario.now c.args.debugger.now c.loop-turn.debugger c.loop-turn.text.items c.loop-turn.done c.loop-turn.invariant.answered
+    (g.R.Source.failed c.read_some.new.reader) (g.W.Sink.failed c.answer_lines.new.writer) c.args.manner c.args.scenario.now c.args.debugger.now c.loop-turn.debugger c.loop-turn.text.items c.loop-turn.done c.loop-turn.invariant.answered
     heard.0 both c.in_ok-read_some.field-0
     (reads_more (remaining c.args.commands.now) (remaining c.loop-turn.commands) (remaining c.read_some.new.reader) (g.R.Source.failed c.read_some.new.reader) c.loop-turn.text.items _
     c.loop-turn.invariant.answered.heard c.in_ok-read_some.ensures.few c.in_ok-read_some.ensures.failed)
@@ -72,7 +72,7 @@ returns-in-None g c =
     let both = c.read_some.new.text.items in
     let lent : c.deref-in-loop-turn.result.now ≡ both = search rules in
     talks_to_its_end (remaining c.args.commands.now) (remaining c.loop-turn.commands) (remaining c.read_some.new.reader) (contents c.args.writer.now) (contents c.loop-turn.writer)
-    (g.R.Source.failed c.read_some.new.reader) (g.W.Sink.failed c.answer_lines.new.writer) c.args.scenario.now c.args.debugger.now c.loop-turn.debugger c.loop-turn.text.items c.loop-turn.done c.loop-turn.invariant.answered
+    (g.R.Source.failed c.read_some.new.reader) (g.W.Sink.failed c.answer_lines.new.writer) c.args.manner c.args.scenario.now c.args.debugger.now c.loop-turn.debugger c.loop-turn.text.items c.loop-turn.done c.loop-turn.invariant.answered
     heard.0 both c.in_ok-read_some.field-0
     (reads_more (remaining c.args.commands.now) (remaining c.loop-turn.commands) (remaining c.read_some.new.reader) (g.R.Source.failed c.read_some.new.reader) c.loop-turn.text.items _
     c.loop-turn.invariant.answered.heard c.in_ok-read_some.ensures.few c.in_ok-read_some.ensures.failed)
@@ -89,13 +89,14 @@ loop-turn-preserved g c =
     let rest : List ℕ = take (length c.deref-in-loop-turn.result.now - c.loop-turn.done) (drop c.loop-turn.done c.deref-in-loop-turn.result.now) in
     let short : length both ≤ MAX_TEXT = grind (arith, common_steps) in
     let grown : length both ≡ length c.loop-turn.text.items + length heard.0 = ap length heard.1 ∙ length-append c.loop-turn.text.items heard.0 in
+    let M = c.args.manner in
     let S = c.args.scenario.now in
-    let told : Told (contents c.loop-turn.writer) (contents c.answer_lines.new.writer) S c.loop-turn.debugger (take c.in-Some.taken rest) c.answer_lines.new.debugger = search rules in
+    let told : Told (contents c.loop-turn.writer) (contents c.answer_lines.new.writer) M S c.loop-turn.debugger (take c.in-Some.taken rest) c.answer_lines.new.debugger = search rules in
     let within : c.in-Some.taken ≤ length rest = search rules in
     let begun : HasNoLine (drop c.in-Some.taken rest) = search rules in
     record {
       answered = answered_more (remaining c.args.commands.now) (remaining c.loop-turn.commands) (remaining c.read_some.new.reader) (contents c.args.writer.now) (contents c.loop-turn.writer) (contents c.answer_lines.new.writer)
-          c.args.scenario.now c.args.debugger.now c.loop-turn.debugger c.answer_lines.new.debugger c.loop-turn.text.items heard.0 both rest c.loop-turn.done c.in-Some.taken
+          c.args.manner c.args.scenario.now c.args.debugger.now c.loop-turn.debugger c.answer_lines.new.debugger c.loop-turn.text.items heard.0 both rest c.loop-turn.done c.in-Some.taken
           c.loop-turn.invariant.answered heard.3 heard.1 short (lent_is c.deref-in-loop-turn.result.now both c.loop-turn.done lent) told within begun;
       long = search rules;
       reads = search rules;
