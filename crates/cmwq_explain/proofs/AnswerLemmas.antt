@@ -1,21 +1,24 @@
 -- Where something is said of each state, something is told of each run that has a position to look at.
-use Rattle.std.proofs.Common.{◌≡◌, inl, inr, ℕ, zero, suc, ◌<◌, ◌≤◌, Bool, true, false, List, [], ◌∷◌, ◌++◌, length, Option, Some, None, Result, Err, cond, arith, refl, sym, ap, ◌∙◌}
+use Rattle.std.proofs.Common.{◌≡◌, inl, inr, ℕ, zero, suc, ◌<◌, ◌≤◌, Bool, true, false, List, [], ◌∷◌, ◌++◌, length, Option, Some, None, Result, Err, cond, arith, refl, sym, ap, subst, ◌∙◌, take, ◌⊎◌}
 use Rattle.std.proofs.Math.Nat.{eq-or-lt_of_le}
 use Rattle.std.proofs.lemmas.Bool.{cases_lt, eq-eqb}
-use Rattle.std.specs.Prelude.{◌==◌, ◌||◌}
-use Rattle.cmwq_types.specs.Contents.{ScenarioContents}
+use Rattle.std.specs.Prelude.{◌==◌, ◌&&◌, ◌||◌, if◌then◌else◌, option_map}
+use Rattle.cmwq_types.specs.Contents.{ActorContents, ScenarioContents}
 use Rattle.cmwq_types.specs.Scenario.{expand}
 use Rattle.cmwq_types.specs.declared.instr.Instr.{Instr}
 use Rattle.cmwq_table.specs.State.{State}
-use Rattle.cmwq_explain.specs.Changes.{changes_text, said_line, looks_at, said_at, said_below, state_there, told_at, told_below}
+use Rattle.cmwq_table.specs.Table.{run}
+use Rattle.cmwq_explain.specs.Changes.{changes_text, is_last, is_settled, looks_at, said_at, said_below, said_line, state_there, told_at, told_below}
 use Rattle.cmwq_explain.specs.ChangesTold.{IsPastEnd}
 use Rattle.cmwq_tasks.specs.declared.question.Looks.{Looks}
-use Rattle.cmwq_tasks.specs.declared.question.Looks.TheVariants.{Settled, Every, At}
+use Rattle.cmwq_tasks.specs.declared.question.Looks.TheVariants.{Settled, Every, At, Time}
 use Rattle.cmwq_debug_lines.specs.Orders.{work_named}
 use Rattle.cmwq_streams.specs.declared.error.PlayError.{PlayError}
 use Rattle.cmwq_streams.specs.declared.error.PlayError.TheVariants as errors
-use Rattle.cmwq_explain.specs.Explained.{Explains, line_of_work, said_to}
-use Rattle.cmwq_explain.specs.Laws.{AnswersAfterWorks, IsAfterFlush}
+use Rattle.cmwq_explain.specs.Explained.{Explains, IsAsked, IsUnknown, has_stopped, line_of_work, said_of, said_to, told_along, with_stop}
+use Rattle.cmwq_explain.specs.Laws.{AnswersAfterWorks, IsAfterFlush, LooksAtEachTick}
+use Rattle.cmwq_explain.proofs.TimeLemmas.{ticks_are_reached}
+use Rattle.cmwq_tasks.specs.declared.question.Inquiry.{Inquiry}
 use Rattle.cmwq_tasks.specs.declared.question.Question.{Question}
 use Rattle.cmwq_tasks.specs.declared.question.Question.TheVariants.{Work, Flush}
 
@@ -23,7 +26,7 @@ none-both : (xs ys : List ℕ) → xs ++ ys ≡ [] → (xs ≡ []) × (ys ≡ []
 none-both [] ys e = (refl, e)
 none-both (x ∷ xs) ys e = cc
 
-module _ (says : ScenarioContents → State → Option (List ℕ)) (looks : Looks) (S : ScenarioContents) (instrs : List Instr) (always : (s : State) → (text : List ℕ) × (says S s ≡ Some text)) where
+module _ (says : ScenarioContents → Bool → State → Option (List ℕ)) (looks : Looks) (S : ScenarioContents) (instrs : List Instr) (always : (is_last : Bool) (s : State) → (text : List ℕ) × (says S is_last s ≡ Some text)) where
   -- where nothing was said before, something is told
   first-told : (k time : ℕ) (before said : Option (List ℕ)) (text : List ℕ) → before ≡ None → said ≡ Some text → said_line k time before said ≡ [] → ⊥
   first-told k time None (Some words) text none is e = cc
@@ -35,7 +38,7 @@ module _ (says : ScenarioContents → State → Option (List ℕ)) (looks : Look
   none-looked n true is nothing none =
       let here : said_line n (state_there says looks S instrs n).time (said_below says looks S instrs n) (said_at says looks S instrs n) ≡ [] =
       ap (λ (b : Bool). cond {A = List ℕ} b (said_line n (state_there says looks S instrs n).time (said_below says looks S instrs n) (said_at says looks S instrs n)) []) (sym is) ∙ nothing in
-      let said = always (state_there says looks S instrs n) in
+      let said = always (is_last says looks S instrs n) (state_there says looks S instrs n) in
       absurd (first-told n (state_there says looks S instrs n).time (said_below says looks S instrs n) (said_at says looks S instrs n) said.0 none said.1 here)
 
   -- where nothing is told, no position was looked at
@@ -57,7 +60,11 @@ or-true : (a b : Bool) → a ≡ true → (a || b) ≡ true
 or-true true b e = refl
 or-true false b e = cc
 
-looked : (says : ScenarioContents → State → Option (List ℕ)) (looks : Looks) (S : ScenarioContents) (instrs : List Instr) → (IsPastEnd looks instrs → ⊥)
+or-second : (a b : Bool) → b ≡ true → (a || b) ≡ true
+or-second true b e = refl
+or-second false b e = e
+
+looked : (says : ScenarioContents → Bool → State → Option (List ℕ)) (looks : Looks) (S : ScenarioContents) (instrs : List Instr) → (IsPastEnd looks S instrs → ⊥)
     → (k : ℕ) × (k ≤ length instrs) × (looks_at says looks S instrs k ≡ true)
 looked says Settled S instrs within = (length instrs, omega arith, or-true (length instrs == length instrs) _ (eq-eqb (length instrs) (length instrs) refl))
 looked says Every S instrs within = (length instrs, omega arith, refl)
@@ -65,9 +72,20 @@ looked says (At position) S instrs within = elim (cases_lt (length instrs) posit
   | inl past ↦ absurd (within past)
   | inr there ↦ (position, there, eq-eqb position position refl)
 ]
+looked says (Time tick) S instrs within = elim (cases_lt (run S instrs).time tick) [
+  | inl past ↦ absurd (within past)
+  | inr there ↦ at-tick (ticks_are_reached S instrs tick there)
+] where
+  here : (k : ℕ) → (run S (take k instrs)).time ≡ tick → (is_last says (Time tick) S instrs k || is_settled S (run S (take k instrs))) ≡ true → looks_at says (Time tick) S instrs k ≡ true
+  here k at so = ap (λ (b : Bool). b && (is_last says (Time tick) S instrs k || is_settled S (run S (take k instrs)))) (eq-eqb (run S (take k instrs)).time tick at) ∙ so
 
-something : (says : ScenarioContents → State → Option (List ℕ)) (looks : Looks) (S : ScenarioContents) (instrs : List Instr) → ((s : State) → (text : List ℕ) × (says S s ≡ Some text))
-    → (IsPastEnd looks instrs → ⊥) → changes_text says looks S instrs ≡ [] → ⊥
+  at-tick : (k : ℕ) × (k ≤ length instrs) × ((run S (take k instrs)).time ≡ tick) × ((k ≡ length instrs) ⊎ (is_settled S (run S (take k instrs)) ≡ true))
+      → (k : ℕ) × (k ≤ length instrs) × (looks_at says (Time tick) S instrs k ≡ true)
+  at-tick (k, less, at, inl is) = (k, less, here k at (or-true (k == length instrs) _ (eq-eqb k (length instrs) is)))
+  at-tick (k, less, at, inr settled) = (k, less, here k at (or-second (k == length instrs) _ settled))
+
+something : (says : ScenarioContents → Bool → State → Option (List ℕ)) (looks : Looks) (S : ScenarioContents) (instrs : List Instr) → ((is_last : Bool) (s : State) → (text : List ℕ) × (says S is_last s ≡ Some text))
+    → (IsPastEnd looks S instrs → ⊥) → changes_text says looks S instrs ≡ [] → ⊥
 something says looks S instrs always within nothing =
     let at = looked says looks S instrs within in
     let least : at.0 ≤ length instrs = at.1 in
@@ -75,22 +93,37 @@ something says looks S instrs always within nothing =
     let seen : looks_at says looks S instrs at.0 ≡ true = at.2 in
     cc
 
-said-of : (S : ScenarioContents) (s : State) (o : Option ℕ) → (o ≡ None → ⊥) → (text : List ℕ) × (line_of_work S s o ≡ Some text)
-said-of S s (Some w) known = (_, refl)
-said-of S s None known = absurd (known refl)
+line-of : (S : ScenarioContents) (s : State) (o : Option ℕ) → (o ≡ None → ⊥) → (text : List ℕ) × (line_of_work S s o ≡ Some text)
+line-of S s (Some w) known = (_, refl)
+line-of S s None known = absurd (known refl)
+
+stopped-or-not : (b : Bool) (o : Option (List ℕ)) → (text : List ℕ) × (o ≡ Some text) → (text : List ℕ) × ((if b then option_map with_stop o else o) ≡ Some text)
+stopped-or-not true (Some words) some = (_, refl)
+stopped-or-not true None some = absurd (let wrong = some.1 in cc)
+stopped-or-not false o some = some
+
+after-work : (inquiry : Inquiry) (question : Question) → inquiry.question ≡ question → (S T : ScenarioContents) (actor : ActorContents) → IsAsked inquiry S T actor → told_along inquiry T actor ≡ [] → IsAfterFlush question
+after-work inquiry (Work name) is S T actor asked nothing =
+    let known = subst (λ (question : Question). IsUnknown question T → ⊥) is asked.known in
+    let silent = subst (λ (question : Question). changes_text (said_to question) inquiry.looks T (expand actor) ≡ []) is nothing in
+    something (said_to (Work name)) inquiry.looks T (expand actor)
+    (λ is_last s. stopped-or-not (has_stopped (Work name) T is_last s) (said_of (Work name) T s) (line-of T s (work_named T name.now) known)) asked.within silent
+after-work inquiry (Flush flush) is S T actor asked nothing = tt
 
 pub answers_after_works : AnswersAfterWorks
 unfolding AnswersAfterWorks
-answers_after_works (Work name) looks S actor asked nothing =
-    something (said_to (Work name)) looks S (expand actor) (λ s. said-of S s (work_named S name.now) asked.known) asked.within nothing
-answers_after_works (Flush flush) looks S actor asked nothing = tt
+answers_after_works inquiry S T actor asked nothing = after-work inquiry inquiry.question refl S T actor asked nothing
 
 -- only a question after a flush goes without an answer for want of anything to tell
-pub after_flush : (question : Question) (looks : Looks) (S : ScenarioContents) (before after : Option (List ℕ)) (failed : Bool) (r : Result (Unit {0}) PlayError)
-    → Explains question looks S before after failed r → r ≡ Err errors.NoSuchFlush → IsAfterFlush question
+pub after_flush : (inquiry : Inquiry) (S : ScenarioContents) (before after : Option (List ℕ)) (failed : Bool) (r : Result (Unit {0}) PlayError)
+    → Explains inquiry S before after failed r → r ≡ Err errors.NoSuchFlush → IsAfterFlush inquiry.question
 unfolding AnswersAfterWorks
-after_flush question looks S before after failed (Err errors.NoSuchFlush) told is = elim told.why [
-  | inl silent ↦ answers_after_works question looks S silent.0 silent.1 silent.2
+after_flush inquiry S before after failed (Err errors.NoSuchFlush) told is = elim told.why [
+  | inl silent ↦ answers_after_works inquiry S silent.0 silent.1 silent.2 silent.3
   | inr sent ↦ absurd sent
 ]
-after_flush question looks S before after failed r told is = cc
+after_flush inquiry S before after failed r told is = cc
+
+pub each_tick : LooksAtEachTick
+unfolding LooksAtEachTick
+each_tick S instrs tick least = ticks_are_reached S instrs tick least

@@ -1,5 +1,5 @@
 -- A run that is told as it goes tells what is told at its positions.
-use Rattle.std.proofs.Common.{◌≡◌, ◌≤◌, ◌<◌, ℕ, zero, suc, ◌+◌, ◌-◌, ◌^◌, List, [], ◌∷◌, ◌++◌, length, take, Bool, true, false, ◌||◌, IfOk, None, Option, Result, refl, sym, subst, ap, ◌∙◌, append_assoc, append-nil, arith, eq-eqb}
+use Rattle.std.proofs.Common.{◌≡◌, ◌≤◌, ◌<◌, ℕ, zero, suc, ◌+◌, ◌-◌, ◌^◌, List, [], ◌∷◌, ◌++◌, length, take, Bool, true, false, ◌||◌, None, Option, Result, refl, sym, ap, ◌∙◌, append-nil, arith, eq-eqb}
 use Rattle.std.proofs.lemmas.Bool.{ne_eqb}
 use Rattle.std.proofs.lemmas.List.{take_all, take_more}
 use Rattle.std.specs.Prelude.{slice_index_or, if◌then◌else◌, ◌==◌, min}
@@ -8,7 +8,7 @@ use Rattle.cmwq_types.specs.declared.instr.Instr.{Instr}
 use Rattle.cmwq_types.specs.declared.instr.Instr.TheVariants.{Next}
 use Rattle.cmwq_types.specs.declared.limits.TheConstants.{MAX_HISTORY}
 use Rattle.cmwq_table.specs.State.{State, start}
-use Rattle.cmwq_table.specs.Table.{after_all, table}
+use Rattle.cmwq_table.specs.Table.{after_all, run, table}
 use Rattle.cmwq_table.proofs.RunLemmas.{after_all-append}
 use Rattle.cmwq_play.specs.Commands.{Writes}
 use Rattle.cmwq_play.specs.Telling.{kept_from, told_from}
@@ -16,8 +16,7 @@ use Rattle.cmwq_play.proofs.CommandLemmas.{writes_more}
 use Rattle.cmwq_play.proofs.TellingLemmas.{kept_from-append, told_from-append}
 use Rattle.cmwq_streams.specs.declared.error.PlayError.{PlayError}
 use Rattle.cmwq_explain.specs.Changes.{changes_text, has_bytes, said_below, state_there, told_at, told_below}
-use Rattle.cmwq_explain.specs.Looking.{going_on, keeping, line_here, looker_after, looker_wholly, looks_here, saying, telling, told_here, looker_told}
-use Rattle.cmwq_explain.specs.ChangesTold.{as_unit}
+use Rattle.cmwq_explain.specs.Looking.{going_on, keeping, line_here, looker_after, looker_told, looker_wholly, looks_here, run_end, saying, telling, told_here}
 use Rattle.cmwq_explain.specs.declared.looker.Looker.{Looker}
 
 or_false : (b : Bool) → b ≡ (b || false)
@@ -35,8 +34,8 @@ after_look true l s said = refl
 after_look false l s said = ap (λ (told : Bool). record l { has_told = told }) (or_false l.has_told)
 
 -- The looker begins with the first position, before anything is said.
-module _ {P : Type 0} (says : P → ScenarioContents → State → Option (List ℕ)) (l : Looker P) (S : ScenarioContents) (instrs : List Instr) (few : length instrs ≤ MAX_HISTORY) where
-  abbrev spoken : ScenarioContents → State → Option (List ℕ)
+module _ {P : Type 0} (says : P → ScenarioContents → Bool → State → Option (List ℕ)) (l : Looker P) (S : ScenarioContents) (instrs : List Instr) (few : length instrs ≤ MAX_HISTORY) where
+  abbrev spoken : ScenarioContents → Bool → State → Option (List ℕ)
   spoken = says l.sayer.now
 
   abbrev there : ℕ → State
@@ -51,9 +50,9 @@ module _ {P : Type 0} (says : P → ScenarioContents → State → Option (List 
   look_at is_last k last =
       let c = looker_at k in
       let s = there k in
-      let here : Bool → List ℕ = λ b. if b then line_here c s (spoken S s) else [] in
-      after_look (looks_here c S is_last s) c s (spoken S s)
-      ∙ ap (λ (at_end : Bool). record l { position = k; said = if looks_here c S at_end s then spoken S s else c.said; has_told = c.has_told || has_bytes (here (looks_here c S at_end s)) }) (sym last)
+      let here : Bool → List ℕ = λ at_end. if looks_here c S at_end s then line_here c s (spoken S at_end s) else [] in
+      after_look (looks_here c S is_last s) c s (spoken S is_last s)
+      ∙ ap (λ (at_end : Bool). record l { position = k; said = if looks_here c S at_end s then spoken S at_end s else c.said; has_told = c.has_told || has_bytes (here at_end) }) (sym last)
       ∙ ap (λ (told : Bool). record l { position = k; said = said_below spoken l.looks S instrs (suc k); has_told = told }) (sym (has_bytes-append (told_below spoken l.looks S instrs k) (told_at spoken l.looks S instrs k)))
 
   told_there : (is_last : Bool) (k : ℕ) → (k == length instrs) ≡ is_last → told_here says (looker_at k) S is_last (there k) ≡ told_at spoken l.looks S instrs k
@@ -126,14 +125,15 @@ module _ {P : Type 0} (says : P → ScenarioContents → State → Option (List 
       ∙ ap (λ (s : State). told_below spoken l.looks S instrs n ++ told_here says (looker_at n) S true s) whole_state
       ∙ ap (λ (text : List ℕ). told_below spoken l.looks S instrs n ++ text) (told_there true n last)
 
-  whole_told : (looker_wholly says (looker_at 0) S (start S) instrs).has_told ≡ has_bytes (changes_text spoken l.looks S instrs)
-  whole_told =
-      ap (λ (c : Looker P). (looker_after says c S true (after_all S (start S) instrs)).has_told) whole_looker
-      ∙ ap (λ (s : State). (looker_after says (looker_at (length instrs)) S true s).has_told) whole_state
-      ∙ ap (λ (c : Looker P). c.has_told) (look_at true (length instrs) last)
+  whole_end : run_end (looker_wholly says (looker_at 0) S (start S) instrs) (run S instrs)
+      ≡ record { position = length instrs; time = (run S instrs).time; has_told = has_bytes (changes_text spoken l.looks S instrs) }
+  whole_end =
+      ap (λ (c : Looker P). run_end (looker_after says c S true (run S instrs)) (run S instrs)) whole_looker
+      ∙ ap (λ (s : State). run_end (looker_after says (looker_at (length instrs)) S true s) (run S instrs)) whole_state
+      ∙ ap (λ (c : Looker P). run_end c (run S instrs)) (look_at true (length instrs) last)
 
 -- What is written of a run from the start on, and what is answered.
-module _ {P : Type 0} (says : P → ScenarioContents → State → Option (List ℕ)) (l : Looker P) (S T : ScenarioContents) (issued instrs : List Instr) (held : T ≡ S) (same : issued ≡ instrs) (few : length instrs ≤ MAX_HISTORY) where
+module _ {P : Type 0} (says : P → ScenarioContents → Bool → State → Option (List ℕ)) (l : Looker P) (S T : ScenarioContents) (issued instrs : List Instr) (held : T ≡ S) (same : issued ≡ instrs) (few : length instrs ≤ MAX_HISTORY) where
   abbrev begun : Looker P
   begun = record l { position = 0; said = None; has_told = false }
 
@@ -143,17 +143,14 @@ module _ {P : Type 0} (says : P → ScenarioContents → State → Option (List 
       ∙ ap (λ (is : List Instr). looker_told says begun S (start S) is) same
       ∙ whole_text says l S instrs few
 
-  told_is : (looker_wholly says begun T (start T) issued).has_told ≡ has_bytes (changes_text (says l.sayer.now) l.looks S instrs)
-  told_is =
-      ap (λ (X : ScenarioContents). (looker_wholly says begun X (start X) issued).has_told) held
-      ∙ ap (λ (is : List Instr). (looker_wholly says begun S (start S) is).has_told) same
-      ∙ whole_told says l S instrs few
+  pub end_is : run_end (looker_wholly says begun T (start T) issued) (run T issued)
+      ≡ record { position = length instrs; time = (run S instrs).time; has_told = has_bytes (changes_text (says l.sayer.now) l.looks S instrs) }
+  end_is =
+      ap (λ (X : ScenarioContents). run_end (looker_wholly says begun X (start X) issued) (run X issued)) held
+      ∙ ap (λ (is : List Instr). run_end (looker_wholly says begun S (start S) is) (run S is)) same
+      ∙ whole_end says l S instrs few
 
-  pub writes_whole : (before after : Option (List ℕ)) (failed : Bool) (r : Result Bool PlayError) → Writes (λ output. output ≡ looker_told says begun T (start T) issued) before after failed (as_unit r)
-      → Writes (λ output. output ≡ changes_text (says l.sayer.now) l.looks S instrs) before after failed (as_unit r)
+  pub writes_whole : (before after : Option (List ℕ)) (failed : Bool) (r : Result (Unit {0}) PlayError) → Writes (λ output. output ≡ looker_told says begun T (start T) issued) before after failed r
+      → Writes (λ output. output ≡ changes_text (says l.sayer.now) l.looks S instrs) before after failed r
   writes_whole before after failed r h =
-      writes_more (λ output. output ≡ looker_told says begun T (start T) issued) (λ output. output ≡ changes_text (says l.sayer.now) l.looks S instrs) before after failed (as_unit r) (λ output is. is ∙ text_is) h
-
-  pub tells_whole : (r : Result Bool PlayError) → IfOk r (λ told. told ≡ (looker_wholly says begun T (start T) issued).has_told)
-      → IfOk r (λ told. told ≡ has_bytes (changes_text (says l.sayer.now) l.looks S instrs))
-  tells_whole r h = subst (λ (b : Bool). IfOk r (λ told. told ≡ b)) told_is h
+      writes_more (λ output. output ≡ looker_told says begun T (start T) issued) (λ output. output ≡ changes_text (says l.sayer.now) l.looks S instrs) before after failed r (λ output is. is ∙ text_is) h

@@ -9,7 +9,7 @@ use Rattle.cmwq_table.specs.Moves.{first_moving}
 use Rattle.cmwq_table.specs.State.{State}
 use Rattle.cmwq_table.specs.Table.{run}
 use Rattle.cmwq_tasks.specs.declared.question.Looks.{Looks}
-use Rattle.cmwq_tasks.specs.declared.question.Looks.TheVariants.{Settled, Every, At}
+use Rattle.cmwq_tasks.specs.declared.question.Looks.TheVariants.{Settled, Every, At, Time}
 
 -- What a sayer gives: a text, or nothing.
 abbrev pub words_said : {A : Type 0} → Option (String A) → Option (List ℕ)
@@ -27,6 +27,7 @@ abbrev pub is_looked_at : Looks → ScenarioContents → Bool → ℕ → State 
 is_looked_at Settled S is_last k s = is_last || is_settled S s
 is_looked_at Every S is_last k s = true
 is_looked_at (At position) S is_last k s = k == position
+is_looked_at (Time tick) S is_last k s = (s.time == tick) && (is_last || is_settled S s)
 
 -- What is told.
 
@@ -49,17 +50,20 @@ said_line k time before (Some text) =
     if is_new before text then position_text k time text else []
 said_line k time before None = []
 
--- What is said of a state, where anything is; which positions are looked at; and a run. At position k the first k of its instructions
--- have been carried out.
-module _ (says : ScenarioContents → State → Option (List ℕ)) (looks : Looks) (S : ScenarioContents) (instrs : List Instr) where
+-- What is said of a state, which may be the last, where anything is; which positions are looked at; and a run. At position k the first
+-- k of its instructions have been carried out.
+module _ (says : ScenarioContents → Bool → State → Option (List ℕ)) (looks : Looks) (S : ScenarioContents) (instrs : List Instr) where
   abbrev pub state_there : ℕ → State
   state_there k = run S (take k instrs)
 
+  abbrev pub is_last : ℕ → Bool
+  is_last k = k == length instrs
+
   abbrev pub looks_at : ℕ → Bool
-  looks_at k = is_looked_at looks S (k == length instrs) k (state_there k)
+  looks_at k = is_looked_at looks S (is_last k) k (state_there k)
 
   abbrev pub said_at : ℕ → Option (List ℕ)
-  said_at k = says S (state_there k)
+  said_at k = says S (is_last k) (state_there k)
 
   -- what is said at the last position below that is looked at; nothing where there is none
   abbrev pub said_below : ℕ → Option (List ℕ)

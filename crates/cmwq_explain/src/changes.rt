@@ -1,25 +1,24 @@
 //! What is said of a run's states, told wherever it changes.
-ghost use Rattle.cmwq_explain.specs.Looking.{looker_wholly, looker_told};
-ghost use Rattle.cmwq_explain.specs.ChangesTold.{IsPastEnd, TellsChanges, as_unit};
+ghost use Rattle.cmwq_explain.specs.Looking.{looker_told, looker_wholly, run_end};
+ghost use Rattle.cmwq_explain.specs.ChangesTold.{TellsChanges, as_unit};
 ghost use Rattle.cmwq_play.specs.Commands.{Writes};
 ghost use Rattle.cmwq_play.specs.Runs.{CanRun};
 ghost use Rattle.cmwq_streams.specs.Sending.{IsSendError};
 ghost use Rattle.cmwq_table.specs.State.{start};
+ghost use Rattle.cmwq_table.specs.Table.{run};
 ghost use Rattle.cmwq_types.specs.Faults.{IsValid};
 ghost use Rattle.cmwq_types.specs.Scenario.{expand_lines};
-ghost use Rattle.cmwq_types.specs.declared.limits.TheConstants.{MAX_HISTORY};
-ghost use Rattle.std.specs.Prelude.{◌≡◌, ◌≤◌, ◌↔◌, IfErr, IfOk, IsTrue, false, length};
+ghost use Rattle.std.specs.Prelude.{◌≡◌, IfErr, IfOk, false};
 
-use crate::looker::Looker;
+use crate::looker::{Looker, RunEnd};
 use crate::said::LastSaid;
 use crate::sayer::Sayer;
 use cmwq_lines::ReplyLines;
 use cmwq_play::Session;
-use cmwq_runs::room_behind;
 use cmwq_streams::{BlockWriter, PlayError, Sink};
 use cmwq_table::Machine;
 use cmwq_tasks::Looks;
-use cmwq_types::{Line, MAX_HISTORY, Scenario};
+use cmwq_types::{Line, Scenario};
 use std::alloc::Global;
 use std::sync::Arc;
 
@@ -27,8 +26,8 @@ use std::sync::Arc;
 /// a line `at K now N WORDS` for the first at which something is said and for each at which something else is said than at the one
 /// before. It answers whether anything was told.
 ///
-/// It answers `PastEnd` exactly where the run has no such position; nothing is written then. Any other error is `Write`, exactly where
-/// the writer failed, or `NoMemory`; what was written then is a front of the lines.
+/// It answers `PastEnd` where the run ends before the position or the tick that is asked for; nothing is written then. Any other error
+/// is `Write`, exactly where the writer failed, or `NoMemory`; what was written then is a front of the lines.
 pub(crate) fn tell_changes<M: Machine, P: Sayer, W: Sink>(
     alloc: Global,
     scenario: Scenario,
@@ -41,9 +40,6 @@ pub(crate) fn tell_changes<M: Machine, P: Sayer, W: Sink>(
     requires sound { W.failed writer.old ≡ false }
     ensures { TellsChanges (P.says sayer.now) looks scenario (W.contents writer.old) (W.contents writer.new) (W.failed writer.new) result }
 {
-    if is_past_end(looks, &scenario.actors[0].lines) {
-        return Err(PlayError::PastEnd);
-    }
     let scenario = Arc::new(alloc, scenario)?;
     let machine = M::begin(alloc, Arc::clone(&scenario)?)?;
     let looker = Looker {
@@ -54,41 +50,34 @@ pub(crate) fn tell_changes<M: Machine, P: Sayer, W: Sink>(
         said: LastSaid(None),
         has_told: false,
     };
-    tell_lines(
+    let end = tell_lines(
         looker,
         &scenario,
         &scenario.actors[0].lines,
         machine,
         writer,
-    )
-}
-
-/// Whether a run of these lines has no position that is to be looked at.
-fn is_past_end(looks: Looks, lines: &[Line]) -> bool
-    requires { length (expand_lines lines.now) ≤ MAX_HISTORY }
-    ensures { IsTrue result ↔ IsPastEnd looks (expand_lines lines.now) }
-{
-    let Looks::At(position) = looks else {
-        return false;
-    };
-    let room = room_behind(lines).unwrap_or(0);
-    u64::from(MAX_HISTORY - room) < position
+    )?;
+    if end.is_before(looks) {
+        return Err(PlayError::PastEnd);
+    }
+    Ok(end.has_told)
 }
 
 /// Issues the lines' instructions on a machine at the scenario's start, writes what the looker tells of them as it comes, a block at a
-/// time, and answers whether anything was told.
+/// time, and answers where the run ended.
 fn tell_lines<M: Machine, P: Sayer, W: Sink>(
     looker: Looker<'_, P>,
     scenario: &Scenario,
     lines: &[Line],
     machine: M,
     writer: &mut W,
-) -> Result<bool, PlayError>
+) -> Result<RunEnd, PlayError>
     requires loaded { M.loaded machine ≡ scenario.now }
     requires start { M.state machine ≡ start scenario.now }
     requires sound { W.failed writer.old ≡ false }
     ensures writes { Writes (λ output. output ≡ looker_told P.says looker.entry scenario.now (start scenario.now) (expand_lines lines.now)) (W.contents writer.old) (W.contents writer.new) (W.failed writer.new) (as_unit result) }
-    ensures told { IfOk result (λ told. told ≡ (looker_wholly P.says looker.entry scenario.now (start scenario.now) (expand_lines lines.now)).has_told) }
+    ensures end { IfOk result (λ end. end ≡ run_end (looker_wholly P.says looker.entry scenario.now (start scenario.now) (expand_lines lines.now))
+        (run scenario.now (expand_lines lines.now))) }
     ensures why { IfErr result (λ error. IsSendError error) }
 {
     let alloc = looker.alloc;

@@ -1,5 +1,5 @@
-//! Why a work isn't further, and what a flush waits for, told along a run: at the settled positions and the last, at each, or at one
-//! alone, wherever what is said changes.
+//! Why a work isn't further, and what a flush waits for, told along a run: at the settled positions and the last, at each, at one alone,
+//! or at those of a tick, wherever what is said changes.
 #![tactic(auto)]
 
 mod answering;

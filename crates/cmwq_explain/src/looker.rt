@@ -1,11 +1,12 @@
 //! Who looks at a run's states as it goes, and tells what is said of them wherever it changes.
 ghost use Rattle.cmwq_explain.specs.Changes.{words_said};
-ghost use Rattle.cmwq_explain.specs.Looking.{line_here, looker_after, looker_wholly, looks_here, saying, told_here, looker_told};
+ghost use Rattle.cmwq_explain.specs.Looking.{has_ended_before, line_here, looker_after, looker_told, looker_wholly, looks_here, run_end, saying, told_here};
 ghost use Rattle.cmwq_explain.specs.ChangesTold.{as_unit};
 ghost use Rattle.cmwq_play.specs.Commands.{Writes};
 ghost use Rattle.cmwq_play.specs.Session.{CanIssue, Issues};
 ghost use Rattle.cmwq_streams.specs.Blocks.{SharesSink, kept, sink};
 ghost use Rattle.cmwq_streams.specs.Sending.{IsSendError};
+ghost use Rattle.cmwq_table.specs.Table.{after_all};
 ghost use Rattle.cmwq_types.specs.Scenario.{expand_lines};
 ghost use Rattle.std.specs.Prelude.{◌≡◌, [], IfErr, IfOk, OnOk};
 
@@ -30,6 +31,30 @@ pub(crate) struct Looker<'s, P> {
     pub(crate) said: LastSaid,
     /// Whether anything has been told.
     pub(crate) has_told: bool,
+}
+
+/// Where a run ended that was told.
+#[derive(Clone, Copy, Debug, PartialEq, Eq)]
+pub(crate) struct RunEnd {
+    /// How many instructions were carried out.
+    pub(crate) position: u64,
+    /// The time, in ticks.
+    pub(crate) time: u64,
+    /// Whether anything was told.
+    pub(crate) has_told: bool,
+}
+
+impl RunEnd {
+    /// Whether the run ended before any position that is to be looked at.
+    pub(crate) fn is_before(self, looks: Looks) -> bool
+        ensures { result ≡ has_ended_before looks self }
+    {
+        match looks {
+            Looks::At(position) => self.position < position,
+            Looks::Time(tick) => self.time < tick,
+            Looks::Settled | Looks::Every => false,
+        }
+    }
 }
 
 impl<P: Sayer> Teller for Looker<'_, P> {
@@ -63,6 +88,7 @@ impl<P: Sayer> Looker<'_, P> {
             Looks::Settled => is_last || machine.is_settled(),
             Looks::Every => true,
             Looks::At(position) => self.position == position,
+            Looks::Time(tick) => machine.now() == tick && (is_last || machine.is_settled()),
         }
     }
 
@@ -80,7 +106,7 @@ impl<P: Sayer> Looker<'_, P> {
         if !self.is_looked_at(&session.machine, is_last) {
             return Ok(());
         }
-        let said = self.sayer.say(self.alloc, &session.machine)?;
+        let said = self.sayer.say(self.alloc, &session.machine, is_last)?;
         self.tell_said(session, said)
     }
 
@@ -111,23 +137,28 @@ impl<P: Sayer> Looker<'_, P> {
         Ok(())
     }
 
-    /// Issues the lines' instructions, looks before each and at the end, sends all that is told, and answers whether anything was.
+    /// Issues the lines' instructions, looks before each and at the end, sends all that is told, and answers where the run ended.
     pub(crate) fn tell<M: Machine, W: Sink>(
         &mut self,
         session: &mut Session<'_, '_, M, W>,
         lines: &[Line],
-    ) -> Result<bool, PlayError>
+    ) -> Result<RunEnd, PlayError>
         requires ready { CanIssue M.loaded M.state W.contents W.failed session.old }
         requires empty { kept session.old.lines ≡ [] }
         ensures same { SharesSink session.old.lines session.new.lines }
         ensures writes { Writes (λ output. output ≡ looker_told P.says self.old session.old.scenario.now (M.state session.old.machine) (expand_lines lines.now))
             (W.contents (sink session.old.lines)) (W.contents (sink session.new.lines)) (W.failed (sink session.new.lines)) (as_unit result) }
-        ensures told { IfOk result (λ told. told ≡ (looker_wholly P.says self.old session.old.scenario.now (M.state session.old.machine) (expand_lines lines.now)).has_told) }
+        ensures end { IfOk result (λ end. end ≡ run_end (looker_wholly P.says self.old session.old.scenario.now (M.state session.old.machine) (expand_lines lines.now))
+            (after_all session.old.scenario.now (M.state session.old.machine) (expand_lines lines.now))) }
         ensures why { IfErr result (λ error. IsSendError error) }
     {
         session.issue_all(self, lines)?;
         self.look(session, true)?;
         session.lines.finish()?;
-        Ok(self.has_told)
+        Ok(RunEnd {
+            position: self.position,
+            time: session.machine.now(),
+            has_told: self.has_told,
+        })
     }
 }

@@ -13,6 +13,6 @@ pub use cmwq_streams::{BlockWriter, Marked, PlayError, Sink, Source, put_all};
 pub use images::{from_image, to_image};
 pub use listing_text::{list_text, write_listing};
 pub use reading::{empty_chunk, read_some, read_text, read_whole};
-pub use running::{judge, print_actor, run, tell_run};
+pub use running::{judge, load_and_tell, print_actor, run, tell_run};
 pub use session::Session;
 pub use teller::Teller;

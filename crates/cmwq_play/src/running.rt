@@ -80,9 +80,11 @@ pub fn judge(scenario: &Scenario) -> Result<(), PlayError>
     }
 }
 
-/// Issues the one actor's instructions on a new machine, and writes what the teller tells of them. The text's reader has judged the
-/// scenario already.
-fn load_and_tell<M: Machine, T: Teller, W: Sink>(
+/// Issues the one actor's instructions on a new machine, and writes what the teller tells of them as it comes, a block at a time. The
+/// scenario has been judged already.
+///
+/// The only errors are `Write`, exactly where the writer failed, and `NoMemory`. What was written then is a front of what is told.
+pub fn load_and_tell<M: Machine, T: Teller, W: Sink>(
     alloc: Global,
     scenario: Scenario,
     teller: T,

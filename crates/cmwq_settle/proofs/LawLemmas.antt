@@ -1,14 +1,12 @@
 -- Whoever runs the text of the settled scenario gets the lines of the run to quiet.
-use Rattle.std.proofs.Common.{◌≡◌, ◌≤◌, ℕ, List, [], ◌∷◌, ◌++◌, Some, arith, refl, ap, ◌∙◌, sym, subst, length, length-append, replicate}
-use Rattle.std.proofs.lemmas.List.{length-replicate}
+use Rattle.std.proofs.Common.{◌≡◌, ◌≤◌, ℕ, List, [], ◌∷◌, Some, refl, ap, ◌∙◌, sym, subst, length}
 use Rattle.cmwq_types.specs.Contents.{ActorContents, ScenarioContents}
 use Rattle.cmwq_types.specs.Faults.{IsValid}
 use Rattle.cmwq_types.specs.Listing.{listing}
 use Rattle.cmwq_types.specs.Scenario.{expand}
 use Rattle.cmwq_types.specs.Values.{IsScenario}
 use Rattle.cmwq_types.specs.declared.instr.Instr.{Instr}
-use Rattle.cmwq_types.specs.declared.instr.Instr.TheVariants.{Next}
-use Rattle.cmwq_types.specs.declared.limits.TheConstants.{MAX_HISTORY, MAX_LINES}
+use Rattle.cmwq_types.specs.declared.limits.TheConstants.{MAX_LINES}
 use Rattle.cmwq_table.specs.Events.{events}
 use Rattle.cmwq_grammar.specs.Grammar.{Spells}
 use Rattle.cmwq_play.specs.Runs.{IsRunOf}
@@ -19,12 +17,7 @@ use Rattle.cmwq_settle.specs.Settling.{IsSettledOutput, IsSettledRun, IsSettledT
 use Rattle.cmwq_settle.proofs.AnswerLemmas.{settled-once}
 use Rattle.cmwq_settle.proofs.LineLemmas.{expand-with_nexts}
 use Rattle.cmwq_settle.proofs.OtherActors.{same-events, settled-is, settled-scenario, settled-valid}
-
--- all of them are no more than one run issues
-few : (S : ScenarioContents) (actor : ActorContents) (n : ℕ) → IsSettledBy S actor n → length (expand (with_nexts n actor)) ≤ MAX_HISTORY
-few S actor n settled =
-    let long = ap length (expand-with_nexts n actor) ∙ length-append (expand actor) (replicate n Next) in
-    omega (arith, long, length-replicate n Next, settled.settles.within, settled.runs.few)
+use Rattle.cmwq_settle.proofs.SettledRuns.{few}
 
 -- the text of the scenario with the longer actor, and what running it prints
 runs : (S : ScenarioContents) (actor : ActorContents) (n : ℕ) (printed : List ℕ) → IsValid S → IsScenario S → IsSettledBy S actor n → length (with_nexts n actor).lines ≤ MAX_LINES

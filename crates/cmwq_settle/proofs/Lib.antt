@@ -1,8 +1,10 @@
 pub mod AnswerLemmas
+pub mod CallerLemmas
 pub mod ExampleLemmas
 pub mod LawLemmas
 pub mod LineLemmas
 pub mod NextLemmas
 pub mod OtherActors
+pub mod SettledRuns
 pub mod SettlingLemmas
 pub mod WatchLemmas

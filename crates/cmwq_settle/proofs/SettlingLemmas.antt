@@ -9,7 +9,7 @@ use Rattle.cmwq_types.specs.declared.limits.TheConstants.{MAX_LINES}
 use Rattle.cmwq_table.specs.Events.{events}
 use Rattle.cmwq_grammar.specs.Grammar.{Spells}
 use Rattle.cmwq_play.specs.Commands.{Answers, IsOutside, Writes}
-use Rattle.cmwq_play.specs.Runs.{IsRefused, IsRunOf}
+use Rattle.cmwq_play.specs.Runs.{CanRun, IsRefused, IsRunOf}
 use Rattle.cmwq_play.specs.PlayTexts.{ComesTo, IsFaultOf, IsSpelled, IsTextFault}
 use Rattle.cmwq_play.proofs.CommandLemmas.{answers_outside, err_is}
 use Rattle.cmwq_play.proofs.TextLemmas.{answers_told}
@@ -26,6 +26,7 @@ use Rattle.cmwq_settle.specs.declared.counting.Nexts.TheVariants.{Settle, Never}
 use Rattle.cmwq_settle.proofs.AnswerLemmas.{no_text-unsettleable, refused-told, settled_scenario-well, told-unsettleable, unsettleable-once}
 use Rattle.cmwq_settle.proofs.LineLemmas.{expand-with_nexts}
 use Rattle.cmwq_settle.proofs.OtherActors.{settled-is, settled-valid}
+use Rattle.cmwq_settle.proofs.SettledRuns.{settled-can}
 
 -- Errors.
 
@@ -102,6 +103,9 @@ module _ (S T : ScenarioContents) (n : ℕ) (longer : ActorContents) (counted : 
   pub settled-so-valid : IsValid S → IsValid T
   settled-so-valid valid =
       subst IsValid (sym (made ∙ ap (λ (actor : ActorContents). with_one_actor S actor) is)) (settled-valid S counted.0 n counted.1.alone valid fits)
+
+  pub settled-so-can : CanRun T
+  settled-so-can = settled-can S T settled-so
 
 -- What is printed.
 

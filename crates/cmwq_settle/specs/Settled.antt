@@ -1,12 +1,12 @@
 -- The settled scenario: its actor's lines are followed by as many `next` as make its machine quiet.
-use Rattle.std.specs.Prelude.{◌≡◌, ◌<◌, ◌≤◌, ◌/◌, ◌%◌, ◌⊎◌, ℕ, zero, suc, List, [], ◌∷◌, ◌++◌, length, map, replicate}
+use Rattle.std.specs.Prelude.{◌≡◌, ◌<◌, ◌≤◌, ◌/◌, ◌%◌, ◌⊎◌, ℕ, zero, suc, Bool, true, false, List, [], ◌∷◌, ◌++◌, length, map, replicate}
 use Rattle.cmwq_types.specs.Contents.{ActorContents, ScenarioContents}
 use Rattle.cmwq_types.specs.Scenario.{expand}
 use Rattle.cmwq_types.specs.declared.instr.Instr.{Instr}
 use Rattle.cmwq_types.specs.declared.instr.Instr.TheVariants as instr
 use Rattle.cmwq_types.specs.declared.limits.TheConstants.{MAX_LINES, MAX_TIMES}
 use Rattle.cmwq_types.specs.declared.scenario.Line.{Line}
-use Rattle.cmwq_play.specs.Runs.{IsRefused, IsRunOf}
+use Rattle.cmwq_play.specs.Runs.{CanRun, IsRefused, IsRunOf}
 use Rattle.cmwq_streams.specs.declared.error.PlayError.{PlayError}
 use Rattle.cmwq_streams.specs.declared.error.PlayError.TheVariants as errors
 use Rattle.cmwq_settle.specs.Quiet.{NeverQuiet, Settles}
@@ -60,3 +60,15 @@ IsNotSettled S error = IsRefused S error
 abbrev pub IsUnsettleable : ScenarioContents → PlayError → Type 0
 IsUnsettleable S errors.Full = IsRefused S errors.Full ⊎ IsTooLong S
 IsUnsettleable S error = IsNotSettled S error
+
+-- Where settling is a choice.
+
+-- the scenario that is run: the settled one where that is asked, and else the scenario itself, which can be run
+abbrev pub IsSettledIf : (settle : Bool) → ScenarioContents → ScenarioContents → Type 0
+IsSettledIf true S T = IsSettled S T
+IsSettledIf false S T = (T ≡ S) × CanRun S
+
+-- why there is none
+abbrev pub IsUnsettledIf : (settle : Bool) → ScenarioContents → PlayError → Type 0
+IsUnsettledIf true S error = IsUnsettleable S error
+IsUnsettledIf false S error = IsRefused S error

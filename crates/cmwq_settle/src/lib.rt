@@ -10,4 +10,4 @@ mod settling;
 mod watch;
 
 pub use settled_run::run_settled;
-pub use settling::{settle_text, settled};
+pub use settling::{settle_text, settled, settled_if};

@@ -1,7 +1,8 @@
 //! `settle`: from a scenario's text to the listing of the settled scenario.
 ghost use Rattle.cmwq_play.specs.Commands.{Answers, Reads, Writes};
+ghost use Rattle.cmwq_play.specs.Runs.{CanRun};
 ghost use Rattle.cmwq_settle.specs.Counting.{with_one_actor};
-ghost use Rattle.cmwq_settle.specs.Settled.{IsSettled, IsUnsettleable};
+ghost use Rattle.cmwq_settle.specs.Settled.{IsSettled, IsSettledIf, IsUnsettleable, IsUnsettledIf};
 ghost use Rattle.cmwq_settle.specs.Settling.{IsSettledText, IsUnsettledText};
 ghost use Rattle.cmwq_types.specs.Faults.{IsValid};
 ghost use Rattle.std.specs.Io.KnownBytes.{Keeps};
@@ -50,6 +51,7 @@ pub fn settled(alloc: Global, scenario: Scenario) -> Result<Scenario, PlayError>
     requires valid { IsValid scenario }
     ensures settled { IfOk result (λ settled. IsSettled scenario settled) }
     ensures valid { IfOk result (λ settled. IsValid settled) }
+    ensures can { IfOk result (λ settled. CanRun settled) }
     ensures why { IfErr result (λ error. IsUnsettleable scenario error ⊎ (error ≡ PlayError.NoMemory)) }
 {
     judge(&scenario)?;
@@ -62,6 +64,24 @@ pub fn settled(alloc: Global, scenario: Scenario) -> Result<Scenario, PlayError>
         return Err(PlayError::Full);
     }
     Ok(with_one_actor(alloc, scenario, actor)?)
+}
+
+/// The scenario settled where that is asked, and else the scenario itself, which can be run then.
+///
+/// It answers `Actors` exactly where the scenario hasn't one actor, and `Full` exactly where that one has more than 1,048,576
+/// instructions. Where it is to be settled it answers `Full` and `NeverQuiet` besides exactly where `settled` does.
+pub fn settled_if(alloc: Global, settle: bool, scenario: Scenario) -> Result<Scenario, PlayError>
+    requires valid { IsValid scenario }
+    ensures settled { IfOk result (λ run. IsSettledIf settle scenario run) }
+    ensures valid { IfOk result (λ run. IsValid run) }
+    ensures can { IfOk result (λ run. CanRun run) }
+    ensures why { IfErr result (λ error. IsUnsettledIf settle scenario error ⊎ (error ≡ PlayError.NoMemory)) }
+{
+    if settle {
+        return settled(alloc, scenario);
+    }
+    judge(&scenario)?;
+    Ok(scenario)
 }
 
 /// The same scenario with this one actor.

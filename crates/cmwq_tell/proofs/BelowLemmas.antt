@@ -1,17 +1,18 @@
 -- In each state that a run comes to the births and the stamps of what pends are below the next stamp. So nothing is told where nothing changed.
 use Rattle.std.proofs.Common.{◌≡◌, ℕ, zero, suc, ◌+◌, ◌<◌, ◌≤◌, Bool, true, false, cond, List, [], ◌∷◌, ◌++◌, length, map, replicate, Option, Some, None, arith, refl, sym, ap, ◌∙◌, subst, inl, inr, ◌⊎◌}
 use Rattle.std.proofs.lemmas.Bool.Decides.{nat_tests}
-use Rattle.std.specs.Prelude.{◌==◌, nat_lt, slice_index_or, slice_set}
+use Rattle.std.specs.Prelude.{◌==◌, nat_lt, option_to_list, slice_index_or, slice_set}
 use Rattle.cmwq_types.specs.Contents.{ScenarioContents}
 use Rattle.cmwq_types.specs.declared.instr.Instr.{Instr}
 use Rattle.cmwq_types.specs.declared.reply.Place.TheVariants.{Deferred}
+use Rattle.cmwq_types.specs.declared.reply.Reply.{Reply}
 use Rattle.cmwq_table.specs.State.{State, pending_at, start}
 use Rattle.cmwq_table.specs.Table.{after_all, run, table}
 use Rattle.cmwq_table.specs.View.{entries_from}
 use Rattle.cmwq_table.specs.declared.state.Pending.{Pending}
 use Rattle.cmwq_tell.specs.declared.change.Change.{Change}
 use Rattle.cmwq_tell.specs.declared.change.Change.TheVariants as change
-use Rattle.cmwq_tell.specs.Hidden.{change_of, hidden, stamped_from}
+use Rattle.cmwq_tell.specs.Hidden.{change_of, hidden, stamped_from, start_told}
 use Rattle.cmwq_tell.proofs.Becoming.{Becomes, Goes, set_cases, table-goes}
 
 abbrev pub IsBelow : ℕ → Option Pending → Type 0
@@ -70,11 +71,13 @@ none-stamped next o (Some p ∷ xs) each =
     let old : nat_lt p.stamp next ≡ true = grind (arith, nat_tests) in
     cond-true (nat_lt p.stamp next) (stamped_from next (entries_from (o + 1) xs)) _ old ∙ none-stamped next (o + 1) xs (λ w. each (suc w))
 
-pub nothing-hidden : (s : State) → AllBelow s → hidden s s ≡ []
-nothing-hidden s below =
+pub nothing-hidden : (s : State) (r : Reply) → AllBelow s → start_told s r ≡ None → hidden s s r ≡ []
+nothing-hidden s r below unstarted =
     let still : (s.time == s.time) ≡ true = grind (arith, nat_tests) in
-    ap (λ (changes : List Change). changes ++ map (change_of s.next) (stamped_from s.next (entries_from 0 s.pending))) (cond-true (s.time == s.time) [] (change.Now s.time ∷ []) still)
+    let stamped = map (change_of s.next) (stamped_from s.next (entries_from 0 s.pending)) in
+    ap (λ (changes : List Change). changes ++ option_to_list (start_told s r) ++ stamped) (cond-true (s.time == s.time) [] (change.Now s.time ∷ []) still)
+    ∙ ap (λ (start : Option Change). option_to_list start ++ stamped) unstarted
     ∙ ap (λ entries. map (change_of s.next) entries) (none-stamped s.next 0 s.pending below)
 
-pub hidden-same : (s t : State) → AllBelow s → t ≡ s → hidden s t ≡ []
-hidden-same s t below e = ap (λ (u : State). hidden s u) e ∙ nothing-hidden s below
+pub hidden-same : (s t : State) (r : Reply) → AllBelow s → t ≡ s → start_told t r ≡ None → hidden s t r ≡ []
+hidden-same s t r below e unstarted = ap (λ (u : State). hidden s u r) e ∙ nothing-hidden s r below (subst (λ (u : State). start_told u r ≡ None) e unstarted)

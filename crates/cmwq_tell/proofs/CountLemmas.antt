@@ -1,27 +1,28 @@
 -- How many lines tell an activation, a place, or that time passed.
-use Rattle.std.proofs.Common.{◌≡◌, ℕ, zero, suc, ◌+◌, ◌<◌, ◌≤◌, Bool, true, false, not, ◌&&◌, cond, List, [], ◌∷◌, length, map, Option, Some, None, arith, refl, sym, ap, ◌∙◌, subst, inl, inr, ◌⊎◌}
+use Rattle.std.proofs.Common.{◌≡◌, ℕ, zero, suc, ◌+◌, ◌<◌, ◌≤◌, Bool, true, false, not, ◌&&◌, cond, List, [], ◌∷◌, ◌++◌, length, map, Option, Some, None, arith, refl, sym, ap, ◌∙◌, subst, inl, inr, ◌⊎◌}
 use Rattle.std.proofs.lemmas.Bool.Decides.{nat_tests}
-use Rattle.std.specs.Prelude.{◌==◌, nat_lt, slice_index_or, slice_set}
+use Rattle.std.specs.Prelude.{◌==◌, nat_lt, option_to_list, slice_index_or, slice_set}
 use Rattle.cmwq_types.specs.Contents.{ScenarioContents}
 use Rattle.cmwq_types.specs.First.{count_below}
 use Rattle.cmwq_types.specs.declared.instr.WorkId.{WorkId}
 use Rattle.cmwq_types.specs.declared.reply.Place.{Place}
 use Rattle.cmwq_types.specs.declared.reply.Place.TheVariants.{Timer, Inactive, Listed, Deferred}
-use Rattle.cmwq_table.specs.Laws.{AtEveryInstruction, waits_for_room, state_after}
+use Rattle.cmwq_table.specs.Laws.{AtEveryInstruction, reply_to, state_after, waits_for_room}
 use Rattle.cmwq_table.specs.State.{State, pending_at}
 use Rattle.cmwq_table.specs.View.{entries_from}
 use Rattle.cmwq_table.specs.declared.state.Pending.{Pending}
 use Rattle.cmwq_table.specs.Table.{run, table}
 use Rattle.cmwq_burning.proofs.Happening.{Happens, table-does}
 use Rattle.cmwq_types.specs.declared.reply.Reply.{Reply}
+use Rattle.cmwq_types.specs.declared.reply.WorkRun.{WorkRun}
 use Rattle.cmwq_table.specs.declared.state.Running.{Running}
 use Rattle.cmwq_tell.specs.declared.change.Change.{Change}
 use Rattle.cmwq_tell.specs.declared.change.Change.TheVariants as change
-use Rattle.cmwq_tell.specs.Hidden.{change_of, hidden, passing, pool_of_place, stamped_from}
+use Rattle.cmwq_tell.specs.Hidden.{change_of, hidden, passing, pool_of_place, stamped_from, start_told}
 use Rattle.cmwq_tell.specs.Laws.{TellsActivations, TellsPlaces, TellsTicks, count_changes, is_activation, is_born, is_on_list, tells_activation, tells_place, tells_tick}
 use Rattle.cmwq_tell.proofs.Becoming.{Becomes, Goes, set_cases, table-goes}
 use Rattle.cmwq_tell.proofs.BelowLemmas.{AllBelow, IsBelow, run-below}
-use Rattle.cmwq_tell.proofs.StampLemmas.{count-append, count-hidden, count-stamped, told_from, told_of}
+use Rattle.cmwq_tell.proofs.StampLemmas.{count-append, count-hidden, count-stamped, started-none, told_from, told_of}
 
 -- What one work adds: nothing where its stamp is old, and else by whether its birth is.
 abbrev pub weight : Bool → Bool → ℕ → Option Pending → ℕ
@@ -194,24 +195,24 @@ goes-place s t below (inr d) w =
     let q : Pending = record d.p { place = Deferred d.pool } in
     deferred-tells (weight false true s.next) (λ before now. is_born s.next now) s t d.w w d.p q d.pending d.was (λ u. stays-place s.next (pending_at s u) (below u)) (stays-place s.next (Some q) (was.0, was.1))
 
-hidden-counts : (test : Change → Bool) (a b : Bool) → ((w : WorkId) (pool : ℕ) → test (change.Activated w pool) ≡ a) → ((w : WorkId) (place : Place) → test (change.Placed w place) ≡ b) → ((now : ℕ) → test (change.Now now) ≡ false)
-    → (s t : State) (g : ℕ → Bool) → ((w : ℕ) → weight a b s.next (pending_at t w) ≡ cond (g w) 1 0) → count_changes test (hidden s t) ≡ count_below g (length t.pending)
-hidden-counts test a b activates places passes s t g each =
-    count-hidden test passes s t ∙ told-total test a b activates places s.next 0 t.pending ∙ total-counts (weight a b s.next) g t.pending each
+hidden-counts : (test : Change → Bool) (a b : Bool) → ((w : WorkId) (pool : ℕ) → test (change.Activated w pool) ≡ a) → ((w : WorkId) (place : Place) → test (change.Placed w place) ≡ b) → ((now : ℕ) → test (change.Now now) ≡ false) → ((w : WorkId) (run : WorkRun) → test (change.Started w run) ≡ false)
+    → (s t : State) (r : Reply) (g : ℕ → Bool) → ((w : ℕ) → weight a b s.next (pending_at t w) ≡ cond (g w) 1 0) → count_changes test (hidden s t r) ≡ count_below g (length t.pending)
+hidden-counts test a b activates places passes starts s t r g each =
+    count-hidden test passes starts s t r ∙ told-total test a b activates places s.next 0 t.pending ∙ total-counts (weight a b s.next) g t.pending each
 
 pub tells_activations : AtEveryInstruction TellsActivations
 unfolding TellsActivations
 tells_activations S valid instrs i =
     let s = run S instrs in
     let t = state_after S s i in
-    hidden-counts tells_activation true false (λ w pool. refl) (λ w place. refl) (λ now. refl) s t (λ w. is_activation (pending_at s w) (pending_at t w)) (goes-activation s t (run-below S instrs) (table-goes S s i))
+    hidden-counts tells_activation true false (λ w pool. refl) (λ w place. refl) (λ now. refl) (λ w run. refl) s t (reply_to S s i) (λ w. is_activation (pending_at s w) (pending_at t w)) (goes-activation s t (run-below S instrs) (table-goes S s i))
 
 pub tells_places : AtEveryInstruction TellsPlaces
 unfolding TellsPlaces
 tells_places S valid instrs i =
     let s = run S instrs in
     let t = state_after S s i in
-    hidden-counts tells_place false true (λ w pool. refl) (λ w place. refl) (λ now. refl) s t (λ w. is_born s.next (pending_at t w)) (goes-place s t (run-below S instrs) (table-goes S s i))
+    hidden-counts tells_place false true (λ w pool. refl) (λ w place. refl) (λ now. refl) (λ w run. refl) s t (reply_to S s i) (λ w. is_born s.next (pending_at t w)) (goes-place s t (run-below S instrs) (table-goes S s i))
 
 -- Time.
 
@@ -250,8 +251,11 @@ tells_ticks S valid instrs i =
     let t = state_after S s i in
     let stamped = map (change_of s.next) (stamped_from s.next (entries_from 0 t.pending)) in
     let passes : count_changes tells_tick (passing s.time t.time) + s.time ≡ t.time = passing-counts s.time t.time (time-goes S s t.running t.time (table S s i).1 (table-does S s i)) in
-    let sum : count_changes tells_tick (hidden s t) ≡ count_changes tells_tick (passing s.time t.time) + count_changes tells_tick stamped = count-append tells_tick (passing s.time t.time) stamped in
+    let started = option_to_list (start_told t (reply_to S s i)) in
+    let none : count_changes tells_tick started ≡ 0 = started-none tells_tick (λ w run. refl) t (reply_to S s i) in
+    let both : count_changes tells_tick (passing s.time t.time ++ started) ≡ count_changes tells_tick (passing s.time t.time) + count_changes tells_tick started = count-append tells_tick (passing s.time t.time) started in
+    let sum : count_changes tells_tick (hidden s t (reply_to S s i)) ≡ count_changes tells_tick (passing s.time t.time ++ started) + count_changes tells_tick stamped = count-append tells_tick (passing s.time t.time ++ started) stamped in
     let counts : count_changes tells_tick stamped ≡ count_below (λ w. false) (length t.pending) =
     count-stamped tells_tick s.next 0 t.pending ∙ told-total tells_tick false false (λ w pool. refl) (λ w place. refl) s.next 0 t.pending ∙ total-counts (weight false false s.next) (λ w. false) t.pending (λ w. weighs-nothing s.next (pending_at t w)) in
     let nothing : count_below (λ w. false) (length t.pending) ≡ 0 = none-below (length t.pending) in
-    omega (arith, passes, sum, counts, nothing)
+    omega (arith, passes, none, both, sum, counts, nothing)

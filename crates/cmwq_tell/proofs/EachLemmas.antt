@@ -1,23 +1,25 @@
 -- What the lines say of each work.
-use Rattle.std.proofs.Common.{◌≡◌, ℕ, zero, suc, ◌+◌, ◌<◌, Bool, true, false, not, ◌&&◌, cond, List, [], ◌∷◌, map, Option, Some, None, arith, refl, sym, ap, ◌∙◌}
+use Rattle.std.proofs.Common.{◌≡◌, ℕ, zero, suc, ◌+◌, ◌<◌, Bool, true, false, not, ◌&&◌, cond, List, [], ◌∷◌, ◌++◌, map, Option, Some, None, arith, refl, sym, ap, ◌∙◌}
 use Rattle.std.proofs.lemmas.Bool.Decides.{nat_tests}
-use Rattle.std.specs.Prelude.{◌==◌, nat_lt, slice_index_or}
+use Rattle.std.specs.Prelude.{◌==◌, nat_lt, option_to_list, slice_index_or}
 use Rattle.cmwq_types.specs.declared.instr.WorkId.{WorkId}
 use Rattle.cmwq_types.specs.declared.reply.Place.{Place}
+use Rattle.cmwq_types.specs.declared.reply.Reply.{Reply}
+use Rattle.cmwq_types.specs.declared.reply.WorkRun.{WorkRun}
 use Rattle.cmwq_types.specs.declared.reply.Place.TheVariants.{Timer, Inactive, Listed, Deferred}
-use Rattle.cmwq_table.specs.Laws.{AtEveryInstruction, waits_for_room, state_after}
+use Rattle.cmwq_table.specs.Laws.{AtEveryInstruction, reply_to, state_after, waits_for_room}
 use Rattle.cmwq_table.specs.State.{State, pending_at}
 use Rattle.cmwq_table.specs.Table.{run}
 use Rattle.cmwq_table.specs.View.{entries_from}
 use Rattle.cmwq_table.specs.declared.state.Pending.{Pending}
 use Rattle.cmwq_tell.specs.declared.change.Change.{Change}
 use Rattle.cmwq_tell.specs.declared.change.Change.TheVariants as change
-use Rattle.cmwq_tell.specs.Hidden.{change_of, hidden, passing, pool_of_place, stamped_from}
+use Rattle.cmwq_tell.specs.Hidden.{change_of, hidden, passing, pool_of_place, stamped_from, start_told}
 use Rattle.cmwq_tell.specs.Laws.{TellsEachActivation, TellsEachPlace, TellsTheTime, count_changes, is_activation, is_activation_in, is_born, is_born_at, is_listed_where, is_on_list, is_time_but, tells_activating, tells_placing}
 use Rattle.cmwq_tell.proofs.Becoming.{table-goes}
 use Rattle.cmwq_tell.proofs.BelowLemmas.{run-below}
 use Rattle.cmwq_tell.proofs.CountLemmas.{goes-activation, goes-place, weight}
-use Rattle.cmwq_tell.proofs.StampLemmas.{count-append, count-hidden, told_from, told_if, told_of}
+use Rattle.cmwq_tell.proofs.StampLemmas.{count-append, count-hidden, started-none, told_from, told_if, told_of}
 
 -- Where the test is of one work alone.
 module _ (test : Change → Bool) (next w : ℕ) (others : (v : ℕ) (o : Option Pending) → (v == w) ≡ false → told_of test next v o ≡ 0) where
@@ -43,9 +45,10 @@ module _ (test : Change → Bool) (next w : ℕ) (others : (v : ℕ) (o : Option
       omega (arith, here, later)
 
   -- the hidden changes tell of this work what its pending half adds
-  counts-its-own : (s t : State) → s.next ≡ next → ((now : ℕ) → test (change.Now now) ≡ false) → count_changes test (hidden s t) ≡ told_of test next w (pending_at t w)
-  counts-its-own s t is passes =
-      count-hidden test passes s t
+  counts-its-own : (s t : State) (r : Reply) → s.next ≡ next → ((now : ℕ) → test (change.Now now) ≡ false) → ((v : WorkId) (run : WorkRun) → test (change.Started v run) ≡ false)
+      → count_changes test (hidden s t r) ≡ told_of test next w (pending_at t w)
+  counts-its-own s t r is passes starts =
+      count-hidden test passes starts s t r
       ∙ ap (λ (n : ℕ). told_from test n 0 t.pending) is
       ∙ only-its-own 0 w t.pending (omega arith)
 
@@ -80,7 +83,7 @@ unfolding TellsEachPlace
 tells_each_place S valid instrs i = λ w test.
     let s = run S instrs in
     let t = state_after S s i in
-    counts-its-own (tells_placing w test) s.next w (placing-other w test s.next) s t refl (λ now. refl)
+    counts-its-own (tells_placing w test) s.next w (placing-other w test s.next) s t (reply_to S s i) refl (λ now. refl) (λ v run. refl)
     ∙ placing-own w test s.next (pending_at t w) (goes-place s t (run-below S instrs) (table-goes S s i) w)
 
 -- Activations.
@@ -135,7 +138,7 @@ unfolding TellsEachActivation
 tells_each_activation S valid instrs i = λ w test.
     let s = run S instrs in
     let t = state_after S s i in
-    counts-its-own (tells_activating w test) s.next w (activating-other w test s.next) s t refl (λ now. refl)
+    counts-its-own (tells_activating w test) s.next w (activating-other w test s.next) s t (reply_to S s i) refl (λ now. refl) (λ v run. refl)
     ∙ activating-own w test s.next (pending_at s w) (pending_at t w) (goes-activation s t (run-below S instrs) (table-goes S s i) w)
 
 -- Time.
@@ -164,5 +167,8 @@ tells_the_time S valid instrs i =
     let entries = stamped_from s.next (entries_from 0 t.pending) in
     let now : count_changes test (passing s.time t.time) ≡ 0 = passing-time t.time (t.time == s.time) in
     let later : count_changes test (map (change_of s.next) entries) ≡ 0 = no-time t.time s.next entries in
-    let sum : count_changes test (hidden s t) ≡ count_changes test (passing s.time t.time) + count_changes test (map (change_of s.next) entries) = count-append test (passing s.time t.time) (map (change_of s.next) entries) in
-    omega (arith, now, later, sum)
+    let started = option_to_list (start_told t (reply_to S s i)) in
+    let none : count_changes test started ≡ 0 = started-none test (λ w run. refl) t (reply_to S s i) in
+    let both : count_changes test (passing s.time t.time ++ started) ≡ count_changes test (passing s.time t.time) + count_changes test started = count-append test (passing s.time t.time) started in
+    let sum : count_changes test (hidden s t (reply_to S s i)) ≡ count_changes test (passing s.time t.time ++ started) + count_changes test (map (change_of s.next) entries) = count-append test (passing s.time t.time ++ started) (map (change_of s.next) entries) in
+    omega (arith, now, none, both, later, sum)

@@ -1,3 +1,4 @@
+pub mod AnswerLemmas
 pub mod Becoming
 pub mod BelowLemmas
 pub mod CountLemmas
@@ -6,4 +7,5 @@ pub mod KeptLines
 pub mod LawLemmas
 pub mod LineLemmas
 pub mod StampLemmas
+pub mod StartLemmas
 pub mod TellLemmas

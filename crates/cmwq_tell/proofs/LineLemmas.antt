@@ -268,6 +268,7 @@ module _ (S : ScenarioContents) (scenario : IsScenario S) where
   cpu-no_feed (Deferred pool) = literal [] refl
 
   pub change-no_feed : (c : Change) → NoFeed (change_text S c)
+  change-no_feed (change.Started w run) = joint (joint (work w) (literal (codes " ") refl)) (run-no_feed (Some run))
   change-no_feed (change.Now now) = joint (literal (codes "now ") refl) (number now)
   change-no_feed (change.Activated w pool) = joint (joint (work w) (literal (codes " activated ") refl)) (number pool)
   change-no_feed (change.Placed w place) = joint (joint (joint (work w) (literal (codes " ") refl)) (place-no_feed (Some place))) (cpu-no_feed place)

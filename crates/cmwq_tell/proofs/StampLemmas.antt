@@ -1,14 +1,19 @@
 -- How many of the changes behind an instruction meet a test: what each work adds, one by one.
 use Rattle.std.proofs.Common.{◌≡◌, ℕ, ◌+◌, Bool, true, false, cond, List, [], ◌∷◌, ◌++◌, map, Option, Some, None, arith, refl, ap, ◌∙◌}
-use Rattle.std.specs.Prelude.{◌==◌, nat_lt}
+use Rattle.std.specs.Prelude.{◌==◌, nat_lt, option_to_list}
 use Rattle.cmwq_types.specs.declared.instr.WorkId.{WorkId}
 use Rattle.cmwq_types.specs.declared.reply.Place.{Place}
-use Rattle.cmwq_table.specs.State.{State}
+use Rattle.cmwq_types.specs.declared.reply.Reply.{Reply}
+use Rattle.cmwq_types.specs.declared.reply.Reply.TheVariants as reply
+use Rattle.cmwq_types.specs.declared.reply.WorkRun.{WorkRun}
+use Rattle.cmwq_burning.specs.Burning.{is_start}
+use Rattle.cmwq_table.specs.State.{State, running_at}
+use Rattle.cmwq_table.specs.Table.{run_of}
 use Rattle.cmwq_table.specs.View.{entries_from}
 use Rattle.cmwq_table.specs.declared.state.Pending.{Pending}
 use Rattle.cmwq_tell.specs.declared.change.Change.{Change}
 use Rattle.cmwq_tell.specs.declared.change.Change.TheVariants as change
-use Rattle.cmwq_tell.specs.Hidden.{change_of, hidden, passing, pool_of_place, put_by_stamp, stamped_from}
+use Rattle.cmwq_tell.specs.Hidden.{change_of, hidden, passing, pool_of_place, put_by_stamp, stamped_from, start_on, start_told}
 use Rattle.cmwq_tell.specs.Laws.{count_changes}
 
 pub count-append : (test : Change → Bool) (xs ys : List Change) → count_changes test (xs ++ ys) ≡ count_changes test xs + count_changes test ys
@@ -56,11 +61,26 @@ module _ (test : Change → Bool) (next : ℕ) where
       stamped-if (nat_lt p.stamp next) (record { 0 = o }, p) (stamped_from next (entries_from (o + 1) xs))
       ∙ ap (λ (n : ℕ). told_of test next o (Some p) + n) (count-stamped (o + 1) xs)
 
--- where no change of the time meets the test, each work adds its own
-pub count-hidden : (test : Change → Bool) → ((now : ℕ) → test (change.Now now) ≡ false) → (s t : State) → count_changes test (hidden s t) ≡ told_from test s.next 0 t.pending
-count-hidden test passes s t =
+-- where no start meets the test
+started-if : (test : Change → Bool) → ((w : WorkId) (run : WorkRun) → test (change.Started w run) ≡ false) → (b : Bool) (w : WorkId) (o : Option WorkRun)
+    → count_changes test (option_to_list (cond {A = Option Change} b (start_on w o) None)) ≡ 0
+started-if test starts true w (Some run) = ap (λ (c : Bool). cond {A = ℕ} c 1 0 + 0) (starts w run)
+started-if test starts true w None = refl
+started-if test starts false w o = refl
+
+pub started-none : (test : Change → Bool) → ((w : WorkId) (run : WorkRun) → test (change.Started w run) ≡ false) → (t : State) (r : Reply) → count_changes test (option_to_list (start_told t r)) ≡ 0
+started-none test starts t (reply.Event w e) = started-if test starts (is_start e) w (run_of (running_at t w.0))
+started-none test starts t other = refl
+
+-- where neither a change of the time nor a start meets the test, each work adds its own
+pub count-hidden : (test : Change → Bool) → ((now : ℕ) → test (change.Now now) ≡ false) → ((w : WorkId) (run : WorkRun) → test (change.Started w run) ≡ false) → (s t : State) (r : Reply)
+    → count_changes test (hidden s t r) ≡ told_from test s.next 0 t.pending
+count-hidden test passes starts s t r =
     let stamped = map (change_of s.next) (stamped_from s.next (entries_from 0 t.pending)) in
+    let started = option_to_list (start_told t r) in
     let nothing : count_changes test (passing s.time t.time) ≡ 0 = passing-none test (t.time == s.time) t.time (passes t.time) in
-    let sum : count_changes test (hidden s t) ≡ count_changes test (passing s.time t.time) + count_changes test stamped = count-append test (passing s.time t.time) stamped in
+    let none : count_changes test started ≡ 0 = started-none test starts t r in
+    let both : count_changes test (passing s.time t.time ++ started) ≡ count_changes test (passing s.time t.time) + count_changes test started = count-append test (passing s.time t.time) started in
+    let sum : count_changes test (hidden s t r) ≡ count_changes test (passing s.time t.time ++ started) + count_changes test stamped = count-append test (passing s.time t.time ++ started) stamped in
     let counts : count_changes test stamped ≡ told_from test s.next 0 t.pending = count-stamped test s.next 0 t.pending in
-    omega (arith, nothing, sum, counts)
+    omega (arith, nothing, none, both, sum, counts)

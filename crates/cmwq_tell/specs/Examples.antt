@@ -26,14 +26,14 @@ outside_scenario =
 abbrev pub outside_told : List ℕ
 outside_told =
     text_of_lines (
-    codes "# pressure" ∷ codes "# freeze" ∷ codes "# queue x 0" ∷ codes "#   x listed 0" ∷ codes "# queue y 0" ∷
-    codes "#   y listed 0" ∷ codes "# queue z 0" ∷ codes "#   z inactive 0" ∷ codes "# flush x" ∷ codes "0 flush 0" ∷
-    codes "# flush_queue f" ∷ codes "0 flush 1" ∷ codes "# next" ∷ codes "0 y starts on rescuer" ∷ codes "# next" ∷
-    codes "0 y burns 1" ∷ codes "# next" ∷ codes "#   now 1" ∷ codes "# next" ∷ codes "1 y finishes" ∷
-    codes "# relief" ∷ codes "# next" ∷ codes "1 x starts" ∷ codes "# next" ∷ codes "1 x burns 1" ∷ codes "# next" ∷
-    codes "#   now 2" ∷ codes "# next" ∷ codes "2 x finishes" ∷ codes "# thaw" ∷ codes "#   z activated 0" ∷
-    codes "# next" ∷ codes "2 z starts" ∷ codes "# next" ∷ codes "2 z burns 1" ∷ codes "# next" ∷ codes "#   now 3" ∷
-    codes "# next" ∷ codes "3 z finishes" ∷ [])
+    codes "# 0 pressure" ∷ codes "# 1 freeze" ∷ codes "# 2 queue x 0" ∷ codes "#   x listed 0" ∷ codes "# 3 queue y 0" ∷
+    codes "#   y listed 0" ∷ codes "# 4 queue z 0" ∷ codes "#   z inactive 0" ∷ codes "# 5 flush x" ∷ codes "0 flush 0" ∷
+    codes "# 6 flush_queue f" ∷ codes "0 flush 1" ∷ codes "# 7 next" ∷ codes "0 y starts on rescuer" ∷ codes "#   y runs 0/rescuer" ∷ codes "# 8 next" ∷
+    codes "0 y burns 1" ∷ codes "# 9 next" ∷ codes "#   now 1" ∷ codes "# 10 next" ∷ codes "1 y finishes" ∷
+    codes "# 11 relief" ∷ codes "# 12 next" ∷ codes "1 x starts" ∷ codes "#   x runs 0/0" ∷ codes "# 13 next" ∷ codes "1 x burns 1" ∷ codes "# 14 next" ∷
+    codes "#   now 2" ∷ codes "# 15 next" ∷ codes "2 x finishes" ∷ codes "# 16 thaw" ∷ codes "#   z activated 0" ∷
+    codes "# 17 next" ∷ codes "2 z starts" ∷ codes "#   z runs 0/0" ∷ codes "# 18 next" ∷ codes "2 z burns 1" ∷ codes "# 19 next" ∷ codes "#   now 3" ∷
+    codes "# 20 next" ∷ codes "3 z finishes" ∷ [])
 
 -- with one worker, a queues itself and sleeps, and b waits beside it; then a is cancelled, delayed and disabled
 abbrev pub again_scenario : ScenarioContents
@@ -47,17 +47,17 @@ again_scenario =
 abbrev pub again_told : List ℕ
 again_told =
     text_of_lines (
-    codes "# queue a 0" ∷ codes "#   a listed 0" ∷ codes "# next" ∷ codes "0 a starts" ∷ codes "# next" ∷
-    codes "0 a queues a" ∷ codes "#   a listed 0" ∷ codes "# queue b 0" ∷ codes "#   b inactive 0" ∷
-    codes "# flush a" ∷ codes "0 flush 0" ∷ codes "# next" ∷ codes "0 a sleeps 2" ∷ codes "# next" ∷
-    codes "0 a defers" ∷ codes "# next" ∷ codes "#   now 1" ∷ codes "# next" ∷ codes "#   now 2" ∷ codes "# next" ∷
-    codes "2 a wakes" ∷ codes "# next" ∷ codes "2 a finishes and starts" ∷ codes "#   b activated 0" ∷
-    codes "# next" ∷ codes "2 a queues a" ∷ codes "#   a inactive 0" ∷ codes "# cancel a" ∷ codes "2 cancelled" ∷
-    codes "# delay a 0 2" ∷ codes "#   a timer 4 cpu 0" ∷ codes "# next" ∷ codes "2 a sleeps 2" ∷ codes "# next" ∷
-    codes "#   now 3" ∷ codes "# next" ∷ codes "#   now 4" ∷ codes "# next" ∷ codes "4 a fires" ∷
-    codes "#   a inactive 0" ∷ codes "# next" ∷ codes "4 a wakes" ∷ codes "# next" ∷ codes "4 a finishes" ∷
-    codes "#   a activated 0" ∷ codes "# next" ∷ codes "4 b starts" ∷ codes "# next" ∷ codes "4 b burns 1" ∷
-    codes "# next" ∷ codes "#   now 5" ∷ codes "# disable a" ∷ codes "5 cancelled" ∷ [])
+    codes "# 0 queue a 0" ∷ codes "#   a listed 0" ∷ codes "# 1 next" ∷ codes "0 a starts" ∷ codes "#   a runs 0/0" ∷ codes "# 2 next" ∷
+    codes "0 a queues a" ∷ codes "#   a listed 0" ∷ codes "# 3 queue b 0" ∷ codes "#   b inactive 0" ∷
+    codes "# 4 flush a" ∷ codes "0 flush 0" ∷ codes "# 5 next" ∷ codes "0 a sleeps 2" ∷ codes "# 6 next" ∷
+    codes "0 a defers" ∷ codes "# 7 next" ∷ codes "#   now 1" ∷ codes "# 8 next" ∷ codes "#   now 2" ∷ codes "# 9 next" ∷
+    codes "2 a wakes" ∷ codes "# 10 next" ∷ codes "2 a finishes and starts" ∷ codes "#   a runs 0/0" ∷ codes "#   b activated 0" ∷
+    codes "# 11 next" ∷ codes "2 a queues a" ∷ codes "#   a inactive 0" ∷ codes "# 12 cancel a" ∷ codes "2 cancelled" ∷
+    codes "# 13 delay a 0 2" ∷ codes "#   a timer 4 cpu 0" ∷ codes "# 14 next" ∷ codes "2 a sleeps 2" ∷ codes "# 15 next" ∷
+    codes "#   now 3" ∷ codes "# 16 next" ∷ codes "#   now 4" ∷ codes "# 17 next" ∷ codes "4 a fires" ∷
+    codes "#   a inactive 0" ∷ codes "# 18 next" ∷ codes "4 a wakes" ∷ codes "# 19 next" ∷ codes "4 a finishes" ∷
+    codes "#   a activated 0" ∷ codes "# 20 next" ∷ codes "4 b starts" ∷ codes "#   b runs 0/0" ∷ codes "# 21 next" ∷ codes "4 b burns 1" ∷
+    codes "# 22 next" ∷ codes "#   now 5" ∷ codes "# 23 disable a" ∷ codes "5 cancelled" ∷ [])
 
 -- on the second CPU b waits behind a, which is cancelled; c gets a timer there
 abbrev pub second_cpu : ScenarioContents
@@ -70,5 +70,5 @@ second_cpu =
 abbrev pub second_cpu_told : List ℕ
 second_cpu_told =
     text_of_lines (
-    codes "# queue a 1" ∷ codes "#   a listed 2" ∷ codes "# queue b 1" ∷ codes "#   b inactive 2" ∷ codes "# cancel a" ∷
-    codes "0 cancelled" ∷ codes "#   b activated 2" ∷ codes "# delay c 1 5" ∷ codes "#   c timer 5 cpu 1" ∷ [])
+    codes "# 0 queue a 1" ∷ codes "#   a listed 2" ∷ codes "# 1 queue b 1" ∷ codes "#   b inactive 2" ∷ codes "# 2 cancel a" ∷
+    codes "0 cancelled" ∷ codes "#   b activated 2" ∷ codes "# 3 delay c 1 5" ∷ codes "#   c timer 5 cpu 1" ∷ [])

@@ -1,14 +1,19 @@
 -- What an instruction changes that its reply doesn't tell, and the line of each such change.
-use Rattle.std.specs.Prelude.{ℕ, List, [], ◌∷◌, ◌++◌, map, codes, if◌then◌else◌, nat_lt, ◌==◌, Some}
+use Rattle.std.specs.Prelude.{ℕ, List, [], ◌∷◌, ◌++◌, map, codes, if◌then◌else◌, nat_lt, ◌==◌, Option, Some, None, option_to_list}
 use Rattle.std.specs.Fmt.{decimal}
 use Rattle.cmwq_types.specs.Contents.{ScenarioContents}
 use Rattle.cmwq_types.specs.declared.instr.WorkId.{WorkId}
 use Rattle.cmwq_types.specs.declared.reply.Place.{Place}
 use Rattle.cmwq_types.specs.declared.reply.Place.TheVariants.{Timer, Inactive, Listed, Deferred}
-use Rattle.cmwq_table.specs.Events.{place_text, work_name}
-use Rattle.cmwq_table.specs.State.{State}
+use Rattle.cmwq_types.specs.declared.reply.Reply.{Reply}
+use Rattle.cmwq_types.specs.declared.reply.Reply.TheVariants as reply
+use Rattle.cmwq_types.specs.declared.reply.WorkRun.{WorkRun}
+use Rattle.cmwq_table.specs.Events.{place_text, run_text, work_name}
+use Rattle.cmwq_table.specs.State.{State, running_at}
+use Rattle.cmwq_table.specs.Table.{run_of}
 use Rattle.cmwq_table.specs.View.{entries_from}
 use Rattle.cmwq_table.specs.declared.state.Pending.{Pending}
+use Rattle.cmwq_burning.specs.Burning.{is_start}
 use Rattle.cmwq_tell.specs.declared.change.Change.{Change}
 use Rattle.cmwq_tell.specs.declared.change.Change.TheVariants as change
 
@@ -39,9 +44,21 @@ change_of next entry =
 abbrev pub passing : ℕ → ℕ → List Change
 passing before now = if now == before then [] else change.Now now ∷ []
 
--- The hidden changes from one state to the next: that time passed, and then by stamp each pending work that has a new one.
-abbrev pub hidden : State → State → List Change
-hidden s after = passing s.time after.time ++ map (change_of s.next) (stamped_from s.next (entries_from 0 after.pending))
+-- The start of which the reply tells, with the pool and the worker that have the work then.
+abbrev pub start_on : WorkId → Option WorkRun → Option Change
+start_on work (Some run) = Some (change.Started work run)
+start_on work None = None
+
+abbrev pub start_told : State → Reply → Option Change
+start_told after (reply.Event work event) = if is_start event then start_on work (run_of (running_at after work.0)) else None
+start_told after other = None
+
+-- The hidden changes from one state to the next, which an instruction makes that is given this reply: that time passed, where a work
+-- starts, and then by stamp each pending work that has a new one.
+abbrev pub hidden : State → State → Reply → List Change
+hidden s after told =
+    passing s.time after.time ++ option_to_list (start_told after told)
+    ++ map (change_of s.next) (stamped_from s.next (entries_from 0 after.pending))
 
 -- Their lines.
 
@@ -54,6 +71,7 @@ timer_cpu_text (Deferred pool) = []
 
 abbrev pub change_text : ScenarioContents → Change → List ℕ
 change_text S (change.Now now) = codes "now " ++ decimal now
+change_text S (change.Started work run) = work_name S work ++ codes " " ++ run_text (Some run)
 change_text S (change.Activated work pool) = work_name S work ++ codes " activated " ++ decimal pool
 change_text S (change.Placed work place) = work_name S work ++ codes " " ++ place_text (Some place) ++ timer_cpu_text place
 

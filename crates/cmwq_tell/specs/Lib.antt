@@ -1,4 +1,5 @@
 pub mod Examples
 pub mod Hidden
 pub mod Laws
+pub mod Positions
 pub mod RunTold

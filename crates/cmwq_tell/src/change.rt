@@ -3,8 +3,8 @@ ghost use Rattle.cmwq_tell.specs.Hidden.{change_line, change_text, timer_cpu_tex
 ghost use Rattle.cmwq_tell.specs.RunTold.{change_lines};
 ghost use Rattle.std.specs.Prelude.{◌≡◌, Some};
 
-use cmwq_table::PlaceWords;
-use cmwq_types::{Place, Scenario, WorkId};
+use cmwq_table::{PlaceWords, RunWords};
+use cmwq_types::{Place, Scenario, WorkId, WorkRun};
 use std::fmt;
 
 /// A change that an instruction makes, and its reply doesn't tell.
@@ -12,6 +12,8 @@ use std::fmt;
 pub enum Change {
     /// Time passed, and it is so many ticks now.
     Now(u64),
+    /// The work starts to run here.
+    Started { work: WorkId, run: WorkRun },
     /// The work was inactive, and is listed in this pool now.
     Activated { work: WorkId, pool: u8 },
     /// The work is pending from now on, here.
@@ -53,6 +55,11 @@ impl fmt::Display for ChangeWords<'_> {
     fn fmt<W: fmt::Write>(&self, f: &mut fmt::Formatter<W>) -> fmt::Result {
         match self.change {
             Change::Now(now) => write!(f, "now {now}"),
+            Change::Started { work, run } => {
+                let work = self.scenario.work_name(work.0 as usize);
+                let words = RunWords(Some(run));
+                write!(f, "{work} {words}")
+            }
             Change::Activated { work, pool } => {
                 let work = self.scenario.work_name(work.0 as usize);
                 write!(f, "{work} activated {pool}")

@@ -1,30 +1,75 @@
 //! The hidden changes of an instruction, read off the machine behind it.
+ghost use Rattle.cmwq_burning.specs.Burning.{is_start};
 ghost use Rattle.cmwq_table.specs.State.{State};
+ghost use Rattle.cmwq_table.specs.Table.{run_of};
 ghost use Rattle.cmwq_table.specs.View.{entries_from};
-ghost use Rattle.cmwq_tell.specs.Hidden.{change_of, hidden, pool_of_place, put_by_stamp, stamped_from};
-ghost use Rattle.std.specs.Prelude.{◌≡◌, ◌++◌, IfOk, OnOk, map};
+ghost use Rattle.cmwq_tell.specs.Hidden.{change_of, hidden, pool_of_place, put_by_stamp, stamped_from, start_told};
+ghost use Rattle.std.specs.Prelude.{◌≡◌, ◌++◌, IfOk, OnOk, Some, map};
 
 use crate::change::Change;
-use cmwq_table::{Pending, Reads};
-use cmwq_types::{NoMemory, Place, WorkId};
+use cmwq_table::{Pending, Reads, Running};
+use cmwq_types::{Event, NoMemory, Place, Reply, WorkId, WorkRun};
 use std::alloc::Global;
 
-/// The hidden changes that lead to the machine's state, from one of this time and next stamp.
+/// The hidden changes that lead to the machine's state, from one of this time and next stamp, by an instruction that was given this
+/// reply.
 pub(crate) fn hidden<R: Reads>(
     alloc: Global,
     time: u64,
     next: u64,
     after: &R,
+    reply: Reply,
 ) -> Result<Vec<Change>, NoMemory>
-    ensures { IfOk result (λ changes. (s : State) → time ≡ s.time → next ≡ s.next → changes.items ≡ hidden s (R.state after.now)) }
+    ensures { IfOk result (λ changes. (s : State) → time ≡ s.time → next ≡ s.next → changes.items ≡ hidden s (R.state after.now) reply) }
 {
     let mut changes = Vec::new(alloc);
     if after.time() != time {
         changes.push(Change::Now(after.time()))?;
     }
+    if let Some(start) = start_told(after, reply) {
+        changes.push(start)?;
+    }
     let entries = stamped_from(alloc, next, after)?;
     push_changes(&mut changes, next, &entries)?;
     Ok(changes)
+}
+
+/// The start of which the reply tells, with the pool and the worker that have the work in the machine's state.
+fn start_told<R: Reads>(after: &R, reply: Reply) -> Option<Change>
+    ensures { result ≡ start_told (R.state after.now) reply }
+{
+    let Reply::Event { work, event } = reply else {
+        return None;
+    };
+    if !is_start(event) {
+        return None;
+    }
+    let run = after.running_of(work.0 as usize)?;
+    Some(Change::Started {
+        work,
+        run: run_of(run),
+    })
+}
+
+/// Whether an instance of a work starts with the event.
+fn is_start(event: Event) -> bool
+    ensures { result ≡ is_start event }
+{
+    matches!(
+        event,
+        Event::Starts | Event::FinishesAndStarts | Event::StartsOnRescuer
+    )
+}
+
+/// Where the running work runs.
+fn run_of(running: Running) -> WorkRun
+    ensures { Some result ≡ run_of (Some running) }
+{
+    WorkRun {
+        pool: running.pool,
+        worker: running.worker,
+        mode: running.mode,
+    }
 }
 
 /// What became of each of these works.

@@ -2,7 +2,7 @@
 //!
 //! Each function's contract is a law. The functions do nothing: they carry the laws.
 ghost use Rattle.cmwq_table.specs.Laws.{AtEveryInstruction};
-ghost use Rattle.cmwq_tell.specs.Laws.{HidesNothingAsked, HidesNothingRefused, KeepsTheRun, ListsEachInstruction, TellsActivations, TellsEachActivation, TellsEachPlace, TellsPlaces, TellsTheTime, TellsTicks};
+ghost use Rattle.cmwq_tell.specs.Laws.{HidesNothingAsked, HidesNothingRefused, KeepsTheRun, KeepsTheSettledRun, ListsEachInstruction, TellsActivations, TellsEachActivation, TellsEachPlace, TellsEachStart, TellsPlaces, TellsTheTime, TellsTicks};
 
 use cmwq_grammar::laws::text_spells_one_scenario;
 use cmwq_table::laws::{questions_change_nothing, refused_instructions_change_nothing};
@@ -26,22 +26,26 @@ pub fn each_hidden_change_is_told_once()
 {}
 
 /// What the lines say of a work is so: a work is told to be at a place exactly where it has a new birth there, and activated exactly where it
-/// goes from inactive to listed in that pool with the birth that it had, in one line each; and a line `now` has the time that it is.
-#[tactic(auto, using(crate::proofs::EachLemmas::tells_each_place, crate::proofs::EachLemmas::tells_each_activation, crate::proofs::EachLemmas::tells_the_time))]
+/// goes from inactive to listed in that pool with the birth that it had, in one line each; a line `runs` stands exactly where an instance
+/// of a work begins to run, and tells its pool and its worker; and a line `now` has the time that it is.
+#[tactic(auto, using(crate::proofs::EachLemmas::tells_each_place, crate::proofs::EachLemmas::tells_each_activation, crate::proofs::EachLemmas::tells_the_time, crate::proofs::StartLemmas::tells_each_start))]
 pub fn each_line_says_what_changed()
     ensures places { AtEveryInstruction TellsEachPlace }
     ensures activations { AtEveryInstruction TellsEachActivation }
+    ensures starts { AtEveryInstruction TellsEachStart }
     ensures time { AtEveryInstruction TellsTheTime }
 {}
 
-/// Whoever leaves out the lines that begin with `#` gets the lines of the run, byte for byte.
+/// Whoever leaves out the lines that begin with `#` gets the lines of the run, byte for byte, and of a settled run those of that one.
 pub fn unmarked_lines_are_the_run()
-    ensures { KeepsTheRun }
+    ensures run { KeepsTheRun }
+    ensures settled { KeepsTheSettledRun }
 {
     text_spells_one_scenario();
 }
 
-/// Whoever keeps the lines that begin with `#` and aren't indented gets the actor's instructions, each `* N` written out.
+/// Whoever keeps the lines that begin with `#` and aren't indented gets the actor's instructions, each `* N` written out, each behind its
+/// position.
 pub fn marked_lines_are_the_instructions()
     ensures { ListsEachInstruction }
 {

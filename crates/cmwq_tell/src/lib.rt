@@ -4,7 +4,6 @@
 mod change;
 pub mod examples;
 mod hidden_changes;
-mod instr_line;
 pub mod laws;
 mod told;
 mod told_run;

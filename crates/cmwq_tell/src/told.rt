@@ -4,11 +4,12 @@ ghost use Rattle.cmwq_streams.specs.Sending.{IsSendError};
 ghost use Rattle.cmwq_streams.specs.declared.error.PlayError.TheVariants as PlayError;
 ghost use Rattle.cmwq_table.specs.Table.{table};
 ghost use Rattle.cmwq_tell.specs.RunTold.{told_lines, told_wholly};
+ghost use Rattle.cmwq_tell.specs.Positions.{at_next};
 ghost use Rattle.std.specs.Prelude.{◌≡◌, ◌↔◌, Err, IfErr, OnErr, OnOk, false, true, ⊤};
 
 use crate::change::{Change, ChangeLines};
 use crate::hidden_changes::hidden;
-use crate::instr_line::InstrWords;
+use cmwq_instr_words::InstrWords;
 use cmwq_lines::ReplyLines;
 use cmwq_play::{Session, Teller};
 use cmwq_streams::{BlockWriter, PlayError, Sink};
@@ -16,18 +17,20 @@ use cmwq_table::Machine;
 use cmwq_types::{Instr, Reply, Scenario};
 use std::alloc::Global;
 
-/// Tells each instruction, its reply, if it has one, and its hidden changes.
+/// Tells each instruction behind its position, its reply, if it has one, and its hidden changes.
 #[derive(Drop)]
 pub(crate) struct Whole {
     pub(crate) alloc: Global,
+    /// How many instructions have been issued.
+    pub(crate) position: u64,
 }
 
 impl Teller for Whole {
     ghost fits = { λ _ _. ⊤ };
 
-    ghost told = { λ _ S s instr. told_wholly S s instr (table S s instr) };
+    ghost told = { λ whole S s instr. told_wholly S whole.position s instr (table S s instr) };
 
-    ghost keeps = { λ whole _ _ _. whole };
+    ghost keeps = { λ whole _ _ _. at_next whole };
 
     fn issue<M: Machine, W: Sink>(
         &mut self,
@@ -37,22 +40,25 @@ impl Teller for Whole {
         let time = session.machine.time();
         let next = session.machine.next_stamp();
         let reply = session.machine.exec(instr);
-        let changes = hidden(self.alloc, time, next, &session.machine)?;
+        let changes = hidden(self.alloc, time, next, &session.machine, reply)?;
         let told = Told {
             scenario: session.scenario,
+            position: self.position,
             time: session.machine.now(),
             instr,
             reply,
             changes: &changes,
         };
+        self.position = self.position.saturating_add(1);
         told.write(&mut session.replies, &mut session.lines)
     }
 }
 
-/// What is told of an instruction: its line, then that of its reply at the time, if it has one, and then those of its hidden changes.
+/// What is told of an instruction: its line with its position, then that of its reply at the time, if it has one, and then those of its hidden changes.
 #[derive(Clone, Copy)]
 struct Told<'a> {
     scenario: &'a Scenario,
+    position: u64,
     time: u64,
     instr: Instr,
     reply: Reply,
@@ -79,7 +85,8 @@ impl Told<'_> {
             scenario: self.scenario,
             instr: self.instr,
         };
-        write!(lines, "# {instr}\n")?;
+        let position = self.position;
+        write!(lines, "# {position} {instr}\n")?;
         lines.write_reply(replies, self.time, self.instr, &self.reply)?;
         let changes = ChangeLines {
             scenario: self.scenario,

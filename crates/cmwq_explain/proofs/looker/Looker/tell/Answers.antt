@@ -1,13 +1,14 @@
 use Rattle.std.proofs.Common.{◌≡◌, List, ◌++◌, ℕ, Ok, Err, ap, ◌∙◌, subst, true}
 use Rattle.std.proofs.lemmas.Result.{err_from_is_err_and}
 use Rattle.cmwq_types.specs.Scenario.{expand_lines}
+use Rattle.cmwq_table.specs.State.{State}
 use Rattle.cmwq_table.specs.Table.{after_all}
 use Rattle.cmwq_streams.specs.Blocks.{kept, sink}
 use Rattle.cmwq_streams.specs.Sending.{HasSent, HasSentFront}
 use Rattle.cmwq_play.specs.Session.{Issued, Stopped}
 use Rattle.cmwq_play.specs.Telling.{kept_from, told_from}
 use Rattle.cmwq_play.proofs.CommandLemmas.{writes_block, writes_front}
-use Rattle.cmwq_explain.specs.Looking.{keeping, looker_after, telling, told_here}
+use Rattle.cmwq_explain.specs.Looking.{keeping, looker_after, run_end, telling, told_here}
 use Rattle.cmwq_explain.proofs.LookingLemmas.{alike, stopped_more, then_issued, then_stopped}
 use Rattle.cmwq_explain.proofs.looker.Looker.tell.Goals as goal
 
@@ -95,8 +96,8 @@ returns-clause-writes g c =
     let out = c.in_ok-finish.ensures in
     writes_block (contents (sink a.lines)) (contents (sink d.lines)) (contents (sink c.finish.new.self)) (kept d.lines) (first ++ second) (g.W.Sink.failed (sink c.finish.new.self)) (Ok tt) sent out.ok out.err out.failed out.write
 
-pub returns-clause-told : goal.returns-clause-told
-returns-clause-told g c =
+pub returns-clause-end : goal.returns-clause-end
+returns-clause-end g c =
     let says = g.P.Sayer.says in
     let a = c.args.session.now in
     let b = c.issue_all.new.self in
@@ -105,5 +106,9 @@ returns-clause-told g c =
     let instrs = expand_lines c.args.lines.now in
     let keeper = kept_from (telling says) (keeping says) c.args.self.now S s instrs in
     let issued = c.in_ok-issue_all.ensures.told in
-    ap (λ l. l.has_told) c.in_ok-look.ensures.looked
-    ∙ alike (λ l T t. (looker_after says l T true t).has_told) c.issue_all.new.teller keeper b.scenario.now S (g.M.Reads.state b.machine) (after_all S s instrs) c.in_ok-issue_all.ensures.keeps issued.scenario issued.reached
+    let looker : c.look.new.self ≡ looker_after says keeper S true (after_all S s instrs) =
+    c.in_ok-look.ensures.looked
+    ∙ alike (λ l T t. looker_after says l T true t) c.issue_all.new.teller keeper b.scenario.now S (g.M.Reads.state b.machine) (after_all S s instrs) c.in_ok-issue_all.ensures.keeps issued.scenario issued.reached in
+    let time : c.now.result ≡ (after_all S s instrs).time = c.now.ensures ∙ ap (λ (t : State). t.time) (c.in_ok-look.ensures.told.reached ∙ issued.reached) in
+    ap (λ l. run_end l (record (after_all S s instrs) { time = c.now.result })) looker
+    ∙ ap (λ (n : ℕ). run_end (looker_after says keeper S true (after_all S s instrs)) (record (after_all S s instrs) { time = n })) time

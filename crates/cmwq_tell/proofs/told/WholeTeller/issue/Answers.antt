@@ -16,7 +16,7 @@ returns-in_err-changes-clause-told g c =
     let S = a.scenario.now in
     let s = g.M.Reads.state a.machine in
     let p = err_from_is_err_and c.from_residual.result c.from_residual.ensures.1 in
-    rw (p.1, p.2) (stopped_at_once g.M.Reads.loaded g.M.Reads.state g.W.Write.contents g.W.Sink.failed a (record a { machine = c.exec-reply.new.self }) (told_wholly S s c.args.instr (table S s c.args.instr)) _ c.requires.ready.is_sound refl refl)
+    rw (p.1, p.2) (stopped_at_once g.M.Reads.loaded g.M.Reads.state g.W.Write.contents g.W.Sink.failed a (record a { machine = c.exec-reply.new.self }) (told_wholly S c.args.self.now.position s c.args.instr (table S s c.args.instr)) _ c.requires.ready.is_sound refl refl)
 
 pub returns-clause-told : goal.returns-clause-told
 returns-clause-told g c =
@@ -25,8 +25,8 @@ returns-clause-told g c =
     let s = g.M.Reads.state a.machine in
     let t = g.M.Reads.state c.exec-reply.new.self in
     let exact : (t, c.exec-reply.result) ≡ table S s c.args.instr = c.exec-reply.ensures.exact ∙ ap (λ (T : ScenarioContents). table T s c.args.instr) c.requires.ready.has_scenario in
-    let changes_are : c.in_ok-changes.changes.items ≡ hidden s t = c.in_ok-changes.ensures s c.time-time.ensures c.next_stamp-next.ensures in
-    wrote_once g.M.Reads.loaded g.M.Reads.state g.W.Write.contents g.W.Sink.failed a _ _ _ (told_wholly S s c.args.instr (table S s c.args.instr)) c.write.result
+    let changes_are : c.in_ok-changes.changes.items ≡ hidden s t c.exec-reply.result = c.in_ok-changes.ensures s c.time-time.ensures c.next_stamp-next.ensures in
+    wrote_once g.M.Reads.loaded g.M.Reads.state g.W.Write.contents g.W.Sink.failed a _ _ _ (told_wholly S c.args.self.now.position s c.args.instr (table S s c.args.instr)) c.write.result
     (c.exec-reply.ensures.scenario ∙ c.requires.ready.has_scenario) (c.write.ensures.parts ∙ c.requires.ready.has_lines) refl (ap (λ (after : State × Reply). after.0) exact)
-    (one-told S s t c.args.instr c.exec-reply.result _ _ exact c.now.ensures (c.deref.ensures.value ∙ changes_are))
+    (one-told S c.args.self.now.position s t c.args.instr c.exec-reply.result _ _ exact c.now.ensures (c.deref.ensures.value ∙ changes_are))
     c.write.ensures.same c.write.ensures.ok c.write.ensures.err c.write.ensures.failed c.write.ensures.why
