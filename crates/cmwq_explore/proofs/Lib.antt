@@ -1,0 +1,8 @@
+pub mod ListLemmas
+pub mod NeverLemmas
+pub mod PlanLemmas
+pub mod ResultLemmas
+pub mod SearchLemmas
+pub mod SeenLemmas
+pub mod StoredLemmas
+pub mod TraceLemmas

@@ -1,0 +1,6 @@
+pub mod ExactStored
+pub mod Outcomes
+pub mod Plans
+pub mod Searching
+pub mod Stored
+pub mod Tracing

@@ -1,0 +1,167 @@
+//! The search through all orders, and its answer.
+ghost use Rattle.cmwq_explore.specs.Outcomes.{IsAnswer, IsCounted};
+ghost use Rattle.cmwq_explore.specs.Searching.{Begins, Comes, Handles, IsAhead, IsFull};
+ghost use Rattle.std.specs.Prelude.{◌≡◌, ℕ, [], IfOk, Ok, false};
+
+use crate::expanding::{Asked, Tried, expand};
+use crate::plan::Plan;
+use crate::seen::{Counted, Seen};
+use crate::standing::Standing;
+use crate::tracing::{order_to, standing_at};
+use cmwq_orders::{Choice, Question};
+use cmwq_table::Machine;
+use cmwq_types::{Instr, NoMemory};
+use std::alloc::Global;
+use std::sync::Arc;
+
+/// How many states there are, and in how many of them what is counted holds.
+#[derive(Clone, Copy, Debug, PartialEq, Eq)]
+pub struct Tally {
+    /// All states.
+    pub states: usize,
+    /// Those in which what is asked for holds in its first part.
+    pub first: usize,
+    /// Those in which it holds in its second part.
+    pub second: usize,
+    /// Those in which the scenario's steps are spent.
+    pub spent: usize,
+}
+
+/// What is found of all orders.
+#[derive(Drop)]
+pub enum Answer {
+    /// This order comes to a state of the kind, and no shorter one does.
+    Found(Vec<Choice>),
+    /// None does; these are all states.
+    Whole(Tally),
+    /// So many states were seen, and no order of at most so many instructions comes to one of the kind.
+    GaveUp {
+        /// How many states were seen.
+        states: usize,
+        /// How many instructions an order had at most.
+        depth: u16,
+    },
+}
+
+/// What a search came to.
+#[derive(Clone, Copy, Debug)]
+pub(crate) enum Ending {
+    /// No choice leads out of what was seen.
+    Closed,
+    /// The state that was added last is of the kind that is asked for.
+    Failed,
+    /// There was no room for a state behind one that lies so deep.
+    Deep(u16),
+}
+
+/// Looks through all orders of the plan's actors for one that comes to a state of the kind, and sees at most so many states.
+///
+/// The only error is want of memory.
+pub fn explore<M: Machine>(
+    alloc: Global,
+    plan: Plan,
+    question: Question,
+    limit: u32,
+) -> Result<Answer, NoMemory>
+    ensures { IfOk result (IsAnswer plan.scenario plan.before question limit) }
+{
+    let plan = Arc::new(alloc, plan)?;
+    let mut seen = Seen::new(alloc);
+    if begin::<M>(alloc, &plan, question, &mut seen)? {
+        return Ok(Answer::Found(Vec::new(alloc)));
+    }
+    match search::<M>(alloc, &plan, question, limit, &mut seen)? {
+        Ending::Closed => Ok(Answer::Whole(tally_of(&seen))),
+        Ending::Failed => Ok(Answer::Found(order_to(
+            alloc,
+            &plan,
+            question,
+            &seen,
+            seen.len() - 1,
+        )?)),
+        Ending::Deep(depth) => Ok(Answer::GaveUp {
+            states: seen.len(),
+            depth,
+        }),
+    }
+}
+
+/// Adds the start to nothing, and tells whether that is of the kind.
+fn begin<M: Machine>(
+    alloc: Global,
+    plan: &Arc<Plan>,
+    question: Question,
+    seen: &mut Seen,
+) -> Result<bool, NoMemory>
+    requires none { seen.old ≡ [] }
+    ensures { IfOk result (λ fails. Begins plan.now.value question seen.new fails) }
+{
+    let start = Standing::<M>::start(alloc, Arc::clone(plan)?)?;
+    let asked = Asked {
+        question,
+        limit: 1,
+        from: 0,
+        depth: 0,
+    };
+    let mark = start.marked(asked, Choice::Own(Instr::Tick), 0)?;
+    seen.add(start.stored()?, mark)?;
+    Ok(mark.fails)
+}
+
+/// Adds what the choices of each state lead to, in the order in which they were seen.
+fn search<M: Machine>(
+    alloc: Global,
+    plan: &Arc<Plan>,
+    question: Question,
+    limit: u32,
+    seen: &mut Seen,
+) -> Result<Ending, NoMemory>
+    requires { Begins plan.now.value question seen.old false }
+    ensures comes { IfOk result (Comes plan.now.value question seen.new) }
+    ensures full { (depth : ℕ) → result ≡ Ok (Ending.Deep depth) → IsFull limit seen.new depth }
+{
+    for place in 0..limit as usize + 1 {
+        let Some(mark) = seen.mark(place) else {
+            return Ok(Ending::Closed);
+        };
+        let asked = Asked {
+            question,
+            limit,
+            from: place as u32,
+            depth: mark.depth,
+        };
+        match handle::<M>(alloc, plan, asked, seen)? {
+            Tried::Going => {}
+            Tried::Failing => return Ok(Ending::Failed),
+            Tried::Full => return Ok(Ending::Deep(mark.depth)),
+        }
+    }
+    Ok(Ending::Deep(0))
+}
+
+/// Adds what the choices of one state lead to.
+fn handle<M: Machine>(
+    alloc: Global,
+    plan: &Arc<Plan>,
+    asked: Asked,
+    seen: &mut Seen,
+) -> Result<Tried, NoMemory>
+    requires ahead { IsAhead plan.now.value asked.question seen.old asked.from asked.depth }
+    ensures handles { IfOk result (Handles plan.now.value asked.question seen.old seen.new asked.from asked.depth) }
+    ensures full { result ≡ Ok Tried.Full → IsFull asked.limit seen.new asked.depth }
+{
+    let standing = standing_at::<M>(alloc, plan, asked.question, seen, asked.from as usize)?;
+    expand(seen, &standing, asked)
+}
+
+/// How many states were seen, and in how many of them what is counted holds.
+fn tally_of(seen: &Seen) -> Tally
+    ensures { IsCounted seen.now result }
+{
+    Tally {
+        states: seen.len(),
+        first: seen.count(Counted::First),
+        second: seen.count(Counted::Second),
+        spent: seen.count(Counted::Spent),
+    }
+}

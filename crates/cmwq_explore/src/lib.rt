@@ -1,0 +1,14 @@
+//! Every order of several actors' instructions: breadth first over the states to which they come.
+#![tactic(auto)]
+
+mod asking;
+mod expanding;
+mod exploring;
+mod plan;
+mod seen;
+mod standing;
+mod stored;
+mod tracing;
+
+pub use exploring::{Answer, Tally, explore};
+pub use plan::{Plan, PlanError};
