@@ -4,7 +4,7 @@
 _cmwq_file() {
     local at
     for ((at = 2; at < COMP_CWORD; at++)); do
-        if [[ ${COMP_WORDS[at]} != -* && ${COMP_WORDS[at - 1]} != @(--capacity|--from|--to|--flush|--at) ]]; then
+        if [[ ${COMP_WORDS[at]} != -* && ${COMP_WORDS[at - 1]} != @(--capacity|--from|--to|--flush|--at|--time|--works|--scale|--id) ]]; then
             printf '%s\n' "${COMP_WORDS[at]}"
             return
         fi
@@ -26,17 +26,18 @@ _cmwq() {
     if ((COMP_CWORD == 1)); then
         mapfile -t COMPREPLY < <(compgen -W 'new run settle draw why list asm show debug play check help --explain --help --version' -- "$word")
     elif [[ $command == help ]]; then
-        mapfile -t COMPREPLY < <(compgen -W 'new run settle draw why list asm show debug play check help' -- "$word")
+        mapfile -t COMPREPLY < <(compgen -W 'scenario new run settle draw why list asm show debug play check help' -- "$word")
     elif [[ $word == -* ]]; then
         local options='--explain --help'
         case $command in
             run) options='--settle --tell --explain --help' ;;
-            draw) options='--settle --svg --from --to --explain --help' ;;
-            why) options='--flush --at --every --explain --help' ;;
+            draw) options='--settle --svg --from --to --fold --works --scale --id --explain --help' ;;
+            why) options='--flush --at --every --time --settle --explain --help' ;;
+            debug) options='--settle --explain --help' ;;
             play) options='--capacity --explain --help' ;;
         esac
         mapfile -t COMPREPLY < <(compgen -W "$options" -- "$word")
-    elif [[ ${COMP_WORDS[COMP_CWORD - 1]} == @(--capacity|--from|--to|--flush|--at) ]]; then
+    elif [[ ${COMP_WORDS[COMP_CWORD - 1]} == @(--capacity|--from|--to|--flush|--at|--time|--works|--scale|--id) ]]; then
         return
     elif [[ $command == why ]] && file=$(_cmwq_file) && [[ -n $file ]]; then
         mapfile -t COMPREPLY < <(compgen -W "$(sed -n 's/^[[:blank:]]*work[[:blank:]]\{1,\}\([a-z][a-z0-9_]*\).*/\1/p' -- "$file" 2> /dev/null)" -- "$word")

@@ -5,7 +5,7 @@ function __cmwq_works
     set -l words (commandline -opc)
     set -l before
     for word in $words[3..]
-        if not string match -q -- '-*' $word; and not contains -- "$before" --flush --at
+        if not string match -q -- '-*' $word; and not contains -- "$before" --flush --at --time
             sed -n 's/^[[:blank:]]*work[[:blank:]]\{1,\}\([a-z][a-z0-9_]*\).*/\1/p' -- $word 2>/dev/null
             return
         end
@@ -27,17 +27,22 @@ complete -c cmwq -n "not __fish_seen_subcommand_from $commands" -a debug -d "Car
 complete -c cmwq -n "not __fish_seen_subcommand_from $commands" -a play -d 'Let actors issue their instructions from threads'
 complete -c cmwq -n "not __fish_seen_subcommand_from $commands" -a check -d "Tell whether scenarios' texts are good, or where their first faults are"
 complete -c cmwq -n "not __fish_seen_subcommand_from $commands" -a help -d 'Say what there is, or what a command does'
-complete -c cmwq -n "__fish_seen_subcommand_from help" -f -a "$commands"
+complete -c cmwq -n "__fish_seen_subcommand_from help" -f -a "$commands scenario"
 complete -c cmwq -n "__fish_seen_subcommand_from run settle draw why list asm debug play check" -k -xa "(__fish_complete_suffix .cmwq)"
 complete -c cmwq -n "__fish_seen_subcommand_from why" -k -xa "(__cmwq_works)" -d work
-complete -c cmwq -n "__fish_seen_subcommand_from run draw" -l settle -d 'Go on until the machine is quiet'
+complete -c cmwq -n "__fish_seen_subcommand_from run draw why debug" -l settle -d 'Go on until the machine is quiet'
 complete -c cmwq -n "__fish_seen_subcommand_from run" -l tell -d 'Write instructions and unseen changes too'
 complete -c cmwq -n "__fish_seen_subcommand_from draw" -l svg -d 'Write an SVG picture'
 complete -c cmwq -n "__fish_seen_subcommand_from draw" -l from -x -d 'The first tick'
 complete -c cmwq -n "__fish_seen_subcommand_from draw" -l to -x -d 'The tick before which to end'
+complete -c cmwq -n "__fish_seen_subcommand_from draw" -l fold -d 'Fold gaps in which nothing changes'
+complete -c cmwq -n "__fish_seen_subcommand_from draw" -l works -x -d 'The works to draw'
+complete -c cmwq -n "__fish_seen_subcommand_from draw" -l scale -x -d 'Pixels a tick'
+complete -c cmwq -n "__fish_seen_subcommand_from draw" -l id -x -d "The picture's name in a page"
 complete -c cmwq -n "__fish_seen_subcommand_from why" -l flush -x -d 'A flush, in place of a work'
 complete -c cmwq -n "__fish_seen_subcommand_from why" -l at -x -d 'Look at this position alone'
 complete -c cmwq -n "__fish_seen_subcommand_from why" -l every -d 'Look at every position'
+complete -c cmwq -n "__fish_seen_subcommand_from why" -l time -x -d 'Look at this tick alone'
 complete -c cmwq -n "__fish_seen_subcommand_from play" -l capacity -x -d 'How many instructions can be issued in all'
 complete -c cmwq -n "not __fish_seen_subcommand_from $commands" -s V -l version -d 'Print version'
 complete -c cmwq -l explain -d 'Say what can be done about a fault'

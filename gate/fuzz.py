@@ -143,12 +143,16 @@ def try_run(bench, _rng, _listed):
 def try_settle(bench, _rng, _listed):
     """What is settled runs as `run --settle` does, is settled, and has the picture of `draw --settle`."""
     settled, ran, drawn = bench.run("settle", TEXT), bench.run("run", "--settle", TEXT), bench.run("draw", "--settle", TEXT)
+    told = bench.run("run", "--settle", "--tell", TEXT)
     if settled.status:
         bench.want(settled.errors == b"full\n" or ran[::2] == settled[::2], f"settle says {settled.errors!r}, and run --settle {ran.errors!r}")
         bench.want(drawn.status and not settled.output, "what can't be settled is drawn")
+        bench.want(told[::2] == settled[::2] and not told.output, "what can't be settled is told")
         return
     bench.write("settled.cmwq", settled.output)
     bench.want(bench.run("run", "settled.cmwq") == ran, "what is settled has another run than that of run --settle")
+    bench.want(bench.run("run", "--tell", "settled.cmwq") == told, "what is settled is told otherwise than by run --settle --tell")
+    bench.want(bench.run("why", "settled.cmwq", "--flush", "0") == bench.run("why", "--settle", TEXT, "--flush", "0"), "what is settled has another answer than why --settle")
     bench.want(bench.run("settle", "settled.cmwq") == settled, "what is settled isn't settled")
     bench.want(bench.run("draw", "settled.cmwq") == drawn, "what is settled has another picture than that of draw --settle")
 
@@ -162,7 +166,7 @@ def try_draw(bench, rng, _listed):
 
 
 def try_why(bench, rng, listed):
-    """At a position the debugger says what `why` says, of a work and of a flush."""
+    """At a position the debugger says what `why` says, of a work and of a flush, but for that the actor has stopped."""
     works, position, flush = re.findall(r"^work (\w+)", listed.output.decode(), re.M), rng.choice([0, 1, 4, 9, 16, 30, 80]), rng.choice([0, 0, 1, 2])
     for what in [*([[rng.choice(works)]] if works else []), ["--flush", str(flush)]]:
         why = bench.run("why", TEXT, *what, "--at", str(position))
@@ -170,7 +174,8 @@ def try_why(bench, rng, listed):
         if not why.status:
             now = re.match(rb"at (\d+ now \d+) ", why.output)
             bench.want(now, "it doesn't say at which position")
-            bench.want(said == (0, b"at %s\n" % now[1] + why.output[len(now[0]):], b""), f"why says {why}, and the debugger {said}")
+            line = why.output[len(now[0]):].replace(b"; the actor has stopped\n", b"\n", 1)
+            bench.want(said == (0, b"at %s\n" % now[1] + line, b""), f"why says {why}, and the debugger {said}")
         else:
             refused = {b"past the end\n": b"refused PastEnd\n", b"no such flush\n": b"refused NoSuchFlush\n"}.get(why.errors)
             bench.want(refused in said.output if refused else said[::2] == why[::2], f"why says {why}, and the debugger {said}")
@@ -195,7 +200,8 @@ def try_text(bench, rng, found):
     if verdict.status:
         try_faulty(bench, rng, verdict, content)
         return "faulty text"
-    bench.want(verdict == Ended(0, f"{TEXT}: ok\n".encode(), b""), "a good text isn't told so")
+    is_noted = all(line.startswith(f"{TEXT}:".encode()) for line in verdict.errors.splitlines())
+    bench.want(verdict[:2] == (0, f"{TEXT}: ok\n".encode()) and is_noted, "a good text isn't told so")
     try_good(bench, listed)
     for part in rng.sample([try_run, try_settle, try_draw, try_why, try_play], 2):
         part(bench, rng, listed)

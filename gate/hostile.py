@@ -89,6 +89,7 @@ FILES = {
     "asks.cmwq": "cpus 1\nworkers 4\nsteps 1\nflushes 0\n" + "".join(f"actor {name}\nbusy\nbusy\n" for name in ("one", "other", "third")),
     "faulty.cmwq": "cpus 1\nworkers 65\n",
     "late.cmwq": EVERY + "meet a\n",
+    "asked.cmwq": HEAD.format(steps=9, does="burn 1", times=1).replace("next * 1\n", "queue a 9\n"),
     "there": "what was there before\n",
     "faulty.image": "CMWQ and no more",
 }
@@ -101,6 +102,8 @@ run every.cmwq
 run --tell every.cmwq
 run --settle every.cmwq
 run --settle restless.cmwq
+run --settle --tell every.cmwq
+run --settle --tell restless.cmwq
 run faulty.cmwq
 run asks.cmwq
 run nothing.cmwq
@@ -114,10 +117,18 @@ draw --from 2 --to 9 every.cmwq
 draw --svg every.cmwq
 draw --settle --svg --from 1 --to 12 every.cmwq
 draw long.cmwq
+draw --fold every.cmwq
+draw --works a,b every.cmwq
+draw --works a,nobody every.cmwq
+draw --svg --fold --scale 5 --id one every.cmwq
 why every.cmwq b
 why every.cmwq b --every
 why every.cmwq b --at 9
 why every.cmwq b --at 999
+why every.cmwq b --time 3
+why every.cmwq b --time 999
+why every.cmwq b --settle
+why restless.cmwq a --settle
 why every.cmwq nobody
 why every.cmwq --flush 0
 why every.cmwq --flush 0 --every
@@ -151,17 +162,29 @@ help
 walk
 -
 run
-run --tell --settle every.cmwq
 why every.cmwq b --flush 0
+why every.cmwq b --at 1 --time 1
 draw --from x every.cmwq
+draw --from 9 --to 2 every.cmwq
+draw --scale 5 every.cmwq
+debug -
+help scenario
+run --explain late.cmwq
+run --explain every.cmwq
+draw --explain asked.cmwq
 """.split("\n")[1:-1]]
 USES += [("debug every.cmwq", commands) for commands in (
     "", "step 9", "goto 24\nback 3", "goto 99", "break work a event starts\nrun", "break time 3\nrun\nrun", "break refusal\nclear 0\nclear 0",
     "run", "dump", "goto 24\ndump", "goto 24\ndump pool 0", "why b", "goto 24\nwhy flush 1", "# nothing\n\nwalk",
     "break work b event queues\n" * 17, "list\nbreak activates b\nbreak time 3\nlist\nrun\nrun\nback", "help", "s\nb\nquit\ndump",
 )]
+USES += [("debug --settle every.cmwq", "run"), ("debug --settle restless.cmwq", "run")]
+# Standard input as a file.
+USES += [(line, text) for line in ("run -", "run --explain -", "check - faulty.cmwq", "asm - out.image", "draw -", "why - b", "show -") for text in (EVERY, FILES["faulty.cmwq"])]
 # On a way with checkpoints.
 USES += [("debug long.cmwq", "goto 700\nback 1\nback 600\ngoto 640\nbreak time 690\nrun\ngoto 3\nwhy a\ngoto 801\ndump")]
+# What follows a run where that is asked for.
+REMARK = re.compile(rb"^\d+ (?:instructions? (?:was|were) refused, |works? (?:is|are) pending; ).*\n", re.M)
 Outcome = collections.namedtuple("Outcome", "status output errors files")
 
 
@@ -226,8 +249,8 @@ def put_back(room, files):
 
 
 def without_advice(errors):
-    """What a command says on standard error, less the advice behind a fault's line, if each line is whole."""
-    first, end, _ = errors.partition(b"\n")
+    """What a command says on standard error, less the advice behind a fault's line, or the remarks behind a run, if each line is whole."""
+    first, end, _ = REMARK.sub(b"", errors).partition(b"\n")
     return first + end if errors.endswith(b"\n") and not first.startswith(b"error: ") else errors
 
 
@@ -311,7 +334,9 @@ class Documented:
         self.debugger_refusals = {name for cell in commands_table for name in re.findall(r"`(\w+)`", cell)}
         rows = re.findall(r"^\| `([^`|]+)` \| (\d) \|", section("## Output", "### Faults"), re.M)
         self.lines = [(re.compile(self.pattern(line)), int(status)) for line, status in rows]
-        assert len(self.reasons) >= 12 and len(self.image_reasons) >= 10 and len(self.refusals) >= 15 and len(self.debugger_refusals) >= 7 and len(rows) >= 14
+        notes = re.findall(r"^\| `FILE:LINE: note: [A-Z]+: ([^`]+), \.\.` \|", section("## Verdicts"), re.M)
+        self.note = re.compile(rf".*:\d+: note: [a-z0-9_]+: (?:{'|'.join(map(re.escape, notes))}), [^:]+(?:: [^:]+)?")
+        assert len(notes) == 2 and len(self.reasons) >= 12 and len(self.image_reasons) >= 10 and len(self.refusals) >= 15 and len(self.debugger_refusals) >= 7 and len(rows) >= 14
 
     def pattern(self, line):
         """What such a line of the document stands for."""
@@ -323,15 +348,25 @@ class Documented:
     def is_verdict(self, line):
         """Whether `check` says such a line on standard error, for no terminal."""
         reasons = "|".join(sorted(self.reasons))
-        told = rf".*: read|.*:\d+:\d+: [!-~? ]{{1,80}}: (?:{reasons})|  a line here may begin with: [a-z_]+(?:, [a-z_]+)*|  no line may stand here"
-        return re.fullmatch(told, line) is not None
+        fault = rf".*: read|.*:\d+:\d+: [!-~? ]{{1,80}}: (?:{reasons})"
+        thing = r"(?:[a-z0-9_]+|\*|a new name|a number from \d+ to \d+|the number \d+|\d+ more)"
+        begins = r"  a line here may begin with: [a-z_]+(?:, [a-z_]+)*|  no line may stand here"
+        goes_on = rf"  here may stand: {thing}(?:, {thing})*(?:, or the line's end)?|  the line should end here"
+        meant = r"  is (?:[a-z0-9_]+|\*|\* \d+) meant\?"
+        return re.fullmatch(f"{fault}|{begins}|{goes_on}|{meant}", line) is not None or self.is_note(line)
+
+    def is_note(self, line):
+        """Whether `check` says such a line behind a good text's."""
+        return self.note.fullmatch(line) is not None
 
     def is_told(self, status, errors):
         """Whether a command may end with this status and these errors."""
         text = errors.decode("utf-8", "replace")
-        if status == 0 or not text.endswith("\n"):
+        if not text.endswith("\n"):
             return status == 0 and not text
         lines = text[:-1].split("\n")
+        if status == 0:
+            return all(map(self.is_note, lines))
         is_fault = len(lines) == 1 and any(status == wanted and pattern.fullmatch(lines[0]) for pattern, wanted in self.lines)
         is_usage = status == 2 and (text.startswith("error: ") or lines[2:3] and lines[2].startswith("Usage: "))
         return is_fault or is_usage or status in (1, 3) and all(map(self.is_verdict, lines))

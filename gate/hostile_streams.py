@@ -123,7 +123,7 @@ class Streams:
 
 
 def reads_input(use, whole):
-    return use[0].startswith("debug ") and whole.status == 0
+    return "-" in use[0].split()[1:] and whole.status != 2 or use[0].startswith("debug ") and whole.status == 0
 
 
 def situations(streams, use, whole):
@@ -162,14 +162,19 @@ def situation_faults(streams, use, whole):
     for situation, outcome, ends, must in situations(streams, use, whole):
         if outcome == seen(situation, outcome, whole) and not must:
             continue
-        found = [f"ends otherwise, with {outcome[:3]}"] if must is False else file_faults(use, streams, outcome, whole, ends)
+        if must is False:
+            found = [f"ends otherwise, with {outcome[:3]}"]
+        elif ends == hostile.READ and use[0].startswith("check "):
+            found = verdict_faults(outcome, whole)
+        else:
+            found = file_faults(use, streams, outcome, whole, ends)
         faults += [(situation, fault) for fault in found]
     return faults
 
 
-def ends_of_read(line):
-    """How a command line may end where a read fails; `check` names the file."""
-    return (hostile.READ[0], b": read\n") if line.startswith("check ") else hostile.READ
+def verdict_faults(outcome, whole):
+    """What is wrong where `check` can't read one of its files: it says so in the file's verdict, and goes on."""
+    return [] if outcome.status == 3 and outcome.errors.count(b": read\n") == whole.errors.count(b": read\n") + 1 else ["doesn't name the file"]
 
 
 def call_faults(streams, use, whole, counts):
@@ -183,7 +188,7 @@ def call_faults(streams, use, whole, counts):
         elif kind == "write" and whole.errors and not use[0].startswith("check ") and number == counts[kind]:
             found = [] if outcome == whole._replace(errors=b"") else [f"ends otherwise, with {outcome[:3]}, where its line isn't written"]
         elif kind == "read" and use[0].startswith("check "):
-            found = [] if outcome.status == 3 and outcome.errors.count(b": read\n") == whole.errors.count(b": read\n") + 1 else ["doesn't name the file"]
+            found = verdict_faults(outcome, whole)
         else:
             found = file_faults(use, streams, outcome, whole, hostile.READ if kind == "read" else hostile.WRITE)
         faults += [(f"{kind} {number} failing", fault) for fault in found]

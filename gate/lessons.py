@@ -73,7 +73,7 @@ def shown_faults(program, texts):
     """Which lessons' pictures aren't those that scenarios/README.md shows below their names: of each in whose run a tick passes."""
     shown = dict(re.findall(r"^### `(\w+)`\n(?:(?!#|```|\*\*).*\n)*```text\n((?:(?!```).*\n)*)```$", bytes_of(f"{TOP}/scenarios/README.md").decode(), re.M))
     lessons = {os.path.basename(text).removesuffix(".cmwq"): said(program, "draw", text) for text in texts}
-    drawn = {name: picture and ("" if picture.endswith(b"\nactor||\n") else picture.decode()) for name, picture in lessons.items()}
+    drawn = {name: picture and ("" if b"\nactor||\n" in picture else picture.decode()) for name, picture in lessons.items()}
     faults = [name for name in sorted(drawn.keys() | shown.keys()) if shown.get(name, "") != drawn.get(name, "")]
     return [f"scenarios/README.md: the picture of {name} is not as it should be" for name in faults]
 

@@ -16,7 +16,7 @@ sys.dont_write_bytecode = True
 sys.path.insert(0, os.path.dirname(os.path.realpath(__file__)))
 import hostile
 import test_user_files as user_files
-from making import MOST_TIMES, Actor, Queue, Work, greatest, image, lines_of, longest, repeated, text
+from making import MOST_TIMES, Actor, Queue, Work, greatest, greatest_queues, image, lines_of, longest, repeated, text
 
 SECONDS, MEGABYTES, SLOW = 20, 200, 5
 # What a command may take by the clock.
@@ -198,13 +198,16 @@ CAPACITIES = {0: WRONG, 1: FULL, 2: FULL, 3: GOOD, 4096: GOOD, 4097: WRONG, TEN_
 PAST = {it: (1, "past the end\n") for it in (3, MOST_COUNT + 1, TEN_DIGITS)}
 UNGIVEN = {it: (1, "no such flush\n") for it in (1, MOST_COUNT + 1, TEN_DIGITS)}
 SPANS = {"": TOO_WIDE, "--from 0": TOO_WIDE, "--from 1": GOOD, "--to 500": GOOD, "--to 501": TOO_WIDE, "--from 0 --to 501": GOOD}
-SPANS |= {f"--from {it} --to 9": ends for it, ends in {0: GOOD, 2**64 - 1: GOOD, 2**64: WRONG}.items()}
+SPANS |= {f"--from {it} --to 9": ends for it, ends in {0: GOOD, 9: GOOD, 10: WRONG, 2**64 - 1: WRONG, 2**64: WRONG}.items()}
+# Runs of 500 and 501 ticks of which none is folded, as the actor does something at each.
+RESTLESS = ("disable a", "tick", "enable a", "tick") * 250
 OPTIONS = [(("busy * 3",), f"play FILE --capacity {it}", ends) for it, ends in CAPACITIES.items()]
 OPTIONS += [((f"busy * {it}",), "play FILE --capacity 4096", ends) for it, ends in {4096: GOOD, 4097: FULL}.items()]
 OPTIONS += [(("flush a", "busy"), f"why FILE a --at {it}", ends) for it, ends in {0: GOOD, 2: GOOD, **PAST, ELEVEN_DIGITS: WRONG}.items()]
 OPTIONS += [(("flush a", "busy"), f"why FILE --flush {it}", ends) for it, ends in {0: GOOD, **UNGIVEN, ELEVEN_DIGITS: WRONG}.items()]
 OPTIONS += [(("flush a", "busy"), f"why FILE --flush 0 --at {it}", ends) for it, ends in {0: UNGIVEN[1], 1: GOOD, **PAST}.items()]
-OPTIONS += [(("tick * 500",), "draw FILE", GOOD), *((("tick * 501",), f"draw FILE {span}".rstrip(), ends) for span, ends in SPANS.items())]
+OPTIONS += [(("tick * 501",), "draw FILE", GOOD), (RESTLESS, "draw FILE", GOOD)]
+OPTIONS += [((*RESTLESS, "disable a", "tick"), f"draw FILE {span}".rstrip(), ends) for span, ends in SPANS.items()]
 
 
 def settling(ticks, lines, ends, steps=MOST_COUNT):
@@ -246,7 +249,7 @@ def counting(count):
     scenario = text(queues=[Queue("q", 1, ("freezable",))], actors=[Actor("t", ("flush a", *repeated("busy", count - 1)))])
     printed, quiet, done = "0 flush 0\n" + "0 no\n" * (count - 1), "at 0 now 0 a not pending\n", "at 1 now 0 flush 0 done\n"
     known = {"run FILE": printed, "run --settle FILE": printed, "settle FILE": scenario.decode(), "draw FILE": None, "draw --settle --svg FILE": None}
-    known |= {"run --tell FILE": "# flush a\n0 flush 0\n" + "# busy\n0 no\n" * (count - 1), "why FILE a": quiet, "why FILE a --every": quiet}
+    known |= {"run --tell FILE": "# 0 flush a\n0 flush 0\n" + "".join(f"# {it} busy\n0 no\n" for it in range(1, count)), "why FILE a": quiet, "why FILE a --every": quiet}
     known |= {f"why FILE a --at {count}": f"at {count} now 0 a not pending\n", "why FILE --flush 0": done, "why FILE --flush 0 --every": done}
     session = (f"goto {count}\ngoto {count + 1}\n", f"at {count} now 0\nrefused PastEnd\n")
     return scenario, [*((line, "", said) for line, said in known.items()), ("debug FILE", *session)]
@@ -386,7 +389,7 @@ class Limits:
             given, said = ("".join(f"{line}\n" for line in half) for half in zip(*session))
             self.want(f"the session that ends with {session[-1][0]}", self.run("debug FILE", text(), given), GOOD, said)
         for lines, line, ends in OPTIONS:
-            self.want(f"{line} of {lines}", self.run(line, text(actors=[Actor("t", lines)])), ends)
+            self.want(f"{line} of {lines}", self.run(line, text(actors=[Actor("t", lines)], steps=MOST_COUNT)), ends)
         for lines, ends, parts in SETTLING:
             self.want(f"settle of {len(lines)} lines and {parts}", self.run("settle FILE", text(actors=[Actor("t", lines)], **parts)), ends)
 
@@ -424,6 +427,7 @@ why {ONE} --flush 5 --at {MOST_INSTRUCTIONS}
 why {ONE} {LAST}
 why {ONE} --flush 5
 """.split("\n")[1:-1]] + [(f"debug {ONE}", SESSION)]
+SHARED = "beside its works others start, and burn only once these sleep or are done: a CPU takes turns here, and a kernel's is shared"
 Took = collections.namedtuple("Took", "seconds megabytes status errors output")
 
 
@@ -439,9 +443,16 @@ def measured(program, room, line, given):
     return Took(used.ru_utime + used.ru_stime, used.ru_maxrss / 1000, ran.returncode, hostile.bytes_of(names[2]), names[1])
 
 
+def notes_of(*files):
+    """What `check` says of the greatest scenarios: each queue has works, some of CPUs, and no work queues itself."""
+    shared = [(5 + at, it.name) for at, it in enumerate(greatest_queues()) if "cpu_intensive" in it.flags and not {"unbound", "ordered"} & set(it.flags)]
+    return "".join(f"{file}:{line}: note: {name}: {SHARED}\n" for file in files for line, name in shared)
+
+
 def cost_faults(line, took):
-    """What is wrong with what a command line took, and with how it ended: the play alone is full."""
-    wanted = FULL if line.startswith("play ") else GOOD
+    """What is wrong with what a command line took, and with how it ended: the play alone is full, and the verdict alone has notes."""
+    ends = {"play": FULL, "check": (0, notes_of(ALL, ONE))}
+    wanted = ends.get(line.split(" ")[0], GOOD)
     checks = {
         f"takes {took.seconds:.1f} seconds": took.seconds <= SECONDS,
         f"takes {took.megabytes:.0f} MB": took.megabytes <= MEGABYTES,
@@ -476,7 +487,7 @@ def uncovered():
     """Which word of scenarios doesn't stand in the greatest one, and which command doesn't read it."""
     words = set(text(**greatest(*GREATEST[ONE])).decode().split())
     commands = {line.split()[0] for line, _ in MEASURED}
-    missing = [*(user_files.words_of_scenarios() - words), *(user_files.words_of_commands() - commands - {"new"})]
+    missing = [*(user_files.words_of_scenarios() - words), *(user_files.words_of_commands() - commands - {"new", "help"})]
     return [f"the greatest scenario lacks {word}" for word in sorted(missing)]
 
 

@@ -108,7 +108,8 @@ long: Debugger::open Step Back Goto Goto-copy Run BreakWork BreakTime BreakRefus
 long: run_settled draw-settled
 every: assemble read_text run run_told run_settled settle_text list_text from_image to_image check new debug play
 every: draw draw-settled draw-svg draw-settled-svg draw-some draw-some-svg
-every: why why-every why-at why-flush why-flush-every why-flush-at
+every: why why-every why-at why-time why-settled why-flush why-flush-every why-flush-at
+every: draw-folded draw-works run_told-settled
 late: run check
 asks: play
 """

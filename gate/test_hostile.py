@@ -230,7 +230,7 @@ def check_greatest(room):
     """A program that says nothing fails wherever something has to be said; and what a command takes, and how it ends, is seen."""
     with contextlib.redirect_stdout(io.StringIO()):
         silent = limits.greatest_faults(shell_program(room, '[ "$1" != play ] || { echo full >&2; exit 4; }\n'), room, limits.MEASURED)
-    assert [fault.split()[0] for fault in silent] == ["list", "show", "settle", "asm", "run", "play"], silent
+    assert [fault.split()[0] for fault in silent] == ["check", "list", "show", "settle", "asm", "run", "play"], silent
     assert not limits.uncovered()
     for script, bounds, wanted in [
         ("exit 0\n", {}, []),
@@ -278,9 +278,13 @@ def check_documented():
         (3, b"write\nwrite\n", False),
         (4, b"no memory\n", True),
         (2, b"error: unexpected argument\n\nUsage: cmwq run\n", True),
-        (1, b"a.cmwq:2:9: 65: Range\n  a line here may begin with: workers\n", True),
-        (1, b"a.cmwq:2:9: 65: Ranger\n  a line here may begin with: workers\n", False),
+        (1, b"a.cmwq:2:9: 65: Range\n  here may stand: a number from 1 to 64\n", True),
+        (1, b"a.cmwq:2:9: 65: Ranger\n  here may stand: a number from 1 to 64\n", False),
         (3, b"a.cmwq: read\n", True),
+        (0, b"a.cmwq:9: note: m: beside its works others start, and burn late\n", True),
+        (0, b"a.cmwq:9: note: m: beside its works none starts, and burns late\n", False),
+        (0, b"a.cmwq: read\n", False),
+        (3, b"a.cmwq: read\nb.cmwq:60: note: a: cancel_sync lets it queue itself again, and a kernel's doesn't\n", True),
     ]:
         assert documented.is_told(status, errors) == is_told, (status, errors)
     assert not hostile.uncovered(hostile.all_uses()) and hostile.uncovered(hostile.all_uses()[:9])

@@ -81,7 +81,7 @@ def terminal_faults(program):
     with tempfile.NamedTemporaryFile(suffix=".cmwq") as file:
         file.write(b"cpus 1\nworkers 65\n")
         file.flush()
-        first, last = f"{file.name}:2:9: 65: ", "\n  a line here may begin with: workers\n"
+        first, last = f"{file.name}:2:9: 65: ", "\n  here may stand: a number from 1 to 64\n"
         ours, theirs = os.openpty()
         with open(ours, "rb", buffering=0) as screen:
             subprocess.run([program, "check", file.name], stderr=theirs, timeout=60)
@@ -93,10 +93,10 @@ def terminal_faults(program):
 
 
 def help_faults(program, commands):
-    """Each command's help has a status and an example, and `help` has a line for each."""
+    """Each command's help has a status and an example, but for that of `help` itself, and `help` has a line for each."""
     if not program:
         return []
-    faults = [f"{command} --help lacks {part}" for command in sorted(commands) for part in ("Exit status:", "\nExample") if part not in said(program, command, "--help")]
+    faults = [f"{command} --help lacks {part}" for command in sorted(commands - {"help"}) for part in ("Exit status:", "\nExample") if part not in said(program, command, "--help")]
     return faults + [f"help lacks {command}" for command in sorted(commands) if not re.search(rf"^  {command} ", said(program, "help"), re.M)]
 
 

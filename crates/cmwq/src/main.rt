@@ -2,10 +2,11 @@
 #![tactic(auto)]
 
 use cmwq_advice::take_explain;
-use cmwq_command::{Disk, ProgramSetting, advise, carry_out};
-use cmwq_outcome::{Look, fault, tell};
-use cmwq_play::{Marked, PlayError};
+use cmwq_command::{Disk, Manner, ProgramSetting, advise, carry_out, reads_input, remark};
+use cmwq_outcome::{GOOD, Look, fault, tell};
+use cmwq_play::{Marked, PlayError, read_whole};
 use cmwq_request::request;
+use cmwq_request::request::STANDARD_INPUT;
 use std::io::IsTerminal;
 use std::process::ExitCode;
 use std::{env, io};
@@ -13,8 +14,8 @@ use std::{env, io};
 /// The logic that the program's proofs rest on, as `rt version` names it; the gate compares the two.
 const LOGIC: &str = "dac8208d650f15bf";
 
-/// Does what the words ask. A fault that was told is followed by what can be done about it, where that is asked for or standard error is a
-/// terminal.
+/// Does what the words ask. A fault that was told is followed by what can be done about it, and a run by what should be known of it, where
+/// that is asked for or standard error is a terminal.
 fn main(rt: HostRuntime) -> ExitCode {
     let mut words = match words_given(&rt) {
         Ok(Some(words)) => words,
@@ -22,10 +23,19 @@ fn main(rt: HostRuntime) -> ExitCode {
         Err(error) => return end_with(&rt, Err(error)),
     };
     let look = look_of_verdicts(&rt, take_explain(&mut words));
+    let input = match input_read(&rt, &words) {
+        Ok(input) => input,
+        Err(error) => return end_with(&rt, Err(error)),
+    };
+    let disk = disk_of(&rt, input.as_deref());
     let outcome = carry_out(
         &rt,
-        &Disk { rt: &rt },
-        ProgramSetting { logic: LOGIC, look },
+        &disk,
+        ProgramSetting {
+            logic: LOGIC,
+            look,
+            manner: manner_of_sessions(&rt),
+        },
         words.as_slice(),
         rt.stdin(),
         &mut Marked::new(rt.stdout()),
@@ -33,18 +43,40 @@ fn main(rt: HostRuntime) -> ExitCode {
     );
     let mut errors = Marked::new(rt.stderr());
     let code = fault::end_with(&mut errors, outcome);
-    if let (Err(fault), false) = (outcome, look == Look::Plain || errors.failed) {
-        // Where advice can't be told there is nobody left to tell that.
-        let _ = advise(
-            rt.alloc(),
-            &Disk { rt: &rt },
-            look,
-            words.as_slice(),
-            fault,
-            &mut errors,
-        );
+    if look != Look::Plain && !errors.failed {
+        // Where this can't be told there is nobody left to tell that.
+        let _ = match outcome {
+            Err(fault) => advise(
+                rt.alloc(),
+                &disk,
+                look,
+                words.as_slice(),
+                fault,
+                &mut errors,
+            ),
+            Ok(GOOD) => remark(rt.alloc(), &disk, words.as_slice(), &mut errors),
+            Ok(_) => Ok(()),
+        };
     }
     code
+}
+
+/// The files of the system, with what standard input has.
+fn disk_of<'a>(rt: &'a HostRuntime, input: Option<&'a [u8]>) -> Disk<'a, HostRuntime> {
+    Disk { rt, input }
+}
+
+/// What standard input has, where the words ask for it as a file, and it can be read. The only error is want of memory.
+fn input_read(rt: &HostRuntime, words: &[String]) -> Result<Option<Vec<u8>>, PlayError> {
+    let is_named = words.iter().any(|word| word.as_str() == STANDARD_INPUT);
+    if !is_named || !reads_input(rt.alloc(), words)? {
+        return Ok(None);
+    }
+    match read_whole(rt.alloc(), &mut Marked::new(rt.stdin())) {
+        Ok(text) => Ok(Some(text)),
+        Err(PlayError::Read) => Ok(None),
+        Err(error) => Err(error),
+    }
 }
 
 /// Tells the fault that the program ends with, if there is one, and gives the exit status.
@@ -59,6 +91,15 @@ fn look_of_verdicts(rt: &HostRuntime, is_asked: bool) -> Look {
         (true, _) => Look::Terminal,
         (false, true) => Look::Pointed,
         (false, false) => Look::Plain,
+    }
+}
+
+/// How a debugging session is held: with a prompt where a person types the commands and reads the answers.
+fn manner_of_sessions(rt: &HostRuntime) -> Manner {
+    if rt.stdin().is_terminal() && rt.stdout().is_terminal() {
+        Manner::Prompted
+    } else {
+        Manner::Plain
     }
 }
 

@@ -8,7 +8,7 @@ use crate::stores::StoreCall;
 use crate::streams::StreamCall;
 use crate::texts::TextCall;
 use cmwq_debug::{Command, EventKind};
-use cmwq_tasks::{Drawing, Looks, Question, RunKind, Span, Task};
+use cmwq_tasks::{Drawing, Form, Inquiry, Looks, Question, RunKind, Span, Style, Task};
 use cmwq_types::WorkId;
 
 /// A call, by what it is made on.
@@ -26,23 +26,25 @@ pub(crate) enum CallName {
 const WORK: Question<'static> = Question::Work("b");
 
 /// The whole run, as text.
-const DRAWN: Drawing = Drawing {
+const DRAWN: Drawing<'static> = Drawing {
     settle: false,
-    svg: false,
+    fold: false,
     span: Span {
         from: None,
         to: None,
     },
+    works: None,
+    form: Form::Text,
 };
 
 /// The settled run, as text.
-const SETTLED: Drawing = Drawing {
+const SETTLED: Drawing<'static> = Drawing {
     settle: true,
     ..DRAWN
 };
 
 /// Some ticks of the run, as text.
-const SOME: Drawing = Drawing {
+const SOME: Drawing<'static> = Drawing {
     span: Span {
         from: Some(2),
         to: Some(9),
@@ -50,8 +52,27 @@ const SOME: Drawing = Drawing {
     ..DRAWN
 };
 
+/// A picture with a style of its own.
+const STYLED: Form<'static> = Form::Svg(Style {
+    scale: Some(5),
+    id: Some("one"),
+});
+
+/// Why the work waits, at the settled positions of the run.
+const ASKED: Inquiry<'static> = Inquiry {
+    question: WORK,
+    looks: Looks::Settled,
+    settle: false,
+};
+
+/// What the first flush waits for, at the settled positions of the run.
+const FLUSHED: Inquiry<'static> = Inquiry {
+    question: Question::Flush(0),
+    ..ASKED
+};
+
 /// Each call with its name.
-pub(crate) const CALLS: [(&str, CallName); 59] = [
+pub(crate) const CALLS: [(&str, CallName); 64] = [
     ("Scenario::copy", CallName::Text(TextCall::Copy)),
     ("assemble", CallName::Text(TextCall::Assemble)),
     ("read_text", CallName::Text(TextCall::ReadText)),
@@ -219,12 +240,15 @@ pub(crate) const CALLS: [(&str, CallName); 59] = [
     ),
     (
         "draw-svg",
-        CallName::Stream(StreamCall::Do(Task::Draw(Drawing { svg: true, ..DRAWN }))),
+        CallName::Stream(StreamCall::Do(Task::Draw(Drawing {
+            form: STYLED,
+            ..DRAWN
+        }))),
     ),
     (
         "draw-settled-svg",
         CallName::Stream(StreamCall::Do(Task::Draw(Drawing {
-            svg: true,
+            form: STYLED,
             ..SETTLED
         }))),
     ),
@@ -234,31 +258,75 @@ pub(crate) const CALLS: [(&str, CallName); 59] = [
     ),
     (
         "draw-some-svg",
-        CallName::Stream(StreamCall::Do(Task::Draw(Drawing { svg: true, ..SOME }))),
+        CallName::Stream(StreamCall::Do(Task::Draw(Drawing {
+            form: STYLED,
+            ..SOME
+        }))),
     ),
-    (
-        "why",
-        CallName::Stream(StreamCall::Do(Task::Why(WORK, Looks::Settled))),
-    ),
+    ("why", CallName::Stream(StreamCall::Do(Task::Why(ASKED)))),
     (
         "why-every",
-        CallName::Stream(StreamCall::Do(Task::Why(WORK, Looks::Every))),
+        CallName::Stream(StreamCall::Do(Task::Why(Inquiry {
+            looks: Looks::Every,
+            ..ASKED
+        }))),
     ),
     (
         "why-at",
-        CallName::Stream(StreamCall::Do(Task::Why(WORK, Looks::At(9)))),
+        CallName::Stream(StreamCall::Do(Task::Why(Inquiry {
+            looks: Looks::At(9),
+            ..ASKED
+        }))),
     ),
     (
         "why-flush",
-        CallName::Stream(StreamCall::Do(Task::Why(Question::Flush(0), Looks::Settled))),
+        CallName::Stream(StreamCall::Do(Task::Why(FLUSHED))),
     ),
     (
         "why-flush-every",
-        CallName::Stream(StreamCall::Do(Task::Why(Question::Flush(0), Looks::Every))),
+        CallName::Stream(StreamCall::Do(Task::Why(Inquiry {
+            looks: Looks::Every,
+            ..FLUSHED
+        }))),
     ),
     (
         "why-flush-at",
-        CallName::Stream(StreamCall::Do(Task::Why(Question::Flush(0), Looks::At(24)))),
+        CallName::Stream(StreamCall::Do(Task::Why(Inquiry {
+            looks: Looks::At(24),
+            ..FLUSHED
+        }))),
+    ),
+    (
+        "why-time",
+        CallName::Stream(StreamCall::Do(Task::Why(Inquiry {
+            looks: Looks::Time(3),
+            ..ASKED
+        }))),
+    ),
+    (
+        "why-settled",
+        CallName::Stream(StreamCall::Do(Task::Why(Inquiry {
+            settle: true,
+            ..ASKED
+        }))),
+    ),
+    (
+        "run_told-settled",
+        CallName::Stream(StreamCall::Do(Task::Run(RunKind::ToldSettled))),
+    ),
+    (
+        "draw-folded",
+        CallName::Stream(StreamCall::Do(Task::Draw(Drawing {
+            fold: true,
+            ..DRAWN
+        }))),
+    ),
+    (
+        "draw-works",
+        CallName::Stream(StreamCall::Do(Task::Draw(Drawing {
+            works: Some("b"),
+            ..DRAWN
+        }))),
     ),
     ("check", CallName::Stream(StreamCall::Check)),
     ("new", CallName::Stream(StreamCall::New)),

@@ -3,7 +3,7 @@
 use crate::showing::Printer;
 use crate::trying::{Tried, try_call};
 use cmwq_asm::assemble;
-use cmwq_debug_session::debug;
+use cmwq_debug_session::{Manner, debug};
 use cmwq_play::{Marked, PlayError};
 use cmwq_types::Scenario;
 use std::alloc::Global;
@@ -49,7 +49,13 @@ impl<X: Print> Tried for Debugged<'_, X> {
             return Err(PlayError::Actors);
         }
         let writer = &mut Marked::new(Printer { rt: self.rt });
-        debug(alloc, given, &mut Marked::new(SESSION), writer)
+        debug(
+            alloc,
+            Manner::Prompted,
+            given,
+            &mut Marked::new(SESSION),
+            writer,
+        )
     }
 
     fn show_answer<R: Print>(

@@ -1,6 +1,6 @@
 -- What a request does to the writers that it is lent, by what its files have.
 use Rattle.std.specs.Prelude.{◌≡◌, ◌<◌, ◌↔◌, ◌⊎◌, ℕ, zero, suc, Bool, true, List, [], length, map, max, Option, Some, None, IfSome, Result, Ok, Err, IfErr, OnErr, OnOk, slice_index_or}
-use Rattle.std.specs.Io.KnownBytes.{Keeps}
+use Rattle.std.specs.Io.KnownBytes.{Appends, Keeps}
 use Rattle.cmwq_types.specs.Contents.{ScenarioContents}
 use Rattle.cmwq_types.specs.declared.limits.TheConstants.{MAX_TEXT}
 use Rattle.cmwq_grammar.specs.Grammar.{Spells}
@@ -9,18 +9,21 @@ use Rattle.cmwq_image.specs.declared.version.TheConstants.{VERSION}
 use Rattle.cmwq_actors.specs.Interleaving.{Interleaves, scripts_of}
 use Rattle.cmwq_command.specs.Tasks.{IsGoalOf, IsTaskFault, IsWrittenBy}
 use Rattle.cmwq_command_line.specs.CommandLine.{version_line}
+use Rattle.cmwq_debug_lines.specs.declared.manner.Manner.{Manner}
 use Rattle.cmwq_debug_session.specs.Told.{IsDebugged, IsFrontTold, IsTalkError}
+use Rattle.cmwq_language.specs.Page.{language_page}
 use Rattle.cmwq_interleaving.specs.Plays.{HasFronts, IsFull, Left, LeftFront}
 use Rattle.cmwq_outcome.specs.Checking.{HasTold, status_of_judged}
 use Rattle.cmwq_outcome.specs.FaultsTold.{Prints}
 use Rattle.cmwq_outcome.specs.Starting.{HasWrittenFirst}
 use Rattle.cmwq_outcome.specs.declared.file_verdict.Judged.{Judged}
 use Rattle.cmwq_play.specs.Commands.{Answers, Writes}
-use Rattle.cmwq_play.specs.PlayTexts.{IsOutput, IsRunFault, IsTextFault}
+use Rattle.cmwq_play.specs.PlayTexts.{IsFaultOf, IsOutput, IsTextFault}
 use Rattle.clap.specs.Words.{Text}
 use Rattle.cmwq_request.specs.Request.{request_words}
 use Rattle.cmwq_request.specs.declared.request.Request.{Request}
-use Rattle.cmwq_request.specs.declared.request.Request.TheVariants.{New, Do, Asm, Debug, Play, Check, Version}
+use Rattle.cmwq_request.specs.declared.request.Request.TheVariants.{New, Do, Asm, Debug, Play, Check, Language, Version}
+use Rattle.cmwq_settle.specs.Settled.{IsSettledIf, IsUnsettledIf}
 use Rattle.cmwq_streams.specs.Sending.{IsSendError}
 use Rattle.cmwq_streams.specs.declared.error.PlayError.{PlayError}
 use Rattle.cmwq_streams.specs.declared.error.PlayError.TheVariants.{Actors, Asm as TextFault, Full, NoMemory, Read, Tickets, TooLong, Write}
@@ -43,6 +46,11 @@ TellsFailure failed result = (result ≡ Err Write) ↔ (failed ≡ true)
 abbrev pub HasStarted : (before after : Option (List ℕ)) → (failed : Bool) → Result (Unit {0}) PlayError → Type 0
 HasStarted before after failed result = OnOk result (HasWrittenFirst before after) × IfErr result (λ error. error ≡ Write) × TellsFailure failed result
 
+-- what a scenario's text may say was written, or the writer failed, or memory ran out before
+abbrev pub HasToldLanguage : (before after : Option (List ℕ)) → (failed : Bool) → Result (Unit {0}) PlayError → Type 0
+HasToldLanguage before after failed result =
+    OnOk result (Appends before after language_page) × IfErr result (λ error. IsSendError error) × TellsFailure failed result
+
 -- the task was carried out on an input that has these bytes
 abbrev pub HasDone : Task → List ℕ → (before after : Option (List ℕ)) → (failed : Bool) → Result (Unit {0}) PlayError → Type 0
 HasDone task bytes before after failed result =
@@ -52,16 +60,20 @@ HasDone task bytes before after failed result =
 abbrev pub OfSpelled : List ℕ → (ScenarioContents → Type 0) → Type 0
 OfSpelled bytes fact = (S : ScenarioContents) × Spells bytes S × fact S
 
--- What was said to the input, where a debugger of the scenario that the bytes spell was asked for.
-pub record HasDebugged (bytes : List ℕ) (input before after : Option (List ℕ)) (failed : Bool) (result : Result (Unit {0}) PlayError) : Type 0 where
+-- the bytes spell a scenario that can be run, settled where that is asked, and of that one this holds
+abbrev pub OfSettled : (settle : Bool) → List ℕ → (ScenarioContents → Type 0) → Type 0
+OfSettled settle bytes fact = OfSpelled bytes (λ S. (T : ScenarioContents) × IsSettledIf settle S T × fact T)
+
+-- What was said to the input in this manner, where a debugger of the scenario that the bytes spell was asked for.
+pub record HasDebugged (manner : Manner) (settle : Bool) (bytes : List ℕ) (input before after : Option (List ℕ)) (failed : Bool) (result : Result (Unit {0}) PlayError) : Type 0 where
   -- to the whole input was said what such a debugger says to it
-  pub told : OnOk result (OfSpelled bytes (IsDebugged input before after))
-  -- or a front of that
-  pub front : OnErr result ((S : ScenarioContents) → Spells bytes S → IsFrontTold input before after S)
+  pub told : OnOk result (OfSettled settle bytes (IsDebugged manner input before after))
+  -- or a front of that, or nothing
+  pub front : OnErr result (OfSettled settle bytes (IsFrontTold manner input before after) ⊎ Keeps before after)
   pub write : TellsFailure failed result
   pub too_long : result ≡ Err TooLong → IfSome input (λ commands. MAX_TEXT < length commands)
   -- there is no such debugger, and nothing was written; or a read or a write failed, memory ran out, or too much was to be read
-  pub why : IfErr result (λ error. (IsRunFault (Some bytes) error × Keeps before after) ⊎ IsTalkError error)
+  pub why : IfErr result (λ error. (IsFaultOf (IsUnsettledIf settle) (Some bytes) error × Keeps before after) ⊎ IsTalkError error)
 
 -- why nothing is left: the bytes spell no scenario, or one without actors, or they couldn't be read, or memory ran out
 abbrev pub IsUnplayed : List ℕ → PlayError → Type 0
@@ -114,7 +126,7 @@ graded (Err error) = Err error
 abbrev pub Graded : Result ℕ PlayError → (Result (Unit {0}) PlayError → Type 0) → Type 0
 Graded result fact = (outcome : Result (Unit {0}) PlayError) × (result ≡ graded outcome) × fact outcome
 
-module _ (store : Store) (look : Look) (logic : List ℕ) (input output output_now errors errors_now : Option (List ℕ)) (failed : Bool) where
+module _ (store : Store) (look : Look) (manner : Manner) (logic : List ℕ) (input output output_now errors errors_now : Option (List ℕ)) (failed : Bool) where
   -- What the request has done: to the output, unless all goes to a file, and to the writer for faults where files are checked.
   abbrev pub HasCarriedOut : Request → Result ℕ PlayError → Type 0
   HasCarriedOut (New None) result = (errors_now ≡ errors) × Graded result (λ outcome. HasStarted output output_now failed outcome)
@@ -125,13 +137,14 @@ module _ (store : Store) (look : Look) (logic : List ℕ) (input output output_n
   HasCarriedOut (Asm file out) result =
       (errors_now ≡ errors) × (output_now ≡ output)
       × Graded result (λ outcome. IfSome (store file.now) (λ bytes. Answers (IsOutput (image VERSION)) IsTextFault (Some bytes) outcome))
-  HasCarriedOut (Debug file) result =
-      (errors_now ≡ errors) × Graded result (λ outcome. IfSome (store file.now) (λ bytes. HasDebugged bytes input output output_now failed outcome))
+  HasCarriedOut (Debug file settle) result =
+      (errors_now ≡ errors) × Graded result (λ outcome. IfSome (store file.now) (λ bytes. HasDebugged manner settle bytes input output output_now failed outcome))
   HasCarriedOut (Play file capacity) result =
       (errors_now ≡ errors) × Graded result (λ outcome. IfSome (store file.now) (λ bytes. HasLeft capacity bytes output output_now failed outcome))
   HasCarriedOut (Check files) (Ok status) =
       HasChecked store look (map (λ file. file.now) files.items) (length files.items) output output_now errors errors_now status
   HasCarriedOut (Check files) (Err error) = IsSendError error
+  HasCarriedOut Language result = (errors_now ≡ errors) × Graded result (λ outcome. HasToldLanguage output output_now failed outcome)
   HasCarriedOut Version result =
       (errors_now ≡ errors) × Prints (version_line logic) output output_now result × Graded result (λ outcome. TellsFailure failed outcome)
 

@@ -1,3 +1,4 @@
 pub mod Advised
 pub mod Carried
+pub mod Opening
 pub mod Tasks

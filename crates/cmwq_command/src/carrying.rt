@@ -1,6 +1,6 @@
 //! What the words ask for, carried out on files.
 ghost use Rattle.clap.specs.Words.{Text};
-ghost use Rattle.cmwq_command.specs.Carried.{HasCarriedOut, HasCarriedOutWords, HasChecked, HasDebugged, HasDone, HasLeft, HasStarted, IsJudged, UnlessUnopened, graded};
+ghost use Rattle.cmwq_command.specs.Carried.{HasCarriedOut, HasCarriedOutWords, HasChecked, HasDebugged, HasDone, HasLeft, HasStarted, HasToldLanguage, IsJudged, UnlessUnopened, graded};
 ghost use Rattle.cmwq_command_line.specs.CommandLine.{version_line};
 ghost use Rattle.cmwq_outcome.specs.FaultsTold.{Prints};
 ghost use Rattle.cmwq_image.specs.Image.{image};
@@ -15,9 +15,13 @@ ghost use Rattle.std.specs.Prelude.{◌≡◌, ◌∷◌, [], List, IfErr, IfOk,
 use crate::file_store::FileStore;
 use crate::tasks_done::do_task;
 use cmwq_actors::OpenGate;
+use cmwq_debug_session::Manner;
+use cmwq_language::language_page;
 use cmwq_outcome::{GOOD, Judged, Look, check_text, tell, tell_unread, write_first, write_version};
 use cmwq_play::{Marked, PlayError, Sink};
 use cmwq_request::request::{Request, parse};
+use cmwq_settle::settled_if;
+use cmwq_streams::put_all;
 use cmwq_tasks::Task;
 use std::alloc::Global;
 use std::io::Read;
@@ -32,6 +36,8 @@ pub struct ProgramSetting<'a> {
     pub logic: &'a str,
     /// How verdicts look on standard error.
     pub look: Look,
+    /// How a debugging session is held.
+    pub manner: Manner,
 }
 
 /// Does what the words ask, of which the first is the program's name, and gives the exit status. Commands of a
@@ -55,7 +61,7 @@ where
         → Prints (version_line setting.entry.logic.now) (O.contents output.old) (O.contents output.new) result }
     // Each command's words carry it out, unless memory runs out before.
     ensures done { (name : Text) (given asked : List Text) → map string_bytes words.now ≡ name ∷ given → IsAskedBy given asked
-        → HasCarriedOutWords (F.bytes files.now) setting.entry.look setting.entry.logic.now (I.remaining input) (O.contents output.old) (O.contents output.new)
+        → HasCarriedOutWords (F.bytes files.now) setting.entry.look setting.entry.manner setting.entry.logic.now (I.remaining input) (O.contents output.old) (O.contents output.new)
         (E.contents errors.old) (E.contents errors.new) (O.failed output.new) asked result }
     // Words that ask for nothing are told on the writer for faults alone.
     ensures misuse { (name : Text) (given : List Text) → map string_bytes words.now ≡ name ∷ given → IsMisusedBy given
@@ -83,14 +89,22 @@ where
     requires within { IsWithin request }
     requires output { O.failed output.old ≡ false }
     requires errors { E.failed errors.old ≡ false }
-    ensures done { HasCarriedOut (F.bytes files.now) setting.entry.look setting.entry.logic.now (I.remaining input) (O.contents output.old) (O.contents output.new)
+    ensures done { HasCarriedOut (F.bytes files.now) setting.entry.look setting.entry.manner setting.entry.logic.now (I.remaining input) (O.contents output.old) (O.contents output.new)
         (E.contents errors.old) (E.contents errors.new) (O.failed output.new) request.entry result }
 {
     match request {
         Request::New { file } => good(new(files, output, file)),
         Request::Do { file, task } => good(do_on_file(rt.alloc(), files, output, file, task)),
         Request::Asm { file, out } => good(asm(rt.alloc(), files, file, out)),
-        Request::Debug { file } => good(debug_file(rt.alloc(), files, input, output, file)),
+        Request::Debug { file, settle } => good(debug_file(
+            rt.alloc(),
+            files,
+            setting.manner,
+            input,
+            output,
+            file,
+            settle,
+        )),
         Request::Play { file, capacity } => good(play_file(rt, files, output, file, capacity)),
         Request::Check { files: paths } => check(
             rt.alloc(),
@@ -100,6 +114,7 @@ where
             errors,
             &paths,
         ),
+        Request::Language => good(write_language(rt.alloc(), output)),
         Request::Version => good(write_version(rt.alloc(), setting.logic, output)),
     }
 }
@@ -207,21 +222,33 @@ fn asm<F: FileStore>(alloc: Global, files: &F, file: &str, out: &str) -> Result<
     cmwq_play::to_image(alloc, &mut reader, &mut writer)
 }
 
-/// Debugs the scenario whose text is in the file, by the commands of the input, and writes what is said to each.
+/// Writes what a scenario's text may say.
+fn write_language<W: Sink>(alloc: Global, writer: &mut W) -> Result<(), PlayError>
+    requires { W.failed writer.old ≡ false }
+    ensures { HasToldLanguage (W.contents writer.old) (W.contents writer.new) (W.failed writer.new) result }
+{
+    let page = language_page(alloc)?;
+    put_all(writer, &page)
+}
+
+/// Debugs the scenario whose text is in the file, settled where that is asked, by the commands of the input, and writes what is said to each.
 fn debug_file<F: FileStore, I: Read + Drop, W: Sink>(
     alloc: Global,
     files: &F,
+    manner: Manner,
     input: I,
     writer: &mut W,
     file: &str,
+    settle: bool,
 ) -> Result<(), PlayError>
     requires { W.failed writer.old ≡ false }
-    ensures debugged { IfSome (F.bytes files.now file.now) (λ bytes. HasDebugged bytes (I.remaining input) (W.contents writer.old) (W.contents writer.new) (W.failed writer.new) result) }
+    ensures debugged { IfSome (F.bytes files.now file.now) (λ bytes. HasDebugged manner settle bytes (I.remaining input) (W.contents writer.old) (W.contents writer.new) (W.failed writer.new) result) }
 {
     let mut reader = files.open(file)?;
     let scenario = cmwq_play::read_text(alloc, &mut reader)?;
+    let run = settled_if(alloc, settle, scenario)?;
     let mut commands = Marked::new(input);
-    cmwq_debug_session::debug(alloc, scenario, &mut commands, writer)
+    cmwq_debug_session::debug(alloc, manner, run, &mut commands, writer)
 }
 
 /// Carries out all actors of the scenario whose text is in the file at once, and writes the text that is left.

@@ -1,10 +1,12 @@
 //! Where files are opened and made.
-ghost use Rattle.std.specs.Prelude.{◌≡◌, ℕ, IfErr, IfOk, IfSome, List, None, Option, Some, false};
+ghost use Rattle.std.specs.Prelude.{◌≡◌, ℕ, IfErr, IfOk, IfSome, List, None, Option, Some, false, option_map};
 
 use cmwq_advice::Trouble;
 use cmwq_play::{Marked, PlayError, Sink, Source};
+use cmwq_request::request::STANDARD_INPUT;
 use std::fs::{File, metadata};
-use std::io::ErrorKind;
+use std::io;
+use std::io::{ErrorKind, Read};
 use std::os::unix::fs::MetadataExt;
 use std::rt::Files;
 
@@ -29,6 +31,10 @@ pub trait FileStore {
         ensures sound { IfOk result (λ writer. Self.Writer.failed writer ≡ false) }
         ensures why { IfErr result (λ error. error ≡ PlayError.Write) };
 
+    /// What the file of this path has, where that was read before and is kept. Only of what is kept it is known what it has.
+    fn kept(&self, path: &str) -> Option<&[u8]>
+        ensures { option_map (λ bytes. bytes.now) result ≡ bytes self.now path.now };
+
     /// Whether both paths are those of one regular file that is there. Of what can't be looked at it answers no.
     fn is_one_file(&self, one: &str, other: &str) -> bool;
 
@@ -44,25 +50,56 @@ pub trait FileStore {
         ensures why { IfErr result (λ error. error ≡ PlayError.Write) };
 }
 
-/// The system's files, of which nothing is known.
+/// A file that was opened to be read, or what standard input had.
+#[derive(Debug, Drop)]
+pub enum Opened<'a, F> {
+    /// The file.
+    File(F),
+    /// What is left of standard input's bytes.
+    Input(&'a [u8]),
+}
+
+impl<F: Read> Read for Opened<'_, F> {
+    ghost use Rattle.cmwq_command.specs.Opening.{opened_bytes};
+
+    ghost remaining = { λ opened. opened_bytes F.remaining opened };
+
+    fn read(&mut self, buf: &mut [u8]) -> io::Result<usize> {
+        match self {
+            Opened::File(file) => file.read(buf),
+            Opened::Input(bytes) => bytes.read(buf),
+        }
+    }
+}
+
+/// The system's files, of which nothing is known, but for standard input, which stands as `-`.
 #[derive(Clone, Copy, Debug)]
 pub struct Disk<'a, R> {
     /// What gives access to them.
     pub rt: &'a R,
+    /// The bytes of standard input, where a command reads it as a file and it could be read.
+    pub input: Option<&'a [u8]>,
 }
 
-impl<R: Files> FileStore for Disk<'_, R> {
-    type Reader = Marked<R::File>;
+impl<'a, R: Files> FileStore for Disk<'a, R> {
+    type Reader = Marked<Opened<'a, R::File>>;
 
     type Writer = Marked<R::File>;
 
-    ghost use Rattle.std.specs.Prelude.{None};
+    ghost use Rattle.cmwq_command.specs.Opening.{input_bytes};
+    ghost use Rattle.std.specs.Prelude.{option_map};
 
-    ghost bytes = { λ disk path. None };
+    ghost bytes = { λ disk path. input_bytes (option_map (λ bytes. bytes.now) disk.input) path };
 
-    fn open(&self, path: &str) -> Result<Marked<R::File>, PlayError> {
+    fn open(&self, path: &str) -> Result<Marked<Opened<'a, R::File>>, PlayError> {
+        if path == STANDARD_INPUT {
+            return match self.input {
+                Some(bytes) => Ok(Marked::new(Opened::Input(bytes))),
+                None => Err(PlayError::Read),
+            };
+        }
         let file = File::open(self.rt, path).map_err(|_| PlayError::Read)?;
-        Ok(Marked::new(file))
+        Ok(Marked::new(Opened::File(file)))
     }
 
     fn make(&self, path: &str) -> Result<Marked<R::File>, PlayError> {
@@ -70,7 +107,18 @@ impl<R: Files> FileStore for Disk<'_, R> {
         Ok(Marked::new(file))
     }
 
+    fn kept(&self, path: &str) -> Option<&[u8]> {
+        if path == STANDARD_INPUT {
+            self.input
+        } else {
+            None
+        }
+    }
+
     fn is_one_file(&self, one: &str, other: &str) -> bool {
+        if one == STANDARD_INPUT {
+            return false;
+        }
         match (metadata(self.rt, one), metadata(self.rt, other)) {
             (Ok(one), Ok(other)) => {
                 one.is_file() && one.dev() == other.dev() && one.ino() == other.ino()
@@ -80,6 +128,9 @@ impl<R: Files> FileStore for Disk<'_, R> {
     }
 
     fn trouble_with_reading(&self, path: &str) -> Trouble {
+        if path == STANDARD_INPUT {
+            return Trouble::Unreadable;
+        }
         match File::open(self.rt, path) {
             Err(error) => trouble_with_opening(error.kind()),
             Ok(_) if is_folder(self.rt, path) => Trouble::IsFolder,

@@ -4,9 +4,12 @@
 mod advising;
 mod carrying;
 mod file_store;
+mod standard_input;
 mod tasks_done;
 
-pub use advising::advise;
+pub use advising::{advise, remark};
 pub use carrying::{ProgramSetting, answer_request, carry_out};
-pub use file_store::{Disk, FileStore};
+pub use cmwq_debug_session::Manner;
+pub use file_store::{Disk, FileStore, Opened};
+pub use standard_input::reads_input;
 pub use tasks_done::do_task;

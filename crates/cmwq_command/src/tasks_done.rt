@@ -31,12 +31,13 @@ pub fn do_task<R: Source, W: Sink>(
         Task::Run(kind) => match kind {
             RunKind::Plain => run(alloc, reader, writer),
             RunKind::Settled => run_settled(alloc, reader, writer),
-            RunKind::Told => run_told(alloc, reader, writer),
+            RunKind::Told => run_told(alloc, false, reader, writer),
+            RunKind::ToldSettled => run_told(alloc, true, reader, writer),
         },
         Task::Settle => settle_text(alloc, reader, writer),
         Task::List => list_text(alloc, reader, writer),
         Task::Show => from_image(alloc, reader, writer),
         Task::Draw(drawing) => draw(alloc, drawing, reader, writer),
-        Task::Why(question, looks) => why(alloc, question, looks, reader, writer),
+        Task::Why(inquiry) => why(alloc, inquiry, reader, writer),
     }
 }

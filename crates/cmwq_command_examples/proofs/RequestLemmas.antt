@@ -1,37 +1,38 @@
 -- What a request has done with a text of the first scenario.
-use Rattle.std.proofs.Common.{◌≡◌, ℕ, Bool, List, [], ◌∷◌, ◌++◌, Option, Some, None, Result, Ok, Err, arith, refl, sym, ap, ◌∙◌, subst, inl, inr}
+use Rattle.std.proofs.Common.{◌≡◌, ℕ, Bool, List, [], ◌∷◌, ◌++◌, Option, Some, None, Result, Ok, Err, true, false, arith, refl, sym, ap, ◌∙◌, subst, inl, inr}
 use Rattle.std.specs.Io.KnownBytes.{Appends}
 use Rattle.std.specs.Prelude.{IfSome, codes}
 use Rattle.cmwq_actors.specs.Interleaving.{Interleaves, scripts_of}
-use Rattle.cmwq_command.specs.Carried.{HasCarriedOut, HasDebugged, HasDone, HasLeft, HasStarted, OfSpelled, Store, UnlessUnopened, graded}
+use Rattle.cmwq_command.specs.Carried.{HasCarriedOut, HasDebugged, HasDone, HasLeft, HasStarted, HasToldLanguage, OfSpelled, Store, UnlessUnopened, graded}
 use Rattle.cmwq_command.specs.Tasks.{IsGoalOf, IsWrittenBy}
-use Rattle.cmwq_command_examples.specs.Examples.{HasFirst, Leads, Path, Puts, PutsNothing, TaskFindsNoFault}
+use Rattle.cmwq_command_examples.specs.Examples.{LeadsIn, HasFirst, Leads, Path, Puts, PutsNothing, TaskFindsNoFault}
 use Rattle.cmwq_command_line.specs.CommandLine.{version_line}
+use Rattle.cmwq_debug_lines.specs.declared.manner.Manner.{Manner}
 use Rattle.cmwq_debug_session.specs.Told.{IsDebugged}
 use Rattle.cmwq_draw.specs.Drawn.{IsDrawing}
 use Rattle.cmwq_examples.specs.Declare.{enqueue, times}
 use Rattle.cmwq_examples.specs.Rows.{printed}
-use Rattle.cmwq_explain.specs.ChangesTold.{AreChanges}
-use Rattle.cmwq_explain.specs.Explained.{said_to}
+use Rattle.cmwq_explain.specs.Explained.{AreChanges}
 use Rattle.cmwq_grammar.specs.Grammar.{Spells}
 use Rattle.cmwq_image.specs.Versions.{IsImageOf}
 use Rattle.cmwq_interleaving.specs.Plays.{IsFull, Left}
 use Rattle.cmwq_play.specs.Commands.{IsOutside}
 use Rattle.cmwq_play.specs.PlayTexts.{ComesTo, IsSpelled}
 use Rattle.cmwq_play.specs.Runs.{IsPrinted, IsRunOf}
-use Rattle.cmwq_request.specs.declared.request.Request.TheVariants.{Asm, Debug, Do, New, Play, Version}
+use Rattle.cmwq_request.specs.declared.request.Request.TheVariants.{Asm, Debug, Do, Language, New, Play, Version}
+use Rattle.cmwq_language.specs.Page.{language_page}
+use Rattle.cmwq_settle.specs.Settled.{IsSettledIf}
 use Rattle.cmwq_settle.specs.Settling.{IsFollowedOutput, IsSettledListing}
 use Rattle.cmwq_starter.specs.Starter.{first_lines, first_scenario}
 use Rattle.cmwq_streams.specs.declared.error.PlayError.{PlayError}
 use Rattle.cmwq_streams.specs.declared.error.PlayError.TheVariants.{Full, Read}
 use Rattle.cmwq_table.specs.Events.{events}
 use Rattle.cmwq_tasks.specs.declared.drawing.Drawing.{Drawing}
-use Rattle.cmwq_tasks.specs.declared.question.Looks.{Looks}
-use Rattle.cmwq_tasks.specs.declared.question.Question.{Question}
-use Rattle.cmwq_tasks.specs.declared.task.RunKind.TheVariants.{Plain, Settled, Told}
+use Rattle.cmwq_tasks.specs.declared.question.Inquiry.{Inquiry}
+use Rattle.cmwq_tasks.specs.declared.task.RunKind.TheVariants.{Plain, Settled, Told, ToldSettled}
 use Rattle.cmwq_tasks.specs.declared.task.Task.{Task}
 use Rattle.cmwq_tasks.specs.declared.task.Task.TheVariants as task
-use Rattle.cmwq_tell.specs.RunTold.{IsTold, tell_text}
+use Rattle.cmwq_tell.specs.RunTold.{IsToldIf, tell_text}
 use Rattle.cmwq_types.specs.Contents.{ActorContents, ScenarioContents}
 use Rattle.cmwq_types.specs.Listing.{listing}
 use Rattle.cmwq_types.specs.Scenario.{expand}
@@ -69,7 +70,7 @@ done-puts t bytes output output_now failed (inr done) = done.1.wrote
 
 pub task-puts : (store : Store) (file : Path) (t : Task) (bytes : List ℕ) (fact : List ℕ → Type 0) → store file.now ≡ Some bytes
     → ((text : List ℕ) → IsWrittenBy t (Some bytes) text → fact text) → Puts store (Do file t) fact
-task-puts store file t bytes fact has gives look logic input output output_now errors errors_now failed carried =
+task-puts store file t bytes fact has gives manner look logic input output output_now errors errors_now failed carried =
     let so = λ (outcome : Result (Unit {0}) PlayError). IfSome (store file.now) (λ (known : List ℕ). UnlessUnopened output output_now outcome (HasDone t known output output_now failed outcome)) in
     let well : so (Ok tt) = ended-well so carried.1.0 carried.1.1 carried.1.2 in
     let done : UnlessUnopened output output_now (Ok tt) (HasDone t bytes output output_now failed (Ok tt)) =
@@ -106,8 +107,11 @@ module _ (one : OneScenario) (store : Store) (file : Path) (first : HasFirst sto
   pub settled-puts : Puts store (Do file (task.Run Settled)) (λ text. IsFollowedOutput first_scenario text)
   settled-puts = of_text store file (task.Run Settled) IsFollowedOutput one (λ bytes text written. written) first
 
-  pub told-puts : Puts store (Do file (task.Run Told)) (λ text. IsTold first_scenario text)
-  told-puts = of_text store file (task.Run Told) IsTold one (λ bytes text written. written) first
+  pub told-puts : Puts store (Do file (task.Run Told)) (λ text. IsToldIf false first_scenario text)
+  told-puts = of_text store file (task.Run Told) (IsToldIf false) one (λ bytes text written. written) first
+
+  pub both-puts : Puts store (Do file (task.Run ToldSettled)) (λ text. IsToldIf true first_scenario text)
+  both-puts = of_text store file (task.Run ToldSettled) (IsToldIf true) one (λ bytes text written. written) first
 
   pub settle-puts : Puts store (Do file task.Settle) (λ text. IsSettledListing first_scenario text)
   settle-puts = of_text store file task.Settle IsSettledListing one (λ bytes text written. written) first
@@ -118,21 +122,23 @@ module _ (one : OneScenario) (store : Store) (file : Path) (first : HasFirst sto
   pub draw-puts : (drawing : Drawing) → Puts store (Do file (task.Draw drawing)) (λ text. IsDrawing drawing first_scenario text)
   draw-puts drawing = of_text store file (task.Draw drawing) (IsDrawing drawing) one (λ bytes text written. written) first
 
-  pub why-puts : (question : Question) (looks : Looks) → Puts store (Do file (task.Why question looks)) (λ text. AreChanges (said_to question) looks first_scenario text)
-  why-puts question looks = of_text store file (task.Why question looks) (AreChanges (said_to question) looks) one (λ bytes text written. written) first
+  pub why-puts : (inquiry : Inquiry) → Puts store (Do file (task.Why inquiry)) (λ text. AreChanges inquiry first_scenario text)
+  why-puts inquiry = of_text store file (task.Why inquiry) (AreChanges inquiry) one (λ bytes text written. written) first
 
   -- A debugger, and a play.
 
   of_spelled : (bytes : List ℕ) (fact : ScenarioContents → Type 0) → Spells bytes first_scenario → OfSpelled bytes fact → fact first_scenario
   of_spelled bytes fact spells holds = subst fact (one bytes holds.0 first_scenario holds.1 spells) holds.2
 
-  pub debug-leads : Leads store (Debug file) (Ok 0) (λ input output output_now errors errors_now. (errors_now ≡ errors) × IsDebugged input output output_now first_scenario)
-  debug-leads look logic input output output_now errors errors_now failed carried =
-      let so = λ (outcome : Result (Unit {0}) PlayError). IfSome (store file.now) (λ (known : List ℕ). HasDebugged known input output output_now failed outcome) in
+  pub debug-leads : (manner : Manner) (settle : Bool) → LeadsIn manner store (Debug file settle) (Ok 0)
+      (λ input output output_now errors errors_now. (errors_now ≡ errors)
+      × ((T : ScenarioContents) × IsSettledIf settle first_scenario T × IsDebugged manner input output output_now T))
+  debug-leads manner settle look logic input output output_now errors errors_now failed carried =
+      let so = λ (outcome : Result (Unit {0}) PlayError). IfSome (store file.now) (λ (known : List ℕ). HasDebugged manner settle known input output output_now failed outcome) in
       let well : so (Ok tt) = ended-well so carried.1.0 carried.1.1 carried.1.2 in
-      let said : HasDebugged first.0 input output output_now failed (Ok tt) =
-      subst (λ (known : Option (List ℕ)). IfSome known (λ (b : List ℕ). HasDebugged b input output output_now failed (Ok tt))) first.1 well in
-      (carried.0, of_spelled first.0 (IsDebugged input output output_now) first.2 said.told)
+      let said : HasDebugged manner settle first.0 input output output_now failed (Ok tt) =
+      subst (λ (known : Option (List ℕ)). IfSome known (λ (b : List ℕ). HasDebugged manner settle b input output output_now failed (Ok tt))) first.1 well in
+      (carried.0, of_spelled first.0 (λ S. (T : ScenarioContents) × IsSettledIf settle S T × IsDebugged manner input output output_now T) first.2 said.told)
 
   play-left : (capacity : ℕ) (output output_now : Option (List ℕ)) (failed : Bool) (r : Result (Unit {0}) PlayError)
       → IfSome (store file.now) (λ (known : List ℕ). HasLeft capacity known output output_now failed r) → HasLeft capacity first.0 output output_now failed r
@@ -142,7 +148,7 @@ module _ (one : OneScenario) (store : Store) (file : Path) (first : HasFirst sto
   pub play-leads : (capacity : ℕ)
       → Leads store (Play file capacity) (Ok 0)
       (λ input output output_now errors errors_now. (errors_now ≡ errors) × Left first_scenario (λ history. Interleaves (scripts_of first_scenario) history) output output_now)
-  play-leads capacity look logic input output output_now errors errors_now failed carried =
+  play-leads capacity manner look logic input output output_now errors errors_now failed carried =
       let so = λ (outcome : Result (Unit {0}) PlayError). IfSome (store file.now) (λ (known : List ℕ). HasLeft capacity known output output_now failed outcome) in
       let left = play-left capacity output output_now failed (Ok tt) (ended-well so carried.1.0 carried.1.1 carried.1.2) in
       (carried.0, of_spelled first.0 (λ S. Left S (λ history. Interleaves (scripts_of S) history) output output_now) first.2 left.all)
@@ -150,7 +156,7 @@ module _ (one : OneScenario) (store : Store) (file : Path) (first : HasFirst sto
   pub full-leads : (capacity : ℕ)
       → Leads store (Play file capacity) (Err Full)
       (λ input output output_now errors errors_now. (errors_now ≡ errors) × Left first_scenario (λ history. IsFull first_scenario capacity history) output output_now)
-  full-leads capacity look logic input output output_now errors errors_now failed carried =
+  full-leads capacity manner look logic input output output_now errors errors_now failed carried =
       let so = λ (outcome : Result (Unit {0}) PlayError). IfSome (store file.now) (λ (known : List ℕ). HasLeft capacity known output output_now failed outcome) in
       let left = play-left capacity output output_now failed (Err Full) (ended-so so Full carried.1.0 carried.1.1 carried.1.2) in
       (carried.0, of_spelled first.0 (λ S. Left S (λ history. IsFull S capacity history) output output_now) first.2 (left.full refl))
@@ -173,7 +179,7 @@ outside-of t bytes x output output_now failed error goal (inr done) = done.0.giv
 
 pub fault-outside : (store : Store) (file : Path) (t : Task) (bytes x : List ℕ) (error : PlayError) → store file.now ≡ Some bytes → IsGoalOf t (Some bytes) x
     → Leads store (Do file t) (Err error) (λ input output output_now errors errors_now. IsOutside error)
-fault-outside store file t bytes x error has goal look logic input output output_now errors errors_now failed carried =
+fault-outside store file t bytes x error has goal manner look logic input output output_now errors errors_now failed carried =
     let so = λ (outcome : Result (Unit {0}) PlayError). IfSome (store file.now) (λ (known : List ℕ). UnlessUnopened output output_now outcome (HasDone t known output output_now failed outcome)) in
     let ended : so (Err error) = ended-so so error carried.1.0 carried.1.1 carried.1.2 in
     let done : UnlessUnopened output output_now (Err error) (HasDone t bytes output output_now failed (Err error)) =
@@ -198,7 +204,7 @@ run-outside store file error first =
 pub told-outside : TaskFindsNoFault (task.Run Told)
 told-outside store file error first =
     fault-outside store file (task.Run Told) first.0 (tell_text first_scenario (expand me)) error first.1
-    (first_scenario, spelled-first first.0 first.2, (me, first-runs, refl))
+    (first_scenario, spelled-first first.0 first.2, (first_scenario, (refl, (me, first-runs)), (me, first-runs, refl)))
 
 pub list-outside : TaskFindsNoFault task.List
 list-outside store file error first =
@@ -207,16 +213,20 @@ list-outside store file error first =
 -- What goes elsewhere.
 
 pub new_puts : (store : Store) → Puts store (New None) (λ text. Spells text first_scenario)
-new_puts store look logic input output output_now errors errors_now failed carried =
+new_puts store manner look logic input output output_now errors errors_now failed carried =
     (carried.0, (ended-well (λ outcome. HasStarted output output_now failed outcome) carried.1.0 carried.1.1 carried.1.2).0)
 
-pub version_puts : (store : Store) (look : Look) (logic : List ℕ) (input output output_now errors errors_now : Option (List ℕ)) (failed : Bool)
-    → HasCarriedOut store look logic input output output_now errors errors_now failed Version (Ok 0)
+pub language_puts : (store : Store) → Puts store Language (λ text. text ≡ language_page)
+language_puts store manner look logic input output output_now errors errors_now failed carried =
+    (carried.0, (language_page, refl, (ended-well (λ outcome. HasToldLanguage output output_now failed outcome) carried.1.0 carried.1.1 carried.1.2).0))
+
+pub version_puts : (store : Store) (look : Look) (manner : Manner) (logic : List ℕ) (input output output_now errors errors_now : Option (List ℕ)) (failed : Bool)
+    → HasCarriedOut store look manner logic input output output_now errors errors_now failed Version (Ok 0)
     → (errors_now ≡ errors) × Appends output output_now (version_line logic)
-version_puts store look logic input output output_now errors errors_now failed carried = (carried.0, carried.1.1)
+version_puts store look manner logic input output output_now errors errors_now failed carried = (carried.0, carried.1.1)
 
 pub new_file_puts : (store : Store) (file : Path) → PutsNothing store (New (Some file))
-new_file_puts store file look logic input output output_now errors errors_now failed carried = (carried.1, carried.0)
+new_file_puts store file manner look logic input output output_now errors errors_now failed carried = (carried.1, carried.0)
 
 pub asm_puts : (store : Store) (file out : Path) → PutsNothing store (Asm file out)
-asm_puts store file out look logic input output output_now errors errors_now failed carried = (carried.1, carried.0)
+asm_puts store file out manner look logic input output output_now errors errors_now failed carried = (carried.1, carried.0)

@@ -9,6 +9,7 @@ use Rattle.cmwq_grammar.specs.Grammar.{Spells}
 use Rattle.cmwq_outcome.specs.Checking.{HasRead, status_of_judged}
 use Rattle.cmwq_outcome.specs.declared.file_verdict.Judged.{Judged}
 use Rattle.cmwq_outcome.specs.declared.file_verdict.Judged.TheVariants.{Good, Unread}
+use Rattle.cmwq_remarks.specs.Notes.{AreNotes}
 use Rattle.cmwq_starter.specs.Starter.{first_scenario}
 use Rattle.cmwq_verdict.specs.declared.looks.Look.{Look}
 
@@ -61,14 +62,14 @@ no-more (b ∷ bytes) = ap (λ (rest : List ℕ). b ∷ rest) (no-more bytes)
 read-whole : (bytes : List ℕ) → HasRead (Some bytes) (Some []) bytes
 read-whole bytes = record { read = no-more bytes; whole = λ short. refl }
 
-pub told_in_order : (look : Look) (bytes : List ℕ) → Spells bytes first_scenario
-    → HasChecked (having bytes) look two_files 2 (Some (codes "")) (Some (codes "b: ok\n")) (Some (codes "")) (Some (codes "a: read\n")) 3
-told_in_order look bytes spells = (
+pub told_in_order : (look : Look) (bytes told : List ℕ) → Spells bytes first_scenario → AreNotes (codes "b") bytes told
+    → HasChecked (having bytes) look two_files 2 (Some (codes "")) (Some (codes "b: ok\n")) (Some (codes "")) (Some (codes "a: read\n" ++ told)) 3
+told_in_order look bytes told spells notes = (
   Some [],
   Some (codes "a: read\n"),
   3,
   Good,
   (Some [], Some [], 0, Unread, (refl, refl, refl), (Some bytes, true, (refl, refl, refl)), refl),
-  (Some [], false, ((bytes, read-whole bytes, (first_scenario, spells)), refl, refl)),
+  (Some [], false, ((bytes, read-whole bytes, (first_scenario, spells), (told, notes, refl)), refl)),
   refl,
 )

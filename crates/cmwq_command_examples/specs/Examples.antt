@@ -3,11 +3,12 @@ use denote.Ref.{Bor}
 use Rattle.std.specs.Prelude.{◌≡◌, ℕ, List, Bool, Option, Some, Result, Ok, Err}
 use Rattle.std.specs.Io.KnownBytes.{Appends}
 use Rattle.cmwq_command.specs.Carried.{HasCarriedOut, Store}
+use Rattle.cmwq_debug_lines.specs.declared.manner.Manner.{Manner}
 use Rattle.cmwq_grammar.specs.Grammar.{Spells}
 use Rattle.cmwq_play.specs.Commands.{IsOutside}
 use Rattle.cmwq_request.specs.Request.{request_words}
 use Rattle.cmwq_request.specs.declared.request.Request.{Request}
-use Rattle.cmwq_request.specs.declared.request.Request.TheVariants.{Do}
+use Rattle.cmwq_request.specs.declared.request.Request.TheVariants.{Debug, Do}
 use Rattle.cmwq_starter.specs.Starter.{first_scenario}
 use Rattle.cmwq_streams.specs.declared.error.PlayError.{PlayError}
 use Rattle.cmwq_tasks.specs.declared.task.Task.{Task}
@@ -26,10 +27,14 @@ abbrev pub HasFirst : Store → Path → Type 0
 HasFirst store file = (bytes : List ℕ) × (store file.now ≡ Some bytes) × Spells bytes first_scenario
 
 -- Where the request ends so, this holds of the input, of the output before and after, and of the writer for faults before and after.
-abbrev pub Leads : Store → Request → Result ℕ PlayError → ((input output output_now errors errors_now : Option (List ℕ)) → Type 0) → Type 0
-Leads store request result fact =
+abbrev pub LeadsIn : Manner → Store → Request → Result ℕ PlayError → ((input output output_now errors errors_now : Option (List ℕ)) → Type 0) → Type 0
+LeadsIn manner store request result fact =
     (look : Look) (logic : List ℕ) (input output output_now errors errors_now : Option (List ℕ)) (failed : Bool)
-    → HasCarriedOut store look logic input output output_now errors errors_now failed request result → fact input output output_now errors errors_now
+    → HasCarriedOut store look manner logic input output output_now errors errors_now failed request result → fact input output output_now errors errors_now
+
+-- The same, in whichever manner a debugging session is held.
+abbrev pub Leads : Store → Request → Result ℕ PlayError → ((input output output_now errors errors_now : Option (List ℕ)) → Type 0) → Type 0
+Leads store request result fact = (manner : Manner) → LeadsIn manner store request result fact
 
 -- Where it ends well, such a text was put on the output, and nothing on the writer for faults.
 abbrev pub Puts : Store → Request → (List ℕ → Type 0) → Type 0
@@ -51,6 +56,12 @@ abbrev pub TaskFindsNoFault : Task → Type 0
 TaskFindsNoFault task =
     (store : Store) (file : Path) (error : PlayError) → HasFirst store file
     → Leads store (Do file task) (Err error) (λ input output output_now errors errors_now. IsOutside error)
+
+-- So does a request for a debugger that is held in this manner, on such a file.
+abbrev pub DebugsOnFirst : Manner → (settle : Bool) → ((input output output_now : Option (List ℕ)) → Type 0) → Type 0
+DebugsOnFirst manner settle fact =
+    (store : Store) (file : Path) → HasFirst store file
+    → LeadsIn manner store (Debug file settle) (Ok 0) (λ input output output_now errors errors_now. (errors_now ≡ errors) × fact input output output_now)
 
 -- Where the request ends so on such a file, the writer for faults is as it was, and this holds of the input and of the output before and after.
 abbrev pub LeadsOnFirst : (Path → Request) → Result ℕ PlayError → ((input output output_now : Option (List ℕ)) → Type 0) → Type 0

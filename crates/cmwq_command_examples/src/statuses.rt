@@ -4,10 +4,11 @@ ghost use Rattle.cmwq_command_examples.specs.Statuses.{TellsHighest, having, two
 ghost use Rattle.cmwq_grammar.specs.Grammar.{Spells};
 ghost use Rattle.cmwq_outcome.specs.Checking.{status_of_judged};
 ghost use Rattle.cmwq_outcome.specs.declared.file_verdict.Judged.TheVariants as judged;
+ghost use Rattle.cmwq_remarks.specs.Notes.{AreNotes};
 ghost use Rattle.cmwq_starter.specs.Starter.{first_scenario};
 ghost use Rattle.cmwq_streams.specs.declared.error.PlayError.TheVariants as errors;
 ghost use Rattle.cmwq_verdict.specs.declared.looks.Look.{Look};
-ghost use Rattle.std.specs.Prelude.{◌≡◌, ℕ, Err, List, Ok, Some, codes};
+ghost use Rattle.std.specs.Prelude.{◌≡◌, ◌++◌, ℕ, Err, List, Ok, Some, codes};
 
 /// What goes well ends with 0, and nothing else has a status of its own there.
 pub fn outcomes_have_their_statuses()
@@ -25,9 +26,10 @@ pub fn highest_status_is_told()
     ensures unread { status_of_judged judged.Unread ≡ 3 }
 {}
 
-/// The first file can't be read, which is told on the writer for faults, and the second is good, which is told on the output: that ends with 3.
+/// The first file can't be read, which is told on the writer for faults, and the second is good, which is told on the output, and its notes on
+/// the writer for faults: that ends with 3.
 #[tactic(auto, using(crate::proofs::StatusLemmas::told_in_order))]
 pub fn first_file_is_told_first()
-    ensures { (look : Look) (bytes : List ℕ) → Spells bytes first_scenario
-        → HasChecked (having bytes) look two_files 2 (Some (codes "")) (Some (codes "b: ok\n")) (Some (codes "")) (Some (codes "a: read\n")) 3 }
+    ensures { (look : Look) (bytes told : List ℕ) → Spells bytes first_scenario → AreNotes (codes "b") bytes told
+        → HasChecked (having bytes) look two_files 2 (Some (codes "")) (Some (codes "b: ok\n")) (Some (codes "")) (Some (codes "a: read\n" ++ told)) 3 }
 {}

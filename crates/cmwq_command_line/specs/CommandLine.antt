@@ -35,7 +35,7 @@ command_on name id = with_rule (new_app name) (required_rule id)
 abbrev pub new_command : App
 new_command = with_rule (new_app (codes "new")) (new_rule (codes "FILE"))
 
--- `run [--settle] [--tell] FILE`, `list FILE`, `asm FILE OUT`, `show IMAGE`, `debug FILE` and `play FILE --capacity N`
+-- `run [--settle] [--tell] FILE`, `list FILE`, `asm FILE OUT`, `show IMAGE`, `debug [--settle] FILE` and `play FILE --capacity N`
 abbrev pub run_command : App
 run_command = with_rule (with_rule (command_on (codes "run") (codes "FILE")) (flag_rule (codes "settle"))) (flag_rule (codes "tell"))
 
@@ -49,7 +49,7 @@ abbrev pub show_command : App
 show_command = command_on (codes "show") (codes "IMAGE")
 
 abbrev pub debug_command : App
-debug_command = command_on (codes "debug") (codes "FILE")
+debug_command = with_rule (command_on (codes "debug") (codes "FILE")) (flag_rule (codes "settle"))
 
 abbrev pub play_command : App
 play_command =
@@ -63,23 +63,35 @@ check_command = with_rule (new_app (codes "check")) (record (required_rule (code
 abbrev pub settle_command : App
 settle_command = command_on (codes "settle") (codes "FILE")
 
--- `draw [--settle] [--svg] [--from T] [--to T] FILE`
-abbrev pub draw_command : App
-draw_command =
+-- `draw [--settle] [--svg] [--from T] [--to T] FILE`, and so with `[--fold] [--works A,B] [--scale N] [--id NAME]`
+abbrev pub spanned_command : App
+spanned_command =
     with_rule
     (with_rule
     (with_rule (with_rule (command_on (codes "draw") (codes "FILE")) (flag_rule (codes "settle"))) (flag_rule (codes "svg")))
     (value_rule (codes "FROM") (codes "from")))
     (value_rule (codes "TO") (codes "to"))
 
--- `why [--flush F] [--at K] [--every] FILE [WORK]`
+abbrev pub draw_command : App
+draw_command =
+    with_rule
+    (with_rule
+    (with_rule (with_rule spanned_command (flag_rule (codes "fold"))) (value_rule (codes "WORKS") (codes "works")))
+    (value_rule (codes "SCALE") (codes "scale")))
+    (value_rule (codes "NAME") (codes "id"))
+
+-- `why [--flush F] [--at K] FILE [WORK]`, and so with `[--every] [--time T] [--settle]`
+abbrev pub asking_command : App
+asking_command =
+    with_rule
+    (with_rule (with_rule (command_on (codes "why") (codes "FILE")) (new_rule (codes "WORK"))) (value_rule (codes "F") (codes "flush")))
+    (value_rule (codes "K") (codes "at"))
+
 abbrev pub why_command : App
 why_command =
     with_rule
-    (with_rule
-    (with_rule (with_rule (command_on (codes "why") (codes "FILE")) (new_rule (codes "WORK"))) (value_rule (codes "F") (codes "flush")))
-    (value_rule (codes "K") (codes "at")))
-    (flag_rule (codes "every"))
+    (with_rule (with_rule asking_command (flag_rule (codes "every"))) (value_rule (codes "T") (codes "time")))
+    (flag_rule (codes "settle"))
 
 -- the program with no command
 abbrev pub bare_program : App

@@ -1,7 +1,7 @@
 //! The program's commands, and the words that they take.
 
 ghost use Rattle.clap.specs.Words.{app_of, new_app, new_rule};
-ghost use Rattle.cmwq_command_line.specs.CommandLine.{IsArgument, IsCommand, asm_command, bare_program, check_command, command_line, command_on, draw_command, eight_commands, flag_rule, four_commands, new_command, play_command, required_rule, run_command, show_command, value_rule, why_command};
+ghost use Rattle.cmwq_command_line.specs.CommandLine.{IsArgument, IsCommand, asking_command, asm_command, bare_program, check_command, command_line, command_on, debug_command, draw_command, eight_commands, flag_rule, four_commands, new_command, play_command, required_rule, run_command, show_command, spanned_command, value_rule, why_command};
 ghost use Rattle.std.specs.Prelude.{◌≡◌, IfOk, codes};
 
 use crate::help;
@@ -28,14 +28,9 @@ pub fn command_line<'a>(alloc: Global) -> Result<Command<'a>, AllocError>
 fn eight_commands<'a>(alloc: Global) -> Result<Command<'a>, AllocError>
     ensures { IfOk result (λ r. app_of r ≡ eight_commands) }
 {
-    let debug = on_text(
-        alloc,
-        "debug",
-        "Carries out commands of standard input on a scenario's run, forwards and back",
-    );
     let program = four_commands(alloc)?
         .subcommand(show_command(alloc)?)?
-        .subcommand(debug?)?
+        .subcommand(debug_command(alloc)?)?
         .subcommand(play_command(alloc)?)?
         .subcommand(check_command(alloc)?)?;
     Ok(program)
@@ -96,11 +91,7 @@ fn run_command<'a>(alloc: Global) -> Result<Command<'a>, AllocError>
         "run",
         "Runs a scenario and writes its events to standard output",
     )?
-    .arg(flag(
-        alloc,
-        "settle",
-        "Lets the run go on by `next` until the machine is quiet",
-    ))?
+    .arg(settle_flag(alloc))?
     .arg(flag(
         alloc,
         "tell",
@@ -129,6 +120,18 @@ fn show_command<'a>(alloc: Global) -> Result<Command<'a>, AllocError>
         "Writes the listing of an image's scenario to standard output",
     )
     .arg(argument(alloc, "IMAGE", "The scenario's image"))
+}
+
+/// The command that goes over a run forwards and back.
+fn debug_command<'a>(alloc: Global) -> Result<Command<'a>, AllocError>
+    ensures { IfOk result (IsCommand debug_command) }
+{
+    on_text(
+        alloc,
+        "debug",
+        "Carries out commands of standard input on a scenario's run, forwards and back",
+    )?
+    .arg(settle_flag(alloc))
 }
 
 /// The command that carries out all actors at once.
@@ -165,16 +168,42 @@ fn check_command<'a>(alloc: Global) -> Result<Command<'a>, AllocError>
 fn draw_command<'a>(alloc: Global) -> Result<Command<'a>, AllocError>
     ensures { IfOk result (IsCommand draw_command) }
 {
+    spanned_command(alloc)?
+        .arg(flag(
+            alloc,
+            "fold",
+            "Folds each gap of more than 20 ticks in which nothing changes",
+        ))?
+        .arg(valued(
+            alloc,
+            "WORKS",
+            "works",
+            "The works to draw, with a comma between two; else all",
+        ))?
+        .arg(valued(
+            alloc,
+            "SCALE",
+            "scale",
+            "How many pixels a tick is wide in an SVG picture, 1 to 100",
+        ))?
+        .arg(valued(
+            alloc,
+            "NAME",
+            "id",
+            "The SVG picture's name in the page that holds it",
+        ))
+}
+
+/// The same with the options that say what is drawn of the run.
+fn spanned_command<'a>(alloc: Global) -> Result<Command<'a>, AllocError>
+    ensures { IfOk result (IsCommand spanned_command) }
+{
     on_text(
         alloc,
         "draw",
         "Draws a scenario's run: a row a work, a column a tick",
     )?
-    .arg(flag(
-        alloc,
-        "settle",
-        "Lets the run go on by `next` until the machine is quiet",
-    ))?
+    .arg(settle_flag(alloc))?
     .arg(flag(alloc, "svg", "Writes an SVG picture"))?
     .arg(valued(alloc, "FROM", "from", "The first tick to draw"))?
     .arg(valued(alloc, "TO", "to", "The tick before which to end"))
@@ -183,6 +212,16 @@ fn draw_command<'a>(alloc: Global) -> Result<Command<'a>, AllocError>
 /// The command that tells why a work or a flush waits.
 fn why_command<'a>(alloc: Global) -> Result<Command<'a>, AllocError>
     ensures { IfOk result (IsCommand why_command) }
+{
+    asking_command(alloc)?
+        .arg(flag(alloc, "every", "Looks at every position"))?
+        .arg(valued(alloc, "T", "time", "Looks at tick T alone"))?
+        .arg(settle_flag(alloc))
+}
+
+/// The same with the arguments that say what is asked, and the position.
+fn asking_command<'a>(alloc: Global) -> Result<Command<'a>, AllocError>
+    ensures { IfOk result (IsCommand asking_command) }
 {
     let work = optional(
         alloc,
@@ -206,8 +245,7 @@ fn why_command<'a>(alloc: Global) -> Result<Command<'a>, AllocError>
         "K",
         "at",
         "Looks at position K alone, behind the first K instructions",
-    ))?
-    .arg(flag(alloc, "every", "Looks at every position"))
+    ))
 }
 
 /// A command on the text of a scenario.
@@ -248,6 +286,17 @@ fn flag<'a>(alloc: Global, name: &'a str, help: &'a str) -> Arg<'a>
         .long(name)
         .action(ArgAction::SetTrue)
         .help(help)
+}
+
+/// The option that lets a run go on.
+fn settle_flag<'a>(alloc: Global) -> Arg<'a>
+    ensures { IsArgument (flag_rule (codes "settle")) result }
+{
+    flag(
+        alloc,
+        "settle",
+        "Lets the run go on by `next` until the machine is quiet",
+    )
 }
 
 /// An option that may be given, with its value.

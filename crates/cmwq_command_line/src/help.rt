@@ -7,10 +7,10 @@ pub const VERSION: &str = "0.1.0";
 pub const PROGRAM: &str = "\
 Examples:
   cmwq new first.cmwq
-  cmwq run first.cmwq
-  cmwq draw first.cmwq
-  cmwq why first.cmwq b
+  cmwq help scenario
   cmwq run --settle first.cmwq
+  cmwq draw --settle first.cmwq
+  cmwq why --settle first.cmwq b
   cmwq settle first.cmwq
   cmwq list scenarios/max_active_3.cmwq
   cmwq asm scenarios/max_active_3.cmwq max_active_3.image
@@ -19,7 +19,9 @@ Examples:
   cmwq play scenarios/race.cmwq --capacity 100
   cmwq check first.cmwq scenarios/race.cmwq
 
-Every command takes --explain, anywhere among its words: behind the line of a fault it says what can be done about it, as at a terminal.
+`cmwq help scenario` shows what a scenario's text may say. A FILE or IMAGE that is read may be -, standard input.
+Every command takes --explain, anywhere among its words: behind the line of a fault it says what can be done about it, and behind a run
+what should be known of it, as at a terminal.
 
 The formats of scenarios and images, the debugger's commands, and what each fault means, are in docs/FORMATS.md.
 
@@ -44,8 +46,9 @@ Example:
 
 const RUN: &str = "\
 Prints a line for each thing that happens: the time, the work, and what it did. With --settle it goes on by `next` behind the
-actor's instructions, until no work is pending and none runs. With --tell each instruction stands before its line, and behind it what
-it changed unseen: works placed or activated, timers set, time passed. These lines begin with #.
+actor's instructions, until no work is pending and none runs. With --tell each instruction stands before its line, behind its position,
+and behind it what it changed unseen: works placed or activated, timers set, the workers of those that start, time passed. These lines
+begin with #. Where both are given and the machine never is quiet, nothing is printed.
 
 Exit status:
   0  every instruction was carried out, or refused in a line of its own
@@ -53,11 +56,11 @@ Exit status:
      scenario's steps or 1,048,576 instructions were over before the machine was quiet; what was printed is the run up to there
   2  the command line is wrong
   3  `read`: FILE can't be read; `write`: the output can't be written
-  4  `full`: more than 1,048,576 instructions; `no memory`
+  4  `full`: more than 1,048,576 instructions, or with both options as for settle; `no memory`
 
 Examples:
-  cmwq run scenarios/max_active_3.cmwq
   cmwq run --settle first.cmwq
+  cmwq run scenarios/max_active_3.cmwq
   cmwq run --tell scenarios/max_active_1.cmwq";
 
 const SETTLE: &str = "\
@@ -77,38 +80,47 @@ Example:
 
 const DRAW: &str = "\
 Prints a row for each work that was pending or ran, with a column for each tick, and below the rows of the CPUs and of the actor. The
-last line says what the signs mean. Where more than 500 columns would be drawn, --from and --to have to be given.
+last lines say what the signs mean, and what the actor did. With --fold each gap of more than 20 ticks in which nothing changes is one
+column; where more than 500 columns would be drawn, and not both of --from and --to are given, that is done unasked.
+With --works A,B only these works have rows. An SVG picture is --scale pixels a tick wide, 10 if not given, and all that it brings into a
+page goes by its --id, `cmwq` if not given: 1 to 64 letters, digits, - and _, first a letter.
 
 Exit status:
   0  the picture was written
-  1  `line 6: Duplicate`: the text's first fault; `actors`: there isn't exactly one actor; `never quiet`: with --settle, as for run
-  2  the command line is wrong; `more than 500 columns: give --from and --to`
+  1  `line 6: Duplicate`: the text's first fault; `actors`: there isn't exactly one actor; `never quiet`: with --settle, as for run;
+     `no such work`: one of --works isn't declared
+  2  the command line is wrong; `more than 500 columns: give --from and --to`: even folded
   3  `read`: FILE can't be read; `write`: the output can't be written
   4  `full`: more than 1,048,576 instructions, or with --settle more than 4,096 lines; `no memory`
 
 Examples:
   cmwq draw scenarios/max_active_3.cmwq
+  cmwq draw --settle first.cmwq
   cmwq draw --settle --from 10 --to 20 first.cmwq
   cmwq draw --svg scenarios/max_active_3.cmwq > max_active_3.svg";
 
 const WHY: &str = "\
 Prints why WORK doesn't get on, as `at K now N WORK REASON`: K instructions have been carried out, and it is tick N. There is a line for
 the first settled position, where no timer is due and no pool has a move, and one for each further one at which the reason changed; the
-run's last position is looked at too. With --every each position is, and with --at K position K alone.
+run's last position is looked at too. With --every each position is, with --at K position K alone, and with --time T the settled ones of
+tick T. With --settle the run goes on by `next` until no work is pending and none runs.
 With --flush F it prints what flush number F waits for, wherever that changed: how many instances, in a line each what keeps it, and in
 lines further in what keeps those that were named.
 
 Exit status:
   0  the lines were written
   1  `line 6: Duplicate`: the text's first fault; `actors`: there isn't exactly one actor; `no such work`: no work has this name;
-     `past the end`: there are fewer than K instructions; `no such flush`: flush F isn't given, or not by position K
-  2  the command line is wrong: WORK and --flush are both given or both left out, --at and --every are both given, an option stands
-     twice, or F or K isn't a number of 1 to 10 digits
+     `past the end`: there are fewer than K instructions, or tick T isn't reached; `no such flush`: flush F isn't given, or not by then;
+     `never quiet`: with --settle, as for run
+  2  the command line is wrong: WORK and --flush are both given or both left out, two of --at, --every and --time are given, an option
+     stands twice, or F, K or T isn't a number of 1 to 10 digits
   3  `read`: FILE can't be read; `write`: the output can't be written
-  4  `full`: more than 1,048,576 instructions; `no memory`
+  4  `full`: more than 1,048,576 instructions, or with --settle as for settle; `no memory`
 
 Examples:
+  cmwq why --settle first.cmwq b
   cmwq why scenarios/holds_the_limit.cmwq b
+  cmwq why --time 5 scenarios/holds_the_limit.cmwq b
   cmwq why --every scenarios/queued_between.cmwq a
   cmwq why --flush 0 scenarios/holds_the_limit.cmwq";
 
@@ -154,14 +166,15 @@ Example:
 const DEBUG: &str = "\
 Commands are lines of standard input: step N, back N, goto K, run, break work W event E, break time T,
 break refusal, break activates W, clear I, list, dump, dump pool P, why W, why flush F, help, quit. Prints the answer to each
-before the next is read.
+before the next is read. With --settle the run goes on by `next` behind the actor's instructions, until no work is pending and none runs.
 
 Exit status:
   0  the input ended, or `quit` came; refused and bad commands are answered in lines of their own
-  1  `line 6: Duplicate`: the text's first fault; `actors`: there isn't exactly one actor; `too long`: the commands
-  2  the command line is wrong
+  1  `line 6: Duplicate`: the text's first fault; `actors`: there isn't exactly one actor; `too long`: the commands;
+     `never quiet`: with --settle, as for run
+  2  the command line is wrong; FILE can't be -, since the commands come from there
   3  `read`: FILE or the commands can't be read; `write`: the output can't be written
-  4  `full`: more than 1,048,576 instructions; `no memory`
+  4  `full`: more than 1,048,576 instructions, or with --settle as for settle; `no memory`
 
 Example:
   cmwq debug scenarios/max_active_2.cmwq < scenarios/max_active_2.debug";
@@ -182,7 +195,8 @@ Example:
 
 const CHECK: &str = "\
 Prints of each file: `FILE: ok` on standard output, or on standard error where the text's first fault is and why it is one, and in a
-second line the words that a line may begin with there, as `  a line here may begin with: queue, work, actor`.
+second line what may stand there, as `  a line here may begin with: queue, work, actor`. Behind a good text's line stand notes, on standard
+error, where a kernel does otherwise than this program; they change no status.
 Each file is judged, whatever the others are, and the highest of their statuses is the command's.
 
 Exit status:

@@ -1,5 +1,5 @@
 //! What the rows share: the one assertion, since a row of a table costs less to prove where it only calls this, and the setting of commands.
-use cmwq_command::ProgramSetting;
+use cmwq_command::{Manner, ProgramSetting};
 use cmwq_outcome::Look;
 use std::fmt::Debug;
 use std::process::Abort;
@@ -19,5 +19,6 @@ pub(crate) fn setting_with(look: Look) -> ProgramSetting<'static> {
     ProgramSetting {
         logic: "5eed5eed5eed5eed",
         look,
+        manner: Manner::Plain,
     }
 }

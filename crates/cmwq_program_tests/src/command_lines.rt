@@ -6,7 +6,7 @@ use cmwq_machine_tests::streams::{Output, reading_of, writing_to};
 use cmwq_outcome::{Look, tell};
 use cmwq_play::Marked;
 use cmwq_request::request::{Request, not_text, parse};
-use cmwq_tasks::{Drawing, Looks, Question, RunKind, Span, Task};
+use cmwq_tasks::{Drawing, Form, Inquiry, Looks, Question, RunKind, Span, Style, Task};
 use std::alloc::Global;
 use std::process::Abort;
 use std::rt::Files;
@@ -22,7 +22,7 @@ fn words(rt: &impl Abort, alloc: Global, line: &str) -> Vec<String> {
         .expect(rt, "memory is left")
 }
 
-const REQUESTS: [(&str, Request<'_>); 25] = [
+const REQUESTS: [(&str, Request<'_>); 30] = [
     ("cmwq new", Request::New { file: None }),
     (
         "cmwq new a.cmwq",
@@ -64,7 +64,9 @@ const REQUESTS: [(&str, Request<'_>); 25] = [
             file: "a.cmwq",
             task: Task::Draw(Drawing {
                 settle: false,
-                svg: false,
+                fold: false,
+                works: None,
+                form: Form::Text,
                 span: Span {
                     from: None,
                     to: None,
@@ -78,7 +80,12 @@ const REQUESTS: [(&str, Request<'_>); 25] = [
             file: "a.cmwq",
             task: Task::Draw(Drawing {
                 settle: true,
-                svg: true,
+                fold: false,
+                works: None,
+                form: Form::Svg(Style {
+                    scale: None,
+                    id: None,
+                }),
                 span: Span {
                     from: Some(0),
                     to: Some(u64::MAX),
@@ -92,7 +99,12 @@ const REQUESTS: [(&str, Request<'_>); 25] = [
             file: "a.cmwq",
             task: Task::Draw(Drawing {
                 settle: false,
-                svg: true,
+                fold: false,
+                works: None,
+                form: Form::Svg(Style {
+                    scale: None,
+                    id: None,
+                }),
                 span: Span {
                     from: None,
                     to: Some(9),
@@ -104,56 +116,88 @@ const REQUESTS: [(&str, Request<'_>); 25] = [
         "cmwq why a.cmwq a",
         Request::Do {
             file: "a.cmwq",
-            task: Task::Why(Question::Work("a"), Looks::Settled),
+            task: Task::Why(Inquiry {
+                question: Question::Work("a"),
+                looks: Looks::Settled,
+                settle: false,
+            }),
         },
     ),
     (
         "cmwq why a.cmwq a --every",
         Request::Do {
             file: "a.cmwq",
-            task: Task::Why(Question::Work("a"), Looks::Every),
+            task: Task::Why(Inquiry {
+                question: Question::Work("a"),
+                looks: Looks::Every,
+                settle: false,
+            }),
         },
     ),
     (
         "cmwq why --at 0 a.cmwq a",
         Request::Do {
             file: "a.cmwq",
-            task: Task::Why(Question::Work("a"), Looks::At(0)),
+            task: Task::Why(Inquiry {
+                question: Question::Work("a"),
+                looks: Looks::At(0),
+                settle: false,
+            }),
         },
     ),
     (
         "cmwq why a.cmwq a.b --at 9999999999",
         Request::Do {
             file: "a.cmwq",
-            task: Task::Why(Question::Work("a.b"), Looks::At(9_999_999_999)),
+            task: Task::Why(Inquiry {
+                question: Question::Work("a.b"),
+                looks: Looks::At(9_999_999_999),
+                settle: false,
+            }),
         },
     ),
     (
         "cmwq why a.cmwq ",
         Request::Do {
             file: "a.cmwq",
-            task: Task::Why(Question::Work(""), Looks::Settled),
+            task: Task::Why(Inquiry {
+                question: Question::Work(""),
+                looks: Looks::Settled,
+                settle: false,
+            }),
         },
     ),
     (
         "cmwq why a.cmwq --flush 0",
         Request::Do {
             file: "a.cmwq",
-            task: Task::Why(Question::Flush(0), Looks::Settled),
+            task: Task::Why(Inquiry {
+                question: Question::Flush(0),
+                looks: Looks::Settled,
+                settle: false,
+            }),
         },
     ),
     (
         "cmwq why --every --flush 0000000007 a.cmwq",
         Request::Do {
             file: "a.cmwq",
-            task: Task::Why(Question::Flush(7), Looks::Every),
+            task: Task::Why(Inquiry {
+                question: Question::Flush(7),
+                looks: Looks::Every,
+                settle: false,
+            }),
         },
     ),
     (
         "cmwq why a.cmwq --at 31 --flush 9999999999",
         Request::Do {
             file: "a.cmwq",
-            task: Task::Why(Question::Flush(9_999_999_999), Looks::At(31)),
+            task: Task::Why(Inquiry {
+                question: Question::Flush(9_999_999_999),
+                looks: Looks::At(31),
+                settle: false,
+            }),
         },
     ),
     (
@@ -177,7 +221,58 @@ const REQUESTS: [(&str, Request<'_>); 25] = [
             task: Task::Show,
         },
     ),
-    ("cmwq debug a.cmwq", Request::Debug { file: "a.cmwq" }),
+    (
+        "cmwq debug a.cmwq",
+        Request::Debug {
+            file: "a.cmwq",
+            settle: false,
+        },
+    ),
+    (
+        "cmwq debug a.cmwq --settle",
+        Request::Debug {
+            file: "a.cmwq",
+            settle: true,
+        },
+    ),
+    (
+        "cmwq run --tell - --settle",
+        Request::Do {
+            file: "-",
+            task: Task::Run(RunKind::ToldSettled),
+        },
+    ),
+    (
+        "cmwq draw --id a-B_9 --works a,b --svg --scale 100 --fold -",
+        Request::Do {
+            file: "-",
+            task: Task::Draw(Drawing {
+                settle: false,
+                fold: true,
+                works: Some("a,b"),
+                form: Form::Svg(Style {
+                    scale: Some(100),
+                    id: Some("a-B_9"),
+                }),
+                span: Span {
+                    from: None,
+                    to: None,
+                },
+            }),
+        },
+    ),
+    (
+        "cmwq why --settle - a --time 9999999999",
+        Request::Do {
+            file: "-",
+            task: Task::Why(Inquiry {
+                question: Question::Work("a"),
+                looks: Looks::Time(9_999_999_999),
+                settle: true,
+            }),
+        },
+    ),
+    ("cmwq help scenario", Request::Language),
     (
         "cmwq play a.cmwq --capacity 4096",
         Request::Play {
@@ -224,7 +319,7 @@ fn a_check_asks_for_each_of_its_files(rt: HostRuntime) {
 }
 
 /// Command lines that are no request, of which kind the answer is, and with which status the program ends.
-const NO_REQUESTS: [(&str, ErrorKind, i32); 42] = [
+const NO_REQUESTS: [(&str, ErrorKind, i32); 53] = [
     (
         "cmwq",
         ErrorKind::DisplayHelpOnMissingArgumentOrSubcommand,
@@ -242,7 +337,6 @@ const NO_REQUESTS: [(&str, ErrorKind, i32); 42] = [
     ("cmwq play a --capacity 4097", ErrorKind::ValueValidation, 2),
     ("cmwq play a --capacity many", ErrorKind::ValueValidation, 2),
     ("cmwq run --fast a", ErrorKind::UnknownArgument, 2),
-    ("cmwq run --settle --tell a", ErrorKind::ValueValidation, 2),
     ("cmwq settle", ErrorKind::MissingRequiredArgument, 2),
     ("cmwq draw --from a", ErrorKind::MissingRequiredArgument, 2),
     ("cmwq draw --from ten a", ErrorKind::ValueValidation, 2),
@@ -251,12 +345,36 @@ const NO_REQUESTS: [(&str, ErrorKind, i32); 42] = [
         ErrorKind::ValueValidation,
         2,
     ),
+    ("cmwq draw --from 7 --to 3 a", ErrorKind::ValueValidation, 2),
+    ("cmwq draw --scale 5 a", ErrorKind::ValueValidation, 2),
+    ("cmwq draw --id x a", ErrorKind::ValueValidation, 2),
+    ("cmwq draw --svg --scale 0 a", ErrorKind::ValueValidation, 2),
+    (
+        "cmwq draw --svg --scale 101 a",
+        ErrorKind::ValueValidation,
+        2,
+    ),
+    ("cmwq draw --svg --id 9 a", ErrorKind::ValueValidation, 2),
+    ("cmwq draw --svg --id a.b a", ErrorKind::ValueValidation, 2),
+    ("cmwq debug -", ErrorKind::ValueValidation, 2),
+    ("cmwq help scenarios", ErrorKind::InvalidSubcommand, 2),
     ("cmwq why", ErrorKind::MissingRequiredArgument, 2),
     ("cmwq why a", ErrorKind::ValueValidation, 2),
     ("cmwq why a --every", ErrorKind::ValueValidation, 2),
     ("cmwq why a b --flush 0", ErrorKind::ValueValidation, 2),
     ("cmwq why a b c", ErrorKind::UnknownArgument, 2),
     ("cmwq why a b --at 1 --every", ErrorKind::ValueValidation, 2),
+    (
+        "cmwq why a b --at 1 --time 1",
+        ErrorKind::ValueValidation,
+        2,
+    ),
+    (
+        "cmwq why a b --every --time 1",
+        ErrorKind::ValueValidation,
+        2,
+    ),
+    ("cmwq why a b --time x", ErrorKind::ValueValidation, 2),
     ("cmwq why a b --at 1 --at 1", ErrorKind::ArgumentConflict, 2),
     (
         "cmwq why a --flush 1 --flush 1",
@@ -389,7 +507,7 @@ fn check_told<R: Files + AllocGlobal + Threads + Wait + Clock + Sync + Abort>(
     let mut errors = Marked::new(writing_to(rt.alloc(), 4096));
     let result = carry_out(
         rt,
-        &Disk { rt },
+        &Disk { rt, input: None },
         setting_with(Look::Plain),
         given.as_slice(),
         reading_of(b"", 1),

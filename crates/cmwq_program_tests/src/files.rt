@@ -12,7 +12,7 @@ use cmwq_outcome::Look;
 use cmwq_play::{Marked, PlayError};
 use cmwq_request::request::Request;
 use cmwq_starter::first_text;
-use cmwq_tasks::{Drawing, Looks, Question, RunKind, Span, Task};
+use cmwq_tasks::{Drawing, Form, Inquiry, Looks, Question, RunKind, Span, Task};
 use cmwq_types::Fault;
 use std::fs;
 use std::process::Abort;
@@ -66,7 +66,7 @@ fn check_talk<R: Files + AllocGlobal + Threads + Wait + Clock + Sync + Abort>(
     let setting = setting_with(Look::Plain);
     let result = answer_request(
         rt,
-        &Disk { rt },
+        &Disk { rt, input: None },
         setting,
         input,
         &mut output,
@@ -105,19 +105,19 @@ const CHECKED: [(&str, &[u8]); 6] = [
 
 /// What is told of them, and of one that isn't there.
 const VERDICTS: &[u8] = b"cmwq_checks/none.cmwq: read\n\
-    cmwq_checks/b.cmwq:3:10: 65: Range\n  a line here may begin with: workers\n\
-    cmwq_checks/c.cmwq:2:8: end of line: MissingWord\n  a line here may begin with: workers\n\
-    cmwq_checks/d.cmwq:6:1: quue: BadWord\n  a line here may begin with: queue, work, actor\n\
+    cmwq_checks/b.cmwq:3:10: 65: Range\n  here may stand: a number from 1 to 64\n\
+    cmwq_checks/c.cmwq:2:8: end of line: MissingWord\n  here may stand: a number from 1 to 64\n\
+    cmwq_checks/d.cmwq:6:1: quue: BadWord\n  a line here may begin with: queue, work, actor\n  is queue meant?\n\
     cmwq_checks/e.cmwq:7:8: a: Unknown\n  a line here may begin with: flush_queue, set_max, freeze, thaw, fire, step, tick, next, ask, busy, pressure, relief, actor\n\
-    cmwq_checks/f.cmwq:5:75: fast: BadWord\n  a line here may begin with: queue, actor\n";
+    cmwq_checks/f.cmwq:5:75: fast: BadWord\n  the line should end here\n";
 
 /// The same at a terminal.
 const SHOWN: &[u8] = b"cmwq_checks/none.cmwq: read\n\
-    cmwq_checks/b.cmwq:3:10: 65: \x1b[1;31mRange\x1b[0m\n  workers\t 65 # too many\n         \t ^\n  a line here may begin with: workers\n\
-    cmwq_checks/c.cmwq:2:8: end of line: \x1b[1;31mMissingWord\x1b[0m\n  workers \n         ^\n  a line here may begin with: workers\n\
-    cmwq_checks/d.cmwq:6:1: quue: \x1b[1;31mBadWord\x1b[0m\n  quue\n  ^\n  a line here may begin with: queue, work, actor\n\
+    cmwq_checks/b.cmwq:3:10: 65: \x1b[1;31mRange\x1b[0m\n  workers\t 65 # too many\n         \t ^\n  here may stand: a number from 1 to 64\n\
+    cmwq_checks/c.cmwq:2:8: end of line: \x1b[1;31mMissingWord\x1b[0m\n  workers \n         ^\n  here may stand: a number from 1 to 64\n\
+    cmwq_checks/d.cmwq:6:1: quue: \x1b[1;31mBadWord\x1b[0m\n  quue\n  ^\n  a line here may begin with: queue, work, actor\n  is queue meant?\n\
     cmwq_checks/e.cmwq:7:8: a: \x1b[1;31mUnknown\x1b[0m\n  cancel a\n         ^\n  a line here may begin with: flush_queue, set_max, freeze, thaw, fire, step, tick, next, ask, busy, pressure, relief, actor\n\
-    cmwq_checks/f.cmwq:5:75: fast: \x1b[1;31mBadWord\x1b[0m\n  queue q max 1 highpri unbound cpu_intensive freezable ordered mem_reclaim fast\n                                                                            ^\n  a line here may begin with: queue, actor\n";
+    cmwq_checks/f.cmwq:5:75: fast: \x1b[1;31mBadWord\x1b[0m\n  queue q max 1 highpri unbound cpu_intensive freezable ordered mem_reclaim fast\n                                                                            ^\n  the line should end here\n";
 
 #[test]
 fn a_check_tells_each_files_verdict(rt: HostRuntime) {
@@ -145,7 +145,7 @@ fn check_verdicts<R: Files + AllocGlobal + Threads + Wait + Clock + Sync + Abort
     let request = Request::Check { files };
     let result = answer_request(
         rt,
-        &Disk { rt },
+        &Disk { rt, input: None },
         setting_with(look),
         reading_of(b"", 1),
         &mut output,
@@ -159,29 +159,32 @@ fn check_verdicts<R: Files + AllocGlobal + Threads + Wait + Clock + Sync + Abort
 }
 
 /// All that is told of the run whose steps run out.
-const STEPS_RUN_OUT_TOLD: &[u8] = b"# queue a 0
+const STEPS_RUN_OUT_TOLD: &[u8] = b"# 0 queue a 0
 #   a listed 0
-# next
+# 1 next
 0 a starts
-# next
+#   a runs 0/0
+# 2 next
 0 a queues a
 #   a inactive 0
-# next
+# 3 next
 0 a finishes
 #   a activated 0
-# next
+# 4 next
 0 a starts
-# next
+#   a runs 0/0
+# 5 next
 0 a queues a
 #   a inactive 0
-# next
+# 6 next
 0 a finishes
 #   a activated 0
-# next
+# 7 next
 0 a starts
-# next
+#   a runs 0/0
+# 8 next
 0 refused Spent
-# state a
+# 9 state a
 0 a idle runs 0/0
 ";
 
@@ -289,14 +292,22 @@ fn each_command_reads_and_writes_files(rt: HostRuntime) {
         b"",
     );
     for (question, looks, result, prints) in STEPS_RUN_OUT_WHY {
-        let task = Task::Why(question, looks);
+        let task = Task::Why(Inquiry {
+            question,
+            looks,
+            settle: false,
+        });
         let why = Request::Do { file, task };
         check_answer(&rt, why, result, prints);
     }
     put_file(&rt, other, FLUSHED);
     let why = Request::Do {
         file: other,
-        task: Task::Why(Question::Flush(0), Looks::Settled),
+        task: Task::Why(Inquiry {
+            question: Question::Flush(0),
+            looks: Looks::Settled,
+            settle: false,
+        }),
     };
     check_answer(&rt, why, Ok(()), FLUSHED_WAITS);
     let span = Span {
@@ -305,10 +316,12 @@ fn each_command_reads_and_writes_files(rt: HostRuntime) {
     };
     let task = Task::Draw(Drawing {
         settle: false,
-        svg: false,
+        fold: false,
+        works: None,
+        form: Form::Text,
         span,
     });
-    let no_tick = b"     0\ncpu 0||\nactor||\n";
+    let no_tick = b"     0\ncpu 0||\nactor||\n^ at 0: queue a 0\n";
     check_answer(&rt, Request::Do { file, task }, Ok(()), no_tick);
     check_answer(
         &rt,
@@ -332,7 +345,10 @@ fn each_command_reads_and_writes_files(rt: HostRuntime) {
     );
     check_talk(
         &rt,
-        Request::Debug { file },
+        Request::Debug {
+            file,
+            settle: false,
+        },
         b"run\nstep 1",
         Ok(()),
         b"at 10 now 0\nrefused PastEnd\n",
@@ -424,7 +440,13 @@ fn a_file_that_is_not_there_is_a_failed_read_or_write(rt: HostRuntime) {
             },
             PlayError::Read,
         ),
-        (Request::Debug { file }, PlayError::Read),
+        (
+            Request::Debug {
+                file,
+                settle: false,
+            },
+            PlayError::Read,
+        ),
         (Request::Play { file, capacity: 1 }, PlayError::Read),
         (Request::Asm { file, out }, PlayError::Write),
         (Request::New { file: Some(file) }, PlayError::Write),
@@ -433,7 +455,11 @@ fn a_file_that_is_not_there_is_a_failed_read_or_write(rt: HostRuntime) {
     }
     let why = Request::Do {
         file,
-        task: Task::Why(Question::Work("a"), Looks::Settled),
+        task: Task::Why(Inquiry {
+            question: Question::Work("a"),
+            looks: Looks::Settled,
+            settle: false,
+        }),
     };
     check_answer(&rt, why, Err(PlayError::Read), b"");
 }

@@ -1,3 +1,4 @@
+mod DebugLemmas
 mod DrawLemmas
 mod RequestLemmas
 mod TableLemmas

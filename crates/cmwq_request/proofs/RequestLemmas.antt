@@ -23,9 +23,9 @@ use Rattle.std.specs.Prelude.{Box, Option, None, option_map}
 use Rattle.clap.proofs.OnLiterals.{clap_on_literals}
 use Rattle.cmwq_request.specs.declared.request.Request.{Request}
 use Rattle.cmwq_tasks.specs.declared.task.RunKind.{RunKind}
-use Rattle.cmwq_tasks.specs.declared.task.RunKind.TheVariants.{Plain, Settled, Told}
+use Rattle.cmwq_tasks.specs.declared.task.RunKind.TheVariants.{Plain, Settled, Told, ToldSettled}
 use Rattle.cmwq_command_line.specs.CommandLine.{command_line}
-use Rattle.cmwq_request.specs.Request.{HasCapacity, IsCapacity, IsPlainWord, IsRead, IsRequestOf, IsVersionWord, asked_in, asked_of, asked_of_run, kind_from, kind_of_run, run_arguments, words_to_run}
+use Rattle.cmwq_request.specs.Request.{HasCapacity, IsCapacity, IsFileWord, IsPlainWord, IsRead, IsRequestOf, IsVersionWord, asked_in, asked_of, asked_of_run, kind_from, kind_of_run, run_arguments, words_to_run}
 
 simple_line : is_simple command_line ≡ true
 unfolding clap_on_literals
@@ -67,6 +67,54 @@ plain_run_told : (name : Text) (first : ℕ) (rest : Text) → (first == 45) ≡
 unfolding clap_on_literals
 plain_run_told name first rest e = (rw e (rw e refl), rw e (rw e refl), tt)
 
+plain_run_told_settled : (name : Text) (first : ℕ) (rest : Text) → (first == 45) ≡ false
+    → IsRead (name ∷ codes "run" ∷ run_arguments ToldSettled (first ∷ rest)) (codes "run" ∷ run_arguments ToldSettled (first ∷ rest))
+unfolding clap_on_literals
+plain_run_told_settled name first rest e = (rw e (rw e refl), rw e (rw e refl), tt)
+
+input_run : (name : Text) → IsRead (name ∷ codes "run" ∷ codes "-" ∷ []) (codes "run" ∷ codes "-" ∷ [])
+unfolding clap_on_literals
+input_run name = (refl, refl, tt)
+
+input_run_settled : (name : Text) → IsRead (name ∷ codes "run" ∷ run_arguments Settled (codes "-")) (codes "run" ∷ run_arguments Settled (codes "-"))
+unfolding clap_on_literals
+input_run_settled name = (refl, refl, tt)
+
+input_run_told : (name : Text) → IsRead (name ∷ codes "run" ∷ run_arguments Told (codes "-")) (codes "run" ∷ run_arguments Told (codes "-"))
+unfolding clap_on_literals
+input_run_told name = (refl, refl, tt)
+
+input_run_told_settled : (name : Text)
+    → IsRead (name ∷ codes "run" ∷ run_arguments ToldSettled (codes "-")) (codes "run" ∷ run_arguments ToldSettled (codes "-"))
+unfolding clap_on_literals
+input_run_told_settled name = (refl, refl, tt)
+
+input_settle : (name : Text) → IsRead (name ∷ codes "settle" ∷ codes "-" ∷ []) (codes "settle" ∷ codes "-" ∷ [])
+unfolding clap_on_literals
+input_settle name = (refl, refl, tt)
+
+input_list : (name : Text) → IsRead (name ∷ codes "list" ∷ codes "-" ∷ []) (codes "list" ∷ codes "-" ∷ [])
+unfolding clap_on_literals
+input_list name = (refl, refl, tt)
+
+input_show : (name : Text) → IsRead (name ∷ codes "show" ∷ codes "-" ∷ []) (codes "show" ∷ codes "-" ∷ [])
+unfolding clap_on_literals
+input_show name = (refl, refl, tt)
+
+input_check : (name : Text) → IsRead (name ∷ codes "check" ∷ codes "-" ∷ []) (codes "check" ∷ codes "-" ∷ [])
+unfolding clap_on_literals
+input_check name = (refl, refl, tt)
+
+input_asm : (name : Text) (head : ℕ) (tail : Text) → (head == 45) ≡ false
+    → IsRead (name ∷ codes "asm" ∷ codes "-" ∷ (head ∷ tail) ∷ []) (codes "asm" ∷ codes "-" ∷ (head ∷ tail) ∷ [])
+unfolding clap_on_literals
+input_asm name head tail f = (rw f (rw f refl), rw f (rw f refl), tt)
+
+input_play : (name : Text) (head : ℕ) (tail : Text) → (head == 45) ≡ false → HasCapacity (codes "play" ∷ codes "-" ∷ codes "--capacity" ∷ (head ∷ tail) ∷ [])
+    → IsRead (name ∷ codes "play" ∷ codes "-" ∷ codes "--capacity" ∷ (head ∷ tail) ∷ []) (codes "play" ∷ codes "-" ∷ codes "--capacity" ∷ (head ∷ tail) ∷ [])
+unfolding clap_on_literals
+input_play name head tail f fits = (rw f (rw f refl), rw f (rw f refl), fits)
+
 plain_settle : (name : Text) (first : ℕ) (rest : Text) → (first == 45) ≡ false
     → IsRead (name ∷ codes "settle" ∷ (first ∷ rest) ∷ []) (codes "settle" ∷ (first ∷ rest) ∷ [])
 unfolding clap_on_literals
@@ -81,11 +129,6 @@ plain_show : (name : Text) (first : ℕ) (rest : Text) → (first == 45) ≡ fal
     → IsRead (name ∷ codes "show" ∷ (first ∷ rest) ∷ []) (codes "show" ∷ (first ∷ rest) ∷ [])
 unfolding clap_on_literals
 plain_show name first rest e = (rw e (rw e refl), rw e (rw e refl), tt)
-
-plain_debug : (name : Text) (first : ℕ) (rest : Text) → (first == 45) ≡ false
-    → IsRead (name ∷ codes "debug" ∷ (first ∷ rest) ∷ []) (codes "debug" ∷ (first ∷ rest) ∷ [])
-unfolding clap_on_literals
-plain_debug name first rest e = (rw e (rw e refl), rw e (rw e refl), tt)
 
 plain_asm : (name : Text) (first : ℕ) (rest : Text) (head : ℕ) (tail : Text) → (first == 45) ≡ false → (head == 45) ≡ false
     → IsRead (name ∷ codes "asm" ∷ (first ∷ rest) ∷ (head ∷ tail) ∷ []) (codes "asm" ∷ (first ∷ rest) ∷ (head ∷ tail) ∷ [])
@@ -141,41 +184,47 @@ pub new_file_read : (words : List Text) (name file : Text) → words ≡ name �
     → IsRead words (codes "new" ∷ file ∷ [])
 new_file_read words name file are (first, rest, is, plain) = rw (are, is) (plain_new_file name first rest (no_hyphen first plain))
 
-pub run_read : (words : List Text) (name file : Text) (kind : RunKind) → words ≡ name ∷ codes "run" ∷ run_arguments kind file → IsPlainWord file
+pub run_read : (words : List Text) (name file : Text) (kind : RunKind) → words ≡ name ∷ codes "run" ∷ run_arguments kind file → IsFileWord file
     → IsRead words (codes "run" ∷ run_arguments kind file)
-run_read words name file Plain are (first, rest, is, plain) = rw (are, is) (plain_run name first rest (no_hyphen first plain))
-run_read words name file Settled are (first, rest, is, plain) = rw (are, is) (plain_run_settled name first rest (no_hyphen first plain))
-run_read words name file Told are (first, rest, is, plain) = rw (are, is) (plain_run_told name first rest (no_hyphen first plain))
+run_read words name file Plain are (inl (first, rest, is, plain)) = rw (are, is) (plain_run name first rest (no_hyphen first plain))
+run_read words name file Settled are (inl (first, rest, is, plain)) = rw (are, is) (plain_run_settled name first rest (no_hyphen first plain))
+run_read words name file Told are (inl (first, rest, is, plain)) = rw (are, is) (plain_run_told name first rest (no_hyphen first plain))
+run_read words name file ToldSettled are (inl (first, rest, is, plain)) = rw (are, is) (plain_run_told_settled name first rest (no_hyphen first plain))
+run_read words name file Plain are (inr is) = rw (are, is) (input_run name)
+run_read words name file Settled are (inr is) = rw (are, is) (input_run_settled name)
+run_read words name file Told are (inr is) = rw (are, is) (input_run_told name)
+run_read words name file ToldSettled are (inr is) = rw (are, is) (input_run_told_settled name)
 
-pub settle_read : (words : List Text) (name file : Text) → words ≡ name ∷ codes "settle" ∷ file ∷ [] → IsPlainWord file
+pub settle_read : (words : List Text) (name file : Text) → words ≡ name ∷ codes "settle" ∷ file ∷ [] → IsFileWord file
     → IsRead words (codes "settle" ∷ file ∷ [])
-settle_read words name file are (first, rest, is, plain) = rw (are, is) (plain_settle name first rest (no_hyphen first plain))
+settle_read words name file are (inl (first, rest, is, plain)) = rw (are, is) (plain_settle name first rest (no_hyphen first plain))
+settle_read words name file are (inr is) = rw (are, is) (input_settle name)
 
-pub list_read : (words : List Text) (name file : Text) → words ≡ name ∷ codes "list" ∷ file ∷ [] → IsPlainWord file
+pub list_read : (words : List Text) (name file : Text) → words ≡ name ∷ codes "list" ∷ file ∷ [] → IsFileWord file
     → IsRead words (codes "list" ∷ file ∷ [])
-list_read words name file are (first, rest, is, plain) = rw (are, is) (plain_list name first rest (no_hyphen first plain))
+list_read words name file are (inl (first, rest, is, plain)) = rw (are, is) (plain_list name first rest (no_hyphen first plain))
+list_read words name file are (inr is) = rw (are, is) (input_list name)
 
-pub show_read : (words : List Text) (name image : Text) → words ≡ name ∷ codes "show" ∷ image ∷ [] → IsPlainWord image
+pub show_read : (words : List Text) (name image : Text) → words ≡ name ∷ codes "show" ∷ image ∷ [] → IsFileWord image
     → IsRead words (codes "show" ∷ image ∷ [])
-show_read words name image are (first, rest, is, plain) = rw (are, is) (plain_show name first rest (no_hyphen first plain))
+show_read words name image are (inl (first, rest, is, plain)) = rw (are, is) (plain_show name first rest (no_hyphen first plain))
+show_read words name image are (inr is) = rw (are, is) (input_show name)
 
-pub debug_read : (words : List Text) (name file : Text) → words ≡ name ∷ codes "debug" ∷ file ∷ [] → IsPlainWord file
-    → IsRead words (codes "debug" ∷ file ∷ [])
-debug_read words name file are (first, rest, is, plain) = rw (are, is) (plain_debug name first rest (no_hyphen first plain))
-
-pub check_read : (words : List Text) (name file : Text) → words ≡ name ∷ codes "check" ∷ file ∷ [] → IsPlainWord file
+pub check_read : (words : List Text) (name file : Text) → words ≡ name ∷ codes "check" ∷ file ∷ [] → IsFileWord file
     → IsRead words (codes "check" ∷ file ∷ [])
-check_read words name file are (first, rest, is, plain) = rw (are, is) (plain_check name first rest (no_hyphen first plain))
+check_read words name file are (inl (first, rest, is, plain)) = rw (are, is) (plain_check name first rest (no_hyphen first plain))
+check_read words name file are (inr is) = rw (are, is) (input_check name)
 
 pub check_two_read : (words : List Text) (name file other : Text) → words ≡ name ∷ codes "check" ∷ file ∷ other ∷ [] → IsPlainWord file
     → IsPlainWord other → IsRead words (codes "check" ∷ file ∷ other ∷ [])
 check_two_read words name file other are (first, rest, is, plain) (head, tail, is_other, plain_other) =
     rw (are, is, is_other) (plain_check_two name first rest head tail (no_hyphen first plain) (no_hyphen head plain_other))
 
-pub asm_read : (words : List Text) (name file out : Text) → words ≡ name ∷ codes "asm" ∷ file ∷ out ∷ [] → IsPlainWord file
+pub asm_read : (words : List Text) (name file out : Text) → words ≡ name ∷ codes "asm" ∷ file ∷ out ∷ [] → IsFileWord file
     → IsPlainWord out → IsRead words (codes "asm" ∷ file ∷ out ∷ [])
-asm_read words name file out are (first, rest, is, plain) (head, tail, is_out, plain_out) =
+asm_read words name file out are (inl (first, rest, is, plain)) (head, tail, is_out, plain_out) =
     rw (are, is, is_out) (plain_asm name first rest head tail (no_hyphen first plain) (no_hyphen head plain_out))
+asm_read words name file out are (inr is) (head, tail, is_out, plain_out) = rw (are, is, is_out) (input_asm name head tail (no_hyphen head plain_out))
 
 -- a number in decimal is no option
 number_plain : (n : ℕ) → IsCapacity n → IsPlainWord (decimal n)
@@ -197,14 +246,16 @@ number_read {E} r word n parsed is fits =
     parse_gives numerals 32 (decimal n) r (subst (λ (w : Text). ParsesUnsigned {E = E} 32 10 w r) is parsed) (digits_decimal numerals n small) (decimal_nonempty n small) (omega (arith, value, fits.1)) in
     read ∙ ap Ok value
 
-pub play_read : (words : List Text) (name file : Text) (n : ℕ) → words ≡ name ∷ codes "play" ∷ file ∷ codes "--capacity" ∷ decimal n ∷ [] → IsPlainWord file → IsCapacity n
+pub play_read : (words : List Text) (name file : Text) (n : ℕ) → words ≡ name ∷ codes "play" ∷ file ∷ codes "--capacity" ∷ decimal n ∷ [] → IsFileWord file → IsCapacity n
     → IsRead words (codes "play" ∷ file ∷ codes "--capacity" ∷ decimal n ∷ [])
 play_read words name file n are plain fits = of_plain file (decimal n) plain (number_plain n fits) are refl
   where
-    of_plain : (f number : Text) → IsPlainWord f → IsPlainWord number → words ≡ name ∷ codes "play" ∷ f ∷ codes "--capacity" ∷ number ∷ []
+    of_plain : (f number : Text) → IsFileWord f → IsPlainWord number → words ≡ name ∷ codes "play" ∷ f ∷ codes "--capacity" ∷ number ∷ []
         → number ≡ decimal n → IsRead words (codes "play" ∷ f ∷ codes "--capacity" ∷ number ∷ [])
-    of_plain f number (first, rest, is, p) (head, tail, is_number, q) same digits =
+    of_plain f number (inl (first, rest, is, p)) (head, tail, is_number, q) same digits =
         rw (same, is, is_number) (plain_play name first rest head tail (no_hyphen first p) (no_hyphen head q) (n, sym is_number ∙ digits, fits))
+    of_plain f number (inr is) (head, tail, is_number, q) same digits =
+        rw (same, is, is_number) (input_play name head tail (no_hyphen head q) (n, sym is_number ∙ digits, fits))
 
 -- the matches have what clap meets
 pub rows_met : (line : App) (words : List Text) (m : ArgMatches) → line ≡ command_line → HasMatchesOf line words m
@@ -254,7 +305,7 @@ run_met None file asked e = absurd cc
 
 -- and its kind is of its flags
 pub kind_met : (settle tell : Option Bool) (k : RunKind) → kind_from settle tell ≡ Some k
-    → (s t : Bool) × (settle ≡ Some s) × (tell ≡ Some t) × (kind_of_run s t ≡ Some k)
-kind_met (Some s) (Some t) k e = (s, t, refl, refl, e)
+    → (s t : Bool) × (settle ≡ Some s) × (tell ≡ Some t) × (kind_of_run s t ≡ k)
+kind_met (Some s) (Some t) k e = let same : kind_of_run s t ≡ k = cc in (s, t, refl, refl, same)
 kind_met None tell k e = absurd cc
 kind_met (Some s) None k e = absurd cc

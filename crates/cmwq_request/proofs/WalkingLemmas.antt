@@ -13,9 +13,11 @@ use Rattle.cmwq_command_line.specs.CommandLine.{command_line}
 
 -- One word.
 
-abbrev pub begins_with_hyphen : Text → Bool
-begins_with_hyphen [] = false
-begins_with_hyphen (first ∷ rest) = first == 45
+-- a word that begins with a hyphen (45) and is more than that
+abbrev pub is_option_word : Text → Bool
+is_option_word [] = false
+is_option_word (first ∷ []) = false
+is_option_word (first ∷ second ∷ rest) = first == 45
 
 -- the walk after a word that doesn't
 abbrev pub plain_walked : List Rule → Walk → Text → Walk
@@ -24,25 +26,45 @@ plain_walked c w word = after_step c word w (plain_word c w.waiting word w.held)
 abbrev pub plain_passes : Shape → Walk → Text → Bool
 plain_passes s w word = step_passes s w.position (plain_word s.rules w.waiting word w.held).0 (plain_word s.rules w.waiting word w.held).1
 
-plain_met : (c : List Rule) (waiting : Waiting) (position : ℕ) (word : Text) (h : Held) → begins_with_hyphen word ≡ false
+one_letter_met : (c : List Rule) (waiting : Waiting) (position : ℕ) (first : ℕ) (h : Held) (hyphen : Bool) → (first == 45) ≡ hyphen
+    → word_met c [] false waiting position (first ∷ []) h ≡ plain_word c waiting (first ∷ []) h
+one_letter_met c idle position first h true e = rw e (rw e refl)
+one_letter_met c (option id) position first h true e = rw e (rw e refl)
+one_letter_met c positional position first h true e = rw e (rw e refl)
+one_letter_met c idle position first h false e = rw e (rw e refl)
+one_letter_met c (option id) position first h false e = rw e (rw e refl)
+one_letter_met c positional position first h false e = rw e (rw e refl)
+
+plain_met : (c : List Rule) (waiting : Waiting) (position : ℕ) (word : Text) (h : Held) → is_option_word word ≡ false
     → word_met c [] false waiting position word h ≡ plain_word c waiting word h
 plain_met c idle position [] h e = refl
 plain_met c (option id) position [] h e = refl
 plain_met c positional position [] h e = refl
-plain_met c idle position (first ∷ rest) h e = rw e (rw e refl)
-plain_met c (option id) position (first ∷ rest) h e = rw e (rw e refl)
-plain_met c positional position (first ∷ rest) h e = rw e (rw e refl)
+plain_met c waiting position (first ∷ []) h e = one_letter_met c waiting position first h (first == 45) refl
+plain_met c idle position (first ∷ second ∷ rest) h e = rw e (rw e refl)
+plain_met c (option id) position (first ∷ second ∷ rest) h e = rw e (rw e refl)
+plain_met c positional position (first ∷ second ∷ rest) h e = rw e (rw e refl)
 
-plain_word_passes : (s : Shape) (waiting : Waiting) (word : Text) (h : Held) → begins_with_hyphen word ≡ false
+one_letter_passes : (s : Shape) (waiting : Waiting) (first : ℕ) (h : Held) (hyphen : Bool) → (first == 45) ≡ hyphen
+    → word_passes s [] false waiting (first ∷ []) h ≡ true
+one_letter_passes s idle first h true e = rw e (rw e refl)
+one_letter_passes s (option id) first h true e = rw e (rw e refl)
+one_letter_passes s positional first h true e = rw e (rw e refl)
+one_letter_passes s idle first h false e = rw e (rw e refl)
+one_letter_passes s (option id) first h false e = rw e (rw e refl)
+one_letter_passes s positional first h false e = rw e (rw e refl)
+
+plain_word_passes : (s : Shape) (waiting : Waiting) (word : Text) (h : Held) → is_option_word word ≡ false
     → word_passes s [] false waiting word h ≡ true
 plain_word_passes s idle [] h e = refl
 plain_word_passes s (option id) [] h e = refl
 plain_word_passes s positional [] h e = refl
-plain_word_passes s idle (first ∷ rest) h e = rw e (rw e refl)
-plain_word_passes s (option id) (first ∷ rest) h e = rw e (rw e refl)
-plain_word_passes s positional (first ∷ rest) h e = rw e (rw e refl)
+plain_word_passes s waiting (first ∷ []) h e = one_letter_passes s waiting first h (first == 45) refl
+plain_word_passes s idle (first ∷ second ∷ rest) h e = rw e (rw e refl)
+plain_word_passes s (option id) (first ∷ second ∷ rest) h e = rw e (rw e refl)
+plain_word_passes s positional (first ∷ second ∷ rest) h e = rw e (rw e refl)
 
-plain_is : (c : List Rule) (w : Walk) (word : Text) → begins_with_hyphen word ≡ false → w.stopped ≡ None → w.is_trailing ≡ false
+plain_is : (c : List Rule) (w : Walk) (word : Text) → is_option_word word ≡ false → w.stopped ≡ None → w.is_trailing ≡ false
     → walked c [] w word ≡ plain_walked c w word
 unfolding walked
 plain_is c w word e none going =
@@ -54,7 +76,7 @@ either : (a b : Bool) → b ≡ true → (a || b) ≡ true
 either true b is = refl
 either false b is = is
 
-plain_turn : (s : Shape) (w : Walk) (word : Text) → begins_with_hyphen word ≡ false → w.is_trailing ≡ false → plain_passes s w word ≡ true
+plain_turn : (s : Shape) (w : Walk) (word : Text) → is_option_word word ≡ false → w.is_trailing ≡ false → plain_passes s w word ≡ true
     → turn_passes s [] w word ≡ true
 plain_turn s w word e going passes =
     let turn : Bool → Bool = λ t. word_passes s [] t w.waiting word w.held
@@ -83,7 +105,7 @@ unfolding walk_passes
 on s w word words end turn it = record { walk_is = it.walk_is; passes = ap₂ (λ (a b : Bool). a && b) turn it.passes }
 
 -- over one more word that doesn't begin with a hyphen
-pub on_plain : (s : Shape) (w : Walk) (word : Text) (words : List Text) (end : Walk) → begins_with_hyphen word ≡ false → w.stopped ≡ None → w.is_trailing ≡ false
+pub on_plain : (s : Shape) (w : Walk) (word : Text) (words : List Text) (end : Walk) → is_option_word word ≡ false → w.stopped ≡ None → w.is_trailing ≡ false
     → plain_passes s w word ≡ true → Goes s (plain_walked s.rules w word) words end → Goes s w (word ∷ words) end
 on_plain s w word words end e none going passes it =
     on s w word words end (plain_turn s w word e going passes)
@@ -148,7 +170,7 @@ module _ {command : Text} {shape : Shape} (has : HasCommand command shape) where
       ap₂ (λ (b : Bool) (w : Walk). b && end_passes shape w) goes.passes goes.walk_is in
       (takes_if name words (level ∙ passes), entered_is name words ∙ ap (λ (w : Walk). Some (command, finished shape.rules w.held)) goes.walk_is)
 
--- Both commands that take several options.
+-- The commands that take several options.
 
 abbrev shape_of : Text → Shape
 shape_of command = unwrap_or (find (λ s. answers_to command (label_of s)) (built command_line).subs) (new_shape [])
@@ -173,6 +195,18 @@ unfolding clap_on_literals draw_shape
 has_draw = record {
   stops = refl;
   passes = λ words. stopped_passes (built command_line).top (names_of (built command_line)) (walk_from nothing_held) (codes "draw") [] words;
+  ends = λ words level. rw level refl;
+  enters = λ words. refl;
+}
+
+unfoldable pub debug_shape : Shape
+debug_shape = shape_of (codes "debug")
+
+pub has_debug : HasCommand (codes "debug") debug_shape
+unfolding clap_on_literals debug_shape
+has_debug = record {
+  stops = refl;
+  passes = λ words. stopped_passes (built command_line).top (names_of (built command_line)) (walk_from nothing_held) (codes "debug") [] words;
   ends = λ words level. rw level refl;
   enters = λ words. refl;
 }

@@ -1,5 +1,5 @@
 -- What clap makes of the words of `why`.
-use Rattle.std.proofs.Common.{arith, ap, sym, get_or, ◌^◌, ◌&&◌, ℕ, ◌<◌, ◌≤◌, ◌≢◌, length, nat_lt, if◌then◌else◌, ◌≡◌, ◌∙◌, codes, Bool, List, [], ◌∷◌, true, false, Option, None, Some, refl, Result, Ok, Err, inl, inr, option_and_then, option_map}
+use Rattle.std.proofs.Common.{arith, ap, sym, get_or, ◌^◌, ◌&&◌, ℕ, ◌<◌, ◌≤◌, ◌≢◌, length, nat_lt, if◌then◌else◌, ◌≡◌, ◌∙◌, codes, Bool, List, [], ◌∷◌, ◌++◌, true, false, Option, None, Some, refl, Result, Ok, Err, inl, inr, option_and_then, option_map}
 use Rattle.std.proofs.lemmas.Bool.Decides.{nat_tests}
 use Rattle.std.proofs.lemmas.Str.Parse.{parse_plain, digits_value_short}
 use Rattle.std.specs.Result.{result_ok}
@@ -8,13 +8,13 @@ use Rattle.std.specs.Str.Parse.{ParsesUnsigned, digits_value}
 use Rattle.clap.specs.Words.{Row, Text}
 use Rattle.cmwq_request.proofs.RequestLemmas.{numerals}
 use Rattle.clap.specs.Walk.{Walk, finished, nothing_held, walk_from}
-use Rattle.cmwq_request.proofs.WalkingLemmas.{Goes, begins_with_hyphen, end_passes, ends, has_why, on, on_plain, taken, why_shape}
-use Rattle.cmwq_request.proofs.DrawLemmas.{Takes, decimal_begins, plain_begins}
-use Rattle.cmwq_request.specs.Request.{HasCapacity, HasShortNumber, IsMisuse, IsPlainWord, IsRead, IsShortNumber, IsValueWord, asked_from, asked_of, asked_why, file_to_ask, flag_of, flush_arguments, looks_in, plain_number, question_words, task_words, why_arguments, look_words, work_arguments}
+use Rattle.cmwq_request.proofs.WalkingLemmas.{Goes, is_option_word, end_passes, ends, has_why, on, on_plain, taken, why_shape}
+use Rattle.cmwq_request.proofs.DrawLemmas.{Takes, decimal_begins, file_begins, plain_begins}
+use Rattle.cmwq_request.specs.Request.{HasCapacity, HasShortNumber, IsFileWord, IsMisuse, IsPlainWord, IsRead, IsShortNumber, IsValueWord, asked_from, asked_of, asked_why, file_to_ask, flag_of, flush_arguments, look_words, looks_in, option_words, plain_number, question_arguments, question_words, task_words, work_arguments}
 use Rattle.cmwq_tasks.specs.declared.question.Looks.{Looks}
-use Rattle.cmwq_tasks.specs.declared.question.Question.{Question}
+use Rattle.cmwq_tasks.specs.declared.question.Inquiry.{Inquiry}
 use Rattle.cmwq_tasks.specs.declared.task.Task.TheVariants.{Why}
-use Rattle.cmwq_tasks.specs.declared.question.Looks.TheVariants.{Settled as AtSettled, Every, At}
+use Rattle.cmwq_tasks.specs.declared.question.Looks.TheVariants.{Settled as AtSettled, Every, At, Time}
 use Rattle.clap.proofs.OnLiterals.{clap_on_literals}
 use Rattle.std.specs.Fmt.{decimal}
 use Rattle.std.proofs.lemmas.Fmt.{decimal_nonempty, digits_decimal, digits_value-decimal, length-decimal-le}
@@ -69,11 +69,11 @@ short_number n short =
     number_if_digits (decimal n) (digits_decimal numerals n small) (decimal_nonempty n small) (length-decimal-le 10 n (omega arith) short small)
     ∙ ap Some (digits_value-decimal numerals n small)
 
-short_plain : (n : ℕ) → IsShortNumber n → begins_with_hyphen (decimal n) ≡ false
+short_plain : (n : ℕ) → IsShortNumber n → is_option_word (decimal n) ≡ false
 short_plain n short = decimal_begins n (omega (arith, short))
 
-value_begins : (word : Text) → IsValueWord word → begins_with_hyphen word ≡ false
-value_begins word (inl empty) = ap begins_with_hyphen empty
+value_begins : (word : Text) → IsValueWord word → is_option_word word ≡ false
+value_begins word (inl empty) = ap is_option_word empty
 value_begins word (inr plain) = plain_begins word plain
 
 -- Words.
@@ -87,111 +87,98 @@ asks : (words : List Text) (asked : Option (List Text)) (end : Walk) → Goes wh
 asks words asked end goes passes is =
     record { takes = λ name. let met = taken has_why name words end goes passes in (met.0, ap asked_of met.1 ∙ is) }
 
-of_work : (file work : Text) → begins_with_hyphen file ≡ false → begins_with_hyphen work ≡ false
-    → Asks (file ∷ work ∷ []) (asked_from false None (Some file) (Some work) None)
+-- which positions, with the word of the number where there is one
+data Place : Type 0 where
+  in_settled : Place
+  in_each : Place
+  in_position : Text → Place
+  in_tick : Text → Place
+
+abbrev place_words : Place → List Text
+place_words Place.in_settled = []
+place_words Place.in_each = codes "--every" ∷ []
+place_words (Place.in_position place) = codes "--at" ∷ place ∷ []
+place_words (Place.in_tick place) = codes "--time" ∷ place ∷ []
+
+abbrev PlaceBegins : Place → Type 0
+PlaceBegins Place.in_settled = Unit {0}
+PlaceBegins Place.in_each = Unit {0}
+PlaceBegins (Place.in_position place) = is_option_word place ≡ false
+PlaceBegins (Place.in_tick place) = is_option_word place ≡ false
+
+-- what is read there
+abbrev asked_there : (settle : Bool) → Place → (file work flush : Option Text) → Option (List Text)
+asked_there settle Place.in_settled file work flush = asked_from false settle None None file work flush
+asked_there settle Place.in_each file work flush = asked_from true settle None None file work flush
+asked_there settle (Place.in_position place) file work flush = asked_from false settle (Some place) None file work flush
+asked_there settle (Place.in_tick place) file work flush = asked_from false settle None (Some place) file work flush
+
+of_work : (settle : Bool) (place : Place) (file work : Text) → PlaceBegins place → is_option_word file ≡ false → is_option_word work ≡ false
+    → Asks (option_words (codes "--settle") settle ++ (place_words place ++ (file ∷ work ∷ []))) (asked_there settle place (Some file) (Some work) None)
 unfolding clap_on_literals why_shape
-of_work file work f w =
+of_work false Place.in_settled file work b f w =
     asks _ _ _ (on_plain why_shape _ file _ _ f refl refl refl (on_plain why_shape _ work _ _ w refl refl refl (ends why_shape _))) refl refl
+of_work false Place.in_each file work b f w =
+    asks _ _ _ (on why_shape _ (codes "--every") _ _ refl (on_plain why_shape _ file _ _ f refl refl refl (on_plain why_shape _ work _ _ w refl refl refl (ends why_shape _)))) refl refl
+of_work false (Place.in_position place) file work b f w =
+    asks _ _ _ (on why_shape _ (codes "--at") _ _ refl (on_plain why_shape _ place _ _ b refl refl refl (on_plain why_shape _ file _ _ f refl refl refl (on_plain why_shape _ work _ _ w refl refl refl (ends why_shape _))))) refl refl
+of_work false (Place.in_tick place) file work b f w =
+    asks _ _ _ (on why_shape _ (codes "--time") _ _ refl (on_plain why_shape _ place _ _ b refl refl refl (on_plain why_shape _ file _ _ f refl refl refl (on_plain why_shape _ work _ _ w refl refl refl (ends why_shape _))))) refl refl
+of_work true Place.in_settled file work b f w =
+    asks _ _ _ (on why_shape _ (codes "--settle") _ _ refl (on_plain why_shape _ file _ _ f refl refl refl (on_plain why_shape _ work _ _ w refl refl refl (ends why_shape _)))) refl refl
+of_work true Place.in_each file work b f w =
+    asks _ _ _ (on why_shape _ (codes "--settle") _ _ refl (on why_shape _ (codes "--every") _ _ refl (on_plain why_shape _ file _ _ f refl refl refl (on_plain why_shape _ work _ _ w refl refl refl (ends why_shape _))))) refl refl
+of_work true (Place.in_position place) file work b f w =
+    asks _ _ _ (on why_shape _ (codes "--settle") _ _ refl (on why_shape _ (codes "--at") _ _ refl (on_plain why_shape _ place _ _ b refl refl refl (on_plain why_shape _ file _ _ f refl refl refl (on_plain why_shape _ work _ _ w refl refl refl (ends why_shape _)))))) refl refl
+of_work true (Place.in_tick place) file work b f w =
+    asks _ _ _ (on why_shape _ (codes "--settle") _ _ refl (on why_shape _ (codes "--time") _ _ refl (on_plain why_shape _ place _ _ b refl refl refl (on_plain why_shape _ file _ _ f refl refl refl (on_plain why_shape _ work _ _ w refl refl refl (ends why_shape _)))))) refl refl
 
-of_work_every : (file work : Text) → begins_with_hyphen file ≡ false → begins_with_hyphen work ≡ false
-    → Asks (codes "--every" ∷ file ∷ work ∷ []) (asked_from true None (Some file) (Some work) None)
+of_flush : (settle : Bool) (place : Place) (number file : Text) → PlaceBegins place → is_option_word number ≡ false → is_option_word file ≡ false
+    → Asks (codes "--flush" ∷ number ∷ (option_words (codes "--settle") settle ++ (place_words place ++ (file ∷ []))))
+    (asked_there settle place (Some file) None (Some number))
 unfolding clap_on_literals why_shape
-of_work_every file work f w =
-    asks _ _ _
-    (on why_shape _ (codes "--every") _ _ refl
-    (on_plain why_shape _ file _ _ f refl refl refl (on_plain why_shape _ work _ _ w refl refl refl (ends why_shape _))))
-    refl refl
-
-of_work_at : (place file work : Text) → begins_with_hyphen place ≡ false → begins_with_hyphen file ≡ false → begins_with_hyphen work ≡ false
-    → Asks (codes "--at" ∷ place ∷ file ∷ work ∷ []) (asked_from false (Some place) (Some file) (Some work) None)
-unfolding clap_on_literals why_shape
-of_work_at place file work p f w =
-    asks _ _ _
-    (on why_shape _ (codes "--at") _ _ refl
-    (on_plain why_shape _ place _ _ p refl refl refl
-    (on_plain why_shape _ file _ _ f refl refl refl (on_plain why_shape _ work _ _ w refl refl refl (ends why_shape _)))))
-    refl refl
-
-of_flush : (number file : Text) → begins_with_hyphen number ≡ false → begins_with_hyphen file ≡ false
-    → Asks (codes "--flush" ∷ number ∷ file ∷ []) (asked_from false None (Some file) None (Some number))
-unfolding clap_on_literals why_shape
-of_flush number file n f =
-    asks _ _ _
-    (on why_shape _ (codes "--flush") _ _ refl
-    (on_plain why_shape _ number _ _ n refl refl refl (on_plain why_shape _ file _ _ f refl refl refl (ends why_shape _))))
-    refl refl
-
-of_flush_every : (number file : Text) → begins_with_hyphen number ≡ false → begins_with_hyphen file ≡ false
-    → Asks (codes "--flush" ∷ number ∷ codes "--every" ∷ file ∷ []) (asked_from true None (Some file) None (Some number))
-unfolding clap_on_literals why_shape
-of_flush_every number file n f =
-    asks _ _ _
-    (on why_shape _ (codes "--flush") _ _ refl
-    (on_plain why_shape _ number _ _ n refl refl refl
-    (on why_shape _ (codes "--every") _ _ refl (on_plain why_shape _ file _ _ f refl refl refl (ends why_shape _)))))
-    refl refl
-
-of_flush_at : (number place file : Text) → begins_with_hyphen number ≡ false → begins_with_hyphen place ≡ false → begins_with_hyphen file ≡ false
-    → Asks (codes "--flush" ∷ number ∷ codes "--at" ∷ place ∷ file ∷ []) (asked_from false (Some place) (Some file) None (Some number))
-unfolding clap_on_literals why_shape
-of_flush_at number place file n p f =
-    asks _ _ _
-    (on why_shape _ (codes "--flush") _ _ refl
-    (on_plain why_shape _ number _ _ n refl refl refl
-    (on why_shape _ (codes "--at") _ _ refl
-    (on_plain why_shape _ place _ _ p refl refl refl (on_plain why_shape _ file _ _ f refl refl refl (ends why_shape _))))))
-    refl refl
+of_flush false Place.in_settled number file b n f =
+    asks _ _ _ (on why_shape _ (codes "--flush") _ _ refl (on_plain why_shape _ number _ _ n refl refl refl (on_plain why_shape _ file _ _ f refl refl refl (ends why_shape _)))) refl refl
+of_flush false Place.in_each number file b n f =
+    asks _ _ _ (on why_shape _ (codes "--flush") _ _ refl (on_plain why_shape _ number _ _ n refl refl refl (on why_shape _ (codes "--every") _ _ refl (on_plain why_shape _ file _ _ f refl refl refl (ends why_shape _))))) refl refl
+of_flush false (Place.in_position place) number file b n f =
+    asks _ _ _ (on why_shape _ (codes "--flush") _ _ refl (on_plain why_shape _ number _ _ n refl refl refl (on why_shape _ (codes "--at") _ _ refl (on_plain why_shape _ place _ _ b refl refl refl (on_plain why_shape _ file _ _ f refl refl refl (ends why_shape _)))))) refl refl
+of_flush false (Place.in_tick place) number file b n f =
+    asks _ _ _ (on why_shape _ (codes "--flush") _ _ refl (on_plain why_shape _ number _ _ n refl refl refl (on why_shape _ (codes "--time") _ _ refl (on_plain why_shape _ place _ _ b refl refl refl (on_plain why_shape _ file _ _ f refl refl refl (ends why_shape _)))))) refl refl
+of_flush true Place.in_settled number file b n f =
+    asks _ _ _ (on why_shape _ (codes "--flush") _ _ refl (on_plain why_shape _ number _ _ n refl refl refl (on why_shape _ (codes "--settle") _ _ refl (on_plain why_shape _ file _ _ f refl refl refl (ends why_shape _))))) refl refl
+of_flush true Place.in_each number file b n f =
+    asks _ _ _ (on why_shape _ (codes "--flush") _ _ refl (on_plain why_shape _ number _ _ n refl refl refl (on why_shape _ (codes "--settle") _ _ refl (on why_shape _ (codes "--every") _ _ refl (on_plain why_shape _ file _ _ f refl refl refl (ends why_shape _)))))) refl refl
+of_flush true (Place.in_position place) number file b n f =
+    asks _ _ _ (on why_shape _ (codes "--flush") _ _ refl (on_plain why_shape _ number _ _ n refl refl refl (on why_shape _ (codes "--settle") _ _ refl (on why_shape _ (codes "--at") _ _ refl (on_plain why_shape _ place _ _ b refl refl refl (on_plain why_shape _ file _ _ f refl refl refl (ends why_shape _))))))) refl refl
+of_flush true (Place.in_tick place) number file b n f =
+    asks _ _ _ (on why_shape _ (codes "--flush") _ _ refl (on_plain why_shape _ number _ _ n refl refl refl (on why_shape _ (codes "--settle") _ _ refl (on why_shape _ (codes "--time") _ _ refl (on_plain why_shape _ place _ _ b refl refl refl (on_plain why_shape _ file _ _ f refl refl refl (ends why_shape _))))))) refl refl
 
 -- The same with FILE first.
 
-work_every : (file work : Text) → begins_with_hyphen file ≡ false → begins_with_hyphen work ≡ false
-    → Asks (file ∷ work ∷ codes "--every" ∷ []) (asked_from true None (Some file) (Some work) None)
+work_first : (place : Place) (file work : Text) → PlaceBegins place → is_option_word file ≡ false → is_option_word work ≡ false
+    → Asks (file ∷ work ∷ place_words place) (asked_there false place (Some file) (Some work) None)
 unfolding clap_on_literals why_shape
-work_every file work f w =
-    asks _ _ _
-    (on_plain why_shape _ file _ _ f refl refl refl
-    (on_plain why_shape _ work _ _ w refl refl refl (on why_shape _ (codes "--every") _ _ refl (ends why_shape _))))
-    refl refl
+work_first Place.in_settled file work b f w =
+    asks _ _ _ (on_plain why_shape _ file _ _ f refl refl refl (on_plain why_shape _ work _ _ w refl refl refl (ends why_shape _))) refl refl
+work_first Place.in_each file work b f w =
+    asks _ _ _ (on_plain why_shape _ file _ _ f refl refl refl (on_plain why_shape _ work _ _ w refl refl refl (on why_shape _ (codes "--every") _ _ refl (ends why_shape _)))) refl refl
+work_first (Place.in_position place) file work b f w =
+    asks _ _ _ (on_plain why_shape _ file _ _ f refl refl refl (on_plain why_shape _ work _ _ w refl refl refl (on why_shape _ (codes "--at") _ _ refl (on_plain why_shape _ place _ _ b refl refl refl (ends why_shape _))))) refl refl
+work_first (Place.in_tick place) file work b f w =
+    asks _ _ _ (on_plain why_shape _ file _ _ f refl refl refl (on_plain why_shape _ work _ _ w refl refl refl (on why_shape _ (codes "--time") _ _ refl (on_plain why_shape _ place _ _ b refl refl refl (ends why_shape _))))) refl refl
 
-work_at : (place file work : Text) → begins_with_hyphen place ≡ false → begins_with_hyphen file ≡ false → begins_with_hyphen work ≡ false
-    → Asks (file ∷ work ∷ codes "--at" ∷ place ∷ []) (asked_from false (Some place) (Some file) (Some work) None)
+flush_first : (place : Place) (number file : Text) → PlaceBegins place → is_option_word number ≡ false → is_option_word file ≡ false
+    → Asks (file ∷ codes "--flush" ∷ number ∷ place_words place) (asked_there false place (Some file) None (Some number))
 unfolding clap_on_literals why_shape
-work_at place file work p f w =
-    asks _ _ _
-    (on_plain why_shape _ file _ _ f refl refl refl
-    (on_plain why_shape _ work _ _ w refl refl refl
-    (on why_shape _ (codes "--at") _ _ refl (on_plain why_shape _ place _ _ p refl refl refl (ends why_shape _)))))
-    refl refl
-
-flush_alone : (number file : Text) → begins_with_hyphen number ≡ false → begins_with_hyphen file ≡ false
-    → Asks (file ∷ codes "--flush" ∷ number ∷ []) (asked_from false None (Some file) None (Some number))
-unfolding clap_on_literals why_shape
-flush_alone number file n f =
-    asks _ _ _
-    (on_plain why_shape _ file _ _ f refl refl refl
-    (on why_shape _ (codes "--flush") _ _ refl (on_plain why_shape _ number _ _ n refl refl refl (ends why_shape _))))
-    refl refl
-
-flush_every : (number file : Text) → begins_with_hyphen number ≡ false → begins_with_hyphen file ≡ false
-    → Asks (file ∷ codes "--flush" ∷ number ∷ codes "--every" ∷ []) (asked_from true None (Some file) None (Some number))
-unfolding clap_on_literals why_shape
-flush_every number file n f =
-    asks _ _ _
-    (on_plain why_shape _ file _ _ f refl refl refl
-    (on why_shape _ (codes "--flush") _ _ refl
-    (on_plain why_shape _ number _ _ n refl refl refl (on why_shape _ (codes "--every") _ _ refl (ends why_shape _)))))
-    refl refl
-
-flush_at : (number place file : Text) → begins_with_hyphen number ≡ false → begins_with_hyphen place ≡ false → begins_with_hyphen file ≡ false
-    → Asks (file ∷ codes "--flush" ∷ number ∷ codes "--at" ∷ place ∷ []) (asked_from false (Some place) (Some file) None (Some number))
-unfolding clap_on_literals why_shape
-flush_at number place file n p f =
-    asks _ _ _
-    (on_plain why_shape _ file _ _ f refl refl refl
-    (on why_shape _ (codes "--flush") _ _ refl
-    (on_plain why_shape _ number _ _ n refl refl refl
-    (on why_shape _ (codes "--at") _ _ refl (on_plain why_shape _ place _ _ p refl refl refl (ends why_shape _))))))
-    refl refl
+flush_first Place.in_settled number file b n f =
+    asks _ _ _ (on_plain why_shape _ file _ _ f refl refl refl (on why_shape _ (codes "--flush") _ _ refl (on_plain why_shape _ number _ _ n refl refl refl (ends why_shape _)))) refl refl
+flush_first Place.in_each number file b n f =
+    asks _ _ _ (on_plain why_shape _ file _ _ f refl refl refl (on why_shape _ (codes "--flush") _ _ refl (on_plain why_shape _ number _ _ n refl refl refl (on why_shape _ (codes "--every") _ _ refl (ends why_shape _))))) refl refl
+flush_first (Place.in_position place) number file b n f =
+    asks _ _ _ (on_plain why_shape _ file _ _ f refl refl refl (on why_shape _ (codes "--flush") _ _ refl (on_plain why_shape _ number _ _ n refl refl refl (on why_shape _ (codes "--at") _ _ refl (on_plain why_shape _ place _ _ b refl refl refl (ends why_shape _)))))) refl refl
+flush_first (Place.in_tick place) number file b n f =
+    asks _ _ _ (on_plain why_shape _ file _ _ f refl refl refl (on why_shape _ (codes "--flush") _ _ refl (on_plain why_shape _ number _ _ n refl refl refl (on why_shape _ (codes "--time") _ _ refl (on_plain why_shape _ place _ _ b refl refl refl (ends why_shape _)))))) refl refl
 
 -- Questions.
 
@@ -199,90 +186,130 @@ as_read : {given : List Text} {found : Option (List Text)} → Asks given found 
     → found ≡ Some (codes "why" ∷ asked) → HasCapacity (codes "why" ∷ asked) → IsRead words (codes "why" ∷ asked)
 as_read it words asked name are is fits = let met = it.takes name in rw are (met.0, met.1 ∙ is, fits)
 
-pub work_read : (words : List Text) (name file work : Text) (looks : Looks) → words ≡ name ∷ codes "why" ∷ work_arguments looks file work
-    → IsPlainWord file → IsPlainWord work → HasShortNumber looks → IsRead words (codes "why" ∷ work_arguments looks file work)
-work_read words name file work AtSettled are plain plain_work short =
-    as_read (of_work file work (plain_begins file plain) (plain_begins work plain_work)) words (work_arguments AtSettled file work) name are refl tt
-work_read words name file work Every are plain plain_work short =
-    as_read (of_work_every file work (plain_begins file plain) (plain_begins work plain_work)) words (work_arguments Every file work) name are refl tt
-work_read words name file work (At k) are plain plain_work short =
-    as_read (of_work_at (decimal k) file work (short_plain k short) (plain_begins file plain) (plain_begins work plain_work))
-    words (work_arguments (At k) file work) name are
-    (rw (short_number k short) refl) tt
+abbrev place_of : Looks → Place
+place_of AtSettled = Place.in_settled
+place_of Every = Place.in_each
+place_of (At k) = Place.in_position (decimal k)
+place_of (Time t) = Place.in_tick (decimal t)
 
-pub flush_read : (words : List Text) (name file : Text) (flush : ℕ) (looks : Looks) → words ≡ name ∷ codes "why" ∷ flush_arguments looks flush file
-    → IsPlainWord file → IsShortNumber flush → HasShortNumber looks → IsRead words (codes "why" ∷ flush_arguments looks flush file)
-flush_read words name file flush AtSettled are plain few short =
-    as_read (of_flush (decimal flush) file (short_plain flush few) (plain_begins file plain))
-    words (flush_arguments AtSettled flush file) name are
-    (rw (short_number flush few) refl) tt
-flush_read words name file flush Every are plain few short =
-    as_read (of_flush_every (decimal flush) file (short_plain flush few) (plain_begins file plain))
-    words (flush_arguments Every flush file) name are
-    (rw (short_number flush few) refl) tt
-flush_read words name file flush (At k) are plain few short =
-    as_read (of_flush_at (decimal flush) (decimal k) file (short_plain flush few) (short_plain k short) (plain_begins file plain))
-    words (flush_arguments (At k) flush file) name are
-    (rw (short_number flush few, short_number k short) refl) tt
+words_there : (looks : Looks) → look_words looks ≡ place_words (place_of looks)
+words_there AtSettled = refl
+words_there Every = refl
+words_there (At k) = refl
+words_there (Time t) = refl
+
+place_begins : (looks : Looks) → HasShortNumber looks → PlaceBegins (place_of looks)
+place_begins AtSettled short = tt
+place_begins Every short = tt
+place_begins (At k) short = short_plain k short
+place_begins (Time t) short = short_plain t short
+
+-- where a flush's word is that of a number
+asked_of_flush : (settle : Bool) (looks : Looks) (flush : ℕ) (file : Text) → IsShortNumber flush → HasShortNumber looks
+    → asked_there settle (place_of looks) (Some file) None (Some (decimal flush)) ≡ Some (codes "why" ∷ flush_arguments settle looks flush file)
+asked_of_flush settle AtSettled flush file few short = rw (short_number flush few) refl
+asked_of_flush settle Every flush file few short = rw (short_number flush few) refl
+asked_of_flush settle (At k) flush file few short = rw (short_number flush few, short_number k short) refl
+asked_of_flush settle (Time t) flush file few short = rw (short_number flush few, short_number t short) refl
+
+asked_of_work : (settle : Bool) (looks : Looks) (file work : Text) → HasShortNumber looks
+    → asked_there settle (place_of looks) (Some file) (Some work) None ≡ Some (codes "why" ∷ work_arguments settle looks file work)
+asked_of_work settle AtSettled file work short = refl
+asked_of_work settle Every file work short = refl
+asked_of_work settle (At k) file work short = rw (short_number k short) refl
+asked_of_work settle (Time t) file work short = rw (short_number t short) refl
+
+-- no play is asked for
+no_capacity : (words : List Text) → HasCapacity (codes "why" ∷ words)
+no_capacity [] = tt
+no_capacity (a ∷ []) = tt
+no_capacity (a ∷ b ∷ []) = tt
+no_capacity (a ∷ b ∷ c ∷ []) = tt
+no_capacity (a ∷ b ∷ c ∷ d ∷ more) = tt
+
+pub work_read : (words : List Text) (name file work : Text) (settle : Bool) (looks : Looks) → words ≡ name ∷ codes "why" ∷ work_arguments settle looks file work
+    → IsFileWord file → IsPlainWord work → HasShortNumber looks → IsRead words (codes "why" ∷ work_arguments settle looks file work)
+work_read words name file work settle looks are plain plain_work short =
+    let behind : List Text → List Text = λ there. name ∷ codes "why" ∷ (option_words (codes "--settle") settle ++ (there ++ (file ∷ work ∷ []))) in
+    as_read (of_work settle (place_of looks) file work (place_begins looks short) (file_begins file plain) (plain_begins work plain_work)) words (work_arguments settle looks file work) name
+    (are ∙ ap behind (words_there looks))
+    (asked_of_work settle looks file work short)
+    (no_capacity (work_arguments settle looks file work))
+
+pub flush_read : (words : List Text) (name file : Text) (flush : ℕ) (settle : Bool) (looks : Looks) → words ≡ name ∷ codes "why" ∷ flush_arguments settle looks flush file
+    → IsFileWord file → IsShortNumber flush → HasShortNumber looks → IsRead words (codes "why" ∷ flush_arguments settle looks flush file)
+flush_read words name file flush settle looks are plain few short =
+    let behind : List Text → List Text = λ there.
+    name ∷ codes "why" ∷ codes "--flush" ∷ decimal flush ∷ (option_words (codes "--settle") settle ++ (there ++ (file ∷ []))) in
+    as_read (of_flush settle (place_of looks) (decimal flush) file (place_begins looks short) (short_plain flush few) (file_begins file plain)) words (flush_arguments settle looks flush file) name
+    (are ∙ ap behind (words_there looks))
+    (asked_of_flush settle looks flush file few short)
+    (no_capacity (flush_arguments settle looks flush file))
 
 pub work_first_read : (words : List Text) (name file work : Text) (looks : Looks) → words ≡ name ∷ codes "why" ∷ file ∷ work ∷ look_words looks
-    → IsPlainWord file → IsPlainWord work → HasShortNumber looks → IsRead words (codes "why" ∷ work_arguments looks file work)
-work_first_read words name file work AtSettled are plain plain_work short =
-    as_read (of_work file work (plain_begins file plain) (plain_begins work plain_work)) words (work_arguments AtSettled file work) name are refl tt
-work_first_read words name file work Every are plain plain_work short =
-    as_read (work_every file work (plain_begins file plain) (plain_begins work plain_work)) words (work_arguments Every file work) name are refl tt
-work_first_read words name file work (At k) are plain plain_work short =
-    as_read (work_at (decimal k) file work (short_plain k short) (plain_begins file plain) (plain_begins work plain_work))
-    words (work_arguments (At k) file work) name are
-    (rw (short_number k short) refl) tt
+    → IsFileWord file → IsPlainWord work → HasShortNumber looks → IsRead words (codes "why" ∷ work_arguments false looks file work)
+work_first_read words name file work looks are plain plain_work short =
+    as_read (work_first (place_of looks) file work (place_begins looks short) (file_begins file plain) (plain_begins work plain_work)) words (work_arguments false looks file work) name
+    (are ∙ ap (λ (there : List Text). name ∷ codes "why" ∷ file ∷ work ∷ there) (words_there looks))
+    (asked_of_work false looks file work short)
+    (no_capacity (work_arguments false looks file work))
 
 pub flush_first_read : (words : List Text) (name file : Text) (flush : ℕ) (looks : Looks)
-    → words ≡ name ∷ codes "why" ∷ file ∷ codes "--flush" ∷ decimal flush ∷ look_words looks → IsPlainWord file → IsShortNumber flush → HasShortNumber looks
-    → IsRead words (codes "why" ∷ flush_arguments looks flush file)
-flush_first_read words name file flush AtSettled are plain few short =
-    as_read (flush_alone (decimal flush) file (short_plain flush few) (plain_begins file plain))
-    words (flush_arguments AtSettled flush file) name are
-    (rw (short_number flush few) refl) tt
-flush_first_read words name file flush Every are plain few short =
-    as_read (flush_every (decimal flush) file (short_plain flush few) (plain_begins file plain))
-    words (flush_arguments Every flush file) name are
-    (rw (short_number flush few) refl) tt
-flush_first_read words name file flush (At k) are plain few short =
-    as_read (flush_at (decimal flush) (decimal k) file (short_plain flush few) (short_plain k short) (plain_begins file plain))
-    words (flush_arguments (At k) flush file) name are
-    (rw (short_number flush few, short_number k short) refl) tt
+    → words ≡ name ∷ codes "why" ∷ file ∷ codes "--flush" ∷ decimal flush ∷ look_words looks → IsFileWord file → IsShortNumber flush → HasShortNumber looks
+    → IsRead words (codes "why" ∷ flush_arguments false looks flush file)
+flush_first_read words name file flush looks are plain few short =
+    as_read (flush_first (place_of looks) (decimal flush) file (place_begins looks short) (short_plain flush few) (file_begins file plain)) words (flush_arguments false looks flush file) name
+    (are ∙ ap (λ (there : List Text). name ∷ codes "why" ∷ file ∷ codes "--flush" ∷ decimal flush ∷ there) (words_there looks))
+    (asked_of_flush false looks flush file few short)
+    (no_capacity (flush_arguments false looks flush file))
 
 pub asked_met : (rows : List Row) (asked : List Text) → file_to_ask rows ≡ Some asked
-    → (every : Bool) × (flag_of (codes "every") rows ≡ Some every) × (asked_why every rows ≡ Some asked)
-asked_met rows asked = by (flag_of (codes "every") rows)
+    → (every settle : Bool) × (flag_of (codes "every") rows ≡ Some every) × (flag_of (codes "settle") rows ≡ Some settle) × (asked_why every settle rows ≡ Some asked)
+asked_met rows asked = by (flag_of (codes "settle") rows) (flag_of (codes "every") rows)
   where
-    by : (flag : Option Bool) → option_and_then (λ every. asked_why every rows) flag ≡ Some asked → (every : Bool) × (flag ≡ Some every) × (asked_why every rows ≡ Some asked)
-    by (Some every) e = (every, refl, e)
-    by None e = absurd cc
+    by : (goes_on flag : Option Bool) → option_and_then (λ settle. option_and_then (λ every. asked_why every settle rows) flag) goes_on ≡ Some asked
+        → (every settle : Bool) × (flag ≡ Some every) × (goes_on ≡ Some settle) × (asked_why every settle rows ≡ Some asked)
+    by (Some settle) (Some every) e = (every, settle, refl, refl, e)
+    by (Some settle) None e = absurd cc
+    by None flag e = absurd cc
 
 -- what is read of the values, where these are the positions and the question that they tell
-pub why_met : (every : Bool) (at file work flush : Option Text) (question : Question) (looks : Looks) → looks_in every at ≡ Some looks
-    → ((name : Text) → question_words work flush looks name ≡ Some (why_arguments question looks name))
-    → option_map (task_words (Why question looks)) file ≡ asked_from every at file work flush
-why_met every at (Some name) work flush question looks looks_is is =
-    sym (ap (λ (o : Option Looks). option_and_then (λ looks. option_map (λ arguments. codes "why" ∷ arguments) (question_words work flush looks name)) o) looks_is
+pub why_met : (every settle : Bool) (at time file work flush : Option Text) (inquiry : Inquiry) → inquiry.settle ≡ settle → looks_in every at time ≡ Some inquiry.looks
+    → ((name : Text) → question_words work flush settle inquiry.looks name ≡ Some (question_arguments inquiry.question settle inquiry.looks name))
+    → option_map (task_words (Why inquiry)) file ≡ asked_from every settle at time file work flush
+why_met every settle at time (Some name) work flush inquiry goes_on looks_is is =
+    ap (λ (b : Bool). Some (codes "why" ∷ question_arguments inquiry.question b inquiry.looks name)) goes_on
+    ∙ sym (ap (λ (o : Option Looks). option_and_then (λ looks. option_map (λ arguments. codes "why" ∷ arguments) (question_words work flush settle looks name)) o) looks_is
     ∙ ap (λ (o : Option (List Text)). option_map (λ arguments. codes "why" ∷ arguments) o) (is name))
-why_met every at None work flush question looks looks_is is = refl
+why_met every settle at time None work flush inquiry goes_on looks_is is = refl
+
+-- where no words ask it, nothing is read
+pub no_question_met : (every settle : Bool) (at time file work flush : Option Text) (looks : Looks) → looks_in every at time ≡ Some looks
+    → ((name : Text) → question_words work flush settle looks name ≡ None) → asked_from every settle at time file work flush ≡ None
+no_question_met every settle at time (Some name) work flush looks looks_is none =
+    ap (λ (o : Option Looks). option_and_then (λ looks. option_map (λ arguments. codes "why" ∷ arguments) (question_words work flush settle looks name)) o) looks_is
+    ∙ ap (λ (o : Option (List Text)). option_map (λ arguments. codes "why" ∷ arguments) o) (none name)
+no_question_met every settle at time None work flush looks looks_is none = refl
+
+pub nothing_of : {A B : Type 0} (f : A → B) (o : Option A) → option_map f o ≡ None → o ≡ None
+nothing_of f (Some x) e = absurd cc
+nothing_of f None e = refl
 
 -- Words that are no question.
 
 misused : (words : List Text) (end : Walk) (every : Bool) (found : Option (List Text)) → found ≡ None → Goes why_shape (walk_from nothing_held) words end
-    → end_passes why_shape end ≡ true → flag_of (codes "every") (finished why_shape.rules end.held) ≡ Some every → asked_why every (finished why_shape.rules end.held) ≡ found
+    → end_passes why_shape end ≡ true → flag_of (codes "every") (finished why_shape.rules end.held) ≡ Some every
+    → flag_of (codes "settle") (finished why_shape.rules end.held) ≡ Some false → asked_why every false (finished why_shape.rules end.held) ≡ found
     → (name : Text) → IsMisuse (name ∷ codes "why" ∷ words)
-misused words end every found none goes passes flag finds name =
+misused words end every found none goes passes flag settle finds name =
     let met = taken has_why name words end goes passes in
-    (met.0, (codes "why", finished why_shape.rules end.held), met.1, (refl, every, flag, finds ∙ none))
+    (met.0, (codes "why", finished why_shape.rules end.held), met.1, inl (refl, (every, false, flag, settle, finds ∙ none)))
 
-neither : (file : Text) → begins_with_hyphen file ≡ false → (name : Text) → IsMisuse (name ∷ codes "why" ∷ file ∷ [])
+neither : (file : Text) → is_option_word file ≡ false → (name : Text) → IsMisuse (name ∷ codes "why" ∷ file ∷ [])
 unfolding clap_on_literals why_shape
-neither file f = misused _ _ false _ refl (on_plain why_shape _ file _ _ f refl refl refl (ends why_shape _)) refl refl refl
+neither file f = misused _ _ false _ refl (on_plain why_shape _ file _ _ f refl refl refl (ends why_shape _)) refl refl refl refl
 
-both : (number file work : Text) → begins_with_hyphen number ≡ false → begins_with_hyphen file ≡ false → begins_with_hyphen work ≡ false
+both : (number file work : Text) → is_option_word number ≡ false → is_option_word file ≡ false → is_option_word work ≡ false
     → (name : Text) → IsMisuse (name ∷ codes "why" ∷ codes "--flush" ∷ number ∷ file ∷ work ∷ [])
 unfolding clap_on_literals why_shape
 both number file work n f w =
@@ -290,24 +317,24 @@ both number file work n f w =
     (on why_shape _ (codes "--flush") _ _ refl
     (on_plain why_shape _ number _ _ n refl refl refl
     (on_plain why_shape _ file _ _ f refl refl refl (on_plain why_shape _ work _ _ w refl refl refl (ends why_shape _)))))
-    refl refl refl
+    refl refl refl refl
 
-asks_no_flush : (number file : Text) → plain_number number ≡ None → asked_from false None (Some file) None (Some number) ≡ None
+asks_no_flush : (number file : Text) → plain_number number ≡ None → asked_from false false None None (Some file) None (Some number) ≡ None
 asks_no_flush number file none = rw none refl
 
-asks_no_place : (number file work : Text) → plain_number number ≡ None → asked_from false (Some number) (Some file) (Some work) None ≡ None
+asks_no_place : (number file work : Text) → plain_number number ≡ None → asked_from false false (Some number) None (Some file) (Some work) None ≡ None
 asks_no_place number file work none = rw none refl
 
-no_flush : (number file : Text) → begins_with_hyphen number ≡ false → plain_number number ≡ None → begins_with_hyphen file ≡ false
+no_flush : (number file : Text) → is_option_word number ≡ false → plain_number number ≡ None → is_option_word file ≡ false
     → (name : Text) → IsMisuse (name ∷ codes "why" ∷ codes "--flush" ∷ number ∷ file ∷ [])
 unfolding clap_on_literals why_shape
 no_flush number file n none f =
-    misused _ _ false (asked_from false None (Some file) None (Some number)) (asks_no_flush number file none)
+    misused _ _ false (asked_from false false None None (Some file) None (Some number)) (asks_no_flush number file none)
     (on why_shape _ (codes "--flush") _ _ refl
     (on_plain why_shape _ number _ _ n refl refl refl (on_plain why_shape _ file _ _ f refl refl refl (ends why_shape _))))
-    refl refl refl
+    refl refl refl refl
 
-at_both : (number file work : Text) → begins_with_hyphen number ≡ false → begins_with_hyphen file ≡ false → begins_with_hyphen work ≡ false
+at_both : (number file work : Text) → is_option_word number ≡ false → is_option_word file ≡ false → is_option_word work ≡ false
     → (name : Text) → IsMisuse (name ∷ codes "why" ∷ codes "--every" ∷ codes "--at" ∷ number ∷ file ∷ work ∷ [])
 unfolding clap_on_literals why_shape
 at_both number file work n f w =
@@ -316,17 +343,29 @@ at_both number file work n f w =
     (on why_shape _ (codes "--at") _ _ refl
     (on_plain why_shape _ number _ _ n refl refl refl
     (on_plain why_shape _ file _ _ f refl refl refl (on_plain why_shape _ work _ _ w refl refl refl (ends why_shape _))))))
-    refl refl refl
+    refl refl refl refl
 
-no_place : (number file work : Text) → begins_with_hyphen number ≡ false → plain_number number ≡ None → begins_with_hyphen file ≡ false → begins_with_hyphen work ≡ false
+at_two : (number place file work : Text) → is_option_word number ≡ false → is_option_word place ≡ false → is_option_word file ≡ false → is_option_word work ≡ false
+    → (name : Text) → IsMisuse (name ∷ codes "why" ∷ codes "--at" ∷ number ∷ codes "--time" ∷ place ∷ file ∷ work ∷ [])
+unfolding clap_on_literals why_shape
+at_two number place file work n b f w =
+    misused _ _ false _ refl
+    (on why_shape _ (codes "--at") _ _ refl
+    (on_plain why_shape _ number _ _ n refl refl refl
+    (on why_shape _ (codes "--time") _ _ refl
+    (on_plain why_shape _ place _ _ b refl refl refl
+    (on_plain why_shape _ file _ _ f refl refl refl (on_plain why_shape _ work _ _ w refl refl refl (ends why_shape _)))))))
+    refl refl refl refl
+
+no_place : (number file work : Text) → is_option_word number ≡ false → plain_number number ≡ None → is_option_word file ≡ false → is_option_word work ≡ false
     → (name : Text) → IsMisuse (name ∷ codes "why" ∷ codes "--at" ∷ number ∷ file ∷ work ∷ [])
 unfolding clap_on_literals why_shape
 no_place number file work n none f w =
-    misused _ _ false (asked_from false (Some number) (Some file) (Some work) None) (asks_no_place number file work none)
+    misused _ _ false (asked_from false false (Some number) None (Some file) (Some work) None) (asks_no_place number file work none)
     (on why_shape _ (codes "--at") _ _ refl
     (on_plain why_shape _ number _ _ n refl refl refl
     (on_plain why_shape _ file _ _ f refl refl refl (on_plain why_shape _ work _ _ w refl refl refl (ends why_shape _)))))
-    refl refl refl
+    refl refl refl refl
 
 pub neither_misused : (words : List Text) (name file : Text) → words ≡ name ∷ codes "why" ∷ file ∷ [] → IsPlainWord file → IsMisuse words
 neither_misused words name file are plain = rw are (neither file (plain_begins file plain) name)
@@ -349,3 +388,9 @@ pub no_place_misused : (words : List Text) (name number file work : Text) → wo
     → IsValueWord number → plain_number number ≡ None → IsPlainWord file → IsPlainWord work → IsMisuse words
 no_place_misused words name number file work are value none plain plain_work =
     rw are (no_place number file work (value_begins number value) none (plain_begins file plain) (plain_begins work plain_work) name)
+
+pub at_two_misused : (words : List Text) (name number place file work : Text)
+    → words ≡ name ∷ codes "why" ∷ codes "--at" ∷ number ∷ codes "--time" ∷ place ∷ file ∷ work ∷ [] → IsValueWord number → IsValueWord place → IsPlainWord file
+    → IsPlainWord work → IsMisuse words
+at_two_misused words name number place file work are value other plain plain_work =
+    rw are (at_two number place file work (value_begins number value) (value_begins place other) (plain_begins file plain) (plain_begins work plain_work) name)

@@ -1,5 +1,6 @@
 -- What the words of a command line ask for.
-use Rattle.std.specs.Prelude.{◌≡◌, ◌≢◌, ◌≤◌, ◌<◌, ◌^◌, ◌⊎◌, ℕ, List, [], ◌∷◌, ◌++◌, Bool, true, false, ◌&&◌, length, nat_lt, map, codes, if◌then◌else◌, Option, None, Some, option_and_then, option_map, option_to_list, Result, IsErrAnd, MatchResult}
+use Rattle.std.specs.Prelude.{◌≡◌, ◌≢◌, ◌≤◌, ◌<◌, ◌^◌, ◌⊎◌, ℕ, List, [], ◌∷◌, ◌++◌, Bool, true, false, ◌&&◌, ◌||◌, ◌==◌, length, nat_le, nat_lt, map, codes, if◌then◌else◌, Option, None, Some, is_none, option_and_then, option_map, option_to_list, Result, IsErrAnd, MatchResult}
+use Rattle.std.specs.List.{list_all}
 use Rattle.std.specs.Fmt.{decimal}
 use Rattle.std.specs.Str.{all_ascii_digits, bytes_eq}
 use Rattle.std.specs.Str.Parse.{digits_value}
@@ -8,17 +9,22 @@ use Rattle.cmwq_command_line.specs.CommandLine.{command_line}
 use Rattle.clap.specs.declared.error.Error.{Error}
 use Rattle.clap.specs.declared.error.kind.ErrorKind.TheVariants.{OutOfMemory, ValueValidation}
 use Rattle.cmwq_types.specs.declared.limits.TheConstants.{MAX_LINES}
+use Rattle.cmwq_types.specs.Faults.{within}
 use Rattle.cmwq_tasks.specs.declared.drawing.Drawing.{Drawing}
+use Rattle.cmwq_tasks.specs.declared.drawing.Form.{Form}
+use Rattle.cmwq_tasks.specs.declared.drawing.Form.TheVariants as form
+use Rattle.cmwq_tasks.specs.declared.drawing.Span.{Span}
+use Rattle.cmwq_tasks.specs.declared.question.Inquiry.{Inquiry}
 use Rattle.cmwq_tasks.specs.declared.question.Looks.{Looks}
-use Rattle.cmwq_tasks.specs.declared.question.Looks.TheVariants.{Settled as AtSettled, Every, At}
+use Rattle.cmwq_tasks.specs.declared.question.Looks.TheVariants.{Settled as AtSettled, Every, At, Time}
 use Rattle.cmwq_tasks.specs.declared.question.Question.{Question}
 use Rattle.cmwq_tasks.specs.declared.question.Question.TheVariants.{Work, Flush}
 use Rattle.cmwq_tasks.specs.declared.task.RunKind.{RunKind}
-use Rattle.cmwq_tasks.specs.declared.task.RunKind.TheVariants.{Plain, Settled, Told}
+use Rattle.cmwq_tasks.specs.declared.task.RunKind.TheVariants.{Plain, Settled, Told, ToldSettled}
 use Rattle.cmwq_tasks.specs.declared.task.Task.{Task}
 use Rattle.cmwq_tasks.specs.declared.task.Task.TheVariants as task
 use Rattle.cmwq_request.specs.declared.request.Request.{Request}
-use Rattle.cmwq_request.specs.declared.request.Request.TheVariants.{New, Do, Asm, Debug, Play, Check, Version}
+use Rattle.cmwq_request.specs.declared.request.Request.TheVariants.{New, Do, Asm, Debug, Play, Check, Language, Version}
 
 -- how many entries a play's history may have room for: as many as an actor may have lines
 abbrev pub IsCapacity : ℕ → Type 0
@@ -33,43 +39,102 @@ abbrev pub number_words : Text → Option ℕ → List Text
 number_words word (Some n) = word ∷ decimal n ∷ []
 number_words word None = []
 
+-- an option's word and its text, if it has one
+abbrev pub text_words : Text → Option Text → List Text
+text_words word (Some text) = word ∷ text ∷ []
+text_words word None = []
+
 -- what stands behind `run`
 abbrev pub run_arguments : RunKind → Text → List Text
 run_arguments Plain file = file ∷ []
 run_arguments Settled file = codes "--settle" ∷ file ∷ []
 run_arguments Told file = codes "--tell" ∷ file ∷ []
+run_arguments ToldSettled file = codes "--settle" ∷ codes "--tell" ∷ file ∷ []
+
+-- what stands behind `debug`
+abbrev pub debug_arguments : (settle : Bool) → Text → List Text
+debug_arguments settle file = option_words (codes "--settle") settle ++ (file ∷ [])
+
+-- What is asked of a drawing, by its options.
+pub record DrawingWords : Type 0 where
+  pub settle : Bool
+  pub svg : Bool
+  pub fold : Bool
+  pub span : Span
+  pub works : Option Text
+  pub scale : Option ℕ
+  pub id : Option Text
+
+abbrev pub is_svg : Form → Bool
+is_svg form.Text = false
+is_svg (form.Svg style) = true
+
+abbrev pub scale_of : Form → Option ℕ
+scale_of form.Text = None
+scale_of (form.Svg style) = style.scale
+
+abbrev pub id_of : Form → Option Text
+id_of form.Text = None
+id_of (form.Svg style) = option_map (λ id. id.now) style.id
+
+abbrev pub form_words : Form → Bool × Option ℕ × Option Text
+form_words form = (is_svg form, scale_of form, id_of form)
+
+abbrev pub drawing_words : Drawing → DrawingWords
+drawing_words drawing =
+    record {
+      settle = drawing.settle;
+      svg = is_svg drawing.form;
+      fold = drawing.fold;
+      span = drawing.span;
+      works = option_map (λ names. names.now) drawing.works;
+      scale = scale_of drawing.form;
+      id = id_of drawing.form;
+    }
 
 -- what stands behind `draw`
-abbrev pub draw_arguments : Drawing → Text → List Text
+abbrev pub style_words : DrawingWords → Text → List Text
+style_words drawing file =
+    option_words (codes "--fold") drawing.fold
+    ++ (text_words (codes "--works") drawing.works
+    ++ (number_words (codes "--scale") drawing.scale ++ (text_words (codes "--id") drawing.id ++ (file ∷ []))))
+
+abbrev pub draw_arguments : DrawingWords → Text → List Text
 draw_arguments drawing file =
     option_words (codes "--settle") drawing.settle
     ++ (option_words (codes "--svg") drawing.svg
-    ++ (number_words (codes "--from") drawing.span.from ++ (number_words (codes "--to") drawing.span.to ++ (file ∷ []))))
+    ++ (number_words (codes "--from") drawing.span.from ++ (number_words (codes "--to") drawing.span.to ++ style_words drawing file)))
 
 -- the words that say which positions are looked at; none where these are the settled ones
 abbrev pub look_words : Looks → List Text
 look_words AtSettled = []
 look_words Every = codes "--every" ∷ []
 look_words (At k) = codes "--at" ∷ decimal k ∷ []
+look_words (Time time) = codes "--time" ∷ decimal time ∷ []
 
 -- what stands behind `why`, where it is asked of a work, and where of a flush
-abbrev pub work_arguments : Looks → Text → Text → List Text
-work_arguments looks file work = look_words looks ++ (file ∷ work ∷ [])
+abbrev pub work_arguments : (settle : Bool) → Looks → (file work : Text) → List Text
+work_arguments settle looks file work = option_words (codes "--settle") settle ++ (look_words looks ++ (file ∷ work ∷ []))
 
-abbrev pub flush_arguments : Looks → ℕ → Text → List Text
-flush_arguments looks flush file = codes "--flush" ∷ decimal flush ∷ (look_words looks ++ (file ∷ []))
+abbrev pub flush_arguments : (settle : Bool) → Looks → ℕ → Text → List Text
+flush_arguments settle looks flush file =
+    codes "--flush" ∷ decimal flush ∷ (option_words (codes "--settle") settle ++ (look_words looks ++ (file ∷ [])))
 
-abbrev pub why_arguments : Question → Looks → Text → List Text
-why_arguments (Work work) looks file = work_arguments looks file work.now
-why_arguments (Flush flush) looks file = flush_arguments looks flush file
+abbrev pub question_arguments : Question → (settle : Bool) → Looks → Text → List Text
+question_arguments (Work work) settle looks file = work_arguments settle looks file work.now
+question_arguments (Flush flush) settle looks file = flush_arguments settle looks flush file
+
+abbrev pub why_arguments : Inquiry → Text → List Text
+why_arguments inquiry file = question_arguments inquiry.question inquiry.settle inquiry.looks file
 
 -- a number of at most ten digits
 abbrev pub IsShortNumber : ℕ → Type 0
 IsShortNumber n = n < 10 ^ 10
 
--- that of a position is one
+-- that of a position or tick is one
 abbrev pub HasShortNumber : Looks → Type 0
 HasShortNumber (At k) = IsShortNumber k
+HasShortNumber (Time time) = IsShortNumber time
 HasShortNumber looks = Unit {0}
 
 -- a time that an option may have is a number below 2^64
@@ -77,8 +142,41 @@ abbrev pub IsTimeIfAny : Option ℕ → Type 0
 IsTimeIfAny (Some time) = time < 2 ^ 64
 IsTimeIfAny None = Unit {0}
 
-abbrev pub HasTimes : Drawing → Type 0
-HasTimes drawing = IsTimeIfAny drawing.span.from × IsTimeIfAny drawing.span.to
+-- the first time, where it is given, isn't behind the last
+abbrev pub is_ahead : (from to : Option ℕ) → Bool
+is_ahead (Some from) (Some to) = nat_le from to
+is_ahead from to = true
+
+abbrev pub IsSpan : Span → Type 0
+IsSpan span = IsTimeIfAny span.from × IsTimeIfAny span.to × (is_ahead span.from span.to ≡ true)
+
+-- a tick may be 1 to 100 pixels wide
+abbrev pub is_scale : Option ℕ → Bool
+is_scale (Some scale) = within 1 100 scale
+is_scale None = true
+
+-- A picture's name has 1 to 64 letters, digits, hyphens (45) and underscores (95), first a letter: so it can stand in a page's style.
+abbrev pub is_letter : ℕ → Bool
+is_letter byte = within 65 90 byte || within 97 122 byte
+
+abbrev pub is_in_id : ℕ → Bool
+is_in_id byte = is_letter byte || (within 48 57 byte || (byte == 45 || byte == 95))
+
+abbrev pub begins_with_letter : Text → Bool
+begins_with_letter [] = false
+begins_with_letter (first ∷ rest) = is_letter first
+
+unfoldable pub is_picture_name : Text → Bool
+is_picture_name name = begins_with_letter name && (nat_le (length name) 64 && list_all is_in_id name)
+
+abbrev pub is_picture_name_if_any : Option Text → Bool
+is_picture_name_if_any (Some name) = is_picture_name name
+is_picture_name_if_any None = true
+
+-- only an SVG picture has a scale and a name
+abbrev pub is_styled : (svg : Bool) → Option ℕ → Option Text → Bool
+is_styled true scale id = is_scale scale && is_picture_name_if_any id
+is_styled false scale id = is_none scale && is_none id
 
 -- the words that ask for the task on a file
 abbrev pub task_words : Task → Text → List Text
@@ -86,8 +184,8 @@ task_words (task.Run kind) file = codes "run" ∷ run_arguments kind file
 task_words task.Settle file = codes "settle" ∷ file ∷ []
 task_words task.List file = codes "list" ∷ file ∷ []
 task_words task.Show file = codes "show" ∷ file ∷ []
-task_words (task.Draw drawing) file = codes "draw" ∷ draw_arguments drawing file
-task_words (task.Why question looks) file = codes "why" ∷ why_arguments question looks file
+task_words (task.Draw drawing) file = codes "draw" ∷ draw_arguments (drawing_words drawing) file
+task_words (task.Why inquiry) file = codes "why" ∷ why_arguments inquiry file
 
 -- the words that ask for it
 abbrev pub request_words : Request → List Text
@@ -95,9 +193,10 @@ request_words (New None) = codes "new" ∷ []
 request_words (New (Some file)) = codes "new" ∷ file.now ∷ []
 request_words (Do file task) = task_words task file.now
 request_words (Asm file out) = codes "asm" ∷ file.now ∷ out.now ∷ []
-request_words (Debug file) = codes "debug" ∷ file.now ∷ []
+request_words (Debug file settle) = codes "debug" ∷ debug_arguments settle file.now
 request_words (Play file capacity) = codes "play" ∷ file.now ∷ codes "--capacity" ∷ decimal capacity ∷ []
 request_words (Check files) = codes "check" ∷ map (λ file. file.now) files.items
+request_words Language = codes "help" ∷ codes "scenario" ∷ []
 request_words Version = codes "--version" ∷ []
 
 -- the words of the request, where clap met this command with these values
@@ -127,15 +226,15 @@ flag_in (Some text) =
 abbrev pub flag_of : Text → List Row → Option Bool
 flag_of id rows = flag_in (one_of id rows)
 
--- which run the flags settle and tell ask for; none where both are given
-abbrev pub kind_of_run : Bool → Bool → Option RunKind
-kind_of_run false false = Some Plain
-kind_of_run true false = Some Settled
-kind_of_run false true = Some Told
-kind_of_run true true = None
+-- which run the flags settle and tell ask for
+abbrev pub kind_of_run : (settle tell : Bool) → RunKind
+kind_of_run false false = Plain
+kind_of_run true false = Settled
+kind_of_run false true = Told
+kind_of_run true true = ToldSettled
 
 abbrev pub kind_from : Option Bool → Option Bool → Option RunKind
-kind_from (Some settle) (Some tell) = kind_of_run settle tell
+kind_from (Some settle) (Some tell) = Some (kind_of_run settle tell)
 kind_from settle tell = None
 
 -- the words of such a run of this file
@@ -144,6 +243,21 @@ words_to_run kind file = option_and_then (λ given. option_map (λ name. codes "
 
 abbrev pub file_to_run : List Row → Option (List Text)
 file_to_run rows = words_to_run (kind_from (flag_of (codes "settle") rows) (flag_of (codes "tell") rows)) (first_of (codes "FILE") rows)
+
+-- whether a debugger's run goes on, and the words of such a request
+abbrev pub words_to_debug : Option Bool → Option Text → Option (List Text)
+words_to_debug settle file = option_and_then (λ given. option_map (λ name. codes "debug" ∷ debug_arguments given name) file) settle
+
+-- the commands come from standard input, so the scenario's text can't
+abbrev pub is_input : Text → Bool
+is_input file = bytes_eq file (codes "-")
+
+abbrev pub unless_input : Option Text → Option Text
+unless_input (Some file) = if is_input file then None else Some file
+unless_input None = None
+
+abbrev pub file_to_debug : List Row → Option (List Text)
+file_to_debug rows = words_to_debug (flag_of (codes "settle") rows) (unless_input (first_of (codes "FILE") rows))
 
 -- The number that a word spells: its own decimal digits, below 2^64.
 unfoldable pub number_in : Text → Option ℕ
@@ -155,19 +269,31 @@ abbrev pub number_if_any : Option Text → Option (Option ℕ)
 number_if_any None = Some None
 number_if_any (Some word) = option_map Some (number_in word)
 
--- the picture of these values, if each is one
-abbrev pub drawing_from : Option Bool → Option Bool → Option (Option ℕ) → Option (Option ℕ) → Option Drawing
-drawing_from (Some settle) (Some svg) (Some from) (Some to) = Some (record { settle = settle; svg = svg; span = record { from = from; to = to } })
-drawing_from settle svg from to = None
+-- the span of these times, if each is one and they are in order
+abbrev pub span_from : (from to : Option (Option ℕ)) → Option Span
+span_from (Some from) (Some to) = if is_ahead from to then Some (record { from = from; to = to }) else None
+span_from from to = None
 
-abbrev pub drawing_asked : List Row → Option Drawing
+abbrev pub span_asked : List Row → Option Span
+span_asked rows = span_from (number_if_any (first_of (codes "FROM") rows)) (number_if_any (first_of (codes "TO") rows))
+
+-- the picture of these values, if each is one
+abbrev pub drawing_from : (settle svg fold : Option Bool) → Option Span → (works : Option Text) → (scale : Option (Option ℕ)) → (id : Option Text) → Option DrawingWords
+drawing_from (Some settle) (Some svg) (Some fold) (Some span) works (Some scale) id =
+    if is_styled svg scale id
+    then Some (record { settle = settle; svg = svg; fold = fold; span = span; works = works; scale = scale; id = id })
+    else None
+drawing_from settle svg fold span works scale id = None
+
+abbrev pub drawing_asked : List Row → Option DrawingWords
 drawing_asked rows =
-    drawing_from (flag_of (codes "settle") rows) (flag_of (codes "svg") rows)
-    (number_if_any (first_of (codes "FROM") rows))
-    (number_if_any (first_of (codes "TO") rows))
+    drawing_from (flag_of (codes "settle") rows) (flag_of (codes "svg") rows) (flag_of (codes "fold") rows) (span_asked rows)
+    (first_of (codes "WORKS") rows)
+    (number_if_any (first_of (codes "SCALE") rows))
+    (first_of (codes "NAME") rows)
 
 -- the words of a picture of this file
-abbrev pub words_to_draw : Option Drawing → Option Text → Option (List Text)
+abbrev pub words_to_draw : Option DrawingWords → Option Text → Option (List Text)
 words_to_draw drawing file = option_and_then (λ given. option_map (λ name. codes "draw" ∷ draw_arguments given name) file) drawing
 
 abbrev pub file_to_draw : List Row → Option (List Text)
@@ -178,38 +304,44 @@ unfoldable pub plain_number : Text → Option ℕ
 plain_number word =
     if all_ascii_digits word && (nat_lt 0 (length word) && nat_lt (length word) 11) then Some (digits_value 10 word) else None
 
--- the positions, by whether --every is given, and by the word of --at; none where both are given, or the word isn't such a number
-abbrev pub looks_in : Bool → Option Text → Option Looks
-looks_in false None = Some AtSettled
-looks_in true None = Some Every
-looks_in false (Some word) = option_map At (plain_number word)
-looks_in true (Some word) = None
+-- the positions, by whether --every is given, and by the words of --at and --time; none where two of them are given, or the word isn't
+-- such a number
+abbrev pub looks_in : (every : Bool) → (at time : Option Text) → Option Looks
+looks_in false None None = Some AtSettled
+looks_in true None None = Some Every
+looks_in false (Some word) None = option_map At (plain_number word)
+looks_in false None (Some word) = option_map Time (plain_number word)
+looks_in false (Some word) (Some other) = None
+looks_in true (Some word) time = None
+looks_in true None (Some word) = None
 
 -- the words of a question on a work, or on the flush whose number's word this is; none where both or neither are given
-abbrev pub question_words : Option Text → Option Text → Looks → Text → Option (List Text)
-question_words (Some work) None looks file = Some (work_arguments looks file work)
-question_words None (Some word) looks file = option_map (λ flush. flush_arguments looks flush file) (plain_number word)
-question_words None None looks file = None
-question_words (Some work) (Some word) looks file = None
+abbrev pub question_words : Option Text → Option Text → (settle : Bool) → Looks → Text → Option (List Text)
+question_words (Some work) None settle looks file = Some (work_arguments settle looks file work)
+question_words None (Some word) settle looks file = option_map (λ flush. flush_arguments settle looks flush file) (plain_number word)
+question_words None None settle looks file = None
+question_words (Some work) (Some word) settle looks file = None
 
--- the words of such a question, where these are what stands for --every, --at, FILE, WORK and --flush
-abbrev pub asked_from : Bool → (at file work flush : Option Text) → Option (List Text)
-asked_from every at file work flush =
+-- the words of such a question, where these are what stands for --every, --settle, --at, --time, FILE, WORK and --flush
+abbrev pub asked_from : (every settle : Bool) → (at time file work flush : Option Text) → Option (List Text)
+asked_from every settle at time file work flush =
     option_and_then
-    (λ name. option_and_then (λ looks. option_map (λ arguments. codes "why" ∷ arguments) (question_words work flush looks name)) (looks_in every at))
+    (λ name. option_and_then (λ looks. option_map (λ arguments. codes "why" ∷ arguments) (question_words work flush settle looks name)) (looks_in every at time))
     file
 
-abbrev pub asked_why : Bool → List Row → Option (List Text)
-asked_why every rows =
-    asked_from every (first_of (codes "K") rows) (first_of (codes "FILE") rows) (first_of (codes "WORK") rows) (first_of (codes "F") rows)
+abbrev pub asked_why : (every settle : Bool) → List Row → Option (List Text)
+asked_why every settle rows =
+    asked_from every settle (first_of (codes "K") rows) (first_of (codes "T") rows) (first_of (codes "FILE") rows) (first_of (codes "WORK") rows)
+    (first_of (codes "F") rows)
 
 abbrev pub file_to_ask : List Row → Option (List Text)
-file_to_ask rows = option_and_then (λ every. asked_why every rows) (flag_of (codes "every") rows)
+file_to_ask rows =
+    option_and_then (λ settle. option_and_then (λ every. asked_why every settle rows) (flag_of (codes "every") rows)) (flag_of (codes "settle") rows)
 
 -- those of the commands that look into a run
 abbrev pub asked_of_run : Text × List Row → Option (List Text)
 asked_of_run met =
-    if bytes_eq met.0 (codes "debug") then one_value (codes "debug") (codes "FILE") met.1
+    if bytes_eq met.0 (codes "debug") then file_to_debug met.1
     else if bytes_eq met.0 (codes "draw") then file_to_draw met.1
     else if bytes_eq met.0 (codes "why") then file_to_ask met.1
     else if bytes_eq met.0 (codes "play") then file_and_capacity met.1
@@ -251,9 +383,21 @@ IsRequestOf asked request = option_map (λ r. request_words r) request ≡ Some 
 abbrev pub IsRead : List Text → List Text → Type 0
 IsRead words asked = (takes command_line words ≡ true) × (asked_of (subcommand_of command_line words) ≡ Some asked) × HasCapacity asked
 
--- what clap met asks for nothing: it is `why`, and with its values no question
+-- What clap met asks for nothing: it is `why`, and with its values no question; a picture whose first time is behind its last; or a debugger
+-- whose scenario and commands would both come from standard input.
+abbrev pub IsNoQuestion : List Row → Type 0
+IsNoQuestion rows =
+    (every settle : Bool) × (flag_of (codes "every") rows ≡ Some every) × (flag_of (codes "settle") rows ≡ Some settle) × (asked_why every settle rows ≡ None)
+
+abbrev pub IsBackwards : List Row → Type 0
+IsBackwards rows =
+    (from to : ℕ) × (number_if_any (first_of (codes "FROM") rows) ≡ Some (Some from)) × (number_if_any (first_of (codes "TO") rows) ≡ Some (Some to))
+    × (to < from)
+
 abbrev pub AsksNothing : Text × List Row → Type 0
-AsksNothing met = (met.0 ≡ codes "why") × (every : Bool) × (flag_of (codes "every") met.1 ≡ Some every) × (asked_why every met.1 ≡ None)
+AsksNothing met =
+    ((met.0 ≡ codes "why") × IsNoQuestion met.1)
+    ⊎ (((met.0 ≡ codes "draw") × IsBackwards met.1) ⊎ ((met.0 ≡ codes "debug") × (first_of (codes "FILE") met.1 ≡ Some (codes "-"))))
 
 -- clap takes the words, and what it meets asks for nothing
 abbrev pub IsMisuse : List Text → Type 0
@@ -263,34 +407,62 @@ IsMisuse words = (takes command_line words ≡ true) × (met : Text × List Row)
 abbrev pub IsPlainWord : Text → Type 0
 IsPlainWord word = (first : ℕ) × (rest : Text) × (word ≡ first ∷ rest) × (first ≢ 45)
 
+-- a file that is read may be `-`, standard input
+abbrev pub IsFileWord : Text → Type 0
+IsFileWord word = IsPlainWord word ⊎ (word ≡ codes "-")
+
 -- an option may have it as its value
 abbrev pub IsValueWord : Text → Type 0
 IsValueWord word = (word ≡ []) ⊎ IsPlainWord word
+
+-- the pictures that the table has
+abbrev pub spanned : (settle svg : Bool) → Span → DrawingWords
+spanned settle svg span = record { settle = settle; svg = svg; fold = false; span = span; works = None; scale = None; id = None }
+
+abbrev pub whole_span : Span
+whole_span = record { from = None; to = None }
+
+abbrev pub folded : (settle svg : Bool) → DrawingWords
+folded settle svg = record (spanned settle svg whole_span) { fold = true }
+
+abbrev pub of_works : Text → DrawingWords
+of_works names = record (spanned false false whole_span) { works = Some names }
+
+abbrev pub styled : Option ℕ → Option Text → DrawingWords
+styled scale id = record (spanned false true whole_span) { scale = scale; id = id }
 
 -- The table of the command line: which words behind the program's name ask for what, as the request's own words say it.
 pub data IsAskedBy : (given asked : List Text) → Type 0 where
   new : IsAskedBy (codes "new" ∷ []) (codes "new" ∷ [])
   new_file : (file : Text) → IsPlainWord file → IsAskedBy (codes "new" ∷ file ∷ []) (codes "new" ∷ file ∷ [])
-  run : (kind : RunKind) (file : Text) → IsPlainWord file → IsAskedBy (codes "run" ∷ run_arguments kind file) (codes "run" ∷ run_arguments kind file)
-  settle : (file : Text) → IsPlainWord file → IsAskedBy (codes "settle" ∷ file ∷ []) (codes "settle" ∷ file ∷ [])
-  list : (file : Text) → IsPlainWord file → IsAskedBy (codes "list" ∷ file ∷ []) (codes "list" ∷ file ∷ [])
-  asm : (file out : Text) → IsPlainWord file → IsPlainWord out → IsAskedBy (codes "asm" ∷ file ∷ out ∷ []) (codes "asm" ∷ file ∷ out ∷ [])
-  show : (image : Text) → IsPlainWord image → IsAskedBy (codes "show" ∷ image ∷ []) (codes "show" ∷ image ∷ [])
-  debug : (file : Text) → IsPlainWord file → IsAskedBy (codes "debug" ∷ file ∷ []) (codes "debug" ∷ file ∷ [])
-  draw : (drawing : Drawing) (file : Text) → IsPlainWord file → HasTimes drawing → IsAskedBy (codes "draw" ∷ draw_arguments drawing file) (codes "draw" ∷ draw_arguments drawing file)
-  why_work : (looks : Looks) (file work : Text) → IsPlainWord file → IsPlainWord work → HasShortNumber looks
-      → IsAskedBy (codes "why" ∷ work_arguments looks file work) (codes "why" ∷ work_arguments looks file work)
-  why_flush : (looks : Looks) (flush : ℕ) (file : Text) → IsPlainWord file → IsShortNumber flush → HasShortNumber looks
-      → IsAskedBy (codes "why" ∷ flush_arguments looks flush file) (codes "why" ∷ flush_arguments looks flush file)
+  run : (kind : RunKind) (file : Text) → IsFileWord file → IsAskedBy (codes "run" ∷ run_arguments kind file) (codes "run" ∷ run_arguments kind file)
+  settle : (file : Text) → IsFileWord file → IsAskedBy (codes "settle" ∷ file ∷ []) (codes "settle" ∷ file ∷ [])
+  list : (file : Text) → IsFileWord file → IsAskedBy (codes "list" ∷ file ∷ []) (codes "list" ∷ file ∷ [])
+  asm : (file out : Text) → IsFileWord file → IsPlainWord out → IsAskedBy (codes "asm" ∷ file ∷ out ∷ []) (codes "asm" ∷ file ∷ out ∷ [])
+  show : (image : Text) → IsFileWord image → IsAskedBy (codes "show" ∷ image ∷ []) (codes "show" ∷ image ∷ [])
+  debug : (goes_on : Bool) (file : Text) → IsPlainWord file → IsAskedBy (codes "debug" ∷ debug_arguments goes_on file) (codes "debug" ∷ debug_arguments goes_on file)
+  draw : (goes_on svg : Bool) (span : Span) (file : Text) → IsFileWord file → IsSpan span
+      → IsAskedBy (codes "draw" ∷ draw_arguments (spanned goes_on svg span) file) (codes "draw" ∷ draw_arguments (spanned goes_on svg span) file)
+  draw_folded : (goes_on svg : Bool) (file : Text) → IsFileWord file
+      → IsAskedBy (codes "draw" ∷ draw_arguments (folded goes_on svg) file) (codes "draw" ∷ draw_arguments (folded goes_on svg) file)
+  draw_works : (names file : Text) → IsPlainWord names → IsFileWord file
+      → IsAskedBy (codes "draw" ∷ draw_arguments (of_works names) file) (codes "draw" ∷ draw_arguments (of_works names) file)
+  draw_styled : (scale : Option ℕ) (id : Option Text) (file : Text) → is_styled true scale id ≡ true → IsFileWord file
+      → IsAskedBy (codes "draw" ∷ draw_arguments (styled scale id) file) (codes "draw" ∷ draw_arguments (styled scale id) file)
+  why_work : (goes_on : Bool) (looks : Looks) (file work : Text) → IsFileWord file → IsPlainWord work → HasShortNumber looks
+      → IsAskedBy (codes "why" ∷ work_arguments goes_on looks file work) (codes "why" ∷ work_arguments goes_on looks file work)
+  why_flush : (goes_on : Bool) (looks : Looks) (flush : ℕ) (file : Text) → IsFileWord file → IsShortNumber flush → HasShortNumber looks
+      → IsAskedBy (codes "why" ∷ flush_arguments goes_on looks flush file) (codes "why" ∷ flush_arguments goes_on looks flush file)
   -- the options may stand behind FILE and WORK
-  why_work_first : (looks : Looks) (file work : Text) → IsPlainWord file → IsPlainWord work → HasShortNumber looks
-      → IsAskedBy (codes "why" ∷ file ∷ work ∷ look_words looks) (codes "why" ∷ work_arguments looks file work)
-  why_flush_first : (looks : Looks) (flush : ℕ) (file : Text) → IsPlainWord file → IsShortNumber flush → HasShortNumber looks
-      → IsAskedBy (codes "why" ∷ file ∷ codes "--flush" ∷ decimal flush ∷ look_words looks) (codes "why" ∷ flush_arguments looks flush file)
-  play : (file : Text) (capacity : ℕ) → IsPlainWord file → IsCapacity capacity
+  why_work_first : (looks : Looks) (file work : Text) → IsFileWord file → IsPlainWord work → HasShortNumber looks
+      → IsAskedBy (codes "why" ∷ file ∷ work ∷ look_words looks) (codes "why" ∷ work_arguments false looks file work)
+  why_flush_first : (looks : Looks) (flush : ℕ) (file : Text) → IsFileWord file → IsShortNumber flush → HasShortNumber looks
+      → IsAskedBy (codes "why" ∷ file ∷ codes "--flush" ∷ decimal flush ∷ look_words looks) (codes "why" ∷ flush_arguments false looks flush file)
+  play : (file : Text) (capacity : ℕ) → IsFileWord file → IsCapacity capacity
       → IsAskedBy (codes "play" ∷ file ∷ codes "--capacity" ∷ decimal capacity ∷ []) (codes "play" ∷ file ∷ codes "--capacity" ∷ decimal capacity ∷ [])
-  check : (file : Text) → IsPlainWord file → IsAskedBy (codes "check" ∷ file ∷ []) (codes "check" ∷ file ∷ [])
+  check : (file : Text) → IsFileWord file → IsAskedBy (codes "check" ∷ file ∷ []) (codes "check" ∷ file ∷ [])
   check_two : (file other : Text) → IsPlainWord file → IsPlainWord other → IsAskedBy (codes "check" ∷ file ∷ other ∷ []) (codes "check" ∷ file ∷ other ∷ [])
+  language : IsAskedBy (codes "help" ∷ codes "scenario" ∷ []) (codes "help" ∷ codes "scenario" ∷ [])
 
 -- Words behind the program's name that clap takes, and that ask for nothing.
 pub data IsMisusedBy : (given : List Text) → Type 0 where
@@ -301,6 +473,12 @@ pub data IsMisusedBy : (given : List Text) → Type 0 where
       → IsMisusedBy (codes "why" ∷ codes "--every" ∷ codes "--at" ∷ number ∷ file ∷ work ∷ [])
   at_no_number : (number file work : Text) → IsValueWord number → plain_number number ≡ None → IsPlainWord file → IsPlainWord work
       → IsMisusedBy (codes "why" ∷ codes "--at" ∷ number ∷ file ∷ work ∷ [])
+  at_position_and_time : (number time file work : Text) → IsValueWord number → IsValueWord time → IsPlainWord file → IsPlainWord work
+      → IsMisusedBy (codes "why" ∷ codes "--at" ∷ number ∷ codes "--time" ∷ time ∷ file ∷ work ∷ [])
+  drawn_backwards : (from to : ℕ) (file : Text) → to < from → from < 2 ^ 64 → IsPlainWord file
+      → IsMisusedBy (codes "draw" ∷ codes "--from" ∷ decimal from ∷ codes "--to" ∷ decimal to ∷ file ∷ [])
+  -- the commands of a debugger come from standard input
+  debug_of_input : IsMisusedBy (codes "debug" ∷ codes "-" ∷ [])
 
 -- the answer is the request of these words, unless memory ran out
 abbrev pub Asks : List Text → Result Request Error → Type 0
@@ -309,6 +487,11 @@ Asks words r = MatchResult r (λ request. request_words request ≡ words) (λ e
 -- the answer is a usage fault, unless memory ran out
 abbrev pub IsUsageFault : Result Request Error → Type 0
 IsUsageFault r = IsErrAnd r (λ e. (kind_of e ≡ ValueValidation) ⊎ (kind_of e ≡ OutOfMemory))
+
+-- the words that ask what a scenario's text may say
+abbrev pub asks_for_language : List Text → Bool
+asks_for_language (name ∷ help ∷ scenario ∷ []) = bytes_eq help (codes "help") && bytes_eq scenario (codes "scenario")
+asks_for_language words = false
 
 -- the words that ask for the version
 abbrev pub IsVersionWord : Text → Type 0

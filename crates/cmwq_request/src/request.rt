@@ -2,19 +2,22 @@
 
 ghost use Rattle.clap.specs.Words.{Row, Text, all_of, app_of, fault_of, first_of, found_of, kind_of, rows_of, subcommand_rows_of};
 ghost use Rattle.cmwq_command_line.specs.CommandLine.{command_line};
-ghost use Rattle.cmwq_request.specs.Request.{Asks, AsksNothing, AsksVersion, HasCapacity, IsAskedBy, IsCapacity, IsMisuse, IsMisusedBy, IsRead, IsRequestOf, IsUsageFault, IsVersionWord, IsWithin, asked_in, asked_of, asked_of_run, file_and_capacity, file_to_run, kind_of_run, task_words, request_words};
+ghost use Rattle.cmwq_request.specs.Request.{Asks, AsksNothing, AsksVersion, HasCapacity, IsAskedBy, IsCapacity, IsMisuse, IsMisusedBy, IsRead, IsRequestOf, IsUsageFault, IsVersionWord, IsWithin, asked_in, asked_of, asked_of_run, asks_for_language, file_and_capacity, file_to_debug, file_to_run, kind_of_run, task_words, request_words};
 ghost use Rattle.std.specs.Fmt.{decimal};
 ghost use Rattle.std.specs.Str.{bytes_eq};
 ghost use Rattle.std.specs.Prelude.{◌≡◌, ◌↔◌, ℕ, List, [], ◌∷◌, IfOk, IfSome, IsTrue, None, Some, codes, false, map, option_map, string_bytes};
 
 use crate::asking::{wanted_by_why, why_request};
-use crate::draw_options::{draw_request, flag_of};
+use crate::draw_options::{draw_request, flag_of, wanted_by_draw};
 use clap::error::ErrorKind;
 use clap::{ArgMatches, Command, Error};
 use cmwq_command_line::commands::command_line;
 use cmwq_tasks::{RunKind, Task};
 use cmwq_types::MAX_LINES;
 use std::alloc::{AllocError, Global};
+
+/// The path that stands for standard input, where a file is read.
+pub const STANDARD_INPUT: &str = "-";
 
 /// What the words ask for. The paths are as they were given.
 #[derive(Debug, PartialEq, Eq, Drop)]
@@ -42,6 +45,8 @@ pub enum Request<'a> {
     Debug {
         /// The text's path.
         file: &'a str,
+        /// Whether the run goes on until the machine is quiet.
+        settle: bool,
     },
     /// Carry out all actors of the scenario whose text is in this file at once.
     Play {
@@ -55,6 +60,8 @@ pub enum Request<'a> {
         /// The texts' paths, at least one.
         files: Vec<&'a str>,
     },
+    /// Tell what a scenario's text may say.
+    Language,
     /// Tell the program's version.
     Version,
 }
@@ -62,9 +69,10 @@ pub enum Request<'a> {
 /// Reads the words, of which the first is the program's name. The error is a usage fault, help that
 /// was asked for, or want of memory; it holds the text for the user. The version is a request.
 ///
-/// Each command's words ask for it, where no FILE, OUT, IMAGE or WORK is empty or begins with a hyphen;
+/// Each command's words ask for it, where no FILE, OUT, IMAGE or WORK is empty or begins with a hyphen, but for a FILE or IMAGE that is `-`;
 /// the call then fails only for want of memory. It is a usage fault where `why` is asked of neither or of both of a work and
-/// a flush, at positions of two kinds, or with a number that hasn't 1 to 10 digits.
+/// a flush, at positions of two kinds, or with a number that hasn't 1 to 10 digits; where `draw` is to begin behind its end; and where
+/// `debug` is to read the scenario from `-`.
 pub fn parse<'a>(alloc: Global, words: &'a [String]) -> Result<Request<'a>, Error>
     ensures asks { (name : Text) (given asked : List Text) → map string_bytes words.entry.now ≡ name ∷ given → IsAskedBy given asked → Asks asked result }
     ensures misuse { (name : Text) (given : List Text) → map string_bytes words.entry.now ≡ name ∷ given → IsMisusedBy given → IsUsageFault result }
@@ -72,8 +80,21 @@ pub fn parse<'a>(alloc: Global, words: &'a [String]) -> Result<Request<'a>, Erro
         → IsVersionWord word → AsksVersion result }
     ensures capacity { IfOk result (λ request. IsWithin request) }
 {
+    if asks_for_language(words) {
+        return Ok(Request::Language);
+    }
     let mut command = command_line(alloc)?;
     request_met(alloc, &mut command, words)
+}
+
+/// Whether the words ask what a scenario's text may say: they are `help scenario`.
+fn asks_for_language(words: &[String]) -> bool
+    ensures { result ≡ asks_for_language (map string_bytes words.now) }
+{
+    match words {
+        [_, help, scenario] => help.as_str() == "help" && scenario.as_str() == "scenario",
+        _ => false,
+    }
 }
 
 /// What the words ask for, by the program's command line.
@@ -102,11 +123,9 @@ fn request_met<'a>(
 /// What the command that was met takes.
 fn wanted_words(matches: &ArgMatches<'_>) -> &'static str {
     match matches.subcommand() {
-        Some(("run", _)) => {
-            "--settle and --tell don't go together: `cmwq settle` writes the text to run with --tell"
-        }
-        Some(("draw", _)) => "--from and --to take a time in ticks",
+        Some(("draw", given)) => wanted_by_draw(given),
         Some(("why", given)) => wanted_by_why(given),
+        Some(("debug", _)) => "debug reads its commands from standard input, so FILE can't be -",
         _ => "--capacity takes a number from 1 to 4096",
     }
 }
@@ -195,9 +214,7 @@ fn request_on_run<'a>(name: &str, given: &ArgMatches<'a>) -> Option<Request<'a>>
     ensures capacity { IfSome result (λ request. IsWithin request) }
 {
     match name {
-        "debug" => Some(Request::Debug {
-            file: value_of(given, "FILE")?,
-        }),
+        "debug" => debug_request(given),
         "draw" => draw_request(given),
         "why" => why_request(given),
         "play" => play_request(given),
@@ -219,20 +236,36 @@ fn run_request<'a>(given: &ArgMatches<'a>) -> Option<Request<'a>>
     ensures words { (asked : List Text) → file_to_run (rows_of (found_of given.now)) ≡ Some asked → option_map (λ request. request_words request) result ≡ Some asked }
     ensures capacity { IfSome result (λ request. IsWithin request) }
 {
-    let kind = run_kind(flag_of(given, "settle"), flag_of(given, "tell"))?;
+    let kind = run_kind(flag_of(given, "settle"), flag_of(given, "tell"));
     on_file(given, "FILE", Task::Run(kind))
 }
 
-/// Which run the flags ask for; nothing where both are given.
-fn run_kind(settle: bool, tell: bool) -> Option<RunKind>
+/// Which run the flags ask for.
+fn run_kind(settle: bool, tell: bool) -> RunKind
     ensures { result ≡ kind_of_run settle tell }
 {
     match (settle, tell) {
-        (false, false) => Some(RunKind::Plain),
-        (true, false) => Some(RunKind::Settled),
-        (false, true) => Some(RunKind::Told),
-        (true, true) => None,
+        (false, false) => RunKind::Plain,
+        (true, false) => RunKind::Settled,
+        (false, true) => RunKind::Told,
+        (true, true) => RunKind::ToldSettled,
     }
+}
+
+/// What `debug` asks for; nothing where FILE is `-`, from which the commands come.
+fn debug_request<'a>(given: &ArgMatches<'a>) -> Option<Request<'a>>
+    ensures words { (asked : List Text) → file_to_debug (rows_of (found_of given.now)) ≡ Some asked → option_map (λ request. request_words request) result ≡ Some asked }
+    ensures nothing { first_of (codes "FILE") (rows_of (found_of given.now)) ≡ Some (codes "-") → result ≡ None }
+    ensures capacity { IfSome result (λ request. IsWithin request) }
+{
+    let file = value_of(given, "FILE")?;
+    if file == STANDARD_INPUT {
+        return None;
+    }
+    Some(Request::Debug {
+        file,
+        settle: flag_of(given, "settle"),
+    })
 }
 
 /// What `play` asks for.

@@ -1,14 +1,14 @@
 //! A command carried out over a reader and a writer.
 ghost use Rattle.std.specs.Prelude.{◌≡◌, false};
 
-use cmwq_debug_session::debug;
+use cmwq_debug_session::{Manner, debug};
 use cmwq_draw::draw;
 use cmwq_explain::why;
 use cmwq_machine_tests::examples::MAX_ACTIVE_3;
 use cmwq_machine_tests::streams::{Input, Output, reading_of};
 use cmwq_play::{Marked, PlayError, from_image, list_text, read_text, run, to_image};
 use cmwq_settle::{run_settled, settle_text};
-use cmwq_tasks::{Drawing, Looks, Question, Span};
+use cmwq_tasks::{Drawing, Form, Inquiry, Looks, Question, Span, Style};
 use cmwq_tell::run_told;
 use std::alloc::Global;
 
@@ -27,16 +27,34 @@ pub(crate) enum Command {
     Settle,
     /// Run a scenario's text until its machine is quiet.
     RunSettled,
-    /// Run a scenario's text, and tell each instruction and what it changes unseen.
-    RunTold,
+    /// Run a scenario's text, or, where it is `true`, the settled scenario, and tell each instruction and what it changes unseen.
+    RunTold(bool),
     /// Tell why a work of a scenario's text isn't further, or what a flush waits for.
-    Why(Question<'static>, Looks),
+    Why(Inquiry<'static>),
     /// Draw the whole run of a settled scenario, as text.
     Draw,
     /// The same as SVG.
     DrawSvg,
     /// Debug the kernel's document's works under `max_active` 3.
     Debug,
+}
+
+/// The question to a run as far as its actor's instructions go.
+pub(crate) fn asked(question: Question<'static>, looks: Looks) -> Command {
+    Command::Why(Inquiry {
+        question,
+        looks,
+        settle: false,
+    })
+}
+
+/// The question to a settled run.
+pub(crate) fn asked_settled(question: Question<'static>, looks: Looks) -> Command {
+    Command::Why(Inquiry {
+        question,
+        looks,
+        settle: true,
+    })
 }
 
 /// What a command answered, and what was read and written.
@@ -68,10 +86,10 @@ pub(crate) fn carried_out(
         Command::Show => from_image(alloc, &mut reader, &mut writer),
         Command::Settle => settle_text(alloc, &mut reader, &mut writer),
         Command::RunSettled => run_settled(alloc, &mut reader, &mut writer),
-        Command::RunTold => run_told(alloc, &mut reader, &mut writer),
-        Command::Why(question, looks) => why(alloc, question, looks, &mut reader, &mut writer),
-        Command::Draw => draw(alloc, whole(false), &mut reader, &mut writer),
-        Command::DrawSvg => draw(alloc, whole(true), &mut reader, &mut writer),
+        Command::RunTold(settle) => run_told(alloc, settle, &mut reader, &mut writer),
+        Command::Why(inquiry) => why(alloc, inquiry, &mut reader, &mut writer),
+        Command::Draw => draw(alloc, whole(Form::Text), &mut reader, &mut writer),
+        Command::DrawSvg => draw(alloc, whole(PLAIN_SVG), &mut reader, &mut writer),
         Command::Debug => debugged(alloc, &mut reader, &mut writer),
     };
     let output = writer.into_inner();
@@ -83,16 +101,24 @@ pub(crate) fn carried_out(
     }
 }
 
+/// As SVG, with the width and the name that are taken where none is given.
+const PLAIN_SVG: Form<'static> = Form::Svg(Style {
+    scale: None,
+    id: None,
+});
+
 /// The drawing of all ticks of a settled scenario.
-fn whole(svg: bool) -> Drawing {
+fn whole(form: Form<'static>) -> Drawing<'static> {
     let span = Span {
         from: None,
         to: None,
     };
     Drawing {
         settle: true,
-        svg,
+        fold: false,
         span,
+        works: None,
+        form,
     }
 }
 
@@ -107,5 +133,5 @@ fn debugged(
 {
     let mut text = Marked::new(reading_of(MAX_ACTIVE_3.text, 4096));
     let scenario = read_text(alloc, &mut text)?;
-    debug(alloc, scenario, commands, writer)
+    debug(alloc, Manner::Plain, scenario, commands, writer)
 }

@@ -1,5 +1,5 @@
 //! The commands over memory: what they write, reads and writes that fail, and input that is refused.
-use crate::carried::{Command, Outcome, carried_out};
+use crate::carried::{Command, Outcome, asked, asked_settled, carried_out};
 use crate::checking::same;
 use crate::explaining::{CHAIN, HOLD};
 use crate::settling::UNSETTLED;
@@ -11,7 +11,7 @@ use cmwq_machine_tests::examples::{
 };
 use cmwq_machine_tests::streams::{Failure, Input, Output, reading_of, writing_to};
 use cmwq_play::{Marked, PlayError, read_text};
-use cmwq_tasks::{Looks, Question};
+use cmwq_tasks::{Inquiry, Looks, Question};
 use cmwq_types::Fault;
 use std::alloc::Global;
 use std::process::Abort;
@@ -88,15 +88,17 @@ fn a_text_in_other_ways_is_run_and_the_worked_image_is_written(rt: HostRuntime) 
 }
 
 /// Commands and what they read.
-fn inputs() -> [(Command, &'static [u8]); 15] {
+fn inputs() -> [(Command, &'static [u8]); 17] {
     [
         (Command::Settle, UNSETTLED),
         (Command::RunSettled, UNSETTLED),
-        (Command::RunTold, UNSETTLED),
-        (Command::Why(Question::Work("b"), Looks::Settled), HOLD),
-        (Command::Why(Question::Work("b"), Looks::Every), HOLD),
-        (Command::Why(Question::Flush(0), Looks::Settled), CHAIN),
-        (Command::Why(Question::Flush(0), Looks::Every), HOLD),
+        (Command::RunTold(false), UNSETTLED),
+        (Command::RunTold(true), UNSETTLED),
+        (asked(Question::Work("b"), Looks::Settled), HOLD),
+        (asked(Question::Work("b"), Looks::Every), HOLD),
+        (asked(Question::Flush(0), Looks::Settled), CHAIN),
+        (asked(Question::Flush(0), Looks::Every), HOLD),
+        (asked_settled(Question::Work("w2"), Looks::Every), UNSETTLED),
         (Command::Draw, UNSETTLED),
         (Command::DrawSvg, OTHER_WAYS),
         (Command::Run, MAX_ACTIVE_3.text),
@@ -156,8 +158,11 @@ fn with_failed_write(
     carried_out(alloc, command, reading_of(bytes, 4096), output)
 }
 
-/// Lets each write fail in turn: it is told, and a front of what is written otherwise was written. A write behind
-/// the last one doesn't count.
+/// Of longer outputs about so many writes fail.
+const MOST_FAILING: usize = 50;
+
+/// Lets each write fail in turn, a byte each, or of many each so-many-th: it is told, and a front of what is written otherwise was
+/// written. A write behind the last one doesn't count.
 fn check_failed_writes(
     rt: &impl Abort,
     alloc: Global,
@@ -166,7 +171,11 @@ fn check_failed_writes(
     failure: Failure,
 ) {
     let whole = written(rt, alloc, "at once", command, bytes, (4096, 4096));
+    let stride = whole.len() / MOST_FAILING;
     for fails in 1..=whole.len() {
+        if stride > 0 && fails % stride > 0 {
+            continue;
+        }
         let outcome = with_failed_write(alloc, command, bytes, fails, failure);
         let front = whole.get(..fails - 1);
         same(rt, (command, fails), outcome.result, Err(PlayError::Write));
@@ -262,8 +271,16 @@ const RUNNING: [Command; 5] = [
     Command::Run,
     Command::Settle,
     Command::RunSettled,
-    Command::Why(Question::Work("none"), Looks::At(u64::MAX)),
-    Command::Why(Question::Flush(0), Looks::At(u64::MAX)),
+    Command::Why(Inquiry {
+        question: Question::Work("none"),
+        looks: Looks::At(u64::MAX),
+        settle: false,
+    }),
+    Command::Why(Inquiry {
+        question: Question::Flush(0),
+        looks: Looks::Time(u64::MAX),
+        settle: true,
+    }),
 ];
 
 /// The error of a text whose first fault is at this line.
@@ -343,7 +360,7 @@ fn a_run_issues_1048576_instructions_and_no_more(rt: HostRuntime) {
         (1_048_576, PlayError::NoSuchFlush),
         (1_048_577, PlayError::PastEnd),
     ] {
-        let command = Command::Why(Question::Flush(0), Looks::At(position));
+        let command = asked(Question::Flush(0), Looks::At(position));
         check_refused(&rt, alloc, command, reading_of(&text, 4096), want);
     }
     for (lines, last, want) in TOO_LONG {
@@ -407,15 +424,29 @@ fn input_without_end_is_refused(rt: HostRuntime) {
     check_refused(&rt, rt.alloc(), Command::Show, input, extra);
 }
 
+/// A run of which no tick is folded, since the actor does something at each: so many freezes and thaws, with a tick behind each, and these lines.
+fn restless_run(rt: &impl Abort, alloc: Global, pairs: u32, last: &[u8]) -> Vec<u8> {
+    let mut text = long_run(rt, alloc, 0, b"");
+    for _pair in 0..pairs {
+        text.extend_from_slice(b"freeze\nnext\nthaw\nnext\n")
+            .expect(rt, "memory is left");
+    }
+    text.extend_from_slice(last).expect(rt, "memory is left");
+    text
+}
+
 #[test]
 fn a_picture_has_500_columns_and_no_more(rt: HostRuntime) {
     let alloc = rt.alloc();
-    let wide = long_run(&rt, alloc, 0, b"next * 501\n");
+    let wide = restless_run(&rt, alloc, 250, b"freeze\nnext\n");
     for command in [Command::Draw, Command::DrawSvg] {
         let input = reading_of(&wide, 4096);
         check_refused(&rt, alloc, command, input, PlayError::TooWide);
     }
-    let widest = long_run(&rt, alloc, 0, b"next * 500\n");
-    let drawn = written(&rt, alloc, "500", Command::Draw, &widest, (4096, 4096));
-    same(&rt, "500", drawn.is_empty(), false);
+    let widest = restless_run(&rt, alloc, 250, b"");
+    let folded = long_run(&rt, alloc, 0, b"next * 501\n");
+    for (case, text) in [("500", &widest), ("501, folded", &folded)] {
+        let drawn = written(&rt, alloc, case, Command::Draw, text, (4096, 4096));
+        same(&rt, case, drawn.is_empty(), false);
+    }
 }

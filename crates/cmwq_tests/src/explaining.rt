@@ -1,6 +1,6 @@
 //! `why`: what is told of whole runs and of one position alone, and what is refused. What is told of whole runs comes from the examples
 //! with which the command was designed, the rest was worked out by hand: none comes from a run of the program.
-use crate::carried::{Command, Outcome, carried_out};
+use crate::carried::{Outcome, asked, asked_settled, carried_out};
 use crate::checking::same;
 use crate::commands::{DEEPEST, check_refused, check_written};
 use crate::settling::UNSETTLED;
@@ -254,7 +254,7 @@ at 21 now 6 flush 0 done
         CHAIN,
         Question::Flush(0),
         Looks::Settled,
-        b"at 15 now 2 flush 0 waits for 1
+        b"at 15 now 2 flush 0 waits for 1; the actor has stopped
   y inactive 0: q has 1 of 1 active: x listed
     x listed 0: held by c d
     c runnable, high u has the CPU
@@ -304,6 +304,7 @@ at 20 now 4 b listed 0: free to go, starts next
 at 21 now 4 b ready, goes on next
 at 22 now 4 b burns
 at 23 now 5 b ready, goes on next
+at 24 now 5 b ready, goes on next; the actor has stopped
 ",
     ),
     (
@@ -342,7 +343,7 @@ at 21 now 3 flush 1 done
 ];
 
 /// One position alone, the first and the last among them, whatever is told before it.
-const POSITIONS: [Told; 6] = [
+const POSITIONS: [Told; 12] = [
     (
         HOLD,
         Question::Work("b"),
@@ -377,14 +378,80 @@ const POSITIONS: [Told; 6] = [
         UNSETTLED,
         Question::Work("w2"),
         Looks::At(3),
+        b"at 3 now 0 w2 listed 0 ahead w0 w1: after w0; the actor has stopped\n",
+    ),
+    (
+        UNSETTLED,
+        Question::Work("w2"),
+        Looks::At(2),
+        b"at 2 now 0 w2 not pending\n",
+    ),
+    (
+        HOLD,
+        Question::Work("b"),
+        Looks::Time(0),
+        b"at 0 now 0 b not pending\nat 5 now 0 b inactive 0: q has 1 of 1 active: a runs\n",
+    ),
+    (
+        HOLD,
+        Question::Work("b"),
+        Looks::Time(4),
+        b"at 14 now 4 b inactive 0: q has 1 of 1 active: a asleep until 5\n",
+    ),
+    (
+        HOLD,
+        Question::Work("b"),
+        Looks::Time(5),
+        b"at 19 now 5 b burns\n",
+    ),
+    (
+        HOLD,
+        Question::Flush(0),
+        Looks::Time(9),
+        b"at 24 now 9 flush 0 done\n",
+    ),
+    (
+        UNSETTLED,
+        Question::Work("w2"),
+        Looks::Time(0),
+        b"at 0 now 0 w2 not pending\nat 3 now 0 w2 listed 0 ahead w0 w1: after w0; the actor has stopped\n",
+    ),
+];
+
+/// Positions of a settled run, the last among them: there the machine is quiet, so that no actor stops.
+const SETTLED: [Told; 3] = [
+    (
+        UNSETTLED,
+        Question::Work("w2"),
+        Looks::At(3),
         b"at 3 now 0 w2 listed 0 ahead w0 w1: after w0\n",
+    ),
+    (
+        UNSETTLED,
+        Question::Work("w2"),
+        Looks::At(44),
+        b"at 44 now 25 w2 not pending\n",
+    ),
+    (
+        UNSETTLED,
+        Question::Work("w0"),
+        Looks::Time(25),
+        b"at 44 now 25 w0 not pending\n",
     ),
 ];
 
 /// Compares what is told in each row, where one byte is read and written a call.
 fn check_told(rt: &impl Abort, alloc: Global, rows: &[Told]) {
     for (text, question, looks, want) in rows {
-        let command = Command::Why(*question, *looks);
+        let command = asked(*question, *looks);
+        check_written(rt, alloc, "one byte", command, text, (1, 1), want);
+    }
+}
+
+/// The same of settled runs.
+fn check_settled(rt: &impl Abort, alloc: Global, rows: &[Told]) {
+    for (text, question, looks, want) in rows {
+        let command = asked_settled(*question, *looks);
         check_written(rt, alloc, "one byte", command, text, (1, 1), want);
     }
 }
@@ -393,6 +460,7 @@ fn check_told(rt: &impl Abort, alloc: Global, rows: &[Told]) {
 fn what_is_waited_for_is_told_where_it_changes(rt: HostRuntime) {
     check_told(&rt, rt.alloc(), &RUNS);
     check_told(&rt, rt.alloc(), &POSITIONS);
+    check_settled(&rt, rt.alloc(), &SETTLED);
 }
 
 /// A text, what is asked of its run, where it is looked, and what is answered.
@@ -437,7 +505,7 @@ const NO_SUCH_WORK: [Refused; 6] = [
 ];
 
 /// A position that there isn't is told before a flush that isn't given.
-const PAST_END: [Refused; 6] = [
+const PAST_END: [Refused; 9] = [
     (
         UNSETTLED,
         Question::Work("w0"),
@@ -454,6 +522,24 @@ const PAST_END: [Refused; 6] = [
     (HOLD, Question::Work("b"), FAR, PlayError::PastEnd),
     (HOLD, Question::Flush(0), Looks::At(25), PlayError::PastEnd),
     (HOLD, Question::Flush(1), FAR, PlayError::PastEnd),
+    (
+        UNSETTLED,
+        Question::Work("w0"),
+        Looks::Time(1),
+        PlayError::PastEnd,
+    ),
+    (
+        HOLD,
+        Question::Work("b"),
+        Looks::Time(10),
+        PlayError::PastEnd,
+    ),
+    (
+        HOLD,
+        Question::Flush(1),
+        Looks::Time(10),
+        PlayError::PastEnd,
+    ),
 ];
 
 /// A flush that is refused.
@@ -467,7 +553,7 @@ flush_queue q
 ";
 
 /// Flushes that aren't given, or not yet.
-const NO_SUCH_FLUSH: [Refused; 7] = [
+const NO_SUCH_FLUSH: [Refused; 8] = [
     (
         UNSETTLED,
         Question::Flush(0),
@@ -496,6 +582,12 @@ const NO_SUCH_FLUSH: [Refused; 7] = [
         HOLD,
         Question::Flush(1),
         Looks::Every,
+        PlayError::NoSuchFlush,
+    ),
+    (
+        HOLD,
+        Question::Flush(1),
+        Looks::Time(9),
         PlayError::NoSuchFlush,
     ),
     (
@@ -544,7 +636,7 @@ const FAULTY: [Refused; 4] = [
 /// Compares what is answered in each row, where nothing is written.
 fn check_all_refused(rt: &impl Abort, alloc: Global, rows: &[Refused]) {
     for (text, question, looks, want) in rows {
-        let command = Command::Why(*question, *looks);
+        let command = asked(*question, *looks);
         check_refused(rt, alloc, command, reading_of(text, 4096), *want);
     }
 }
@@ -580,7 +672,7 @@ fn depths(rt: &impl Abort, alloc: Global) -> Vec<u8> {
 fn told_of_deepest(alloc: Global, looks: Looks, fails: usize) -> Outcome {
     let mut output = writing_to(alloc, 1_000_000);
     output.fails = fails;
-    let command = Command::Why(Question::Work("a"), looks);
+    let command = asked(Question::Work("a"), looks);
     carried_out(alloc, command, reading_of(DEEPEST, 4096), output)
 }
 

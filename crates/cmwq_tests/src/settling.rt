@@ -1,10 +1,11 @@
 //! Settling: what is listed and printed, and machines that never are quiet.
-use crate::carried::{Command, carried_out};
+use crate::carried::{Command, asked_settled, carried_out};
 use crate::checking::same;
 use crate::commands::{check_refused, check_written};
 use cmwq_machine_tests::examples::MAX_ACTIVE_3;
 use cmwq_machine_tests::streams::{reading_of, writing_to};
 use cmwq_play::PlayError;
+use cmwq_tasks::{Looks, Question};
 use std::alloc::Global;
 use std::process::Abort;
 
@@ -38,12 +39,13 @@ queue w2 0
 
 /// The picture of their run, drawn by hand.
 const PICTURE: &[u8] = b"     0    5    10   15   20   25
-w0   |#####..........#####     |
-w1   |-----#####..........     |
-w2   |----------#####..........|
-cpu 0|wwwwwwwwwwwwwwwwwwww     |
+0 w0 |#####..........#####     |
+1 w1 |-----#####..........     |
+2 w2 |----------#####..........|
+cpu 0|00000111112222200000     |
 actor|^                        |
 # burns  . asleep  - listed  ^ the actor acts
+^ at 0: queue w0 0, queue w1 0, queue w2 0
 ";
 
 #[test]
@@ -121,6 +123,14 @@ fn a_machine_never_is_quiet(rt: HostRuntime) {
     same(&rt, "lines", outcome.written.as_slice(), SIX_ROUNDS);
     let input = reading_of(QUEUES_ITSELF, 4096);
     check_refused(&rt, alloc, Command::Settle, input, PlayError::NeverQuiet);
+    for command in [
+        Command::RunTold(true),
+        asked_settled(Question::Work("a"), Looks::Settled),
+        asked_settled(Question::Work("none"), Looks::Every),
+    ] {
+        let input = reading_of(QUEUES_ITSELF, 4096);
+        check_refused(&rt, alloc, command, input, PlayError::NeverQuiet);
+    }
 }
 
 /// A text whose actor queues a work and then asks so often, a line each.

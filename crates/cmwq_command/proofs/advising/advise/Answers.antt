@@ -1,6 +1,10 @@
-use Rattle.std.proofs.lemmas.Result.{on_ok_weaker}
+use Rattle.cmwq_command.specs.Advised.{IsAdviceOn, IsAdviceOnWords}
+use Rattle.cmwq_play.proofs.CommandLemmas.{writes_more}
 use Rattle.cmwq_command.proofs.advising.advise.Goals as goal
 
 pub returns-in-Ok-clause-advised : goal.returns-in-Ok-clause-advised
 returns-in-Ok-clause-advised g c = λ name given asked words by.
-    on_ok_weaker c.advise_on.result (λ advised. (c.in-Ok.request, c.in-Ok.ensures.asks name given asked words by, advised)) c.advise_on.ensures.advised
+    let store = g.F.FileStore.bytes c.args.files.now in
+    writes_more (IsAdviceOn store c.args.look c.args.fault c.in-Ok.request) (IsAdviceOnWords store c.args.look c.args.fault asked)
+    (g.E.Write.contents c.args.errors.now) (g.E.Write.contents c.advise_on.new.errors) (g.E.Sink.failed c.advise_on.new.errors) c.advise_on.result
+    (λ told is. (c.in-Ok.request, c.in-Ok.ensures.asks name given asked words by, is)) c.advise_on.ensures.advised

@@ -22,6 +22,12 @@ returns-in-Told-clause-answers g c = answered _ _ _ _ (c.in-Run.is ∙ ap (λ (k
 pub returns-in-Told-clause-writes : goal.returns-in-Told-clause-writes
 returns-in-Told-clause-writes g c = written _ _ _ _ _ _ _ (c.in-Run.is ∙ ap (λ (kind : RunKind). Run kind) c.in-Told.is) c.run_told.ensures.writes
 
+pub returns-in-ToldSettled-clause-answers : goal.returns-in-ToldSettled-clause-answers
+returns-in-ToldSettled-clause-answers g c = answered _ _ _ _ (c.in-Run.is ∙ ap (λ (kind : RunKind). Run kind) c.in-ToldSettled.is) c.run_told-in-ToldSettled.ensures.answers
+
+pub returns-in-ToldSettled-clause-writes : goal.returns-in-ToldSettled-clause-writes
+returns-in-ToldSettled-clause-writes g c = written _ _ _ _ _ _ _ (c.in-Run.is ∙ ap (λ (kind : RunKind). Run kind) c.in-ToldSettled.is) c.run_told-in-ToldSettled.ensures.writes
+
 pub returns-in-Settle-clause-answers : goal.returns-in-Settle-clause-answers
 returns-in-Settle-clause-answers g c = answered _ _ _ _ c.in-Settle.is c.settle_text.ensures.answers
 

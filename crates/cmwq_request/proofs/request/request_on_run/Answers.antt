@@ -8,5 +8,5 @@ pub returns-in-why-clause-words : goal.returns-in-why-clause-words
 returns-in-why-clause-words c asked is fits =
     let rows = rows_of (found_of c.args.given.now) in
     let asks : file_to_ask rows ≡ Some asked = search rules in
-    let (every, flag, words) = asked_met rows asked asks in
-    c.why_request.ensures.words every flag ∙ words
+    let (every, settle, flag, goes_on, words) = asked_met rows asked asks in
+    c.why_request.ensures.words every settle flag goes_on ∙ words
