@@ -1,0 +1,39 @@
+//! What is asked of all orders.
+
+/// What is asked of all orders of a scenario's actors.
+#[derive(Debug, PartialEq, Eq, Drop)]
+pub struct Exploration<'a> {
+    /// What no order may come to.
+    pub never: Never<'a>,
+    /// Who begins only when somebody else has ended.
+    pub before: Vec<Precedence<'a>>,
+    /// How many states are looked at, at most: 1 to 1,000,000.
+    pub limit: u32,
+}
+
+/// What no order may come to.
+#[derive(Clone, Copy, Debug, PartialEq, Eq)]
+pub enum Never<'a> {
+    /// The actor has ended, and the work is pending or runs.
+    After {
+        /// The actor's name.
+        actor: &'a str,
+        /// The work's name.
+        work: &'a str,
+    },
+    /// The work of this name runs.
+    Runs(&'a str),
+    /// The works of these two names run at once.
+    Together(&'a str, &'a str),
+    /// Some actor hasn't ended, and nothing can go on.
+    Stuck,
+}
+
+/// One actor begins only when another one has ended.
+#[derive(Clone, Copy, Debug, PartialEq, Eq)]
+pub struct Precedence<'a> {
+    /// Who has to end.
+    pub first: &'a str,
+    /// Who begins then.
+    pub then: &'a str,
+}
