@@ -1,5 +1,11 @@
 //! What is asked of all orders.
 
+/// How many states are looked at, at most, whatever is asked for.
+pub const MAX_STATES: u32 = 1_000_000;
+
+/// How many states are looked at, at most, where nothing else is asked for.
+pub const USUAL_STATES: u32 = 100_000;
+
 /// What is asked of all orders of a scenario's actors.
 #[derive(Debug, PartialEq, Eq, Drop)]
 pub struct Exploration<'a> {
@@ -7,7 +13,7 @@ pub struct Exploration<'a> {
     pub never: Never<'a>,
     /// Who begins only when somebody else has ended.
     pub before: Vec<Precedence<'a>>,
-    /// How many states are looked at, at most: 1 to 1,000,000.
+    /// How many states are looked at, at most: 1 to [`MAX_STATES`].
     pub limit: u32,
 }
 

@@ -3,4 +3,4 @@
 
 mod exploration;
 
-pub use exploration::{Exploration, Never, Precedence};
+pub use exploration::{Exploration, MAX_STATES, Never, Precedence, USUAL_STATES};
