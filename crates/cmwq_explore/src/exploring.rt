@@ -5,6 +5,7 @@ ghost use Rattle.std.specs.Prelude.{◌≡◌, ℕ, [], IfOk, Ok, false};
 
 use crate::expanding::{Asked, Tried, expand};
 use crate::plan::Plan;
+use crate::progress::Progress;
 use crate::seen::{Counted, Seen};
 use crate::standing::Standing;
 use crate::tracing::{order_to, standing_at};
@@ -54,14 +55,16 @@ pub(crate) enum Ending {
     Deep(u16),
 }
 
-/// Looks through all orders of the plan's actors for one that comes to a state of the kind, and sees at most so many states.
+/// Looks through all orders of the plan's actors for one that comes to a state of the kind, and sees at most so many states. How far it is
+/// is told before the choices of each state are tried.
 ///
 /// The only error is want of memory.
-pub fn explore<M: Machine>(
+pub fn explore<M: Machine, P: Progress>(
     alloc: Global,
     plan: Plan,
     question: Question,
     limit: u32,
+    progress: &mut P,
 ) -> Result<Answer, NoMemory>
     ensures { IfOk result (IsAnswer plan.scenario plan.before question limit) }
 {
@@ -70,7 +73,7 @@ pub fn explore<M: Machine>(
     if begin::<M>(alloc, &plan, question, &mut seen)? {
         return Ok(Answer::Found(Vec::new(alloc)));
     }
-    match search::<M>(alloc, &plan, question, limit, &mut seen)? {
+    match search::<M, P>(alloc, &plan, question, limit, &mut seen, progress)? {
         Ending::Closed => Ok(Answer::Whole(tally_of(&seen))),
         Ending::Failed => Ok(Answer::Found(order_to(
             alloc,
@@ -109,12 +112,13 @@ fn begin<M: Machine>(
 }
 
 /// Adds what the choices of each state lead to, in the order in which they were seen.
-fn search<M: Machine>(
+fn search<M: Machine, P: Progress>(
     alloc: Global,
     plan: &Arc<Plan>,
     question: Question,
     limit: u32,
     seen: &mut Seen,
+    progress: &mut P,
 ) -> Result<Ending, NoMemory>
     requires { Begins plan.now.value question seen.old false }
     ensures comes { IfOk result (Comes plan.now.value question seen.new) }
@@ -130,6 +134,7 @@ fn search<M: Machine>(
             from: place as u32,
             depth: mark.depth,
         };
+        progress.tell(seen.len(), mark.depth);
         match handle::<M>(alloc, plan, asked, seen)? {
             Tried::Going => {}
             Tried::Failing => return Ok(Ending::Failed),

@@ -5,6 +5,7 @@ mod asking;
 mod expanding;
 mod exploring;
 mod plan;
+mod progress;
 mod seen;
 mod standing;
 mod stored;
@@ -12,3 +13,4 @@ mod tracing;
 
 pub use exploring::{Answer, Tally, explore};
 pub use plan::{Plan, PlanError};
+pub use progress::{Progress, Silent};
