@@ -1,5 +1,6 @@
 -- Plans, and where a machine and the actors stand.
-use Rattle.std.proofs.Common.{◌≡◌, ℕ, zero, suc, ◌+◌, ◌<◌, ◌≤◌, List, [], ◌∷◌, Option, Some, None, arith, sym, ap, ◌∙◌, subst, length, take, get_or, IfSome}
+use Rattle.std.proofs.Common.{◌≡◌, ℕ, zero, suc, ◌+◌, ◌<◌, ◌≤◌, List, [], ◌∷◌, Option, Some, None, arith, sym, ap, ◌∙◌, subst, length, take, get_or, IfSome, count_by}
+use Rattle.std.proofs.lemmas.List.Sums.{count_by-le-length}
 use Rattle.std.proofs.lemmas.Option.{slice_get_within}
 use Rattle.std.specs.List.{slice_get}
 use Rattle.std.specs.Prelude.{slice_index_or}
@@ -15,7 +16,7 @@ use Rattle.cmwq_table.specs.Table.{table}
 use Rattle.cmwq_orders.proofs.LengthLemmas.{start-whole, table-sized}
 use Rattle.cmwq_orders.specs.Orders.{lines_at, lines_of, no_actor, start}
 use Rattle.cmwq_orders.specs.Sizes.{IsSized, IsWhole}
-use Rattle.cmwq_explore.specs.Plans.{IsStanding, PlanContents, line_count, stood_at}
+use Rattle.cmwq_explore.specs.Plans.{IsStanding, PlanContents, flush_count, gives_flush, line_count, stood_at}
 
 -- what a valid scenario gives
 pub setting_of : (S : ScenarioContents) → IsValid S → IsSetting S
@@ -70,3 +71,23 @@ count_within [] zero = omega arith
 count_within [] (suc i) = omega arith
 count_within (a ∷ actors) zero = omega arith
 count_within (a ∷ actors) (suc i) = let others = count_within actors i in omega (arith, others)
+
+-- How many flushes are given.
+
+-- one actor more
+pub flush_more : (actors : List ActorContents) (i : ℕ) (d : ActorContents) → i < length actors
+    → flush_count (take (i + 1) actors) ≡ flush_count (take i actors) + count_by gives_flush (lines_of (get_or actors i d))
+flush_more [] i d below = absurd (omega (arith, below))
+flush_more (a ∷ actors) zero d below = omega arith
+flush_more (a ∷ actors) (suc i) d below =
+    let others = flush_more actors i d (omega (arith, below)) in
+    let index : suc i + 1 ≡ suc (i + 1) = omega arith in
+    rw index (omega (arith, others))
+
+-- not more than there are lines
+pub flush_within : (actors : List ActorContents) → flush_count actors ≤ line_count actors
+flush_within [] = omega arith
+flush_within (a ∷ actors) =
+    let others = flush_within actors in
+    let one = count_by-le-length gives_flush (lines_of a) in
+    omega (arith, others, one)

@@ -1,8 +1,9 @@
 -- What is explored, and where a machine and the actors stand in an order.
-use Rattle.std.specs.Prelude.{◌≡◌, ℕ, ◌+◌, ◌≤◌, List, [], ◌∷◌, length, map, Option, Some, None}
+use Rattle.std.specs.Prelude.{◌≡◌, ℕ, ◌+◌, ◌≤◌, Bool, true, false, List, [], ◌∷◌, count_by, length, map, Option, Some, None}
 use Rattle.cmwq_types.specs.Contents.{ActorContents, ScenarioContents}
 use Rattle.cmwq_types.specs.Faults.{IsValid}
 use Rattle.cmwq_types.specs.declared.instr.Instr.{Instr}
+use Rattle.cmwq_types.specs.declared.instr.Instr.TheVariants as instr
 use Rattle.cmwq_types.specs.declared.limits.TheConstants.{MAX_LINES}
 use Rattle.cmwq_table.specs.State.{State}
 use Rattle.cmwq_orders.specs.Orders.{Explored, lines_of}
@@ -21,6 +22,19 @@ plan_of S before = record { scenario = S; before = before }
 abbrev pub line_count : List ActorContents → ℕ
 line_count [] = 0
 line_count (actor ∷ actors) = length (lines_of actor) + line_count actors
+
+-- the instruction gives a flush
+abbrev pub gives_flush : Instr → Bool
+gives_flush (instr.Flush work) = true
+gives_flush (instr.FlushDelayed work) = true
+gives_flush (instr.FlushQueue queue) = true
+gives_flush (instr.CancelSync work) = true
+gives_flush other = false
+
+-- how many flushes the actors' lines give in all
+abbrev pub flush_count : List ActorContents → ℕ
+flush_count [] = 0
+flush_count (actor ∷ actors) = count_by gives_flush (lines_of actor) + flush_count actors
 
 -- the scenario is valid; the lines are those of its actors, and few enough for one actor
 pub record IsPlanned (S : ScenarioContents) (lines : List (List Instr)) : Type 0 where

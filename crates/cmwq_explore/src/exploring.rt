@@ -61,23 +61,22 @@ pub(crate) enum Ending {
 /// The only error is want of memory.
 pub fn explore<M: Machine, P: Progress>(
     alloc: Global,
-    plan: Plan,
+    plan: &Arc<Plan>,
     question: Question,
     limit: u32,
     progress: &mut P,
 ) -> Result<Answer, NoMemory>
-    ensures { IfOk result (IsAnswer plan.scenario plan.before question limit) }
+    ensures { IfOk result (IsAnswer plan.now.value.scenario plan.now.value.before question limit) }
 {
-    let plan = Arc::new(alloc, plan)?;
     let mut seen = Seen::new(alloc);
-    if begin::<M>(alloc, &plan, question, &mut seen)? {
+    if begin::<M>(alloc, plan, question, &mut seen)? {
         return Ok(Answer::Found(Vec::new(alloc)));
     }
-    match search::<M, P>(alloc, &plan, question, limit, &mut seen, progress)? {
+    match search::<M, P>(alloc, plan, question, limit, &mut seen, progress)? {
         Ending::Closed => Ok(Answer::Whole(tally_of(&seen))),
         Ending::Failed => Ok(Answer::Found(order_to(
             alloc,
-            &plan,
+            plan,
             question,
             &seen,
             seen.len() - 1,

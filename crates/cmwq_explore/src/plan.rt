@@ -1,10 +1,10 @@
 //! What is explored: a scenario, the lines of its actors, and who has to wait for whom.
-ghost use Rattle.cmwq_explore.specs.Plans.{line_count, plan_of};
+ghost use Rattle.cmwq_explore.specs.Plans.{flush_count, gives_flush, line_count, plan_of};
 ghost use Rattle.cmwq_orders.specs.Orders.{apart, lines_at, lines_of};
 ghost use Rattle.cmwq_types.specs.Faults.{IsValid};
 ghost use Rattle.cmwq_types.specs.Scenario.{pool_count};
 ghost use Rattle.cmwq_types.specs.declared.limits.TheConstants.{MAX_LINES};
-ghost use Rattle.std.specs.Prelude.{◌≡◌, ◌++◌, ◌<◌, ◌≤◌, Err, IfOk, IfSome, OnOk, [], ◌∷◌, length, map, slice_get};
+ghost use Rattle.std.specs.Prelude.{◌≡◌, ◌++◌, ◌<◌, ◌≤◌, Err, IfOk, IfSome, OnOk, [], ◌∷◌, count_by, length, map, slice_get};
 
 use cmwq_orders::Before;
 use cmwq_runs::Instructions;
@@ -57,6 +57,30 @@ impl Lines {
     {
         self.instrs.len()
     }
+
+    /// How many of them give a flush.
+    fn flush_count(&self) -> u16
+        requires { length self.now ≤ MAX_LINES }
+        ensures { result ≡ count_by gives_flush self.now }
+    {
+        let mut count = 0;
+        for instr in &self.instrs {
+            if gives_flush(*instr) {
+                count += 1;
+            }
+        }
+        count
+    }
+}
+
+/// Whether the instruction gives a flush.
+fn gives_flush(instr: Instr) -> bool
+    ensures { result ≡ gives_flush instr }
+{
+    matches!(
+        instr,
+        Instr::Flush(_) | Instr::FlushDelayed(_) | Instr::FlushQueue(_) | Instr::CancelSync(_)
+    )
 }
 
 /// What is explored: a scenario whose actors are few enough of lines, and who of them has to wait for whom.
@@ -103,8 +127,30 @@ impl Plan {
         Ok(Arc::clone(&self.scenario)?)
     }
 
+    /// The same scenario, in which in each pair the second actor begins only once the first has ended.
+    pub fn with_before(self, before: Vec<Before>) -> Plan
+        ensures { result ≡ plan_of self.scenario before.items }
+    {
+        Plan {
+            scenario: self.scenario,
+            before,
+            lines: self.lines,
+        }
+    }
+
+    /// How many flushes the actors give in all.
+    pub fn flush_count(&self) -> u16
+        ensures { result ≡ flush_count self.now.scenario.actors }
+    {
+        let mut count = 0;
+        for lines in &self.lines {
+            count += lines.flush_count();
+        }
+        count
+    }
+
     /// The scenario.
-    pub(crate) fn scenario(&self) -> &Scenario
+    pub fn scenario(&self) -> &Scenario
         ensures scenario { result.now ≡ self.now.scenario }
         ensures valid { IsValid self.now.scenario }
     {

@@ -105,8 +105,15 @@ impl<M: Machine> Standing<M> {
         self.at.get(actor as usize).copied().unwrap_or(0)
     }
 
+    /// The flush that the actor's last line gave, if it gave one.
+    pub(crate) fn waits_of(&self, actor: u8) -> Option<u16>
+        ensures { result ≡ slice_index_or self.now.explored.waits actor None }
+    {
+        self.waits.get(actor as usize).copied().unwrap_or(None)
+    }
+
     /// The line that the actor carries out next.
-    fn next_line(&self, actor: u8) -> Option<Instr>
+    pub(crate) fn next_line(&self, actor: u8) -> Option<Instr>
         ensures line { result ≡ next_line self.now.plan.scenario self.now.explored actor }
         ensures there { IfSome result (λ _. actor < length self.now.plan.scenario.actors) }
         ensures early { IfSome result (λ _. slice_index_or self.now.explored.at actor 0 < MAX_LINES) }
@@ -115,7 +122,7 @@ impl<M: Machine> Standing<M> {
     }
 
     /// Whether the flush that the actor's last line gave isn't done.
-    fn is_waiting(&self, actor: u8) -> bool
+    pub(crate) fn is_waiting(&self, actor: u8) -> bool
         ensures { result ≡ is_waiting self.now.plan.scenario self.now.explored actor }
     {
         match self.waits.get(actor as usize) {

@@ -1,5 +1,3 @@
 mod HistoryLemmas
 mod LineLemmas
-mod PieceLemmas
 mod PlayLemmas
-mod PlayedLemmas

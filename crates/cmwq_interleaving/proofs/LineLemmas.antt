@@ -2,7 +2,7 @@
 use Rattle.std.proofs.Common.{◌≡◌, ℕ, zero, suc, ◌+◌, ◌^◌, ◌<◌, ◌≤◌, Bool, true, false, List, [], ◌∷◌, ◌++◌, length, cond, Result, Ok, Err, OnOk, arith, refl, sym, ap, ◌∙◌, subst, append_assoc, append-nil, length-append, codes}
 use Rattle.std.specs.Fmt.{decimal}
 use Rattle.std.specs.Str.{IsAscii}
-use Rattle.std.proofs.lemmas.Bool.{ltb-true}
+use Rattle.std.proofs.lemmas.Bool.{and_parts, ltb-true}
 use Rattle.std.proofs.lemmas.List.Folds.{list_all-append}
 use Rattle.std.specs.List.{AllByRecursion, flat_map, list_all}
 use Rattle.cmwq_types.specs.Contents.{ScenarioContents}
@@ -14,8 +14,9 @@ use Rattle.cmwq_grammar.specs.Cutting.{lines_of}
 use Rattle.cmwq_grammar.proofs.CallerLemmas.{line_cut}
 use Rattle.cmwq_table.specs.Events.{is_silent, event_line_at, reply_line, reply_words}
 use Rattle.cmwq_interleaving.specs.Commenting.{Comments}
-use Rattle.cmwq_interleaving.specs.PlayNumbers.{IsReply}
-use Rattle.cmwq_interleaving.proofs.PieceLemmas.{Piece, ascii, both_of, is_ascii, line_piece, whole}
+use Rattle.cmwq_annotated.specs.Notes.{Piece}
+use Rattle.cmwq_annotated.specs.ReplyNumbers.{IsReply}
+use Rattle.cmwq_annotated.proofs.CallerLemmas.{ascii, is_ascii, line_piece, whole}
 
 -- no line, or one of so many bytes that ends with its line feed
 pub data OneLine : Bool → List ℕ → Type 0 where
@@ -52,8 +53,8 @@ hashed_short _ _ (ALine words piece) = let long = length-append words (10 ∷ []
 
 ascii_all : (text : List ℕ) → list_all is_ascii text ≡ true → IsAscii text
 ascii_all [] all i = omega arith
-ascii_all (x ∷ xs) all zero = ltb-true x 128 (both_of (is_ascii x) (list_all is_ascii xs) all).0
-ascii_all (x ∷ xs) all (suc i) = ascii_all xs (both_of (is_ascii x) (list_all is_ascii xs) all).1 i
+ascii_all (x ∷ xs) all zero = ltb-true x 128 (and_parts (is_ascii x) (list_all is_ascii xs) all).0
+ascii_all (x ∷ xs) all (suc i) = ascii_all xs (and_parts (is_ascii x) (list_all is_ascii xs) all).1 i
 
 ascii-append : (xs ys : List ℕ) → IsAscii xs → IsAscii ys → IsAscii (xs ++ ys)
 ascii-append [] ys left right i = right i

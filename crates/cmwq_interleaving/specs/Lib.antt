@@ -1,4 +1,3 @@
 pub mod Commenting
-pub mod PlayNumbers
 pub mod Played
 pub mod Plays

@@ -1,22 +1,19 @@
 -- The text that a play leaves.
-use Rattle.std.specs.Prelude.{ℕ, List, [], ◌∷◌, ◌++◌, codes, map}
+use Rattle.std.specs.Prelude.{ℕ, List, ◌++◌, codes}
 use Rattle.cmwq_types.specs.Contents.{ActorContents, ScenarioContents}
 use Rattle.cmwq_types.specs.Listing.{listing}
 use Rattle.cmwq_types.specs.declared.instr.Instr.{Instr}
-use Rattle.cmwq_types.specs.declared.scenario.Line.{Line}
 use Rattle.cmwq_table.specs.Events.{events}
 use Rattle.cmwq_grammar.specs.Comments.{comments}
-
-abbrev pub once : Instr → Line
-once instr = record { instr = instr; times = 1 }
+use Rattle.cmwq_annotated.specs.Acted.{acted, actor_of}
 
 -- who gives these instructions, a line each
 abbrev pub player : List Instr → ActorContents
-player instrs = record { name = codes "played"; lines = map once instrs }
+player instrs = actor_of (codes "played") instrs
 
 -- the same scenario with this one actor
 abbrev pub played : ScenarioContents → List Instr → ScenarioContents
-played S instrs = record S { actors = player instrs ∷ [] }
+played S instrs = acted S (codes "played") instrs
 
 -- the listing of that scenario, and behind it what running it prints
 abbrev pub played_text : ScenarioContents → List Instr → List ℕ

@@ -8,7 +8,7 @@ ghost use Rattle.std.specs.List.{AllByRecursion};
 ghost use Rattle.std.specs.Prelude.{◌≡◌, ◌≤◌, ◌+◌, ◌*◌, ◌++◌, IfOk, OnOk, length};
 ghost use Rattle.std.specs.Str.{IsAscii, IsUtf8};
 
-use crate::play_numbers::fit;
+use cmwq_annotated::fit;
 use cmwq_core::Core;
 use cmwq_lines::{Block, ReplyLines};
 use cmwq_table::{Machine, is_silent};

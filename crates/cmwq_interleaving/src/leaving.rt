@@ -1,15 +1,16 @@
 //! The text that a play leaves.
 ghost use Rattle.cmwq_grammar.specs.Grammar.{Spells};
-ghost use Rattle.cmwq_interleaving.specs.Played.{once, played, played_text, player};
+ghost use Rattle.cmwq_interleaving.specs.Played.{played, played_text, player};
 ghost use Rattle.cmwq_types.specs.Faults.{IsValid, names_declared};
 ghost use Rattle.cmwq_types.specs.Scenario.{expand};
 ghost use Rattle.cmwq_types.specs.declared.limits.TheConstants.{MAX_LINES};
-ghost use Rattle.std.specs.Prelude.{◌≡◌, ◌≤◌, All, IfOk, IsTrue, length, map};
+ghost use Rattle.std.specs.Prelude.{◌≡◌, ◌≤◌, All, IfOk, IsTrue, length};
 
 use crate::commenting::comments;
+use cmwq_annotated::acted;
 use cmwq_grammar::laws::comments_may_follow_a_listing;
 use cmwq_list::list;
-use cmwq_types::{Actor, Instr, Line, Name, NoMemory, Scenario};
+use cmwq_types::{Instr, Name, NoMemory, Scenario};
 use std::alloc::Global;
 
 /// The listing of the same scenario with one actor, `played`, who gives these instructions, a line each; and behind it the
@@ -17,7 +18,6 @@ use std::alloc::Global;
 ///
 /// The instructions are at most 4,096, and name works and queues of the scenario, which is valid. It fails only for want of
 /// memory.
-#[tactic(auto, using(crate::proofs::PlayedLemmas::expand_player))]
 pub fn played_text(
     alloc: Global,
     scenario: &Scenario,
@@ -31,36 +31,12 @@ pub fn played_text(
     ensures instrs { expand (player instrs.now) ≡ instrs.now }
 {
     comments_may_follow_a_listing();
-    let played = played(alloc, scenario, instrs)?;
+    let Some(name) = Name::read(b"played") else {
+        unreachable!()
+    };
+    let played = acted(alloc, scenario, name, instrs)?;
     let mut text = list(alloc, &played)?;
     let comments = comments(alloc, played, instrs)?;
     text.extend_from_slice(comments.as_bytes())?;
     Ok(text)
-}
-
-/// The same scenario with one actor, `played`, who gives these instructions, a line each.
-fn played(alloc: Global, scenario: &Scenario, instrs: &[Instr]) -> Result<Scenario, NoMemory>
-    ensures { IfOk result (λ s. s ≡ played scenario.now instrs.now) }
-{
-    let actors = vec![in alloc; player(alloc, instrs)?]?;
-    let mut played = scenario.copy()?;
-    played.actors = actors;
-    Ok(played)
-}
-
-/// Who gives these instructions, a line each.
-fn player(alloc: Global, instrs: &[Instr]) -> Result<Actor, NoMemory>
-    ensures { IfOk result (λ actor. actor ≡ player instrs.now) }
-{
-    let mut lines = Vec::with_capacity(alloc, instrs.len())?;
-    for instr in instrs {
-        lines.push(Line {
-            instr: *instr,
-            times: 1,
-        })?;
-    }
-    let Some(name) = Name::read(b"played") else {
-        unreachable!()
-    };
-    Ok(Actor { name, lines })
 }

@@ -5,7 +5,6 @@
 mod commenting;
 pub mod laws;
 mod leaving;
-mod play_numbers;
 mod playing;
 
 pub use leaving::played_text;

@@ -9,16 +9,15 @@ use Rattle.cmwq_types.specs.Listing.{listing}
 use Rattle.cmwq_types.specs.Values.{IsScenario}
 use Rattle.cmwq_types.specs.declared.limits.TheConstants.{MAX_TEXT}
 use Rattle.cmwq_interleaving.specs.Played.{played}
-use Rattle.cmwq_interleaving.proofs.PlayedLemmas.{played_valid}
 use Rattle.cmwq_interleaving.proofs.leaving.played_text.Goals as goal
 
 pub comments-requires-clause-valid : goal.comments-requires-clause-valid
 comments-requires-clause-valid c =
-    subst IsValid (sym c.in_ok-played.ensures) (played_valid c.args.scenario.now c.args.instrs.now c.requires.valid c.requires.declared c.requires.few)
+    subst IsValid (sym c.in_ok-played.ensures.acted) (c.in_ok-played.ensures.valid c.requires.valid c.requires.declared c.requires.few)
 
 pub comments-requires-clause-works : goal.comments-requires-clause-works
 comments-requires-clause-works c =
-    let valid = subst IsValid (sym c.in_ok-played.ensures) (played_valid c.args.scenario.now c.args.instrs.now c.requires.valid c.requires.declared c.requires.few) in
+    let valid = subst IsValid (sym c.in_ok-played.ensures.acted) (c.in_ok-played.ensures.valid c.requires.valid c.requires.declared c.requires.few) in
     (c.in_ok-text.ensures.spells valid).is_text.scenario.works
 
 pub returns-clause-spells : goal.returns-clause-spells
@@ -26,8 +25,8 @@ returns-clause-spells c =
     let S = c.args.scenario.now in
     let instrs = c.args.instrs.now in
     let T = played S instrs in
-    let same : c.in_ok-played.played ≡ T = c.in_ok-played.ensures in
-    let valid : IsValid T = played_valid S instrs c.requires.valid c.requires.declared c.requires.few in
+    let same : c.in_ok-played.played ≡ T = c.in_ok-played.ensures.acted in
+    let valid : IsValid T = c.in_ok-played.ensures.valid c.requires.valid c.requires.declared c.requires.few in
     let is : IsScenario T = subst IsScenario same (c.in_ok-text.ensures.spells (subst IsValid (sym same) valid)).is_text.scenario in
     let notes : c.in_ok-comments.comments ≡ comments (events T instrs) = c.in_ok-comments.ensures.text ∙ ap (λ (U : ScenarioContents). comments (events U instrs)) same in
     let utf8 : IsUtf8 (comments (events T instrs)) = subst IsUtf8 notes c.in_ok-comments.ensures.utf8 in

@@ -30,7 +30,8 @@ use Rattle.cmwq_types.specs.declared.reply.Reply.{Reply}
 use Rattle.cmwq_types.specs.declared.reply.Reply.TheVariants as reply
 use Rattle.cmwq_table.specs.Counts.{is_rescuer}
 use Rattle.cmwq_table.specs.Events.{already_text, asked_name, event_object, event_text, event_verb, event_line_at, mode_text, place_text, refusal_text, reply_words, run_text, was_text, work_name, worker_number, worker_text}
-use Rattle.cmwq_interleaving.specs.PlayNumbers.{IsEvent, IsNumberedPlace, IsReply, IsNumberedRun, IsTime}
+use Rattle.cmwq_annotated.specs.Notes.{Piece, is_plain}
+use Rattle.cmwq_annotated.specs.ReplyNumbers.{IsEvent, IsNumberedPlace, IsReply, IsNumberedRun, IsTime}
 
 abbrev pub is_ascii : ℕ → Bool
 is_ascii b = nat_lt b 128
@@ -38,15 +39,8 @@ is_ascii b = nat_lt b 128
 abbrev pub no_feed : List ℕ → Bool
 no_feed text = list_all (λ b. not (eqb b 10)) text
 
-abbrev is_plain : ℕ → Bool
-is_plain b = not (eqb b 10) && is_ascii b
-
 abbrev plain : List ℕ → Bool
 plain text = list_all is_plain text
-
-pub record Piece (k : ℕ) (text : List ℕ) : Type 0 where
-  pub same : plain text ≡ true
-  pub short : length text ≤ k
 
 and_both : (a b : Bool) → a ≡ true → b ≡ true → (a && b) ≡ true
 and_both true true p q = refl
@@ -93,13 +87,13 @@ ascii text piece = all_of is_plain is_ascii (λ b h. (both_of (not (eqb b 10)) (
 numerals : IsNumeralModel (λ word. all_ascii_digits word ≡ true) (digits_value 10)
 numerals = numerals_by_value (λ word. all_ascii_digits word ≡ true) tells_all_ascii_digits
 
-number : (n : ℕ) → n < 2 ^ 64 → Piece 20 (decimal n)
+pub number : (n : ℕ) → n < 2 ^ 64 → Piece 20 (decimal n)
 number n small = record {
   same = all_of is_ascii_digit is_plain digit (decimal n) (digits_decimal numerals n small);
   short = length-decimal-le 20 n (omega arith) (omega arith) small;
 }
 
-named : (name : List ℕ) → is_name name ≡ true → Piece 15 name
+pub named : (name : List ℕ) → is_name name ≡ true → Piece 15 name
 named name is =
     let first = leb 1 (length name) in
     let second = leb (length name) 15 in
@@ -116,7 +110,7 @@ name_at [] work are = literal 15 [] refl refl
 name_at (w ∷ works) zero are = named w.name are.0.name
 name_at (w ∷ works) (suc work) are = name_at works work are.1
 
-work_piece : (S : ScenarioContents) (work : WorkId) → AllByRecursion IsWorkDecl S.works → Piece 15 (work_name S work)
+pub work_piece : (S : ScenarioContents) (work : WorkId) → AllByRecursion IsWorkDecl S.works → Piece 15 (work_name S work)
 work_piece S work are = name_at S.works work.0 are
 
 asked_piece : (S : ScenarioContents) (asked : Instr) → AllByRecursion IsWorkDecl S.works → Piece 15 (asked_name S asked)
@@ -207,7 +201,7 @@ was_piece : (was : Bool) → Piece 11 (was_text was)
 was_piece true = literal 11 (codes "cancelled") refl refl
 was_piece false = literal 11 (codes "not pending") refl refl
 
-words_piece : (S : ScenarioContents) (asked : Instr) (reply : Reply) → AllByRecursion IsWorkDecl S.works → IsReply reply → Piece 200 (reply_words S asked reply)
+pub words_piece : (S : ScenarioContents) (asked : Instr) (reply : Reply) → AllByRecursion IsWorkDecl S.works → IsReply reply → Piece 200 (reply_words S asked reply)
 words_piece S asked reply.Queued are is = literal 200 [] refl refl
 words_piece S asked reply.Done are is = literal 200 [] refl refl
 words_piece S asked reply.Already are is = literal 200 (codes "already") refl refl

@@ -1,4 +1,4 @@
--- The scenario with the one actor `played`.
+-- The scenario with one actor who gives certain instructions.
 use Rattle.std.proofs.Common.{◌≡◌, ℕ, ◌+◌, ◌*◌, ◌≤◌, Bool, true, false, ◌&&◌, List, [], ◌∷◌, ◌++◌, map, length, leb, ltb, Option, Some, None, arith, refl, sym, ap, ◌∙◌, subst, append-nil, length-append, get_or}
 use Rattle.std.proofs.lemmas.Bool.Decides.{nat_tests}
 use Rattle.std.proofs.lemmas.List.{length-map}
@@ -19,12 +19,12 @@ use Rattle.cmwq_types.specs.declared.limits.TheConstants.{MAX_ACTORS, MAX_LINES,
 use Rattle.cmwq_types.specs.declared.scenario.Line.{Line}
 use Rattle.cmwq_types.specs.declared.scenario.Op.{Op}
 use Rattle.cmwq_types.specs.declared.scenario.Op.TheVariants as op
-use Rattle.cmwq_interleaving.specs.Played.{once, played, player}
+use Rattle.cmwq_annotated.specs.Acted.{acted, actor_of, once}
 
 -- the actor gives just these instructions
-pub expand_player : (instrs : List Instr) → expand (player instrs) ≡ instrs
-expand_player [] = refl
-expand_player (i ∷ instrs) = ap (λ (is : List Instr). i ∷ is) (expand_player instrs)
+pub expand_actor : (name : List ℕ) (instrs : List Instr) → expand (actor_of name instrs) ≡ instrs
+expand_actor name [] = refl
+expand_actor name (i ∷ instrs) = ap (λ (is : List Instr). i ∷ is) (expand_actor name instrs)
 
 -- Faults.
 
@@ -55,40 +55,40 @@ same_along judge again same before (x ∷ xs) =
 
 -- With other actors the works are judged alike.
 
-module _ (S : ScenarioContents) (instrs : List Instr) where
-  same_op : (o : Op) → op_fault (played S instrs) o ≡ op_fault S o
+module _ (S : ScenarioContents) (name : List ℕ) (instrs : List Instr) where
+  same_op : (o : Op) → op_fault (acted S name instrs) o ≡ op_fault S o
   same_op (op.Burn ticks) = refl
   same_op (op.Sleep ticks) = refl
   same_op (op.Queue work cpu) = refl
   same_op op.Finish = refl
 
-  same_work : (before : List WorkContents) (work : WorkContents) → work_fault (played S instrs) before work ≡ work_fault S before work
+  same_work : (before : List WorkContents) (work : WorkContents) → work_fault (acted S name instrs) before work ≡ work_fault S before work
   same_work before work =
       ap (λ (ops : Option Fault). or_else (fault_if (list_any (λ other. bytes_eq other.name work.name) before) fault.Duplicate)
       (or_else (fault_unless (ltb work.queue.0 (length S.queues)) fault.Unknown)
       (or_else (fault_unless (leb (length work.body) MAX_OPS) fault.TooMany) (or_else (fault_unless (is_body work.body) fault.BadBody) ops))))
-      (same_along (λ before o. op_fault (played S instrs) o) (λ before o. op_fault S o) (λ before o. same_op o) [] work.body)
+      (same_along (λ before o. op_fault (acted S name instrs) o) (λ before o. op_fault S o) (λ before o. same_op o) [] work.body)
 
-  same_declared : (s : Shape) (id : ℕ) → is_declared (played S instrs) s id ≡ is_declared S s id
+  same_declared : (s : Shape) (id : ℕ) → is_declared (acted S name instrs) s id ≡ is_declared S s id
   same_declared shape.Work id = refl
   same_declared _ id = refl
 
-  declared_line : (i : Instr) → names_declared S i ≡ true → line_fault (played S instrs) (once i) ≡ None
-  declared_line i declared = none_first (fault_unless (names_declared (played S instrs) i) fault.Unknown) None (unless_none (names_declared (played S instrs) i) fault.Unknown (same_names i ∙ declared)) refl
+  declared_line : (i : Instr) → names_declared S i ≡ true → line_fault (acted S name instrs) (once i) ≡ None
+  declared_line i declared = none_first (fault_unless (names_declared (acted S name instrs) i) fault.Unknown) None (unless_none (names_declared (acted S name instrs) i) fault.Unknown (same_names i ∙ declared)) refl
     where
-      same_names : (j : Instr) → names_declared (played S instrs) j ≡ names_declared S j
+      same_names : (j : Instr) → names_declared (acted S name instrs) j ≡ names_declared S j
       same_names j = same_declared (shape_of (word_of j)) (fields_of j).id
 
   declared_lines : (before : List Line) (is : List Instr) → AllByRecursion (λ i. names_declared S i ≡ true) is
-      → first_along (λ before line. line_fault (played S instrs) line) before (map once is) ≡ None
+      → first_along (λ before line. line_fault (acted S name instrs) line) before (map once is) ≡ None
   declared_lines before [] all = refl
   declared_lines before (i ∷ is) all =
-      none_first (line_fault (played S instrs) (once i)) (first_along (λ before line. line_fault (played S instrs) line) (before ++ once i ∷ []) (map once is))
+      none_first (line_fault (acted S name instrs) (once i)) (first_along (λ before line. line_fault (acted S name instrs) line) (before ++ once i ∷ []) (map once is))
       (declared_line i all.0) (declared_lines (before ++ once i ∷ []) is all.1)
 
-  pub played_valid : IsValid S → All (λ i. IsTrue (names_declared S i)) instrs → length instrs ≤ MAX_LINES → IsValid (played S instrs)
-  played_valid valid declared few =
-      let T = played S instrs in
+  pub acted_valid : IsValid S → All (λ i. IsTrue (names_declared S i)) instrs → length instrs ≤ MAX_LINES → IsValid (acted S name instrs)
+  acted_valid valid declared few =
+      let T = acted S name instrs in
       let a = no_first (numbers_fault S) (or_else (counts_fault S) (or_else (first_along queue_fault [] S.queues) (or_else (first_along (work_fault S) [] S.works) (first_along (actor_fault S) [] S.actors)))) valid in
       let b = no_first (counts_fault S) (or_else (first_along queue_fault [] S.queues) (or_else (first_along (work_fault S) [] S.works) (first_along (actor_fault S) [] S.actors))) a.1 in
       let c = no_first (first_along queue_fault [] S.queues) (or_else (first_along (work_fault S) [] S.works) (first_along (actor_fault S) [] S.actors)) b.1 in
@@ -103,7 +103,7 @@ module _ (S : ScenarioContents) (instrs : List Instr) where
       (none_first (first_along queue_fault [] S.queues) (or_else (first_along (work_fault T) [] S.works) (first_along (actor_fault T) [] T.actors)) c.0
       (none_first (first_along (work_fault T) [] S.works) (first_along (actor_fault T) [] T.actors)
       (same_along (work_fault T) (work_fault S) same_work [] S.works ∙ d.0)
-      (none_first (actor_fault T [] (player instrs)) None
+      (none_first (actor_fault T [] (actor_of name instrs)) None
       (none_first (fault_unless (leb (length (map once instrs)) MAX_LINES) fault.TooMany) (first_along (λ before line. line_fault T line) [] (map once instrs))
       (unless_none (leb (length (map once instrs)) MAX_LINES) fault.TooMany lines)
       (declared_lines [] instrs (recursion_from_All (λ i. names_declared S i ≡ true) instrs declared))) refl))))

@@ -1,10 +1,10 @@
 //! The numbers in a reply fit their types, so they have at most twenty digits.
-ghost use Rattle.cmwq_interleaving.specs.PlayNumbers.{IsEvent, IsNumberedPlace, IsReply, IsNumberedRun, IsTime};
+ghost use Rattle.cmwq_annotated.specs.ReplyNumbers.{IsEvent, IsNumberedPlace, IsReply, IsNumberedRun, IsTime};
 
 use cmwq_types::{Event, Mode, Place, Reply, WorkRun};
 
 /// The numbers of the reply fit.
-pub(crate) fn fit(reply: Reply)
+pub fn fit(reply: Reply)
     ensures { IsReply reply }
 {
     match reply {

@@ -1,6 +1,6 @@
 use Rattle.std.proofs.Common.{◌≡◌, map, take}
-use Rattle.cmwq_interleaving.specs.Played.{once}
-use Rattle.cmwq_interleaving.proofs.leaving.player.Given as goal
+use Rattle.cmwq_annotated.specs.Acted.{once}
+use Rattle.cmwq_annotated.proofs.acting.actor_of.Given as goal
 
 -- so many lines
 abbrev pub invariant-loop-instr : goal.invariant-loop-instr

@@ -1,0 +1,6 @@
+mod ActedLemmas
+pub mod CallerLemmas
+mod DeclaredLemmas
+mod InstrPieces
+mod NoteLemmas
+mod PieceLemmas

@@ -1,0 +1,3 @@
+pub mod Acted
+pub mod Notes
+pub mod ReplyNumbers
