@@ -9,7 +9,7 @@ use Rattle.std.specs.Str.{bytes_eq}
 use Rattle.cmwq_types.specs.Contents.{ActorContents, ScenarioContents, WorkContents}
 use Rattle.cmwq_types.specs.Faults.{IsValid, actor_fault, body_fault, counts_fault, fault_if, fault_unless, first_along, first_fault, is_body, is_declared, line_fault, names_declared, numbers_fault, op_fault, or_else, queue_fault, within, work_fault}
 use Rattle.cmwq_types.specs.Fields.{fields_of, shape_of, word_of}
-use Rattle.cmwq_types.specs.Scenario.{expand}
+use Rattle.cmwq_types.specs.Scenario.{expand_lines}
 use Rattle.cmwq_types.specs.declared.check.Fault.{Fault}
 use Rattle.cmwq_types.specs.declared.check.Fault.TheVariants as fault
 use Rattle.cmwq_types.specs.declared.fields.Shape.{Shape}
@@ -22,9 +22,9 @@ use Rattle.cmwq_types.specs.declared.scenario.Op.TheVariants as op
 use Rattle.cmwq_annotated.specs.Acted.{acted, actor_of, once}
 
 -- the actor gives just these instructions
-pub expand_actor : (name : List ℕ) (instrs : List Instr) → expand (actor_of name instrs) ≡ instrs
-expand_actor name [] = refl
-expand_actor name (i ∷ instrs) = ap (λ (is : List Instr). i ∷ is) (expand_actor name instrs)
+pub expand_once : (instrs : List Instr) → expand_lines (map once instrs) ≡ instrs
+expand_once [] = refl
+expand_once (i ∷ instrs) = ap (λ (is : List Instr). i ∷ is) (expand_once instrs)
 
 -- Faults.
 

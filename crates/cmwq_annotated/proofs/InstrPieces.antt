@@ -44,7 +44,7 @@ spelled mnemonic.Pressure = literal 13 (codes "pressure") refl refl
 spelled mnemonic.Relief = literal 13 (codes "relief") refl refl
 
 -- a space and a word behind another
-spaced : {a b : ℕ} {xs ys : List ℕ} → Piece a xs → Piece b ys → Piece (a + 1 + b) (xs ++ 32 ∷ ys)
+spaced : {a b : ℕ} {xs ys : List ℕ} → Piece a xs → Piece b ys → Piece (a + (1 + b)) (xs ++ 32 ∷ ys)
 spaced x y = joint x (joint (literal 1 (codes " ") refl refl) y)
 
 -- a name, which is empty where none is declared

@@ -12,7 +12,7 @@ use std::alloc::Global;
 ///
 /// It is valid where the scenario is, and the instructions are at most 4,096 and name works and queues of the scenario. It fails
 /// only for want of memory.
-#[tactic(auto, using(crate::proofs::ActedLemmas::acted_valid, crate::proofs::ActedLemmas::expand_actor))]
+#[tactic(auto, using(crate::proofs::ActedLemmas::acted_valid, crate::proofs::ActedLemmas::expand_once))]
 pub fn acted(
     alloc: Global,
     scenario: &Scenario,
