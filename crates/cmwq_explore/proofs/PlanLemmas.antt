@@ -1,5 +1,6 @@
 -- Plans, and where a machine and the actors stand.
-use Rattle.std.proofs.Common.{◌≡◌, ℕ, zero, suc, ◌+◌, ◌<◌, ◌≤◌, List, [], ◌∷◌, Option, Some, None, arith, sym, ap, ◌∙◌, subst, length, take, get_or, IfSome, count_by}
+use Rattle.std.proofs.Common.{◌≡◌, ℕ, zero, suc, ◌+◌, ◌<◌, ◌≤◌, List, [], ◌∷◌, Option, Some, None, arith, sym, ap, ◌∙◌, subst, length, map, take, get_or, IfSome, count_by}
+use Rattle.std.proofs.lemmas.List.{get_or-map, length-map}
 use Rattle.std.proofs.lemmas.List.Sums.{count_by-le-length}
 use Rattle.std.proofs.lemmas.Option.{slice_get_within}
 use Rattle.std.specs.List.{slice_get}
@@ -91,3 +92,25 @@ flush_within (a ∷ actors) =
     let others = flush_within actors in
     let one = count_by-le-length gives_flush (lines_of a) in
     omega (arith, others, one)
+
+-- the lines of one actor more: they are few, and so are the flushes given so far
+pub flush_step : (actors : List ActorContents) (inside lines : List (List Instr)) (i : ℕ) (one : List Instr) → lines ≡ inside → inside ≡ map lines_of actors
+    → line_count actors ≤ MAX_LINES → i < length lines → one ≡ get_or lines i one
+    → (length one ≤ MAX_LINES) × (flush_count (take (i + 1) actors) ≡ flush_count (take i actors) + count_by gives_flush one)
+    × (flush_count (take (i + 1) actors) ≤ MAX_LINES)
+flush_step actors inside lines i one same all few below is =
+    let mapped : lines ≡ map lines_of actors = same ∙ all in
+    let long : length lines ≡ length actors = ap length mapped ∙ length-map actors lines_of in
+    let within : i < length actors = omega (arith, long, below) in
+    let that : one ≡ lines_of (get_or actors i no_actor) =
+    is ∙ ap (λ (ls : List (List Instr)). get_or ls i one) mapped ∙ get_or-map lines_of actors i no_actor one within in
+    let short : length one ≡ length (lines_of (get_or actors i no_actor)) = ap length that in
+    let flushes : count_by gives_flush one ≡ count_by gives_flush (lines_of (get_or actors i no_actor)) = ap (λ (ls : List Instr). count_by gives_flush ls) that in
+    let each = one-within actors i in
+    let more = flush_more actors i no_actor within in
+    let given = flush_within (take (i + 1) actors) in
+    let counted = count_within actors (i + 1) in (
+      omega (arith, short, each, few),
+      omega (arith, more, flushes),
+      omega (arith, given, counted, few),
+    )

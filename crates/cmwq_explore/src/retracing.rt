@@ -59,7 +59,7 @@ pub fn retrace<M: Machine>(
 impl<M: Machine> Standing<M> {
     /// Where each actor stands, in order.
     fn rests(&self, alloc: Global) -> Result<Vec<Rest>, NoMemory>
-        ensures { IfOk result (λ rests. rests.items ≡ rests self.now.plan.scenario self.now.explored) }
+        ensures { IfOk result (λ told. told.items ≡ rests self.now.plan.scenario self.now.explored) }
     {
         let mut rests = Vec::new(alloc);
         for actor in 0..self.plan().actor_count() {

@@ -1,18 +1,21 @@
-use Rattle.std.proofs.Common.{Ok, ap, ◌-◌, ℕ}
+use Rattle.std.proofs.Common.{Ok, ap, ◌-◌, ℕ, refl}
 use Rattle.cmwq_explore.proofs.ResultLemmas.{comes_closed, comes_deep, comes_failed, full_states}
 use Rattle.cmwq_explore.proofs.exploring.explore.Goals as goal
 
 pub returns-in-Closed : goal.returns-in-Closed
 returns-in-Closed g c =
-    comes_closed c.args.plan c.in_ok-plan.plan.value c.args.question c.search.new.seen c.in_ok-search.field-0 c.tally_of.result c.in_ok-plan.ensures.ok c.in-Closed.is c.in_ok-search.ensures.comes c.tally_of.ensures
+    let plan = c.args.plan.now.value in
+    comes_closed plan plan c.args.question c.search.new.seen c.in_ok-search.field-0 c.tally_of.result refl c.in-Closed.is c.in_ok-search.ensures.comes c.tally_of.ensures
 
 pub returns-in-Failed : goal.returns-in-Failed
 returns-in-Failed g c =
-    comes_failed c.args.plan c.in_ok-plan.plan.value c.deref.result.now c.args.question c.search.new.seen c.in_ok-search.field-0 (c.len.result - 1) c.in_ok-order_to-in-Failed.field-0.items c.in_ok-plan.ensures.ok c.deref.ensures
+    let plan = c.args.plan.now.value in
+    comes_failed plan plan c.deref.result.now c.args.question c.search.new.seen c.in_ok-search.field-0 (c.len.result - 1) c.in_ok-order_to-in-Failed.field-0.items refl c.deref.ensures
     c.in-Failed.is c.in_ok-search.ensures.comes (ap (λ (n : ℕ). n - 1) c.len.ensures.len) c.in_ok-order_to-in-Failed.ensures
 
 pub returns : goal.returns
-returns g c = (
-  comes_deep c.args.plan c.in_ok-plan.plan.value c.args.question c.search.new.seen c.in_ok-search.field-0 c.in-Deep.depth c.in_ok-plan.ensures.ok c.in-Deep.is c.in_ok-search.ensures.comes,
-  full_states c.args.limit c.len-in-Deep.result c.search.new.seen c.in-Deep.depth c.len-in-Deep.ensures.len (c.in_ok-search.ensures.full c.in-Deep.depth (ap Ok c.in-Deep.is)),
-)
+returns g c =
+    let plan = c.args.plan.now.value in (
+      comes_deep plan plan c.args.question c.search.new.seen c.in_ok-search.field-0 c.in-Deep.depth refl c.in-Deep.is c.in_ok-search.ensures.comes,
+      full_states c.args.limit c.len-in-Deep.result c.search.new.seen c.in-Deep.depth c.len-in-Deep.ensures.len (c.in_ok-search.ensures.full c.in-Deep.depth (ap Ok c.in-Deep.is)),
+    )

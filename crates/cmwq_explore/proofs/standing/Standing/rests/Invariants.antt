@@ -1,6 +1,6 @@
 use Rattle.std.proofs.Common.{◌≡◌}
 use Rattle.cmwq_explore.specs.Retracing.{rests_below}
-use Rattle.cmwq_explore.proofs.retracing.Standing.rests.Given as goal
+use Rattle.cmwq_explore.proofs.standing.Standing.rests.Given as goal
 
 -- those of the actors so far
 abbrev pub invariant-loop-actor : goal.invariant-loop-actor

@@ -1,0 +1,3 @@
+mod AskingLemmas
+mod FoundLemmas
+mod StepLemmas

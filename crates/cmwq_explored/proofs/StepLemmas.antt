@@ -1,0 +1,74 @@
+-- What is said of an order is notes: without a line feed, ASCII alone, and short.
+use Rattle.std.proofs.Common.{◌≡◌, ℕ, zero, suc, ◌+◌, ◌*◌, ◌^◌, ◌<◌, ◌≤◌, List, [], ◌∷◌, ◌++◌, codes, get_or, length, arith, refl, length-append}
+use Rattle.std.specs.List.{AllByRecursion}
+use Rattle.cmwq_types.specs.Contents.{ActorContents, ScenarioContents}
+use Rattle.cmwq_types.specs.Values.{IsInstr}
+use Rattle.cmwq_types.specs.declared.instr.Instr.{Instr}
+use Rattle.cmwq_table.specs.State.{State}
+use Rattle.cmwq_table.specs.Table.{table}
+use Rattle.cmwq_orders.specs.Orders.{no_actor}
+use Rattle.cmwq_orders.specs.declared.choice.Choice.{Choice}
+use Rattle.cmwq_orders.specs.declared.choice.Choice.TheVariants.{Line, Own}
+use Rattle.cmwq_orders.specs.declared.question.Question.{Question}
+use Rattle.cmwq_orders.specs.declared.question.Question.TheVariants.{After, Never, Together, Stuck}
+use Rattle.cmwq_annotated.proofs.CallerLemmas.{instr_piece, joint, literal, named, number, reply_notes_are, within, work_piece}
+use Rattle.cmwq_annotated.specs.Notes.{AreNotes, IsNote, Piece}
+use Rattle.cmwq_annotated.specs.ReplyNumbers.{IsReply}
+use Rattle.cmwq_explore.specs.declared.retracing.Rest.{Rest}
+use Rattle.cmwq_explore.specs.declared.retracing.Rest.TheVariants.{Ended, Waits, IsBefore}
+use Rattle.cmwq_explored.specs.Answers.{actor_name}
+use Rattle.cmwq_explored.specs.Found.{before_note, kind_note, notes_of_step, rest_notes, rest_notes_of, step_note, step_notes, waits_note, who}
+use Rattle.cmwq_explored.specs.Names.{HasName, HasNames}
+
+-- an actor's name, which is empty where no actor has the number
+name_at : (actors : List ActorContents) (actor : ℕ) → AllByRecursion HasName actors → Piece 15 (get_or actors actor no_actor).name
+name_at [] actor are = literal 15 [] refl refl
+name_at (a ∷ actors) zero are = named a.name are.0
+name_at (a ∷ actors) (suc actor) are = name_at actors actor are.1
+
+module _ (S : ScenarioContents) (names : HasNames S) where
+  actor_piece : (actor : ℕ) → Piece 15 (actor_name S actor)
+  actor_piece actor = name_at S.actors actor names.actors
+
+  pub kind_is_note : (question : Question) → IsNote (kind_note S question)
+  kind_is_note (After actor work) =
+      within 253
+      (joint (work_piece S work names.works)
+      (joint (literal 25 (codes " is pending or runs, and ") refl refl) (joint (actor_piece actor) (literal 10 (codes " has ended") refl refl))))
+      refl
+  kind_is_note (Never work) = within 253 (joint (work_piece S work names.works) (literal 5 (codes " runs") refl refl)) refl
+  kind_is_note (Together v w) =
+      within 253
+      (joint (work_piece S v names.works) (joint (literal 5 (codes " and ") refl refl) (joint (work_piece S w names.works) (literal 12 (codes " run at once") refl refl))))
+      refl
+  kind_is_note Stuck = literal 253 (codes "no actor can go on, and not all have ended") refl refl
+
+  who_piece : (c : Choice) → Piece 15 (who S c)
+  who_piece (Line actor) = actor_piece actor
+  who_piece (Own i) = literal 15 (codes "(machine)") refl refl
+
+  step_is_note : (n : ℕ) (c : Choice) (i : Instr) → n < 2 ^ 64 → IsInstr i → IsNote (step_note S n c i)
+  step_is_note n c i small is =
+      within 253
+      (joint (number n small)
+      (joint (literal 1 (codes " ") refl refl) (joint (who_piece c) (joint (literal 1 (codes " ") refl refl) (instr_piece S names.works names.queues i is)))))
+      refl
+
+  -- a step and the line of its reply
+  pub step_are_notes : (n : ℕ) (s : State) (step : Choice × Instr) → n < 2 ^ 64 → IsInstr step.1 → IsReply (table S s step.1).1 → (table S s step.1).0.time < 2 ^ 64
+      → AreNotes (notes_of_step S n s step)
+  step_are_notes n s step small is reply time =
+      (step_is_note n step.0 step.1 small is, reply_notes_are S (table S s step.1).0.time step.1 (table S s step.1).1 names.works reply time)
+
+  pub waits_is_note : (actor flush : ℕ) → flush < 2 ^ 64 → IsNote (waits_note S actor flush)
+  waits_is_note actor flush small =
+      within 253 (joint (actor_piece actor) (joint (literal 17 (codes " waits for flush ") refl refl) (number flush small))) refl
+
+  pub before_is_note : (actor : ℕ) (i : Instr) → IsInstr i → IsNote (before_note S actor i)
+  before_is_note actor i is =
+      within 253 (joint (actor_piece actor) (joint (literal 11 (codes " is before ") refl refl) (instr_piece S names.works names.queues i is))) refl
+
+-- notes behind notes
+pub are_notes : (xs ys : List (List ℕ)) → AreNotes xs → AreNotes ys → AreNotes (xs ++ ys)
+are_notes [] ys a b = b
+are_notes (x ∷ xs) ys a b = (a.0, are_notes xs ys a.1 b)
