@@ -15,11 +15,13 @@ use Rattle.cmwq_orders.specs.declared.choice.Choice.{Choice}
 use Rattle.cmwq_orders.specs.declared.question.Question.{Question}
 use Rattle.cmwq_explore.proofs.ListLemmas.{get_last, get_more, get_some, none_some, same_some}
 use Rattle.cmwq_explore.proofs.StoredLemmas.{stored_same}
-use Rattle.cmwq_explore.specs.Outcomes.{Holds, HoldsTo, IsCounted, IsFound, IsTally}
+use Rattle.cmwq_explore.specs.Outcomes.{Holds, HoldsTo, IsAnswer, IsCounted, IsFound, IsFoundWithin, IsShort, IsTally}
 use Rattle.cmwq_explore.specs.Plans.{PlanContents}
 use Rattle.cmwq_explore.specs.Searching.{AreClean, Begins, Comes, Entry, IsClosedTo, IsFailing, IsGrown, IsLevel, IsFull}
 use Rattle.cmwq_explore.specs.Stored.{stored_of}
 use Rattle.cmwq_explore.specs.Tracing.{IsOrderTo}
+use Rattle.cmwq_explore.specs.declared.exploring.Answer.{Answer}
+use Rattle.cmwq_explore.specs.declared.exploring.Answer.TheVariants.{Found, Whole, GaveUp}
 use Rattle.cmwq_explore.specs.declared.exploring.Ending.{Ending}
 use Rattle.cmwq_explore.specs.declared.exploring.Ending.TheVariants.{Closed, Failed, Deep}
 use Rattle.cmwq_explore.specs.declared.exploring.Tally.{Tally}
@@ -276,3 +278,18 @@ found_start plan p question seen is_of_kind is_plan is begins =
 pub full_states : (limit states : ℕ) (seen : List Entry) (depth : ℕ) → states ≡ length seen → IsFull limit seen depth → (limit ≤ states) ⊎ (MAX_LINES ≤ depth)
 full_states limit states seen depth is (inl many) = inl (omega (arith, is, many))
 full_states limit states seen depth is (inr deep) = inr deep
+
+-- What is answered of the shortest order.
+module _ (S : ScenarioContents) (before : List Before) (question : Question) (limit : ℕ) (cs : List Choice) (found : IsFound S before question cs) where
+  pub found_answers : (answer : Answer) → IsFoundWithin cs answer → IsAnswer S before question limit answer
+  found_answers (Found ds) is = subst (IsFound S before question) (sym is.0) found
+  found_answers (Whole tally) is = absurd is
+  found_answers (GaveUp states depth) is = (
+    λ ds e few r. found.shortest ds e (let most = is.0 in let more = is.1 in omega (arith, most, more, few)) r,
+    inr (let most = is.0 in omega (arith, most)),
+  )
+
+  pub found_short : (answer : Answer) → IsFoundWithin cs answer → IsShort answer
+  found_short (Found ds) is = (let same = ap length is.0 in let few = is.1 in omega (arith, same, few))
+  found_short (Whole tally) is = tt
+  found_short (GaveUp states depth) is = tt

@@ -55,3 +55,15 @@ module _ (S : ScenarioContents) (before : List Before) (question : Question) whe
   IsAnswer limit (Found cs) = IsFound cs.items
   IsAnswer limit (Whole tally) = Holds × IsTally tally
   IsAnswer limit (GaveUp states depth) = HoldsTo depth × ((limit ≤ states) ⊎ (MAX_LINES ≤ depth))
+
+-- an actor may have as many lines as the order has choices
+abbrev pub IsShort : Answer → Type 0
+IsShort (Found cs) = length cs.items ≤ MAX_LINES
+IsShort (Whole tally) = Unit {0}
+IsShort (GaveUp states depth) = Unit {0}
+
+-- what is answered of an order that was found: that, or that none of so many choices was
+abbrev pub IsFoundWithin : List Choice → Answer → Type 0
+IsFoundWithin cs (Found ds) = (ds.items ≡ cs) × (length cs ≤ MAX_LINES)
+IsFoundWithin cs (Whole tally) = ⊥
+IsFoundWithin cs (GaveUp states depth) = (depth ≡ MAX_LINES) × (MAX_LINES < length cs)

@@ -1,5 +1,5 @@
 //! The search through all orders, and its answer.
-ghost use Rattle.cmwq_explore.specs.Outcomes.{IsAnswer, IsCounted};
+ghost use Rattle.cmwq_explore.specs.Outcomes.{IsAnswer, IsCounted, IsFoundWithin, IsShort};
 ghost use Rattle.cmwq_explore.specs.Searching.{Begins, Comes, Handles, IsAhead, IsFull};
 ghost use Rattle.std.specs.Prelude.{◌≡◌, ℕ, [], IfOk, Ok, false};
 
@@ -11,7 +11,7 @@ use crate::standing::Standing;
 use crate::tracing::{order_to, standing_at};
 use cmwq_orders::{Choice, Question};
 use cmwq_table::Machine;
-use cmwq_types::{Instr, NoMemory};
+use cmwq_types::{Instr, MAX_LINES, NoMemory};
 use std::alloc::Global;
 use std::sync::Arc;
 
@@ -66,7 +66,8 @@ pub fn explore<M: Machine, P: Progress>(
     limit: u32,
     progress: &mut P,
 ) -> Result<Answer, NoMemory>
-    ensures { IfOk result (IsAnswer plan.now.value.scenario plan.now.value.before question limit) }
+    ensures answer { IfOk result (IsAnswer plan.now.value.scenario plan.now.value.before question limit) }
+    ensures short { IfOk result IsShort }
 {
     let mut seen = Seen::new(alloc);
     if begin::<M>(alloc, plan, question, &mut seen)? {
@@ -74,17 +75,28 @@ pub fn explore<M: Machine, P: Progress>(
     }
     match search::<M, P>(alloc, plan, question, limit, &mut seen, progress)? {
         Ending::Closed => Ok(Answer::Whole(tally_of(&seen))),
-        Ending::Failed => Ok(Answer::Found(order_to(
-            alloc,
-            plan,
-            question,
-            &seen,
-            seen.len() - 1,
-        )?)),
+        Ending::Failed => {
+            let order = order_to(alloc, plan, question, &seen, seen.len() - 1)?;
+            Ok(found(order, seen.len()))
+        }
         Ending::Deep(depth) => Ok(Answer::GaveUp {
             states: seen.len(),
             depth,
         }),
+    }
+}
+
+/// This order, where an actor may have as many lines; else it is open, and no order of so many instructions comes to a state of the kind.
+fn found(order: Vec<Choice>, states: usize) -> Answer
+    ensures { IsFoundWithin order.items result }
+{
+    if order.len() <= MAX_LINES {
+        Answer::Found(order)
+    } else {
+        Answer::GaveUp {
+            states,
+            depth: MAX_LINES as u16,
+        }
     }
 }
 
