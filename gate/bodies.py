@@ -12,9 +12,13 @@ import pathlib
 import re
 import shutil
 import subprocess
+import sys
 import tempfile
 
 import crates
+
+sys.path.insert(0, f"{pathlib.Path(__file__).resolve().parents[1]}/tools")
+import kit
 
 HEAD = re.compile(r"^( *)(?:pub(?:\(\w+\))? )?(?:const |unsafe )*fn (\w+)", re.M)
 CLAUSE = re.compile(r"\b(?:requires|ensures|ghost|invariant)\b")
@@ -129,11 +133,37 @@ def linked(folder, to):
         shutil.copytree(folder, to, copy_function=copy, dirs_exist_ok=True)
 
 
-class Rounds:
-    """The wrong bodies of some crates of a tree, and a room beside it in which each crate is proved once, and then each round over that."""
+def stamps_of(root, names):
+    """By the names of crates of a tree, the sums of what their libraries are made from, by which the kit knows them as built. They don't depend on where
+    the tree lies."""
+    found = {}
 
-    def __init__(self, root, every, names, room):
+    def stamp(crate):
+        if crate.name not in found:
+            found[crate.name] = plain(crate)
+        return found[crate.name]
+
+    for name in names:
+        rtlib, crate = kit.crate_at(f"{root}/crates/{name}")
+        plain = rtlib.Crate.stamp
+        try:
+            rtlib.Crate.stamp = stamp
+            crate.stamp()
+        finally:
+            rtlib.Crate.stamp = plain
+    return found
+
+
+class Rounds:
+    """The wrong bodies of some crates of a tree, and a room beside it in which each of these crates is checked once, and then each round over that.
+
+    The libraries below are those that the tree has, each proved once more where it has none of the same sources; or those that a run of `rt ci` made in another copy of the
+    tree, which fit one another."""
+
+    def __init__(self, root, every, names, room, proved=None):
         self.root, self.crates, self.room = pathlib.Path(root), every, pathlib.Path(room)
+        self.libraries = proved and pathlib.Path(proved)
+        self.stamps = {}
         self.names, self.proved, self.refused, self.seconds = names, {}, {}, collections.Counter()
         self.bodies = [Body.read(name, it) for name in names for it in sorted(self.root.glob(f"crates/{name}/must-fail/*.edit"))]
         self.planned = {name: rounds_of([body for body in self.bodies if body.crate == name]) for name in names}
@@ -141,9 +171,8 @@ class Rounds:
     @property
     def save_time(self):
         """Whether rounds take less of the processor's time than `rt ci` over the proofs that it makes: a body takes some 17 seconds less in a round, and
-        each crate below, some 85 seconds, is proved once more for rounds alone."""
-        proved_for_rounds = {it for name in self.names for it in crates.below(self.crates, name)} - {*self.names}
-        return len(self.bodies) > 5 * len(proved_for_rounds)
+        each crate that has bodies is checked once more, some 85 seconds."""
+        return len(self.bodies) > 5 * len(self.names)
 
     def furnish(self, name, over):
         """A folder of its own with the crate, the libraries below it as they were built, and what a check of the crate kept."""
@@ -155,14 +184,18 @@ class Rounds:
             for part in PARTS:
                 if (self.root / "crates" / it / part).is_dir():
                     shutil.copytree(self.root / "crates" / it / part, at / "crates" / it / part)
-            linked(self.proved.get(it, self.root) / "crates" / it / "out/rlib", at / "crates" / it / "out/rlib")
+            if it != name or not self.libraries:
+                linked((self.libraries or self.proved.get(it, self.root)) / "crates" / it / "out/rlib", at / "crates" / it / "out/rlib")
         linked(over / "crates" / name / "out/incremental", at / "crates" / name / "out/incremental")
+        for it in every[:-1] if self.libraries else []:
+            # (`rt ci` leaves its libraries without a stamp, since they fit only those of the same run)
+            (at / "crates" / it / "out/rlib/stamp").write_text(self.stamps[it], "utf-8")
         return at
 
     def prove(self, name):
-        """Proves the crate and builds its library. Returns what was said if it failed."""
+        """Proves the crate, and builds its library where those above go over that. Returns what was said if it failed."""
         at = self.furnish(name, self.root)
-        status, said = self.run(("proof", name), at / "crates" / name, "lib", "--jobs", "1")
+        status, said = self.run(("proof", name), at / "crates" / name, "check" if self.libraries else "lib", "--jobs", "1")
         self.proved.update({} if status else {name: at})
         return said if status else ""
 
@@ -211,13 +244,14 @@ class Rounds:
         return self.try_alone(name, [*alone, *left]) if alone or left else ""
 
     def carry_out(self, lanes):
-        """Proves each crate once those below it are proved, and then tries its bodies, as many crates side by side as there are lanes. Gives what
+        """Proves each crate once the libraries below it are there, and then tries its bodies, as many crates side by side as there are lanes. Gives what
         was said of each crate that was tried or isn't proved, as it ends: nothing, where all its bodies are refused."""
         above = collections.Counter(it for name in self.names for it in crates.below(self.crates, name))
-        waiting, running = [(self.prove, it) for it, _ in above.most_common()], {}
+        self.stamps = stamps_of(self.root, self.names) if self.libraries else {}
+        waiting, running = [(self.prove, it) for it in (self.names if self.libraries else [name for name, _ in above.most_common()])], {}
         with concurrent.futures.ThreadPoolExecutor(lanes) as pool:
             while waiting or running:
-                ready = [it for it in waiting if it[0] == self.try_crate or all(dep in self.proved for dep in crates.below(self.crates, it[1])[:-1])]
+                ready = [it for it in waiting if it[0] == self.try_crate or self.libraries or all(dep in self.proved for dep in crates.below(self.crates, it[1])[:-1])]
                 for task in ready[: lanes - len(running)]:
                     waiting.remove(task)
                     running[pool.submit(*task)] = task

@@ -86,9 +86,8 @@ def save_time(names, count, every):
 
 
 TOWER = {"low": ("low:", []), "mid": ("mid: low", ["low"]), "high": ("high: mid", ["mid"])}
-assert save_time(["low"], 1, TOWER), "nothing below is proved for it"
-assert not save_time(["high"], 10, TOWER) and save_time(["high"], 11, TOWER), "two crates are proved for it"
-assert save_time(["low", "high"], 3, TOWER), "one crate is proved for them"
+assert not save_time(["high"], 5, TOWER) and save_time(["high"], 6, TOWER), "one crate is checked once more for them"
+assert save_time(["low", "high"], 6, TOWER), "two are"
 
 bodies.put_into(CRATE, [body("front.is_further_on", new="        { a2 }"), BACK])
 assert (CRATE / "src/lists.rt").read_text("utf-8") == FILES["src/lists.rt"].replace("        a\n", "        { a2 }\n").replace("{ a2 }\n}", "{ b2 }\n}")

@@ -120,7 +120,7 @@ impl Plan {
     }
 
     /// The scenario, shared.
-    pub(crate) fn shared_scenario(&self) -> Result<Arc<Scenario>, NoMemory>
+    pub fn shared_scenario(&self) -> Result<Arc<Scenario>, NoMemory>
         ensures scenario { IfOk result (λ scenario. scenario.value ≡ self.now.scenario) }
         ensures valid { IsValid self.now.scenario }
     {
@@ -131,11 +131,9 @@ impl Plan {
     pub fn with_before(self, before: Vec<Before>) -> Plan
         ensures { result ≡ plan_of self.scenario before.items }
     {
-        Plan {
-            scenario: self.scenario,
-            before,
-            lines: self.lines,
-        }
+        let mut plan = self;
+        plan.before = before;
+        plan
     }
 
     /// How many flushes the actors give in all.

@@ -1,9 +1,12 @@
 -- What is said of an order is notes: without a line feed, ASCII alone, and short.
-use Rattle.std.proofs.Common.{◌≡◌, ℕ, zero, suc, ◌+◌, ◌*◌, ◌^◌, ◌<◌, ◌≤◌, List, [], ◌∷◌, ◌++◌, codes, get_or, length, arith, refl, length-append}
+use Rattle.std.proofs.Common.{◌≡◌, ℕ, zero, suc, ◌^◌, ◌<◌, Bool, true, false, List, [], ◌∷◌, ◌++◌, append-nil, codes, cond, get_or, refl, sym}
+use Rattle.std.specs.Fmt.{decimal}
 use Rattle.std.specs.List.{AllByRecursion}
 use Rattle.cmwq_types.specs.Contents.{ActorContents, ScenarioContents}
 use Rattle.cmwq_types.specs.Values.{IsInstr}
 use Rattle.cmwq_types.specs.declared.instr.Instr.{Instr}
+use Rattle.cmwq_types.specs.declared.reply.Reply.{Reply}
+use Rattle.cmwq_table.specs.Events.{event_line_at, is_silent, reply_line, reply_words}
 use Rattle.cmwq_table.specs.State.{State}
 use Rattle.cmwq_table.specs.Table.{table}
 use Rattle.cmwq_orders.specs.Orders.{no_actor}
@@ -12,12 +15,10 @@ use Rattle.cmwq_orders.specs.declared.choice.Choice.TheVariants.{Line, Own}
 use Rattle.cmwq_orders.specs.declared.question.Question.{Question}
 use Rattle.cmwq_orders.specs.declared.question.Question.TheVariants.{After, Never, Together, Stuck}
 use Rattle.cmwq_annotated.proofs.CallerLemmas.{instr_piece, joint, literal, named, number, reply_notes_are, within, work_piece}
-use Rattle.cmwq_annotated.specs.Notes.{AreNotes, IsNote, Piece}
+use Rattle.cmwq_annotated.specs.Notes.{AreNotes, IsNote, Piece, note_lines, reply_notes}
 use Rattle.cmwq_annotated.specs.ReplyNumbers.{IsReply}
-use Rattle.cmwq_explore.specs.declared.retracing.Rest.{Rest}
-use Rattle.cmwq_explore.specs.declared.retracing.Rest.TheVariants.{Ended, Waits, IsBefore}
 use Rattle.cmwq_explored.specs.Answers.{actor_name}
-use Rattle.cmwq_explored.specs.Found.{before_note, kind_note, notes_of_step, rest_notes, rest_notes_of, step_note, step_notes, waits_note, who}
+use Rattle.cmwq_explored.specs.Found.{before_note, kind_note, notes_of_step, step_note, waits_note, who}
 use Rattle.cmwq_explored.specs.Names.{HasName, HasNames}
 
 -- an actor's name, which is empty where no actor has the number
@@ -50,8 +51,8 @@ module _ (S : ScenarioContents) (names : HasNames S) where
   step_is_note : (n : ℕ) (c : Choice) (i : Instr) → n < 2 ^ 64 → IsInstr i → IsNote (step_note S n c i)
   step_is_note n c i small is =
       within 253
-      (joint (number n small)
-      (joint (literal 1 (codes " ") refl refl) (joint (who_piece c) (joint (literal 1 (codes " ") refl refl) (instr_piece S names.works names.queues i is)))))
+      (joint (joint (joint (joint (number n small) (literal 1 (codes " ") refl refl)) (who_piece c)) (literal 1 (codes " ") refl refl))
+      (instr_piece S names.works names.queues i is))
       refl
 
   -- a step and the line of its reply
@@ -62,13 +63,24 @@ module _ (S : ScenarioContents) (names : HasNames S) where
 
   pub waits_is_note : (actor flush : ℕ) → flush < 2 ^ 64 → IsNote (waits_note S actor flush)
   waits_is_note actor flush small =
-      within 253 (joint (actor_piece actor) (joint (literal 17 (codes " waits for flush ") refl refl) (number flush small))) refl
+      within 253 (joint (joint (actor_piece actor) (literal 17 (codes " waits for flush ") refl refl)) (number flush small)) refl
 
   pub before_is_note : (actor : ℕ) (i : Instr) → IsInstr i → IsNote (before_note S actor i)
   before_is_note actor i is =
-      within 253 (joint (actor_piece actor) (joint (literal 11 (codes " is before ") refl refl) (instr_piece S names.works names.queues i is))) refl
+      within 253 (joint (joint (actor_piece actor) (literal 11 (codes " is before ") refl refl)) (instr_piece S names.works names.queues i is)) refl
 
 -- notes behind notes
 pub are_notes : (xs ys : List (List ℕ)) → AreNotes xs → AreNotes ys → AreNotes (xs ++ ys)
 are_notes [] ys a b = b
 are_notes (x ∷ xs) ys a b = (a.0, are_notes xs ys a.1 b)
+
+-- a reply that isn't silent: its line further in is its note
+pub reply_noted : (S : ScenarioContents) (now : ℕ) (asked : Instr) (reply : Reply) → is_silent reply ≡ false
+    → codes "#   " ++ reply_line S now asked reply ≡ note_lines (reply_notes S now asked reply)
+unfolding reply_line
+reply_noted S now asked reply loud = at (is_silent reply) loud
+  where
+    at : (b : Bool) → b ≡ false
+        → codes "#   " ++ cond b [] (event_line_at now (reply_words S asked reply)) ≡ note_lines (cond b [] ((codes "  " ++ decimal now ++ codes " " ++ reply_words S asked reply) ∷ []))
+    at false is = sym (append-nil (codes "#   " ++ event_line_at now (reply_words S asked reply)))
+    at true is = cc

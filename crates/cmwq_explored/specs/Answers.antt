@@ -16,7 +16,7 @@ actor_name S actor = (slice_index_or S.actors actor no_actor).name
 -- in how many states what is counted holds
 abbrev pub counts_text : ScenarioContents → Question → Tally → List ℕ
 counts_text S (After actor work) t = actor_name S actor ++ codes " has ended in " ++ decimal t.first
-counts_text S (Never work) t = work_name S work ++ codes " is pending in " ++ decimal t.first
+counts_text S (Never work) t = work_name S work ++ (codes " is pending in " ++ decimal t.first)
 counts_text S (Together v w) t = work_name S v ++ codes " runs in " ++ decimal t.first ++ codes ", " ++ work_name S w ++ codes " in " ++ decimal t.second
 counts_text S Stuck t = codes "all actors have ended in " ++ decimal t.first
 
@@ -40,7 +40,7 @@ whole_line S question t = whole_words S (is_vacuous question t) t ++ in_all t ++
 
 unfoldable pub gave_up_line : (states depth : ℕ) → List ℕ
 gave_up_line states depth =
-    codes "gave up at " ++ decimal states ++ codes " states; holds for all orders of at most " ++ decimal depth ++ codes " instructions" ++ 10 ∷ []
+    codes "gave up at " ++ (decimal states ++ (codes " states; holds for all orders of at most " ++ (decimal depth ++ (codes " instructions" ++ 10 ∷ []))))
 
 -- what it comes to: it holds, or that is open
 abbrev pub whole_outcome : Question → Tally → Outcome

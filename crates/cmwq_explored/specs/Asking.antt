@@ -1,5 +1,5 @@
 -- What is asked by names, by the numbers of actors and works; and why a scenario can't be explored so.
-use Rattle.std.specs.Prelude.{◌≡◌, ℕ, List, [], ◌∷◌, length, Option, Some, None, Result, Ok, Err, if◌then◌else◌, nat_lt, ◌==◌, position}
+use Rattle.std.specs.Prelude.{◌≡◌, ℕ, false, List, [], ◌∷◌, length, Option, Some, None, Result, Ok, Err, if◌then◌else◌, nat_lt, ◌==◌, position}
 use Rattle.std.specs.Str.{bytes_eq}
 use Rattle.cmwq_types.specs.Contents.{ScenarioContents}
 use Rattle.cmwq_types.specs.declared.limits.TheConstants.{MAX_LINES}
@@ -58,8 +58,8 @@ pub record IsExplorable (S : ScenarioContents) (x : Exploration) (question : Que
   pub some : (length S.actors == 0) ≡ false
   pub few : nat_lt MAX_LINES (line_count S.actors) ≡ false
   pub flushes : nat_lt S.flushes (flush_count S.actors) ≡ false
-  pub question : question_asked S x.never ≡ Ok question
-  pub before : precedences_asked S x.before.items ≡ Ok before
+  pub asked : question_asked S x.never ≡ Ok question
+  pub preceded : precedences_asked S x.before.items ≡ Ok before
 
 -- Why it can't, by the first that is so: it has no actor; they have too many lines; they give more flushes than there may be; or the
 -- first name that isn't declared is that of an actor, or of a work.

@@ -9,10 +9,10 @@ use cmwq_types::Scenario;
 use std::fmt;
 
 /// The actor's name; empty where no actor has the number.
-pub(crate) fn actor_name(scenario: &Scenario, actor: u8) -> &str
+pub(crate) fn actor_name(scenario: &Scenario, actor: usize) -> &str
     ensures { result.now ≡ actor_name scenario.now actor }
 {
-    match scenario.actors.get(actor as usize) {
+    match scenario.actors.get(actor) {
         Some(actor) => actor.name.as_str(),
         None => "",
     }
@@ -98,14 +98,12 @@ impl fmt::Display for Counts<'_> {
         let Tally { first, second, .. } = self.0.tally;
         match self.0.question {
             Question::After { actor, .. } => {
-                write!(f, "{} has ended in {first}", actor_name(scenario, actor))
+                let actor = actor_name(scenario, actor as usize);
+                write!(f, "{actor} has ended in {first}")
             }
             Question::Never(work) => {
-                write!(
-                    f,
-                    "{} is pending in {first}",
-                    scenario.work_name(work.0 as usize)
-                )
+                let work = scenario.work_name(work.0 as usize);
+                write!(f, "{work} is pending in {first}")
             }
             Question::Together(v, w) => {
                 let one = scenario.work_name(v.0 as usize);

@@ -23,6 +23,7 @@ pub enum ExploreError {
 
 impl From<PlayError> for ExploreError {
     ghost use Rattle.cmwq_explored.specs.declared.error.ExploreError.TheVariants.{Play as play};
+    ghost use Rattle.std.specs.Prelude.{◌≡◌};
 
     ghost from_gives = { λ why e. e ≡ play why };
 
@@ -33,6 +34,7 @@ impl From<PlayError> for ExploreError {
 
 impl From<NoMemory> for ExploreError {
     ghost use Rattle.cmwq_explored.specs.Errors.{no_memory};
+    ghost use Rattle.std.specs.Prelude.{◌≡◌};
 
     ghost from_gives = { λ _ e. e ≡ no_memory };
 
@@ -43,6 +45,7 @@ impl From<NoMemory> for ExploreError {
 
 impl From<AllocError> for ExploreError {
     ghost use Rattle.cmwq_explored.specs.Errors.{no_memory};
+    ghost use Rattle.std.specs.Prelude.{◌≡◌};
 
     ghost from_gives = { λ _ e. e ≡ no_memory };
 
@@ -53,6 +56,7 @@ impl From<AllocError> for ExploreError {
 
 impl<T: Drop> From<AllocFailed<T>> for ExploreError {
     ghost use Rattle.cmwq_explored.specs.Errors.{no_memory};
+    ghost use Rattle.std.specs.Prelude.{◌≡◌};
 
     ghost from_gives = { λ _ e. e ≡ no_memory };
 
@@ -64,6 +68,7 @@ impl<T: Drop> From<AllocFailed<T>> for ExploreError {
 /// Too many lines are told as every command tells them.
 impl From<PlanError> for ExploreError {
     ghost use Rattle.cmwq_explored.specs.Errors.{plan_told_as};
+    ghost use Rattle.std.specs.Prelude.{◌≡◌};
 
     ghost from_gives = { λ why e. e ≡ plan_told_as why };
 

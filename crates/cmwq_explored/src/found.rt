@@ -59,8 +59,19 @@ fn found(
     let Some(name) = Name::read(b"found") else {
         unreachable!()
     };
-    let instrs: Vec<Instr> = steps.iter().map(|step| step.1).collect(alloc)?;
+    let instrs = instrs_of(alloc, steps)?;
     acted(alloc, scenario, name, &instrs)
+}
+
+/// The steps' instructions.
+fn instrs_of(alloc: Global, steps: &[(Choice, Instr)]) -> Result<Vec<Instr>, NoMemory>
+    ensures { IfOk result (λ instrs. instrs.items ≡ map (λ step. step.1) steps.now) }
+{
+    let mut instrs = Vec::with_capacity(alloc, steps.len())?;
+    for step in steps {
+        instrs.push(step.1)?;
+    }
+    Ok(instrs)
 }
 
 /// The notes on an order that is told so.

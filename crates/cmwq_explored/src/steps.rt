@@ -32,10 +32,13 @@ impl fmt::Display for KindNote<'_> {
         match self.question {
             Question::After { actor, work } => {
                 let work = scenario.work_name(work.0 as usize);
-                let actor = actor_name(scenario, actor);
+                let actor = actor_name(scenario, actor as usize);
                 write!(f, "{work} is pending or runs, and {actor} has ended")
             }
-            Question::Never(work) => write!(f, "{} runs", scenario.work_name(work.0 as usize)),
+            Question::Never(work) => {
+                let work = scenario.work_name(work.0 as usize);
+                write!(f, "{work} runs")
+            }
             Question::Together(v, w) => {
                 let one = scenario.work_name(v.0 as usize);
                 let other = scenario.work_name(w.0 as usize);
@@ -58,7 +61,7 @@ impl fmt::Display for Who<'_> {
 
     fn fmt<W: fmt::Write>(&self, f: &mut fmt::Formatter<W>) -> fmt::Result {
         match self.choice {
-            Choice::Line(actor) => f.write_str(actor_name(self.scenario, actor)),
+            Choice::Line(actor) => { f.write_str(actor_name(self.scenario, actor as usize)) }
             Choice::Own(_) => f.write_str("(machine)"),
         }
     }
@@ -93,7 +96,7 @@ impl fmt::Display for StepNote<'_> {
 #[derive(Clone, Copy)]
 struct WaitsNote<'a> {
     scenario: &'a Scenario,
-    actor: u8,
+    actor: usize,
     flush: u16,
 }
 
@@ -111,7 +114,7 @@ impl fmt::Display for WaitsNote<'_> {
 #[derive(Clone, Copy)]
 struct BeforeNote<'a> {
     scenario: &'a Scenario,
-    actor: u8,
+    actor: usize,
     instr: Instr,
 }
 
@@ -220,6 +223,7 @@ impl<M: Machine> Noted<'_, M> {
 }
 
 /// Writes the line of the reply further in, if it has one.
+#[tactic(auto, using(crate::proofs::StepLemmas::reply_noted))]
 fn push_reply(
     text: &mut Block,
     lines: &mut ReplyLines<'_>,
@@ -248,14 +252,19 @@ pub(crate) fn push_rests(
     ensures notes { OnOk result (AreNotes (rest_notes scenario.now 0 rests.now)) }
 {
     for (actor, rest) in rests.iter().enumerate() {
-        push_rest(text, scenario, actor as u8, *rest)?;
+        push_rest(text, scenario, actor, *rest)?;
     }
     Ok(())
 }
 
 /// Writes where the actor stands, if it hasn't ended.
 #[tactic(auto, using(crate::proofs::StepLemmas::waits_is_note, crate::proofs::StepLemmas::before_is_note))]
-fn push_rest(text: &mut Block, scenario: &Scenario, actor: u8, rest: Rest) -> Result<(), NoMemory>
+fn push_rest(
+    text: &mut Block,
+    scenario: &Scenario,
+    actor: usize,
+    rest: Rest,
+) -> Result<(), NoMemory>
     requires names { HasNames scenario.now }
     ensures text { OnOk result (text.new ≡ text.old ++ note_lines (rest_notes_of scenario.now actor rest)) }
     ensures notes { AreNotes (rest_notes_of scenario.now actor rest) }

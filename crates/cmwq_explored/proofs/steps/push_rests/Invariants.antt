@@ -6,6 +6,6 @@ use Rattle.cmwq_explored.proofs.steps.push_rests.Given as goal
 -- so many actors are told, and what is left makes the whole; where those that are left are notes, all are
 abbrev pub invariant-loop-actor : goal.invariant-loop-actor
 invariant-loop-actor l = record {
-  text : l.text ++ note_lines (rest_notes l.scenario l.actor-index (drop l.actor-index l.rests)) ≡ l.fn.text ++ note_lines (rest_notes l.scenario 0 l.rests);
-  notes : AreNotes (rest_notes l.scenario l.actor-index (drop l.actor-index l.rests)) → AreNotes (rest_notes l.scenario 0 l.rests);
+  text : l.text ++ note_lines (rest_notes l.scenario l.actor (drop l.actor l.rests)) ≡ l.fn.text ++ note_lines (rest_notes l.scenario 0 l.rests);
+  notes : AreNotes (rest_notes l.scenario l.actor (drop l.actor l.rests)) → AreNotes (rest_notes l.scenario 0 l.rests);
 }

@@ -9,8 +9,8 @@ invariant-loop-before g l = record {
   scenario : l.self.scenario ≡ l.fn.self.scenario;
   loaded : g.M.Reads.loaded l.self.machine ≡ l.fn.self.scenario.now;
   lines : l.self.lines ≡ l.fn.self.scenario.now;
-  text : l.text ++ note_lines (step_notes l.fn.self.scenario.now l.before-index (g.M.Reads.state l.self.machine) (drop l.before-index l.steps))
+  text : l.text ++ note_lines (step_notes l.fn.self.scenario.now l.before (g.M.Reads.state l.self.machine) (drop l.before l.steps))
       ≡ l.fn.text ++ note_lines (step_notes l.fn.self.scenario.now 0 (g.M.Reads.state l.fn.self.machine) l.steps);
-  notes : AreNotes (step_notes l.fn.self.scenario.now l.before-index (g.M.Reads.state l.self.machine) (drop l.before-index l.steps))
+  notes : AreNotes (step_notes l.fn.self.scenario.now l.before (g.M.Reads.state l.self.machine) (drop l.before l.steps))
       → AreNotes (step_notes l.fn.self.scenario.now 0 (g.M.Reads.state l.fn.self.machine) l.steps);
 }
