@@ -1,5 +1,7 @@
 -- What actors give names works and queues of their scenario.
-use Rattle.std.proofs.Common.{◌≡◌, ℕ, zero, suc, Bool, true, List, [], ◌∷◌, ◌++◌, replicate, take, leb, length, None}
+use Rattle.std.proofs.Common.{◌≡◌, ◌≤◌, ℕ, zero, suc, Bool, true, ◌&&◌, List, [], ◌∷◌, ◌++◌, arith, replicate, take, leb, length, None}
+use Rattle.std.proofs.lemmas.Bool.{and_parts}
+use Rattle.std.proofs.lemmas.Bool.Decides.{nat_tests}
 use Rattle.std.specs.List.{AllByRecursion, list_any}
 use Rattle.std.specs.Str.{bytes_eq}
 use Rattle.cmwq_types.specs.Contents.{ActorContents, ScenarioContents}
@@ -7,7 +9,7 @@ use Rattle.cmwq_types.specs.Faults.{IsValid, actor_fault, counts_fault, fault_if
 use Rattle.cmwq_types.specs.Scenario.{expand, expand_lines}
 use Rattle.cmwq_types.specs.declared.check.Fault.TheVariants as fault
 use Rattle.cmwq_types.specs.declared.instr.Instr.{Instr}
-use Rattle.cmwq_types.specs.declared.limits.TheConstants.{MAX_LINES, MAX_TIMES}
+use Rattle.cmwq_types.specs.declared.limits.TheConstants.{MAX_ACTORS, MAX_LINES, MAX_QUEUES, MAX_TIMES, MAX_WORKS}
 use Rattle.cmwq_types.specs.declared.scenario.Line.{Line}
 use Rattle.cmwq_annotated.proofs.ActedLemmas.{no_first, no_unless}
 
@@ -60,3 +62,13 @@ module _ (S : ScenarioContents) where
   -- of a valid scenario, each actor's instructions do
   pub valid_declared : IsValid S → AllByRecursion (λ (actor : ActorContents). AllByRecursion Declared (expand actor)) S.actors
   valid_declared valid = actors_declared [] S.actors (valid_actors valid)
+
+  -- and it has few actors
+  pub few_actors : IsValid S → length S.actors ≤ MAX_ACTORS
+  few_actors valid =
+      let rest = or_else (first_along queue_fault [] S.queues) (or_else (first_along (work_fault S) [] S.works) (first_along (actor_fault S) [] S.actors)) in
+      let a = no_first (numbers_fault S) (or_else (counts_fault S) rest) valid in
+      let b = no_first (counts_fault S) rest a.1 in
+      let sizes = no_unless (leb (length S.queues) MAX_QUEUES && leb (length S.works) MAX_WORKS && leb (length S.actors) MAX_ACTORS) fault.TooMany b.0 in
+      let few : leb (length S.actors) MAX_ACTORS ≡ true = (and_parts (leb (length S.queues) MAX_QUEUES && leb (length S.works) MAX_WORKS) (leb (length S.actors) MAX_ACTORS) sizes).1 in
+      grind (arith, nat_tests)

@@ -1,3 +1,4 @@
 mod AskingLemmas
+mod ExploringLemmas
 mod FoundLemmas
 mod StepLemmas

@@ -1,5 +1,5 @@
 -- What is said of an order is notes: without a line feed, ASCII alone, and short.
-use Rattle.std.proofs.Common.{◌≡◌, ℕ, zero, suc, ◌^◌, ◌<◌, Bool, true, false, List, [], ◌∷◌, ◌++◌, append-nil, codes, cond, get_or, refl, sym}
+use Rattle.std.proofs.Common.{◌≡◌, ℕ, zero, suc, ◌^◌, ◌<◌, Bool, true, false, List, [], ◌∷◌, ◌++◌, Result, Ok, Err, OnOk, append-nil, append_assoc, ap, codes, cond, get_or, refl, subst, sym, ◌∙◌}
 use Rattle.std.specs.Fmt.{decimal}
 use Rattle.std.specs.List.{AllByRecursion}
 use Rattle.cmwq_types.specs.Contents.{ActorContents, ScenarioContents}
@@ -84,3 +84,24 @@ reply_noted S now asked reply loud = at (is_silent reply) loud
         → codes "#   " ++ cond b [] (event_line_at now (reply_words S asked reply)) ≡ note_lines (cond b [] ((codes "  " ++ decimal now ++ codes " " ++ reply_words S asked reply) ∷ []))
     at false is = sym (append-nil (codes "#   " ++ event_line_at now (reply_words S asked reply)))
     at true is = cc
+
+-- so it is, where it was written behind the text
+pub pushed : (S : ScenarioContents) (now : ℕ) (asked : Instr) (reply : Reply) (old mid new : List ℕ) {E : Type 0} (r : Result (Unit {0}) E)
+    → is_silent reply ≡ false → mid ≡ old ++ codes "#   " → OnOk r (new ≡ mid ++ reply_line S now asked reply)
+    → OnOk r (new ≡ old ++ note_lines (reply_notes S now asked reply))
+pushed S now asked reply old mid new (Ok done) loud first then =
+    then ∙ ap (λ (text : List ℕ). text ++ reply_line S now asked reply) first ∙ append_assoc old (codes "#   ") (reply_line S now asked reply)
+    ∙ ap (λ (text : List ℕ). old ++ text) (reply_noted S now asked reply loud)
+pushed S now asked reply old mid new (Err why) loud first then = tt
+
+-- a step that the machine carried out, and the line of its reply, are notes
+pub noted_on : (S : ScenarioContents) (names : HasNames S) (n : ℕ) (s : State) (step : Choice × Instr) (loaded : ScenarioContents) (t : State) (reply : Reply) (now : ℕ)
+    {E : Type 0} (r : Result (Unit {0}) E) → n < 2 ^ 64 → IsInstr step.1 → loaded ≡ S → (t, reply) ≡ table loaded s step.1 → IsReply reply → now ≡ t.time → now < 2 ^ 64
+    → OnOk r (AreNotes (notes_of_step S n s step))
+noted_on S names n s step loaded t reply now (Ok done) small is same exact fits is_now early =
+    let whole : (t, reply) ≡ table S s step.1 = exact ∙ ap (λ (T : ScenarioContents). table T s step.1) same in
+    let answer : reply ≡ (table S s step.1).1 = ap (λ (x : State × Reply). x.1) whole in
+    let after : t ≡ (table S s step.1).0 = ap (λ (x : State × Reply). x.0) whole in
+    step_are_notes S names n s step small is (subst IsReply answer fits)
+    (subst (λ (time : ℕ). time < 2 ^ 64) (is_now ∙ ap (λ (u : State). u.time) after) early)
+noted_on S names n s step loaded t reply now (Err why) small is same exact fits is_now early = tt

@@ -3,6 +3,7 @@ use Rattle.std.specs.Prelude.{◌≡◌, ◌⊎◌, ◌↔◌, ℕ, Bool, true, 
 use Rattle.std.specs.Io.KnownBytes.{Appends, Keeps}
 use Rattle.cmwq_types.specs.Contents.{ScenarioContents}
 use Rattle.cmwq_grammar.specs.Grammar.{Spells}
+use Rattle.cmwq_play.specs.Commands.{IsOutside as IsOutsideInput}
 use Rattle.cmwq_play.specs.PlayTexts.{IsSpelled, IsTextFault}
 use Rattle.cmwq_streams.specs.Sending.{HasSentFront}
 use Rattle.cmwq_streams.specs.declared.error.PlayError.TheVariants as play
@@ -55,15 +56,19 @@ HasExplored x input before after out =
 
 -- the error says nothing of the input: a read or a write failed, or memory ran out
 abbrev pub IsOutside : ExploreError → Type 0
-IsOutside (error.Play play.Read) = Unit {0}
-IsOutside (error.Play play.Write) = Unit {0}
-IsOutside (error.Play play.NoMemory) = Unit {0}
-IsOutside why = ⊥
+IsOutside (error.Play why) = IsOutsideInput why
+IsOutside error.NoSuchActor = ⊥
+IsOutside (error.Flushes count) = ⊥
 
--- the error is the text's fault, or why its scenario can't be explored
-abbrev pub IsExploreFault : Exploration → (input : Option (List ℕ)) → ExploreError → Type 0
-IsExploreFault x input (error.Play (play.Asm fault)) = IsTextFault input (play.Asm fault)
-IsExploreFault x input why = (S : ScenarioContents) × IsSpelled input S × (fault_of S x ≡ Some why)
+-- the error is the text's fault
+abbrev pub IsFaultOfText : (input : Option (List ℕ)) → ExploreError → Type 0
+IsFaultOfText input (error.Play why) = IsTextFault input why
+IsFaultOfText input error.NoSuchActor = ⊥
+IsFaultOfText input (error.Flushes count) = ⊥
+
+-- the error is why the scenario that the input spells can't be explored
+abbrev pub IsUnexplorable : Exploration → (input : Option (List ℕ)) → ExploreError → Type 0
+IsUnexplorable x input why = (S : ScenarioContents) × IsSpelled input S × (fault_of S x ≡ Some why)
 
 -- some order that is shown was to be written, and a front of its text was
 abbrev pub HasExploredFront : Exploration → (input before after : Option (List ℕ)) → Type 0
@@ -80,4 +85,4 @@ pub record Explores (x : Exploration) (input before after : Option (List ℕ)) (
   -- else nothing was
   pub silent : IfErr result (λ why. (why ≡ error.Play play.Write) ⊎ Keeps before after)
   -- and the fault is told
-  pub why : IfErr result (λ why. IsExploreFault x input why ⊎ IsOutside why)
+  pub why : IfErr result (λ why. IsFaultOfText input why ⊎ (IsUnexplorable x input why ⊎ IsOutside why))

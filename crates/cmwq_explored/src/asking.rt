@@ -50,15 +50,18 @@ pub(crate) fn precedences_asked(
 {
     let mut before = Vec::with_capacity(alloc, pairs.len())?;
     for pair in pairs {
-        before.push(precedence_asked(scenario, *pair)?)?;
+        match precedence_asked(scenario, pair) {
+            Ok(one) => before.push(one)?,
+            Err(why) => return Err(why),
+        }
     }
     Ok(before)
 }
 
 /// Who precedes whom in this pair.
-fn precedence_asked(scenario: &Scenario, pair: Precedence<'_>) -> Result<Before, ExploreError>
+fn precedence_asked(scenario: &Scenario, pair: &Precedence<'_>) -> Result<Before, ExploreError>
     requires valid { IsValid scenario.now }
-    ensures { result ≡ precedence_asked scenario.now pair.entry }
+    ensures { result ≡ precedence_asked scenario.now pair.now }
 {
     let first = actor_asked(scenario, pair.first)?;
     let then = actor_asked(scenario, pair.then)?;

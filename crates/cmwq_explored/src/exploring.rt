@@ -1,5 +1,5 @@
 //! `explore`: from a scenario's text to what is written of all orders of its actors' instructions.
-ghost use Rattle.cmwq_explore.specs.Outcomes.{IsAnswer};
+ghost use Rattle.cmwq_explore.specs.Outcomes.{IsAnswer, IsShort};
 ghost use Rattle.cmwq_explored.specs.Asking.{IsExplorable, fault_of};
 ghost use Rattle.cmwq_explored.specs.Errors.{no_memory};
 ghost use Rattle.cmwq_explored.specs.Exploring.{Explores, IsExplored, IsSaid};
@@ -43,9 +43,13 @@ pub fn explore<R: Source, W: Sink, P: Progress>(
     ensures explores { Explores exploration.now (R.remaining reader.old) (W.contents writer.old) (W.contents writer.new) (W.failed writer.new) result }
 {
     let scenario = read_text(alloc, reader)?;
-    let (outcome, text) = explored::<Core, P>(alloc, scenario, exploration, progress)?;
-    put_all(writer, &text)?;
-    Ok(outcome)
+    match explored::<Core, P>(alloc, scenario, exploration, progress) {
+        Ok((outcome, text)) => {
+            put_all(writer, &text)?;
+            Ok(outcome)
+        }
+        Err(why) => Err(why),
+    }
 }
 
 /// What exploring the scenario comes to, and what is to be written of it.
@@ -105,6 +109,7 @@ fn said<M: Machine>(
 ) -> Result<(Outcome, Vec<u8>), NoMemory>
     requires valid { IsValid plan.now.value.scenario }
     requires answers { IsAnswer plan.now.value.scenario plan.now.value.before question limit answer.now }
+    requires short { IsShort answer.now }
     ensures { IfOk result (λ r. IsSaid plan.now.value.scenario question plan.now.value.before answer.now r.0 r.1.items) }
 {
     match answer {

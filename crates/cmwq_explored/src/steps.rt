@@ -15,7 +15,6 @@ use cmwq_orders::{Choice, Question};
 use cmwq_table::{Machine, is_silent};
 use cmwq_types::{Actor, Instr, NoMemory, Reply, Scenario, fields_of};
 use std::fmt;
-use std::fmt::Write;
 
 /// What an order comes to.
 #[derive(Clone, Copy)]
@@ -143,7 +142,6 @@ pub(crate) fn names_fit(actors: &[Actor])
 }
 
 /// Writes what the order comes to.
-#[tactic(auto, using(crate::proofs::StepLemmas::kind_is_note))]
 pub(crate) fn push_kind(
     text: &mut Block,
     scenario: &Scenario,
@@ -185,7 +183,6 @@ impl<M: Machine> Noted<'_, M> {
     }
 
     /// Writes the step of this number, carried out on the machine, and the line of its reply.
-    #[tactic(auto, using(crate::proofs::StepLemmas::step_are_notes))]
     fn push_step(
         &mut self,
         text: &mut Block,
@@ -200,7 +197,7 @@ impl<M: Machine> Noted<'_, M> {
         ensures lines { self.new.lines ≡ self.old.scenario.now }
         ensures state { M.state self.new.machine ≡ (table self.old.scenario.now (M.state self.old.machine) step.1).0 }
         ensures text { OnOk result (text.new ≡ text.old ++ note_lines (notes_of_step self.old.scenario.now number (M.state self.old.machine) step)) }
-        ensures notes { AreNotes (notes_of_step self.old.scenario.now number (M.state self.old.machine) step) }
+        ensures notes { OnOk result (AreNotes (notes_of_step self.old.scenario.now number (M.state self.old.machine) step)) }
     {
         let (choice, instr) = step;
         let _fields = fields_of(instr);
@@ -223,7 +220,6 @@ impl<M: Machine> Noted<'_, M> {
 }
 
 /// Writes the line of the reply further in, if it has one.
-#[tactic(auto, using(crate::proofs::StepLemmas::reply_noted))]
 fn push_reply(
     text: &mut Block,
     lines: &mut ReplyLines<'_>,
@@ -237,7 +233,7 @@ fn push_reply(
     if is_silent(*reply) {
         return Ok(());
     }
-    text.write_str("#   ").map_err(|_| NoMemory)?;
+    write!(text, "#   ")?;
     lines.push(text, time, instr, reply)
 }
 
