@@ -1,0 +1,3 @@
+mod ChainLemmas
+mod RingLemmas
+mod SearchLemmas
