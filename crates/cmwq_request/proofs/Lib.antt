@@ -1,5 +1,6 @@
 mod DebugLemmas
 mod DrawLemmas
+mod ExploreLemmas
 mod RequestLemmas
 mod TableLemmas
 mod WalkingLemmas
