@@ -92,8 +92,8 @@ leads_by_chain (pair ∷ before) one other e =
         let begun = way_more pair before one pair.0 (leads_by_chain before one pair.0 far) in (
           begun.0 ++ pair.0 ∷ way.0,
           subst (λ (names : List Name). IsChain (pair ∷ before) (one ∷ names))
-          (sym (append_assoc begun.0 (pair.0 ∷ way.0) (other ∷ [])))
-          (chain_joined (pair ∷ before) (one ∷ begun.0) pair.0 (way.0 ++ other ∷ []) begun.1 way.1),
+              (sym (append_assoc begun.0 (pair.0 ∷ way.0) (other ∷ [])))
+              (chain_joined (pair ∷ before) (one ∷ begun.0) pair.0 (way.0 ++ other ∷ []) begun.1 way.1),
         )
 
 -- Rings.
