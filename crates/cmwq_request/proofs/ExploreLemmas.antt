@@ -16,6 +16,7 @@ use Rattle.cmwq_command_line.specs.CommandLine.{command_line}
 use Rattle.cmwq_rings.proofs.RingLemmas.{none_goes, ring_goes}
 use Rattle.cmwq_rings.specs.Rings.{HasNoRing, IsRing, Pair, goes_in_ring}
 use Rattle.cmwq_request.proofs.DrawLemmas.{Takes, file_begins, plain_begins}
+use Rattle.cmwq_request.proofs.ExploringLemmas.{none_forbidden, none_limited, rings_ask_nothing}
 use Rattle.cmwq_request.proofs.WalkingLemmas.{Goes, end_passes, ends, explore_shape, has_explore, is_option_word, on, on_plain, taken}
 use Rattle.cmwq_request.proofs.WhyLemmas.{short_number, short_plain, value_begins}
 use Rattle.cmwq_request.specs.Request.{ArePlainGiven, ArePlainPairs, ArePlainWorks, CanBeAsked, ExplorationWords, Forbidden, HasCapacity, HasPlainNames, IsFileWord, IsMisuse, IsPlainIfAny, IsPlainWord, IsRead, IsStateLimit, IsValueWord, NeverGiven, WorksGiven, asked_explore, asked_of, before_words, exploration_from, explore_arguments, explored_from, flag_of, given_words, limit_from, never_from, never_of, never_words, option_words, pairs_from, pairs_in, state_limit, text_words, two_works, unlimited_arguments, usual, words_to_explore, works_given, works_words}
@@ -381,23 +382,6 @@ asked_is never before limit asked file is pairs number none =
     ∙ ap (λ (n : Option ℕ). words_to_explore (exploration_from (goes_in_ring asked.before) (Some asked.never) asked.before n) (Some file)) number
     ∙ ap (λ (rings : Bool). words_to_explore (exploration_from rings (Some asked.never) asked.before (Some asked.limit)) (Some file)) none
 
-in_ring : (never : Option Forbidden) (before pairs : List Pair) (limit : Option ℕ) (file : Text) → pairs ≡ before → goes_in_ring before ≡ true
-    → words_to_explore (exploration_from (goes_in_ring pairs) never pairs limit) (Some file) ≡ None
-in_ring never before pairs limit file are ring =
-    ap (λ (rings : Bool). words_to_explore (exploration_from rings never pairs limit) (Some file)) (ap goes_in_ring are ∙ ring) ∙ nothing never limit
-  where
-    nothing : (n : Option Forbidden) (l : Option ℕ) → words_to_explore (exploration_from true n pairs l) (Some file) ≡ None
-    nothing (Some n) (Some l) = refl
-    nothing (Some n) None = refl
-    nothing None l = refl
-
-no_limit_asked : (never : Option Forbidden) (limit : Option ℕ) (file : Text) → limit ≡ None → words_to_explore (exploration_from false never [] limit) (Some file) ≡ None
-no_limit_asked (Some never) limit file none = ap (λ (n : Option ℕ). words_to_explore (exploration_from false (Some never) [] n) (Some file)) none
-no_limit_asked None limit file none = refl
-
-nothing_forbidden : (never : Option Forbidden) (file : Text) → never ≡ None → words_to_explore (exploration_from false never [] (limit_from None)) (Some file) ≡ None
-nothing_forbidden never file none = ap (λ (o : Option Forbidden). words_to_explore (exploration_from false o [] (limit_from None)) (Some file)) none
-
 -- no play is asked for
 no_capacity : (words : List Text) → HasCapacity (codes "explore" ∷ words)
 no_capacity [] = tt
@@ -443,14 +427,14 @@ pub ring_misused : (words : List Text) (name file : Text) (never : Forbidden) (b
     → IsMisuse words
 ring_misused words name file never before ring are plain names pairs is =
     as_misuse (unlimited never before file names pairs (plain_begins file plain)) words name are
-    (in_ring _ before _ _ file (pairs_met before) (ring_goes before ring is))
+    (rings_ask_nothing (is_stuck never) (after_of never) (works_of never) (words_if_any (pair_words before)) None (Some file) (ap goes_in_ring (pairs_met before) ∙ ring_goes before ring is))
 
 pub limit_misused : (words : List Text) (name number file : Text) (never : Forbidden)
     → words ≡ name ∷ codes "explore" ∷ file ∷ (never_words never ++ (codes "--limit" ∷ number ∷ [])) → IsPlainWord file → HasPlainNames never → IsValueWord number
     → limit_from (Some number) ≡ None → IsMisuse words
 limit_misused words name number file never are plain names value none =
     as_misuse (limited never [] number file names tt (value_begins number value) (plain_begins file plain)) words name are
-    (no_limit_asked _ _ file none)
+    (none_limited (never_from (is_stuck never) (after_of never) (works_of never)) [] (limit_from (Some number)) (Some file) none)
 
 -- What isn't one thing.
 
@@ -486,4 +470,4 @@ given_met true (Some actor) (WorksGiven.two work other) file a w f =
 pub never_misused : (words : List Text) (name file : Text) (given : NeverGiven) → words ≡ name ∷ codes "explore" ∷ file ∷ given_words given → IsPlainWord file
     → ArePlainGiven given → never_of given ≡ None → IsMisuse words
 never_misused words name file given are plain (after, works) none =
-    as_misuse (given_met given.stuck given.after given.works file after works (plain_begins file plain)) words name are (nothing_forbidden (never_of given) file none)
+    as_misuse (given_met given.stuck given.after given.works file after works (plain_begins file plain)) words name are (none_forbidden (never_of given) [] (limit_from None) (Some file) none)

@@ -28,35 +28,37 @@ leads_once (pair ∷ before) one other e =
       | inr there ↦ without_first pair before one other (leads_once before one other there)
     ]
 
-leads_on : (before : List Pair) (one next other : Name) → is_before before one next ≡ true → leads before next other ≡ true → leads before one other ≡ true
-leads_on [] one next other e on = on
-leads_on (pair ∷ before) one next other e on =
-    by (or_cases (is_pair one next pair) (is_before before one next) e)
-    (or_cases (leads before next other) ((bytes_eq pair.0 next || leads before next pair.0) && (bytes_eq pair.1 other || leads before pair.1 other)) on)
-  where
-    to_first : is_before before one next ≡ true → (bytes_eq pair.0 next || leads before next pair.0) ≡ true → (bytes_eq pair.0 one || leads before one pair.0) ≡ true
-    to_first there first =
-        or_right (bytes_eq pair.0 one) (leads before one pair.0)
-        (elim (or_cases (bytes_eq pair.0 next) (leads before next pair.0) first) [
-          | inl same ↦ leads_once before one pair.0 (subst (λ (n : Name). is_before before one n ≡ true) (sym (same_names pair.0 next same)) there)
-          | inr far ↦ leads_on before one next pair.0 there far
-        ])
+-- one step more, where that is so over the pairs behind the first
+step_more : (pair : Pair) (before : List Pair) (one next other : Name)
+    → ((end : Name) → is_before before one next ≡ true → leads before next end ≡ true → leads before one end ≡ true)
+    → (is_pair one next pair ≡ true) ⊎ (is_before before one next ≡ true)
+    → (leads before next other ≡ true) ⊎ (((bytes_eq pair.0 next || leads before next pair.0) && (bytes_eq pair.1 other || leads before pair.1 other)) ≡ true)
+    → leads (pair ∷ before) one other ≡ true
+step_more pair before one next other again (inl here) (inl far) =
+    over_first pair before one other
+    (or_left (bytes_eq pair.0 one) (leads before one pair.0) (named_so pair.0 one (pair_is one next pair here).0))
+    (or_right (bytes_eq pair.1 other) (leads before pair.1 other) (subst (λ (n : Name). leads before n other ≡ true) (sym (pair_is one next pair here).1) far))
+step_more pair before one next other again (inl here) (inr over) =
+    over_first pair before one other
+    (or_left (bytes_eq pair.0 one) (leads before one pair.0) (named_so pair.0 one (pair_is one next pair here).0))
+    (and_parts (bytes_eq pair.0 next || leads before next pair.0) (bytes_eq pair.1 other || leads before pair.1 other) over).1
+step_more pair before one next other again (inr there) (inl far) = without_first pair before one other (again other there far)
+step_more pair before one next other again (inr there) (inr over) =
+    let both = and_parts (bytes_eq pair.0 next || leads before next pair.0) (bytes_eq pair.1 other || leads before pair.1 other) over in
+    over_first pair before one other
+    (or_right (bytes_eq pair.0 one) (leads before one pair.0)
+    (elim (or_cases (bytes_eq pair.0 next) (leads before next pair.0) both.0) [
+      | inl same ↦ leads_once before one pair.0 (subst (λ (n : Name). is_before before one n ≡ true) (sym (same_names pair.0 next same)) there)
+      | inr far ↦ again pair.0 there far
+    ]))
+    both.1
 
-    by : (is_pair one next pair ≡ true) ⊎ (is_before before one next ≡ true)
-        → (leads before next other ≡ true) ⊎ (((bytes_eq pair.0 next || leads before next pair.0) && (bytes_eq pair.1 other || leads before pair.1 other)) ≡ true)
-        → leads (pair ∷ before) one other ≡ true
-    by (inl here) (inl far) =
-        over_first pair before one other
-        (or_left (bytes_eq pair.0 one) (leads before one pair.0) (named_so pair.0 one (pair_is one next pair here).0))
-        (or_right (bytes_eq pair.1 other) (leads before pair.1 other) (subst (λ (n : Name). leads before n other ≡ true) (sym (pair_is one next pair here).1) far))
-    by (inl here) (inr over) =
-        over_first pair before one other
-        (or_left (bytes_eq pair.0 one) (leads before one pair.0) (named_so pair.0 one (pair_is one next pair here).0))
-        (and_parts (bytes_eq pair.0 next || leads before next pair.0) (bytes_eq pair.1 other || leads before pair.1 other) over).1
-    by (inr there) (inl far) = without_first pair before one other (leads_on before one next other there far)
-    by (inr there) (inr over) =
-        let both = and_parts (bytes_eq pair.0 next || leads before next pair.0) (bytes_eq pair.1 other || leads before pair.1 other) over in
-        over_first pair before one other (to_first there both.0) both.1
+leads_on : (before : List Pair) (one next other : Name) → is_before before one next ≡ true → leads before next other ≡ true → leads before one other ≡ true
+leads_on [] one next other e far = far
+leads_on (pair ∷ before) one next other e far =
+    step_more pair before one next other (λ end there way. leads_on before one next end there way)
+    (or_cases (is_pair one next pair) (is_before before one next) e)
+    (or_cases (leads before next other) ((bytes_eq pair.0 next || leads before next pair.0) && (bytes_eq pair.1 other || leads before pair.1 other)) far)
 
 pub chain_leads : (before : List Pair) (others : List Name) (one other : Name) → IsChain before (one ∷ (others ++ other ∷ [])) → leads before one other ≡ true
 chain_leads before [] one other chain = leads_once before one other chain.0
@@ -70,6 +72,27 @@ Way before one other = (others : List Name) × IsChain before (one ∷ (others +
 way_more : (pair : Pair) (before : List Pair) (one other : Name) → Way before one other → Way (pair ∷ before) one other
 way_more pair before one other way = (way.0, chain_more pair before (one ∷ (way.0 ++ other ∷ [])) way.1)
 
+way_over : (pair : Pair) (before : List Pair) (one other : Name) → ((first second : Name) → leads before first second ≡ true → Way before first second)
+    → (bytes_eq pair.0 one || leads before one pair.0) ≡ true → (bytes_eq pair.1 other || leads before pair.1 other) ≡ true → Way (pair ∷ before) one other
+way_over pair before one other again to_first from_second =
+    from_one (or_cases (bytes_eq pair.0 one) (leads before one pair.0) to_first) (to_other (or_cases (bytes_eq pair.1 other) (leads before pair.1 other) from_second))
+  where
+    to_other : (bytes_eq pair.1 other ≡ true) ⊎ (leads before pair.1 other ≡ true) → Way (pair ∷ before) pair.0 other
+    to_other (inl same) = ([], (subst (λ (n : Name). is_before (pair ∷ before) pair.0 n ≡ true) (same_names pair.1 other same) (first_before pair before), tt))
+    to_other (inr far) =
+        let way = way_more pair before pair.1 other (again pair.1 other far) in
+        (pair.1 ∷ way.0, (first_before pair before, way.1))
+
+    from_one : (bytes_eq pair.0 one ≡ true) ⊎ (leads before one pair.0 ≡ true) → Way (pair ∷ before) pair.0 other → Way (pair ∷ before) one other
+    from_one (inl same) way = subst (λ (n : Name). Way (pair ∷ before) n other) (same_names pair.0 one same) way
+    from_one (inr far) way =
+        let begun = way_more pair before one pair.0 (again one pair.0 far) in (
+          begun.0 ++ pair.0 ∷ way.0,
+          subst (λ (names : List Name). IsChain (pair ∷ before) (one ∷ names))
+          (sym (append_assoc begun.0 (pair.0 ∷ way.0) (other ∷ [])))
+          (chain_joined (pair ∷ before) (one ∷ begun.0) pair.0 (way.0 ++ other ∷ []) begun.1 way.1),
+        )
+
 pub leads_by_chain : (before : List Pair) (one other : Name) → leads before one other ≡ true → Way before one other
 leads_by_chain [] one other e = absurd cc
 leads_by_chain (pair ∷ before) one other e =
@@ -77,24 +100,8 @@ leads_by_chain (pair ∷ before) one other e =
       | inl far ↦ way_more pair before one other (leads_by_chain before one other far)
       | inr over ↦
           let both = and_parts (bytes_eq pair.0 one || leads before one pair.0) (bytes_eq pair.1 other || leads before pair.1 other) over in
-          from_one (or_cases (bytes_eq pair.0 one) (leads before one pair.0) both.0) (to_other (or_cases (bytes_eq pair.1 other) (leads before pair.1 other) both.1))
+          way_over pair before one other (λ first second way. leads_by_chain before first second way) both.0 both.1
     ]
-  where
-    to_other : (bytes_eq pair.1 other ≡ true) ⊎ (leads before pair.1 other ≡ true) → Way (pair ∷ before) pair.0 other
-    to_other (inl same) = ([], (subst (λ (n : Name). is_before (pair ∷ before) pair.0 n ≡ true) (same_names pair.1 other same) (first_before pair before), tt))
-    to_other (inr far) =
-        let way = way_more pair before pair.1 other (leads_by_chain before pair.1 other far) in
-        (pair.1 ∷ way.0, (first_before pair before, way.1))
-
-    from_one : (bytes_eq pair.0 one ≡ true) ⊎ (leads before one pair.0 ≡ true) → Way (pair ∷ before) pair.0 other → Way (pair ∷ before) one other
-    from_one (inl same) way = subst (λ (n : Name). Way (pair ∷ before) n other) (same_names pair.0 one same) way
-    from_one (inr far) way =
-        let begun = way_more pair before one pair.0 (leads_by_chain before one pair.0 far) in (
-          begun.0 ++ pair.0 ∷ way.0,
-          subst (λ (names : List Name). IsChain (pair ∷ before) (one ∷ names))
-              (sym (append_assoc begun.0 (pair.0 ∷ way.0) (other ∷ [])))
-              (chain_joined (pair ∷ before) (one ∷ begun.0) pair.0 (way.0 ++ other ∷ []) begun.1 way.1),
-        )
 
 -- Rings.
 
