@@ -1,6 +1,6 @@
 -- Pairs, and chains of them.
-use Rattle.std.proofs.Common.{ap, sym, subst, refl, inl, inr, ◌≡◌, ◌∙◌, ◌⊎◌, List, [], ◌∷◌, ◌++◌, Bool, true, false, ◌&&◌, ◌||◌, bytes_eq}
-use Rattle.std.proofs.lemmas.Bool.{and_from, and_parts, or_cases, or_left, or_right}
+use Rattle.std.proofs.Common.{ap, sym, subst, refl, inl, inr, ◌≡◌, ◌≢◌, ◌∙◌, ◌⊎◌, List, [], ◌∷◌, ◌++◌, Bool, true, false, ◌&&◌, ◌||◌, bytes_eq}
+use Rattle.std.proofs.lemmas.Bool.{and_from, and_parts, false_from_ne_true, or_cases, or_left, or_right}
 use Rattle.std.specs.Cmp.Lexicographic.{bytes_decides}
 use Rattle.cmwq_rings.specs.Rings.{IsChain, Name, Pair, is_before, is_pair}
 
@@ -9,6 +9,9 @@ same_names one other e = (bytes_decides one other).0 e
 
 pub named_so : (one other : Name) → one ≡ other → bytes_eq one other ≡ true
 named_so one other e = (bytes_decides one other).1 e
+
+pub other_names : (one other : Name) → one ≢ other → bytes_eq one other ≡ false
+other_names one other apart = false_from_ne_true (bytes_eq one other) (λ same. apart (same_names one other same))
 
 pub pair_is : (one other : Name) (pair : Pair) → is_pair one other pair ≡ true → (pair.0 ≡ one) × (pair.1 ≡ other)
 pair_is one other pair e =

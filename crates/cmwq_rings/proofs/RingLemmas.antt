@@ -89,8 +89,8 @@ way_over pair before one other again to_first from_second =
         let begun = way_more pair before one pair.0 (again one pair.0 far) in (
           begun.0 ++ pair.0 ∷ way.0,
           subst (λ (names : List Name). IsChain (pair ∷ before) (one ∷ names))
-          (sym (append_assoc begun.0 (pair.0 ∷ way.0) (other ∷ [])))
-          (chain_joined (pair ∷ before) (one ∷ begun.0) pair.0 (way.0 ++ other ∷ []) begun.1 way.1),
+              (sym (append_assoc begun.0 (pair.0 ∷ way.0) (other ∷ [])))
+              (chain_joined (pair ∷ before) (one ∷ begun.0) pair.0 (way.0 ++ other ∷ []) begun.1 way.1),
         )
 
 pub leads_by_chain : (before : List Pair) (one other : Name) → leads before one other ≡ true → Way before one other

@@ -1,12 +1,16 @@
 -- The search for a ring through an actor.
-use Rattle.std.proofs.Common.{ap, sym, subst, refl, inl, inr, arith, ◌≡◌, ◌≢◌, ◌∙◌, ◌⊎◌, ◌<◌, ◌+◌, ℕ, zero, suc, List, [], ◌∷◌, ◌++◌, Bool, true, false, ◌&&◌, ◌||◌, bytes_eq, get_or, length, take, drop}
+use Rattle.std.proofs.Common.{ap, sym, subst, refl, inl, inr, arith, ◌≡◌, ◌≢◌, ◌∙◌, ◌⊎◌, ◌<◌, ◌≤◌, ◌+◌, ℕ, zero, suc, List, [], ◌∷◌, ◌++◌, Bool, true, false, ◌&&◌, ◌||◌, Option, None, Some, bytes_eq, get_or, length, take, drop}
 use Rattle.std.specs.List.{Contains, remove}
-use Rattle.std.proofs.lemmas.Bool.{and_left, false_from_ne_true, false≢true, or_cases, or_from, or_left, or_right}
+use Rattle.std.proofs.lemmas.Bool.{and_left, cases_eq, false_from_ne_true, false≢true, or_cases, or_from, or_left, or_right}
+use Rattle.std.proofs.lemmas.List.{take_all, take_more}
+use Rattle.std.specs.Option.{MatchOption, is_some}
 use Rattle.std.proofs.lemmas.List.Elements.{Contains-append_left, Contains-push, Contains-push_cases}
 use Rattle.cmwq_exploration.specs.declared.exploration.Precedence.{Precedence}
-use Rattle.cmwq_rings.proofs.ChainLemmas.{chain_begun, chain_joined, first_before, pair_is}
-use Rattle.cmwq_rings.specs.Rings.{IsChain, IsRing, Name, Pair, is_before, is_pair, pair_of, pairs_of}
-use Rattle.cmwq_rings.specs.Searching.{HasNoRingThrough, IsLast, IsTaken}
+use Rattle.cmwq_rings.proofs.ChainLemmas.{chain_begun, chain_joined, first_before, named_so, other_names, pair_is, same_names}
+use Rattle.cmwq_rings.proofs.RingLemmas.{chain_begins, ring_goes}
+use Rattle.cmwq_rings.specs.Rings.{HasNoRing, IsChain, IsRing, Name, Pair, goes_in_ring, is_before, is_pair, names_of, pair_of, pairs_of}
+use Rattle.std.specs.Borrow.{Bor}
+use Rattle.cmwq_rings.specs.Searching.{BeginsAt, BeginsNone, HasNoRingThrough, IsLast, IsTaken}
 
 -- A pair is taken out.
 
@@ -49,14 +53,46 @@ taken_at (pair ∷ left) zero taken within is =
 taken_at (pair ∷ left) (suc place) taken within is =
     taken_later (pair_of pair) (pairs_of left) (pairs_of (remove left place)) taken.first.now taken.then.now (taken_at left place taken (omega (arith, within)) is)
 
+pub taken_so : (left new : List Precedence) (place : ℕ) (taken : Precedence) (actor : Name) → place < length left → taken ≡ get_or left place taken
+    → BeginsAt actor left place → new ≡ remove left place → IsTaken (pairs_of left) (pairs_of new) actor taken.then.now
+taken_so left new place taken actor within is begins are =
+    subst (λ (l : List Precedence). IsTaken (pairs_of left) (pairs_of l) actor taken.then.now) (sym are)
+    (subst (λ (n : Name). IsTaken (pairs_of left) (pairs_of (remove left place)) n taken.then.now) (ap (λ (p : Precedence). p.first.now) is ∙ begins taken)
+    (taken_at left place taken within is))
+
 -- no pair begins with a name that none has first
-pub none_begins : (left : List Precedence) (name : Name) → ((k : ℕ) (d : Precedence) → k < length left → bytes_eq (get_or left k d).first.now name ≡ false)
-    → IsLast (pairs_of left) name
+pub none_begins : (left : List Precedence) (name : Name) → BeginsNone name left (length left) → IsLast (pairs_of left) name
 none_begins [] name none second = refl
 none_begins (pair ∷ left) name none second =
     or_from (is_pair name second (pair_of pair)) (is_before (pairs_of left) name second)
-    (and_left (bytes_eq pair.first.now name) (bytes_eq pair.then.now second) (none 0 pair (omega arith)))
+    (and_left (bytes_eq pair.first.now name) (bytes_eq pair.then.now second) (other_names pair.first.now name (none 0 pair (omega arith))))
     (none_begins left name (λ k d within. none (suc k) d (omega (arith, within))) second)
+
+any_default : (xs : List Precedence) (k : ℕ) (d e : Precedence) → k < length xs → get_or xs k d ≡ get_or xs k e
+any_default [] k d e within = absurd (omega (arith, within))
+any_default (x ∷ xs) zero d e within = refl
+any_default (x ∷ xs) (suc k) d e within = any_default xs k d e (omega (arith, within))
+
+pub first_here : (left : List Precedence) (place : ℕ) (e : Precedence) (actor : Name) → place < length left → bytes_eq (get_or left place e).first.now actor ≡ true
+    → BeginsAt actor left place
+first_here left place e actor within same d =
+    ap (λ (p : Precedence). p.first.now) (any_default left place d e within) ∙ same_names (get_or left place e).first.now actor same
+
+pub other_here : (left : List Precedence) (place : ℕ) (e : Precedence) (actor : Name) → place < length left → bytes_eq (get_or left place e).first.now actor ≡ false
+    → (d : Precedence) → (get_or left place d).first.now ≢ actor
+other_here left place e actor within differ d is =
+    false≢true (sym differ ∙ named_so (get_or left place e).first.now actor (ap (λ (p : Precedence). p.first.now) (any_default left place e d within) ∙ is))
+
+pub none_yet : (left : List Precedence) (name : Name) → BeginsNone name left 0
+none_yet left name k d within is = absurd (omega (arith, within))
+
+-- none up to here, and not here
+pub none_more : (left : List Precedence) (name : Name) (place : ℕ) → BeginsNone name left place → ((d : Precedence) → (get_or left place d).first.now ≢ name)
+    → BeginsNone name left (place + 1)
+none_more left name place none here k d within = elim (cases_eq k place) [
+  | inl same ↦ subst (λ (n : ℕ). (get_or left n d).first.now ≢ name) (sym same) (here d)
+  | inr apart ↦ none k d (omega (arith, within, apart))
+]
 
 -- The search.
 
@@ -193,3 +229,86 @@ module _ (before : List Pair) (actor : Name) where
       empty : IsDone left [] actor → IsLast left actor
       empty (inl there) = absurd (omega (arith, there.1))
       empty (inr last) = last
+
+-- The loop's lists, by the clauses of what changes them.
+
+names_push : (path : List (Bor Name)) (name : Bor Name) → names_of (path ++ name ∷ []) ≡ names_of path ++ name.now ∷ []
+names_push [] name = refl
+names_push (first ∷ path) name = ap (λ (names : List Name). first.now ∷ names) (names_push path name)
+
+pub names_more : (old new : List (Bor Name)) (name : Bor Name) → new ≡ old ++ name ∷ [] → names_of new ≡ names_of old ++ name.now ∷ []
+names_more old new name is = ap names_of is ∙ names_push old name
+
+module _ (before : List Pair) (actor : Name) where
+  pub start_so : (left : List Pair) (path : List Name) → left ≡ before → path ≡ actor ∷ [] → IsSearched before actor left path
+  start_so left path lefts is =
+      subst (λ (l : List Pair). IsSearched before actor l path) (sym lefts) (subst (λ (p : List Name). IsSearched before actor before p) (sym is) (searched_first before actor))
+
+  -- where the path ended with the name
+  pub back_so : (left new : List Pair) (old path : List Name) (name : Name) → old ≡ path ++ name ∷ [] → new ≡ left → IsLast left name → IsSearched before actor left old
+      → IsSearched before actor new path
+  back_so left new old path name was same last so_far =
+      subst (λ (l : List Pair). IsSearched before actor l path) (sym same)
+      (searched_back before actor left path name last (subst (λ (p : List Name). IsSearched before actor left p) was so_far))
+
+  pub on_so : (left new : List Pair) (old path pushed more : List Name) (name next : Name) → old ≡ path ++ name ∷ [] → pushed ≡ path ++ name ∷ [] → more ≡ pushed ++ next ∷ []
+      → IsTaken left new name next → next ≢ actor → IsSearched before actor left old → IsSearched before actor new more
+  on_so left new old path pushed more name next was is longer taken apart so_far =
+      subst (λ (p : List Name). IsSearched before actor new p) (sym (longer ∙ ap (λ (p : List Name). p ++ next ∷ []) is))
+      (searched_on before actor left new path name next taken apart (subst (λ (p : List Name). IsSearched before actor left p) was so_far))
+
+  pub found_so : (left new : List Pair) (old path pushed : List Name) (name next : Name) → old ≡ path ++ name ∷ [] → pushed ≡ path ++ name ∷ [] → IsTaken left new name next
+      → next ≡ actor → IsSearched before actor left old → IsRing before pushed
+  found_so left new old path pushed name next was is taken same so_far =
+      subst (λ (p : List Name). IsRing before p) (sym is)
+      (ring_found before actor left new path name next taken same (subst (λ (p : List Name). IsSearched before actor left p) was so_far))
+
+  pub none_so : (left : List Pair) (path : List Name) → path ≡ [] → IsSearched before actor left path → HasNoRingThrough before actor
+  none_so left path empty searched = none_found before actor left (subst (λ (p : List Name). IsSearched before actor left p) empty searched)
+
+-- Over all pairs.
+
+begins_push : (left : List Precedence) (pair : Precedence) (one other : Name) → is_before (pairs_of (left ++ pair ∷ [])) one other ≡ true
+    → (is_before (pairs_of left) one other ≡ true) ⊎ (pair.first.now ≡ one)
+begins_push [] pair one other e =
+    elim (or_cases (is_pair one other (pair_of pair)) false e) [
+      | inl here ↦ inr (pair_is one other (pair_of pair) here).0
+      | inr there ↦ absurd (false≢true there)
+    ]
+begins_push (first ∷ left) pair one other e =
+    elim (or_cases (is_pair one other (pair_of first)) (is_before (pairs_of (left ++ pair ∷ [])) one other) e) [
+      | inl here ↦ inl (or_left (is_pair one other (pair_of first)) (is_before (pairs_of left) one other) here)
+      | inr there ↦
+          elim (begins_push left pair one other there) [
+            | inl stays ↦ inl (or_right (is_pair one other (pair_of first)) (is_before (pairs_of left) one other) stays)
+            | inr is ↦ inr is
+          ]
+    ]
+
+pub none_through : (before : List Precedence) (place : ℕ) (d : Precedence) → place < length before
+    → ((one other : Name) → is_before (pairs_of (take place before)) one other ≡ true → HasNoRingThrough (pairs_of before) one)
+    → HasNoRingThrough (pairs_of before) (get_or before place d).first.now → (one other : Name) → is_before (pairs_of (take (place + 1) before)) one other ≡ true
+    → HasNoRingThrough (pairs_of before) one
+none_through before place d within so_far here one other e =
+    elim (begins_push (take place before) (get_or before place d) one other (subst (λ (p : List Precedence). is_before (pairs_of p) one other ≡ true) (take_more before place d within) e)) [
+      | inl earlier ↦ so_far one other earlier
+      | inr same ↦ subst (λ (n : Name). HasNoRingThrough (pairs_of before) n) same here
+    ]
+
+pub none_at_all : (before : List Precedence) (place : ℕ) → length before ≤ place
+    → ((one other : Name) → is_before (pairs_of (take place before)) one other ≡ true → HasNoRingThrough (pairs_of before) one) → HasNoRing (pairs_of before)
+none_at_all before place all none [] ring = ring
+none_at_all before place all none (name ∷ others) ring =
+    let begins = chain_begins (pairs_of before) others name name ring in
+    none name begins.0 (subst (λ (p : List Precedence). is_before (pairs_of p) name begins.0 ≡ true) (sym (take_all place before all)) begins.1) others ring
+
+-- what is told of what was found
+
+pub told_so : {A : Type 0} (before : List Pair) (names : A → List Name) (P : Type 0) (found : Option A) → MatchOption found P (λ ring. IsRing before (names ring))
+    → is_some found ≡ true → is_some found ≡ goes_in_ring before
+told_so before names P (Some ring) is there = sym (ring_goes before (names ring) is)
+told_so before names P None is there = absurd (false≢true there)
+
+pub none_here : {A : Type 0} (P : Type 0) (Q : A → Type 0) (found : Option A) → MatchOption found P Q → is_some found ≡ false → P
+none_here P Q None none there = none
+none_here P Q (Some ring) is there = absurd (false≢true (sym there))

@@ -1,7 +1,7 @@
 //! The search for a ring.
 ghost use Rattle.cmwq_rings.specs.Rings.{HasNoRing, IsRing, goes_in_ring, names_of, pairs_of};
-ghost use Rattle.cmwq_rings.specs.Searching.{HasNoRingThrough, IsLast, IsTaken};
-ghost use Rattle.std.specs.Prelude.{◌≡◌, ◌+◌, IfOk, IfSome, MatchOption, OnSome, None, is_some, length};
+ghost use Rattle.cmwq_rings.specs.Searching.{BeginsAt, BeginsNone, HasNoRingThrough, IsLast, IsTaken};
+ghost use Rattle.std.specs.Prelude.{◌≡◌, ◌<◌, ◌+◌, IfOk, IfSome, MatchOption, OnSome, None, is_some, length};
 
 use cmwq_exploration::Precedence;
 use std::alloc::{AllocError, Global};
@@ -53,6 +53,18 @@ fn take_next<'a>(left: &mut Vec<Precedence<'a>>, actor: &str) -> Option<&'a str>
     ensures taken { IfSome result (λ next. IsTaken (pairs_of left.old.items) (pairs_of left.new.items) actor.now next.now) }
     ensures fewer { OnSome result (length left.new.items + 1 ≡ length left.old.items) }
 {
-    let place = left.iter().position(|pair| pair.first == actor)?;
+    let place = place_from(left, actor)?;
     Some(left.remove(place).then)
+}
+
+/// Where the first pair is in which this actor has to end first; `None` where there is none.
+fn place_from(left: &[Precedence<'_>], actor: &str) -> Option<usize>
+    ensures { MatchOption result (BeginsNone actor.now left.now (length left.now)) (λ place. (place < length left.now) × BeginsAt actor.now left.now place) }
+{
+    for place in 0..left.len() {
+        if left[place].first == actor {
+            return Some(place);
+        }
+    }
+    None
 }
