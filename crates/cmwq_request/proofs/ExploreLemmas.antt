@@ -15,11 +15,13 @@ use Rattle.clap.proofs.OnLiterals.{clap_on_literals}
 use Rattle.cmwq_command_line.specs.CommandLine.{command_line}
 use Rattle.cmwq_rings.proofs.RingLemmas.{none_goes, ring_goes}
 use Rattle.cmwq_rings.specs.Rings.{HasNoRing, IsRing, Pair, goes_in_ring}
+use Rattle.cmwq_exploration.specs.declared.exploration.TheConstants.{MAX_STATES}
+use Rattle.cmwq_types.specs.Faults.{within}
 use Rattle.cmwq_request.proofs.DrawLemmas.{Takes, file_begins, plain_begins}
 use Rattle.cmwq_request.proofs.ExploringLemmas.{none_forbidden, none_limited, rings_ask_nothing}
 use Rattle.cmwq_request.proofs.WalkingLemmas.{Goes, end_passes, ends, explore_shape, has_explore, is_option_word, on, on_plain, taken}
 use Rattle.cmwq_request.proofs.WhyLemmas.{short_number, short_plain, value_begins}
-use Rattle.cmwq_request.specs.Request.{ArePlainGiven, ArePlainPairs, ArePlainWorks, CanBeAsked, ExplorationWords, Forbidden, HasCapacity, HasPlainNames, IsFileWord, IsMisuse, IsPlainIfAny, IsPlainWord, IsRead, IsStateLimit, IsValueWord, NeverGiven, WorksGiven, asked_explore, asked_of, before_words, exploration_from, explore_arguments, explored_from, flag_of, given_words, limit_from, never_from, never_of, never_words, option_words, pairs_from, pairs_in, state_limit, text_words, two_works, unlimited_arguments, usual, words_to_explore, works_given, works_words}
+use Rattle.cmwq_request.specs.Request.{ArePlainGiven, ArePlainPairs, ArePlainWorks, CanBeAsked, ExplorationWords, Forbidden, HasCapacity, HasPlainNames, IsFileWord, IsMisuse, IsPlainIfAny, IsPlainWord, IsRead, IsStateLimit, IsValueWord, NeverGiven, WorksGiven, asked_explore, asked_of, before_words, exploration_from, explore_arguments, explored_from, flag_of, given_words, limit_from, never_from, never_of, never_words, option_words, pairs_from, pairs_in, state_limit, text_words, if_two, unlimited_arguments, usual, words_to_explore, works_given, works_words}
 
 -- Where a walk over the words stands behind FILE.
 
@@ -79,10 +81,6 @@ pair_passes : (rows : List Row) (pair : Pair) → Passes rows (pending_pair pair
 unfolding clap_on_literals explore_shape
 pair_passes rows pair = refl
 
-limit_passes : (rows : List Row) (number : Text) → Passes rows (Some (codes "N", number ∷ []))
-unfolding clap_on_literals explore_shape
-limit_passes rows number = refl
-
 -- Over all pairs.
 
 abbrev pair_words : List Pair → List Text
@@ -129,18 +127,18 @@ over_pairs (pair ∷ before) rows pending waiting plain passes =
     }
 
 over_limit : (before : List Pair) (rows : List Row) (pending : Option (Text × List Text)) (waiting : Waiting) (number : Text) → ArePlainPairs before → Passes rows pending
-    → is_option_word number ≡ false
+    → is_option_word number ≡ false → Passes (rows_behind rows pending before) (Some (codes "N", number ∷ []))
     → EndsWith (stand rows pending waiting) (before_words before ++ (codes "--limit" ∷ number ∷ [])) (after_use (codes "N") (number ∷ []) (rows_behind rows pending before))
-over_limit [] rows pending waiting number plain passes n = record {
+over_limit [] rows pending waiting number plain passes n fits = record {
   rows = settled_at rows pending;
   pending = Some (codes "N", number ∷ []);
   waiting = idle;
   goes = last_limit rows pending waiting number passes n;
-  passes = limit_passes (settled_at rows pending) number;
+  passes = fits;
   settles = refl;
 }
-over_limit (pair ∷ before) rows pending waiting number plain passes n =
-    let behind = over_limit before (settled_at rows pending) (pending_pair pair) idle number plain.2 (pair_passes (settled_at rows pending) pair) n in
+over_limit (pair ∷ before) rows pending waiting number plain passes n fits =
+    let behind = over_limit before (settled_at rows pending) (pending_pair pair) idle number plain.2 (pair_passes (settled_at rows pending) pair) n fits in
     let begin = pairs_begin pair before plain in
     record {
       rows = behind.rows;
@@ -155,50 +153,50 @@ over_limit (pair ∷ before) rows pending waiting number plain passes n =
 
 -- what is held behind FILE and that
 abbrev never_rows : Forbidden → Text → List Row
-never_rows (Forbidden.after actor work) file = after_use (codes "ACTOR") (actor ∷ []) (after_use (codes "FILE") (file ∷ []) [])
-never_rows (Forbidden.runs work) file = after_use (codes "FILE") (file ∷ []) []
-never_rows (Forbidden.together work other) file = after_use (codes "FILE") (file ∷ []) []
-never_rows Forbidden.stuck file = after_use (codes "stuck") [] (after_use (codes "FILE") (file ∷ []) [])
+never_rows (Forbidden.never_after actor work) file = after_use (codes "ACTOR") (actor ∷ []) (after_use (codes "FILE") (file ∷ []) [])
+never_rows (Forbidden.never_runs work) file = after_use (codes "FILE") (file ∷ []) []
+never_rows (Forbidden.never_together work other) file = after_use (codes "FILE") (file ∷ []) []
+never_rows Forbidden.never_stuck file = after_use (codes "stuck") [] (after_use (codes "FILE") (file ∷ []) [])
 
 abbrev never_pending : Forbidden → Option (Text × List Text)
-never_pending (Forbidden.after actor work) = Some (codes "WORK", work ∷ [])
-never_pending (Forbidden.runs work) = Some (codes "WORK", work ∷ [])
-never_pending (Forbidden.together work other) = Some (codes "WORK", work ∷ other ∷ [])
-never_pending Forbidden.stuck = None
+never_pending (Forbidden.never_after actor work) = Some (codes "WORK", work ∷ [])
+never_pending (Forbidden.never_runs work) = Some (codes "WORK", work ∷ [])
+never_pending (Forbidden.never_together work other) = Some (codes "WORK", work ∷ other ∷ [])
+never_pending Forbidden.never_stuck = None
 
 abbrev never_waiting : Forbidden → Waiting
-never_waiting (Forbidden.after actor work) = option (codes "WORK")
-never_waiting (Forbidden.runs work) = option (codes "WORK")
-never_waiting (Forbidden.together work other) = idle
-never_waiting Forbidden.stuck = idle
+never_waiting (Forbidden.never_after actor work) = option (codes "WORK")
+never_waiting (Forbidden.never_runs work) = option (codes "WORK")
+never_waiting (Forbidden.never_together work other) = idle
+never_waiting Forbidden.never_stuck = idle
 
 abbrev never_stand : Forbidden → Text → Walk
 never_stand never file = stand (never_rows never file) (never_pending never) (never_waiting never)
 
 never_passes : (never : Forbidden) (file : Text) → Passes (never_rows never file) (never_pending never)
 unfolding clap_on_literals explore_shape
-never_passes (Forbidden.after actor work) file = refl
-never_passes (Forbidden.runs work) file = refl
-never_passes (Forbidden.together work other) file = refl
-never_passes Forbidden.stuck file = refl
+never_passes (Forbidden.never_after actor work) file = refl
+never_passes (Forbidden.never_runs work) file = refl
+never_passes (Forbidden.never_together work other) file = refl
+never_passes Forbidden.never_stuck file = refl
 
 over_never : (never : Forbidden) (file : Text) (words : List Text) (end : Walk) → HasPlainNames never → is_option_word file ≡ false
     → Goes explore_shape (never_stand never file) words end → Goes explore_shape (walk_from nothing_held) (file ∷ (never_words never ++ words)) end
 unfolding clap_on_literals explore_shape
-over_never (Forbidden.after actor work) file words end plain f it =
+over_never (Forbidden.never_after actor work) file words end plain f it =
     on_plain explore_shape _ file _ _ f refl refl refl
     (on explore_shape _ (codes "--after") _ _ refl
     (on_plain explore_shape _ actor _ _ (plain_begins actor plain.0) refl refl refl
     (on explore_shape _ (codes "--never") _ _ refl (on_plain explore_shape _ work _ _ (plain_begins work plain.1) refl refl refl it))))
-over_never (Forbidden.runs work) file words end plain f it =
+over_never (Forbidden.never_runs work) file words end plain f it =
     on_plain explore_shape _ file _ _ f refl refl refl
     (on explore_shape _ (codes "--never") _ _ refl (on_plain explore_shape _ work _ _ (plain_begins work plain) refl refl refl it))
-over_never (Forbidden.together work other) file words end plain f it =
+over_never (Forbidden.never_together work other) file words end plain f it =
     on_plain explore_shape _ file _ _ f refl refl refl
     (on explore_shape _ (codes "--never") _ _ refl
     (on_plain explore_shape _ work _ _ (plain_begins work plain.0) refl refl refl
     (on_plain explore_shape _ other _ _ (plain_begins other plain.1) refl refl refl it)))
-over_never Forbidden.stuck file words end plain f it =
+over_never Forbidden.never_stuck file words end plain f it =
     on_plain explore_shape _ file _ _ f refl refl refl (on explore_shape _ (codes "--stuck") _ _ refl it)
 
 -- The rows at the end.
@@ -214,14 +212,14 @@ settled_never never file = settled_at (never_rows never file) (never_pending nev
 one_more : (never : Forbidden) (file : Text) (words : List Text) (pair : Pair)
     → after_use (codes "BEFORE") (pair.0 ∷ pair.1 ∷ []) (before_rows (settled_never never file) words) ≡ before_rows (settled_never never file) (words ++ pair.0 ∷ pair.1 ∷ [])
 unfolding clap_on_literals explore_shape
-one_more (Forbidden.after actor work) file [] pair = refl
-one_more (Forbidden.runs work) file [] pair = refl
-one_more (Forbidden.together work other) file [] pair = refl
-one_more Forbidden.stuck file [] pair = refl
-one_more (Forbidden.after actor work) file (word ∷ words) pair = refl
-one_more (Forbidden.runs work) file (word ∷ words) pair = refl
-one_more (Forbidden.together work other) file (word ∷ words) pair = refl
-one_more Forbidden.stuck file (word ∷ words) pair = refl
+one_more (Forbidden.never_after actor work) file [] pair = refl
+one_more (Forbidden.never_runs work) file [] pair = refl
+one_more (Forbidden.never_together work other) file [] pair = refl
+one_more Forbidden.never_stuck file [] pair = refl
+one_more (Forbidden.never_after actor work) file (word ∷ words) pair = refl
+one_more (Forbidden.never_runs work) file (word ∷ words) pair = refl
+one_more (Forbidden.never_together work other) file (word ∷ words) pair = refl
+one_more Forbidden.never_stuck file (word ∷ words) pair = refl
 
 no_more : (words : List Text) → words ++ [] ≡ words
 no_more [] = refl
@@ -236,25 +234,37 @@ all_behind never file (pair ∷ before) rows pending words are =
     (ap (λ (so_far : List Row). after_use (codes "BEFORE") (pair.0 ∷ pair.1 ∷ []) so_far) are ∙ one_more never file words pair)
     ∙ ap (λ (all : List Text). before_rows (settled_never never file) all) (append_assoc words (pair.0 ∷ pair.1 ∷ []) (pair_words before))
 
+-- the limit was given once
+limit_fits : (never : Forbidden) (file number : Text) (words : List Text) → Passes (before_rows (settled_never never file) words) (Some (codes "N", number ∷ []))
+unfolding clap_on_literals explore_shape
+limit_fits (Forbidden.never_after actor work) file number [] = refl
+limit_fits (Forbidden.never_runs work) file number [] = refl
+limit_fits (Forbidden.never_together work other) file number [] = refl
+limit_fits Forbidden.never_stuck file number [] = refl
+limit_fits (Forbidden.never_after actor work) file number (word ∷ words) = refl
+limit_fits (Forbidden.never_runs work) file number (word ∷ words) = refl
+limit_fits (Forbidden.never_together work other) file number (word ∷ words) = refl
+limit_fits Forbidden.never_stuck file number (word ∷ words) = refl
+
 -- What is read of them.
 
 abbrev is_stuck : Forbidden → Bool
-is_stuck (Forbidden.after actor work) = false
-is_stuck (Forbidden.runs work) = false
-is_stuck (Forbidden.together work other) = false
-is_stuck Forbidden.stuck = true
+is_stuck (Forbidden.never_after actor work) = false
+is_stuck (Forbidden.never_runs work) = false
+is_stuck (Forbidden.never_together work other) = false
+is_stuck Forbidden.never_stuck = true
 
 abbrev after_of : Forbidden → Option Text
-after_of (Forbidden.after actor work) = Some actor
-after_of (Forbidden.runs work) = None
-after_of (Forbidden.together work other) = None
-after_of Forbidden.stuck = None
+after_of (Forbidden.never_after actor work) = Some actor
+after_of (Forbidden.never_runs work) = None
+after_of (Forbidden.never_together work other) = None
+after_of Forbidden.never_stuck = None
 
 abbrev works_of : Forbidden → Option (List Text)
-works_of (Forbidden.after actor work) = Some (work ∷ [])
-works_of (Forbidden.runs work) = Some (work ∷ [])
-works_of (Forbidden.together work other) = Some (work ∷ other ∷ [])
-works_of Forbidden.stuck = None
+works_of (Forbidden.never_after actor work) = Some (work ∷ [])
+works_of (Forbidden.never_runs work) = Some (work ∷ [])
+works_of (Forbidden.never_together work other) = Some (work ∷ other ∷ [])
+works_of Forbidden.never_stuck = None
 
 abbrev words_if_any : List Text → Option (List Text)
 words_if_any [] = None
@@ -276,26 +286,26 @@ record Meets (rows : List Row) (stuck : Bool) (found : Option (List Text)) : Typ
 unlimited_met : (never : Forbidden) (words : List Text) (file : Text)
     → Meets (before_rows (settled_never never file) words) (is_stuck never) (read_of never words None file)
 unfolding clap_on_literals explore_shape
-unlimited_met (Forbidden.after actor work) [] file = record { valid = refl; flag = refl; asks = refl }
-unlimited_met (Forbidden.runs work) [] file = record { valid = refl; flag = refl; asks = refl }
-unlimited_met (Forbidden.together work other) [] file = record { valid = refl; flag = refl; asks = refl }
-unlimited_met Forbidden.stuck [] file = record { valid = refl; flag = refl; asks = refl }
-unlimited_met (Forbidden.after actor work) (word ∷ words) file = record { valid = refl; flag = refl; asks = refl }
-unlimited_met (Forbidden.runs work) (word ∷ words) file = record { valid = refl; flag = refl; asks = refl }
-unlimited_met (Forbidden.together work other) (word ∷ words) file = record { valid = refl; flag = refl; asks = refl }
-unlimited_met Forbidden.stuck (word ∷ words) file = record { valid = refl; flag = refl; asks = refl }
+unlimited_met (Forbidden.never_after actor work) [] file = record { valid = refl; flag = refl; asks = refl }
+unlimited_met (Forbidden.never_runs work) [] file = record { valid = refl; flag = refl; asks = refl }
+unlimited_met (Forbidden.never_together work other) [] file = record { valid = refl; flag = refl; asks = refl }
+unlimited_met Forbidden.never_stuck [] file = record { valid = refl; flag = refl; asks = refl }
+unlimited_met (Forbidden.never_after actor work) (word ∷ words) file = record { valid = refl; flag = refl; asks = refl }
+unlimited_met (Forbidden.never_runs work) (word ∷ words) file = record { valid = refl; flag = refl; asks = refl }
+unlimited_met (Forbidden.never_together work other) (word ∷ words) file = record { valid = refl; flag = refl; asks = refl }
+unlimited_met Forbidden.never_stuck (word ∷ words) file = record { valid = refl; flag = refl; asks = refl }
 
 limited_met : (never : Forbidden) (words : List Text) (number file : Text)
     → Meets (after_use (codes "N") (number ∷ []) (before_rows (settled_never never file) words)) (is_stuck never) (read_of never words (Some number) file)
 unfolding clap_on_literals explore_shape
-limited_met (Forbidden.after actor work) [] number file = record { valid = refl; flag = refl; asks = refl }
-limited_met (Forbidden.runs work) [] number file = record { valid = refl; flag = refl; asks = refl }
-limited_met (Forbidden.together work other) [] number file = record { valid = refl; flag = refl; asks = refl }
-limited_met Forbidden.stuck [] number file = record { valid = refl; flag = refl; asks = refl }
-limited_met (Forbidden.after actor work) (word ∷ words) number file = record { valid = refl; flag = refl; asks = refl }
-limited_met (Forbidden.runs work) (word ∷ words) number file = record { valid = refl; flag = refl; asks = refl }
-limited_met (Forbidden.together work other) (word ∷ words) number file = record { valid = refl; flag = refl; asks = refl }
-limited_met Forbidden.stuck (word ∷ words) number file = record { valid = refl; flag = refl; asks = refl }
+limited_met (Forbidden.never_after actor work) [] number file = record { valid = refl; flag = refl; asks = refl }
+limited_met (Forbidden.never_runs work) [] number file = record { valid = refl; flag = refl; asks = refl }
+limited_met (Forbidden.never_together work other) [] number file = record { valid = refl; flag = refl; asks = refl }
+limited_met Forbidden.never_stuck [] number file = record { valid = refl; flag = refl; asks = refl }
+limited_met (Forbidden.never_after actor work) (word ∷ words) number file = record { valid = refl; flag = refl; asks = refl }
+limited_met (Forbidden.never_runs work) (word ∷ words) number file = record { valid = refl; flag = refl; asks = refl }
+limited_met (Forbidden.never_together work other) (word ∷ words) number file = record { valid = refl; flag = refl; asks = refl }
+limited_met Forbidden.never_stuck (word ∷ words) number file = record { valid = refl; flag = refl; asks = refl }
 
 -- Words behind the command's name.
 
@@ -346,7 +356,8 @@ limited never before number file plain pairs n f =
     explores_behind never file (before_words before ++ (codes "--limit" ∷ number ∷ []))
     (after_use (codes "N") (number ∷ []) (before_rows (settled_never never file) (pair_words before))) (is_stuck never) _ plain f
     (subst (λ (r : List Row). EndsWith (never_stand never file) (before_words before ++ (codes "--limit" ∷ number ∷ [])) (after_use (codes "N") (number ∷ []) r)) behind
-    (over_limit before (never_rows never file) (never_pending never) (never_waiting never) number pairs (never_passes never file) n))
+    (over_limit before (never_rows never file) (never_pending never) (never_waiting never) number pairs (never_passes never file) n
+    (subst (λ (r : List Row). Passes r (Some (codes "N", number ∷ []))) (sym behind) (limit_fits never file number (pair_words before)))))
     (limited_met never (pair_words before) number file)
 
 -- What they ask for.
@@ -363,15 +374,16 @@ other_works : (work other : Text) → work ≢ other → bytes_eq work other ≡
 other_works work other apart = false_from_ne_true (bytes_eq work other) (λ same. apart ((bytes_decides work other).0 same))
 
 never_met : (never : Forbidden) → HasPlainNames never → never_from (is_stuck never) (after_of never) (works_of never) ≡ Some never
-never_met (Forbidden.after actor work) plain = refl
-never_met (Forbidden.runs work) plain = refl
-never_met (Forbidden.together work other) plain = ap (λ (same : Bool). two_works same work other) (other_works work other plain.2)
-never_met Forbidden.stuck plain = refl
+never_met (Forbidden.never_after actor work) plain = refl
+never_met (Forbidden.never_runs work) plain = refl
+never_met (Forbidden.never_together work other) plain = ap (λ (same : Bool). if_two same work other) (other_works work other plain.2)
+never_met Forbidden.never_stuck plain = refl
 
 limit_met : (limit : ℕ) → IsStateLimit limit → limit_from (Some (decimal limit)) ≡ Some limit
 limit_met limit fits =
+    let inside : within 1 MAX_STATES limit ≡ true = grind (arith, nat_tests, fits.0, fits.1) in
     ap (λ (n : Option ℕ). option_and_then state_limit n) (short_number limit (omega (arith, fits.1)))
-    ∙ ap (λ (b : Bool). if b then Some limit else None) (grind (arith, nat_tests, fits.0, fits.1))
+    ∙ ap (λ (b : Bool). if b then Some limit else None) inside
 
 asked_is : (never : Option Forbidden) (before : List Pair) (limit : Option ℕ) (asked : ExplorationWords) (file : Text) → never ≡ Some asked.never → before ≡ asked.before
     → limit ≡ Some asked.limit → goes_in_ring asked.before ≡ false
@@ -442,29 +454,29 @@ given_met : (stuck : Bool) (after : Option Text) (works : WorksGiven) (file : Te
     → Explores (file ∷ (option_words (codes "--stuck") stuck ++ (text_words (codes "--after") after ++ works_words works)))
     (explored_from stuck after (works_given works) None None (Some file))
 unfolding clap_on_literals explore_shape
-given_met false None WorksGiven.none file a w f =
+given_met false None WorksGiven.no_works file a w f =
     explores _ _ false _ (on_plain explore_shape _ file _ _ f refl refl refl (ends explore_shape _)) refl refl refl
-given_met false None (WorksGiven.one work) file a w f =
+given_met false None (WorksGiven.one_work work) file a w f =
     explores _ _ false _ (on_plain explore_shape _ file _ _ f refl refl refl (on explore_shape _ (codes "--never") _ _ refl (on_plain explore_shape _ work _ _ (plain_begins work w) refl refl refl (ends explore_shape _)))) refl refl refl
-given_met false None (WorksGiven.two work other) file a w f =
+given_met false None (WorksGiven.two_works work other) file a w f =
     explores _ _ false _ (on_plain explore_shape _ file _ _ f refl refl refl (on explore_shape _ (codes "--never") _ _ refl (on_plain explore_shape _ work _ _ (plain_begins work w.0) refl refl refl (on_plain explore_shape _ other _ _ (plain_begins other w.1) refl refl refl (ends explore_shape _))))) refl refl refl
-given_met false (Some actor) WorksGiven.none file a w f =
+given_met false (Some actor) WorksGiven.no_works file a w f =
     explores _ _ false _ (on_plain explore_shape _ file _ _ f refl refl refl (on explore_shape _ (codes "--after") _ _ refl (on_plain explore_shape _ actor _ _ (plain_begins actor a) refl refl refl (ends explore_shape _)))) refl refl refl
-given_met false (Some actor) (WorksGiven.one work) file a w f =
+given_met false (Some actor) (WorksGiven.one_work work) file a w f =
     explores _ _ false _ (on_plain explore_shape _ file _ _ f refl refl refl (on explore_shape _ (codes "--after") _ _ refl (on_plain explore_shape _ actor _ _ (plain_begins actor a) refl refl refl (on explore_shape _ (codes "--never") _ _ refl (on_plain explore_shape _ work _ _ (plain_begins work w) refl refl refl (ends explore_shape _)))))) refl refl refl
-given_met false (Some actor) (WorksGiven.two work other) file a w f =
+given_met false (Some actor) (WorksGiven.two_works work other) file a w f =
     explores _ _ false _ (on_plain explore_shape _ file _ _ f refl refl refl (on explore_shape _ (codes "--after") _ _ refl (on_plain explore_shape _ actor _ _ (plain_begins actor a) refl refl refl (on explore_shape _ (codes "--never") _ _ refl (on_plain explore_shape _ work _ _ (plain_begins work w.0) refl refl refl (on_plain explore_shape _ other _ _ (plain_begins other w.1) refl refl refl (ends explore_shape _))))))) refl refl refl
-given_met true None WorksGiven.none file a w f =
+given_met true None WorksGiven.no_works file a w f =
     explores _ _ true _ (on_plain explore_shape _ file _ _ f refl refl refl (on explore_shape _ (codes "--stuck") _ _ refl (ends explore_shape _))) refl refl refl
-given_met true None (WorksGiven.one work) file a w f =
+given_met true None (WorksGiven.one_work work) file a w f =
     explores _ _ true _ (on_plain explore_shape _ file _ _ f refl refl refl (on explore_shape _ (codes "--stuck") _ _ refl (on explore_shape _ (codes "--never") _ _ refl (on_plain explore_shape _ work _ _ (plain_begins work w) refl refl refl (ends explore_shape _))))) refl refl refl
-given_met true None (WorksGiven.two work other) file a w f =
+given_met true None (WorksGiven.two_works work other) file a w f =
     explores _ _ true _ (on_plain explore_shape _ file _ _ f refl refl refl (on explore_shape _ (codes "--stuck") _ _ refl (on explore_shape _ (codes "--never") _ _ refl (on_plain explore_shape _ work _ _ (plain_begins work w.0) refl refl refl (on_plain explore_shape _ other _ _ (plain_begins other w.1) refl refl refl (ends explore_shape _)))))) refl refl refl
-given_met true (Some actor) WorksGiven.none file a w f =
+given_met true (Some actor) WorksGiven.no_works file a w f =
     explores _ _ true _ (on_plain explore_shape _ file _ _ f refl refl refl (on explore_shape _ (codes "--stuck") _ _ refl (on explore_shape _ (codes "--after") _ _ refl (on_plain explore_shape _ actor _ _ (plain_begins actor a) refl refl refl (ends explore_shape _))))) refl refl refl
-given_met true (Some actor) (WorksGiven.one work) file a w f =
+given_met true (Some actor) (WorksGiven.one_work work) file a w f =
     explores _ _ true _ (on_plain explore_shape _ file _ _ f refl refl refl (on explore_shape _ (codes "--stuck") _ _ refl (on explore_shape _ (codes "--after") _ _ refl (on_plain explore_shape _ actor _ _ (plain_begins actor a) refl refl refl (on explore_shape _ (codes "--never") _ _ refl (on_plain explore_shape _ work _ _ (plain_begins work w) refl refl refl (ends explore_shape _))))))) refl refl refl
-given_met true (Some actor) (WorksGiven.two work other) file a w f =
+given_met true (Some actor) (WorksGiven.two_works work other) file a w f =
     explores _ _ true _ (on_plain explore_shape _ file _ _ f refl refl refl (on explore_shape _ (codes "--stuck") _ _ refl (on explore_shape _ (codes "--after") _ _ refl (on_plain explore_shape _ actor _ _ (plain_begins actor a) refl refl refl (on explore_shape _ (codes "--never") _ _ refl (on_plain explore_shape _ work _ _ (plain_begins work w.0) refl refl refl (on_plain explore_shape _ other _ _ (plain_begins other w.1) refl refl refl (ends explore_shape _)))))))) refl refl refl
 
 pub never_misused : (words : List Text) (name file : Text) (given : NeverGiven) → words ≡ name ∷ codes "explore" ∷ file ∷ given_words given → IsPlainWord file

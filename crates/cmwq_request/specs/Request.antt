@@ -189,16 +189,16 @@ is_styled false scale id = is_none scale && is_none id
 
 -- What no order may come to, by the names of an actor and of works.
 pub data Forbidden : Type 0 where
-  after : (actor work : Text) → Forbidden
-  runs : (work : Text) → Forbidden
-  together : (work other : Text) → Forbidden
-  stuck : Forbidden
+  never_after : (actor work : Text) → Forbidden
+  never_runs : (work : Text) → Forbidden
+  never_together : (work other : Text) → Forbidden
+  never_stuck : Forbidden
 
 abbrev pub forbidden : Never → Forbidden
-forbidden (never.After actor work) = Forbidden.after actor.now work.now
-forbidden (never.Runs work) = Forbidden.runs work.now
-forbidden (never.Together work other) = Forbidden.together work.now other.now
-forbidden never.Stuck = Forbidden.stuck
+forbidden (never.After actor work) = Forbidden.never_after actor.now work.now
+forbidden (never.Runs work) = Forbidden.never_runs work.now
+forbidden (never.Together work other) = Forbidden.never_together work.now other.now
+forbidden never.Stuck = Forbidden.never_stuck
 
 -- What is asked of all orders, by its options.
 pub record ExplorationWords : Type 0 where
@@ -210,10 +210,10 @@ abbrev pub exploration_words : Exploration → ExplorationWords
 exploration_words exploration = record { never = forbidden exploration.never; before = pairs_of exploration.before.items; limit = exploration.limit }
 
 abbrev pub never_words : Forbidden → List Text
-never_words (Forbidden.after actor work) = codes "--after" ∷ actor ∷ codes "--never" ∷ work ∷ []
-never_words (Forbidden.runs work) = codes "--never" ∷ work ∷ []
-never_words (Forbidden.together work other) = codes "--never" ∷ work ∷ other ∷ []
-never_words Forbidden.stuck = codes "--stuck" ∷ []
+never_words (Forbidden.never_after actor work) = codes "--after" ∷ actor ∷ codes "--never" ∷ work ∷ []
+never_words (Forbidden.never_runs work) = codes "--never" ∷ work ∷ []
+never_words (Forbidden.never_together work other) = codes "--never" ∷ work ∷ other ∷ []
+never_words Forbidden.never_stuck = codes "--stuck" ∷ []
 
 abbrev pub before_words : List Pair → List Text
 before_words [] = []
@@ -389,23 +389,23 @@ file_to_ask rows =
 
 -- What no order may come to, by whether --stuck is given, and by the words of --after and of --never; none where that is more than one thing,
 -- or nothing.
-abbrev pub two_works : (same : Bool) → (work other : Text) → Option Forbidden
-two_works true work other = None
-two_works false work other = Some (Forbidden.together work other)
+abbrev pub if_two : (same : Bool) → (work other : Text) → Option Forbidden
+if_two true work other = None
+if_two false work other = Some (Forbidden.never_together work other)
 
 abbrev pub works_forbidden : (works : List Text) → Option Forbidden
-works_forbidden (work ∷ []) = Some (Forbidden.runs work)
-works_forbidden (work ∷ other ∷ []) = two_works (bytes_eq work other) work other
+works_forbidden (work ∷ []) = Some (Forbidden.never_runs work)
+works_forbidden (work ∷ other ∷ []) = if_two (bytes_eq work other) work other
 works_forbidden works = None
 
 abbrev pub after_forbidden : (actor : Text) → (works : List Text) → Option Forbidden
-after_forbidden actor (work ∷ []) = Some (Forbidden.after actor work)
+after_forbidden actor (work ∷ []) = Some (Forbidden.never_after actor work)
 after_forbidden actor works = None
 
 abbrev pub never_from : (stuck : Bool) → (after : Option Text) → (works : Option (List Text)) → Option Forbidden
 never_from false None (Some works) = works_forbidden works
 never_from false (Some actor) (Some works) = after_forbidden actor works
-never_from true None None = Some Forbidden.stuck
+never_from true None None = Some Forbidden.never_stuck
 never_from stuck after works = None
 
 -- the pairs of --before, of which two words each are one
@@ -548,10 +548,10 @@ styled scale id = record (spanned false true whole_span) { scale = scale; id = i
 
 -- an exploration's names aren't options, its works differ, its actors don't wait for each other in a ring, and it looks at so many states
 abbrev pub HasPlainNames : Forbidden → Type 0
-HasPlainNames (Forbidden.after actor work) = IsPlainWord actor × IsPlainWord work
-HasPlainNames (Forbidden.runs work) = IsPlainWord work
-HasPlainNames (Forbidden.together work other) = IsPlainWord work × IsPlainWord other × (work ≢ other)
-HasPlainNames Forbidden.stuck = Unit {0}
+HasPlainNames (Forbidden.never_after actor work) = IsPlainWord actor × IsPlainWord work
+HasPlainNames (Forbidden.never_runs work) = IsPlainWord work
+HasPlainNames (Forbidden.never_together work other) = IsPlainWord work × IsPlainWord other × (work ≢ other)
+HasPlainNames Forbidden.never_stuck = Unit {0}
 
 abbrev pub ArePlainPairs : List Pair → Type 0
 ArePlainPairs [] = Unit {0}
@@ -565,9 +565,9 @@ usual never before = record { never = never; before = before; limit = USUAL_STAT
 
 -- What is given of the three options that say what no order may come to; --never has one work or two.
 pub data WorksGiven : Type 0 where
-  none : WorksGiven
-  one : (work : Text) → WorksGiven
-  two : (work other : Text) → WorksGiven
+  no_works : WorksGiven
+  one_work : (work : Text) → WorksGiven
+  two_works : (work other : Text) → WorksGiven
 
 pub record NeverGiven : Type 0 where
   pub stuck : Bool
@@ -575,26 +575,26 @@ pub record NeverGiven : Type 0 where
   pub works : WorksGiven
 
 abbrev pub works_words : WorksGiven → List Text
-works_words WorksGiven.none = []
-works_words (WorksGiven.one work) = codes "--never" ∷ work ∷ []
-works_words (WorksGiven.two work other) = codes "--never" ∷ work ∷ other ∷ []
+works_words WorksGiven.no_works = []
+works_words (WorksGiven.one_work work) = codes "--never" ∷ work ∷ []
+works_words (WorksGiven.two_works work other) = codes "--never" ∷ work ∷ other ∷ []
 
 abbrev pub given_words : NeverGiven → List Text
 given_words given = option_words (codes "--stuck") given.stuck ++ (text_words (codes "--after") given.after ++ works_words given.works)
 
 abbrev pub works_given : WorksGiven → Option (List Text)
-works_given WorksGiven.none = None
-works_given (WorksGiven.one work) = Some (work ∷ [])
-works_given (WorksGiven.two work other) = Some (work ∷ other ∷ [])
+works_given WorksGiven.no_works = None
+works_given (WorksGiven.one_work work) = Some (work ∷ [])
+works_given (WorksGiven.two_works work other) = Some (work ∷ other ∷ [])
 
 -- that is one thing, if it is
 abbrev pub never_of : NeverGiven → Option Forbidden
 never_of given = never_from given.stuck given.after (works_given given.works)
 
 abbrev pub ArePlainWorks : WorksGiven → Type 0
-ArePlainWorks WorksGiven.none = Unit {0}
-ArePlainWorks (WorksGiven.one work) = IsPlainWord work
-ArePlainWorks (WorksGiven.two work other) = IsPlainWord work × IsPlainWord other
+ArePlainWorks WorksGiven.no_works = Unit {0}
+ArePlainWorks (WorksGiven.one_work work) = IsPlainWord work
+ArePlainWorks (WorksGiven.two_works work other) = IsPlainWord work × IsPlainWord other
 
 abbrev pub IsPlainIfAny : Option Text → Type 0
 IsPlainIfAny (Some word) = IsPlainWord word

@@ -35,7 +35,7 @@ pub(crate) fn explore_request<'a>(
 fn request_with<'a>(given: &ArgMatches<'a>, before: Vec<Precedence<'a>>) -> Option<Request<'a>>
     requires { goes_in_ring (pairs_of before.items) ≡ false }
     ensures words { (stuck : Bool) → flag_of (codes "stuck") (rows_of (found_of given.now)) ≡ Some stuck
-        → option_map (λ request. request_words request) result ≡ words_to_explore (exploration_from false (never_from stuck (first_of (codes "ACTOR") (rows_of (found_of given.now))) (all_of (codes "WORK") (rows_of (found_of given.now)))) (pairs_of before.items) (limit_from (first_of (codes "N") (rows_of (found_of given.now))))) (first_of (codes "FILE") (rows_of (found_of given.now))) }
+        → option_map (λ request. request_words request) result ≡ words_to_explore (exploration_from false (never_from stuck (first_of (codes "ACTOR") (rows_of (found_of given.now))) (all_of (codes "WORK") (rows_of (found_of given.now)))) (pairs_of before.entry.items) (limit_from (first_of (codes "N") (rows_of (found_of given.now))))) (first_of (codes "FILE") (rows_of (found_of given.now))) }
     ensures capacity { IfSome result (λ request. IsWithin request) }
 {
     let exploration = Exploration {

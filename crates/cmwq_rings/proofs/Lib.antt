@@ -1,3 +1,3 @@
 mod ChainLemmas
-mod RingLemmas
+pub mod RingLemmas
 mod SearchLemmas
