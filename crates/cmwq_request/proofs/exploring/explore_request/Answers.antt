@@ -10,4 +10,4 @@ returns-clause-words c stuck flag =
     c.request_with.ensures.words stuck flag ∙ as_asked stuck _ _ _ _ _ (pairs_of c.in_ok-before.before.items) c.in_ok-before.ensures none
 
 pub returns-clause-nothing : goal.returns-clause-nothing
-returns-clause-nothing c no = nothing_of _ _ (returns-clause-words c no.0 no.1 ∙ no.2)
+returns-clause-nothing c asks = nothing_of _ _ (returns-clause-words c asks.0 asks.1 ∙ asks.2)
