@@ -4,11 +4,28 @@
 _cmwq_file() {
     local at
     for ((at = 2; at < COMP_CWORD; at++)); do
-        if [[ ${COMP_WORDS[at]} != -* && ${COMP_WORDS[at - 1]} != @(--capacity|--from|--to|--flush|--at|--time|--works|--scale|--id) ]]; then
+        if [[ ${COMP_WORDS[at]} != -* && ${COMP_WORDS[at - 2]} != @(--before|--never)
+            && ${COMP_WORDS[at - 1]} != @(--capacity|--from|--to|--flush|--at|--time|--works|--scale|--id|--after|--never|--before|--limit) ]]; then
             printf '%s\n' "${COMP_WORDS[at]}"
             return
         fi
     done
+}
+
+# Prints the names that the file's lines of this word declare: works or actors.
+_cmwq_names() {
+    sed -n "s/^[[:blank:]]*$1[[:blank:]]\{1,\}\([a-z][a-z0-9_]*\).*/\1/p" -- "$2" 2> /dev/null
+}
+
+# Prints what may stand here behind an option of `explore`, whose FILE this is: a work or an actor, or one more option.
+_cmwq_explored() {
+    if [[ ${COMP_WORDS[COMP_CWORD - 1]} == @(--after|--before) || ${COMP_WORDS[COMP_CWORD - 2]} == --before ]]; then
+        _cmwq_names actor "$1"
+    elif [[ ${COMP_WORDS[COMP_CWORD - 1]} == --never || ${COMP_WORDS[COMP_CWORD - 2]} == --never ]]; then
+        _cmwq_names work "$1"
+    else
+        echo --after --never --stuck --before --limit
+    fi
 }
 
 # Offers scenarios and folders; where there are none, any file.
@@ -24,23 +41,26 @@ _cmwq() {
     local word=${COMP_WORDS[COMP_CWORD]} command=${COMP_WORDS[1]-} file
     COMPREPLY=()
     if ((COMP_CWORD == 1)); then
-        mapfile -t COMPREPLY < <(compgen -W 'new run settle draw why list asm show debug play check help --explain --help --version' -- "$word")
+        mapfile -t COMPREPLY < <(compgen -W 'new run settle draw why explore list asm show debug play check help --explain --help --version' -- "$word")
     elif [[ $command == help ]]; then
-        mapfile -t COMPREPLY < <(compgen -W 'scenario new run settle draw why list asm show debug play check help' -- "$word")
+        mapfile -t COMPREPLY < <(compgen -W 'scenario new run settle draw why explore list asm show debug play check help' -- "$word")
     elif [[ $word == -* ]]; then
         local options='--explain --help'
         case $command in
             run) options='--settle --tell --explain --help' ;;
             draw) options='--settle --svg --from --to --fold --works --scale --id --explain --help' ;;
             why) options='--flush --at --every --time --settle --explain --help' ;;
+            explore) options='--after --never --stuck --before --limit --explain --help' ;;
             debug) options='--settle --explain --help' ;;
             play) options='--capacity --explain --help' ;;
         esac
         mapfile -t COMPREPLY < <(compgen -W "$options" -- "$word")
-    elif [[ ${COMP_WORDS[COMP_CWORD - 1]} == @(--capacity|--from|--to|--flush|--at|--time|--works|--scale|--id) ]]; then
+    elif [[ ${COMP_WORDS[COMP_CWORD - 1]} == @(--capacity|--from|--to|--flush|--at|--time|--works|--scale|--id|--limit) ]]; then
         return
     elif [[ $command == why ]] && file=$(_cmwq_file) && [[ -n $file ]]; then
-        mapfile -t COMPREPLY < <(compgen -W "$(sed -n 's/^[[:blank:]]*work[[:blank:]]\{1,\}\([a-z][a-z0-9_]*\).*/\1/p' -- "$file" 2> /dev/null)" -- "$word")
+        mapfile -t COMPREPLY < <(compgen -W "$(_cmwq_names work "$file")" -- "$word")
+    elif [[ $command == explore ]] && file=$(_cmwq_file) && [[ -n $file ]]; then
+        mapfile -t COMPREPLY < <(compgen -W "$(_cmwq_explored "$file")" -- "$word")
     elif [[ $command == @(show|new) || ($command == asm && -n $(_cmwq_file)) ]]; then
         compopt -o filenames 2> /dev/null
         mapfile -t COMPREPLY < <(compgen -f -- "$word")

@@ -138,9 +138,10 @@ def completion_faults(commands):
     rows = [(("ru",), ["run"]), (("run", "docs/FORM"), ["docs/FORMATS.md"]), (("play", "--c"), ["--capacity"]), (("why", "--fl"), ["--flush"]), (("help", "de"), ["debug"])]
     rows += [(("--v",), ["--version"]), (("run", "--ex"), ["--explain"]), (("run", "scenarios/rac"), ["scenarios/race.cmwq"])]
     with tempfile.NamedTemporaryFile("w", suffix=".cmwq") as file:
-        file.write("work handler q # and one that is no scenario's: work hat\n  work other q\n")
+        file.write("work handler q # and one that is no scenario's: work hat\n  work other q\nactor probe\n actor remove\n")
         file.flush()
-        rows += [(("why", file.name, "ha"), ["handler"]), (("why", "--at", "3", file.name, "oth"), ["other"])]
+        rows += [(("why", file.name, "ha"), ["handler"]), (("why", "--at", "3", file.name, "oth"), ["other"]), (("explore", "--be"), ["--before"])]
+        rows += [(("explore", file.name, *words), want) for words, want in [(("--never", "ha"), ["handler"]), (("--after", "re"), ["remove"]), (("--before", "pr"), ["probe"])]]
         faults = [f"{shell} completes {words} as {found}" for words, want in rows for shell, completes in shells.items() if (found := completes(*words))[:1] != want]
     faults += [f"{COMPLETIONS[shell]}: {shell} says {out}" for shell in shells if (out := said(shell, "-n", COMPLETIONS[shell]))]
     if not commands <= set(bash_completes("")):

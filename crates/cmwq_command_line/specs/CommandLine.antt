@@ -27,6 +27,10 @@ flag_rule name = record (new_rule name) { long = Some name; action = Some SetTru
 abbrev pub value_rule : Text → Text → Rule
 value_rule id name = record (new_rule id) { long = Some name }
 
+-- an option whose value is one or more, told as two
+abbrev pub several_rule : Text → Text → (least most : ℕ) → Rule
+several_rule id name least most = record (value_rule id name) { range = Some (record { start_inclusive = least; end_inclusive = most }); value_names = 2 }
+
 -- a command that takes one argument
 abbrev pub command_on : Text → Text → App
 command_on name id = with_rule (new_app name) (required_rule id)
@@ -93,6 +97,19 @@ why_command =
     (with_rule (with_rule asking_command (flag_rule (codes "every"))) (value_rule (codes "T") (codes "time")))
     (flag_rule (codes "settle"))
 
+-- `explore [--after ACTOR] [--never WORK [WORK]] [--stuck] FILE`, and so with `[--before A B].. [--limit N]`
+abbrev pub never_command : App
+never_command =
+    with_rule
+    (with_rule (with_rule (command_on (codes "explore") (codes "FILE")) (value_rule (codes "ACTOR") (codes "after"))) (several_rule (codes "WORK") (codes "never") 1 2))
+    (flag_rule (codes "stuck"))
+
+abbrev pub explore_command : App
+explore_command =
+    with_rule
+    (with_rule never_command (record (several_rule (codes "BEFORE") (codes "before") 2 2) { action = Some Append }))
+    (value_rule (codes "N") (codes "limit"))
+
 -- the program with no command
 abbrev pub bare_program : App
 bare_program =
@@ -113,7 +130,7 @@ abbrev pub eight_commands : App
 eight_commands = with_commands four_commands (show_command ∷ debug_command ∷ play_command ∷ check_command ∷ [])
 
 abbrev pub command_line : App
-command_line = with_commands eight_commands (settle_command ∷ draw_command ∷ why_command ∷ [])
+command_line = with_commands eight_commands (settle_command ∷ draw_command ∷ why_command ∷ explore_command ∷ [])
 
 -- the line of the program's version, and of the logic that its proofs rest on
 abbrev pub version_line : (logic : List ℕ) → List ℕ

@@ -1,12 +1,13 @@
 //! The program's commands, and the words that they take.
 
 ghost use Rattle.clap.specs.Words.{app_of, new_app, new_rule};
-ghost use Rattle.cmwq_command_line.specs.CommandLine.{IsArgument, IsCommand, asking_command, asm_command, bare_program, check_command, command_line, command_on, debug_command, draw_command, eight_commands, flag_rule, four_commands, new_command, play_command, required_rule, run_command, show_command, spanned_command, value_rule, why_command};
-ghost use Rattle.std.specs.Prelude.{◌≡◌, IfOk, codes};
+ghost use Rattle.cmwq_command_line.specs.CommandLine.{IsArgument, IsCommand, asking_command, asm_command, bare_program, check_command, command_line, command_on, debug_command, draw_command, eight_commands, explore_command, flag_rule, four_commands, never_command, new_command, play_command, required_rule, run_command, several_rule, show_command, spanned_command, value_rule, why_command};
+ghost use Rattle.std.specs.Prelude.{◌≡◌, ◌≤◌, IfOk, codes};
 
 use crate::help;
 use clap::{Arg, ArgAction, Command};
 use std::alloc::{AllocError, Global};
+use std::ops::RangeInclusive;
 
 /// The command line of the program: its commands, their arguments and options, its help and its version. The error is want of memory.
 pub fn command_line<'a>(alloc: Global) -> Result<Command<'a>, AllocError>
@@ -20,7 +21,8 @@ pub fn command_line<'a>(alloc: Global) -> Result<Command<'a>, AllocError>
     let program = eight_commands(alloc)?
         .subcommand(settle?)?
         .subcommand(draw_command(alloc)?)?
-        .subcommand(why_command(alloc)?)?;
+        .subcommand(why_command(alloc)?)?
+        .subcommand(explore_command(alloc)?)?;
     Ok(program)
 }
 
@@ -248,6 +250,59 @@ fn asking_command<'a>(alloc: Global) -> Result<Command<'a>, AllocError>
     ))
 }
 
+/// The command that looks through all orders.
+fn explore_command<'a>(alloc: Global) -> Result<Command<'a>, AllocError>
+    ensures { IfOk result (IsCommand explore_command) }
+{
+    let before = several(
+        alloc,
+        "BEFORE",
+        "before",
+        2..=2,
+        &["A", "B"],
+        "Actor B begins only when actor A has ended; may be given again",
+    );
+    never_command(alloc)?
+        .arg(before.action(ArgAction::Append))?
+        .arg(valued(
+            alloc,
+            "N",
+            "limit",
+            "How many states are looked at, at most: 1 to 1000000, and 100000 if not given",
+        ))
+}
+
+/// The same with the options that say what no order may come to.
+fn never_command<'a>(alloc: Global) -> Result<Command<'a>, AllocError>
+    ensures { IfOk result (IsCommand never_command) }
+{
+    let works = several(
+        alloc,
+        "WORK",
+        "never",
+        1..=2,
+        &["WORK", "WORK"],
+        "Asks whether the work runs; with two, whether both run at once; with --after, whether it is pending or runs",
+    );
+    on_text(
+        alloc,
+        "explore",
+        "Tells whether some order of the actors' instructions comes to what never may be, and shows the shortest",
+    )?
+    .arg(valued(
+        alloc,
+        "ACTOR",
+        "after",
+        "Asks of --never WORK only where this actor has ended",
+    ))?
+    .arg(works)?
+    .arg(flag(
+        alloc,
+        "stuck",
+        "Asks whether some actor hasn't ended, and nothing can go on",
+    ))
+}
+
 /// A command on the text of a scenario.
 fn on_text<'a>(alloc: Global, name: &'a str, about: &'a str) -> Result<Command<'a>, AllocError>
     ensures { IfOk result (IsCommand (command_on name.entry.now (codes "FILE"))) }
@@ -304,4 +359,23 @@ fn valued<'a>(alloc: Global, id: &'a str, name: &'a str, help: &'a str) -> Arg<'
     ensures { IsArgument (value_rule id.entry.now name.entry.now) result }
 {
     Arg::new(alloc, id).long(name).help(help)
+}
+
+/// An option that may be given, with so many values each time, which are told by these two names.
+fn several<'a>(
+    alloc: Global,
+    id: &'a str,
+    name: &'a str,
+    count: RangeInclusive<usize>,
+    names: &'a [&'a str; 2],
+    help: &'a str,
+) -> Arg<'a>
+    requires { count.start ≤ count.end }
+    ensures { IsArgument (several_rule id.entry.now name.entry.now count.start count.end) result }
+{
+    Arg::new(alloc, id)
+        .long(name)
+        .num_args(count)
+        .value_names(names)
+        .help(help)
 }

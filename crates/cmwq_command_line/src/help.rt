@@ -17,6 +17,7 @@ Examples:
   cmwq show max_active_3.image
   cmwq debug scenarios/max_active_3.cmwq
   cmwq play scenarios/race.cmwq --capacity 100
+  cmwq explore scenarios/poll_cancel.cmwq --before probe remove --after remove --never poll
   cmwq check first.cmwq scenarios/race.cmwq
 
 `cmwq help scenario` shows what a scenario's text may say. A FILE or IMAGE that is read may be -, standard input.
@@ -28,10 +29,12 @@ The formats of scenarios and images, the debugger's commands, and what each faul
 Exit status:
   0  the command did what it was asked
   1  the file isn't a scenario's text or image, the scenario hasn't as many actors as the command takes, it never becomes quiet, or
-     it hasn't the work, the flush or the position that is asked for
+     it hasn't the actor, the work, the flush or the position that is asked for
   2  the command line is wrong, or has to say which part of a long run to draw
   3  a file can't be opened, made, read or written
-  4  memory ran out, or a history had no room for one more instruction";
+  4  memory ran out, or a history had no room for one more instruction
+  5  an order was found that comes to what never may be
+  6  it holds of the orders that were looked at, and isn't told of all";
 
 const NEW: &str = "\
 Prints the scenario where there is no FILE, and else nothing.
@@ -123,6 +126,35 @@ Examples:
   cmwq why --time 5 scenarios/holds_the_limit.cmwq b
   cmwq why --every scenarios/queued_between.cmwq a
   cmwq why --flush 0 scenarios/holds_the_limit.cmwq";
+
+const EXPLORE: &str = "\
+Looks at every order in which the actors' instructions can come, with the moves of pools, the timers and the ticks in between in every order
+too. With --never WORK it asks whether the work runs in any of them, with two works whether they run at once, with --after ACTOR
+and --never WORK whether the work is pending or runs where the actor has ended, and with --stuck whether some actor hasn't ended
+and nothing can go on. An actor waits for each of its flushes. A `cancel_sync` stands for `disable`, `flush` and `enable`.
+With --before A B actor B begins only when A has ended; it may be given several times.
+
+Prints `holds in all N states; COUNTS` where no order comes to that, and else the shortest that does, as a scenario of one actor, for `cmwq run`,
+`draw`, `why` and `debug`, with comments that say whose each instruction is. COUNTS tells in how many of the states there is something
+to ask: `A has ended in 46`.
+
+Exit status:
+  0  `holds in all N states; COUNTS`: no order comes to that
+  1  `line 6: Duplicate`: the text's first fault; `actors`: there is no actor; `no such actor`, `no such work`: none has this name;
+     `flushes N needed`: the actors give more flushes than the scenario's `flushes`
+  2  the command line is wrong: not just one of --stuck, --never, and --after with --never WORK is given, a work is given twice, --before goes in
+     a ring, another option stands twice, or N isn't a number from 1 to 1,000,000 of 1 to 10 digits
+  3  `read`: FILE can't be read; `write`: the output can't be written
+  4  `full`: the actors have more than 4,096 instructions in all; `no memory`
+  5  an order comes to that: the scenario that shows it was written
+  6  it isn't told of all orders: `holds within S steps, in all N states; COUNTS`: some order spends the scenario's steps;
+     `vacuous in all N states; COUNTS`: a count is 0; `gave up at N states; holds for all orders of at most D instructions`: there are
+     more states than --limit, 100,000 if not given
+
+Examples:
+  cmwq explore scenarios/poll_cancel.cmwq --before probe remove --after remove --never poll
+  cmwq explore scenarios/poll_cancel.cmwq --never poll --limit 1000
+  cmwq explore scenarios/poll_cancel.cmwq --stuck";
 
 const LIST: &str = "\
 Prints the scenario's canonical text: one space between words, and no comments.
@@ -217,6 +249,7 @@ pub fn after_help_of(command: &str) -> &'static str {
         "settle" => SETTLE,
         "draw" => DRAW,
         "why" => WHY,
+        "explore" => EXPLORE,
         "list" => LIST,
         "asm" => ASM,
         "show" => SHOW,

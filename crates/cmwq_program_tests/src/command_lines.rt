@@ -2,6 +2,7 @@
 use crate::checking::{same, setting_with};
 use clap::error::ErrorKind;
 use cmwq_command::{Disk, carry_out};
+use cmwq_exploration::{Never, Precedence};
 use cmwq_machine_tests::streams::{Output, reading_of, writing_to};
 use cmwq_outcome::{Look, tell};
 use cmwq_play::Marked;
@@ -318,8 +319,116 @@ fn a_check_asks_for_each_of_its_files(rt: HostRuntime) {
     same(&rt, line, files.as_slice(), want.as_slice());
 }
 
+/// Explorations of `a`: what no order may come to, who begins when whom has ended, and how many states are looked at.
+const EXPLORATIONS: [(&str, Never<'_>, &[Precedence<'_>], u32); 10] = [
+    ("cmwq explore a --stuck", Never::Stuck, &[], 100_000),
+    ("cmwq explore --stuck a --limit 1", Never::Stuck, &[], 1),
+    (
+        "cmwq explore a --limit 0001000000 --never b",
+        Never::Runs("b"),
+        &[],
+        1_000_000,
+    ),
+    (
+        "cmwq explore a --never b c",
+        Never::Together("b", "c"),
+        &[],
+        100_000,
+    ),
+    (
+        "cmwq explore --never b c a",
+        Never::Together("b", "c"),
+        &[],
+        100_000,
+    ),
+    (
+        "cmwq explore --never b --before d e a",
+        Never::Runs("b"),
+        &[Precedence {
+            first: "d",
+            then: "e",
+        }],
+        100_000,
+    ),
+    (
+        "cmwq explore a --never=b --after c",
+        Never::After {
+            actor: "c",
+            work: "b",
+        },
+        &[],
+        100_000,
+    ),
+    (
+        "cmwq explore a --before d e --after c --never b --before e f",
+        Never::After {
+            actor: "c",
+            work: "b",
+        },
+        &[
+            Precedence {
+                first: "d",
+                then: "e",
+            },
+            Precedence {
+                first: "e",
+                then: "f",
+            },
+        ],
+        100_000,
+    ),
+    (
+        "cmwq explore a --stuck --before d e --before c e --before c d --before c d",
+        Never::Stuck,
+        &[
+            Precedence {
+                first: "d",
+                then: "e",
+            },
+            Precedence {
+                first: "c",
+                then: "e",
+            },
+            Precedence {
+                first: "c",
+                then: "d",
+            },
+            Precedence {
+                first: "c",
+                then: "d",
+            },
+        ],
+        100_000,
+    ),
+    (
+        "cmwq explore a --before d e --stuck --limit 99999",
+        Never::Stuck,
+        &[Precedence {
+            first: "d",
+            then: "e",
+        }],
+        99_999,
+    ),
+];
+
+#[test]
+fn an_exploration_has_its_options(rt: HostRuntime) {
+    for (line, never, before, limit) in EXPLORATIONS {
+        let given = words(&rt, rt.alloc(), line);
+        match parse(rt.alloc(), given.as_slice()).expect(&rt, line) {
+            Request::Explore { file, exploration } => {
+                same(&rt, line, file, "a");
+                same(&rt, line, exploration.never, never);
+                same(&rt, line, exploration.before.as_slice(), before);
+                same(&rt, line, exploration.limit, limit);
+            }
+            _ => same(&rt, line, "another request", "an exploration"),
+        }
+    }
+}
+
 /// Command lines that are no request, of which kind the answer is, and with which status the program ends.
-const NO_REQUESTS: [(&str, ErrorKind, i32); 53] = [
+const NO_REQUESTS: [(&str, ErrorKind, i32); 71] = [
     (
         "cmwq",
         ErrorKind::DisplayHelpOnMissingArgumentOrSubcommand,
@@ -399,6 +508,76 @@ const NO_REQUESTS: [(&str, ErrorKind, i32); 53] = [
     ("cmwq why a --flush +1", ErrorKind::ValueValidation, 2),
     ("cmwq why a --flush 1x", ErrorKind::ValueValidation, 2),
     ("cmwq why a --flush ", ErrorKind::ValueValidation, 2),
+    ("cmwq explore", ErrorKind::MissingRequiredArgument, 2),
+    ("cmwq explore a", ErrorKind::ValueValidation, 2),
+    ("cmwq explore a b --stuck", ErrorKind::UnknownArgument, 2),
+    ("cmwq explore a --after b", ErrorKind::ValueValidation, 2),
+    (
+        "cmwq explore --never b a",
+        ErrorKind::MissingRequiredArgument,
+        2,
+    ),
+    (
+        "cmwq explore a --never b c d",
+        ErrorKind::UnknownArgument,
+        2,
+    ),
+    ("cmwq explore a --never b b", ErrorKind::ValueValidation, 2),
+    (
+        "cmwq explore a --never b --never c",
+        ErrorKind::ArgumentConflict,
+        2,
+    ),
+    (
+        "cmwq explore a --after b --never c d",
+        ErrorKind::ValueValidation,
+        2,
+    ),
+    (
+        "cmwq explore a --stuck --never b",
+        ErrorKind::ValueValidation,
+        2,
+    ),
+    (
+        "cmwq explore a --stuck --after b",
+        ErrorKind::ValueValidation,
+        2,
+    ),
+    (
+        "cmwq explore a --stuck --limit 0",
+        ErrorKind::ValueValidation,
+        2,
+    ),
+    (
+        "cmwq explore a --stuck --limit 1000001",
+        ErrorKind::ValueValidation,
+        2,
+    ),
+    (
+        "cmwq explore a --stuck --limit 00000000001",
+        ErrorKind::ValueValidation,
+        2,
+    ),
+    (
+        "cmwq explore a --stuck --limit +1",
+        ErrorKind::ValueValidation,
+        2,
+    ),
+    (
+        "cmwq explore a --stuck --before b",
+        ErrorKind::WrongNumberOfValues,
+        2,
+    ),
+    (
+        "cmwq explore a --stuck --before b b",
+        ErrorKind::ValueValidation,
+        2,
+    ),
+    (
+        "cmwq explore a --stuck --before b c --before d b --before c d",
+        ErrorKind::ValueValidation,
+        2,
+    ),
     ("cmwq --help", ErrorKind::DisplayHelp, 0),
     ("cmwq -h", ErrorKind::DisplayHelp, 0),
     ("cmwq help", ErrorKind::DisplayHelp, 0),
@@ -418,7 +597,7 @@ fn other_words_are_help_or_usage_faults(rt: HostRuntime) {
 }
 
 /// Command lines, the exit status, and what goes to standard output and to standard error.
-const TOLD: [(&str, u8, &[u8], &[u8]); 7] = [
+const TOLD: [(&str, u8, &[u8], &[u8]); 8] = [
     (
         "cmwq walk a",
         2,
@@ -448,6 +627,14 @@ const TOLD: [(&str, u8, &[u8], &[u8]); 7] = [
         2,
         b"",
         b"error: why takes either a WORK or --flush\n\n\
+          Usage: cmwq <COMMAND>\n\n\
+          For more information, try '--help'.\n",
+    ),
+    (
+        "cmwq explore a --stuck --before x b --before b c --before c b",
+        2,
+        b"",
+        b"error: --before goes in a ring: b, c, b\n\n\
           Usage: cmwq <COMMAND>\n\n\
           For more information, try '--help'.\n",
     ),

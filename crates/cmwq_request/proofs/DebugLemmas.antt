@@ -1,5 +1,5 @@
 -- What clap makes of the words of `debug`.
-use Rattle.std.proofs.Common.{ap, inr, sym, ◌≡◌, ◌∙◌, ℕ, Bool, List, [], ◌∷◌, true, false, Option, None, Some, codes, refl}
+use Rattle.std.proofs.Common.{ap, inl, inr, sym, ◌≡◌, ◌∙◌, ℕ, Bool, List, [], ◌∷◌, true, false, Option, None, Some, codes, refl}
 use Rattle.std.specs.Cmp.Lexicographic.{bytes_decides}
 use Rattle.std.specs.Prelude.{if◌then◌else◌}
 use Rattle.clap.specs.Words.{Text, subcommand_of, takes}
@@ -51,7 +51,7 @@ input_met : (name : Text) → IsMisuse (name ∷ codes "debug" ∷ codes "-" ∷
 unfolding clap_on_literals debug_shape
 input_met name =
     let met = taken has_debug name _ _ (on_plain debug_shape _ (codes "-") _ _ refl refl refl refl (ends debug_shape _)) refl in
-    (met.0, _, met.1, inr (inr (refl, refl)))
+    (met.0, _, met.1, inr (inr (inl (refl, refl))))
 
 pub input_misused : (words : List Text) (name : Text) → words ≡ name ∷ codes "debug" ∷ codes "-" ∷ [] → IsMisuse words
 input_misused words name are = rw are (input_met name)

@@ -1,5 +1,7 @@
 mod DebugLemmas
 mod DrawLemmas
+mod ExploreLemmas
+mod ExploringLemmas
 mod RequestLemmas
 mod TableLemmas
 mod WalkingLemmas

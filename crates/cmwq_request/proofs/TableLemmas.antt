@@ -6,6 +6,7 @@ use Rattle.clap.specs.Words.{Text}
 use Rattle.cmwq_request.specs.Request.{IsAskedBy, IsMisuse, IsMisusedBy, IsRead, asks_for_language}
 use Rattle.cmwq_request.proofs.RequestLemmas.{asm_read, check_read, check_two_read, list_read, new_file_read, new_read, play_read, run_read, settle_read, show_read}
 use Rattle.cmwq_request.proofs.DebugLemmas.{debug_read, input_misused}
+use Rattle.cmwq_request.proofs.ExploreLemmas.{explore_read, explore_usual_read, limit_misused, never_misused, ring_misused}
 use Rattle.cmwq_request.proofs.DrawLemmas.{backwards_misused, draw_folded_read, draw_read, draw_styled_read, draw_works_read}
 use Rattle.cmwq_request.proofs.WhyLemmas.{at_both_misused, at_two_misused, both_misused, flush_first_read, flush_read, neither_misused, no_flush_misused, no_place_misused, work_first_read, work_read}
 
@@ -33,6 +34,8 @@ asked_read words name given asked are (IsAskedBy.why_flush goes_on looks flush f
 asked_read words name given asked are (IsAskedBy.why_work_first looks file work plain plain_work short) = inl (work_first_read words name file work looks are plain plain_work short)
 asked_read words name given asked are (IsAskedBy.why_flush_first looks flush file plain few short) = inl (flush_first_read words name file flush looks are plain few short)
 asked_read words name given asked are (IsAskedBy.play file capacity plain fits) = inl (play_read words name file capacity are plain fits)
+asked_read words name given asked are (IsAskedBy.explore exploration file plain can) = inl (explore_read words name file exploration are plain can)
+asked_read words name given asked are (IsAskedBy.explore_usual never before file plain can) = inl (explore_usual_read words name file never before are plain can)
 asked_read words name given asked are (IsAskedBy.check file plain) = inl (check_read words name file are plain)
 asked_read words name given asked are (IsAskedBy.check_two file other plain plain_other) = inl (check_two_read words name file other are plain plain_other)
 asked_read words name given asked are IsAskedBy.language = inr (refl, refl)
@@ -45,6 +48,9 @@ given_misused words name given are (IsMisusedBy.at_both number file work value p
 given_misused words name given are (IsMisusedBy.at_no_number number file work value none plain plain_work) = no_place_misused words name number file work are value none plain plain_work
 given_misused words name given are (IsMisusedBy.at_position_and_time number time file work value other plain plain_work) = at_two_misused words name number time file work are value other plain plain_work
 given_misused words name given are (IsMisusedBy.drawn_backwards from to file behind small plain) = backwards_misused words name from to file are behind small plain
+given_misused words name given are (IsMisusedBy.explore_never options file plain names none) = never_misused words name file options are plain names none
+given_misused words name given are (IsMisusedBy.explore_ring never before ring file plain names pairs is) = ring_misused words name file never before ring are plain names pairs is
+given_misused words name given are (IsMisusedBy.explore_no_limit never number file plain names value none) = limit_misused words name number file never are plain names value none
 given_misused words name given are IsMisusedBy.debug_of_input = input_misused words name are
 
 -- what asks for it, word by word
@@ -88,6 +94,8 @@ asked_language given asked are (IsAskedBy.why_flush goes_on looks flush file pla
 asked_language given asked are (IsAskedBy.why_work_first looks file work plain plain_work short) = absurd (is_no_help given refl are)
 asked_language given asked are (IsAskedBy.why_flush_first looks flush file plain few short) = absurd (is_no_help given refl are)
 asked_language given asked are (IsAskedBy.play file capacity plain fits) = absurd (is_no_help given refl are)
+asked_language given asked are (IsAskedBy.explore exploration file plain can) = absurd (is_no_help given refl are)
+asked_language given asked are (IsAskedBy.explore_usual never before file plain can) = absurd (is_no_help given refl are)
 asked_language given asked are (IsAskedBy.check file plain) = absurd (is_no_help given refl are)
 asked_language given asked are (IsAskedBy.check_two file other plain plain_other) = absurd (is_no_help given refl are)
 
@@ -99,4 +107,7 @@ misused_language given are (IsMisusedBy.at_both number file work value plain pla
 misused_language given are (IsMisusedBy.at_no_number number file work value none plain plain_work) = is_no_help given refl are
 misused_language given are (IsMisusedBy.at_position_and_time number time file work value other plain plain_work) = is_no_help given refl are
 misused_language given are (IsMisusedBy.drawn_backwards from to file behind small plain) = is_no_help given refl are
+misused_language given are (IsMisusedBy.explore_never options file plain names none) = is_no_help given refl are
+misused_language given are (IsMisusedBy.explore_ring never before ring file plain names pairs is) = is_no_help given refl are
+misused_language given are (IsMisusedBy.explore_no_limit never number file plain names value none) = is_no_help given refl are
 misused_language given are IsMisusedBy.debug_of_input = is_no_help given refl are

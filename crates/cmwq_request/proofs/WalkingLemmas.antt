@@ -210,3 +210,15 @@ has_debug = record {
   ends = λ words level. rw level refl;
   enters = λ words. refl;
 }
+
+unfoldable pub explore_shape : Shape
+explore_shape = shape_of (codes "explore")
+
+pub has_explore : HasCommand (codes "explore") explore_shape
+unfolding clap_on_literals explore_shape
+has_explore = record {
+  stops = refl;
+  passes = λ words. stopped_passes (built command_line).top (names_of (built command_line)) (walk_from nothing_held) (codes "explore") [] words;
+  ends = λ words level. rw level refl;
+  enters = λ words. refl;
+}

@@ -69,10 +69,10 @@ short_number n short =
     number_if_digits (decimal n) (digits_decimal numerals n small) (decimal_nonempty n small) (length-decimal-le 10 n (omega arith) short small)
     ∙ ap Some (digits_value-decimal numerals n small)
 
-short_plain : (n : ℕ) → IsShortNumber n → is_option_word (decimal n) ≡ false
+pub short_plain : (n : ℕ) → IsShortNumber n → is_option_word (decimal n) ≡ false
 short_plain n short = decimal_begins n (omega (arith, short))
 
-value_begins : (word : Text) → IsValueWord word → is_option_word word ≡ false
+pub value_begins : (word : Text) → IsValueWord word → is_option_word word ≡ false
 value_begins word (inl empty) = ap is_option_word empty
 value_begins word (inr plain) = plain_begins word plain
 

@@ -10,6 +10,11 @@ use Rattle.clap.specs.declared.error.Error.{Error}
 use Rattle.clap.specs.declared.error.kind.ErrorKind.TheVariants.{OutOfMemory, ValueValidation}
 use Rattle.cmwq_types.specs.declared.limits.TheConstants.{MAX_LINES}
 use Rattle.cmwq_types.specs.Faults.{within}
+use Rattle.cmwq_exploration.specs.declared.exploration.Exploration.{Exploration}
+use Rattle.cmwq_exploration.specs.declared.exploration.Never.{Never}
+use Rattle.cmwq_exploration.specs.declared.exploration.Never.TheVariants as never
+use Rattle.cmwq_exploration.specs.declared.exploration.TheConstants.{MAX_STATES, USUAL_STATES}
+use Rattle.cmwq_rings.specs.Rings.{HasNoRing, IsRing, Pair, goes_in_ring, pairs_of}
 use Rattle.cmwq_tasks.specs.declared.drawing.Drawing.{Drawing}
 use Rattle.cmwq_tasks.specs.declared.drawing.Form.{Form}
 use Rattle.cmwq_tasks.specs.declared.drawing.Form.TheVariants as form
@@ -24,11 +29,15 @@ use Rattle.cmwq_tasks.specs.declared.task.RunKind.TheVariants.{Plain, Settled, T
 use Rattle.cmwq_tasks.specs.declared.task.Task.{Task}
 use Rattle.cmwq_tasks.specs.declared.task.Task.TheVariants as task
 use Rattle.cmwq_request.specs.declared.request.Request.{Request}
-use Rattle.cmwq_request.specs.declared.request.Request.TheVariants.{New, Do, Asm, Debug, Play, Check, Language, Version}
+use Rattle.cmwq_request.specs.declared.request.Request.TheVariants.{New, Do, Asm, Debug, Play, Explore, Check, Language, Version}
 
 -- how many entries a play's history may have room for: as many as an actor may have lines
 abbrev pub IsCapacity : ℕ → Type 0
 IsCapacity capacity = (1 ≤ capacity) × (capacity ≤ MAX_LINES)
+
+-- how many states may be looked at
+abbrev pub IsStateLimit : ℕ → Type 0
+IsStateLimit limit = (1 ≤ limit) × (limit ≤ MAX_STATES)
 
 -- an option's word where it is given, and nothing else
 abbrev pub option_words : Text → Bool → List Text
@@ -178,6 +187,45 @@ abbrev pub is_styled : (svg : Bool) → Option ℕ → Option Text → Bool
 is_styled true scale id = is_scale scale && is_picture_name_if_any id
 is_styled false scale id = is_none scale && is_none id
 
+-- What no order may come to, by the names of an actor and of works.
+pub data Forbidden : Type 0 where
+  never_after : (actor work : Text) → Forbidden
+  never_runs : (work : Text) → Forbidden
+  never_together : (work other : Text) → Forbidden
+  never_stuck : Forbidden
+
+abbrev pub forbidden : Never → Forbidden
+forbidden (never.After actor work) = Forbidden.never_after actor.now work.now
+forbidden (never.Runs work) = Forbidden.never_runs work.now
+forbidden (never.Together work other) = Forbidden.never_together work.now other.now
+forbidden never.Stuck = Forbidden.never_stuck
+
+-- What is asked of all orders, by its options.
+pub record ExplorationWords : Type 0 where
+  pub never : Forbidden
+  pub before : List Pair
+  pub limit : ℕ
+
+abbrev pub exploration_words : Exploration → ExplorationWords
+exploration_words exploration = record { never = forbidden exploration.never; before = pairs_of exploration.before.items; limit = exploration.limit }
+
+abbrev pub never_words : Forbidden → List Text
+never_words (Forbidden.never_after actor work) = codes "--after" ∷ actor ∷ codes "--never" ∷ work ∷ []
+never_words (Forbidden.never_runs work) = codes "--never" ∷ work ∷ []
+never_words (Forbidden.never_together work other) = codes "--never" ∷ work ∷ other ∷ []
+never_words Forbidden.never_stuck = codes "--stuck" ∷ []
+
+abbrev pub before_words : List Pair → List Text
+before_words [] = []
+before_words (pair ∷ before) = codes "--before" ∷ pair.0 ∷ pair.1 ∷ before_words before
+
+-- what stands behind `explore`, where no limit is given, and where one is
+abbrev pub unlimited_arguments : Forbidden → List Pair → Text → List Text
+unlimited_arguments never before file = file ∷ (never_words never ++ before_words before)
+
+abbrev pub explore_arguments : ExplorationWords → Text → List Text
+explore_arguments asked file = unlimited_arguments asked.never asked.before file ++ (codes "--limit" ∷ decimal asked.limit ∷ [])
+
 -- the words that ask for the task on a file
 abbrev pub task_words : Task → Text → List Text
 task_words (task.Run kind) file = codes "run" ∷ run_arguments kind file
@@ -195,6 +243,7 @@ request_words (Do file task) = task_words task file.now
 request_words (Asm file out) = codes "asm" ∷ file.now ∷ out.now ∷ []
 request_words (Debug file settle) = codes "debug" ∷ debug_arguments settle file.now
 request_words (Play file capacity) = codes "play" ∷ file.now ∷ codes "--capacity" ∷ decimal capacity ∷ []
+request_words (Explore file exploration) = codes "explore" ∷ explore_arguments (exploration_words exploration) file.now
 request_words (Check files) = codes "check" ∷ map (λ file. file.now) files.items
 request_words Language = codes "help" ∷ codes "scenario" ∷ []
 request_words Version = codes "--version" ∷ []
@@ -338,6 +387,66 @@ abbrev pub file_to_ask : List Row → Option (List Text)
 file_to_ask rows =
     option_and_then (λ settle. option_and_then (λ every. asked_why every settle rows) (flag_of (codes "every") rows)) (flag_of (codes "settle") rows)
 
+-- What no order may come to, by whether --stuck is given, and by the words of --after and of --never; none where that is more than one thing,
+-- or nothing.
+abbrev pub if_two : (same : Bool) → (work other : Text) → Option Forbidden
+if_two true work other = None
+if_two false work other = Some (Forbidden.never_together work other)
+
+abbrev pub works_forbidden : (works : List Text) → Option Forbidden
+works_forbidden (work ∷ []) = Some (Forbidden.never_runs work)
+works_forbidden (work ∷ other ∷ []) = if_two (bytes_eq work other) work other
+works_forbidden works = None
+
+abbrev pub after_forbidden : (actor : Text) → (works : List Text) → Option Forbidden
+after_forbidden actor (work ∷ []) = Some (Forbidden.never_after actor work)
+after_forbidden actor works = None
+
+abbrev pub never_from : (stuck : Bool) → (after : Option Text) → (works : Option (List Text)) → Option Forbidden
+never_from false None (Some works) = works_forbidden works
+never_from false (Some actor) (Some works) = after_forbidden actor works
+never_from true None None = Some Forbidden.never_stuck
+never_from stuck after works = None
+
+-- the pairs of --before, of which two words each are one
+abbrev pub pairs_in : List Text → List Pair
+pairs_in (first ∷ second ∷ more) = (first, second) ∷ pairs_in more
+pairs_in words = []
+
+abbrev pub pairs_from : Option (List Text) → List Pair
+pairs_from None = []
+pairs_from (Some words) = pairs_in words
+
+-- the number of --limit, which is the usual one where it isn't given
+abbrev pub state_limit : ℕ → Option ℕ
+state_limit limit = if within 1 MAX_STATES limit then Some limit else None
+
+abbrev pub limit_from : Option Text → Option ℕ
+limit_from None = Some USUAL_STATES
+limit_from (Some word) = option_and_then state_limit (plain_number word)
+
+-- what is asked of all orders, if each part of it is something and --before goes in no ring
+abbrev pub exploration_from : (rings : Bool) → Option Forbidden → (before : List Pair) → (limit : Option ℕ) → Option ExplorationWords
+exploration_from false (Some never) before (Some limit) = Some (record { never = never; before = before; limit = limit })
+exploration_from rings never before limit = None
+
+abbrev pub words_to_explore : Option ExplorationWords → Option Text → Option (List Text)
+words_to_explore asked (Some file) = option_map (λ exploration. codes "explore" ∷ explore_arguments exploration file) asked
+words_to_explore asked None = None
+
+-- what is read of these values
+abbrev pub explored_from : (stuck : Bool) → (after : Option Text) → (works before : Option (List Text)) → (limit file : Option Text) → Option (List Text)
+explored_from stuck after works before limit file =
+    words_to_explore (exploration_from (goes_in_ring (pairs_from before)) (never_from stuck after works) (pairs_from before) (limit_from limit)) file
+
+abbrev pub asked_explore : (stuck : Bool) → List Row → Option (List Text)
+asked_explore stuck rows =
+    explored_from stuck (first_of (codes "ACTOR") rows) (all_of (codes "WORK") rows) (all_of (codes "BEFORE") rows) (first_of (codes "N") rows)
+    (first_of (codes "FILE") rows)
+
+abbrev pub file_to_explore : List Row → Option (List Text)
+file_to_explore rows = option_and_then (λ stuck. asked_explore stuck rows) (flag_of (codes "stuck") rows)
+
 -- those of the commands that look into a run
 abbrev pub asked_of_run : Text × List Row → Option (List Text)
 asked_of_run met =
@@ -346,6 +455,7 @@ asked_of_run met =
     else if bytes_eq met.0 (codes "why") then file_to_ask met.1
     else if bytes_eq met.0 (codes "play") then file_and_capacity met.1
     else if bytes_eq met.0 (codes "check") then all_values (codes "check") (codes "FILE") met.1
+    else if bytes_eq met.0 (codes "explore") then file_to_explore met.1
     else None
 
 abbrev pub asked_in : Text × List Row → Option (List Text)
@@ -370,9 +480,10 @@ abbrev pub HasCapacity : List Text → Type 0
 HasCapacity (command ∷ file ∷ option ∷ n ∷ []) = IsCapacityOf (bytes_eq command (codes "play")) n
 HasCapacity words = Unit {0}
 
--- what is asked for has such a capacity, if it has one
+-- what is asked for has such a capacity, and looks at so many states, if it has them
 abbrev pub IsWithin : Request → Type 0
 IsWithin (Play file capacity) = IsCapacity capacity
+IsWithin (Explore file exploration) = IsStateLimit exploration.limit
 IsWithin request = Unit {0}
 
 -- the request, which is there, has these words
@@ -383,8 +494,8 @@ IsRequestOf asked request = option_map (λ r. request_words r) request ≡ Some 
 abbrev pub IsRead : List Text → List Text → Type 0
 IsRead words asked = (takes command_line words ≡ true) × (asked_of (subcommand_of command_line words) ≡ Some asked) × HasCapacity asked
 
--- What clap met asks for nothing: it is `why`, and with its values no question; a picture whose first time is behind its last; or a debugger
--- whose scenario and commands would both come from standard input.
+-- What clap met asks for nothing: it is `why`, and with its values no question; a picture whose first time is behind its last; a debugger
+-- whose scenario and commands would both come from standard input; or `explore`, and with its values nothing that can be asked of all orders.
 abbrev pub IsNoQuestion : List Row → Type 0
 IsNoQuestion rows =
     (every settle : Bool) × (flag_of (codes "every") rows ≡ Some every) × (flag_of (codes "settle") rows ≡ Some settle) × (asked_why every settle rows ≡ None)
@@ -394,10 +505,14 @@ IsBackwards rows =
     (from to : ℕ) × (number_if_any (first_of (codes "FROM") rows) ≡ Some (Some from)) × (number_if_any (first_of (codes "TO") rows) ≡ Some (Some to))
     × (to < from)
 
+abbrev pub IsNoExploration : List Row → Type 0
+IsNoExploration rows = (stuck : Bool) × (flag_of (codes "stuck") rows ≡ Some stuck) × (asked_explore stuck rows ≡ None)
+
 abbrev pub AsksNothing : Text × List Row → Type 0
 AsksNothing met =
     ((met.0 ≡ codes "why") × IsNoQuestion met.1)
-    ⊎ (((met.0 ≡ codes "draw") × IsBackwards met.1) ⊎ ((met.0 ≡ codes "debug") × (first_of (codes "FILE") met.1 ≡ Some (codes "-"))))
+    ⊎ (((met.0 ≡ codes "draw") × IsBackwards met.1)
+    ⊎ (((met.0 ≡ codes "debug") × (first_of (codes "FILE") met.1 ≡ Some (codes "-"))) ⊎ ((met.0 ≡ codes "explore") × IsNoExploration met.1)))
 
 -- clap takes the words, and what it meets asks for nothing
 abbrev pub IsMisuse : List Text → Type 0
@@ -431,6 +546,63 @@ of_works names = record (spanned false false whole_span) { works = Some names }
 abbrev pub styled : Option ℕ → Option Text → DrawingWords
 styled scale id = record (spanned false true whole_span) { scale = scale; id = id }
 
+-- an exploration's names aren't options, its works differ, its actors don't wait for each other in a ring, and it looks at so many states
+abbrev pub HasPlainNames : Forbidden → Type 0
+HasPlainNames (Forbidden.never_after actor work) = IsPlainWord actor × IsPlainWord work
+HasPlainNames (Forbidden.never_runs work) = IsPlainWord work
+HasPlainNames (Forbidden.never_together work other) = IsPlainWord work × IsPlainWord other × (work ≢ other)
+HasPlainNames Forbidden.never_stuck = Unit {0}
+
+abbrev pub ArePlainPairs : List Pair → Type 0
+ArePlainPairs [] = Unit {0}
+ArePlainPairs (pair ∷ before) = IsPlainWord pair.0 × IsPlainWord pair.1 × ArePlainPairs before
+
+abbrev pub CanBeAsked : ExplorationWords → Type 0
+CanBeAsked asked = HasPlainNames asked.never × ArePlainPairs asked.before × HasNoRing asked.before × IsStateLimit asked.limit
+
+abbrev pub usual : Forbidden → List Pair → ExplorationWords
+usual never before = record { never = never; before = before; limit = USUAL_STATES }
+
+-- What is given of the three options that say what no order may come to; --never has one work or two.
+pub data WorksGiven : Type 0 where
+  no_works : WorksGiven
+  one_work : (work : Text) → WorksGiven
+  two_works : (work other : Text) → WorksGiven
+
+pub record NeverGiven : Type 0 where
+  pub stuck : Bool
+  pub after : Option Text
+  pub works : WorksGiven
+
+abbrev pub works_words : WorksGiven → List Text
+works_words WorksGiven.no_works = []
+works_words (WorksGiven.one_work work) = codes "--never" ∷ work ∷ []
+works_words (WorksGiven.two_works work other) = codes "--never" ∷ work ∷ other ∷ []
+
+abbrev pub given_words : NeverGiven → List Text
+given_words given = option_words (codes "--stuck") given.stuck ++ (text_words (codes "--after") given.after ++ works_words given.works)
+
+abbrev pub works_given : WorksGiven → Option (List Text)
+works_given WorksGiven.no_works = None
+works_given (WorksGiven.one_work work) = Some (work ∷ [])
+works_given (WorksGiven.two_works work other) = Some (work ∷ other ∷ [])
+
+-- that is one thing, if it is
+abbrev pub never_of : NeverGiven → Option Forbidden
+never_of given = never_from given.stuck given.after (works_given given.works)
+
+abbrev pub ArePlainWorks : WorksGiven → Type 0
+ArePlainWorks WorksGiven.no_works = Unit {0}
+ArePlainWorks (WorksGiven.one_work work) = IsPlainWord work
+ArePlainWorks (WorksGiven.two_works work other) = IsPlainWord work × IsPlainWord other
+
+abbrev pub IsPlainIfAny : Option Text → Type 0
+IsPlainIfAny (Some word) = IsPlainWord word
+IsPlainIfAny None = Unit {0}
+
+abbrev pub ArePlainGiven : NeverGiven → Type 0
+ArePlainGiven given = IsPlainIfAny given.after × ArePlainWorks given.works
+
 -- The table of the command line: which words behind the program's name ask for what, as the request's own words say it.
 pub data IsAskedBy : (given asked : List Text) → Type 0 where
   new : IsAskedBy (codes "new" ∷ []) (codes "new" ∷ [])
@@ -460,6 +632,11 @@ pub data IsAskedBy : (given asked : List Text) → Type 0 where
       → IsAskedBy (codes "why" ∷ file ∷ codes "--flush" ∷ decimal flush ∷ look_words looks) (codes "why" ∷ flush_arguments false looks flush file)
   play : (file : Text) (capacity : ℕ) → IsFileWord file → IsCapacity capacity
       → IsAskedBy (codes "play" ∷ file ∷ codes "--capacity" ∷ decimal capacity ∷ []) (codes "play" ∷ file ∷ codes "--capacity" ∷ decimal capacity ∷ [])
+  explore : (asked : ExplorationWords) (file : Text) → IsFileWord file → CanBeAsked asked
+      → IsAskedBy (codes "explore" ∷ explore_arguments asked file) (codes "explore" ∷ explore_arguments asked file)
+  -- without --limit, the usual number of states is looked at
+  explore_usual : (never : Forbidden) (before : List Pair) (file : Text) → IsFileWord file → CanBeAsked (usual never before)
+      → IsAskedBy (codes "explore" ∷ unlimited_arguments never before file) (codes "explore" ∷ explore_arguments (usual never before) file)
   check : (file : Text) → IsFileWord file → IsAskedBy (codes "check" ∷ file ∷ []) (codes "check" ∷ file ∷ [])
   check_two : (file other : Text) → IsPlainWord file → IsPlainWord other → IsAskedBy (codes "check" ∷ file ∷ other ∷ []) (codes "check" ∷ file ∷ other ∷ [])
   language : IsAskedBy (codes "help" ∷ codes "scenario" ∷ []) (codes "help" ∷ codes "scenario" ∷ [])
@@ -477,6 +654,15 @@ pub data IsMisusedBy : (given : List Text) → Type 0 where
       → IsMisusedBy (codes "why" ∷ codes "--at" ∷ number ∷ codes "--time" ∷ time ∷ file ∷ work ∷ [])
   drawn_backwards : (from to : ℕ) (file : Text) → to < from → from < 2 ^ 64 → IsPlainWord file
       → IsMisusedBy (codes "draw" ∷ codes "--from" ∷ decimal from ∷ codes "--to" ∷ decimal to ∷ file ∷ [])
+  -- it isn't said what no order may come to, or it isn't one thing
+  explore_never : (given : NeverGiven) (file : Text) → IsPlainWord file → ArePlainGiven given → never_of given ≡ None
+      → IsMisusedBy (codes "explore" ∷ file ∷ given_words given)
+  -- actors wait for each other in a ring
+  explore_ring : (never : Forbidden) (before : List Pair) (ring : List Text) (file : Text) → IsPlainWord file → HasPlainNames never → ArePlainPairs before
+      → IsRing before ring → IsMisusedBy (codes "explore" ∷ unlimited_arguments never before file)
+  -- so many states can't be looked at
+  explore_no_limit : (never : Forbidden) (number file : Text) → IsPlainWord file → HasPlainNames never → IsValueWord number → limit_from (Some number) ≡ None
+      → IsMisusedBy (codes "explore" ∷ file ∷ (never_words never ++ (codes "--limit" ∷ number ∷ [])))
   -- the commands of a debugger come from standard input
   debug_of_input : IsMisusedBy (codes "debug" ∷ codes "-" ∷ [])
 

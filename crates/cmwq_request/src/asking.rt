@@ -62,7 +62,7 @@ fn question_of<'a>(given: &ArgMatches<'a>) -> Option<Question<'a>>
 const MOST_DIGITS: usize = 10;
 
 /// The number that 1 to 10 digits spell; nothing where the word is anything else.
-fn plain_number(word: &str) -> Option<u64>
+pub(crate) fn plain_number(word: &str) -> Option<u64>
     ensures { result ≡ plain_number word.now }
 {
     if word.len() > MOST_DIGITS || word.starts_with('+') {

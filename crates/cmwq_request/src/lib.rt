@@ -3,4 +3,5 @@
 
 pub mod asking;
 pub mod draw_options;
+pub mod exploring;
 pub mod request;

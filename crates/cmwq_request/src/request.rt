@@ -2,16 +2,18 @@
 
 ghost use Rattle.clap.specs.Words.{Row, Text, all_of, app_of, fault_of, first_of, found_of, kind_of, rows_of, subcommand_rows_of};
 ghost use Rattle.cmwq_command_line.specs.CommandLine.{command_line};
-ghost use Rattle.cmwq_request.specs.Request.{Asks, AsksNothing, AsksVersion, HasCapacity, IsAskedBy, IsCapacity, IsMisuse, IsMisusedBy, IsRead, IsRequestOf, IsUsageFault, IsVersionWord, IsWithin, asked_in, asked_of, asked_of_run, asks_for_language, file_and_capacity, file_to_debug, file_to_run, kind_of_run, task_words, request_words};
+ghost use Rattle.cmwq_request.specs.Request.{Asks, AsksNothing, AsksVersion, HasCapacity, IsAskedBy, IsCapacity, IsMisuse, IsMisusedBy, IsRead, IsRequestOf, IsUsageFault, IsVersionWord, IsWithin, all_values, asked_in, asked_of, asked_of_run, asks_for_language, file_and_capacity, file_to_debug, file_to_run, kind_of_run, task_words, request_words};
 ghost use Rattle.std.specs.Fmt.{decimal};
 ghost use Rattle.std.specs.Str.{bytes_eq};
 ghost use Rattle.std.specs.Prelude.{◌≡◌, ◌↔◌, ℕ, List, [], ◌∷◌, IfOk, IfSome, IsTrue, None, Some, codes, false, map, option_map, string_bytes};
 
 use crate::asking::{wanted_by_why, why_request};
 use crate::draw_options::{draw_request, flag_of, wanted_by_draw};
+use crate::exploring::{explore_request, ring_told, wanted_by_explore};
 use clap::error::ErrorKind;
 use clap::{ArgMatches, Command, Error};
 use cmwq_command_line::commands::command_line;
+use cmwq_exploration::{Exploration, MAX_STATES};
 use cmwq_tasks::{RunKind, Task};
 use cmwq_types::MAX_LINES;
 use std::alloc::{AllocError, Global};
@@ -55,6 +57,13 @@ pub enum Request<'a> {
         /// How many instructions the machine takes at most, 1 to 4,096.
         capacity: u32,
     },
+    /// Look through all orders of the instructions of the actors of the scenario whose text is in this file.
+    Explore {
+        /// The text's path.
+        file: &'a str,
+        /// What is asked of them.
+        exploration: Exploration<'a>,
+    },
     /// Tell the verdict of each of these files.
     Check {
         /// The texts' paths, at least one.
@@ -69,10 +78,11 @@ pub enum Request<'a> {
 /// Reads the words, of which the first is the program's name. The error is a usage fault, help that
 /// was asked for, or want of memory; it holds the text for the user. The version is a request.
 ///
-/// Each command's words ask for it, where no FILE, OUT, IMAGE or WORK is empty or begins with a hyphen, but for a FILE or IMAGE that is `-`;
+/// Each command's words ask for it, where no FILE, OUT, IMAGE, WORK or ACTOR is empty or begins with a hyphen, but for a FILE or IMAGE that is `-`;
 /// the call then fails only for want of memory. It is a usage fault where `why` is asked of neither or of both of a work and
-/// a flush, at positions of two kinds, or with a number that hasn't 1 to 10 digits; where `draw` is to begin behind its end; and where
-/// `debug` is to read the scenario from `-`.
+/// a flush, at positions of two kinds, or with a number that hasn't 1 to 10 digits; where `draw` is to begin behind its end; where
+/// `debug` is to read the scenario from `-`; and where `explore` isn't told one thing that never may be, its `--before` goes in a ring, or its
+/// `--limit` isn't from 1 to [`MAX_STATES`].
 pub fn parse<'a>(alloc: Global, words: &'a [String]) -> Result<Request<'a>, Error>
     ensures asks { (name : Text) (given asked : List Text) → map string_bytes words.entry.now ≡ name ∷ given → IsAskedBy given asked → Asks asked result }
     ensures misuse { (name : Text) (given : List Text) → map string_bytes words.entry.now ≡ name ∷ given → IsMisusedBy given → IsUsageFault result }
@@ -116,8 +126,24 @@ fn request_met<'a>(
     };
     match request_of(alloc, &matches)? {
         Some(request) => Ok(request),
-        None => Err(command.error(ErrorKind::ValueValidation, wanted_words(&matches))?),
+        None => Err(misuse(alloc, command, &matches)?),
     }
+}
+
+/// The usage fault of words that ask for nothing. The error is want of memory.
+fn misuse<'a>(
+    alloc: Global,
+    command: &mut Command<'a>,
+    matches: &ArgMatches<'a>,
+) -> Result<Error, AllocError>
+    ensures { IfOk result (λ error. kind_of error ≡ ErrorKind.ValueValidation) }
+{
+    if let Some(("explore", given)) = matches.subcommand()
+        && let Some(line) = ring_told(alloc, given)?
+    {
+        return command.error(ErrorKind::ValueValidation, line.as_str());
+    }
+    command.error(ErrorKind::ValueValidation, wanted_words(matches))
 }
 
 /// What the command that was met takes.
@@ -125,6 +151,7 @@ fn wanted_words(matches: &ArgMatches<'_>) -> &'static str {
     match matches.subcommand() {
         Some(("draw", given)) => wanted_by_draw(given),
         Some(("why", given)) => wanted_by_why(given),
+        Some(("explore", given)) => wanted_by_explore(given),
         Some(("debug", _)) => "debug reads its commands from standard input, so FILE can't be -",
         _ => "--capacity takes a number from 1 to 4096",
     }
@@ -173,9 +200,21 @@ fn request_by<'a>(
     ensures nothing { AsksNothing (name.now, rows_of (found_of given.now)) → IfOk result (λ request. request ≡ None) }
     ensures capacity { IfOk result (λ found. IfSome found (λ request. IsWithin request)) }
 {
-    if name != "check" {
-        return Ok(request_on_file(name, given));
+    match name {
+        "check" => check_request(alloc, given),
+        "explore" => explore_request(alloc, given),
+        _ => Ok(request_on_file(name, given)),
     }
+}
+
+/// What `check` asks for. The error is want of memory.
+fn check_request<'a>(
+    alloc: Global,
+    given: &ArgMatches<'a>,
+) -> Result<Option<Request<'a>>, AllocError>
+    ensures words { (asked : List Text) → all_values (codes "check") (codes "FILE") (rows_of (found_of given.now)) ≡ Some asked → IfOk result (λ request. IsRequestOf asked request) }
+    ensures capacity { IfOk result (λ found. IfSome found (λ request. IsWithin request)) }
+{
     let Some(paths) = values_of(given, "FILE") else {
         return Ok(None);
     };
@@ -185,7 +224,8 @@ fn request_by<'a>(
 
 /// What the command of this name, which takes at most two files, asks for.
 fn request_on_file<'a>(name: &str, given: &ArgMatches<'a>) -> Option<Request<'a>>
-    requires { bytes_eq name.now (codes "check") ≡ false }
+    requires check { bytes_eq name.now (codes "check") ≡ false }
+    requires explore { bytes_eq name.now (codes "explore") ≡ false }
     ensures words { (asked : List Text) → asked_in (name.now, rows_of (found_of given.now)) ≡ Some asked → HasCapacity asked → option_map (λ request. request_words request) result ≡ Some asked }
     ensures nothing { AsksNothing (name.now, rows_of (found_of given.now)) → result ≡ None }
     ensures capacity { IfSome result (λ request. IsWithin request) }
@@ -208,7 +248,8 @@ fn request_on_file<'a>(name: &str, given: &ArgMatches<'a>) -> Option<Request<'a>
 
 /// What the command of this name, which looks into a run, asks for.
 fn request_on_run<'a>(name: &str, given: &ArgMatches<'a>) -> Option<Request<'a>>
-    requires { bytes_eq name.now (codes "check") ≡ false }
+    requires check { bytes_eq name.now (codes "check") ≡ false }
+    requires explore { bytes_eq name.now (codes "explore") ≡ false }
     ensures words { (asked : List Text) → asked_of_run (name.now, rows_of (found_of given.now)) ≡ Some asked → HasCapacity asked → option_map (λ request. request_words request) result ≡ Some asked }
     ensures nothing { AsksNothing (name.now, rows_of (found_of given.now)) → result ≡ None }
     ensures capacity { IfSome result (λ request. IsWithin request) }
@@ -298,7 +339,7 @@ pub(crate) fn value_of<'a>(given: &ArgMatches<'a>, id: &str) -> Option<&'a str>
 }
 
 /// All values of the argument.
-fn values_of<'m, 'a>(given: &'m ArgMatches<'a>, id: &str) -> Option<&'m [&'a str]>
+pub(crate) fn values_of<'m, 'a>(given: &'m ArgMatches<'a>, id: &str) -> Option<&'m [&'a str]>
     ensures { option_map (λ values. map (λ value. value.now) values.now) result ≡ all_of id.now (rows_of (found_of given.now)) }
 {
     given.get_strs(id)

@@ -1,0 +1,11 @@
+//! Rings of actors each of whom begins only when the one before has ended.
+#![tactic(auto)]
+
+mod examples;
+mod rings;
+
+pub use examples::{
+    a_line_is_no_ring, a_pair_of_one_is_a_ring, two_wait_for_each_other,
+    two_ways_to_one_are_no_ring,
+};
+pub use rings::find_ring;
