@@ -1,6 +1,9 @@
 //! The program `cmwq`: words in, status out.
 #![tactic(auto)]
 
+mod meter;
+
+use crate::meter::Meter;
 use cmwq_advice::take_explain;
 use cmwq_command::{Disk, Manner, ProgramSetting, advise, carry_out, reads_input, remark};
 use cmwq_outcome::{GOOD, Look, fault, tell};
@@ -28,6 +31,7 @@ fn main(rt: HostRuntime) -> ExitCode {
         Err(error) => return end_with(&rt, Err(error)),
     };
     let disk = disk_of(&rt, input.as_deref());
+    let mut meter = Meter::new(&rt);
     let outcome = carry_out(
         &rt,
         &disk,
@@ -40,7 +44,9 @@ fn main(rt: HostRuntime) -> ExitCode {
         rt.stdin(),
         &mut Marked::new(rt.stdout()),
         &mut Marked::new(rt.stderr()),
+        &mut meter,
     );
+    meter.clear();
     let mut errors = Marked::new(rt.stderr());
     let code = fault::end_with(&mut errors, outcome);
     if look != Look::Plain && !errors.failed {

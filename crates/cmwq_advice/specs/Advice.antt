@@ -1,5 +1,5 @@
 -- What a person is told to do about the fault that a command ended with. The lines are this project's own.
-use Rattle.std.specs.Prelude.{◌≡◌, ◌⊎◌, ℕ, suc, Bool, true, false, List, [], ◌∷◌, ◌++◌, ◌==◌, length, take, drop, Option, None, Some, codes, option_map, unwrap_or, if◌then◌else◌}
+use Rattle.std.specs.Prelude.{◌≡◌, ◌⊎◌, ℕ, suc, Bool, true, false, List, [], ◌∷◌, ◌++◌, ◌==◌, length, take, drop, Option, None, Some, codes, is_none, option_map, unwrap_or, if◌then◌else◌}
 use Rattle.std.specs.Borrow.{Bor}
 use Rattle.std.specs.Fmt.{decimal}
 use Rattle.std.specs.List.{flat_map}
@@ -10,12 +10,15 @@ use Rattle.cmwq_table.specs.Table.{run}
 use Rattle.cmwq_fitting.specs.Nearness.{nearest}
 use Rattle.cmwq_grammar.specs.Grammar.{Spells}
 use Rattle.cmwq_grammar.specs.Instructions.{work_names}
+use Rattle.cmwq_debug_lines.specs.Orders.{work_named}
 use Rattle.cmwq_draw.specs.Picking.{names_from, undeclared}
+use Rattle.cmwq_exploration.specs.declared.exploration.Never.{Never}
+use Rattle.cmwq_exploration.specs.declared.exploration.Never.TheVariants as never
 use Rattle.cmwq_asm.specs.declared.fault.AsmError.TheVariants as texts
 use Rattle.cmwq_image.specs.declared.error.ImageError.{ImageError}
 use Rattle.cmwq_image.specs.declared.error.ImageError.TheVariants as images
 use Rattle.cmwq_request.specs.declared.request.Request.{Request}
-use Rattle.cmwq_request.specs.declared.request.Request.TheVariants.{New, Do, Asm, Debug, Play}
+use Rattle.cmwq_request.specs.declared.request.Request.TheVariants.{New, Do, Asm, Debug, Play, Explore}
 use Rattle.cmwq_streams.specs.declared.error.PlayError.{PlayError}
 use Rattle.cmwq_streams.specs.declared.error.PlayError.TheVariants as errors
 use Rattle.cmwq_settle.specs.Settled.{IsSettledIf, IsUnsettledIf}
@@ -60,6 +63,7 @@ file_read (Do file task) = Some file.now
 file_read (Asm file out) = Some file.now
 file_read (Debug file settle) = Some file.now
 file_read (Play file capacity) = Some file.now
+file_read (Explore file exploration) = Some file.now
 file_read request = None
 
 abbrev pub file_made : Request → Option (List ℕ)
@@ -93,12 +97,14 @@ is_settled task = false
 
 abbrev pub full_words : Request → List ℕ
 full_words (Play file capacity) = line (codes "--capacity says how many instructions fit: 4096 at most")
+full_words (Explore file exploration) = line (codes "the actors have more than 4096 lines in all, each cancel_sync being three")
 full_words (Do file task) = actor_words (is_settled task)
 full_words (Debug file settle) = actor_words settle
 full_words request = actor_words false
 
-abbrev pub memory_words : List ℕ
-memory_words = line (codes "a shorter run, or a picture of fewer ticks (--from, --to), takes less memory")
+abbrev pub memory_words : Request → List ℕ
+memory_words (Explore file exploration) = line (codes "a lower --limit takes less memory")
+memory_words request = line (codes "a shorter run, or a picture of fewer ticks (--from, --to), takes less memory")
 
 -- where neither a file nor its scenario has to be looked at
 abbrev pub plain_words : Request → PlayError → List ℕ
@@ -108,14 +114,14 @@ plain_words request errors.NoSuchFlush = line (codes "flushes are numbered from 
 plain_words request errors.TooLong = line (codes "a text has at most 4194304 bytes, and so have the commands of a debugger")
 plain_words request errors.Tickets = line (codes "the lock has no ticket left")
 plain_words request (errors.Image error) = image_words error
-plain_words request errors.NoMemory = memory_words
-plain_words request (errors.Asm texts.NoMemory) = memory_words
+plain_words request errors.NoMemory = memory_words request
+plain_words request (errors.Asm texts.NoMemory) = memory_words request
 plain_words request fault = []
 
 -- what has to be seen in the scenario
 
 abbrev pub several_line : (file : List ℕ) → ℕ → List ℕ
-several_line file count = line (file ++ codes " has " ++ decimal count ++ codes " actors: this command takes one, and `cmwq play` several")
+several_line file count = line (file ++ codes " has " ++ decimal count ++ codes " actors: this command takes one; `cmwq play` and `cmwq explore` take several")
 
 abbrev pub actors_line : (file : List ℕ) → ℕ → List ℕ
 actors_line file count =
@@ -132,9 +138,16 @@ abbrev pub works_asked : ScenarioContents → Option (Bor (List ℕ)) → List �
 works_asked S (Some names) = unwrap_or (undeclared S (names_from [] names.now)) []
 works_asked S None = []
 
+abbrev pub forbidden_work : ScenarioContents → Never → List ℕ
+forbidden_work S (never.After actor work) = work.now
+forbidden_work S (never.Runs work) = work.now
+forbidden_work S (never.Together one other) = if is_none (work_named S one.now) then one.now else other.now
+forbidden_work S never.Stuck = []
+
 abbrev pub asked_work : ScenarioContents → Request → List ℕ
 asked_work S (Do file (Why inquiry)) = work_asked inquiry.question
 asked_work S (Do file (Draw drawing)) = works_asked S drawing.works
+asked_work S (Explore file exploration) = forbidden_work S exploration.never
 asked_work S request = []
 
 abbrev pub name_list : List WorkContents → List ℕ

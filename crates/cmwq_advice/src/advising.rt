@@ -63,7 +63,8 @@ pub fn file_read<'a>(request: &Request<'a>) -> Option<&'a str>
         Request::Do { file, .. }
         | Request::Asm { file, .. }
         | Request::Debug { file, .. }
-        | Request::Play { file, .. } => Some(*file),
+        | Request::Play { file, .. }
+        | Request::Explore { file, .. } => Some(*file),
         Request::New { .. } | Request::Check { .. } | Request::Language | Request::Version => None,
     }
 }

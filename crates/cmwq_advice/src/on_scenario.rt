@@ -1,5 +1,5 @@
 //! What can be done about a fault that shows in the scenario.
-ghost use Rattle.cmwq_advice.specs.Advice.{IsOnScenario, actors_line, asked_work, name_list, several_line, uncalled, work_asked, works_asked, works_by, works_line};
+ghost use Rattle.cmwq_advice.specs.Advice.{IsOnScenario, actors_line, asked_work, forbidden_work, name_list, several_line, uncalled, work_asked, works_asked, works_by, works_line};
 ghost use Rattle.cmwq_grammar.specs.Instructions.{work_names};
 ghost use Rattle.cmwq_types.specs.Faults.{IsValid};
 ghost use Rattle.cmwq_types.specs.declared.limits.TheConstants.{MAX_WORKS};
@@ -7,7 +7,9 @@ ghost use Rattle.std.specs.Prelude.{◌≡◌, ◌++◌, ◌<◌, ◌≤◌, IfO
 
 use crate::line::line_of;
 use crate::past_end::past_end;
+use cmwq_debug_lines::work_named;
 use cmwq_draw::undeclared;
+use cmwq_exploration::Never;
 use cmwq_fitting::nearest;
 use cmwq_request::request::Request;
 use cmwq_streams::PlayError;
@@ -40,7 +42,8 @@ pub(crate) fn on_scenario(
 
 const NO_ACTOR: &str = " has no actor: `actor NAME` and its instructions are missing at the end";
 
-const MANY_ACTORS: &str = " actors: this command takes one, and `cmwq play` several";
+const MANY_ACTORS: &str =
+    " actors: this command takes one; `cmwq play` and `cmwq explore` take several";
 
 /// How many actors there are, and what takes so many.
 fn actors_line(alloc: Global, file: &str, count: usize) -> Result<Vec<u8>, NoMemory>
@@ -83,7 +86,28 @@ fn asked_work(
             file: _,
             task: Task::Draw(drawing),
         } => works_asked(alloc, scenario, drawing.works),
+        Request::Explore {
+            file: _,
+            exploration,
+        } => bytes_of(alloc, forbidden_work(scenario, exploration.never)),
         _ => Ok(Vec::new(alloc)),
+    }
+}
+
+/// The name of the work that an exploration asks for, or the first of its two that isn't declared; no text where it asks for none.
+fn forbidden_work<'a>(scenario: &Scenario, never: Never<'a>) -> &'a str
+    ensures { result.now ≡ forbidden_work scenario.now never.entry }
+{
+    match never {
+        Never::After { work, .. } | Never::Runs(work) => work,
+        Never::Together(one, other) => {
+            if work_named(scenario, one.as_bytes()).is_none() {
+                one
+            } else {
+                other
+            }
+        }
+        Never::Stuck => "",
     }
 }
 

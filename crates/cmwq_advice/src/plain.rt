@@ -1,5 +1,5 @@
 //! What can be done about a fault by itself.
-ghost use Rattle.cmwq_advice.specs.Advice.{actor_words, full_words, image_words, is_settled, plain_words};
+ghost use Rattle.cmwq_advice.specs.Advice.{actor_words, full_words, image_words, is_settled, memory_words, plain_words};
 ghost use Rattle.std.specs.Prelude.{◌≡◌};
 
 use cmwq_asm::AsmError;
@@ -24,10 +24,18 @@ pub(crate) fn plain_words(request: &Request<'_>, fault: PlayError) -> &'static s
         }
         PlayError::Tickets => "  the lock has no ticket left\n",
         PlayError::Image(error) => image_words(error),
-        PlayError::NoMemory | PlayError::Asm(AsmError::NoMemory) => {
-            "  a shorter run, or a picture of fewer ticks (--from, --to), takes less memory\n"
-        }
+        PlayError::NoMemory | PlayError::Asm(AsmError::NoMemory) => memory_words(request),
         _ => "",
+    }
+}
+
+/// What takes less memory.
+fn memory_words(request: &Request<'_>) -> &'static str
+    ensures { result.now ≡ memory_words request.now }
+{
+    match request {
+        Request::Explore { .. } => "  a lower --limit takes less memory\n",
+        _ => "  a shorter run, or a picture of fewer ticks (--from, --to), takes less memory\n",
     }
 }
 
@@ -37,6 +45,9 @@ fn full_words(request: &Request<'_>) -> &'static str
 {
     match request {
         Request::Play { .. } => "  --capacity says how many instructions fit: 4096 at most\n",
+        Request::Explore { .. } => {
+            "  the actors have more than 4096 lines in all, each cancel_sync being three\n"
+        }
         Request::Do { file: _, task } => actor_words(is_settled(task)),
         Request::Debug { file: _, settle } => actor_words(*settle),
         _ => actor_words(false),

@@ -7,6 +7,7 @@ use Rattle.cmwq_grammar.specs.Grammar.{Spells}
 use Rattle.cmwq_image.specs.Image.{image}
 use Rattle.cmwq_image.specs.declared.version.TheConstants.{VERSION}
 use Rattle.cmwq_actors.specs.Interleaving.{Interleaves, scripts_of}
+use Rattle.cmwq_command.specs.ExploredFiles.{HasExploredFile}
 use Rattle.cmwq_command.specs.Tasks.{IsGoalOf, IsTaskFault, IsWrittenBy}
 use Rattle.cmwq_command_line.specs.CommandLine.{version_line}
 use Rattle.cmwq_debug_lines.specs.declared.manner.Manner.{Manner}
@@ -22,7 +23,7 @@ use Rattle.cmwq_play.specs.PlayTexts.{IsFaultOf, IsOutput, IsTextFault}
 use Rattle.clap.specs.Words.{Text}
 use Rattle.cmwq_request.specs.Request.{request_words}
 use Rattle.cmwq_request.specs.declared.request.Request.{Request}
-use Rattle.cmwq_request.specs.declared.request.Request.TheVariants.{New, Do, Asm, Debug, Play, Check, Language, Version}
+use Rattle.cmwq_request.specs.declared.request.Request.TheVariants.{New, Do, Asm, Debug, Play, Explore, Check, Language, Version}
 use Rattle.cmwq_settle.specs.Settled.{IsSettledIf, IsUnsettledIf}
 use Rattle.cmwq_streams.specs.Sending.{IsSendError}
 use Rattle.cmwq_streams.specs.declared.error.PlayError.{PlayError}
@@ -141,6 +142,8 @@ module _ (store : Store) (look : Look) (manner : Manner) (logic : List ℕ) (inp
       (errors_now ≡ errors) × Graded result (λ outcome. IfSome (store file.now) (λ bytes. HasDebugged manner settle bytes input output output_now failed outcome))
   HasCarriedOut (Play file capacity) result =
       (errors_now ≡ errors) × Graded result (λ outcome. IfSome (store file.now) (λ bytes. HasLeft capacity bytes output output_now failed outcome))
+  HasCarriedOut (Explore file exploration) result =
+      IfSome (store file.now) (λ bytes. HasExploredFile exploration bytes output output_now failed errors errors_now result)
   HasCarriedOut (Check files) (Ok status) =
       HasChecked store look (map (λ file. file.now) files.items) (length files.items) output output_now errors errors_now status
   HasCarriedOut (Check files) (Err error) = IsSendError error

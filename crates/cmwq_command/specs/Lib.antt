@@ -1,4 +1,5 @@
 pub mod Advised
 pub mod Carried
+pub mod ExploredFiles
 pub mod Opening
 pub mod Tasks

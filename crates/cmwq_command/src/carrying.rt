@@ -12,10 +12,12 @@ ghost use Rattle.cmwq_request.specs.Request.{IsAskedBy, IsCapacity, IsMisusedBy,
 ghost use Rattle.cmwq_streams.specs.Sending.{IsSendError};
 ghost use Rattle.std.specs.Prelude.{◌≡◌, ◌∷◌, [], List, IfErr, IfOk, IfSome, None, OnOk, Some, false, length, map, string_bytes, ℕ};
 
+use crate::exploring::explore_file;
 use crate::file_store::FileStore;
 use crate::tasks_done::do_task;
 use cmwq_actors::OpenGate;
 use cmwq_debug_session::Manner;
+use cmwq_explore::Progress;
 use cmwq_language::language_page;
 use cmwq_outcome::{GOOD, Judged, Look, check_text, tell, tell_unread, write_first, write_version};
 use cmwq_play::{Marked, PlayError, Sink};
@@ -41,9 +43,10 @@ pub struct ProgramSetting<'a> {
 }
 
 /// Does what the words ask, of which the first is the program's name, and gives the exit status. Commands of a
-/// debugger come from `input`. Events, listings, pictures, what a debugger says, what a play leaves, verdicts of good files, the version and
-/// help go to `output`, and other verdicts, which look as they are to, and usage faults to `errors`. A play may wait forever.
-pub fn carry_out<R, F: FileStore, I: Read + Drop, O: Sink, E: Sink>(
+/// debugger come from `input`. Events, listings, pictures, what a debugger says, what a play leaves, what a search of all orders comes to, verdicts of good files, the version and
+/// help go to `output`, and other verdicts, which look as they are to, and usage faults to `errors`. `progress` is told how far a search is.
+/// A play may wait forever.
+pub fn carry_out<R, F: FileStore, I: Read + Drop, O: Sink, E: Sink, P: Progress>(
     rt: &R,
     files: &F,
     setting: ProgramSetting<'_>,
@@ -51,6 +54,7 @@ pub fn carry_out<R, F: FileStore, I: Read + Drop, O: Sink, E: Sink>(
     input: I,
     output: &mut O,
     errors: &mut E,
+    progress: &mut P,
 ) -> Result<u8, PlayError>
 where
     R: AllocGlobal + Threads + Wait + Clock + Sync,
@@ -68,14 +72,16 @@ where
         → (output.new ≡ output.old) × IfOk result (λ status. status ≡ USAGE) }
 {
     match parse(rt.alloc(), words) {
-        Ok(request) => answer_request(rt, files, setting, input, output, errors, request),
+        Ok(request) => {
+            answer_request(rt, files, setting, input, output, errors, request, progress)
+        }
         Err(error) => tell(rt.alloc(), output, errors, error.kind(), &error),
     }
 }
 
 /// Does what is asked, and gives the exit status. Commands of a debugger come from the input. Events, listings, pictures, what a debugger
 /// says, what a play leaves, verdicts of good files and the version go to `output`, and other verdicts to `errors`.
-pub fn answer_request<R, F: FileStore, I: Read + Drop, O: Sink, E: Sink>(
+pub fn answer_request<R, F: FileStore, I: Read + Drop, O: Sink, E: Sink, P: Progress>(
     rt: &R,
     files: &F,
     setting: ProgramSetting<'_>,
@@ -83,6 +89,7 @@ pub fn answer_request<R, F: FileStore, I: Read + Drop, O: Sink, E: Sink>(
     output: &mut O,
     errors: &mut E,
     request: Request<'_>,
+    progress: &mut P,
 ) -> Result<u8, PlayError>
 where
     R: AllocGlobal + Threads + Wait + Clock + Sync,
@@ -106,6 +113,15 @@ where
             settle,
         )),
         Request::Play { file, capacity } => good(play_file(rt, files, output, file, capacity)),
+        Request::Explore { file, exploration } => explore_file(
+            rt.alloc(),
+            files,
+            output,
+            errors,
+            file,
+            &exploration,
+            progress,
+        ),
         Request::Check { files: paths } => check(
             rt.alloc(),
             files,

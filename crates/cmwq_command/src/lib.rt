@@ -3,6 +3,7 @@
 
 mod advising;
 mod carrying;
+mod exploring;
 mod file_store;
 mod standard_input;
 mod tasks_done;

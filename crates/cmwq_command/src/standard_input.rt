@@ -29,9 +29,10 @@ fn names_input(request: &Request<'_>) -> bool
     ensures { result ≡ names_input request.now }
 {
     match request {
-        Request::Do { file, .. } | Request::Asm { file, .. } | Request::Play { file, .. } => {
-            is_input(file)
-        }
+        Request::Do { file, .. }
+        | Request::Asm { file, .. }
+        | Request::Play { file, .. }
+        | Request::Explore { file, .. } => is_input(file),
         Request::Check { files } => has_input(files),
         Request::New { .. } | Request::Debug { .. } | Request::Language | Request::Version => false,
     }

@@ -3,6 +3,7 @@ use crate::checking::{same, setting_with};
 use clap::error::ErrorKind;
 use cmwq_command::{Disk, carry_out};
 use cmwq_exploration::{Never, Precedence};
+use cmwq_explore::Silent;
 use cmwq_machine_tests::streams::{Output, reading_of, writing_to};
 use cmwq_outcome::{Look, tell};
 use cmwq_play::Marked;
@@ -700,6 +701,7 @@ fn check_told<R: Files + AllocGlobal + Threads + Wait + Clock + Sync + Abort>(
         reading_of(b"", 1),
         &mut output,
         &mut errors,
+        &mut Silent,
     );
     same(rt, line, result, Ok(status));
     check_streams(rt, line, (output.into_inner(), errors.into_inner()), want);

@@ -4,6 +4,7 @@ ghost use Rattle.cmwq_request.specs.Request.{IsWithin};
 use crate::checking::{same, setting_with};
 use cmwq_asm::AsmError;
 use cmwq_command::{Disk, answer_request};
+use cmwq_explore::Silent;
 use cmwq_grammar::Why;
 use cmwq_image::ImageError;
 use cmwq_machine_tests::examples::{IMAGE_OF_STEPS_RUN_OUT as IMAGE, STEPS_RUN_OUT};
@@ -72,6 +73,7 @@ fn check_talk<R: Files + AllocGlobal + Threads + Wait + Clock + Sync + Abort>(
         &mut output,
         &mut errors,
         request,
+        &mut Silent,
     );
     same(rt, printed, result, want.map(|()| 0));
     same(rt, printed, output.inner.as_slice(), printed);
@@ -151,6 +153,7 @@ fn check_verdicts<R: Files + AllocGlobal + Threads + Wait + Clock + Sync + Abort
         &mut output,
         &mut errors,
         request,
+        &mut Silent,
     );
     let good: &[u8] = b"cmwq_checks/a.cmwq: ok\n";
     same(rt, "status", result, Ok(3));
