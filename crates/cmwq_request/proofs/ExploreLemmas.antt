@@ -1,5 +1,5 @@
 -- What clap makes of the words of `explore`.
-use Rattle.std.proofs.Common.{inl, inr, ap, ap₂, sym, subst, ◌&&◌, ◌≡◌, ◌≢◌, ◌∙◌, ◌⊎◌, ◌==◌, ◌≤◌, ◌<◌, ◌^◌, arith, ℕ, Bool, List, [], ◌∷◌, ◌++◌, true, false, Option, None, Some, codes, refl, bytes_eq, option_and_then, option_map}
+use Rattle.std.proofs.Common.{inr, ap, ap₂, sym, subst, ◌&&◌, ◌≡◌, ◌≢◌, ◌∙◌, arith, ℕ, Bool, List, [], ◌∷◌, ◌++◌, true, false, Option, None, Some, codes, refl, bytes_eq, option_and_then}
 use Rattle.std.specs.Prelude.{fold, if◌then◌else◌}
 use Rattle.std.specs.Cmp.Lexicographic.{bytes_decides}
 use Rattle.std.specs.Fmt.{decimal}
@@ -14,10 +14,10 @@ use Rattle.clap.specs.Walk.Waiting.{idle, option, positional}
 use Rattle.clap.proofs.OnLiterals.{clap_on_literals}
 use Rattle.cmwq_command_line.specs.CommandLine.{command_line}
 use Rattle.cmwq_rings.proofs.RingLemmas.{none_goes, ring_goes}
-use Rattle.cmwq_rings.specs.Rings.{HasNoRing, IsRing, Pair, goes_in_ring}
+use Rattle.cmwq_rings.specs.Rings.{IsRing, Pair, goes_in_ring}
 use Rattle.cmwq_exploration.specs.declared.exploration.TheConstants.{MAX_STATES}
 use Rattle.cmwq_types.specs.Faults.{within}
-use Rattle.cmwq_request.proofs.DrawLemmas.{Takes, file_begins, plain_begins}
+use Rattle.cmwq_request.proofs.DrawLemmas.{file_begins, plain_begins}
 use Rattle.cmwq_request.proofs.ExploringLemmas.{none_forbidden, none_limited, rings_ask_nothing}
 use Rattle.cmwq_request.proofs.WalkingLemmas.{Goes, end_passes, ends, explore_shape, has_explore, is_option_word, on, on_plain, taken}
 use Rattle.cmwq_request.proofs.WhyLemmas.{short_number, short_plain, value_begins}

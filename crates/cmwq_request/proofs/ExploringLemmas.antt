@@ -1,8 +1,8 @@
 -- What is read of the values of `explore`.
-use Rattle.std.proofs.Common.{ap, sym, ◌≡◌, ◌∙◌, ℕ, Bool, List, [], ◌∷◌, true, false, Option, None, Some, codes, refl, option_and_then, option_map}
+use Rattle.std.proofs.Common.{ap, sym, ◌≡◌, ◌∙◌, ℕ, Bool, List, ◌∷◌, true, false, Option, None, Some, codes, refl, option_and_then}
 use Rattle.clap.specs.Words.{Row, Text}
 use Rattle.cmwq_rings.specs.Rings.{Pair, goes_in_ring}
-use Rattle.cmwq_request.specs.Request.{ExplorationWords, Forbidden, asked_explore, exploration_from, explore_arguments, explored_from, file_to_explore, flag_of, limit_from, never_from, pairs_from, words_to_explore}
+use Rattle.cmwq_request.specs.Request.{Forbidden, asked_explore, exploration_from, explore_arguments, explored_from, file_to_explore, flag_of, limit_from, never_from, pairs_from, words_to_explore}
 
 pub explore_met : (rows : List Row) (asked : List Text) → file_to_explore rows ≡ Some asked
     → (stuck : Bool) × (flag_of (codes "stuck") rows ≡ Some stuck) × (asked_explore stuck rows ≡ Some asked)

@@ -1,4 +1,4 @@
-use Rattle.std.proofs.Common.{rules, subst, codes, ◌≡◌, IfOk, List, Option, Some, option_map}
+use Rattle.std.proofs.Common.{rules, subst, ◌≡◌, IfOk, List, Option, Some, option_map}
 use Rattle.clap.specs.Words.{Text, found_of, rows_of}
 use Rattle.cmwq_request.proofs.ExploringLemmas.{explore_met}
 use Rattle.cmwq_request.specs.Request.{file_to_explore, request_words}
