@@ -4,12 +4,14 @@
 mod asking;
 mod expanding;
 mod exploring;
+mod packing;
 mod plan;
 mod progress;
 mod seen;
 mod standing;
 mod stored;
 mod tracing;
+mod waiting;
 
 pub use exploring::{Answer, Tally, explore};
 pub use plan::{Plan, PlanError};
