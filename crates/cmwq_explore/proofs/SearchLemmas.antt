@@ -37,7 +37,7 @@ extends_further a b c (m, e) (n, f) = (m ++ n, f ∙ ap (λ (l : List Entry). l 
 pub extends_by : (seen : List Entry) (x : Entry) → Extends seen (seen ++ x ∷ [])
 extends_by seen x = (x ∷ [], refl)
 
-there_still : (a b : List Entry) (i : ℕ) (x : Entry) → Extends a b → slice_get a i ≡ Some x → slice_get b i ≡ Some x
+pub there_still : (a b : List Entry) (i : ℕ) (x : Entry) → Extends a b → slice_get a i ≡ Some x → slice_get b i ≡ Some x
 there_still a b i x (m, e) h = ap (λ (l : List Entry). slice_get l i) e ∙ get_more a m i x h
 
 there_before : (a b : List Entry) (i : ℕ) (x : Entry) → Extends a b → i < length a → slice_get b i ≡ Some x → slice_get a i ≡ Some x

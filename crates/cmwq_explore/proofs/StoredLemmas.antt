@@ -8,7 +8,8 @@ use Rattle.cmwq_table.specs.View.{ViewContents, entries_from, idle_from, view_of
 use Rattle.cmwq_table.specs.declared.view.IdleWorker.{IdleWorker}
 use Rattle.cmwq_orders.specs.Orders.{Explored}
 use Rattle.cmwq_orders.specs.Sizes.{IsSized, IsWhole}
-use Rattle.cmwq_explore.specs.Stored.{StoredContents, stored_of}
+use Rattle.cmwq_explore.proofs.PackLemmas.{state-same}
+use Rattle.cmwq_explore.specs.Stored.{stored_of}
 
 nil-cons : {A : Type 0} (x : A) (xs : List A) → [] ≡ x ∷ xs → ⊥
 nil-cons x xs h = cc
@@ -108,6 +109,8 @@ view-same S s t one other h =
 
 -- two states of one scenario of which the same is kept are one
 pub stored_same : (S : ScenarioContents) (e f : Explored) → IsWhole S e → IsWhole S f → stored_of e ≡ stored_of f → e ≡ f
+unfolding stored_of
 stored_same S e f one other h =
-    let machine = view-same S e.machine f.machine one.machine other.machine (ap (λ (k : StoredContents). k.view) h) in
-    λ i. record { machine = machine i; at = (h i).at; waits = (h i).waits }
+    let parts = state-same (view_of e.machine) (view_of f.machine) e.at f.at e.waits f.waits h in
+    let machine = view-same S e.machine f.machine one.machine other.machine parts.0 in
+    λ i. record { machine = machine i; at = parts.1 i; waits = parts.2 i }

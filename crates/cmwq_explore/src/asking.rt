@@ -133,6 +133,9 @@ impl<M: Machine> Standing<M> {
     fn can_take(&self, choice: Choice) -> Result<bool, NoMemory>
         ensures { IfOk result (λ can. can ≡ can_take self.now.plan.scenario self.now.plan.before self.now.explored choice) }
     {
+        if !self.may_take(choice) {
+            return Ok(false);
+        }
         let mut copy = self.copy()?;
         Ok(copy.take(choice).is_some())
     }

@@ -1,6 +1,7 @@
 //! What each choice of a state leads to, added to what was seen.
 ghost use Rattle.cmwq_explore.specs.Searching.{HasNext, IsFull, IsMarked, IsReady, Progress, knows};
 ghost use Rattle.cmwq_explore.specs.Stored.{stored_of};
+ghost use Rattle.cmwq_explore.specs.Waiting.{AreWaiting};
 ghost use Rattle.cmwq_orders.specs.Orders.{Explored, taken};
 ghost use Rattle.cmwq_orders.specs.Sizes.{IsWhole};
 ghost use Rattle.cmwq_orders.specs.declared.choice.Choice.TheVariants as choice;
@@ -10,6 +11,7 @@ ghost use Rattle.std.specs.Prelude.{◌≡◌, ◌+◌, ◌<◌, ℕ, IfOk, Ok, 
 
 use crate::seen::{Mark, Seen};
 use crate::standing::Standing;
+use crate::waiting::Waiting;
 use cmwq_orders::{Choice, Question};
 use cmwq_table::Machine;
 use cmwq_types::{Instr, MAX_LINES, NoMemory};
@@ -63,42 +65,48 @@ impl<M: Machine> Standing<M> {
 /// and a tick. It stops where one is of the kind that is asked for, and where there is no room for one.
 pub(crate) fn expand<M: Machine>(
     seen: &mut Seen,
+    waiting: &mut Waiting<M>,
     standing: &Standing<M>,
     asked: Asked,
 ) -> Result<Tried, NoMemory>
+    requires waiting { AreWaiting standing.now.plan seen.old waiting.old }
     requires ready { IsReady standing.now.plan.scenario standing.now.plan.before asked.question seen.old standing.now.explored asked.from asked.depth }
     ensures progress { IfOk result (Progress standing.now.plan asked.question seen.old seen.new standing.now.explored asked.from asked.depth
         ((c : Choice) → HasNext standing.now.plan.scenario standing.now.plan.before seen.new standing.now.explored asked.depth c)) }
     ensures full { result ≡ Ok Tried.Full → IsFull asked.limit seen.new asked.depth }
+    ensures waiting { result ≡ Ok Tried.Going → AreWaiting standing.now.plan seen.new waiting.new }
 {
-    match try_lines(seen, standing, asked)? {
+    match try_lines(seen, waiting, standing, asked)? {
         Tried::Going => {}
         other => return Ok(other),
     }
-    match try_choice(seen, standing, asked, Choice::Own(Instr::Fire))? {
+    match try_choice(seen, waiting, standing, asked, Choice::Own(Instr::Fire))? {
         Tried::Going => {}
         other => return Ok(other),
     }
-    match try_steps(seen, standing, asked)? {
+    match try_steps(seen, waiting, standing, asked)? {
         Tried::Going => {}
         other => return Ok(other),
     }
-    try_choice(seen, standing, asked, Choice::Own(Instr::Tick))
+    try_choice(seen, waiting, standing, asked, Choice::Own(Instr::Tick))
 }
 
 /// Adds what the actors' lines lead to.
 fn try_lines<M: Machine>(
     seen: &mut Seen,
+    waiting: &mut Waiting<M>,
     standing: &Standing<M>,
     asked: Asked,
 ) -> Result<Tried, NoMemory>
+    requires waiting { AreWaiting standing.now.plan seen.old waiting.old }
     requires ready { IsReady standing.now.plan.scenario standing.now.plan.before asked.question seen.old standing.now.explored asked.from asked.depth }
     ensures progress { IfOk result (Progress standing.now.plan asked.question seen.old seen.new standing.now.explored asked.from asked.depth
         ((actor : ℕ) → actor < length standing.now.plan.scenario.actors → HasNext standing.now.plan.scenario standing.now.plan.before seen.new standing.now.explored asked.depth (choice.Line actor))) }
     ensures full { result ≡ Ok Tried.Full → IsFull asked.limit seen.new asked.depth }
+    ensures waiting { result ≡ Ok Tried.Going → AreWaiting standing.now.plan seen.new waiting.new }
 {
     for actor in 0..standing.plan().actor_count() {
-        match try_choice(seen, standing, asked, Choice::Line(actor))? {
+        match try_choice(seen, waiting, standing, asked, Choice::Line(actor))? {
             Tried::Going => {}
             other => return Ok(other),
         }
@@ -109,16 +117,25 @@ fn try_lines<M: Machine>(
 /// Adds what the pools' moves lead to.
 fn try_steps<M: Machine>(
     seen: &mut Seen,
+    waiting: &mut Waiting<M>,
     standing: &Standing<M>,
     asked: Asked,
 ) -> Result<Tried, NoMemory>
+    requires waiting { AreWaiting standing.now.plan seen.old waiting.old }
     requires ready { IsReady standing.now.plan.scenario standing.now.plan.before asked.question seen.old standing.now.explored asked.from asked.depth }
     ensures progress { IfOk result (Progress standing.now.plan asked.question seen.old seen.new standing.now.explored asked.from asked.depth
         ((pool : ℕ) → pool < pool_count standing.now.plan.scenario → HasNext standing.now.plan.scenario standing.now.plan.before seen.new standing.now.explored asked.depth (choice.Own (instr.Step pool)))) }
     ensures full { result ≡ Ok Tried.Full → IsFull asked.limit seen.new asked.depth }
+    ensures waiting { result ≡ Ok Tried.Going → AreWaiting standing.now.plan seen.new waiting.new }
 {
     for pool in 0..standing.plan().pool_count() {
-        match try_choice(seen, standing, asked, Choice::Own(Instr::Step(pool)))? {
+        match try_choice(
+            seen,
+            waiting,
+            standing,
+            asked,
+            Choice::Own(Instr::Step(pool)),
+        )? {
             Tried::Going => {}
             other => return Ok(other),
         }
@@ -129,21 +146,24 @@ fn try_steps<M: Machine>(
 /// Adds what the choice leads to, if it can be taken and that wasn't seen.
 fn try_choice<M: Machine>(
     seen: &mut Seen,
+    waiting: &mut Waiting<M>,
     standing: &Standing<M>,
     asked: Asked,
     choice: Choice,
 ) -> Result<Tried, NoMemory>
+    requires waiting { AreWaiting standing.now.plan seen.old waiting.old }
     requires ready { IsReady standing.now.plan.scenario standing.now.plan.before asked.question seen.old standing.now.explored asked.from asked.depth }
     ensures progress { IfOk result (Progress standing.now.plan asked.question seen.old seen.new standing.now.explored asked.from asked.depth
         (HasNext standing.now.plan.scenario standing.now.plan.before seen.new standing.now.explored asked.depth choice)) }
     ensures full { result ≡ Ok Tried.Full → IsFull asked.limit seen.new asked.depth }
+    ensures waiting { result ≡ Ok Tried.Going → AreWaiting standing.now.plan seen.new waiting.new }
 {
     if !standing.may_take(choice) {
         return Ok(Tried::Going);
     }
     let mut next = standing.copy()?;
     match next.take(choice) {
-        Some(_) => add_next(seen, standing, &next, asked, choice),
+        Some(_) => add_next(seen, waiting, standing, next, asked, choice),
         None => Ok(Tried::Going),
     }
 }
@@ -151,17 +171,20 @@ fn try_choice<M: Machine>(
 /// Adds what the choice leads to, if that wasn't seen.
 fn add_next<M: Machine>(
     seen: &mut Seen,
+    waiting: &mut Waiting<M>,
     standing: &Standing<M>,
-    next: &Standing<M>,
+    next: Standing<M>,
     asked: Asked,
     choice: Choice,
 ) -> Result<Tried, NoMemory>
+    requires waiting { AreWaiting standing.now.plan seen.old waiting.old }
     requires ready { IsReady standing.now.plan.scenario standing.now.plan.before asked.question seen.old standing.now.explored asked.from asked.depth }
-    requires plan { next.now.plan ≡ standing.now.plan }
-    requires taken { taken standing.now.plan.scenario standing.now.plan.before standing.now.explored choice ≡ Some next.now.explored }
+    requires plan { next.plan ≡ standing.now.plan }
+    requires taken { taken standing.now.plan.scenario standing.now.plan.before standing.now.explored choice ≡ Some next.explored }
     ensures progress { IfOk result (Progress standing.now.plan asked.question seen.old seen.new standing.now.explored asked.from asked.depth
         (HasNext standing.now.plan.scenario standing.now.plan.before seen.new standing.now.explored asked.depth choice)) }
     ensures full { result ≡ Ok Tried.Full → IsFull asked.limit seen.new asked.depth }
+    ensures waiting { result ≡ Ok Tried.Going → AreWaiting standing.now.plan seen.new waiting.new }
 {
     let stored = next.stored()?;
     if seen.knows(&stored) {
@@ -171,10 +194,11 @@ fn add_next<M: Machine>(
         return Ok(Tried::Full);
     }
     let mark = next.marked(asked, choice, asked.depth + 1)?;
-    seen.add(stored, mark)?;
+    let place = seen.len();
+    seen.add(&stored, mark)?;
     if mark.fails {
-        Ok(Tried::Failing)
-    } else {
-        Ok(Tried::Going)
+        return Ok(Tried::Failing);
     }
+    waiting.keep(place, next)?;
+    Ok(Tried::Going)
 }

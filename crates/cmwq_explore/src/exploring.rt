@@ -1,6 +1,7 @@
 //! The search through all orders, and its answer.
 ghost use Rattle.cmwq_explore.specs.Outcomes.{IsAnswer, IsCounted, IsFoundWithin, IsShort};
 ghost use Rattle.cmwq_explore.specs.Searching.{Begins, Comes, Handles, IsAhead, IsFull};
+ghost use Rattle.cmwq_explore.specs.Waiting.{AreWaiting};
 ghost use Rattle.std.specs.Prelude.{◌≡◌, ℕ, [], IfOk, Ok, false};
 
 use crate::expanding::{Asked, Tried, expand};
@@ -8,7 +9,8 @@ use crate::plan::Plan;
 use crate::progress::Progress;
 use crate::seen::{Counted, Seen};
 use crate::standing::Standing;
-use crate::tracing::{order_to, standing_at};
+use crate::tracing::{come_to, order_to};
+use crate::waiting::Waiting;
 use cmwq_orders::{Choice, Question};
 use cmwq_table::Machine;
 use cmwq_types::{Instr, MAX_LINES, NoMemory};
@@ -118,7 +120,8 @@ fn begin<M: Machine>(
         depth: 0,
     };
     let mark = start.marked(asked, Choice::Own(Instr::Tick), 0)?;
-    seen.add(start.stored()?, mark)?;
+    let stored = start.stored()?;
+    seen.add(&stored, mark)?;
     Ok(mark.fails)
 }
 
@@ -135,6 +138,7 @@ fn search<M: Machine, P: Progress>(
     ensures comes { IfOk result (Comes plan.now.value question seen.new) }
     ensures full { (depth : ℕ) → result ≡ Ok (Ending.Deep depth) → IsFull limit seen.new depth }
 {
+    let mut waiting = Waiting::new(alloc);
     for place in 0..limit as usize + 1 {
         let Some(mark) = seen.mark(place) else {
             return Ok(Ending::Closed);
@@ -146,7 +150,7 @@ fn search<M: Machine, P: Progress>(
             depth: mark.depth,
         };
         progress.tell(seen.len(), mark.depth);
-        match handle::<M>(alloc, plan, asked, seen)? {
+        match handle::<M>(alloc, plan, asked, seen, &mut waiting)? {
             Tried::Going => {}
             Tried::Failing => return Ok(Ending::Failed),
             Tried::Full => return Ok(Ending::Deep(mark.depth)),
@@ -161,13 +165,17 @@ fn handle<M: Machine>(
     plan: &Arc<Plan>,
     asked: Asked,
     seen: &mut Seen,
+    waiting: &mut Waiting<M>,
 ) -> Result<Tried, NoMemory>
+    requires waiting { AreWaiting plan.now.value seen.old waiting.old }
     requires ahead { IsAhead plan.now.value asked.question seen.old asked.from asked.depth }
     ensures handles { IfOk result (Handles plan.now.value asked.question seen.old seen.new asked.from asked.depth) }
     ensures full { result ≡ Ok Tried.Full → IsFull asked.limit seen.new asked.depth }
+    ensures waiting { result ≡ Ok Tried.Going → AreWaiting plan.now.value seen.new waiting.new }
 {
-    let standing = standing_at::<M>(alloc, plan, asked.question, seen, asked.from as usize)?;
-    expand(seen, &standing, asked)
+    let place = asked.from as usize;
+    let standing = come_to::<M>(alloc, plan, asked.question, seen, waiting, place)?;
+    expand(seen, waiting, &standing, asked)
 }
 
 /// How many states were seen, and in how many of them what is counted holds.

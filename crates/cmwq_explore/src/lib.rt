@@ -4,6 +4,7 @@
 mod asking;
 mod expanding;
 mod exploring;
+mod packing;
 mod plan;
 mod progress;
 mod retracing;
@@ -11,6 +12,7 @@ mod seen;
 mod standing;
 mod stored;
 mod tracing;
+mod waiting;
 
 pub use exploring::{Answer, Tally, explore};
 pub use plan::{Plan, PlanError};

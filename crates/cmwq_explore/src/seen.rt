@@ -95,12 +95,13 @@ impl Seen {
     }
 
     /// Adds a state that wasn't seen. The only error is want of memory, and then nothing changes.
-    pub(crate) fn add(&mut self, stored: Stored, mark: Mark) -> Result<(), NoMemory>
-        requires new { knows self.old stored ≡ false }
-        ensures added { OnOk result (self.new ≡ self.old ++ (stored, mark) ∷ []) }
+    pub(crate) fn add(&mut self, stored: &Stored, mark: Mark) -> Result<(), NoMemory>
+        requires new { knows self.old stored.now ≡ false }
+        ensures added { OnOk result (self.new ≡ self.old ++ (stored.now, mark) ∷ []) }
         ensures same { OnErr result (self.new ≡ self.old) }
     {
-        self.states.insert(stored, mark)?;
+        let kept = stored.kept()?;
+        self.states.insert(kept, mark)?;
         Ok(())
     }
 

@@ -72,15 +72,13 @@ impl<M: Machine> Standing<M> {
         })
     }
 
-    /// Every part of it, to be kept.
+    /// Every part of it, to be looked up.
+    #[tactic(auto, unfolding(crate::specs::Stored::stored_of))]
     pub(crate) fn stored(&self) -> Result<Stored, NoMemory>
         ensures { IfOk result (λ stored. stored ≡ stored_of self.now.explored) }
     {
         let alloc = *self.at.allocator();
-        let view = self.machine.look()?;
-        let at = Vec::from_slice(alloc, &self.at)?;
-        let waits = Vec::from_slice(alloc, &self.waits)?;
-        Ok(Stored { view, at, waits })
+        Stored::of(alloc, &self.machine.look()?, &self.at, &self.waits)
     }
 
     /// The plan.

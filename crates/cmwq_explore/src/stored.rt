@@ -1,21 +1,24 @@
-//! What is kept of a state: every part of it, and equality that is exact.
+//! What is kept of a state: every part of it, as bytes, and equality that is exact.
 ghost use Rattle.cmwq_explore.specs.ExactStored.{fed_alike, stored_eq_is_exact};
-ghost use Rattle.cmwq_explore.specs.Stored.{digest, mixed, mixed_pending, mixed_running, stored_eq};
+ghost use Rattle.cmwq_explore.specs.Packed.{state_bytes};
+ghost use Rattle.cmwq_explore.specs.Stored.{stored_eq};
 ghost use Rattle.std.specs.Cmp.{decided, partial_equiv_from_equiv};
-ghost use Rattle.std.specs.Hash as fed;
-ghost use Rattle.std.specs.Prelude.{◌≡◌, ◌↔◌, IsTrue, fold};
+ghost use Rattle.std.specs.Prelude.{◌≡◌, ◌↔◌, ◌∷◌, [], IfOk, IsTrue};
 
-use cmwq_table::{Pending, Running, View};
-use cmwq_types::WorkId;
+use crate::packing::{pack_list, pack_machine, pack_works};
+use cmwq_table::View;
+use cmwq_types::NoMemory;
+use std::alloc::Global;
 use std::hash::{Hash, Hasher};
 use std::marker::Model;
 
-/// Every part of a state, as it is kept.
+/// So many bytes most states have at most.
+const USUAL_SIZE: usize = 224;
+
+/// Every part of a state, as bytes.
 #[derive(Drop)]
 pub(crate) struct Stored {
-    pub(crate) view: View,
-    pub(crate) at: Vec<u16>,
-    pub(crate) waits: Vec<Option<u16>>,
+    bytes: Vec<u8>,
 }
 
 impl Model for Stored {
@@ -23,20 +26,20 @@ impl Model for Stored {
 
     ghost Value = { StoredContents };
 
-    ghost view = { λ k. record { view = k.view; at = k.at.items; waits = k.waits.items } };
+    ghost view = { λ k. k.bytes.items };
 }
 
-/// Two kept states are equal exactly where all their parts are.
+/// Two kept states are equal exactly where all their bytes are.
 impl PartialEq for Stored {
     ghost eq = { stored_eq };
 
     ghost laws = { partial_equiv_from_equiv (decided stored_eq stored_eq_is_exact) };
 
     fn eq(&self, other: &Stored) -> bool
-        ensures by_parts { result ≡ stored_eq self.now other.now }
+        ensures by_bytes { result ≡ stored_eq self.now other.now }
         ensures exact { IsTrue result ↔ (self.now ≡ other.now) }
     {
-        self.at == other.at && self.waits == other.waits && self.view == other.view
+        self.bytes == other.bytes
     }
 }
 
@@ -44,70 +47,43 @@ impl Eq for Stored {
     ghost laws = { decided stored_eq stored_eq_is_exact };
 }
 
-/// A hasher is fed one number, which is made of the clock, the actors' places and the works' stamps.
+/// A hasher is fed all bytes at once.
 impl Hash for Stored {
-    ghost hash_input = { λ k. fed.u64 (digest k) };
+    ghost hash_input = { λ k. k ∷ [] };
 
-    ghost respects_eq = { fed_alike (λ k. fed.u64 (digest k)) };
+    ghost respects_eq = { fed_alike (λ k. k ∷ []) };
 
     fn hash<H: Hasher>(&self, state: &mut H) {
-        self.digest().hash(state);
+        state.write(&self.bytes);
     }
 }
 
 impl Stored {
-    #[tactic(auto, unfolding(crate::specs::Stored::digest))]
-    fn digest(&self) -> u64
-        ensures { result ≡ digest self.now }
+    /// A state and where its actors stand, to be looked up.
+    #[tactic(auto, unfolding(crate::specs::Packed::state_bytes))]
+    pub(crate) fn of(
+        alloc: Global,
+        view: &View,
+        at: &[u16],
+        waits: &[Option<u16>],
+    ) -> Result<Stored, NoMemory>
+        ensures { IfOk result (λ stored. stored ≡ state_bytes view.now at.now waits.now) }
     {
-        let scalars = mixed(
-            mixed(mixed(1, self.view.time), self.view.next),
-            u64::from(self.view.spent),
-        );
-        let at = digest_places(scalars, &self.at);
-        let pending = digest_pending(at, &self.view.pending);
-        digest_running(pending, &self.view.running)
+        let mut bytes = Vec::with_capacity(alloc, USUAL_SIZE)?;
+        pack_machine(&mut bytes, view)?;
+        pack_works(&mut bytes, view)?;
+        pack_list(&mut bytes, at)?;
+        pack_list(&mut bytes, waits)?;
+        Ok(Stored { bytes })
     }
-}
 
-fn mixed(digest: u64, x: u64) -> u64
-    ensures { result ≡ mixed digest x }
-{
-    digest.wrapping_mul(1_000_003).wrapping_add(x)
-}
-
-fn digest_places(first: u64, places: &[u16]) -> u64
-    ensures { result ≡ fold mixed first places.now }
-{
-    let mut digest = first;
-    for at in places {
-        digest = mixed(digest, u64::from(*at));
+    /// The same, in no more memory than it needs, to be kept.
+    pub(crate) fn kept(&self) -> Result<Stored, NoMemory>
+        ensures { IfOk result (λ kept. kept ≡ self.now) }
+    {
+        let alloc = *self.bytes.allocator();
+        Ok(Stored {
+            bytes: Vec::from_slice(alloc, &self.bytes)?,
+        })
     }
-    digest
-}
-
-fn digest_pending(first: u64, pending: &[(WorkId, Pending)]) -> u64
-    ensures { result ≡ fold mixed_pending first pending.now }
-{
-    let mut digest = first;
-    for (w, p) in pending {
-        digest = mixed(mixed(digest, u64::from(w.0)), p.stamp);
-    }
-    digest
-}
-
-fn digest_running(first: u64, running: &[(WorkId, Running)]) -> u64
-    ensures { result ≡ fold mixed_running first running.now }
-{
-    let mut digest = first;
-    for (w, r) in running {
-        digest = mixed(
-            mixed(
-                mixed(mixed(digest, u64::from(w.0)), r.stamp),
-                u64::from(r.pc),
-            ),
-            u64::from(r.left),
-        );
-    }
-    digest
 }

@@ -1,6 +1,7 @@
 //! From a state that was seen back to the start, and from there to it again.
 ghost use Rattle.cmwq_explore.specs.Searching.{IsGrown};
 ghost use Rattle.cmwq_explore.specs.Tracing.{IsOrderTo, IsSeenAt};
+ghost use Rattle.cmwq_explore.specs.Waiting.{AreWaiting};
 ghost use Rattle.cmwq_orders.specs.Orders.{Explored, reached};
 ghost use Rattle.cmwq_orders.specs.Sizes.{IsWhole};
 ghost use Rattle.std.specs.Prelude.{◌≡◌, ◌<◌, IfOk, Some, length, reverse};
@@ -8,6 +9,7 @@ ghost use Rattle.std.specs.Prelude.{◌≡◌, ◌<◌, IfOk, Some, length, reve
 use crate::plan::Plan;
 use crate::seen::Seen;
 use crate::standing::Standing;
+use crate::waiting::Waiting;
 use cmwq_orders::{Choice, Question};
 use cmwq_table::Machine;
 use cmwq_types::NoMemory;
@@ -53,8 +55,31 @@ fn choices_back(
     Ok(back)
 }
 
-/// A machine and the actors, where the state at this place has them.
-pub(crate) fn standing_at<M: Machine>(
+/// A machine and the actors, where the state at this place has them: one that waits, or else a new one.
+pub(crate) fn come_to<M: Machine>(
+    alloc: Global,
+    plan: &Arc<Plan>,
+    question: Question,
+    seen: &Seen,
+    waiting: &mut Waiting<M>,
+    place: usize,
+) -> Result<Standing<M>, NoMemory>
+    requires waiting { AreWaiting plan.now.value seen.now waiting.old }
+    requires grown { IsGrown plan.now.value.scenario plan.now.value.before question seen.now }
+    requires there { place < length seen.now }
+    ensures plan { IfOk result (λ standing. standing.plan ≡ plan.now.value) }
+    ensures there { IfOk result (λ standing. IsSeenAt seen.now place standing.explored) }
+    ensures whole { IfOk result (λ standing. IsWhole plan.now.value.scenario standing.explored) }
+    ensures waiting { AreWaiting plan.now.value seen.now waiting.new }
+{
+    match waiting.take(place) {
+        Some(standing) => Ok(standing),
+        None => standing_at(alloc, plan, question, seen, place),
+    }
+}
+
+/// A new machine and the actors, where the state at this place has them.
+fn standing_at<M: Machine>(
     alloc: Global,
     plan: &Arc<Plan>,
     question: Question,

@@ -5,5 +5,5 @@ use Rattle.cmwq_explore.proofs.exploring.begin.Goals as goal
 pub returns : goal.returns
 returns g c =
     begins_by c.args.plan.now.value c.in_ok-start.start.plan c.in_ok-clone.field-0.value c.args.question c.args.seen.now c.add.new.self c.in_ok-start.start.explored
-    c.in_ok-stored.field-0 c.in_ok-mark.mark c.requires.none c.in_ok-add.ensures.added c.in_ok-stored.ensures c.in_ok-start.ensures.start c.in_ok-start.ensures.plan (search rules)
+    c.in_ok-stored.stored c.in_ok-mark.mark c.requires.none c.in_ok-add.ensures.added c.in_ok-stored.ensures c.in_ok-start.ensures.start c.in_ok-start.ensures.plan (search rules)
     c.in_ok-mark.ensures.noted c.in_ok-mark.ensures.depth

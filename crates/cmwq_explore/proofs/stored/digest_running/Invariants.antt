@@ -1,7 +1,0 @@
-use Rattle.std.proofs.Common.{◌≡◌, fold, take}
-use Rattle.cmwq_explore.specs.Stored.{mixed_running}
-use Rattle.cmwq_explore.proofs.stored.digest_running.Given as goal
-
--- of those so far
-abbrev pub invariant-loop-w : goal.invariant-loop-w
-invariant-loop-w l = l.digest ≡ fold mixed_running l.first (take l.w-index l.running)
