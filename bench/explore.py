@@ -1,4 +1,4 @@
-"""What a search of all orders takes: states, seconds, microseconds and bytes a state.
+"""What a search of all orders takes: states, the processor's seconds, and microseconds and bytes a state.
 
     python3 bench/explore.py FOLDER [PROGRAM]
 
@@ -51,12 +51,12 @@ def build(program):
 
 
 def asked(program, text, words):
-    """What the program printed, its seconds, and the most bytes that it had: as time(1) tells them, since a child of this program would
-    count this program's memory too."""
+    """What the program printed, the processor's seconds, and the most bytes that it had: as time(1) tells them, since a child of this
+    program would count this program's memory too."""
     with open(text, "rb") as it, tempfile.NamedTemporaryFile("r") as used:
-        out = subprocess.run(["/usr/bin/time", "-f", "%e %M", "-o", used.name, program, *words], stdin=it, stdout=subprocess.PIPE, check=True, text=True).stdout
-        seconds, kilobytes = used.read().split()
-    return out.strip(), float(seconds), int(kilobytes) * 1024
+        out = subprocess.run(["/usr/bin/time", "-f", "%U %S %M", "-o", used.name, program, *words], stdin=it, stdout=subprocess.PIPE, check=True, text=True).stdout
+        user, system, kilobytes = used.read().split()
+    return out.strip(), float(user) + float(system), int(kilobytes) * 1024
 
 
 def wanted(told):
