@@ -12,10 +12,10 @@ use crate::asking::{precedences_asked, question_asked};
 use crate::error::ExploreError;
 use crate::found::found_text;
 use crate::outcome::Outcome;
-use cmwq_core::Core;
 use cmwq_exploration::Exploration;
 use cmwq_explore::{Answer, Plan, Progress};
 use cmwq_orders::Question;
+use cmwq_plain::Plain;
 use cmwq_play::read_text;
 use cmwq_streams::{PlayError, Sink, Source, put_all};
 use cmwq_table::Machine;
@@ -43,7 +43,7 @@ pub fn explore<R: Source, W: Sink, P: Progress>(
     ensures explores { Explores exploration.now (R.remaining reader.old) (W.contents writer.old) (W.contents writer.new) (W.failed writer.new) result }
 {
     let scenario = read_text(alloc, reader)?;
-    match explored::<Core, P>(alloc, scenario, exploration, progress) {
+    match explored::<Plain, P>(alloc, scenario, exploration, progress) {
         Ok((outcome, text)) => {
             put_all(writer, &text)?;
             Ok(outcome)
