@@ -111,7 +111,7 @@ every: draw draw-settled draw-svg draw-settled-svg draw-some draw-some-svg
 every: why why-every why-at why-time why-settled why-flush why-flush-every why-flush-at
 every: draw-folded draw-works run_told-settled
 late: run check
-asks: play
+asks: play explore
 """
 ROWS = [(call, name) for name, calls in re.findall("^(.*): (.*)$", TABLE, re.M) for call in calls.split()]
 # These answer all the same: a debugger goes on without the copies that it makes on its way forward, and the others take no memory.

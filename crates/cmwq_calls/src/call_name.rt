@@ -72,7 +72,7 @@ const FLUSHED: Inquiry<'static> = Inquiry {
 };
 
 /// Each call with its name.
-pub(crate) const CALLS: [(&str, CallName); 64] = [
+pub(crate) const CALLS: [(&str, CallName); 65] = [
     ("Scenario::copy", CallName::Text(TextCall::Copy)),
     ("assemble", CallName::Text(TextCall::Assemble)),
     ("read_text", CallName::Text(TextCall::ReadText)),
@@ -330,6 +330,7 @@ pub(crate) const CALLS: [(&str, CallName); 64] = [
     ),
     ("check", CallName::Stream(StreamCall::Check)),
     ("new", CallName::Stream(StreamCall::New)),
+    ("explore", CallName::Stream(StreamCall::Explore)),
     ("debug", CallName::Debug),
     ("play", CallName::Play),
 ];

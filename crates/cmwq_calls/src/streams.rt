@@ -1,14 +1,21 @@
 //! The calls that read an input and write what comes of it.
+ghost use Rattle.std.specs.Prelude.{◌≡◌, false};
 
 use crate::showing::{HexPrinter, Printer};
 use crate::texts::written;
 use crate::trying::{Tried, try_call};
 use cmwq_asm::assemble;
 use cmwq_command::do_task;
+use cmwq_exploration::{Exploration, Never};
+use cmwq_explore::Silent;
+use cmwq_explored::{ExploreError, explore};
 use cmwq_outcome::{Look, check_text, write_first};
-use cmwq_play::{Marked, PlayError, to_image};
+use cmwq_play::{Marked, PlayError, Sink, Source, to_image};
 use cmwq_tasks::Task;
 use std::alloc::Global;
+
+/// So many states of a search are looked at.
+const SOME_STATES: u32 = 20;
 
 /// A call of a reader and a writer.
 #[derive(Clone, Copy)]
@@ -18,6 +25,7 @@ pub(crate) enum StreamCall {
     ToImage,
     Check,
     New,
+    Explore,
 }
 
 /// What the reader has, and a call.
@@ -55,6 +63,7 @@ impl<X: Print> Tried for Piped<'_, X> {
                 Ok(())
             }
             StreamCall::New => write_first(writer),
+            StreamCall::Explore => explored(alloc, reader, writer),
         }
     }
 
@@ -65,6 +74,27 @@ impl<X: Print> Tried for Piped<'_, X> {
         _answer: (),
     ) -> Result<(), PlayError> {
         Ok(())
+    }
+}
+
+/// Looks through some orders of the actors of the scenario whose text the reader has.
+fn explored<R: Source, W: Sink>(
+    alloc: Global,
+    reader: &mut R,
+    writer: &mut W,
+) -> Result<(), PlayError>
+    requires reader { R.failed reader.old ≡ false }
+    requires writer { W.failed writer.old ≡ false }
+{
+    let exploration = Exploration {
+        never: Never::Stuck,
+        before: Vec::new(alloc),
+        limit: SOME_STATES,
+    };
+    match explore(alloc, &exploration, reader, writer, &mut Silent) {
+        Ok(_) => Ok(()),
+        Err(ExploreError::Play(why)) => Err(why),
+        Err(ExploreError::NoSuchActor | ExploreError::Flushes(_)) => Err(PlayError::Actors),
     }
 }
 
