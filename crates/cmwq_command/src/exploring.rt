@@ -51,7 +51,7 @@ fn told_so<E: Sink>(
     match explored {
         Ok(outcome) => Ok(status_of(outcome)),
         Err(ExploreError::Play(why)) => Err(why),
-        Err(ExploreError::NoSuchActor) => { tell_line(errors, b"no such actor\n") }
+        Err(ExploreError::NoSuchActor) => tell_line(errors, b"no such actor\n"),
         Err(ExploreError::Flushes(count)) => {
             let line = format!(in alloc; "flushes {count} needed\n")?;
             tell_line(errors, line.as_bytes())

@@ -1,5 +1,6 @@
-use Rattle.std.proofs.Common.{◌≡◌, ◌≤◌, ◌+◌, ◌∙◌, ◌++◌, List, ℕ, arith, sym, ap, subst, length, rules}
+use Rattle.std.proofs.Common.{◌≡◌, ◌≤◌, ◌+◌, ◌∙◌, ◌++◌, List, ℕ, arith, codes, sym, ap, subst, length, rules}
 use Rattle.std.specs.Str.{IsUtf8}
+use Rattle.cmwq_annotated.specs.Acted.{acted}
 use Rattle.cmwq_grammar.specs.Comments.{comments, listing_room}
 use Rattle.cmwq_grammar.specs.Grammar.{Spells}
 use Rattle.cmwq_table.specs.Events.{events}
@@ -25,8 +26,9 @@ returns-clause-spells c =
     let S = c.args.scenario.now in
     let instrs = c.args.instrs.now in
     let T = played S instrs in
-    let same : c.in_ok-played.played ≡ T = c.in_ok-played.ensures.acted in
-    let valid : IsValid T = c.in_ok-played.ensures.valid c.requires.valid c.requires.declared c.requires.few in
+    let named : c.in-Some.name ≡ codes "played" = search rules in
+    let same : c.in_ok-played.played ≡ T = c.in_ok-played.ensures.acted ∙ ap (λ (name : List ℕ). acted S name instrs) named in
+    let valid : IsValid T = subst (λ (name : List ℕ). IsValid (acted S name instrs)) named (c.in_ok-played.ensures.valid c.requires.valid c.requires.declared c.requires.few) in
     let is : IsScenario T = subst IsScenario same (c.in_ok-text.ensures.spells (subst IsValid (sym same) valid)).is_text.scenario in
     let notes : c.in_ok-comments.comments ≡ comments (events T instrs) = c.in_ok-comments.ensures.text ∙ ap (λ (U : ScenarioContents). comments (events U instrs)) same in
     let utf8 : IsUtf8 (comments (events T instrs)) = subst IsUtf8 notes c.in_ok-comments.ensures.utf8 in
