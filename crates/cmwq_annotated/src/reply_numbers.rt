@@ -1,19 +1,17 @@
 //! The numbers in a reply fit their types, so they have at most twenty digits.
-ghost use Rattle.cmwq_annotated.specs.ReplyNumbers.{IsEvent, IsNumberedPlace, IsReply, IsNumberedRun, IsTime};
+ghost use Rattle.cmwq_annotated.specs.ReplyNumbers.{IsNumberedPlace, IsNumberedRun, IsReply, IsTime};
 
-use cmwq_types::{Event, Mode, Place, Reply, WorkRun};
+use cmwq_types::{Mode, Place, Reply, WorkRun};
 
 /// The numbers of the reply fit.
 pub fn fit(reply: Reply)
     ensures { IsReply reply }
 {
     match reply {
-        Reply::Sync { was: _, flush: _ } | Reply::Flush(_) => {}
         Reply::Found(state) => {
             place_fits(state.place);
             run_fits(state.run);
         }
-        Reply::Event { work: _, event } => event_fits(event),
         _ => {}
     }
 }
@@ -47,16 +45,5 @@ fn mode_fits(mode: Mode)
     match mode {
         Mode::Runnable => {}
         Mode::Asleep(_) => {}
-    }
-}
-
-/// The numbers of the event fit.
-fn event_fits(event: Event)
-    ensures { IsEvent event }
-{
-    match event {
-        Event::Burns(_) => {}
-        Event::Sleeps(_) => {}
-        _ => {}
     }
 }
