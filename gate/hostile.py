@@ -184,12 +184,10 @@ play asks.cmwq --capacity 100
 play asks.cmwq --capacity 2
 play asks.cmwq --capacity 0
 explore orders.cmwq --never a
-explore orders.cmwq --never a b
-explore orders.cmwq --never a b --limit 72
-explore orders.cmwq --never a b --limit 71
+explore orders.cmwq --before one other --never a b
 explore orders.cmwq --after other --never a
-explore orders.cmwq --before one other --after other --never a
-explore orders.cmwq --before one other --stuck --limit 29
+explore orders.cmwq --before one other --after other --never a --limit 29
+explore orders.cmwq --before one other --stuck --limit 28
 explore frozen.cmwq --stuck
 explore frozen.cmwq --after pm --never a
 explore frozen.cmwq --never a
@@ -256,7 +254,7 @@ USES += [("debug every.cmwq", commands) for commands in (
 USES += [("debug --settle every.cmwq", "run"), ("debug --settle restless.cmwq", "run")]
 # Standard input as a file.
 USES += [(line, text) for line in ("run -", "run --explain -", "check - faulty.cmwq", "asm - out.image", "draw -", "why - b", "show -") for text in (EVERY, FILES["faulty.cmwq"])]
-USES += [("explore - --stuck --before one other", text) for text in (ORDERS, FILES["faulty.cmwq"])]
+USES += [("explore - --never a", text) for text in (ORDERS, FILES["faulty.cmwq"])]
 # On a way with checkpoints.
 USES += [("debug long.cmwq", "goto 700\nback 1\nback 600\ngoto 640\nbreak time 690\nrun\ngoto 3\nwhy a\ngoto 801\ndump")]
 # What follows a run where that is asked for.
