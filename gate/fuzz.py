@@ -3,7 +3,7 @@ a signal, and never takes over 10 seconds of processor time or 200 MB. What it s
 status that stands there. `check` and each other command agree on a text: on its first fault, or on there being none. A scenario's listing
 and its image have its listing; so has an image that is read, and of its listing the image is made again. What `run` prints `run --tell`
 prints with more, and `run --settle` of what `settle` writes; a debugger at a position says what `why` says of it, by whatever way
-it came there; what a play leaves prints its comments.
+it came there; what a play leaves, and an order that `explore` finds, print their comments.
 
     python3 gate/fuzz.py PROGRAM [--seconds N] [--turns N] [--seed S] [--turn T]
 
@@ -108,6 +108,7 @@ def try_faulty(bench, rng, verdict, content):
     """Each command tells the fault that `check` tells."""
     wanted = Ended(1, b"", told_fault(bench, verdict, content))
     lines = ["run", "run --settle", "run --tell", "settle", "list", "draw", "why a", "why --flush 0", "debug", "play --capacity 9", "asm"]
+    lines += ["explore --stuck", "explore --never a --limit 9"]
     for line in ["list", *rng.sample(lines, 2)]:
         command, *rest = line.split()
         ended = bench.run(command, TEXT, *rest, *(["out"] if command == "asm" else []))
@@ -191,6 +192,36 @@ def try_play(bench, rng, _listed):
         bench.want(bench.run("list", "played.cmwq") == Ended(0, unmarked(played.output), b""), "what the play leaves isn't a listing")
 
 
+def asked_of_orders(rng, listed):
+    """Words of an exploration, and how many states are looked at."""
+    works, actors = (re.findall(rf"^{kind} (\w+)", listed.output.decode(), re.M) for kind in ("work", "actor"))
+    (work, other), (actor, second) = (rng.sample([*names, "nobody", "someone"][: max(len(names), 2)], 2) for names in (works, actors))
+    forms = [["--stuck"], ["--never", work], ["--never", work, other], ["--after", actor, "--never", work]]
+    return rng.choice(forms) + (["--before", actor, second] if not rng.randrange(3) else []), rng.choice([1, 2, 20, 200, 1000, 3000])
+
+
+def try_explore(bench, rng, listed):
+    """An order that was found prints its comments, is a listing without them, has the instructions that its comments tell, and is the one that
+    is found with a higher limit, too; what holds in all states does so with a limit of so many, and not with a lower one."""
+    words, limit = asked_of_orders(rng, listed)
+    # Mostly with room for all flushes.
+    bench.write("asked.cmwq", re.sub(rb"^flushes \d+", b"flushes 1024", listed.output, flags=re.M) if rng.randrange(8) else listed.output)
+    first, more = (bench.run("explore", "asked.cmwq", *words, "--limit", str(most)) for most in (limit, 2 * limit))
+    gave_up = first.output.startswith(b"gave up at ")
+    bench.want(gave_up or first == more, f"with a limit of {limit} it ends with {first}, and with twice that with {more}")
+    bench.want(not gave_up or b"at %d states;" % limit in first.output or b" at most 4096 instr" in first.output, "it gave up before its limit")
+    if first.status == 5:
+        bench.write("found.cmwq", first.output)
+        steps = re.findall(rb"^# \d+ (?:\(machine\)|\w+) (.*)\n((?:#   .*\n)?)", first.output.partition(b"\n# ")[2], re.M)
+        told = bench.run("run", "--tell", "found.cmwq")
+        bench.want(re.findall(rb"^# \d+ (.*)\n((?:[^#].*\n)?)", told.output, re.M) == [(instr, line[4:]) for instr, line in steps], "what was found has other steps than its comments tell")
+        bench.want(bench.run("list", "found.cmwq") == Ended(0, unmarked(first.output), b""), "what was found isn't a listing")
+    elif b" in all " in first.output:
+        states = int(re.search(rb" in all (\d+) states", first.output)[1])
+        ends = [bench.run("explore", "asked.cmwq", *words, "--limit", str(most)) for most in (states, states - 1) if most]
+        bench.want(ends[0] == first and all(it.output.startswith(b"gave up at %d states;" % (states - 1)) for it in ends[1:]), f"with the limits of {states} states and one less it ends with {ends}")
+
+
 def try_text(bench, rng, found):
     """A text: `check` and `list` agree on whether it is a scenario, and what each command then does fits together."""
     content = mutations.text(rng, found.lessons)
@@ -203,7 +234,7 @@ def try_text(bench, rng, found):
     is_noted = all(line.startswith(f"{TEXT}:".encode()) for line in verdict.errors.splitlines())
     bench.want(verdict[:2] == (0, f"{TEXT}: ok\n".encode()) and is_noted, "a good text isn't told so")
     try_good(bench, listed)
-    for part in rng.sample([try_run, try_settle, try_draw, try_why, try_play], 2):
+    for part in rng.sample([try_run, try_settle, try_draw, try_why, try_play, try_explore], 2):
         part(bench, rng, listed)
     return "scenario"
 

@@ -81,12 +81,50 @@ set_max q 3
 ask 9
 next * 24
 """
+# Several actors, whose orders come to few states; and one who is stuck.
+ORDERS = """cpus 1
+workers 2
+steps 30
+flushes 1
+queue q max 1
+work a q
+work b q
+body a
+burn 1
+finish
+body b
+finish
+actor one
+queue a 0
+actor other
+cancel_sync a
+queue b 0
+"""
+FROZEN = """cpus 1
+workers 2
+steps 100
+flushes 1
+queue q max 1 freezable
+work a q
+body a
+finish
+actor pm
+freeze
+queue a 0
+flush a
+"""
 HEAD = "cpus 1\nworkers 4\nsteps {steps}\nflushes 0\nqueue q max 1\nwork a q\nbody a\n{does}\nfinish\nactor t\nqueue a 0\nnext * {times}\n"
 FILES = {
     "every.cmwq": EVERY,
     "restless.cmwq": HEAD.format(steps=40, does="queue a 0", times=8),
     "long.cmwq": HEAD.format(steps=900, does="sleep 700", times=800),
     "asks.cmwq": "cpus 1\nworkers 4\nsteps 1\nflushes 0\n" + "".join(f"actor {name}\nbusy\nbusy\n" for name in ("one", "other", "third")),
+    "orders.cmwq": ORDERS,
+    "frozen.cmwq": FROZEN,
+    "spent.cmwq": HEAD.format(steps=4, does="burn 1", times=1).replace("next * 1\n", ""),
+    "actorless.cmwq": FROZEN.partition("actor")[0],
+    "flushing.cmwq": FROZEN.replace("flush a", "flush a * 2"),
+    "lines.cmwq": FROZEN.replace("flush a", "cancel_sync a * 1365"),
     "faulty.cmwq": "cpus 1\nworkers 65\n",
     "late.cmwq": EVERY + "meet a\n",
     "asked.cmwq": HEAD.format(steps=9, does="burn 1", times=1).replace("next * 1\n", "queue a 9\n"),
@@ -145,6 +183,41 @@ debug faulty.cmwq
 play asks.cmwq --capacity 100
 play asks.cmwq --capacity 2
 play asks.cmwq --capacity 0
+explore orders.cmwq --never a
+explore orders.cmwq --before one other --never a b
+explore orders.cmwq --after other --never a
+explore orders.cmwq --before one other --after other --never a --limit 29
+explore orders.cmwq --before one other --stuck --limit 28
+explore frozen.cmwq --stuck
+explore frozen.cmwq --after pm --never a
+explore frozen.cmwq --never a
+explore spent.cmwq --stuck
+explore asks.cmwq --stuck --before one other --before one third --before other third
+explore actorless.cmwq --stuck
+explore lines.cmwq --stuck
+explore flushing.cmwq --stuck
+explore orders.cmwq --after nobody --never a
+explore orders.cmwq --after one --never nobody
+explore orders.cmwq --never a nobody
+explore orders.cmwq --before nobody one --stuck
+explore faulty.cmwq --stuck
+explore nothing.cmwq --stuck
+explore orders.cmwq
+explore orders.cmwq --never a --stuck
+explore orders.cmwq --never a a
+explore orders.cmwq --never a b c
+explore orders.cmwq --after one
+explore orders.cmwq --after one --never a b
+explore orders.cmwq --after one --stuck
+explore orders.cmwq --stuck --before one
+explore orders.cmwq --stuck --before one one
+explore orders.cmwq --stuck --before one other --before other one
+explore orders.cmwq --stuck --limit 0
+explore orders.cmwq --stuck --limit 1000001
+explore --stuck
+explore --explain flushing.cmwq --stuck
+explore lines.cmwq --stuck --explain
+explore orders.cmwq --explain --never nobody
 check every.cmwq
 check every.cmwq faulty.cmwq nothing.cmwq late.cmwq asks.cmwq
 check late.cmwq
@@ -181,6 +254,7 @@ USES += [("debug every.cmwq", commands) for commands in (
 USES += [("debug --settle every.cmwq", "run"), ("debug --settle restless.cmwq", "run")]
 # Standard input as a file.
 USES += [(line, text) for line in ("run -", "run --explain -", "check - faulty.cmwq", "asm - out.image", "draw -", "why - b", "show -") for text in (EVERY, FILES["faulty.cmwq"])]
+USES += [("explore - --never a", text) for text in (ORDERS, FILES["faulty.cmwq"])]
 # On a way with checkpoints.
 USES += [("debug long.cmwq", "goto 700\nback 1\nback 600\ngoto 640\nbreak time 690\nrun\ngoto 3\nwhy a\ngoto 801\ndump")]
 # What follows a run where that is asked for.
@@ -334,16 +408,18 @@ class Documented:
         self.debugger_refusals = {name for cell in commands_table for name in re.findall(r"`(\w+)`", cell)}
         rows = re.findall(r"^\| `([^`|]+)` \| (\d) \|", section("## Output", "### Faults"), re.M)
         self.lines = [(re.compile(self.pattern(line)), int(status)) for line, status in rows]
+        # Those of `explore`, which says nothing on standard error then.
+        self.silent = {0, *map(int, re.findall(r"^\| [^|]+ \| (\d) \|", section("## Every order of several actors"), re.M))}
         notes = re.findall(r"^\| `FILE:LINE: note: [A-Z]+: ([^`]+), \.\.` \|", section("## Verdicts"), re.M)
         self.note = re.compile(rf".*:\d+: note: [a-z0-9_]+: (?:{'|'.join(map(re.escape, notes))}), [^:]+(?:: [^:]+)?")
-        assert len(notes) == 2 and len(self.reasons) >= 12 and len(self.image_reasons) >= 10 and len(self.refusals) >= 15 and len(self.debugger_refusals) >= 7 and len(rows) >= 14
+        assert len(notes) == 2 and len(self.reasons) >= 12 and len(self.image_reasons) >= 10 and len(self.refusals) >= 15 and len(self.debugger_refusals) >= 7 and len(rows) >= 16 and self.silent == {0, 5, 6}
 
     def pattern(self, line):
         """What such a line of the document stands for."""
         for front, names in {"line N: ": self.reasons, "image: ": self.image_reasons}.items():
             if line == f"{front}REASON":
                 return f"{front}({'|'.join(sorted(names))})".replace(" N", " [0-9]+")
-        return re.escape(line)
+        return re.sub(r"\bN\b", "[0-9]+", re.escape(line))
 
     def is_verdict(self, line):
         """Whether `check` says such a line on standard error, for no terminal."""
@@ -363,7 +439,7 @@ class Documented:
         """Whether a command may end with this status and these errors."""
         text = errors.decode("utf-8", "replace")
         if not text.endswith("\n"):
-            return status == 0 and not text
+            return status in self.silent and not text
         lines = text[:-1].split("\n")
         if status == 0:
             return all(map(self.is_note, lines))

@@ -4,7 +4,9 @@ a tick passes, stands in scenarios/README.md below its name, and is NAME.draw, w
 scenario with several actors leaves is one of NAME.play1, NAME.play2 .., and run again it prints the lines that stand in it. Why work W
 waits is NAME.why_W, and what flush F waits for NAME.flush_F, where there are such; with _every behind it, the same at every position.
 scenarios/README.md asks of each lesson why something waits: a line **QUESTION?**, a line `./cmwq why ..`, and behind it, folded away, what that
-prints. README.md's commands stand behind `$`, each with what it prints, and its picture is docs/max_active_3.svg. The program's
+prints. What is asked of all orders of several actors, `./cmwq explore ..`, has its answer in NAME.explore_.., and folded away that name, the status and the
+answer from its first comment on; an order that was found has the steps and the lines of its run in its comments. The
+commands of both pages stand behind `$`, each with what it prints, and README.md's picture is docs/max_active_3.svg. The program's
 own stored run is one of these. Then faulty input: the status, and what each stream is given. And each scenario of one actor through an engine, by the program HISTORIES, where it is named: it
 prints the history, of which each entry is compared.
 
@@ -31,19 +33,29 @@ def bytes_of(path):
         return it.read()
 
 
-def faults_of(program, text, room):
-    """What is wrong with a scenario's run, with its listing and with its image."""
-    wanted, listing, image = bytes_of(f"{text.removesuffix('.cmwq')}.out"), f"{room}/listing.cmwq", f"{room}/image"
-    listed, told, tell = said(program, "list", text), said(program, "run", "--tell", text), f"{text.removesuffix('.cmwq')}.tell"
+def form_faults(program, text, room):
+    """What is wrong with a scenario's listing and with its image."""
+    listing, image, listed = f"{room}/listing.cmwq", f"{room}/image", said(program, "list", text)
     with open(listing, "wb") as it:
         it.write(listed or b"")
     checks = {
         "its listing": listed is not None,
-        "its run": said(program, "run", text) == wanted,
-        "the run of its listing": said(program, "run", listing) == wanted,
         "the listing of its listing": said(program, "list", listing) == listed,
         "making its image": said(program, "asm", text, image) == b"",
         "its image shown": said(program, "show", image) == listed,
+    }
+    return [f"{os.path.relpath(text, TOP)}: {what} is not as it should be" for what, is_well in checks.items() if not is_well]
+
+
+def run_faults(program, text, room):
+    """What is wrong with a scenario's run, and with that of its listing."""
+    wanted, listing = bytes_of(f"{text.removesuffix('.cmwq')}.out"), f"{room}/listing.cmwq"
+    listed, told, tell = said(program, "list", text), said(program, "run", "--tell", text), f"{text.removesuffix('.cmwq')}.tell"
+    with open(listing, "wb") as it:
+        it.write(listed or b"")
+    checks = {
+        "its run": said(program, "run", text) == wanted,
+        "the run of its listing": said(program, "run", listing) == wanted,
         "what is told of it, without what is marked": unmarked(told) == wanted,
         "what is told of it": not os.path.exists(tell) or told == bytes_of(tell),
     }
@@ -105,16 +117,62 @@ def question_faults(program, texts):
     return faults + [f"scenarios/README.md: {name} isn't asked why it waits" for name in sorted(lessons)]
 
 
-def session_of_page_faults(program, room):
-    """What is wrong with the commands that README.md shows behind `$`, each with what it prints; and with its picture."""
-    page, faults = bytes_of(f"{TOP}/README.md").decode(), []
-    commands = re.findall(r"^\$ (.*)\n((?:(?!\$ |```).*\n)*)", page, re.M)
-    for command, printed in commands:
+def asked_of_orders(page):
+    """The questions of a page about all orders: the words behind `./cmwq` of each and, folded away behind it, the name of the file that has the
+    answer, the status, and the answer from its first comment on."""
+    folded = r"\n\n<details><summary>Answer</summary>\n\n`(\w+\.explore_\w+)`, status (\d):\n\n```text\n((?:(?!```).*\n)*)```\n\n</details>$"
+    return re.findall(r"^\*\*.*\?\*\*\n`\./cmwq (explore [^`\n]*)`" + folded, page, re.M)
+
+
+def found_faults(program, text, found):
+    """What is wrong with an order that was found: its comments tell who takes each step, an actor or the machine, and the step's instruction
+    and line are those of its run."""
+    content, actors = bytes_of(found).decode(), re.findall(r"^actor (\w+)", bytes_of(text).decode(), re.M)
+    steps = re.findall(r"^# (\d+) (\(machine\)|\w+) (.*)\n((?:#   .*\n)?)", content.partition("\n# ")[2], re.M)
+    told = re.findall(r"^# \d+ (.*)\n((?:[^#].*\n)?)", (said(program, "run", "--tell", found) or b"").decode(), re.M)
+    checks = {
+        "its listing": said(program, "list", found) == unmarked(content.encode()),
+        "its run": said(program, "run", found) == "".join(line.removeprefix("#   ") for *_, line in steps).encode(),
+        "a step": [(instr, line.removeprefix("#   ")) for *_, instr, line in steps] == told and told,
+        "a step's number": [int(number) for number, *_ in steps] == list(range(1, len(told) + 1)),
+        "who takes a step": {who for _, who, *_ in steps} <= {"(machine)", *actors},
+    }
+    return [f"{os.path.relpath(found, TOP)}: {what} is not as it should be" for what, is_well in checks.items() if not is_well]
+
+
+def order_faults(program, answers):
+    """What is wrong with what is asked of all orders: with what is printed, the status, what the page shows of that, and an order that was
+    found; a command that stands there in another form, an answer that isn't asked for."""
+    page, faults = bytes_of(f"{TOP}/scenarios/README.md").decode(), []
+    questions = asked_of_orders(page)
+    for words, name, status, shown in questions:
+        stored, text = f"{TOP}/scenarios/{name}", f"{TOP}/scenarios/{name.partition('.')[0]}.cmwq"
+        answer = bytes_of(stored) if stored in answers else b""
+        if failed(program, *words.replace("scenarios/", f"{TOP}/scenarios/").split()) != (int(status), answer, b""):
+            faults.append(f"scenarios/{name}: the answer to {words} is not as it should be")
+        if shown.encode() != answer[max(answer.find(b"\n# ") + 1, 0):] or words.split()[1] != os.path.relpath(text, TOP):
+            faults.append(f"scenarios/README.md: what is shown of {name} is not as it should be")
+        faults += found_faults(program, text, stored) if status == "5" else []
+    if page.count("./cmwq explore scenarios/") != len(questions) or sorted(name for _, name, *_ in questions) != sorted(map(os.path.basename, answers)):
+        faults.append("scenarios/README.md: not each answer about all orders stands behind its question, once")
+    return faults
+
+
+def command_faults(program, room, name):
+    """What is wrong with the commands that a page shows behind `$`, each with what it prints."""
+    faults = []
+    for command, printed in re.findall(r"^\$ (.*)\n((?:(?!\$ |```).*\n)*)", bytes_of(f"{TOP}/{name}").decode(), re.M):
         here = command.replace("/tmp/", f"{room}/").replace("./cmwq", program)
         ran = subprocess.run(["bash", "-c", here], cwd=TOP, stdout=subprocess.PIPE, stderr=subprocess.STDOUT, timeout=120)
         if (ran.returncode, ran.stdout) != (0, printed.encode()):
-            faults.append(f"README.md: {command} doesn't print that")
-    shown = {word for command, _printed in commands for word in re.findall(r"\./cmwq (\w+)", command)}
+            faults.append(f"{name}: {command} doesn't print that")
+    return faults
+
+
+def first_page_faults(program, room):
+    """What is wrong with the commands that README.md shows, and with its picture."""
+    faults = command_faults(program, room, "README.md")
+    shown = {word for command in re.findall(r"^\$ (.*)", bytes_of(f"{TOP}/README.md").decode(), re.M) for word in re.findall(r"\./cmwq (\w+)", command)}
     faults += [f"README.md: no `{word}` is shown" for word in sorted({"new", "run", "draw", "why", "debug"} - shown)]
     if said(program, "draw", "--svg", f"{TOP}/scenarios/max_active_3.cmwq") != bytes_of(f"{TOP}/docs/max_active_3.svg"):
         faults.append("docs/max_active_3.svg: it isn't the lesson's picture")
@@ -192,16 +250,20 @@ def quiet_faults(program, room):
 
 def main(program, histories=None):
     plays = sorted({re.sub(r"\.play\d+$", ".cmwq", it) for it in glob.glob(f"{TOP}/scenarios/*.play*")})
-    texts = sorted(set(glob.glob(f"{TOP}/scenarios/*.cmwq")).difference(plays))
+    orders = sorted(glob.glob(f"{TOP}/scenarios/*.explore_*"))
+    explored = sorted({re.sub(r"\.explore_\w+$", ".cmwq", it) for it in orders})
+    texts = sorted(set(glob.glob(f"{TOP}/scenarios/*.cmwq")).difference(plays, explored))
     drawings = sorted(glob.glob(f"{TOP}/scenarios/*.draw"))
     answers = sorted(glob.glob(f"{TOP}/scenarios/*.why_*") + glob.glob(f"{TOP}/scenarios/*.flush_*"))
     with tempfile.TemporaryDirectory(prefix="lessons-") as room:
-        faults = [fault for text in texts for fault in faults_of(program, text, room)]
+        faults = [fault for text in texts + plays + explored for fault in form_faults(program, text, room)]
+        faults += [fault for text in texts for fault in run_faults(program, text, room)]
         faults += [fault for text in texts if histories for fault in history_faults(histories, program, text)]
         faults += [fault for commands in sorted(glob.glob(f"{TOP}/scenarios/*.debug")) for fault in session_faults(program, commands)]
         faults += [fault for text in plays for fault in play_faults(program, text, room)]
         faults += shown_faults(program, texts) + quiet_faults(program, room) + question_faults(program, texts + plays)
-        faults += session_of_page_faults(os.path.abspath(program), room)
+        faults += first_page_faults(os.path.abspath(program), room) + command_faults(os.path.abspath(program), room, "scenarios/README.md")
+        faults += order_faults(program, orders)
         faults += [fault for stored in answers for fault in answer_faults(program, stored)]
         faults += [fault for drawing in drawings for fault in drawing_faults(program, drawing)]
         with open(f"{room}/faulty.cmwq", "w", encoding="utf-8") as it:
@@ -221,9 +283,9 @@ def main(program, histories=None):
         faults.append("crates/cmwq_histories/stdin: it is no lesson")
     faults += [] if texts else ["scenarios/: there is nothing to compare"]
     faults += [] if drawings else ["scenarios/: there is no picture to compare"]
-    faults += [] if answers else ["scenarios/: there is no answer to compare"]
+    faults += [] if answers and orders else ["scenarios/: there is no answer to compare"]
     print("".join(f"lessons: {fault}\n" for fault in faults), end="")
-    print(f"lessons: {len(texts) + len(plays)} scenarios, {len(drawings)} pictures and {len(answers)} answers compared, {len(faults)} faults")
+    print(f"lessons: {len(texts + plays + explored)} scenarios, {len(drawings)} pictures and {len(answers + orders)} answers compared, {len(faults)} faults")
     return 1 if faults else 0
 
 

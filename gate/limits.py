@@ -210,6 +210,71 @@ OPTIONS += [(("tick * 501",), "draw FILE", GOOD), (RESTLESS, "draw FILE", GOOD)]
 OPTIONS += [((*RESTLESS, "disable a", "tick"), f"draw FILE {span}".rstrip(), ends) for span, ends in SPANS.items()]
 
 
+# Rows of explorations: the actors' lines, the words behind the file, the other parts of the scenario, the status, what is said on
+# standard error, and the output, where that is known.
+ORDERED = " ".join(f"--before t{at} t{at + 1}" for at in range(15))
+ALL_OF_TWO, ONE_OF_TWO = (0, "", "holds in all 2 states; a is pending in 0\n"), (6, "", "gave up at 1 states; holds for all orders of at most 0 instructions\n")
+UNKNOWN_ACTOR, UNKNOWN_WORK, NO_EXPLORATION = (1, "no such actor\n", ""), (1, "no such work\n", ""), (2, USAGE, "")
+
+
+def ended(states, count=1):
+    """Nobody is stuck, in so many states, in so many of which all have ended."""
+    return 0, "", f"holds in all {states} states; all actors have ended in {count}\n"
+
+
+def needed(count):
+    return 1, f"flushes {count} needed\n", ""
+
+
+def burning(ticks):
+    """A work that burns so long, for which there is one order: it is queued, starts and burns, the ticks pass, and it finishes."""
+    return [("queue a 0",)], "--stuck", {"works": [Work("a", "q", (f"burn {ticks}",))], "steps": 100_000}
+
+
+EXPLORING = [
+    ([], "--stuck", {}, (1, "actors\n", "")),
+    ([("busy",)], "--stuck", {}, ended(2)),
+    ([()] * 16, "--stuck", {}, ended(1)),
+    ([("busy",)] * 16, "--stuck", {}, ended(2**16)),
+    ([("busy",)] * 16, f"--stuck {ORDERED}", {}, ended(17)),
+    ([("busy * 4096",)], "--stuck", {}, ended(4097)),
+    ([("busy * 4097",)], "--stuck", {}, (*FULL, "")),
+    ([("busy * 256",)] * 16, f"--stuck {ORDERED}", {}, ended(4097)),
+    ([("busy * 256",)] * 15 + [("busy", "busy * 256")], f"--stuck {ORDERED}", {}, (*FULL, "")),
+    ([("cancel_sync a * 1024", "busy * 1024")], "--stuck --limit 1", {"flushes": 1024}, ONE_OF_TWO),
+    ([("cancel_sync a * 1024", "busy * 1025")], "--stuck --limit 1", {"flushes": 1024}, (*FULL, "")),
+    ([("cancel_sync a * 1366",)], "--stuck", {}, (*FULL, "")),
+    ([("busy * 4097",)], "--never nobody", {"flushes": 0}, (*FULL, "")),
+    (*burning(4092), ended(4097, 4096)),
+    (*burning(4093), (6, "", "gave up at 4097 states; holds for all orders of at most 4096 instructions\n")),
+    *(([("busy",)], f"--never a --limit {it}", {}, ends) for it, ends in {1: ONE_OF_TWO, 2: ALL_OF_TWO, 1_000_000: ALL_OF_TWO}.items()),
+    *(([("busy",)], f"--never a --limit {it}", {}, NO_EXPLORATION) for it in (0, 1_000_001, MOST_COUNT, TEN_DIGITS, ELEVEN_DIGITS, "+1")),
+    *(([(f"flush a * {it}",)] if it else [()], "--stuck", {"flushes": it}, ended(it + 1)) for it in (0, 1, 2)),
+    ([("flush a * 1024",)], "--stuck", {"flushes": 1024, "steps": 1025}, ended(1025)),
+    ([("flush a * 1024",)], "--stuck", {"flushes": 1024, "steps": 1024}, (6, "", "holds within 1024 steps, in all 1025 states; all actors have ended in 1\n")),
+    ([("flush a * 1024",)], "--stuck", {"flushes": 1024, "steps": 1023}, (6, "", "vacuous in all 1024 states; all actors have ended in 0\n")),
+    *(([(f"flush a * {it + 1}",)], "--stuck", {"flushes": it}, needed(it + 1)) for it in (0, 1, 2, 1024)),
+    *(([(line,)], "--stuck", {"flushes": 0}, needed(1)) for line in ("flush a", "flush_delayed a", "flush_queue q", "cancel_sync a")),
+    ([("flush a",), ("cancel_sync a", "flush_queue q")], "--never nobody", {"flushes": 2}, needed(3)),
+    ([("cancel_sync a * 1365",)], "--stuck", {"flushes": 1024}, needed(1365)),
+    ([("busy",)], "--after nobody --never a", {}, UNKNOWN_ACTOR),
+    ([("busy",)], "--after nobody --never nobody", {}, UNKNOWN_ACTOR),
+    ([("busy",)], "--after t0 --never nobody", {}, UNKNOWN_WORK),
+    ([("busy",)], "--never nobody", {}, UNKNOWN_WORK),
+    ([("busy",)], "--never a nobody", {}, UNKNOWN_WORK),
+    ([("busy",)], "--never nobody --before nobody t0", {}, UNKNOWN_WORK),
+    ([("busy",)], "--stuck --before t0 nobody", {}, UNKNOWN_ACTOR),
+    ([("busy",)], "--stuck --before nobody t0", {}, UNKNOWN_ACTOR),
+    ([("busy",)] * 2, "--stuck --before t0 t0", {}, NO_EXPLORATION),
+    ([("busy",)] * 2, "--stuck --before t0 t1 --before t1 t0", {}, NO_EXPLORATION),
+    ([("busy",)] * 16, f"--stuck {ORDERED} --before t15 t0", {}, NO_EXPLORATION),
+    ([("busy",)] * 2, "--never a a", {}, NO_EXPLORATION),
+    ([("busy",)] * 2, "--stuck --never a", {}, NO_EXPLORATION),
+    ([("busy",)] * 2, "--after t0", {}, NO_EXPLORATION),
+    ([("busy",)] * 2, "--before t0 t1", {}, NO_EXPLORATION),
+]
+
+
 def settling(ticks, lines, ends, steps=MOST_COUNT):
     """Actor's lines of which the last queues a work that sleeps so often and so long; how `settle` ends; and the scenario's other parts. The
     work is quiet after two `next` for each sleep, those of its ticks, and two more."""
@@ -241,6 +306,7 @@ why FILE a
 why FILE --flush 0
 asm FILE out
 play FILE --capacity 9
+explore FILE --never a
 """.split("\n")[1:-1]] + [("debug FILE", "step 1\n")]
 
 
@@ -379,8 +445,14 @@ class Limits:
         for count in (0, 1, 2, 16):
             scenario = text(actors=[Actor(f"t{at}", ("busy",)) for at in range(count)])
             self.want(f"a play of {count} actors", self.run("play FILE --capacity 16", scenario), ends[count > 0])
+            self.want(f"an exploration of {count} actors", self.run("explore FILE --stuck --limit 99999", scenario), ends[count > 0])
             for line in ("run FILE", "run --settle FILE", "run --tell FILE", "settle FILE", "draw FILE", "why FILE a", "debug FILE"):
                 self.want(f"{line} of {count} actors", self.run(line, scenario), ends[count == 1])
+
+    def try_orders(self):
+        for lines, words, parts, (*ends, output) in EXPLORING:
+            scenario = text(**{"actors": [Actor(f"t{at}", it) for at, it in enumerate(lines)], **parts})
+            self.want(f"explore {words} of {lines} and {parts}", self.run(f"explore FILE {words}", scenario), ends, output)
 
     def try_runs(self):
         for what, parts, said in RUNS:
@@ -398,7 +470,7 @@ class Limits:
             self.try_row(row)
         for patch in PATCHES:
             self.try_patch(*patch)
-        for part in (self.try_runs, self.try_longest_text, self.try_check, self.try_terminal, self.try_other_sizes, self.try_counts, self.try_actors):
+        for part in (self.try_runs, self.try_longest_text, self.try_check, self.try_terminal, self.try_other_sizes, self.try_counts, self.try_actors, self.try_orders):
             part()
 
 
@@ -413,6 +485,7 @@ list {ALL}
 asm {ALL} made.image
 show all.image
 play {ALL} --capacity 4096
+explore {ALL} --stuck
 run {ONE}
 run --tell {ONE}
 run --settle {ONE}
@@ -450,8 +523,9 @@ def notes_of(*files):
 
 
 def cost_faults(line, took):
-    """What is wrong with what a command line took, and with how it ended: the play alone is full, and the verdict alone has notes."""
-    ends = {"play": FULL, "check": (0, notes_of(ALL, ONE))}
+    """What is wrong with what a command line took, and with how it ended: the play and the exploration are full, and the verdict alone has
+    notes."""
+    ends = {"play": FULL, "explore": FULL, "check": (0, notes_of(ALL, ONE))}
     wanted = ends.get(line.split(" ")[0], GOOD)
     checks = {
         f"takes {took.seconds:.1f} seconds": took.seconds <= SECONDS,

@@ -60,6 +60,9 @@ FILES = {
     "once.cmwq": GOOD + "cancel mail\nenable blink * 1\nnext\n",
     "pending.cmwq": HEAD + QUEUE + WORKS + BODIES + "actor t\nqueue mail 0\nqueue blink 0\n",
     "mailed.cmwq": HEAD + QUEUE + WORKS + BODIES + "actor t\nqueue mail 0\n",
+    "wide.cmwq": HEAD + "actor one\nbusy * 4000\nactor other\nbusy * 97\n",
+    "cancels.cmwq": HEAD + QUEUE + WORKS + BODIES + "actor one\ncancel_sync mail * 1366\n",
+    "flushes.cmwq": HEAD + QUEUE + WORKS + BODIES + "actor one\nqueue mail 0\nactor other\ncancel_sync mail\nflush blink\n",
     "there": "what was there\n",
 }
 
@@ -125,8 +128,8 @@ ROWS = [
     ("run ticks.cmwq", 1, "line 15: ExtraWord", f"ticks.cmwq:15:6: 5: ExtraWord\n  tick 5\n       ^\n  here may stand: *, or the line's end\n  is * 5 meant?\n{EXTRA_WORD}"),
     ("run tail.cmwq", 1, "line 1: ExtraWord", f"tail.cmwq:1:8: 2: ExtraWord\n  cpus 1 2\n         ^\n  the line should end here\n{EXTRA_WORD}"),
     # actors
-    ("run two.cmwq", 1, "actors", "  two.cmwq has 2 actors: this command takes one, and `cmwq play` several"),
-    ("draw --svg two.cmwq", 1, "actors", "  two.cmwq has 2 actors: this command takes one, and `cmwq play` several"),
+    ("run two.cmwq", 1, "actors", "  two.cmwq has 2 actors: this command takes one; `cmwq play` and `cmwq explore` take several"),
+    ("draw --svg two.cmwq", 1, "actors", "  two.cmwq has 2 actors: this command takes one; `cmwq play` and `cmwq explore` take several"),
     ("debug none.cmwq", 1, "actors", "  none.cmwq has no actor: `actor NAME` and its instructions are missing at the end"),
     ("play none.cmwq --capacity 3", 1, "actors", "  none.cmwq has no actor: `actor NAME` and its instructions are missing at the end"),
     # what the scenario hasn't
@@ -146,6 +149,20 @@ ROWS = [
     ("draw good.cmwq --works blink,,male", 1, "no such work", "  no work of good.cmwq is called ; the nearest first: mail, blink"),
     ("draw good.cmwq --works blnk", 1, "no such work", "  no work of good.cmwq is called blnk; the nearest first: blink, mail"),
     ("why good.cmwq --flush 7", 1, "no such flush", "  flushes are numbered from 0, as they are given: cmwq run prints each with its number"),
+    # what is asked of all orders, and isn't there
+    ("explore good.cmwq --never male", 1, "no such work", "  no work of good.cmwq is called male; the nearest first: mail, blink"),
+    ("explore good.cmwq --never mail blnk", 1, "no such work", "  no work of good.cmwq is called blnk; the nearest first: blink, mail"),
+    ("explore good.cmwq --never mial blnk", 1, "no such work", "  no work of good.cmwq is called mial; the nearest first: mail, blink"),
+    ("explore good.cmwq --after t --never q", 1, "no such work", "  no work of good.cmwq is called q; the nearest first: mail, blink"),
+    ("explore workless.cmwq --never t", 1, "no such work", "  workless.cmwq has no works"),
+    ("explore none.cmwq --stuck", 1, "actors", "  none.cmwq has no actor: `actor NAME` and its instructions are missing at the end"),
+    ("explore good.cmwq --after mail --never t", 1, "no such actor", ""),
+    ("explore two.cmwq --stuck --before t mail", 1, "no such actor", ""),
+    ("explore flushes.cmwq --stuck", 1, "flushes 2 needed", ""),
+    ("explore wide.cmwq --stuck", 4, "full", "  the actors have more than 4096 lines in all, each cancel_sync being three"),
+    ("explore cancels.cmwq --stuck", 4, "full", "  the actors have more than 4096 lines in all, each cancel_sync being three"),
+    ("explore nosuch.cmwq --stuck", 3, "read", "  nosuch.cmwq: no such file"),
+    ("explore cpus.cmwq --stuck", 1, "line 1: Range", "cpus.cmwq:1:6: 17: Range\n  cpus 17\n       ^\n  here may stand: a number from 1 to 16\n  the number is out of its limits: here stands a number from 1 to 16"),
     # what is too much
     ("run long.cmwq", 4, "full", "  the actor has more than 1048576 instructions"),
     ("settle lines.cmwq", 4, "full", "  settled, the actor would have more than 4096 lines, or 1048576 instructions"),
@@ -157,6 +174,25 @@ ROWS = [
     ("play busy.cmwq --capacity 2", 4, "full", "  --capacity says how many instructions fit: 4096 at most"),
     ("settle restless.cmwq", 1, "never quiet", "  a work is still pending or runs when steps or 1048576 instructions are over: it wants more steps, a thaw or relief, or never ends"),
     ("draw --settle restless.cmwq", 1, "never quiet", "  a work is still pending or runs when steps or 1048576 instructions are over: it wants more steps, a thaw or relief, or never ends"),
+]
+
+# Words that ask nothing of all orders: the line that says why, which stands above the usage, whether more is asked for or not.
+MISSAID = [
+    ("explore two.cmwq", "error: explore takes --never, --after with --never, or --stuck"),
+    ("explore two.cmwq --after t", "error: --after takes an ACTOR, and --never with one WORK beside it"),
+    ("explore two.cmwq --before t other", "error: explore takes --never, --after with --never, or --stuck"),
+    ("explore two.cmwq --never mail --stuck", "error: --stuck doesn't go with --never and --after"),
+    ("explore two.cmwq --stuck --after t", "error: --stuck doesn't go with --never and --after"),
+    ("explore two.cmwq --never mail mail", "error: --never takes two works that differ"),
+    ("explore two.cmwq --after t --never mail blink", "error: --after takes an ACTOR, and --never with one WORK beside it"),
+    ("explore two.cmwq --never", "error: a value is required for '--never <WORK> [WORK]' but none was supplied"),
+    ("explore two.cmwq --never mail blink t", "error: unexpected argument 't' found"),
+    ("explore --never mail two.cmwq", "error: the following required arguments were not provided:"),
+    ("explore two.cmwq --stuck --before t", "error: 2 values required for '--before <A> <B>' but 1 was provided"),
+    ("explore two.cmwq --stuck --before t t", "error: --before goes in a ring: t, t"),
+    ("explore two.cmwq --stuck --before t other --before other t", "error: --before goes in a ring: t, other, t"),
+    ("explore two.cmwq --stuck --limit 0", "error: --limit takes a number of 1 to 10 digits, from 1 to 1000000"),
+    ("explore two.cmwq --stuck --limit many", "error: --limit takes a number of 1 to 10 digits, from 1 to 1000000"),
 ]
 
 # What is said behind a run that ends well: the words, and the remarks, which stand there only where they are asked for.
@@ -209,11 +245,18 @@ def faults(program, room):
             yield f"{line}: without the option it ends with {plain[0]} and says {plain[2]!r}"
         for asked in (["--explain", *words], [*words, "--explain"]):
             told = said(program, room, asked)
-            wanted = f"{fault}\n{advice}\n"
+            wanted = f"{fault}\n{advice}\n" if advice else f"{fault}\n"
             if told[:2] != plain[:2]:
                 yield f"{' '.join(asked)}: status or output is another than without the option"
             if told[2] != wanted:
                 yield f"{' '.join(asked)}: it says {told[2]!r} in place of {wanted!r}"
+
+
+def missaid(program, room):
+    for line, fault in MISSAID:
+        plain, asked = said(program, room, line.split()), said(program, room, ["--explain", *line.split()])
+        if plain != asked or plain[:2] != (2, "") or plain[2].split("\n")[0] != fault:
+            yield f"{line}: it ends with {plain[0]} and says {plain[2]!r}, and {asked[2]!r} with --explain"
 
 
 def remarks(program, room):
@@ -236,8 +279,8 @@ def streamed(program, room):
 def main(program):
     with tempfile.TemporaryDirectory() as room:
         make(room, program)
-        found = [*faults(program, room), *remarks(program, room), *streamed(program, room)]
-    count = len(ROWS) + len(REMARKS) + len(STREAMED)
+        found = [*faults(program, room), *missaid(program, room), *remarks(program, room), *streamed(program, room)]
+    count = len(ROWS) + len(MISSAID) + len(REMARKS) + len(STREAMED)
     print("".join(f"{it}\n" for it in found) + f"test_advice: {count} command lines of people, each with advice and without, {len(found)} otherwise", flush=True)
     return bool(found)
 

@@ -229,7 +229,7 @@ def check_limits(room):
 def check_greatest(room):
     """A program that says nothing fails wherever something has to be said; and what a command takes, and how it ends, is seen."""
     with contextlib.redirect_stdout(io.StringIO()):
-        silent = limits.greatest_faults(shell_program(room, '[ "$1" != play ] || { echo full >&2; exit 4; }\n'), room, limits.MEASURED)
+        silent = limits.greatest_faults(shell_program(room, "case $1 in play | explore) echo full >&2; exit 4; esac\n"), room, limits.MEASURED)
     assert [fault.split()[0] for fault in silent] == ["check", "list", "show", "settle", "asm", "run", "play"], silent
     assert not limits.uncovered()
     for script, bounds, wanted in [
@@ -277,6 +277,12 @@ def check_documented():
         (3, b"write\n", True),
         (3, b"write\nwrite\n", False),
         (4, b"no memory\n", True),
+        (5, b"", True),
+        (6, b"", True),
+        (7, b"", False),
+        (1, b"flushes 12 needed\n", True),
+        (1, b"flushes N needed\n", False),
+        (6, b"flushes 12 needed\n", False),
         (2, b"error: unexpected argument\n\nUsage: cmwq run\n", True),
         (1, b"a.cmwq:2:9: 65: Range\n  here may stand: a number from 1 to 64\n", True),
         (1, b"a.cmwq:2:9: 65: Ranger\n  here may stand: a number from 1 to 64\n", False),
