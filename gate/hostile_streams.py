@@ -4,7 +4,6 @@ over good streams, or it says `read` or `write`, in one line, with its status, a
 
     python3 gate/hostile_streams.py PROGRAM"""
 import os
-import re
 import resource
 import subprocess
 import sys
@@ -127,16 +126,10 @@ def reads_input(use, whole):
     return "-" in use[0].split()[1:] and whole.status != 2 or use[0].startswith("debug ") and whole.status == 0
 
 
-def has_said(use, whole):
-    """Whether what stands on standard error is what the command was to write: verdicts, and those faults that `explore` alone has. Where that
-    fails, it is `write`; of another fault's line the status is the same where it can't be written."""
-    return use[0].startswith("check ") and bool(whole.errors) or re.fullmatch(rb"(?:no such actor|flushes \d+ needed)\n", whole.errors) is not None
-
-
 def situations(streams, use, whole):
     """What a command line ends with in each situation, this status and line, and whether it has to end with them (or, None, may): else it
     ends as with good streams."""
-    writes, reads, says = bool(whole.output), reads_input(use, whole), has_said(use, whole)
+    writes, reads, says = bool(whole.output), reads_input(use, whole), use[0].startswith("check ") and bool(whole.errors)
     return [
         ("closed output", streams.without(use, 1), hostile.WRITE, writes),
         ("full output", streams.into(use, "stdout", "/dev/full"), hostile.WRITE, writes),
@@ -192,7 +185,7 @@ def call_faults(streams, use, whole, counts):
         if "--explain" in use[0] and outcome in (whole, whole._replace(errors=b"" if kind == "write" else whole.errors)):
             # It failed behind the fault's line, or there.
             found = []
-        elif kind == "write" and whole.errors and not has_said(use, whole) and number == counts[kind]:
+        elif kind == "write" and whole.errors and not use[0].startswith("check ") and number == counts[kind]:
             found = [] if outcome == whole._replace(errors=b"") else [f"ends otherwise, with {outcome[:3]}, where its line isn't written"]
         elif kind == "read" and use[0].startswith("check "):
             found = verdict_faults(outcome, whole)

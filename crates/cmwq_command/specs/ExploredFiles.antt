@@ -10,7 +10,7 @@ use Rattle.cmwq_explored.specs.declared.outcome.Outcome.{Outcome}
 use Rattle.cmwq_explored.specs.declared.outcome.Outcome.TheVariants.{Holds, Found, Open}
 use Rattle.cmwq_streams.specs.Sending.{HasSentFront}
 use Rattle.cmwq_streams.specs.declared.error.PlayError.{PlayError}
-use Rattle.cmwq_streams.specs.declared.error.PlayError.TheVariants.{NoMemory, Read, Write}
+use Rattle.cmwq_streams.specs.declared.error.PlayError.TheVariants.{NoMemory, Read}
 
 -- the exit status: 0 where it holds, 5 where an order was found, and 6 where that is open
 abbrev pub status_of_outcome : Outcome → ℕ
@@ -24,18 +24,17 @@ unexplored_line (Play why) = []
 unexplored_line NoSuchActor = codes "no such actor" ++ 10 ∷ []
 unexplored_line (Flushes count) = codes "flushes " ++ (decimal count ++ (codes " needed" ++ 10 ∷ []))
 
--- it was told on the writer for faults, and the status is 1; or that writer failed
-abbrev pub TellsLine : List ℕ → (errors errors_now : Option (List ℕ)) → Result ℕ PlayError → Type 0
-TellsLine line errors errors_now result =
-    ((result ≡ Ok 1) × Appends errors errors_now line) ⊎ ((result ≡ Err Write) × HasSentFront errors errors_now line)
+-- the line went to the writer for faults, or as much of it as that took
+abbrev pub TellsLine : List ℕ → (errors errors_now : Option (List ℕ)) → Type 0
+TellsLine line errors errors_now = Appends errors errors_now line ⊎ HasSentFront errors errors_now line
 
 -- what is told of what it came to
 abbrev pub IsToldSo : Result Outcome ExploreError → (errors errors_now : Option (List ℕ)) → Result ℕ PlayError → Type 0
 IsToldSo (Ok out) errors errors_now result = (result ≡ Ok (status_of_outcome out)) × (errors_now ≡ errors)
 IsToldSo (Err (Play why)) errors errors_now result = (result ≡ Err why) × (errors_now ≡ errors)
-IsToldSo (Err NoSuchActor) errors errors_now result = TellsLine (unexplored_line NoSuchActor) errors errors_now result
+IsToldSo (Err NoSuchActor) errors errors_now result = (result ≡ Ok 1) × TellsLine (unexplored_line NoSuchActor) errors errors_now
 IsToldSo (Err (Flushes count)) errors errors_now result =
-    TellsLine (unexplored_line (Flushes count)) errors errors_now result ⊎ ((result ≡ Err NoMemory) × (errors_now ≡ errors))
+    ((result ≡ Ok 1) × TellsLine (unexplored_line (Flushes count)) errors errors_now) ⊎ ((result ≡ Err NoMemory) × (errors_now ≡ errors))
 
 -- The file, which has these bytes, couldn't be opened, and nothing was written; or it was explored, and that was told.
 abbrev pub HasExploredFile : Exploration → List ℕ → (output output_now : Option (List ℕ)) → (failed : Bool) → (errors errors_now : Option (List ℕ)) → Result ℕ PlayError → Type 0

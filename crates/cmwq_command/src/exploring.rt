@@ -1,12 +1,13 @@
 //! Exploring all orders of a file's actors.
-ghost use Rattle.cmwq_command.specs.ExploredFiles.{HasExploredFile, IsToldSo, TellsLine, status_of_outcome};
-ghost use Rattle.std.specs.Prelude.{◌≡◌, IfSome, Some, false};
+ghost use Rattle.cmwq_command.specs.ExploredFiles.{HasExploredFile, IsToldSo, TellsLine, status_of_outcome, unexplored_line};
+ghost use Rattle.std.specs.Prelude.{◌≡◌, IfOk, IfSome, Some, false};
 
 use crate::file_store::FileStore;
 use cmwq_exploration::Exploration;
 use cmwq_explore::Progress;
 use cmwq_explored::{ExploreError, Outcome, explore};
 use cmwq_streams::{PlayError, Sink, put_all};
+use cmwq_types::NoMemory;
 use std::alloc::Global;
 
 /// The exit status of a scenario that has what is never to be.
@@ -51,21 +52,29 @@ fn told_so<E: Sink>(
     match explored {
         Ok(outcome) => Ok(status_of(outcome)),
         Err(ExploreError::Play(why)) => Err(why),
-        Err(ExploreError::NoSuchActor) => tell_line(errors, b"no such actor\n"),
+        Err(ExploreError::NoSuchActor) => Ok(tell_line(errors, b"no such actor\n")),
         Err(ExploreError::Flushes(count)) => {
-            let line = format!(in alloc; "flushes {count} needed\n")?;
-            tell_line(errors, line.as_bytes())
+            let line = flushes_line(alloc, count)?;
+            Ok(tell_line(errors, &line))
         }
     }
 }
 
-/// Writes the line of a scenario that can't be explored so, and gives the exit status.
-fn tell_line<E: Sink>(errors: &mut E, line: &[u8]) -> Result<u8, PlayError>
-    requires { E.failed errors.old ≡ false }
-    ensures { TellsLine line.now (E.contents errors.old) (E.contents errors.new) result }
+/// The line that tells how many flushes the scenario's actors give, where that is more than it has.
+fn flushes_line(alloc: Global, count: u16) -> Result<Vec<u8>, NoMemory>
+    ensures { IfOk result (λ line. line.items ≡ unexplored_line (ExploreError.Flushes count)) }
 {
-    put_all(errors, line)?;
-    Ok(UNEXPLORED)
+    Ok(format!(in alloc; "flushes {count} needed\n")?.into_bytes())
+}
+
+/// Writes the line of a scenario that can't be explored so, as far as the writer takes it, and gives the exit status.
+fn tell_line<E: Sink>(errors: &mut E, line: &[u8]) -> u8
+    requires { E.failed errors.old ≡ false }
+    ensures status { result ≡ 1 }
+    ensures told { TellsLine line.now (E.contents errors.old) (E.contents errors.new) }
+{
+    let _ = put_all(errors, line);
+    UNEXPLORED
 }
 
 /// The exit status of what exploring comes to.
