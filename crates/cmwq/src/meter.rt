@@ -71,6 +71,6 @@ impl Progress for Meter<'_> {
 
 /// How many states a second that is.
 fn rate_of(states: usize, time: Duration) -> u64 {
-    let millis = (time.as_millis() as u64).max(1);
+    let millis = u64::try_from(time.as_millis()).unwrap_or(u64::MAX).max(1);
     (states as u64).saturating_mul(1000) / millis
 }
