@@ -155,10 +155,10 @@ def stamps_of(root, names):
 
 
 class Rounds:
-    """The wrong bodies of some crates of a tree, and a room beside it in which each of these crates is checked once, and then each round over that.
+    """The wrong bodies of some crates of a tree, and a room beside it for their rounds.
 
     The libraries below are those that the tree has, each proved once more where it has none of the same sources; or those that a run of `rt ci` made in another copy of the
-    tree, which fit one another."""
+    tree, which fit one another. Then the first round of a crate proves its other functions too, which the next ones go over."""
 
     def __init__(self, root, every, names, room, proved=None):
         self.root, self.crates, self.room = pathlib.Path(root), every, pathlib.Path(room)
@@ -193,9 +193,9 @@ class Rounds:
         return at
 
     def prove(self, name):
-        """Proves the crate, and builds its library where those above go over that. Returns what was said if it failed."""
+        """Proves the crate, and builds its library, over which those above go. Returns what was said if it failed."""
         at = self.furnish(name, self.root)
-        status, said = self.run(("proof", name), at / "crates" / name, "check" if self.libraries else "lib", "--jobs", "1")
+        status, said = self.run(("proof", name), at / "crates" / name, "lib", "--jobs", "1")
         self.proved.update({} if status else {name: at})
         return said if status else ""
 
@@ -211,10 +211,11 @@ class Rounds:
 
     def try_round(self, name, bodies):
         """Tries a round. Returns those of its bodies of which it doesn't tell that they are refused."""
-        at = self.furnish(name, self.proved[name])
+        at = self.furnish(name, self.proved.get(name, self.root))
         put_into(at / "crates" / name, bodies)
         found = refusals(self.run(("tries", name), at / "crates" / name, "check", "--allow-holes", "--jobs", "1")[1])
-        shutil.rmtree(at)
+        if self.proved.setdefault(name, at) != at:
+            shutil.rmtree(at)
         if not found.keys() <= {body.function for body in bodies}:
             # (a goal of a function that is as it was: then the round tells nothing)
             return bodies
@@ -227,7 +228,7 @@ class Rounds:
 
     def try_alone(self, name, bodies):
         """Tries these bodies one at a time. Returns what was said, if one of them isn't refused for a goal."""
-        at = self.furnish(name, self.proved[name])
+        at = self.furnish(name, self.proved.get(name, self.root))
         os.makedirs(at / "crates" / name / "must-fail")
         for body in bodies:
             shutil.copy2(body.path, at / "crates" / name / "must-fail")
@@ -244,14 +245,15 @@ class Rounds:
         return self.try_alone(name, [*alone, *left]) if alone or left else ""
 
     def carry_out(self, lanes):
-        """Proves each crate once the libraries below it are there, and then tries its bodies, as many crates side by side as there are lanes. Gives what
-        was said of each crate that was tried or isn't proved, as it ends: nothing, where all its bodies are refused."""
+        """Tries the bodies of each crate, as many crates side by side as there are lanes; where no run made the libraries, each crate is proved first, once
+        those below it are. Gives what was said of each crate that was tried or isn't proved, as it ends: nothing, where all its bodies are refused."""
         above = collections.Counter(it for name in self.names for it in crates.below(self.crates, name))
         self.stamps = stamps_of(self.root, self.names) if self.libraries else {}
-        waiting, running = [(self.prove, it) for it in (self.names if self.libraries else [name for name, _ in above.most_common()])], {}
+        waiting = [(self.try_crate, name) for name in self.names] if self.libraries else [(self.prove, name) for name, _ in above.most_common()]
+        running = {}
         with concurrent.futures.ThreadPoolExecutor(lanes) as pool:
             while waiting or running:
-                ready = [it for it in waiting if it[0] == self.try_crate or self.libraries or all(dep in self.proved for dep in crates.below(self.crates, it[1])[:-1])]
+                ready = [it for it in waiting if it[0] == self.try_crate or all(dep in self.proved for dep in crates.below(self.crates, it[1])[:-1])]
                 for task in ready[: lanes - len(running)]:
                     waiting.remove(task)
                     running[pool.submit(*task)] = task

@@ -8,7 +8,7 @@ HEAD = """# Figures of the gate, crate by crate
 `./check --all` writes this file where it passes and no proof was kept from an earlier run on the machine. This was on {day}, with `{kit}`, on {cores} processors: {minutes:.0f} minutes
 by the clock and {spent:.0f} of processor time, of which all proofs, tests and programs took {proofs:.0f}.
 
-Of each crate: processor seconds to prove it from nothing and write its library, as the rounds need it; how many wrong bodies it has, in how many rounds, and the processor seconds of
+Of each crate: processor seconds to prove it from nothing and write its library, where the rounds need that; how many wrong bodies it has, in how many rounds, and the processor seconds of
 these, with those that were tried alone.
 
 | Crate | Seconds | Wrong bodies | Rounds | Seconds |
@@ -37,4 +37,4 @@ def minutes_spent():
 def text_of(rounds, kit, minutes, proofs):
     """The whole file, of a run that took so many minutes by the clock, and of processor time for the proofs."""
     head = HEAD.format(day=datetime.date.today(), kit=kit, cores=len(os.sched_getaffinity(0)), minutes=minutes, spent=minutes_spent(), proofs=proofs)
-    return head + "".join(row(name, rounds) for name in rounds.crates if ("proof", name) in rounds.seconds)
+    return head + "".join(row(name, rounds) for name in rounds.crates if {("proof", name), ("tries", name)} & rounds.seconds.keys())

@@ -414,48 +414,25 @@ fn an_image_file_is_made_before_the_text_is_opened(rt: HostRuntime) {
 fn a_file_that_is_not_there_is_a_failed_read_or_write(rt: HostRuntime) {
     let file = "cmwq_no_folder/a.cmwq";
     let out = "cmwq_no_folder/a.image";
-    for (request, fault) in [
-        (
-            Request::Do {
-                file,
-                task: Task::Run(RunKind::Plain),
-            },
-            PlayError::Read,
-        ),
-        (
-            Request::Do {
-                file,
-                task: Task::Settle,
-            },
-            PlayError::Read,
-        ),
-        (
-            Request::Do {
-                file,
-                task: Task::List,
-            },
-            PlayError::Read,
-        ),
-        (
-            Request::Do {
-                file: out,
-                task: Task::Show,
-            },
-            PlayError::Read,
-        ),
-        (
-            Request::Debug {
-                file,
-                settle: false,
-            },
-            PlayError::Read,
-        ),
-        (Request::Play { file, capacity: 1 }, PlayError::Read),
-        (Request::Asm { file, out }, PlayError::Write),
-        (Request::New { file: Some(file) }, PlayError::Write),
-    ] {
-        check_answer(&rt, request, Err(fault), b"");
+    for task in [Task::Run(RunKind::Plain), Task::Settle, Task::List] {
+        check_answer(&rt, Request::Do { file, task }, Err(PlayError::Read), b"");
     }
+    let show = Request::Do {
+        file: out,
+        task: Task::Show,
+    };
+    check_answer(&rt, show, Err(PlayError::Read), b"");
+    let debug = Request::Debug {
+        file,
+        settle: false,
+    };
+    check_answer(&rt, debug, Err(PlayError::Read), b"");
+    let play = Request::Play { file, capacity: 1 };
+    check_answer(&rt, play, Err(PlayError::Read), b"");
+    let asm = Request::Asm { file, out };
+    check_answer(&rt, asm, Err(PlayError::Write), b"");
+    let new = Request::New { file: Some(file) };
+    check_answer(&rt, new, Err(PlayError::Write), b"");
     let why = Request::Do {
         file,
         task: Task::Why(Inquiry {
