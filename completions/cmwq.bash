@@ -4,15 +4,15 @@
 _cmwq_file() {
     local at
     for ((at = 2; at < COMP_CWORD; at++)); do
-        if [[ ${COMP_WORDS[at]} != -* && ${COMP_WORDS[at - 2]} != @(--before|--never)
-            && ${COMP_WORDS[at - 1]} != @(--capacity|--from|--to|--flush|--at|--time|--works|--scale|--id|--after|--never|--before|--limit) ]]; then
+        if [[ ${COMP_WORDS[at]} != -* && ${COMP_WORDS[at - 2]} != @(--before|--never|--sweep)
+            && ${COMP_WORDS[at - 1]} != @(--capacity|--from|--to|--flush|--at|--time|--works|--scale|--id|--after|--never|--before|--limit|--sweep|--dat) ]]; then
             printf '%s\n' "${COMP_WORDS[at]}"
             return
         fi
     done
 }
 
-# Prints the names that the file's lines of this word declare: works or actors.
+# Prints the names that the file's lines of this word declare: works, actors or queues.
 _cmwq_names() {
     sed -n "s/^[[:blank:]]*$1[[:blank:]]\{1,\}\([a-z][a-z0-9_]*\).*/\1/p" -- "$2" 2> /dev/null
 }
@@ -41,9 +41,9 @@ _cmwq() {
     local word=${COMP_WORDS[COMP_CWORD]} command=${COMP_WORDS[1]-} file
     COMPREPLY=()
     if ((COMP_CWORD == 1)); then
-        mapfile -t COMPREPLY < <(compgen -W 'new run settle draw why explore list asm show debug play check help --explain --help --version' -- "$word")
+        mapfile -t COMPREPLY < <(compgen -W 'new run settle draw why explore times trace list asm show debug play check help --explain --help --version' -- "$word")
     elif [[ $command == help ]]; then
-        mapfile -t COMPREPLY < <(compgen -W 'scenario new run settle draw why explore list asm show debug play check help' -- "$word")
+        mapfile -t COMPREPLY < <(compgen -W 'scenario new run settle draw why explore times trace list asm show debug play check help' -- "$word")
     elif [[ $word == -* ]]; then
         local options='--explain --help'
         case $command in
@@ -51,6 +51,8 @@ _cmwq() {
             draw) options='--settle --svg --from --to --fold --works --scale --id --explain --help' ;;
             why) options='--flush --at --every --time --settle --explain --help' ;;
             explore) options='--after --never --stuck --before --limit --explain --help' ;;
+            times) options='--json --whom --sweep --explain --help' ;;
+            trace) options='--json --lines --text --dat --explain --help' ;;
             debug) options='--settle --explain --help' ;;
             play) options='--capacity --explain --help' ;;
         esac
@@ -61,7 +63,11 @@ _cmwq() {
         mapfile -t COMPREPLY < <(compgen -W "$(_cmwq_names work "$file")" -- "$word")
     elif [[ $command == explore ]] && file=$(_cmwq_file) && [[ -n $file ]]; then
         mapfile -t COMPREPLY < <(compgen -W "$(_cmwq_explored "$file")" -- "$word")
-    elif [[ $command == @(show|new) || ($command == asm && -n $(_cmwq_file)) ]]; then
+    elif [[ $command == times && ${COMP_WORDS[COMP_CWORD - 1]} == --sweep ]]; then
+        file=$(_cmwq_file) && mapfile -t COMPREPLY < <(compgen -W "$(_cmwq_names queue "$file")" -- "$word")
+    elif [[ $command == times && ${COMP_WORDS[COMP_CWORD - 2]} == --sweep ]]; then
+        return
+    elif [[ ${COMP_WORDS[COMP_CWORD - 1]} == --dat || $command == @(show|new) || ($command == asm && -n $(_cmwq_file)) ]]; then
         compopt -o filenames 2> /dev/null
         mapfile -t COMPREPLY < <(compgen -f -- "$word")
     else

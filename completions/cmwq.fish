@@ -13,7 +13,7 @@ function __cmwq_works
     end
 end
 
-# The names that FILE declares in lines of this word, works or actors; FILE is the first word behind `explore`.
+# The names that FILE declares in lines of this word, works, actors or queues; FILE is the first word behind `explore` or `times`.
 function __cmwq_names
     set -l words (commandline -opc)
     if set -q words[3]; and not string match -q -- '-*' $words[3]
@@ -21,7 +21,7 @@ function __cmwq_names
     end
 end
 
-set -l commands new run settle draw why explore list asm show debug play check help
+set -l commands new run settle draw why explore times trace list asm show debug play check help
 complete -c cmwq -n "not __fish_seen_subcommand_from $commands" -f
 complete -c cmwq -n "not __fish_seen_subcommand_from $commands" -a new -d 'Write a scenario to start from, with comments'
 complete -c cmwq -n "not __fish_seen_subcommand_from $commands" -a run -d 'Run a scenario and write its events'
@@ -29,6 +29,8 @@ complete -c cmwq -n "not __fish_seen_subcommand_from $commands" -a settle -d "Wr
 complete -c cmwq -n "not __fish_seen_subcommand_from $commands" -a draw -d "Draw a scenario's run"
 complete -c cmwq -n "not __fish_seen_subcommand_from $commands" -a why -d 'Tell why a work or a flush waits'
 complete -c cmwq -n "not __fish_seen_subcommand_from $commands" -a explore -d 'Look through all orders of the instructions of actors'
+complete -c cmwq -n "not __fish_seen_subcommand_from $commands" -a times -d 'Tell where the time of each request went'
+complete -c cmwq -n "not __fish_seen_subcommand_from $commands" -a trace -d 'Write a run for tools that show traces'
 complete -c cmwq -n "not __fish_seen_subcommand_from $commands" -a list -d "Write a scenario's listing"
 complete -c cmwq -n "not __fish_seen_subcommand_from $commands" -a asm -d 'Make the image of a scenario'
 complete -c cmwq -n "not __fish_seen_subcommand_from $commands" -a show -d "Write the listing of an image's scenario"
@@ -37,7 +39,7 @@ complete -c cmwq -n "not __fish_seen_subcommand_from $commands" -a play -d 'Let 
 complete -c cmwq -n "not __fish_seen_subcommand_from $commands" -a check -d "Tell whether scenarios' texts are good, or where their first faults are"
 complete -c cmwq -n "not __fish_seen_subcommand_from $commands" -a help -d 'Say what there is, or what a command does'
 complete -c cmwq -n "__fish_seen_subcommand_from help" -f -a "$commands scenario"
-complete -c cmwq -n "__fish_seen_subcommand_from run settle draw why explore list asm debug play check" -k -xa "(__fish_complete_suffix .cmwq)"
+complete -c cmwq -n "__fish_seen_subcommand_from run settle draw why explore times trace list asm debug play check" -k -xa "(__fish_complete_suffix .cmwq)"
 complete -c cmwq -n "__fish_seen_subcommand_from why" -k -xa "(__cmwq_works)" -d work
 complete -c cmwq -n "__fish_seen_subcommand_from run draw why debug" -l settle -d 'Go on until the machine is quiet'
 complete -c cmwq -n "__fish_seen_subcommand_from run" -l tell -d 'Write instructions and unseen changes too'
@@ -57,6 +59,13 @@ complete -c cmwq -n "__fish_seen_subcommand_from explore" -l never -xa "(__cmwq_
 complete -c cmwq -n "__fish_seen_subcommand_from explore" -l stuck -d 'Ask whether nothing can go on'
 complete -c cmwq -n "__fish_seen_subcommand_from explore" -l before -xa "(__cmwq_names actor)" -d 'This actor ends before the next begins'
 complete -c cmwq -n "__fish_seen_subcommand_from explore" -l limit -x -d 'How many states are looked at'
+complete -c cmwq -n "__fish_seen_subcommand_from times" -l json -d 'Write each line as a JSON object'
+complete -c cmwq -n "__fish_seen_subcommand_from times" -l whom -d 'Tell for whom works waited'
+complete -c cmwq -n "__fish_seen_subcommand_from times" -l sweep -xa "(__cmwq_names queue)" -d 'Tell what values of a max_active come to'
+complete -c cmwq -n "__fish_seen_subcommand_from trace" -l json -d 'Write slices for Perfetto and chrome://tracing'
+complete -c cmwq -n "__fish_seen_subcommand_from trace" -l lines -d 'Write a JSON object a line for each event'
+complete -c cmwq -n "__fish_seen_subcommand_from trace" -l text -d "Write events as a kernel's trace shows them"
+complete -c cmwq -n "__fish_seen_subcommand_from trace" -l dat -r -d 'Make a file for trace-cmd and KernelShark'
 complete -c cmwq -n "__fish_seen_subcommand_from play" -l capacity -x -d 'How many instructions can be issued in all'
 complete -c cmwq -n "not __fish_seen_subcommand_from $commands" -s V -l version -d 'Print version'
 complete -c cmwq -l explain -d 'Say what can be done about a fault'

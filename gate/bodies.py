@@ -244,15 +244,17 @@ class Rounds:
         left = [body for bodies in rounds for body in self.try_round(name, bodies)]
         return self.try_alone(name, [*alone, *left]) if alone or left else ""
 
-    def carry_out(self, lanes):
-        """Tries the bodies of each crate, as many crates side by side as there are lanes; where no run made the libraries, each crate is proved first, once
-        those below it are. Gives what was said of each crate that was tried or isn't proved, as it ends: nothing, where all its bodies are refused."""
+    def carry_out(self, lanes, is_late=lambda name: False):
+        """Tries the bodies of each crate for which it isn't late yet, as many crates side by side as there are lanes; where no run made the libraries, each
+        crate is proved first, once those below it are. Gives what was said of each crate that was tried or isn't proved, as it ends: nothing, where all its
+        bodies are refused."""
         above = collections.Counter(it for name in self.names for it in crates.below(self.crates, name))
         self.stamps = stamps_of(self.root, self.names) if self.libraries else {}
         waiting = [(self.try_crate, name) for name in self.names] if self.libraries else [(self.prove, name) for name, _ in above.most_common()]
         running = {}
         with concurrent.futures.ThreadPoolExecutor(lanes) as pool:
             while waiting or running:
+                waiting = [it for it in waiting if not is_late(it[1])]
                 ready = [it for it in waiting if it[0] == self.try_crate or all(dep in self.proved for dep in crates.below(self.crates, it[1])[:-1])]
                 for task in ready[: lanes - len(running)]:
                     waiting.remove(task)

@@ -12,6 +12,7 @@ failure is told with its command line, and the files that it needs are kept."""
 import argparse
 import collections
 import glob
+import json
 import multiprocessing
 import os
 import random
@@ -28,6 +29,7 @@ sys.dont_write_bytecode = True
 sys.path.insert(0, os.path.dirname(os.path.realpath(__file__)))
 import hostile
 import mutations
+import reports
 
 SECONDS, MEGABYTES = 10, 200
 # The most actors of a play, and how many megabytes a thread's stack takes.
@@ -192,6 +194,32 @@ def try_play(bench, rng, _listed):
         bench.want(bench.run("list", "played.cmwq") == Ended(0, unmarked(played.output), b""), "what the play leaves isn't a listing")
 
 
+def read_json(text):
+    """What the bytes are as JSON, or nothing where they aren't that."""
+    try:
+        return json.loads(text)
+    except ValueError:
+        return None
+
+
+def try_reports(bench, _rng, _listed):
+    """`times` and `trace` end as the run does; the ticks of each line of `times` add up, and the objects of `trace` are JSON, of which `--lines` has one
+    for each line of the run."""
+    ran = bench.run("run", TEXT)
+    told = {words: bench.run(*words.split(), TEXT) for words in ("times", "times --json", "times --whom", "trace --json", "trace --lines", "trace --text")}
+    for words, it in told.items():
+        bench.want(it[::2] == ran[::2], f"{words} ends with {it[::2]}, and run with {ran[::2]}")
+    if ran.status:
+        return
+    lines = [reports.LINE.fullmatch(line) for line in told["times"].output.decode().splitlines() if " since " in line]
+    bench.want(all(it and int(it[4]) + sum(map(int, it.groups()[4:])) == int(it[1]) for it in lines), "a line of times doesn't add up")
+    bench.want(isinstance(read_json(told["trace --json"].output), dict), "a trace is no object")
+    objects = [read_json(line) for line in told["trace --lines"].output.splitlines()]
+    bench.want(all(isinstance(it, dict) for it in objects), "a line of a trace is no object")
+    times = [str(it.get("time")).encode() for it in objects]
+    bench.want(times == [line.split(b" ")[0] for line in ran.output.splitlines()], "trace --lines has other lines than the run")
+
+
 def asked_of_orders(rng, listed):
     """Words of an exploration, and how many states are looked at."""
     works, actors = (re.findall(rf"^{kind} (\w+)", listed.output.decode(), re.M) for kind in ("work", "actor"))
@@ -234,7 +262,7 @@ def try_text(bench, rng, found):
     is_noted = all(line.startswith(f"{TEXT}:".encode()) for line in verdict.errors.splitlines())
     bench.want(verdict[:2] == (0, f"{TEXT}: ok\n".encode()) and is_noted, "a good text isn't told so")
     try_good(bench, listed)
-    for part in rng.sample([try_run, try_settle, try_draw, try_why, try_play, try_explore], 2):
+    for part in rng.sample([try_run, try_settle, try_draw, try_why, try_play, try_explore, try_reports], 2):
         part(bench, rng, listed)
     return "scenario"
 
@@ -266,14 +294,21 @@ def try_commands(bench, rng, found):
     return "session"
 
 
+def may_write(words):
+    """The files that a command line may write over: those of `asm`, and what stands behind `--dat` of `trace`."""
+    if words[:1] == [b"trace"]:
+        return {name for word, name in zip(words[1:], words[2:]) if word == b"--dat"}
+    return set(words[1:]) if words[:1] == [b"asm"] else set()
+
+
 def try_words(bench, rng, found):
-    """A command line: but for `asm` and `new` no file changes."""
+    """A command line: no file changes but those that it may write."""
     for name, content in found.files.items():
         bench.write(name, content)
     words = mutations.words(rng, found.uses)
     ended = bench.run(*words, given=mutations.commands(rng, found.sessions))
     changed = {name for name, content in found.files.items() if bench.made(name) != content}
-    bench.want(not changed or words[:1] == [b"asm"], f"{sorted(changed)} have changed")
+    bench.want(changed <= {os.fsdecode(name) for name in may_write(words)}, f"{sorted(changed)} have changed")
     return f"command line of status {ended.status}"
 
 

@@ -218,6 +218,36 @@ explore --stuck
 explore --explain flushing.cmwq --stuck
 explore lines.cmwq --stuck --explain
 explore orders.cmwq --explain --never nobody
+times every.cmwq
+times every.cmwq --json
+times asks.cmwq
+times faulty.cmwq
+times nothing.cmwq
+times
+times --explain asks.cmwq
+times every.cmwq --whom
+times every.cmwq --whom --json
+times asks.cmwq --whom
+times every.cmwq --sweep q 1..3
+times every.cmwq --sweep q 1..3 --json
+times every.cmwq --sweep nosuch 1..3
+times every.cmwq --sweep q 3..1
+times every.cmwq --sweep q 1..3 --whom
+times asks.cmwq --sweep q 1..3
+trace every.cmwq --json
+trace every.cmwq --lines
+trace asks.cmwq --lines
+trace faulty.cmwq --json
+trace nothing.cmwq --json
+trace every.cmwq
+trace every.cmwq --json --lines
+trace --json
+trace every.cmwq --text
+trace asks.cmwq --text
+trace faulty.cmwq --text
+trace every.cmwq --dat out.data
+trace faulty.cmwq --dat out.data
+trace every.cmwq --dat out.data --text
 check every.cmwq
 check every.cmwq faulty.cmwq nothing.cmwq late.cmwq asks.cmwq
 check late.cmwq
@@ -254,6 +284,7 @@ USES += [("debug every.cmwq", commands) for commands in (
 USES += [("debug --settle every.cmwq", "run"), ("debug --settle restless.cmwq", "run")]
 # Standard input as a file.
 USES += [(line, text) for line in ("run -", "run --explain -", "check - faulty.cmwq", "asm - out.image", "draw -", "why - b", "show -") for text in (EVERY, FILES["faulty.cmwq"])]
+USES += [(line, text) for line in ("times -", "trace - --json", "trace - --lines") for text in (EVERY, FILES["faulty.cmwq"])]
 USES += [("explore - --never a", text) for text in (ORDERS, FILES["faulty.cmwq"])]
 # On a way with checkpoints.
 USES += [("debug long.cmwq", "goto 700\nback 1\nback 600\ngoto 640\nbreak time 690\nrun\ngoto 3\nwhy a\ngoto 801\ndump")]

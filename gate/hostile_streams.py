@@ -19,7 +19,7 @@ MANY = hostile.FILES["long.cmwq"] + "state a * 20000\n"
 MOST = 200
 # What can't be opened or made, besides files that aren't there.
 PATHS = {line: hostile.READ for line in ("run .", "list .", "show .", "explore . --stuck", "debug .", "asm . out.image", "asm every.cmwq/file out.image")}
-PATHS |= {line: hostile.WRITE for line in ("asm every.cmwq every.cmwq", "asm every.cmwq ./every.cmwq", "asm every.cmwq .", "asm every.cmwq /dev/full", "asm every.cmwq nowhere/out", "new .", "new nowhere/out", "new /dev/full")}
+PATHS |= {line: hostile.WRITE for line in ("asm every.cmwq every.cmwq", "asm every.cmwq ./every.cmwq", "asm every.cmwq .", "asm every.cmwq /dev/full", "trace every.cmwq --dat every.cmwq", "trace every.cmwq --dat .", "trace every.cmwq --dat /dev/full", "asm every.cmwq nowhere/out", "new .", "new nowhere/out", "new /dev/full")}
 # Inputs that never end: what stands before endless zeros, and what then is the end.
 TOO_LONG = (1, b"", b"line 0: TooLong\n")
 ENDLESS = {(line, "every.cmwq"): TOO_LONG for line in ("run /dev/stdin", "list /dev/stdin", "asm /dev/stdin out.image", "why /dev/stdin b", "debug /dev/stdin", "explore /dev/stdin --stuck")}

@@ -206,6 +206,10 @@ OPTIONS += [((f"busy * {it}",), "play FILE --capacity 4096", ends) for it, ends 
 OPTIONS += [(("flush a", "busy"), f"why FILE a --at {it}", ends) for it, ends in {0: GOOD, 2: GOOD, **PAST, ELEVEN_DIGITS: WRONG}.items()]
 OPTIONS += [(("flush a", "busy"), f"why FILE --flush {it}", ends) for it, ends in {0: GOOD, **UNGIVEN, ELEVEN_DIGITS: WRONG}.items()]
 OPTIONS += [(("flush a", "busy"), f"why FILE --flush 0 --at {it}", ends) for it, ends in {0: UNGIVEN[1], 1: GOOD, **PAST}.items()]
+RANGES = {it: GOOD for it in ("1..1", "1..64", "449..512", "512..512", "1..0000000002")}
+RANGES |= {it: WRONG for it in ("1..65", "0..1", "2..1", "1...2", "450..513", "513..513", "1..00000000002", "1", "1.2", "1..", "..1", "x..1", f"1..{TEN_DIGITS}")}
+OPTIONS += [(("busy * 3",), f"times FILE --sweep q {it}", ends) for it, ends in RANGES.items()]
+OPTIONS += [(("busy * 3",), "times FILE --sweep r 1..2", (1, "no such queue\n")), (("busy * 3",), "times FILE --sweep q 1..2 --whom", WRONG)]
 OPTIONS += [(("tick * 501",), "draw FILE", GOOD), (RESTLESS, "draw FILE", GOOD)]
 OPTIONS += [((*RESTLESS, "disable a", "tick"), f"draw FILE {span}".rstrip(), ends) for span, ends in SPANS.items()]
 
@@ -304,6 +308,13 @@ draw FILE
 draw --settle --svg FILE
 why FILE a
 why FILE --flush 0
+times FILE
+times FILE --whom
+times FILE --sweep q 1..2
+trace FILE --json
+trace FILE --lines
+trace FILE --text
+trace FILE --dat out
 asm FILE out
 play FILE --capacity 9
 explore FILE --never a
@@ -477,7 +488,7 @@ class Limits:
 # The greatest scenario with all actors, and with one.
 ALL, ONE = "all.cmwq", "one.cmwq"
 GREATEST = {ALL: (16, MOST_INSTRUCTIONS, 2000), ONE: (1, MOST_INSTRUCTIONS, 2000)}
-LAST = longest("w", 255)
+LAST, LAST_QUEUE = longest("w", 255), longest("q", 29)
 SESSION = "".join([*(f"{line}\n" for line, _ in SIXTEEN), "run\nrun\n", f"goto {MOST_INSTRUCTIONS}\nback 1\n", *(f"why {longest('w', at)}\n" for at in range(256)), "goto 3000\ndump\nwhy flush 0\n"])
 MEASURED = [(line, "") for line in f"""
 check {ALL} {ONE}
@@ -499,6 +510,14 @@ why {ONE} --flush 5 --every
 why {ONE} --flush 5 --at {MOST_INSTRUCTIONS}
 why {ONE} {LAST}
 why {ONE} --flush 5
+times {ONE}
+times {ONE} --json
+times {ONE} --whom
+times {ONE} --sweep {LAST_QUEUE} 1..1
+trace {ONE} --json
+trace {ONE} --lines
+trace {ONE} --text
+trace {ONE} --dat one.data
 """.split("\n")[1:-1]] + [(f"debug {ONE}", SESSION)]
 SHARED = "beside its works others start, and burn only once these sleep or are done: a CPU takes turns here, and a kernel's is shared"
 Took = collections.namedtuple("Took", "seconds megabytes status errors output")

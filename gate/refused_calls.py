@@ -109,7 +109,7 @@ long: run_settled draw-settled
 every: assemble read_text run run_told run_settled settle_text list_text from_image to_image check new debug play
 every: draw draw-settled draw-svg draw-settled-svg draw-some draw-some-svg
 every: why why-every why-at why-time why-settled why-flush why-flush-every why-flush-at
-every: draw-folded draw-works run_told-settled
+every: draw-folded draw-works run_told-settled times times-json times-whom sweep trace-json trace-lines trace-text trace-dat
 late: run check
 asks: play explore
 """

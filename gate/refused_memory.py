@@ -106,7 +106,10 @@ def table(found):
     return "\n".join(["| Command line | Status | Calls for memory | Refused: `no memory` | Refused: as with memory |", "|---|---|---|---|---|", *lines])
 
 
-def main(program, *options):
+def main(program="", *options):
+    if not os.path.isfile(program) or options[:1] not in ((), ("--quick",)) or len(options) > 2:
+        print(__doc__, file=sys.stderr)
+        return 2
     commit = (options[1:] or (hostile.commit(),))[0] if options[:1] == ("--quick",) else None
     uses = hostile.all_uses()
     found = results(program, uses, None if commit is None else int(commit, 16) % SHARES)

@@ -102,6 +102,22 @@ with tempfile.TemporaryDirectory() as room:
     tower.seconds["proof", "low"] = 61.7
     assert figures.text_of(tower, "a kit", 59.4, 20.2).splitlines()[-1] == "| `low` | 62 | | | |", "a crate that no wrong body needs has no row"
 
+
+
+class Told(bodies.Rounds):
+    """Rounds of which each crate's takes no time, and finds nothing to say."""
+
+    def try_crate(self, name):
+        return ""
+
+
+with tempfile.TemporaryDirectory() as room:
+    tower = Told(room, TOWER, ["low", "mid", "high"], room)
+    tower.proved = {name: room for name in TOWER}
+    tower.prove = lambda name: ""
+    assert sorted(name for name, _ in tower.carry_out(1)) == ["high", "low", "mid"]
+    assert sorted(name for name, _ in tower.carry_out(1, lambda name: name == "mid")) == ["high", "low"], "a crate for which it is late isn't begun"
+
 DONE = "rt: ok; must-fail edits: none; done in this run: {} proofs (of crates and of their tests)"
 assert figures.is_from_nothing([DONE.format("66 of the 66")]) and figures.is_from_nothing([DONE.format("all 66")])
 assert not any(map(figures.is_from_nothing, [[DONE.format("8 of the 66")], [DONE.format("0 of the 66")], []])), "what was kept took no time"

@@ -37,16 +37,16 @@ def made(room):
     for path, text in FILES.items():
         write(room, path, text)
     edits = check.Edits(room, "a kit")
-    assert edits.plan("00")[0] == ["high", "low", "side"], "with no sums all are tried"
+    assert edits.plan("00")[:2] == (["high", "low", "side"], []), "with no sums all are tried"
     edits.write(edits.owners)
 
 
 def changed(path, text, kit="a kit"):
-    """The crates whose edits run after one file of the tree has changed."""
+    """The crates whose edits run after one file of the tree has changed, and those whose edits run as far as time goes."""
     with tempfile.TemporaryDirectory() as room:
         made(room)
         write(room, path, text)
-        return check.Edits(room, kit).plan("00")[0]
+        return check.Edits(room, kit).plan("00")[:2]
 
 
 def faults(path, text):
@@ -77,32 +77,49 @@ def layout(said, status=0):
 
 LOW = FILES["crates/low/must-fail/low_is_high.edit"]
 for path, text, want in [
-    ("docs/GATE.md", "words\n", []),
-    ("crates/low/specs/Lib.antt", "pub mod Lou\n", ["high", "low"]),
-    ("crates/low/src/lib.rt", "fn low()  {}\n", ["high", "low"]),
-    ("crates/low/proofs/Lib.antt", "\n", ["high", "low"]),
-    ("crates/low/must-fail/low_is_high.edit", LOW + "\n", ["low"]),
-    ("crates/high/src/lib.rt", "fn high()  {}\n", ["high"]),
-    ("crates.txt", "low: thiserror clap\nhigh: low\nside:\n", ["high", "low"]),
+    ("docs/GATE.md", "words\n", ([], [])),
+    ("crates/low/specs/Lib.antt", "pub mod Lou\n", (["low"], ["high"])),
+    ("crates/low/src/lib.rt", "fn low()  {}\n", (["low"], ["high"])),
+    ("crates/low/proofs/Lib.antt", "\n", (["low"], ["high"])),
+    ("crates/low/must-fail/low_is_high.edit", LOW + "\n", (["low"], [])),
+    ("crates/high/src/lib.rt", "fn high()  {}\n", (["high"], [])),
+    ("crates/high/must-fail/high_is_side.edit", LOW, (["high"], [])),
+    ("crates.txt", "low: thiserror clap\nhigh: low\nside:\n", (["low"], ["high"])),
+    ("crates.txt", "low: thiserror\nhigh: low thiserror\nside:\n", (["high"], [])),
 ]:
     assert changed(path, text) == want, path
-assert changed("docs/GATE.md", "words\n", "another kit") == ["high", "low", "side"]
+assert changed("docs/GATE.md", "words\n", "another kit") == (["high", "low", "side"], [])
 
 with tempfile.TemporaryDirectory() as room:
     made(room)
     check.Edits(room, "another kit").write(["low", "side"])
     write(room, "crates/high/src/lib.rt", "fn high()  {}\n")
     check.Edits(room, "another kit").write(["high"])
-    assert check.Edits(room, "another kit").plan("00")[0] == []
-    assert check.Edits(room, "a kit").plan("00")[0] == ["high"], "the sums of another kit are kept as far as they hold"
+    assert check.Edits(room, "another kit").plan("00")[:2] == ([], [])
+    assert check.Edits(room, "a kit").plan("00")[:2] == (["high"], []), "the sums of another kit are kept as far as they hold"
 
 with tempfile.TemporaryDirectory() as room:
     made(room)
-    chosen = [check.Edits(room, "a kit").plan(commit)[2] for commit in ("0", "1", "2", "3")]
+    write(room, "crates/low/src/lib.rt", "fn low()  {}\n")
+    check.Edits(room, "a kit").write(["low"])
+    assert check.Edits(room, "a kit").plan("00")[:2] == ([], ["high"]), "what waits goes on waiting"
+    write(room, "crates/high/src/lib.rt", "fn high()  {}\n")
+    assert check.Edits(room, "a kit").plan("00")[:2] == (["high"], []), "and is tried once it changes"
+    check.Edits(room, "a kit").write(["high"])
+    write(room, "crates/side/src/lib.rt", "fn side()  {}\n")
+    write(room, "crates.txt", "low:\nhigh: low\nside: low\n")
+    check.Edits(room, "a kit").write(["side", "low"])
+    write(room, "crates/low/src/lib.rt", "fn low() { }\n")
+    orders = [check.Edits(room, "a kit").plan(commit)[1] for commit in ("0", "1", "2")]
+    assert orders == [["high", "side"], ["side", "high"], ["high", "side"]], "which of those that wait comes first goes by the commit's hash"
+
+with tempfile.TemporaryDirectory() as room:
+    made(room)
+    chosen = [check.Edits(room, "a kit").plan(commit)[3] for commit in ("0", "1", "2", "3")]
     assert chosen == [["high"], ["low"], ["side"], ["high"]], "one of the skipped is tried all the same"
 
 assert faults("docs/GATE.md", "words\n") == []
-assert len(faults("gate/edits.sums", "gone 00 a kit\n")) == 1, "a sum that no crate has"
+assert len(faults("gate/edits.sums", "gone 00 00 a kit\n")) == 1, "a sum that no crate has"
 assert len(faults("crates/low/must-fail/deep/low_is_side.edit", LOW)) == 1, "an edit in a folder"
 assert len(faults("crates/low/low_is_side.edit", LOW)) == 1, "an edit beside the folder"
 assert len(faults("crates/gone/must-fail/low_is_side.edit", LOW)) == 1, "an edit of no crate"

@@ -18,15 +18,15 @@ use Rattle.cmwq_asm.specs.declared.fault.AsmError.TheVariants as texts
 use Rattle.cmwq_image.specs.declared.error.ImageError.{ImageError}
 use Rattle.cmwq_image.specs.declared.error.ImageError.TheVariants as images
 use Rattle.cmwq_request.specs.declared.request.Request.{Request}
-use Rattle.cmwq_request.specs.declared.request.Request.TheVariants.{New, Do, Asm, Debug, Play, Explore}
+use Rattle.cmwq_request.specs.declared.request.Request.TheVariants.{New, Do, Sweep, TraceData, Asm, Debug, Play, Explore}
 use Rattle.cmwq_streams.specs.declared.error.PlayError.{PlayError}
 use Rattle.cmwq_streams.specs.declared.error.PlayError.TheVariants as errors
 use Rattle.cmwq_settle.specs.Settled.{IsSettledIf, IsUnsettledIf}
-use Rattle.cmwq_tasks.specs.declared.question.Inquiry.{Inquiry}
-use Rattle.cmwq_tasks.specs.declared.question.Looks.{Looks}
-use Rattle.cmwq_tasks.specs.declared.question.Looks.TheVariants.{Time}
-use Rattle.cmwq_tasks.specs.declared.question.Question.{Question}
-use Rattle.cmwq_tasks.specs.declared.question.Question.TheVariants.{Work}
+use Rattle.cmwq_question.specs.declared.question.Inquiry.{Inquiry}
+use Rattle.cmwq_question.specs.declared.question.Looks.{Looks}
+use Rattle.cmwq_question.specs.declared.question.Looks.TheVariants.{Time}
+use Rattle.cmwq_question.specs.declared.question.Question.{Question}
+use Rattle.cmwq_question.specs.declared.question.Question.TheVariants.{Work}
 use Rattle.cmwq_tasks.specs.declared.task.RunKind.TheVariants.{Settled, ToldSettled}
 use Rattle.cmwq_tasks.specs.declared.task.Task.{Task}
 use Rattle.cmwq_tasks.specs.declared.task.Task.TheVariants.{Draw, Run, Settle, Why}
@@ -60,6 +60,8 @@ trouble_lines None why = []
 -- the file that a command reads, and the one that it makes
 abbrev pub file_read : Request → Option (List ℕ)
 file_read (Do file task) = Some file.now
+file_read (Sweep file sweep) = Some file.now
+file_read (TraceData file out) = Some file.now
 file_read (Asm file out) = Some file.now
 file_read (Debug file settle) = Some file.now
 file_read (Play file capacity) = Some file.now
@@ -68,6 +70,7 @@ file_read request = None
 
 abbrev pub file_made : Request → Option (List ℕ)
 file_made (New file) = option_map (λ path. path.now) file
+file_made (TraceData file out) = Some out.now
 file_made (Asm file out) = Some out.now
 file_made request = None
 

@@ -61,6 +61,8 @@ pub fn file_read<'a>(request: &Request<'a>) -> Option<&'a str>
 {
     match request {
         Request::Do { file, .. }
+        | Request::Sweep { file, .. }
+        | Request::TraceData { file, .. }
         | Request::Asm { file, .. }
         | Request::Debug { file, .. }
         | Request::Play { file, .. }
@@ -75,7 +77,7 @@ pub fn file_made<'a>(request: &Request<'a>) -> Option<&'a str>
 {
     match request {
         Request::New { file } => *file,
-        Request::Asm { out, .. } => Some(*out),
+        Request::Asm { out, .. } | Request::TraceData { out, .. } => Some(*out),
         _ => None,
     }
 }

@@ -8,12 +8,13 @@ ghost use Rattle.std.specs.Prelude.{◌≡◌, ◌≤◌, IfOk, length};
 
 use crate::line::line_of;
 use cmwq_core::Core;
+use cmwq_question::{Inquiry, Looks};
 use cmwq_request::request::Request;
 use cmwq_runs::{issue_all, room_behind};
 use cmwq_settle::settled_if;
 use cmwq_streams::PlayError;
 use cmwq_table::Machine;
-use cmwq_tasks::{Inquiry, Looks, Task};
+use cmwq_tasks::Task;
 use cmwq_types::{Line, MAX_HISTORY, NoMemory, Scenario};
 use itoa::Buffer;
 use std::alloc::Global;

@@ -8,10 +8,14 @@ use crate::stores::StoreCall;
 use crate::streams::StreamCall;
 use crate::texts::TextCall;
 use cmwq_debug::{Command, EventKind};
-use cmwq_tasks::{Drawing, Form, Inquiry, Looks, Question, RunKind, Span, Style, Task};
+use cmwq_drawing::{Drawing, Form, Span, Style};
+use cmwq_question::{Inquiry, Looks, Question};
+use cmwq_reports::{Format, Times, TraceForm};
+use cmwq_tasks::{RunKind, Task};
 use cmwq_types::WorkId;
 
 /// A call, by what it is made on.
+#[derive(Clone, Copy)]
 pub(crate) enum CallName {
     Text(TextCall),
     Lists(StoreCall),
@@ -72,7 +76,7 @@ const FLUSHED: Inquiry<'static> = Inquiry {
 };
 
 /// Each call with its name.
-pub(crate) const CALLS: [(&str, CallName); 65] = [
+const CALLS: [(&str, CallName); 43] = [
     ("Scenario::copy", CallName::Text(TextCall::Copy)),
     ("assemble", CallName::Text(TextCall::Assemble)),
     ("read_text", CallName::Text(TextCall::ReadText)),
@@ -233,6 +237,10 @@ pub(crate) const CALLS: [(&str, CallName); 65] = [
     ("list_text", CallName::Stream(StreamCall::Do(Task::List))),
     ("from_image", CallName::Stream(StreamCall::Do(Task::Show))),
     ("to_image", CallName::Stream(StreamCall::ToImage)),
+];
+
+/// The calls that draw, answer and tell, by their names, and the others that read an input and write an output.
+const STREAM_CALLS: [(&str, CallName); 30] = [
     ("draw", CallName::Stream(StreamCall::Do(Task::Draw(DRAWN)))),
     (
         "draw-settled",
@@ -311,6 +319,41 @@ pub(crate) const CALLS: [(&str, CallName); 65] = [
         }))),
     ),
     (
+        "times",
+        CallName::Stream(StreamCall::Do(Task::Times(Times {
+            format: Format::Text,
+            whom: false,
+        }))),
+    ),
+    (
+        "times-json",
+        CallName::Stream(StreamCall::Do(Task::Times(Times {
+            format: Format::Json,
+            whom: false,
+        }))),
+    ),
+    (
+        "times-whom",
+        CallName::Stream(StreamCall::Do(Task::Times(Times {
+            format: Format::Text,
+            whom: true,
+        }))),
+    ),
+    ("sweep", CallName::Stream(StreamCall::Sweep)),
+    (
+        "trace-json",
+        CallName::Stream(StreamCall::Do(Task::Trace(TraceForm::Json))),
+    ),
+    (
+        "trace-lines",
+        CallName::Stream(StreamCall::Do(Task::Trace(TraceForm::Lines))),
+    ),
+    (
+        "trace-text",
+        CallName::Stream(StreamCall::Do(Task::Trace(TraceForm::Text))),
+    ),
+    ("trace-dat", CallName::Stream(StreamCall::TraceData)),
+    (
         "run_told-settled",
         CallName::Stream(StreamCall::Do(Task::Run(RunKind::ToldSettled))),
     ),
@@ -335,8 +378,24 @@ pub(crate) const CALLS: [(&str, CallName); 65] = [
     ("play", CallName::Play),
 ];
 
+/// The call of this name, if there is one.
+pub(crate) fn call_of(word: &str) -> Option<CallName> {
+    match first_call_of(word) {
+        Some(call) => Some(call),
+        None => stream_call_of(word),
+    }
+}
+
+fn first_call_of(word: &str) -> Option<CallName> {
+    found(&CALLS, word).copied()
+}
+
+fn stream_call_of(word: &str) -> Option<CallName> {
+    found(&STREAM_CALLS, word).copied()
+}
+
 /// What has this name among these, if something has it.
-pub(crate) fn found<'a, T>(all: &'a [(&str, T)], word: &str) -> Option<&'a T> {
+fn found<'a, T>(all: &'a [(&str, T)], word: &str) -> Option<&'a T> {
     for (name, it) in all {
         if *name == word {
             return Some(it);

@@ -21,7 +21,7 @@ mod texts;
 mod trying;
 
 use bodies::{Body, BodyCall, try_body};
-use call_name::{CALLS, CallName, found};
+use call_name::{CallName, call_of};
 use cmwq_core::Core;
 use cmwq_outcome::fault;
 use cmwq_plain::Plain;
@@ -81,11 +81,11 @@ fn try_words<R: Print + Threads + Wait + Clock + Sync, I: Read + Drop>(
     let Some(word) = words.get(1) else {
         return Ok(USAGE);
     };
-    let Some(name) = found(&CALLS, word.as_str()) else {
+    let Some(name) = call_of(word.as_str()) else {
         return Ok(USAGE);
     };
     let text = read_whole(alloc, &mut Marked::new(input))?;
-    try_named(rt, alloc, name, &text)?;
+    try_named(rt, alloc, &name, &text)?;
     Ok(0)
 }
 

@@ -6,11 +6,14 @@ use crate::texts::written;
 use crate::trying::{Tried, try_call};
 use cmwq_asm::assemble;
 use cmwq_command::do_task;
+use cmwq_data_trace::trace_dat;
 use cmwq_exploration::{Exploration, Never};
 use cmwq_explore::Silent;
 use cmwq_explored::{ExploreError, explore};
 use cmwq_outcome::{Look, check_text, write_first};
 use cmwq_play::{Marked, PlayError, Sink, Source, to_image};
+use cmwq_reports::{Format, LimitRange, Sweep};
+use cmwq_sweep::{SweepError, sweep};
 use cmwq_tasks::Task;
 use std::alloc::Global;
 
@@ -26,6 +29,8 @@ pub(crate) enum StreamCall {
     Check,
     New,
     Explore,
+    Sweep,
+    TraceData,
 }
 
 /// What the reader has, and a call.
@@ -64,6 +69,8 @@ impl<X: Print> Tried for Piped<'_, X> {
             }
             StreamCall::New => write_first(writer),
             StreamCall::Explore => explored(alloc, reader, writer),
+            StreamCall::Sweep => swept(alloc, reader, writer),
+            StreamCall::TraceData => trace_dat(alloc, reader, &mut Marked::new(HexPrinter { rt })),
         }
     }
 
@@ -95,6 +102,23 @@ fn explored<R: Source, W: Sink>(
         Ok(_) => Ok(()),
         Err(ExploreError::Play(why)) => Err(why),
         Err(ExploreError::NoSuchActor | ExploreError::Flushes(_)) => Err(PlayError::Actors),
+    }
+}
+
+/// Runs the scenario whose text the reader has with several values of a queue's `max_active`.
+fn swept<R: Source, W: Sink>(alloc: Global, reader: &mut R, writer: &mut W) -> Result<(), PlayError>
+    requires reader { R.failed reader.old ≡ false }
+    requires writer { W.failed writer.old ≡ false }
+{
+    let asked = Sweep {
+        queue: "q",
+        limits: LimitRange { low: 1, high: 3 },
+        format: Format::Text,
+    };
+    match sweep(alloc, asked, reader, writer) {
+        Ok(()) => Ok(()),
+        Err(SweepError::Play(why)) => Err(why),
+        Err(SweepError::NoSuchQueue | SweepError::Ordered) => Err(PlayError::Actors),
     }
 }
 

@@ -8,22 +8,25 @@ use Rattle.cmwq_image.specs.Image.{image}
 use Rattle.cmwq_image.specs.declared.version.TheConstants.{VERSION}
 use Rattle.cmwq_actors.specs.Interleaving.{Interleaves, scripts_of}
 use Rattle.cmwq_command.specs.ExploredFiles.{HasExploredFile}
+use Rattle.cmwq_command.specs.SweptFiles.{HasSweptFile}
 use Rattle.cmwq_command.specs.Tasks.{IsGoalOf, IsTaskFault, IsWrittenBy}
 use Rattle.cmwq_command_line.specs.CommandLine.{version_line}
+use Rattle.cmwq_data_trace.specs.DataTrace.{dat_of_run}
 use Rattle.cmwq_debug_lines.specs.declared.manner.Manner.{Manner}
 use Rattle.cmwq_debug_session.specs.Told.{IsDebugged, IsFrontTold, IsTalkError}
 use Rattle.cmwq_language.specs.Page.{language_page}
+use Rattle.cmwq_framed.specs.Framing.{IsTextOfRun}
 use Rattle.cmwq_interleaving.specs.Plays.{HasFronts, IsFull, Left, LeftFront}
 use Rattle.cmwq_outcome.specs.Checking.{HasTold, status_of_judged}
 use Rattle.cmwq_outcome.specs.FaultsTold.{Prints}
 use Rattle.cmwq_outcome.specs.Starting.{HasWrittenFirst}
 use Rattle.cmwq_outcome.specs.declared.file_verdict.Judged.{Judged}
 use Rattle.cmwq_play.specs.Commands.{Answers, Writes}
-use Rattle.cmwq_play.specs.PlayTexts.{IsFaultOf, IsOutput, IsTextFault}
+use Rattle.cmwq_play.specs.PlayTexts.{IsFaultOf, IsOutput, IsRunFault, IsTextFault}
 use Rattle.clap.specs.Words.{Text}
 use Rattle.cmwq_request.specs.Request.{request_words}
 use Rattle.cmwq_request.specs.declared.request.Request.{Request}
-use Rattle.cmwq_request.specs.declared.request.Request.TheVariants.{New, Do, Asm, Debug, Play, Explore, Check, Language, Version}
+use Rattle.cmwq_request.specs.declared.request.Request.TheVariants.{New, Do, Sweep, TraceData, Asm, Debug, Play, Explore, Check, Language, Version}
 use Rattle.cmwq_settle.specs.Settled.{IsSettledIf, IsUnsettledIf}
 use Rattle.cmwq_streams.specs.Sending.{IsSendError}
 use Rattle.cmwq_streams.specs.declared.error.PlayError.{PlayError}
@@ -135,6 +138,11 @@ module _ (store : Store) (look : Look) (manner : Manner) (logic : List ℕ) (inp
   HasCarriedOut (Do file task) result =
       (errors_now ≡ errors)
       × Graded result (λ outcome. IfSome (store file.now) (λ bytes. UnlessUnopened output output_now outcome (HasDone task bytes output output_now failed outcome)))
+  HasCarriedOut (Sweep file sweep) result =
+      IfSome (store file.now) (λ bytes. HasSweptFile sweep bytes output output_now failed errors errors_now result)
+  HasCarriedOut (TraceData file out) result =
+      (errors_now ≡ errors) × (output_now ≡ output)
+      × Graded result (λ outcome. IfSome (store file.now) (λ bytes. Answers (IsTextOfRun dat_of_run) IsRunFault (Some bytes) outcome))
   HasCarriedOut (Asm file out) result =
       (errors_now ≡ errors) × (output_now ≡ output)
       × Graded result (λ outcome. IfSome (store file.now) (λ bytes. Answers (IsOutput (image VERSION)) IsTextFault (Some bytes) outcome))

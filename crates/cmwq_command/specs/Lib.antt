@@ -2,4 +2,5 @@ pub mod Advised
 pub mod Carried
 pub mod ExploredFiles
 pub mod Opening
+pub mod SweptFiles
 pub mod Tasks

@@ -3,7 +3,7 @@ use Rattle.std.specs.Prelude.{ℕ, Bool, false, List, Option, None, Some, if◌t
 use Rattle.std.specs.List.{list_any}
 pub use Rattle.cmwq_request.specs.Request.{is_input}
 use Rattle.cmwq_request.specs.declared.request.Request.{Request}
-use Rattle.cmwq_request.specs.declared.request.Request.TheVariants.{Do, Asm, Play, Explore, Check}
+use Rattle.cmwq_request.specs.declared.request.Request.TheVariants.{Do, Sweep, TraceData, Asm, Play, Explore, Check}
 use Rattle.cmwq_command.specs.declared.file_store.Opened.{Opened}
 use Rattle.cmwq_command.specs.declared.file_store.Opened.TheVariants.{File, Input}
 
@@ -19,6 +19,8 @@ input_bytes input path = if is_input path then input else None
 -- whether a file that is read for the request is standard input
 abbrev pub names_input : Request → Bool
 names_input (Do file task) = is_input file.now
+names_input (Sweep file sweep) = is_input file.now
+names_input (TraceData file out) = is_input file.now
 names_input (Asm file out) = is_input file.now
 names_input (Play file capacity) = is_input file.now
 names_input (Explore file exploration) = is_input file.now

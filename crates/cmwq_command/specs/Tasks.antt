@@ -2,14 +2,20 @@
 use Rattle.std.specs.Prelude.{ℕ, true, false, List, Option}
 use Rattle.cmwq_types.specs.Listing.{listing}
 use Rattle.cmwq_tasks.specs.declared.task.Task.{Task}
-use Rattle.cmwq_tasks.specs.declared.task.Task.TheVariants.{Run, Settle, List as Listing, Show, Draw, Why}
+use Rattle.cmwq_reports.specs.declared.report.TraceForm.TheVariants as form
+use Rattle.cmwq_tasks.specs.declared.task.Task.TheVariants.{Run, Settle, List as Listing, Show, Draw, Why, Times as Timed, Trace}
 use Rattle.cmwq_draw.specs.Drawn.{IsDrawFault, IsDrawnText}
 use Rattle.cmwq_explain.specs.Explained.{AreChanges, IsAnswer, IsUnanswered}
+use Rattle.cmwq_framed.specs.Framing.{IsTextOfRun}
+use Rattle.cmwq_kernel_text.specs.KernelText.{ftrace_text}
+use Rattle.cmwq_line_trace.specs.Lines.{objects_text}
 use Rattle.cmwq_play.specs.Images.{IsImageFault, IsShown}
 use Rattle.cmwq_play.specs.PlayTexts.{ComesTo, IsFaultOf as IsTextFaultOf, IsOutput, IsRun, IsRunFault, IsTextFault}
 use Rattle.cmwq_settle.specs.Settling.{IsFollowedRun, IsSettledRun, IsSettledText, IsUnsettledRun, IsUnsettledText}
 use Rattle.cmwq_streams.specs.declared.error.PlayError.{PlayError}
 use Rattle.cmwq_tell.specs.RunTold.{IsToldFault, IsToldRun}
+use Rattle.cmwq_times.specs.TimesOfRun.{IsTimedRun}
+use Rattle.cmwq_trace.specs.Json.{json_text}
 use Rattle.cmwq_tasks.specs.declared.task.RunKind.TheVariants.{Plain, Settled, Told, ToldSettled}
 
 -- what the input comes to
@@ -23,6 +29,10 @@ IsGoalOf Listing = IsOutput listing
 IsGoalOf Show = IsShown
 IsGoalOf (Draw drawing) = IsDrawnText drawing
 IsGoalOf (Why inquiry) = ComesTo (IsAnswer inquiry)
+IsGoalOf (Timed asked) = IsTimedRun asked
+IsGoalOf (Trace form.Json) = IsTextOfRun json_text
+IsGoalOf (Trace form.Lines) = IsTextOfRun objects_text
+IsGoalOf (Trace form.Text) = IsTextOfRun ftrace_text
 
 -- what is told of the input
 abbrev pub IsTaskFault : Task → Option (List ℕ) → PlayError → Type 0
@@ -35,6 +45,8 @@ IsTaskFault Listing = IsTextFault
 IsTaskFault Show = IsImageFault
 IsTaskFault (Draw drawing) = IsDrawFault drawing
 IsTaskFault (Why inquiry) = IsTextFaultOf (IsUnanswered inquiry)
+IsTaskFault (Timed asked) = IsRunFault
+IsTaskFault (Trace form) = IsRunFault
 
 -- what is written: the goal; where a machine never is quiet, its lines all the same; and to a question nothing where nothing is said
 abbrev pub IsWrittenBy : Task → Option (List ℕ) → List ℕ → Type 0
@@ -47,3 +59,7 @@ IsWrittenBy Listing = IsOutput listing
 IsWrittenBy Show = IsShown
 IsWrittenBy (Draw drawing) = IsDrawnText drawing
 IsWrittenBy (Why inquiry) = ComesTo (AreChanges inquiry)
+IsWrittenBy (Timed asked) = IsTimedRun asked
+IsWrittenBy (Trace form.Json) = IsTextOfRun json_text
+IsWrittenBy (Trace form.Lines) = IsTextOfRun objects_text
+IsWrittenBy (Trace form.Text) = IsTextOfRun ftrace_text

@@ -224,8 +224,17 @@ fn trouble_with_making<F: FileStore>(files: &F, request: &Request<'_>) -> Option
 {
     match request {
         Request::New { file } => Some(files.trouble_with_making((*file)?, true)),
-        Request::Asm { file, out } if files.is_one_file(file, out) => Some(Trouble::IsInput),
-        Request::Asm { file: _, out } => Some(files.trouble_with_making(out, false)),
+        Request::Asm { file, out } | Request::TraceData { file, out } => {
+            Some(trouble_with_output(files, file, out))
+        }
         _ => None,
     }
+}
+
+/// Why the file that is made of another one can't be.
+fn trouble_with_output<F: FileStore>(files: &F, file: &str, out: &str) -> Trouble {
+    if files.is_one_file(file, out) {
+        return Trouble::IsInput;
+    }
+    files.trouble_with_making(out, false)
 }

@@ -2,20 +2,24 @@
 ghost use Rattle.clap.specs.Words.{Text};
 ghost use Rattle.cmwq_command.specs.Carried.{HasCarriedOut, HasCarriedOutWords, HasChecked, HasDebugged, HasDone, HasLeft, HasStarted, HasToldLanguage, IsJudged, UnlessUnopened, graded};
 ghost use Rattle.cmwq_command_line.specs.CommandLine.{version_line};
+ghost use Rattle.cmwq_data_trace.specs.DataTrace.{dat_of_run};
+ghost use Rattle.cmwq_framed.specs.Framing.{IsTextOfRun};
 ghost use Rattle.cmwq_outcome.specs.FaultsTold.{Prints};
 ghost use Rattle.cmwq_image.specs.Image.{image};
 ghost use Rattle.cmwq_image.specs.declared.version.TheConstants.{VERSION};
 ghost use Rattle.cmwq_outcome.specs.declared.telling.TheConstants.{USAGE};
 ghost use Rattle.cmwq_play.specs.Commands.{Answers};
-ghost use Rattle.cmwq_play.specs.PlayTexts.{IsOutput, IsTextFault};
+ghost use Rattle.cmwq_play.specs.PlayTexts.{IsOutput, IsRunFault, IsTextFault};
 ghost use Rattle.cmwq_request.specs.Request.{IsAskedBy, IsCapacity, IsMisusedBy, IsVersionWord, IsWithin};
 ghost use Rattle.cmwq_streams.specs.Sending.{IsSendError};
 ghost use Rattle.std.specs.Prelude.{◌≡◌, ◌∷◌, [], List, IfErr, IfOk, IfSome, None, OnOk, Some, false, length, map, string_bytes, ℕ};
 
 use crate::exploring::explore_file;
 use crate::file_store::FileStore;
+use crate::sweeping::sweep_file;
 use crate::tasks_done::do_task;
 use cmwq_actors::OpenGate;
+use cmwq_data_trace::trace_dat;
 use cmwq_debug_session::Manner;
 use cmwq_explore::Progress;
 use cmwq_language::language_page;
@@ -102,6 +106,10 @@ where
     match request {
         Request::New { file } => good(new(files, output, file)),
         Request::Do { file, task } => good(do_on_file(rt.alloc(), files, output, file, task)),
+        Request::Sweep { file, sweep } => {
+            sweep_file(rt.alloc(), files, output, errors, file, sweep)
+        }
+        Request::TraceData { file, out } => good(record(rt.alloc(), files, file, out)),
         Request::Asm { file, out } => good(asm(rt.alloc(), files, file, out)),
         Request::Debug { file, settle } => good(debug_file(
             rt.alloc(),
@@ -236,6 +244,18 @@ fn asm<F: FileStore>(alloc: Global, files: &F, file: &str, out: &str) -> Result<
     let mut writer = files.make(out)?;
     let mut reader = files.open(file)?;
     cmwq_play::to_image(alloc, &mut reader, &mut writer)
+}
+
+/// Makes the `trace.dat` of the run of the scenario whose text is in the file, as `asm` makes an image.
+fn record<F: FileStore>(alloc: Global, files: &F, file: &str, out: &str) -> Result<(), PlayError>
+    ensures answers { IfSome (F.bytes files.now file.now) (λ bytes. Answers (IsTextOfRun dat_of_run) IsRunFault (Some bytes) result) }
+{
+    if files.is_one_file(file, out) {
+        return Err(PlayError::Write);
+    }
+    let mut writer = files.make(out)?;
+    let mut reader = files.open(file)?;
+    trace_dat(alloc, &mut reader, &mut writer)
 }
 
 /// Writes what a scenario's text may say.

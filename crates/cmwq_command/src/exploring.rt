@@ -16,8 +16,8 @@ const FOUND: u8 = 5;
 /// The exit status of what is open.
 const OPEN: u8 = 6;
 
-/// The exit status of a scenario that can't be explored so.
-const UNEXPLORED: u8 = 1;
+/// The exit status of a scenario with which what is asked can't be done.
+const UNDONE: u8 = 1;
 
 /// Looks through all orders of the actors of the scenario whose text is in the file, and writes what comes of that: an order as a scenario
 /// that shows it, or a line. Gives the exit status. What no other command tells of a scenario goes to `errors`.
@@ -67,14 +67,14 @@ fn flushes_line(alloc: Global, count: u16) -> Result<Vec<u8>, NoMemory>
     Ok(format!(in alloc; "flushes {count} needed\n")?.into_bytes())
 }
 
-/// Writes the line of a scenario that can't be explored so, as far as the writer takes it, and gives the exit status.
-fn tell_line<E: Sink>(errors: &mut E, line: &[u8]) -> u8
+/// Writes the line of a scenario that can't be explored, or swept over, so, as far as the writer takes it, and gives the exit status.
+pub(crate) fn tell_line<E: Sink>(errors: &mut E, line: &[u8]) -> u8
     requires { E.failed errors.old ≡ false }
     ensures status { result ≡ 1 }
     ensures told { TellsLine line.now (E.contents errors.old) (E.contents errors.new) }
 {
     let _ = put_all(errors, line);
-    UNEXPLORED
+    UNDONE
 }
 
 /// The exit status of what exploring comes to.

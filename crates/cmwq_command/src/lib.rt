@@ -6,6 +6,7 @@ mod carrying;
 mod exploring;
 mod file_store;
 mod standard_input;
+mod sweeping;
 mod tasks_done;
 
 pub use advising::{advise, remark};

@@ -30,6 +30,8 @@ fn names_input(request: &Request<'_>) -> bool
 {
     match request {
         Request::Do { file, .. }
+        | Request::Sweep { file, .. }
+        | Request::TraceData { file, .. }
         | Request::Asm { file, .. }
         | Request::Play { file, .. }
         | Request::Explore { file, .. } => is_input(file),

@@ -5,10 +5,15 @@ ghost use Rattle.std.specs.Prelude.{◌≡◌, false};
 
 use cmwq_draw::draw;
 use cmwq_explain::why;
+use cmwq_kernel_text::trace_text;
+use cmwq_line_trace::trace_lines;
 use cmwq_play::{PlayError, Sink, Source, from_image, list_text, run};
+use cmwq_reports::TraceForm;
 use cmwq_settle::{run_settled, settle_text};
 use cmwq_tasks::{RunKind, Task};
 use cmwq_tell::run_told;
+use cmwq_times::times;
+use cmwq_trace::trace_json;
 use std::alloc::Global;
 
 /// Does the task with what the reader has; what comes of it goes to the writer.
@@ -39,5 +44,9 @@ pub fn do_task<R: Source, W: Sink>(
         Task::Show => from_image(alloc, reader, writer),
         Task::Draw(drawing) => draw(alloc, drawing, reader, writer),
         Task::Why(inquiry) => why(alloc, inquiry, reader, writer),
+        Task::Times(asked) => times(alloc, reader, writer, asked),
+        Task::Trace(TraceForm::Json) => trace_json(alloc, reader, writer),
+        Task::Trace(TraceForm::Lines) => trace_lines(alloc, reader, writer),
+        Task::Trace(TraceForm::Text) => trace_text(alloc, reader, writer),
     }
 }

@@ -27,8 +27,8 @@ use Rattle.cmwq_starter.specs.Starter.{first_lines, first_scenario}
 use Rattle.cmwq_streams.specs.declared.error.PlayError.{PlayError}
 use Rattle.cmwq_streams.specs.declared.error.PlayError.TheVariants.{Full, Read}
 use Rattle.cmwq_table.specs.Events.{events}
-use Rattle.cmwq_tasks.specs.declared.drawing.Drawing.{Drawing}
-use Rattle.cmwq_tasks.specs.declared.question.Inquiry.{Inquiry}
+use Rattle.cmwq_drawing.specs.declared.drawing.Drawing.{Drawing}
+use Rattle.cmwq_question.specs.declared.question.Inquiry.{Inquiry}
 use Rattle.cmwq_tasks.specs.declared.task.RunKind.TheVariants.{Plain, Settled, Told, ToldSettled}
 use Rattle.cmwq_tasks.specs.declared.task.Task.{Task}
 use Rattle.cmwq_tasks.specs.declared.task.Task.TheVariants as task

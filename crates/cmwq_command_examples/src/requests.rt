@@ -16,8 +16,8 @@ ghost use Rattle.cmwq_settle.specs.Settled.{IsSettledIf};
 ghost use Rattle.cmwq_settle.specs.Settling.{IsFollowedOutput, IsSettledListing};
 ghost use Rattle.cmwq_starter.specs.Starter.{first_lines, first_scenario};
 ghost use Rattle.cmwq_streams.specs.declared.error.PlayError.TheVariants as errors;
-ghost use Rattle.cmwq_tasks.specs.declared.drawing.Drawing.{Drawing};
-ghost use Rattle.cmwq_tasks.specs.declared.question.Inquiry.{Inquiry};
+ghost use Rattle.cmwq_drawing.specs.declared.drawing.Drawing.{Drawing};
+ghost use Rattle.cmwq_question.specs.declared.question.Inquiry.{Inquiry};
 ghost use Rattle.cmwq_tell.specs.RunTold.{IsToldIf};
 ghost use Rattle.cmwq_types.specs.Contents.{ScenarioContents};
 ghost use Rattle.cmwq_types.specs.Listing.{listing};
@@ -26,6 +26,7 @@ ghost use Rattle.std.specs.Io.KnownBytes.{Appends};
 ghost use Rattle.std.specs.Prelude.{◌≡◌, ◌∷◌, [], ℕ, Bool, Err, List, None, Ok, Option, Some, codes, false, true};
 
 use cmwq_grammar::laws::text_spells_one_scenario;
+use cmwq_reports::{Format, TraceForm};
 use cmwq_request::request::Request;
 use cmwq_starter::first_scenario_prints;
 use cmwq_tasks::{RunKind, Task};
@@ -38,6 +39,9 @@ pub fn each_request_has_its_words()
     ensures both { HasWords (λ file. Request.Do file (Task.Run RunKind.ToldSettled)) (λ name. codes "run" ∷ codes "--settle" ∷ codes "--tell" ∷ name ∷ []) }
     ensures settle { HasWords (λ file. Request.Do file Task.Settle) (λ name. codes "settle" ∷ name ∷ []) }
     ensures list { HasWords (λ file. Request.Do file Task.List) (λ name. codes "list" ∷ name ∷ []) }
+    ensures times { HasWords (λ file. Request.Do file (Task.Times (record { format = Format.Json; whom = true }))) (λ name. codes "times" ∷ codes "--json" ∷ codes "--whom" ∷ name ∷ []) }
+    ensures trace { HasWords (λ file. Request.Do file (Task.Trace TraceForm.Json)) (λ name. codes "trace" ∷ codes "--json" ∷ name ∷ []) }
+    ensures text { HasWords (λ file. Request.Do file (Task.Trace TraceForm.Text)) (λ name. codes "trace" ∷ codes "--text" ∷ name ∷ []) }
     ensures show { HasWords (λ file. Request.Do file Task.Show) (λ name. codes "show" ∷ name ∷ []) }
     ensures debug { HasWords (λ file. Request.Debug file false) (λ name. codes "debug" ∷ name ∷ []) }
     ensures settled_debug { HasWords (λ file. Request.Debug file true) (λ name. codes "debug" ∷ codes "--settle" ∷ name ∷ []) }

@@ -110,6 +110,22 @@ explore_command =
     (with_rule never_command (record (several_rule (codes "BEFORE") (codes "before") 2 2) { action = Some Append }))
     (value_rule (codes "N") (codes "limit"))
 
+-- `times [--json] [--whom] [--sweep QUEUE LOW..HIGH] FILE`
+abbrev pub times_command : App
+times_command =
+    with_rule
+    (with_rule (with_rule (command_on (codes "times") (codes "FILE")) (flag_rule (codes "json"))) (flag_rule (codes "whom")))
+    (several_rule (codes "SWEEP") (codes "sweep") 2 2)
+
+-- `trace [--json] [--lines] [--text] [--dat OUT] FILE`
+abbrev pub trace_command : App
+trace_command =
+    with_rule
+    (with_rule
+    (with_rule (with_rule (command_on (codes "trace") (codes "FILE")) (flag_rule (codes "json"))) (flag_rule (codes "lines")))
+    (flag_rule (codes "text")))
+    (value_rule (codes "OUT") (codes "dat"))
+
 -- the program with no command
 abbrev pub bare_program : App
 bare_program =
@@ -122,15 +138,18 @@ abbrev pub with_commands : App → List App → App
 with_commands program [] = program
 with_commands program (command ∷ commands) = with_commands (with_subcommand program command.top) commands
 
--- the program with its first four commands, with its first eight, and with all
+-- the program with its first four commands, with its first eight, with its first twelve, and with all
 abbrev pub four_commands : App
 four_commands = with_commands bare_program (new_command ∷ run_command ∷ list_command ∷ asm_command ∷ [])
 
 abbrev pub eight_commands : App
 eight_commands = with_commands four_commands (show_command ∷ debug_command ∷ play_command ∷ check_command ∷ [])
 
+abbrev pub twelve_commands : App
+twelve_commands = with_commands eight_commands (settle_command ∷ draw_command ∷ why_command ∷ explore_command ∷ [])
+
 abbrev pub command_line : App
-command_line = with_commands eight_commands (settle_command ∷ draw_command ∷ why_command ∷ explore_command ∷ [])
+command_line = with_commands twelve_commands (times_command ∷ trace_command ∷ [])
 
 -- the line of the program's version, and of the logic that its proofs rest on
 abbrev pub version_line : (logic : List ℕ) → List ℕ

@@ -1,7 +1,7 @@
 //! The program's commands, and the words that they take.
 
 ghost use Rattle.clap.specs.Words.{app_of, new_app, new_rule};
-ghost use Rattle.cmwq_command_line.specs.CommandLine.{IsArgument, IsCommand, asking_command, asm_command, bare_program, check_command, command_line, command_on, debug_command, draw_command, eight_commands, explore_command, flag_rule, four_commands, never_command, new_command, play_command, required_rule, run_command, several_rule, show_command, spanned_command, value_rule, why_command};
+ghost use Rattle.cmwq_command_line.specs.CommandLine.{IsArgument, IsCommand, asking_command, asm_command, bare_program, check_command, command_line, command_on, debug_command, draw_command, eight_commands, explore_command, flag_rule, four_commands, never_command, new_command, play_command, required_rule, run_command, several_rule, show_command, spanned_command, times_command, trace_command, twelve_commands, value_rule, why_command};
 ghost use Rattle.std.specs.Prelude.{◌≡◌, ◌≤◌, IfOk, codes};
 
 use crate::help;
@@ -12,6 +12,16 @@ use std::ops::RangeInclusive;
 /// The command line of the program: its commands, their arguments and options, its help and its version. The error is want of memory.
 pub fn command_line<'a>(alloc: Global) -> Result<Command<'a>, AllocError>
     ensures { IfOk result (λ r. app_of r ≡ command_line) }
+{
+    let program = twelve_commands(alloc)?
+        .subcommand(times_command(alloc)?)?
+        .subcommand(trace_command(alloc)?)?;
+    Ok(program)
+}
+
+/// The program with its first twelve commands.
+fn twelve_commands<'a>(alloc: Global) -> Result<Command<'a>, AllocError>
+    ensures { IfOk result (λ r. app_of r ≡ twelve_commands) }
 {
     let settle = on_text(
         alloc,
@@ -300,6 +310,56 @@ fn never_command<'a>(alloc: Global) -> Result<Command<'a>, AllocError>
         alloc,
         "stuck",
         "Asks whether some actor hasn't ended, and nothing can go on",
+    ))
+}
+
+/// The command that tells where the time went.
+fn times_command<'a>(alloc: Global) -> Result<Command<'a>, AllocError>
+    ensures { IfOk result (IsCommand times_command) }
+{
+    let sweep = several(
+        alloc,
+        "SWEEP",
+        "sweep",
+        2..=2,
+        &["QUEUE", "LOW..HIGH"],
+        "Tells what the run comes to for each of these values of QUEUE's max_active: from 1 to 512, at most 64 of them",
+    );
+    on_text(
+        alloc,
+        "times",
+        "Tells of each request for a work how long it waited, for what, burned and slept, and sums of queues and CPUs",
+    )?
+    .arg(flag(alloc, "json", "Writes each line as a JSON object"))?
+    .arg(flag(alloc, "whom", "Tells for whom works waited, too"))?
+    .arg(sweep)
+}
+
+/// The command that writes a run for other tools.
+fn trace_command<'a>(alloc: Global) -> Result<Command<'a>, AllocError>
+    ensures { IfOk result (IsCommand trace_command) }
+{
+    on_text(
+        alloc,
+        "trace",
+        "Writes a scenario's run for the tools that show a kernel's traces",
+    )?
+    .arg(flag(
+        alloc,
+        "json",
+        "Writes slices in Chrome's trace event format, for Perfetto and chrome://tracing",
+    ))?
+    .arg(flag(alloc, "lines", "Writes a JSON object a line for each event"))?
+    .arg(flag(
+        alloc,
+        "text",
+        "Writes the workqueue events as a kernel's trace file shows them",
+    ))?
+    .arg(valued(
+        alloc,
+        "OUT",
+        "dat",
+        "Writes the workqueue events to OUT, a new file for trace-cmd and KernelShark",
     ))
 }
 

@@ -18,6 +18,8 @@ Examples:
   cmwq debug scenarios/max_active_3.cmwq
   cmwq play scenarios/race.cmwq --capacity 100
   cmwq explore scenarios/poll_cancel.cmwq --before probe remove --after remove --never poll
+  cmwq times scenarios/holds_the_limit.cmwq
+  cmwq trace scenarios/holds_the_limit.cmwq --json
   cmwq check first.cmwq scenarios/race.cmwq
 
 `cmwq help scenario` shows what a scenario's text may say. A FILE or IMAGE that is read may be -, standard input.
@@ -156,6 +158,43 @@ Examples:
   cmwq explore scenarios/poll_cancel.cmwq --never poll --limit 1000
   cmwq explore scenarios/poll_cancel.cmwq --stuck";
 
+const TIMES: &str = "\
+Prints of each request for a work how many ticks it waited on its timer, inactive, on a worklist, deferred, and for the CPU, how many it
+burned and slept, and whether it was finished or cancelled, or is still there: a line each, as it ends. Then come sums of each queue, CPU
+and unbound pool. With --json each line is a JSON object, with the same words. With --whom it is told for whom each work waited, too.
+With --sweep the scenario is run once for each max_active of QUEUE from LOW to HIGH, and a line tells what that comes to.
+
+Exit status:
+  0  the lines were written
+  1  `line 6: Duplicate`: the text's first fault; `actors`: there isn't exactly one actor; with --sweep also `no such queue`, and `ordered`:
+     that queue's max_active is 1 for good
+  2  the command line is wrong: --sweep isn't given a queue and LOW..HIGH, or stands beside --whom
+  3  `read`: FILE can't be read; `write`: the output can't be written
+  4  `full`: more than 1,048,576 instructions; `no memory`
+
+Examples:
+  cmwq times scenarios/holds_the_limit.cmwq --json
+  cmwq times scenarios/holds_the_limit.cmwq --whom
+  cmwq times scenarios/holds_the_limit.cmwq --sweep q 1..3";
+
+const TRACE: &str = "\
+With --json it prints what each work did and waited for, and what each worker executed, as slices in Chrome's trace event format: Perfetto's
+page and chrome://tracing open it. A tick is a millisecond. With --lines it prints a JSON object a line for each event that `run` prints.
+With --text it prints the workqueue events as a kernel's trace file shows them, and with --dat OUT it makes the file OUT of the same events,
+for `trace-cmd report OUT` and `kernelshark OUT`.
+
+Exit status:
+  0  the trace was written
+  1  `line 6: Duplicate`: the text's first fault; `actors`: there isn't exactly one actor
+  2  the command line is wrong: not just one of --json, --lines, --text and --dat is given, or an option stands twice
+  3  `read`: FILE can't be read; `write`: the output can't be written, or OUT can't be made
+  4  `full`: more than 1,048,576 instructions; `no memory`
+
+Examples:
+  cmwq trace scenarios/holds_the_limit.cmwq --json > holds_the_limit.json
+  cmwq trace scenarios/holds_the_limit.cmwq --text
+  cmwq trace scenarios/holds_the_limit.cmwq --dat holds_the_limit.dat";
+
 const LIST: &str = "\
 Prints the scenario's canonical text: one space between words, and no comments.
 
@@ -250,6 +289,8 @@ pub fn after_help_of(command: &str) -> &'static str {
         "draw" => DRAW,
         "why" => WHY,
         "explore" => EXPLORE,
+        "times" => TIMES,
+        "trace" => TRACE,
         "list" => LIST,
         "asm" => ASM,
         "show" => SHOW,

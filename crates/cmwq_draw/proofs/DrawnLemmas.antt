@@ -16,7 +16,7 @@ use Rattle.cmwq_types.specs.declared.instr.WorkId.{WorkId}
 use Rattle.cmwq_draw.specs.Picking.{picked}
 use Rattle.cmwq_draw.specs.Drawn.{IsAsked, IsChosen, IsDrawable, IsDrawing, IsRefusedFirst, IsUndrawable}
 use Rattle.cmwq_draw.specs.Rendered.{drawing_of, is_wide}
-use Rattle.cmwq_tasks.specs.declared.drawing.Drawing.{Drawing}
+use Rattle.cmwq_drawing.specs.declared.drawing.Drawing.{Drawing}
 
 -- Actors.
 

@@ -9,7 +9,7 @@ use Rattle.cmwq_streams.specs.declared.error.PlayError.TheVariants as errors
 use Rattle.cmwq_types.specs.declared.instr.WorkId.{WorkId}
 use Rattle.cmwq_draw.specs.Picking.{picked}
 use Rattle.cmwq_draw.specs.Rendered.{drawing_of, is_wide}
-use Rattle.cmwq_tasks.specs.declared.drawing.Drawing.{Drawing}
+use Rattle.cmwq_drawing.specs.declared.drawing.Drawing.{Drawing}
 
 -- the scenario whose run is drawn: the text's own, which can be run, or that one settled
 abbrev pub IsChosen : (settle : Bool) → ScenarioContents → ScenarioContents → Type 0

@@ -10,9 +10,9 @@ use Rattle.cmwq_picture.specs.PictureContents.{PictureContents}
 use Rattle.cmwq_picture.specs.PictureOfRun.{is_too_wide, picture}
 use Rattle.cmwq_render.specs.Sketch.{picture_text}
 use Rattle.cmwq_svg.specs.Svg.{svg_text}
-use Rattle.cmwq_tasks.specs.declared.drawing.Drawing.{Drawing}
-use Rattle.cmwq_tasks.specs.declared.drawing.Form.{Form}
-use Rattle.cmwq_tasks.specs.declared.drawing.Form.TheVariants.{Text, Svg}
+use Rattle.cmwq_drawing.specs.declared.drawing.Drawing.{Drawing}
+use Rattle.cmwq_drawing.specs.declared.drawing.Form.{Form}
+use Rattle.cmwq_drawing.specs.declared.drawing.Form.TheVariants.{Text, Svg}
 
 -- how wide a column is, in pixels: 10 where it isn't given, and 1 at least
 abbrev pub scale_of : Option ℕ → ℕ

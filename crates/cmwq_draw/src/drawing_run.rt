@@ -8,11 +8,11 @@ ghost use Rattle.std.specs.Prelude.{◌≡◌, ◌⊎◌, Err, IfErr, IfOk, fals
 use crate::picking::{picked, work_slice};
 use crate::rendering::drawing_of;
 use cmwq_core::Core;
+use cmwq_drawing::Drawing;
 use cmwq_play::{judge, read_text};
 use cmwq_settle::settled;
 use cmwq_streams::{PlayError, Sink, Source, put_all};
 use cmwq_table::Machine;
-use cmwq_tasks::Drawing;
 use cmwq_types::Scenario;
 use std::alloc::Global;
 use std::sync::Arc;

@@ -5,13 +5,13 @@ ghost use Rattle.cmwq_types.specs.Faults.{IsValid};
 ghost use Rattle.cmwq_types.specs.Scenario.{expand_lines};
 ghost use Rattle.std.specs.Prelude.{◌≡◌, ◌⊎◌, ◌<◌, Err, IfErr, IfOk, false, true};
 
+use cmwq_drawing::{Drawing, Form};
 use cmwq_hints::hints;
 use cmwq_picture::{Extent, Picture, picture};
 use cmwq_render::sketch;
 use cmwq_streams::PlayError;
 use cmwq_svg::svg;
 use cmwq_table::Machine;
-use cmwq_tasks::{Drawing, Form};
 use cmwq_types::{Actor, Line, NoMemory, Scenario, WorkId};
 use std::alloc::Global;
 use std::sync::Arc;

@@ -10,17 +10,17 @@ use Rattle.cmwq_table.specs.State.{State}
 use Rattle.cmwq_table.specs.Table.{run}
 use Rattle.cmwq_explain.specs.Changes.{changes_text, is_last, is_settled, looks_at, said_at, said_below, said_line, state_there, told_at, told_below}
 use Rattle.cmwq_explain.specs.ChangesTold.{IsPastEnd}
-use Rattle.cmwq_tasks.specs.declared.question.Looks.{Looks}
-use Rattle.cmwq_tasks.specs.declared.question.Looks.TheVariants.{Settled, Every, At, Time}
+use Rattle.cmwq_question.specs.declared.question.Looks.{Looks}
+use Rattle.cmwq_question.specs.declared.question.Looks.TheVariants.{Settled, Every, At, Time}
 use Rattle.cmwq_debug_lines.specs.Orders.{work_named}
 use Rattle.cmwq_streams.specs.declared.error.PlayError.{PlayError}
 use Rattle.cmwq_streams.specs.declared.error.PlayError.TheVariants as errors
 use Rattle.cmwq_explain.specs.Explained.{Explains, IsAsked, IsUnknown, has_stopped, line_of_work, said_of, said_to, told_along, with_stop}
 use Rattle.cmwq_explain.specs.Laws.{AnswersAfterWorks, IsAfterFlush, LooksAtEachTick}
 use Rattle.cmwq_explain.proofs.TimeLemmas.{ticks_are_reached}
-use Rattle.cmwq_tasks.specs.declared.question.Inquiry.{Inquiry}
-use Rattle.cmwq_tasks.specs.declared.question.Question.{Question}
-use Rattle.cmwq_tasks.specs.declared.question.Question.TheVariants.{Work, Flush}
+use Rattle.cmwq_question.specs.declared.question.Inquiry.{Inquiry}
+use Rattle.cmwq_question.specs.declared.question.Question.{Question}
+use Rattle.cmwq_question.specs.declared.question.Question.TheVariants.{Work, Flush}
 
 none-both : (xs ys : List ℕ) → xs ++ ys ≡ [] → (xs ≡ []) × (ys ≡ [])
 none-both [] ys e = (refl, e)

@@ -17,8 +17,8 @@ use Rattle.cmwq_settle.proofs.CallerLemmas.{no_read-unsettled_if, no_text-unsett
 use Rattle.cmwq_streams.specs.Sending.{IsSendError}
 use Rattle.cmwq_streams.specs.declared.error.PlayError.{PlayError}
 use Rattle.cmwq_streams.specs.declared.error.PlayError.TheVariants as errors
-use Rattle.cmwq_tasks.specs.declared.question.Inquiry.{Inquiry}
-use Rattle.cmwq_tasks.specs.declared.question.Question.{Question}
+use Rattle.cmwq_question.specs.declared.question.Inquiry.{Inquiry}
+use Rattle.cmwq_question.specs.declared.question.Question.{Question}
 use Rattle.cmwq_explain.specs.Explained.{AreChanges, Explains, IsAnswer, IsAsked, IsUnanswered, IsUnknown, told_along}
 use Rattle.cmwq_explain.proofs.TellingLemmas.{kept_so}
 

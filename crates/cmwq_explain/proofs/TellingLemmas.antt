@@ -12,8 +12,8 @@ use Rattle.cmwq_play.specs.Commands.{Writes}
 use Rattle.cmwq_streams.specs.Sending.{IsSendError}
 use Rattle.cmwq_streams.specs.declared.error.PlayError.{PlayError}
 use Rattle.cmwq_streams.specs.declared.error.PlayError.TheVariants.{PastEnd, Write, NoMemory}
-use Rattle.cmwq_tasks.specs.declared.question.Looks.{Looks}
-use Rattle.cmwq_tasks.specs.declared.question.Looks.TheVariants.{Settled, Every, At, Time}
+use Rattle.cmwq_question.specs.declared.question.Looks.{Looks}
+use Rattle.cmwq_question.specs.declared.question.Looks.TheVariants.{Settled, Every, At, Time}
 use Rattle.cmwq_explain.specs.Changes.{changes_text, has_bytes, is_settled, looks_at, said_at, said_below, said_line, state_there, told_at, told_below}
 use Rattle.cmwq_explain.specs.ChangesTold.{IsPastEnd, TellsText}
 use Rattle.cmwq_explain.specs.Looking.{has_ended_before}

@@ -8,8 +8,8 @@ use Rattle.cmwq_table.specs.Counts.{first_due}
 use Rattle.cmwq_table.specs.Moves.{first_moving}
 use Rattle.cmwq_table.specs.State.{State}
 use Rattle.cmwq_table.specs.Table.{run}
-use Rattle.cmwq_tasks.specs.declared.question.Looks.{Looks}
-use Rattle.cmwq_tasks.specs.declared.question.Looks.TheVariants.{Settled, Every, At, Time}
+use Rattle.cmwq_question.specs.declared.question.Looks.{Looks}
+use Rattle.cmwq_question.specs.declared.question.Looks.TheVariants.{Settled, Every, At, Time}
 
 -- What a sayer gives: a text, or nothing.
 abbrev pub words_said : {A : Type 0} → Option (String A) → Option (List ℕ)

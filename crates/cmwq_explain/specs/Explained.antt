@@ -12,7 +12,7 @@ use Rattle.cmwq_flush_waits.specs.FlushText.{flush_lines}
 use Rattle.cmwq_debug_lines.specs.Orders.{work_named}
 use Rattle.cmwq_explain.specs.Changes.{changes_text}
 use Rattle.cmwq_explain.specs.ChangesTold.{IsPastEnd}
-use Rattle.cmwq_tasks.specs.declared.question.Inquiry.{Inquiry}
+use Rattle.cmwq_question.specs.declared.question.Inquiry.{Inquiry}
 use Rattle.cmwq_play.specs.Commands.{Writes}
 use Rattle.cmwq_play.specs.Runs.{IsRunOf}
 use Rattle.cmwq_settle.specs.Quiet.{pends_or_runs}
@@ -20,8 +20,8 @@ use Rattle.cmwq_settle.specs.Settled.{IsSettledIf, IsUnsettledIf}
 use Rattle.cmwq_streams.specs.Sending.{IsSendError}
 use Rattle.cmwq_streams.specs.declared.error.PlayError.{PlayError}
 use Rattle.cmwq_streams.specs.declared.error.PlayError.TheVariants as errors
-use Rattle.cmwq_tasks.specs.declared.question.Question.{Question}
-use Rattle.cmwq_tasks.specs.declared.question.Question.TheVariants.{Work, Flush}
+use Rattle.cmwq_question.specs.declared.question.Question.{Question}
+use Rattle.cmwq_question.specs.declared.question.Question.TheVariants.{Work, Flush}
 
 -- What is said of a state.
 

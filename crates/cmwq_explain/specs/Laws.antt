@@ -7,11 +7,11 @@ use Rattle.cmwq_table.specs.Table.{run}
 use Rattle.cmwq_debug_lines.specs.Orders.{work_named}
 use Rattle.cmwq_play.specs.Runs.{IsRunOf}
 use Rattle.cmwq_settle.specs.Settled.{IsSettled}
-use Rattle.cmwq_tasks.specs.declared.question.Inquiry.{Inquiry}
+use Rattle.cmwq_question.specs.declared.question.Inquiry.{Inquiry}
 use Rattle.cmwq_explain.specs.Changes.{is_settled}
 use Rattle.cmwq_explain.specs.Explained.{IsAsked, is_work_unfinished, told_along}
-use Rattle.cmwq_tasks.specs.declared.question.Question.{Question}
-use Rattle.cmwq_tasks.specs.declared.question.Question.TheVariants.{Work, Flush}
+use Rattle.cmwq_question.specs.declared.question.Question.{Question}
+use Rattle.cmwq_question.specs.declared.question.Question.TheVariants.{Work, Flush}
 
 -- the question is after a flush
 abbrev pub IsAfterFlush : Question → Type 0

@@ -8,8 +8,8 @@ use Rattle.cmwq_play.specs.Telling.{kept_from, told_from}
 use Rattle.cmwq_explain.specs.Changes.{has_bytes, is_looked_at, said_line}
 use Rattle.cmwq_explain.specs.declared.looker.Looker.{Looker}
 use Rattle.cmwq_explain.specs.declared.looker.RunEnd.{RunEnd}
-use Rattle.cmwq_tasks.specs.declared.question.Looks.{Looks}
-use Rattle.cmwq_tasks.specs.declared.question.Looks.TheVariants.{Settled, Every, At, Time}
+use Rattle.cmwq_question.specs.declared.question.Looks.{Looks}
+use Rattle.cmwq_question.specs.declared.question.Looks.TheVariants.{Settled, Every, At, Time}
 
 module _ {P : Type 0} where
   abbrev pub looks_here : Looker P → ScenarioContents → Bool → State → Bool

@@ -6,9 +6,9 @@ ghost use Rattle.std.specs.Prelude.{◌≡◌, ◌↔◌, IfOk, IsTrue, option_m
 use crate::sayer::Sayer;
 use cmwq_debug_lines::work_named;
 use cmwq_flush_waits::flush_text;
+use cmwq_question::Question;
 use cmwq_reads::is_spent;
 use cmwq_table::Reads;
-use cmwq_tasks::Question;
 use cmwq_types::{NoMemory, Scenario, WorkId};
 use cmwq_why::waits;
 use cmwq_why_text::work_text;

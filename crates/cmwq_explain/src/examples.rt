@@ -4,8 +4,8 @@ ghost use Rattle.cmwq_explain.specs.ChangesTold.{IsPastEnd};
 ghost use Rattle.cmwq_explain.specs.Examples.{burning_work, delayed_run, its_run, of_two_steps, says_later, says_nothing, says_time, to_the_end, to_the_last_step, two_works, up_to_its_tick, without_next};
 ghost use Rattle.cmwq_explain.specs.Explained.{said_to};
 ghost use denote.Ref.{Bor};
-ghost use Rattle.cmwq_tasks.specs.declared.question.Looks.TheVariants as looks;
-ghost use Rattle.cmwq_tasks.specs.declared.question.Question.TheVariants as question;
+ghost use Rattle.cmwq_question.specs.declared.question.Looks.TheVariants as looks;
+ghost use Rattle.cmwq_question.specs.declared.question.Question.TheVariants as question;
 ghost use Rattle.std.specs.Prelude.{◌≡◌, [], List, codes, ℕ};
 
 /// The time is told at the first position, though it isn't settled, and where it has passed.

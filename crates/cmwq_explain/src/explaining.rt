@@ -11,10 +11,10 @@ use crate::answering::{Asked, is_unknown};
 use crate::changes::tell_changes;
 use cmwq_core::Core;
 use cmwq_play::read_text;
+use cmwq_question::Inquiry;
 use cmwq_settle::settled_if;
 use cmwq_streams::{PlayError, Sink, Source};
 use cmwq_table::Machine;
-use cmwq_tasks::Inquiry;
 use cmwq_types::Scenario;
 use std::alloc::Global;
 

@@ -13,9 +13,9 @@ ghost use Rattle.std.specs.Prelude.{◌≡◌, [], IfErr, IfOk, OnOk};
 use crate::said::LastSaid;
 use crate::sayer::Sayer;
 use cmwq_play::{Session, Teller};
+use cmwq_question::Looks;
 use cmwq_streams::{PlayError, Sink};
 use cmwq_table::Machine;
-use cmwq_tasks::Looks;
 use cmwq_types::{Instr, Line};
 use std::alloc::Global;
 

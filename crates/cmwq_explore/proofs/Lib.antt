@@ -1,10 +1,8 @@
 pub mod ListLemmas
 pub mod NeverLemmas
-pub mod PackLemmas
 pub mod PlanLemmas
 pub mod ResultLemmas
 pub mod SearchLemmas
 pub mod SeenLemmas
-pub mod StoredLemmas
 pub mod TraceLemmas
 pub mod WaitingLemmas

@@ -14,11 +14,11 @@ use Rattle.cmwq_orders.specs.declared.choice.Before.{Before}
 use Rattle.cmwq_orders.specs.declared.choice.Choice.{Choice}
 use Rattle.cmwq_orders.specs.declared.question.Question.{Question}
 use Rattle.cmwq_explore.proofs.ListLemmas.{get_last, get_more, get_some, none_some, same_some}
-use Rattle.cmwq_explore.proofs.StoredLemmas.{stored_same}
+use Rattle.cmwq_stored.proofs.StoredLemmas.{stored_same}
 use Rattle.cmwq_explore.specs.Outcomes.{Holds, HoldsTo, IsAnswer, IsCounted, IsFound, IsFoundWithin, IsShort, IsTally}
 use Rattle.cmwq_explore.specs.Plans.{PlanContents}
 use Rattle.cmwq_explore.specs.Searching.{AreClean, Begins, Comes, Entry, IsClosedTo, IsFailing, IsGrown, IsLevel, IsFull}
-use Rattle.cmwq_explore.specs.Stored.{stored_of}
+use Rattle.cmwq_stored.specs.Stored.{stored_of}
 use Rattle.cmwq_explore.specs.Tracing.{IsOrderTo}
 use Rattle.cmwq_explore.specs.declared.exploring.Answer.{Answer}
 use Rattle.cmwq_explore.specs.declared.exploring.Answer.TheVariants.{Found, Whole, GaveUp}

@@ -17,11 +17,11 @@ use Rattle.cmwq_types.specs.declared.instr.Instr.TheVariants as instr
 use Rattle.cmwq_explore.specs.Tracing.{IsSeenAt}
 use Rattle.cmwq_orders.specs.declared.question.Question.{Question}
 use Rattle.cmwq_explore.proofs.ListLemmas.{get_cases, get_last, get_more, get_within, below_or_past, none_some, same_some, split_le}
-use Rattle.cmwq_explore.proofs.StoredLemmas.{stored_same}
-use Rattle.cmwq_explore.specs.ExactStored.{stored_eq_is_exact}
+use Rattle.cmwq_stored.proofs.StoredLemmas.{stored_same}
+use Rattle.cmwq_stored.specs.ExactStored.{stored_eq_is_exact}
 use Rattle.cmwq_explore.specs.Plans.{PlanContents}
 use Rattle.cmwq_explore.specs.Searching.{AreClean, Begins, Came, Entry, Extends, Handles, HasNext, IsAhead, IsClosedTo, IsFailing, IsGrown, IsLevel, IsMarked, IsReady, IsTop, Leads, LeadsInto, Progress, knows}
-use Rattle.cmwq_explore.specs.Stored.{StoredContents, stored_eq, stored_of}
+use Rattle.cmwq_stored.specs.Stored.{StoredContents, stored_eq, stored_of}
 use Rattle.cmwq_explore.specs.declared.expanding.Tried.{Tried}
 use Rattle.cmwq_explore.specs.declared.expanding.Tried.TheVariants.{Going, Failing, Full}
 use Rattle.cmwq_explore.specs.declared.seen.Mark.{Mark}

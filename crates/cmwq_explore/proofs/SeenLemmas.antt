@@ -8,7 +8,7 @@ use Rattle.std.specs.Map.{lookup}
 use Rattle.indexmap.proofs.CallerLemmas.{insert_entry-new}
 use Rattle.indexmap.specs.IndexMap.{IndexMap, insert_entry}
 use Rattle.cmwq_explore.specs.Searching.{Entry, is_counted, knows}
-use Rattle.cmwq_explore.specs.Stored.{StoredContents, stored_eq}
+use Rattle.cmwq_stored.specs.Stored.{StoredContents, stored_eq}
 use Rattle.cmwq_explore.specs.declared.seen.Counted.{Counted}
 use Rattle.cmwq_explore.specs.declared.seen.Mark.{Mark}
 

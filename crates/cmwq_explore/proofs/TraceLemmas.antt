@@ -13,7 +13,7 @@ use Rattle.cmwq_orders.specs.declared.question.Question.{Question}
 use Rattle.cmwq_explore.proofs.ListLemmas.{none_some, same_some}
 use Rattle.cmwq_explore.specs.Plans.{TakenAs}
 use Rattle.cmwq_explore.specs.Searching.{Entry, IsGrown}
-use Rattle.cmwq_explore.specs.Stored.{StoredContents, stored_of}
+use Rattle.cmwq_stored.specs.Stored.{StoredContents, stored_of}
 use Rattle.cmwq_explore.specs.Tracing.{IsOrderTo, IsSeenAt, IsWay}
 use Rattle.cmwq_explore.specs.declared.seen.Mark.{Mark}
 

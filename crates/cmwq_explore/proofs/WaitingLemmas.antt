@@ -1,5 +1,5 @@
 -- What waits stands where it was seen, whatever is added behind.
-use Rattle.std.proofs.Common.{◌≡◌, ℕ, suc, ◌<◌, Bool, true, false, arith, ◌⊎◌, inl, inr, List, [], ◌∷◌, ◌++◌, length, Option, Some, refl, sym, ap, ◌∙◌, subst}
+use Rattle.std.proofs.Common.{◌≡◌, ℕ, suc, ◌<◌, true, false, arith, inl, inr, List, [], ◌∷◌, ◌++◌, length, Some, refl, sym, ap, ◌∙◌, subst}
 use Rattle.std.proofs.lemmas.Bool.{eqb-true}
 use Rattle.std.specs.List.{slice_get}
 use Rattle.std.specs.Prelude.{◌==◌, slice_index_or}
@@ -7,7 +7,7 @@ use Rattle.cmwq_explore.proofs.ListLemmas.{get_cases, get_last, none_some}
 use Rattle.cmwq_explore.proofs.SearchLemmas.{there_still}
 use Rattle.cmwq_explore.specs.Plans.{PlanContents, Stood}
 use Rattle.cmwq_explore.specs.Searching.{Entry, Extends}
-use Rattle.cmwq_explore.specs.Stored.{StoredContents, stored_of}
+use Rattle.cmwq_stored.specs.Stored.{StoredContents, stored_of}
 use Rattle.cmwq_explore.specs.declared.seen.Mark.{Mark}
 use Rattle.cmwq_orders.proofs.LengthLemmas.{taken-whole}
 use Rattle.cmwq_orders.specs.Orders.{Explored, taken}

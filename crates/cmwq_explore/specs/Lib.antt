@@ -1,9 +1,6 @@
-pub mod ExactStored
 pub mod Outcomes
-pub mod Packed
 pub mod Plans
 pub mod Retracing
 pub mod Searching
-pub mod Stored
 pub mod Tracing
 pub mod Waiting

@@ -10,7 +10,7 @@ use Rattle.cmwq_orders.specs.declared.choice.Before.{Before}
 use Rattle.cmwq_orders.specs.declared.choice.Choice.{Choice}
 use Rattle.cmwq_orders.specs.declared.question.Question.{Question}
 use Rattle.cmwq_explore.specs.Plans.{PlanContents}
-use Rattle.cmwq_explore.specs.Stored.{StoredContents, stored_eq, stored_of}
+use Rattle.cmwq_stored.specs.Stored.{StoredContents, stored_eq, stored_of}
 use Rattle.cmwq_explore.specs.declared.expanding.Tried.{Tried}
 use Rattle.cmwq_explore.specs.declared.expanding.Tried.TheVariants.{Going, Failing, Full}
 use Rattle.cmwq_explore.specs.declared.exploring.Ending.{Ending}

@@ -6,7 +6,7 @@ use Rattle.cmwq_orders.specs.Sizes.{IsWhole}
 use Rattle.cmwq_orders.specs.declared.choice.Before.{Before}
 use Rattle.cmwq_orders.specs.declared.choice.Choice.{Choice}
 use Rattle.cmwq_explore.specs.Searching.{Entry}
-use Rattle.cmwq_explore.specs.Stored.{stored_of}
+use Rattle.cmwq_stored.specs.Stored.{stored_of}
 use Rattle.cmwq_explore.specs.declared.seen.Mark.{Mark}
 
 -- the state stands at this place

@@ -1,6 +1,6 @@
 //! What each choice of a state leads to, added to what was seen.
 ghost use Rattle.cmwq_explore.specs.Searching.{HasNext, IsFull, IsMarked, IsReady, Progress, knows};
-ghost use Rattle.cmwq_explore.specs.Stored.{stored_of};
+ghost use Rattle.cmwq_stored.specs.Stored.{stored_of};
 ghost use Rattle.cmwq_explore.specs.Waiting.{AreWaiting};
 ghost use Rattle.cmwq_orders.specs.Orders.{Explored, taken};
 ghost use Rattle.cmwq_orders.specs.Sizes.{IsWhole};

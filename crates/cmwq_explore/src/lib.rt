@@ -4,13 +4,11 @@
 mod asking;
 mod expanding;
 mod exploring;
-mod packing;
 mod plan;
 mod progress;
 mod retracing;
 mod seen;
 mod standing;
-mod stored;
 mod tracing;
 mod waiting;
 

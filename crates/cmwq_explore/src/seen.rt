@@ -1,11 +1,11 @@
 //! The states that were seen, in order, and what was noted of each.
 ghost use Rattle.cmwq_explore.specs.Searching.{Entry, is_counted, knows};
-ghost use Rattle.cmwq_explore.specs.Stored.{StoredContents};
+ghost use Rattle.cmwq_stored.specs.Stored.{StoredContents};
 ghost use Rattle.cmwq_explore.specs.declared.seen.Mark.{Mark};
 ghost use Rattle.std.specs.Prelude.{◌≡◌, ◌++◌, ◌∷◌, ◌≤◌, ◌<◌, ◌^◌, [], IfOk, MatchOption, OnErr, OnOk, Some, count_by, false, if◌then◌else◌, length, slice_get};
 
-use crate::stored::Stored;
 use cmwq_orders::Choice;
+use cmwq_stored::Stored;
 use cmwq_types::NoMemory;
 use indexmap::IndexMap;
 use std::alloc::Global;

@@ -1,6 +1,6 @@
 //! A machine and the actors, somewhere in an order.
 ghost use Rattle.cmwq_explore.specs.Plans.{PlanContents, Stood, TakenAs};
-ghost use Rattle.cmwq_explore.specs.Stored.{stored_of};
+ghost use Rattle.cmwq_stored.specs.Stored.{stored_of};
 ghost use Rattle.cmwq_orders.specs.Orders.{cannot_come, comes_later, flush_given, has_ended, instr_taken, is_astir, is_own, is_timed, is_waiting, may_begin, may_go, next_line, start, taken, taken_line, taken_own};
 ghost use Rattle.cmwq_table.specs.Counts.{pends};
 ghost use Rattle.cmwq_table.specs.State.{pending_at};
@@ -9,9 +9,9 @@ ghost use Rattle.cmwq_types.specs.declared.limits.TheConstants.{MAX_LINES};
 ghost use Rattle.std.specs.Prelude.{◌≡◌, ◌+◌, ◌<◌, IfOk, IfSome, None, Some, false, length, slice_index_or, slice_set};
 
 use crate::plan::Plan;
-use crate::stored::Stored;
 use cmwq_orders::Choice;
 use cmwq_reads::{flush_target, is_done, next_move};
+use cmwq_stored::Stored;
 use cmwq_table::Machine;
 use cmwq_types::{Instr, NoMemory, Place, Refusal, Reply, filled};
 use std::alloc::Global;
@@ -73,7 +73,7 @@ impl<M: Machine> Standing<M> {
     }
 
     /// Every part of it, to be looked up.
-    #[tactic(auto, unfolding(crate::specs::Stored::stored_of))]
+    #[tactic(auto, unfolding(cmwq_stored::specs::Stored::stored_of))]
     pub(crate) fn stored(&self) -> Result<Stored, NoMemory>
         ensures { IfOk result (λ stored. stored ≡ stored_of self.now.explored) }
     {

@@ -1,5 +1,5 @@
 -- Why a scenario isn't explored, and that a writer has no part in that.
-use Rattle.std.proofs.Common.{◌≡◌, ◌⊎◌, inl, inr, ℕ, Bool, true, false, List, [], ◌∷◌, Option, Some, None, Result, Ok, Err, IfErr, IfSome, length, cond, leb, ltb, eqb, refl, sym, ap, ◌∙◌, subst}
+use Rattle.std.proofs.Common.{◌≡◌, ◌⊎◌, ◌↔◌, inl, inr, ℕ, Bool, true, false, List, [], ◌∷◌, Option, Some, None, Result, Ok, Err, IfErr, IfSome, length, cond, leb, ltb, eqb, refl, sym, ap, ◌∙◌, subst}
 use Rattle.std.specs.Io.KnownBytes.{Keeps}
 use Rattle.std.specs.Prelude.{nat_lt, ◌==◌}
 use Rattle.cmwq_types.specs.Contents.{ScenarioContents}
@@ -107,3 +107,24 @@ told x input before failed S why sound spelled keeps (inr is) = record {
   silent = inr keeps;
   why = inr (inr (subst IsOutside (sym is) tt));
 }
+
+-- no reader has a part in it
+no-read : (why : ExploreError) → IsOfScenario why → why ≡ error.Play play.Read → ⊥
+no-read why is same = absurd (subst IsOfScenario same is)
+
+memory-no-read : no_memory ≡ error.Play play.Read → ⊥
+memory-no-read same = cc
+
+fault-no-read : (S : ScenarioContents) (x : Exploration) (why : ExploreError) → (fault_of S x ≡ Some why) ⊎ (why ≡ no_memory) → why ≡ error.Play play.Read → ⊥
+fault-no-read S x why (inl is) same = no-read why (is-of-scenario S x why is) same
+fault-no-read S x why (inr is) same = memory-no-read (sym is ∙ same)
+
+ok-is-no-err : {A E : Type 0} (one : A) (why : E) → ◌≡◌ {A = Result A E} (Ok one) (Err why) → ⊥
+ok-is-no-err one why same = cc
+
+-- a text was read, so that no read failed
+pub read-told : {A : Type 0} (S : ScenarioContents) (x : Exploration) (one : A) (failed : Bool) (why : ExploreError)
+    → (failed ≡ true → ◌≡◌ {A = Result A PlayError} (Ok one) (Err play.Read)) → (fault_of S x ≡ Some why) ⊎ (why ≡ no_memory)
+    → (◌≡◌ {A = Result Outcome ExploreError} (Err why) (Err (error.Play play.Read))) ↔ (failed ≡ true)
+read-told S x one failed why sound fault =
+    ((λ same. absurd (fault-no-read S x why fault (err-same why (error.Play play.Read) same))), (λ failing. absurd (ok-is-no-err one play.Read (sound failing))))

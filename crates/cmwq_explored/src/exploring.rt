@@ -3,9 +3,9 @@ ghost use Rattle.cmwq_explore.specs.Outcomes.{IsAnswer, IsShort};
 ghost use Rattle.cmwq_explored.specs.Asking.{IsExplorable, fault_of};
 ghost use Rattle.cmwq_explored.specs.Errors.{no_memory};
 ghost use Rattle.cmwq_explored.specs.Exploring.{Explores, IsExplored, IsSaid};
-ghost use Rattle.cmwq_play.specs.Commands.{Reads};
 ghost use Rattle.cmwq_types.specs.Faults.{IsValid};
-ghost use Rattle.std.specs.Prelude.{◌≡◌, ◌⊎◌, IfErr, IfOk, Some, false};
+ghost use Rattle.cmwq_types.specs.declared.limits.TheConstants.{MAX_TEXT};
+ghost use Rattle.std.specs.Prelude.{◌≡◌, ◌⊎◌, ◌↔◌, ◌≤◌, ◌+◌, Err, IfErr, IfOk, IfSome, Some, false, length, true};
 
 use crate::answers::{GaveUpLine, WholeLine, whole_outcome};
 use crate::asking::{precedences_asked, question_asked};
@@ -25,7 +25,8 @@ use std::sync::Arc;
 
 /// Reads a scenario's text, looks through all orders of its actors' instructions for one that comes to what is never to be, and writes
 /// the shortest such order as a scenario that shows it, or how many states there are to which no order comes that is of that kind, or
-/// how far it went where that is open. The whole is made before its first byte is written.
+/// how far it went where that is open. The whole is made before its first byte is written, and at most one byte more is read than the
+/// 4,194,304 that a text may have.
 ///
 /// It answers, before anything is written, `Asm` with the text's fault exactly where the text spells no scenario; then `Actors` exactly
 /// where the scenario has none; then `Full` exactly where they have more than 4,096 lines in all, a `cancel_sync` being three; then
@@ -40,6 +41,8 @@ pub fn explore<R: Source, W: Sink, P: Progress>(
 ) -> Result<Outcome, ExploreError>
     requires reader { R.failed reader.old ≡ false }
     requires writer { W.failed writer.old ≡ false }
+    ensures read { (result ≡ Err (ExploreError.Play PlayError.Read)) ↔ (R.failed reader.new ≡ true) }
+    ensures few { IfSome (R.remaining reader.old) (λ bytes. IfSome (R.remaining reader.new) (λ rest. length bytes ≤ length rest + MAX_TEXT + 1)) }
     ensures explores { Explores exploration.now (R.remaining reader.old) (W.contents writer.old) (W.contents writer.new) (W.failed writer.new) result }
 {
     let scenario = read_text(alloc, reader)?;

@@ -19,7 +19,7 @@ use Rattle.cmwq_picture.specs.Laws.{BurnsAlone, BurnsBound, HasConsecutiveTicks,
 use Rattle.cmwq_picture.specs.Picture.{below, burner_cell, burns_in, columns, from_time, is_before, is_drawn, pending_cell, run_or_pending, stands_in, ticks_from}
 use Rattle.cmwq_picture.specs.declared.cell.Cell.TheVariants.{Empty}
 use Rattle.cmwq_picture.specs.declared.row.Title.TheVariants as title
-use Rattle.cmwq_tasks.specs.declared.drawing.Span.{Span}
+use Rattle.cmwq_drawing.specs.declared.drawing.Span.{Span}
 use Rattle.cmwq_picture.proofs.TickLemmas.{IsTick, time-goes_on, time-ticks}
 
 -- Ticks, one after another.

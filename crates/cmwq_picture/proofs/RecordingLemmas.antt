@@ -22,7 +22,7 @@ use Rattle.cmwq_streams.specs.declared.error.PlayError.TheVariants.{TooWide, NoM
 use Rattle.cmwq_picture.specs.declared.span.TheConstants.{MAX_COLUMNS}
 use Rattle.cmwq_picture.proofs.StretchLemmas.{stretches-fit, stretches-longer}
 use Rattle.cmwq_picture.specs.Recording.{IsRecording, Recording, recording_begun, issued, issued_all, new_acts, new_columns, noted, overflows}
-use Rattle.cmwq_tasks.specs.declared.drawing.Span.{Span}
+use Rattle.cmwq_drawing.specs.declared.drawing.Span.{Span}
 use Rattle.cmwq_picture.proofs.TickLemmas.{time-goes_on, time-ticks}
 use Rattle.cmwq_picture.proofs.AlikeLemmas.{column-ticks}
 

@@ -12,7 +12,7 @@ use Rattle.cmwq_picture.specs.ExactEquality.{column_eq_is_exact}
 use Rattle.cmwq_picture.specs.Folding.{added, all_added, columns_drawn, columns_of_stretch, edges_from, end_from, folds, is_open, is_wide, once, starts_from, stretches_of, ticks_drawn, ticks_each, ticks_of_stretch, width}
 use Rattle.cmwq_picture.specs.Stretches.{columns_of, spread}
 use Rattle.cmwq_picture.specs.declared.span.TheConstants.{MAX_COLUMNS}
-use Rattle.cmwq_tasks.specs.declared.drawing.Span.{Span}
+use Rattle.cmwq_drawing.specs.declared.drawing.Span.{Span}
 use Rattle.cmwq_picture.specs.declared.columns.Stretch.{Stretch}
 
 -- One more column.

@@ -3,7 +3,7 @@ use Rattle.std.specs.Borrow.{Bor}
 use Rattle.std.specs.Prelude.{Bool, List, Option, Some, None}
 use Rattle.cmwq_types.specs.declared.instr.WorkId.{WorkId}
 use Rattle.cmwq_picture.specs.declared.extent.Extent.{Extent}
-use Rattle.cmwq_tasks.specs.declared.drawing.Span.{Span}
+use Rattle.cmwq_drawing.specs.declared.drawing.Span.{Span}
 
 -- which ticks, whether they are folded though there is room for all, and the works that have rows, where not all have
 pub record ExtentContents : Type 0 where

@@ -5,7 +5,7 @@ use Rattle.cmwq_picture.specs.Column.{ColumnContents}
 use Rattle.cmwq_picture.specs.Equality.{column_eq}
 use Rattle.cmwq_picture.specs.declared.columns.Stretch.{Stretch}
 use Rattle.cmwq_picture.specs.declared.span.TheConstants.{MAX_COLUMNS, MAX_UNFOLDED}
-use Rattle.cmwq_tasks.specs.declared.drawing.Span.{Span}
+use Rattle.cmwq_drawing.specs.declared.drawing.Span.{Span}
 
 -- Stretches: a column, and how many ticks in a row are as it tells.
 

@@ -17,7 +17,7 @@ use Rattle.cmwq_picture.specs.declared.row.Act.{Act}
 use Rattle.cmwq_picture.specs.declared.row.Title.{Title}
 use Rattle.cmwq_picture.specs.declared.row.Title.TheVariants as title
 use Rattle.cmwq_picture.specs.declared.span.TheConstants.{MAX_UNFOLDED}
-use Rattle.cmwq_tasks.specs.declared.drawing.Span.{Span}
+use Rattle.cmwq_drawing.specs.declared.drawing.Span.{Span}
 
 -- Columns.
 

@@ -13,7 +13,7 @@ use Rattle.cmwq_picture.specs.PictureContents.{PictureContents}
 use Rattle.cmwq_picture.specs.declared.row.Act.{Act}
 use Rattle.cmwq_streams.specs.declared.error.PlayError.{PlayError}
 use Rattle.cmwq_streams.specs.declared.error.PlayError.TheVariants.{TooWide, NoMemory}
-use Rattle.cmwq_tasks.specs.declared.drawing.Span.{Span}
+use Rattle.cmwq_drawing.specs.declared.drawing.Span.{Span}
 
 -- what the actor did in the run
 abbrev pub acts : ScenarioContents → List Instr → List Act

@@ -11,7 +11,7 @@ use Rattle.cmwq_picture.specs.Column.{ColumnContents, column_of}
 use Rattle.cmwq_picture.specs.Folding.{is_open, stretches_of}
 use Rattle.cmwq_picture.specs.Picture.{from_time, is_act, is_drawn}
 use Rattle.cmwq_picture.specs.declared.row.Act.{Act}
-use Rattle.cmwq_tasks.specs.declared.drawing.Span.{Span}
+use Rattle.cmwq_drawing.specs.declared.drawing.Span.{Span}
 use Rattle.cmwq_picture.specs.declared.span.TheConstants.{MAX_COLUMNS}
 
 -- a scenario's run up to some instruction, whether the actor did something since the last tick, what it did in the span, and the columns so far

@@ -4,7 +4,7 @@ ghost use Rattle.cmwq_picture.specs.Picture.{is_picked};
 ghost use Rattle.std.specs.List.{list_any};
 ghost use Rattle.std.specs.Prelude.{◌≡◌, ◌==◌};
 
-use cmwq_tasks::Span;
+use cmwq_drawing::Span;
 use cmwq_types::WorkId;
 
 /// What a picture is to show.

@@ -9,7 +9,7 @@ use crate::cell::Cell;
 use crate::columns::{Columns, Stretch};
 use crate::row::Title;
 use crate::span::{MAX_COLUMNS, MAX_UNFOLDED, is_open};
-use cmwq_tasks::Span;
+use cmwq_drawing::Span;
 use cmwq_types::{NoMemory, Scenario};
 use std::alloc::Global;
 use std::marker::Model;

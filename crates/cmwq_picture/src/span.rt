@@ -3,7 +3,7 @@ ghost use Rattle.cmwq_picture.specs.Folding.{is_open};
 ghost use Rattle.cmwq_picture.specs.Picture.{from_time, is_before, is_drawn};
 ghost use Rattle.std.specs.Prelude.{◌≡◌};
 
-use cmwq_tasks::Span;
+use cmwq_drawing::Span;
 
 /// The most columns of a picture unless both ends of its span are given.
 pub const MAX_COLUMNS: usize = 500;

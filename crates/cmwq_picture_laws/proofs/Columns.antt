@@ -15,7 +15,7 @@ use Rattle.cmwq_table.proofs.RunLemmas.{after_all-append}
 use Rattle.cmwq_table.specs.declared.state.Running.{Running}
 use Rattle.cmwq_burning.proofs.Happening.{Happens, table-does}
 use Rattle.cmwq_picture.specs.Picture.{columns, is_drawn, ticks_from}
-use Rattle.cmwq_tasks.specs.declared.drawing.Span.{Span}
+use Rattle.cmwq_drawing.specs.declared.drawing.Span.{Span}
 use Rattle.cmwq_picture_laws.specs.Signs.{ticks_of}
 
 -- Ticks of a run of two parts.

@@ -18,7 +18,7 @@ use Rattle.cmwq_picture.specs.Laws.{IsDeclaredRow, ShowsEachTick, written_out}
 use Rattle.cmwq_picture.specs.Picture.{cell, columns, from_time, stands_in_picture, ticks_from, titles, work_sign}
 use Rattle.cmwq_picture.specs.PictureOfRun.{acts, is_folded, ticks_told}
 use Rattle.cmwq_picture.proofs.FoldLemmas.{shows_each_tick}
-use Rattle.cmwq_tasks.specs.declared.drawing.Span.{Span}
+use Rattle.cmwq_drawing.specs.declared.drawing.Span.{Span}
 use Rattle.cmwq_picture.specs.declared.row.Title.{Title}
 use Rattle.cmwq_picture.specs.declared.row.Title.TheVariants as title
 use Rattle.cmwq_picture_laws.specs.Signs.{ShowsItsBody, shows_burning, ticks_after, ticks_between, ticks_of}

@@ -10,7 +10,7 @@ use Rattle.cmwq_picture.specs.Folding.{stretches_of, ticks_drawn}
 use Rattle.cmwq_picture.specs.PictureOfRun.{is_folded}
 use Rattle.cmwq_picture.specs.declared.span.TheConstants.{MAX_COLUMNS}
 use Rattle.cmwq_picture_laws.specs.Pictures.{whole}
-use Rattle.cmwq_tasks.specs.declared.drawing.Span.{Span}
+use Rattle.cmwq_drawing.specs.declared.drawing.Span.{Span}
 
 -- so many ticks without any work, at each of which the actor did something or not
 abbrev pub ticks_alike : (acted : Bool) → ℕ → List ColumnContents

@@ -16,7 +16,7 @@ use Rattle.cmwq_picture.specs.declared.cell.Cell.TheVariants.{Empty, Does, Burne
 use Rattle.cmwq_picture.specs.declared.cell.Sign.{Sign}
 use Rattle.cmwq_picture.specs.declared.cell.Sign.TheVariants as sign
 use Rattle.cmwq_picture.specs.declared.row.Title.TheVariants as title
-use Rattle.cmwq_tasks.specs.declared.drawing.Span.{Span}
+use Rattle.cmwq_drawing.specs.declared.drawing.Span.{Span}
 
 abbrev pub is_burning : Sign → Bool
 is_burning sign.Burns = true

@@ -10,4 +10,6 @@ mod faults;
 #[cfg(test)]
 mod files;
 #[cfg(test)]
+mod misuse;
+#[cfg(test)]
 mod playing;

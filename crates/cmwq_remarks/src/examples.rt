@@ -5,8 +5,8 @@ ghost use Rattle.cmwq_remarks.specs.Examples.{intensive_alone, beside, declared_
 ghost use Rattle.cmwq_remarks.specs.LineNumbers.{line_at, number_from, number_of_last};
 ghost use Rattle.cmwq_remarks.specs.Notes.{is_intensive_beside, notes_from};
 ghost use Rattle.cmwq_remarks.specs.Remarks.{first_refusal, pending_line, refusal_count, refused_line, remarks_of};
-ghost use Rattle.cmwq_tasks.specs.declared.drawing.Drawing.{Drawing};
-ghost use Rattle.cmwq_tasks.specs.declared.question.Inquiry.{Inquiry};
+ghost use Rattle.cmwq_drawing.specs.declared.drawing.Drawing.{Drawing};
+ghost use Rattle.cmwq_question.specs.declared.question.Inquiry.{Inquiry};
 ghost use Rattle.cmwq_tasks.specs.declared.task.RunKind.TheVariants as kind;
 ghost use Rattle.cmwq_tasks.specs.declared.task.Task.TheVariants as task;
 ghost use Rattle.cmwq_types.specs.Scenario.{plain_flags};

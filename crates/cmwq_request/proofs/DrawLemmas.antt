@@ -16,7 +16,7 @@ use Rattle.cmwq_request.proofs.RequestLemmas.{no_hyphen, numerals}
 use Rattle.cmwq_request.proofs.WalkingLemmas.{Goes, is_option_word, draw_shape, end_passes, ends, has_draw, on, on_plain, taken}
 use Rattle.cmwq_command_line.specs.CommandLine.{command_line}
 use Rattle.cmwq_request.specs.Request.{DrawingWords, HasCapacity, IsFileWord, IsMisuse, IsPlainWord, IsRead, IsSpan, IsTimeIfAny, asked_of, draw_arguments, drawing_from, folded, is_ahead, is_letter, is_picture_name, is_picture_name_if_any, is_scale, is_styled, number_if_any, number_in, number_words, of_works, option_words, span_from, spanned, styled, text_words, whole_span, words_to_draw}
-use Rattle.cmwq_tasks.specs.declared.drawing.Span.{Span}
+use Rattle.cmwq_drawing.specs.declared.drawing.Span.{Span}
 
 -- Numbers.
 
@@ -51,7 +51,7 @@ time_read {E} r word n parsed is =
 -- Words that begin with no hyphen.
 
 -- a digit is no hyphen
-digit_first : (head : ℕ) (tail : Text) → all_ascii_digits (head ∷ tail) ≡ true → (head == 45) ≡ false
+pub digit_first : (head : ℕ) (tail : Text) → all_ascii_digits (head ∷ tail) ≡ true → (head == 45) ≡ false
 digit_first head tail e = grind (arith, nat_tests, e)
 
 pub decimal_begins : (n : ℕ) → n < 2 ^ 64 → is_option_word (decimal n) ≡ false

@@ -1,5 +1,5 @@
 -- What clap makes of the words of `explore`.
-use Rattle.std.proofs.Common.{inr, ap, ap₂, sym, subst, ◌&&◌, ◌≡◌, ◌≢◌, ◌∙◌, arith, ℕ, Bool, List, [], ◌∷◌, ◌++◌, true, false, Option, None, Some, codes, refl, bytes_eq, option_and_then}
+use Rattle.std.proofs.Common.{inl, inr, ap, ap₂, sym, subst, ◌&&◌, ◌≡◌, ◌≢◌, ◌∙◌, arith, ℕ, Bool, List, [], ◌∷◌, ◌++◌, true, false, Option, None, Some, codes, refl, bytes_eq, option_and_then}
 use Rattle.std.specs.Prelude.{fold, if◌then◌else◌}
 use Rattle.std.specs.Cmp.Lexicographic.{bytes_decides}
 use Rattle.std.specs.Fmt.{decimal}
@@ -416,7 +416,7 @@ as_misuse : {given : List Text} {found : Option (List Text)} → Explores given 
     → found ≡ None → IsMisuse words
 as_misuse it words name are none =
     let met = it.takes name in
-    rw are (met.0, (codes "explore", it.rows), met.1, inr (inr (inr (refl, (it.stuck, it.flag, it.asks ∙ none)))))
+    rw are (met.0, (codes "explore", it.rows), met.1, inr (inr (inr (inl (refl, (it.stuck, it.flag, it.asks ∙ none))))))
 
 pub explore_read : (words : List Text) (name file : Text) (asked : ExplorationWords) → words ≡ name ∷ codes "explore" ∷ explore_arguments asked file → IsFileWord file
     → CanBeAsked asked → IsRead words (codes "explore" ∷ explore_arguments asked file)

@@ -6,3 +6,5 @@ mod RequestLemmas
 mod TableLemmas
 mod WalkingLemmas
 mod WhyLemmas
+pub mod LimitLemmas
+pub mod ReportLemmas

@@ -277,6 +277,16 @@ met_in m name rows asked = at (out-ArgMatches m).subcommand
     at None is_name are_rows is = cc
     at (Some b) is_name are_rows is = cc
 
+-- the command that was met, with its values
+pub met_is : (m : ArgMatches) (name : Text) (rows : List Row) (met : Text × List Row) → Some name ≡ subcommand_name_of m
+    → Some rows ≡ option_map (λ p. p.1) (subcommand_rows_of m) → subcommand_rows_of m ≡ Some met → (name, rows) ≡ met
+met_is m name rows met = at (out-ArgMatches m).subcommand
+  where
+    at : {Z : Type 0} (o : Option (Box SubCommand Z)) → Some name ≡ option_map (λ b. (out-SubCommand (box_value b)).name.now) o
+        → Some rows ≡ option_map (λ p. p.1) (subcommand_rows o) → subcommand_rows o ≡ Some met → (name, rows) ≡ met
+    at None is_name are_rows is = cc
+    at (Some b) is_name are_rows is = cc
+
 other_name : (a b : Text) → a ≢ b → bytes_eq a b ≡ false
 other_name a b apart = by (bytes_eq a b) refl
   where

@@ -7,6 +7,7 @@ use Rattle.cmwq_request.specs.Request.{IsAskedBy, IsMisuse, IsMisusedBy, IsRead,
 use Rattle.cmwq_request.proofs.RequestLemmas.{asm_read, check_read, check_two_read, list_read, new_file_read, new_read, play_read, run_read, settle_read, show_read}
 use Rattle.cmwq_request.proofs.DebugLemmas.{debug_read, input_misused}
 use Rattle.cmwq_request.proofs.ExploreLemmas.{explore_read, explore_usual_read, limit_misused, never_misused, ring_misused}
+use Rattle.cmwq_request.proofs.ReportLemmas.{both_kinds_misused, no_form_misused, no_limits_misused, sweep_read, times_read, trace_data_read, trace_read, two_forms_misused, whom_swept_misused}
 use Rattle.cmwq_request.proofs.DrawLemmas.{backwards_misused, draw_folded_read, draw_read, draw_styled_read, draw_works_read}
 use Rattle.cmwq_request.proofs.WhyLemmas.{at_both_misused, at_two_misused, both_misused, flush_first_read, flush_read, neither_misused, no_flush_misused, no_place_misused, work_first_read, work_read}
 
@@ -33,6 +34,10 @@ asked_read words name given asked are (IsAskedBy.why_work goes_on looks file wor
 asked_read words name given asked are (IsAskedBy.why_flush goes_on looks flush file plain few short) = inl (flush_read words name file flush goes_on looks are plain few short)
 asked_read words name given asked are (IsAskedBy.why_work_first looks file work plain plain_work short) = inl (work_first_read words name file work looks are plain plain_work short)
 asked_read words name given asked are (IsAskedBy.why_flush_first looks flush file plain few short) = inl (flush_first_read words name file flush looks are plain few short)
+asked_read words name given asked are (IsAskedBy.times times file plain) = inl (times_read words name file times are plain)
+asked_read words name given asked are (IsAskedBy.trace form file plain) = inl (trace_read words name file form are plain)
+asked_read words name given asked are (IsAskedBy.sweep format queue limits file plain_queue fit plain) = inl (sweep_read words name file queue format limits are plain_queue fit plain)
+asked_read words name given asked are (IsAskedBy.trace_data file out plain plain_out) = inl (trace_data_read words name file out are plain plain_out)
 asked_read words name given asked are (IsAskedBy.play file capacity plain fits) = inl (play_read words name file capacity are plain fits)
 asked_read words name given asked are (IsAskedBy.explore exploration file plain can) = inl (explore_read words name file exploration are plain can)
 asked_read words name given asked are (IsAskedBy.explore_usual never before file plain can) = inl (explore_usual_read words name file never before are plain can)
@@ -51,6 +56,11 @@ given_misused words name given are (IsMisusedBy.drawn_backwards from to file beh
 given_misused words name given are (IsMisusedBy.explore_never options file plain names none) = never_misused words name file options are plain names none
 given_misused words name given are (IsMisusedBy.explore_ring never before ring file plain names pairs is) = ring_misused words name file never before ring are plain names pairs is
 given_misused words name given are (IsMisusedBy.explore_no_limit never number file plain names value none) = limit_misused words name number file never are plain names value none
+given_misused words name given are (IsMisusedBy.traced_as_nothing file plain) = no_form_misused words name file are plain
+given_misused words name given are (IsMisusedBy.traced_as_both file plain) = two_forms_misused words name file are plain
+given_misused words name given are (IsMisusedBy.traced_as_both_kinds form file out plain plain_out) = both_kinds_misused words name file out form are plain plain_out
+given_misused words name given are (IsMisusedBy.swept_over_no_limits queue word file plain plain_queue value none) = no_limits_misused words name queue word file are plain plain_queue value none
+given_misused words name given are (IsMisusedBy.swept_with_whom queue word file plain plain_queue value) = whom_swept_misused words name queue word file are plain plain_queue value
 given_misused words name given are IsMisusedBy.debug_of_input = input_misused words name are
 
 -- what asks for it, word by word
@@ -93,6 +103,10 @@ asked_language given asked are (IsAskedBy.why_work goes_on looks file work plain
 asked_language given asked are (IsAskedBy.why_flush goes_on looks flush file plain few short) = absurd (is_no_help given refl are)
 asked_language given asked are (IsAskedBy.why_work_first looks file work plain plain_work short) = absurd (is_no_help given refl are)
 asked_language given asked are (IsAskedBy.why_flush_first looks flush file plain few short) = absurd (is_no_help given refl are)
+asked_language given asked are (IsAskedBy.times times file plain) = absurd (is_no_help given refl are)
+asked_language given asked are (IsAskedBy.trace form file plain) = absurd (is_no_help given refl are)
+asked_language given asked are (IsAskedBy.sweep format queue limits file plain_queue fit plain) = absurd (is_no_help given refl are)
+asked_language given asked are (IsAskedBy.trace_data file out plain plain_out) = absurd (is_no_help given refl are)
 asked_language given asked are (IsAskedBy.play file capacity plain fits) = absurd (is_no_help given refl are)
 asked_language given asked are (IsAskedBy.explore exploration file plain can) = absurd (is_no_help given refl are)
 asked_language given asked are (IsAskedBy.explore_usual never before file plain can) = absurd (is_no_help given refl are)
@@ -110,4 +124,9 @@ misused_language given are (IsMisusedBy.drawn_backwards from to file behind smal
 misused_language given are (IsMisusedBy.explore_never options file plain names none) = is_no_help given refl are
 misused_language given are (IsMisusedBy.explore_ring never before ring file plain names pairs is) = is_no_help given refl are
 misused_language given are (IsMisusedBy.explore_no_limit never number file plain names value none) = is_no_help given refl are
+misused_language given are (IsMisusedBy.traced_as_nothing file plain) = is_no_help given refl are
+misused_language given are (IsMisusedBy.traced_as_both file plain) = is_no_help given refl are
+misused_language given are (IsMisusedBy.traced_as_both_kinds form file out plain plain_out) = is_no_help given refl are
+misused_language given are (IsMisusedBy.swept_over_no_limits queue word file plain plain_queue value none) = is_no_help given refl are
+misused_language given are (IsMisusedBy.swept_with_whom queue word file plain plain_queue value) = is_no_help given refl are
 misused_language given are IsMisusedBy.debug_of_input = is_no_help given refl are

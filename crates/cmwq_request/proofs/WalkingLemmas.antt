@@ -222,3 +222,27 @@ has_explore = record {
   ends = λ words level. rw level refl;
   enters = λ words. refl;
 }
+
+unfoldable pub times_shape : Shape
+times_shape = shape_of (codes "times")
+
+pub has_times : HasCommand (codes "times") times_shape
+unfolding clap_on_literals times_shape
+has_times = record {
+  stops = refl;
+  passes = λ words. stopped_passes (built command_line).top (names_of (built command_line)) (walk_from nothing_held) (codes "times") [] words;
+  ends = λ words level. rw level refl;
+  enters = λ words. refl;
+}
+
+unfoldable pub trace_shape : Shape
+trace_shape = shape_of (codes "trace")
+
+pub has_trace : HasCommand (codes "trace") trace_shape
+unfolding clap_on_literals trace_shape
+has_trace = record {
+  stops = refl;
+  passes = λ words. stopped_passes (built command_line).top (names_of (built command_line)) (walk_from nothing_held) (codes "trace") [] words;
+  ends = λ words level. rw level refl;
+  enters = λ words. refl;
+}

@@ -10,11 +10,12 @@ use Rattle.cmwq_request.proofs.RequestLemmas.{numerals}
 use Rattle.clap.specs.Walk.{Walk, finished, nothing_held, walk_from}
 use Rattle.cmwq_request.proofs.WalkingLemmas.{Goes, is_option_word, end_passes, ends, has_why, on, on_plain, taken, why_shape}
 use Rattle.cmwq_request.proofs.DrawLemmas.{Takes, decimal_begins, file_begins, plain_begins}
-use Rattle.cmwq_request.specs.Request.{HasCapacity, HasShortNumber, IsFileWord, IsMisuse, IsPlainWord, IsRead, IsShortNumber, IsValueWord, asked_from, asked_of, asked_why, file_to_ask, flag_of, flush_arguments, look_words, looks_in, option_words, plain_number, question_arguments, question_words, task_words, work_arguments}
-use Rattle.cmwq_tasks.specs.declared.question.Looks.{Looks}
-use Rattle.cmwq_tasks.specs.declared.question.Inquiry.{Inquiry}
+use Rattle.cmwq_request.specs.Numbers.{plain_number}
+use Rattle.cmwq_request.specs.Request.{HasCapacity, HasShortNumber, IsFileWord, IsMisuse, IsPlainWord, IsRead, IsShortNumber, IsValueWord, asked_from, asked_of, asked_why, file_to_ask, flag_of, flush_arguments, look_words, looks_in, option_words, question_arguments, question_words, task_words, work_arguments}
+use Rattle.cmwq_question.specs.declared.question.Looks.{Looks}
+use Rattle.cmwq_question.specs.declared.question.Inquiry.{Inquiry}
 use Rattle.cmwq_tasks.specs.declared.task.Task.TheVariants.{Why}
-use Rattle.cmwq_tasks.specs.declared.question.Looks.TheVariants.{Settled as AtSettled, Every, At, Time}
+use Rattle.cmwq_question.specs.declared.question.Looks.TheVariants.{Settled as AtSettled, Every, At, Time}
 use Rattle.clap.proofs.OnLiterals.{clap_on_literals}
 use Rattle.std.specs.Fmt.{decimal}
 use Rattle.std.proofs.lemmas.Fmt.{decimal_nonempty, digits_decimal, digits_value-decimal, length-decimal-le}

@@ -2,7 +2,7 @@
 use Rattle.std.specs.Prelude.{◌≡◌, ◌≢◌, ◌≤◌, ◌<◌, ◌^◌, ◌⊎◌, ℕ, List, [], ◌∷◌, ◌++◌, Bool, true, false, ◌&&◌, ◌||◌, ◌==◌, length, nat_le, nat_lt, map, codes, if◌then◌else◌, Option, None, Some, is_none, option_and_then, option_map, option_to_list, Result, IsErrAnd, MatchResult}
 use Rattle.std.specs.List.{list_all}
 use Rattle.std.specs.Fmt.{decimal}
-use Rattle.std.specs.Str.{all_ascii_digits, bytes_eq}
+use Rattle.std.specs.Str.{bytes_eq}
 use Rattle.std.specs.Str.Parse.{digits_value}
 use Rattle.clap.specs.Words.{Row, Text, all_of, first_of, kind_of, one_of, subcommand_of, takes}
 use Rattle.cmwq_command_line.specs.CommandLine.{command_line}
@@ -15,21 +15,28 @@ use Rattle.cmwq_exploration.specs.declared.exploration.Never.{Never}
 use Rattle.cmwq_exploration.specs.declared.exploration.Never.TheVariants as never
 use Rattle.cmwq_exploration.specs.declared.exploration.TheConstants.{MAX_STATES, USUAL_STATES}
 use Rattle.cmwq_rings.specs.Rings.{HasNoRing, IsRing, Pair, goes_in_ring, pairs_of}
-use Rattle.cmwq_tasks.specs.declared.drawing.Drawing.{Drawing}
-use Rattle.cmwq_tasks.specs.declared.drawing.Form.{Form}
-use Rattle.cmwq_tasks.specs.declared.drawing.Form.TheVariants as form
-use Rattle.cmwq_tasks.specs.declared.drawing.Span.{Span}
-use Rattle.cmwq_tasks.specs.declared.question.Inquiry.{Inquiry}
-use Rattle.cmwq_tasks.specs.declared.question.Looks.{Looks}
-use Rattle.cmwq_tasks.specs.declared.question.Looks.TheVariants.{Settled as AtSettled, Every, At, Time}
-use Rattle.cmwq_tasks.specs.declared.question.Question.{Question}
-use Rattle.cmwq_tasks.specs.declared.question.Question.TheVariants.{Work, Flush}
+use Rattle.cmwq_drawing.specs.declared.drawing.Drawing.{Drawing}
+use Rattle.cmwq_drawing.specs.declared.drawing.Form.{Form}
+use Rattle.cmwq_drawing.specs.declared.drawing.Form.TheVariants as form
+use Rattle.cmwq_drawing.specs.declared.drawing.Span.{Span}
+use Rattle.cmwq_question.specs.declared.question.Inquiry.{Inquiry}
+use Rattle.cmwq_question.specs.declared.question.Looks.{Looks}
+use Rattle.cmwq_question.specs.declared.question.Looks.TheVariants.{Settled as AtSettled, Every, At, Time}
+use Rattle.cmwq_question.specs.declared.question.Question.{Question}
+use Rattle.cmwq_question.specs.declared.question.Question.TheVariants.{Work, Flush}
+use Rattle.cmwq_reports.specs.declared.report.Format.{Format}
+use Rattle.cmwq_reports.specs.declared.report.Format.TheVariants as format
+use Rattle.cmwq_reports.specs.declared.report.LimitRange.{LimitRange}
+use Rattle.cmwq_reports.specs.declared.report.Times.{Times}
+use Rattle.cmwq_reports.specs.declared.report.TraceForm.{TraceForm}
+use Rattle.cmwq_reports.specs.declared.report.TraceForm.TheVariants.{Json, Lines, Text as AsText}
 use Rattle.cmwq_tasks.specs.declared.task.RunKind.{RunKind}
 use Rattle.cmwq_tasks.specs.declared.task.RunKind.TheVariants.{Plain, Settled, Told, ToldSettled}
 use Rattle.cmwq_tasks.specs.declared.task.Task.{Task}
 use Rattle.cmwq_tasks.specs.declared.task.Task.TheVariants as task
+use Rattle.cmwq_request.specs.Numbers.{are_limits, limits_in, limits_word, plain_number}
 use Rattle.cmwq_request.specs.declared.request.Request.{Request}
-use Rattle.cmwq_request.specs.declared.request.Request.TheVariants.{New, Do, Asm, Debug, Play, Explore, Check, Language, Version}
+use Rattle.cmwq_request.specs.declared.request.Request.TheVariants.{New, Do, Sweep, TraceData, Asm, Debug, Play, Explore, Check, Language, Version}
 
 -- how many entries a play's history may have room for: as many as an actor may have lines
 abbrev pub IsCapacity : ℕ → Type 0
@@ -226,6 +233,26 @@ unlimited_arguments never before file = file ∷ (never_words never ++ before_wo
 abbrev pub explore_arguments : ExplorationWords → Text → List Text
 explore_arguments asked file = unlimited_arguments asked.never asked.before file ++ (codes "--limit" ∷ decimal asked.limit ∷ [])
 
+abbrev pub is_json : Format → Bool
+is_json format.Text = false
+is_json format.Json = true
+
+-- what stands behind `times`, and where runs are told of that differ by a queue's max
+abbrev pub times_arguments : Times → Text → List Text
+times_arguments times file = option_words (codes "--json") (is_json times.format) ++ (option_words (codes "--whom") times.whom ++ (file ∷ []))
+
+abbrev pub sweep_arguments : Format → (queue : Text) → LimitRange → (file : Text) → List Text
+sweep_arguments format queue limits file = option_words (codes "--json") (is_json format) ++ (file ∷ codes "--sweep" ∷ queue ∷ limits_word limits ∷ [])
+
+-- what stands behind `trace`, and where the events go to a file
+abbrev pub trace_arguments : TraceForm → Text → List Text
+trace_arguments Json file = codes "--json" ∷ file ∷ []
+trace_arguments Lines file = codes "--lines" ∷ file ∷ []
+trace_arguments AsText file = codes "--text" ∷ file ∷ []
+
+abbrev pub data_arguments : (file out : Text) → List Text
+data_arguments file out = file ∷ codes "--dat" ∷ out ∷ []
+
 -- the words that ask for the task on a file
 abbrev pub task_words : Task → Text → List Text
 task_words (task.Run kind) file = codes "run" ∷ run_arguments kind file
@@ -234,12 +261,16 @@ task_words task.List file = codes "list" ∷ file ∷ []
 task_words task.Show file = codes "show" ∷ file ∷ []
 task_words (task.Draw drawing) file = codes "draw" ∷ draw_arguments (drawing_words drawing) file
 task_words (task.Why inquiry) file = codes "why" ∷ why_arguments inquiry file
+task_words (task.Times times) file = codes "times" ∷ times_arguments times file
+task_words (task.Trace form) file = codes "trace" ∷ trace_arguments form file
 
 -- the words that ask for it
 abbrev pub request_words : Request → List Text
 request_words (New None) = codes "new" ∷ []
 request_words (New (Some file)) = codes "new" ∷ file.now ∷ []
 request_words (Do file task) = task_words task file.now
+request_words (Sweep file sweep) = codes "times" ∷ sweep_arguments sweep.format sweep.queue.now sweep.limits file.now
+request_words (TraceData file out) = codes "trace" ∷ data_arguments file.now out.now
 request_words (Asm file out) = codes "asm" ∷ file.now ∷ out.now ∷ []
 request_words (Debug file settle) = codes "debug" ∷ debug_arguments settle file.now
 request_words (Play file capacity) = codes "play" ∷ file.now ∷ codes "--capacity" ∷ decimal capacity ∷ []
@@ -348,11 +379,6 @@ words_to_draw drawing file = option_and_then (λ given. option_map (λ name. cod
 abbrev pub file_to_draw : List Row → Option (List Text)
 file_to_draw rows = words_to_draw (drawing_asked rows) (first_of (codes "FILE") rows)
 
--- The number that 1 to 10 digits spell.
-unfoldable pub plain_number : Text → Option ℕ
-plain_number word =
-    if all_ascii_digits word && (nat_lt 0 (length word) && nat_lt (length word) 11) then Some (digits_value 10 word) else None
-
 -- the positions, by whether --every is given, and by the words of --at and --time; none where two of them are given, or the word isn't
 -- such a number
 abbrev pub looks_in : (every : Bool) → (at time : Option Text) → Option Looks
@@ -447,12 +473,67 @@ asked_explore stuck rows =
 abbrev pub file_to_explore : List Row → Option (List Text)
 file_to_explore rows = option_and_then (λ stuck. asked_explore stuck rows) (flag_of (codes "stuck") rows)
 
+-- What is told of a run's time, by whether --json and --whom are given, and by the two words of --sweep; --whom and --sweep don't go together.
+abbrev pub format_given : (json : Bool) → Format
+format_given json = if json then format.Json else format.Text
+
+abbrev pub times_given : (json whom : Bool) → Times
+times_given json whom = record { format = format_given json; whom = whom }
+
+abbrev pub swept_from : (json : Bool) → (words : List Text) → (file : Text) → Option (List Text)
+swept_from json (queue ∷ word ∷ []) file =
+    option_map (λ limits. codes "times" ∷ sweep_arguments (format_given json) queue limits file) (limits_in word)
+swept_from json words file = None
+
+abbrev pub times_from : (json whom : Bool) → (words : Option (List Text)) → (file : Text) → Option (List Text)
+times_from json whom None file = Some (codes "times" ∷ times_arguments (times_given json whom) file)
+times_from json false (Some words) file = swept_from json words file
+times_from json true (Some words) file = None
+
+abbrev pub asked_times : (json whom : Bool) → List Row → Option (List Text)
+asked_times json whom rows = option_and_then (λ file. times_from json whom (all_of (codes "SWEEP") rows) file) (first_of (codes "FILE") rows)
+
+abbrev pub file_to_time : List Row → Option (List Text)
+file_to_time rows =
+    option_and_then (λ json. option_and_then (λ whom. asked_times json whom rows) (flag_of (codes "whom") rows)) (flag_of (codes "json") rows)
+
+-- What a run is traced as, by whether --json, --lines and --text are given, and by the word of --dat: one of them has to be.
+abbrev pub if_given : Bool → TraceForm → List TraceForm
+if_given given form = if given then form ∷ [] else []
+
+abbrev pub forms_given : (json lines text : Bool) → List TraceForm
+forms_given json lines text = if_given json Json ++ (if_given lines Lines ++ if_given text AsText)
+
+abbrev pub only_form : List TraceForm → Option TraceForm
+only_form (form ∷ []) = Some form
+only_form forms = None
+
+abbrev pub form_given : (json lines text : Bool) → Option TraceForm
+form_given json lines text = only_form (forms_given json lines text)
+
+abbrev pub traced_from : (json lines text : Bool) → (out : Option Text) → (file : Text) → Option (List Text)
+traced_from json lines text None file = option_map (λ form. codes "trace" ∷ trace_arguments form file) (form_given json lines text)
+traced_from false false false (Some out) file = Some (codes "trace" ∷ data_arguments file out)
+traced_from json lines text (Some out) file = None
+
+abbrev pub asked_trace : (json lines text : Bool) → List Row → Option (List Text)
+asked_trace json lines text rows =
+    option_and_then (λ file. traced_from json lines text (first_of (codes "OUT") rows) file) (first_of (codes "FILE") rows)
+
+abbrev pub file_to_trace : List Row → Option (List Text)
+file_to_trace rows =
+    option_and_then
+    (λ json. option_and_then (λ lines. option_and_then (λ text. asked_trace json lines text rows) (flag_of (codes "text") rows)) (flag_of (codes "lines") rows))
+    (flag_of (codes "json") rows)
+
 -- those of the commands that look into a run
 abbrev pub asked_of_run : Text × List Row → Option (List Text)
 asked_of_run met =
     if bytes_eq met.0 (codes "debug") then file_to_debug met.1
     else if bytes_eq met.0 (codes "draw") then file_to_draw met.1
     else if bytes_eq met.0 (codes "why") then file_to_ask met.1
+    else if bytes_eq met.0 (codes "times") then file_to_time met.1
+    else if bytes_eq met.0 (codes "trace") then file_to_trace met.1
     else if bytes_eq met.0 (codes "play") then file_and_capacity met.1
     else if bytes_eq met.0 (codes "check") then all_values (codes "check") (codes "FILE") met.1
     else if bytes_eq met.0 (codes "explore") then file_to_explore met.1
@@ -480,10 +561,11 @@ abbrev pub HasCapacity : List Text → Type 0
 HasCapacity (command ∷ file ∷ option ∷ n ∷ []) = IsCapacityOf (bytes_eq command (codes "play")) n
 HasCapacity words = Unit {0}
 
--- what is asked for has such a capacity, and looks at so many states, if it has them
+-- what is asked for has such a capacity, looks at so many states, or takes such values of a queue's max, if it has them
 abbrev pub IsWithin : Request → Type 0
 IsWithin (Play file capacity) = IsCapacity capacity
 IsWithin (Explore file exploration) = IsStateLimit exploration.limit
+IsWithin (Sweep file sweep) = are_limits sweep.limits.low sweep.limits.high ≡ true
 IsWithin request = Unit {0}
 
 -- the request, which is there, has these words
@@ -495,7 +577,8 @@ abbrev pub IsRead : List Text → List Text → Type 0
 IsRead words asked = (takes command_line words ≡ true) × (asked_of (subcommand_of command_line words) ≡ Some asked) × HasCapacity asked
 
 -- What clap met asks for nothing: it is `why`, and with its values no question; a picture whose first time is behind its last; a debugger
--- whose scenario and commands would both come from standard input; or `explore`, and with its values nothing that can be asked of all orders.
+-- whose scenario and commands would both come from standard input; `explore`, and with its values nothing that can be asked of all orders;
+-- `times` of values that no max may have, or with whom works waited for in each of their runs; or a trace of no form, or of two.
 abbrev pub IsNoQuestion : List Row → Type 0
 IsNoQuestion rows =
     (every settle : Bool) × (flag_of (codes "every") rows ≡ Some every) × (flag_of (codes "settle") rows ≡ Some settle) × (asked_why every settle rows ≡ None)
@@ -508,11 +591,22 @@ IsBackwards rows =
 abbrev pub IsNoExploration : List Row → Type 0
 IsNoExploration rows = (stuck : Bool) × (flag_of (codes "stuck") rows ≡ Some stuck) × (asked_explore stuck rows ≡ None)
 
+abbrev pub IsNoTimes : List Row → Type 0
+IsNoTimes rows =
+    (json whom : Bool) × (flag_of (codes "json") rows ≡ Some json) × (flag_of (codes "whom") rows ≡ Some whom) × (asked_times json whom rows ≡ None)
+
+abbrev pub IsNoTrace : List Row → Type 0
+IsNoTrace rows =
+    (json lines text : Bool) × (flag_of (codes "json") rows ≡ Some json) × (flag_of (codes "lines") rows ≡ Some lines) × (flag_of (codes "text") rows ≡ Some text)
+    × (asked_trace json lines text rows ≡ None)
+
 abbrev pub AsksNothing : Text × List Row → Type 0
 AsksNothing met =
     ((met.0 ≡ codes "why") × IsNoQuestion met.1)
     ⊎ (((met.0 ≡ codes "draw") × IsBackwards met.1)
-    ⊎ (((met.0 ≡ codes "debug") × (first_of (codes "FILE") met.1 ≡ Some (codes "-"))) ⊎ ((met.0 ≡ codes "explore") × IsNoExploration met.1)))
+    ⊎ (((met.0 ≡ codes "debug") × (first_of (codes "FILE") met.1 ≡ Some (codes "-")))
+    ⊎ (((met.0 ≡ codes "explore") × IsNoExploration met.1)
+    ⊎ (((met.0 ≡ codes "trace") × IsNoTrace met.1) ⊎ ((met.0 ≡ codes "times") × IsNoTimes met.1)))))
 
 -- clap takes the words, and what it meets asks for nothing
 abbrev pub IsMisuse : List Text → Type 0
@@ -630,6 +724,12 @@ pub data IsAskedBy : (given asked : List Text) → Type 0 where
       → IsAskedBy (codes "why" ∷ file ∷ work ∷ look_words looks) (codes "why" ∷ work_arguments false looks file work)
   why_flush_first : (looks : Looks) (flush : ℕ) (file : Text) → IsFileWord file → IsShortNumber flush → HasShortNumber looks
       → IsAskedBy (codes "why" ∷ file ∷ codes "--flush" ∷ decimal flush ∷ look_words looks) (codes "why" ∷ flush_arguments false looks flush file)
+  times : (asked : Times) (file : Text) → IsFileWord file → IsAskedBy (codes "times" ∷ times_arguments asked file) (codes "times" ∷ times_arguments asked file)
+  sweep : (format : Format) (queue : Text) (limits : LimitRange) (file : Text) → IsPlainWord queue → are_limits limits.low limits.high ≡ true → IsFileWord file
+      → IsAskedBy (codes "times" ∷ sweep_arguments format queue limits file) (codes "times" ∷ sweep_arguments format queue limits file)
+  trace_data : (file out : Text) → IsFileWord file → IsPlainWord out
+      → IsAskedBy (codes "trace" ∷ data_arguments file out) (codes "trace" ∷ data_arguments file out)
+  trace : (form : TraceForm) (file : Text) → IsFileWord file → IsAskedBy (codes "trace" ∷ trace_arguments form file) (codes "trace" ∷ trace_arguments form file)
   play : (file : Text) (capacity : ℕ) → IsFileWord file → IsCapacity capacity
       → IsAskedBy (codes "play" ∷ file ∷ codes "--capacity" ∷ decimal capacity ∷ []) (codes "play" ∷ file ∷ codes "--capacity" ∷ decimal capacity ∷ [])
   explore : (asked : ExplorationWords) (file : Text) → IsFileWord file → CanBeAsked asked
@@ -663,6 +763,17 @@ pub data IsMisusedBy : (given : List Text) → Type 0 where
   -- so many states can't be looked at
   explore_no_limit : (never : Forbidden) (number file : Text) → IsPlainWord file → HasPlainNames never → IsValueWord number → limit_from (Some number) ≡ None
       → IsMisusedBy (codes "explore" ∷ file ∷ (never_words never ++ (codes "--limit" ∷ number ∷ [])))
+  -- a trace has one form
+  traced_as_nothing : (file : Text) → IsPlainWord file → IsMisusedBy (codes "trace" ∷ file ∷ [])
+  traced_as_both : (file : Text) → IsPlainWord file → IsMisusedBy (codes "trace" ∷ codes "--json" ∷ codes "--lines" ∷ file ∷ [])
+  traced_as_both_kinds : (form : TraceForm) (file out : Text) → IsPlainWord file → IsPlainWord out
+      → IsMisusedBy (codes "trace" ∷ codes "--dat" ∷ out ∷ trace_arguments form file)
+  -- no max may have these values
+  swept_over_no_limits : (queue word file : Text) → IsPlainWord file → IsPlainWord queue → IsValueWord word → limits_in word ≡ None
+      → IsMisusedBy (codes "times" ∷ file ∷ codes "--sweep" ∷ queue ∷ word ∷ [])
+  -- it isn't told for whom works wait where runs are swept over
+  swept_with_whom : (queue word file : Text) → IsPlainWord file → IsPlainWord queue → IsValueWord word
+      → IsMisusedBy (codes "times" ∷ codes "--whom" ∷ file ∷ codes "--sweep" ∷ queue ∷ word ∷ [])
   -- the commands of a debugger come from standard input
   debug_of_input : IsMisusedBy (codes "debug" ∷ codes "-" ∷ [])
 

@@ -1,14 +1,16 @@
 //! What the words of `why` ask for.
 
 ghost use Rattle.clap.specs.Words.{Text, first_of, found_of, rows_of};
-ghost use Rattle.cmwq_tasks.specs.declared.question.Looks.{Looks};
-ghost use Rattle.cmwq_request.specs.Request.{IsNoQuestion, IsWithin, asked_why, flag_of, looks_in, plain_number, question_arguments, question_words, request_words};
+ghost use Rattle.cmwq_question.specs.declared.question.Looks.{Looks};
+ghost use Rattle.cmwq_request.specs.Numbers.{plain_number};
+ghost use Rattle.cmwq_request.specs.Request.{IsNoQuestion, IsWithin, asked_why, flag_of, looks_in, question_arguments, question_words, request_words};
 ghost use Rattle.std.specs.Prelude.{◌≡◌, Bool, IfSome, None, Some, codes, option_map};
 
 use crate::draw_options::flag_of;
 use crate::request::{Request, on_file, value_of};
 use clap::ArgMatches;
-use cmwq_tasks::{Inquiry, Looks, Question, Task};
+use cmwq_question::{Inquiry, Looks, Question};
+use cmwq_tasks::Task;
 
 /// What `why` asks for; nothing where not just one of a work and a flush is given, where two options for positions are,
 /// or where a number hasn't 1 to 10 digits.

@@ -1,14 +1,15 @@
 //! What the words of `draw` ask for.
 
 ghost use Rattle.clap.specs.Words.{Text, first_of, found_of, one_of, rows_of};
-ghost use Rattle.cmwq_tasks.specs.declared.drawing.Span.{Span};
+ghost use Rattle.cmwq_drawing.specs.declared.drawing.Span.{Span};
 ghost use Rattle.cmwq_request.specs.Request.{DrawingWords, IsBackwards, IsWithin, drawing_asked, drawing_words, file_to_draw, flag_in, flag_of, form_words, is_ahead, is_in_id, is_letter, is_picture_name, is_scale, is_styled, number_if_any, number_in, request_words, span_asked};
 ghost use Rattle.std.specs.List.{list_all};
 ghost use Rattle.std.specs.Prelude.{◌≡◌, ℕ, Bool, IfSome, List, None, Option, Some, codes, option_map, true};
 
 use crate::request::{Request, on_file, value_of};
 use clap::ArgMatches;
-use cmwq_tasks::{Drawing, Form, Span, Style, Task};
+use cmwq_drawing::{Drawing, Form, Span, Style};
+use cmwq_tasks::Task;
 
 /// What `draw` asks for; nothing where a time or a scale isn't a number or out of its limits, the first time is behind the last, the
 /// picture's name isn't one, or it has a scale or a name and is no SVG picture.

@@ -4,4 +4,5 @@
 pub mod asking;
 pub mod draw_options;
 pub mod exploring;
+pub mod reporting;
 pub mod request;

@@ -10,10 +10,12 @@ ghost use Rattle.std.specs.Prelude.{◌≡◌, ◌↔◌, ℕ, List, [], ◌∷�
 use crate::asking::{wanted_by_why, why_request};
 use crate::draw_options::{draw_request, flag_of, wanted_by_draw};
 use crate::exploring::{explore_request, ring_told, wanted_by_explore};
+use crate::reporting::{times_request, trace_request, wanted_by_times};
 use clap::error::ErrorKind;
 use clap::{ArgMatches, Command, Error};
 use cmwq_command_line::commands::command_line;
 use cmwq_exploration::{Exploration, MAX_STATES};
+use cmwq_reports::Sweep;
 use cmwq_tasks::{RunKind, Task};
 use cmwq_types::MAX_LINES;
 use std::alloc::{AllocError, Global};
@@ -35,6 +37,20 @@ pub enum Request<'a> {
         file: &'a str,
         /// What is done with it.
         task: Task<'a>,
+    },
+    /// Tell what the run of the scenario whose text is in this file comes to, for each of several values of a queue's `max_active`.
+    Sweep {
+        /// The text's path.
+        file: &'a str,
+        /// The queue, its values, and how it is told.
+        sweep: Sweep<'a>,
+    },
+    /// Make a `trace.dat` of the run of the scenario whose text is in a file.
+    TraceData {
+        /// The text's path.
+        file: &'a str,
+        /// The new file's path.
+        out: &'a str,
     },
     /// Make an image of the scenario whose text is in a file.
     Asm {
@@ -81,8 +97,9 @@ pub enum Request<'a> {
 /// Each command's words ask for it, where no FILE, OUT, IMAGE, WORK or ACTOR is empty or begins with a hyphen, but for a FILE or IMAGE that is `-`;
 /// the call then fails only for want of memory. It is a usage fault where `why` is asked of neither or of both of a work and
 /// a flush, at positions of two kinds, or with a number that hasn't 1 to 10 digits; where `draw` is to begin behind its end; where
-/// `debug` is to read the scenario from `-`; and where `explore` isn't told one thing that never may be, its `--before` goes in a ring, or its
-/// `--limit` isn't from 1 to [`MAX_STATES`].
+/// `debug` is to read the scenario from `-`; where `explore` isn't told one thing that never may be, its `--before` goes in a ring, or its
+/// `--limit` isn't from 1 to [`MAX_STATES`]; where `--sweep` has values that no `max_active` may have, or more than 64 of them, or stands
+/// beside `--whom`; and where `trace` is told no form, or two.
 pub fn parse<'a>(alloc: Global, words: &'a [String]) -> Result<Request<'a>, Error>
     ensures asks { (name : Text) (given asked : List Text) → map string_bytes words.entry.now ≡ name ∷ given → IsAskedBy given asked → Asks asked result }
     ensures misuse { (name : Text) (given : List Text) → map string_bytes words.entry.now ≡ name ∷ given → IsMisusedBy given → IsUsageFault result }
@@ -152,6 +169,8 @@ fn wanted_words(matches: &ArgMatches<'_>) -> &'static str {
         Some(("draw", given)) => wanted_by_draw(given),
         Some(("why", given)) => wanted_by_why(given),
         Some(("explore", given)) => wanted_by_explore(given),
+        Some(("times", given)) => wanted_by_times(given),
+        Some(("trace", _)) => "trace takes one of --json, --lines, --text and --dat",
         Some(("debug", _)) => "debug reads its commands from standard input, so FILE can't be -",
         _ => "--capacity takes a number from 1 to 4096",
     }
@@ -258,6 +277,8 @@ fn request_on_run<'a>(name: &str, given: &ArgMatches<'a>) -> Option<Request<'a>>
         "debug" => debug_request(given),
         "draw" => draw_request(given),
         "why" => why_request(given),
+        "times" => times_request(given),
+        "trace" => trace_request(given),
         "play" => play_request(given),
         _ => None,
     }

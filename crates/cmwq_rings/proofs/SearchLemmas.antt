@@ -1,5 +1,5 @@
 -- The search for a ring through an actor.
-use Rattle.std.proofs.Common.{ap, sym, subst, refl, inl, inr, arith, ◌≡◌, ◌≢◌, ◌∙◌, ◌⊎◌, ◌<◌, ◌≤◌, ◌+◌, ℕ, zero, suc, List, [], ◌∷◌, ◌++◌, Bool, true, false, ◌&&◌, ◌||◌, Option, None, Some, bytes_eq, get_or, length, take, drop}
+use Rattle.std.proofs.Common.{ap, sym, subst, refl, inl, inr, arith, ◌≡◌, ◌≢◌, ◌∙◌, ◌⊎◌, ◌<◌, ◌≤◌, ◌+◌, ℕ, zero, suc, List, [], ◌∷◌, ◌++◌, true, false, Option, None, Some, bytes_eq, get_or, length, take}
 use Rattle.std.specs.List.{Contains, remove}
 use Rattle.std.proofs.lemmas.Bool.{and_left, cases_eq, false_from_ne_true, false≢true, or_cases, or_from, or_left, or_right}
 use Rattle.std.proofs.lemmas.List.{take_all, take_more}

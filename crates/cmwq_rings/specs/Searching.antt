@@ -1,5 +1,5 @@
 -- What a search for rings comes to on its way.
-use Rattle.std.specs.Prelude.{◌≡◌, List, [], ◌∷◌, true, false, ◌⊎◌}
+use Rattle.std.specs.Prelude.{◌≡◌, List, ◌∷◌, true, false, ◌⊎◌}
 use Rattle.std.specs.Prelude.{ℕ, ◌<◌, ◌≢◌}
 use Rattle.std.specs.List.{slice_index_or}
 use Rattle.cmwq_exploration.specs.declared.exploration.Precedence.{Precedence}

@@ -8,6 +8,13 @@ pub fn two_wait_for_each_other()
     ensures told { goes_in_ring ((codes "a", codes "b") ∷ (codes "b", codes "a") ∷ []) ≡ true }
 {}
 
+/// `--before a b --before b c --before c a` goes in the ring a, b, c, a, and in none the other way round.
+pub fn three_wait_in_a_circle()
+    ensures ring { IsRing ((codes "a", codes "b") ∷ (codes "b", codes "c") ∷ (codes "c", codes "a") ∷ []) (codes "a" ∷ codes "b" ∷ codes "c" ∷ []) }
+    ensures one_way { IsRing ((codes "a", codes "b") ∷ (codes "b", codes "c") ∷ (codes "c", codes "a") ∷ []) (codes "c" ∷ codes "b" ∷ codes "a" ∷ []) → ⊥ }
+    ensures told { goes_in_ring ((codes "a", codes "b") ∷ (codes "b", codes "c") ∷ (codes "c", codes "a") ∷ []) ≡ true }
+{}
+
 /// `--before a a` is one already.
 pub fn a_pair_of_one_is_a_ring()
     ensures ring { IsRing ((codes "a", codes "a") ∷ []) (codes "a" ∷ []) }

@@ -1,10 +1,6 @@
-//! What is asked of a scenario: what is done with it, what is drawn of its run, and what is told of it. Types alone.
+//! What is done with an input. Types alone.
 #![tactic(auto)]
 
-mod drawing;
-mod question;
 mod task;
 
-pub use drawing::{Drawing, Form, Span, Style};
-pub use question::{Inquiry, Looks, Question};
 pub use task::{RunKind, Task};

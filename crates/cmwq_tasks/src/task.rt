@@ -1,7 +1,8 @@
 //! What is done with one input.
 
-use crate::drawing::Drawing;
-use crate::question::Inquiry;
+use cmwq_drawing::Drawing;
+use cmwq_question::Inquiry;
+use cmwq_reports::{Times, TraceForm};
 
 /// How a scenario is run.
 #[derive(Clone, Copy, Debug, PartialEq, Eq)]
@@ -31,4 +32,8 @@ pub enum Task<'a> {
     Draw(Drawing<'a>),
     /// The question to the scenario's run is answered.
     Why(Inquiry<'a>),
+    /// It is told where the time of the scenario's run went.
+    Times(Times),
+    /// The scenario's run is written for tools that show traces.
+    Trace(TraceForm),
 }

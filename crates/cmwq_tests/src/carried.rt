@@ -3,12 +3,13 @@ ghost use Rattle.std.specs.Prelude.{◌≡◌, false};
 
 use cmwq_debug_session::{Manner, debug};
 use cmwq_draw::draw;
+use cmwq_drawing::{Drawing, Form, Span, Style};
 use cmwq_explain::why;
 use cmwq_machine_tests::examples::MAX_ACTIVE_3;
 use cmwq_machine_tests::streams::{Input, Output, reading_of};
 use cmwq_play::{Marked, PlayError, from_image, list_text, read_text, run, to_image};
+use cmwq_question::{Inquiry, Looks, Question};
 use cmwq_settle::{run_settled, settle_text};
-use cmwq_tasks::{Drawing, Form, Inquiry, Looks, Question, Span, Style};
 use cmwq_tell::run_told;
 use std::alloc::Global;
 

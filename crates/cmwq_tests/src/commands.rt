@@ -11,7 +11,7 @@ use cmwq_machine_tests::examples::{
 };
 use cmwq_machine_tests::streams::{Failure, Input, Output, reading_of, writing_to};
 use cmwq_play::{Marked, PlayError, read_text};
-use cmwq_tasks::{Inquiry, Looks, Question};
+use cmwq_question::{Inquiry, Looks, Question};
 use cmwq_types::Fault;
 use std::alloc::Global;
 use std::process::Abort;

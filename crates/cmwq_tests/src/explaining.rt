@@ -8,7 +8,7 @@ use cmwq_asm::AsmError;
 use cmwq_grammar::Why;
 use cmwq_machine_tests::streams::{reading_of, writing_to};
 use cmwq_play::PlayError;
-use cmwq_tasks::{Looks, Question};
+use cmwq_question::{Looks, Question};
 use cmwq_types::Fault;
 use std::alloc::Global;
 use std::process::Abort;

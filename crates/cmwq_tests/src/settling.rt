@@ -5,7 +5,7 @@ use crate::commands::{check_refused, check_written};
 use cmwq_machine_tests::examples::MAX_ACTIVE_3;
 use cmwq_machine_tests::streams::{reading_of, writing_to};
 use cmwq_play::PlayError;
-use cmwq_tasks::{Looks, Question};
+use cmwq_question::{Looks, Question};
 use std::alloc::Global;
 use std::process::Abort;
 

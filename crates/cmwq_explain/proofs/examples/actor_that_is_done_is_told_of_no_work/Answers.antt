@@ -6,7 +6,7 @@ use Rattle.cmwq_types.specs.Contents.{ScenarioContents}
 use Rattle.cmwq_table.specs.State.{State}
 use Rattle.cmwq_table.specs.Table.{table}
 use Rattle.cmwq_debug_lines.specs.Orders.{work_named}
-use Rattle.cmwq_tasks.specs.declared.question.Looks.TheVariants.{Settled}
+use Rattle.cmwq_question.specs.declared.question.Looks.TheVariants.{Settled}
 use Rattle.cmwq_explain.specs.Changes.{changes_text}
 use Rattle.cmwq_explain.specs.Examples.{to_the_end, two_works}
 use Rattle.cmwq_explain.specs.Explained.{is_work_unfinished, line_of_work, with_stop}

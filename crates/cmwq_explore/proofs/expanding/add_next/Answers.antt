@@ -3,7 +3,7 @@ use Rattle.cmwq_explore.proofs.SearchLemmas.{added_failing, added_going, extends
 use Rattle.cmwq_explore.proofs.WaitingLemmas.{added_waiting}
 use Rattle.cmwq_explore.specs.Plans.{PlanContents}
 use Rattle.cmwq_explore.specs.Searching.{knows}
-use Rattle.cmwq_explore.specs.Stored.{stored_of}
+use Rattle.cmwq_stored.specs.Stored.{stored_of}
 use Rattle.cmwq_explore.proofs.expanding.add_next.Goals as goal
 
 pub returns-then-knows-clause-progress : goal.returns-then-knows-clause-progress

@@ -1,6 +1,6 @@
 use Rattle.std.proofs.Common.{◌≡◌, None, Option, Some, ap, codes, option_map, rules, sym, ◌∙◌}
 use Rattle.clap.specs.Words.{first_of, found_of, rows_of}
-use Rattle.cmwq_tasks.specs.declared.question.Question.{Question}
+use Rattle.cmwq_question.specs.declared.question.Question.{Question}
 use Rattle.cmwq_request.specs.Request.{looks_in, question_arguments, request_words}
 use Rattle.cmwq_request.specs.declared.request.Request.{Request}
 use Rattle.cmwq_request.proofs.WhyLemmas.{no_question_met, nothing_of, why_met}

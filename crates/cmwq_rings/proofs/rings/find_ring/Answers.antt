@@ -1,4 +1,4 @@
-use Rattle.std.proofs.Common.{rules, sym, true, ◌≡◌, ◌∙◌}
+use Rattle.std.proofs.Common.{rules, sym}
 use Rattle.cmwq_rings.specs.Rings.{names_of, pairs_of}
 use Rattle.cmwq_rings.proofs.RingLemmas.{none_goes}
 use Rattle.cmwq_rings.proofs.SearchLemmas.{none_at_all, none_here, none_through, told_so}

@@ -1,6 +1,6 @@
-use Rattle.std.proofs.Common.{rules, ap, sym, refl, ◌≡◌, ◌∙◌, List, [], ◌∷◌}
+use Rattle.std.proofs.Common.{rules, ap}
 use Rattle.cmwq_rings.specs.Rings.{names_of, pairs_of}
-use Rattle.cmwq_rings.proofs.SearchLemmas.{back_so, found_so, names_more, none_so, on_so, start_so}
+use Rattle.cmwq_rings.proofs.SearchLemmas.{back_so, found_so, names_more, none_so, on_so}
 use Rattle.cmwq_rings.proofs.rings.ring_through.Goals as goal
 
 pub returns-then-eq : goal.returns-then-eq

@@ -1,4 +1,4 @@
-use Rattle.std.proofs.Common.{ℕ, ◌+◌, ◌*◌, vec_len}
+use Rattle.std.proofs.Common.{◌+◌, ◌*◌, vec_len}
 use Rattle.cmwq_rings.specs.Rings.{names_of, pairs_of}
 use Rattle.cmwq_rings.proofs.SearchLemmas.{IsSearched}
 use Rattle.cmwq_rings.proofs.rings.ring_through.Given as goal

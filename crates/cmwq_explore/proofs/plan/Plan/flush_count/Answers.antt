@@ -1,4 +1,4 @@
-use Rattle.std.proofs.Common.{◌≡◌, ◌+◌, ◌∙◌, ℕ, arith, ap, sym, length, take}
+use Rattle.std.proofs.Common.{◌≡◌, ◌+◌, ◌∙◌, arith, ap, sym, take}
 use Rattle.cmwq_explore.specs.Plans.{PlanContents, flush_count}
 use Rattle.cmwq_explore.proofs.PlanLemmas.{flush_step}
 use Rattle.cmwq_explore.proofs.plan.Plan.flush_count.Goals as goal

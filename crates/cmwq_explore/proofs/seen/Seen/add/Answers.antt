@@ -1,7 +1,7 @@
-use Rattle.std.proofs.Common.{List, ap, sym, ◌++◌, ◌∷◌, [], ◌∙◌}
+use Rattle.std.proofs.Common.{ap, sym, ◌++◌, ◌∷◌, [], ◌∙◌}
 use Rattle.cmwq_explore.proofs.SeenLemmas.{added_last}
-use Rattle.cmwq_explore.specs.Searching.{Entry, knows}
-use Rattle.cmwq_explore.specs.Stored.{StoredContents}
+use Rattle.cmwq_explore.specs.Searching.{knows}
+use Rattle.cmwq_stored.specs.Stored.{StoredContents}
 use Rattle.cmwq_explore.proofs.seen.Seen.add.Goals as goal
 
 pub returns-clause-added : goal.returns-clause-added

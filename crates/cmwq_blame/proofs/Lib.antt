@@ -1,0 +1,4 @@
+pub mod BlamedLemmas
+pub mod BoundLemmas
+pub mod CountingLemmas
+pub mod PassingLemmas

@@ -1,0 +1,3 @@
+pub mod Blame
+pub mod Bounds
+pub mod Table

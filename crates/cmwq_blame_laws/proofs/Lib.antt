@@ -1,0 +1,4 @@
+pub mod Conclusions
+pub mod Growing
+pub mod Nobody
+pub mod Places

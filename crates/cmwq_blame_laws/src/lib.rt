@@ -1,0 +1,5 @@
+//! What may be believed of for whom works waited.
+#![tactic(auto)]
+
+pub mod laws;
+pub mod premises;

@@ -1,0 +1,2 @@
+pub mod DataTrace
+pub mod Recording

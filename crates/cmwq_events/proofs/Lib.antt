@@ -1,0 +1,4 @@
+pub mod CallerLemmas
+mod FollowLemmas
+mod NameLemmas
+mod RunningLemmas

@@ -1,0 +1,12 @@
+mod AloneLemmas
+mod CountLemmas
+mod ExecutionLemmas
+mod MarkLemmas
+mod OverlapLemmas
+mod QueuedLemmas
+mod StampLemmas
+mod StartLemmas
+mod TaskLemmas
+mod TimeLemmas
+mod TurnLemmas
+mod WeighLemmas

@@ -1,0 +1,5 @@
+//! What may be believed of where the time of works went.
+#![tactic(auto)]
+
+pub mod laws;
+pub mod premises;

@@ -1,0 +1,3 @@
+pub mod Executions
+pub mod Heads
+pub mod Slices

@@ -1,0 +1,3 @@
+pub mod BurnLemmas
+pub mod LengthLemmas
+pub mod OverlapLemmas

@@ -1,0 +1,3 @@
+pub mod ExactStored
+pub mod Packed
+pub mod Stored

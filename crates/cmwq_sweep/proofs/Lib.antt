@@ -1,0 +1,3 @@
+pub mod SweepLemmas
+pub mod TrialLemmas
+pub mod VariedLemmas

@@ -1,0 +1,6 @@
+pub mod Errors
+pub mod Examples
+pub mod Sweeping
+pub mod Swept
+pub mod Trials
+pub mod Varied

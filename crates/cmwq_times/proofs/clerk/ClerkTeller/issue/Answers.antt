@@ -1,0 +1,37 @@
+use Rattle.std.proofs.Common.{◌≡◌, ◌*◌, Option, ap, subst, sym, ◌∙◌}
+use Rattle.cmwq_types.specs.Contents.{ScenarioContents}
+use Rattle.cmwq_table.specs.State.{State}
+use Rattle.cmwq_table.specs.Table.{table}
+use Rattle.cmwq_types.specs.declared.reply.Reply.{Reply}
+use Rattle.cmwq_blame.specs.Blame.{BlameContents}
+use Rattle.cmwq_ledger.specs.Books.{BooksContents, books_after}
+use Rattle.cmwq_ledger.specs.Bounds.{AreBooksWithin}
+use Rattle.cmwq_ledger.proofs.RoomLemmas.{books-within}
+use Rattle.cmwq_times.proofs.ClerkLemmas.{kept-within, on-ok}
+use Rattle.cmwq_times.specs.Clerking.{IsBlameIfWithin, blame_kept}
+use Rattle.cmwq_times.proofs.clerk.ClerkTeller.issue.Goals as goal
+
+pub returns-clause-fits : goal.returns-clause-fits
+returns-clause-fits g c =
+    let a = c.args.session.now in
+    let s = g.M.Reads.state a.machine in
+    let t = g.M.Reads.state c.exec-reply.new.self in
+    let S = g.M.Reads.loaded a.machine in
+    let i = c.args.instr in
+    let B = c.args.self.now.books in
+    let exact : (t, c.exec-reply.result) ≡ table S s i = c.exec-reply.ensures.exact in
+    let here : (t, c.exec-reply.result) ≡ table (g.M.Reads.loaded c.exec-reply.new.self) s i = exact ∙ ap (λ (T : ScenarioContents). table T s i) (sym c.exec-reply.ensures.scenario) in
+    let books : c.record-line.new.self ≡ books_after S B s i =
+    c.record-line.ensures.recorded s c.time-time.ensures here ∙ ap (λ (T : ScenarioContents). books_after T B s i) c.exec-reply.ensures.scenario in
+    let within : AreBooksWithin (512 * (table S s i).0.spent) (books_after S B s i) = books-within S B s i c.scenario-scenario.ensures.setting c.requires.fits.books in
+    let kept = blame_kept S c.args.self.now.blame s i in
+    let counted : c.record_blame.new.blame ≡ kept = c.record_blame.ensures in
+    let blame : IsBlameIfWithin (512 * (table S s i).0.spent) kept = kept-within S c.args.self.now.blame s i c.scenario-scenario.ensures.setting c.requires.fits.blame in
+    on-ok c.write_ended.result (record {
+      books =
+          subst (λ (after : BooksContents). AreBooksWithin (512 * t.spent) after) (sym books)
+          (subst (λ (after : State × Reply). AreBooksWithin (512 * after.0.spent) (books_after S B s i)) (sym exact) within);
+      blame =
+          subst (λ (after : Option BlameContents). IsBlameIfWithin (512 * t.spent) after) (sym counted)
+          (subst (λ (after : State × Reply). IsBlameIfWithin (512 * after.0.spent) kept) (sym exact) blame);
+    })

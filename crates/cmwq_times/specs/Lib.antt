@@ -1,0 +1,5 @@
+pub mod Clerking
+pub mod Examples
+pub mod Sums
+pub mod TimesOfRun
+pub mod TimesText

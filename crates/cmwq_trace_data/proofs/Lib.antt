@@ -1,0 +1,6 @@
+mod FileLemmas
+mod PageLemmas
+mod PageReadingLemmas
+mod ReadingLemmas
+mod SizeLemmas
+mod TaskLemmas

@@ -1,0 +1,4 @@
+mod CountLemmas
+mod DoerLemmas
+mod EventLemmas
+mod RunLemmas
