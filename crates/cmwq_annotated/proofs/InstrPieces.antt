@@ -42,6 +42,9 @@ spelled mnemonic.Disable = literal 13 (codes "disable") refl refl
 spelled mnemonic.Enable = literal 13 (codes "enable") refl refl
 spelled mnemonic.Pressure = literal 13 (codes "pressure") refl refl
 spelled mnemonic.Relief = literal 13 (codes "relief") refl refl
+spelled mnemonic.Until = literal 13 (codes "until") refl refl
+spelled mnemonic.Wait = literal 13 (codes "wait") refl refl
+spelled mnemonic.Quiet = literal 13 (codes "quiet") refl refl
 
 -- a space and a word behind another
 spaced : {a b : ℕ} {xs ys : List ℕ} → Piece a xs → Piece b ys → Piece (a + (1 + b)) (xs ++ 32 ∷ ys)
@@ -75,6 +78,7 @@ module _ (S : ScenarioContents) (works : AllByRecursion IsWorkDecl S.works) (que
       within 90 (spaced (spelled m) (spaced (queue_at_piece S.queues f.id queues) (number f.number (omega (arith, are.1))))) refl
   words m shape.Pool f are = within 90 (spaced (spelled m) (number f.cpu (omega (arith, are)))) refl
   words m shape.Flush f are = within 90 (spaced (spelled m) (number f.id (omega (arith, are)))) refl
+  words m shape.Time f are = within 90 (spaced (spelled m) (number f.number (omega (arith, are)))) refl
 
   -- an instruction as the listing has it
   pub instr_piece : (i : Instr) → IsInstr i → Piece 90 (join_with_byte 32 (instr_words S i))

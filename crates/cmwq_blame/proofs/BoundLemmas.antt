@@ -8,7 +8,7 @@ use Rattle.cmwq_types.specs.declared.instr.Instr.TheVariants as instr
 use Rattle.cmwq_types.specs.declared.reply.Refusal.{Refusal}
 use Rattle.cmwq_table.proofs.CounterLemmas.{effect-spent}
 use Rattle.cmwq_table.specs.State.{State, pending_at, running_at}
-use Rattle.cmwq_table.specs.Table.{answer, effect, is_question, refusal, table}
+use Rattle.cmwq_table.specs.Table.{answer, effect, is_free, refusal, table, is_met, next_unless}
 use Rattle.cmwq_ledger.specs.Ledger.{lets_pass}
 use Rattle.cmwq_blame.specs.Blame.{BlameContents, are_below, blame_after, blame_ticked, no_blame, table_of, waited, work_counts}
 use Rattle.cmwq_blame.specs.Bounds.{IsBlameWithin}
@@ -44,30 +44,37 @@ ticked-within S s n B within w o =
     let few = cond-most (are_below B.works w o) (waited B w o + work_counts S s w o) (n + 2) (omega (arith, here, pending, running)) in
     omega (arith, is, few)
 
-question-stays : (S : ScenarioContents) (s : State) (i : Instr) → is_question i ≡ true → (effect S s i).0.time ≡ s.time
-question-stays S s (instr.Ask flush) e = refl
-question-stays S s instr.Busy e = refl
-question-stays S s (instr.State w) e = refl
-question-stays S s i e = cc
+met-stays : (S : ScenarioContents) (s : State) (met : Bool) → met ≡ true → (next_unless S s met).0.time ≡ s.time
+met-stays S s true e = refl
+met-stays S s false e = cc
+
+free-stays : (S : ScenarioContents) (s : State) (i : Instr) → is_free S s i ≡ true → (effect S s i).0.time ≡ s.time
+free-stays S s (instr.Ask flush) e = refl
+free-stays S s instr.Busy e = refl
+free-stays S s (instr.State w) e = refl
+free-stays S s (instr.Until time) e = met-stays S s (is_met S s (instr.Until time)) e
+free-stays S s (instr.Wait flush) e = met-stays S s (is_met S s (instr.Wait flush)) e
+free-stays S s instr.Quiet e = met-stays S s (is_met S s instr.Quiet) e
+free-stays S s i e = cc
 
 never : (s t : State) → t.time ≡ s.time → lets_pass s t ≡ false
 never s t same = le-ltb s.time t.time (omega (arith, same))
 
 module _ (S : ScenarioContents) (B : BlameContents) (s : State) (i : Instr) (setting : IsSetting S) (within : IsBlameWithin (512 * s.spent) B) where
-  spent-within : (b : Bool) → is_question i ≡ b → (passes : Bool) → lets_pass s (effect S s i).0 ≡ passes
+  spent-within : (b : Bool) → is_free S s i ≡ b → (passes : Bool) → lets_pass s (effect S s i).0 ≡ passes
       → IsBlameWithin (512 * ((effect S s i).0.spent + cond b 0 1)) (cond passes (blame_ticked S s B) B)
   spent-within b is false stays =
       let spent = effect-spent S s i setting in
       up-within (512 * s.spent) (512 * ((effect S s i).0.spent + cond b 0 1)) B (omega (arith, spent)) within
-  spent-within true is true passes = absurd (cc (passes, never s (effect S s i).0 (question-stays S s i is)))
+  spent-within true is true passes = absurd (cc (passes, never s (effect S s i).0 (free-stays S s i is)))
   spent-within false is true passes =
       let spent = effect-spent S s i setting in
       up-within (512 * s.spent + 2) (512 * ((effect S s i).0.spent + 1)) (blame_ticked S s B) (omega (arith, spent)) (ticked-within S s (512 * s.spent) B within)
 
   answer-within : (o : Option Refusal)
-      → IsBlameWithin (512 * (answer s i o (effect S s i)).0.spent) (cond (lets_pass s (answer s i o (effect S s i)).0) (blame_ticked S s B) B)
+      → IsBlameWithin (512 * (answer S s i o (effect S s i)).0.spent) (cond (lets_pass s (answer S s i o (effect S s i)).0) (blame_ticked S s B) B)
   answer-within (Some why) = subst (λ (b : Bool). IsBlameWithin (512 * s.spent) (cond b (blame_ticked S s B) B)) (sym (never s s refl)) within
-  answer-within None = spent-within (is_question i) refl (lets_pass s (effect S s i).0) refl
+  answer-within None = spent-within (is_free S s i) refl (lets_pass s (effect S s i).0) refl
 
   -- what was spent bounds what is counted
   pub after-within : IsBlameWithin (512 * (table S s i).0.spent) (blame_after S B s i)

@@ -1,5 +1,5 @@
 -- In which instructions time passes: in a tick or a next one, where the steps aren't spent and nothing can happen without time.
-use Rattle.std.proofs.Common.{◌≡◌, ℕ, zero, suc, ◌+◌, Bool, true, false, ◌&&◌, Option, Some, None, arith, refl, ap, ◌∙◌}
+use Rattle.std.proofs.Common.{◌≡◌, ℕ, zero, suc, ◌+◌, Bool, true, false, not, ◌&&◌, Option, Some, None, arith, refl, ap, ◌∙◌}
 use Rattle.std.proofs.lemmas.Bool.{le-ltb, lt-ltb}
 use Rattle.std.specs.Prelude.{is_none, nat_lt}
 use Rattle.cmwq_types.specs.Contents.{ScenarioContents}
@@ -14,17 +14,20 @@ use Rattle.cmwq_types.specs.declared.reply.Place.{Place}
 use Rattle.cmwq_types.specs.declared.reply.Place.TheVariants.{Timer, Inactive, Listed, Deferred}
 use Rattle.cmwq_types.specs.declared.reply.Refusal.{Refusal}
 use Rattle.cmwq_types.specs.declared.reply.Refusal.TheVariants.{Spent}
+use Rattle.cmwq_types.specs.declared.reply.Reply.{Reply}
 use Rattle.cmwq_types.specs.declared.reply.Reply.TheVariants as reply
 use Rattle.cmwq_types.specs.declared.scenario.Op.{Op}
 use Rattle.cmwq_types.specs.declared.scenario.Op.TheVariants as op
 use Rattle.cmwq_table.specs.Counts.{first_due, free_worker, or_else}
 use Rattle.cmwq_table.specs.Moves.{advance, carry_out, come_to_end, deferred, finish, fired, fired_to, first_moving, moved, next_move, onward, place_after, queue_from_body, rescued, started, taken_off, tick, with_depth, woken}
 use Rattle.cmwq_table.specs.State.{State, depth_at, is_disabled, pending_at, running_at}
-use Rattle.cmwq_table.specs.Table.{answer, cancelled, delayed, effect, fired_first, modified, next, queued, refusal, refuse_unless, step_or_tick, stepped, table, unsettled}
+use Rattle.cmwq_table.specs.Table.{answer, cancelled, delayed, effect, fired_first, modified, next, queued, refusal, refuse_unless, step_or_tick, stepped, table, unsettled, is_met, next_unless}
 use Rattle.cmwq_table.specs.declared.state.Pending.{Pending}
 use Rattle.cmwq_table.specs.declared.state.Running.{Running}
 use Rattle.cmwq_table.proofs.CounterLemmas.{come_to_end-takes, fill-takes, set_max-takes, taken_off-takes, thaw-takes}
 use Rattle.cmwq_ledger.specs.Ledger.{lets_pass}
+use Rattle.cmwq_table.proofs.GoingLemmas.{table-unmet}
+use Rattle.cmwq_table.specs.Laws.{goes_on}
 use Rattle.cmwq_blame.specs.Table.{can_pass, is_clock}
 
 -- Words of the table that take no time.
@@ -113,7 +116,11 @@ stepped-time : (S : ScenarioContents) (s : State) (pool : ℕ) (o : Option Move)
 stepped-time S s pool (Some move) setting = moved-time S s pool move setting
 stepped-time S s pool None setting = refl
 
-effect-time : (S : ScenarioContents) (s : State) (i : Instr) → IsSetting S → is_clock i ≡ false → (effect S s i).0.time ≡ s.time
+next_unless-time : (S : ScenarioContents) (s : State) (met : Bool) → not met ≡ false → (next_unless S s met).0.time ≡ s.time
+next_unless-time S s true e = refl
+next_unless-time S s false e = cc
+
+effect-time : (S : ScenarioContents) (s : State) (i : Instr) → IsSetting S → is_clock S s i ≡ false → (effect S s i).0.time ≡ s.time
 effect-time S s (instr.Queue w cpu) setting e = queued-time S s w.0 cpu (pending_at s w.0)
 effect-time S s (instr.Delay w cpu ticks) setting e = delayed-time S s w.0 cpu ticks (pending_at s w.0)
 effect-time S s (instr.Mod w cpu ticks) setting e = modified-time S s w.0 cpu ticks (pending_at s w.0) setting
@@ -136,6 +143,9 @@ effect-time S s (instr.Disable w) setting e = cancelled-time S (with_depth s w.0
 effect-time S s (instr.Enable w) setting e = refl
 effect-time S s instr.Pressure setting e = refl
 effect-time S s instr.Relief setting e = refl
+effect-time S s (instr.Until time) setting e = next_unless-time S s (is_met S s (instr.Until time)) e
+effect-time S s (instr.Wait flush) setting e = next_unless-time S s (is_met S s (instr.Wait flush)) e
+effect-time S s instr.Quiet setting e = next_unless-time S s (is_met S s instr.Quiet) e
 
 -- Time passes from s on where the time is one later, and not where it is the same.
 
@@ -145,19 +155,19 @@ same-time s t same = le-ltb s.time t.time (omega (arith, same))
 later-time : (s t : State) → t.time ≡ s.time + 1 → lets_pass s t ≡ true
 later-time s t later = lt-ltb s.time t.time (omega (arith, later))
 
-answer-time : (S : ScenarioContents) (s : State) (i : Instr) (o : Option Refusal) → IsSetting S → is_clock i ≡ false → (answer s i o (effect S s i)).0.time ≡ s.time
+answer-time : (S : ScenarioContents) (s : State) (i : Instr) (o : Option Refusal) → IsSetting S → is_clock S s i ≡ false → (answer S s i o (effect S s i)).0.time ≡ s.time
 answer-time S s i (Some why) setting e = refl
 answer-time S s i None setting e = effect-time S s i setting e
 
 tick-passes : (S : ScenarioContents) (s : State) (more : Bool) (due moving : Option ℕ)
-    → lets_pass s (answer s instr.Tick (or_else (refuse_unless more Spent) (unsettled due moving)) (tick S s, reply.Done)).0 ≡ (more && (is_none due && is_none moving))
+    → lets_pass s (answer S s instr.Tick (or_else (refuse_unless more Spent) (unsettled due moving)) (tick S s, reply.Done)).0 ≡ (more && (is_none due && is_none moving))
 tick-passes S s false due moving = same-time s s refl
 tick-passes S s true (Some w) moving = same-time s s refl
 tick-passes S s true None (Some pool) = same-time s s refl
 tick-passes S s true None None = later-time s (tick S s) refl
 
 next-passes : (S : ScenarioContents) (s : State) (more : Bool) (due moving : Option ℕ) → IsSetting S → first_moving S s ≡ moving
-    → lets_pass s (answer s instr.Next (or_else (refuse_unless more Spent) None) (next S s due)).0 ≡ (more && (is_none due && is_none moving))
+    → lets_pass s (answer S s instr.Next (or_else (refuse_unless more Spent) None) (next S s due)).0 ≡ (more && (is_none due && is_none moving))
 next-passes S s false due moving setting is = same-time s s refl
 next-passes S s true (Some w) moving setting is = same-time s (fired_first S s (Some w)).0 (fired_first-time S s (Some w))
 next-passes S s true None (Some pool) setting is =
@@ -173,11 +183,22 @@ next-lets : (S : ScenarioContents) (s : State) → IsSetting S → lets_pass s (
 unfolding table
 next-lets S s setting = next-passes S s (nat_lt s.spent S.steps) (first_due S s) (first_moving S s) setting refl
 
-pub clock-lets : (S : ScenarioContents) (s : State) (i : Instr) → IsSetting S → is_clock i ≡ true → lets_pass s (table S s i).0 ≡ can_pass S s
+not-true : (b : Bool) → not b ≡ true → b ≡ false
+not-true true e = cc
+not-true false e = refl
+
+going-lets : (S : ScenarioContents) (s : State) (i : Instr) → IsSetting S → goes_on i ≡ true → not (is_met S s i) ≡ true → lets_pass s (table S s i).0 ≡ can_pass S s
+going-lets S s i setting goes e =
+    ap (λ (after : State × Reply). lets_pass s after.0) (table-unmet S s i goes (not-true (is_met S s i) e)) ∙ next-lets S s setting
+
+pub clock-lets : (S : ScenarioContents) (s : State) (i : Instr) → IsSetting S → is_clock S s i ≡ true → lets_pass s (table S s i).0 ≡ can_pass S s
 clock-lets S s instr.Tick setting e = tick-lets S s
 clock-lets S s instr.Next setting e = next-lets S s setting
+clock-lets S s (instr.Until time) setting e = going-lets S s (instr.Until time) setting refl e
+clock-lets S s (instr.Wait flush) setting e = going-lets S s (instr.Wait flush) setting refl e
+clock-lets S s instr.Quiet setting e = going-lets S s instr.Quiet setting refl e
 clock-lets S s i setting e = cc
 
-pub other-lets : (S : ScenarioContents) (s : State) (i : Instr) → IsSetting S → is_clock i ≡ false → lets_pass s (table S s i).0 ≡ false
+pub other-lets : (S : ScenarioContents) (s : State) (i : Instr) → IsSetting S → is_clock S s i ≡ false → lets_pass s (table S s i).0 ≡ false
 unfolding table
-other-lets S s i setting e = same-time s (answer s i (refusal S s i) (effect S s i)).0 (answer-time S s i (refusal S s i) setting e)
+other-lets S s i setting e = same-time s (answer S s i (refusal S s i) (effect S s i)).0 (answer-time S s i (refusal S s i) setting e)

@@ -7,6 +7,7 @@ use Rattle.cmwq_types.specs.declared.instr.Instr.TheVariants as instr
 use Rattle.cmwq_table.specs.Counts.{first_due, is_active, is_rescuer, pends, runs}
 use Rattle.cmwq_table.specs.Moves.{first_moving}
 use Rattle.cmwq_table.specs.State.{State, pending_at, running_at}
+use Rattle.cmwq_table.specs.Table.{is_met}
 use Rattle.cmwq_reasons.specs.declared.reason.Reason.{Reason}
 use Rattle.cmwq_blame.specs.Blame.{are_below, blames, place_of}
 
@@ -59,10 +60,13 @@ is_on_worker S s queue pool v =
 -- When time passes.
 
 -- the instruction may let time pass
-abbrev pub is_clock : Instr → Bool
-is_clock instr.Tick = true
-is_clock instr.Next = true
-is_clock other = false
+abbrev pub is_clock : ScenarioContents → State → Instr → Bool
+is_clock S s instr.Tick = true
+is_clock S s instr.Next = true
+is_clock S s (instr.Until time) = not (is_met S s (instr.Until time))
+is_clock S s (instr.Wait flush) = not (is_met S s (instr.Wait flush))
+is_clock S s instr.Quiet = not (is_met S s instr.Quiet)
+is_clock S s other = false
 
 -- the steps aren't spent, and nothing can happen without time
 abbrev pub can_pass : ScenarioContents → State → Bool

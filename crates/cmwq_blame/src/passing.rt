@@ -4,7 +4,7 @@ ghost use Rattle.cmwq_ledger.specs.Ledger.{lets_pass};
 ghost use Rattle.cmwq_table.specs.Table.{table};
 ghost use Rattle.std.specs.Prelude.{◌≡◌};
 
-use cmwq_reads::is_spent;
+use cmwq_reads::{is_met, is_spent};
 use cmwq_table::Machine;
 use cmwq_types::Instr;
 
@@ -13,14 +13,18 @@ pub(crate) fn lets_pass<M: Machine>(machine: &M, instr: Instr) -> bool
     ensures { result ≡ lets_pass (M.state machine.now) (table (M.loaded machine.now) (M.state machine.now) instr).0 }
 {
     let _scenario = machine.scenario();
-    is_clock(instr) && can_pass(machine)
+    is_clock(machine, instr) && can_pass(machine)
 }
 
 /// Whether the instruction may let time pass.
-fn is_clock(instr: Instr) -> bool
-    ensures { result ≡ is_clock instr }
+fn is_clock<M: Machine>(machine: &M, instr: Instr) -> bool
+    ensures { result ≡ is_clock (M.loaded machine.now) (M.state machine.now) instr }
 {
-    matches!(instr, Instr::Tick | Instr::Next)
+    match instr {
+        Instr::Tick | Instr::Next => true,
+        Instr::Until(_) | Instr::Wait(_) | Instr::Quiet => !is_met(machine, instr),
+        _ => false,
+    }
 }
 
 /// Whether the steps aren't spent, and nothing can happen without time.

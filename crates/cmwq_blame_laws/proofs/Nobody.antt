@@ -56,12 +56,12 @@ can-quiet S s e =
     record { due = none-is (first_due S s) parts.0; moving = none-is (first_moving S s) parts.1 }
 
 pub passes-quiet : (S : ScenarioContents) (s : State) (i : Instr) → IsValid S → s.time < (table S s i).0.time → IsQuiet S s
-passes-quiet S s i valid later = by (is_clock i) refl
+passes-quiet S s i valid later = by (is_clock S s i) refl
   where
     passes : lets_pass s (table S s i).0 ≡ true
     passes = lt-ltb s.time (table S s i).0.time later
 
-    by : (b : Bool) → is_clock i ≡ b → IsQuiet S s
+    by : (b : Bool) → is_clock S s i ≡ b → IsQuiet S s
     by true e = can-quiet S s (sym (clock-lets S s i (IsSetting-valid S valid) e) ∙ passes)
     by false e = absurd (cc (passes, other-lets S s i (IsSetting-valid S valid) e))
 

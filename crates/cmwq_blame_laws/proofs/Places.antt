@@ -28,7 +28,7 @@ use Rattle.cmwq_table.specs.Laws.{placed_in}
 use Rattle.cmwq_table.specs.Moves.{advance, begin_again, carry_out, come_to_end, deferred, enlist, fill, fill_everywhere, fill_freezable, fill_from, fill_one, fill_pools, fill_times, finish, fired, fired_to, first_moving, listed_at, moved, next_move, onward, place, place_after, place_in, pool_for, pool_or, queue_from_body, rescued, retire, started, taken_off, with_depth, with_pending, woken}
 use Rattle.cmwq_table.specs.Ready.{IsPlaceReady}
 use Rattle.cmwq_table.specs.State.{State, depth_at, is_disabled, pending_at, running_at, seat, start}
-use Rattle.cmwq_table.specs.Table.{after_all, answer, cancelled, delayed, effect, fired_first, modified, next, operands, queued, refuse_unless, run, situation, spent_all, step_or_tick, stepped, table}
+use Rattle.cmwq_table.specs.Table.{after_all, answer, cancelled, delayed, effect, fired_first, modified, next, operands, queued, refuse_unless, run, situation, spent_all, step_or_tick, stepped, table, is_met, next_unless}
 use Rattle.cmwq_table.specs.declared.state.Pending.{Pending}
 use Rattle.cmwq_table.specs.declared.state.Running.{Running}
 use Rattle.cmwq_burning.proofs.Telling.{IsInPool, RunInPools, all-in_pools, run-in_pools}
@@ -278,6 +278,10 @@ module _ (S : ScenarioContents) where
       by true e fits = ltb-true pool (pool_count S) e
       by false e fits = cc
 
+    next_unless-ready : (met : Bool) → AreReady S (next_unless S s met).0
+    next_unless-ready true = ready
+    next_unless-ready false = next-ready (first_due S s)
+
     effect-ready : (i : Instr) → operands S s i ≡ None → AreReady S (effect S s i).0
     effect-ready (instr.Queue w cpu) fits = queued-ready w.0 cpu (pending_at s w.0) (cpu-there w cpu fits)
     effect-ready (instr.Delay w cpu ticks) fits = delayed-ready w.0 cpu ticks (pending_at s w.0) (cpu-there w cpu fits)
@@ -301,8 +305,11 @@ module _ (S : ScenarioContents) where
     effect-ready (instr.Enable w) fits = ready
     effect-ready instr.Pressure fits = ready
     effect-ready instr.Relief fits = ready
+    effect-ready (instr.Until time) fits = next_unless-ready (is_met S s (instr.Until time))
+    effect-ready (instr.Wait flush) fits = next_unless-ready (is_met S s (instr.Wait flush))
+    effect-ready instr.Quiet fits = next_unless-ready (is_met S s instr.Quiet)
 
-    answer-ready : (i : Instr) (a b : Option Refusal) → operands S s i ≡ a → AreReady S (answer s i (or_else a b) (effect S s i)).0
+    answer-ready : (i : Instr) (a b : Option Refusal) → operands S s i ≡ a → AreReady S (answer S s i (or_else a b) (effect S s i)).0
     answer-ready i (Some why) b fits = ready
     answer-ready i None (Some why) fits = ready
     answer-ready i None None fits = effect-ready i fits

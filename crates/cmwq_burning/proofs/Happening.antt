@@ -23,7 +23,7 @@ use Rattle.cmwq_table.specs.Counts.{burns, first_due, free_worker, is_deferred, 
 use Rattle.cmwq_table.specs.Counts as counts
 use Rattle.cmwq_table.specs.Moves.{advance, become_idle, begin_again, begun, carry_out, come_to_end, deferred, fill, finish, fire, first_moving, next_move, onward, place_after, queue_from_body, rescued, retire, set_max, started, take_off, taken_off, thaw, tick, with_depth, with_running, woken}
 use Rattle.cmwq_table.specs.State.{State, depth_at, is_disabled, pending_at, running_at}
-use Rattle.cmwq_table.specs.Table.{answer, cancelled, delayed, effect, fired_first, modified, next, operands, queued, refuse_unless, situation, spent_all, step_or_tick, stepped, table, target_at, unsettled, yes_or_no}
+use Rattle.cmwq_table.specs.Table.{answer, cancelled, delayed, effect, fired_first, modified, next, operands, queued, refuse_unless, situation, spent_all, step_or_tick, stepped, table, target_at, unsettled, yes_or_no, is_met, next_unless}
 use Rattle.cmwq_table.specs.declared.state.Pending.{Pending}
 use Rattle.cmwq_table.specs.declared.state.Running.{Running}
 use Rattle.cmwq_burning.specs.Burning.{burn_of, burns_before, finishes_work, is_end, is_start, starts_work}
@@ -260,6 +260,10 @@ settled-if (Some w) moving e = cc
 settled-if None (Some pool) e = cc
 settled-if None None e = refl
 
+next_unless-does : (S : ScenarioContents) (s : State) (met : Bool) → Does S s (next_unless S s met)
+next_unless-does S s true = Happens.nothing refl refl (λ v. (refl, refl))
+next_unless-does S s false = next-does S s (first_due S s)
+
 effect-does : (S : ScenarioContents) (s : State) (i : Instr) → operands S s i ≡ None → situation S s i ≡ None → Does S s (effect S s i)
 effect-does S s (instr.Queue w cpu) fits may = queued-does S s w.0 cpu (pending_at s w.0)
 effect-does S s (instr.Delay w cpu ticks) fits may = delayed-does S s w.0 cpu ticks (pending_at s w.0)
@@ -284,9 +288,12 @@ effect-does S s (instr.Disable w) fits may = cancelled-does S s (with_depth s w.
 effect-does S s (instr.Enable w) fits may = Happens.nothing refl refl (answered S s ((depth_at s w.0 - 1) == 0))
 effect-does S s instr.Pressure fits may = Happens.nothing refl refl (λ v. (refl, refl))
 effect-does S s instr.Relief fits may = Happens.nothing refl refl (λ v. (refl, refl))
+effect-does S s (instr.Until time) fits may = next_unless-does S s (is_met S s (instr.Until time))
+effect-does S s (instr.Wait flush) fits may = next_unless-does S s (is_met S s (instr.Wait flush))
+effect-does S s instr.Quiet fits may = next_unless-does S s (is_met S s instr.Quiet)
 
 answer-does : (S : ScenarioContents) (s : State) (i : Instr) (a b c : Option Refusal) → operands S s i ≡ a → situation S s i ≡ c
-    → Does S s (answer s i (counts.or_else a (counts.or_else b c)) (effect S s i))
+    → Does S s (answer S s i (counts.or_else a (counts.or_else b c)) (effect S s i))
 answer-does S s i (Some why) b c fits may = Happens.nothing refl refl (λ v. (refl, refl))
 answer-does S s i None (Some why) c fits may = Happens.nothing refl refl (λ v. (refl, refl))
 answer-does S s i None None (Some why) fits may = Happens.nothing refl refl (λ v. (refl, refl))

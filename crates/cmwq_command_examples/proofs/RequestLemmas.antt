@@ -187,7 +187,7 @@ fault-outside store file t bytes x error has goal manner look logic input output
     outside-of t bytes x output output_now failed error goal done
 
 me : ActorContents
-me = record { name = codes "me"; lines = enqueue 0 0 ∷ enqueue 1 0 ∷ times instr.Next 20 ∷ [] }
+me = record { name = codes "me"; lines = enqueue 0 0 ∷ enqueue 1 0 ∷ times instr.Quiet 100 ∷ [] }
 
 first-runs : IsRunOf first_scenario me
 unfolding me

@@ -8,10 +8,10 @@ pub const PROGRAM: &str = "\
 Examples:
   cmwq new first.cmwq
   cmwq help scenario
-  cmwq run --settle first.cmwq
-  cmwq draw --settle first.cmwq
-  cmwq why --settle first.cmwq b
-  cmwq settle first.cmwq
+  cmwq run first.cmwq
+  cmwq draw first.cmwq
+  cmwq why first.cmwq b
+  cmwq settle scenarios/activation_order.cmwq
   cmwq list scenarios/max_active_3.cmwq
   cmwq asm scenarios/max_active_3.cmwq max_active_3.image
   cmwq show max_active_3.image
@@ -64,8 +64,8 @@ Exit status:
   4  `full`: more than 1,048,576 instructions, or with both options as for settle; `no memory`
 
 Examples:
-  cmwq run --settle first.cmwq
-  cmwq run scenarios/max_active_3.cmwq
+  cmwq run first.cmwq
+  cmwq run --settle scenarios/activation_order.cmwq
   cmwq run --tell scenarios/max_active_1.cmwq";
 
 const SETTLE: &str = "\
@@ -81,7 +81,7 @@ Exit status:
   4  `full`: more than 1,048,576 instructions, or more than 4,096 lines; `no memory`
 
 Example:
-  cmwq settle first.cmwq";
+  cmwq settle scenarios/activation_order.cmwq";
 
 const DRAW: &str = "\
 Prints a row for each work that was pending or ran, with a column for each tick, and below the rows of the CPUs and of the actor. The
@@ -100,8 +100,8 @@ Exit status:
 
 Examples:
   cmwq draw scenarios/max_active_3.cmwq
-  cmwq draw --settle first.cmwq
-  cmwq draw --settle --from 10 --to 20 first.cmwq
+  cmwq draw first.cmwq
+  cmwq draw --from 10 --to 20 scenarios/max_active_3.cmwq
   cmwq draw --svg scenarios/max_active_3.cmwq > max_active_3.svg";
 
 const WHY: &str = "\
@@ -123,7 +123,7 @@ Exit status:
   4  `full`: more than 1,048,576 instructions, or with --settle as for settle; `no memory`
 
 Examples:
-  cmwq why --settle first.cmwq b
+  cmwq why first.cmwq b
   cmwq why scenarios/holds_the_limit.cmwq b
   cmwq why --time 5 scenarios/holds_the_limit.cmwq b
   cmwq why --every scenarios/queued_between.cmwq a
@@ -133,7 +133,8 @@ const EXPLORE: &str = "\
 Looks at every order in which the actors' instructions can come, with the moves of pools, the timers and the ticks in between in every order
 too. With --never WORK it asks whether the work runs in any of them, with two works whether they run at once, with --after ACTOR
 and --never WORK whether the work is pending or runs where the actor has ended, and with --stuck whether some actor hasn't ended
-and nothing can go on. An actor waits for each of its flushes. A `cancel_sync` stands for `disable`, `flush` and `enable`.
+and nothing can go on. An actor waits for each of its flushes, and stands at an `until`, a `wait` or a `quiet` until that has come.
+A `cancel_sync` stands for `disable`, `flush` and `enable`.
 With --before A B actor B begins only when A has ended; it may be given several times.
 
 Prints `holds in all N states; COUNTS` where no order comes to that, and else the shortest that does, as a scenario of one actor, for `cmwq run`,
@@ -147,7 +148,7 @@ Exit status:
   2  the command line is wrong: not just one of --stuck, --never, and --after with --never WORK is given, a work is given twice, --before goes in
      a ring, another option stands twice, or N isn't a number from 1 to 1,000,000 of 1 to 10 digits
   3  `read`: FILE can't be read; `write`: the output can't be written
-  4  `full`: the actors have more than 4,096 instructions in all; `no memory`
+  4  `full`: the actors have more than 4,096 lines in all, each `cancel_sync` being three; `no memory`
   5  an order comes to that: the scenario that shows it was written
   6  it isn't told of all orders: `holds within S steps, in all N states; COUNTS`: some order spends the scenario's steps;
      `vacuous in all N states; COUNTS`: a count is 0; `gave up at N states; holds for all orders of at most D instructions`: there are

@@ -124,6 +124,10 @@ fn read_fields<'t>(draft: &Draft, shape: Shape, rest: &'t [u8]) -> Field<'t, Fie
             let (flush, rest) = read_number(65535, rest)?;
             Ok((Fields::new(0, flush as u16, 0), rest))
         }
+        Shape::Time => {
+            let (time, rest) = read_number(u32::MAX, rest)?;
+            Ok((Fields::new(0, 0, time), rest))
+        }
     }
 }
 

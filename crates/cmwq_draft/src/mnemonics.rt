@@ -19,7 +19,7 @@ pub(crate) fn read_mnemonic(word: &[u8]) -> Option<Mnemonic>
     }
 }
 
-/// The mnemonic that a word of its first letter and its length is likely to be. Nothing is claimed of it.
+/// The mnemonic that a word of its first letter and its length is likely to be, or of its third letter. Nothing is claimed of it.
 #[inline(always)]
 fn likely_mnemonic(word: &[u8]) -> Mnemonic {
     match (word.first(), word.len()) {
@@ -43,6 +43,9 @@ fn likely_mnemonic(word: &[u8]) -> Mnemonic {
         (Some(b'e'), _) => Mnemonic::Enable,
         (Some(b'p'), _) => Mnemonic::Pressure,
         (Some(b'r'), _) => Mnemonic::Relief,
+        (Some(b'u'), _) => Mnemonic::Until,
+        (Some(b'w'), _) => Mnemonic::Wait,
+        (Some(b'q'), 5) if word.get(2) == Some(&b'i') => Mnemonic::Quiet,
         _ => Mnemonic::Queue,
     }
 }

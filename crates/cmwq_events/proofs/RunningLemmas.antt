@@ -20,7 +20,7 @@ use Rattle.cmwq_table.specs.declared.state.Running.{Running}
 use Rattle.cmwq_table.specs.State.{State, depth_at, is_disabled, pending_at, pool_count, running_at}
 use Rattle.cmwq_table.specs.Counts.{burns, first_due, first_inactive, free_worker, has_room, is_deferred, is_rescuer}
 use Rattle.cmwq_table.specs.Moves.{advance, become_idle, begin_again, burned, carry_out, come_to_end, deferred, enlist, fill, fill_everywhere, fill_freezable, fill_from, fill_one, fill_pools, fill_times, finish, fired, fired_to, first_moving, moved, next_move, onward, place_after, queue_from_body, rescued, retire, started, taken_off, with_depth, with_pending, with_running, woken}
-use Rattle.cmwq_table.specs.Table.{answer, cancelled, delayed, effect, fired_first, modified, next, queued, refusal, step_or_tick, stepped, table}
+use Rattle.cmwq_table.specs.Table.{answer, cancelled, delayed, effect, fired_first, modified, next, queued, refusal, step_or_tick, stepped, table, is_met, next_unless}
 
 -- What fills, places or takes off changes no run.
 
@@ -172,6 +172,10 @@ module _ (S : ScenarioContents) where
   cancelled-long s w (Some p) = ap length (taken_off-runs s w (Some p))
   cancelled-long s w None = refl
 
+  next_unless-long : (s : State) (met : Bool) → Long (next_unless S s met).0 s
+  next_unless-long s true = refl
+  next_unless-long s false = next-long s (first_due S s)
+
   effect-long : (s : State) (i : Instr) → Long (effect S s i).0 s
   effect-long s (instr.Queue w cpu) = queued-long s w.0 cpu (pending_at s w.0)
   effect-long s (instr.Delay w cpu ticks) = delayed-long s w.0 cpu ticks (pending_at s w.0)
@@ -195,8 +199,11 @@ module _ (S : ScenarioContents) where
   effect-long s (instr.Enable w) = refl
   effect-long s instr.Pressure = refl
   effect-long s instr.Relief = refl
+  effect-long s (instr.Until time) = next_unless-long s (is_met S s (instr.Until time))
+  effect-long s (instr.Wait flush) = next_unless-long s (is_met S s (instr.Wait flush))
+  effect-long s instr.Quiet = next_unless-long s (is_met S s instr.Quiet)
 
-  answer-long : (s : State) (i : Instr) (why : Option Refusal) → Long (answer s i why (effect S s i)).0 s
+  answer-long : (s : State) (i : Instr) (why : Option Refusal) → Long (answer S s i why (effect S s i)).0 s
   answer-long s i (Some why) = refl
   answer-long s i None = effect-long s i
 

@@ -23,7 +23,7 @@ use Rattle.cmwq_table.specs.Laws.{is_wake}
 use Rattle.cmwq_table.specs.State.{State, depth_at, is_disabled, pending_at, pool_count, running_at}
 use Rattle.cmwq_table.specs.Counts.{burns, first_due, first_inactive, free_worker, has_room, is_deferred, is_done, is_busy, is_rescuer}
 use Rattle.cmwq_table.specs.Moves.{advance, become_idle, begin_again, begun, burned, carry_out, come_to_end, deferred, enlist, fill, fill_one, fill_times, filled, first_moving, moved, moved_work, next_move, onward, place, queue_from_body, rescued, retire, started, with_depth, with_running, woken}
-use Rattle.cmwq_table.specs.Table.{answer, cancelled, delayed, disabled, effect, fired_first, modified, next, queued, refusal, step_or_tick, stepped, table, target_at, yes_or_no}
+use Rattle.cmwq_table.specs.Table.{answer, cancelled, delayed, disabled, effect, fired_first, modified, next, queued, refusal, step_or_tick, stepped, table, target_at, yes_or_no, is_met, next_unless}
 use Rattle.cmwq_burning.specs.Burning.{is_start}
 use Rattle.cmwq_events.proofs.CallerLemmas.{fill-runs, fill_freezable-runs, fill_pools-runs, fired-runs, place_after-runs, taken_off-runs}
 use Rattle.cmwq_events_laws.specs.Laws.{tells_of}
@@ -192,6 +192,10 @@ module _ (S : ScenarioContents) where
   of-depth s w depth after (RunMoves.passes test runs told) = RunMoves.passes test runs told
   of-depth s w depth after (RunMoves.moves v e q runs told fits) = RunMoves.moves v e q runs told fits
 
+  next_unless-moves : (s : State) (met : Bool) → Does s (next_unless S s met)
+  next_unless-moves s true = RunMoves.nothing refl refl
+  next_unless-moves s false = nexts s (first_due S s)
+
   effect-moves : (s : State) (i : Instr) → Does s (effect S s i)
   effect-moves s (instr.Queue w cpu) = queues s w.0 cpu (pending_at s w.0)
   effect-moves s (instr.Delay w cpu ticks) = delays s w.0 cpu ticks (pending_at s w.0)
@@ -215,11 +219,14 @@ module _ (S : ScenarioContents) where
   effect-moves s (instr.Enable w) = RunMoves.nothing refl (answers-quiet (depth_at s w.0 - 1 == 0))
   effect-moves s instr.Pressure = RunMoves.nothing refl refl
   effect-moves s instr.Relief = RunMoves.nothing refl refl
+  effect-moves s (instr.Until time) = next_unless-moves s (is_met S s (instr.Until time))
+  effect-moves s (instr.Wait flush) = next_unless-moves s (is_met S s (instr.Wait flush))
+  effect-moves s instr.Quiet = next_unless-moves s (is_met S s instr.Quiet)
 
-  spent-moves : (s : State) (i : Instr) → Does s (answer s i None (effect S s i))
+  spent-moves : (s : State) (i : Instr) → Does s (answer S s i None (effect S s i))
   spent-moves s i = effect-moves s i
 
-  answer-moves : (s : State) (i : Instr) (why : Option Refusal) → Does s (answer s i why (effect S s i))
+  answer-moves : (s : State) (i : Instr) (why : Option Refusal) → Does s (answer S s i why (effect S s i))
   answer-moves s i (Some why) = RunMoves.nothing refl refl
   answer-moves s i None = spent-moves s i
 

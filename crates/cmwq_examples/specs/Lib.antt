@@ -1,3 +1,4 @@
+pub mod Conditions
 pub mod Corners
 pub mod Declare
 pub mod FinerRules

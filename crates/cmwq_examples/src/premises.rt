@@ -6,10 +6,10 @@ ghost use Rattle.cmwq_examples.specs.Premises.{after_lines, before_start, before
 ghost use Rattle.cmwq_examples.specs.FinerRules.{fills};
 ghost use Rattle.cmwq_examples.specs.Rows.{activated_in_order, cpu_intensive_beside_normal, pressed, queues_itself};
 ghost use Rattle.cmwq_table.specs.Counts.{active, counted, first_listed, free_worker, has_free_rescuer, is_busy, is_done, limit, may_start, runs_on_rescuer};
-ghost use Rattle.cmwq_table.specs.Laws.{active_anywhere, reply_to, state_after, tells_wake};
+ghost use Rattle.cmwq_table.specs.Laws.{active_anywhere, goes_on, reply_to, state_after, tells_wake};
 ghost use Rattle.cmwq_table.specs.Moves.{next_move};
 ghost use Rattle.cmwq_table.specs.State.{depth_at, idle_at, made_at, pending_at, running_at};
-ghost use Rattle.cmwq_table.specs.Table.{is_question, place_of, target_at};
+ghost use Rattle.cmwq_table.specs.Table.{is_met, is_question, place_of, target_at};
 ghost use Rattle.cmwq_types.specs.Faults.{IsValid};
 ghost use Rattle.cmwq_types.specs.Scenario.{flags_at};
 ghost use Rattle.std.specs.Prelude.{◌≡◌, [], None, Some, false, is_some, length, true};
@@ -26,6 +26,14 @@ pub fn instruction_is_refused()
 pub fn question_is_answered()
     ensures question { is_question Instr.Busy ≡ true }
     ensures answer { reply_to one_flushed (after_lines one_flushed []) Instr.Busy ≡ Reply.No }
+{}
+
+/// One until is met at the start; another one isn't, and goes on.
+pub fn conditions_are_met_and_not()
+    ensures met { is_met one_flushed (after_lines one_flushed []) (Instr.Until 0) ≡ true }
+    ensures goes_on { goes_on (Instr.Until 1) ≡ true }
+    ensures unmet { is_met one_flushed (after_lines one_flushed []) (Instr.Until 1) ≡ false }
+    ensures later { (state_after one_flushed (after_lines one_flushed []) (Instr.Until 1)).time ≡ 1 }
 {}
 
 /// The concurrency level of a pool rises from one to two, as a sleeping work wakes beside a burning one.

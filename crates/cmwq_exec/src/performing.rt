@@ -6,31 +6,32 @@ ghost use Rattle.cmwq_table.specs.Counts.{first_due, is_done};
 ghost use Rattle.cmwq_table.specs.Moves.{first_moving};
 ghost use Rattle.cmwq_table.specs.Ready.{IsKept};
 ghost use Rattle.cmwq_table.specs.State.{pending_at};
-ghost use Rattle.cmwq_table.specs.Table.{cancelled, fired_first, found, next, operands, stepped, table, target_at, yes_or_no};
+ghost use Rattle.cmwq_table.specs.Table.{cancelled, fired_first, found, is_free, next, next_unless, operands, stepped, table, target_at, yes_or_no};
 ghost use Rattle.cmwq_types.specs.declared.instr.Instr.TheVariants as instr;
 ghost use Rattle.cmwq_types.specs.declared.limits.TheConstants.{MAX_MAX_ACTIVE, MAX_WORKS};
-ghost use Rattle.std.specs.Prelude.{◌≡◌, ◌<◌, ◌≤◌, ◌+◌, ◌^◌, None, Some, length};
+ghost use Rattle.std.specs.Prelude.{◌≡◌, ◌<◌, ◌≤◌, ◌+◌, ◌^◌, None, Ok, Some, length};
 
 use crate::disabling::{disable, enable};
 use crate::flushing::{cancel_sync, flush_delayed, flush_last, flush_queue};
 use cmwq_parts::{Going, Happened, Parts};
-use cmwq_reads::{flush_target, is_question, refused_at_once};
+use cmwq_reads::{flush_target, is_free, refused_at_once};
 use cmwq_types::{Cause, Event, Instr, QueueId, Refusal, Reply, WorkId, WorkRun, WorkState};
 
-/// The line of an instruction: a refusal changes nothing, and what is accepted is spent, questions
-/// aside.
+/// The line of an instruction: a refusal changes nothing, and what is accepted is spent, but for
+/// what is free.
 #[tactic(auto, unfolding(cmwq_table::specs::Table::table))]
 pub(crate) fn exec<P: Parts>(going: &mut Going<P>, instr: Instr) -> Reply
     requires { IsKept going.old }
     ensures state { going.new ≡ record going.old { state = (table going.old.scenario going.old.state instr).0 } }
     ensures reply { result ≡ (table going.old.scenario going.old.state instr).1 }
 {
-    if let Some(why) = refused_at_once(&going.parts, instr) {
+    let free = is_free(&going.parts, instr);
+    if let Some(why) = refused_at_once(&going.parts, instr, free) {
         return Reply::Refused(why);
     }
-    match perform(going, instr) {
+    match perform(going, instr, free) {
         Ok(reply) => {
-            if !is_question(instr) {
+            if !free {
                 spend(going, 1);
             }
             reply
@@ -47,8 +48,10 @@ pub(crate) fn spend<P: Parts>(going: &mut Going<P>, count: u32)
     going.parts.spend(count);
 }
 
-/// Carries out an instruction whose operands are right, or says what its situation is refused for.
-fn perform<P: Parts>(going: &mut Going<P>, instr: Instr) -> Result<Reply, Refusal>
+/// Carries out an instruction whose operands are right, or says what its situation is refused for. Of an until, a wait or a quiet
+/// `free` tells whether what it goes on for has come.
+fn perform<P: Parts>(going: &mut Going<P>, instr: Instr, free: bool) -> Result<Reply, Refusal>
+    requires free { free ≡ is_free going.old.scenario going.old.state instr }
     requires operands { operands going.old.scenario going.old.state instr ≡ None }
     requires time { going.old.state.time < 2 ^ 60 }
     requires stamps { going.old.state.next < 2 ^ 60 }
@@ -77,6 +80,7 @@ fn perform<P: Parts>(going: &mut Going<P>, instr: Instr) -> Result<Reply, Refusa
         Instr::Enable(w) => enable(going, w),
         Instr::Pressure => press(going),
         Instr::Relief => relieve(going),
+        Instr::Until(_) | Instr::Wait(_) | Instr::Quiet => next_unless(going, free),
     }
 }
 
@@ -264,6 +268,19 @@ fn tick_if_settled<P: Parts>(going: &mut Going<P>) -> Result<Reply, Refusal>
             Ok(Reply::Done)
         }
     }
+}
+
+/// Nothing where what is gone on for has come, else as `next`.
+fn next_unless<P: Parts>(going: &mut Going<P>, has_come: bool) -> Result<Reply, Refusal>
+    requires time { going.old.state.time < 2 ^ 60 }
+    requires stamps { going.old.state.next < 2 ^ 60 }
+    ensures state { going.new ≡ record going.old { state = (next_unless going.old.scenario going.old.state has_come).0 } }
+    ensures reply { result ≡ Ok (next_unless going.old.scenario going.old.state has_come).1 }
+{
+    if has_come {
+        return Ok(Reply::Done);
+    }
+    next_reply(going)
 }
 
 /// Fires a due timer, else lets the least pool that has a move make it, else ticks.

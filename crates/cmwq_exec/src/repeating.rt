@@ -3,11 +3,12 @@ ghost use Rattle.cmwq_exec.specs.Advances.{HasAdvanced};
 ghost use Rattle.cmwq_exec.specs.Performing.{next_reply};
 ghost use Rattle.cmwq_table.specs.Ready.{IsKept};
 ghost use Rattle.cmwq_table.specs.Repeats.{HasAnswered, HasGone, HasRepeated};
-ghost use Rattle.std.specs.Prelude.{◌≡◌, ◌+◌, ◌-◌, ◌<◌, ◌≤◌};
+ghost use Rattle.cmwq_table.specs.Table.{is_met, operands};
+ghost use Rattle.std.specs.Prelude.{◌≡◌, ◌+◌, ◌-◌, ◌<◌, ◌≤◌, ◌&&◌, is_none};
 
 use crate::performing::{event_reply, next, spend};
 use cmwq_parts::{Going, Happened, Parts};
-use cmwq_reads::is_question;
+use cmwq_reads::{is_met, is_question, operands};
 use cmwq_types::{Instr, Refusal, Reply};
 
 /// Carries out `next` until a reply has a line, at least once and at most so many times. Answers how often that was, and the last reply.
@@ -63,7 +64,7 @@ fn advance<P: Parts>(going: &mut Going<P>, most: u32) -> (u32, Option<Happened>)
 }
 
 /// Carries out again, at most so many times, the instruction that was the last and was answered so, where it is known to change nothing but
-/// what is spent: a question, what was refused, what is queued already, and a cancel of what isn't pending. Answers how often that was.
+/// what is spent: a question, what was refused, what has what it goes on for, what is queued already, and a cancel of what isn't pending. Answers how often that was.
 pub(crate) fn again<P: Parts>(going: &mut Going<P>, instr: Instr, reply: Reply, most: u32) -> u32
     requires kept { IsKept going.old }
     requires answered { HasAnswered going.old.scenario going.old.state instr reply }
@@ -75,6 +76,7 @@ pub(crate) fn again<P: Parts>(going: &mut Going<P>, instr: Instr, reply: Reply, 
     }
     match reply {
         Reply::Refused(_why) => most,
+        Reply::Done if has_come(going, instr) => most,
         Reply::Already => match instr {
             Instr::Queue(_work, _cpu) => spend_again(going, most),
             Instr::Delay(_work, _cpu, _ticks) => spend_again(going, most),
@@ -86,6 +88,13 @@ pub(crate) fn again<P: Parts>(going: &mut Going<P>, instr: Instr, reply: Reply, 
         },
         _ => 0,
     }
+}
+
+/// Whether what the instruction goes on for has come, and there is such a thing.
+fn has_come<P: Parts>(going: &Going<P>, instr: Instr) -> bool
+    ensures { result ≡ (is_met going.now.scenario going.now.state instr && is_none (operands going.now.scenario going.now.state instr)) }
+{
+    is_met(&going.parts, instr) && operands(&going.parts, instr).is_none()
 }
 
 /// Counts at most so many instructions more as spent, and no more than are left. Answers how many.

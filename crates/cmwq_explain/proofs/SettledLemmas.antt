@@ -16,7 +16,7 @@ use Rattle.cmwq_table.proofs.RunLemmas.{after_all-append}
 use Rattle.cmwq_debug_lines.specs.Orders.{work_named}
 use Rattle.cmwq_play.proofs.TextLemmas.{same_actor}
 use Rattle.cmwq_settle.specs.Counting.{with_one_actor}
-use Rattle.cmwq_settle.specs.Quiet.{is_quiet, pends_or_runs}
+use Rattle.cmwq_table.specs.Counts.{is_quiet, pends_or_runs}
 use Rattle.cmwq_settle.specs.Settled.{with_nexts}
 use Rattle.cmwq_settle.proofs.LineLemmas.{expand-with_nexts}
 use Rattle.cmwq_settle.proofs.OtherActors.{settled-is}

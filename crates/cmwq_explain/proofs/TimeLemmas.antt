@@ -19,7 +19,7 @@ use Rattle.cmwq_types.specs.declared.scenario.Op.TheVariants as op
 use Rattle.cmwq_table.specs.Counts.{first_due, free_worker, is_deferred, is_rescuer, or_else}
 use Rattle.cmwq_table.specs.Moves.{advance, become_idle, begin_again, carry_out, come_to_end, deferred, finish, first_moving, moved, next_move, onward, queue_from_body, rescued, retire, started, tick, with_depth, with_running, woken}
 use Rattle.cmwq_table.specs.State.{State, depth_at, is_disabled, pending_at, running_at, start}
-use Rattle.cmwq_table.specs.Table.{answer, cancelled, delayed, effect, fired_first, modified, next, operands, queued, run, situation, spent_all, step_or_tick, stepped, table, unsettled}
+use Rattle.cmwq_table.specs.Table.{answer, cancelled, delayed, effect, fired_first, modified, next, operands, queued, run, situation, spent_all, step_or_tick, stepped, table, unsettled, is_met, next_unless}
 use Rattle.cmwq_table.specs.declared.state.Pending.{Pending}
 use Rattle.cmwq_table.specs.declared.state.Running.{Running}
 use Rattle.cmwq_table.proofs.RunLemmas.{after_all-append}
@@ -134,6 +134,10 @@ module _ (S : ScenarioContents) (s : State) where
   cancelled-time t w (Some p) same = (taken_off-keeps S t w (Some p)).time ∙ same
   cancelled-time t w None same = same
 
+  next_unless-passes : (met : Bool) → Passes S s (next_unless S s met).0.time
+  next_unless-passes true = inl refl
+  next_unless-passes false = next-passes (first_due S s) refl
+
   effect-passes : (i : Instr) → situation S s i ≡ None → Passes S s (effect S s i).0.time
   effect-passes (instr.Queue w cpu) may = inl (queued-time w.0 cpu (pending_at s w.0))
   effect-passes (instr.Delay w cpu delay) may = inl (delayed-time w.0 cpu delay (pending_at s w.0))
@@ -157,8 +161,11 @@ module _ (S : ScenarioContents) (s : State) where
   effect-passes (instr.Enable w) may = inl refl
   effect-passes instr.Pressure may = inl refl
   effect-passes instr.Relief may = inl refl
+  effect-passes (instr.Until time) may = next_unless-passes (is_met S s (instr.Until time))
+  effect-passes (instr.Wait flush) may = next_unless-passes (is_met S s (instr.Wait flush))
+  effect-passes instr.Quiet may = next_unless-passes (is_met S s instr.Quiet)
 
-  answer-passes : (i : Instr) (a b c : Option Refusal) → situation S s i ≡ c → Passes S s (answer s i (or_else a (or_else b c)) (effect S s i)).0.time
+  answer-passes : (i : Instr) (a b c : Option Refusal) → situation S s i ≡ c → Passes S s (answer S s i (or_else a (or_else b c)) (effect S s i)).0.time
   answer-passes i (Some why) b c may = inl refl
   answer-passes i None (Some why) c may = inl refl
   answer-passes i None None (Some why) may = inl refl

@@ -15,7 +15,7 @@ use Rattle.cmwq_explain.specs.ChangesTold.{IsPastEnd}
 use Rattle.cmwq_question.specs.declared.question.Inquiry.{Inquiry}
 use Rattle.cmwq_play.specs.Commands.{Writes}
 use Rattle.cmwq_play.specs.Runs.{IsRunOf}
-use Rattle.cmwq_settle.specs.Quiet.{pends_or_runs}
+use Rattle.cmwq_table.specs.Counts.{pends_or_runs}
 use Rattle.cmwq_settle.specs.Settled.{IsSettledIf, IsUnsettledIf}
 use Rattle.cmwq_streams.specs.Sending.{IsSendError}
 use Rattle.cmwq_streams.specs.declared.error.PlayError.{PlayError}

@@ -13,7 +13,7 @@ use Rattle.cmwq_types.specs.declared.reply.Reply.{Reply}
 use Rattle.cmwq_table.specs.Counts.{first_due, or_else}
 use Rattle.cmwq_table.specs.Moves.{first_moving, next_move}
 use Rattle.cmwq_table.specs.State.{State}
-use Rattle.cmwq_table.specs.Table.{answer, effect, is_question, nothing_to_do, operands, refuse_unless, situation, spent_all, table, unsettled}
+use Rattle.cmwq_table.specs.Table.{answer, effect, is_free, nothing_to_do, operands, refuse_unless, situation, spent_all, table, unsettled}
 use Rattle.cmwq_orders.proofs.OrderLemmas.{line-taken, none_or_some, none_some, own-taken, some_same}
 use Rattle.cmwq_orders.specs.Orders.{Explored, cannot_come, comes_later, is_own, may_go, moved, taken}
 use Rattle.cmwq_orders.specs.declared.choice.Before.{Before}
@@ -25,7 +25,7 @@ spent-later true why e = absurd (none_some why e)
 spent-later false why e = ap comes_later (sym (some_same Spent why e))
 
 judged : (S : ScenarioContents) (s : State) (i : Instr) (why : Refusal) (a b c : Option Refusal) → a ≡ None → c ≡ Some why → comes_later why ≡ true
-    → ((x : Refusal) → b ≡ Some x → comes_later x ≡ true) → cannot_come (answer s i (or_else a (or_else b c)) (effect S s i)).1 ≡ true
+    → ((x : Refusal) → b ≡ Some x → comes_later x ≡ true) → cannot_come (answer S s i (or_else a (or_else b c)) (effect S s i)).1 ≡ true
 judged S s i why (Some x) b c none some later spent = absurd (none_some x (sym none))
 judged S s i why None (Some x) c none some later spent = spent x refl
 judged S s i why None None (Some x) none some later spent = ap comes_later (some_same x why some) ∙ later
@@ -36,7 +36,7 @@ refused-now : (S : ScenarioContents) (s : State) (i : Instr) (why : Refusal) →
     → cannot_come (table S s i).1 ≡ true
 unfolding table
 refused-now S s i why fits is later =
-    judged S s i why (operands S s i) (spent_all S s i) (situation S s i) fits is later (λ x e. spent-later (is_question i || nat_lt s.spent S.steps) x e)
+    judged S s i why (operands S s i) (spent_all S s i) (situation S s i) fits is later (λ x e. spent-later (is_free S s i || nat_lt s.spent S.steps) x e)
 
 moved-comes : (e f : Explored) (after : State × Reply) → moved e after ≡ Some f → cannot_come after.1 ≡ false
 moved-comes e f after h = by (cannot_come after.1) refl h
@@ -55,7 +55,7 @@ unsettled-by None (Some pool) h = (Pool pool, refl)
 unsettled-by None None h = absurd (true≢false h)
 
 module _ (S : ScenarioContents) (before : List Before) (e : Explored) where
-  never : (i : Instr) (why : Refusal) → (is_own S e.machine i ≡ true → operands S e.machine i ≡ None) → situation S e.machine i ≡ Some why → comes_later why ≡ true
+  never : (i : Instr) (why : Refusal) → (is_own S before e i ≡ true → operands S e.machine i ≡ None) → situation S e.machine i ≡ Some why → comes_later why ≡ true
       → taken S before e (Own i) ≡ None
   never i why fits is later = elim (none_or_some (taken S before e (Own i))) [
     | inl none ↦ none

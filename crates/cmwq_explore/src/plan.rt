@@ -1,6 +1,7 @@
 //! What is explored: a scenario, the lines of its actors, and who has to wait for whom.
 ghost use Rattle.cmwq_explore.specs.Plans.{flush_count, gives_flush, line_count, plan_of};
-ghost use Rattle.cmwq_orders.specs.Orders.{apart, lines_at, lines_of};
+ghost use Rattle.cmwq_orders.specs.Orders.{apart, lines_at, lines_of, stands};
+ghost use Rattle.cmwq_table.specs.Laws.{goes_on};
 ghost use Rattle.cmwq_types.specs.Faults.{IsValid};
 ghost use Rattle.cmwq_types.specs.Scenario.{pool_count};
 ghost use Rattle.cmwq_types.specs.declared.limits.TheConstants.{MAX_LINES};
@@ -8,7 +9,7 @@ ghost use Rattle.std.specs.Prelude.{◌≡◌, ◌++◌, ◌<◌, ◌≤◌, Err
 
 use cmwq_orders::Before;
 use cmwq_runs::Instructions;
-use cmwq_types::{Actor, Instr, MAX_LINES, NoMemory, Scenario};
+use cmwq_types::{Actor, Instr, Line, MAX_LINES, NoMemory, Scenario};
 use std::alloc::Global;
 use std::marker::Model;
 use std::sync::Arc;
@@ -17,7 +18,8 @@ use thiserror::Error;
 /// Why a scenario can't be explored.
 #[derive(Clone, Copy, Debug, PartialEq, Eq, Error)]
 pub enum PlanError {
-    /// Its actors have more than 4,096 lines in all, a `cancel_sync` being three of them.
+    /// Its actors have more than 4,096 lines in all, a `cancel_sync` being three of them, and an `until`, a `wait` or a `quiet` one,
+    /// however often it stands.
     #[error("full")]
     Full,
     /// Memory ran out.
@@ -35,7 +37,7 @@ impl From<NoMemory> for PlanError {
     }
 }
 
-/// An actor's lines, one after another, each as often as it stands.
+/// An actor's lines, one after another, each as often as the actor stands at it.
 #[derive(Drop)]
 pub(crate) struct Lines {
     instrs: Vec<Instr>,
@@ -238,14 +240,45 @@ fn lines_within(alloc: Global, actor: &Actor, room: usize) -> Result<Lines, Plan
     ensures few { OnOk result (length (lines_of actor.now) ≤ room) }
     ensures full { result ≡ Err PlanError.Full → room < length (lines_of actor.now) }
 {
+    let stood = stood_lines(alloc, &actor.lines)?;
     let mut instrs = Vec::new(alloc);
-    for instr in Instructions::of(&actor.lines) {
+    for instr in Instructions::of(&stood) {
         put_apart(&mut instrs, instr)?;
         if instrs.len() > room {
             return Err(PlanError::Full);
         }
     }
     Ok(Lines { instrs })
+}
+
+/// The lines, each as often as an actor stands at it.
+fn stood_lines(alloc: Global, lines: &[Line]) -> Result<Vec<Line>, NoMemory>
+    ensures { IfOk result (λ stood. stood.items ≡ map stands lines.now) }
+{
+    let mut stood = Vec::new(alloc);
+    for line in lines {
+        stood.push(stands(*line))?;
+    }
+    Ok(stood)
+}
+
+/// The line, as often as an actor stands at it: once at what it goes on for.
+fn stands(line: Line) -> Line
+    ensures { result ≡ stands line }
+{
+    let instr = line.instr;
+    if goes_on(instr) {
+        Line { instr, times: 1 }
+    } else {
+        line
+    }
+}
+
+/// Whether the instruction goes on for something, at which an actor stands until it has come.
+pub(crate) fn goes_on(instr: Instr) -> bool
+    ensures { result ≡ goes_on instr }
+{
+    matches!(instr, Instr::Until(_) | Instr::Wait(_) | Instr::Quiet)
 }
 
 /// Puts an instruction behind the others: three for a `cancel_sync`.

@@ -1,16 +1,16 @@
 //! A machine and the actors, somewhere in an order.
 ghost use Rattle.cmwq_explore.specs.Plans.{PlanContents, Stood, TakenAs};
 ghost use Rattle.cmwq_stored.specs.Stored.{stored_of};
-ghost use Rattle.cmwq_orders.specs.Orders.{cannot_come, comes_later, flush_given, has_ended, instr_taken, is_astir, is_own, is_timed, is_waiting, may_begin, may_go, next_line, start, taken, taken_line, taken_own};
+ghost use Rattle.cmwq_orders.specs.Orders.{awaits_time, cannot_come, comes, comes_later, flush_given, has_ended, instr_taken, is_astir, is_own, is_time_awaited, is_timed, is_waiting, may_begin, may_go, next_line, start, taken, taken_line, taken_own};
 ghost use Rattle.cmwq_table.specs.Counts.{pends};
 ghost use Rattle.cmwq_table.specs.State.{pending_at};
 ghost use Rattle.cmwq_table.specs.Table.{table};
 ghost use Rattle.cmwq_types.specs.declared.limits.TheConstants.{MAX_LINES};
 ghost use Rattle.std.specs.Prelude.{◌≡◌, ◌+◌, ◌<◌, IfOk, IfSome, None, Some, false, length, slice_index_or, slice_set};
 
-use crate::plan::Plan;
+use crate::plan::{Plan, goes_on};
 use cmwq_orders::Choice;
-use cmwq_reads::{flush_target, is_done, next_move};
+use cmwq_reads::{flush_target, is_done, is_met, next_move, operands};
 use cmwq_stored::Stored;
 use cmwq_table::Machine;
 use cmwq_types::{Instr, NoMemory, Place, Refusal, Reply, filled};
@@ -191,6 +191,9 @@ impl<M: Machine> Standing<M> {
             return None;
         }
         let instr = self.next_line(actor)?;
+        if !self.comes(instr) {
+            return None;
+        }
         let reply = self.exec(instr);
         if cannot_come(reply) {
             return None;
@@ -201,7 +204,7 @@ impl<M: Machine> Standing<M> {
 
     /// Does what the machine may do by itself, if it may and that can come now.
     fn take_own(&mut self, instr: Instr) -> Option<Instr>
-        ensures taken { TakenAs (taken_own self.old.plan.scenario self.old.explored instr) (Some instr) self.new.explored result }
+        ensures taken { TakenAs (taken_own self.old.plan.scenario self.old.plan.before self.old.explored instr) (Some instr) self.new.explored result }
         ensures plan { self.new.plan ≡ self.old.plan }
     {
         if !self.is_own(instr) {
@@ -243,14 +246,43 @@ impl<M: Machine> Standing<M> {
         waits[actor as usize] = flush;
     }
 
+    /// Whether the line can come now: until, wait and quiet can once what they go on for has come, and a wait once its flush was given.
+    fn comes(&self, instr: Instr) -> bool
+        ensures { result ≡ comes self.now.plan.scenario self.now.explored.machine instr }
+    {
+        !goes_on(instr)
+            || (is_met(&self.machine, instr) && operands(&self.machine, instr).is_none())
+    }
+
     /// Whether the machine may do this by itself.
     fn is_own(&self, instr: Instr) -> bool
-        ensures { result ≡ is_own self.now.plan.scenario self.now.explored.machine instr }
+        ensures { result ≡ is_own self.now.plan.scenario self.now.plan.before self.now.explored instr }
     {
         match instr {
             Instr::Fire => true,
             Instr::Step(pool) => pool < self.plan.pool_count(),
-            Instr::Tick => is_astir(&self.machine),
+            Instr::Tick => is_astir(&self.machine) || self.is_time_awaited(),
+            _ => false,
+        }
+    }
+
+    /// Whether an actor that waits for nobody stands at an until of a time that hasn't come.
+    fn is_time_awaited(&self) -> bool
+        ensures { result ≡ is_time_awaited self.now.plan.scenario self.now.plan.before self.now.explored }
+    {
+        let mut awaited = false;
+        for actor in 0..self.plan.actor_count() {
+            awaited = awaited || (self.may_go(actor) && self.awaits_time(actor));
+        }
+        awaited
+    }
+
+    /// Whether the actor's next line is an until of a time that hasn't come.
+    fn awaits_time(&self, actor: u8) -> bool
+        ensures { result ≡ awaits_time self.now.explored.machine (next_line self.now.plan.scenario self.now.explored actor) }
+    {
+        match self.next_line(actor) {
+            Some(Instr::Until(time)) => self.machine.now() < u64::from(time),
             _ => false,
         }
     }

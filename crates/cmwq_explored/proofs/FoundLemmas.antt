@@ -1,5 +1,5 @@
 -- The text of an order that was found.
-use Rattle.std.proofs.Common.{◌≡◌, ◌⊎◌, ℕ, zero, suc, ◌+◌, ◌*◌, ◌<◌, ◌≤◌, Bool, true, false, List, [], ◌∷◌, ◌++◌, map, length, get_or, cond, Option, Some, None, arith, refl, sym, ap, ◌∙◌, subst, length-append, codes}
+use Rattle.std.proofs.Common.{◌≡◌, ◌⊎◌, ℕ, zero, suc, ◌+◌, ◌*◌, ◌<◌, ◌≤◌, Bool, true, false, List, [], ◌∷◌, ◌++◌, map, length, replicate, get_or, cond, Option, Some, None, arith, refl, sym, ap, ◌∙◌, subst, length-append, codes}
 use Rattle.std.proofs.lemmas.List.{length-map}
 use Rattle.std.proofs.lemmas.List.Elements.{All-from_recursion}
 use Rattle.std.specs.List.{All, AllByRecursion, flat_map, slice_get}
@@ -7,22 +7,24 @@ use Rattle.std.specs.Prelude.{IsTrue, slice_index_or}
 use Rattle.cmwq_types.specs.Contents.{ActorContents, ScenarioContents}
 use Rattle.cmwq_types.specs.Faults.{IsValid, names_declared}
 use Rattle.cmwq_types.specs.Listing.{listing}
-use Rattle.cmwq_types.specs.Scenario.{expand}
+use Rattle.cmwq_types.specs.Scenario.{expand, expand_lines}
 use Rattle.cmwq_types.specs.Values.{IsScenario}
 use Rattle.cmwq_types.specs.declared.instr.Instr.{Instr}
 use Rattle.cmwq_types.specs.declared.instr.Instr.TheVariants as instr
 use Rattle.cmwq_types.specs.declared.limits.TheConstants.{MAX_ACTORS, MAX_LINES, MAX_TEXT}
 use Rattle.cmwq_types.specs.declared.reply.Reply.{Reply}
+use Rattle.cmwq_types.specs.declared.scenario.Line.{Line as ActorLine}
 use Rattle.std.specs.Fmt.{decimal}
 use Rattle.cmwq_table.specs.Events.{is_silent, reply_words}
 use Rattle.cmwq_table.specs.State.{State}
 use Rattle.cmwq_table.specs.State as states
+use Rattle.cmwq_table.specs.Laws.{goes_on}
 use Rattle.cmwq_table.specs.Table.{after_all, run, table}
 use Rattle.cmwq_grammar.specs.Comments.{listing_room}
 use Rattle.cmwq_grammar.specs.Grammar.{Spells}
 use Rattle.cmwq_orders.proofs.OrderLemmas.{none_some, own-taken}
 use Rattle.cmwq_orders.specs.Laws.{OrdersAreRuns}
-use Rattle.cmwq_orders.specs.Orders.{Explored, and_then, and_then_told, apart, instr_taken, instrs_from, instrs_of, is_own, lines_at, lines_of, next_line, no_actor, reached, reached_from, start, taken}
+use Rattle.cmwq_orders.specs.Orders.{Explored, and_then, and_then_told, apart, instr_taken, instrs_from, instrs_of, is_own, lines_at, lines_of, next_line, no_actor, reached, reached_from, stands, start, taken}
 use Rattle.cmwq_orders.specs.declared.choice.Before.{Before}
 use Rattle.cmwq_orders.specs.declared.choice.Choice.{Choice}
 use Rattle.cmwq_orders.specs.declared.choice.Choice.TheVariants.{Line, Own}
@@ -91,23 +93,47 @@ module _ (S : ScenarioContents) where
   one-of (j ∷ is) zero i all there = subst (Declared S) (cc) all.0
   one-of (j ∷ is) (suc n) i all there = one-of is n i all.1 there
 
+  going-declared : (i : Instr) → goes_on i ≡ true → Declared S i
+  going-declared (instr.Until time) goes = refl
+  going-declared (instr.Wait flush) goes = refl
+  going-declared instr.Quiet goes = refl
+  going-declared i goes = cc
+
+  both-parts : (is js : List Instr) → AllByRecursion (Declared S) (is ++ js) → AllByRecursion (Declared S) is × AllByRecursion (Declared S) js
+  both-parts [] js all = (tt, all)
+  both-parts (i ∷ is) js all = let rest = both-parts is js all.1 in ((all.0, rest.0), rest.1)
+
+  stands-declared : (line : ActorLine) → AllByRecursion (Declared S) (replicate line.times line.instr)
+      → AllByRecursion (Declared S) (replicate (stands line).times (stands line).instr)
+  stands-declared line all = by (goes_on line.instr) refl
+    where
+      by : (b : Bool) → goes_on line.instr ≡ b → AllByRecursion (Declared S) (replicate (cond b (record line { times = 1 }) line).times (cond b (record line { times = 1 }) line).instr)
+      by true goes = (going-declared line.instr goes, tt)
+      by false goes = all
+
+  stood-declared : (lines : List ActorLine) → AllByRecursion (Declared S) (expand_lines lines) → AllByRecursion (Declared S) (expand_lines (map stands lines))
+  stood-declared [] all = tt
+  stood-declared (line ∷ lines) all =
+      let parts = both-parts (replicate line.times line.instr) (expand_lines lines) all in
+      all_append (Declared S) (replicate (stands line).times (stands line).instr) (expand_lines (map stands lines)) (stands-declared line parts.0) (stood-declared lines parts.1)
+
   actor-lines : (actors : List ActorContents) (actor : ℕ) → AllByRecursion (λ (a : ActorContents). AllByRecursion (Declared S) (expand a)) actors
       → AllByRecursion (Declared S) (lines_of (slice_index_or actors actor no_actor))
   actor-lines [] actor all = tt
-  actor-lines (a ∷ actors) zero all = lines-declared (expand a) all.0
+  actor-lines (a ∷ actors) zero all = lines-declared (expand_lines (map stands a.lines)) (stood-declared a.lines all.0)
   actor-lines (a ∷ actors) (suc actor) all = actor-lines actors actor all.1
 
-  own-declared : (s : State) (i : Instr) → is_own S s i ≡ true → Declared S i
-  own-declared s instr.Fire is = refl
-  own-declared s (instr.Step pool) is = refl
-  own-declared s instr.Tick is = refl
-  own-declared s _ is = cc
+  own-declared : (before : List Before) (e : Explored) (i : Instr) → is_own S before e i ≡ true → Declared S i
+  own-declared before e instr.Fire is = refl
+  own-declared before e (instr.Step pool) is = refl
+  own-declared before e instr.Tick is = refl
+  own-declared before e _ is = cc
 
   module _ (before : List Before) (valid : IsValid S) where
     taken-declared : (e f : Explored) (c : Choice) (i : Instr) → instr_taken S e c ≡ Some i → taken S before e c ≡ Some f → Declared S i
     taken-declared e f (Line actor) i is t =
         one-of (lines_at S actor) (slice_index_or e.at actor 0) i (actor-lines S.actors actor (valid_declared S valid)) is
-    taken-declared e f (Own j) i is t = subst (Declared S) (cc) (own-declared e.machine j (own-taken S e f before j t).0)
+    taken-declared e f (Own j) i is t = subst (Declared S) (cc) (own-declared before e j (own-taken S e f before j t).0)
 
     declared-from : (cs : List Choice) (e : Explored) → AllByRecursion (Declared S) (instrs_from S before cs e)
     declared-from [] e = tt

@@ -29,8 +29,8 @@ use std::sync::Arc;
 /// 4,194,304 that a text may have.
 ///
 /// It answers, before anything is written, `Asm` with the text's fault exactly where the text spells no scenario; then `Actors` exactly
-/// where the scenario has none; then `Full` exactly where they have more than 4,096 lines in all, a `cancel_sync` being three; then
-/// `Flushes` exactly where they give more flushes than the scenario's `flushes`; and then `NoSuchActor` or `NoSuchWork` exactly where
+/// where the scenario has none; then `Full` exactly where they have more than 4,096 lines in all, a `cancel_sync` being three and an
+/// `until`, a `wait` or a `quiet` one; then `Flushes` exactly where they give more flushes than the scenario's `flushes`; and then `NoSuchActor` or `NoSuchWork` exactly where
 /// the first name that isn't declared is such a one, those of what is never to be before those of `before`. How far it is is told as it goes.
 pub fn explore<R: Source, W: Sink, P: Progress>(
     alloc: Global,

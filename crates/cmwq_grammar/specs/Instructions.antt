@@ -47,6 +47,7 @@ operands_in shape.Queue make = OfQueue (λ queue. Makes (make (fields 0 queue.0 
 operands_in shape.QueueNumber make = OfQueue (λ queue. OfNumber 4294967295 (λ n. Makes (make (fields 0 queue.0 n))))
 operands_in shape.Pool make = OfNumber 255 (λ pool. Makes (make (fields pool 0 0)))
 operands_in shape.Flush make = OfNumber 65535 (λ flush. Makes (make (fields 0 flush 0)))
+operands_in shape.Time make = OfNumber 4294967295 (λ time. Makes (make (fields 0 0 time)))
 
 -- the instructions, by their words: what stands behind each
 abbrev pub operands_of : Mnemonic → Operands

@@ -8,8 +8,8 @@ use Rattle.cmwq_types.specs.declared.instr.Instr.TheVariants as instr
 use Rattle.cmwq_types.specs.declared.scenario.Line.{Line}
 use Rattle.cmwq_types.specs.declared.scenario.QueueDecl.{QueueDecl}
 use Rattle.cmwq_image.specs.Image.{flag_bits, image, instr_word}
-use Rattle.cmwq_image.specs.Versions.{IsQueueOf, IsLineOf, HasVersion, IsImageOf, EachInstr, NeitherDisablesNorEnables, NeverDisables, NeitherPressesNorRelieves, NeverReclaims, MemoryIsAmple}
-use Rattle.cmwq_image.specs.declared.version.TheConstants.{FIRST_VERSION, SECOND_VERSION, VERSION}
+use Rattle.cmwq_image.specs.Versions.{IsQueueOf, IsLineOf, HasVersion, IsImageOf, EachInstr, NeitherDisablesNorEnables, NeverDisables, NeitherPressesNorRelieves, NeverReclaims, MemoryIsAmple, GoesOnForNothing, NeverGoesOn}
+use Rattle.cmwq_image.specs.declared.version.TheConstants.{FIRST_VERSION, SECOND_VERSION, THIRD_VERSION, VERSION}
 use Rattle.cmwq_image.proofs.FlagLemmas.{at_most_31, at_most_63, never_reclaims}
 
 -- what each element is, where it is something that says so
@@ -42,16 +42,16 @@ both_instr P Q (actor ∷ actors) p q =
 abbrev IsTagged : ℕ → Instr → Type 0
 IsTagged last i = (instr_word i).tag ≤ last
 
-last_is_37 : (i : Instr) → IsTagged 37 i
-last_is_37 (instr.Queue work cpu) = omega arith
-last_is_37 _ = omega arith
+last_is_40 : (i : Instr) → IsTagged 40 i
+last_is_40 (instr.Queue work cpu) = omega arith
+last_is_40 _ = omega arith
 
 pub newest : (S : ScenarioContents) → HasVersion S VERSION
 newest S = record {
   first = omega arith;
   last = omega arith;
   queues = every (IsQueueOf VERSION) (λ queue. at_most_63 queue.flags) S.queues;
-  lines = every (λ (actor : ActorContents). AllByRecursion (IsLineOf VERSION) actor.lines) (λ actor. every (IsLineOf VERSION) (λ line. last_is_37 line.instr) actor.lines) S.actors;
+  lines = every (λ (actor : ActorContents). AllByRecursion (IsLineOf VERSION) actor.lines) (λ actor. every (IsLineOf VERSION) (λ line. last_is_40 line.instr) actor.lines) S.actors;
 }
 
 -- the image that is written
@@ -65,6 +65,31 @@ queue_never queue few = never_reclaims queue.flags few
 queue_few : (queue : QueueDecl) → NeverReclaims queue → flag_bits queue.flags ≤ 31
 queue_few queue never = at_most_31 queue.flags never
 
+-- the third version
+
+going : (i : Instr) → IsTagged 37 i → GoesOnForNothing i
+going (instr.Until time) h = absurd (omega (arith, h))
+going (instr.Wait flush) h = absurd (omega (arith, h))
+going instr.Quiet h = absurd (omega (arith, h))
+going _ h = tt
+
+last_is_37 : (i : Instr) → GoesOnForNothing i → IsTagged 37 i
+last_is_37 (instr.Until time) h = elim h [ ]
+last_is_37 (instr.Wait flush) h = elim h [ ]
+last_is_37 instr.Quiet h = elim h [ ]
+last_is_37 _ h = omega arith
+
+pub old : (S : ScenarioContents) → HasVersion S THIRD_VERSION ↔ NeverGoesOn S
+old S = (
+  λ has. each_instr (IsTagged 37) GoesOnForNothing going S.actors has.lines,
+  λ is. record {
+    first = omega arith;
+    last = omega arith;
+    queues = every (IsQueueOf THIRD_VERSION) (λ queue. at_most_63 queue.flags) S.queues;
+    lines = each_instr GoesOnForNothing (IsTagged 37) last_is_37 S.actors is;
+  },
+)
+
 -- the second version
 
 ample : (i : Instr) → IsTagged 35 i → NeitherPressesNorRelieves i
@@ -72,22 +97,29 @@ ample instr.Pressure h = absurd (omega (arith, h))
 ample instr.Relief h = absurd (omega (arith, h))
 ample _ h = tt
 
-last_is_35 : (i : Instr) → NeitherPressesNorRelieves i → IsTagged 35 i
-last_is_35 instr.Pressure h = elim h [ ]
-last_is_35 instr.Relief h = elim h [ ]
+last_is_35 : (i : Instr) → NeitherPressesNorRelieves i × GoesOnForNothing i → IsTagged 35 i
+last_is_35 instr.Pressure h = elim h.0 [ ]
+last_is_35 instr.Relief h = elim h.0 [ ]
+last_is_35 (instr.Until time) h = elim h.1 [ ]
+last_is_35 (instr.Wait flush) h = elim h.1 [ ]
+last_is_35 instr.Quiet h = elim h.1 [ ]
 last_is_35 _ h = omega arith
 
-pub older : (S : ScenarioContents) → HasVersion S SECOND_VERSION ↔ MemoryIsAmple S
+pub older : (S : ScenarioContents) → HasVersion S SECOND_VERSION ↔ (NeverGoesOn S × MemoryIsAmple S)
 older S = (
   λ has. (
-    all_are (IsQueueOf SECOND_VERSION) NeverReclaims queue_never S.queues has.queues,
-    each_instr (IsTagged 35) NeitherPressesNorRelieves ample S.actors has.lines,
+    each_instr (IsTagged 35) GoesOnForNothing (λ i h. going i (omega (arith, h))) S.actors has.lines,
+    (
+      all_are (IsQueueOf SECOND_VERSION) NeverReclaims queue_never S.queues has.queues,
+      each_instr (IsTagged 35) NeitherPressesNorRelieves ample S.actors has.lines,
+    ),
   ),
   λ is. record {
     first = omega arith;
     last = omega arith;
-    queues = all_are NeverReclaims (IsQueueOf SECOND_VERSION) queue_few S.queues is.0;
-    lines = each_instr NeitherPressesNorRelieves (IsTagged 35) last_is_35 S.actors is.1;
+    queues = all_are NeverReclaims (IsQueueOf SECOND_VERSION) queue_few S.queues is.1.0;
+    lines = each_instr (λ i. NeitherPressesNorRelieves i × GoesOnForNothing i) (IsTagged 35) last_is_35 S.actors
+        (both_instr NeitherPressesNorRelieves GoesOnForNothing S.actors is.1.1 is.0);
   },
 )
 
@@ -98,16 +130,20 @@ early (instr.Disable work) h = absurd (omega (arith, h))
 early (instr.Enable work) h = absurd (omega (arith, h))
 early _ h = tt
 
-last_is_33 : (i : Instr) → NeitherPressesNorRelieves i × NeitherDisablesNorEnables i → IsTagged 33 i
+last_is_33 : (i : Instr) → (NeitherPressesNorRelieves i × GoesOnForNothing i) × NeitherDisablesNorEnables i → IsTagged 33 i
 last_is_33 (instr.Disable work) h = elim h.1 [ ]
 last_is_33 (instr.Enable work) h = elim h.1 [ ]
-last_is_33 instr.Pressure h = elim h.0 [ ]
-last_is_33 instr.Relief h = elim h.0 [ ]
+last_is_33 instr.Pressure h = elim h.0.0 [ ]
+last_is_33 instr.Relief h = elim h.0.0 [ ]
+last_is_33 (instr.Until time) h = elim h.0.1 [ ]
+last_is_33 (instr.Wait flush) h = elim h.0.1 [ ]
+last_is_33 instr.Quiet h = elim h.0.1 [ ]
 last_is_33 _ h = omega arith
 
-pub oldest : (S : ScenarioContents) → HasVersion S FIRST_VERSION ↔ (MemoryIsAmple S × NeverDisables S)
+pub oldest : (S : ScenarioContents) → HasVersion S FIRST_VERSION ↔ (NeverGoesOn S × MemoryIsAmple S × NeverDisables S)
 oldest S = (
   λ has. (
+    each_instr (IsTagged 33) GoesOnForNothing (λ i h. going i (omega (arith, h))) S.actors has.lines,
     (
       all_are (IsQueueOf FIRST_VERSION) NeverReclaims queue_never S.queues has.queues,
       each_instr (IsTagged 33) NeitherPressesNorRelieves (λ i h. ample i (omega (arith, h))) S.actors has.lines,
@@ -117,8 +153,9 @@ oldest S = (
   λ is. record {
     first = omega arith;
     last = omega arith;
-    queues = all_are NeverReclaims (IsQueueOf FIRST_VERSION) queue_few S.queues is.0.0;
-    lines = each_instr (λ i. NeitherPressesNorRelieves i × NeitherDisablesNorEnables i) (IsTagged 33) last_is_33 S.actors
-        (both_instr NeitherPressesNorRelieves NeitherDisablesNorEnables S.actors is.0.1 is.1);
+    queues = all_are NeverReclaims (IsQueueOf FIRST_VERSION) queue_few S.queues is.1.0;
+    lines = each_instr (λ i. (NeitherPressesNorRelieves i × GoesOnForNothing i) × NeitherDisablesNorEnables i) (IsTagged 33) last_is_33 S.actors
+        (both_instr (λ i. NeitherPressesNorRelieves i × GoesOnForNothing i) NeitherDisablesNorEnables S.actors
+        (both_instr NeitherPressesNorRelieves GoesOnForNothing S.actors is.1.1 is.0) is.2);
   },
 )

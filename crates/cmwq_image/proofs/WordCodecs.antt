@@ -301,6 +301,7 @@ shape_fits shape.Queue f h = omega (arith, h.a_fits)
 shape_fits shape.QueueNumber f h = (omega (arith, h.a_fits), omega (arith, h.n_fits))
 shape_fits shape.Pool f h = omega (arith, h.cpu_fits)
 shape_fits shape.Flush f h = omega (arith, h.a_fits)
+shape_fits shape.Time f h = omega (arith, h.n_fits)
 
 instr_fits : (x : Instr) → Within (instr_room (word_of x)) (instr_word x).cpu (instr_word x).a (instr_word x).n → IsInstr x
 instr_fits x h = shape_fits (shape_of (word_of x)) (fields_of x) h
@@ -340,12 +341,13 @@ is_found_in version n small = ap (λ b. cond b (first_tagged mnemonics n) None) 
 
 -- each version has the first tag
 queue_found : (version : ℕ) → tagged version 16 ≡ Some mnemonic.Queue
-queue_found version = go (eqb version 1) (eqb version 2)
+queue_found version = go (eqb version 1) (eqb version 2) (eqb version 3)
   where
-    go : (b c : Bool) → cond (nat_le 16 (cond b 33 (cond c 35 37))) (first_tagged mnemonics 16) None ≡ Some mnemonic.Queue
-    go true c = refl
-    go false true = refl
-    go false false = refl
+    go : (b c d : Bool) → cond (nat_le 16 (cond b 33 (cond c 35 (cond d 37 40)))) (first_tagged mnemonics 16) None ≡ Some mnemonic.Queue
+    go true c d = refl
+    go false true d = refl
+    go false false true = refl
+    go false false false = refl
 
 instr_laws : (version : ℕ) → WordLaws tag_of (tagged version) instr_room made_of word_of instr_word (InstrFits version)
 instr_laws version = record {

@@ -13,7 +13,7 @@ use Rattle.cmwq_types.specs.declared.scenario.Line.{Line}
 use Rattle.cmwq_types.specs.declared.scenario.Op.{Op}
 use Rattle.cmwq_types.specs.declared.scenario.Op.TheVariants as op
 use Rattle.cmwq_types.specs.declared.scenario.QueueDecl.{QueueDecl}
-use Rattle.cmwq_image.specs.declared.version.TheConstants.{FIRST_VERSION, SECOND_VERSION}
+use Rattle.cmwq_image.specs.declared.version.TheConstants.{FIRST_VERSION, SECOND_VERSION, THIRD_VERSION}
 use Rattle.cmwq_image.specs.declared.word.Word.{Word}
 
 -- one field after the other
@@ -86,6 +86,9 @@ tag_of mnemonic.Disable = 34
 tag_of mnemonic.Enable = 35
 tag_of mnemonic.Pressure = 36
 tag_of mnemonic.Relief = 37
+tag_of mnemonic.Until = 38
+tag_of mnemonic.Wait = 39
+tag_of mnemonic.Quiet = 40
 
 -- behind the tag stand the operands
 abbrev pub instr_word : Instr → Word
@@ -93,7 +96,9 @@ instr_word instr = let f = fields_of instr in word (tag_of (word_of instr)) f.cp
 
 -- the last tag of an instruction that a version has
 abbrev pub last_tag : ℕ → ℕ
-last_tag version = if version == FIRST_VERSION then 33 else (if version == SECOND_VERSION then 35 else 37)
+last_tag version =
+    if version == FIRST_VERSION then 33
+    else (if version == SECOND_VERSION then 35 else (if version == THIRD_VERSION then 37 else 40))
 
 -- Works and actors.
 

@@ -181,6 +181,7 @@ shape_room shape.Queue = room 0 255 0
 shape_room shape.QueueNumber = room 0 255 4294967295
 shape_room shape.Pool = room 255 0 0
 shape_room shape.Flush = room 0 65535 0
+shape_room shape.Time = room 0 0 4294967295
 
 abbrev pub instr_room : Mnemonic → FieldRoom
 instr_room mnemonic = shape_room (shape_of mnemonic)

@@ -64,3 +64,13 @@ NeverReclaims queue = queue.flags.mem_reclaim ≡ false
 -- memory is never short: no queue has the flag `mem_reclaim`, and no actor gives `pressure` or `relief`
 abbrev pub MemoryIsAmple : ScenarioContents → Type 0
 MemoryIsAmple S = AllByRecursion NeverReclaims S.queues × EachInstr NeitherPressesNorRelieves S.actors
+
+abbrev pub GoesOnForNothing : Instr → Type 0
+GoesOnForNothing (instr.Until time) = ⊥
+GoesOnForNothing (instr.Wait flush) = ⊥
+GoesOnForNothing instr.Quiet = ⊥
+GoesOnForNothing _ = Unit {0}
+
+-- no actor gives `until`, `wait` or `quiet`
+abbrev pub NeverGoesOn : ScenarioContents → Type 0
+NeverGoesOn S = EachInstr GoesOnForNothing S.actors

@@ -58,7 +58,7 @@ abbrev pub worked_head : List ℕ
 worked_head =
     in_order (
     (0x43 ∷ 0x4d ∷ 0x57 ∷ 0x51 ∷ [])
-    ∷ (0x00 ∷ 0x03 ∷ [])
+    ∷ (0x00 ∷ 0x04 ∷ [])
     ∷ (0x01 ∷ [])
     ∷ (0x04 ∷ [])
     ∷ (0x00 ∷ 0x00 ∷ 0x00 ∷ 0x08 ∷ [])
@@ -91,7 +91,7 @@ worked_actor_bytes =
     ∷ (0x21 ∷ []) ∷ zeros 7 ∷ (0x00 ∷ 0x00 ∷ 0x00 ∷ 0x01 ∷ [])
     ∷ [])
 
--- 126 bytes, of version 3
+-- 126 bytes, of version 4
 abbrev pub worked_image : List ℕ
 worked_image = in_order (worked_head ∷ worked_queue_bytes ∷ worked_work_bytes ∷ worked_actor_bytes ∷ [])
 

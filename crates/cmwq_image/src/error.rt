@@ -10,7 +10,7 @@ pub enum ImageError {
     /// They don't begin with `CMWQ`.
     #[error("Magic")]
     Magic,
-    /// The version is none of 1, 2 and 3.
+    /// The version is none of 1 to 4.
     #[error("Version")]
     Version,
     /// They end before a field does.

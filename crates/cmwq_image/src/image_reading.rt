@@ -12,7 +12,7 @@ use crate::fields_left::FieldsLeft;
 use cmwq_types::Scenario;
 use std::alloc::Global;
 
-/// The scenario of which the bytes are the image, of version 3 or of an older one.
+/// The scenario of which the bytes are the image, of version 4 or of an older one.
 ///
 /// Faults are judged in this order, which is this project's own: `Magic`; then field by field from the
 /// left `Truncated`, `Version` or `BadField`; then `Extra`; then the first fault of the scenario itself. Besides

@@ -3,12 +3,12 @@ ghost use Rattle.cmwq_image.specs.FaultMeaning.{Means};
 ghost use Rattle.cmwq_image.specs.Image.{image, instr_word, word};
 ghost use Rattle.cmwq_image.specs.ImageFault.{GivesRead, reading};
 ghost use Rattle.cmwq_image.specs.Limits.{AreBytes, HasSize};
-ghost use Rattle.cmwq_image.specs.Versions.{HasVersion, IsImageOf, MemoryIsAmple, NeverDisables};
+ghost use Rattle.cmwq_image.specs.Versions.{HasVersion, IsImageOf, MemoryIsAmple, NeverDisables, NeverGoesOn};
 ghost use Rattle.cmwq_types.specs.Values.{IsScenario};
 ghost use Rattle.cmwq_image.specs.Worked.{disabling_scenario, ending_with, in_version, reclaiming_scenario, worked_image, worked_scenario};
 ghost use Rattle.cmwq_image.specs.declared.error.ImageError.{ImageError};
 ghost use Rattle.cmwq_image.specs.declared.error.ImageError.TheVariants as errors;
-ghost use Rattle.cmwq_image.specs.declared.version.TheConstants.{FIRST_VERSION, SECOND_VERSION, VERSION};
+ghost use Rattle.cmwq_image.specs.declared.version.TheConstants.{FIRST_VERSION, SECOND_VERSION, THIRD_VERSION, VERSION};
 ghost use Rattle.cmwq_types.specs.Contents.{ScenarioContents};
 ghost use Rattle.cmwq_types.specs.Faults.{IsValid};
 ghost use Rattle.cmwq_types.specs.Fields.{queue_id, work_id};
@@ -33,13 +33,14 @@ pub fn written_is_read()
     ensures { (S : ScenarioContents) (version : ℕ) → IsScenario S → IsValid S → HasVersion S version → reading (image version S) ≡ Ok S }
 {}
 
-/// The version that is written has each scenario's flags and instructions. The second one has them exactly where no
-/// queue has the flag `mem_reclaim` and no actor gives `pressure` or `relief`; the first one exactly where besides no
-/// actor disables or enables a work.
+/// The version that is written has each scenario's flags and instructions. The third one has them exactly where no
+/// actor gives `until`, `wait` or `quiet`; the second one exactly where besides no queue has the flag `mem_reclaim` and
+/// no actor gives `pressure` or `relief`; the first one exactly where besides no actor disables or enables a work.
 pub fn versions_of_a_scenario()
     ensures newest { (S : ScenarioContents) → HasVersion S VERSION }
-    ensures second { (S : ScenarioContents) → HasVersion S SECOND_VERSION ↔ MemoryIsAmple S }
-    ensures first { (S : ScenarioContents) → HasVersion S FIRST_VERSION ↔ (MemoryIsAmple S × NeverDisables S) }
+    ensures third { (S : ScenarioContents) → HasVersion S THIRD_VERSION ↔ NeverGoesOn S }
+    ensures second { (S : ScenarioContents) → HasVersion S SECOND_VERSION ↔ (NeverGoesOn S × MemoryIsAmple S) }
+    ensures first { (S : ScenarioContents) → HasVersion S FIRST_VERSION ↔ (NeverGoesOn S × MemoryIsAmple S × NeverDisables S) }
 {}
 
 /// Writes the scenario and reads it again: it comes back, unless memory runs out. This stands on what `write`
@@ -89,14 +90,16 @@ pub fn instructions_are_words()
     ensures queue_number { (q max : ℕ) → instr_word (instr.SetMax (queue_id q) max) ≡ word 24 0 q max }
     ensures pool { (pool : ℕ) → instr_word (instr.Step pool) ≡ word 28 pool 0 0 }
     ensures flush { (flush : ℕ) → instr_word (instr.Ask flush) ≡ word 31 0 flush 0 }
+    ensures time { (time : ℕ) → instr_word (instr.Until time) ≡ word 38 0 0 time }
 {}
 
-/// The worked image is the image of the worked scenario, which is valid; with 1 or 2 in its byte 5 it is that of an
+/// The worked image is the image of the worked scenario, which is valid; with 1, 2 or 3 in its byte 5 it is that of an
 /// older version.
 pub fn worked_image_is_written()
     ensures image { image VERSION worked_scenario ≡ worked_image }
     ensures first { image FIRST_VERSION worked_scenario ≡ in_version 1 }
     ensures second { image SECOND_VERSION worked_scenario ≡ in_version 2 }
+    ensures third { image THIRD_VERSION worked_scenario ≡ in_version 3 }
     ensures size { length worked_image ≡ 126 }
     ensures valid { IsValid worked_scenario }
 {}
@@ -107,13 +110,14 @@ pub fn worked_image_is_read()
     ensures read { reading worked_image ≡ Ok worked_scenario }
     ensures version_1 { reading (in_version 1) ≡ Ok worked_scenario }
     ensures version_2 { reading (in_version 2) ≡ Ok worked_scenario }
+    ensures version_3 { reading (in_version 3) ≡ Ok worked_scenario }
     ensures empty { reading [] ≡ Err errors.Magic }
     ensures shorter { reading (take 125 worked_image) ≡ Err errors.Truncated }
     ensures longer { reading (worked_image ++ 0 ∷ []) ≡ Err errors.Extra }
     ensures zero_byte { reading (slice_set worked_image 37 1) ≡ Err (errors.BadField 37) }
     ensures cpus { reading (slice_set worked_image 6 17) ≡ Err (errors.Fault Range) }
     ensures version_0 { reading (in_version 0) ≡ Err errors.Version }
-    ensures version_4 { reading (in_version 4) ≡ Err errors.Version }
+    ensures version_5 { reading (in_version 5) ≡ Err errors.Version }
     ensures disable { reading (slice_set worked_image 114 34) ≡ Ok disabling_scenario }
     ensures disable_in_1 { reading (slice_set (in_version 1) 114 34) ≡ Err (errors.BadField 114) }
     ensures disable_in_2 { reading (slice_set (in_version 2) 114 34) ≡ Ok disabling_scenario }
@@ -124,5 +128,11 @@ pub fn worked_image_is_read()
     ensures mem_reclaim { reading (slice_set (in_version 3) 36 32) ≡ Ok reclaiming_scenario }
     ensures mem_reclaim_in_1 { reading (slice_set (in_version 1) 36 32) ≡ Err (errors.BadField 36) }
     ensures mem_reclaim_in_2 { reading (slice_set (in_version 2) 36 32) ≡ Err (errors.BadField 36) }
-    ensures mem_reclaim_in_4 { reading (slice_set (in_version 4) 36 32) ≡ Err errors.Version }
+    ensures mem_reclaim_in_5 { reading (slice_set (in_version 5) 36 32) ≡ Err errors.Version }
+    ensures quiet { reading (slice_set worked_image 114 40) ≡ Ok (ending_with instr.Quiet) }
+    ensures quiet_in_3 { reading (slice_set (in_version 3) 114 40) ≡ Err (errors.BadField 114) }
+    ensures until_in_3 { reading (slice_set (in_version 3) 114 38) ≡ Err (errors.BadField 114) }
+    ensures until { reading (slice_set worked_image 114 38) ≡ Ok (ending_with (instr.Until 0)) }
+    ensures wait { reading (slice_set worked_image 114 39) ≡ Ok (ending_with (instr.Wait 0)) }
+    ensures tag_41 { reading (slice_set worked_image 114 41) ≡ Err (errors.BadField 114) }
 {}

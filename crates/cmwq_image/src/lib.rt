@@ -14,5 +14,5 @@ mod writing;
 
 pub use error::ImageError;
 pub use image_reading::read;
-pub use version::{FIRST_VERSION, SECOND_VERSION, VERSION};
+pub use version::{FIRST_VERSION, SECOND_VERSION, THIRD_VERSION, VERSION};
 pub use writing::write;

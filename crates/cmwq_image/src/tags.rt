@@ -4,7 +4,7 @@ ghost use Rattle.cmwq_image.specs.ImageFault.{first_tagged, instr_room, op_of, o
 ghost use Rattle.cmwq_types.specs.Mnemonics.{mnemonics};
 ghost use Rattle.std.specs.Prelude.{◌≡◌, slice_get};
 
-use crate::version::{FIRST_VERSION, SECOND_VERSION};
+use crate::version::{FIRST_VERSION, SECOND_VERSION, THIRD_VERSION};
 use crate::word::FieldRoom;
 use cmwq_types::{Mnemonic, Op, Shape, WorkId, shape_of};
 
@@ -105,6 +105,7 @@ pub(crate) fn instr_room(mnemonic: Mnemonic) -> FieldRoom
         Shape::Queue => FieldRoom::new(0, 255, 0),
         Shape::QueueNumber => FieldRoom::new(0, 255, u32::MAX),
         Shape::Pool => FieldRoom::new(u8::MAX, 0, 0),
+        Shape::Time => FieldRoom::new(0, 0, u32::MAX),
     }
 }
 
@@ -116,7 +117,9 @@ fn last_tag(version: u16) -> u8
         33
     } else if version == SECOND_VERSION {
         35
-    } else {
+    } else if version == THIRD_VERSION {
         37
+    } else {
+        40
     }
 }

@@ -21,7 +21,7 @@ use std::alloc::Global;
 
 /// The image of a valid scenario, at most 923,058 bytes: a head, then each queue, each work with its operations and
 /// each actor with its lines, in order, numbers with their highest byte first. The format is this project's own,
-/// version 3, and is drawn in `docs/FORMATS.md`. The only error is want of memory.
+/// version 4, and is drawn in `docs/FORMATS.md`. The only error is want of memory.
 pub fn write(alloc: Global, scenario: &Scenario) -> Result<Vec<u8>, NoMemory>
     requires { IsValid scenario.now }
     ensures image { IfOk result (λ bytes. bytes.items ≡ image VERSION scenario.now) }

@@ -55,6 +55,7 @@ impl fmt::Display for Operands<'_> {
             Shape::QueueNumber => write!(f, " {} {number}", scenario.queue_name(id as usize)),
             Shape::Pool => write!(f, " {cpu}"),
             Shape::Flush => write!(f, " {id}"),
+            Shape::Time => write!(f, " {number}"),
         }
     }
 }

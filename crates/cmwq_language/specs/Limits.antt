@@ -23,7 +23,7 @@ limit limited.Times = MAX_TIMES
 abbrev pub before : Limited → List ℕ
 before limited.Cpus = codes "  cpus N: CPUs, 1 to "
 before limited.Workers = codes "\n  workers N: the most workers of a pool, 1 to "
-before limited.Steps = codes "\n  steps N: how many instructions are accepted, questions aside, 1 to "
+before limited.Steps = codes "\n  steps N: the most instructions that are accepted, 1 to "
 before limited.Flushes = codes "\n  flushes N: how many flushes can be given, 0 to "
 before limited.MaxActive = codes "\n  queue NAME max N FLAG..: a queue and its max_active, 1 to "
 before limited.Queues = codes "; queues are at most "

@@ -16,6 +16,7 @@ operand_names shape.Queue = codes " QUEUE"
 operand_names shape.QueueNumber = codes " QUEUE N"
 operand_names shape.Pool = codes " POOL"
 operand_names shape.Flush = codes " F"
+operand_names shape.Time = codes " N"
 
 abbrev pub meaning : Mnemonic → List ℕ
 meaning word.Queue = codes ": queues it on a CPU, unless it is pending\n"
@@ -40,6 +41,9 @@ meaning word.Disable = codes ": takes it off, and refuses to queue it until it i
 meaning word.Enable = codes ": takes one disable back\n"
 meaning word.Pressure = codes ": memory is short: no worker is made\n"
 meaning word.Relief = codes ": ends that\n"
+meaning word.Until = codes ": nothing once the time is N, until then as next\n"
+meaning word.Wait = codes ": nothing once flush F is done, until then as next\n"
+meaning word.Quiet = codes ": nothing once no work is pending or runs, until then as next\n"
 
 abbrev pub flag_word : QueueFlag → List ℕ
 flag_word flag.Highpri = codes "highpri"

@@ -72,9 +72,7 @@ impl Limited {
         match self {
             Limited::Cpus => "  cpus N: CPUs, 1 to ",
             Limited::Workers => "\n  workers N: the most workers of a pool, 1 to ",
-            Limited::Steps => {
-                "\n  steps N: how many instructions are accepted, questions aside, 1 to "
-            }
+            Limited::Steps => "\n  steps N: the most instructions that are accepted, 1 to ",
             Limited::Flushes => "\n  flushes N: how many flushes can be given, 0 to ",
             Limited::MaxActive => "\n  queue NAME max N FLAG..: a queue and its max_active, 1 to ",
             Limited::Queues => "; queues are at most ",

@@ -71,6 +71,7 @@ pub(crate) fn operand_names(shape: Shape) -> &'static str
         Shape::QueueNumber => " QUEUE N",
         Shape::Pool => " POOL",
         Shape::Flush => " F",
+        Shape::Time => " N",
     }
 }
 
@@ -103,5 +104,8 @@ pub(crate) fn meaning(word: Mnemonic) -> &'static str
         Mnemonic::Enable => ": takes one disable back\n",
         Mnemonic::Pressure => ": memory is short: no worker is made\n",
         Mnemonic::Relief => ": ends that\n",
+        Mnemonic::Until => ": nothing once the time is N, until then as next\n",
+        Mnemonic::Wait => ": nothing once flush F is done, until then as next\n",
+        Mnemonic::Quiet => ": nothing once no work is pending or runs, until then as next\n",
     }
 }

@@ -13,7 +13,7 @@ use Rattle.cmwq_types.specs.declared.reply.Reply.TheVariants as reply
 use Rattle.cmwq_table.proofs.CounterLemmas.{effect-spent}
 use Rattle.cmwq_table.specs.Counts.{burns, is_busy, is_done}
 use Rattle.cmwq_table.specs.State.{State, pending_at, running_at}
-use Rattle.cmwq_table.specs.Table.{answer, effect, is_question, refusal, table, target_at, yes_or_no}
+use Rattle.cmwq_table.specs.Table.{answer, effect, is_free, refusal, table, target_at, yes_or_no, is_met, next_unless}
 use Rattle.cmwq_table.specs.declared.state.Pending.{Pending}
 use Rattle.cmwq_table.specs.declared.state.Running.{Running}
 use Rattle.cmwq_ledger.specs.Books.{BooksContents, books_after, books_begun}
@@ -217,11 +217,15 @@ yes_or_no-quiet : (i : Instr) (b : Bool) → IsQuiet i (yes_or_no b)
 yes_or_no-quiet i true = record { finished = refl; started = refl; rescued = refl; cancelled = refl }
 yes_or_no-quiet i false = record { finished = refl; started = refl; rescued = refl; cancelled = refl }
 
--- a question changes nothing, and its answer tells of no instance
+-- what is free changes nothing, and its answer tells of no instance
 AsksOnly : ScenarioContents → State → Instr → Type 0
 AsksOnly S s i = ((effect S s i).0 ≡ s) × IsQuiet i (effect S s i).1
 
-asks : (S : ScenarioContents) (s : State) (i : Instr) → is_question i ≡ true → AsksOnly S s i
+met-only : (S : ScenarioContents) (s : State) (i : Instr) (met : Bool) → met ≡ true → ((next_unless S s met).0 ≡ s) × IsQuiet i (next_unless S s met).1
+met-only S s i true e = (refl, record { finished = refl; started = refl; rescued = refl; cancelled = refl })
+met-only S s i false e = absurd cc
+
+asks : (S : ScenarioContents) (s : State) (i : Instr) → is_free S s i ≡ true → AsksOnly S s i
 unfolding AsksOnly
 asks S s (instr.Ask flush) e = (refl, yes_or_no-quiet (instr.Ask flush) (is_done S s (target_at s flush)))
 asks S s instr.Busy e = (refl, yes_or_no-quiet instr.Busy (is_busy S s))
@@ -245,6 +249,9 @@ asks S s (instr.Disable w) e = absurd cc
 asks S s (instr.Enable w) e = absurd cc
 asks S s instr.Pressure e = absurd cc
 asks S s instr.Relief e = absurd cc
+asks S s (instr.Until time) e = met-only S s (instr.Until time) (is_met S s (instr.Until time)) e
+asks S s (instr.Wait flush) e = met-only S s (instr.Wait flush) (is_met S s (instr.Wait flush)) e
+asks S s instr.Quiet e = met-only S s instr.Quiet (is_met S s instr.Quiet) e
 
 -- the books have room for what was spent
 abbrev HasRoomAfter : ScenarioContents → BooksContents → State → Instr → State × Reply → Type 0
@@ -254,7 +261,7 @@ module _ (S : ScenarioContents) (B : BooksContents) (s : State) (i : Instr) (set
   books-up : (m n : ℕ) (C : BooksContents) → m ≤ n → AreBooksWithin m C → AreBooksWithin n C
   books-up m n C up w = record { ledger = ledger-up m n C.ledger up w.ledger; totals = totals-up m n C.totals up w.totals }
 
-  spent-within : (b : Bool) → is_question i ≡ b → HasRoomAfter S B s i (record (effect S s i).0 { spent = (effect S s i).0.spent + cond b 0 1 }, (effect S s i).1)
+  spent-within : (b : Bool) → is_free S s i ≡ b → HasRoomAfter S B s i (record (effect S s i).0 { spent = (effect S s i).0.spent + cond b 0 1 }, (effect S s i).1)
   spent-within true e =
       let only : ((effect S s i).0 ≡ s) × IsQuiet i (effect S s i).1 = unfold AsksOnly in asks S s i e in
       let same : s ≡ record (effect S s i).0 { spent = (effect S s i).0.spent + 0 } =
@@ -264,9 +271,9 @@ module _ (S : ScenarioContents) (B : BooksContents) (s : State) (i : Instr) (set
       let after : State × Reply = (record (effect S s i).0 { spent = (effect S s i).0.spent + 1 }, (effect S s i).1) in
       books-up (512 * s.spent + 512) (512 * ((effect S s i).0.spent + 1)) (books_by S B s i after) (omega (arith, effect-spent S s i setting)) (by-within S B s i setting (512 * s.spent) after within)
 
-  answer-within : (o : Option Refusal) → HasRoomAfter S B s i (answer s i o (effect S s i))
+  answer-within : (o : Option Refusal) → HasRoomAfter S B s i (answer S s i o (effect S s i))
   answer-within (Some why) = quiet-within S B s i setting (512 * s.spent) (reply.Refused why) (refused-quiet i why) within
-  answer-within None = spent-within (is_question i) refl
+  answer-within None = spent-within (is_free S s i) refl
 
   -- what was spent bounds what is counted
   pub books-within : AreBooksWithin (512 * (table S s i).0.spent) (books_after S B s i)

@@ -26,7 +26,7 @@ use Rattle.cmwq_table.specs.Counts.{first_due, first_inactive, free_worker, has_
 use Rattle.cmwq_table.specs.Counts as counts
 use Rattle.cmwq_table.specs.Moves.{advance, become_idle, begin_again, carry_out, come_to_end, deferred, enlist, fill, fill_everywhere, fill_freezable, fill_from, fill_one, fill_pools, fill_times, finish, fire, fired, fired_to, first_moving, freeze, listed_at, next_move, onward, place, place_after, queue_from_body, rescued, retire, set_max, started, take_off, taken_off, thaw, tick, with_depth, with_pending, with_pressed, with_running, woken}
 use Rattle.cmwq_table.specs.State.{State, depth_at, is_disabled, pending_at, running_at}
-use Rattle.cmwq_table.specs.Table.{answer, cancelled, delayed, effect, fired_first, modified, next, no_work, no_work_or_cpu, operands, queued, refuse_unless, situation, spent_all, step_or_tick, stepped, table, target_at, yes_or_no}
+use Rattle.cmwq_table.specs.Table.{answer, cancelled, delayed, effect, fired_first, modified, next, no_work, no_work_or_cpu, operands, queued, refuse_unless, situation, spent_all, step_or_tick, stepped, table, target_at, yes_or_no, is_met, next_unless}
 use Rattle.cmwq_table.specs.declared.state.Pending.{Pending}
 use Rattle.cmwq_table.specs.declared.state.Running.{Running}
 use Rattle.cmwq_burning.proofs.Choosing.{MoveFits, next_move-fits}
@@ -369,6 +369,10 @@ work-there : (S : ScenarioContents) (w : WorkId) (cpu : ℕ) → no_work_or_cpu 
 work-there S w cpu e =
     ltb-true w.0 (length S.works) (granted (nat_lt w.0 (length S.works)) NoSuchWork (both-granted (no_work S w) (refuse_unless (nat_lt cpu S.cpus) NoSuchCpu) e).0)
 
+next_unless-does : (S : ScenarioContents) (s : State) (i : Instr) (met : Bool) → IsSetting S → length s.pending ≡ length S.works → Does s i (next_unless S s met)
+next_unless-does S s i true setting long = Turns.stays (itself s)
+next_unless-does S s i false setting long = next-does S s i (first_due S s) setting long
+
 effect-does : (S : ScenarioContents) (s : State) (i : Instr) → IsSetting S → length s.pending ≡ length S.works → operands S s i ≡ None → Does s i (effect S s i)
 effect-does S s (instr.Queue w cpu) setting long fits = queued-does S s w cpu (pending_at s w.0) (omega (arith, long, work-there S w cpu fits)) refl
 effect-does S s (instr.Delay w cpu ticks) setting long fits = delayed-does S s w cpu ticks (pending_at s w.0) (omega (arith, long, work-there S w cpu fits)) refl
@@ -393,6 +397,9 @@ effect-does S s (instr.Disable w) setting long fits = cancelled-does S s (with_d
 effect-does S s (instr.Enable w) setting long fits = answered s (with_depth s w.0 (depth_at s w.0 - 1)) (instr.Enable w) ((depth_at s w.0 - 1) == 0) (kept s (with_depth s w.0 (depth_at s w.0 - 1)) refl)
 effect-does S s instr.Pressure setting long fits = Turns.stays (kept s (with_pressed s true) refl)
 effect-does S s instr.Relief setting long fits = Turns.stays (kept s (with_pressed s false) refl)
+effect-does S s (instr.Until time) setting long fits = next_unless-does S s (instr.Until time) (is_met S s (instr.Until time)) setting long
+effect-does S s (instr.Wait flush) setting long fits = next_unless-does S s (instr.Wait flush) (is_met S s (instr.Wait flush)) setting long
+effect-does S s instr.Quiet setting long fits = next_unless-does S s instr.Quiet (is_met S s instr.Quiet) setting long
 
 spent-does : (s t : State) (r : Reply) (i : Instr) (spent : ℕ) → Does s i (t, r) → Does s i (record t { spent = spent }, r)
 spent-does s t r i spent does = then-kept does where
@@ -407,7 +414,7 @@ spent-does s t r i spent does = then-kept does where
   then-kept (Turns.changes v was same) = Turns.changes v was (record { some = same.some; long = same.long })
 
 answer-does : (S : ScenarioContents) (s : State) (i : Instr) (a b : Option Refusal) → IsSetting S → length s.pending ≡ length S.works → operands S s i ≡ a
-    → Does s i (answer s i (counts.or_else a b) (effect S s i))
+    → Does s i (answer S s i (counts.or_else a b) (effect S s i))
 answer-does S s i (Some why) b setting long fits = Turns.stays (itself s)
 answer-does S s i None (Some why) setting long fits = Turns.stays (itself s)
 answer-does S s i None None setting long fits = spent-does s (effect S s i).0 (effect S s i).1 i _ (effect-does S s i setting long fits)

@@ -261,6 +261,7 @@ fn put_operands(text: &mut LineEnd, scenario: &Scenario, shape: Shape, fields: F
         }
         Shape::Pool => text.put_number(u32::from(cpu)),
         Shape::Flush => text.put_number(u32::from(id)),
+        Shape::Time => text.put_number(number),
     }
 }
 

@@ -100,3 +100,15 @@ lone_driver most lines =
       works = work (codes "a") 0 (Finish ∷ []) ∷ [];
       actors = actor (codes "t") lines ∷ [];
     }
+
+-- two who wait for a time each, the second for a later one
+abbrev pub two_sleepers : ScenarioContents
+two_sleepers =
+    record (lone_driver 100 [])
+    { actors = actor (codes "t") (times (instr.Until 1) 1 ∷ []) ∷ actor (codes "u") (times (instr.Until 2) 1 ∷ []) ∷ [] }
+
+-- one queues the work and flushes it, and the other waits for that flush
+abbrev pub one_waits_for_another : ScenarioContents
+one_waits_for_another =
+    record (lone_driver 100 [])
+    { actors = actor (codes "t") (enqueue 0 0 ∷ flush 0 ∷ []) ∷ actor (codes "u") (times (instr.Wait 0) 1 ∷ []) ∷ [] }

@@ -3,7 +3,7 @@
 #![tactic(auto, unfolding(cmwq_table::specs::Table::table, cmwq_orders::specs::Orders::taken, cmwq_orders::specs::Questions::fails))]
 
 ghost use Rattle.cmwq_examples.specs.Declare.{cancel, cancel_sync, disable, enqueue, times};
-ghost use Rattle.cmwq_order_examples.specs.Drivers.{comes_to, ended_behind, frozen_driver, goes, lone_driver, one_before_other, places_behind, poll_driver, steps, ticks, ways_behind};
+ghost use Rattle.cmwq_order_examples.specs.Drivers.{comes_to, ended_behind, frozen_driver, goes, lone_driver, one_before_other, one_waits_for_another, places_behind, poll_driver, steps, ticks, two_sleepers, ways_behind};
 ghost use Rattle.cmwq_types.specs.Faults.{IsValid};
 ghost use Rattle.cmwq_types.specs.declared.instr.Instr.TheVariants as instr;
 ghost use Rattle.std.specs.Prelude.{◌≡◌, ◌∷◌, [], None, Some, false, true};
@@ -73,4 +73,31 @@ pub fn refused_lines_come_or_wait()
 pub fn time_passes_for_somebody()
     ensures still { places_behind (lone_driver 100 []) [] (ticks ∷ []) ≡ None }
     ensures asked { places_behind (lone_driver 100 (times instr.Tick 1 ∷ [])) [] (goes 0 ∷ []) ≡ Some (1 ∷ []) }
+{}
+
+/// An actor stands at an until until its time has come, and time passes for it where nothing else would come of it.
+pub fn actors_stand_until_their_time()
+    ensures early { places_behind (lone_driver 100 (times (instr.Until 1) 1 ∷ [])) [] (goes 0 ∷ []) ≡ None }
+    ensures passes { places_behind (lone_driver 100 (times (instr.Until 1) 1 ∷ [])) [] (ticks ∷ []) ≡ Some (0 ∷ []) }
+    ensures there { places_behind (lone_driver 100 (times (instr.Until 1) 1 ∷ [])) [] (ticks ∷ goes 0 ∷ []) ≡ Some (1 ∷ []) }
+    ensures once { places_behind (lone_driver 100 (times (instr.Until 1) 1 ∷ [])) [] (ticks ∷ ticks ∷ []) ≡ None }
+{}
+
+/// Whoever waits for another one can't make time pass by an until.
+pub fn time_passes_for_who_may_go()
+    ensures first { places_behind two_sleepers (one_before_other 0 1 ∷ []) (ticks ∷ []) ≡ Some (0 ∷ 0 ∷ []) }
+    ensures then { places_behind two_sleepers (one_before_other 0 1 ∷ []) (ticks ∷ ticks ∷ []) ≡ None }
+    ensures both { places_behind two_sleepers [] (ticks ∷ ticks ∷ []) ≡ Some (0 ∷ 0 ∷ []) }
+{}
+
+/// At a wait it stands until the flush was given, by whomever, and is done, and at a quiet until nothing is pending or runs; and
+/// once only, however often the line stands.
+pub fn actors_stand_until_it_has_come()
+    ensures not_given { places_behind (poll_driver (times (instr.Wait 0) 1 ∷ [])) [] (goes 1 ∷ []) ≡ None }
+    ensures many { ended_behind (lone_driver 100 (times instr.Quiet 9 ∷ times (instr.Until 0) 9 ∷ [])) [] 0 (goes 0 ∷ goes 0 ∷ []) ≡ Some true }
+    ensures busy { places_behind (lone_driver 100 (enqueue 0 0 ∷ times instr.Quiet 1 ∷ [])) [] (goes 0 ∷ goes 0 ∷ []) ≡ None }
+    ensures runs { places_behind (lone_driver 100 (enqueue 0 0 ∷ times instr.Quiet 1 ∷ [])) [] (goes 0 ∷ steps 0 ∷ goes 0 ∷ []) ≡ None }
+    ensures quiet { places_behind (lone_driver 100 (enqueue 0 0 ∷ times instr.Quiet 1 ∷ [])) [] (goes 0 ∷ steps 0 ∷ steps 0 ∷ goes 0 ∷ []) ≡ Some (2 ∷ []) }
+    ensures other_waits { places_behind one_waits_for_another [] (goes 0 ∷ goes 0 ∷ goes 1 ∷ []) ≡ None }
+    ensures other_goes { places_behind one_waits_for_another [] (goes 0 ∷ goes 0 ∷ steps 0 ∷ steps 0 ∷ goes 1 ∷ []) ≡ Some (2 ∷ 1 ∷ []) }
 {}

@@ -21,12 +21,12 @@ use Rattle.cmwq_table.specs.Counts.{burns, first_due, first_inactive, free_worke
 use Rattle.cmwq_table.specs.Moves.{advance, become_idle, begin_again, burned, carry_out, come_to_end, deferred, enlist, fill, fill_everywhere, fill_freezable, fill_from, fill_one, fill_pools, fill_times, finish, fired, fired_to, first_moving, moved, next_move, onward, place, place_after, queue_from_body, rescued, retire, started, taken_off, tick, with_depth, with_pending, with_running, woken}
 use Rattle.cmwq_table.specs.State.{State, depth_at, is_disabled, pending_at, running_at}
 use Rattle.cmwq_table.specs.State as states
-use Rattle.cmwq_table.specs.Table.{answer, cancelled, delayed, effect, fired_first, modified, next, queued, refusal, step_or_tick, stepped, table}
+use Rattle.cmwq_table.specs.Table.{answer, cancelled, delayed, effect, fired_first, modified, next, queued, refusal, step_or_tick, stepped, table, is_met, next_unless}
 use Rattle.cmwq_table.specs.declared.state.Pending.{Pending}
 use Rattle.cmwq_table.specs.declared.state.Running.{Running}
-use Rattle.cmwq_orders.proofs.OrderLemmas.{kept_along, line-taken, none_some, own-taken, unless-some}
+use Rattle.cmwq_orders.proofs.OrderLemmas.{if-some, kept_along, line-taken, none_some, own-taken, unless-some}
 use Rattle.cmwq_orders.specs.Laws.{ReachedStatesAreWhole}
-use Rattle.cmwq_orders.specs.Orders.{Explored, cannot_come, next_line, reached, start, taken, taken_next, went_on}
+use Rattle.cmwq_orders.specs.Orders.{Explored, cannot_come, next_line, reached, start, taken, taken_next, went_on, carried, comes}
 use Rattle.cmwq_orders.specs.Sizes.{IsSized, IsWhole}
 use Rattle.cmwq_orders.specs.declared.choice.Before.{Before}
 use Rattle.cmwq_orders.specs.declared.choice.Choice.{Choice}
@@ -230,6 +230,10 @@ next-long : (S : ScenarioContents) (s : State) (o : Option ℕ) → IsAsLong s (
 next-long S s (Some w) = fired_first-long S s (Some w)
 next-long S s None = step_or_tick-long S s (first_moving S s)
 
+next_unless-long : (S : ScenarioContents) (s : State) (met : Bool) → IsAsLong s (next_unless S s met).0
+next_unless-long S s true = same s
+next_unless-long S s false = next-long S s (first_due S s)
+
 effect-long : (S : ScenarioContents) (s : State) (i : Instr) → IsAsLong s (effect S s i).0
 effect-long S s (instr.Queue w cpu) = queued-long S s w.0 cpu (pending_at s w.0)
 effect-long S s (instr.Delay w cpu ticks) = delayed-long S s w.0 cpu ticks (pending_at s w.0)
@@ -264,8 +268,11 @@ effect-long S s (instr.Disable w) =
 effect-long S s (instr.Enable w) = depth-long s w.0 (depth_at s w.0 - 1)
 effect-long S s instr.Pressure = record { pending = refl; running = refl; idle = refl }
 effect-long S s instr.Relief = record { pending = refl; running = refl; idle = refl }
+effect-long S s (instr.Until time) = next_unless-long S s (is_met S s (instr.Until time))
+effect-long S s (instr.Wait flush) = next_unless-long S s (is_met S s (instr.Wait flush))
+effect-long S s instr.Quiet = next_unless-long S s (is_met S s instr.Quiet)
 
-answer-long : (S : ScenarioContents) (s : State) (i : Instr) (o : Option Refusal) → IsAsLong s (answer s i o (effect S s i)).0
+answer-long : (S : ScenarioContents) (s : State) (i : Instr) (o : Option Refusal) → IsAsLong s (answer S s i o (effect S s i)).0
 answer-long S s i (Some why) = same s
 answer-long S s i None =
     let done = effect-long S s i in
@@ -298,7 +305,8 @@ went_on-whole S e actor i whole = record {
 
 next-whole : (S : ScenarioContents) (e f : Explored) (actor : ℕ) (o : Option Instr) → IsWhole S e → taken_next S e actor o ≡ Some f → IsWhole S f
 next-whole S e f actor (Some i) whole t =
-    subst (IsWhole S) (unless-some (cannot_come (table S e.machine i).1) (went_on e actor (table S e.machine i)) f t) (went_on-whole S e actor i whole)
+    let now = if-some (comes S e.machine i) (carried e actor (table S e.machine i)) f t in
+    subst (IsWhole S) (unless-some (cannot_come (table S e.machine i).1) (went_on e actor (table S e.machine i)) f now.1) (went_on-whole S e actor i whole)
 next-whole S e f actor None whole t = absurd (none_some f t)
 
 pub taken-whole : (S : ScenarioContents) (before : List Before) (e f : Explored) (c : Choice) → IsWhole S e → taken S before e c ≡ Some f → IsWhole S f

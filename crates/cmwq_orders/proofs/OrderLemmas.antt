@@ -10,7 +10,7 @@ use Rattle.cmwq_types.specs.declared.instr.Instr.TheVariants as instr
 use Rattle.cmwq_table.specs.State.{State}
 use Rattle.cmwq_table.specs.Table.{after_all, table}
 use Rattle.cmwq_orders.specs.Laws.{BeginsBehindOthers, ClosedListsHaveAll, OrdersAreRuns, StuckStatesHaveNoChoice, WaitsForItsFlush}
-use Rattle.cmwq_orders.specs.Orders.{Explored, and_then, any_below, and_then_told, cannot_come, has_ended, instr_taken, instrs_from, is_own, is_waiting, lines_of, may_begin, may_go, moved, next_line, no_actor, reached_from, start, taken, taken_next, went_on}
+use Rattle.cmwq_orders.specs.Orders.{Explored, and_then, any_below, and_then_told, cannot_come, carried, comes, has_ended, instr_taken, instrs_from, is_own, is_waiting, lines_of, may_begin, may_go, moved, next_line, no_actor, reached_from, start, taken, taken_next, went_on}
 use Rattle.cmwq_orders.specs.Questions.{can_go_on, can_move, can_take, have_ended, is_spent}
 use Rattle.cmwq_orders.specs.declared.choice.Before.{Before}
 use Rattle.cmwq_orders.specs.declared.choice.Choice.{Choice}
@@ -64,7 +64,8 @@ module _ (S : ScenarioContents) (e f : Explored) where
 
   next-runs : (actor : ℕ) (o : Option Instr) → taken_next S e actor o ≡ Some f → Runs o
   next-runs actor (Some i) t =
-      (i, refl, ap (λ (g : Explored). g.machine) (unless-some (cannot_come (table S e.machine i).1) (went_on e actor (table S e.machine i)) f t))
+      let now = if-some (comes S e.machine i) (carried e actor (table S e.machine i)) f t in
+      (i, refl, ap (λ (g : Explored). g.machine) (unless-some (cannot_come (table S e.machine i).1) (went_on e actor (table S e.machine i)) f now.1))
   next-runs actor None t = absurd (none_some f t)
 
   module _ (before : List Before) where
@@ -73,9 +74,9 @@ module _ (S : ScenarioContents) (e f : Explored) where
     unfolding taken
     line-taken actor t = if-some (may_go S before e actor) (taken_next S e actor (next_line S e actor)) f t
 
-    pub own-taken : (i : Instr) → taken S before e (Own i) ≡ Some f → (is_own S e.machine i ≡ true) × (moved e (table S e.machine i) ≡ Some f)
+    pub own-taken : (i : Instr) → taken S before e (Own i) ≡ Some f → (is_own S before e i ≡ true) × (moved e (table S e.machine i) ≡ Some f)
     unfolding taken
-    own-taken i t = if-some (is_own S e.machine i) (moved e (table S e.machine i)) f t
+    own-taken i t = if-some (is_own S before e i) (moved e (table S e.machine i)) f t
 
     pub taken-runs : (c : Choice) → taken S before e c ≡ Some f → Runs (instr_taken S e c)
     taken-runs (Line actor) t = next-runs actor (next_line S e actor) (line-taken actor t).1
@@ -194,7 +195,7 @@ module _ (S : ScenarioContents) (before : List Before) (e : Explored) where
   line-past actor past =
       unless (Line actor) (λ f t. none_some f (sym (ap (taken_next S e actor) (no-line S e actor past)) ∙ (line-taken S e f before actor t).1))
 
-  pub own-not : (i : Instr) → is_own S e.machine i ≡ false → taken S before e (Own i) ≡ None
+  pub own-not : (i : Instr) → is_own S before e i ≡ false → taken S before e (Own i) ≡ None
   own-not i not = unless (Own i) (λ f t. true≢false (sym (own-taken S e f before i t).0 ∙ not))
 
   pub step-past : (pool : ℕ) → pool_count S ≤ pool → taken S before e (Own (instr.Step pool)) ≡ None

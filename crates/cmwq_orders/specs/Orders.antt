@@ -1,10 +1,11 @@
 -- Orders of several actors' instructions: what may come next, and what comes of it.
-use Rattle.std.specs.Prelude.{ℕ, zero, suc, ◌+◌, Bool, true, false, not, ◌&&◌, ◌||◌, List, [], ◌∷◌, length, replicate, Option, Some, None, if◌then◌else◌, is_none, is_some, nat_lt, ◌==◌, slice_get, slice_index_or, slice_set}
+use Rattle.std.specs.Prelude.{ℕ, zero, suc, ◌+◌, Bool, true, false, not, ◌&&◌, ◌||◌, List, [], ◌∷◌, length, map, replicate, Option, Some, None, if◌then◌else◌, is_none, is_some, nat_lt, ◌==◌, slice_get, slice_index_or, slice_set}
 use Rattle.std.specs.List.{flat_map, list_all}
 use Rattle.cmwq_types.specs.Contents.{ActorContents, ScenarioContents}
-use Rattle.cmwq_types.specs.Scenario.{expand, pool_count}
+use Rattle.cmwq_types.specs.Scenario.{expand_lines, pool_count}
 use Rattle.cmwq_types.specs.declared.instr.Instr.{Instr}
 use Rattle.cmwq_types.specs.declared.instr.Instr.TheVariants as instr
+use Rattle.cmwq_types.specs.declared.scenario.Line.{Line as ActorLine}
 use Rattle.cmwq_types.specs.declared.reply.Place.{Place}
 use Rattle.cmwq_types.specs.declared.reply.Place.TheVariants.{Timer, Inactive, Listed, Deferred}
 use Rattle.cmwq_types.specs.declared.reply.Refusal.{Refusal}
@@ -14,7 +15,8 @@ use Rattle.cmwq_types.specs.declared.reply.Reply.TheVariants as reply
 use Rattle.cmwq_table.specs.Counts.{is_done, pends}
 use Rattle.cmwq_table.specs.State.{State, pending_at, running_at}
 use Rattle.cmwq_table.specs.State as states
-use Rattle.cmwq_table.specs.Table.{table, target_at}
+use Rattle.cmwq_table.specs.Laws.{goes_on}
+use Rattle.cmwq_table.specs.Table.{is_met, operands, table, target_at}
 use Rattle.cmwq_orders.specs.declared.choice.Before.{Before}
 use Rattle.cmwq_orders.specs.declared.choice.Choice.{Choice}
 use Rattle.cmwq_orders.specs.declared.choice.Choice.TheVariants.{Line, Own}
@@ -26,9 +28,13 @@ abbrev pub apart : Instr → List Instr
 apart (instr.CancelSync w) = instr.Disable w ∷ instr.Flush w ∷ instr.Enable w ∷ []
 apart i = i ∷ []
 
+-- a line as often as it stands; but an actor stands at an until, a wait or a quiet once, until what it goes on for has come
+abbrev pub stands : ActorLine → ActorLine
+stands line = if goes_on line.instr then record line { times = 1 } else line
+
 -- what an actor carries out, one after another
 abbrev pub lines_of : ActorContents → List Instr
-lines_of actor = flat_map apart (expand actor)
+lines_of actor = flat_map apart (expand_lines (map stands actor.lines))
 
 abbrev pub no_actor : ActorContents
 no_actor = record { name = []; lines = [] }
@@ -105,9 +111,14 @@ went_on e actor after =
 abbrev pub carried : Explored → ℕ → State × Reply → Option Explored
 carried e actor after = if cannot_come after.1 then None else Some (went_on e actor after)
 
+-- an actor stands at an until, a wait or a quiet until what it goes on for has come, and then the line is nothing; a flush that
+-- isn't given yet isn't done
+abbrev pub comes : ScenarioContents → State → Instr → Bool
+comes S s i = not (goes_on i) || (is_met S s i && is_none (operands S s i))
+
 -- the actor's next line, which is this, if it has one
 abbrev pub taken_next : ScenarioContents → Explored → ℕ → Option Instr → Option Explored
-taken_next S e actor (Some i) = carried e actor (table S e.machine i)
+taken_next S e actor (Some i) = if comes S e.machine i then carried e actor (table S e.machine i) else None
 taken_next S e actor None = None
 
 abbrev pub taken_line : ScenarioContents → List Before → Explored → ℕ → Option Explored
@@ -128,23 +139,33 @@ any_below test (suc n) = any_below test n || test n
 abbrev pub is_astir : ScenarioContents → State → Bool
 is_astir S s = any_below (λ w. pends is_timed (pending_at s w) || is_some (running_at s w)) (length S.works)
 
--- what the machine may do by itself: fire, step any pool, and tick where something may come of it
-abbrev pub is_own : ScenarioContents → State → Instr → Bool
-is_own S s instr.Fire = true
-is_own S s (instr.Step pool) = nat_lt pool (pool_count S)
-is_own S s instr.Tick = is_astir S s
-is_own S s other = false
+-- the line is an until of a time that hasn't come
+abbrev pub awaits_time : State → Option Instr → Bool
+awaits_time s (Some (instr.Until time)) = nat_lt s.time time
+awaits_time s other = false
+
+-- an actor that waits for nobody stands at such a line
+abbrev pub is_time_awaited : ScenarioContents → List Before → Explored → Bool
+is_time_awaited S before e =
+    any_below (λ actor. may_go S before e actor && awaits_time e.machine (next_line S e actor)) (length S.actors)
+
+-- what the machine may do by itself: fire, step any pool, and tick where something may come of it, or an actor awaits a time
+abbrev pub is_own : ScenarioContents → List Before → Explored → Instr → Bool
+is_own S before e instr.Fire = true
+is_own S before e (instr.Step pool) = nat_lt pool (pool_count S)
+is_own S before e instr.Tick = is_astir S e.machine || is_time_awaited S before e
+is_own S before e other = false
 
 abbrev pub moved : Explored → State × Reply → Option Explored
 moved e after = if cannot_come after.1 then None else Some (record e { machine = after.0 })
 
-abbrev pub taken_own : ScenarioContents → Explored → Instr → Option Explored
-taken_own S e i = if is_own S e.machine i then moved e (table S e.machine i) else None
+abbrev pub taken_own : ScenarioContents → List Before → Explored → Instr → Option Explored
+taken_own S before e i = if is_own S before e i then moved e (table S e.machine i) else None
 
 -- What the choice comes to. None: it can't be taken now.
 unfoldable pub taken : ScenarioContents → List Before → Explored → Choice → Option Explored
 taken S before e (Line actor) = taken_line S before e actor
-taken S before e (Own i) = taken_own S e i
+taken S before e (Own i) = taken_own S before e i
 
 -- Orders.
 

@@ -16,7 +16,7 @@ use Rattle.cmwq_types.specs.declared.scenario.Op.TheVariants as op
 use Rattle.cmwq_table.specs.Counts.{first_due, free_worker}
 use Rattle.cmwq_table.specs.Moves.{advance, carry_out, come_to_end, deferred, finish, fire, fired, fired_to, first_moving, moved, next_move, onward, place_after, queue_from_body, rescued, set_max, started, taken_off, thaw, tick, with_depth, woken}
 use Rattle.cmwq_table.specs.State.{State, depth_at, is_disabled, pending_at, running_at}
-use Rattle.cmwq_table.specs.Table.{answer, cancelled, delayed, effect, fired_first, modified, next, queued, refusal, step_or_tick, stepped, table}
+use Rattle.cmwq_table.specs.Table.{answer, cancelled, delayed, effect, fired_first, modified, next, queued, refusal, step_or_tick, stepped, table, is_met, next_unless}
 use Rattle.cmwq_table.specs.declared.state.Pending.{Pending}
 use Rattle.cmwq_table.specs.declared.state.Running.{Running}
 use Rattle.cmwq_table.proofs.CounterLemmas.{come_to_end-takes, fill-takes, set_max-takes, taken_off-takes, thaw-takes}
@@ -119,6 +119,10 @@ next-ticks : (S : ScenarioContents) (s : State) (o : Option ℕ) → IsSetting S
 next-ticks S s (Some w) setting = inl (fired_first-time S s (Some w))
 next-ticks S s None setting = step_or_tick-ticks S s (first_moving S s) setting
 
+next_unless-ticks : (S : ScenarioContents) (s : State) (met : Bool) → IsSetting S → TicksOrStays S s (next_unless S s met).0
+next_unless-ticks S s true setting = inl refl
+next_unless-ticks S s false setting = next-ticks S s (first_due S s) setting
+
 effect-ticks : (S : ScenarioContents) (s : State) (i : Instr) → IsSetting S → TicksOrStays S s (effect S s i).0
 effect-ticks S s (instr.Queue w cpu) setting = inl (queued-time S s w.0 cpu (pending_at s w.0))
 effect-ticks S s (instr.Delay w cpu ticks) setting = inl (delayed-time S s w.0 cpu ticks (pending_at s w.0))
@@ -142,17 +146,20 @@ effect-ticks S s (instr.Disable w) setting = inl (cancelled-time S (with_depth s
 effect-ticks S s (instr.Enable w) setting = inl refl
 effect-ticks S s instr.Pressure setting = inl refl
 effect-ticks S s instr.Relief setting = inl refl
+effect-ticks S s (instr.Until time) setting = next_unless-ticks S s (is_met S s (instr.Until time)) setting
+effect-ticks S s (instr.Wait flush) setting = next_unless-ticks S s (is_met S s (instr.Wait flush)) setting
+effect-ticks S s instr.Quiet setting = next_unless-ticks S s (is_met S s instr.Quiet) setting
 
 -- a tick, which some instruction was spent on
 abbrev pub IsTick : ScenarioContents → State → State → Type 0
 IsTick S s t = (spent : ℕ) × (t ≡ record (tick S s) { spent = spent })
 
-answer-ticks : (S : ScenarioContents) (s : State) (i : Instr) (o : Option Refusal) → IsSetting S → ((answer s i o (effect S s i)).0.time ≡ s.time) ⊎ IsTick S s (answer s i o (effect S s i)).0
+answer-ticks : (S : ScenarioContents) (s : State) (i : Instr) (o : Option Refusal) → IsSetting S → ((answer S s i o (effect S s i)).0.time ≡ s.time) ⊎ IsTick S s (answer S s i o (effect S s i)).0
 answer-ticks S s i (Some why) setting = inl refl
 answer-ticks S s i None setting =
     elim (effect-ticks S s i setting) [
       | inl stays ↦ inl stays
-      | inr ticks ↦ inr (_, ap (λ (t : State). record t { spent = (answer s i None (effect S s i)).0.spent }) ticks)
+      | inr ticks ↦ inr (_, ap (λ (t : State). record t { spent = (answer S s i None (effect S s i)).0.spent }) ticks)
     ]
 
 table-ticks : (S : ScenarioContents) (s : State) (i : Instr) → IsSetting S → ((table S s i).0.time ≡ s.time) ⊎ IsTick S s (table S s i).0

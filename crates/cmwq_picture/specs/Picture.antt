@@ -131,6 +131,9 @@ is_own_move instr.Fire = true
 is_own_move (instr.Step pool) = true
 is_own_move instr.Tick = true
 is_own_move instr.Next = true
+is_own_move (instr.Until time) = true
+is_own_move (instr.Wait flush) = true
+is_own_move instr.Quiet = true
 is_own_move i = false
 
 -- the actor did something: it neither let the machine move, nor asked, nor was refused

@@ -18,7 +18,13 @@ fn is_own_move(instr: Instr) -> bool
 {
     matches!(
         instr,
-        Instr::Fire | Instr::Step(_) | Instr::Tick | Instr::Next
+        Instr::Fire
+            | Instr::Step(_)
+            | Instr::Tick
+            | Instr::Next
+            | Instr::Until(_)
+            | Instr::Wait(_)
+            | Instr::Quiet
     )
 }
 

@@ -11,7 +11,7 @@ use Rattle.cmwq_image.specs.declared.error.ImageError.TheVariants as errors
 use Rattle.cmwq_streams.specs.declared.error.PlayError.{PlayError}
 use Rattle.cmwq_streams.specs.declared.error.PlayError.TheVariants.{Image, NoMemory}
 
--- The input, where it is known, is the image of this scenario, of version 3 or of an older one, and the scenario is valid.
+-- The input, where it is known, is the image of this scenario, of version 4 or of an older one, and the scenario is valid.
 pub record IsImage (input : Option (List ℕ)) (S : ScenarioContents) : Type 0 where
   pub contents : IsScenario S
   pub valid : IsValid S

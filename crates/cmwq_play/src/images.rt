@@ -17,7 +17,7 @@ use cmwq_streams::{PlayError, Sink, Source, put_all};
 use cmwq_types::Scenario;
 use std::alloc::Global;
 
-/// Reads a scenario's text, and writes the scenario's image, of version 3.
+/// Reads a scenario's text, and writes the scenario's image, of version 4.
 ///
 /// It answers `Asm` with the text's fault exactly where the text spells no scenario. Nothing was
 /// written then, and on `Read` and `NoMemory`; on `Write` what was written is a front of the image.
@@ -50,7 +50,7 @@ fn write_image<W: Sink>(alloc: Global, scenario: &Scenario, writer: &mut W) -> R
     put_all(writer, &image)
 }
 
-/// Reads a scenario's image, of version 3 or of an older one, and writes the scenario's listing.
+/// Reads a scenario's image, of version 4 or of an older one, and writes the scenario's listing.
 ///
 /// It answers `Image` with the first fault of the bytes exactly where they are no image. Nothing was
 /// written then, and on `Read` and `NoMemory`; on `Write` what was written is a front of the listing.

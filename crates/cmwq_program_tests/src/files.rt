@@ -112,7 +112,7 @@ const VERDICTS: &[u8] = b"cmwq_checks/none.cmwq: read\n\
     cmwq_checks/b.cmwq:3:10: 65: Range\n  here may stand: a number from 1 to 64\n\
     cmwq_checks/c.cmwq:2:8: end of line: MissingWord\n  here may stand: a number from 1 to 64\n\
     cmwq_checks/d.cmwq:6:1: quue: BadWord\n  a line here may begin with: queue, work, actor\n  is queue meant?\n\
-    cmwq_checks/e.cmwq:7:8: a: Unknown\n  a line here may begin with: flush_queue, set_max, freeze, thaw, fire, step, tick, next, ask, busy, pressure, relief, actor\n\
+    cmwq_checks/e.cmwq:7:8: a: Unknown\n  a line here may begin with: flush_queue, set_max, freeze, thaw, fire, step, tick, next, ask, busy, pressure, relief, until, wait, quiet, actor\n\
     cmwq_checks/f.cmwq:5:75: fast: BadWord\n  the line should end here\n";
 
 /// The same at a terminal.
@@ -120,7 +120,7 @@ const SHOWN: &[u8] = b"cmwq_checks/none.cmwq: read\n\
     cmwq_checks/b.cmwq:3:10: 65: \x1b[1;31mRange\x1b[0m\n  workers\t 65 # too many\n         \t ^\n  here may stand: a number from 1 to 64\n\
     cmwq_checks/c.cmwq:2:8: end of line: \x1b[1;31mMissingWord\x1b[0m\n  workers \n         ^\n  here may stand: a number from 1 to 64\n\
     cmwq_checks/d.cmwq:6:1: quue: \x1b[1;31mBadWord\x1b[0m\n  quue\n  ^\n  a line here may begin with: queue, work, actor\n  is queue meant?\n\
-    cmwq_checks/e.cmwq:7:8: a: \x1b[1;31mUnknown\x1b[0m\n  cancel a\n         ^\n  a line here may begin with: flush_queue, set_max, freeze, thaw, fire, step, tick, next, ask, busy, pressure, relief, actor\n\
+    cmwq_checks/e.cmwq:7:8: a: \x1b[1;31mUnknown\x1b[0m\n  cancel a\n         ^\n  a line here may begin with: flush_queue, set_max, freeze, thaw, fire, step, tick, next, ask, busy, pressure, relief, until, wait, quiet, actor\n\
     cmwq_checks/f.cmwq:5:75: fast: \x1b[1;31mBadWord\x1b[0m\n  queue q max 1 highpri unbound cpu_intensive freezable ordered mem_reclaim fast\n                                                                            ^\n  the line should end here\n";
 
 #[test]

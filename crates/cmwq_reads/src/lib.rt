@@ -2,6 +2,7 @@
 //! instruction for at once. It is written once, for machines and for whoever looks at one.
 #![tactic(auto)]
 
+mod conditions;
 mod flushes;
 mod pool_moves_sought;
 mod refusing;
@@ -9,9 +10,10 @@ mod sought;
 mod tally;
 mod workers;
 
+pub use conditions::{first_at_work, is_at_work, is_free, is_met, is_question, is_quiet};
 pub use flushes::{flush_target, is_done};
 pub use pool_moves_sought::{is_spent, next_move, ready_head};
-pub use refusing::{is_question, refused_at_once};
+pub use refusing::{operands, refused_at_once};
 pub use sought::{Sought, fires_before, first, pending_before, running_before, wakes_before};
 pub use tally::{Tally, active, count, has_room, is_busy, is_counted, level, limit, may_start};
 pub use workers::{free_worker, has_free_rescuer, idle_since, last_idle, new_worker};

@@ -1,34 +1,28 @@
 //! What an instruction is refused for before anything of its situation is looked at.
 ghost use Rattle.cmwq_table.specs.Counts.{or_else};
-ghost use Rattle.cmwq_table.specs.Table.{is_question, no_work, no_work_or_cpu, operands, refuse_unless, spent_all};
+ghost use Rattle.cmwq_table.specs.Table.{no_work, no_work_or_cpu, operands, refuse_unless};
 ghost use Rattle.cmwq_types.specs.Faults.{within};
 ghost use Rattle.cmwq_types.specs.declared.limits.TheConstants.{MAX_MAX_ACTIVE};
-ghost use Rattle.cmwq_types.specs.declared.reply.Refusal.TheVariants.{BadCount, NoSuchQueue};
-ghost use Rattle.std.specs.Prelude.{◌≡◌, length, nat_lt};
+ghost use Rattle.cmwq_types.specs.declared.reply.Refusal.TheVariants.{BadCount, NoSuchQueue, Spent};
+ghost use Rattle.std.specs.Prelude.{◌≡◌, ◌||◌, length, nat_lt};
 
 use cmwq_table::Reads;
 use cmwq_types::{Instr, MAX_MAX_ACTIVE, QueueId, Refusal, Scenario, WorkId};
 
-/// Whether the instruction is a question, which is never spent and changes nothing.
-pub fn is_question(instr: Instr) -> bool
-    ensures { result ≡ is_question instr }
-{
-    matches!(instr, Instr::Ask(_) | Instr::Busy | Instr::State(_))
-}
-
-/// What the instruction's operands are refused for, and else whether the steps are spent.
-pub fn refused_at_once<R: Reads>(machine: &R, instr: Instr) -> Option<Refusal>
-    ensures { result ≡ or_else (operands (R.loaded machine.now) (R.state machine.now) instr) (spent_all (R.loaded machine.now) (R.state machine.now) instr) }
+/// What the instruction's operands are refused for, and else, where it isn't free, whether the steps are spent.
+pub fn refused_at_once<R: Reads>(machine: &R, instr: Instr, free: bool) -> Option<Refusal>
+    ensures { result ≡ or_else (operands (R.loaded machine.now) (R.state machine.now) instr)
+        (refuse_unless (free || nat_lt (R.state machine.now).spent (R.loaded machine.now).steps) Spent) }
 {
     if let Some(why) = operands(machine, instr) {
         return Some(why);
     }
     let left = machine.spent() < machine.scenario().steps;
-    refuse_unless(is_question(instr) || left, Refusal::Spent)
+    refuse_unless(free || left, Refusal::Spent)
 }
 
 /// What the operands are refused for, judged from left to right.
-fn operands<R: Reads>(machine: &R, instr: Instr) -> Option<Refusal>
+pub fn operands<R: Reads>(machine: &R, instr: Instr) -> Option<Refusal>
     ensures { result ≡ operands (R.loaded machine.now) (R.state machine.now) instr }
 {
     let scenario = machine.scenario();
@@ -46,7 +40,7 @@ fn operands<R: Reads>(machine: &R, instr: Instr) -> Option<Refusal>
         Instr::FlushQueue(q) => no_queue(scenario, q),
         Instr::SetMax(q, max) => no_queue_or_count(scenario, q, max),
         Instr::Step(pool) => refuse_unless(pool < scenario.pool_count(), Refusal::NoSuchPool),
-        Instr::Ask(flush) => refuse_unless(
+        Instr::Ask(flush) | Instr::Wait(flush) => refuse_unless(
             (flush as usize) < machine.flush_count(),
             Refusal::NoSuchFlush,
         ),

@@ -29,7 +29,7 @@ use Rattle.cmwq_table.specs.State.{State, depth_at, is_disabled, max_at, pending
 use Rattle.cmwq_table.specs.Counts.{first_due, free_worker, is_deferred, is_rescuer, or_else}
 use Rattle.cmwq_table.specs.Laws.{InEveryState}
 use Rattle.cmwq_table.specs.Moves.{advance, become_idle, begin_again, carry_out, come_to_end, deferred, fill, fill_everywhere, fill_freezable, finish, fired, first_moving, moved, next_move, onward, queue_from_body, rescued, retire, started, taken_off, with_depth, with_running, woken}
-use Rattle.cmwq_table.specs.Table.{after_all, answer, cancelled, delayed, effect, fired_first, modified, next, operands, queued, refuse_unless, situation, run, spent_all, step_or_tick, stepped, table}
+use Rattle.cmwq_table.specs.Table.{after_all, answer, cancelled, delayed, effect, fired_first, modified, next, operands, queued, refuse_unless, situation, run, spent_all, step_or_tick, stepped, table, is_met, next_unless}
 use Rattle.cmwq_reasons.specs.Laws.{FrozenByFreeze, TellsFrozen}
 use Rattle.cmwq_reasons.proofs.PendingRows.{tells_frozen}
 use Rattle.cmwq_reasons.proofs.RestLemmas.{cancelled-rest, deferred-rest, delayed-rest, fill-rest, fill_everywhere-rest, fill_freezable-rest, fired-rest, fired_first-rest, modified-rest, queue_from_body-rest, queued-rest, rest, taken_off-rest}
@@ -108,6 +108,10 @@ max_after : State → Instr → List ℕ
 max_after s (instr.SetMax q max) = slice_set s.max q.0 max
 max_after s i = s.max
 
+next_unless-max : (S : ScenarioContents) (s : State) (met : Bool) → (next_unless S s met).0.max ≡ s.max
+next_unless-max S s true = refl
+next_unless-max S s false = next-max S s (first_due S s)
+
 effect-max : (S : ScenarioContents) (s : State) (i : Instr) → (effect S s i).0.max ≡ max_after s i
 unfolding max_after
 effect-max S s (instr.Queue w cpu) = max-of s (queued S s w.0 cpu (pending_at s w.0)).0 (queued-rest S s w.0 cpu (pending_at s w.0))
@@ -138,6 +142,9 @@ effect-max S s (instr.Disable w) =
 effect-max S s (instr.Enable w) = refl
 effect-max S s instr.Pressure = refl
 effect-max S s instr.Relief = refl
+effect-max S s (instr.Until time) = next_unless-max S s (is_met S s (instr.Until time))
+effect-max S s (instr.Wait flush) = next_unless-max S s (is_met S s (instr.Wait flush))
+effect-max S s instr.Quiet = next_unless-max S s (is_met S s instr.Quiet)
 
 -- It is above 0.
 
@@ -172,7 +179,7 @@ max_after-some S s (instr.SetMax q max) fits all = λ queue there.
 max_after-some S s i fits all = all
 
 answer-some : (S : ScenarioContents) (s : State) (i : Instr) (a b : Option Refusal) → operands S s i ≡ a → AllSome S s.max
-    → AllSome S (answer s i (or_else a b) (effect S s i)).0.max
+    → AllSome S (answer S s i (or_else a b) (effect S s i)).0.max
 answer-some S s i (Some why) b fits all = all
 answer-some S s i None (Some why) fits all = all
 answer-some S s i None None fits all = subst (AllSome S) (sym (effect-max S s i)) (max_after-some S s i fits all)

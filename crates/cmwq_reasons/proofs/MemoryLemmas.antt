@@ -31,7 +31,7 @@ use Rattle.cmwq_table.specs.Counts.{burns, can_be_rescued, first_due, first_inac
 use Rattle.cmwq_table.specs.Counts as counts
 use Rattle.cmwq_table.specs.Laws.{HasOneRescuer, InEveryState, IsNotReentrant, placed_in}
 use Rattle.cmwq_table.specs.Moves.{advance, become_idle, begin_again, begin_on, begun, burned, carry_out, come_to_end, deferred, enlist, fill, fill_one, fill_times, finish, fired, fired_to, first_moving, listed_at, moved, newborn, next_move, one_less, onward, place, pool_for, queue_from_body, rescued, retire, started, tick, with_pending, with_running, woken}
-use Rattle.cmwq_table.specs.Table.{after_all, answer, effect, fired_first, next, refusal, run, step_or_tick, stepped, table}
+use Rattle.cmwq_table.specs.Table.{after_all, answer, effect, fired_first, next, refusal, run, step_or_tick, stepped, table, is_met, next_unless}
 use Rattle.cmwq_reasons.specs.declared.reason.Instance.TheVariants as instance
 use Rattle.cmwq_reasons.specs.Laws.{AreMoves, WaitsForRelief, is_move}
 use Rattle.cmwq_reasons.specs.Reasons.{has_relief_to_come, is_starved}
@@ -353,14 +353,21 @@ module _ (S : ScenarioContents) (setting : IsSetting S) (w pool born : ℕ) (no_
   nexts s (Some v) starved is = fires-first s (Some v) starved is
   nexts s None starved is = step_or_ticks s (first_moving S s) starved
 
+  next_unless-keeps : (s : State) (met : Bool) → Starved S w pool born s → Keeps w pool born s (next_unless S s met).0
+  next_unless-keeps s true starved = keeps-none w pool born s
+  next_unless-keeps s false starved = nexts s (first_due S s) starved refl
+
   effect-keeps : (s : State) (i : Instr) → Starved S w pool born s → is_move i ≡ true → Keeps w pool born s (effect S s i).0
   effect-keeps s (instr.Step at) starved e = steps s at (next_move S s at) starved refl
   effect-keeps s instr.Fire starved e = fires-first s (first_due S s) starved refl
   effect-keeps s instr.Tick starved e = ticks s
   effect-keeps s instr.Next starved e = nexts s (first_due S s) starved refl
+  effect-keeps s (instr.Until time) starved e = next_unless-keeps s (is_met S s (instr.Until time)) starved
+  effect-keeps s (instr.Wait flush) starved e = next_unless-keeps s (is_met S s (instr.Wait flush)) starved
+  effect-keeps s instr.Quiet starved e = next_unless-keeps s (is_met S s instr.Quiet) starved
   effect-keeps s i starved e = cc
 
-  answer-keeps : (s : State) (i : Instr) (o : Option Refusal) (after : State × Reply) → Keeps w pool born s after.0 → Keeps w pool born s (answer s i o after).0
+  answer-keeps : (s : State) (i : Instr) (o : Option Refusal) (after : State × Reply) → Keeps w pool born s after.0 → Keeps w pool born s (answer S s i o after).0
   answer-keeps s i (Some why) after keeps = keeps-none w pool born s
   answer-keeps s i None after keeps = record { pressed = keeps.pressed; made = keeps.made; still = keeps.still; waits = keeps.waits }
 

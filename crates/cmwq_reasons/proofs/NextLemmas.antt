@@ -218,7 +218,7 @@ neither (Some x) b c first second = cc
 neither None (Some x) c first second = cc
 neither None None c first second = refl
 
-answered : (S : ScenarioContents) (s : State) (pool : ℕ) (o : Option Move) → (answer s (instr.Step pool) (nothing_to_do o) (stepped S s pool o)).1 ≡ step-reply S s pool o
+answered : (S : ScenarioContents) (s : State) (pool : ℕ) (o : Option Move) → (answer S s (instr.Step pool) (nothing_to_do o) (stepped S s pool o)).1 ≡ step-reply S s pool o
 answered S s pool (Some move) = refl
 answered S s pool None = refl
 
@@ -228,7 +228,7 @@ steps S s pool more there =
     let judged : refusal S s (instr.Step pool) ≡ nothing_to_do (next_move S s pool) =
     neither (refuse_unless (nat_lt pool (pool_count S)) NoSuchPool) (spent_all S s (instr.Step pool)) (nothing_to_do (next_move S s pool))
     (accepted (nat_lt pool (pool_count S)) NoSuchPool (lt-ltb pool (pool_count S) there)) (accepted (nat_lt s.spent S.steps) Spent (lt-ltb s.spent S.steps more)) in
-    ap (λ (o : Option Refusal). (answer s (instr.Step pool) o (effect S s (instr.Step pool))).1) judged ∙ answered S s pool (next_move S s pool)
+    ap (λ (o : Option Refusal). (answer S s (instr.Step pool) o (effect S s (instr.Step pool))).1) judged ∙ answered S s pool (next_move S s pool)
 
 queues-run : (S : ScenarioContents) (s : State) (other : WorkId) (cpu : ℕ) (b : Bool) (p : Option Pending) → takes_pending (queue_from_body S s other cpu b p).1 ≡ false
 queues-run S s other cpu true p = refl
@@ -291,7 +291,7 @@ abbrev fire-reply : Option ℕ → Reply
 fire-reply (Some w) = reply.Event (record { 0 = w }) event.Fires
 fire-reply None = reply.Refused NothingToDo
 
-fires-answered : (S : ScenarioContents) (s : State) (o : Option ℕ) → (answer s instr.Fire (nothing_to_do o) (fired_first S s o)).1 ≡ fire-reply o
+fires-answered : (S : ScenarioContents) (s : State) (o : Option ℕ) → (answer S s instr.Fire (nothing_to_do o) (fired_first S s o)).1 ≡ fire-reply o
 fires-answered S s (Some w) = refl
 fires-answered S s None = refl
 
@@ -300,7 +300,7 @@ unfolding table
 fires S s more =
     let judged : refusal S s instr.Fire ≡ nothing_to_do (first_due S s) =
     neither None (spent_all S s instr.Fire) (nothing_to_do (first_due S s)) refl (accepted (nat_lt s.spent S.steps) Spent (lt-ltb s.spent S.steps more)) in
-    ap (λ (o : Option Refusal). (answer s instr.Fire o (effect S s instr.Fire)).1) judged ∙ fires-answered S s (first_due S s)
+    ap (λ (o : Option Refusal). (answer S s instr.Fire o (effect S s instr.Fire)).1) judged ∙ fires-answered S s (first_due S s)
 
 says-due : (S : ScenarioContents) (s : State) (w : ℕ) (o : Option Pending) → w < length S.works → pending_at s w ≡ o
     → reason_if_pending S s w o ≡ Some reason.FiresNext → first_due S s ≡ Some w

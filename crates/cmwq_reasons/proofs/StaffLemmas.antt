@@ -27,7 +27,7 @@ use Rattle.cmwq_table.specs.declared.state.Running.{Running}
 use Rattle.cmwq_table.specs.State.{State, depth_at, is_disabled, made_at, pending_at, pool_count, running_at, seat, start}
 use Rattle.cmwq_table.specs.Counts.{burns, can_be_rescued, first_due, first_listed, first_rescued, free_worker, has_free_rescuer, is_deferred, is_rescuer, or_else, pending_before}
 use Rattle.cmwq_table.specs.Moves.{advance, become_idle, begin_again, burned, carry_out, come_to_end, deferred, fill, fill_everywhere, fill_freezable, fired, first_moving, moved, next_move, one_less, onward, queue_from_body, rescued, retire, started, taken_off, tick, with_depth, with_running, woken}
-use Rattle.cmwq_table.specs.Table.{after_all, answer, cancelled, delayed, effect, fired_first, modified, next, operands, queued, refuse_unless, run, situation, spent_all, step_or_tick, stepped, table}
+use Rattle.cmwq_table.specs.Table.{after_all, answer, cancelled, delayed, effect, fired_first, modified, next, operands, queued, refuse_unless, run, situation, spent_all, step_or_tick, stepped, table, is_met, next_unless}
 use Rattle.cmwq_reasons.proofs.BelowLemmas.{counts-none}
 use Rattle.cmwq_reasons.proofs.MoverLemmas.{MoveSays, is_listed_in, listed-first, next_move-says, rescued-first, some-first}
 use Rattle.cmwq_reasons.proofs.RestLemmas.{cancelled-rest, deferred-rest, delayed-rest, fill-rest, fill_everywhere-rest, fill_freezable-rest, fired-rest, fired_first-rest, modified-rest, queue_from_body-rest, queued-rest, rest, taken_off-rest}
@@ -165,6 +165,10 @@ module _ (S : ScenarioContents) (setting : IsSetting S) where
   there-if true why e = refl
   there-if false why e = cc
 
+  next_unless-staffed : (s : State) (met : Bool) → IsStaffed S s → IsStaffed S (next_unless S s met).0
+  next_unless-staffed s true staffed = staffed
+  next_unless-staffed s false staffed = nexts s (first_due S s) staffed
+
   effect-staffed : (s : State) (i : Instr) → operands S s i ≡ None → IsStaffed S s → IsStaffed S (effect S s i).0
   effect-staffed s (instr.Queue w cpu) fits = rests s (queued S s w.0 cpu (pending_at s w.0)).0 (queued-rest S s w.0 cpu (pending_at s w.0))
   effect-staffed s (instr.Delay w cpu ticks) fits = rests s (delayed S s w.0 cpu ticks (pending_at s w.0)).0 (delayed-rest S s w.0 cpu ticks (pending_at s w.0))
@@ -201,15 +205,18 @@ module _ (S : ScenarioContents) (setting : IsSetting S) where
   effect-staffed s (instr.Enable w) fits = leaves-staffed S s (effect S s (instr.Enable w)).0 (record { posts = λ v. refl; long = refl; idle = refl; made = refl })
   effect-staffed s instr.Pressure fits = leaves-staffed S s (effect S s instr.Pressure).0 (record { posts = λ v. refl; long = refl; idle = refl; made = refl })
   effect-staffed s instr.Relief fits = leaves-staffed S s (effect S s instr.Relief).0 (record { posts = λ v. refl; long = refl; idle = refl; made = refl })
+  effect-staffed s (instr.Until time) fits = next_unless-staffed s (is_met S s (instr.Until time))
+  effect-staffed s (instr.Wait flush) fits = next_unless-staffed s (is_met S s (instr.Wait flush))
+  effect-staffed s instr.Quiet fits = next_unless-staffed s (is_met S s instr.Quiet)
 
   spends : (s : State) (spent : ℕ) → IsStaffed S s → IsStaffed S (record s { spent = spent })
   spends s spent = leaves-staffed S s (record s { spent = spent }) (record { posts = λ w. refl; long = refl; idle = refl; made = refl })
 
   answer-staffed : (s : State) (i : Instr) (a b : Option Refusal) → operands S s i ≡ a → IsStaffed S s
-      → IsStaffed S (answer s i (or_else a b) (effect S s i)).0
+      → IsStaffed S (answer S s i (or_else a b) (effect S s i)).0
   answer-staffed s i (Some why) b fits staffed = staffed
   answer-staffed s i None (Some why) fits staffed = staffed
-  answer-staffed s i None None fits staffed = spends (effect S s i).0 (answer s i None (effect S s i)).0.spent (effect-staffed s i fits staffed)
+  answer-staffed s i None None fits staffed = spends (effect S s i).0 (answer S s i None (effect S s i)).0.spent (effect-staffed s i fits staffed)
 
   pub table-staffed : (s : State) (i : Instr) → IsStaffed S s → IsStaffed S (table S s i).0
   unfolding table

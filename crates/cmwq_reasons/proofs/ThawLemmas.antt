@@ -28,7 +28,7 @@ use Rattle.cmwq_table.specs.declared.state.Running.{Running}
 use Rattle.cmwq_table.specs.State.{State, is_disabled, max_at, pending_at, running_at}
 use Rattle.cmwq_table.specs.Counts.{active, can_be_rescued, first_due, first_inactive, first_listed, first_rescued, free_worker, has_free_rescuer, has_instance, has_room, is_deferred, is_done, is_due, is_inactive, is_listed, is_rescuer, limit, pending_before, pending_due, pending_stamp, pends, placed_born, queued_before, runs}
 use Rattle.cmwq_table.specs.Moves.{advance, become_idle, begin_again, begin_on, carry_out, come_to_end, deferred, enlist, fill, fill_one, fill_times, finish, fired, fired_to, first_moving, listed_at, moved, newborn, next_move, onward, place, pool_for, queue_from_body, rescued, retire, started, tick, with_pending, with_running, woken}
-use Rattle.cmwq_table.specs.Table.{after_all, answer, effect, fired_first, next, refusal, step_or_tick, stepped, table}
+use Rattle.cmwq_table.specs.Table.{after_all, answer, effect, fired_first, next, refusal, step_or_tick, stepped, table, is_met, next_unless}
 use Rattle.cmwq_reasons.specs.declared.reason.Instance.{Instance}
 use Rattle.cmwq_reasons.specs.declared.reason.Instance.TheVariants as instance
 use Rattle.cmwq_reasons.specs.Laws.{AreMoves, InAnyState, IsAmong, WaitsForThaw, is_move}
@@ -225,14 +225,21 @@ module _ (S : ScenarioContents) (w pool : ℕ) (p : Pending) where
   next-spare s (Some v) stuck is = fires-first s (Some v) stuck is
   next-spare s None stuck is = step_or_tick-spare s (first_moving S s) stuck
 
+  next_unless-spare : (s : State) (met : Bool) → Stuck S w pool p s → Spares w s (next_unless S s met).0
+  next_unless-spare s true stuck = spares-none w s
+  next_unless-spare s false stuck = next-spare s (first_due S s) stuck refl
+
   effect-spare : (s : State) (i : Instr) → Stuck S w pool p s → is_move i ≡ true → Spares w s (effect S s i).0
   effect-spare s (instr.Step at) stuck e = steps-spare s at (next_move S s at) stuck refl
   effect-spare s instr.Fire stuck e = fires-first s (first_due S s) stuck refl
   effect-spare s instr.Tick stuck e = ticks-spare s
   effect-spare s instr.Next stuck e = next-spare s (first_due S s) stuck refl
+  effect-spare s (instr.Until time) stuck e = next_unless-spare s (is_met S s (instr.Until time)) stuck
+  effect-spare s (instr.Wait flush) stuck e = next_unless-spare s (is_met S s (instr.Wait flush)) stuck
+  effect-spare s instr.Quiet stuck e = next_unless-spare s (is_met S s instr.Quiet) stuck
   effect-spare s i stuck e = cc
 
-  answer-spare : (s : State) (i : Instr) (o : Option Refusal) (after : State × Reply) → Spares w s after.0 → Spares w s (answer s i o after).0
+  answer-spare : (s : State) (i : Instr) (o : Option Refusal) (after : State × Reply) → Spares w s after.0 → Spares w s (answer S s i o after).0
   answer-spare s i (Some why) after spares = spares-none w s
   answer-spare s i None after spares = record { pending = spares.pending; max = spares.max; frozen = spares.frozen }
 

@@ -59,7 +59,7 @@ judged S s more =
     neither None (spent_all S s instr.Tick) (unsettled (first_due S s) (first_moving S s)) refl
     (accepted (nat_lt s.spent S.steps) Spent (lt-ltb s.spent S.steps more))
 
-answers : (S : ScenarioContents) (s : State) (o : Option Refusal) → (answer s instr.Tick o (effect S s instr.Tick)).1 ≡ tick-reply o
+answers : (S : ScenarioContents) (s : State) (o : Option Refusal) → (answer S s instr.Tick o (effect S s instr.Tick)).1 ≡ tick-reply o
 answers S s (Some why) = refl
 answers S s None = refl
 
@@ -192,7 +192,7 @@ settled None e = refl
 
 accepts : (S : ScenarioContents) (s : State) → refusal S s instr.Tick ≡ None → running_at (state_after S s instr.Tick) ≡ running_at (tick S s)
 unfolding table
-accepts S s none = ap (λ (o : Option Refusal). running_at (answer s instr.Tick o (effect S s instr.Tick)).0) none
+accepts S s none = ap (λ (o : Option Refusal). running_at (answer S s instr.Tick o (effect S s instr.Tick)).0) none
 
 late-none : (a b : Option Refusal) → or_else a b ≡ None → b ≡ None
 late-none (Some x) b e = cc

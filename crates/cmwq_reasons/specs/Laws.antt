@@ -449,6 +449,9 @@ is_move (instr.Step pool) = true
 is_move instr.Fire = true
 is_move instr.Tick = true
 is_move instr.Next = true
+is_move (instr.Until time) = true
+is_move (instr.Wait flush) = true
+is_move instr.Quiet = true
 is_move _ = false
 
 abbrev pub AreMoves : List Instr → Type 0

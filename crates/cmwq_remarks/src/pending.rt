@@ -33,6 +33,12 @@ fn is_move(instr: Instr) -> bool
 {
     matches!(
         instr,
-        Instr::Step(_) | Instr::Fire | Instr::Tick | Instr::Next
+        Instr::Step(_)
+            | Instr::Fire
+            | Instr::Tick
+            | Instr::Next
+            | Instr::Until(_)
+            | Instr::Wait(_)
+            | Instr::Quiet
     )
 }

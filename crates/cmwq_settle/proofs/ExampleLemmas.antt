@@ -3,7 +3,7 @@ use Rattle.std.proofs.Common.{◌≡◌, ℕ, ◌+◌, ◌<◌, ◌≤◌, Bool,
 use Rattle.cmwq_types.specs.Contents.{ScenarioContents}
 use Rattle.cmwq_types.specs.First.{count_below}
 use Rattle.cmwq_table.specs.State.{State}
-use Rattle.cmwq_settle.proofs.WatchLemmas.{count_below-passes}
+use Rattle.cmwq_reads.proofs.QuietLemmas.{count_below-passes}
 use Rattle.cmwq_settle.specs.Quiet.{IsUnquietWithin, SettlesWithin, is_quiet_after}
 
 none_passes : (f : ℕ → Bool) (n : ℕ) → count_below f n ≡ 0 → (j : ℕ) → j < n → f j ≡ false

@@ -7,4 +7,3 @@ pub mod NextLemmas
 pub mod OtherActors
 pub mod SettledRuns
 pub mod SettlingLemmas
-pub mod WatchLemmas

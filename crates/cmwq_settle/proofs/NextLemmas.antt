@@ -17,7 +17,8 @@ use Rattle.cmwq_table.specs.Table.{after_all, answer, effect, refuse_unless, run
 use Rattle.cmwq_table.proofs.CounterLemmas.{effect-spent, has_counters}
 use Rattle.cmwq_table.proofs.RunLemmas.{after_all-append}
 use Rattle.cmwq_runs.proofs.LineLemmas.{replicate_add}
-use Rattle.cmwq_settle.specs.Quiet.{IsUnquietWithin, NeverQuiet, Settles, SettlesWithin, after_nexts, is_quiet, is_quiet_after, nexts_left}
+use Rattle.cmwq_settle.specs.Quiet.{IsUnquietWithin, NeverQuiet, Settles, SettlesWithin, after_nexts, is_quiet_after, nexts_left}
+use Rattle.cmwq_table.specs.Counts.{is_quiet}
 
 -- one instruction of a kind more
 after_times-more : (S : ScenarioContents) (s : State) (i : Instr) (n : ℕ) → after_all S s (replicate (n + 1) i) ≡ (table S (after_all S s (replicate n i)) i).0
@@ -73,7 +74,7 @@ settles-or_not S s (suc most) = elim (settles-or_not S s most) [
 next-spends : (S : ScenarioContents) (s : State) → IsSetting S → s.spent < S.steps → (table S s instr.Next).0.spent ≡ s.spent + 1
 unfolding table
 next-spends S s setting left = after (nat_lt s.spent S.steps) (grind (arith, nat_tests)) where
-  after : (b : Bool) → b ≡ true → (answer s instr.Next (or_else (refuse_unless b Spent) None) (effect S s instr.Next)).0.spent ≡ s.spent + 1
+  after : (b : Bool) → b ≡ true → (answer S s instr.Next (or_else (refuse_unless b Spent) None) (effect S s instr.Next)).0.spent ≡ s.spent + 1
   after true e = let same = effect-spent S s instr.Next setting in omega arith
   after false e = cc
 
@@ -81,7 +82,7 @@ next-spends S s setting left = after (nat_lt s.spent S.steps) (grind (arith, nat
 next-spent : (S : ScenarioContents) (s : State) → S.steps ≤ s.spent → (table S s instr.Next).0 ≡ s
 unfolding table
 next-spent S s none = after (nat_lt s.spent S.steps) (grind (arith, nat_tests)) where
-  after : (b : Bool) → b ≡ false → (answer s instr.Next (or_else (refuse_unless b Spent) None) (effect S s instr.Next)).0 ≡ s
+  after : (b : Bool) → b ≡ false → (answer S s instr.Next (or_else (refuse_unless b Spent) None) (effect S s instr.Next)).0 ≡ s
   after true e = cc
   after false e = refl
 

@@ -3,4 +3,3 @@ pub mod Examples
 pub mod Quiet
 pub mod Settled
 pub mod Settling
-pub mod Watching

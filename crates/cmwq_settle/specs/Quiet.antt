@@ -1,21 +1,13 @@
--- When a machine is quiet, and how many `next` it takes until it is.
-use Rattle.std.specs.Prelude.{◌≡◌, ℕ, ◌-◌, ◌<◌, ◌≤◌, min, Bool, true, false, ◌||◌, List, length, is_some, ◌==◌}
+-- How many `next` it takes until a machine is quiet.
+use Rattle.std.specs.Prelude.{◌≡◌, ℕ, ◌-◌, ◌<◌, ◌≤◌, min, Bool, true, false, List, length}
 use Rattle.cmwq_types.specs.Contents.{ScenarioContents}
-use Rattle.cmwq_types.specs.First.{count_below}
 use Rattle.cmwq_types.specs.declared.instr.Instr.{Instr}
 use Rattle.cmwq_types.specs.declared.instr.Instr.TheVariants as instr
 use Rattle.cmwq_types.specs.declared.limits.TheConstants.{MAX_HISTORY}
-use Rattle.cmwq_table.specs.State.{State, pending_at, running_at}
+use Rattle.cmwq_table.specs.Counts.{is_quiet}
+use Rattle.cmwq_table.specs.State.{State}
 use Rattle.cmwq_table.specs.Repeats.{after_times}
 use Rattle.cmwq_table.specs.Table.{run}
-
--- the work is pending or runs (`work_busy`)
-abbrev pub pends_or_runs : State → ℕ → Bool
-pends_or_runs s w = is_some (pending_at s w) || is_some (running_at s w)
-
--- no work is pending, and none runs
-abbrev pub is_quiet : ScenarioContents → State → Bool
-is_quiet S s = count_below (pends_or_runs s) (length S.works) == 0
 
 -- the state after so many `next`
 abbrev pub after_nexts : ScenarioContents → State → ℕ → State

@@ -1,6 +1,7 @@
 //! Worked examples of the definitions, as theorems: when small machines are quiet, and the lines of `next`.
 ghost use Rattle.cmwq_settle.specs.Examples.{delay_b, a_queued, b_queued, never_quiet, two_works};
-ghost use Rattle.cmwq_settle.specs.Quiet.{NeverQuiet, Settles, is_quiet};
+ghost use Rattle.cmwq_settle.specs.Quiet.{NeverQuiet, Settles};
+ghost use Rattle.cmwq_table.specs.Counts.{is_quiet};
 ghost use Rattle.cmwq_settle.specs.Settled.{next_line, next_lines};
 ghost use Rattle.cmwq_table.specs.Table.{run};
 ghost use Rattle.std.specs.Prelude.{◌≡◌, [], ◌∷◌, false};

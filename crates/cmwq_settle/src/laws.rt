@@ -1,6 +1,7 @@
 //! What being quiet means, and what settling keeps: each function's contract is a law. The functions do nothing.
 ghost use Rattle.cmwq_play.specs.PlayTexts.{IsRun};
-ghost use Rattle.cmwq_settle.specs.Quiet.{NeverQuiet, Settles, is_quiet};
+ghost use Rattle.cmwq_settle.specs.Quiet.{NeverQuiet, Settles};
+ghost use Rattle.cmwq_table.specs.Counts.{is_quiet};
 ghost use Rattle.cmwq_settle.specs.Settling.{IsSettledRun, IsSettledText};
 ghost use Rattle.cmwq_table.specs.Table.{run};
 ghost use Rattle.cmwq_types.specs.Contents.{ScenarioContents};

@@ -1,9 +1,10 @@
 //! A machine that is watched for being quiet.
-ghost use Rattle.cmwq_settle.specs.Quiet.{IsUnquietWithin, SettlesWithin, is_quiet};
-ghost use Rattle.cmwq_settle.specs.Watching.{is_at_work};
-ghost use Rattle.std.specs.Prelude.{◌≡◌, MatchOption, true};
+ghost use Rattle.cmwq_settle.specs.Quiet.{IsUnquietWithin, SettlesWithin};
+ghost use Rattle.cmwq_table.specs.Counts.{is_quiet};
+ghost use Rattle.std.specs.Prelude.{◌≡◌, MatchOption};
 
-use cmwq_table::{Machine, Reads};
+use cmwq_reads::{first_at_work, is_at_work};
+use cmwq_table::Machine;
 use cmwq_types::Instr;
 
 /// A machine that is watched for being quiet.
@@ -45,25 +46,4 @@ impl<M: Machine> Watch<M> {
             None => true,
         }
     }
-}
-
-/// The first work that is pending or runs, if there is one.
-fn first_at_work<R: Reads>(machine: &R) -> Option<usize>
-    ensures { MatchOption result (is_quiet (R.loaded machine.now) (R.state machine.now) ≡ true)
-        (λ w. is_at_work (R.loaded machine.now) (R.state machine.now) w ≡ true) }
-{
-    for w in 0..machine.scenario().works.len() {
-        if is_at_work(machine, w) {
-            return Some(w);
-        }
-    }
-    None
-}
-
-/// Whether there is such a work, and it is pending or runs.
-fn is_at_work<R: Reads>(machine: &R, w: usize) -> bool
-    ensures { result ≡ is_at_work (R.loaded machine.now) (R.state machine.now) w }
-{
-    w < machine.scenario().works.len()
-        && (machine.pending_of(w).is_some() || machine.running_of(w).is_some())
 }

@@ -19,7 +19,7 @@ first_scenario =
       works =
           work (codes "a") 0 (op.Burn 3 ∷ op.Sleep 5 ∷ op.Burn 1 ∷ op.Finish ∷ [])
           ∷ work (codes "b") 0 (op.Burn 4 ∷ op.Finish ∷ []) ∷ [];
-      actors = record { name = codes "me"; lines = enqueue 0 0 ∷ enqueue 1 0 ∷ times instr.Next 20 ∷ [] } ∷ [];
+      actors = record { name = codes "me"; lines = enqueue 0 0 ∷ enqueue 1 0 ∷ times instr.Quiet 100 ∷ [] } ∷ [];
     }
 
 -- the second has the CPU while the first sleeps

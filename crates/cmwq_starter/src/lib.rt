@@ -9,11 +9,11 @@ ghost use Rattle.std.specs.Prelude.{◌≡◌};
 const FIRST_TEXT: &str = "\
 # Two works share a CPU: b starts the moment that a goes to sleep.
 #
-#   cmwq run --settle FILE      a line for each thing that happens
-#   cmwq draw --settle FILE     a picture of it
-#   cmwq why --settle FILE b    why b isn't further, wherever that changes
-#   cmwq debug --settle FILE    the same step by step, forwards and back
-#   cmwq help scenario          what may stand in such a text
+#   cmwq run FILE         a line for each thing that happens
+#   cmwq draw FILE        a picture of it
+#   cmwq why FILE b       why b isn't further, wherever that changes
+#   cmwq debug FILE       the same step by step, forwards and back
+#   cmwq help scenario    what may stand in such a text
 #
 # Then change it: with max 1 b waits until a has finished, though the CPU is free from 3 to 8.
 
@@ -39,7 +39,7 @@ finish
 actor me         # what is asked of the machine, in this order:
 queue a 0        # queue both works on CPU 0,
 queue b 0
-next * 20        # and let it make 20 moves, or a tick pass where there is none; --settle goes on from there
+quiet * 100      # and go on until no work is pending and none runs, by 100 moves and ticks at most
 ";
 
 /// The text of a scenario to start from, with comments.

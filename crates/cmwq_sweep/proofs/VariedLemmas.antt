@@ -125,6 +125,7 @@ module _ (S : ScenarioContents) (queue max : ℕ) where
   declared-same shape.QueueNumber id = ap (ltb id) as-many
   declared-same shape.Pool id = refl
   declared-same shape.Flush id = refl
+  declared-same shape.Time id = refl
 
   line-same : (line : Line) → line_fault T line ≡ line_fault S line
   line-same line =

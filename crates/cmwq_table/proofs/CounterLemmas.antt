@@ -25,7 +25,7 @@ use Rattle.cmwq_table.specs.Laws.{InEveryState}
 use Rattle.cmwq_table.specs.Moves.{advance, become_idle, begin_again, carry_out, come_to_end, deferred, enlist, fill, fill_everywhere, fill_freezable, fill_from, fill_one, fill_pools, fill_times, finish, fire, fired, fired_to, first_moving, moved, next_move, onward, place, place_after, queue_from_body, rescued, retire, set_max, started, taken_off, thaw, tick, with_depth, with_pending, with_running, woken}
 use Rattle.cmwq_table.specs.Ready.{HasCounters, Takes, most_everywhere, most_stamps}
 use Rattle.cmwq_table.specs.State.{State, depth_at, is_disabled, pending_at, running_at, start}
-use Rattle.cmwq_table.specs.Table.{after_all, answer, cancelled, delayed, effect, fired_first, is_question, modified, next, operands, queued, refuse_unless, situation, spent_all, step_or_tick, stepped, table}
+use Rattle.cmwq_table.specs.Table.{after_all, answer, cancelled, delayed, effect, fired_first, is_free, is_met, modified, next, next_unless, operands, queued, refuse_unless, situation, spent_all, step_or_tick, stepped, table}
 use Rattle.cmwq_table.specs.declared.state.Pending.{Pending}
 use Rattle.cmwq_table.specs.declared.state.Running.{Running}
 
@@ -241,7 +241,11 @@ depth_after s (instr.Disable w) = slice_set s.depth w.0 (depth_at s w.0 + 1)
 depth_after s (instr.Enable w) = slice_set s.depth w.0 (depth_at s w.0 - 1)
 depth_after s i = s.depth
 
-effect-costs : (S : ScenarioContents) (s : State) (i : Instr) → IsSetting S → Costs (is_question i) (record s { depth = depth_after s i }) (effect S s i).0
+next_unless-costs : (S : ScenarioContents) (s : State) (met : Bool) → IsSetting S → Costs met s (next_unless S s met).0
+next_unless-costs S s true setting = asks s
+next_unless-costs S s false setting = next-costs S s (first_due S s) setting
+
+effect-costs : (S : ScenarioContents) (s : State) (i : Instr) → IsSetting S → Costs (is_free S s i) (record s { depth = depth_after s i }) (effect S s i).0
 unfolding depth_after
 effect-costs S s (instr.Queue w cpu) setting = queued-costs S s w.0 cpu (pending_at s w.0)
 effect-costs S s (instr.Delay w cpu ticks) setting = delayed-costs S s w.0 cpu ticks (pending_at s w.0)
@@ -271,6 +275,9 @@ effect-costs S s (instr.Enable w) setting =
     costs 0 shallower shallower (stays 0 shallower) (omega arith)
 effect-costs S s instr.Pressure setting = record { next = omega arith; time = omega arith; spent = refl; depth = refl }
 effect-costs S s instr.Relief setting = record { next = omega arith; time = omega arith; spent = refl; depth = refl }
+effect-costs S s (instr.Until time) setting = next_unless-costs S s (is_met S s (instr.Until time)) setting
+effect-costs S s (instr.Wait flush) setting = next_unless-costs S s (is_met S s (instr.Wait flush)) setting
+effect-costs S s instr.Quiet setting = next_unless-costs S s (is_met S s instr.Quiet) setting
 
 -- what holds of each depth and of one more holds of each once that is written
 pub set-within : (xs : List ℕ) (most i x : ℕ) → ((w : ℕ) → slice_index_or xs w 0 ≤ most) → x ≤ most → (w : ℕ) → slice_index_or (slice_set xs i x) w 0 ≤ most
@@ -297,9 +304,9 @@ pub effect-spent : (S : ScenarioContents) (s : State) (i : Instr) → IsSetting 
 effect-spent S s i setting = (effect-costs S s i setting).spent
 
 -- what is accepted costs one step, which was there
-spent-counters : (S : ScenarioContents) (s t : State) (depth : List ℕ) (question : Bool) → HasCounters S s → Costs question (record s { depth = depth }) t
-    → ((w : ℕ) → slice_index_or depth w 0 ≤ MAX_DEPTH) → (question || nat_lt s.spent S.steps) ≡ true
-    → HasCounters S (record t { spent = t.spent + (if question then 0 else 1) })
+spent-counters : (S : ScenarioContents) (s t : State) (depth : List ℕ) (free : Bool) → HasCounters S s → Costs free (record s { depth = depth }) t
+    → ((w : ℕ) → slice_index_or depth w 0 ≤ MAX_DEPTH) → (free || nat_lt s.spent S.steps) ≡ true
+    → HasCounters S (record t { spent = t.spent + (if free then 0 else 1) })
 spent-counters S s t depth true counters cost within left = record {
   spent = omega (arith, cost.spent, counters.spent);
   time = omega (arith, cost.spent, cost.time, counters.time);
@@ -316,12 +323,12 @@ spent-counters S s t depth false counters cost within left =
     }
 
 answer-counters : (S : ScenarioContents) (s : State) (i : Instr) → IsSetting S → HasCounters S s → (a b c : Option Refusal) → spent_all S s i ≡ b
-    → situation S s i ≡ c → HasCounters S (answer s i (or_else a (or_else b c)) (effect S s i)).0
+    → situation S s i ≡ c → HasCounters S (answer S s i (or_else a (or_else b c)) (effect S s i)).0
 answer-counters S s i setting counters (Some why) b c e fits = counters
 answer-counters S s i setting counters None (Some why) c e fits = counters
 answer-counters S s i setting counters None None (Some why) e fits = counters
 answer-counters S s i setting counters None None None e fits =
-    spent-counters S s (effect S s i).0 (depth_after s i) (is_question i) counters (effect-costs S s i setting) (depth_after-within S s i fits counters.depth) (holds-if (is_question i || nat_lt s.spent S.steps) Spent e)
+    spent-counters S s (effect S s i).0 (depth_after s i) (is_free S s i) counters (effect-costs S s i setting) (depth_after-within S s i fits counters.depth) (holds-if (is_free S s i || nat_lt s.spent S.steps) Spent e)
 
 -- No instruction takes a counter too far.
 pub table-counters : (S : ScenarioContents) (s : State) (i : Instr) → IsSetting S → HasCounters S s → HasCounters S (table S s i).0

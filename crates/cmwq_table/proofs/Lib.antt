@@ -1,4 +1,5 @@
 pub mod CounterLemmas
+pub mod GoingLemmas
 pub mod HeadLemmas
 pub mod IdleLemmas
 mod LawLemmas

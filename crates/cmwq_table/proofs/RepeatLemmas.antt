@@ -12,8 +12,9 @@ use Rattle.cmwq_table.specs.declared.state.Pending.{Pending}
 use Rattle.cmwq_table.specs.Counts.{or_else}
 use Rattle.cmwq_table.specs.Repeats.{HasAnswered, HasRepeated, after_times, reply_behind}
 use Rattle.cmwq_table.specs.State.{State, pending_at}
-use Rattle.cmwq_table.specs.Table.{answer, cancelled, delayed, is_question, operands, queued, refusal, situation, spent_all, table}
-use Rattle.cmwq_table.proofs.LawLemmas.Refusals.{asked-same, refused-same}
+use Rattle.cmwq_table.specs.Table.{answer, cancelled, delayed, is_met, is_question, operands, queued, refusal, situation, spent_all, table}
+use Rattle.cmwq_table.proofs.GoingLemmas.{table-met}
+use Rattle.cmwq_table.proofs.LawLemmas.Refusals.{asked-free, free-same, refused-same}
 
 -- An instruction that left the state as it was is answered the same, however often.
 
@@ -46,7 +47,12 @@ pub question_repeats :
 unfolding table
 question_repeats S s i r most answered asks =
     let t = answered.0 in
-    repeats_always S s i r most (left_as_it_was S t s i r answered.1 (asked-same S t i asks (refusal S t i)))
+    repeats_always S s i r most (left_as_it_was S t s i r answered.1 (free-same S t i (asked-free S t i asks) (refusal S t i)))
+
+-- what has what it goes on for is answered so
+pub met_repeats :
+    (S : ScenarioContents) (s : State) (i : Instr) (most : ℕ) → operands S s i ≡ None → is_met S s i ≡ true → HasRepeated S s i reply.Done most most s
+met_repeats S s i most there met = repeats_always S s i reply.Done most (table-met S s i there met)
 
 -- what was refused is refused again
 pub refusal_repeats :
@@ -69,8 +75,8 @@ SpendsAlone S s i r = (m : ℕ) → m < S.steps → table S (with_spent s m) i �
 
 queued_again :
     (S : ScenarioContents) (t : State) (w : WorkId) (cpu m : ℕ) (a b c : Option Refusal) (o : Option Pending)
-    → (answer t (instr.Queue w cpu) (or_else a (or_else b c)) (queued S t w.0 cpu o)).1 ≡ reply.Already
-    → answer (with_spent t m) (instr.Queue w cpu) (or_else a (or_else None c)) (queued S (with_spent t m) w.0 cpu o)
+    → (answer S t (instr.Queue w cpu) (or_else a (or_else b c)) (queued S t w.0 cpu o)).1 ≡ reply.Already
+    → answer S (with_spent t m) (instr.Queue w cpu) (or_else a (or_else None c)) (queued S (with_spent t m) w.0 cpu o)
     ≡ (with_spent t (m + 1), reply.Already)
 queued_again S t w cpu m (Some x) b c o e = cc
 queued_again S t w cpu m None (Some x) c o e = cc
@@ -80,8 +86,8 @@ queued_again S t w cpu m None None None None e = cc
 
 delayed_again :
     (S : ScenarioContents) (t : State) (w : WorkId) (cpu ticks m : ℕ) (a b c : Option Refusal) (o : Option Pending)
-    → (answer t (instr.Delay w cpu ticks) (or_else a (or_else b c)) (delayed S t w.0 cpu ticks o)).1 ≡ reply.Already
-    → answer (with_spent t m) (instr.Delay w cpu ticks) (or_else a (or_else None c)) (delayed S (with_spent t m) w.0 cpu ticks o)
+    → (answer S t (instr.Delay w cpu ticks) (or_else a (or_else b c)) (delayed S t w.0 cpu ticks o)).1 ≡ reply.Already
+    → answer S (with_spent t m) (instr.Delay w cpu ticks) (or_else a (or_else None c)) (delayed S (with_spent t m) w.0 cpu ticks o)
     ≡ (with_spent t (m + 1), reply.Already)
 delayed_again S t w cpu ticks m (Some x) b c o e = cc
 delayed_again S t w cpu ticks m None (Some x) c o e = cc
@@ -91,8 +97,8 @@ delayed_again S t w cpu ticks m None None None None e = cc
 
 cancelled_again :
     (S : ScenarioContents) (t : State) (w : WorkId) (m : ℕ) (a b c : Option Refusal) (o : Option Pending)
-    → (answer t (instr.Cancel w) (or_else a (or_else b c)) (cancelled S t w.0 o)).1 ≡ reply.NotPending
-    → answer (with_spent t m) (instr.Cancel w) (or_else a (or_else None c)) (cancelled S (with_spent t m) w.0 o)
+    → (answer S t (instr.Cancel w) (or_else a (or_else b c)) (cancelled S t w.0 o)).1 ≡ reply.NotPending
+    → answer S (with_spent t m) (instr.Cancel w) (or_else a (or_else None c)) (cancelled S (with_spent t m) w.0 o)
     ≡ (with_spent t (m + 1), reply.NotPending)
 cancelled_again S t w m (Some x) b c o e = cc
 cancelled_again S t w m None (Some x) c o e = cc
@@ -102,8 +108,8 @@ cancelled_again S t w m None None None None e = refl
 
 queued_left :
     (S : ScenarioContents) (t : State) (w : WorkId) (cpu : ℕ) (a b c : Option Refusal) (o : Option Pending)
-    → (answer t (instr.Queue w cpu) (or_else a (or_else b c)) (queued S t w.0 cpu o)).1 ≡ reply.Already
-    → (answer t (instr.Queue w cpu) (or_else a (or_else b c)) (queued S t w.0 cpu o)).0 ≡ with_spent t (t.spent + 1)
+    → (answer S t (instr.Queue w cpu) (or_else a (or_else b c)) (queued S t w.0 cpu o)).1 ≡ reply.Already
+    → (answer S t (instr.Queue w cpu) (or_else a (or_else b c)) (queued S t w.0 cpu o)).0 ≡ with_spent t (t.spent + 1)
 queued_left S t w cpu (Some x) b c o e = cc
 queued_left S t w cpu None (Some x) c o e = cc
 queued_left S t w cpu None None (Some x) o e = cc
@@ -112,8 +118,8 @@ queued_left S t w cpu None None None None e = cc
 
 delayed_left :
     (S : ScenarioContents) (t : State) (w : WorkId) (cpu ticks : ℕ) (a b c : Option Refusal) (o : Option Pending)
-    → (answer t (instr.Delay w cpu ticks) (or_else a (or_else b c)) (delayed S t w.0 cpu ticks o)).1 ≡ reply.Already
-    → (answer t (instr.Delay w cpu ticks) (or_else a (or_else b c)) (delayed S t w.0 cpu ticks o)).0 ≡ with_spent t (t.spent + 1)
+    → (answer S t (instr.Delay w cpu ticks) (or_else a (or_else b c)) (delayed S t w.0 cpu ticks o)).1 ≡ reply.Already
+    → (answer S t (instr.Delay w cpu ticks) (or_else a (or_else b c)) (delayed S t w.0 cpu ticks o)).0 ≡ with_spent t (t.spent + 1)
 delayed_left S t w cpu ticks (Some x) b c o e = cc
 delayed_left S t w cpu ticks None (Some x) c o e = cc
 delayed_left S t w cpu ticks None None (Some x) o e = cc
@@ -122,8 +128,8 @@ delayed_left S t w cpu ticks None None None None e = cc
 
 cancelled_left :
     (S : ScenarioContents) (t : State) (w : WorkId) (a b c : Option Refusal) (o : Option Pending)
-    → (answer t (instr.Cancel w) (or_else a (or_else b c)) (cancelled S t w.0 o)).1 ≡ reply.NotPending
-    → (answer t (instr.Cancel w) (or_else a (or_else b c)) (cancelled S t w.0 o)).0 ≡ with_spent t (t.spent + 1)
+    → (answer S t (instr.Cancel w) (or_else a (or_else b c)) (cancelled S t w.0 o)).1 ≡ reply.NotPending
+    → (answer S t (instr.Cancel w) (or_else a (or_else b c)) (cancelled S t w.0 o)).0 ≡ with_spent t (t.spent + 1)
 cancelled_left S t w (Some x) b c o e = cc
 cancelled_left S t w None (Some x) c o e = cc
 cancelled_left S t w None None (Some x) o e = cc

@@ -204,3 +204,13 @@ abbrev pub is_done : ScenarioContents → State → FlushTarget → Bool
 is_done S s (Instance work born) = not (has_instance s work.0 (λ b. b == born))
 is_done S s (Queue queue bound) = queued_before S s queue.0 bound == 0
 is_done S s Nothing = true
+
+-- Quiet.
+
+-- the work is pending or runs (`work_busy`)
+abbrev pub pends_or_runs : State → ℕ → Bool
+pends_or_runs s w = is_some (pending_at s w) || is_some (running_at s w)
+
+-- no work is pending, and none runs
+abbrev pub is_quiet : ScenarioContents → State → Bool
+is_quiet S s = count_below (pends_or_runs s) (length S.works) == 0

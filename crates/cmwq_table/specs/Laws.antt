@@ -5,6 +5,7 @@ use Rattle.cmwq_types.specs.Faults.{IsValid}
 use Rattle.cmwq_types.specs.First.{count_below}
 use Rattle.cmwq_types.specs.Scenario.{flags_at, queue_of}
 use Rattle.cmwq_types.specs.declared.instr.Instr.{Instr}
+use Rattle.cmwq_types.specs.declared.instr.Instr.TheVariants as instr
 use Rattle.cmwq_types.specs.declared.instr.QueueId.{QueueId}
 use Rattle.cmwq_types.specs.declared.instr.WorkId.{WorkId}
 use Rattle.cmwq_types.specs.declared.reply.Event.{Event}
@@ -20,7 +21,7 @@ use Rattle.cmwq_table.specs.declared.state.Running.{Running}
 use Rattle.cmwq_table.specs.State.{State, pending_at, running_at, depth_at, idle_at, made_at}
 use Rattle.cmwq_table.specs.Counts.{limit, active, counted, may_start, has_free_rescuer, runs_on_rescuer, is_busy, is_active, is_inactive, is_listed, is_activated, is_deferred, is_placed, is_done, pends}
 use Rattle.cmwq_table.specs.Moves.{next_move}
-use Rattle.cmwq_table.specs.Table.{table, run, after_all, is_question, target_at}
+use Rattle.cmwq_table.specs.Table.{table, run, after_all, is_met, is_question, operands, target_at}
 
 -- Where a law holds.
 
@@ -47,6 +48,27 @@ ChangesNothingRefused S s i = (why : Refusal) → reply_to S s i ≡ reply.Refus
 -- A question leaves the state as it was, whatever the answer.
 unfoldable pub ChangesNothingAsked : ScenarioContents → State → Instr → Type 0
 ChangesNothingAsked S s i = is_question i ≡ true → state_after S s i ≡ s
+
+-- Conditions.
+
+-- Until, Wait and Quiet go on for something
+abbrev pub goes_on : Instr → Bool
+goes_on (instr.Until time) = true
+goes_on (instr.Wait flush) = true
+goes_on instr.Quiet = true
+goes_on i = false
+
+-- Where what it goes on for has come, an instruction leaves the state as it was.
+unfoldable pub ChangesNothingMet : ScenarioContents → State → Instr → Type 0
+ChangesNothingMet S s i = is_met S s i ≡ true → state_after S s i ≡ s
+
+-- If it names a flush that was given, or none, it is Done then.
+unfoldable pub IsDoneMet : ScenarioContents → State → Instr → Type 0
+IsDoneMet S s i = operands S s i ≡ None → is_met S s i ≡ true → reply_to S s i ≡ reply.Done
+
+-- Where it hasn't come, it does and answers as Next.
+unfoldable pub GoesOnAsNext : ScenarioContents → State → Instr → Type 0
+GoesOnAsNext S s i = goes_on i ≡ true → is_met S s i ≡ false → table S s i ≡ table S s instr.Next
 
 -- Counters: `HasCounters` of `Ready.antt`, which each machine keeps between instructions.
 

@@ -13,7 +13,7 @@ pub record State : Type 0 where
   pub time : ℕ
   -- the next stamp
   pub next : ℕ
-  -- how many instructions were accepted, questions aside
+  -- how many instructions were accepted and spent
   pub spent : ℕ
   pub frozen : Bool
   -- memory is short

@@ -1,4 +1,5 @@
--- The instruction table. Each instruction has a line in `operands`, one in `situation` and one in `effect`.
+-- The instruction table. Each instruction has a line in `operands`, one in `situation` and one in `effect`, and one in
+-- `is_question` and in `is_met`.
 use Rattle.std.specs.Prelude.{ℕ, ◌+◌, ◌-◌, Bool, true, false, not, ◌||◌, List, [], ◌∷◌, length, Option, Some, None, if◌then◌else◌, is_some, nat_lt, ◌==◌, slice_index_or}
 use Rattle.cmwq_types.specs.Contents.{ScenarioContents}
 use Rattle.cmwq_types.specs.Faults.{within}
@@ -23,7 +24,7 @@ use Rattle.cmwq_table.specs.declared.state.FlushTarget.TheVariants.{Nothing}
 use Rattle.cmwq_table.specs.declared.state.Pending.{Pending}
 use Rattle.cmwq_table.specs.declared.state.Running.{Running}
 use Rattle.cmwq_table.specs.State.{State, pending_at, running_at, depth_at, is_disabled, pool_count, start}
-use Rattle.cmwq_table.specs.Counts.{first_due, is_busy, is_done, or_else}
+use Rattle.cmwq_table.specs.Counts.{first_due, is_busy, is_done, is_quiet, or_else}
 use Rattle.cmwq_table.specs.Moves.{place, place_after, take_off, taken_off, set_max, freeze, thaw, with_pressed, next_move, moved, moved_work, first_moving, fire, tick, with_depth, with_flush, running_instance, last_instance}
 
 -- a refusal where the test fails
@@ -62,6 +63,9 @@ operands S s (instr.Disable w) = no_work S w
 operands S s (instr.Enable w) = no_work S w
 operands S s instr.Pressure = None
 operands S s instr.Relief = None
+operands S s (instr.Until time) = None
+operands S s (instr.Wait flush) = refuse_unless (nat_lt flush (length s.flushes)) NoSuchFlush
+operands S s instr.Quiet = None
 
 -- A question is never Spent, and changes nothing.
 abbrev pub is_question : Instr → Bool
@@ -87,6 +91,46 @@ is_question (instr.Disable w) = false
 is_question (instr.Enable w) = false
 is_question instr.Pressure = false
 is_question instr.Relief = false
+is_question (instr.Until time) = false
+is_question (instr.Wait flush) = false
+is_question instr.Quiet = false
+
+-- Conditions.
+
+abbrev pub target_at : State → ℕ → FlushTarget
+target_at s flush = slice_index_or s.flushes flush Nothing
+
+-- What Until, Wait and Quiet go on for has come.
+abbrev pub is_met : ScenarioContents → State → Instr → Bool
+is_met S s (instr.Until time) = not (nat_lt s.time time)
+is_met S s (instr.Wait flush) = is_done S s (target_at s flush)
+is_met S s instr.Quiet = is_quiet S s
+is_met S s (instr.Queue w cpu) = false
+is_met S s (instr.Delay w cpu ticks) = false
+is_met S s (instr.Mod w cpu ticks) = false
+is_met S s (instr.Cancel w) = false
+is_met S s (instr.CancelSync w) = false
+is_met S s (instr.Flush w) = false
+is_met S s (instr.FlushDelayed w) = false
+is_met S s (instr.FlushQueue q) = false
+is_met S s (instr.SetMax q max) = false
+is_met S s instr.Freeze = false
+is_met S s instr.Thaw = false
+is_met S s instr.Fire = false
+is_met S s (instr.Step pool) = false
+is_met S s instr.Tick = false
+is_met S s instr.Next = false
+is_met S s (instr.Ask flush) = false
+is_met S s instr.Busy = false
+is_met S s (instr.State w) = false
+is_met S s (instr.Disable w) = false
+is_met S s (instr.Enable w) = false
+is_met S s instr.Pressure = false
+is_met S s instr.Relief = false
+
+-- A question, and what has what it goes on for, is never Spent, and changes nothing.
+abbrev pub is_free : ScenarioContents → State → Instr → Bool
+is_free S s i = is_question i || is_met S s i
 
 -- The situation.
 
@@ -132,6 +176,9 @@ situation S s (instr.Disable w) = refuse_unless (nat_lt (depth_at s w.0) MAX_DEP
 situation S s (instr.Enable w) = refuse_unless (is_disabled s w.0) NotDisabled
 situation S s instr.Pressure = refuse_unless (not s.pressed) AlreadyPressed
 situation S s instr.Relief = refuse_unless s.pressed NotPressed
+situation S s (instr.Until time) = None
+situation S s (instr.Wait flush) = None
+situation S s instr.Quiet = None
 
 -- The effect and the reply.
 
@@ -187,15 +234,17 @@ abbrev pub next : ScenarioContents → State → Option ℕ → State × Reply
 next S s (Some w) = fired_first S s (Some w)
 next S s None = step_or_tick S s (first_moving S s)
 
+-- nothing where it is met, else next
+abbrev pub next_unless : ScenarioContents → State → Bool → State × Reply
+next_unless S s true = (s, reply.Done)
+next_unless S s false = next S s (first_due S s)
+
 abbrev pub yes_or_no : Bool → Reply
 yes_or_no holds = if holds then reply.Yes else reply.No
 
 -- the work is disabled so many times only, and the reply tells whether it can be queued again (`enable_work`)
 abbrev pub enabled : State → ℕ → ℕ → State × Reply
 enabled s w depth = (with_depth s w depth, yes_or_no (depth == 0))
-
-abbrev pub target_at : State → ℕ → FlushTarget
-target_at s flush = slice_index_or s.flushes flush Nothing
 
 abbrev pub run_of : Option Running → Option WorkRun
 run_of (Some r) = Some (record { pool = r.pool; worker = r.worker; mode = r.mode })
@@ -231,26 +280,29 @@ effect S s (instr.Disable w) = disabled S s w.0 (pending_at s w.0)
 effect S s (instr.Enable w) = enabled s w.0 (depth_at s w.0 - 1)
 effect S s instr.Pressure = (with_pressed s true, reply.Done)
 effect S s instr.Relief = (with_pressed s false, reply.Done)
+effect S s (instr.Until time) = next_unless S s (is_met S s (instr.Until time))
+effect S s (instr.Wait flush) = next_unless S s (is_met S s (instr.Wait flush))
+effect S s instr.Quiet = next_unless S s (is_met S s instr.Quiet)
 
--- The line of an instruction: a refusal changes nothing, and what is accepted is spent, questions aside.
+-- The line of an instruction: a refusal changes nothing, and what is accepted is spent, but for what is free.
 
 abbrev pub spent_all : ScenarioContents → State → Instr → Option Refusal
-spent_all S s i = refuse_unless (is_question i || nat_lt s.spent S.steps) Spent
+spent_all S s i = refuse_unless (is_free S s i || nat_lt s.spent S.steps) Spent
 
 -- refusals are judged in this order: operands, Spent, the situation
 abbrev pub refusal : ScenarioContents → State → Instr → Option Refusal
 refusal S s i = or_else (operands S s i) (or_else (spent_all S s i) (situation S s i))
 
-abbrev pub spending : Instr → State × Reply → State × Reply
-spending i after = (record after.0 { spent = after.0.spent + (if is_question i then 0 else 1) }, after.1)
+abbrev pub spending : Bool → State × Reply → State × Reply
+spending free after = (record after.0 { spent = after.0.spent + (if free then 0 else 1) }, after.1)
 
-abbrev pub answer : State → Instr → Option Refusal → State × Reply → State × Reply
-answer s i (Some why) after = (s, reply.Refused why)
-answer s i None after = spending i after
+abbrev pub answer : ScenarioContents → State → Instr → Option Refusal → State × Reply → State × Reply
+answer S s i (Some why) after = (s, reply.Refused why)
+answer S s i None after = spending (is_free S s i) after
 
 -- the state after the instruction, and the reply
 unfoldable pub table : ScenarioContents → State → Instr → State × Reply
-table S s i = answer s i (refusal S s i) (effect S s i)
+table S s i = answer S s i (refusal S s i) (effect S s i)
 
 -- Runs.
 

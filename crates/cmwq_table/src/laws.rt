@@ -2,7 +2,7 @@
 //!
 //! Each function's contract is a law, over every valid scenario and every list of instructions. The functions
 //! do nothing: they carry the laws.
-ghost use Rattle.cmwq_table.specs.Laws.{ActivatesInOrder, AtEveryInstruction, ChangesNothingAsked, ChangesNothingRefused, GoesInOrder, HasOneRescuer, InEveryState, IsNotPendingDisabled, LeavesNoRoom, ListsInOrder, RescuersWork, StartsAtLevelZero, TimeWaitsForStarts, RisesByWakes, RisesWithinLimit, IsNotReentrant, StayDone, TellsActive, WaitForInstances};
+ghost use Rattle.cmwq_table.specs.Laws.{ActivatesInOrder, AtEveryInstruction, ChangesNothingAsked, ChangesNothingMet, ChangesNothingRefused, GoesInOrder, GoesOnAsNext, HasOneRescuer, InEveryState, IsDoneMet, IsNotPendingDisabled, LeavesNoRoom, ListsInOrder, RescuersWork, StartsAtLevelZero, TimeWaitsForStarts, RisesByWakes, RisesWithinLimit, IsNotReentrant, StayDone, TellsActive, WaitForInstances};
 ghost use Rattle.cmwq_table.specs.Ready.{HasCounters};
 
 /// An instruction that is refused changes nothing: neither a work, a worker or a flush, nor the time, the stamps
@@ -18,7 +18,16 @@ pub fn questions_change_nothing()
     ensures { AtEveryInstruction ChangesNothingAsked }
 {}
 
-/// A run comes to its end: no more instructions are accepted than the scenario's `steps`, questions aside, and at most
+/// `Until`, `Wait` and `Quiet` change nothing where what they go on for has come, and are `Done`; until then they do and answer
+/// what `Next` would. That is this project's own rule.
+#[tactic(auto, using(crate::proofs::GoingLemmas::changes_nothing_met, crate::proofs::GoingLemmas::is_done_met, crate::proofs::GoingLemmas::goes_on_as_next))]
+pub fn conditions_end_what_goes_on()
+    ensures met { AtEveryInstruction ChangesNothingMet }
+    ensures done { AtEveryInstruction IsDoneMet }
+    ensures unmet { AtEveryInstruction GoesOnAsNext }
+{}
+
+/// A run comes to its end: no more instructions are accepted and spent than the scenario's `steps`, and at most
 /// one tick passes for each of them. Nor does it run out of stamps: each takes at most 278,528. And no work is disabled
 /// more than 65,535 times more often than enabled. That is this project's own rule.
 #[tactic(auto, using(crate::proofs::CounterLemmas::has_counters))]

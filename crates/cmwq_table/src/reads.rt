@@ -33,7 +33,7 @@ pub trait Reads {
     fn next_stamp(&self) -> u64
         ensures { result ≡ (state self.now).next };
 
-    /// How many instructions were spent: accepted, questions aside.
+    /// How many instructions were accepted and spent.
     fn spent(&self) -> u32
         ensures { result ≡ (state self.now).spent };
 

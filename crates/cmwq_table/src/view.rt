@@ -22,7 +22,7 @@ pub struct View {
     pub time: u64,
     /// The next stamp.
     pub next: u64,
-    /// How many instructions were accepted, questions aside.
+    /// How many instructions were accepted and spent.
     pub spent: u32,
     /// Whether the machine is frozen.
     pub frozen: bool,

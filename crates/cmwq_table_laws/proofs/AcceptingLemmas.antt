@@ -9,25 +9,25 @@ use Rattle.cmwq_types.specs.declared.reply.Reply.TheVariants as reply
 use Rattle.cmwq_table.specs.Counts.{or_else}
 use Rattle.cmwq_table.specs.Laws.{reply_to}
 use Rattle.cmwq_table.specs.State.{State}
-use Rattle.cmwq_table.specs.Table.{answer, effect, operands, refusal, refuse_unless, situation, spent_all, spending, table}
+use Rattle.cmwq_table.specs.Table.{answer, effect, operands, refusal, refuse_unless, situation, spent_all, spending, table, is_free}
 
-none-if : (s : State) (i : Instr) (o : Option Refusal) (after : State × Reply) → ((why : Refusal) → (answer s i o after).1 ≢ reply.Refused why) → o ≡ None
-none-if s i (Some why) after accepted = absurd (accepted why refl)
-none-if s i None after accepted = refl
+none-if : (S : ScenarioContents) (s : State) (i : Instr) (o : Option Refusal) (after : State × Reply) → ((why : Refusal) → (answer S s i o after).1 ≢ reply.Refused why) → o ≡ None
+none-if S s i (Some why) after accepted = absurd (accepted why refl)
+none-if S s i None after accepted = refl
 
 -- what is accepted has no refusal
 pub accepted-none : (S : ScenarioContents) (s : State) (i : Instr) → ((why : Refusal) → reply_to S s i ≢ reply.Refused why) → refusal S s i ≡ None
 unfolding table
-accepted-none S s i accepted = none-if s i (refusal S s i) (effect S s i) accepted
+accepted-none S s i accepted = none-if S s i (refusal S s i) (effect S s i) accepted
 
 -- nor has what is told otherwise
 pub told-none : (S : ScenarioContents) (s : State) (i : Instr) (r : Reply) → ((why : Refusal) → r ≢ reply.Refused why) → reply_to S s i ≡ r → refusal S s i ≡ None
 told-none S s i r other e = accepted-none S s i (λ why refused. other why (sym e ∙ refused))
 
 -- then its effect is carried out
-pub carried-out : (S : ScenarioContents) (s : State) (i : Instr) → refusal S s i ≡ None → table S s i ≡ spending i (effect S s i)
+pub carried-out : (S : ScenarioContents) (s : State) (i : Instr) → refusal S s i ≡ None → table S s i ≡ spending (is_free S s i) (effect S s i)
 unfolding table
-carried-out S s i none = ap (λ (o : Option Refusal). answer s i o (effect S s i)) none
+carried-out S s i none = ap (λ (o : Option Refusal). answer S s i o (effect S s i)) none
 
 first-none : (a b : Option Refusal) → or_else a b ≡ None → a ≡ None
 first-none (Some why) b e = cc

@@ -25,7 +25,7 @@ use Rattle.cmwq_table.specs.Counts.{first_due, free_worker}
 use Rattle.cmwq_table.specs.Laws.{AtEveryInstruction, state_after}
 use Rattle.cmwq_table.specs.Moves.{advance, carry_out, come_to_end, deferred, finish, fired, fired_to, first_moving, moved, next_move, onward, place_after, queue_from_body, rescued, started, taken_off, with_depth, woken}
 use Rattle.cmwq_table.specs.State.{State, depth_at, is_disabled, pending_at, running_at, start}
-use Rattle.cmwq_table.specs.Table.{after_all, answer, cancelled, delayed, effect, fired_first, modified, next, no_work, queued, refusal, run, step_or_tick, stepped, table}
+use Rattle.cmwq_table.specs.Table.{after_all, answer, cancelled, delayed, effect, fired_first, modified, next, no_work, queued, refusal, run, step_or_tick, stepped, table, is_met, next_unless}
 use Rattle.cmwq_table.specs.declared.state.Pending.{Pending}
 use Rattle.cmwq_table.specs.declared.state.Running.{Running}
 use Rattle.cmwq_table.proofs.CounterLemmas.{come_to_end-takes, fill-takes, set_max-takes, taken_off-takes, thaw-takes}
@@ -132,6 +132,10 @@ depths_then s (instr.Disable w) = slice_set s.depth w.0 (depth_at s w.0 + 1)
 depths_then s (instr.Enable w) = slice_set s.depth w.0 (depth_at s w.0 - 1)
 depths_then s i = s.depth
 
+next_unless-depth : (S : ScenarioContents) (s : State) (met : Bool) → IsSetting S → (next_unless S s met).0.depth ≡ s.depth
+next_unless-depth S s true setting = refl
+next_unless-depth S s false setting = next-depth S s (first_due S s) setting
+
 effect-depth : (S : ScenarioContents) (s : State) (i : Instr) → IsSetting S → (effect S s i).0.depth ≡ depths_then s i
 unfolding depths_then
 effect-depth S s (instr.Queue w cpu) setting = queued-depth S s w.0 cpu (pending_at s w.0)
@@ -156,6 +160,9 @@ effect-depth S s (instr.Disable w) setting = cancelled-depth S (with_depth s w.0
 effect-depth S s (instr.Enable w) setting = refl
 effect-depth S s instr.Pressure setting = refl
 effect-depth S s instr.Relief setting = refl
+effect-depth S s (instr.Until time) setting = next_unless-depth S s (is_met S s (instr.Until time)) setting
+effect-depth S s (instr.Wait flush) setting = next_unless-depth S s (is_met S s (instr.Wait flush)) setting
+effect-depth S s instr.Quiet setting = next_unless-depth S s (is_met S s instr.Quiet) setting
 
 -- There is a depth of each work.
 
@@ -165,7 +172,7 @@ then-long s (instr.Disable w) = length-set s.depth w.0 (depth_at s w.0 + 1)
 then-long s (instr.Enable w) = length-set s.depth w.0 (depth_at s w.0 - 1)
 then-long s i = refl
 
-answer-long : (S : ScenarioContents) (s : State) (i : Instr) (o : Option Refusal) → IsSetting S → length (answer s i o (effect S s i)).0.depth ≡ length s.depth
+answer-long : (S : ScenarioContents) (s : State) (i : Instr) (o : Option Refusal) → IsSetting S → length (answer S s i o (effect S s i)).0.depth ≡ length s.depth
 answer-long S s i (Some why) setting = refl
 answer-long S s i None setting = ap length (effect-depth S s i setting) ∙ then-long s i
 
@@ -254,7 +261,7 @@ then-other s (instr.Enable v) work no_disable no_enable =
 then-other s i work no_disable no_enable = refl
 
 answer-other : (S : ScenarioContents) (s : State) (i : Instr) (work : WorkId) (o : Option Refusal) → IsSetting S → i ≢ instr.Disable work → i ≢ instr.Enable work
-    → depth_at (answer s i o (effect S s i)).0 work.0 ≡ depth_at s work.0
+    → depth_at (answer S s i o (effect S s i)).0 work.0 ≡ depth_at s work.0
 answer-other S s i work (Some why) setting no_disable no_enable = refl
 answer-other S s i work None setting no_disable no_enable =
     ap (λ (depths : List ℕ). slice_index_or depths work.0 0) (effect-depth S s i setting) ∙ then-other s i work no_disable no_enable

@@ -22,7 +22,7 @@ use Rattle.cmwq_types.proofs.FirstLemmas.{by_least-order, first_below-is_first}
 use Rattle.cmwq_table.specs.Counts.{first_due, first_inactive, free_worker, has_room, is_deferred, is_inactive, is_rescuer, pending_stamp, pends}
 use Rattle.cmwq_table.specs.Moves.{advance, become_idle, begin_again, carry_out, come_to_end, deferred, enlist, fill, fill_everywhere, fill_freezable, fill_from, fill_one, fill_pools, fill_times, finish, fire, fired, fired_to, first_moving, listed_at, moved, newborn, next_move, onward, place, place_after, queue_from_body, rescued, retire, set_max, started, take_off, taken_off, taking, thaw, tick, with_depth, with_pending, with_running, woken}
 use Rattle.cmwq_table.specs.State.{State, depth_at, is_disabled, pending_at, running_at}
-use Rattle.cmwq_table.specs.Table.{answer, cancelled, delayed, effect, fired_first, is_question, modified, next, queued, refusal, step_or_tick, stepped, table}
+use Rattle.cmwq_table.specs.Table.{answer, cancelled, delayed, effect, fired_first, is_free, modified, next, queued, refusal, step_or_tick, stepped, table, is_met, next_unless}
 use Rattle.cmwq_table.specs.declared.state.Pending.{Pending}
 use Rattle.cmwq_table.specs.declared.state.Running.{Running}
 
@@ -324,6 +324,10 @@ around : (s a b t : State) → a.pending ≡ s.pending → a.next ≡ s.next →
 around s a b t p n moves q m =
     both s a t (same s a p (omega (arith, n))) (both a b t moves (same b t q (omega (arith, m))))
 
+next_unless-goes : (S : ScenarioContents) (s : State) (met : Bool) → Goes s (next_unless S s met).0
+next_unless-goes S s true = inl (itself s)
+next_unless-goes S s false = next-goes S s (first_due S s)
+
 effect-goes : (S : ScenarioContents) (s : State) (i : Instr) → Goes s (effect S s i).0
 effect-goes S s (instr.Queue w cpu) = inl (queued-moves S s w.0 cpu (pending_at s w.0))
 effect-goes S s (instr.Delay w cpu ticks) = inl (delayed-moves S s w.0 cpu ticks (pending_at s w.0))
@@ -354,14 +358,17 @@ effect-goes S s (instr.Disable w) =
 effect-goes S s (instr.Enable w) = inl (same s (effect S s (instr.Enable w)).0 refl (omega arith))
 effect-goes S s instr.Pressure = inl (same s (effect S s instr.Pressure).0 refl (omega arith))
 effect-goes S s instr.Relief = inl (same s (effect S s instr.Relief).0 refl (omega arith))
+effect-goes S s (instr.Until time) = next_unless-goes S s (is_met S s (instr.Until time))
+effect-goes S s (instr.Wait flush) = next_unless-goes S s (is_met S s (instr.Wait flush))
+effect-goes S s instr.Quiet = next_unless-goes S s (is_met S s instr.Quiet)
 
 spent-goes : (s t : State) (n : ℕ) → Goes s t → Goes s (record t { spent = n })
 spent-goes s t n (inl moves) = inl (record { next = moves.next; works = moves.works })
 spent-goes s t n (inr defers) = inr (record { w = defers.w; p = defers.p; pool = defers.pool; was = defers.was; pending = defers.pending; next = defers.next })
 
-answer-goes : (S : ScenarioContents) (s : State) (i : Instr) (o : Option Refusal) → Goes s (answer s i o (effect S s i)).0
+answer-goes : (S : ScenarioContents) (s : State) (i : Instr) (o : Option Refusal) → Goes s (answer S s i o (effect S s i)).0
 answer-goes S s i (Some why) = inl (itself s)
-answer-goes S s i None = spent-goes s (effect S s i).0 ((effect S s i).0.spent + cond (is_question i) 0 1) (effect-goes S s i)
+answer-goes S s i None = spent-goes s (effect S s i).0 ((effect S s i).0.spent + cond (is_free S s i) 0 1) (effect-goes S s i)
 
 pub table-goes : (S : ScenarioContents) (s : State) (i : Instr) → Goes s (table S s i).0
 unfolding table

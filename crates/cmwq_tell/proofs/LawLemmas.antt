@@ -19,7 +19,7 @@ answered t true = refl
 answered t false = refl
 
 module _ (S : ScenarioContents) (s t : State) where
-  asked-if : (i : Instr) (o : Option Refusal) → start_told t (effect S s i).1 ≡ None → start_told t (answer s i o (effect S s i)).1 ≡ None
+  asked-if : (i : Instr) (o : Option Refusal) → start_told t (effect S s i).1 ≡ None → start_told t (answer S s i o (effect S s i)).1 ≡ None
   asked-if i (Some why) silent = refl
   asked-if i None silent = silent
 

@@ -150,6 +150,7 @@ module _ (S : ScenarioContents) (scenario : IsScenario S) where
   operands-are-words shape.QueueNumber f = (queue (queue_id f.id), (number f.number, tt))
   operands-are-words shape.Pool f = (number f.cpu, tt)
   operands-are-words shape.Flush f = (number f.id, tt)
+  operands-are-words shape.Time f = (number f.number, tt)
 
   spelled-no_feed : (m : Mnemonic) → NoFeed (spelling m)
   spelled-no_feed mnemonic.Queue = record { whole = refl }

@@ -39,7 +39,7 @@ fn the_worked_image_is_written(rt: HostRuntime) {
 
 #[test]
 fn the_worked_image_is_read_in_each_version(rt: HostRuntime) {
-    for version in [1, 2, 3] {
+    for version in [1, 2, 3, 4] {
         let image = image_of_image(&rt, rt.alloc(), &[(5, version)]);
         same(&rt, version, image.as_slice(), IMAGE.as_slice());
     }
@@ -47,7 +47,7 @@ fn the_worked_image_is_read_in_each_version(rt: HostRuntime) {
 
 #[test]
 fn works_are_disabled_and_enabled_from_version_2_on(rt: HostRuntime) {
-    for version in [2, 3] {
+    for version in [2, 3, 4] {
         for tag in [34, 35] {
             let image = image_of_image(&rt, rt.alloc(), &[(5, version), (114, tag)]);
             let want = changed(&[(114, tag)]);
@@ -57,15 +57,27 @@ fn works_are_disabled_and_enabled_from_version_2_on(rt: HostRuntime) {
 }
 
 #[test]
-fn memory_is_told_of_in_version_3(rt: HostRuntime) {
-    for change in [(36, 32), (114, 36), (114, 37)] {
-        let image = image_of_image(&rt, rt.alloc(), &[change]);
-        same(&rt, change, image.as_slice(), changed(&[change]).as_slice());
+fn memory_is_told_of_from_version_3_on(rt: HostRuntime) {
+    for version in [3, 4] {
+        for change in [(36, 32), (114, 36), (114, 37)] {
+            let image = image_of_image(&rt, rt.alloc(), &[(5, version), change]);
+            let want = changed(&[change]);
+            same(&rt, (version, change), image.as_slice(), want.as_slice());
+        }
     }
     let reclaiming = changed(&[(36, 32)]);
     let scenario = read(rt.alloc(), &reclaiming).expect(&rt, "a scenario's image");
     let reclaims = scenario.queues.first().map(|queue| queue.flags.mem_reclaim);
     same(&rt, "its flag", reclaims, Some(true));
+}
+
+#[test]
+fn an_actor_goes_on_for_something_in_version_4(rt: HostRuntime) {
+    for (tag, at, operand) in [(38, 121, 5), (38, 118, 255), (39, 117, 1), (40, 114, 40)] {
+        let changes = [(114, tag), (at, operand)];
+        let image = image_of_image(&rt, rt.alloc(), &changes);
+        same(&rt, tag, image.as_slice(), changed(&changes).as_slice());
+    }
 }
 
 #[test]
@@ -88,13 +100,13 @@ fn one_byte_more_is_extra(rt: HostRuntime) {
 }
 
 /// Some bytes by their offset, what each is set to, and the fault that the image then has.
-const CHANGED: [(&[(usize, u8)], ImageError); 35] = [
+const CHANGED: [(&[(usize, u8)], ImageError); 41] = [
     (&[(3, 0x52)], ImageError::Magic),
-    // versions 0, 4, and 259; that comes before a flag
+    // versions 0, 5, and 260; that comes before a flag
     (&[(5, 0)], ImageError::Version),
-    (&[(5, 4)], ImageError::Version),
+    (&[(5, 5)], ImageError::Version),
     (&[(4, 1)], ImageError::Version),
-    (&[(5, 4), (36, 32)], ImageError::Version),
+    (&[(5, 5), (36, 32)], ImageError::Version),
     // 17 CPUs
     (&[(6, 17)], ImageError::Fault(Fault::Range)),
     // 33 queues; 257 works; 17 actors
@@ -126,15 +138,21 @@ const CHANGED: [(&[(usize, u8)], ImageError); 35] = [
     // an operation among the instructions; no times
     (&[(90, 3)], ImageError::BadField(90)),
     (&[(101, 0)], ImageError::Fault(Fault::Range)),
-    // `disable` and `enable` in version 1, `pressure` and `relief` in version 2; a tag behind the last one; fields that
-    // `disable` and `pressure` don't use
+    // `disable` and `enable` in version 1, `pressure` and `relief` in version 2, `until`, `wait` and `quiet` in version 3;
+    // a tag behind the last one; fields that `disable`, `pressure`, `until`, `wait` and `quiet` don't use
     (&[(5, 1), (114, 34)], ImageError::BadField(114)),
     (&[(5, 1), (114, 35)], ImageError::BadField(114)),
     (&[(5, 2), (114, 36)], ImageError::BadField(114)),
     (&[(5, 2), (114, 37)], ImageError::BadField(114)),
-    (&[(114, 38)], ImageError::BadField(114)),
+    (&[(5, 3), (114, 38)], ImageError::BadField(114)),
+    (&[(5, 3), (114, 39)], ImageError::BadField(114)),
+    (&[(5, 3), (114, 40)], ImageError::BadField(114)),
+    (&[(114, 41)], ImageError::BadField(114)),
     (&[(114, 34), (115, 1)], ImageError::BadField(115)),
     (&[(114, 36), (117, 1)], ImageError::BadField(116)),
+    (&[(114, 38), (117, 1)], ImageError::BadField(116)),
+    (&[(114, 39), (121, 1)], ImageError::BadField(118)),
+    (&[(114, 40), (121, 1)], ImageError::BadField(118)),
     // an instruction on a queue whose number has more than one byte
     (&[(114, 23), (116, 1)], ImageError::BadField(116)),
 ];

@@ -244,10 +244,13 @@ const ACTORS: &[u8] = b"cpus 1\nworkers 1\nsteps 8\nflushes 0\n\
     actor i\nactor j\nactor k\nactor l\nactor m\nactor n\nactor o\nactor p\n\
     ";
 
-const BEHIND_ACTORS: [Judged; 6] = [
+const BEHIND_ACTORS: [Judged; 9] = [
     (b"tick * 65535\n", None),
     (b"tick * 65536\n", Some((21, RANGE))),
     (b"tick * 0\n", Some((21, RANGE))),
+    (b"until 4294967296\n", Some((21, RANGE))),
+    (b"wait 65536\n", Some((21, RANGE))),
+    (b"quiet 1\n", Some((21, Why::ExtraWord))),
     (b"actor q\n", Some((21, Why::Fault(Fault::TooMany)))),
     (b"actor q x\n", Some((21, Why::ExtraWord))),
     (b"actor p x\n", Some((21, Why::Fault(Fault::Duplicate)))),
@@ -318,6 +321,10 @@ const DISABLING: &[u8] = b"cpus 1\nworkers 1\nsteps 8\nflushes 0\nqueue q max 1\
 const PRESSING: &[u8] = b"cpus 1\nworkers 1\nsteps 8\nflushes 0\nqueue q max 2 mem_reclaim\n\
     work a q\nbody a\nfinish\nactor t\npressure * 2\nrelief\n";
 
+/// A text whose actor goes on for something, as it is listed.
+const GOING_ON: &[u8] = b"cpus 1\nworkers 1\nsteps 8\nflushes 0\nactor t\n\
+    until 4294967295 * 2\nwait 65535\nquiet\n";
+
 /// Compares the listing of the text's scenario.
 fn check_listing(rt: &impl Abort, alloc: Global, text: &[u8], want: &[u8]) {
     let scenario = assemble(alloc, text).expect(rt, "a scenario's text");
@@ -331,6 +338,7 @@ fn a_text_is_listed(rt: HostRuntime) {
     check_listing(&rt, rt.alloc(), FREE, PLAIN);
     check_listing(&rt, rt.alloc(), DISABLING, DISABLING);
     check_listing(&rt, rt.alloc(), PRESSING, PRESSING);
+    check_listing(&rt, rt.alloc(), GOING_ON, GOING_ON);
 }
 
 #[test]

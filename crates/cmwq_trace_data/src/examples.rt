@@ -2,7 +2,7 @@
 ghost use Rattle.cmwq_events.specs.KernelEvents.{cpus_traced};
 ghost use Rattle.cmwq_events.specs.declared.kernel_event.Tracepoint.TheVariants as tracepoint;
 ghost use Rattle.cmwq_events.specs.declared.kernel_task.KernelTask.TheVariants as task;
-ghost use Rattle.cmwq_trace_data.specs.Entries.{entry, payload};
+ghost use Rattle.cmwq_trace_data.specs.Entries.{entry, payload, queued_cpu};
 ghost use Rattle.cmwq_trace_data.specs.Examples.{end_entry, entry_134, entry_135, event, relief, relief_events, relief_page, rescuer, two_places, unbound_payload, worker};
 ghost use Rattle.cmwq_trace_data.specs.Pages.{cpu_pages};
 ghost use Rattle.cmwq_trace_data.specs.TraceData.{function_lines, places, task_lines};
@@ -16,10 +16,13 @@ pub fn entries_are_words()
     ensures extended { entry relief 135 (event 1 rescuer 1 tracepoint.ExecuteEnd) ≡ entry_135 }
 {}
 
-/// Where a work goes to an unbound pool its CPU is -1, and the one that was asked for is told besides.
+/// Where a work goes to an unbound pool its CPU is -1, and the one that was asked for is told besides. Both pools of a CPU have its
+/// number.
 #[tactic(auto, unfolding(crate::specs::Entries::number))]
 pub fn unbound_pools_have_no_cpu()
-    ensures { payload relief (event 0 (task.Idle 1) 2 (tracepoint.QueueWork 1 2)) ≡ unbound_payload }
+    ensures unbound { payload relief (event 0 (task.Idle 1) 2 (tracepoint.QueueWork 1 2)) ≡ unbound_payload }
+    ensures high { queued_cpu relief 1 ≡ 0 }
+    ensures second { queued_cpu (record relief { cpus = 2 }) 3 ≡ 1 }
 {}
 
 /// The events of a run on one CPU have one page.

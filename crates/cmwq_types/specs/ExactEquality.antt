@@ -143,6 +143,9 @@ same_instr (instr.Disable w) (instr.Disable v) h = ap instr.Disable (same_work_i
 same_instr (instr.Enable w) (instr.Enable v) h = ap instr.Enable (same_work_id w v h)
 same_instr instr.Pressure instr.Pressure h = refl
 same_instr instr.Relief instr.Relief h = refl
+same_instr (instr.Until a) (instr.Until b) h = ap instr.Until (eqb-true a b h)
+same_instr (instr.Wait a) (instr.Wait b) h = ap instr.Wait (eqb-true a b h)
+same_instr instr.Quiet instr.Quiet h = refl
 same_instr x y h = absurd (true≢false (sym h))
 
 pub same_line : (x y : Line) → line.ghosts.eq x y ≡ true → x ≡ y

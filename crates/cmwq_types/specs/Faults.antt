@@ -100,6 +100,7 @@ is_declared s shape.Queue id = nat_lt id (length s.queues)
 is_declared s shape.QueueNumber id = nat_lt id (length s.queues)
 is_declared s shape.Pool id = true
 is_declared s shape.Flush id = true
+is_declared s shape.Time id = true
 
 abbrev pub names_declared : ScenarioContents → Instr → Bool
 names_declared s instr = is_declared s (shape_of (word_of instr)) (fields_of instr).id

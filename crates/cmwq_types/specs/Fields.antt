@@ -43,6 +43,9 @@ shape_of mnemonic.Disable = shape.Work
 shape_of mnemonic.Enable = shape.Work
 shape_of mnemonic.Pressure = shape.Alone
 shape_of mnemonic.Relief = shape.Alone
+shape_of mnemonic.Until = shape.Time
+shape_of mnemonic.Wait = shape.Flush
+shape_of mnemonic.Quiet = shape.Alone
 
 -- the word of an instruction
 abbrev pub word_of : Instr → Mnemonic
@@ -68,6 +71,9 @@ word_of (instr.Disable work) = mnemonic.Disable
 word_of (instr.Enable work) = mnemonic.Enable
 word_of instr.Pressure = mnemonic.Pressure
 word_of instr.Relief = mnemonic.Relief
+word_of (instr.Until time) = mnemonic.Until
+word_of (instr.Wait flush) = mnemonic.Wait
+word_of instr.Quiet = mnemonic.Quiet
 
 -- its operands: each field that its shape doesn't have is 0
 abbrev pub fields_of : Instr → Fields
@@ -93,6 +99,9 @@ fields_of (instr.Disable work) = fields 0 work.0 0
 fields_of (instr.Enable work) = fields 0 work.0 0
 fields_of instr.Pressure = fields 0 0 0
 fields_of instr.Relief = fields 0 0 0
+fields_of (instr.Until time) = fields 0 0 time
+fields_of (instr.Wait flush) = fields 0 flush 0
+fields_of instr.Quiet = fields 0 0 0
 
 -- the instruction of this word and these operands
 abbrev pub instr_of : Mnemonic → Fields → Instr
@@ -118,6 +127,9 @@ instr_of mnemonic.Disable f = instr.Disable (work_id f.id)
 instr_of mnemonic.Enable f = instr.Enable (work_id f.id)
 instr_of mnemonic.Pressure f = instr.Pressure
 instr_of mnemonic.Relief f = instr.Relief
+instr_of mnemonic.Until f = instr.Until f.number
+instr_of mnemonic.Wait f = instr.Wait f.id
+instr_of mnemonic.Quiet f = instr.Quiet
 
 -- What follows goes by the shape alone.
 
@@ -131,6 +143,7 @@ used shape.Queue f = fields 0 f.id 0
 used shape.QueueNumber f = fields 0 f.id f.number
 used shape.Pool f = fields f.cpu 0 0
 used shape.Flush f = fields 0 f.id 0
+used shape.Time f = fields 0 0 f.number
 
 -- a queue's number has one byte
 abbrev pub greatest_id : Shape → ℕ
@@ -142,3 +155,4 @@ greatest_id shape.Queue = 255
 greatest_id shape.QueueNumber = 255
 greatest_id shape.Pool = 65535
 greatest_id shape.Flush = 65535
+greatest_id shape.Time = 65535

@@ -65,6 +65,7 @@ operand_words S shape.Queue f = (queue_at S f.id).name ∷ []
 operand_words S shape.QueueNumber f = (queue_at S f.id).name ∷ decimal f.number ∷ []
 operand_words S shape.Pool f = decimal f.cpu ∷ []
 operand_words S shape.Flush f = decimal f.id ∷ []
+operand_words S shape.Time f = decimal f.number ∷ []
 
 abbrev pub instr_words : ScenarioContents → Instr → List (List ℕ)
 instr_words S instr = spelling (word_of instr) ∷ operand_words S (shape_of (word_of instr)) (fields_of instr)

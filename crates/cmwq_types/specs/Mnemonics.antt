@@ -28,13 +28,17 @@ spelling mnemonic.Disable = codes "disable"
 spelling mnemonic.Enable = codes "enable"
 spelling mnemonic.Pressure = codes "pressure"
 spelling mnemonic.Relief = codes "relief"
+spelling mnemonic.Until = codes "until"
+spelling mnemonic.Wait = codes "wait"
+spelling mnemonic.Quiet = codes "quiet"
 
 abbrev pub mnemonics : List Mnemonic
 mnemonics =
     mnemonic.Queue ∷ mnemonic.Delay ∷ mnemonic.Mod ∷ mnemonic.Cancel ∷ mnemonic.CancelSync ∷ mnemonic.Flush
     ∷ mnemonic.FlushDelayed ∷ mnemonic.FlushQueue ∷ mnemonic.SetMax ∷ mnemonic.Freeze ∷ mnemonic.Thaw ∷ mnemonic.Fire
     ∷ mnemonic.Step ∷ mnemonic.Tick ∷ mnemonic.Next ∷ mnemonic.Ask ∷ mnemonic.Busy ∷ mnemonic.State
-    ∷ mnemonic.Disable ∷ mnemonic.Enable ∷ mnemonic.Pressure ∷ mnemonic.Relief ∷ []
+    ∷ mnemonic.Disable ∷ mnemonic.Enable ∷ mnemonic.Pressure ∷ mnemonic.Relief
+    ∷ mnemonic.Until ∷ mnemonic.Wait ∷ mnemonic.Quiet ∷ []
 
 -- the first of these that is spelled so
 abbrev pub first_spelled : List Mnemonic → List ℕ → Option Mnemonic

@@ -38,6 +38,7 @@ AreFields shape.Queue f = f.id < 2 ^ 8
 AreFields shape.QueueNumber f = (f.id < 2 ^ 8) × (f.number < 2 ^ 32)
 AreFields shape.Pool f = f.cpu < 2 ^ 8
 AreFields shape.Flush f = f.id < 2 ^ 16
+AreFields shape.Time f = f.number < 2 ^ 32
 
 abbrev pub IsInstr : Instr → Type 0
 IsInstr instr = AreFields (shape_of (word_of instr)) (fields_of instr)

@@ -196,7 +196,7 @@ impl Scenario {
         match shape {
             Shape::Work | Shape::WorkCpu | Shape::WorkCpuTicks => (id as usize) < self.works.len(),
             Shape::Queue | Shape::QueueNumber => (id as usize) < self.queues.len(),
-            Shape::Alone | Shape::Pool | Shape::Flush => true,
+            Shape::Alone | Shape::Pool | Shape::Flush | Shape::Time => true,
         }
     }
 }

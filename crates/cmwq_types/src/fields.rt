@@ -25,6 +25,8 @@ pub enum Shape {
     Pool,
     /// A flush.
     Flush,
+    /// A time.
+    Time,
 }
 
 /// The operands of an instruction: each field that its shape doesn't have is 0.
@@ -34,7 +36,7 @@ pub struct Fields {
     pub cpu: u8,
     /// A work, a queue or a flush.
     pub id: u16,
-    /// How many ticks, or a queue's `max_active`.
+    /// How many ticks, a time, or a queue's `max_active`.
     pub number: u32,
 }
 
@@ -70,9 +72,11 @@ pub fn shape_of(mnemonic: Mnemonic) -> Shape
         | Mnemonic::Next
         | Mnemonic::Busy
         | Mnemonic::Pressure
-        | Mnemonic::Relief => Shape::Alone,
+        | Mnemonic::Relief
+        | Mnemonic::Quiet => Shape::Alone,
         Mnemonic::Step => Shape::Pool,
-        Mnemonic::Ask => Shape::Flush,
+        Mnemonic::Ask | Mnemonic::Wait => Shape::Flush,
+        Mnemonic::Until => Shape::Time,
     }
 }
 
@@ -103,6 +107,9 @@ pub fn word_of(instr: Instr) -> Mnemonic
         Instr::Enable(_) => Mnemonic::Enable,
         Instr::Pressure => Mnemonic::Pressure,
         Instr::Relief => Mnemonic::Relief,
+        Instr::Until(_) => Mnemonic::Until,
+        Instr::Wait(_) => Mnemonic::Wait,
+        Instr::Quiet => Mnemonic::Quiet,
     }
 }
 
@@ -132,9 +139,11 @@ pub fn fields_of(instr: Instr) -> Fields
         | Instr::Next
         | Instr::Busy
         | Instr::Pressure
-        | Instr::Relief => Fields::new(0, 0, 0),
+        | Instr::Relief
+        | Instr::Quiet => Fields::new(0, 0, 0),
         Instr::Step(pool) => Fields::new(pool, 0, 0),
-        Instr::Ask(flush) => Fields::new(0, flush, 0),
+        Instr::Ask(flush) | Instr::Wait(flush) => Fields::new(0, flush, 0),
+        Instr::Until(time) => Fields::new(0, 0, time),
     }
 }
 
@@ -168,5 +177,8 @@ pub fn instr_of(mnemonic: Mnemonic, fields: Fields) -> Instr
         Mnemonic::Enable => Instr::Enable(WorkId(fields.id)),
         Mnemonic::Pressure => Instr::Pressure,
         Mnemonic::Relief => Instr::Relief,
+        Mnemonic::Until => Instr::Until(fields.number),
+        Mnemonic::Wait => Instr::Wait(fields.id),
+        Mnemonic::Quiet => Instr::Quiet,
     }
 }

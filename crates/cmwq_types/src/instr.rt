@@ -10,8 +10,9 @@ pub struct WorkId(pub u16);
 
 /// One instruction: what an actor may ask of the machine.
 ///
-/// Its operands are judged when it is carried out; an operand out of range is refused. Each instruction but the
-/// three questions `Ask`, `Busy` and `State` is also refused, as `Spent`, where the scenario's `steps` are spent.
+/// Its operands are judged when it is carried out; an operand out of range is refused. Each instruction is also
+/// refused, as `Spent`, where the scenario's `steps` are spent: but for the three questions `Ask`, `Busy` and
+/// `State`, and `Until`, `Wait` and `Quiet` where they do nothing.
 /// The instructions are calls of the kernel's, as each says; their refusals are this project's own.
 #[derive(Clone, Copy, Debug, PartialEq, Eq)]
 pub enum Instr {
@@ -101,4 +102,17 @@ pub enum Instr {
     Pressure,
     /// Ends the shortage of memory. Refused where there is none.
     Relief,
+    /// Does nothing, and isn't spent, where the time is at or past this tick; else as `Next`.
+    ///
+    /// This project's own, as `Next` is: a kernel's clock goes on by itself.
+    Until(u32),
+    /// Does nothing, and isn't spent, where the flush of this number is done; else as `Next`. It is how a caller of
+    /// the kernel's `flush_work` waits: what else there is goes on meanwhile.
+    ///
+    /// Refused where no such flush was given.
+    Wait(u16),
+    /// Does nothing, and isn't spent, where no work is pending and none runs; else as `Next`.
+    ///
+    /// This project's own. A kernel's `drain_workqueue` waits for the works of one queue so, but for those on timers.
+    Quiet,
 }

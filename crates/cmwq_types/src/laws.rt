@@ -32,6 +32,7 @@ pub fn instructions_are_listed_by_shape()
         → instr_words S (instr.SetMax (queue_id q) max) ≡ codes "set_max" ∷ (queue_at S q).name ∷ decimal max ∷ [] }
     ensures pool { (S : ScenarioContents) (pool : ℕ) → instr_words S (instr.Step pool) ≡ codes "step" ∷ decimal pool ∷ [] }
     ensures flush { (S : ScenarioContents) (flush : ℕ) → instr_words S (instr.Ask flush) ≡ codes "ask" ∷ decimal flush ∷ [] }
+    ensures time { (S : ScenarioContents) (time : ℕ) → instr_words S (instr.Until time) ≡ codes "until" ∷ decimal time ∷ [] }
     ensures work_declared { (S : ScenarioContents) (w cpu : ℕ) → names_declared S (instr.Queue (work_id w) cpu) ≡ nat_lt w (length S.works) }
     ensures queue_declared { (S : ScenarioContents) (q : ℕ) → names_declared S (instr.FlushQueue (queue_id q)) ≡ nat_lt q (length S.queues) }
 {}

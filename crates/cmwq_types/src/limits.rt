@@ -46,7 +46,7 @@ pub const MAX_TICKS: u32 = 1_000_000;
 /// The most bytes of a scenario's text.
 pub const MAX_TEXT: usize = 4_194_304;
 
-/// The most instructions that a scenario can have accepted, questions aside.
+/// The most instructions that a scenario can have accepted and spent.
 pub const MAX_STEPS: u32 = 4_294_967_295;
 
 /// The most entries of a history, and the most instructions that one run issues.

@@ -28,9 +28,12 @@ pub enum Mnemonic {
     Enable,
     Pressure,
     Relief,
+    Until,
+    Wait,
+    Quiet,
 }
 
-const MNEMONICS: [Mnemonic; 22] = [
+const MNEMONICS: [Mnemonic; 25] = [
     Mnemonic::Queue,
     Mnemonic::Delay,
     Mnemonic::Mod,
@@ -53,6 +56,9 @@ const MNEMONICS: [Mnemonic; 22] = [
     Mnemonic::Enable,
     Mnemonic::Pressure,
     Mnemonic::Relief,
+    Mnemonic::Until,
+    Mnemonic::Wait,
+    Mnemonic::Quiet,
 ];
 
 impl Mnemonic {
@@ -111,6 +117,9 @@ impl Mnemonic {
             Mnemonic::Enable => "enable",
             Mnemonic::Pressure => "pressure",
             Mnemonic::Relief => "relief",
+            Mnemonic::Until => "until",
+            Mnemonic::Wait => "wait",
+            Mnemonic::Quiet => "quiet",
         }
     }
 }

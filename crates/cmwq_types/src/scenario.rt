@@ -111,7 +111,7 @@ pub struct Scenario {
     pub cpus: u8,
     /// The most workers of a pool, 1 to 64.
     pub workers: u8,
-    /// How many instructions are accepted, questions aside; 1 to 4,294,967,295.
+    /// How many instructions are accepted and spent; 1 to 4,294,967,295.
     pub steps: u32,
     /// How many flushes can be given, 0 to 1,024.
     pub flushes: u16,

@@ -5,7 +5,7 @@ ghost use Rattle.cmwq_types.specs.Listing.{word_if};
 ghost use Rattle.cmwq_types.specs.Mnemonics.{spelling};
 ghost use Rattle.cmwq_verdict.specs.OfferLines.{spelled};
 ghost use Rattle.std.specs.List.{filter};
-ghost use Rattle.std.specs.Prelude.{◌≡◌, ◌++◌, IfOk, OnOk, map};
+ghost use Rattle.std.specs.Prelude.{◌≡◌, ◌++◌, IfOk, OnOk, [], codes, if◌then◌else◌, map};
 
 use cmwq_grammar::Next;
 use cmwq_types::{Mnemonic, NoMemory, Shape, shape_of};
@@ -89,12 +89,7 @@ fn push_first_words(words: &mut Vec<FirstWord>, next: Next) -> Result<(), NoMemo
             works,
             queues,
             actor,
-        } => {
-            if room {
-                push_named(words, Mnemonic::all(), works, queues)?;
-            }
-            push_if(words, actor, FirstWord::Actor)
-        }
+        } => push_actor_words(words, Mnemonic::all(), room, works, queues, actor),
     }
 }
 
@@ -106,6 +101,26 @@ fn push_if(words: &mut Vec<FirstWord>, holds: bool, word: FirstWord) -> Result<(
         words.push(word)?;
     }
     Ok(())
+}
+
+/// Adds those of these words of instructions that an actor's line may begin with, where there is room for one, and the word of a further
+/// actor, where that may come.
+fn push_actor_words(
+    words: &mut Vec<FirstWord>,
+    all: &[Mnemonic],
+    room: bool,
+    works: bool,
+    queues: bool,
+    actor: bool,
+) -> Result<(), NoMemory>
+    ensures { OnOk result (map spelled words.new.items
+        ≡ map spelled words.old.items ++ ((if room then map spelling (filter (λ mnemonic. has_named works queues (operands_of mnemonic)) all.now) else [])
+        ++ word_if actor (codes "actor"))) }
+{
+    if room {
+        push_named(words, all, works, queues)?;
+    }
+    push_if(words, actor, FirstWord::Actor)
 }
 
 /// Adds those of these words of instructions for which there is one of what the first operand names.
@@ -132,6 +147,6 @@ fn has_named(mnemonic: Mnemonic, works: bool, queues: bool) -> bool
     match shape_of(mnemonic) {
         Shape::Work | Shape::WorkCpu | Shape::WorkCpuTicks => works,
         Shape::Queue | Shape::QueueNumber => queues,
-        Shape::Alone | Shape::Pool | Shape::Flush => true,
+        Shape::Alone | Shape::Pool | Shape::Flush | Shape::Time => true,
     }
 }

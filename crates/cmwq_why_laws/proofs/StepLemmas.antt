@@ -314,7 +314,7 @@ module _ (S : ScenarioContents) (s : State) (pool : ℕ) where
 -- The step.
 
 module _ (S : ScenarioContents) (s : State) (pool : ℕ) (m : WorkId) (e : Event) where
-  answered : (o : Option Refusal) → (answer s (instr.Step pool) o (effect S s (instr.Step pool))).1 ≡ reply.Event m e → o ≡ None
+  answered : (o : Option Refusal) → (answer S s (instr.Step pool) o (effect S s (instr.Step pool))).1 ≡ reply.Event m e → o ≡ None
   answered (Some why) told = cc
   answered None told = refl
 
@@ -324,12 +324,12 @@ module _ (S : ScenarioContents) (s : State) (pool : ℕ) (m : WorkId) (e : Event
 
   told-event : reply_to S s (instr.Step pool) ≡ reply.Event m e → (stepped S s pool (next_move S s pool)).1 ≡ reply.Event m e
   unfolding table
-  told-event told = sym (ap (λ (o : Option Refusal). (answer s (instr.Step pool) o (effect S s (instr.Step pool))).1) (accepted told)) ∙ told
+  told-event told = sym (ap (λ (o : Option Refusal). (answer S s (instr.Step pool) o (effect S s (instr.Step pool))).1) (accepted told)) ∙ told
 
   after-step : reply_to S s (instr.Step pool) ≡ reply.Event m e
       → state_after S s (instr.Step pool) ≡ record (stepped S s pool (next_move S s pool)).0 { spent = (stepped S s pool (next_move S s pool)).0.spent + 1 }
   unfolding table
-  after-step told = ap (λ (o : Option Refusal). (answer s (instr.Step pool) o (effect S s (instr.Step pool))).0) (accepted told)
+  after-step told = ap (λ (o : Option Refusal). (answer S s (instr.Step pool) o (effect S s (instr.Step pool))).0) (accepted told)
 
   move-keeps : (w : ℕ) → HasOneRescuer S s → keeps_workers e ≡ true → w < length S.works → IsApart S s pool m.0 w → (o : Option Move) → next_move S s pool ≡ o
       → (stepped S s pool o).1 ≡ reply.Event m e → KeepsText S s (record (stepped S s pool o).0 { spent = (stepped S s pool o).0.spent + 1 }) w

@@ -41,7 +41,7 @@ use Rattle.cmwq_why_laws.specs.Laws.{MayTurnInto, TurnsFew, TurnsReasonsInTick}
 abbrev pub ticked : ScenarioContents → State → State
 ticked S s = record (tick S s) { spent = s.spent + 1 }
 
-told-done : (S : ScenarioContents) (s : State) (o : Option Refusal) → (answer s instr.Tick o (effect S s instr.Tick)).1 ≡ reply.Done → o ≡ None
+told-done : (S : ScenarioContents) (s : State) (o : Option Refusal) → (answer S s instr.Tick o (effect S s instr.Tick)).1 ≡ reply.Done → o ≡ None
 told-done S s (Some why) done = cc
 told-done S s None done = refl
 
@@ -51,7 +51,7 @@ accepts S s done = told-done S s (refusal S s instr.Tick) done
 
 pub is_ticked : (S : ScenarioContents) (s : State) → reply_to S s instr.Tick ≡ reply.Done → state_after S s instr.Tick ≡ ticked S s
 unfolding table
-is_ticked S s done = ap (λ (o : Option Refusal). (answer s instr.Tick o (effect S s instr.Tick)).0) (accepts S s done)
+is_ticked S s done = ap (λ (o : Option Refusal). (answer S s instr.Tick o (effect S s instr.Tick)).0) (accepts S s done)
 
 has-steps : (b : Bool) (later : Option Refusal) → or_else (refuse_unless b Spent) later ≡ None → b ≡ true
 has-steps true later e = refl

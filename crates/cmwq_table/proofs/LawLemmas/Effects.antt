@@ -21,7 +21,7 @@ use Rattle.cmwq_table.specs.Counts.{first_due, is_due, is_placed, pending_due, p
 use Rattle.cmwq_table.specs.Counts as counts
 use Rattle.cmwq_table.specs.Laws.{tells_wake}
 use Rattle.cmwq_table.specs.Moves.{fire, first_moving, freeze, last_instance, moved, next_move, place, place_after, running_instance, set_max, take_off, taken_off, thaw, tick, with_depth, with_flush, with_pressed}
-use Rattle.cmwq_table.specs.Table.{cancelled, delayed, disabled, effect, enabled, fired_first, modified, next, no_work, no_work_or_cpu, operands, queued, refuse_unless, situation, step_or_tick, stepped, unsettled, while_enabled}
+use Rattle.cmwq_table.specs.Table.{cancelled, delayed, disabled, effect, enabled, fired_first, is_met, modified, next, next_unless, no_work, no_work_or_cpu, operands, queued, refuse_unless, situation, step_or_tick, stepped, unsettled, while_enabled}
 use Rattle.cmwq_table.proofs.LawLemmas.Alike.{IsAlike, alike-depth, alike-limits, alike-pressed, alike-sound, alike-tick, itself}
 use Rattle.cmwq_table.proofs.LawLemmas.Changes.{Follows, Follows-then}
 use Rattle.cmwq_table.proofs.LawLemmas.Disabled.{Follows-all_off, Follows-depth, Follows-off_but, IsOff, disabled-deep, enabled-zero}
@@ -310,6 +310,11 @@ next-effect : (S : ScenarioContents) (s : State) (setting : IsSetting S) (sound 
 next-effect S s setting sound are_full off (Some w) there = fired-effect S s setting sound are_full off false (Some w) there
 next-effect S s setting sound are_full off None there = step_or_tick-effect S s setting sound are_full off (first_moving S s) refl
 
+next_unless-effect : (S : ScenarioContents) (s : State) (setting : IsSetting S) (sound : IsSound S s) (are_full : AreFull S s) (off : IsOff s) → (met : Bool)
+    → Effect S (tells_wake (next_unless S s met).1) s (next_unless S s met).0
+next_unless-effect S s setting sound are_full off true = nothing S s setting sound are_full off false
+next_unless-effect S s setting sound are_full off false = next-effect S s setting sound are_full off (first_due S s) (first_due-there S s)
+
 -- The table gives such an effect.
 pub effect-is : (S : ScenarioContents) (s : State) (i : Instr) → IsSetting S → IsSound S s → AreFull S s → IsOff s → operands S s i ≡ None
     → situation S s i ≡ None → Effect S (tells_wake (effect S s i).1) s (effect S s i).0
@@ -359,3 +364,6 @@ effect-is S s (instr.Enable w) setting sound are_full off operands_fit situation
     enabled-effect S s setting sound are_full off (tells_wake (enabled s w.0 (depth_at s w.0 - 1)).1) w.0 (depth_at s w.0 - 1) (disabled-deep (depth_at s w.0) (granted (is_disabled s w.0) NotDisabled situation_fits))
 effect-is S s instr.Pressure setting sound are_full off operands_fit situation_fits = presses S s setting sound are_full off false true
 effect-is S s instr.Relief setting sound are_full off operands_fit situation_fits = presses S s setting sound are_full off false false
+effect-is S s (instr.Until time) setting sound are_full off operands_fit situation_fits = next_unless-effect S s setting sound are_full off (is_met S s (instr.Until time))
+effect-is S s (instr.Wait flush) setting sound are_full off operands_fit situation_fits = next_unless-effect S s setting sound are_full off (is_met S s (instr.Wait flush))
+effect-is S s instr.Quiet setting sound are_full off operands_fit situation_fits = next_unless-effect S s setting sound are_full off (is_met S s instr.Quiet)

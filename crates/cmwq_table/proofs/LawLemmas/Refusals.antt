@@ -16,7 +16,7 @@ use Rattle.cmwq_table.specs.Counts as counts
 use Rattle.cmwq_table.specs.Laws.{AtEveryInstruction, ChangesNothingAsked, ChangesNothingRefused}
 use Rattle.cmwq_table.specs.Moves.{first_moving, next_move, with_depth}
 use Rattle.cmwq_table.specs.State.{State, depth_at, pending_at, pool_count}
-use Rattle.cmwq_table.specs.Table.{answer, cancelled, delayed, disabled, effect, fired_first, is_question, modified, next, nothing_to_do, operands, queued, run, situation, spent_all, step_or_tick, stepped, table, target_at, yes_or_no}
+use Rattle.cmwq_table.specs.Table.{answer, cancelled, delayed, disabled, effect, fired_first, is_free, is_met, is_question, modified, next, next_unless, nothing_to_do, operands, queued, run, situation, spending, spent_all, step_or_tick, stepped, table, target_at, yes_or_no}
 
 -- The reply is no refusal.
 abbrev IsTold : Reply → Type 0
@@ -77,6 +77,10 @@ next-told : (S : ScenarioContents) (s : State) (o : Option ℕ) → IsTold (next
 next-told S s (Some w) why e = cc
 next-told S s None why e = stepped_or_ticked-told S s (first_moving S s) refl why e
 
+next_unless-told : (S : ScenarioContents) (s : State) (met : Bool) → IsTold (next_unless S s met).1
+next_unless-told S s true why e = cc
+next_unless-told S s false why e = next-told S s (first_due S s) why e
+
 -- What has no refusal in the table is told by another reply.
 effect-told : (S : ScenarioContents) (s : State) (i : Instr) → situation S s i ≡ None → IsTold (effect S s i).1
 effect-told S s (instr.Queue w cpu) fits = queued-told S s w.0 cpu (pending_at s w.0)
@@ -101,11 +105,14 @@ effect-told S s (instr.Disable w) fits = disabled-told S s w.0 (pending_at s w.0
 effect-told S s (instr.Enable w) fits = answer-told ((depth_at s w.0 - 1) == 0)
 effect-told S s instr.Pressure fits = λ why e. cc
 effect-told S s instr.Relief fits = λ why e. cc
+effect-told S s (instr.Until time) fits = next_unless-told S s (is_met S s (instr.Until time))
+effect-told S s (instr.Wait flush) fits = next_unless-told S s (is_met S s (instr.Wait flush))
+effect-told S s instr.Quiet fits = next_unless-told S s (is_met S s instr.Quiet)
 
 -- A refusal of the table's is given with the state as it was.
 pub refused-same : (S : ScenarioContents) (s : State) (i : Instr) (a b c : Option Refusal) → situation S s i ≡ c → (why : Refusal)
-    → (answer s i (counts.or_else a (counts.or_else b c)) (effect S s i)).1 ≡ reply.Refused why
-    → (answer s i (counts.or_else a (counts.or_else b c)) (effect S s i)).0 ≡ s
+    → (answer S s i (counts.or_else a (counts.or_else b c)) (effect S s i)).1 ≡ reply.Refused why
+    → (answer S s i (counts.or_else a (counts.or_else b c)) (effect S s i)).0 ≡ s
 refused-same S s i (Some x) b c is why e = refl
 refused-same S s i None (Some x) c is why e = refl
 refused-same S s i None None (Some x) is why e = refl
@@ -117,38 +124,48 @@ changes_nothing_refused S valid instrs i why e =
     let s = run S instrs in
     refused-same S s i (operands S s i) (spent_all S s i) (situation S s i) refl why e
 
--- Questions.
+-- Questions, and what has what it goes on for.
 
 spends-nothing : (s : State) → record s { spent = s.spent + 0 } ≡ s
 spends-nothing s = ap (λ (spent : ℕ). record s { spent = spent }) (omega arith)
 
-pub asked-same : (S : ScenarioContents) (s : State) (i : Instr) → is_question i ≡ true → (a : Option Refusal) → (answer s i a (effect S s i)).0 ≡ s
-asked-same S s i asked (Some why) = refl
-asked-same S s (instr.Ask flush) asked None = spends-nothing s
-asked-same S s instr.Busy asked None = spends-nothing s
-asked-same S s (instr.State w) asked None = spends-nothing s
-asked-same S s (instr.Queue w cpu) asked None = cc
-asked-same S s (instr.Delay w cpu ticks) asked None = cc
-asked-same S s (instr.Mod w cpu ticks) asked None = cc
-asked-same S s (instr.Cancel w) asked None = cc
-asked-same S s (instr.CancelSync w) asked None = cc
-asked-same S s (instr.Flush w) asked None = cc
-asked-same S s (instr.FlushDelayed w) asked None = cc
-asked-same S s (instr.FlushQueue q) asked None = cc
-asked-same S s (instr.SetMax q max) asked None = cc
-asked-same S s instr.Freeze asked None = cc
-asked-same S s instr.Thaw asked None = cc
-asked-same S s instr.Fire asked None = cc
-asked-same S s (instr.Step pool) asked None = cc
-asked-same S s instr.Tick asked None = cc
-asked-same S s instr.Next asked None = cc
-asked-same S s (instr.Disable w) asked None = cc
-asked-same S s (instr.Enable w) asked None = cc
-asked-same S s instr.Pressure asked None = cc
-asked-same S s instr.Relief asked None = cc
+met-same : (S : ScenarioContents) (s : State) (met : Bool) → met ≡ true → (spending met (next_unless S s met)).0 ≡ s
+met-same S s true e = spends-nothing s
+met-same S s false e = cc
+
+pub free-same : (S : ScenarioContents) (s : State) (i : Instr) → is_free S s i ≡ true → (a : Option Refusal) → (answer S s i a (effect S s i)).0 ≡ s
+free-same S s i free (Some why) = refl
+free-same S s (instr.Ask flush) free None = spends-nothing s
+free-same S s instr.Busy free None = spends-nothing s
+free-same S s (instr.State w) free None = spends-nothing s
+free-same S s (instr.Queue w cpu) free None = cc
+free-same S s (instr.Delay w cpu ticks) free None = cc
+free-same S s (instr.Mod w cpu ticks) free None = cc
+free-same S s (instr.Cancel w) free None = cc
+free-same S s (instr.CancelSync w) free None = cc
+free-same S s (instr.Flush w) free None = cc
+free-same S s (instr.FlushDelayed w) free None = cc
+free-same S s (instr.FlushQueue q) free None = cc
+free-same S s (instr.SetMax q max) free None = cc
+free-same S s instr.Freeze free None = cc
+free-same S s instr.Thaw free None = cc
+free-same S s instr.Fire free None = cc
+free-same S s (instr.Step pool) free None = cc
+free-same S s instr.Tick free None = cc
+free-same S s instr.Next free None = cc
+free-same S s (instr.Disable w) free None = cc
+free-same S s (instr.Enable w) free None = cc
+free-same S s instr.Pressure free None = cc
+free-same S s instr.Relief free None = cc
+free-same S s (instr.Until time) free None = met-same S s (is_met S s (instr.Until time)) free
+free-same S s (instr.Wait flush) free None = met-same S s (is_met S s (instr.Wait flush)) free
+free-same S s instr.Quiet free None = met-same S s (is_met S s instr.Quiet) free
+
+pub asked-free : (S : ScenarioContents) (s : State) (i : Instr) → is_question i ≡ true → is_free S s i ≡ true
+asked-free S s i asked = rw asked refl
 
 pub changes_nothing_asked : AtEveryInstruction ChangesNothingAsked
 unfolding ChangesNothingAsked table
 changes_nothing_asked S valid instrs i asked =
     let s = run S instrs in
-    asked-same S s i asked (counts.or_else (operands S s i) (counts.or_else (spent_all S s i) (situation S s i)))
+    free-same S s i (asked-free S s i asked) (counts.or_else (operands S s i) (counts.or_else (spent_all S s i) (situation S s i)))

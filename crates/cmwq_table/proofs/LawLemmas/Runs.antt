@@ -95,12 +95,12 @@ pub data Outcome (S : ScenarioContents) (s : State) : State → Reply → Type 0
 
 answers : (S : ScenarioContents) (s : State) (i : Instr) → IsSetting S → IsReached S s → (a b c : Option Refusal) → operands S s i ≡ a
     → situation S s i ≡ c
-    → Outcome S s (answer s i (counts.or_else a (counts.or_else b c)) (effect S s i)).0 (answer s i (counts.or_else a (counts.or_else b c)) (effect S s i)).1
+    → Outcome S s (answer S s i (counts.or_else a (counts.or_else b c)) (effect S s i)).0 (answer S s i (counts.or_else a (counts.or_else b c)) (effect S s i)).1
 answers S s i setting reached (Some why) b c operands_are situation_is = Outcome.refused why
 answers S s i setting reached None (Some why) c operands_are situation_is = Outcome.refused why
 answers S s i setting reached None None (Some why) operands_are situation_is = Outcome.refused why
 answers S s i setting reached None None None operands_are situation_is =
-    Outcome.done (effect S s i).0 (effect S s i).1 (answer s i None (effect S s i)).0.spent (effect-is S s i setting reached.sound reached.are_full reached.off operands_are situation_is)
+    Outcome.done (effect S s i).0 (effect S s i).1 (answer S s i None (effect S s i)).0.spent (effect-is S s i setting reached.sound reached.are_full reached.off operands_are situation_is)
 
 pub outcome-is : (S : ScenarioContents) (s : State) (i : Instr) → IsSetting S → IsReached S s → Outcome S s (table S s i).0 (table S s i).1
 unfolding table

@@ -26,7 +26,7 @@ use Rattle.cmwq_table.specs.State.{State, depth_at, is_disabled, is_unbound, pen
 use Rattle.cmwq_table.specs.Counts.{burns, first_due, first_inactive, free_worker, has_room, is_counted, is_deferred, is_listed, is_rescuer, may_start, pends}
 use Rattle.cmwq_table.specs.Laws.{AtEveryInstruction, IsListedIn, StartsAtLevelZero}
 use Rattle.cmwq_table.specs.Moves.{advance, become_idle, begin_again, begun, burned, carry_out, come_to_end, deferred, enlist, fill, fill_everywhere, fill_freezable, fill_from, fill_pools, fill_times, fired, fired_to, first_moving, moved, next_move, one_less, onward, place_after, queue_from_body, rescued, retire, started, taken_off, tick, with_depth, with_pending, with_running, woken}
-use Rattle.cmwq_table.specs.Table.{answer, cancelled, delayed, effect, fired_first, modified, next, queued, refusal, run, step_or_tick, stepped, table}
+use Rattle.cmwq_table.specs.Table.{answer, cancelled, delayed, effect, fired_first, is_met, modified, next, next_unless, queued, refusal, run, step_or_tick, stepped, table}
 use Rattle.cmwq_table.proofs.LawLemmas.Moving.{MoveFits, next_move-fits}
 
 -- no work begins to run
@@ -248,6 +248,10 @@ next-listed : (S : ScenarioContents) (s : State) (o : Option ℕ) → BeginsList
 next-listed S s (Some w) = same-listed S s (next S s (Some w)).0 (fired_first-same S s (Some w))
 next-listed S s None = step_or_tick-listed S s (first_moving S s)
 
+next_unless-listed : (S : ScenarioContents) (s : State) (met : Bool) → BeginsListed S s (next_unless S s met).0
+next_unless-listed S s true = same-listed S s s refl
+next_unless-listed S s false = next-listed S s (first_due S s)
+
 effect-listed : (S : ScenarioContents) (s : State) (i : Instr) → BeginsListed S s (effect S s i).0
 effect-listed S s (instr.Queue w cpu) = same-listed S s (effect S s (instr.Queue w cpu)).0 (queued-same S s w.0 cpu (pending_at s w.0))
 effect-listed S s (instr.Delay w cpu ticks) = same-listed S s (effect S s (instr.Delay w cpu ticks)).0 (delayed-same S s w.0 cpu ticks (pending_at s w.0))
@@ -273,8 +277,11 @@ effect-listed S s (instr.Disable w) =
 effect-listed S s (instr.Enable w) = same-listed S s (effect S s (instr.Enable w)).0 refl
 effect-listed S s instr.Pressure = same-listed S s (effect S s instr.Pressure).0 refl
 effect-listed S s instr.Relief = same-listed S s (effect S s instr.Relief).0 refl
+effect-listed S s (instr.Until time) = next_unless-listed S s (is_met S s (instr.Until time))
+effect-listed S s (instr.Wait flush) = next_unless-listed S s (is_met S s (instr.Wait flush))
+effect-listed S s instr.Quiet = next_unless-listed S s (is_met S s instr.Quiet)
 
-answer-listed : (S : ScenarioContents) (s : State) (i : Instr) (o : Option Refusal) → BeginsListed S s (answer s i o (effect S s i)).0
+answer-listed : (S : ScenarioContents) (s : State) (i : Instr) (o : Option Refusal) → BeginsListed S s (answer S s i o (effect S s i)).0
 answer-listed S s i (Some why) = same-listed S s s refl
 answer-listed S s i None = effect-listed S s i
 

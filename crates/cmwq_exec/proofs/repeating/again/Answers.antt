@@ -5,7 +5,7 @@ use Rattle.cmwq_table.specs.Ready.{Loaded}
 use Rattle.cmwq_table.specs.Repeats.{HasRepeated}
 use Rattle.cmwq_table.specs.State.{State}
 use Rattle.cmwq_table.proofs.RepeatLemmas.{cancel_repeats, delay_repeats, question_repeats, queue_repeats, refusal_repeats}
-use Rattle.cmwq_exec.proofs.RepeatedLemmas.{repeated-as}
+use Rattle.cmwq_exec.proofs.RepeatedLemmas.{met-again, repeated-as}
 use Rattle.cmwq_exec.proofs.repeating.again.Goals as goal
 
 pub returns-then-is_question-clause-repeated : goal.returns-then-is_question-clause-repeated
@@ -53,3 +53,8 @@ returns-in-Cancel-clause-repeated g c =
     subst (λ (after : State). HasRepeated going.scenario going.state c.args.instr c.args.reply c.args.most count after) (sym (ap (λ (m : Loaded). m.state) done.spent))
     (repeated-as going.scenario going.state _ c.args.instr (Cancel w) c.args.reply NotPending c.args.most count c.in-Cancel.is c.in-NotPending.is c.requires.answered
     (λ answered. cancel_repeats going.scenario going.state w c.args.most count answered done.few done.left))
+
+pub returns-in-Done-clause-repeated : goal.returns-in-Done-clause-repeated
+returns-in-Done-clause-repeated g c =
+    let going = c.args.going.now in
+    met-again going.scenario going.state c.args.instr c.args.reply c.args.most (sym c.has_come.ensures ∙ c.if-has_come.true) c.in-Done.is

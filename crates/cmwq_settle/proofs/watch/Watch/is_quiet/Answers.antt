@@ -1,5 +1,5 @@
 use Rattle.std.proofs.Common.{sym}
-use Rattle.cmwq_settle.proofs.WatchLemmas.{at_work-unquiet}
+use Rattle.cmwq_reads.proofs.QuietLemmas.{at_work-unquiet}
 use Rattle.cmwq_settle.proofs.watch.Watch.is_quiet.Goals as goal
 
 pub returns-then-is_at_work-clause-quiet : goal.returns-then-is_at_work-clause-quiet
