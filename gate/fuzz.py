@@ -278,7 +278,7 @@ def try_image(bench, rng, found):
     bench.write(TEXT, shown.output)
     bench.want(bench.run("list", TEXT) == shown, "what an image shows isn't a listing")
     bench.want(bench.run("asm", TEXT, "out") == Ended(0, b"", b""), "no image is made of what an image shows")
-    bench.want(bench.made("out") == content[:5] + b"\x03" + content[6:], "the listing has another image")
+    bench.want(bench.made("out") == content[:5] + b"\x04" + content[6:], "the listing has another image")
     return "image"
 
 

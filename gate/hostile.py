@@ -79,7 +79,9 @@ queue c 0
 enable c
 set_max q 3
 ask 9
-next * 24
+until 9 * 2
+wait 0 * 2
+quiet * 24
 """
 # Several actors, whose orders come to few states; and one who is stuck.
 ORDERS = """cpus 1

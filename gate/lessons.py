@@ -186,16 +186,26 @@ def instrs_of(listing):
     return [instr for instr, _star, times in parts for _turn in range(int(times or 1))]
 
 
-def entry_faults(listing, printed, history):
+def times_of(told):
+    """The time behind each instruction of a run that is told."""
+    times = []
+    for line in told.splitlines():
+        if re.match(r"# \d", line):
+            times.append(times[-1] if times else 0)
+        elif line.startswith("#   now "):
+            times[-1] = int(line.removeprefix("#   now "))
+    return times
+
+
+def entry_faults(listing, printed, told, history):
     """What is wrong with a history of one caller: each entry has its ticket, its caller, its instruction and its reply. Of the replies
     that have a line the lines are what is printed, each at its time; one with no line is `Queued` for what queues, and else `Done`."""
-    now, lines, faults = 0, [], []
-    for number, (instr, entry) in enumerate(itertools.zip_longest(instrs_of(listing), history.splitlines())):
+    lines, faults = [], []
+    for number, (instr, entry, now) in enumerate(itertools.zip_longest(instrs_of(listing), history.splitlines(), times_of(told))):
         front, _colon, reply = (entry or "").partition(": ")
         word, is_silent = (instr or "").partition(" ")[0], reply in ("Queued", "Done")
         good = f"{now} " == reply[:len(f"{now} ")] if not is_silent else reply == ("Queued" if word in ("queue", "delay", "mod") else "Done")
         faults += [] if good and front == f"{number} 0 {instr}" else [f"the entry {entry!r} where {instr!r} was issued"]
-        now += is_silent and word in ("next", "tick")
         lines += [] if is_silent else [f"{reply}\n"]
     return faults + ([] if "".join(lines) == printed else ["the replies of its history"])
 
@@ -203,11 +213,12 @@ def entry_faults(listing, printed, history):
 def history_faults(histories, program, text):
     """What is wrong with a scenario's history on an engine, and with the stored one where the scenario is its own."""
     listing, printed = said(program, "list", text).decode(), bytes_of(f"{text.removesuffix('.cmwq')}.out").decode()
+    told = (said(program, "run", "--tell", text) or b"").decode()
     with open(text, "rb") as it:
         ran = subprocess.run([histories], stdin=it, stdout=subprocess.PIPE, stderr=subprocess.STDOUT, timeout=120)
     stored = f"{TOP}/crates/cmwq_histories"
     found = [ran.stdout] + ([bytes_of(f"{stored}/stdout")] if bytes_of(f"{stored}/stdin") == bytes_of(text) else [])
-    faults = [fault for history in found for fault in entry_faults(listing, printed, history.decode())]
+    faults = [fault for history in found for fault in entry_faults(listing, printed, told, history.decode())]
     return [f"{os.path.relpath(text, TOP)}: {fault} isn't as it should be" for fault in faults]
 
 

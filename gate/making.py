@@ -33,7 +33,7 @@ OPS = {"burn": (1, "n"), "sleep": (2, "n"), "queue": (3, "wc"), "finish": (4, ""
 INSTRS = {"queue": (16, "wc"), "delay": (17, "wcn"), "mod": (18, "wcn"), "cancel": (19, "w"), "cancel_sync": (20, "w"), "flush": (21, "w")}
 INSTRS |= {"flush_delayed": (22, "w"), "flush_queue": (23, "q"), "set_max": (24, "qn"), "freeze": (25, ""), "thaw": (26, ""), "fire": (27, "")}
 INSTRS |= {"step": (28, "c"), "tick": (29, ""), "next": (30, ""), "ask": (31, "a"), "busy": (32, ""), "state": (33, "w")}
-INSTRS |= {"disable": (34, "w"), "enable": (35, "w"), "pressure": (36, ""), "relief": (37, "")}
+INSTRS |= {"disable": (34, "w"), "enable": (35, "w"), "pressure": (36, ""), "relief": (37, ""), "until": (38, "n"), "wait": (39, "a"), "quiet": (40, "")}
 
 
 def image_name(name):
@@ -69,7 +69,7 @@ def image(**parts):
     has = {**SMALL, **parts}
     queues, works, actors = has["queues"], has["works"], has["actors"]
     numbers = {kind: {it.name: at for at, it in enumerate(declared)} for kind, declared in (("q", queues), ("w", works))}
-    head = b"CMWQ" + struct.pack(">HBBIHBHB", 3, *(has[word] for word in HEAD), len(queues), len(works), len(actors))
+    head = b"CMWQ" + struct.pack(">HBBIHBHB", 4, *(has[word] for word in HEAD), len(queues), len(works), len(actors))
     return b"".join([head, *map(image_queue, queues), *(image_work(it, numbers) for it in works), *(image_actor(it, numbers) for it in actors)])
 
 
@@ -101,16 +101,16 @@ def greatest_body(number):
 
 
 def every_instruction(turn, times):
-    """26 lines with each instruction, between which the machine goes on three times, by so many `next`."""
+    """29 lines with each instruction, between which the machine goes on three times, by so many `next`."""
     work = [longest("w", (turn * 7 + at * 37) % 256) for at in range(7)]
     queue, cpu, going = longest("q", turn % 30), turn % 16, f"next * {times}"
     asked = [f"queue {work[0]} {cpu}", f"queue {work[1]} {15 - cpu}", f"delay {work[2]} {cpu} {turn % 30}", f"mod {work[3]} {cpu} {turn % 7}", f"flush {work[0]}", f"flush_queue {queue}"]
     taken = [f"flush_delayed {work[2]}", f"cancel {work[4]}", f"cancel_sync {work[5]}", "freeze", "pressure"]
     limited = [f"set_max {queue} {1 + turn % 512}", f"disable {work[6]}", "fire", f"step {turn % 34}", "tick"]
-    return [*asked, going, *taken, going, *limited, going, "busy", f"state {work[4]}", f"ask {turn}", "thaw", "relief", f"enable {work[6]}", "next"]
+    return [*asked, going, *taken, going, *limited, going, "busy", f"state {work[4]}", f"ask {turn}", "thaw", "relief", f"enable {work[6]}", "next", f"until {turn}", f"wait {turn}", "quiet"]
 
 
-TURNS, IN_TURN = 147, 26
+TURNS, IN_TURN = 132, 29
 
 
 def greatest_lines(instructions, times):

@@ -132,7 +132,7 @@ def image(rng, images):
     for _ in range(rng.choice([1, 1, 1, 2, 3])):
         at, kind = rng.randrange(len(content) + 1), rng.randrange(6)
         if kind < 4:
-            field = rng.choice([b"\x00", b"\x01", b"\x02", b"\x03", b"\x10", b"\x20", b"\x40", b"\xff", b"\xff\xff", bytes([rng.randrange(256)])])
+            field = rng.choice([b"\x00", b"\x01", b"\x02", b"\x03", b"\x04", b"\x10", b"\x20", b"\x40", b"\xff", b"\xff\xff", bytes([rng.randrange(256)])])
             content = content[:at] + field + content[at + len(field):]
         elif kind == 4:
             other = rng.choice(images)

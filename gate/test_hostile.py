@@ -190,7 +190,7 @@ def check_cuts(room):
     """A program that takes whatever it is given, and says nothing; and one whose `check` alone refuses."""
     cutting, text = cut_inputs.Cutting(shell_program(room, "[ $1 != check ]\n"), room), b"cpus 1\nworkers 1\n"
     assert list(map(len, (cutting.image_faults(b"CMWQ12"), cutting.text_faults(text), cutting.spoilt_faults(text), cutting.line_faults(text)))) == [6, 18, 2, 3]
-    assert cut_inputs.first_scenario()[1][:6] == b"CMWQ\0\3"
+    assert cut_inputs.first_scenario()[1][:6] == b"CMWQ\0\4"
 
 
 # It knows the limit of CPUs, of which it lists a text.
