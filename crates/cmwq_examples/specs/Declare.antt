@@ -41,6 +41,16 @@ queues_on w cpu = op.Queue (record { 0 = w }) cpu
 abbrev pub queues : ℕ → Op
 queues w = queues_on w 0
 
+-- the operations `delay W N`, `mod W N` and `cancel W`
+abbrev pub delays : ℕ → ℕ → Op
+delays w ticks = op.Delay (record { 0 = w }) ticks
+
+abbrev pub mods : ℕ → ℕ → Op
+mods w ticks = op.Mod (record { 0 = w }) ticks
+
+abbrev pub cancels : ℕ → Op
+cancels w = op.Cancel (record { 0 = w })
+
 -- `queue W C`
 abbrev pub enqueue : ℕ → ℕ → Line
 enqueue w cpu = record { instr = instr.Queue (record { 0 = w }) cpu; times = 1 }

@@ -1,3 +1,4 @@
+pub mod Bodies
 pub mod Conditions
 pub mod Corners
 pub mod Declare

@@ -2,6 +2,7 @@
 //! prints, how one is listed, or that they are valid; one has the limits by number.
 #![tactic(auto)]
 
+pub mod bodies;
 pub mod conditions;
 pub mod corners;
 pub mod finer_rules;

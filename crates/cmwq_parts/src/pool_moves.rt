@@ -1,7 +1,7 @@
 //! The moves of a worker pool: which one is next, and what each does.
 ghost use Rattle.cmwq_parts.specs.FoundMoves.{IsFirstMove, IsFound, if_found, move_of};
 ghost use Rattle.cmwq_table.specs.Counts.{first_due, first_listed, first_rescued, free_worker, ready_head};
-ghost use Rattle.cmwq_table.specs.Moves.{advance, carry_out, come_to_end, finish, first_moving, moved, moved_work, next_move, queue_from_body, rescued, start_first, start_move, started};
+ghost use Rattle.cmwq_table.specs.Moves.{advance, cancel_from_body, carry_out, come_to_end, delay_from_body, finish, first_moving, mod_from_body, moved, moved_work, next_move, queue_from_body, rescued, start_first, start_move, started};
 ghost use Rattle.cmwq_table.specs.Ready.{Takes};
 ghost use Rattle.cmwq_table.specs.State.{is_disabled, pending_at, running_at};
 ghost use Rattle.cmwq_types.specs.Scenario.{op_at};
@@ -213,6 +213,20 @@ impl<P: Parts> Going<P> {
                 self.queue_from_body(other, cpu)
             }
             Op::Finish => self.finish(w, r),
+            Op::Delay(other, ticks) => {
+                self.parts.go_on(w, r, r.left);
+                let cpu = self.parts.scenario().local_cpu(r.pool);
+                self.delay_from_body(other, cpu, ticks)
+            }
+            Op::Mod(other, ticks) => {
+                self.parts.go_on(w, r, r.left);
+                let cpu = self.parts.scenario().local_cpu(r.pool);
+                self.mod_from_body(other, cpu, ticks)
+            }
+            Op::Cancel(other) => {
+                self.parts.go_on(w, r, r.left);
+                self.cancel_from_body(other)
+            }
         }
     }
 
@@ -232,6 +246,76 @@ impl<P: Parts> Going<P> {
             self.place(other.0 as usize, cpu);
         }
         Event::Queues { other, already }
+    }
+
+    /// A body queues a work after so many ticks, unless it is disabled. A pending work stays as it is.
+    fn delay_from_body(&mut self, other: WorkId, cpu: u8, ticks: u32) -> Event
+        requires work { other.0 < length self.old.scenario.works }
+        requires cpu { cpu < self.old.scenario.cpus }
+        requires time { self.old.state.time < 2 ^ 63 }
+        requires stamps { self.old.state.next < 2 ^ 63 }
+        ensures state { self.new ≡ record self.old { state = (delay_from_body self.old.scenario self.old.state other cpu ticks (is_disabled self.old.state other.0) (pending_at self.old.state other.0)).0 } }
+        ensures event { result ≡ (delay_from_body self.old.scenario self.old.state other cpu ticks (is_disabled self.old.state other.0) (pending_at self.old.state other.0)).1 }
+    {
+        if self.is_disabled(other) {
+            return Event::DelaysDisabled { other, ticks };
+        }
+        let already = self.parts.pending_of(other.0 as usize).is_some();
+        if !already {
+            self.place_after(other.0 as usize, cpu, ticks);
+        }
+        Event::Delays {
+            other,
+            ticks,
+            already,
+        }
+    }
+
+    /// A body queues a work anew after so many ticks, unless it is disabled. A pending work is taken off first.
+    fn mod_from_body(&mut self, other: WorkId, cpu: u8, ticks: u32) -> Event
+        requires work { other.0 < length self.old.scenario.works }
+        requires cpu { cpu < self.old.scenario.cpus }
+        requires time { self.old.state.time < 2 ^ 63 }
+        requires stamps { self.old.state.next < 2 ^ 62 }
+        ensures state { self.new ≡ record self.old { state = (mod_from_body self.old.scenario self.old.state other cpu ticks (is_disabled self.old.state other.0) (pending_at self.old.state other.0)).0 } }
+        ensures event { result ≡ (mod_from_body self.old.scenario self.old.state other cpu ticks (is_disabled self.old.state other.0) (pending_at self.old.state other.0)).1 }
+    {
+        if self.is_disabled(other) {
+            return Event::ModsDisabled { other, ticks };
+        }
+        let w = other.0 as usize;
+        match self.parts.pending_of(w) {
+            Some(p) => {
+                self.replace(w, p, cpu, ticks);
+                let changed = true;
+                Event::Mods {
+                    other,
+                    ticks,
+                    changed,
+                }
+            }
+            None => {
+                self.place_after(w, cpu, ticks);
+                let changed = false;
+                Event::Mods {
+                    other,
+                    ticks,
+                    changed,
+                }
+            }
+        }
+    }
+
+    /// A body takes a work off, if it is pending.
+    fn cancel_from_body(&mut self, other: WorkId) -> Event
+        requires work { other.0 < length self.old.scenario.works }
+        requires stamps { self.old.state.next < 2 ^ 62 }
+        ensures state { self.new ≡ record self.old { state = (cancel_from_body self.old.scenario self.old.state other (pending_at self.old.state other.0)).0 } }
+        ensures event { result ≡ (cancel_from_body self.old.scenario self.old.state other (pending_at self.old.state other.0)).1 }
+    {
+        let was = self.parts.pending_of(other.0 as usize).is_some();
+        self.take_off(other.0 as usize);
+        Event::Cancels { other, was }
     }
 
     /// The running work comes to the end of its body, and what it leaves is filled.

@@ -3,7 +3,7 @@ use Rattle.std.proofs.Common.{◌≡◌, ℕ, zero, suc, ◌+◌, ◌-◌, ◌*�
 use Rattle.std.specs.Prelude.{if◌then◌else◌, nat_lt, slice_index_or, slice_set}
 use Rattle.std.proofs.lemmas.Bool.{ltb-true}
 use Rattle.cmwq_types.specs.Contents.{ScenarioContents}
-use Rattle.cmwq_types.specs.Scenario.{flags_at, op_at, pool_count, queue_of}
+use Rattle.cmwq_types.specs.Scenario.{flags_at, local_cpu, op_at, pool_count, queue_of}
 use Rattle.cmwq_types.specs.Setting.{IsSetting}
 use Rattle.cmwq_types.specs.declared.instr.Instr.{Instr}
 use Rattle.cmwq_types.specs.declared.instr.Instr.TheVariants as instr
@@ -22,7 +22,7 @@ use Rattle.cmwq_types.specs.declared.scenario.Op.TheVariants as op
 use Rattle.cmwq_types.proofs.SettingLemmas.{IsSetting-valid}
 use Rattle.cmwq_table.specs.Counts.{first_due, first_inactive, free_worker, has_room, is_deferred, is_rescuer, or_else}
 use Rattle.cmwq_table.specs.Laws.{InEveryState}
-use Rattle.cmwq_table.specs.Moves.{advance, become_idle, begin_again, carry_out, come_to_end, deferred, enlist, fill, fill_everywhere, fill_freezable, fill_from, fill_one, fill_pools, fill_times, finish, fire, fired, fired_to, first_moving, moved, next_move, onward, place, place_after, queue_from_body, rescued, retire, set_max, started, taken_off, thaw, tick, with_depth, with_pending, with_running, woken}
+use Rattle.cmwq_table.specs.Moves.{advance, become_idle, begin_again, carry_out, come_to_end, deferred, enlist, fill, fill_everywhere, fill_freezable, fill_from, fill_one, fill_pools, fill_times, finish, fire, fired, fired_to, first_moving, moved, next_move, onward, place, place_after, queue_from_body, delay_from_body, mod_from_body, cancel_from_body, rescued, retire, set_max, started, taken_off, thaw, tick, with_depth, with_pending, with_running, woken}
 use Rattle.cmwq_table.specs.Ready.{HasCounters, Takes, most_everywhere, most_stamps}
 use Rattle.cmwq_table.specs.State.{State, depth_at, is_disabled, pending_at, running_at, start}
 use Rattle.cmwq_table.specs.Table.{after_all, answer, cancelled, delayed, effect, fired_first, is_free, is_met, modified, next, next_unless, operands, queued, refuse_unless, situation, spent_all, step_or_tick, stepped, table}
@@ -144,6 +144,21 @@ queue_from_body-takes S s other cpu true p = stays most_of_move s
 queue_from_body-takes S s other cpu false (Some p) = stays most_of_move s
 queue_from_body-takes S s other cpu false None = record { next = omega arith; time = refl; spent = refl; depth = refl; flushes = refl }
 
+delay_from_body-takes : (S : ScenarioContents) (s : State) (other : WorkId) (cpu ticks : ℕ) (b : Bool) (p : Option Pending)
+    → Takes most_of_move s (delay_from_body S s other cpu ticks b p).0
+delay_from_body-takes S s other cpu ticks true p = stays most_of_move s
+delay_from_body-takes S s other cpu ticks false (Some p) = stays most_of_move s
+delay_from_body-takes S s other cpu ticks false None =
+    within 1 most_of_move s (place_after S s other.0 cpu ticks) (place_after-takes S s other.0 cpu ticks) (omega arith)
+
+mod_from_body-takes : (S : ScenarioContents) (s : State) (other : WorkId) (cpu ticks : ℕ) (b : Bool) (p : Option Pending) → IsSetting S
+    → Takes most_of_move s (mod_from_body S s other cpu ticks b p).0
+mod_from_body-takes S s other cpu ticks true p setting = stays most_of_move s
+mod_from_body-takes S s other cpu ticks false p setting =
+    let off : State = taken_off S s other.0 p in
+    both MAX_WORKS 1 most_of_move s off (place_after S off other.0 cpu ticks) (taken_off-takes S s other.0 p setting)
+    (place_after-takes S off other.0 cpu ticks) (omega arith)
+
 carry_out-takes : (S : ScenarioContents) (s : State) (w : ℕ) (r : Running) (o : Op) → IsSetting S → Takes most_of_move s (carry_out S s w r o).0
 carry_out-takes S s w r (op.Burn ticks) setting = record { next = omega arith; time = refl; spent = refl; depth = refl; flushes = refl }
 carry_out-takes S s w r (op.Sleep ticks) setting = record { next = omega arith; time = refl; spent = refl; depth = refl; flushes = refl }
@@ -151,6 +166,15 @@ carry_out-takes S s w r (op.Queue other cpu) setting =
     let placed = queue_from_body-takes S (onward s w r) other cpu (is_disabled s other.0) (pending_at s other.0) in
     record { next = placed.next; time = placed.time; spent = placed.spent; depth = placed.depth; flushes = placed.flushes }
 carry_out-takes S s w r op.Finish setting = finish-takes S s w r setting
+carry_out-takes S s w r (op.Delay other ticks) setting =
+    let placed = delay_from_body-takes S (onward s w r) other (local_cpu S r.pool) ticks (is_disabled s other.0) (pending_at s other.0) in
+    record { next = placed.next; time = placed.time; spent = placed.spent; depth = placed.depth; flushes = placed.flushes }
+carry_out-takes S s w r (op.Mod other ticks) setting =
+    let placed = mod_from_body-takes S (onward s w r) other (local_cpu S r.pool) ticks (is_disabled s other.0) (pending_at s other.0) setting in
+    record { next = placed.next; time = placed.time; spent = placed.spent; depth = placed.depth; flushes = placed.flushes }
+carry_out-takes S s w r (op.Cancel other) setting =
+    let off = taken_off-takes S (onward s w r) other.0 (pending_at s other.0) setting in
+    record { next = omega (arith, off.next); time = off.time; spent = off.spent; depth = off.depth; flushes = off.flushes }
 
 advance-takes : (S : ScenarioContents) (s : State) (w : ℕ) (r : Option Running) → IsSetting S → Takes most_of_move s (advance S s w r).0
 advance-takes S s w (Some r) setting = carry_out-takes S s w r (op_at S w r.pc) setting

@@ -33,6 +33,15 @@ abbrev pub already_text : Bool → List ℕ
 already_text true = codes " already"
 already_text false = []
 
+abbrev pub changed_text : Bool → List ℕ
+changed_text true = codes " changed"
+changed_text false = []
+
+-- whether a work that a body cancels was pending
+abbrev pub found_text : Bool → List ℕ
+found_text true = []
+found_text false = codes " not pending"
+
 -- what an event's line says that its work does
 abbrev pub event_verb : Event → List ℕ
 event_verb event.Starts = codes "starts"
@@ -46,6 +55,15 @@ event_verb event.Fires = codes "fires"
 event_verb (event.Queues other already) = codes "queues"
 event_verb (event.QueuesDisabled other) = codes "queues"
 event_verb event.StartsOnRescuer = codes "starts on rescuer"
+event_verb (event.Delays other ticks already) = codes "delays"
+event_verb (event.DelaysDisabled other ticks) = codes "delays"
+event_verb (event.Mods other ticks changed) = codes "mods"
+event_verb (event.ModsDisabled other ticks) = codes "mods"
+event_verb (event.Cancels other was) = codes "cancels"
+
+-- which work, after how many ticks, and what came of it
+abbrev pub timed_object : ScenarioContents → WorkId → ℕ → List ℕ → List ℕ
+timed_object S other ticks outcome = codes " " ++ work_name S other ++ codes " " ++ decimal ticks ++ outcome
 
 -- and how long, or which work
 abbrev pub event_object : ScenarioContents → Event → List ℕ
@@ -60,6 +78,11 @@ event_object S event.FinishesAndStarts = []
 event_object S event.Defers = []
 event_object S event.Fires = []
 event_object S event.StartsOnRescuer = []
+event_object S (event.Delays other ticks already) = timed_object S other ticks (already_text already)
+event_object S (event.DelaysDisabled other ticks) = timed_object S other ticks (codes " disabled")
+event_object S (event.Mods other ticks changed) = timed_object S other ticks (changed_text changed)
+event_object S (event.ModsDisabled other ticks) = timed_object S other ticks (codes " disabled")
+event_object S (event.Cancels other was) = codes " " ++ work_name S other ++ found_text was
 
 abbrev pub event_text : ScenarioContents → Event → List ℕ
 event_text S event = event_verb event ++ event_object S event

@@ -86,6 +86,11 @@ is_wake event.Fires = false
 is_wake (event.Queues other already) = false
 is_wake (event.QueuesDisabled other) = false
 is_wake event.StartsOnRescuer = false
+is_wake (event.Delays other ticks already) = false
+is_wake (event.DelaysDisabled other ticks) = false
+is_wake (event.Mods other ticks changed) = false
+is_wake (event.ModsDisabled other ticks) = false
+is_wake (event.Cancels other was) = false
 
 -- the reply tells that a sleeper wakes
 abbrev pub tells_wake : Reply → Bool

@@ -2,7 +2,7 @@
 -- Where a rule is the kernel's, the names in brackets are those of its source, or of its document.
 use Rattle.std.specs.Prelude.{ℕ, zero, suc, ◌+◌, ◌-◌, Bool, true, false, List, [], ◌∷◌, ◌++◌, length, Option, Some, None, if◌then◌else◌, ◌==◌, is_some, slice_set}
 use Rattle.cmwq_types.specs.Contents.{ScenarioContents}
-use Rattle.cmwq_types.specs.Scenario.{flags_at, queue_of, op_at}
+use Rattle.cmwq_types.specs.Scenario.{flags_at, local_cpu, queue_of, op_at}
 use Rattle.cmwq_types.specs.First.{first_below, by_least}
 use Rattle.cmwq_types.specs.declared.instr.WorkId.{WorkId}
 use Rattle.cmwq_types.specs.declared.limits.TheConstants.{RESCUER}
@@ -185,6 +185,22 @@ queue_from_body S s other cpu true p = (s, event.QueuesDisabled other)
 queue_from_body S s other cpu false (Some p) = (s, event.Queues other true)
 queue_from_body S s other cpu false None = (place S s other.0 cpu, event.Queues other false)
 
+-- a body queues a work after some ticks, if that isn't disabled (`queue_delayed_work`, in a work's function)
+abbrev pub delay_from_body : ScenarioContents → State → WorkId → ℕ → ℕ → Bool → Option Pending → State × Event
+delay_from_body S s other cpu ticks true p = (s, event.DelaysDisabled other ticks)
+delay_from_body S s other cpu ticks false (Some p) = (s, event.Delays other ticks true)
+delay_from_body S s other cpu ticks false None = (place_after S s other.0 cpu ticks, event.Delays other ticks false)
+
+-- the same, and a pending one is taken off first (`mod_delayed_work`)
+abbrev pub mod_from_body : ScenarioContents → State → WorkId → ℕ → ℕ → Bool → Option Pending → State × Event
+mod_from_body S s other cpu ticks true p = (s, event.ModsDisabled other ticks)
+mod_from_body S s other cpu ticks false p =
+    (place_after S (taken_off S s other.0 p) other.0 cpu ticks, event.Mods other ticks (is_some p))
+
+-- a body takes a work off where it is pending (`cancel_work`, `cancel_delayed_work`)
+abbrev pub cancel_from_body : ScenarioContents → State → WorkId → Option Pending → State × Event
+cancel_from_body S s other p = (taken_off S s other.0 p, event.Cancels other (is_some p))
+
 abbrev pub carry_out : ScenarioContents → State → ℕ → Running → Op → State × Event
 carry_out S s w r (op.Burn ticks) =
     (with_running s w (Some (record r { pc = r.pc + 1; left = ticks })), event.Burns ticks)
@@ -193,6 +209,11 @@ carry_out S s w r (op.Sleep ticks) =
 carry_out S s w r (op.Queue other cpu) =
     queue_from_body S (onward s w r) other cpu (is_disabled s other.0) (pending_at s other.0)
 carry_out S s w r op.Finish = finish S s w r
+carry_out S s w r (op.Delay other ticks) =
+    delay_from_body S (onward s w r) other (local_cpu S r.pool) ticks (is_disabled s other.0) (pending_at s other.0)
+carry_out S s w r (op.Mod other ticks) =
+    mod_from_body S (onward s w r) other (local_cpu S r.pool) ticks (is_disabled s other.0) (pending_at s other.0)
+carry_out S s w r (op.Cancel other) = cancel_from_body S (onward s w r) other (pending_at s other.0)
 
 abbrev pub advance : ScenarioContents → State → ℕ → Option Running → State × Event
 advance S s w (Some r) = carry_out S s w r (op_at S w r.pc)

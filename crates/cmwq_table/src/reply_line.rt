@@ -1,5 +1,5 @@
 //! The line that a reply prints.
-ghost use Rattle.cmwq_table.specs.Events.{already_text, asked_name, event_text, event_verb, is_silent, place_text, refusal_text, reply_line, reply_words, run_text, was_text, worker_number};
+ghost use Rattle.cmwq_table.specs.Events.{already_text, asked_name, changed_text, event_text, event_verb, found_text, is_silent, place_text, refusal_text, reply_line, reply_words, run_text, was_text, worker_number};
 ghost use Rattle.std.specs.Prelude.{◌≡◌, Some};
 
 use cmwq_types::{Event, Instr, Mode, Place, RESCUER, Refusal, Reply, Scenario, WorkId, WorkRun};
@@ -116,6 +116,33 @@ impl fmt::Display for EventWords<'_> {
                 let other = self.scenario.work_name(other.0 as usize);
                 write!(f, " {other} disabled")
             }
+            Event::Delays {
+                other,
+                ticks,
+                already,
+            } => {
+                let other = self.scenario.work_name(other.0 as usize);
+                let already = already_text(already);
+                write!(f, " {other} {ticks}{already}")
+            }
+            Event::Mods {
+                other,
+                ticks,
+                changed,
+            } => {
+                let other = self.scenario.work_name(other.0 as usize);
+                let changed = changed_text(changed);
+                write!(f, " {other} {ticks}{changed}")
+            }
+            Event::DelaysDisabled { other, ticks } | Event::ModsDisabled { other, ticks } => {
+                let other = self.scenario.work_name(other.0 as usize);
+                write!(f, " {other} {ticks} disabled")
+            }
+            Event::Cancels { other, was } => {
+                let other = self.scenario.work_name(other.0 as usize);
+                let found = found_text(was);
+                write!(f, " {other}{found}")
+            }
             _ => Ok(()),
         }
     }
@@ -136,6 +163,9 @@ fn event_verb(event: Event) -> &'static str
         Event::Fires => "fires",
         Event::Queues { .. } | Event::QueuesDisabled { .. } => "queues",
         Event::StartsOnRescuer => "starts on rescuer",
+        Event::Delays { .. } | Event::DelaysDisabled { .. } => "delays",
+        Event::Mods { .. } | Event::ModsDisabled { .. } => "mods",
+        Event::Cancels { .. } => "cancels",
     }
 }
 
@@ -144,6 +174,20 @@ fn already_text(already: bool) -> &'static str
     ensures { result.now ≡ already_text already }
 {
     if already { " already" } else { "" }
+}
+
+/// Whether the work that was queued anew was pending.
+fn changed_text(changed: bool) -> &'static str
+    ensures { result.now ≡ changed_text changed }
+{
+    if changed { " changed" } else { "" }
+}
+
+/// Whether the work that a body cancels was pending.
+fn found_text(was: bool) -> &'static str
+    ensures { result.now ≡ found_text was }
+{
+    if was { "" } else { " not pending" }
 }
 
 /// The words of where a work waits: `idle`, `timer DUE`, `inactive P`, `listed P` or `deferred P`, as the

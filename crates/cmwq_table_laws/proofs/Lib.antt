@@ -1,4 +1,6 @@
 mod AcceptingLemmas
+mod BodyLemmas
 mod DepthLemmas
+mod LengthLemmas
 mod PoolLemmas
 mod RepeatingLemmas

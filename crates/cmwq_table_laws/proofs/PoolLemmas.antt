@@ -4,7 +4,7 @@ use Rattle.std.proofs.lemmas.Bool.{cases_eq}
 use Rattle.std.proofs.lemmas.List.{get_or-set_other}
 use Rattle.std.specs.Prelude.{◌≢◌, if◌then◌else◌, slice_index_or, slice_set}
 use Rattle.cmwq_types.specs.Contents.{ScenarioContents}
-use Rattle.cmwq_types.specs.Scenario.{flags_at, op_at, queue_of}
+use Rattle.cmwq_types.specs.Scenario.{flags_at, op_at, queue_of, local_cpu}
 use Rattle.cmwq_types.specs.declared.instr.Instr.{Instr}
 use Rattle.cmwq_types.specs.declared.instr.Instr.TheVariants as instr
 use Rattle.cmwq_types.specs.declared.instr.WorkId.{WorkId}
@@ -22,7 +22,7 @@ use Rattle.cmwq_types.specs.declared.scenario.Op.{Op}
 use Rattle.cmwq_types.specs.declared.scenario.Op.TheVariants as op
 use Rattle.cmwq_table.specs.Counts.{first_due, first_inactive, has_room, is_deferred}
 use Rattle.cmwq_table.specs.Laws.{AtEveryInstruction, placed_in, reply_to, state_after}
-use Rattle.cmwq_table.specs.Moves.{advance, begin_again, carry_out, come_to_end, enlist, fill_from, fill_one, fill_times, fire, fired, fired_to, first_moving, next_move, onward, place, pool_for, pool_or, queue_from_body, retire, taken_off, with_pending}
+use Rattle.cmwq_table.specs.Moves.{advance, begin_again, carry_out, come_to_end, enlist, fill_from, fill_one, fill_times, fire, fired, fired_to, first_moving, next_move, onward, place, pool_for, pool_or, queue_from_body, retire, taken_off, with_pending, delay_from_body, mod_from_body}
 use Rattle.cmwq_table.specs.State.{State, is_disabled, pending_at, running_at, target}
 use Rattle.cmwq_table.specs.Table.{delayed, effect, fired_first, modified, next, queued, run, step_or_tick, stepped}
 use Rattle.cmwq_table.specs.declared.state.Pending.{Pending}
@@ -70,7 +70,7 @@ either-placed : (b : Bool) (pool : ℕ) → placed_in (if b then Listed pool els
 either-placed true pool = refl
 either-placed false pool = refl
 
-place-in_pool : (S : ScenarioContents) (s : State) (w cpu : ℕ) (p : Pending) → pending_at (place S s w cpu) w ≡ Some p → placed_in p.place ≡ Some (pool_for S s w cpu)
+pub place-in_pool : (S : ScenarioContents) (s : State) (w cpu : ℕ) (p : Pending) → pending_at (place S s w cpu) w ≡ Some p → placed_in p.place ≡ Some (pool_for S s w cpu)
 place-in_pool S s w cpu p is =
     let pool = pool_for S s w cpu in
     let room = has_room S s (queue_of S w) pool in
@@ -143,7 +143,7 @@ fired-in_pool S s work timer due cpu (Some v) p told pends at is =
 fired-in_pool S s work timer due cpu None p told pends at is = cc
 
 -- A body goes on by one operation, and runs in the same pool.
-onward-pool : (S : ScenarioContents) (s : State) (v w cpu : ℕ) (r : Running) → running_at s v ≡ Some r → pool_for S (onward s v r) w cpu ≡ pool_for S s w cpu
+pub onward-pool : (S : ScenarioContents) (s : State) (v w cpu : ℕ) (r : Running) → running_at s v ≡ Some r → pool_for S (onward s v r) w cpu ≡ pool_for S s w cpu
 onward-pool S s v w cpu r runs =
     elim (cases_eq w v) [
       | inl same ↦ subst (λ (k : ℕ). pool_for S (onward s v r) k cpu ≡ pool_for S s k cpu) (sym same) (onward-own s.running v r (target S (queue_of S v) cpu) runs)
@@ -199,6 +199,15 @@ from_body-fires S s other cpu true o e = cc
 from_body-fires S s other cpu false (Some p) e = cc
 from_body-fires S s other cpu false None e = cc
 
+delays-fires : (S : ScenarioContents) (s : State) (other : WorkId) (cpu ticks : ℕ) (b : Bool) (o : Option Pending) → (delay_from_body S s other cpu ticks b o).1 ≡ event.Fires → ⊥
+delays-fires S s other cpu ticks true o e = cc
+delays-fires S s other cpu ticks false (Some p) e = cc
+delays-fires S s other cpu ticks false None e = cc
+
+mods-fires : (S : ScenarioContents) (s : State) (other : WorkId) (cpu ticks : ℕ) (b : Bool) (o : Option Pending) → (mod_from_body S s other cpu ticks b o).1 ≡ event.Fires → ⊥
+mods-fires S s other cpu ticks true o e = cc
+mods-fires S s other cpu ticks false o e = cc
+
 either-fires : (b : Bool) (x y : State × Event) → (x.1 ≡ event.Fires → ⊥) → (y.1 ≡ event.Fires → ⊥) → (cond {A = State × Event} b x y).1 ≡ event.Fires → ⊥
 either-fires true x y first second e = first e
 either-fires false x y first second e = second e
@@ -213,6 +222,9 @@ carried-fires S s w r (op.Burn ticks) e = cc
 carried-fires S s w r (op.Sleep ticks) e = cc
 carried-fires S s w r (op.Queue other cpu) e = from_body-fires S (onward s w r) other cpu (is_disabled s other.0) (pending_at s other.0) e
 carried-fires S s w r op.Finish e = ended-fires s w r (pending_at s w) e
+carried-fires S s w r (op.Delay other ticks) e = delays-fires S (onward s w r) other (local_cpu S r.pool) ticks (is_disabled s other.0) (pending_at s other.0) e
+carried-fires S s w r (op.Mod other ticks) e = mods-fires S (onward s w r) other (local_cpu S r.pool) ticks (is_disabled s other.0) (pending_at s other.0) e
+carried-fires S s w r (op.Cancel other) e = cc
 
 advanced-fires : (S : ScenarioContents) (s : State) (w : ℕ) (o : Option Running) → (advance S s w o).1 ≡ event.Fires → ⊥
 advanced-fires S s w (Some r) e = carried-fires S s w r (op_at S w r.pc) e
@@ -252,7 +264,7 @@ next_stepped-in_pool S s work other r cpu None p told runs named is = moved-in_p
 -- Instructions.
 
 -- what the instruction comes to is what its effect is, but for the steps spent
-effect-told : (S : ScenarioContents) (s : State) (i : Instr) (r : Reply) → ((why : Refusal) → r ≢ reply.Refused why) → reply_to S s i ≡ r → (effect S s i).1 ≡ r
+pub effect-told : (S : ScenarioContents) (s : State) (i : Instr) (r : Reply) → ((why : Refusal) → r ≢ reply.Refused why) → reply_to S s i ≡ r → (effect S s i).1 ≡ r
 effect-told S s i r other e = ap (λ (after : State × Reply). after.1) (sym (carried-out S s i (told-none S s i r other e))) ∙ e
 
 effect-pending : (S : ScenarioContents) (s : State) (i : Instr) (r : Reply) (w : ℕ) (p : Pending) → ((why : Refusal) → r ≢ reply.Refused why) → reply_to S s i ≡ r

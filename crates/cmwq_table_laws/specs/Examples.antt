@@ -1,5 +1,5 @@
 -- Runs in which the premises of the laws hold.
-use Rattle.std.specs.Prelude.{ℕ, true, List, [], ◌∷◌, codes}
+use Rattle.std.specs.Prelude.{ℕ, true, List, [], ◌∷◌, codes, replicate}
 use Rattle.cmwq_types.specs.Contents.{ScenarioContents, WorkContents}
 use Rattle.cmwq_types.specs.Scenario.{plain_flags}
 use Rattle.cmwq_types.specs.declared.instr.Instr.{Instr}
@@ -69,3 +69,30 @@ g_queues_b = queue_on_1 6 ∷ instr.Next ∷ []
 -- b's timer, on the second CPU, has run out
 abbrev pub b_is_due : List Instr
 b_is_due = delay_on_1 1 1 ∷ instr.Tick ∷ []
+
+-- two CPUs, and a queue n of theirs and an unbound one u; a, of n, delays b, modifies it so that it is placed at once, and cancels it; c, of u,
+-- modifies b
+abbrev pub bodies_arm : ScenarioContents
+bodies_arm = record {
+  cpus = 2;
+  workers = 2;
+  steps = 50;
+  flushes = 0;
+  queues = a_queue (codes "n") plain_flags ∷ a_queue (codes "u") (record plain_flags { unbound = true }) ∷ [];
+  works =
+      a_work (codes "a") 0 (op.Delay (record { 0 = 1 }) 2 ∷ op.Mod (record { 0 = 1 }) 0 ∷ op.Cancel (record { 0 = 1 }) ∷ op.Finish ∷ [])
+      ∷ a_work (codes "b") 0 (op.Finish ∷ []) ∷ a_work (codes "c") 1 (op.Mod (record { 0 = 1 }) 4 ∷ op.Finish ∷ []) ∷ [];
+  actors = [];
+}
+
+-- a runs in the second CPU's normal pool, and has done so many operations
+abbrev pub a_has_done : ℕ → List Instr
+a_has_done operations = queue_on_1 0 ∷ instr.Next ∷ replicate operations (instr.Step 2)
+
+-- c runs in the normal unbound pool
+abbrev pub c_runs : List Instr
+c_runs = queue_on_1 2 ∷ instr.Next ∷ []
+
+-- where b is behind these instructions
+abbrev pub place_of_b : List Instr → Option Place
+place_of_b instrs = place_of (pending_at (run bodies_arm instrs) 1)

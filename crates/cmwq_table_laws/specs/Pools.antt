@@ -1,10 +1,11 @@
 -- In which pool a work is placed.
-use Rattle.std.specs.Prelude.{◌≡◌, ◌⊎◌, ℕ, ◌+◌, ◌*◌, true, false, Some, None}
+use Rattle.std.specs.Prelude.{◌≡◌, ◌⊎◌, ℕ, ◌+◌, ◌*◌, ◌<◌, Bool, true, false, Some, None, is_some}
 use Rattle.cmwq_types.specs.Contents.{ScenarioContents}
-use Rattle.cmwq_types.specs.Scenario.{flags_at, op_at, queue_of}
+use Rattle.cmwq_types.specs.Scenario.{flags_at, local_cpu, op_at, queue_of}
 use Rattle.cmwq_types.specs.declared.instr.Instr.{Instr}
 use Rattle.cmwq_types.specs.declared.instr.Instr.TheVariants as instr
 use Rattle.cmwq_types.specs.declared.instr.WorkId.{WorkId}
+use Rattle.cmwq_types.specs.declared.reply.Event.{Event}
 use Rattle.cmwq_types.specs.declared.reply.Event.TheVariants as event
 use Rattle.cmwq_types.specs.declared.reply.Place.TheVariants.{Timer}
 use Rattle.cmwq_types.specs.declared.reply.Reply.TheVariants as reply
@@ -13,6 +14,7 @@ use Rattle.cmwq_types.specs.declared.scenario.Op.TheVariants as op
 use Rattle.cmwq_table.specs.Laws.{placed_in, reply_to, state_after}
 use Rattle.cmwq_table.specs.Moves.{pool_for}
 use Rattle.cmwq_table.specs.State.{State, pending_at, running_at}
+use Rattle.cmwq_table.specs.Table.{place_of}
 use Rattle.cmwq_table.specs.declared.state.Pending.{Pending}
 use Rattle.cmwq_table.specs.declared.state.Running.{Running}
 
@@ -58,3 +60,28 @@ BodiesPlaceInPool S s i =
     (pool : ℕ) (work other : WorkId) (r : Running) (cpu : ℕ) → (i ≡ instr.Step pool) ⊎ (i ≡ instr.Next)
     → reply_to S s i ≡ reply.Event work (event.Queues other false) → running_at s work.0 ≡ Some r → op_at S work.0 r.pc ≡ op.Queue other cpu
     → IsInPool S s i other.0 cpu
+
+-- by the event a body queues the work after the ticks: one that isn't pending, or one anew
+abbrev pub QueuesAfter : Event → WorkId → ℕ → Type 0
+QueuesAfter e other ticks = (e ≡ event.Delays other ticks false) ⊎ ((changed : Bool) × (e ≡ event.Mods other ticks changed))
+
+-- A body that queues another work after some ticks sets a timer for it, which will place it on the CPU where the body runs.
+unfoldable pub BodiesSetTimers : ScenarioContents → State → Instr → Type 0
+BodiesSetTimers S s i =
+    (pool : ℕ) (work other : WorkId) (r : Running) (e : Event) (ticks : ℕ) → (i ≡ instr.Step pool) ⊎ (i ≡ instr.Next)
+    → reply_to S s i ≡ reply.Event work e → QueuesAfter e other ticks → running_at s work.0 ≡ Some r → 0 < ticks
+    → place_of (pending_at (state_after S s i) other.0) ≡ Some (Timer (s.time + ticks) (local_cpu S r.pool))
+
+-- A body that queues another work after no ticks places it on the CPU where the body runs.
+unfoldable pub BodiesPlaceAtOnce : ScenarioContents → State → Instr → Type 0
+BodiesPlaceAtOnce S s i =
+    (pool : ℕ) (work other : WorkId) (r : Running) (e : Event) → (i ≡ instr.Step pool) ⊎ (i ≡ instr.Next)
+    → reply_to S s i ≡ reply.Event work e → QueuesAfter e other 0 → running_at s work.0 ≡ Some r
+    → IsInPool S s i other.0 (local_cpu S r.pool)
+
+-- A body that cancels a work tells whether that was pending, and it isn't so any more.
+unfoldable pub BodiesCancel : ScenarioContents → State → Instr → Type 0
+BodiesCancel S s i =
+    (pool : ℕ) (work other : WorkId) (was : Bool) → (i ≡ instr.Step pool) ⊎ (i ≡ instr.Next)
+    → reply_to S s i ≡ reply.Event work (event.Cancels other was)
+    → (is_some (pending_at s other.0) ≡ was) × (pending_at (state_after S s i) other.0 ≡ None)

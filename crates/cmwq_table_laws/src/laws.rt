@@ -3,7 +3,7 @@
 //! Each function's contract is a law. The functions do nothing: they carry the laws.
 ghost use Rattle.cmwq_table.specs.Laws.{AtEveryInstruction};
 ghost use Rattle.cmwq_table_laws.specs.Depths.{DisablesOnce, EnablesOnce, LeavesDepths};
-ghost use Rattle.cmwq_table_laws.specs.Pools.{BodiesPlaceInPool, FiresToPool, IsPlacedByFlags, PlacesInPool};
+ghost use Rattle.cmwq_table_laws.specs.Pools.{BodiesCancel, BodiesPlaceAtOnce, BodiesPlaceInPool, BodiesSetTimers, FiresToPool, IsPlacedByFlags, PlacesInPool};
 ghost use Rattle.cmwq_table_laws.specs.Repeating.{GoesOneWay, RepeatsAlike};
 ghost use Rattle.cmwq_table.specs.State.{State};
 ghost use Rattle.cmwq_types.specs.Contents.{ScenarioContents};
@@ -32,6 +32,20 @@ pub fn placed_works_go_to_their_pool()
     ensures instruction { AtEveryInstruction PlacesInPool }
     ensures timer { AtEveryInstruction FiresToPool }
     ensures body { AtEveryInstruction BodiesPlaceInPool }
+{}
+
+/// A body that delays or modifies a work sets its timer on the CPU where the body runs, or places it there at once where it gives no ticks;
+/// in an unbound pool that is the first CPU, which is this project's own choice. A kernel arms such a timer on the CPU of the caller.
+#[tactic(auto, using(crate::proofs::BodyLemmas::bodies_set_timers, crate::proofs::BodyLemmas::bodies_place_at_once))]
+pub fn bodies_arm_works_on_their_cpu()
+    ensures timer { AtEveryInstruction BodiesSetTimers }
+    ensures placed { AtEveryInstruction BodiesPlaceAtOnce }
+{}
+
+/// A body that cancels a work tells whether it was pending, wherever it was so, and then it isn't.
+#[tactic(auto, using(crate::proofs::BodyLemmas::bodies_cancel))]
+pub fn bodies_cancel_what_is_pending()
+    ensures { AtEveryInstruction BodiesCancel }
 {}
 
 /// To go on to the next line, at most so often, is one thing: how often `next` is carried out, the state and the last reply don't depend on

@@ -1,5 +1,5 @@
 -- What a valid scenario gives.
-use Rattle.std.proofs.Common.{◌≡◌, ℕ, zero, suc, ◌<◌, ◌≤◌, Bool, true, false, ◌&&◌, List, [], ◌∷◌, ◌++◌, length, Option, Some, None, arith, refl, sym, subst, inl, inr}
+use Rattle.std.proofs.Common.{◌≡◌, ℕ, zero, suc, ◌*◌, ◌/◌, ◌<◌, ◌≤◌, Bool, true, false, ◌&&◌, List, [], ◌∷◌, ◌++◌, length, Option, Some, None, arith, refl, sym, subst, inl, inr}
 use Rattle.std.specs.Prelude.{slice_index_or, nat_le, nat_lt, if◌then◌else◌, ◌==◌}
 use Rattle.std.proofs.lemmas.Bool.{cases_lt, leb-true, ltb-true}
 use Rattle.std.proofs.lemmas.Bool.Decides.{nat_tests}
@@ -7,11 +7,12 @@ use Rattle.std.proofs.lemmas.List.{get_or_past}
 use Rattle.std.specs.List.{list_any}
 use Rattle.std.specs.Str.{bytes_eq}
 use Rattle.cmwq_types.specs.Contents.{ScenarioContents, WorkContents}
-use Rattle.cmwq_types.specs.Faults.{IsValid, actor_fault, body_fault, counts_fault, fault_if, fault_unless, first_along, fits_flags, is_body, numbers_fault, op_fault, or_else, queue_fault, within, work_fault}
-use Rattle.cmwq_types.specs.Scenario.{plain_flags, work_at}
+use Rattle.cmwq_types.specs.Faults.{IsValid, actor_fault, body_fault, counts_fault, fault_if, fault_unless, first_along, fits_flags, is_body, numbers_fault, op_fault, or_else, queue_fault, unknown_work, within, work_fault}
+use Rattle.cmwq_types.specs.Scenario.{is_unbound, local_cpu, plain_flags, work_at}
 use Rattle.cmwq_types.specs.declared.check.Fault.{Fault}
 use Rattle.cmwq_types.specs.declared.check.Fault.TheVariants.{Range, TooMany, Duplicate, Unknown, BadBody, BadFlags}
-use Rattle.cmwq_types.specs.declared.limits.TheConstants.{MAX_ACTORS, MAX_CPUS, MAX_FLUSHES, MAX_MAX_ACTIVE, MAX_OPS, MAX_QUEUES, MAX_STEPS, MAX_WORKERS, MAX_WORKS}
+use Rattle.cmwq_types.specs.declared.instr.WorkId.{WorkId}
+use Rattle.cmwq_types.specs.declared.limits.TheConstants.{MAX_ACTORS, MAX_CPUS, MAX_FLUSHES, MAX_MAX_ACTIVE, MAX_OPS, MAX_QUEUES, MAX_STEPS, MAX_TICKS, MAX_WORKERS, MAX_WORKS}
 use Rattle.cmwq_types.specs.declared.scenario.Op.{Op}
 use Rattle.cmwq_types.specs.declared.scenario.Op.TheVariants as op
 use Rattle.cmwq_types.specs.declared.scenario.QueueDecl.{QueueDecl}
@@ -40,21 +41,38 @@ along_below judge P d each before (x ∷ xs) e zero h = each before x (neither (
 along_below judge P d each before (x ∷ xs) e (suc i) h =
     along_below judge P d each (before ++ x ∷ []) xs (neither (judge before x) (first_along judge (before ++ x ∷ []) xs) e).1 i (omega arith)
 
+local-below : (cpus pool : ℕ) (b : Bool) → 0 < cpus → nat_le (2 * cpus) pool ≡ b → (if b then 0 else pool / 2) < cpus
+local-below cpus pool true some e = some
+local-below cpus pool false some e = grind (arith, nat_tests)
+
+pub local_cpu-in_range : (S : ScenarioContents) (pool : ℕ) → 0 < S.cpus → local_cpu S pool < S.cpus
+local_cpu-in_range S pool some = local-below S.cpus pool (is_unbound S pool) some refl
+
+work-known : (S : ScenarioContents) (work : WorkId) → unknown_work S work ≡ None → work.0 < length S.works
+work-known S work e = ltb-true work.0 (length S.works) (passed (nat_lt work.0 (length S.works)) Unknown e)
+
 op-in_range : (S : ScenarioContents) (o : Op) → op_fault S o ≡ None → IsOpInRange S o
 op-in_range S (op.Burn ticks) e = tt
 op-in_range S (op.Sleep ticks) e = tt
 op-in_range S (op.Queue work cpu) e =
-    let known = nat_lt work.0 (length S.works) in
     let there = nat_lt cpu S.cpus in
-    let both = neither (fault_unless known Unknown) (fault_unless there Range) e in
-    (ltb-true work.0 (length S.works) (passed known Unknown both.0), ltb-true cpu S.cpus (passed there Range both.1))
+    let both = neither (unknown_work S work) (fault_unless there Range) e in
+    (work-known S work both.0, ltb-true cpu S.cpus (passed there Range both.1))
 op-in_range S op.Finish e = tt
+op-in_range S (op.Delay work ticks) e =
+    work-known S work (neither (unknown_work S work) (fault_unless (nat_le ticks MAX_TICKS) Range) e).0
+op-in_range S (op.Mod work ticks) e =
+    work-known S work (neither (unknown_work S work) (fault_unless (nat_le ticks MAX_TICKS) Range) e).0
+op-in_range S (op.Cancel work) e = work-known S work e
 
 pc-in_range : (o : Op) (pc : ℕ) → pc < MAX_OPS → IsPcInRange o pc
 pc-in_range (op.Burn ticks) pc h = h
 pc-in_range (op.Sleep ticks) pc h = h
 pc-in_range (op.Queue work cpu) pc h = h
 pc-in_range op.Finish pc h = tt
+pc-in_range (op.Delay work ticks) pc h = h
+pc-in_range (op.Mod work ticks) pc h = h
+pc-in_range (op.Cancel work) pc h = h
 
 -- of a body that isn't too long
 ends-in_range : (body : List Op) → length body ≤ MAX_OPS → (pc : ℕ) → IsPcInRange (slice_index_or body pc op.Finish) pc
@@ -124,6 +142,7 @@ IsSetting-valid S valid =
     along (work_fault S) (λ work. IsBodyInRange S work.body) (record { name = []; queue = record { 0 = 0 }; body = [] }) (work-in_range S) (no_body S) [] S.works parts.0
     in
     record {
+      some = grind (arith, nat_tests);
       cpus = grind (arith, nat_tests);
       workers = grind (arith, nat_tests);
       steps = grind (arith, nat_tests);

@@ -41,7 +41,7 @@ use Rattle.cmwq_types.specs.declared.reply.Place.TheVariants.{Deferred, Inactive
 use Rattle.cmwq_types.specs.declared.reply.Place.{Place}
 use Rattle.cmwq_types.specs.declared.scenario.Flags.{Flags}
 use Rattle.cmwq_types.specs.declared.scenario.Line.{Line}
-use Rattle.cmwq_types.specs.declared.scenario.Op.TheVariants.{Burn, Sleep, Queue, Finish}
+use Rattle.cmwq_types.specs.declared.scenario.Op.TheVariants.{Burn, Sleep, Queue, Finish, Delay, Mod, Cancel}
 use Rattle.cmwq_types.specs.declared.scenario.Op.{Op}
 use Rattle.cmwq_types.specs.declared.scenario.QueueDecl.{QueueDecl}
 
@@ -58,6 +58,13 @@ same_op (Queue w c) (Queue v d) h =
     let both = and_parts (work_id.ghosts.eq w v) (c == d) h in
     ap₂ Queue (same_work_id w v both.0) (eqb-true c d both.1)
 same_op Finish Finish h = refl
+same_op (Delay w t) (Delay v u) h =
+    let both = and_parts (work_id.ghosts.eq w v) (t == u) h in
+    ap₂ Delay (same_work_id w v both.0) (eqb-true t u both.1)
+same_op (Mod w t) (Mod v u) h =
+    let both = and_parts (work_id.ghosts.eq w v) (t == u) h in
+    ap₂ Mod (same_work_id w v both.0) (eqb-true t u both.1)
+same_op (Cancel w) (Cancel v) h = ap Cancel (same_work_id w v h)
 same_op x y h = absurd (true≢false (sym h))
 
 pub same_place : (x y : Place) → place.ghosts.eq x y ≡ true → x ≡ y

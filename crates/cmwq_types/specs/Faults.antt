@@ -10,6 +10,7 @@ use Rattle.cmwq_types.specs.declared.check.Fault.TheVariants.{Range, TooMany, Du
 use Rattle.cmwq_types.specs.declared.fields.Shape.{Shape}
 use Rattle.cmwq_types.specs.declared.fields.Shape.TheVariants as shape
 use Rattle.cmwq_types.specs.declared.instr.Instr.{Instr}
+use Rattle.cmwq_types.specs.declared.instr.WorkId.{WorkId}
 use Rattle.cmwq_types.specs.declared.scenario.Line.{Line}
 use Rattle.cmwq_types.specs.declared.scenario.Op.{Op}
 use Rattle.cmwq_types.specs.declared.scenario.Op.TheVariants as op
@@ -62,6 +63,9 @@ is_finish op.Finish = true
 is_finish (op.Burn ticks) = false
 is_finish (op.Sleep ticks) = false
 is_finish (op.Queue work cpu) = false
+is_finish (op.Delay work ticks) = false
+is_finish (op.Mod work ticks) = false
+is_finish (op.Cancel work) = false
 
 abbrev pub is_some_finish : Option Op → Bool
 is_some_finish (Some last) = is_finish last
@@ -71,12 +75,18 @@ is_some_finish None = false
 abbrev pub is_body : List Op → Bool
 is_body body = is_some_finish (slice_get body (length body - 1)) && (count_by is_finish body == 1)
 
+-- no work has the number
+abbrev pub unknown_work : ScenarioContents → WorkId → Option Fault
+unknown_work s work = fault_unless (nat_lt work.0 (length s.works)) Unknown
+
 abbrev pub op_fault : ScenarioContents → Op → Option Fault
 op_fault s (op.Burn ticks) = fault_unless (within 1 MAX_TICKS ticks) Range
 op_fault s (op.Sleep ticks) = fault_unless (within 1 MAX_TICKS ticks) Range
-op_fault s (op.Queue work cpu) =
-    or_else (fault_unless (nat_lt work.0 (length s.works)) Unknown) (fault_unless (nat_lt cpu s.cpus) Range)
+op_fault s (op.Queue work cpu) = or_else (unknown_work s work) (fault_unless (nat_lt cpu s.cpus) Range)
 op_fault s op.Finish = None
+op_fault s (op.Delay work ticks) = or_else (unknown_work s work) (fault_unless (nat_le ticks MAX_TICKS) Range)
+op_fault s (op.Mod work ticks) = or_else (unknown_work s work) (fault_unless (nat_le ticks MAX_TICKS) Range)
+op_fault s (op.Cancel work) = unknown_work s work
 
 abbrev pub body_fault : ScenarioContents → List Op → Option Fault
 body_fault s body =

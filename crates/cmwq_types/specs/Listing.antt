@@ -51,6 +51,9 @@ op_line S (op.Burn ticks) = numbered (codes "burn") ticks
 op_line S (op.Sleep ticks) = numbered (codes "sleep") ticks
 op_line S (op.Queue work cpu) = Words (codes "queue" ∷ (work_at S work.0).name ∷ decimal cpu ∷ [])
 op_line S op.Finish = Words (codes "finish" ∷ [])
+op_line S (op.Delay work ticks) = Words (codes "delay" ∷ (work_at S work.0).name ∷ decimal ticks ∷ [])
+op_line S (op.Mod work ticks) = Words (codes "mod" ∷ (work_at S work.0).name ∷ decimal ticks ∷ [])
+op_line S (op.Cancel work) = Words (codes "cancel" ∷ (work_at S work.0).name ∷ [])
 
 abbrev pub body_lines : ScenarioContents → WorkContents → List WrittenLine
 body_lines S work = Words (codes "body" ∷ work.name ∷ []) ∷ map (op_line S) work.body

@@ -1,5 +1,5 @@
 -- The parts of a scenario by their numbers. A number that none has is read as the plainest one.
-use Rattle.std.specs.Prelude.{ℕ, ◌+◌, ◌*◌, ◌%◌, Bool, false, ◌||◌, List, [], replicate, if◌then◌else◌, nat_le, ◌==◌, slice_index_or}
+use Rattle.std.specs.Prelude.{ℕ, ◌+◌, ◌*◌, ◌/◌, ◌%◌, Bool, false, ◌||◌, List, [], replicate, if◌then◌else◌, nat_le, ◌==◌, slice_index_or}
 use Rattle.std.specs.List.{flat_map}
 use Rattle.cmwq_types.specs.Contents.{ScenarioContents, WorkContents, ActorContents}
 use Rattle.cmwq_types.specs.declared.instr.Instr.{Instr}
@@ -38,6 +38,10 @@ pool_count S = 2 * S.cpus + 2
 
 abbrev pub is_unbound : ScenarioContents → ℕ → Bool
 is_unbound S pool = nat_le (2 * S.cpus) pool
+
+-- the CPU on which a body that runs in the pool sets timers and places works: the pool's, and CPU 0 in an unbound pool
+abbrev pub local_cpu : ScenarioContents → ℕ → ℕ
+local_cpu S pool = if is_unbound S pool then 0 else pool / 2
 
 abbrev pub is_high : ℕ → Bool
 is_high pool = pool % 2 == 1

@@ -7,12 +7,15 @@ use Rattle.cmwq_types.specs.declared.scenario.Op.{Op}
 use Rattle.cmwq_types.specs.declared.scenario.Op.TheVariants as op
 use Rattle.cmwq_types.specs.declared.scenario.QueueDecl.{QueueDecl}
 
--- an operation that queues a work names one that there is, and a CPU that there is
+-- an operation that names a work names one that there is, and a CPU that there is
 abbrev pub IsOpInRange : ScenarioContents → Op → Type 0
 IsOpInRange S (op.Burn ticks) = Unit {0}
 IsOpInRange S (op.Sleep ticks) = Unit {0}
 IsOpInRange S (op.Queue work cpu) = (work.0 < length S.works) × (cpu < S.cpus)
 IsOpInRange S op.Finish = Unit {0}
+IsOpInRange S (op.Delay work ticks) = work.0 < length S.works
+IsOpInRange S (op.Mod work ticks) = work.0 < length S.works
+IsOpInRange S (op.Cancel work) = work.0 < length S.works
 
 -- an operation that doesn't end the body has one behind it
 abbrev pub IsPcInRange : Op → ℕ → Type 0
@@ -20,12 +23,16 @@ IsPcInRange (op.Burn ticks) pc = pc < MAX_OPS
 IsPcInRange (op.Sleep ticks) pc = pc < MAX_OPS
 IsPcInRange (op.Queue work cpu) pc = pc < MAX_OPS
 IsPcInRange op.Finish pc = Unit {0}
+IsPcInRange (op.Delay work ticks) pc = pc < MAX_OPS
+IsPcInRange (op.Mod work ticks) pc = pc < MAX_OPS
+IsPcInRange (op.Cancel work) pc = pc < MAX_OPS
 
 abbrev pub IsOneIfOrdered : QueueDecl → Type 0
 IsOneIfOrdered queue = queue.flags.ordered ≡ true → queue.max ≤ 1
 
 -- what every valid scenario has
 pub record IsSetting (S : ScenarioContents) : Type 0 where
+  pub some : 0 < S.cpus
   pub cpus : S.cpus ≤ MAX_CPUS
   pub workers : S.workers ≤ MAX_WORKERS
   pub steps : S.steps ≤ MAX_STEPS

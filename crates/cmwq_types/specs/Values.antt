@@ -22,6 +22,9 @@ IsOp (op.Burn ticks) = ticks < 2 ^ 32
 IsOp (op.Sleep ticks) = ticks < 2 ^ 32
 IsOp (op.Queue work cpu) = (work.0 < 2 ^ 16) × (cpu < 2 ^ 8)
 IsOp op.Finish = Unit {0}
+IsOp (op.Delay work ticks) = (work.0 < 2 ^ 16) × (ticks < 2 ^ 32)
+IsOp (op.Mod work ticks) = (work.0 < 2 ^ 16) × (ticks < 2 ^ 32)
+IsOp (op.Cancel work) = work.0 < 2 ^ 16
 
 pub record IsWorkDecl (work : WorkContents) : Type 0 where
   pub name : IsTrue (is_name work.name)

@@ -1,5 +1,5 @@
 //! The parts of a scenario by their numbers.
-ghost use Rattle.cmwq_types.specs.Scenario.{flags_at, is_unbound, op_at, pool_count, queue_at, queue_of, target, work_at};
+ghost use Rattle.cmwq_types.specs.Scenario.{flags_at, is_unbound, local_cpu, op_at, pool_count, queue_at, queue_of, target, work_at};
 ghost use Rattle.cmwq_types.specs.Setting.{IsSetting};
 ghost use Rattle.cmwq_types.specs.declared.limits.TheConstants.{MAX_NAME};
 ghost use Rattle.cmwq_types.specs.declared.scenario.Op.TheVariants as op;
@@ -97,6 +97,16 @@ impl Scenario {
         ensures { result ≡ is_unbound self.now pool }
     {
         2 * self.cpus <= pool
+    }
+
+    /// The CPU, from 0, on which a body that runs in the worker pool sets timers and places works: the
+    /// pool's own, and CPU 0 in an unbound pool, which is this project's own choice.
+    pub fn local_cpu(&self, pool: u8) -> u8
+        requires { IsSetting self.now }
+        ensures local { result ≡ local_cpu self.now pool }
+        ensures in_range { result < self.now.cpus }
+    {
+        if self.is_unbound(pool) { 0 } else { pool / 2 }
     }
 
     /// The number of the worker pool to which the queue's works go from the CPU: one of the two

@@ -134,8 +134,10 @@ impl Scenario {
             Op::Burn(ticks) | Op::Sleep(ticks) if ticks < 1 || ticks > MAX_TICKS => {
                 Err(Fault::Range)
             }
-            Op::Queue(work, _) if work.0 as usize >= self.works.len() => Err(Fault::Unknown),
+            Op::Queue(work, _) | Op::Delay(work, _) | Op::Mod(work, _) | Op::Cancel(work)
+                if work.0 as usize >= self.works.len() => { Err(Fault::Unknown) }
             Op::Queue(_, cpu) if cpu >= self.cpus => Err(Fault::Range),
+            Op::Delay(_, ticks) | Op::Mod(_, ticks) if ticks > MAX_TICKS => Err(Fault::Range),
             _ => Ok(()),
         }
     }

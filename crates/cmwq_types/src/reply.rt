@@ -133,11 +133,43 @@ pub enum Event {
     /// Its timer fired, and placed it.
     Fires,
     /// It queued the work `other`, or found it pending `already`.
-    Queues { other: WorkId, already: bool },
+    Queues {
+        other: WorkId,
+        already: bool,
+    },
     /// It was to queue the work `other`, which is disabled.
-    QueuesDisabled { other: WorkId },
+    QueuesDisabled {
+        other: WorkId,
+    },
     /// Its queue's rescuer took the work from the worklist.
     StartsOnRescuer,
+    /// It queued the work `other` after `ticks`, or found it pending `already`.
+    Delays {
+        other: WorkId,
+        ticks: u32,
+        already: bool,
+    },
+    /// It was to queue the work `other` after `ticks`, which is disabled.
+    DelaysDisabled {
+        other: WorkId,
+        ticks: u32,
+    },
+    /// It queued the work `other` anew after `ticks`; where it was pending, that `changed`.
+    Mods {
+        other: WorkId,
+        ticks: u32,
+        changed: bool,
+    },
+    /// It was to queue the work `other` anew after `ticks`, which is disabled.
+    ModsDisabled {
+        other: WorkId,
+        ticks: u32,
+    },
+    /// It took the work `other` off, which `was` pending, or found it not pending.
+    Cancels {
+        other: WorkId,
+        was: bool,
+    },
 }
 
 /// Why no time may pass.

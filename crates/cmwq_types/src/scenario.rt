@@ -57,6 +57,13 @@ pub enum Op {
     Queue(WorkId, u8),
     /// Ends the body.
     Finish,
+    /// Queues the work after this many ticks, 0 to 1,000,000, on the CPU where the instance runs. A pending work stays
+    /// as it is.
+    Delay(WorkId, u32),
+    /// The same, but a pending work is taken off first.
+    Mod(WorkId, u32),
+    /// Takes the work off, where it is pending.
+    Cancel(WorkId),
 }
 
 /// A work as it is declared.

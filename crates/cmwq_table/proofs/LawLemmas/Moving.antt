@@ -1,10 +1,10 @@
 -- Each move of a pool makes a chain of changes.
-use Rattle.std.proofs.Common.{◌≡◌, ℕ, ◌+◌, ◌<◌, ◌≤◌, Bool, true, false, not, cond, ◌&&◌, ◌||◌, length, Option, Some, None, arith, refl, sym, ap, ◌∙◌, subst}
+use Rattle.std.proofs.Common.{◌≡◌, ℕ, ◌+◌, ◌<◌, ◌≤◌, Bool, true, false, not, cond, ◌&&◌, ◌||◌, List, length, Option, Some, None, arith, refl, sym, ap, ◌∙◌, subst}
 use Rattle.std.proofs.lemmas.Bool.{and_parts, eqb-true, ltb-true}
-use Rattle.std.specs.Prelude.{slice_set, is_none, is_some, nat_lt, ◌==◌}
+use Rattle.std.specs.Prelude.{slice_index_or, slice_set, is_none, is_some, nat_lt, ◌==◌}
 use Rattle.cmwq_types.specs.Contents.{ScenarioContents}
 use Rattle.cmwq_types.specs.First.{MatchFirst}
-use Rattle.cmwq_types.specs.Scenario.{op_at, queue_of}
+use Rattle.cmwq_types.specs.Scenario.{local_cpu, op_at, queue_of}
 use Rattle.cmwq_types.specs.declared.instr.WorkId.{WorkId}
 use Rattle.cmwq_types.specs.declared.limits.TheConstants.{MAX_WORKERS, RESCUER}
 use Rattle.cmwq_types.specs.declared.moves.Move.{Move}
@@ -20,14 +20,15 @@ use Rattle.cmwq_table.specs.declared.state.Running.{Running}
 use Rattle.cmwq_table.specs.State.{State, seat, pending_at, running_at, depth_at, is_disabled, idle_at, made_at, is_unbound}
 use Rattle.cmwq_table.specs.Counts.{can_be_rescued, first_listed, first_ready, first_rescued, first_runnable, first_slept, free_worker, has_free_rescuer, idle_stamp, if_ready, is_deferred, is_listed, is_rescuer, is_runnable, is_slept, last_idle, may_start, new_worker, or_else, pends, pending_before, pending_stamp, ready_head, running_before, running_stamp, running_until, runs}
 use Rattle.cmwq_table.specs.Laws.{is_wake}
-use Rattle.cmwq_table.specs.Moves.{advance, as_move, become_idle, begin_again, begin_on, begun, carry_out, come_to_end, deferred, finish, moved, next_move, onward, queue_from_body, rescued, retire, start_first, start_move, start_or_rescue, started, started_on, take_listed, with_running, woken}
+use Rattle.cmwq_table.specs.Moves.{advance, as_move, become_idle, begin_again, begin_on, begun, carry_out, come_to_end, deferred, delay_from_body, finish, mod_from_body, moved, next_move, onward, place_after, queue_from_body, rescued, retire, start_first, start_move, start_or_rescue, started, started_on, take_listed, taken_off, with_running, woken}
+use Rattle.cmwq_types.proofs.SettingLemmas.{local_cpu-in_range}
 use Rattle.cmwq_table.proofs.CounterLemmas.{set-within}
 use Rattle.cmwq_table.proofs.LawLemmas.Setting.{IsOpInRange, IsSetting}
-use Rattle.cmwq_table.proofs.LawLemmas.Changes.{Kind, Change, Follows}
-use Rattle.cmwq_table.proofs.LawLemmas.Disabled.{enabled-zero}
+use Rattle.cmwq_table.proofs.LawLemmas.Changes.{Kind, Change, Follows, Follows-then}
+use Rattle.cmwq_table.proofs.LawLemmas.Disabled.{Follows-depth, enabled-zero}
 use Rattle.cmwq_table.proofs.LawLemmas.Makers.{alters-pending, alters-running, alters-both}
-use Rattle.cmwq_table.proofs.LawLemmas.Sound.{IsSound, Change-sound}
-use Rattle.cmwq_table.proofs.LawLemmas.Steps.{changed, leaving, one, place-follows}
+use Rattle.cmwq_table.proofs.LawLemmas.Sound.{IsSound, Change-sound, Follows-sound}
+use Rattle.cmwq_table.proofs.LawLemmas.Steps.{Stops, changed, leaving, one, place-follows, place_after-follows, stops-taken_off, take_off-follows}
 
 -- what the choice of a move says of it
 abbrev pub MoveFits : ScenarioContents → State → ℕ → Move → Type 0
@@ -227,23 +228,60 @@ queues-follows S wakes s other cpu (Some p) sound h there is false shallow = Fol
 queues-follows S wakes s other cpu None sound h there is false shallow =
     place-follows S wakes s other.0 cpu sound h there is (enabled-zero (depth_at s other.0) (ap not shallow))
 
-carries-out : (S : ScenarioContents) (wakes : Bool) (s : State) (w : ℕ) (r : Running) (o : Op) → IsSound S s → w < length S.works
+delays-follows : (S : ScenarioContents) (wakes : Bool) (s : State) (other : WorkId) (cpu ticks : ℕ) (o : Option Pending) → IsSound S s
+    → other.0 < length S.works → cpu < S.cpus → pending_at s other.0 ≡ o → (b : Bool) → is_disabled s other.0 ≡ b
+    → Follows S true wakes s (delay_from_body S s other cpu ticks b o).0
+delays-follows S wakes s other cpu ticks o sound h there is true deep = Follows.stays true wakes s
+delays-follows S wakes s other cpu ticks (Some p) sound h there is false shallow = Follows.stays true wakes s
+delays-follows S wakes s other cpu ticks None sound h there is false shallow =
+    place_after-follows S wakes s other.0 cpu ticks sound h there is (enabled-zero (depth_at s other.0) (ap not shallow))
+
+-- a work is taken off, if it is pending, and placed anew
+anew-follows : (S : ScenarioContents) (wakes : Bool) (s : State) (w cpu ticks : ℕ) (o : Option Pending) → IsSound S s → w < length S.works → cpu < S.cpus
+    → pending_at s w ≡ o → depth_at s w ≡ 0 → Follows S true wakes s (place_after S (taken_off S s w o) w cpu ticks)
+anew-follows S wakes s w cpu ticks (Some p) sound h there is enabled =
+    let off = taken_off S s w (Some p) in
+    let stops : Stops S wakes s off w = stops-taken_off S wakes s w p sound h is in
+    Follows-then S true wakes s off (place_after S off w cpu ticks) stops.follows
+    (place_after-follows S wakes off w cpu ticks (Follows-sound S true wakes s off stops.follows sound) h there stops.stopped (ap (λ (depth : List ℕ). slice_index_or depth w 0) (Follows-depth S true wakes s off stops.follows) ∙ enabled))
+anew-follows S wakes s w cpu ticks None sound h there is enabled = place_after-follows S wakes s w cpu ticks sound h there is enabled
+
+mods-follows : (S : ScenarioContents) (wakes : Bool) (s : State) (other : WorkId) (cpu ticks : ℕ) (o : Option Pending) → IsSound S s
+    → other.0 < length S.works → cpu < S.cpus → pending_at s other.0 ≡ o → (b : Bool) → is_disabled s other.0 ≡ b
+    → Follows S true wakes s (mod_from_body S s other cpu ticks b o).0
+mods-follows S wakes s other cpu ticks o sound h there is true deep = Follows.stays true wakes s
+mods-follows S wakes s other cpu ticks o sound h there is false shallow =
+    anew-follows S wakes s other.0 cpu ticks o sound h there is (enabled-zero (depth_at s other.0) (ap not shallow))
+
+carries-out : (S : ScenarioContents) (wakes : Bool) (s : State) (w : ℕ) (r : Running) (o : Op) → IsSetting S → IsSound S s → w < length S.works
     → running_at s w ≡ Some r → is_runnable r.mode ≡ true → IsOpInRange S o → Follows S true wakes s (carry_out S s w r o).0
-carries-out S wakes s w r (op.Burn ticks) sound h is runs in_range =
+carries-out S wakes s w r (op.Burn ticks) setting sound h is runs in_range =
     let q = record r { pc = r.pc + 1; left = ticks } in
     one S true wakes s (with_running s w (Some q)) w (goes S wakes s w r q sound h is refl refl refl (λ e. e))
-carries-out S wakes s w r (op.Sleep ticks) sound h is runs in_range =
+carries-out S wakes s w r (op.Sleep ticks) setting sound h is runs in_range =
     let q = record r { pc = r.pc + 1; mode = Asleep (s.time + ticks) } in
     one S true wakes s (with_running s w (Some q)) w (goes S wakes s w r q sound h is refl refl refl (λ e. runs))
-carries-out S wakes s w r (op.Queue other cpu) sound h is runs in_range =
+carries-out S wakes s w r (op.Queue other cpu) setting sound h is runs in_range =
     let change : Change S true wakes None s (onward s w r) w = goes S wakes s w r (record r { pc = r.pc + 1 }) sound h is refl refl refl (λ e. e) in
     Follows.changes true wakes s (onward s w r) (queue_from_body S (onward s w r) other cpu (is_disabled s other.0) (pending_at s other.0)).0 w change
     (queues-follows S wakes (onward s w r) other cpu (pending_at s other.0) (Change-sound S true wakes None s (onward s w r) w change sound) in_range.0 in_range.1 refl (is_disabled s other.0) refl)
-carries-out S wakes s w r op.Finish sound h is runs in_range = finish-follows S wakes s w r sound h is runs
+carries-out S wakes s w r op.Finish setting sound h is runs in_range = finish-follows S wakes s w r sound h is runs
+carries-out S wakes s w r (op.Delay other ticks) setting sound h is runs in_range =
+    let change : Change S true wakes None s (onward s w r) w = goes S wakes s w r (record r { pc = r.pc + 1 }) sound h is refl refl refl (λ e. e) in
+    Follows.changes true wakes s (onward s w r) (delay_from_body S (onward s w r) other (local_cpu S r.pool) ticks (is_disabled s other.0) (pending_at s other.0)).0 w change
+    (delays-follows S wakes (onward s w r) other (local_cpu S r.pool) ticks (pending_at s other.0) (Change-sound S true wakes None s (onward s w r) w change sound) in_range (local_cpu-in_range S r.pool setting.some) refl (is_disabled s other.0) refl)
+carries-out S wakes s w r (op.Mod other ticks) setting sound h is runs in_range =
+    let change : Change S true wakes None s (onward s w r) w = goes S wakes s w r (record r { pc = r.pc + 1 }) sound h is refl refl refl (λ e. e) in
+    Follows.changes true wakes s (onward s w r) (mod_from_body S (onward s w r) other (local_cpu S r.pool) ticks (is_disabled s other.0) (pending_at s other.0)).0 w change
+    (mods-follows S wakes (onward s w r) other (local_cpu S r.pool) ticks (pending_at s other.0) (Change-sound S true wakes None s (onward s w r) w change sound) in_range (local_cpu-in_range S r.pool setting.some) refl (is_disabled s other.0) refl)
+carries-out S wakes s w r (op.Cancel other) setting sound h is runs in_range =
+    let change : Change S true wakes None s (onward s w r) w = goes S wakes s w r (record r { pc = r.pc + 1 }) sound h is refl refl refl (λ e. e) in
+    Follows.changes true wakes s (onward s w r) (taken_off S (onward s w r) other.0 (pending_at s other.0)) w change
+    (take_off-follows S wakes (onward s w r) other.0 (pending_at s other.0) (Change-sound S true wakes None s (onward s w r) w change sound) in_range refl)
 
 advances : (S : ScenarioContents) (wakes : Bool) (s : State) (w : ℕ) (o : Option Running) → IsSetting S → IsSound S s → w < length S.works
     → running_at s w ≡ o → runs (λ r. is_runnable r.mode) o ≡ true → Follows S true wakes s (advance S s w o).0
-advances S wakes s w (Some r) setting sound h is runs = carries-out S wakes s w r (op_at S w r.pc) sound h is runs (setting.ops w r.pc)
+advances S wakes s w (Some r) setting sound h is runs = carries-out S wakes s w r (op_at S w r.pc) setting sound h is runs (setting.ops w r.pc)
 advances S wakes s w None setting sound h is runs = Follows.stays true wakes s
 
 wakes-follows : (S : ScenarioContents) (s : State) (w : ℕ) (o : Option Running) → IsSound S s → w < length S.works → running_at s w ≡ o

@@ -5,7 +5,7 @@ use Rattle.std.proofs.lemmas.List.{get_or-set_other}
 use Rattle.std.specs.Prelude.{slice_index_or, slice_set, ◌==◌}
 use Rattle.cmwq_types.specs.Contents.{ScenarioContents}
 use Rattle.cmwq_types.specs.First.{count_below}
-use Rattle.cmwq_types.specs.Scenario.{flags_at, op_at, queue_of}
+use Rattle.cmwq_types.specs.Scenario.{flags_at, local_cpu, op_at, queue_of}
 use Rattle.cmwq_types.specs.declared.instr.WorkId.{WorkId}
 use Rattle.cmwq_types.specs.declared.instr.Instr.{Instr}
 use Rattle.cmwq_types.specs.declared.instr.Instr.TheVariants as instr
@@ -25,7 +25,7 @@ use Rattle.cmwq_table.specs.declared.state.Running.{Running}
 use Rattle.cmwq_table.specs.State.{State, depth_at, is_disabled, is_unbound, pending_at, pool_count, running_at}
 use Rattle.cmwq_table.specs.Counts.{burns, first_due, first_inactive, free_worker, has_room, is_counted, is_deferred, is_listed, is_rescuer, may_start, pends}
 use Rattle.cmwq_table.specs.Laws.{AtEveryInstruction, IsListedIn, StartsAtLevelZero}
-use Rattle.cmwq_table.specs.Moves.{advance, become_idle, begin_again, begun, burned, carry_out, come_to_end, deferred, enlist, fill, fill_everywhere, fill_freezable, fill_from, fill_pools, fill_times, fired, fired_to, first_moving, moved, next_move, one_less, onward, place_after, queue_from_body, rescued, retire, started, taken_off, tick, with_depth, with_pending, with_running, woken}
+use Rattle.cmwq_table.specs.Moves.{advance, become_idle, begin_again, begun, burned, carry_out, come_to_end, deferred, enlist, fill, fill_everywhere, fill_freezable, fill_from, fill_pools, fill_times, fired, fired_to, first_moving, moved, next_move, one_less, onward, place_after, queue_from_body, delay_from_body, mod_from_body, rescued, retire, started, taken_off, tick, with_depth, with_pending, with_running, woken}
 use Rattle.cmwq_table.specs.Table.{answer, cancelled, delayed, effect, fired_first, is_met, modified, next, next_unless, queued, refusal, run, step_or_tick, stepped, table}
 use Rattle.cmwq_table.proofs.LawLemmas.Moving.{MoveFits, next_move-fits}
 
@@ -156,6 +156,18 @@ queue_from_body-same S s other cpu true o = refl
 queue_from_body-same S s other cpu false (Some p) = refl
 queue_from_body-same S s other cpu false None = refl
 
+delay_from_body-same : (S : ScenarioContents) (s : State) (other : WorkId) (cpu ticks : ℕ) (b : Bool) (o : Option Pending)
+    → SameRunning s (delay_from_body S s other cpu ticks b o).0
+delay_from_body-same S s other cpu ticks true o = refl
+delay_from_body-same S s other cpu ticks false (Some p) = refl
+delay_from_body-same S s other cpu ticks false None = place_after-same S s other.0 cpu ticks
+
+mod_from_body-same : (S : ScenarioContents) (s : State) (other : WorkId) (cpu ticks : ℕ) (b : Bool) (o : Option Pending)
+    → SameRunning s (mod_from_body S s other cpu ticks b o).0
+mod_from_body-same S s other cpu ticks true o = refl
+mod_from_body-same S s other cpu ticks false o =
+    place_after-same S (taken_off S s other.0 o) other.0 cpu ticks ∙ taken_off-same S s other.0 o
+
 carry_out-none : (S : ScenarioContents) (s : State) (w : ℕ) (r : Running) (o : Op) → running_at s w ≡ Some r → NoneBegin s (carry_out S s w r o).0
 carry_out-none S s w r (op.Burn ticks) runs =
     set-none s (carry_out S s w r (op.Burn ticks)).0 w (Some (record r { pc = r.pc + 1; left = ticks })) r runs refl
@@ -164,6 +176,15 @@ carry_out-none S s w r (op.Sleep ticks) runs =
 carry_out-none S s w r (op.Queue other cpu) runs =
     set-none s (carry_out S s w r (op.Queue other cpu)).0 w (Some (record r { pc = r.pc + 1 })) r runs
     (queue_from_body-same S (onward s w r) other cpu (is_disabled s other.0) (pending_at (onward s w r) other.0))
+carry_out-none S s w r (op.Delay other ticks) runs =
+    set-none s (carry_out S s w r (op.Delay other ticks)).0 w (Some (record r { pc = r.pc + 1 })) r runs
+    (delay_from_body-same S (onward s w r) other (local_cpu S r.pool) ticks (is_disabled s other.0) (pending_at (onward s w r) other.0))
+carry_out-none S s w r (op.Mod other ticks) runs =
+    set-none s (carry_out S s w r (op.Mod other ticks)).0 w (Some (record r { pc = r.pc + 1 })) r runs
+    (mod_from_body-same S (onward s w r) other (local_cpu S r.pool) ticks (is_disabled s other.0) (pending_at (onward s w r) other.0))
+carry_out-none S s w r (op.Cancel other) runs =
+    set-none s (carry_out S s w r (op.Cancel other)).0 w (Some (record r { pc = r.pc + 1 })) r runs
+    (taken_off-same S (onward s w r) other.0 (pending_at (onward s w r) other.0))
 carry_out-none S s w r op.Finish runs =
     let ended = end-set s w r (pending_at s w) in
     set-none s (carry_out S s w r op.Finish).0 w ended.0 r runs
