@@ -61,6 +61,9 @@ module _ (S : ScenarioContents) (name : List ℕ) (instrs : List Instr) where
   same_op (op.Sleep ticks) = refl
   same_op (op.Queue work cpu) = refl
   same_op op.Finish = refl
+  same_op (op.Delay work ticks) = refl
+  same_op (op.Mod work ticks) = refl
+  same_op (op.Cancel work) = refl
 
   same_work : (before : List WorkContents) (work : WorkContents) → work_fault (acted S name instrs) before work ≡ work_fault S before work
   same_work before work =

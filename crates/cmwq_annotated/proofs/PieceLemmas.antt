@@ -29,7 +29,7 @@ use Rattle.cmwq_types.specs.declared.reply.Refusal.TheVariants as refusal
 use Rattle.cmwq_types.specs.declared.reply.Reply.{Reply}
 use Rattle.cmwq_types.specs.declared.reply.Reply.TheVariants as reply
 use Rattle.cmwq_table.specs.Counts.{is_rescuer}
-use Rattle.cmwq_table.specs.Events.{already_text, asked_name, event_object, event_text, event_verb, event_line_at, mode_text, place_text, refusal_text, reply_words, run_text, was_text, work_name, worker_number, worker_text}
+use Rattle.cmwq_table.specs.Events.{already_text, asked_name, changed_text, event_line_at, event_object, event_text, event_verb, found_text, mode_text, place_text, refusal_text, reply_words, run_text, was_text, work_name, worker_number, worker_text}
 use Rattle.cmwq_annotated.specs.Notes.{Piece, is_plain}
 use Rattle.cmwq_annotated.specs.ReplyNumbers.{IsEvent, IsNumberedPlace, IsReply, IsNumberedRun, IsTime}
 
@@ -161,21 +161,50 @@ verb_piece event.Defers = literal 20 (codes "defers") refl refl
 verb_piece event.Fires = literal 20 (codes "fires") refl refl
 verb_piece (event.Queues other already) = literal 20 (codes "queues") refl refl
 verb_piece (event.QueuesDisabled other) = literal 20 (codes "queues") refl refl
+verb_piece (event.Delays other ticks already) = literal 20 (codes "delays") refl refl
+verb_piece (event.DelaysDisabled other ticks) = literal 20 (codes "delays") refl refl
+verb_piece (event.Mods other ticks changed) = literal 20 (codes "mods") refl refl
+verb_piece (event.ModsDisabled other ticks) = literal 20 (codes "mods") refl refl
+verb_piece (event.Cancels other was) = literal 20 (codes "cancels") refl refl
 
-object_piece : (S : ScenarioContents) (event : Event) → AllByRecursion IsWorkDecl S.works → IsEvent event → Piece 30 (event_object S event)
-object_piece S (event.Burns ticks) are is = within 30 (joint (literal 1 (codes " ") refl refl) (number ticks is)) refl
-object_piece S (event.Sleeps ticks) are is = within 30 (joint (literal 1 (codes " ") refl refl) (number ticks is)) refl
+changed_piece : (changed : Bool) → Piece 8 (changed_text changed)
+changed_piece true = literal 8 (codes " changed") refl refl
+changed_piece false = literal 8 [] refl refl
+
+found_piece : (was : Bool) → Piece 12 (found_text was)
+found_piece true = literal 12 [] refl refl
+found_piece false = literal 12 (codes " not pending") refl refl
+
+-- a work's name, and after how many ticks
+timed_piece : (S : ScenarioContents) (other : WorkId) (ticks : ℕ) → AllByRecursion IsWorkDecl S.works → ticks < 2 ^ 64
+    → Piece 37 (codes " " ++ work_name S other ++ codes " " ++ decimal ticks)
+timed_piece S other ticks are is =
+    joint (joint (joint (literal 1 (codes " ") refl refl) (work_piece S other are)) (literal 1 (codes " ") refl refl)) (number ticks is)
+
+object_piece : (S : ScenarioContents) (event : Event) → AllByRecursion IsWorkDecl S.works → IsEvent event → Piece 50 (event_object S event)
+object_piece S (event.Burns ticks) are is = within 50 (joint (literal 1 (codes " ") refl refl) (number ticks is)) refl
+object_piece S (event.Sleeps ticks) are is = within 50 (joint (literal 1 (codes " ") refl refl) (number ticks is)) refl
 object_piece S (event.Queues other already) are is =
-    within 30 (joint (joint (literal 1 (codes " ") refl refl) (work_piece S other are)) (already_piece already)) refl
+    within 50 (joint (joint (literal 1 (codes " ") refl refl) (work_piece S other are)) (already_piece already)) refl
 object_piece S (event.QueuesDisabled other) are is =
-    within 30 (joint (joint (literal 1 (codes " ") refl refl) (work_piece S other are)) (literal 9 (codes " disabled") refl refl)) refl
-object_piece S event.Starts are is = literal 30 [] refl refl
-object_piece S event.StartsOnRescuer are is = literal 30 [] refl refl
-object_piece S event.Wakes are is = literal 30 [] refl refl
-object_piece S event.Finishes are is = literal 30 [] refl refl
-object_piece S event.FinishesAndStarts are is = literal 30 [] refl refl
-object_piece S event.Defers are is = literal 30 [] refl refl
-object_piece S event.Fires are is = literal 30 [] refl refl
+    within 50 (joint (joint (literal 1 (codes " ") refl refl) (work_piece S other are)) (literal 9 (codes " disabled") refl refl)) refl
+object_piece S event.Starts are is = literal 50 [] refl refl
+object_piece S event.StartsOnRescuer are is = literal 50 [] refl refl
+object_piece S event.Wakes are is = literal 50 [] refl refl
+object_piece S event.Finishes are is = literal 50 [] refl refl
+object_piece S event.FinishesAndStarts are is = literal 50 [] refl refl
+object_piece S event.Defers are is = literal 50 [] refl refl
+object_piece S event.Fires are is = literal 50 [] refl refl
+object_piece S (event.Delays other ticks already) are is =
+    within 50 (joint (timed_piece S other ticks are is) (already_piece already)) refl
+object_piece S (event.DelaysDisabled other ticks) are is =
+    within 50 (joint (timed_piece S other ticks are is) (literal 9 (codes " disabled") refl refl)) refl
+object_piece S (event.Mods other ticks changed) are is =
+    within 50 (joint (timed_piece S other ticks are is) (changed_piece changed)) refl
+object_piece S (event.ModsDisabled other ticks) are is =
+    within 50 (joint (timed_piece S other ticks are is) (literal 9 (codes " disabled") refl refl)) refl
+object_piece S (event.Cancels other was) are is =
+    within 50 (joint (joint (literal 1 (codes " ") refl refl) (work_piece S other are)) (found_piece was)) refl
 
 refusal_piece : (why : Refusal) → Piece 20 (refusal_text why)
 refusal_piece refusal.NoSuchWork = literal 20 (codes "NoSuchWork") refl refl

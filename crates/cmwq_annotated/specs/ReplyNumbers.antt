@@ -37,6 +37,11 @@ IsEvent event.Defers = Unit {0}
 IsEvent event.Fires = Unit {0}
 IsEvent (event.Queues other already) = Unit {0}
 IsEvent (event.QueuesDisabled other) = Unit {0}
+IsEvent (event.Delays other ticks already) = ticks < 2 ^ 64
+IsEvent (event.DelaysDisabled other ticks) = ticks < 2 ^ 64
+IsEvent (event.Mods other ticks changed) = ticks < 2 ^ 64
+IsEvent (event.ModsDisabled other ticks) = ticks < 2 ^ 64
+IsEvent (event.Cancels other was) = Unit {0}
 
 abbrev pub IsReply : Reply → Type 0
 IsReply (reply.Sync was flush) = flush < 2 ^ 64

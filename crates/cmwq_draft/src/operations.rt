@@ -1,15 +1,19 @@
 //! What the lines of a body say: `body NAME`, and its operations.
-ghost use Rattle.cmwq_draft.specs.Operations.{next_at, queued_at};
+ghost use Rattle.cmwq_draft.specs.Operations.{cancelled_at, delayed_at, modified_at, next_at, queued_at};
+ghost use Rattle.cmwq_grammar.specs.LineFields.{number_within};
 ghost use Rattle.cmwq_grammar.specs.LineReasons.{not_in_body, op_at_line};
 ghost use Rattle.cmwq_scan.specs.Answers.{Tells};
+ghost use Rattle.cmwq_scan.specs.LastFields.{last};
 ghost use Rattle.cmwq_scan.specs.Words.{words_left};
+ghost use Rattle.cmwq_types.specs.declared.limits.TheConstants.{MAX_TICKS};
 ghost use Rattle.std.specs.Prelude.{◌≡◌, ◌<◌, OnOk, length};
 
 use crate::bodies::Bodies;
 use crate::draft::Draft;
 use cmwq_grammar::Why;
 use cmwq_scan::{
-    ended, is_word, refusal_of, take_declared, take_last_number_below, take_last_number_within,
+    ended, is_word, refusal_of, take_declared, take_last_declared, take_last_number_below,
+    take_last_number_within,
 };
 use cmwq_types::{Fault, MAX_TICKS, Op, WorkId};
 
@@ -40,6 +44,15 @@ pub fn read_op(draft: &Draft, word: &[u8], rest: &[u8]) -> Result<Op, Why>
     if is_word(word, b"queue") {
         return read_queued(draft, rest);
     }
+    if is_word(word, b"delay") {
+        return read_delayed(draft, rest);
+    }
+    if is_word(word, b"mod") {
+        return read_modified(draft, rest);
+    }
+    if is_word(word, b"cancel") {
+        return read_cancelled(draft, rest);
+    }
     if is_word(word, b"finish") {
         return ended(Op::Finish, rest);
     }
@@ -54,6 +67,42 @@ fn read_queued(draft: &Draft, rest: &[u8]) -> Result<Op, Why>
     let (work, rest) = take_declared(draft.work_names(), rest)?;
     let cpu = take_last_number_below(draft.cpus(), rest)?;
     Ok(Op::Queue(WorkId(work as u16), cpu))
+}
+
+/// A work, and the ticks after which it is queued.
+#[tactic(auto, using(cmwq_scan::proofs::LineSteps::line_steps))]
+fn read_delayed(draft: &Draft, rest: &[u8]) -> Result<Op, Why>
+    ensures { Tells (λ op. op) result (delayed_at draft.now (words_left rest.now)) }
+{
+    let (work, rest) = take_declared(draft.work_names(), rest)?;
+    let ticks = take_last_ticks(rest)?;
+    Ok(Op::Delay(WorkId(work as u16), ticks))
+}
+
+/// A work, and the ticks after which it is queued anew.
+#[tactic(auto, using(cmwq_scan::proofs::LineSteps::line_steps))]
+fn read_modified(draft: &Draft, rest: &[u8]) -> Result<Op, Why>
+    ensures { Tells (λ op. op) result (modified_at draft.now (words_left rest.now)) }
+{
+    let (work, rest) = take_declared(draft.work_names(), rest)?;
+    let ticks = take_last_ticks(rest)?;
+    Ok(Op::Mod(WorkId(work as u16), ticks))
+}
+
+/// Ticks from 0 on, in a line's last word.
+fn take_last_ticks(rest: &[u8]) -> Result<u32, Why>
+    ensures { Tells (λ n. n) result (last (number_within 0 MAX_TICKS (words_left rest.now))) }
+{
+    take_last_number_within(0, MAX_TICKS, rest)
+}
+
+/// A work that is taken off.
+#[tactic(auto, using(cmwq_scan::proofs::LineSteps::line_steps))]
+fn read_cancelled(draft: &Draft, rest: &[u8]) -> Result<Op, Why>
+    ensures { Tells (λ op. op) result (cancelled_at draft.now (words_left rest.now)) }
+{
+    let work = take_last_declared(draft.work_names(), rest)?;
+    Ok(Op::Cancel(WorkId(work as u16)))
 }
 
 /// The reason against a word in an open body: before `body` or `actor` the body lacks its `finish`.

@@ -1,5 +1,5 @@
 -- From the tests that reading and listing make to what holds of every scenario, and back.
-use Rattle.std.proofs.Common.{◌≡◌, ℕ, ◌<◌, ◌≤◌, true, List, [], ◌∷◌, ◌++◌, ltb, eqb, cond, arith, refl}
+use Rattle.std.proofs.Common.{◌≡◌, ℕ, ◌<◌, ◌≤◌, ◌^◌, true, ◌&&◌, List, [], ◌∷◌, ◌++◌, ltb, eqb, cond, arith, refl}
 use Rattle.std.specs.List.{AllByRecursion, list_all}
 use Rattle.cmwq_types.specs.Contents.{WorkContents}
 use Rattle.cmwq_types.specs.Faults.{fits_flags, within}
@@ -15,6 +15,13 @@ use Rattle.cmwq_grammar.proofs.LineLemmas.{good_op}
 
 -- From the tests to the types.
 
+timed_is : (work works ticks : ℕ) → works ≤ MAX_WORKS → (ltb work works && within 0 MAX_TICKS ticks) ≡ true → (work < 2 ^ 16) × (ticks < 2 ^ 32)
+timed_is work works ticks many good =
+    let both : (ltb work works ≡ true) × (within 0 MAX_TICKS ticks ≡ true) = and_true (ltb work works) (within 0 MAX_TICKS ticks) good in
+    let w : work < works = below work works both.0 in
+    let t : (0 ≤ ticks) × (ticks ≤ MAX_TICKS) = within_fits 0 MAX_TICKS ticks both.1 in
+    (omega arith, omega (arith, t.1))
+
 op_is : (cpus works : ℕ) (o : Op) → cpus ≤ MAX_CPUS → works ≤ MAX_WORKS → good_op cpus works o ≡ true → IsOp o
 op_is cpus works (op.Burn ticks) few many good = let t : (1 ≤ ticks) × (ticks ≤ MAX_TICKS) = within_fits 1 MAX_TICKS ticks good in omega (arith, t.1)
 op_is cpus works (op.Sleep ticks) few many good = let t : (1 ≤ ticks) × (ticks ≤ MAX_TICKS) = within_fits 1 MAX_TICKS ticks good in omega (arith, t.1)
@@ -24,6 +31,9 @@ op_is cpus works (op.Queue work cpu) few many good =
     let c : cpu < cpus = below cpu cpus both.1 in
     (omega arith, omega arith)
 op_is cpus works op.Finish few many good = tt
+op_is cpus works (op.Delay work ticks) few many good = timed_is work.0 works ticks many good
+op_is cpus works (op.Mod work ticks) few many good = timed_is work.0 works ticks many good
+op_is cpus works (op.Cancel work) few many good = let w : work.0 < works = below work.0 works good in omega arith
 
 -- operations, and `finish` behind them
 pub body_is : (cpus works : ℕ) (ops : List Op) → cpus ≤ MAX_CPUS → works ≤ MAX_WORKS → list_all (good_op cpus works) ops ≡ true → AllByRecursion IsOp (ops ++ op.Finish ∷ [])

@@ -7,6 +7,7 @@ use Rattle.cmwq_types.specs.Faults.{within}
 use Rattle.cmwq_types.specs.Listing.{op_line, queue_line, work_line}
 use Rattle.cmwq_types.specs.Name.{is_name}
 use Rattle.cmwq_types.specs.Scenario.{plain_flags, queue_at, work_at}
+use Rattle.cmwq_types.specs.declared.instr.WorkId.{WorkId}
 use Rattle.cmwq_types.specs.declared.limits.TheConstants.{MAX_TICKS}
 use Rattle.cmwq_types.specs.declared.scenario.Flags.{Flags}
 use Rattle.cmwq_types.specs.declared.scenario.Op.{Op}
@@ -15,7 +16,7 @@ use Rattle.cmwq_types.specs.declared.scenario.QueueDecl.{QueueDecl}
 use Rattle.cmwq_grammar.specs.LineFields.{◌>>=◌, after_word, declared_at, ended, made_last, new_name_at, number_at, number_where}
 use Rattle.cmwq_grammar.specs.Grammar.{Says}
 use Rattle.cmwq_grammar.specs.Instructions.{cannot_stand, queue_names, work_names, work_id}
-use Rattle.cmwq_grammar.specs.LineReasons.{flags_at_line, not_in_body, op_at_line, queue_at_line, queue_of_flags, then_cpu, then_flags, then_max, then_number, then_queue, work_at_line, new_work}
+use Rattle.cmwq_grammar.specs.LineReasons.{cancel_of, flags_at_line, not_in_body, op_at_line, queue_at_line, queue_of_flags, then_cpu, then_flags, then_max, then_number, then_queue, then_ticks, work_at_line, new_work}
 use Rattle.cmwq_grammar.specs.declared.why.Why.{Why}
 use Rattle.cmwq_grammar.proofs.Basics.{ok_same, bind_ok, bind_at, and_true, true_and, chosen, same_word, below}
 use Rattle.cmwq_grammar.proofs.FieldLemmas.{IsNew, declared_read, ended_read, ended_again, given_read, given_again, last_read, new_name_read, new_name_again, number_read, number_again, where_read, where_again, within_fits}
@@ -101,6 +102,9 @@ good_op cpus works (op.Burn ticks) = within 1 MAX_TICKS ticks
 good_op cpus works (op.Sleep ticks) = within 1 MAX_TICKS ticks
 good_op cpus works (op.Queue work cpu) = ltb work.0 works && ltb cpu cpus
 good_op cpus works op.Finish = true
+good_op cpus works (op.Delay work ticks) = ltb work.0 works && within 0 MAX_TICKS ticks
+good_op cpus works (op.Mod work ticks) = ltb work.0 works && within 0 MAX_TICKS ticks
+good_op cpus works (op.Cancel work) = ltb work.0 works
 
 -- an operation that was read
 abbrev pub OpRead : ScenarioContents → List ℕ → List (List ℕ) → Op → Type 0
@@ -152,6 +156,61 @@ sleep_read D word rest next is e =
     ticks_read D op.Sleep word (codes "sleep") rest next is e in
     subst (λ (o : Op). OpRead D word rest o) told.1 (told.2, told.3)
 
+-- a work and ticks
+record TimedRead (D : ScenarioContents) (make : WorkId → ℕ → Op) (said : List (List ℕ)) (first : List ℕ) (next : Op) : Type 0 where
+  work : ℕ
+  ticks : ℕ
+  is : make (work_id work) ticks ≡ next
+  says : said ≡ first ∷ (work_at D work).name ∷ decimal ticks ∷ []
+  good : (ltb work (length D.works) && within 0 MAX_TICKS ticks) ≡ true
+
+timed_read : (D : ScenarioContents) (make : WorkId → ℕ → Op) (word first : List ℕ) (rest : List (List ℕ)) (next : Op) → word ≡ first
+    → (declared_at (work_names D) rest >>= then_ticks make) ≡ Ok next → TimedRead D make (word ∷ rest) first next
+timed_read D make word first rest next is e =
+    let work : (n : ℕ × List (List ℕ)) × (declared_at (work_names D) rest ≡ Ok n) × (then_ticks make n ≡ Ok next) =
+    bind_ok (declared_at (work_names D) rest) (then_ticks make) next e in
+    let timed = make (work_id (work.0).0) in
+    let test = within 0 MAX_TICKS in
+    let ticks : (n : ℕ × List (List ℕ)) × (number_where test (work.0).1 ≡ Ok n) × (made_last timed n ≡ Ok next) =
+    bind_ok (number_where test (work.0).1) (made_last timed) next work.2 in
+    let made : ((ticks.0).1 ≡ []) × (timed (ticks.0).0 ≡ next) = last_read timed ticks.0 next ticks.2 in
+    let there : (rest ≡ get_or (work_names D) (work.0).0 [] ∷ (work.0).1) × ((work.0).0 < length (work_names D)) = declared_read (work_names D) rest work.0 work.1 in
+    let number : ((work.0).1 ≡ decimal (ticks.0).0 ∷ (ticks.0).1) × (test (ticks.0).0 ≡ true) = where_read test (work.0).1 ticks.0 ticks.1 in
+    let last : (work.0).1 ≡ decimal (ticks.0).0 ∷ [] = number.0 ∙ ap (λ (ws : List (List ℕ)). decimal (ticks.0).0 ∷ ws) made.0 in
+    record {
+      work = (work.0).0;
+      ticks = (ticks.0).0;
+      is = made.1;
+      says =
+          ap (λ (w : List ℕ). w ∷ rest) is
+          ∙ ap (λ (ws : List (List ℕ)). first ∷ ws) (there.0 ∙ ap (λ (n : List ℕ). n ∷ (work.0).1) (name_of_work D (work.0).0) ∙ ap (λ (ws : List (List ℕ)). (work_at D (work.0).0).name ∷ ws) last);
+      good = true_and (ltb (work.0).0 (length D.works)) (test (ticks.0).0) (work_below D (work.0).0 there.1) number.1;
+    }
+
+delay_read : (D : ScenarioContents) (word : List ℕ) (rest : List (List ℕ)) (next : Op) → word ≡ codes "delay"
+    → (declared_at (work_names D) rest >>= then_ticks op.Delay) ≡ Ok next → OpRead D word rest next
+delay_read D word rest next is e =
+    let told : TimedRead D op.Delay (word ∷ rest) (codes "delay") next = timed_read D op.Delay word (codes "delay") rest next is e in
+    subst (λ (o : Op). OpRead D word rest o) told.is (told.says, told.good)
+
+mod_read : (D : ScenarioContents) (word : List ℕ) (rest : List (List ℕ)) (next : Op) → word ≡ codes "mod"
+    → (declared_at (work_names D) rest >>= then_ticks op.Mod) ≡ Ok next → OpRead D word rest next
+mod_read D word rest next is e =
+    let told : TimedRead D op.Mod (word ∷ rest) (codes "mod") next = timed_read D op.Mod word (codes "mod") rest next is e in
+    subst (λ (o : Op). OpRead D word rest o) told.is (told.says, told.good)
+
+cancel_read : (D : ScenarioContents) (word : List ℕ) (rest : List (List ℕ)) (next : Op) → word ≡ codes "cancel"
+    → (declared_at (work_names D) rest >>= made_last cancel_of) ≡ Ok next → OpRead D word rest next
+cancel_read D word rest next is e =
+    let work : (n : ℕ × List (List ℕ)) × (declared_at (work_names D) rest ≡ Ok n) × (made_last cancel_of n ≡ Ok next) =
+    bind_ok (declared_at (work_names D) rest) (made_last cancel_of) next e in
+    let made : ((work.0).1 ≡ []) × (cancel_of (work.0).0 ≡ next) = last_read cancel_of work.0 next work.2 in
+    let there : (rest ≡ get_or (work_names D) (work.0).0 [] ∷ (work.0).1) × ((work.0).0 < length (work_names D)) = declared_read (work_names D) rest work.0 work.1 in
+    let whole : word ∷ rest ≡ codes "cancel" ∷ (work_at D (work.0).0).name ∷ [] =
+    ap (λ (w : List ℕ). w ∷ rest) is
+    ∙ ap (λ (ws : List (List ℕ)). codes "cancel" ∷ ws) (there.0 ∙ ap (λ (n : List ℕ). n ∷ (work.0).1) (name_of_work D (work.0).0) ∙ ap (λ (ws : List (List ℕ)). (work_at D (work.0).0).name ∷ ws) made.0) in
+    subst (λ (o : Op). OpRead D word rest o) made.1 (whole, work_below D (work.0).0 there.1)
+
 finish_read : (D : ScenarioContents) (word : List ℕ) (rest : List (List ℕ)) (next : Op) → word ≡ codes "finish" → ended op.Finish rest ≡ Ok next → OpRead D word rest next
 finish_read D word rest next is e =
     let done : (rest ≡ []) × (op.Finish ≡ next) = ended_read op.Finish rest next e in
@@ -171,9 +230,18 @@ op_read D word rest next e =
         | inl it ↦ sleep_read D word rest next (same_word word (codes "sleep") it.0) it.1
         | inr no_sleep ↦ elim (chosen (bytes_eq word (codes "queue")) (declared_at (work_names D) rest >>= then_cpu D) _ (Ok next) no_sleep.1) [
           | inl it ↦ queue_op_read D word rest next (same_word word (codes "queue") it.0) it.1
-          | inr no_queue ↦ elim (chosen (bytes_eq word (codes "finish")) (ended op.Finish rest) _ (Ok next) no_queue.1) [
-            | inl it ↦ finish_read D word rest next (same_word word (codes "finish") it.0) it.1
-            | inr none ↦ not_standing (not_in_body word) word next none.1
+          | inr no_queue ↦ elim (chosen (bytes_eq word (codes "delay")) (declared_at (work_names D) rest >>= then_ticks op.Delay) _ (Ok next) no_queue.1) [
+            | inl it ↦ delay_read D word rest next (same_word word (codes "delay") it.0) it.1
+            | inr no_delay ↦ elim (chosen (bytes_eq word (codes "mod")) (declared_at (work_names D) rest >>= then_ticks op.Mod) _ (Ok next) no_delay.1) [
+              | inl it ↦ mod_read D word rest next (same_word word (codes "mod") it.0) it.1
+              | inr no_mod ↦ elim (chosen (bytes_eq word (codes "cancel")) (declared_at (work_names D) rest >>= made_last cancel_of) _ (Ok next) no_mod.1) [
+                | inl it ↦ cancel_read D word rest next (same_word word (codes "cancel") it.0) it.1
+                | inr no_cancel ↦ elim (chosen (bytes_eq word (codes "finish")) (ended op.Finish rest) _ (Ok next) no_cancel.1) [
+                  | inl it ↦ finish_read D word rest next (same_word word (codes "finish") it.0) it.1
+                  | inr none ↦ not_standing (not_in_body word) word next none.1
+                ]
+              ]
+            ]
           ]
         ]
       ]
@@ -182,6 +250,18 @@ op_read D word rest next e =
 -- the words of an operation are read as it
 abbrev pub OpReads : ScenarioContents → List (List ℕ) → Op → Type 0
 OpReads D said next = (word : List ℕ) × (rest : List (List ℕ)) × (said ≡ word ∷ rest) × (op_at_line D word rest ≡ Ok next)
+
+timed_again : (D : ScenarioContents) (make : WorkId → ℕ → Op) (work : WorkId) (ticks : ℕ) → GoodNames [] (work_names D)
+    → (ltb work.0 (length D.works) && within 0 MAX_TICKS ticks) ≡ true
+    → (declared_at (work_names D) ((work_at D work.0).name ∷ decimal ticks ∷ []) >>= then_ticks make) ≡ Ok (make work ticks)
+timed_again D make work ticks names good =
+    let test = within 0 MAX_TICKS in
+    let tests : (ltb work.0 (length D.works) ≡ true) × (test ticks ≡ true) = and_true (ltb work.0 (length D.works)) (test ticks) good in
+    let fits : (0 ≤ ticks) × (ticks ≤ MAX_TICKS) = within_fits 0 MAX_TICKS ticks tests.1 in
+    let small : ticks < 10 ^ 10 = omega arith in
+    bind_at (declared_at (work_names D) ((work_at D work.0).name ∷ decimal ticks ∷ [])) (then_ticks make) (work.0, decimal ticks ∷ []) (work_declared D work.0 (decimal ticks ∷ []) names tests.0)
+    ∙ bind_at (number_where test (decimal ticks ∷ [])) (made_last (make work)) (ticks, []) (where_again test ticks [] small tests.1)
+    ∙ ended_again (make work ticks)
 
 pub op_again : (D : ScenarioContents) (next : Op) (said : List (List ℕ)) → GoodNames [] (work_names D) → D.cpus ≤ 16 → good_op D.cpus (length D.works) next ≡ true
     → Says (op_line D next) said → OpReads D said next
@@ -215,3 +295,14 @@ op_again D (op.Queue work cpu) said names few good says =
           ∙ ended_again (op.Queue work cpu),
     )
 op_again D op.Finish said names few good says = (codes "finish", [], says, ended_again op.Finish)
+op_again D (op.Delay work ticks) said names few good says =
+    (codes "delay", (work_at D work.0).name ∷ decimal ticks ∷ [], says, timed_again D op.Delay work ticks names good)
+op_again D (op.Mod work ticks) said names few good says =
+    (codes "mod", (work_at D work.0).name ∷ decimal ticks ∷ [], says, timed_again D op.Mod work ticks names good)
+op_again D (op.Cancel work) said names few good says = (
+  codes "cancel",
+  (work_at D work.0).name ∷ [],
+  says,
+  bind_at (declared_at (work_names D) ((work_at D work.0).name ∷ [])) (made_last cancel_of) (work.0, []) (work_declared D work.0 [] names good)
+      ∙ ended_again (op.Cancel work),
+)

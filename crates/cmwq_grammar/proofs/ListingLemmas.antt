@@ -18,6 +18,7 @@ use Rattle.cmwq_types.specs.Scenario.{queue_at, work_at}
 use Rattle.cmwq_types.specs.Values.{IsActor, IsInstr, IsLine, IsScenario}
 use Rattle.cmwq_types.specs.declared.instr.Instr.{Instr}
 use Rattle.cmwq_types.specs.declared.instr.Instr.TheVariants as instr
+use Rattle.cmwq_types.specs.declared.instr.WorkId.{WorkId}
 use Rattle.cmwq_types.specs.declared.limits.TheConstants.{MAX_ACTORS, MAX_CPUS, MAX_FLUSHES, MAX_LINES, MAX_MAX_ACTIVE, MAX_OPS, MAX_QUEUES, MAX_STEPS, MAX_TEXT, MAX_TICKS, MAX_TIMES, MAX_WORKERS, MAX_WORKS}
 use Rattle.cmwq_types.specs.declared.scenario.Flags.{Flags}
 use Rattle.cmwq_types.specs.declared.scenario.Line.{Line}
@@ -279,31 +280,44 @@ works_fit S before (w ∷ works) queues names on =
 
 -- Bodies.
 
-op_fits : (S : ScenarioContents) (o : Op) → GoodNames [] (work_names S) → S.cpus ≤ 16 → good_op S.cpus (length S.works) o ≡ true → LineFitsIn 25 (op_line S o)
+timed_fits : (S : ScenarioContents) (work : WorkId) (ticks : ℕ) → GoodNames [] (work_names S) → (ltb work.0 (length S.works) && within 0 MAX_TICKS ticks) ≡ true
+    → WordsFit 24 ((work_at S work.0).name ∷ decimal ticks ∷ [])
+timed_fits S work ticks names good =
+    let tests : (ltb work.0 (length S.works) ≡ true) × (within 0 MAX_TICKS ticks ≡ true) = and_true (ltb work.0 (length S.works)) (within 0 MAX_TICKS ticks) good in
+    let bounds : (0 ≤ ticks) × (ticks ≤ MAX_TICKS) = within_fits 0 MAX_TICKS ticks tests.1 in
+    words_within 24 (word_on (work_name S work.0 names tests.0) (word_on (number_fits 7 ticks (omega arith) (omega arith) (omega arith)) no_words)) (omega arith)
+
+op_fits : (S : ScenarioContents) (o : Op) → GoodNames [] (work_names S) → S.cpus ≤ 16 → good_op S.cpus (length S.works) o ≡ true → LineFitsIn 30 (op_line S o)
 op_fits S (op.Burn ticks) names few good =
     let bounds : (1 ≤ ticks) × (ticks ≤ MAX_TICKS) = within_fits 1 MAX_TICKS ticks good in
-    line_fits 25 (op_line S (op.Burn ticks)) refl (word_on (literal 4 (codes "burn") refl (omega arith))
+    line_fits 30 (op_line S (op.Burn ticks)) refl (word_on (literal 4 (codes "burn") refl (omega arith))
     (word_on (number_fits 7 ticks (omega arith) (omega arith) (omega arith)) no_words)) (omega arith)
 op_fits S (op.Sleep ticks) names few good =
     let bounds : (1 ≤ ticks) × (ticks ≤ MAX_TICKS) = within_fits 1 MAX_TICKS ticks good in
-    line_fits 25 (op_line S (op.Sleep ticks)) refl (word_on (literal 5 (codes "sleep") refl (omega arith))
+    line_fits 30 (op_line S (op.Sleep ticks)) refl (word_on (literal 5 (codes "sleep") refl (omega arith))
     (word_on (number_fits 7 ticks (omega arith) (omega arith) (omega arith)) no_words)) (omega arith)
 op_fits S (op.Queue work cpu) names few good =
     let tests : (ltb work.0 (length S.works) ≡ true) × (ltb cpu S.cpus ≡ true) = and_true (ltb work.0 (length S.works)) (ltb cpu S.cpus) good in
     let small : cpu < S.cpus = below cpu S.cpus tests.1 in
-    line_fits 25 (op_line S (op.Queue work cpu)) refl (word_on (literal 5 (codes "queue") refl (omega arith))
+    line_fits 30 (op_line S (op.Queue work cpu)) refl (word_on (literal 5 (codes "queue") refl (omega arith))
     (word_on (work_name S work.0 names tests.0)
     (word_on (number_fits 2 cpu (omega arith) (omega arith) (omega arith)) no_words))) (omega arith)
 op_fits S op.Finish names few good =
-    line_fits 25 (op_line S op.Finish) refl (word_on (literal 6 (codes "finish") refl (omega arith)) no_words) (omega arith)
+    line_fits 30 (op_line S op.Finish) refl (word_on (literal 6 (codes "finish") refl (omega arith)) no_words) (omega arith)
+op_fits S (op.Delay work ticks) names few good =
+    line_fits 30 (op_line S (op.Delay work ticks)) refl (word_on (literal 5 (codes "delay") refl (omega arith)) (timed_fits S work ticks names good)) (omega arith)
+op_fits S (op.Mod work ticks) names few good =
+    line_fits 30 (op_line S (op.Mod work ticks)) refl (word_on (literal 3 (codes "mod") refl (omega arith)) (timed_fits S work ticks names good)) (omega arith)
+op_fits S (op.Cancel work) names few good =
+    line_fits 30 (op_line S (op.Cancel work)) refl (word_on (literal 6 (codes "cancel") refl (omega arith)) (word_on (work_name S work.0 names good) no_words)) (omega arith)
 
 ops_fit : (S : ScenarioContents) (ops : List Op) → GoodNames [] (work_names S) → S.cpus ≤ 16 → list_all (good_op S.cpus (length S.works)) ops ≡ true
-    → LinesFitIn (length ops * 25) (map (op_line S) ops)
+    → LinesFitIn (length ops * 30) (map (op_line S) ops)
 ops_fit S [] names few good = no_lines
 ops_fit S (o ∷ ops) names few good =
     let test = good_op S.cpus (length S.works) in
     let both : (test o ≡ true) × (list_all test ops ≡ true) = and_true (test o) (list_all test ops) good in
-    lines_within (suc (length ops) * 25) (line_on (op_fits S o names few both.0) (ops_fit S ops names few both.1)) (omega arith)
+    lines_within (suc (length ops) * 30) (line_on (op_fits S o names few both.0) (ops_fit S ops names few both.1)) (omega arith)
 
 body_line_fits : (name : List ℕ) → is_name name ≡ true → LineFitsIn 21 (Words (codes "body" ∷ name ∷ []))
 body_line_fits name named =
@@ -314,7 +328,7 @@ actor_line_fits name named =
     line_fits 22 (Words (codes "actor" ∷ name ∷ [])) refl (word_on (literal 5 (codes "actor") refl (omega arith)) (word_on (name_fits name named) no_words)) (omega arith)
 
 body_fits : (S : ScenarioContents) (w : WorkContents) → GoodNames [] (work_names S) → S.cpus ≤ 16 → is_name w.name ≡ true → GoodBody S.cpus (length S.works) w.body
-    → LinesFitIn 1621 (body_lines S w)
+    → LinesFitIn 1941 (body_lines S w)
 body_fits S w names few named body =
     let test = good_op S.cpus (length S.works) in
     let all : list_all test w.body ≡ true =
@@ -322,14 +336,14 @@ body_fits S w names few named body =
     ∙ true_and (list_all test body.ops) (list_all test (op.Finish ∷ [])) body.good refl in
     let size : length w.body ≡ length body.ops + 1 = ap length body.whole ∙ length-append body.ops (op.Finish ∷ []) in
     let room : length body.ops < MAX_OPS = body.few in
-    lines_within 1621 (line_on (body_line_fits w.name named) (ops_fit S w.body names few all)) (omega arith)
+    lines_within 1941 (line_on (body_line_fits w.name named) (ops_fit S w.body names few all)) (omega arith)
 
 bodies_fit : (S : ScenarioContents) (before : List (List ℕ)) (works : List WorkContents) → GoodNames [] (work_names S) → S.cpus ≤ 16
     → GoodNames before (map (λ (w : WorkContents). w.name) works) → AllByRecursion (GoodBodyOf S.cpus (length S.works)) works
-    → LinesFitIn (length works * 1621) (flat_map (body_lines S) works)
+    → LinesFitIn (length works * 1941) (flat_map (body_lines S) works)
 bodies_fit S before [] names few named bodies = no_lines
 bodies_fit S before (w ∷ works) names few named bodies =
-    lines_within (suc (length works) * 1621) (lines_on (body_fits S w names few named.1 bodies.0) (bodies_fit S (before ++ w.name ∷ []) works names few named.2 bodies.1)) (omega arith)
+    lines_within (suc (length works) * 1941) (lines_on (body_fits S w names few named.1 bodies.0) (bodies_fit S (before ++ w.name ∷ []) works names few named.2 bodies.1)) (omega arith)
 
 -- Actors.
 
@@ -422,7 +436,7 @@ written_room S good =
     let few_actors : length S.actors ≤ MAX_ACTORS = good.few_actors in
     let a : ℕ = length S.queues * 130 in
     let b : ℕ = length S.works * 37 in
-    let c : ℕ = length S.works * 1621 in
+    let c : ℕ = length S.works * 1941 in
     let d : ℕ = length S.actors * 213014 in
     let queues : LinesFitIn a (map queue_line S.queues) = queues_fit [] S.queues good.queue_names good.queues in
     let works : LinesFitIn b (map (work_line S) S.works) = works_fit S [] S.works good.queue_names good.work_names good.works in

@@ -26,7 +26,7 @@ use Rattle.cmwq_grammar.specs.LineFields.{◌>>=◌, declared_at, made_last, num
 use Rattle.cmwq_grammar.specs.Grammar.{Says}
 use Rattle.cmwq_grammar.specs.Instructions.{Operands, Makes, OfWork, OfQueue, OfNumber, cannot_stand, instr_at, instr_named, line_at, line_times, operands_at, operands_of, queue_id, queue_names, then_times, work_id, work_names}
 use Rattle.cmwq_grammar.specs.Meaning.{FaultAt, at_line, stage_after}
-use Rattle.cmwq_grammar.specs.Offers.{GoesOnWith, IsNextAfter, has_named, next_offered, next_words, words_of_next}
+use Rattle.cmwq_grammar.specs.Offers.{GoesOnWith, IsNextAfter, has_named, next_offered, next_words, operation_words, words_of_next}
 use Rattle.cmwq_grammar.specs.LineReasons.{add_line, add_op, add_queue, add_work, all_have_bodies, judge, op_at_line, open_actor, open_body, queue_at_line, step, with_works, work_at_line}
 use Rattle.cmwq_grammar.specs.Stages.{Stage, Start, Cpus, Workers, Steps, Queues, Works, Bodies, Body, Actor, head_of, with_actor}
 use Rattle.cmwq_grammar.specs.declared.next.Next.{Next}
@@ -124,40 +124,92 @@ unfolding step
 takes_finish D done ops words =
     record { rest = words.rest; next = _; taken = bind_at (op_at_line D (codes "finish") words.rest) (add_op D done ops) op.Finish words.read ∙ finish_adds D done ops op.Finish refl; plain = words.plain }
 
+-- an operation but `finish`, whose line begins with this word
+record OpGiven (D : ScenarioContents) (word : List ℕ) : Type 0 where
+  last : Op
+  words : OpWords D word last
+  other : is_finish last ≡ false
+
+numbered_given : (D : ScenarioContents) (o : Op) (first : List ℕ) → GoodNames [] (work_names D) → D.cpus ≤ 16 → good_op D.cpus (length D.works) o ≡ true
+    → Says (op_line D o) (first ∷ decimal 1 ∷ []) → is_finish o ≡ false → plain_word first ≡ true → OpGiven D first
+numbered_given D o first names few good says other plain = record {
+  last = o;
+  words =
+      op_words D o first (decimal 1 ∷ []) names few good (op_again D o (first ∷ decimal 1 ∷ []) names few good says)
+      (plain_two first (decimal 1) plain (number_is_plain 1 (omega arith)));
+  other = other;
+}
+
+first_is_plain : (D : ScenarioContents) → GoodNames [] (work_names D) → 0 < length D.works → plain_word (work_at D 0).name ≡ true
+first_is_plain D names some =
+    let long : length (work_names D) ≡ length D.works = length-map D.works (λ (w : WorkContents). w.name) in
+    name_is_plain (work_at D 0).name (ap is_name (sym (name_of_work D 0)) ∙ named_at [] (work_names D) 0 names (omega arith))
+
+-- with the first work, and a number
+placed_given : (D : ScenarioContents) (o : Op) (first : List ℕ) → GoodNames [] (work_names D) → D.cpus ≤ 16 → 0 < length D.works → good_op D.cpus (length D.works) o ≡ true
+    → Says (op_line D o) (first ∷ (work_at D 0).name ∷ decimal 0 ∷ []) → is_finish o ≡ false → plain_word first ≡ true → OpGiven D first
+placed_given D o first names few some good says other plain =
+    let name : List ℕ = (work_at D 0).name in
+    record {
+      last = o;
+      words =
+          op_words D o first (name ∷ decimal 0 ∷ []) names few good (op_again D o (first ∷ name ∷ decimal 0 ∷ []) names few good says)
+          (plain_three first name (decimal 0) plain (first_is_plain D names some) (number_is_plain 0 (omega arith)));
+      other = other;
+    }
+
+cancel_given : (D : ScenarioContents) → GoodNames [] (work_names D) → D.cpus ≤ 16 → 0 < length D.works → OpGiven D (codes "cancel")
+cancel_given D names few some =
+    let name : List ℕ = (work_at D 0).name in
+    let o : Op = op.Cancel (work_id 0) in
+    let good : good_op D.cpus (length D.works) o ≡ true = below_is 0 (length D.works) some in
+    record {
+      last = o;
+      words =
+          op_words D o (codes "cancel") (name ∷ []) names few good (op_again D o (codes "cancel" ∷ name ∷ []) names few good refl)
+          (plain_two (codes "cancel") name refl (first_is_plain D names some));
+      other = refl;
+    }
+
+given_as : (D : ScenarioContents) (word w : List ℕ) → bytes_eq word w ≡ true → OpGiven D w → OpGiven D word
+given_as D word w e given = subst (λ (v : List ℕ). OpGiven D v) (sym (same_word word w e)) given
+
+op_given : (D : ScenarioContents) (word : List ℕ) → GoodNames [] (work_names D) → (0 < D.cpus) × (D.cpus ≤ 16) → 0 < length D.works → Among word operation_words → OpGiven D word
+op_given D word names cpus some e =
+    let work : ltb 0 (length D.works) ≡ true = below_is 0 (length D.works) some in
+    elim (or_true (bytes_eq word (codes "burn")) _ e) [
+      | inl is ↦ given_as D word (codes "burn") is (numbered_given D (op.Burn 1) (codes "burn") names cpus.1 refl refl refl refl)
+      | inr no_burn ↦ elim (or_true (bytes_eq word (codes "sleep")) _ no_burn) [
+        | inl is ↦ given_as D word (codes "sleep") is (numbered_given D (op.Sleep 1) (codes "sleep") names cpus.1 refl refl refl refl)
+        | inr no_sleep ↦ elim (or_true (bytes_eq word (codes "queue")) _ no_sleep) [
+          | inl is ↦ given_as D word (codes "queue") is
+              (placed_given D (op.Queue (work_id 0) 0) (codes "queue") names cpus.1 some (true_and (ltb 0 (length D.works)) (ltb 0 D.cpus) work (below_is 0 D.cpus cpus.0)) refl refl refl)
+          | inr no_queue ↦ elim (or_true (bytes_eq word (codes "delay")) _ no_queue) [
+            | inl is ↦ given_as D word (codes "delay") is
+                (placed_given D (op.Delay (work_id 0) 0) (codes "delay") names cpus.1 some (true_and (ltb 0 (length D.works)) true work refl) refl refl refl)
+            | inr no_delay ↦ elim (or_true (bytes_eq word (codes "mod")) _ no_delay) [
+              | inl is ↦ given_as D word (codes "mod") is
+                  (placed_given D (op.Mod (work_id 0) 0) (codes "mod") names cpus.1 some (true_and (ltb 0 (length D.works)) true work refl) refl refl refl)
+              | inr is ↦ subst (λ (v : List ℕ). OpGiven D v) (sym (among_one word (codes "cancel") is)) (cancel_given D names cpus.1 some)
+            ]
+          ]
+        ]
+      ]
+    ]
+
 takes_in_body : (D : ScenarioContents) (done : List WorkContents) (ops : List Op) (word : List ℕ) → SoundBody D done ops → Among word (next_words (Body D done ops)) → Takes (Body D done ops) word
 takes_in_body D done ops word sound e =
     let names = names_in_body D done ops sound in
     let cpus : (0 < D.cpus) × (D.cpus ≤ 16) = cpus_of D.cpus (sound.good).cpus in
     let size : length D.works ≡ length (done ++ sound.work ∷ sound.more) = ap length sound.declared ∙ length-map (done ++ sound.work ∷ sound.more) bare in
     let parts : length (done ++ sound.work ∷ sound.more) ≡ length done + suc (length sound.more) = length-append done (sound.work ∷ sound.more) in
-    let long : length (work_names D) ≡ length D.works = length-map D.works (λ (w : WorkContents). w.name) in
+    let some : 0 < length D.works = omega arith in
     let room = ltb (length ops + 1) MAX_OPS in
-    let stage : Stage = Body D done ops in
-    elim (among_on word (cond room (codes "burn" ∷ codes "sleep" ∷ codes "queue" ∷ []) []) (codes "finish" ∷ []) e) [
-      | inl it ↦ (let both = among_if word room (codes "burn" ∷ codes "sleep" ∷ codes "queue" ∷ []) it in
-          let left : length ops + 1 < MAX_OPS = below (length ops + 1) MAX_OPS both.0 in
-          elim (or_true (bytes_eq word (codes "burn")) (list_any (bytes_eq word) (codes "sleep" ∷ codes "queue" ∷ [])) both.1) [
-            | inl is ↦ takes_as stage word (codes "burn") (same_word word (codes "burn") is)
-                (takes_op D done ops (codes "burn") (op.Burn 1)
-                (op_words D (op.Burn 1) (codes "burn") (decimal 1 ∷ []) names cpus.1 refl (op_again D (op.Burn 1) (codes "burn" ∷ decimal 1 ∷ []) names cpus.1 refl refl)
-                (plain_two (codes "burn") (decimal 1) refl (number_is_plain 1 (omega arith)))) refl left)
-            | inr more ↦ elim (or_true (bytes_eq word (codes "sleep")) (list_any (bytes_eq word) (codes "queue" ∷ [])) more) [
-              | inl is ↦ takes_as stage word (codes "sleep") (same_word word (codes "sleep") is)
-                  (takes_op D done ops (codes "sleep") (op.Sleep 1)
-                  (op_words D (op.Sleep 1) (codes "sleep") (decimal 1 ∷ []) names cpus.1 refl (op_again D (op.Sleep 1) (codes "sleep" ∷ decimal 1 ∷ []) names cpus.1 refl refl)
-                  (plain_two (codes "sleep") (decimal 1) refl (number_is_plain 1 (omega arith)))) refl left)
-              | inr is ↦ (let o : Op = op.Queue (work_id 0) 0 in
-                  let name : List ℕ = (work_at D 0).name in
-                  let good : good_op D.cpus (length D.works) o ≡ true =
-                  true_and (ltb 0 (length D.works)) (ltb 0 D.cpus) (below_is 0 (length D.works) (omega arith)) (below_is 0 D.cpus cpus.0) in
-                  let named : is_name name ≡ true = ap is_name (sym (name_of_work D 0)) ∙ named_at [] (work_names D) 0 names (omega arith) in
-                  takes_as stage word (codes "queue") (among_one word (codes "queue") is)
-                  (takes_op D done ops (codes "queue") o
-                  (op_words D o (codes "queue") (name ∷ decimal 0 ∷ []) names cpus.1 good (op_again D o (codes "queue" ∷ name ∷ decimal 0 ∷ []) names cpus.1 good refl)
-                  (plain_three (codes "queue") name (decimal 0) refl (name_is_plain name named) (number_is_plain 0 (omega arith)))) refl left))
-            ]
-          ])
-      | inr it ↦ takes_as stage word (codes "finish") (among_one word (codes "finish") it)
+    elim (among_on word (cond room operation_words []) (codes "finish" ∷ []) e) [
+      | inl it ↦ (let both = among_if word room operation_words it in
+          let given : OpGiven D word = op_given D word names cpus some both.1 in
+          takes_op D done ops word given.last given.words given.other (below (length ops + 1) MAX_OPS both.0))
+      | inr it ↦ takes_as (Body D done ops) word (codes "finish") (among_one word (codes "finish") it)
           (takes_finish D done ops (op_words D op.Finish (codes "finish") [] names cpus.1 refl (op_again D op.Finish (codes "finish" ∷ []) names cpus.1 refl refl) refl))
     ]
 
@@ -407,9 +459,6 @@ offered_in_bodies D done word rest after e =
       ]
     ]
 
-said_first : (word first : List ℕ) (rest more : List (List ℕ)) → word ∷ rest ≡ first ∷ more → bytes_eq word first ≡ true
-said_first word first rest more e = word_is word first (same_head word first rest more e)
-
 offered_in_body : (D : ScenarioContents) (done : List WorkContents) (ops : List Op) (word : List ℕ) (rest : List (List ℕ)) (after : Stage) → OpAdded D done ops word rest after
     → Among word (next_words (Body D done ops))
 offered_in_body D done ops word rest after added = by_op added.last (added.read).0 left
@@ -417,24 +466,27 @@ offered_in_body D done ops word rest after added = by_op added.last (added.read)
     left : (is_finish added.last ≡ true) ⊎ (ltb (length ops + 1) MAX_OPS ≡ true)
     left = elim added.stage [ inl it ↦ inl it.0 | inr it ↦ inr (below_is (length ops + 1) MAX_OPS it.1) ]
 
-    within_room : (o : Op) → is_finish o ≡ false → (is_finish o ≡ true) ⊎ (ltb (length ops + 1) MAX_OPS ≡ true) → Among word (codes "burn" ∷ codes "sleep" ∷ codes "queue" ∷ [])
+    within_room : (o : Op) (first : List ℕ) → is_finish o ≡ false → Among first operation_words → word ≡ first → (is_finish o ≡ true) ⊎ (ltb (length ops + 1) MAX_OPS ≡ true)
         → Among word (next_words (Body D done ops))
-    within_room o other (inl ends) here = (let clash = sym other ∙ ends in cc)
-    within_room o other (inr fits) here =
-        left_among word (cond (ltb (length ops + 1) MAX_OPS) (codes "burn" ∷ codes "sleep" ∷ codes "queue" ∷ []) []) (codes "finish" ∷ [])
-        (if_among word (ltb (length ops + 1) MAX_OPS) (codes "burn" ∷ codes "sleep" ∷ codes "queue" ∷ []) fits here)
+    within_room o first other here is (inl ends) = (let clash = sym other ∙ ends in cc)
+    within_room o first other here is (inr fits) =
+        left_among word (cond (ltb (length ops + 1) MAX_OPS) operation_words []) (codes "finish" ∷ [])
+        (if_among word (ltb (length ops + 1) MAX_OPS) operation_words fits (subst (λ (w : List ℕ). Among w operation_words) (sym is) here))
 
     by_op : (o : Op) → Says (op_line D o) (word ∷ rest) → (is_finish o ≡ true) ⊎ (ltb (length ops + 1) MAX_OPS ≡ true) → Among word (next_words (Body D done ops))
-    by_op (op.Burn ticks) says fits = within_room (op.Burn ticks) refl fits (one_among word (codes "burn") (codes "sleep" ∷ codes "queue" ∷ []) (said_first word (codes "burn") rest (decimal ticks ∷ []) says))
-    by_op (op.Sleep ticks) says fits =
-        within_room (op.Sleep ticks) refl fits (more_among word (codes "burn") (codes "sleep" ∷ codes "queue" ∷ []) (one_among word (codes "sleep") (codes "queue" ∷ []) (said_first word (codes "sleep") rest (decimal ticks ∷ []) says)))
+    by_op (op.Burn ticks) says fits = within_room (op.Burn ticks) (codes "burn") refl refl (same_head word (codes "burn") rest (decimal ticks ∷ []) says) fits
+    by_op (op.Sleep ticks) says fits = within_room (op.Sleep ticks) (codes "sleep") refl refl (same_head word (codes "sleep") rest (decimal ticks ∷ []) says) fits
     by_op (op.Queue work cpu) says fits =
-        within_room (op.Queue work cpu) refl fits
-        (more_among word (codes "burn") (codes "sleep" ∷ codes "queue" ∷ []) (more_among word (codes "sleep") (codes "queue" ∷ [])
-        (one_among word (codes "queue") [] (said_first word (codes "queue") rest ((work_at D work.0).name ∷ decimal cpu ∷ []) says))))
+        within_room (op.Queue work cpu) (codes "queue") refl refl (same_head word (codes "queue") rest ((work_at D work.0).name ∷ decimal cpu ∷ []) says) fits
     by_op op.Finish says fits =
-        right_among word (cond (ltb (length ops + 1) MAX_OPS) (codes "burn" ∷ codes "sleep" ∷ codes "queue" ∷ []) []) (codes "finish" ∷ [])
-        (one_among word (codes "finish") [] (said_first word (codes "finish") rest [] says))
+        right_among word (cond (ltb (length ops + 1) MAX_OPS) operation_words []) (codes "finish" ∷ [])
+        (one_among word (codes "finish") [] (word_is word (codes "finish") (same_head word (codes "finish") rest [] says)))
+    by_op (op.Delay work ticks) says fits =
+        within_room (op.Delay work ticks) (codes "delay") refl refl (same_head word (codes "delay") rest ((work_at D work.0).name ∷ decimal ticks ∷ []) says) fits
+    by_op (op.Mod work ticks) says fits =
+        within_room (op.Mod work ticks) (codes "mod") refl refl (same_head word (codes "mod") rest ((work_at D work.0).name ∷ decimal ticks ∷ []) says) fits
+    by_op (op.Cancel work) says fits =
+        within_room (op.Cancel work) (codes "cancel") refl refl (same_head word (codes "cancel") rest ((work_at D work.0).name ∷ []) says) fits
 
 body_offered : (D : ScenarioContents) (done : List WorkContents) (ops : List Op) (word : List ℕ) (rest : List (List ℕ)) (after : Stage) → step (Body D done ops) (word ∷ rest) ≡ Ok after
     → Among word (next_words (Body D done ops))

@@ -31,6 +31,9 @@ same_op_line D S (op.Burn ticks) e = refl
 same_op_line D S (op.Sleep ticks) e = refl
 same_op_line D S (op.Queue work cpu) e = ap (λ (n : List ℕ). Words (codes "queue" ∷ n ∷ decimal cpu ∷ [])) (same_work_name D S work.0 e)
 same_op_line D S op.Finish e = refl
+same_op_line D S (op.Delay work ticks) e = ap (λ (n : List ℕ). Words (codes "delay" ∷ n ∷ decimal ticks ∷ [])) (same_work_name D S work.0 e)
+same_op_line D S (op.Mod work ticks) e = ap (λ (n : List ℕ). Words (codes "mod" ∷ n ∷ decimal ticks ∷ [])) (same_work_name D S work.0 e)
+same_op_line D S (op.Cancel work) e = ap (λ (n : List ℕ). Words (codes "cancel" ∷ n ∷ [])) (same_work_name D S work.0 e)
 
 pub same_instr_words : (D S : ScenarioContents) (i : Instr) → S.queues ≡ D.queues → S.works ≡ D.works → instr_words D i ≡ instr_words S i
 same_instr_words D S i queues works =

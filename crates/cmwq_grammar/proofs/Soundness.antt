@@ -212,6 +212,9 @@ finish_is (op.Burn ticks) e = cc
 finish_is (op.Sleep ticks) e = cc
 finish_is (op.Queue work cpu) e = cc
 finish_is op.Finish e = refl
+finish_is (op.Delay work ticks) e = cc
+finish_is (op.Mod work ticks) e = cc
+finish_is (op.Cancel work) e = cc
 
 pub sound_finish : (D : ScenarioContents) (done : List WorkContents) (ops : List Op) (last : Op) → SoundBody D done ops → is_finish last ≡ true
     → SoundBodies D (with_body D done (ops ++ last ∷ []))

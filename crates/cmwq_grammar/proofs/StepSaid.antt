@@ -348,6 +348,9 @@ finish_is_not (op.Burn ticks) h e = cc
 finish_is_not (op.Sleep ticks) h e = cc
 finish_is_not (op.Queue work cpu) h e = cc
 finish_is_not op.Finish h e = cc
+finish_is_not (op.Delay work ticks) h e = cc
+finish_is_not (op.Mod work ticks) h e = cc
+finish_is_not (op.Cancel work) h e = cc
 
 -- operations without `finish` that a body begins with are at most all but its last
 pub fronts : (xs rest ys : List Op) → list_all (λ o. not (is_finish o)) xs ≡ true → xs ++ rest ≡ ys ++ op.Finish ∷ [] → length xs ≤ length ys
@@ -385,6 +388,9 @@ finish_op (op.Burn ticks) e = cc
 finish_op (op.Sleep ticks) e = cc
 finish_op (op.Queue work cpu) e = cc
 finish_op op.Finish e = refl
+finish_op (op.Delay work ticks) e = cc
+finish_op (op.Mod work ticks) e = cc
+finish_op (op.Cancel work) e = cc
 
 op_taken : (D : ScenarioContents) (done : List WorkContents) (ops : List Op) (l : WrittenLine) (lines : List WrittenLine) (S : ScenarioContents) (said : List (List ℕ))
     → SoundBody D done ops → Good S → Says l said → SameHead D S → S.queues ≡ D.queues

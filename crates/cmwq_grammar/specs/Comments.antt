@@ -9,4 +9,4 @@ comments notes = flat_map (λ line. codes "# " ++ line ++ 10 ∷ []) (lines_of n
 
 -- how long the listing of a valid scenario with so many actors may be, at most
 abbrev pub listing_room : ℕ → ℕ
-listing_room actors = 428679 + actors * 213014
+listing_room actors = 510599 + actors * 213014

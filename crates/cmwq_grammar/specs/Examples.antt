@@ -1,6 +1,6 @@
 -- Short texts, and what reading them gives.
 use Rattle.std.specs.Prelude.{◌≡◌, ℕ, true, ◌+◌, List, [], ◌∷◌, ◌++◌, map, replicate, take, Ok, Err, codes}
-use Rattle.std.specs.List.{flat_map, range_with_len}
+use Rattle.std.specs.List.{range_with_len}
 use Rattle.cmwq_types.specs.Contents.{ScenarioContents, ActorContents}
 use Rattle.cmwq_types.specs.Scenario.{plain_flags}
 use Rattle.cmwq_types.specs.declared.instr.Instr.TheVariants as instr
@@ -83,6 +83,21 @@ itself_scenario = one_work (actor_t itself_lines)
 -- that text up to the actor's name, and then these lines
 abbrev pub in_actor_t : List (List ℕ) → List ℕ
 in_actor_t lines = text_of_lines (take 10 itself_text_lines ++ lines)
+
+-- that text up to the body's name, and then these lines
+abbrev pub in_body_a : List (List ℕ) → List ℕ
+in_body_a lines = text_of_lines (take 7 itself_text_lines ++ lines)
+
+-- one work, whose body delays it by 0 and by 1,000,000 ticks, mods it by 7 ticks, and cancels it
+abbrev pub delaying_scenario : ScenarioContents
+delaying_scenario =
+    record (queue_alone queue_q) {
+      works = record {
+        name = codes "a";
+        queue = record { 0 = 0 };
+        body = op.Delay (record { 0 = 0 }) 0 ∷ op.Delay (record { 0 = 0 }) 1000000 ∷ op.Mod (record { 0 = 0 }) 7 ∷ op.Cancel (record { 0 = 0 }) ∷ op.Finish ∷ [];
+      } ∷ [];
+    }
 
 abbrev pub disabling_lines : List Line
 disabling_lines =

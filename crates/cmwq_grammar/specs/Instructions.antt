@@ -53,7 +53,7 @@ operands_in shape.Time make = OfNumber 4294967295 (λ time. Makes (make (fields 
 abbrev pub operands_of : Mnemonic → Operands
 operands_of mnemonic = operands_in (shape_of mnemonic) (instr_of mnemonic)
 
--- the words that other lines begin with; an operation and a queue's line begin with an instruction's word, `queue`
+-- the words that other lines begin with; a queue's line begins with an instruction's word, `queue`, and so do operations with four of them
 abbrev pub other_words : List (List ℕ)
 other_words =
     codes "cpus" ∷ codes "workers" ∷ codes "steps" ∷ codes "flushes" ∷ codes "work" ∷ codes "body" ∷ codes "burn"

@@ -5,6 +5,7 @@ use Rattle.cmwq_types.specs.Contents.{ScenarioContents, WorkContents}
 use Rattle.cmwq_types.specs.Faults.{fits_flags, is_finish}
 use Rattle.cmwq_types.specs.Scenario.{plain_flags}
 use Rattle.cmwq_types.specs.declared.check.Fault.TheVariants as fault
+use Rattle.cmwq_types.specs.declared.instr.WorkId.{WorkId}
 use Rattle.cmwq_types.specs.declared.limits.TheConstants.{MAX_ACTORS, MAX_CPUS, MAX_FLUSHES, MAX_LINES, MAX_OPS, MAX_QUEUES, MAX_STEPS, MAX_TICKS, MAX_WORKERS, MAX_WORKS}
 use Rattle.cmwq_types.specs.declared.scenario.Flags.{Flags}
 use Rattle.cmwq_types.specs.declared.scenario.Line.{Line}
@@ -104,6 +105,13 @@ open_body S done rest =
 abbrev pub then_cpu : ScenarioContents → ℕ × List (List ℕ) → Result Op Why
 then_cpu S work = number_below S.cpus work.1 >>= made_last (op.Queue (work_id work.0))
 
+-- made of the work and of ticks, from 0 on
+abbrev pub then_ticks : (WorkId → ℕ → Op) → ℕ × List (List ℕ) → Result Op Why
+then_ticks make work = number_within 0 MAX_TICKS work.1 >>= made_last (make (work_id work.0))
+
+abbrev pub cancel_of : ℕ → Op
+cancel_of work = op.Cancel (work_id work)
+
 -- `body` and `actor` in an open body mean that it has no `finish`
 abbrev pub not_in_body : List ℕ → Why
 not_in_body word = if bytes_eq word (codes "body") || bytes_eq word (codes "actor") then why.Fault fault.BadBody else why.Misplaced
@@ -113,6 +121,9 @@ op_at_line S word rest =
     if bytes_eq word (codes "burn") then number_within 1 MAX_TICKS rest >>= made_last op.Burn
     else if bytes_eq word (codes "sleep") then number_within 1 MAX_TICKS rest >>= made_last op.Sleep
     else if bytes_eq word (codes "queue") then declared_at (work_names S) rest >>= then_cpu S
+    else if bytes_eq word (codes "delay") then declared_at (work_names S) rest >>= then_ticks op.Delay
+    else if bytes_eq word (codes "mod") then declared_at (work_names S) rest >>= then_ticks op.Mod
+    else if bytes_eq word (codes "cancel") then declared_at (work_names S) rest >>= made_last cancel_of
     else if bytes_eq word (codes "finish") then ended op.Finish rest
     else cannot_stand (not_in_body word) word
 

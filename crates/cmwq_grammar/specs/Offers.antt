@@ -38,6 +38,10 @@ has_named works queues (OfWork after) = works
 has_named works queues (OfQueue after) = queues
 has_named works queues (OfNumber high after) = true
 
+-- the words of operations but for `finish`
+abbrev pub operation_words : List (List ℕ)
+operation_words = codes "burn" ∷ codes "sleep" ∷ codes "queue" ∷ codes "delay" ∷ codes "mod" ∷ codes "cancel" ∷ []
+
 -- and the words that such a line begins with
 abbrev pub words_of_next : Next → List (List ℕ)
 words_of_next next.Cpus = codes "cpus" ∷ []
@@ -48,7 +52,7 @@ words_of_next (next.Declaration room queues) = word_if room (codes "queue") ++ w
 words_of_next (next.Work room) = word_if room (codes "work") ++ codes "body" ∷ []
 words_of_next next.Body = codes "body" ∷ []
 words_of_next next.Actor = codes "actor" ∷ []
-words_of_next (next.Operation room) = (if room then codes "burn" ∷ codes "sleep" ∷ codes "queue" ∷ [] else []) ++ codes "finish" ∷ []
+words_of_next (next.Operation room) = (if room then operation_words else []) ++ codes "finish" ∷ []
 words_of_next (next.Instruction room works queues actor) =
     (if room then map spelling (filter (λ mnemonic. has_named works queues (operands_of mnemonic)) mnemonics) else []) ++ word_if actor (codes "actor")
 

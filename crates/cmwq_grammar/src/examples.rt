@@ -1,5 +1,5 @@
 //! Short texts, as theorems over the definitions: what reading them gives.
-ghost use Rattle.cmwq_grammar.specs.Examples.{AfterBodyIs, DeclaredIs, FaultIs, FirstLineIs, InActorIs, InBodyIs, OfferedAre, ReadsAs, sixteen_actor_lines, actor_t, after_head, cut_after, disabling_lines, free_head, head_lines, in_actor_t, itself_lines, long_body, head_alone, one_work, pressing_lines, queue_alone, queue_q, queue_with_memory, itself_scenario, sixteen_actors, with_bad_byte};
+ghost use Rattle.cmwq_grammar.specs.Examples.{AfterBodyIs, DeclaredIs, FaultIs, FirstLineIs, InActorIs, InBodyIs, OfferedAre, ReadsAs, sixteen_actor_lines, actor_t, after_head, cut_after, delaying_scenario, disabling_lines, free_head, head_lines, in_actor_t, in_body_a, itself_lines, long_body, head_alone, one_work, pressing_lines, queue_alone, queue_q, queue_with_memory, itself_scenario, sixteen_actors, with_bad_byte};
 ghost use Rattle.cmwq_types.specs.Listing.{listing, text_of_lines};
 ghost use Rattle.std.specs.Prelude.{◌≡◌, ◌∷◌, ◌++◌, [], codes, take};
 
@@ -58,6 +58,12 @@ pub fn cut_listing_ends_well_or_not()
 /// A work is disabled and enabled by its name, as often as the line says.
 pub fn disable_and_enable_are_read()
     ensures { ReadsAs (in_actor_t (codes "disable a * 2" ∷ codes "enable a" ∷ [])) (one_work (actor_t disabling_lines)) }
+{}
+
+/// A body delays, mods and cancels a work by its name, on no CPU of its own choice, after 0 to 1,000,000 ticks.
+pub fn bodies_delay_mod_and_cancel()
+    ensures read { ReadsAs (in_body_a (codes "delay a 0" ∷ codes "delay a 1000000" ∷ codes "mod a 7" ∷ codes "cancel a" ∷ codes "finish" ∷ [])) delaying_scenario }
+    ensures listed { listing delaying_scenario ≡ in_body_a (codes "delay a 0" ∷ codes "delay a 1000000" ∷ codes "mod a 7" ∷ codes "cancel a" ∷ codes "finish" ∷ []) }
 {}
 
 /// The flag `mem_reclaim` stands beside any other, and memory pressure begins and ends by a word alone.
@@ -124,6 +130,15 @@ pub fn reasons_in_bodies()
     ensures no_cpu { InBodyIs (codes "queue b") Why.MissingWord }
     ensures cpu { InBodyIs (codes "queue b 1") (Why.Fault Fault.Range) }
     ensures times { InBodyIs (codes "queue b 0 * 2") Why.ExtraWord }
+    ensures delay_unknown { InBodyIs (codes "delay c 1000001") (Why.Fault Fault.Unknown) }
+    ensures delay_no_ticks { InBodyIs (codes "delay b") Why.MissingWord }
+    ensures delay_too_many_ticks { InBodyIs (codes "delay b 1000001") (Why.Fault Fault.Range) }
+    ensures delay_cpu { InBodyIs (codes "delay b 0 5") Why.ExtraWord }
+    ensures mod_unknown { InBodyIs (codes "mod c 0") (Why.Fault Fault.Unknown) }
+    ensures mod_too_many_ticks { InBodyIs (codes "mod b 1000001") (Why.Fault Fault.Range) }
+    ensures cancel_nothing { InBodyIs (codes "cancel") Why.MissingWord }
+    ensures cancel_unknown { InBodyIs (codes "cancel c") (Why.Fault Fault.Unknown) }
+    ensures cancel_extra { InBodyIs (codes "cancel b 0") Why.ExtraWord }
     ensures extra { InBodyIs (codes "finish 1") Why.ExtraWord }
 {}
 
@@ -169,8 +184,10 @@ pub fn one_over_a_limit_is_too_many()
     ensures finish { FaultIs (after_head (long_body ++ codes "finish" ∷ codes "finish" ∷ [])) 72 Why.Misplaced }
 {}
 
-/// After the head a queue or an actor may stand, but no work yet; in a body with one operation left only `finish`.
+/// After the head a queue or an actor may stand, but no work yet; in a body any operation, and with one left only `finish`.
 pub fn lines_go_on_with_what_has_room()
     ensures head { OfferedAre head_lines (codes "queue" ∷ codes "actor" ∷ []) }
+    ensures body { OfferedAre (head_lines ++ codes "queue q max 1" ∷ codes "work a q" ∷ codes "body a" ∷ [])
+        (codes "burn" ∷ codes "sleep" ∷ codes "queue" ∷ codes "delay" ∷ codes "mod" ∷ codes "cancel" ∷ codes "finish" ∷ []) }
     ensures operation { OfferedAre (head_lines ++ long_body) (codes "finish" ∷ []) }
 {}

@@ -8,7 +8,7 @@ use Rattle.std.specs.Str.{bytes_eq}
 use Rattle.cmwq_types.specs.Contents.{ScenarioContents}
 use Rattle.cmwq_types.specs.Faults.{first_fault, IsValid}
 use Rattle.cmwq_image.specs.Image.{all_flags, magic}
-use Rattle.cmwq_image.specs.ImageFault.{Place, Reader, ◌>>=◌, hand_on, done, many, field, accepted, behind, if_within, read_number, read_version, read_name, name_in_field, read_queue, read_op_tag, op_tag_of, op_room, read_op, read_instr_tag, tagged, instr_room, read_instr, read_work, read_line, read_actor, read_head, scenario_at, judged, unless_faulty, from_there, reading}
+use Rattle.cmwq_image.specs.ImageFault.{Place, Reader, ◌>>=◌, hand_on, done, many, field, accepted, behind, if_within, read_number, read_version, read_name, name_in_field, read_queue, read_op_tag, op_tagged, op_room, read_op, read_instr_tag, tagged, instr_room, read_instr, read_work, read_line, read_actor, read_head, scenario_at, judged, unless_faulty, from_there, reading}
 use Rattle.cmwq_image.specs.Limits.{HasSize}
 use Rattle.cmwq_image.specs.Versions.{IsImageOf}
 use Rattle.cmwq_types.specs.Values.{IsScenario}
@@ -152,10 +152,10 @@ unfolding read_queue
 near_queue version =
     name_then _ 4 (λ name. short_then 0 65535 _ 2 (λ max m. byte_then 0 (all_flags version) _ 1 (λ bits b. byte_then 0 0 _ 0 (λ nothing n. near_done _ Any tt))))
 
-near_op : Near read_op 8 Any
+near_op : (version : ℕ) → Near (read_op version) 8 Any
 unfolding read_op
-near_op =
-    near_then read_op_tag _ 1 7 Any Any (near_field errors.BadField 1 (λ bytes. op_tag_of (from_be_bytes w8 bytes)) Any (λ bytes x e. tt))
+near_op version =
+    near_then (read_op_tag version) _ 1 7 Any Any (near_field errors.BadField 1 (λ bytes. op_tagged version (from_be_bytes w8 bytes)) Any (λ bytes x e. tt))
     (λ tag fits. byte_then 0 (op_room tag).cpu _ 6 (λ cpu c. short_then 0 (op_room tag).a _ 4 (λ a b. long_then 0 (op_room tag).n _ 0 (λ n m. near_done _ Any tt))))
 
 near_instr : (version : ℕ) → Near (read_instr version) 8 Any
@@ -165,11 +165,11 @@ near_instr version =
     (λ tag fits. byte_then 0 (instr_room tag).cpu _ 6 (λ cpu c. short_then 0 (instr_room tag).a _ 4 (λ a b. long_then 0 (instr_room tag).n _ 0 (λ n m. near_done _ Any tt))))
 
 -- a name, two bytes, and at most 64 operations of 8 bytes
-near_work : Near read_work 530 Any
+near_work : (version : ℕ) → Near (read_work version) 530 Any
 unfolding read_work
-near_work =
+near_work version =
     name_then _ 514 (λ name. byte_then 0 255 _ 513 (λ queue q. byte_then 1 64 _ 512 (λ count few.
-    wider _ (count * 8 + 0) 512 Any (omega (arith, few.1)) (many_then read_op 8 near_op count _ 0 (λ body. near_done _ Any tt)))))
+    wider _ (count * 8 + 0) 512 Any (omega (arith, few.1)) (many_then (read_op version) 8 (near_op version) count _ 0 (λ body. near_done _ Any tt)))))
 
 near_line : (version : ℕ) → Near (read_line version) 12 Any
 unfolding read_line
@@ -203,7 +203,7 @@ near_scenario =
     (λ head few.
     wider _ (head.queues * 20 + (head.works * 530 + (head.actors * 49170 + 0))) 923040 Any (omega (arith, few.0, few.1, few.2))
     (many_then (read_queue version) 20 (near_queue version) head.queues _ (head.works * 530 + (head.actors * 49170 + 0)) (λ queues.
-    many_then read_work 530 near_work head.works _ (head.actors * 49170 + 0) (λ works.
+    many_then (read_work version) 530 (near_work version) head.works _ (head.actors * 49170 + 0) (λ works.
     many_then (read_actor version) 49170 (near_actor version) head.actors _ 0 (λ actors. near_done _ Any tt))))))
 
 -- a byte that is left is the fault Extra

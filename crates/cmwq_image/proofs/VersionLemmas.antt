@@ -2,13 +2,15 @@
 use Rattle.std.specs.Prelude.{◌↔◌}
 use Rattle.std.proofs.Common.{◌≡◌, ℕ, ◌≤◌, List, [], ◌∷◌, arith}
 use Rattle.std.specs.List.{AllByRecursion}
-use Rattle.cmwq_types.specs.Contents.{ScenarioContents, ActorContents}
+use Rattle.cmwq_types.specs.Contents.{ScenarioContents, WorkContents, ActorContents}
 use Rattle.cmwq_types.specs.declared.instr.Instr.{Instr}
 use Rattle.cmwq_types.specs.declared.instr.Instr.TheVariants as instr
 use Rattle.cmwq_types.specs.declared.scenario.Line.{Line}
+use Rattle.cmwq_types.specs.declared.scenario.Op.{Op}
+use Rattle.cmwq_types.specs.declared.scenario.Op.TheVariants as op
 use Rattle.cmwq_types.specs.declared.scenario.QueueDecl.{QueueDecl}
-use Rattle.cmwq_image.specs.Image.{flag_bits, image, instr_word}
-use Rattle.cmwq_image.specs.Versions.{IsQueueOf, IsLineOf, HasVersion, IsImageOf, EachInstr, NeitherDisablesNorEnables, NeverDisables, NeitherPressesNorRelieves, NeverReclaims, MemoryIsAmple, GoesOnForNothing, NeverGoesOn}
+use Rattle.cmwq_image.specs.Image.{flag_bits, image, instr_word, op_word}
+use Rattle.cmwq_image.specs.Versions.{IsQueueOf, IsOpOf, IsLineOf, HasVersion, IsImageOf, EachOp, EachInstr, NeitherDelaysNorCancels, BodiesNeverDelay, NeitherDisablesNorEnables, NeverDisables, NeitherPressesNorRelieves, NeverReclaims, MemoryIsAmple, GoesOnForNothing, NeverGoesOn}
 use Rattle.cmwq_image.specs.declared.version.TheConstants.{FIRST_VERSION, SECOND_VERSION, THIRD_VERSION, VERSION}
 use Rattle.cmwq_image.proofs.FlagLemmas.{at_most_31, at_most_63, never_reclaims}
 
@@ -39,6 +41,32 @@ both_instr P Q [] p q = tt
 both_instr P Q (actor ∷ actors) p q =
     (both_all (λ (line : Line). P line.instr) (λ (line : Line). Q line.instr) actor.lines p.0 q.0, both_instr P Q actors p.1 q.1)
 
+-- what each operation is, where it is something that says so
+each_op : (P Q : Op → Type 0) → ((o : Op) → P o → Q o) → (works : List WorkContents) → EachOp P works → EachOp Q works
+each_op P Q so works =
+    all_are (λ (work : WorkContents). AllByRecursion P work.body) (λ work. AllByRecursion Q work.body) (λ work. all_are P Q so work.body) works
+
+abbrev IsOpTagged : ℕ → Op → Type 0
+IsOpTagged last o = (op_word o).tag ≤ last
+
+last_op_is_7 : (o : Op) → IsOpTagged 7 o
+last_op_is_7 (op.Queue work cpu) = omega arith
+last_op_is_7 _ = omega arith
+
+-- the older versions have only the first four
+
+never_delays : (o : Op) → IsOpTagged 4 o → NeitherDelaysNorCancels o
+never_delays (op.Delay work ticks) h = absurd (omega (arith, h))
+never_delays (op.Mod work ticks) h = absurd (omega (arith, h))
+never_delays (op.Cancel work) h = absurd (omega (arith, h))
+never_delays _ h = tt
+
+last_op_is_4 : (o : Op) → NeitherDelaysNorCancels o → IsOpTagged 4 o
+last_op_is_4 (op.Delay work ticks) h = elim h [ ]
+last_op_is_4 (op.Mod work ticks) h = elim h [ ]
+last_op_is_4 (op.Cancel work) h = elim h [ ]
+last_op_is_4 _ h = omega arith
+
 abbrev IsTagged : ℕ → Instr → Type 0
 IsTagged last i = (instr_word i).tag ≤ last
 
@@ -51,6 +79,7 @@ newest S = record {
   first = omega arith;
   last = omega arith;
   queues = every (IsQueueOf VERSION) (λ queue. at_most_63 queue.flags) S.queues;
+  bodies = every (λ (work : WorkContents). AllByRecursion (IsOpOf VERSION) work.body) (λ work. every (IsOpOf VERSION) last_op_is_7 work.body) S.works;
   lines = every (λ (actor : ActorContents). AllByRecursion (IsLineOf VERSION) actor.lines) (λ actor. every (IsLineOf VERSION) (λ line. last_is_40 line.instr) actor.lines) S.actors;
 }
 
@@ -79,14 +108,15 @@ last_is_37 (instr.Wait flush) h = elim h [ ]
 last_is_37 instr.Quiet h = elim h [ ]
 last_is_37 _ h = omega arith
 
-pub old : (S : ScenarioContents) → HasVersion S THIRD_VERSION ↔ NeverGoesOn S
+pub old : (S : ScenarioContents) → HasVersion S THIRD_VERSION ↔ (NeverGoesOn S × BodiesNeverDelay S)
 old S = (
-  λ has. each_instr (IsTagged 37) GoesOnForNothing going S.actors has.lines,
+  λ has. (each_instr (IsTagged 37) GoesOnForNothing going S.actors has.lines, each_op (IsOpTagged 4) NeitherDelaysNorCancels never_delays S.works has.bodies),
   λ is. record {
     first = omega arith;
     last = omega arith;
     queues = every (IsQueueOf THIRD_VERSION) (λ queue. at_most_63 queue.flags) S.queues;
-    lines = each_instr GoesOnForNothing (IsTagged 37) last_is_37 S.actors is;
+    bodies = each_op NeitherDelaysNorCancels (IsOpTagged 4) last_op_is_4 S.works is.1;
+    lines = each_instr GoesOnForNothing (IsTagged 37) last_is_37 S.actors is.0;
   },
 )
 
@@ -105,10 +135,11 @@ last_is_35 (instr.Wait flush) h = elim h.1 [ ]
 last_is_35 instr.Quiet h = elim h.1 [ ]
 last_is_35 _ h = omega arith
 
-pub older : (S : ScenarioContents) → HasVersion S SECOND_VERSION ↔ (NeverGoesOn S × MemoryIsAmple S)
+pub older : (S : ScenarioContents) → HasVersion S SECOND_VERSION ↔ (NeverGoesOn S × BodiesNeverDelay S × MemoryIsAmple S)
 older S = (
   λ has. (
     each_instr (IsTagged 35) GoesOnForNothing (λ i h. going i (omega (arith, h))) S.actors has.lines,
+    each_op (IsOpTagged 4) NeitherDelaysNorCancels never_delays S.works has.bodies,
     (
       all_are (IsQueueOf SECOND_VERSION) NeverReclaims queue_never S.queues has.queues,
       each_instr (IsTagged 35) NeitherPressesNorRelieves ample S.actors has.lines,
@@ -117,9 +148,10 @@ older S = (
   λ is. record {
     first = omega arith;
     last = omega arith;
-    queues = all_are NeverReclaims (IsQueueOf SECOND_VERSION) queue_few S.queues is.1.0;
+    queues = all_are NeverReclaims (IsQueueOf SECOND_VERSION) queue_few S.queues is.2.0;
+    bodies = each_op NeitherDelaysNorCancels (IsOpTagged 4) last_op_is_4 S.works is.1;
     lines = each_instr (λ i. NeitherPressesNorRelieves i × GoesOnForNothing i) (IsTagged 35) last_is_35 S.actors
-        (both_instr NeitherPressesNorRelieves GoesOnForNothing S.actors is.1.1 is.0);
+        (both_instr NeitherPressesNorRelieves GoesOnForNothing S.actors is.2.1 is.0);
   },
 )
 
@@ -140,10 +172,11 @@ last_is_33 (instr.Wait flush) h = elim h.0.1 [ ]
 last_is_33 instr.Quiet h = elim h.0.1 [ ]
 last_is_33 _ h = omega arith
 
-pub oldest : (S : ScenarioContents) → HasVersion S FIRST_VERSION ↔ (NeverGoesOn S × MemoryIsAmple S × NeverDisables S)
+pub oldest : (S : ScenarioContents) → HasVersion S FIRST_VERSION ↔ (NeverGoesOn S × BodiesNeverDelay S × MemoryIsAmple S × NeverDisables S)
 oldest S = (
   λ has. (
     each_instr (IsTagged 33) GoesOnForNothing (λ i h. going i (omega (arith, h))) S.actors has.lines,
+    each_op (IsOpTagged 4) NeitherDelaysNorCancels never_delays S.works has.bodies,
     (
       all_are (IsQueueOf FIRST_VERSION) NeverReclaims queue_never S.queues has.queues,
       each_instr (IsTagged 33) NeitherPressesNorRelieves (λ i h. ample i (omega (arith, h))) S.actors has.lines,
@@ -153,9 +186,10 @@ oldest S = (
   λ is. record {
     first = omega arith;
     last = omega arith;
-    queues = all_are NeverReclaims (IsQueueOf FIRST_VERSION) queue_few S.queues is.1.0;
+    queues = all_are NeverReclaims (IsQueueOf FIRST_VERSION) queue_few S.queues is.2.0;
+    bodies = each_op NeitherDelaysNorCancels (IsOpTagged 4) last_op_is_4 S.works is.1;
     lines = each_instr (λ i. (NeitherPressesNorRelieves i × GoesOnForNothing i) × NeitherDisablesNorEnables i) (IsTagged 33) last_is_33 S.actors
         (both_instr (λ i. NeitherPressesNorRelieves i × GoesOnForNothing i) NeitherDisablesNorEnables S.actors
-        (both_instr NeitherPressesNorRelieves GoesOnForNothing S.actors is.1.1 is.0) is.2);
+        (both_instr NeitherPressesNorRelieves GoesOnForNothing S.actors is.2.1 is.0) is.3);
   },
 )

@@ -13,7 +13,7 @@ use Rattle.cmwq_types.specs.declared.scenario.QueueDecl.{QueueDecl}
 use Rattle.cmwq_image.specs.Image.{in_order, number, name_field, queue_image, op_image, work_image, word_image, instr_word, line_image, actor_image, image, magic}
 use Rattle.cmwq_image.specs.ImageFault.{Place, Reader, ◌>>=◌, hand_on, done, many, read_number, read_byte, read_short, read_long, read_version, read_name, read_queue, read_op, read_work, read_instr, read_line, read_actor, read_head, scenario_at}
 use Rattle.cmwq_image.specs.Limits.{HasBodySize, HasLinesSize, HasSize}
-use Rattle.cmwq_image.specs.Versions.{IsQueueOf, AreQueuesOf, IsLineOf, AreLinesOf, HasVersion}
+use Rattle.cmwq_image.specs.Versions.{IsQueueOf, AreQueuesOf, IsOpOf, AreBodiesOf, IsLineOf, AreLinesOf, HasVersion}
 use Rattle.cmwq_types.specs.Values.{IsQueueDecl, IsOp, IsWorkDecl, IsLine, IsActor, IsScenario}
 use Rattle.cmwq_image.specs.declared.error.ImageError.{ImageError}
 use Rattle.cmwq_image.specs.declared.head.Head.{Head}
@@ -22,7 +22,7 @@ use Rattle.cmwq_image.proofs.Codec.{Codec, nothing, one_then}
 use Rattle.cmwq_image.proofs.FieldCodecs.{InRange, Each, names, versions, many_of}
 use Rattle.cmwq_image.proofs.PartCodecs.{QueueFits, bytes_of, shorts, longs, queues}
 use Rattle.cmwq_image.proofs.VersionLemmas.{all_are, both_all}
-use Rattle.cmwq_image.proofs.WordCodecs.{InstrFits, ops, instrs}
+use Rattle.cmwq_image.proofs.WordCodecs.{InstrFits, OpFits, ops, instrs}
 
 -- ---- works
 
@@ -32,59 +32,68 @@ work_with name queue body = record { name = name; queue = record { 0 = queue }; 
 same_work : (n n' : List ℕ) (q q' : ℕ) (b : List Op) → n ≡ n' → q ≡ q' → work_with n q b ≡ work_with n' q' b
 same_work n n' q q' b e f = ap (λ (x : List ℕ). work_with x q b) e ∙ ap (λ x. work_with n' x b) f
 
-works_body : (name : List ℕ) (queue count : ℕ)
-    → Codec (many read_op count >>= λ body. done (work_with name queue body)) (λ w. in_order (flat_map op_image w.body ∷ []))
-    (λ w. (w.name ≡ name) × (w.queue.0 ≡ queue) × Each IsOp count w.body)
-works_body name queue count =
-    one_then (many read_op count) (λ body. done (work_with name queue body)) (λ w. w.body) (flat_map op_image) (Each IsOp count)
+works_body : (version : ℕ) (name : List ℕ) (queue count : ℕ)
+    → Codec (many (read_op version) count >>= λ body. done (work_with name queue body)) (λ w. in_order (flat_map op_image w.body ∷ []))
+    (λ w. (w.name ≡ name) × (w.queue.0 ≡ queue) × Each (OpFits version) count w.body)
+works_body version name queue count =
+    one_then (many (read_op version) count) (λ body. done (work_with name queue body)) (λ w. w.body) (flat_map op_image) (Each (OpFits version) count)
     (λ w. []) (λ body w. w ≡ work_with name queue body) (λ w. in_order (flat_map op_image w.body ∷ []))
-    (λ w. (w.name ≡ name) × (w.queue.0 ≡ queue) × Each IsOp count w.body)
-    (many_of read_op op_image IsOp ops count) (λ body fits. nothing (work_with name queue body)) (record {
+    (λ w. (w.name ≡ name) × (w.queue.0 ≡ queue) × Each (OpFits version) count w.body)
+    (many_of (read_op version) op_image (OpFits version) (ops version) count) (λ body fits. nothing (work_with name queue body)) (record {
       join = λ body w fits e.
           let body_is : w.body ≡ body = ap (λ (x : WorkContents). x.body) e in
-          (body_is, (ap (λ (x : WorkContents). x.name) e, ap (λ (x : WorkContents). x.queue.0) e, subst (Each IsOp count) (sym body_is) fits));
+          (body_is, (ap (λ (x : WorkContents). x.name) e, ap (λ (x : WorkContents). x.queue.0) e, subst (Each (OpFits version) count) (sym body_is) fits));
       cut = λ w h. (h.2, same_work w.name name w.queue.0 queue w.body h.0 h.1);
       written = λ w h. refl;
     })
 
-works_count : (name : List ℕ) (queue : ℕ)
-    → Codec (read_number w8 1 64 >>= λ count. many read_op count >>= λ body. done (work_with name queue body)) (λ w. in_order (number w8 (length w.body) ∷ flat_map op_image w.body ∷ []))
-    (λ w. (w.name ≡ name) × (w.queue.0 ≡ queue) × HasBodySize w × AllByRecursion IsOp w.body)
-works_count name queue =
-    one_then (read_number w8 1 64) (λ count. many read_op count >>= λ body. done (work_with name queue body)) (λ w. length w.body) (number w8) (InRange 1 64)
-    (λ w. in_order (flat_map op_image w.body ∷ [])) (λ count w. (w.name ≡ name) × (w.queue.0 ≡ queue) × Each IsOp count w.body)
+works_count : (version : ℕ) (name : List ℕ) (queue : ℕ)
+    → Codec (read_number w8 1 64 >>= λ count. many (read_op version) count >>= λ body. done (work_with name queue body)) (λ w. in_order (number w8 (length w.body) ∷ flat_map op_image w.body ∷ []))
+    (λ w. (w.name ≡ name) × (w.queue.0 ≡ queue) × HasBodySize w × AllByRecursion (OpFits version) w.body)
+works_count version name queue =
+    one_then (read_number w8 1 64) (λ count. many (read_op version) count >>= λ body. done (work_with name queue body)) (λ w. length w.body) (number w8) (InRange 1 64)
+    (λ w. in_order (flat_map op_image w.body ∷ [])) (λ count w. (w.name ≡ name) × (w.queue.0 ≡ queue) × Each (OpFits version) count w.body)
     (λ w. in_order (number w8 (length w.body) ∷ flat_map op_image w.body ∷ []))
-    (λ w. (w.name ≡ name) × (w.queue.0 ≡ queue) × HasBodySize w × AllByRecursion IsOp w.body)
-    (bytes_of 1 64 (omega arith) (omega arith)) (λ count fits. works_body name queue count) (record {
+    (λ w. (w.name ≡ name) × (w.queue.0 ≡ queue) × HasBodySize w × AllByRecursion (OpFits version) w.body)
+    (bytes_of 1 64 (omega arith) (omega arith)) (λ count fits. works_body version name queue count) (record {
       join = λ count w fits h. (h.2.0, (h.0, h.1, (omega (arith, h.2.0, fits.0), omega (arith, h.2.0, fits.1)), h.2.1));
       cut = λ w h. ((h.2.0, h.2.1), (h.0, h.1, (refl, h.3)));
       written = λ w h. refl;
     })
 
-works_queue : (name : List ℕ)
-    → Codec (read_byte >>= λ queue. read_number w8 1 64 >>= λ count. many read_op count >>= λ body. done (work_with name queue body))
+works_queue : (version : ℕ) (name : List ℕ)
+    → Codec (read_byte >>= λ queue. read_number w8 1 64 >>= λ count. many (read_op version) count >>= λ body. done (work_with name queue body))
     (λ w. in_order (number w8 w.queue.0 ∷ number w8 (length w.body) ∷ flat_map op_image w.body ∷ []))
-    (λ w. (w.name ≡ name) × (w.queue.0 ≤ 255) × HasBodySize w × AllByRecursion IsOp w.body)
-works_queue name =
-    one_then read_byte (λ queue. read_number w8 1 64 >>= λ count. many read_op count >>= λ body. done (work_with name queue body)) (λ w. w.queue.0) (number w8) (InRange 0 255)
-    (λ w. in_order (number w8 (length w.body) ∷ flat_map op_image w.body ∷ [])) (λ queue w. (w.name ≡ name) × (w.queue.0 ≡ queue) × HasBodySize w × AllByRecursion IsOp w.body)
+    (λ w. (w.name ≡ name) × (w.queue.0 ≤ 255) × HasBodySize w × AllByRecursion (OpFits version) w.body)
+works_queue version name =
+    one_then read_byte (λ queue. read_number w8 1 64 >>= λ count. many (read_op version) count >>= λ body. done (work_with name queue body)) (λ w. w.queue.0) (number w8) (InRange 0 255)
+    (λ w. in_order (number w8 (length w.body) ∷ flat_map op_image w.body ∷ [])) (λ queue w. (w.name ≡ name) × (w.queue.0 ≡ queue) × HasBodySize w × AllByRecursion (OpFits version) w.body)
     (λ w. in_order (number w8 w.queue.0 ∷ number w8 (length w.body) ∷ flat_map op_image w.body ∷ []))
-    (λ w. (w.name ≡ name) × (w.queue.0 ≤ 255) × HasBodySize w × AllByRecursion IsOp w.body)
-    (bytes_of 0 255 (omega arith) (omega arith)) (λ queue fits. works_count name queue) (record {
+    (λ w. (w.name ≡ name) × (w.queue.0 ≤ 255) × HasBodySize w × AllByRecursion (OpFits version) w.body)
+    (bytes_of 0 255 (omega arith) (omega arith)) (λ queue fits. works_count version name queue) (record {
       join = λ queue w fits h. (h.1, (h.0, omega (arith, h.1, fits.1), h.2, h.3));
       cut = λ w h. ((omega arith, h.1), (h.0, refl, h.2, h.3));
       written = λ w h. refl;
     })
 
-pub works : Codec read_work work_image (λ w. IsWorkDecl w × HasBodySize w)
+abbrev WorkFits : ℕ → WorkContents → Type 0
+WorkFits version w = IsWorkDecl w × (HasBodySize w × AllByRecursion (IsOpOf version) w.body)
+
+pub works : (version : ℕ) → Codec (read_work version) work_image (WorkFits version)
 unfolding read_work
-works =
-    one_then read_name (λ name. read_byte >>= λ queue. read_number w8 1 64 >>= λ count. many read_op count >>= λ body. done (work_with name queue body)) (λ w. w.name) name_field (λ name. IsTrue (is_name name))
-    (λ w. in_order (number w8 w.queue.0 ∷ number w8 (length w.body) ∷ flat_map op_image w.body ∷ [])) (λ name w. (w.name ≡ name) × (w.queue.0 ≤ 255) × HasBodySize w × AllByRecursion IsOp w.body)
-    work_image (λ w. IsWorkDecl w × HasBodySize w)
-    names (λ name fits. works_queue name) (record {
-      join = λ name w fits h. (h.0, (record { name = ap is_name h.0 ∙ fits; queue = omega (arith, h.1); body = h.3 }, h.2));
-      cut = λ w h. (h.0.name, (refl, omega (arith, h.0.queue), h.1, h.0.body));
+works version =
+    one_then read_name (λ name. read_byte >>= λ queue. read_number w8 1 64 >>= λ count. many (read_op version) count >>= λ body. done (work_with name queue body)) (λ w. w.name) name_field (λ name. IsTrue (is_name name))
+    (λ w. in_order (number w8 w.queue.0 ∷ number w8 (length w.body) ∷ flat_map op_image w.body ∷ [])) (λ name w. (w.name ≡ name) × (w.queue.0 ≤ 255) × HasBodySize w × AllByRecursion (OpFits version) w.body)
+    work_image (WorkFits version)
+    names (λ name fits. works_queue version name) (record {
+      join = λ name w fits h. (
+        h.0,
+        (
+          record { name = ap is_name h.0 ∙ fits; queue = omega (arith, h.1); body = all_are (OpFits version) IsOp (λ o is. is.0) w.body h.3 },
+          (h.2, all_are (OpFits version) (IsOpOf version) (λ o is. is.1) w.body h.3),
+        ),
+      );
+      cut = λ w h. (h.0.name, (refl, omega (arith, h.0.queue), h.1.0, both_all IsOp (IsOpOf version) w.body h.0.body h.1.1));
       written = λ w h. refl;
     })
 
@@ -289,9 +298,6 @@ abbrev scenario_with : Head → List QueueDecl → List WorkContents → List Ac
 scenario_with head queues works actors =
     record { cpus = head.cpus; workers = head.workers; steps = head.steps; flushes = head.flushes; queues = queues; works = works; actors = actors }
 
-abbrev WorkFits : WorkContents → Type 0
-WorkFits w = IsWorkDecl w × HasBodySize w
-
 abbrev with_numbers : (cpus workers steps flushes : ℕ) → List QueueDecl → List WorkContents → List ActorContents → ScenarioContents
 with_numbers cpus workers steps flushes queues works actors =
     record { cpus = cpus; workers = workers; steps = steps; flushes = flushes; queues = queues; works = works; actors = actors }
@@ -333,30 +339,30 @@ scenarios_actors version head queues works =
     })
 
 scenarios_works : (version : ℕ) (head : Head) (queues : List QueueDecl)
-    → Codec (many read_work head.works >>= λ works. many (read_actor version) head.actors >>= λ actors. done (scenario_with head queues works actors))
+    → Codec (many (read_work version) head.works >>= λ works. many (read_actor version) head.actors >>= λ actors. done (scenario_with head queues works actors))
     (λ S. in_order (flat_map work_image S.works ∷ flat_map actor_image S.actors ∷ []))
-    (λ S. NumbersAre head S × (S.queues ≡ queues) × Each WorkFits head.works S.works × Each (ActorFits version) head.actors S.actors)
+    (λ S. NumbersAre head S × (S.queues ≡ queues) × Each (WorkFits version) head.works S.works × Each (ActorFits version) head.actors S.actors)
 scenarios_works version head queues =
-    one_then (many read_work head.works) (λ works. many (read_actor version) head.actors >>= λ actors. done (scenario_with head queues works actors)) (λ S. S.works) (flat_map work_image) (Each WorkFits head.works)
+    one_then (many (read_work version) head.works) (λ works. many (read_actor version) head.actors >>= λ actors. done (scenario_with head queues works actors)) (λ S. S.works) (flat_map work_image) (Each (WorkFits version) head.works)
     (λ S. in_order (flat_map actor_image S.actors ∷ [])) (λ works S. NumbersAre head S × (S.queues ≡ queues) × (S.works ≡ works) × Each (ActorFits version) head.actors S.actors)
     (λ S. in_order (flat_map work_image S.works ∷ flat_map actor_image S.actors ∷ []))
-    (λ S. NumbersAre head S × (S.queues ≡ queues) × Each WorkFits head.works S.works × Each (ActorFits version) head.actors S.actors)
-    (many_of read_work work_image WorkFits works head.works) (λ works fits. scenarios_actors version head queues works) (record {
-      join = λ works S fits h. (h.2, (h.0, h.1, subst (Each WorkFits head.works) (sym h.2) fits, h.3));
+    (λ S. NumbersAre head S × (S.queues ≡ queues) × Each (WorkFits version) head.works S.works × Each (ActorFits version) head.actors S.actors)
+    (many_of (read_work version) work_image (WorkFits version) (works version) head.works) (λ works fits. scenarios_actors version head queues works) (record {
+      join = λ works S fits h. (h.2, (h.0, h.1, subst (Each (WorkFits version) head.works) (sym h.2) fits, h.3));
       cut = λ S h. (h.2, (h.0, h.1, refl, h.3));
       written = λ S h. refl;
     })
 
 scenarios_queues : (version : ℕ) (head : Head)
-    → Codec (many (read_queue version) head.queues >>= λ queues. many read_work head.works >>= λ works. many (read_actor version) head.actors >>= λ actors. done (scenario_with head queues works actors))
+    → Codec (many (read_queue version) head.queues >>= λ queues. many (read_work version) head.works >>= λ works. many (read_actor version) head.actors >>= λ actors. done (scenario_with head queues works actors))
     (λ S. in_order (flat_map queue_image S.queues ∷ flat_map work_image S.works ∷ flat_map actor_image S.actors ∷ []))
-    (λ S. NumbersAre head S × Each (QueueFits version) head.queues S.queues × Each WorkFits head.works S.works × Each (ActorFits version) head.actors S.actors)
+    (λ S. NumbersAre head S × Each (QueueFits version) head.queues S.queues × Each (WorkFits version) head.works S.works × Each (ActorFits version) head.actors S.actors)
 scenarios_queues version head =
-    one_then (many (read_queue version) head.queues) (λ queues. many read_work head.works >>= λ works. many (read_actor version) head.actors >>= λ actors. done (scenario_with head queues works actors)) (λ S. S.queues) (flat_map queue_image) (Each (QueueFits version) head.queues)
+    one_then (many (read_queue version) head.queues) (λ queues. many (read_work version) head.works >>= λ works. many (read_actor version) head.actors >>= λ actors. done (scenario_with head queues works actors)) (λ S. S.queues) (flat_map queue_image) (Each (QueueFits version) head.queues)
     (λ S. in_order (flat_map work_image S.works ∷ flat_map actor_image S.actors ∷ []))
-    (λ queues S. NumbersAre head S × (S.queues ≡ queues) × Each WorkFits head.works S.works × Each (ActorFits version) head.actors S.actors)
+    (λ queues S. NumbersAre head S × (S.queues ≡ queues) × Each (WorkFits version) head.works S.works × Each (ActorFits version) head.actors S.actors)
     (λ S. in_order (flat_map queue_image S.queues ∷ flat_map work_image S.works ∷ flat_map actor_image S.actors ∷ []))
-    (λ S. NumbersAre head S × Each (QueueFits version) head.queues S.queues × Each WorkFits head.works S.works × Each (ActorFits version) head.actors S.actors)
+    (λ S. NumbersAre head S × Each (QueueFits version) head.queues S.queues × Each (WorkFits version) head.works S.works × Each (ActorFits version) head.actors S.actors)
     (many_of (read_queue version) queue_image (QueueFits version) (queues version) head.queues) (λ queues fits. scenarios_works version head queues) (record {
       join = λ queues S fits h. (h.1, (h.0, subst (Each (QueueFits version) head.queues) (sym h.1) fits, h.2, h.3));
       cut = λ S h. (h.1, (h.0, refl, h.2, h.3));
@@ -372,10 +378,11 @@ pub record HasParts (version : ℕ) (S : ScenarioContents) : Type 0 where
   pub contents : IsScenario S
   pub sized : HasSize S
   pub queues : AreQueuesOf version S.queues
+  pub bodies : AreBodiesOf version S.works
   pub lines : AreLinesOf version S.actors
 
 scenario_join : (version : ℕ) (head : Head) (S : ScenarioContents) → HeadFits head
-    → NumbersAre head S × Each (QueueFits version) head.queues S.queues × Each WorkFits head.works S.works × Each (ActorFits version) head.actors S.actors → (head_of S ≡ head) × HasParts version S
+    → NumbersAre head S × Each (QueueFits version) head.queues S.queues × Each (WorkFits version) head.works S.works × Each (ActorFits version) head.actors S.actors → (head_of S ≡ head) × HasParts version S
 scenario_join version head S fits h =
     let head_is : head_of S ≡ head =
     ap (λ x. head_with x S.workers S.steps S.flushes (length S.queues) (length S.works) (length S.actors)) h.0.0
@@ -393,23 +400,24 @@ scenario_join version head S fits h =
           steps = omega (arith, h.0.2, fits.2);
           flushes = omega (arith, h.0.3, fits.3);
           queues = all_are (QueueFits version) IsQueueDecl (λ q is. is.0) S.queues h.1.1;
-          works = all_are WorkFits IsWorkDecl (λ w is. is.0) S.works h.2.1;
+          works = all_are (WorkFits version) IsWorkDecl (λ w is. is.0) S.works h.2.1;
           actors = all_are (ActorFits version) IsActor (λ a is. is.0) S.actors h.3.1;
         };
         sized = record {
           queues = omega (arith, h.1.0, fits.4);
           works = omega (arith, h.2.0, fits.5);
           actors = omega (arith, h.3.0, fits.6);
-          bodies = all_are WorkFits HasBodySize (λ w is. is.1) S.works h.2.1;
+          bodies = all_are (WorkFits version) HasBodySize (λ w is. is.1.0) S.works h.2.1;
           lines = all_are (ActorFits version) HasLinesSize (λ a is. is.1.0) S.actors h.3.1;
         };
         queues = all_are (QueueFits version) (IsQueueOf version) (λ q is. is.1) S.queues h.1.1;
+        bodies = all_are (WorkFits version) (λ w. AllByRecursion (IsOpOf version) w.body) (λ w is. is.1.1) S.works h.2.1;
         lines = all_are (ActorFits version) (λ a. AllByRecursion (IsLineOf version) a.lines) (λ a is. is.1.1) S.actors h.3.1;
       },
     )
 
 scenario_cut : (version : ℕ) (S : ScenarioContents) → HasParts version S
-    → HeadFits (head_of S) × (NumbersAre (head_of S) S × Each (QueueFits version) (length S.queues) S.queues × Each WorkFits (length S.works) S.works × Each (ActorFits version) (length S.actors) S.actors)
+    → HeadFits (head_of S) × (NumbersAre (head_of S) S × Each (QueueFits version) (length S.queues) S.queues × Each (WorkFits version) (length S.works) S.works × Each (ActorFits version) (length S.actors) S.actors)
 scenario_cut version S h = (
   (
     omega (arith, h.contents.cpus),
@@ -423,7 +431,11 @@ scenario_cut version S h = (
   (
     (refl, refl, refl, refl),
     (refl, both_all IsQueueDecl (IsQueueOf version) S.queues h.contents.queues h.queues),
-    (refl, both_all IsWorkDecl HasBodySize S.works h.contents.works h.sized.bodies),
+    (
+      refl,
+      both_all IsWorkDecl (λ w. HasBodySize w × AllByRecursion (IsOpOf version) w.body) S.works h.contents.works
+          (both_all HasBodySize (λ w. AllByRecursion (IsOpOf version) w.body) S.works h.sized.bodies h.bodies),
+    ),
     (
       refl,
       both_all IsActor (λ a. HasLinesSize a × AllByRecursion (IsLineOf version) a.lines) S.actors h.contents.actors
@@ -435,13 +447,13 @@ scenario_cut version S h = (
 -- what stands behind the version is read
 abbrev pub parts_at : ℕ → Reader ScenarioContents
 parts_at version =
-    read_head >>= λ head. many (read_queue version) head.queues >>= λ queues. many read_work head.works >>= λ works. many (read_actor version) head.actors >>= λ actors. done (scenario_with head queues works actors)
+    read_head >>= λ head. many (read_queue version) head.queues >>= λ queues. many (read_work version) head.works >>= λ works. many (read_actor version) head.actors >>= λ actors. done (scenario_with head queues works actors)
 
 parts : (version : ℕ) → Codec (parts_at version) parts_image (HasParts version)
 parts version =
-    one_then read_head (λ head. many (read_queue version) head.queues >>= λ queues. many read_work head.works >>= λ works. many (read_actor version) head.actors >>= λ actors. done (scenario_with head queues works actors)) head_of head_bytes HeadFits
+    one_then read_head (λ head. many (read_queue version) head.queues >>= λ queues. many (read_work version) head.works >>= λ works. many (read_actor version) head.actors >>= λ actors. done (scenario_with head queues works actors)) head_of head_bytes HeadFits
     (λ S. in_order (flat_map queue_image S.queues ∷ flat_map work_image S.works ∷ flat_map actor_image S.actors ∷ []))
-    (λ head S. NumbersAre head S × Each (QueueFits version) head.queues S.queues × Each WorkFits head.works S.works × Each (ActorFits version) head.actors S.actors)
+    (λ head S. NumbersAre head S × Each (QueueFits version) head.queues S.queues × Each (WorkFits version) head.works S.works × Each (ActorFits version) head.actors S.actors)
     parts_image (HasParts version)
     heads (λ head fits. scenarios_queues version head) (record {
       join = λ head S fits h. scenario_join version head S fits h;
@@ -496,11 +508,12 @@ images =
             first = omega (arith, h.0, fits.0);
             last = omega (arith, h.0, fits.1);
             queues = subst (λ v. AreQueuesOf v p.1.queues) (sym h.0) h.1.queues;
+            bodies = subst (λ v. AreBodiesOf v p.1.works) (sym h.0) h.1.bodies;
             lines = subst (λ v. AreLinesOf v p.1.actors) (sym h.0) h.1.lines;
           };
         },
       );
-      cut = λ p h. ((h.has.first, h.has.last), (refl, record { contents = h.contents; sized = h.sized; queues = h.has.queues; lines = h.has.lines }));
+      cut = λ p h. ((h.has.first, h.has.last), (refl, record { contents = h.contents; sized = h.sized; queues = h.has.queues; bodies = h.has.bodies; lines = h.has.lines }));
       written = λ p h. refl;
     })
 

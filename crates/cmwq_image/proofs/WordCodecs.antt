@@ -8,8 +8,8 @@ use Rattle.cmwq_types.specs.declared.instr.Instr.{Instr}
 use Rattle.cmwq_types.specs.declared.instr.Instr.TheVariants as instr
 use Rattle.cmwq_types.specs.declared.scenario.Op.{Op}
 use Rattle.cmwq_types.specs.declared.scenario.Op.TheVariants as op
-use Rattle.cmwq_image.specs.Image.{in_order, number, word, word_image, op_word, instr_word, last_tag, tag_of}
-use Rattle.cmwq_image.specs.ImageFault.{◌>>=◌, done, field, read_number, op_tag_of, op_room, op_of, read_op, first_tagged, tagged, instr_room, shape_room, read_instr}
+use Rattle.cmwq_image.specs.Image.{in_order, number, word, word_image, op_word, instr_word, last_op_tag, last_tag, tag_of}
+use Rattle.cmwq_image.specs.ImageFault.{◌>>=◌, done, field, read_number, op_tag_of, op_tagged, op_room, op_of, read_op, first_tagged, tagged, instr_room, shape_room, read_instr}
 use Rattle.cmwq_types.proofs.FieldLemmas.{word_again}
 use Rattle.cmwq_types.specs.Fields.{fields, fields_of, instr_of, shape_of, word_of}
 use Rattle.cmwq_types.specs.Mnemonics.{mnemonics}
@@ -171,6 +171,17 @@ at_most n high h = grind (arith, nat_tests)
 is_at_most : (n high : ℕ) → n ≤ high → nat_le n high ≡ true
 is_at_most n high h = grind (arith, nat_tests)
 
+-- what is found up to a last tag
+up_to : {T : Type 0} (n last : ℕ) (found : Option T) (t : T) → cond (nat_le n last) found None ≡ Some t → (found ≡ Some t) × (n ≤ last)
+up_to {T} n last found t e = go (nat_le n last) refl e
+  where
+    go : (b : Bool) → nat_le n last ≡ b → cond b found None ≡ Some t → (found ≡ Some t) × (n ≤ last)
+    go true small h = (h, at_most n last small)
+    go false large h = absurd cc
+
+is_up_to : {T : Type 0} (n last : ℕ) (found : Option T) → n ≤ last → cond (nat_le n last) found None ≡ found
+is_up_to n last found small = ap (λ b. cond b found None) (is_at_most n last small)
+
 -- words with the same fields
 plain : (tag cpu a n c b m : ℕ) → cpu ≡ c → a ≡ b → n ≡ m → word tag cpu a n ≡ word tag c b m
 plain tag cpu a n c b m e f g = ap (λ x. word tag x a n) e ∙ ap (λ x. word tag c x n) f ∙ ap (λ x. word tag c b x) g
@@ -182,66 +193,99 @@ op_code op_tag.Burn = 1
 op_code op_tag.Sleep = 2
 op_code op_tag.Queue = 3
 op_code op_tag.Finish = 4
+op_code op_tag.Delay = 5
+op_code op_tag.Mod = 6
+op_code op_tag.Cancel = 7
 
 abbrev op_tag_is : Op → OpTag
 op_tag_is (op.Burn ticks) = op_tag.Burn
 op_tag_is (op.Sleep ticks) = op_tag.Sleep
 op_tag_is (op.Queue work cpu) = op_tag.Queue
 op_tag_is op.Finish = op_tag.Finish
+op_tag_is (op.Delay work ticks) = op_tag.Delay
+op_tag_is (op.Mod work ticks) = op_tag.Mod
+op_tag_is (op.Cancel work) = op_tag.Cancel
 
 op_small : (t : OpTag) → op_code t < 256
 op_small op_tag.Burn = omega arith
 op_small op_tag.Sleep = omega arith
 op_small op_tag.Queue = omega arith
 op_small op_tag.Finish = omega arith
+op_small op_tag.Delay = omega arith
+op_small op_tag.Mod = omega arith
+op_small op_tag.Cancel = omega arith
 
 op_found : (t : OpTag) → op_tag_of (op_code t) ≡ Some t
 op_found op_tag.Burn = refl
 op_found op_tag.Sleep = refl
 op_found op_tag.Queue = refl
 op_found op_tag.Finish = refl
+op_found op_tag.Delay = refl
+op_found op_tag.Mod = refl
+op_found op_tag.Cancel = refl
 
 op_is_room : (t : OpTag) → IsRoom (op_room t)
 op_is_room op_tag.Burn = record { cpu_fits = omega arith; a_fits = omega arith; n_fits = omega arith }
 op_is_room op_tag.Sleep = record { cpu_fits = omega arith; a_fits = omega arith; n_fits = omega arith }
 op_is_room op_tag.Queue = record { cpu_fits = omega arith; a_fits = omega arith; n_fits = omega arith }
 op_is_room op_tag.Finish = record { cpu_fits = omega arith; a_fits = omega arith; n_fits = omega arith }
+op_is_room op_tag.Delay = record { cpu_fits = omega arith; a_fits = omega arith; n_fits = omega arith }
+op_is_room op_tag.Mod = record { cpu_fits = omega arith; a_fits = omega arith; n_fits = omega arith }
+op_is_room op_tag.Cancel = record { cpu_fits = omega arith; a_fits = omega arith; n_fits = omega arith }
 
-op_tagged : (x : Op) → (op_word x).tag ≡ op_code (op_tag_is x)
-op_tagged (op.Burn ticks) = refl
-op_tagged (op.Sleep ticks) = refl
-op_tagged (op.Queue work cpu) = refl
-op_tagged op.Finish = refl
+op_has_code : (x : Op) → (op_word x).tag ≡ op_code (op_tag_is x)
+op_has_code (op.Burn ticks) = refl
+op_has_code (op.Sleep ticks) = refl
+op_has_code (op.Queue work cpu) = refl
+op_has_code op.Finish = refl
+op_has_code (op.Delay work ticks) = refl
+op_has_code (op.Mod work ticks) = refl
+op_has_code (op.Cancel work) = refl
 
 op_within : (x : Op) → IsOp x → Within (op_room (op_tag_is x)) (op_word x).cpu (op_word x).a (op_word x).n
 op_within (op.Burn ticks) h = record { cpu_fits = omega arith; a_fits = omega arith; n_fits = omega arith }
 op_within (op.Sleep ticks) h = record { cpu_fits = omega arith; a_fits = omega arith; n_fits = omega arith }
 op_within (op.Queue work cpu) h = record { cpu_fits = omega arith; a_fits = omega arith; n_fits = omega arith }
 op_within op.Finish h = record { cpu_fits = omega arith; a_fits = omega arith; n_fits = omega arith }
+op_within (op.Delay work ticks) h = record { cpu_fits = omega arith; a_fits = omega arith; n_fits = omega arith }
+op_within (op.Mod work ticks) h = record { cpu_fits = omega arith; a_fits = omega arith; n_fits = omega arith }
+op_within (op.Cancel work) h = record { cpu_fits = omega arith; a_fits = omega arith; n_fits = omega arith }
 
-op_fits : (x : Op) → op_tag_of (op_code (op_tag_is x)) ≡ Some (op_tag_is x) → Within (op_room (op_tag_is x)) (op_word x).cpu (op_word x).a (op_word x).n → IsOp x
-op_fits (op.Burn ticks) found h = omega (arith, h.n_fits)
-op_fits (op.Sleep ticks) found h = omega (arith, h.n_fits)
-op_fits (op.Queue work cpu) found h = (omega (arith, h.a_fits), omega (arith, h.cpu_fits))
-op_fits op.Finish found h = tt
+op_fits : (x : Op) → Within (op_room (op_tag_is x)) (op_word x).cpu (op_word x).a (op_word x).n → IsOp x
+op_fits (op.Burn ticks) h = omega (arith, h.n_fits)
+op_fits (op.Sleep ticks) h = omega (arith, h.n_fits)
+op_fits (op.Queue work cpu) h = (omega (arith, h.a_fits), omega (arith, h.cpu_fits))
+op_fits op.Finish h = tt
+op_fits (op.Delay work ticks) h = (omega (arith, h.a_fits), omega (arith, h.n_fits))
+op_fits (op.Mod work ticks) h = (omega (arith, h.a_fits), omega (arith, h.n_fits))
+op_fits (op.Cancel work) h = omega (arith, h.a_fits)
 
 op_made_tag : (t : OpTag) (cpu a n : ℕ) → op_tag_is (op_of t cpu a n) ≡ t
 op_made_tag op_tag.Burn cpu a n = refl
 op_made_tag op_tag.Sleep cpu a n = refl
 op_made_tag op_tag.Queue cpu a n = refl
 op_made_tag op_tag.Finish cpu a n = refl
+op_made_tag op_tag.Delay cpu a n = refl
+op_made_tag op_tag.Mod cpu a n = refl
+op_made_tag op_tag.Cancel cpu a n = refl
 
 op_made_word : (t : OpTag) (cpu a n : ℕ) → Within (op_room t) cpu a n → op_word (op_of t cpu a n) ≡ word (op_code t) cpu a n
 op_made_word op_tag.Burn cpu a n h = plain 1 0 0 n cpu a n (omega (arith, h.cpu_fits)) (omega (arith, h.a_fits)) (omega (arith, h.n_fits))
 op_made_word op_tag.Sleep cpu a n h = plain 2 0 0 n cpu a n (omega (arith, h.cpu_fits)) (omega (arith, h.a_fits)) (omega (arith, h.n_fits))
 op_made_word op_tag.Queue cpu a n h = plain 3 cpu a 0 cpu a n (omega (arith, h.cpu_fits)) (omega (arith, h.a_fits)) (omega (arith, h.n_fits))
 op_made_word op_tag.Finish cpu a n h = plain 4 0 0 0 cpu a n (omega (arith, h.cpu_fits)) (omega (arith, h.a_fits)) (omega (arith, h.n_fits))
+op_made_word op_tag.Delay cpu a n h = plain 5 0 a n cpu a n (omega (arith, h.cpu_fits)) (omega (arith, h.a_fits)) (omega (arith, h.n_fits))
+op_made_word op_tag.Mod cpu a n h = plain 6 0 a n cpu a n (omega (arith, h.cpu_fits)) (omega (arith, h.a_fits)) (omega (arith, h.n_fits))
+op_made_word op_tag.Cancel cpu a n h = plain 7 0 a 0 cpu a n (omega (arith, h.cpu_fits)) (omega (arith, h.a_fits)) (omega (arith, h.n_fits))
 
 op_again : (x : Op) → op_of (op_tag_is x) (op_word x).cpu (op_word x).a (op_word x).n ≡ x
 op_again (op.Burn ticks) = refl
 op_again (op.Sleep ticks) = refl
 op_again (op.Queue work cpu) = refl
 op_again op.Finish = refl
+op_again (op.Delay work ticks) = refl
+op_again (op.Mod work ticks) = refl
+op_again (op.Cancel work) = refl
 
 op_known : (n : ℕ) (t : OpTag) → op_tag_of n ≡ Some t → n ≡ op_code t
 op_known n t =
@@ -249,27 +293,48 @@ op_known n t =
     pick op_code n 2 op_tag.Sleep t _ refl (
     pick op_code n 3 op_tag.Queue t _ refl (
     pick op_code n 4 op_tag.Finish t _ refl (
-    λ never. absurd cc))))
+    pick op_code n 5 op_tag.Delay t _ refl (
+    pick op_code n 6 op_tag.Mod t _ refl (
+    pick op_code n 7 op_tag.Cancel t _ refl (
+    λ never. absurd cc)))))))
 
-op_laws : WordLaws op_code op_tag_of op_room op_of op_tag_is op_word IsOp
-op_laws = record {
+-- the operation of a version
+abbrev pub OpFits : ℕ → Op → Type 0
+OpFits version o = IsOp o × ((op_word o).tag ≤ last_op_tag version)
+
+-- each version has the first tag
+burn_found : (version : ℕ) → op_tagged version 1 ≡ Some op_tag.Burn
+burn_found version = go (nat_le version 3)
+  where
+    go : (b : Bool) → cond (nat_le 1 (cond b 4 7)) (op_tag_of 1) None ≡ Some op_tag.Burn
+    go true = refl
+    go false = refl
+
+op_laws : (version : ℕ) → WordLaws op_code (op_tagged version) op_room op_of op_tag_is op_word (OpFits version)
+op_laws version = record {
   small = op_small;
-  known = op_known;
+  known = λ n t e. op_known n t (up_to n (last_op_tag version) (op_tag_of n) t e).0;
   some = op_tag.Burn;
-  some_found = refl;
+  some_found = burn_found version;
   is_room = op_is_room;
-  tagged = op_tagged;
-  found = λ x h. op_found (op_tag_is x);
-  within = op_within;
-  fits = op_fits;
+  tagged = op_has_code;
+  found = λ x h.
+      is_up_to (op_code (op_tag_is x)) (last_op_tag version) (op_tag_of (op_code (op_tag_is x))) (subst (λ n. n ≤ last_op_tag version) (op_has_code x) h.1)
+      ∙ op_found (op_tag_is x);
+  within = λ x h. op_within x h.0;
+  fits = λ x found h. (
+    op_fits x h,
+    subst (λ n. n ≤ last_op_tag version) (sym (op_has_code x))
+        (up_to (op_code (op_tag_is x)) (last_op_tag version) (op_tag_of (op_code (op_tag_is x))) (op_tag_is x) found).1,
+  );
   made_tag = op_made_tag;
   made_word = op_made_word;
   again = op_again;
 }
 
-pub ops : Codec read_op (λ x. word_image (op_word x)) IsOp
+pub ops : (version : ℕ) → Codec (read_op version) (λ x. word_image (op_word x)) (OpFits version)
 unfolding read_op
-ops = words op_code op_tag_of op_room op_of op_tag_is op_word IsOp op_laws
+ops version = words op_code (op_tagged version) op_room op_of op_tag_is op_word (OpFits version) (op_laws version)
 
 -- ---- instructions
 
@@ -328,17 +393,6 @@ made_of m cpu a n = instr_of m (fields cpu a n)
 abbrev pub InstrFits : ℕ → Instr → Type 0
 InstrFits version i = IsInstr i × ((instr_word i).tag ≤ last_tag version)
 
--- what the version has is in the table, up to its last tag
-found_in : (version n : ℕ) (t : Mnemonic) → tagged version n ≡ Some t → (first_tagged mnemonics n ≡ Some t) × (n ≤ last_tag version)
-found_in version n t e = go (nat_le n (last_tag version)) refl e
-  where
-    go : (b : Bool) → nat_le n (last_tag version) ≡ b → cond b (first_tagged mnemonics n) None ≡ Some t → (first_tagged mnemonics n ≡ Some t) × (n ≤ last_tag version)
-    go true small h = (h, at_most n (last_tag version) small)
-    go false large h = absurd cc
-
-is_found_in : (version n : ℕ) → n ≤ last_tag version → tagged version n ≡ first_tagged mnemonics n
-is_found_in version n small = ap (λ b. cond b (first_tagged mnemonics n) None) (is_at_most n (last_tag version) small)
-
 -- each version has the first tag
 queue_found : (version : ℕ) → tagged version 16 ≡ Some mnemonic.Queue
 queue_found version = go (eqb version 1) (eqb version 2) (eqb version 3)
@@ -352,16 +406,16 @@ queue_found version = go (eqb version 1) (eqb version 2) (eqb version 3)
 instr_laws : (version : ℕ) → WordLaws tag_of (tagged version) instr_room made_of word_of instr_word (InstrFits version)
 instr_laws version = record {
   small = instr_small;
-  known = λ n t e. first_known mnemonics n t (found_in version n t e).0;
+  known = λ n t e. first_known mnemonics n t (up_to n (last_tag version) (first_tagged mnemonics n) t e).0;
   some = mnemonic.Queue;
   some_found = queue_found version;
   is_room = instr_is_room;
   tagged = λ x. refl;
-  found = λ x h. is_found_in version (tag_of (word_of x)) (h.1) ∙ instr_found (word_of x);
+  found = λ x h. is_up_to (tag_of (word_of x)) (last_tag version) (first_tagged mnemonics (tag_of (word_of x))) h.1 ∙ instr_found (word_of x);
   within = λ x h. instr_within x h.0;
   fits = λ x found h. (
     instr_fits x h,
-    (found_in version (tag_of (word_of x)) (word_of x) found).1,
+    (up_to (tag_of (word_of x)) (last_tag version) (first_tagged mnemonics (tag_of (word_of x))) (word_of x) found).1,
   );
   made_tag = instr_made_tag;
   made_word = instr_made_word;

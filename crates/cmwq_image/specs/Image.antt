@@ -61,6 +61,13 @@ op_word (op.Burn ticks) = word 1 0 0 ticks
 op_word (op.Sleep ticks) = word 2 0 0 ticks
 op_word (op.Queue work cpu) = word 3 cpu work.0 0
 op_word op.Finish = word 4 0 0 0
+op_word (op.Delay work ticks) = word 5 0 work.0 ticks
+op_word (op.Mod work ticks) = word 6 0 work.0 ticks
+op_word (op.Cancel work) = word 7 0 work.0 0
+
+-- the last tag of an operation that a version has
+abbrev pub last_op_tag : ℕ → ℕ
+last_op_tag version = if nat_le version THIRD_VERSION then 4 else 7
 
 -- the tag of an instruction's word
 abbrev pub tag_of : Mnemonic → ℕ
@@ -127,7 +134,7 @@ head_image version S =
     in_order (magic ∷ number w16 version ∷ number w8 S.cpus ∷ number w8 S.workers ∷ number w32 S.steps ∷ number w16 S.flushes
     ∷ number w8 (length S.queues) ∷ number w16 (length S.works) ∷ number w8 (length S.actors) ∷ [])
 
--- the bytes of a scenario in this version, if the version has its flags and its instructions
+-- the bytes of a scenario in this version, if the version has its flags, its operations and its instructions
 abbrev pub image : ℕ → ScenarioContents → List ℕ
 image version S =
     in_order (head_image version S ∷ flat_map queue_image S.queues ∷ flat_map work_image S.works ∷ flat_map actor_image S.actors ∷ [])

@@ -18,7 +18,7 @@ use Rattle.cmwq_types.specs.declared.scenario.Line.{Line}
 use Rattle.cmwq_types.specs.declared.scenario.Op.{Op}
 use Rattle.cmwq_types.specs.declared.scenario.Op.TheVariants as op
 use Rattle.cmwq_types.specs.declared.scenario.QueueDecl.{QueueDecl}
-use Rattle.cmwq_image.specs.Image.{all_flags, last_tag, magic, name_field, tag_of}
+use Rattle.cmwq_image.specs.Image.{all_flags, last_op_tag, last_tag, magic, name_field, tag_of}
 use Rattle.cmwq_image.specs.declared.error.ImageError.{ImageError}
 use Rattle.cmwq_image.specs.declared.error.ImageError.TheVariants as errors
 use Rattle.cmwq_image.specs.declared.head.Head.{Head}
@@ -136,13 +136,23 @@ op_tag_of n =
     else (if n == 2 then Some op_tag.Sleep
     else (if n == 3 then Some op_tag.Queue
     else (if n == 4 then Some op_tag.Finish
-    else None)))
+    else (if n == 5 then Some op_tag.Delay
+    else (if n == 6 then Some op_tag.Mod
+    else (if n == 7 then Some op_tag.Cancel
+    else None))))))
+
+-- the tag with this number, if the version has it
+abbrev pub op_tagged : (version n : ℕ) → Option OpTag
+op_tagged version n = if nat_le n (last_op_tag version) then op_tag_of n else None
 
 abbrev pub op_room : OpTag → FieldRoom
 op_room op_tag.Burn = room 0 0 4294967295
 op_room op_tag.Sleep = room 0 0 4294967295
 op_room op_tag.Queue = room 255 65535 0
 op_room op_tag.Finish = room 0 0 0
+op_room op_tag.Delay = room 0 65535 4294967295
+op_room op_tag.Mod = room 0 65535 4294967295
+op_room op_tag.Cancel = room 0 65535 0
 
 -- the operation of a tag, with the fields of its word
 abbrev pub op_of : OpTag → (cpu a n : ℕ) → Op
@@ -150,13 +160,16 @@ op_of op_tag.Burn cpu a n = op.Burn n
 op_of op_tag.Sleep cpu a n = op.Sleep n
 op_of op_tag.Queue cpu a n = op.Queue (record { 0 = a }) cpu
 op_of op_tag.Finish cpu a n = op.Finish
+op_of op_tag.Delay cpu a n = op.Delay (record { 0 = a }) n
+op_of op_tag.Mod cpu a n = op.Mod (record { 0 = a }) n
+op_of op_tag.Cancel cpu a n = op.Cancel (record { 0 = a })
 
-abbrev pub read_op_tag : Reader OpTag
-read_op_tag = field errors.BadField 1 (λ bytes. op_tag_of (from_be_bytes w8 bytes))
+abbrev pub read_op_tag : ℕ → Reader OpTag
+read_op_tag version = field errors.BadField 1 (λ bytes. op_tagged version (from_be_bytes w8 bytes))
 
-unfoldable pub read_op : Reader Op
-read_op = do
-  tag ← read_op_tag
+unfoldable pub read_op : ℕ → Reader Op
+read_op version = do
+  tag ← read_op_tag version
   cpu ← read_number w8 0 (op_room tag).cpu
   a ← read_number w16 0 (op_room tag).a
   n ← read_number w32 0 (op_room tag).n
@@ -199,12 +212,12 @@ read_instr version = do
 
 -- Works and actors.
 
-unfoldable pub read_work : Reader WorkContents
-read_work = do
+unfoldable pub read_work : ℕ → Reader WorkContents
+read_work version = do
   name ← read_name
   queue ← read_byte
   ops ← read_number w8 1 MAX_OPS
-  body ← many read_op ops
+  body ← many (read_op version) ops
   done (record { name = name; queue = record { 0 = queue }; body = body })
 
 unfoldable pub read_line : ℕ → Reader Line
@@ -240,7 +253,7 @@ scenario_at = do
   version ← read_version
   head ← read_head
   queues ← many (read_queue version) head.queues
-  works ← many read_work head.works
+  works ← many (read_work version) head.works
   actors ← many (read_actor version) head.actors
   done (record {
     cpus = head.cpus;

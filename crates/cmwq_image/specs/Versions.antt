@@ -1,12 +1,14 @@
 -- Which versions a scenario has, and what its images are.
 use Rattle.std.specs.Prelude.{◌≡◌, ℕ, ◌≤◌, false, List}
 use Rattle.std.specs.List.{AllByRecursion}
-use Rattle.cmwq_types.specs.Contents.{ScenarioContents, ActorContents}
+use Rattle.cmwq_types.specs.Contents.{ScenarioContents, WorkContents, ActorContents}
 use Rattle.cmwq_types.specs.declared.instr.Instr.{Instr}
 use Rattle.cmwq_types.specs.declared.instr.Instr.TheVariants as instr
 use Rattle.cmwq_types.specs.declared.scenario.Line.{Line}
+use Rattle.cmwq_types.specs.declared.scenario.Op.{Op}
+use Rattle.cmwq_types.specs.declared.scenario.Op.TheVariants as op
 use Rattle.cmwq_types.specs.declared.scenario.QueueDecl.{QueueDecl}
-use Rattle.cmwq_image.specs.Image.{all_flags, flag_bits, image, instr_word, last_tag}
+use Rattle.cmwq_image.specs.Image.{all_flags, flag_bits, image, instr_word, last_op_tag, last_tag, op_word}
 use Rattle.cmwq_image.specs.declared.version.TheConstants.{FIRST_VERSION, VERSION}
 
 -- the queue's flags are among the version's
@@ -17,6 +19,14 @@ IsQueueOf version queue = flag_bits queue.flags ≤ all_flags version
 abbrev pub AreQueuesOf : ℕ → List QueueDecl → Type 0
 AreQueuesOf version queues = AllByRecursion (IsQueueOf version) queues
 
+-- the operation's tag is one of the version's
+abbrev pub IsOpOf : ℕ → Op → Type 0
+IsOpOf version op = (op_word op).tag ≤ last_op_tag version
+
+-- so are those of all operations
+abbrev pub AreBodiesOf : ℕ → List WorkContents → Type 0
+AreBodiesOf version works = AllByRecursion (λ work. AllByRecursion (IsOpOf version) work.body) works
+
 -- the tag of the line's instruction is one of the version's
 abbrev pub IsLineOf : ℕ → Line → Type 0
 IsLineOf version line = (instr_word line.instr).tag ≤ last_tag version
@@ -25,11 +35,12 @@ IsLineOf version line = (instr_word line.instr).tag ≤ last_tag version
 abbrev pub AreLinesOf : ℕ → List ActorContents → Type 0
 AreLinesOf version actors = AllByRecursion (λ actor. AllByRecursion (IsLineOf version) actor.lines) actors
 
--- this is a version, and it has the scenario's flags and instructions
+-- this is a version, and it has the scenario's flags, operations and instructions
 pub record HasVersion (S : ScenarioContents) (version : ℕ) : Type 0 where
   pub first : FIRST_VERSION ≤ version
   pub last : version ≤ VERSION
   pub queues : AreQueuesOf version S.queues
+  pub bodies : AreBodiesOf version S.works
   pub lines : AreLinesOf version S.actors
 
 -- the bytes are the scenario's image in one of its versions
@@ -39,6 +50,10 @@ pub record IsImageOf (bytes : List ℕ) (S : ScenarioContents) : Type 0 where
   pub written : bytes ≡ image version S
 
 -- Which scenarios have an older version.
+
+-- each operation of these works is so
+abbrev pub EachOp : (Op → Type 0) → List WorkContents → Type 0
+EachOp Is works = AllByRecursion (λ work. AllByRecursion Is work.body) works
 
 -- each instruction of these actors is so
 abbrev pub EachInstr : (Instr → Type 0) → List ActorContents → Type 0
@@ -70,6 +85,16 @@ GoesOnForNothing (instr.Until time) = ⊥
 GoesOnForNothing (instr.Wait flush) = ⊥
 GoesOnForNothing instr.Quiet = ⊥
 GoesOnForNothing _ = Unit {0}
+
+abbrev pub NeitherDelaysNorCancels : Op → Type 0
+NeitherDelaysNorCancels (op.Delay work ticks) = ⊥
+NeitherDelaysNorCancels (op.Mod work ticks) = ⊥
+NeitherDelaysNorCancels (op.Cancel work) = ⊥
+NeitherDelaysNorCancels _ = Unit {0}
+
+-- no body delays, mods or cancels a work
+abbrev pub BodiesNeverDelay : ScenarioContents → Type 0
+BodiesNeverDelay S = EachOp NeitherDelaysNorCancels S.works
 
 -- no actor gives `until`, `wait` or `quiet`
 abbrev pub NeverGoesOn : ScenarioContents → Type 0

@@ -5,6 +5,7 @@ use Rattle.cmwq_types.specs.Scenario.{plain_flags}
 use Rattle.cmwq_types.specs.declared.instr.Instr.{Instr}
 use Rattle.cmwq_types.specs.declared.instr.Instr.TheVariants as instr
 use Rattle.cmwq_types.specs.declared.scenario.Line.{Line}
+use Rattle.cmwq_types.specs.declared.scenario.Op.{Op}
 use Rattle.cmwq_types.specs.declared.scenario.Op.TheVariants as op
 use Rattle.cmwq_types.specs.declared.scenario.QueueDecl.{QueueDecl}
 use Rattle.cmwq_image.specs.Image.{in_order}
@@ -41,6 +42,10 @@ ending_with last =
 -- the last line is `state a`
 abbrev pub worked_scenario : ScenarioContents
 worked_scenario = ending_with (instr.State (record { 0 = 0 }))
+
+-- the body begins with this operation
+abbrev pub beginning_with : Op → ScenarioContents
+beginning_with first = record worked_scenario { works = record worked_work { body = first ∷ op.Finish ∷ [] } ∷ [] }
 
 -- the last line is `disable a`
 abbrev pub disabling_scenario : ScenarioContents
@@ -98,3 +103,7 @@ worked_image = in_order (worked_head ∷ worked_queue_bytes ∷ worked_work_byte
 -- the same with this number in the place of the version
 abbrev pub in_version : ℕ → List ℕ
 in_version version = slice_set worked_image 5 version
+
+-- the same with this number in the place of the tag of the body's first operation
+abbrev pub with_op_tag : ℕ → List ℕ → List ℕ
+with_op_tag tag bytes = slice_set bytes 56 tag

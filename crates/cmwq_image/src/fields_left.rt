@@ -6,7 +6,7 @@ ghost use Rattle.std.specs.Prelude.{◌≡◌, ◌+◌, ◌≤◌, ◌==◌, IfO
 ghost use Rattle.cmwq_image.specs.declared.error.ImageError.TheVariants as errors;
 
 use crate::error::ImageError;
-use crate::tags::{OpTag, tagged};
+use crate::tags::{OpTag, op_tagged, tagged};
 use crate::version::{FIRST_VERSION, VERSION};
 use cmwq_types::{MAX_NAME, Mnemonic, Name};
 use std::marker::Model;
@@ -134,15 +134,15 @@ impl<'a> FieldsLeft<'a> {
         name_in_field(bytes).ok_or(ImageError::BadField(at))
     }
 
-    /// The tag of an operation.
-    pub(crate) fn op_tag(&mut self) -> Result<OpTag, ImageError>
+    /// The tag of an operation, one that the version has.
+    pub(crate) fn op_tag(&mut self, version: u16) -> Result<OpTag, ImageError>
         requires { self.old.at + 1 ≤ u32.MAX }
-        ensures read { GivesRead (λ tag. (tag, self.new)) result (read_op_tag self.old) }
+        ensures read { GivesRead (λ tag. (tag, self.new)) result (read_op_tag version self.old) }
         ensures ahead { OnOk result (self.new.at ≡ self.old.at + 1) }
     {
         let at = self.at;
         let bytes = self.take(1)?;
-        OpTag::of(u8::from_be_bytes([bytes[0]])).ok_or(ImageError::BadField(at))
+        op_tagged(version, u8::from_be_bytes([bytes[0]])).ok_or(ImageError::BadField(at))
     }
 
     /// The word of an instruction whose tag the version has.

@@ -76,52 +76,57 @@ impl<'a> FieldsLeft<'a> {
         Ok(QueueDecl { name, max, flags })
     }
 
-    /// So many works.
-    pub(crate) fn works(&mut self, alloc: Global, count: u16) -> Result<Vec<WorkDecl>, ImageError>
+    /// So many works, with operations of the version.
+    pub(crate) fn works(
+        &mut self,
+        alloc: Global,
+        version: u16,
+        count: u16,
+    ) -> Result<Vec<WorkDecl>, ImageError>
         requires { self.old.at + 530 * count ≤ u32.MAX }
-        ensures read { GivesRead (λ works. (works.items, self.new)) result (many read_work count self.old) }
+        ensures read { GivesRead (λ works. (works.items, self.new)) result (many (read_work version) count self.old) }
         ensures ahead { OnOk result (self.new.at ≤ self.old.at + 530 * count) }
     {
         let mut works = Vec::new(alloc);
         for _ in 0..count {
-            works.push(self.work(alloc)?)?;
+            works.push(self.work(alloc, version)?)?;
         }
         Ok(works)
     }
 
     #[tactic(auto, unfolding(crate::specs::ImageFault::read_work))]
-    fn work(&mut self, alloc: Global) -> Result<WorkDecl, ImageError>
+    fn work(&mut self, alloc: Global, version: u16) -> Result<WorkDecl, ImageError>
         requires { self.old.at + 530 ≤ u32.MAX }
-        ensures read { GivesRead (λ work. (work, self.new)) result (read_work self.old) }
+        ensures read { GivesRead (λ work. (work, self.new)) result (read_work version self.old) }
         ensures ahead { OnOk result (self.new.at ≤ self.old.at + 530) }
     {
         let name = self.name()?;
         let queue = QueueId(self.byte(0, u8::MAX)?);
         let count = self.byte(1, MAX_OPS as u8)?;
-        let body = self.ops(alloc, count)?;
+        let body = self.ops(alloc, version, count)?;
         Ok(WorkDecl { name, queue, body })
     }
 
     /// So many operations.
-    fn ops(&mut self, alloc: Global, count: u8) -> Result<Vec<Op>, ImageError>
+    fn ops(&mut self, alloc: Global, version: u16, count: u8) -> Result<Vec<Op>, ImageError>
         requires { self.old.at + 8 * count ≤ u32.MAX }
-        ensures read { GivesRead (λ ops. (ops.items, self.new)) result (many read_op count self.old) }
+        ensures read { GivesRead (λ ops. (ops.items, self.new)) result (many (read_op version) count self.old) }
         ensures ahead { OnOk result (self.new.at ≤ self.old.at + 8 * count) }
     {
         let mut ops = Vec::new(alloc);
         for _ in 0..count {
-            ops.push(self.op()?)?;
+            ops.push(self.op(version)?)?;
         }
         Ok(ops)
     }
 
     #[tactic(auto, unfolding(crate::specs::ImageFault::read_op))]
-    fn op(&mut self) -> Result<Op, ImageError>
+    fn op(&mut self, version: u16) -> Result<Op, ImageError>
         requires { self.old.at + 8 ≤ u32.MAX }
-        ensures read { GivesRead (λ op. (op, self.new)) result (read_op self.old) }
+        ensures read { GivesRead (λ op. (op, self.new)) result (read_op version self.old) }
         ensures ahead { OnOk result (self.new.at ≡ self.old.at + 8) }
     {
-        let tag = self.op_tag()?;
+        let tag = self.op_tag(version)?;
         let room = tag.room();
         let cpu = self.byte(0, room.cpu)?;
         let a = self.short(0, room.a)?;

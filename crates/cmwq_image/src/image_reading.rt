@@ -53,7 +53,7 @@ fn read_scenario(alloc: Global, fields: &mut FieldsLeft) -> Result<Scenario, Ima
     let version = fields.version()?;
     let head = fields.head()?;
     let queues = fields.queues(alloc, version, head.queues)?;
-    let works = fields.works(alloc, head.works)?;
+    let works = fields.works(alloc, version, head.works)?;
     let actors = fields.actors(alloc, version, head.actors)?;
     Ok(Scenario {
         cpus: head.cpus,

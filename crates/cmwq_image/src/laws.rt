@@ -1,19 +1,20 @@
 //! Laws of images, each the contract of a function with an empty body.
 ghost use Rattle.cmwq_image.specs.FaultMeaning.{Means};
-ghost use Rattle.cmwq_image.specs.Image.{image, instr_word, word};
+ghost use Rattle.cmwq_image.specs.Image.{image, instr_word, op_word, word};
 ghost use Rattle.cmwq_image.specs.ImageFault.{GivesRead, reading};
 ghost use Rattle.cmwq_image.specs.Limits.{AreBytes, HasSize};
-ghost use Rattle.cmwq_image.specs.Versions.{HasVersion, IsImageOf, MemoryIsAmple, NeverDisables, NeverGoesOn};
+ghost use Rattle.cmwq_image.specs.Versions.{BodiesNeverDelay, HasVersion, IsImageOf, MemoryIsAmple, NeverDisables, NeverGoesOn};
 ghost use Rattle.cmwq_types.specs.Values.{IsScenario};
-ghost use Rattle.cmwq_image.specs.Worked.{disabling_scenario, ending_with, in_version, reclaiming_scenario, worked_image, worked_scenario};
+ghost use Rattle.cmwq_image.specs.Worked.{beginning_with, disabling_scenario, ending_with, in_version, reclaiming_scenario, with_op_tag, worked_image, worked_scenario};
 ghost use Rattle.cmwq_image.specs.declared.error.ImageError.{ImageError};
 ghost use Rattle.cmwq_image.specs.declared.error.ImageError.TheVariants as errors;
 ghost use Rattle.cmwq_image.specs.declared.version.TheConstants.{FIRST_VERSION, SECOND_VERSION, THIRD_VERSION, VERSION};
 ghost use Rattle.cmwq_types.specs.Contents.{ScenarioContents};
 ghost use Rattle.cmwq_types.specs.Faults.{IsValid};
 ghost use Rattle.cmwq_types.specs.Fields.{queue_id, work_id};
-ghost use Rattle.cmwq_types.specs.declared.check.Fault.TheVariants.{Range};
+ghost use Rattle.cmwq_types.specs.declared.check.Fault.TheVariants.{Range, Unknown};
 ghost use Rattle.cmwq_types.specs.declared.instr.Instr.TheVariants as instr;
+ghost use Rattle.cmwq_types.specs.declared.scenario.Op.TheVariants as op;
 ghost use Rattle.std.specs.Prelude.{◌≡◌, ◌↔◌, ◌≤◌, ◌<◌, ◌++◌, ◌∷◌, [], Err, List, Ok, length, slice_set, take, ℕ};
 
 use crate::error::ImageError;
@@ -27,20 +28,21 @@ pub fn images_are_read()
     ensures { (bytes : List ℕ) (S : ScenarioContents) → AreBytes bytes → (reading bytes ≡ Ok S) ↔ (IsScenario S × IsValid S × IsImageOf bytes S) }
 {}
 
-/// What is written in a version that has the scenario's flags and instructions is read again.
+/// What is written in a version that has the scenario's flags, operations and instructions is read again.
 #[tactic(auto, using(crate::proofs::ReadingLemmas::reading_again))]
 pub fn written_is_read()
     ensures { (S : ScenarioContents) (version : ℕ) → IsScenario S → IsValid S → HasVersion S version → reading (image version S) ≡ Ok S }
 {}
 
-/// The version that is written has each scenario's flags and instructions. The third one has them exactly where no
-/// actor gives `until`, `wait` or `quiet`; the second one exactly where besides no queue has the flag `mem_reclaim` and
-/// no actor gives `pressure` or `relief`; the first one exactly where besides no actor disables or enables a work.
+/// The version that is written has each scenario's flags, operations and instructions. The third one has them exactly
+/// where no actor gives `until`, `wait` or `quiet` and no body delays, mods or cancels a work; the second one exactly
+/// where besides no queue has the flag `mem_reclaim` and no actor gives `pressure` or `relief`; the first one exactly
+/// where besides no actor disables or enables a work.
 pub fn versions_of_a_scenario()
     ensures newest { (S : ScenarioContents) → HasVersion S VERSION }
-    ensures third { (S : ScenarioContents) → HasVersion S THIRD_VERSION ↔ NeverGoesOn S }
-    ensures second { (S : ScenarioContents) → HasVersion S SECOND_VERSION ↔ (NeverGoesOn S × MemoryIsAmple S) }
-    ensures first { (S : ScenarioContents) → HasVersion S FIRST_VERSION ↔ (NeverGoesOn S × MemoryIsAmple S × NeverDisables S) }
+    ensures third { (S : ScenarioContents) → HasVersion S THIRD_VERSION ↔ (NeverGoesOn S × BodiesNeverDelay S) }
+    ensures second { (S : ScenarioContents) → HasVersion S SECOND_VERSION ↔ (NeverGoesOn S × BodiesNeverDelay S × MemoryIsAmple S) }
+    ensures first { (S : ScenarioContents) → HasVersion S FIRST_VERSION ↔ (NeverGoesOn S × BodiesNeverDelay S × MemoryIsAmple S × NeverDisables S) }
 {}
 
 /// Writes the scenario and reads it again: it comes back, unless memory runs out. This stands on what `write`
@@ -93,6 +95,14 @@ pub fn instructions_are_words()
     ensures time { (time : ℕ) → instr_word (instr.Until time) ≡ word 38 0 0 time }
 {}
 
+/// The word of an operation that names a work: its tag, a CPU where it has one, the work, and its ticks, or zeros.
+pub fn operations_are_words()
+    ensures queue { (w cpu : ℕ) → op_word (op.Queue (work_id w) cpu) ≡ word 3 cpu w 0 }
+    ensures delay { (w ticks : ℕ) → op_word (op.Delay (work_id w) ticks) ≡ word 5 0 w ticks }
+    ensures mod_of_work { (w ticks : ℕ) → op_word (op.Mod (work_id w) ticks) ≡ word 6 0 w ticks }
+    ensures cancel { (w : ℕ) → op_word (op.Cancel (work_id w)) ≡ word 7 0 w 0 }
+{}
+
 /// The worked image is the image of the worked scenario, which is valid; with 1, 2 or 3 in its byte 5 it is that of an
 /// older version.
 pub fn worked_image_is_written()
@@ -134,5 +144,19 @@ pub fn worked_image_is_read()
     ensures until_in_3 { reading (slice_set (in_version 3) 114 38) ≡ Err (errors.BadField 114) }
     ensures until { reading (slice_set worked_image 114 38) ≡ Ok (ending_with (instr.Until 0)) }
     ensures wait { reading (slice_set worked_image 114 39) ≡ Ok (ending_with (instr.Wait 0)) }
+    ensures delay { reading (with_op_tag 5 worked_image) ≡ Ok (beginning_with (op.Delay (work_id 0) 0)) }
+    ensures delay_in_1 { reading (with_op_tag 5 (in_version 1)) ≡ Err (errors.BadField 56) }
+    ensures delay_in_3 { reading (with_op_tag 5 (in_version 3)) ≡ Err (errors.BadField 56) }
+    ensures delay_9_ticks { reading (slice_set (with_op_tag 5 worked_image) 63 9) ≡ Ok (beginning_with (op.Delay (work_id 0) 9)) }
+    ensures delay_on_a_cpu { reading (slice_set (with_op_tag 5 worked_image) 57 1) ≡ Err (errors.BadField 57) }
+    ensures delay_too_many_ticks { reading (slice_set (with_op_tag 5 worked_image) 60 1) ≡ Err (errors.Fault Range) }
+    ensures mod_0 { reading (with_op_tag 6 worked_image) ≡ Ok (beginning_with (op.Mod (work_id 0) 0)) }
+    ensures mod_in_2 { reading (with_op_tag 6 (in_version 2)) ≡ Err (errors.BadField 56) }
+    ensures mod_in_3 { reading (with_op_tag 6 (in_version 3)) ≡ Err (errors.BadField 56) }
+    ensures mod_of_no_work { reading (slice_set (with_op_tag 6 worked_image) 59 1) ≡ Err (errors.Fault Unknown) }
+    ensures cancel { reading (with_op_tag 7 worked_image) ≡ Ok (beginning_with (op.Cancel (work_id 0))) }
+    ensures cancel_in_3 { reading (with_op_tag 7 (in_version 3)) ≡ Err (errors.BadField 56) }
+    ensures cancel_with_ticks { reading (slice_set (with_op_tag 7 worked_image) 63 9) ≡ Err (errors.BadField 60) }
+    ensures op_tag_8 { reading (with_op_tag 8 worked_image) ≡ Err (errors.BadField 56) }
     ensures tag_41 { reading (slice_set worked_image 114 41) ≡ Err (errors.BadField 114) }
 {}

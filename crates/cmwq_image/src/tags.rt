@@ -1,6 +1,6 @@
 //! The tags of words, and what each says of the fields behind it.
-ghost use Rattle.cmwq_image.specs.Image.{last_tag, tag_of};
-ghost use Rattle.cmwq_image.specs.ImageFault.{first_tagged, instr_room, op_of, op_room, op_tag_of, tagged};
+ghost use Rattle.cmwq_image.specs.Image.{last_op_tag, last_tag, tag_of};
+ghost use Rattle.cmwq_image.specs.ImageFault.{first_tagged, instr_room, op_of, op_room, op_tag_of, op_tagged, tagged};
 ghost use Rattle.cmwq_types.specs.Mnemonics.{mnemonics};
 ghost use Rattle.std.specs.Prelude.{◌≡◌, slice_get};
 
@@ -15,6 +15,9 @@ pub(crate) enum OpTag {
     Sleep = 2,
     Queue = 3,
     Finish = 4,
+    Delay = 5,
+    Mod = 6,
+    Cancel = 7,
 }
 
 impl OpTag {
@@ -27,6 +30,9 @@ impl OpTag {
             2 => Some(OpTag::Sleep),
             3 => Some(OpTag::Queue),
             4 => Some(OpTag::Finish),
+            5 => Some(OpTag::Delay),
+            6 => Some(OpTag::Mod),
+            7 => Some(OpTag::Cancel),
             _ => None,
         }
     }
@@ -39,6 +45,8 @@ impl OpTag {
             OpTag::Burn | OpTag::Sleep => FieldRoom::new(0, 0, u32::MAX),
             OpTag::Queue => FieldRoom::new(u8::MAX, u16::MAX, 0),
             OpTag::Finish => FieldRoom::new(0, 0, 0),
+            OpTag::Delay | OpTag::Mod => FieldRoom::new(0, u16::MAX, u32::MAX),
+            OpTag::Cancel => FieldRoom::new(0, u16::MAX, 0),
         }
     }
 
@@ -51,8 +59,29 @@ impl OpTag {
             OpTag::Sleep => Op::Sleep(n),
             OpTag::Queue => Op::Queue(WorkId(a), cpu),
             OpTag::Finish => Op::Finish,
+            OpTag::Delay => Op::Delay(WorkId(a), n),
+            OpTag::Mod => Op::Mod(WorkId(a), n),
+            OpTag::Cancel => Op::Cancel(WorkId(a)),
         }
     }
+}
+
+/// The tag of an operation with this number, if the version has it.
+pub(crate) fn op_tagged(version: u16, byte: u8) -> Option<OpTag>
+    ensures { result ≡ op_tagged version byte }
+{
+    if byte <= last_op_tag(version) {
+        OpTag::of(byte)
+    } else {
+        None
+    }
+}
+
+/// The last tag of an operation that the version has.
+fn last_op_tag(version: u16) -> u8
+    ensures { result ≡ last_op_tag version }
+{
+    if version <= THIRD_VERSION { 4 } else { 7 }
 }
 
 /// The tag of the first word of instructions. The tags of the others follow, in the order of `Mnemonic`.

@@ -242,6 +242,9 @@ fn op_word(op: Op) -> Word
         Op::Sleep(ticks) => Word::new(OpTag::Sleep as u8, 0, 0, ticks),
         Op::Queue(work, cpu) => Word::new(OpTag::Queue as u8, cpu, work.0, 0),
         Op::Finish => Word::new(OpTag::Finish as u8, 0, 0, 0),
+        Op::Delay(work, ticks) => Word::new(OpTag::Delay as u8, 0, work.0, ticks),
+        Op::Mod(work, ticks) => Word::new(OpTag::Mod as u8, 0, work.0, ticks),
+        Op::Cancel(work) => Word::new(OpTag::Cancel as u8, 0, work.0, 0),
     }
 }
 

@@ -18,6 +18,8 @@ limit limited.Lines = MAX_LINES
 limit limited.Actors = MAX_ACTORS
 limit limited.Burn = MAX_TICKS
 limit limited.Sleep = MAX_TICKS
+limit limited.Delay = MAX_TICKS
+limit limited.Mod = MAX_TICKS
 limit limited.Times = MAX_TIMES
 
 abbrev pub before : Limited → List ℕ
@@ -33,7 +35,9 @@ before limited.Lines = codes "\n  actor NAME: who asks for what: its instruction
 before limited.Actors = codes "; actors are at most "
 before limited.Burn = codes "  burn N: keeps the CPU for N ticks, 1 to "
 before limited.Sleep = codes "\n  sleep N: sleeps for N ticks, 1 to "
-before limited.Times = codes "\n  queue WORK CPU: queues a work on a CPU, from 0 on\n  finish: ends the body\n\nInstructions of an actor; `* N` behind one has it so many times, 1 to "
+before limited.Delay = codes "\n  queue WORK CPU: queues a work on a CPU, from 0 on, unless it is pending\n  delay WORK N: queues it on this body's CPU in N ticks, unless it is pending, 0 to "
+before limited.Mod = codes "\n  mod WORK N: queues it so in place of what it waited for, 0 to "
+before limited.Times = codes "\n  cancel WORK: takes it off where it is pending\n  finish: ends the body\n\nInstructions of an actor; `* N` behind one has it so many times, 1 to "
 
 abbrev pub limited_text : Limited → List ℕ
 limited_text limited = before limited ++ decimal (limit limited)
@@ -45,4 +49,4 @@ in_lines =
     ∷ limited.Lines ∷ limited.Actors ∷ []
 
 abbrev pub in_bodies : List Limited
-in_bodies = limited.Burn ∷ limited.Sleep ∷ limited.Times ∷ []
+in_bodies = limited.Burn ∷ limited.Sleep ∷ limited.Delay ∷ limited.Mod ∷ limited.Times ∷ []

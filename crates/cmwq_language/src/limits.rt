@@ -24,6 +24,8 @@ pub(crate) enum Limited {
     Actors,
     Burn,
     Sleep,
+    Delay,
+    Mod,
     Times,
 }
 
@@ -42,7 +44,13 @@ pub(crate) const IN_LINES: [Limited; 10] = [
 ];
 
 /// What is limited in the operations of bodies, and in an actor's lines.
-pub(crate) const IN_BODIES: [Limited; 3] = [Limited::Burn, Limited::Sleep, Limited::Times];
+pub(crate) const IN_BODIES: [Limited; 5] = [
+    Limited::Burn,
+    Limited::Sleep,
+    Limited::Delay,
+    Limited::Mod,
+    Limited::Times,
+];
 
 impl Limited {
     /// The greatest number.
@@ -60,7 +68,7 @@ impl Limited {
             Limited::Operations => MAX_OPS as u32,
             Limited::Lines => MAX_LINES as u32,
             Limited::Actors => MAX_ACTORS as u32,
-            Limited::Burn | Limited::Sleep => MAX_TICKS,
+            Limited::Burn | Limited::Sleep | Limited::Delay | Limited::Mod => MAX_TICKS,
             Limited::Times => MAX_TIMES,
         }
     }
@@ -85,8 +93,12 @@ impl Limited {
             Limited::Actors => "; actors are at most ",
             Limited::Burn => "  burn N: keeps the CPU for N ticks, 1 to ",
             Limited::Sleep => "\n  sleep N: sleeps for N ticks, 1 to ",
+            Limited::Delay => {
+                "\n  queue WORK CPU: queues a work on a CPU, from 0 on, unless it is pending\n  delay WORK N: queues it on this body's CPU in N ticks, unless it is pending, 0 to "
+            }
+            Limited::Mod => "\n  mod WORK N: queues it so in place of what it waited for, 0 to ",
             Limited::Times => {
-                "\n  queue WORK CPU: queues a work on a CPU, from 0 on\n  finish: ends the body\n\nInstructions of an actor; `* N` behind one has it so many times, 1 to "
+                "\n  cancel WORK: takes it off where it is pending\n  finish: ends the body\n\nInstructions of an actor; `* N` behind one has it so many times, 1 to "
             }
         }
     }

@@ -1,9 +1,9 @@
 //! The lines of a scenario's replies.
 ghost use Rattle.cmwq_lines.specs.Putting.{Puts, ended, repeated, spaced};
-ghost use Rattle.cmwq_table.specs.Events.{already_text, asked_name, event_text, is_silent, place_text, refusal_text, reply_line, reply_words, run_text, was_text, work_name, worker_text};
+ghost use Rattle.cmwq_table.specs.Events.{already_text, asked_name, changed_text, event_text, found_text, is_silent, place_text, refusal_text, reply_line, reply_words, run_text, timed_object, was_text, work_name, worker_text};
 ghost use Rattle.cmwq_types.specs.declared.instr.Instr.{Instr};
 ghost use Rattle.std.specs.Fmt.{decimal};
-ghost use Rattle.std.specs.Prelude.{◌≡◌, ◌+◌, ◌≤◌, ◌++◌, IfOk, OnOk, false, true, codes, length, map};
+ghost use Rattle.std.specs.Prelude.{◌≡◌, ◌+◌, ◌≤◌, ◌++◌, [], IfOk, OnOk, false, true, codes, length, map};
 
 use crate::block::{Block, make_room};
 use crate::numbered::Numbered;
@@ -312,7 +312,7 @@ impl<'s> ReplyLines<'s> {
     /// Puts what an event's line says behind the time.
     #[inline(always)]
     fn put_work_event(&mut self, block: &mut [u8], at: usize, work: WorkId, event: Event) -> usize
-        requires { at + 104 ≤ length block.old }
+        requires { at + 152 ≤ length block.old }
         ensures same { self.new ≡ self.old }
         ensures words { (asked : Instr) → Puts block.old at block.new result (spaced (ended (reply_words self.old asked (Reply.Event work event)))) }
     {
@@ -323,7 +323,7 @@ impl<'s> ReplyLines<'s> {
     /// Puts what an event's line says behind the name of its work.
     #[inline(always)]
     fn put_event(&mut self, block: &mut [u8], at: usize, event: Event) -> usize
-        requires { at + 80 ≤ length block.old }
+        requires { at + 128 ≤ length block.old }
         ensures same { self.new ≡ self.old }
         ensures words { Puts block.old at block.new result (spaced (ended (event_text self.old event))) }
     {
@@ -353,7 +353,56 @@ impl<'s> ReplyLines<'s> {
                 put_text(block, at, *b" disabled\n")
             }
             Event::StartsOnRescuer => put_text(block, at, *b" starts on rescuer\n"),
+            Event::Delays {
+                other,
+                ticks,
+                already,
+            } => {
+                let at = self.put_timed(block, at, *b" delays", other, ticks);
+                put_already(block, at, already)
+            }
+            Event::DelaysDisabled { other, ticks } => {
+                let at = self.put_timed(block, at, *b" delays", other, ticks);
+                put_text(block, at, *b" disabled\n")
+            }
+            Event::Mods {
+                other,
+                ticks,
+                changed,
+            } => {
+                let at = self.put_timed(block, at, *b" mods", other, ticks);
+                put_changed(block, at, changed)
+            }
+            Event::ModsDisabled { other, ticks } => {
+                let at = self.put_timed(block, at, *b" mods", other, ticks);
+                put_text(block, at, *b" disabled\n")
+            }
+            Event::Cancels { other, was } => {
+                let at = put_text(block, at, *b" cancels");
+                let at = self.put_name(block, at, other);
+                put_found(block, at, was)
+            }
         }
+    }
+
+    /// Puts what a body does to a work, the work's name, and after how many ticks.
+    fn put_timed<const N: usize>(
+        &mut self,
+        block: &mut [u8],
+        at: usize,
+        verb: [u8; N],
+        other: WorkId,
+        ticks: u32,
+    ) -> usize
+        requires { at + N + 49 ≤ length block.old }
+        ensures same { self.new ≡ self.old }
+        ensures words { Puts block.old at block.new result (verb.entry ++ timed_object self.old other ticks []) }
+        ensures short { length (timed_object self.old other ticks []) ≤ 49 }
+    {
+        let at = put_text(block, at, verb);
+        let at = self.put_name(block, at, other);
+        let at = put_text(block, at, *b" ");
+        self.put_decimal(block, at, u64::from(ticks))
     }
 
     /// Puts a blank and the work's name, which is empty where no work has the number.
@@ -418,6 +467,32 @@ fn put_already(block: &mut [u8], at: usize, already: bool) -> usize
         put_text(block, at, *b" already\n")
     } else {
         put_text(block, at, *b"\n")
+    }
+}
+
+/// Puts the end of a line that says which work was queued anew.
+#[inline(always)]
+fn put_changed(block: &mut [u8], at: usize, changed: bool) -> usize
+    requires { at + 24 ≤ length block.old }
+    ensures { Puts block.old at block.new result (ended (changed_text changed)) }
+{
+    if changed {
+        put_text(block, at, *b" changed\n")
+    } else {
+        put_text(block, at, *b"\n")
+    }
+}
+
+/// Puts the end of a line that says which work a body cancels.
+#[inline(always)]
+fn put_found(block: &mut [u8], at: usize, was: bool) -> usize
+    requires { at + 24 ≤ length block.old }
+    ensures { Puts block.old at block.new result (ended (found_text was)) }
+{
+    if was {
+        put_text(block, at, *b"\n")
+    } else {
+        put_text(block, at, *b" not pending\n")
     }
 }
 

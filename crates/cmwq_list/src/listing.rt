@@ -189,6 +189,20 @@ fn put_op(text: &mut LineEnd, scenario: &Scenario, op: Op)
             text.put(b"queue");
         }
         Op::Finish => text.put(b"finish"),
+        Op::Delay(work, ticks) => {
+            text.put_number(ticks);
+            text.put_word(scenario.work_name_bytes(work.0 as usize));
+            text.put(b"delay");
+        }
+        Op::Mod(work, ticks) => {
+            text.put_number(ticks);
+            text.put_word(scenario.work_name_bytes(work.0 as usize));
+            text.put(b"mod");
+        }
+        Op::Cancel(work) => {
+            text.put_word(scenario.work_name_bytes(work.0 as usize));
+            text.put(b"cancel");
+        }
     }
 }
 

@@ -8,6 +8,7 @@ use Rattle.cmwq_types.specs.declared.reply.Reply.{Reply}
 use Rattle.cmwq_types.specs.declared.reply.Reply.TheVariants as reply
 use Rattle.cmwq_types.specs.declared.scenario.Flags.{Flags}
 use Rattle.cmwq_types.specs.declared.scenario.Line.{Line}
+use Rattle.cmwq_types.specs.declared.scenario.Op.{Op}
 use Rattle.cmwq_types.specs.declared.scenario.Op.TheVariants as op
 use Rattle.cmwq_tasks.specs.declared.task.Task.{Task}
 use Rattle.cmwq_remarks.specs.Remarks.{remarks_of}
@@ -36,6 +37,10 @@ beside =
       works = work (codes "a") 0 (queues 0 ∷ op.Finish ∷ []) ∷ work (codes "b") 1 (queues 0 ∷ op.Finish ∷ []) ∷ [];
       actors = [];
     }
+
+-- work a with this operation in its body
+abbrev pub body_with : Op → ScenarioContents
+body_with first = record beside { works = work (codes "a") 0 (first ∷ op.Finish ∷ []) ∷ work (codes "b") 1 (op.Finish ∷ []) ∷ [] }
 
 abbrev pub declared_and_cancelled : List ℕ
 declared_and_cancelled = codes "queue q max 1\nqueue c max 1 cpu_intensive\nqueue c 0\ncancel_sync a * 2\ncancel_sync b\ncancel a\n"

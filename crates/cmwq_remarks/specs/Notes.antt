@@ -29,6 +29,8 @@ sync_sentence = codes "cancel_sync lets it queue itself again, and a kernel's do
 
 abbrev pub queues_work : ℕ → Op → Bool
 queues_work w (op.Queue other cpu) = other.0 == w
+queues_work w (op.Delay other ticks) = other.0 == w
+queues_work w (op.Mod other ticks) = other.0 == w
 queues_work w other = false
 
 abbrev pub queues_itself : ScenarioContents → ℕ → Bool

@@ -1,16 +1,18 @@
 //! Worked examples of the definitions, as theorems.
 ghost use Rattle.cmwq_examples.specs.Declare.{enqueue, ordered, times, unbound};
 ghost use Rattle.cmwq_grammar.specs.Cutting.{lines_of};
-ghost use Rattle.cmwq_remarks.specs.Examples.{intensive_alone, beside, declared_and_cancelled, five_lines, four_lines, intensive_queue, one_pending, queued_and_thawed, refused_twice, remarks_behind, three_lines, two_refused, intensive_without_works};
+ghost use Rattle.cmwq_remarks.specs.Examples.{intensive_alone, beside, body_with, declared_and_cancelled, five_lines, four_lines, intensive_queue, one_pending, queued_and_thawed, refused_twice, remarks_behind, three_lines, two_refused, intensive_without_works};
 ghost use Rattle.cmwq_remarks.specs.LineNumbers.{line_at, number_from, number_of_last};
-ghost use Rattle.cmwq_remarks.specs.Notes.{is_intensive_beside, notes_from};
+ghost use Rattle.cmwq_remarks.specs.Notes.{is_intensive_beside, notes_from, queues_itself};
 ghost use Rattle.cmwq_remarks.specs.Remarks.{first_refusal, pending_line, refusal_count, refused_line, remarks_of};
 ghost use Rattle.cmwq_drawing.specs.declared.drawing.Drawing.{Drawing};
 ghost use Rattle.cmwq_question.specs.declared.question.Inquiry.{Inquiry};
 ghost use Rattle.cmwq_tasks.specs.declared.task.RunKind.TheVariants as kind;
 ghost use Rattle.cmwq_tasks.specs.declared.task.Task.TheVariants as task;
+ghost use Rattle.cmwq_types.specs.Fields.{work_id};
 ghost use Rattle.cmwq_types.specs.Scenario.{plain_flags};
 ghost use Rattle.cmwq_types.specs.declared.instr.Instr.TheVariants as instr;
+ghost use Rattle.cmwq_types.specs.declared.scenario.Op.TheVariants as op;
 ghost use Rattle.std.specs.Prelude.{◌≡◌, ◌∷◌, ◌++◌, [], Some, codes, false, true};
 
 /// Blank lines and comments are counted, and aren't among those that have words.
@@ -72,6 +74,15 @@ pub fn intensive_queue_is_noted_beside_others_alone()
     ensures plain { is_intensive_beside beside 0 ≡ false }
     ensures without_works { is_intensive_beside intensive_without_works 1 ≡ false }
     ensures alone { is_intensive_beside intensive_alone 1 ≡ false }
+{}
+
+/// A body that delays or mods its own work queues it; one that cancels it doesn't, nor does one that delays another.
+pub fn bodies_that_delay_themselves_queue_themselves()
+    ensures delays { queues_itself (body_with (op.Delay (work_id 0) 5)) 0 ≡ true }
+    ensures mods { queues_itself (body_with (op.Mod (work_id 0) 0)) 0 ≡ true }
+    ensures cancels { queues_itself (body_with (op.Cancel (work_id 0))) 0 ≡ false }
+    ensures delays_another { queues_itself (body_with (op.Delay (work_id 1) 5)) 0 ≡ false }
+    ensures mods_another { queues_itself (body_with (op.Mod (work_id 1) 0)) 0 ≡ false }
 {}
 
 /// A queue is noted where it is declared, and a work that queues itself where it is cancelled, with the lines' numbers; a work that is

@@ -188,6 +188,7 @@ fn queues_work(w: usize, op: Op) -> bool
 {
     match op {
         Op::Queue(other, _) => other.0 as usize == w,
+        Op::Delay(other, _) | Op::Mod(other, _) => other.0 as usize == w,
         _ => false,
     }
 }

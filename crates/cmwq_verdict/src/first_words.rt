@@ -1,6 +1,6 @@
 //! The words that lines begin with.
 ghost use Rattle.cmwq_grammar.specs.Instructions.{operands_of};
-ghost use Rattle.cmwq_grammar.specs.Offers.{has_named, words_of_next};
+ghost use Rattle.cmwq_grammar.specs.Offers.{has_named, operation_words, words_of_next};
 ghost use Rattle.cmwq_types.specs.Listing.{word_if};
 ghost use Rattle.cmwq_types.specs.Mnemonics.{spelling};
 ghost use Rattle.cmwq_verdict.specs.OfferLines.{spelled};
@@ -24,9 +24,19 @@ pub enum FirstWord {
     Sleep,
     Finish,
     Actor,
-    /// An instruction's word. A queue's line and an operation begin with one, `queue`.
+    /// An instruction's word. A queue's line begins with one, `queue`, and so do operations with four of them.
     Instruction(Mnemonic),
 }
+
+/// The words of operations but for `finish`.
+const OPERATION_WORDS: [FirstWord; 6] = [
+    FirstWord::Burn,
+    FirstWord::Sleep,
+    FirstWord::Instruction(Mnemonic::Queue),
+    FirstWord::Instruction(Mnemonic::Delay),
+    FirstWord::Instruction(Mnemonic::Mod),
+    FirstWord::Instruction(Mnemonic::Cancel),
+];
 
 impl FirstWord {
     /// How it is spelled.
@@ -79,9 +89,7 @@ fn push_first_words(words: &mut Vec<FirstWord>, next: Next) -> Result<(), NoMemo
         Next::Body => push_if(words, true, FirstWord::Body),
         Next::Actor => push_if(words, true, FirstWord::Actor),
         Next::Operation { room } => {
-            push_if(words, room, FirstWord::Burn)?;
-            push_if(words, room, FirstWord::Sleep)?;
-            push_if(words, room, FirstWord::Instruction(Mnemonic::Queue))?;
+            push_operation_words(words, room)?;
             push_if(words, true, FirstWord::Finish)
         }
         Next::Instruction {
@@ -91,6 +99,17 @@ fn push_first_words(words: &mut Vec<FirstWord>, next: Next) -> Result<(), NoMemo
             actor,
         } => push_actor_words(words, Mnemonic::all(), room, works, queues, actor),
     }
+}
+
+/// Adds the words of operations but for `finish`, where there is room for one.
+fn push_operation_words(words: &mut Vec<FirstWord>, room: bool) -> Result<(), NoMemory>
+    ensures { OnOk result (map spelled words.new.items ≡ map spelled words.old.items ++ (if room then operation_words else [])) }
+{
+    if !room {
+        return Ok(());
+    }
+    words.extend_from_slice(&OPERATION_WORDS)?;
+    Ok(())
 }
 
 /// Adds the word where the test holds.

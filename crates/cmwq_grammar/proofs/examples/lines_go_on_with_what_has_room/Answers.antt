@@ -16,3 +16,7 @@ returns-clause-head c = (_, (_, refl, refl), refl)
 pub returns-clause-operation : goal.returns-clause-operation
 unfolding digits encode chars is_utf8 after_word declared_at ended name_at new_name_at number_at number_where word_at cannot_stand instr_at line_at reads reads_lines stage_after add_flag add_line add_op add_queue add_work at_end flags_at_line judge op_at_line open_actor open_body queue_at_line step work_at_line
 returns-clause-operation c = (_, (_, refl, refl), refl)
+
+pub returns-clause-body : goal.returns-clause-body
+unfolding digits encode chars is_utf8 after_word declared_at ended name_at new_name_at number_at number_where word_at cannot_stand instr_at line_at reads reads_lines stage_after add_flag add_line add_op add_queue add_work at_end flags_at_line judge op_at_line open_actor open_body queue_at_line step work_at_line
+returns-clause-body c = (_, (_, refl, refl), refl)

@@ -60,3 +60,39 @@ returns-clause-times c = refl
 pub returns-clause-extra : goal.returns-clause-extra
 unfolding digits encode chars is_utf8 after_word declared_at ended name_at new_name_at number_at number_where word_at cannot_stand instr_at line_at reads reads_lines stage_after add_flag add_line add_op add_queue add_work at_end flags_at_line judge op_at_line open_actor open_body queue_at_line step work_at_line
 returns-clause-extra c = refl
+
+pub returns-clause-delay_unknown : goal.returns-clause-delay_unknown
+unfolding digits encode chars is_utf8 after_word declared_at ended name_at new_name_at number_at number_where word_at cannot_stand instr_at line_at reads reads_lines stage_after add_flag add_line add_op add_queue add_work at_end flags_at_line judge op_at_line open_actor open_body queue_at_line step work_at_line
+returns-clause-delay_unknown c = refl
+
+pub returns-clause-delay_no_ticks : goal.returns-clause-delay_no_ticks
+unfolding digits encode chars is_utf8 after_word declared_at ended name_at new_name_at number_at number_where word_at cannot_stand instr_at line_at reads reads_lines stage_after add_flag add_line add_op add_queue add_work at_end flags_at_line judge op_at_line open_actor open_body queue_at_line step work_at_line
+returns-clause-delay_no_ticks c = refl
+
+pub returns-clause-delay_too_many_ticks : goal.returns-clause-delay_too_many_ticks
+unfolding digits encode chars is_utf8 after_word declared_at ended name_at new_name_at number_at number_where word_at cannot_stand instr_at line_at reads reads_lines stage_after add_flag add_line add_op add_queue add_work at_end flags_at_line judge op_at_line open_actor open_body queue_at_line step work_at_line
+returns-clause-delay_too_many_ticks c = refl
+
+pub returns-clause-delay_cpu : goal.returns-clause-delay_cpu
+unfolding digits encode chars is_utf8 after_word declared_at ended name_at new_name_at number_at number_where word_at cannot_stand instr_at line_at reads reads_lines stage_after add_flag add_line add_op add_queue add_work at_end flags_at_line judge op_at_line open_actor open_body queue_at_line step work_at_line
+returns-clause-delay_cpu c = refl
+
+pub returns-clause-mod_unknown : goal.returns-clause-mod_unknown
+unfolding digits encode chars is_utf8 after_word declared_at ended name_at new_name_at number_at number_where word_at cannot_stand instr_at line_at reads reads_lines stage_after add_flag add_line add_op add_queue add_work at_end flags_at_line judge op_at_line open_actor open_body queue_at_line step work_at_line
+returns-clause-mod_unknown c = refl
+
+pub returns-clause-mod_too_many_ticks : goal.returns-clause-mod_too_many_ticks
+unfolding digits encode chars is_utf8 after_word declared_at ended name_at new_name_at number_at number_where word_at cannot_stand instr_at line_at reads reads_lines stage_after add_flag add_line add_op add_queue add_work at_end flags_at_line judge op_at_line open_actor open_body queue_at_line step work_at_line
+returns-clause-mod_too_many_ticks c = refl
+
+pub returns-clause-cancel_nothing : goal.returns-clause-cancel_nothing
+unfolding digits encode chars is_utf8 after_word declared_at ended name_at new_name_at number_at number_where word_at cannot_stand instr_at line_at reads reads_lines stage_after add_flag add_line add_op add_queue add_work at_end flags_at_line judge op_at_line open_actor open_body queue_at_line step work_at_line
+returns-clause-cancel_nothing c = refl
+
+pub returns-clause-cancel_unknown : goal.returns-clause-cancel_unknown
+unfolding digits encode chars is_utf8 after_word declared_at ended name_at new_name_at number_at number_where word_at cannot_stand instr_at line_at reads reads_lines stage_after add_flag add_line add_op add_queue add_work at_end flags_at_line judge op_at_line open_actor open_body queue_at_line step work_at_line
+returns-clause-cancel_unknown c = refl
+
+pub returns-clause-cancel_extra : goal.returns-clause-cancel_extra
+unfolding digits encode chars is_utf8 after_word declared_at ended name_at new_name_at number_at number_where word_at cannot_stand instr_at line_at reads reads_lines stage_after add_flag add_line add_op add_queue add_work at_end flags_at_line judge op_at_line open_actor open_body queue_at_line step work_at_line
+returns-clause-cancel_extra c = refl

@@ -8,13 +8,13 @@ pub returns-in_err-op-clause-read : goal.returns-in_err-op-clause-read
 returns-in_err-op-clause-read c =
     let failed = err_from_is_err_and c.from_residual.result c.from_residual.ensures.1 in
     rw (failed.1, failed.2)
-    (ends c.in_err-op.field-0.0 read_op c.loop.ops.items c.args.count c.loop.counter c.loop.self (many read_op c.args.count c.args.self.now)
+    (ends c.in_err-op.field-0.0 (read_op c.args.version) c.loop.ops.items c.args.count c.loop.counter c.loop.self (many (read_op c.args.version) c.args.count c.args.self.now)
     c.loop-test.true c.in_err-op.ensures.read c.loop.invariant.read)
 
 pub loop-preserved : goal.loop-preserved
 loop-preserved c = record {
   read = rw c.in_ok-push.ensures.items
-      (goes_on read_op c.loop.ops.items c.args.count c.loop.counter c.loop.self c.in_ok-op.field-0 c.op.new.self (many read_op c.args.count c.args.self.now)
+      (goes_on (read_op c.args.version) c.loop.ops.items c.args.count c.loop.counter c.loop.self c.in_ok-op.field-0 c.op.new.self (many (read_op c.args.version) c.args.count c.args.self.now)
       c.loop-test.true c.in_ok-op.ensures.read c.loop.invariant.read);
   ahead = omega (arith, c.in_ok-op.ensures.ahead);
 }

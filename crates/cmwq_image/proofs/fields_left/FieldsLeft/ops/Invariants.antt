@@ -5,6 +5,6 @@ use Rattle.cmwq_image.specs.ImageFault.{read_op, many}
 
 abbrev pub invariant-loop : goal.invariant-loop
 invariant-loop l = record {
-  read : with_front l.ops.items (many read_op (l.count - l.counter) l.self) ≡ many read_op l.count l.fn.self;
+  read : with_front l.ops.items (many (read_op l.version) (l.count - l.counter) l.self) ≡ many (read_op l.version) l.count l.fn.self;
   ahead : l.self.at ≤ l.fn.self.at + 8 * l.counter;
 }
