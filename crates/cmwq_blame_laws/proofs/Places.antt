@@ -6,7 +6,7 @@ use Rattle.std.specs.Prelude.{is_some, nat_lt}
 use Rattle.cmwq_types.specs.Contents.{ScenarioContents}
 use Rattle.cmwq_types.specs.Faults.{IsValid}
 use Rattle.cmwq_types.specs.First.{by_least}
-use Rattle.cmwq_types.specs.Scenario.{flags_at, op_at, pool_count, priority, queue_of, target}
+use Rattle.cmwq_types.specs.Scenario.{flags_at, op_at, pool_count, priority, queue_of, target, local_cpu}
 use Rattle.cmwq_types.specs.Setting.{IsOpInRange, IsSetting}
 use Rattle.cmwq_types.specs.declared.instr.Instr.{Instr}
 use Rattle.cmwq_types.specs.declared.instr.Instr.TheVariants as instr
@@ -22,10 +22,10 @@ use Rattle.cmwq_types.specs.declared.reply.Refusal.TheVariants.{NoSuchCpu, NoSuc
 use Rattle.cmwq_types.specs.declared.scenario.Op.{Op}
 use Rattle.cmwq_types.specs.declared.scenario.Op.TheVariants as op
 use Rattle.cmwq_types.proofs.FirstLemmas.{by_least-order, first_below-is_first}
-use Rattle.cmwq_types.proofs.SettingLemmas.{IsSetting-valid}
+use Rattle.cmwq_types.proofs.SettingLemmas.{IsSetting-valid, local_cpu-in_range}
 use Rattle.cmwq_table.specs.Counts.{first_due, first_inactive, free_worker, has_room, is_deferred, is_rescuer, or_else}
 use Rattle.cmwq_table.specs.Laws.{placed_in}
-use Rattle.cmwq_table.specs.Moves.{advance, begin_again, carry_out, come_to_end, deferred, enlist, fill, fill_everywhere, fill_freezable, fill_from, fill_one, fill_pools, fill_times, finish, fired, fired_to, first_moving, listed_at, moved, next_move, onward, place, place_after, place_in, pool_for, pool_or, queue_from_body, rescued, retire, started, taken_off, with_depth, with_pending, woken}
+use Rattle.cmwq_table.specs.Moves.{advance, begin_again, carry_out, come_to_end, deferred, enlist, fill, fill_everywhere, fill_freezable, fill_from, fill_one, fill_pools, fill_times, finish, fired, fired_to, first_moving, listed_at, moved, next_move, onward, place, place_after, place_in, pool_for, pool_or, queue_from_body, rescued, retire, started, taken_off, with_depth, with_pending, woken, delay_from_body, mod_from_body}
 use Rattle.cmwq_table.specs.Ready.{IsPlaceReady}
 use Rattle.cmwq_table.specs.State.{State, depth_at, is_disabled, pending_at, running_at, seat, start}
 use Rattle.cmwq_table.specs.Table.{after_all, answer, cancelled, delayed, effect, fired_first, modified, next, operands, queued, refuse_unless, run, situation, spent_all, step_or_tick, stepped, table, is_met, next_unless}
@@ -181,15 +181,38 @@ module _ (S : ScenarioContents) where
   body-ready s w r other cpu false (Some p) within there runs ready = ready
   body-ready s w r other cpu false None within there runs ready = place-ready (onward s w r) other.0 cpu there (onward-runs s w r within runs) ready
 
-  carried-ready : (s : State) (w : ℕ) (r : Running) (o : Op) → IsOpInRange S o → r.pool < pool_count S → RunReady S s → AreReady S s → AreReady S (carry_out S s w r o).0
-  carried-ready s w r (op.Burn ticks) fits within runs ready = ready
-  carried-ready s w r (op.Sleep ticks) fits within runs ready = ready
-  carried-ready s w r (op.Queue other cpu) fits within runs ready = body-ready s w r other cpu (is_disabled s other.0) (pending_at s other.0) within fits.1 runs ready
-  carried-ready s w r op.Finish fits within runs ready = finish-ready s w r within ready
+  delayed_by_body-ready : (s : State) (w : ℕ) (r : Running) (other : WorkId) (cpu ticks : ℕ) (b : Bool) (o : Option Pending) → r.pool < pool_count S → cpu < S.cpus
+      → RunReady S s → AreReady S s → AreReady S (delay_from_body S (onward s w r) other cpu ticks b o).0
+  delayed_by_body-ready s w r other cpu ticks true o within there runs ready = ready
+  delayed_by_body-ready s w r other cpu ticks false (Some p) within there runs ready = ready
+  delayed_by_body-ready s w r other cpu ticks false None within there runs ready =
+      place_after-ready (onward s w r) other.0 cpu ticks there (onward-runs s w r within runs) ready
+
+  modified_by_body-ready : (s : State) (w : ℕ) (r : Running) (other : WorkId) (cpu ticks : ℕ) (b : Bool) (o : Option Pending) → r.pool < pool_count S → cpu < S.cpus
+      → IsReadyIf S o → RunReady S s → AreReady S s → AreReady S (mod_from_body S (onward s w r) other cpu ticks b o).0
+  modified_by_body-ready s w r other cpu ticks true o within there here runs ready = ready
+  modified_by_body-ready s w r other cpu ticks false o within there here runs ready =
+      let on : State = onward s w r in
+      let off : State = taken_off S on other.0 o in
+      place_after-ready off other.0 cpu ticks there
+      (subst (EachIs (IsInPool S)) (sym (taken_off-keeps S on other.0 o).running) (onward-runs s w r within runs)) (taken_off-ready on other.0 o here ready)
+
+  carried-ready : (s : State) (w : ℕ) (r : Running) (o : Op) → IsSetting S → IsOpInRange S o → r.pool < pool_count S → RunReady S s → AreReady S s
+      → AreReady S (carry_out S s w r o).0
+  carried-ready s w r (op.Burn ticks) setting fits within runs ready = ready
+  carried-ready s w r (op.Sleep ticks) setting fits within runs ready = ready
+  carried-ready s w r (op.Queue other cpu) setting fits within runs ready = body-ready s w r other cpu (is_disabled s other.0) (pending_at s other.0) within fits.1 runs ready
+  carried-ready s w r op.Finish setting fits within runs ready = finish-ready s w r within ready
+  carried-ready s w r (op.Delay other ticks) setting fits within runs ready =
+      delayed_by_body-ready s w r other (local_cpu S r.pool) ticks (is_disabled s other.0) (pending_at s other.0) within (local_cpu-in_range S r.pool setting.some) runs ready
+  carried-ready s w r (op.Mod other ticks) setting fits within runs ready =
+      modified_by_body-ready s w r other (local_cpu S r.pool) ticks (is_disabled s other.0) (pending_at s other.0) within (local_cpu-in_range S r.pool setting.some)
+      (ready other.0) runs ready
+  carried-ready s w r (op.Cancel other) setting fits within runs ready = taken_off-ready (onward s w r) other.0 (pending_at s other.0) (ready other.0) ready
 
   module _ (setting : IsSetting S) (s : State) (runs : RunReady S s) (ready : AreReady S s) where
     advanced-ready : (w : ℕ) (o : Option Running) → IsInPool S o → AreReady S (advance S s w o).0
-    advanced-ready w (Some r) within = carried-ready s w r (op_at S w r.pc) (setting.ops w r.pc) within runs ready
+    advanced-ready w (Some r) within = carried-ready s w r (op_at S w r.pc) setting (setting.ops w r.pc) within runs ready
     advanced-ready w None within = ready
 
     woken-ready : (w : ℕ) (o : Option Running) → AreReady S (woken s w o)

@@ -3,7 +3,7 @@ use Rattle.std.proofs.Common.{◌≡◌, ℕ, ◌+◌, ◌-◌, ◌<◌, Bool, t
 use Rattle.std.proofs.lemmas.Bool.{eqb-true, ltb-true}
 use Rattle.std.specs.Prelude.{is_some, nat_lt, slice_set, ◌==◌}
 use Rattle.cmwq_types.specs.Contents.{ScenarioContents}
-use Rattle.cmwq_types.specs.Scenario.{op_at, pool_count, queue_of}
+use Rattle.cmwq_types.specs.Scenario.{op_at, pool_count, queue_of, local_cpu}
 use Rattle.cmwq_types.specs.declared.instr.Instr.{Instr}
 use Rattle.cmwq_types.specs.declared.instr.Instr.TheVariants as instr
 use Rattle.cmwq_types.specs.declared.instr.WorkId.{WorkId}
@@ -21,7 +21,7 @@ use Rattle.cmwq_types.specs.declared.scenario.Op.{Op}
 use Rattle.cmwq_types.specs.declared.scenario.Op.TheVariants as op
 use Rattle.cmwq_table.specs.Counts.{burns, first_due, free_worker, is_deferred, is_rescuer, runs}
 use Rattle.cmwq_table.specs.Counts as counts
-use Rattle.cmwq_table.specs.Moves.{advance, become_idle, begin_again, begun, carry_out, come_to_end, deferred, fill, finish, fire, first_moving, next_move, onward, place_after, queue_from_body, rescued, retire, set_max, started, take_off, taken_off, thaw, tick, with_depth, with_running, woken}
+use Rattle.cmwq_table.specs.Moves.{advance, become_idle, begin_again, begun, carry_out, come_to_end, deferred, fill, finish, fire, first_moving, next_move, onward, place_after, queue_from_body, rescued, retire, set_max, started, take_off, taken_off, thaw, tick, with_depth, with_running, woken, delay_from_body, mod_from_body}
 use Rattle.cmwq_table.specs.State.{State, depth_at, is_disabled, pending_at, running_at}
 use Rattle.cmwq_table.specs.Table.{answer, cancelled, delayed, effect, fired_first, modified, next, operands, queued, refuse_unless, situation, spent_all, step_or_tick, stepped, table, target_at, unsettled, yes_or_no, is_met, next_unless}
 use Rattle.cmwq_table.specs.declared.state.Pending.{Pending}
@@ -95,19 +95,51 @@ module _ (S : ScenarioContents) (s : State) where
       let same : r.left + burns_before S w.0 (r.pc + 1) ≡ r.left + burns_before S w.0 r.pc = no-more r.left (burns_before S w.0 r.pc) (burns_before S w.0 (r.pc + 1)) (burn_of (op_at S w.0 r.pc)) (before-next S w.0 r.pc) (ap burn_of at) in
       running-moves w r (Some q) e (slice_set s.running w.0 (Some q)) s.time h is refl refl (Changes.goes_on r q e refl same refl refl)
 
-  onward-does : (w : WorkId) (r : Running) (other : WorkId) (cpu : ℕ) (e : Event) → w.0 < length S.works → running_at s w.0 ≡ Some r → op_at S w.0 r.pc ≡ op.Queue other cpu
+  onward-does : (w : WorkId) (r : Running) (e : Event) → w.0 < length S.works → running_at s w.0 ≡ Some r → burn_of (op_at S w.0 r.pc) ≡ 0
       → is_start e ≡ false → is_end e ≡ false → Happens S s (onward s w.0 r).running s.time (reply.Event w e)
-  onward-does w r other cpu e h is at no_start no_end =
+  onward-does w r e h is burns_none no_start no_end =
       let q : Running = record r { pc = r.pc + 1 } in
-      let same : r.left + burns_before S w.0 (r.pc + 1) ≡ r.left + burns_before S w.0 r.pc = no-more r.left (burns_before S w.0 r.pc) (burns_before S w.0 (r.pc + 1)) (burn_of (op_at S w.0 r.pc)) (before-next S w.0 r.pc) (ap burn_of at) in
+      let same : r.left + burns_before S w.0 (r.pc + 1) ≡ r.left + burns_before S w.0 r.pc = no-more r.left (burns_before S w.0 r.pc) (burns_before S w.0 (r.pc + 1)) (burn_of (op_at S w.0 r.pc)) (before-next S w.0 r.pc) burns_none in
       running-moves w r (Some q) e (slice_set s.running w.0 (Some q)) s.time h is refl refl (Changes.goes_on r q e refl same no_start no_end)
 
   queue-does : (w : WorkId) (r : Running) (other : WorkId) (cpu : ℕ) (b : Bool) (o : Option Pending) → w.0 < length S.works → running_at s w.0 ≡ Some r
       → op_at S w.0 r.pc ≡ op.Queue other cpu
       → Does S s ((queue_from_body S (onward s w.0 r) other cpu b o).0, reply.Event w (queue_from_body S (onward s w.0 r) other cpu b o).1)
-  queue-does w r other cpu true o h is at = onward-does w r other cpu (event.QueuesDisabled other) h is at refl refl
-  queue-does w r other cpu false (Some p) h is at = onward-does w r other cpu (event.Queues other true) h is at refl refl
-  queue-does w r other cpu false None h is at = onward-does w r other cpu (event.Queues other false) h is at refl refl
+  queue-does w r other cpu true o h is at = onward-does w r (event.QueuesDisabled other) h is (ap burn_of at) refl refl
+  queue-does w r other cpu false (Some p) h is at = onward-does w r (event.Queues other true) h is (ap burn_of at) refl refl
+  queue-does w r other cpu false None h is at = onward-does w r (event.Queues other false) h is (ap burn_of at) refl refl
+
+  -- what happens then, where the works run on as they did
+  keeps-on : (t u : State) (r : Reply) → Does S s (t, r) → Keeps t u → Does S s (u, r)
+  keeps-on t u r does keeps =
+      subst (λ (time : ℕ). Happens S s u.running time r) (sym keeps.time) (subst (λ (running : List (Option Running)). Happens S s running t.time r) (sym keeps.running) does)
+
+  delay-does : (w : WorkId) (r : Running) (other : WorkId) (cpu ticks : ℕ) (b : Bool) (o : Option Pending) → w.0 < length S.works → running_at s w.0 ≡ Some r
+      → op_at S w.0 r.pc ≡ op.Delay other ticks
+      → Does S s ((delay_from_body S (onward s w.0 r) other cpu ticks b o).0, reply.Event w (delay_from_body S (onward s w.0 r) other cpu ticks b o).1)
+  delay-does w r other cpu ticks true o h is at = onward-does w r (event.DelaysDisabled other ticks) h is (ap burn_of at) refl refl
+  delay-does w r other cpu ticks false (Some p) h is at = onward-does w r (event.Delays other ticks true) h is (ap burn_of at) refl refl
+  delay-does w r other cpu ticks false None h is at =
+      let on : State = onward s w.0 r in
+      keeps-on on (place_after S on other.0 cpu ticks) (reply.Event w (event.Delays other ticks false)) (onward-does w r (event.Delays other ticks false) h is (ap burn_of at) refl refl)
+      (place_after-keeps S on other.0 cpu ticks)
+
+  mod-does : (w : WorkId) (r : Running) (other : WorkId) (cpu ticks : ℕ) (b : Bool) (o : Option Pending) → w.0 < length S.works → running_at s w.0 ≡ Some r
+      → op_at S w.0 r.pc ≡ op.Mod other ticks
+      → Does S s ((mod_from_body S (onward s w.0 r) other cpu ticks b o).0, reply.Event w (mod_from_body S (onward s w.0 r) other cpu ticks b o).1)
+  mod-does w r other cpu ticks true o h is at = onward-does w r (event.ModsDisabled other ticks) h is (ap burn_of at) refl refl
+  mod-does w r other cpu ticks false o h is at =
+      let on : State = onward s w.0 r in
+      let e : Event = event.Mods other ticks (is_some o) in
+      keeps-on on (place_after S (taken_off S on other.0 o) other.0 cpu ticks) (reply.Event w e) (onward-does w r e h is (ap burn_of at) refl refl)
+      (modified-keeps S on other.0 cpu ticks o)
+
+  cancel-does : (w : WorkId) (r : Running) (other : WorkId) (o : Option Pending) → w.0 < length S.works → running_at s w.0 ≡ Some r
+      → op_at S w.0 r.pc ≡ op.Cancel other → Does S s (taken_off S (onward s w.0 r) other.0 o, reply.Event w (event.Cancels other (is_some o)))
+  cancel-does w r other o h is at =
+      let on : State = onward s w.0 r in
+      let e : Event = event.Cancels other (is_some o) in
+      keeps-on on (taken_off S on other.0 o) (reply.Event w e) (onward-does w r e h is (ap burn_of at) refl refl) (taken_off-keeps S on other.0 o)
 
   -- The end of a body.
 
@@ -132,11 +164,6 @@ module _ (S : ScenarioContents) (s : State) where
   comes-to_end w r (Some p) h is ended = begins-again w r p (is_deferred p.place) h is ended
   comes-to_end w r None h is ended = retires w r (is_rescuer r.worker) h is ended
 
-  -- what happens then, where the works run on as they did
-  keeps-on : (t u : State) (r : Reply) → Does S s (t, r) → Keeps t u → Does S s (u, r)
-  keeps-on t u r does keeps =
-      subst (λ (time : ℕ). Happens S s u.running time r) (sym keeps.time) (subst (λ (running : List (Option Running)). Happens S s running t.time r) (sym keeps.running) does)
-
   finish-does : (w : WorkId) (r : Running) → w.0 < length S.works → running_at s w.0 ≡ Some r → IsAtEnd S w.0 r
       → Does S s ((finish S s w.0 r).0, reply.Event w (finish S s w.0 r).1)
   finish-does w r h is ended =
@@ -151,6 +178,9 @@ module _ (S : ScenarioContents) (s : State) where
   carries-out w r (op.Sleep ticks) h is done at = sleep-does w r ticks h is at
   carries-out w r (op.Queue other cpu) h is done at = queue-does w r other cpu (is_disabled s other.0) (pending_at s other.0) h is at
   carries-out w r op.Finish h is done at = finish-does w r h is (record { left = done; finish = at })
+  carries-out w r (op.Delay other ticks) h is done at = delay-does w r other (local_cpu S r.pool) ticks (is_disabled s other.0) (pending_at s other.0) h is at
+  carries-out w r (op.Mod other ticks) h is done at = mod-does w r other (local_cpu S r.pool) ticks (is_disabled s other.0) (pending_at s other.0) h is at
+  carries-out w r (op.Cancel other) h is done at = cancel-does w r other (pending_at s other.0) h is at
 
   advances : (w : WorkId) (o : Option Running) → w.0 < length S.works → running_at s w.0 ≡ o → runs (λ r. r.left == 0) o ≡ true
       → Does S s ((advance S s w.0 o).0, reply.Event w (advance S s w.0 o).1)

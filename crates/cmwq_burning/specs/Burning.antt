@@ -24,6 +24,9 @@ burn_of (op.Burn ticks) = ticks
 burn_of (op.Sleep ticks) = 0
 burn_of (op.Queue work cpu) = 0
 burn_of op.Finish = 0
+burn_of (op.Delay work ticks) = 0
+burn_of (op.Mod work ticks) = 0
+burn_of (op.Cancel work) = 0
 
 -- the sum of the burns of the work's body
 abbrev pub burns_of_body : ScenarioContents → ℕ → ℕ
@@ -47,6 +50,11 @@ is_start event.Defers = false
 is_start event.Fires = false
 is_start (event.Queues other already) = false
 is_start (event.QueuesDisabled other) = false
+is_start (event.Delays other ticks already) = false
+is_start (event.DelaysDisabled other ticks) = false
+is_start (event.Mods other ticks changed) = false
+is_start (event.ModsDisabled other ticks) = false
+is_start (event.Cancels other was) = false
 
 abbrev pub is_end : Event → Bool
 is_end event.Finishes = true
@@ -60,6 +68,11 @@ is_end event.Defers = false
 is_end event.Fires = false
 is_end (event.Queues other already) = false
 is_end (event.QueuesDisabled other) = false
+is_end (event.Delays other ticks already) = false
+is_end (event.DelaysDisabled other ticks) = false
+is_end (event.Mods other ticks changed) = false
+is_end (event.ModsDisabled other ticks) = false
+is_end (event.Cancels other was) = false
 
 -- the reply tells of an event of the work that passes
 abbrev pub tells_event : (Event → Bool) → ℕ → Reply → Bool

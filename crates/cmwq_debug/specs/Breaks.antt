@@ -34,6 +34,11 @@ is_kind kind.Defers event.Defers = true
 is_kind kind.Fires event.Fires = true
 is_kind kind.Queues (event.Queues other already) = true
 is_kind kind.Queues (event.QueuesDisabled other) = true
+is_kind kind.Delays (event.Delays other ticks already) = true
+is_kind kind.Delays (event.DelaysDisabled other ticks) = true
+is_kind kind.Mods (event.Mods other ticks changed) = true
+is_kind kind.Mods (event.ModsDisabled other ticks) = true
+is_kind kind.Cancels (event.Cancels other was) = true
 is_kind kind other = false
 
 -- an event of the kind, of this work

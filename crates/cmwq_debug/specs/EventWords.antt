@@ -14,9 +14,14 @@ kind_word kind.Finishes = codes "finishes"
 kind_word kind.Defers = codes "defers"
 kind_word kind.Fires = codes "fires"
 kind_word kind.Queues = codes "queues"
+kind_word kind.Delays = codes "delays"
+kind_word kind.Mods = codes "mods"
+kind_word kind.Cancels = codes "cancels"
 
 abbrev pub kinds : List EventKind
-kinds = kind.Starts ∷ kind.Burns ∷ kind.Sleeps ∷ kind.Wakes ∷ kind.Finishes ∷ kind.Defers ∷ kind.Fires ∷ kind.Queues ∷ []
+kinds =
+    kind.Starts ∷ kind.Burns ∷ kind.Sleeps ∷ kind.Wakes ∷ kind.Finishes ∷ kind.Defers ∷ kind.Fires ∷ kind.Queues ∷ kind.Delays ∷ kind.Mods
+    ∷ kind.Cancels ∷ []
 
 -- the first of these that is spelled so
 abbrev pub first_kind : List EventKind → List ℕ → Option EventKind

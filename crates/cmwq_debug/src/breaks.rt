@@ -75,6 +75,11 @@ fn is_kind(kind: EventKind, event: Event) -> bool
         EventKind::Queues => {
             matches!(event, Event::Queues { .. } | Event::QueuesDisabled { .. })
         }
+        EventKind::Delays => {
+            matches!(event, Event::Delays { .. } | Event::DelaysDisabled { .. })
+        }
+        EventKind::Mods => { matches!(event, Event::Mods { .. } | Event::ModsDisabled { .. }) }
+        EventKind::Cancels => matches!(event, Event::Cancels { .. }),
     }
 }
 

@@ -13,7 +13,7 @@ pub enum Command {
     /// Goes to the position. Refused, as `PastEnd`, where it is above the list's length.
     Goto(u32),
     /// Makes a break on each event of the kind of the work: of the work that moved, not of one that it
-    /// queues.
+    /// queues or takes off.
     ///
     /// Refused, as `NoSuchWork`, where no work has the number, and then, as `TooManyBreaks`, where there
     /// are [`crate::MAX_BREAKS`] breaks.
@@ -63,6 +63,12 @@ pub enum EventKind {
     Fires,
     /// It queues a work, or finds it pending or disabled.
     Queues,
+    /// It queues a work after some ticks, or finds it pending or disabled.
+    Delays,
+    /// It queues a work anew after some ticks, or finds it disabled.
+    Mods,
+    /// It takes a work off, or finds it not pending.
+    Cancels,
 }
 
 /// What a debugger says to a command that it carried out.

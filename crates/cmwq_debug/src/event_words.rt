@@ -4,7 +4,7 @@ ghost use Rattle.std.specs.Prelude.{◌≡◌};
 
 use crate::command::EventKind;
 
-const KINDS: [EventKind; 8] = [
+const KINDS: [EventKind; 11] = [
     EventKind::Starts,
     EventKind::Burns,
     EventKind::Sleeps,
@@ -13,6 +13,9 @@ const KINDS: [EventKind; 8] = [
     EventKind::Defers,
     EventKind::Fires,
     EventKind::Queues,
+    EventKind::Delays,
+    EventKind::Mods,
+    EventKind::Cancels,
 ];
 
 impl EventKind {
@@ -36,6 +39,9 @@ impl EventKind {
             EventKind::Defers => "defers",
             EventKind::Fires => "fires",
             EventKind::Queues => "queues",
+            EventKind::Delays => "delays",
+            EventKind::Mods => "mods",
+            EventKind::Cancels => "cancels",
         }
     }
 }

@@ -18,7 +18,7 @@ use Rattle.cmwq_types.specs.declared.scenario.Line.{Line}
 use Rattle.cmwq_types.specs.declared.scenario.Op.TheVariants as op
 use Rattle.cmwq_debug_lines.specs.declared.order.Order.{Order}
 use Rattle.cmwq_debug_lines.specs.declared.order.Order.TheVariants as order
-use Rattle.cmwq_examples.specs.Declare.{cancel, delay, enqueue, queue, queues, scenario, times, work}
+use Rattle.cmwq_examples.specs.Declare.{cancel, delay, disable, enqueue, queue, queues, scenario, times, work}
 use Rattle.cmwq_types.specs.Listing.{text_of_lines}
 
 -- what a debugger of these instructions says to the commands
@@ -117,6 +117,35 @@ dump_at_8 =
 
 abbrev pub disabled_breaks_answers : List (Result Answer DebugError)
 disabled_breaks_answers = Ok (Broke 0) ∷ Ok (Broke 1) ∷ at_break 8 0 1 ∷ Ok (Text dump_at_8) ∷ stands_at 17 1 ∷ []
+
+-- The body of a sets b's timer, sets it anew, and takes b off, twice; then it finds b disabled.
+
+abbrev pub timers_from_bodies : ScenarioContents
+timers_from_bodies =
+    scenario 1000 (queue (codes "q") 8 plain_flags ∷ [])
+    (work (codes "a") 0
+    (op.Delay (record { 0 = 1 }) 2 ∷ op.Mod (record { 0 = 1 }) 1 ∷ op.Cancel (record { 0 = 1 }) ∷ op.Cancel (record { 0 = 1 }) ∷ op.Finish ∷ [])
+    ∷ work (codes "b") 0 (op.Finish ∷ []) ∷ [])
+    (enqueue 0 0 ∷ times instr.Next 6 ∷ disable 1 ∷ enqueue 0 0 ∷ times instr.Next 6 ∷ [])
+
+-- those on b stand first, and no event is b's
+abbrev pub timers_from_bodies_breaks : List Command
+timers_from_bodies_breaks =
+    break_on 1 kind.Delays ∷ break_on 1 kind.Mods ∷ break_on 1 kind.Cancels ∷ break_on 0 kind.Delays ∷ break_on 0 kind.Mods
+    ∷ break_on 0 kind.Cancels ∷ command.List ∷ replicate 10 command.Run
+
+abbrev pub six_breaks : List ℕ
+six_breaks =
+    text_of_lines (
+    codes "break 0 work b event delays" ∷ codes "break 1 work b event mods" ∷ codes "break 2 work b event cancels" ∷
+    codes "break 3 work a event delays" ∷ codes "break 4 work a event mods" ∷ codes "break 5 work a event cancels" ∷ [])
+
+-- a starts at 2 and at 10; from 11 on b is disabled, and not pending
+abbrev pub timers_from_bodies_answers : List (Result Answer DebugError)
+timers_from_bodies_answers =
+    Ok (Broke 0) ∷ Ok (Broke 1) ∷ Ok (Broke 2) ∷ Ok (Broke 3) ∷ Ok (Broke 4) ∷ Ok (Broke 5) ∷ Ok (Text six_breaks)
+    ∷ at_break 3 0 3 ∷ at_break 4 0 4 ∷ at_break 5 0 5 ∷ at_break 6 0 5 ∷ at_break 11 0 3 ∷ at_break 12 0 4 ∷ at_break 13 0 5
+    ∷ at_break 14 0 5 ∷ stands_at 15 0 ∷ Err error.PastEnd ∷ []
 
 -- The rescuer of b's queue takes it while memory is short, before c, which was queued first.
 

@@ -3,7 +3,7 @@
 #![tactic(auto)]
 
 ghost use Rattle.cmwq_debug.specs.Checkpoints.{entered, left_out, no_checkpoints, passed, turn_for};
-ghost use Rattle.cmwq_debug_examples.specs.Debugged.{activation, activation_answers, activation_breaks, at_even_multiples, commands_answered, commands_over_a_tick, chain_answers, chain_questions, disabled_breaks, disabled_breaks_answers, each_event, each_event_answers, each_event_breaks, ended_session, event_breaks, event_breaks_answers, hold_answers, hold_questions, list_answers, list_questions, all_instrs, many_breaks, many_breaks_answers, one_missing, one_tick, refusal_breaks, refusal_breaks_answers, refusals, rescuer_breaks, rescuer_breaks_answers, said_at_ended_terminal, said_at_terminal, said_in_ended_session, said_over_a_tick, short_orders, short_words, spread_at, there_and_back, there_and_back_answers, typed_commands};
+ghost use Rattle.cmwq_debug_examples.specs.Debugged.{activation, activation_answers, activation_breaks, at_even_multiples, commands_answered, commands_over_a_tick, chain_answers, chain_questions, disabled_breaks, disabled_breaks_answers, each_event, each_event_answers, each_event_breaks, ended_session, event_breaks, event_breaks_answers, hold_answers, hold_questions, list_answers, list_questions, all_instrs, many_breaks, many_breaks_answers, one_missing, one_tick, refusal_breaks, refusal_breaks_answers, refusals, rescuer_breaks, rescuer_breaks_answers, said_at_ended_terminal, said_at_terminal, said_in_ended_session, said_over_a_tick, short_orders, short_words, spread_at, there_and_back, there_and_back_answers, timers_from_bodies, timers_from_bodies_answers, timers_from_bodies_breaks, typed_commands};
 ghost use Rattle.cmwq_debug_lines.specs.Orders.{order_of};
 ghost use Rattle.cmwq_debug_lines.specs.Prompt.{debugged};
 ghost use Rattle.cmwq_debug_lines.specs.declared.manner.Manner.TheVariants.{Plain, Prompted};
@@ -53,6 +53,12 @@ pub fn each_kind_of_event_is_met()
 /// disabled; the dump there has the depth.
 pub fn disabled_work_is_not_queued()
     ensures { commands_answered disabled_twice (all_instrs disabled_twice) disabled_breaks ≡ disabled_breaks_answers }
+{}
+
+/// A break on `delays`, `mods` or `cancels` stops a run at each such event of its work, whatever came of it, and not at those that
+/// name its work.
+pub fn timers_from_bodies_are_met()
+    ensures { commands_answered timers_from_bodies (all_instrs timers_from_bodies) timers_from_bodies_breaks ≡ timers_from_bodies_answers }
 {}
 
 /// A break on `starts` stops a run where a rescuer takes its work; the dump there says that memory is short, and names no worker
@@ -123,6 +129,7 @@ pub fn scenarios_are_valid()
     ensures each_event { IsValid each_event }
     ensures activation { IsValid activation }
     ensures one_tick { IsValid one_tick }
+    ensures timers_from_bodies { IsValid timers_from_bodies }
 {}
 
 /// Checkpoints on a long way there and back, where there is memory for each: at each 64th position, until there would be more than 256 of

@@ -2,7 +2,7 @@
 use Rattle.std.proofs.Common.{◌≡◌, ℕ, zero, suc, ◌+◌, Bool, true, false, cond, List, [], ◌∷◌, length, Option, Some, None, refl, ap, ◌∙◌}
 use Rattle.std.proofs.lemmas.List.{length-set}
 use Rattle.cmwq_types.specs.Contents.{ScenarioContents}
-use Rattle.cmwq_types.specs.Scenario.{flags_at, op_at, queue_of}
+use Rattle.cmwq_types.specs.Scenario.{flags_at, op_at, queue_of, local_cpu}
 use Rattle.cmwq_types.specs.declared.instr.Instr.{Instr}
 use Rattle.cmwq_types.specs.declared.instr.Instr.TheVariants as instr
 use Rattle.cmwq_types.specs.declared.instr.WorkId.{WorkId}
@@ -19,7 +19,7 @@ use Rattle.cmwq_table.specs.declared.state.Pending.{Pending}
 use Rattle.cmwq_table.specs.declared.state.Running.{Running}
 use Rattle.cmwq_table.specs.State.{State, depth_at, is_disabled, pending_at, pool_count, running_at}
 use Rattle.cmwq_table.specs.Counts.{burns, first_due, first_inactive, free_worker, has_room, is_deferred, is_rescuer}
-use Rattle.cmwq_table.specs.Moves.{advance, become_idle, begin_again, burned, carry_out, come_to_end, deferred, enlist, fill, fill_everywhere, fill_freezable, fill_from, fill_one, fill_pools, fill_times, finish, fired, fired_to, first_moving, moved, next_move, onward, place_after, queue_from_body, rescued, retire, started, taken_off, with_depth, with_pending, with_running, woken}
+use Rattle.cmwq_table.specs.Moves.{advance, become_idle, begin_again, burned, carry_out, come_to_end, deferred, enlist, fill, fill_everywhere, fill_freezable, fill_from, fill_one, fill_pools, fill_times, finish, fired, fired_to, first_moving, moved, next_move, onward, place_after, queue_from_body, rescued, retire, started, taken_off, with_depth, with_pending, with_running, woken, delay_from_body, mod_from_body}
 use Rattle.cmwq_table.specs.Table.{answer, cancelled, delayed, effect, fired_first, modified, next, queued, refusal, step_or_tick, stepped, table, is_met, next_unless}
 
 -- What fills, places or takes off changes no run.
@@ -99,12 +99,27 @@ module _ (S : ScenarioContents) where
   from_body-long s other cpu false (Some p) = refl
   from_body-long s other cpu false None = refl
 
+  delay_from_body-long : (s : State) (other : WorkId) (cpu ticks : ℕ) (b : Bool) (p : Option Pending) → Long (delay_from_body S s other cpu ticks b p).0 s
+  delay_from_body-long s other cpu ticks true p = refl
+  delay_from_body-long s other cpu ticks false (Some p) = refl
+  delay_from_body-long s other cpu ticks false None = ap length (place_after-runs s other.0 cpu ticks)
+
+  mod_from_body-long : (s : State) (other : WorkId) (cpu ticks : ℕ) (b : Bool) (p : Option Pending) → Long (mod_from_body S s other cpu ticks b p).0 s
+  mod_from_body-long s other cpu ticks true p = refl
+  mod_from_body-long s other cpu ticks false p =
+      ap length (place_after-runs (taken_off S s other.0 p) other.0 cpu ticks ∙ taken_off-runs s other.0 p)
+
   carry_out-long : (s : State) (w : ℕ) (r : Running) (op : Op) → Long (carry_out S s w r op).0 s
   carry_out-long s w r (op.Burn ticks) = length-set s.running w _
   carry_out-long s w r (op.Sleep ticks) = length-set s.running w _
   carry_out-long s w r (op.Queue other cpu) =
       from_body-long (onward s w r) other cpu (is_disabled s other.0) (pending_at s other.0) ∙ length-set s.running w _
   carry_out-long s w r op.Finish = finish-long s w r
+  carry_out-long s w r (op.Delay other ticks) =
+      delay_from_body-long (onward s w r) other (local_cpu S r.pool) ticks (is_disabled s other.0) (pending_at s other.0) ∙ length-set s.running w _
+  carry_out-long s w r (op.Mod other ticks) =
+      mod_from_body-long (onward s w r) other (local_cpu S r.pool) ticks (is_disabled s other.0) (pending_at s other.0) ∙ length-set s.running w _
+  carry_out-long s w r (op.Cancel other) = ap length (taken_off-runs (onward s w r) other.0 (pending_at s other.0)) ∙ length-set s.running w _
 
   advance-long : (s : State) (w : ℕ) (r : Option Running) → Long (advance S s w r).0 s
   advance-long s w (Some r) = carry_out-long s w r (op_at S w r.pc)

@@ -4,7 +4,7 @@ use Rattle.std.specs.List.{flat_map, list_any}
 use Rattle.cmwq_types.specs.Contents.{ScenarioContents}
 use Rattle.cmwq_types.specs.First.{or_else}
 use Rattle.cmwq_types.specs.Places.{is_placed}
-use Rattle.cmwq_types.specs.Scenario.{op_at}
+use Rattle.cmwq_types.specs.Scenario.{op_at, local_cpu}
 use Rattle.cmwq_types.specs.declared.instr.Instr.{Instr}
 use Rattle.cmwq_types.specs.declared.instr.Instr.TheVariants as instr
 use Rattle.cmwq_types.specs.declared.instr.WorkId.{WorkId}
@@ -46,15 +46,18 @@ abbrev pub timer_cpu : Option Pending → ℕ
 timer_cpu (Some p) = place_cpu p.place
 timer_cpu None = 0
 
--- the CPU for which a body asks by an operation
-abbrev pub op_cpu : Op → ℕ
-op_cpu (op.Queue other cpu) = cpu
-op_cpu (op.Burn ticks) = 0
-op_cpu (op.Sleep ticks) = 0
-op_cpu op.Finish = 0
+-- the CPU for which a body that runs in the pool asks by an operation
+abbrev pub op_cpu : ScenarioContents → ℕ → Op → ℕ
+op_cpu S pool (op.Queue other cpu) = cpu
+op_cpu S pool (op.Delay other ticks) = local_cpu S pool
+op_cpu S pool (op.Mod other ticks) = local_cpu S pool
+op_cpu S pool (op.Cancel other) = 0
+op_cpu S pool (op.Burn ticks) = 0
+op_cpu S pool (op.Sleep ticks) = 0
+op_cpu S pool op.Finish = 0
 
 abbrev pub body_cpu : ScenarioContents → ℕ → Option Running → ℕ
-body_cpu S w (Some r) = op_cpu (op_at S w r.pc)
+body_cpu S w (Some r) = op_cpu S r.pool (op_at S w r.pc)
 body_cpu S w None = 0
 
 -- for which CPU the machine asks that moves a work by an event: its timer's, or that of its body's operation

@@ -1,9 +1,10 @@
 //! Who does what an instruction does.
 ghost use Rattle.cmwq_events.specs.KernelEvents.{asked_cpu, body_cpu, doer_of, doing_task, event_cpu, mover, op_cpu, place_cpu, reply_cpu, timer_cpu, worker_of};
 ghost use Rattle.cmwq_table.specs.State.{State};
+ghost use Rattle.cmwq_types.specs.Scenario.{local_cpu};
 ghost use Rattle.std.specs.Prelude.{◌≡◌, None, slice_index_or};
 
-use crate::kernel_task::KernelTask;
+use crate::kernel_task::{KernelTask, is_unbound};
 use cmwq_table::{Pending, Reads, Running};
 use cmwq_types::{Event, Instr, Op, Place, Reply, Scenario};
 
@@ -143,17 +144,30 @@ fn body_cpu(scenario: &Scenario, w: usize, running: Option<Running>) -> u8
     ensures { result ≡ body_cpu scenario.now w running }
 {
     match running {
-        Some(r) => op_cpu(scenario.op_of(w, r.pc)),
+        Some(r) => op_cpu(scenario, r.pool, scenario.op_of(w, r.pc)),
         None => 0,
     }
 }
 
-fn op_cpu(op: Op) -> u8
-    ensures { result ≡ op_cpu op }
+/// For which CPU a body that runs in the pool asks by the operation.
+fn op_cpu(scenario: &Scenario, pool: u8, op: Op) -> u8
+    ensures { result ≡ op_cpu scenario.now pool op }
 {
     match op {
         Op::Queue(_, cpu) => cpu,
+        Op::Delay(..) | Op::Mod(..) => local_cpu(scenario, pool),
         _ => 0,
+    }
+}
+
+/// The CPU of the pool, and CPU 0 where that is unbound.
+fn local_cpu(scenario: &Scenario, pool: u8) -> u8
+    ensures { result ≡ local_cpu scenario.now pool }
+{
+    if is_unbound(scenario, pool) {
+        0
+    } else {
+        pool / 2
     }
 }
 

@@ -177,7 +177,7 @@ impl fmt::Display for PoolMark<'_> {
 }
 
 /// Whether the pool is one of the two unbound ones.
-fn is_unbound(scenario: &Scenario, pool: u8) -> bool
+pub(crate) fn is_unbound(scenario: &Scenario, pool: u8) -> bool
     ensures { result ≡ is_unbound scenario.now pool }
 {
     2 * u16::from(scenario.cpus) <= u16::from(pool)

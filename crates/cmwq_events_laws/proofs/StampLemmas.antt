@@ -1,8 +1,8 @@
 -- What an instruction does to the stamps of what runs.
 use Rattle.std.proofs.Common.{◌≡◌, ℕ, zero, suc, ◌+◌, ◌-◌, ◌<◌, ◌≤◌, Bool, true, false, cond, List, length, Option, Some, None, arith, refl, sym, ◌∙◌, subst, inl, inr, ◌⊎◌}
-use Rattle.std.specs.Prelude.{slice_set, ◌==◌}
+use Rattle.std.specs.Prelude.{is_some, slice_set, ◌==◌}
 use Rattle.cmwq_types.specs.Contents.{ScenarioContents}
-use Rattle.cmwq_types.specs.Scenario.{op_at, queue_of}
+use Rattle.cmwq_types.specs.Scenario.{op_at, queue_of, local_cpu}
 use Rattle.cmwq_types.specs.declared.instr.Instr.{Instr}
 use Rattle.cmwq_types.specs.declared.instr.Instr.TheVariants as instr
 use Rattle.cmwq_types.specs.declared.instr.WorkId.{WorkId}
@@ -12,6 +12,8 @@ use Rattle.cmwq_types.specs.declared.moves.Move.TheVariants.{Advance, Wake, Star
 use Rattle.cmwq_types.specs.declared.reply.Event.{Event}
 use Rattle.cmwq_types.specs.declared.reply.Event.TheVariants as event
 use Rattle.cmwq_types.specs.declared.reply.Mode.TheVariants.{Asleep, Runnable}
+use Rattle.cmwq_types.specs.declared.reply.Place.{Place}
+use Rattle.cmwq_types.specs.declared.reply.Place.TheVariants.{Timer, Inactive, Listed, Deferred}
 use Rattle.cmwq_types.specs.declared.reply.Refusal.{Refusal}
 use Rattle.cmwq_types.specs.declared.reply.Reply.{Reply}
 use Rattle.cmwq_types.specs.declared.reply.Reply.TheVariants as reply
@@ -22,7 +24,7 @@ use Rattle.cmwq_table.specs.declared.state.Running.{Running}
 use Rattle.cmwq_table.specs.Laws.{is_wake}
 use Rattle.cmwq_table.specs.State.{State, depth_at, is_disabled, pending_at, pool_count, running_at}
 use Rattle.cmwq_table.specs.Counts.{burns, first_due, first_inactive, free_worker, has_room, is_deferred, is_done, is_busy, is_rescuer}
-use Rattle.cmwq_table.specs.Moves.{advance, become_idle, begin_again, begun, burned, carry_out, come_to_end, deferred, enlist, fill, fill_one, fill_times, filled, first_moving, moved, moved_work, next_move, onward, place, queue_from_body, rescued, retire, started, with_depth, with_running, woken}
+use Rattle.cmwq_table.specs.Moves.{advance, become_idle, begin_again, begun, burned, carry_out, come_to_end, deferred, enlist, fill, fill_one, fill_times, filled, first_moving, moved, moved_work, next_move, onward, place, queue_from_body, rescued, retire, started, with_depth, with_running, woken, delay_from_body, mod_from_body, fill_from, place_after, taken_off, with_pending}
 use Rattle.cmwq_table.specs.Table.{answer, cancelled, delayed, disabled, effect, fired_first, modified, next, queued, refusal, step_or_tick, stepped, table, target_at, yes_or_no, is_met, next_unless}
 use Rattle.cmwq_burning.specs.Burning.{is_start}
 use Rattle.cmwq_events.proofs.CallerLemmas.{fill-runs, fill_freezable-runs, fill_pools-runs, fired-runs, place_after-runs, taken_off-runs}
@@ -67,6 +69,20 @@ module _ (S : ScenarioContents) where
       let more = fill-next queue pool n (fill_one S queue pool s) in
       omega (arith, first, more)
 
+  place_after-next : (s : State) (w cpu ticks : ℕ) → s.next ≤ (place_after S s w cpu ticks).next
+  place_after-next s w cpu zero = omega arith
+  place_after-next s w cpu (suc ticks) = omega arith
+
+  fill_from-next : (queue : ℕ) (place : Place) (s : State) → s.next ≤ (fill_from S queue place s).next
+  fill_from-next queue (Timer due cpu) s = omega arith
+  fill_from-next queue (Inactive pool) s = fill-next queue pool (length S.works) s
+  fill_from-next queue (Listed pool) s = fill-next queue pool (length S.works) s
+  fill_from-next queue (Deferred pool) s = fill-next queue pool (length S.works) s
+
+  taken_off-next : (s : State) (w : ℕ) (p : Option Pending) → s.next ≤ (taken_off S s w p).next
+  taken_off-next s w (Some p) = fill_from-next (queue_of S w) p.place (with_pending s w None)
+  taken_off-next s w None = omega arith
+
   abbrev Does : State → State × Reply → Type 0
   Does s after = RunMoves s after.0.running after.0.next after.1
 
@@ -108,10 +124,45 @@ module _ (S : ScenarioContents) where
       (later-fits s.next s.next (place S (onward s w.0 r) other.0 cpu).next (running_at s w.0) (Some (record r { pc = r.pc + 1 })) (event.Queues other false) (omega arith)
       (keeps s w r (record r { pc = r.pc + 1 }) (event.Queues other false) is refl (refl, refl) refl))
 
+  -- the body goes on by one operation, and what comes of that changes no other run
+  goes-on : (s t : State) (w : WorkId) (r : Running) (e : Event) → running_at s w.0 ≡ Some r → is_again e ≡ false → t.running ≡ (onward s w.0 r).running → s.next ≤ t.next
+      → Moved s w (t, e)
+  goes-on s t w r e is told runs later =
+      let q : Running = record r { pc = r.pc + 1 } in
+      RunMoves.moves w e (Some q) runs refl (later-fits s.next s.next t.next (running_at s w.0) (Some q) e later (keeps s w r q e is refl (refl, refl) told))
+
+  delays-from-body : (s : State) (w : WorkId) (r : Running) (other : WorkId) (cpu ticks : ℕ) (b : Bool) (p : Option Pending) → running_at s w.0 ≡ Some r
+      → Moved s w (delay_from_body S (onward s w.0 r) other cpu ticks b p)
+  delays-from-body s w r other cpu ticks true p is = goes-on s (onward s w.0 r) w r (event.DelaysDisabled other ticks) is refl refl (omega arith)
+  delays-from-body s w r other cpu ticks false (Some p) is = goes-on s (onward s w.0 r) w r (event.Delays other ticks true) is refl refl (omega arith)
+  delays-from-body s w r other cpu ticks false None is =
+      let on : State = onward s w.0 r in
+      goes-on s (place_after S on other.0 cpu ticks) w r (event.Delays other ticks false) is refl (place_after-runs S on other.0 cpu ticks) (place_after-next on other.0 cpu ticks)
+
+  mods-from-body : (s : State) (w : WorkId) (r : Running) (other : WorkId) (cpu ticks : ℕ) (b : Bool) (p : Option Pending) → running_at s w.0 ≡ Some r
+      → Moved s w (mod_from_body S (onward s w.0 r) other cpu ticks b p)
+  mods-from-body s w r other cpu ticks true p is = goes-on s (onward s w.0 r) w r (event.ModsDisabled other ticks) is refl refl (omega arith)
+  mods-from-body s w r other cpu ticks false p is =
+      let on : State = onward s w.0 r in
+      let off : State = taken_off S on other.0 p in
+      let first = taken_off-next on other.0 p in
+      let second = place_after-next off other.0 cpu ticks in
+      goes-on s (place_after S off other.0 cpu ticks) w r (event.Mods other ticks (is_some p)) is refl (place_after-runs S off other.0 cpu ticks ∙ taken_off-runs S on other.0 p)
+      (omega (arith, first, second))
+
+  cancels-from-body : (s : State) (w : WorkId) (r : Running) (other : WorkId) (p : Option Pending) → running_at s w.0 ≡ Some r
+      → Moved s w (taken_off S (onward s w.0 r) other.0 p, event.Cancels other (is_some p))
+  cancels-from-body s w r other p is =
+      let on : State = onward s w.0 r in
+      goes-on s (taken_off S on other.0 p) w r (event.Cancels other (is_some p)) is refl (taken_off-runs S on other.0 p) (taken_off-next on other.0 p)
+
   carried : (s : State) (w : WorkId) (r : Running) (op : Op) → running_at s w.0 ≡ Some r → Moved s w (carry_out S s w.0 r op)
   carried s w r (op.Burn ticks) is = RunMoves.moves w (event.Burns ticks) _ refl refl (keeps s w r (record r { pc = r.pc + 1; left = ticks }) (event.Burns ticks) is refl (refl, refl) refl)
   carried s w r (op.Sleep ticks) is = RunMoves.moves w (event.Sleeps ticks) _ refl refl (keeps s w r (record r { pc = r.pc + 1; mode = Asleep (s.time + ticks) }) (event.Sleeps ticks) is refl (refl, refl) refl)
   carried s w r (op.Queue other cpu) is = from-body s w r other cpu (is_disabled s other.0) (pending_at s other.0) is
+  carried s w r (op.Delay other ticks) is = delays-from-body s w r other (local_cpu S r.pool) ticks (is_disabled s other.0) (pending_at s other.0) is
+  carried s w r (op.Mod other ticks) is = mods-from-body s w r other (local_cpu S r.pool) ticks (is_disabled s other.0) (pending_at s other.0) is
+  carried s w r (op.Cancel other) is = cancels-from-body s w r other (pending_at s other.0) is
   carried s w r op.Finish is = filled-moves s w (queue_of S w.0) r.pool (come_to_end s w.0 r (pending_at s w.0)) (came s w r (pending_at s w.0) is)
 
   advanced : (s : State) (w : WorkId) (o : Option Running) → running_at s w.0 ≡ o → Moved s w (advance S s w.0 o)

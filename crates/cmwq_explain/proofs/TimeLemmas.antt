@@ -5,7 +5,7 @@ use Rattle.std.proofs.lemmas.Bool.{cases_lt}
 use Rattle.std.proofs.lemmas.List.{take_all, take_more}
 use Rattle.std.specs.Prelude.{◌&&◌, is_none, slice_index_or}
 use Rattle.cmwq_types.specs.Contents.{ScenarioContents}
-use Rattle.cmwq_types.specs.Scenario.{op_at, queue_of}
+use Rattle.cmwq_types.specs.Scenario.{op_at, queue_of, local_cpu}
 use Rattle.cmwq_types.specs.declared.instr.Instr.{Instr}
 use Rattle.cmwq_types.specs.declared.instr.Instr.TheVariants as instr
 use Rattle.cmwq_types.specs.declared.instr.WorkId.{WorkId}
@@ -17,7 +17,7 @@ use Rattle.cmwq_types.specs.declared.reply.Refusal.{Refusal}
 use Rattle.cmwq_types.specs.declared.scenario.Op.{Op}
 use Rattle.cmwq_types.specs.declared.scenario.Op.TheVariants as op
 use Rattle.cmwq_table.specs.Counts.{first_due, free_worker, is_deferred, is_rescuer, or_else}
-use Rattle.cmwq_table.specs.Moves.{advance, become_idle, begin_again, carry_out, come_to_end, deferred, finish, first_moving, moved, next_move, onward, queue_from_body, rescued, retire, started, tick, with_depth, with_running, woken}
+use Rattle.cmwq_table.specs.Moves.{advance, become_idle, begin_again, carry_out, come_to_end, deferred, finish, first_moving, moved, next_move, onward, queue_from_body, rescued, retire, started, tick, with_depth, with_running, woken, delay_from_body, mod_from_body}
 use Rattle.cmwq_table.specs.State.{State, depth_at, is_disabled, pending_at, running_at, start}
 use Rattle.cmwq_table.specs.Table.{answer, cancelled, delayed, effect, fired_first, modified, next, operands, queued, run, situation, spent_all, step_or_tick, stepped, table, unsettled, is_met, next_unless}
 use Rattle.cmwq_table.specs.declared.state.Pending.{Pending}
@@ -63,11 +63,23 @@ module _ (S : ScenarioContents) (s : State) where
   queues-time w r other cpu false (Some p) = refl
   queues-time w r other cpu false None = refl
 
+  delays-time : (w : ℕ) (r : Running) (other : WorkId) (cpu ticks : ℕ) (b : Bool) (o : Option Pending) → (delay_from_body S (onward s w r) other cpu ticks b o).0.time ≡ s.time
+  delays-time w r other cpu ticks true o = refl
+  delays-time w r other cpu ticks false (Some p) = refl
+  delays-time w r other cpu ticks false None = (place_after-keeps S (onward s w r) other.0 cpu ticks).time
+
+  mods-time : (w : ℕ) (r : Running) (other : WorkId) (cpu ticks : ℕ) (b : Bool) (o : Option Pending) → (mod_from_body S (onward s w r) other cpu ticks b o).0.time ≡ s.time
+  mods-time w r other cpu ticks true o = refl
+  mods-time w r other cpu ticks false o = (modified-keeps S (onward s w r) other.0 cpu ticks o).time
+
   carries-time : (w : ℕ) (r : Running) (o : Op) → (carry_out S s w r o).0.time ≡ s.time
   carries-time w r (op.Burn ticks) = refl
   carries-time w r (op.Sleep ticks) = refl
   carries-time w r (op.Queue other cpu) = queues-time w r other cpu (is_disabled s other.0) (pending_at s other.0)
   carries-time w r op.Finish = finish-time w r
+  carries-time w r (op.Delay other ticks) = delays-time w r other (local_cpu S r.pool) ticks (is_disabled s other.0) (pending_at s other.0)
+  carries-time w r (op.Mod other ticks) = mods-time w r other (local_cpu S r.pool) ticks (is_disabled s other.0) (pending_at s other.0)
+  carries-time w r (op.Cancel other) = (taken_off-keeps S (onward s w r) other.0 (pending_at s other.0)).time
 
   advance-time : (w : ℕ) (o : Option Running) → (advance S s w o).0.time ≡ s.time
   advance-time w (Some r) = carries-time w r (op_at S w r.pc)

@@ -4,6 +4,8 @@ use Rattle.std.specs.List.{flat_map}
 use Rattle.cmwq_types.specs.Contents.{ScenarioContents}
 use Rattle.cmwq_types.specs.declared.instr.Instr.{Instr}
 use Rattle.cmwq_types.specs.declared.instr.Instr.TheVariants as instr
+use Rattle.cmwq_types.specs.declared.reply.Event.{Event}
+use Rattle.cmwq_types.specs.declared.reply.Event.TheVariants as event
 use Rattle.cmwq_types.specs.declared.reply.Reply.{Reply}
 use Rattle.cmwq_types.specs.declared.reply.Reply.TheVariants as reply
 use Rattle.cmwq_table.specs.State.{State, pending_at, running_at}
@@ -120,9 +122,16 @@ work_to_take_off (instr.CancelSync w) = Some w.0
 work_to_take_off (instr.Disable w) = Some w.0
 work_to_take_off other = None
 
--- the work whose pending half an instruction ends, by its reply
+-- the work that an operation of a body took off
+abbrev pub taken_off_in : Event → Option ℕ
+taken_off_in (event.Mods other ticks changed) = work_if changed other.0
+taken_off_in (event.Cancels other was) = work_if was other.0
+taken_off_in other = None
+
+-- the work whose pending half an instruction ends, by its reply: itself, or by an operation of a body
 abbrev pub cancelled_by : Instr → Reply → Option ℕ
-cancelled_by i reply = if tells_taken_off reply then work_to_take_off i else None
+cancelled_by i (reply.Event work event) = taken_off_in event
+cancelled_by i other = if tells_taken_off other then work_to_take_off i else None
 
 -- Ends and beginnings.
 

@@ -1,6 +1,6 @@
 //! What replies tell of instances that end and begin to run.
 ghost use Rattle.cmwq_burning.specs.Burning.{is_end, is_start};
-ghost use Rattle.cmwq_ledger.specs.Ledger.{cancelled_by, finished_by, started_by, tells_taken_off, work_to_take_off};
+ghost use Rattle.cmwq_ledger.specs.Ledger.{cancelled_by, finished_by, started_by, taken_off_in, tells_taken_off, work_to_take_off};
 ghost use Rattle.cmwq_ledger.specs.Totals.{is_rescue, rescued_by};
 ghost use Rattle.std.specs.Prelude.{◌≡◌};
 
@@ -40,10 +40,25 @@ pub(crate) fn rescued_by(reply: Reply) -> Option<u16>
 pub(crate) fn cancelled_by(instr: Instr, reply: Reply) -> Option<u16>
     ensures { result ≡ cancelled_by instr reply }
 {
-    if tells_taken_off(reply) {
-        work_to_take_off(instr)
-    } else {
-        None
+    match reply {
+        Reply::Event { event, .. } => taken_off_in(event),
+        _ if tells_taken_off(reply) => work_to_take_off(instr),
+        _ => None,
+    }
+}
+
+/// The work that an operation of a body took off.
+fn taken_off_in(event: Event) -> Option<u16>
+    ensures { result ≡ taken_off_in event }
+{
+    match event {
+        Event::Mods {
+            other,
+            changed: true,
+            ..
+        }
+        | Event::Cancels { other, was: true } => Some(other.0),
+        _ => None,
     }
 }
 

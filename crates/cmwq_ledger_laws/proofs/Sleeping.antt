@@ -4,7 +4,7 @@ use Rattle.std.proofs.lemmas.Bool.{and_parts, eq-eqb, leb-false, leb-true}
 use Rattle.std.specs.Prelude.{is_some, nat_le, slice_set, ◌==◌}
 use Rattle.cmwq_types.specs.Contents.{ScenarioContents}
 use Rattle.cmwq_types.specs.First.{MatchFirst, by_least, by_least_two}
-use Rattle.cmwq_types.specs.Scenario.{op_at, queue_of}
+use Rattle.cmwq_types.specs.Scenario.{op_at, queue_of, local_cpu}
 use Rattle.cmwq_types.specs.declared.instr.Instr.{Instr}
 use Rattle.cmwq_types.specs.declared.instr.Instr.TheVariants as instr
 use Rattle.cmwq_types.specs.declared.instr.WorkId.{WorkId}
@@ -23,7 +23,7 @@ use Rattle.cmwq_types.specs.declared.scenario.Op.TheVariants as op
 use Rattle.cmwq_types.proofs.FirstLemmas.{by_least-order, by_least_two-order, first_below-is_first}
 use Rattle.cmwq_table.specs.Counts.{first_due, first_listed, first_ready, first_rescued, first_runnable, first_slept, free_worker, if_ready, is_deferred, is_rescuer, is_runnable, is_slept, may_start, or_else, ready_head, running_before, running_stamp, running_until, runs}
 use Rattle.cmwq_table.specs.Counts as counts
-use Rattle.cmwq_table.specs.Moves.{advance, as_move, become_idle, begin_again, begun, carry_out, come_to_end, deferred, fill, finish, first_moving, fire, next_move, onward, place_after, queue_from_body, rescued, retire, set_max, start_first, start_move, start_or_rescue, started, take_listed, take_off, taken_off, thaw, tick, with_depth, with_running, woken}
+use Rattle.cmwq_table.specs.Moves.{advance, as_move, become_idle, begin_again, begun, carry_out, come_to_end, deferred, fill, finish, first_moving, fire, next_move, onward, place_after, queue_from_body, rescued, retire, set_max, start_first, start_move, start_or_rescue, started, take_listed, take_off, taken_off, thaw, tick, with_depth, with_running, woken, delay_from_body, mod_from_body}
 use Rattle.cmwq_table.specs.State.{State, depth_at, is_disabled, is_unbound, pending_at, pool_count, running_at}
 use Rattle.cmwq_table.specs.Table.{answer, cancelled, delayed, effect, fired_first, modified, next, operands, queued, situation, spent_all, step_or_tick, stepped, table, target_at, unsettled, yes_or_no, is_met, next_unless}
 use Rattle.cmwq_table.specs.declared.state.Pending.{Pending}
@@ -254,6 +254,39 @@ module _ (S : ScenarioContents) (s : State) where
   queue-does w r other cpu false (Some p) h is at = goes-on w r (record r { pc = r.pc + 1 }) (event.Queues other true) (op.Queue other cpu) h is refl refl at refl refl refl
   queue-does w r other cpu false None h is at = goes-on w r (record r { pc = r.pc + 1 }) (event.Queues other false) (op.Queue other cpu) h is refl refl at refl refl refl
 
+  -- what happens then, where the works run on as they did
+  keeps-on : (t u : State) (r : Reply) → Does S s (t, r) → Keeps t u → Does S s (u, r)
+  keeps-on t u r does keeps =
+      subst (λ (time : ℕ). Lets S s u.running time r) (sym keeps.time) (subst (λ (running : List (Option Running)). Lets S s running t.time r) (sym keeps.running) does)
+
+  delay-does : (w : WorkId) (r : Running) (other : WorkId) (cpu ticks : ℕ) (b : Bool) (o : Option Pending) → w.0 < length S.works → running_at s w.0 ≡ Some r
+      → op_at S w.0 r.pc ≡ op.Delay other ticks
+      → Does S s ((delay_from_body S (onward s w.0 r) other cpu ticks b o).0, reply.Event w (delay_from_body S (onward s w.0 r) other cpu ticks b o).1)
+  delay-does w r other cpu ticks true o h is at = goes-on w r (record r { pc = r.pc + 1 }) (event.DelaysDisabled other ticks) (op.Delay other ticks) h is refl refl at refl refl refl
+  delay-does w r other cpu ticks false (Some p) h is at = goes-on w r (record r { pc = r.pc + 1 }) (event.Delays other ticks true) (op.Delay other ticks) h is refl refl at refl refl refl
+  delay-does w r other cpu ticks false None h is at =
+      let on : State = onward s w.0 r in
+      keeps-on on (place_after S on other.0 cpu ticks) (reply.Event w (event.Delays other ticks false))
+      (goes-on w r (record r { pc = r.pc + 1 }) (event.Delays other ticks false) (op.Delay other ticks) h is refl refl at refl refl refl) (place_after-keeps S on other.0 cpu ticks)
+
+  mod-does : (w : WorkId) (r : Running) (other : WorkId) (cpu ticks : ℕ) (b : Bool) (o : Option Pending) → w.0 < length S.works → running_at s w.0 ≡ Some r
+      → op_at S w.0 r.pc ≡ op.Mod other ticks
+      → Does S s ((mod_from_body S (onward s w.0 r) other cpu ticks b o).0, reply.Event w (mod_from_body S (onward s w.0 r) other cpu ticks b o).1)
+  mod-does w r other cpu ticks true o h is at = goes-on w r (record r { pc = r.pc + 1 }) (event.ModsDisabled other ticks) (op.Mod other ticks) h is refl refl at refl refl refl
+  mod-does w r other cpu ticks false o h is at =
+      let on : State = onward s w.0 r in
+      let e : Event = event.Mods other ticks (is_some o) in
+      keeps-on on (place_after S (taken_off S on other.0 o) other.0 cpu ticks) (reply.Event w e)
+      (goes-on w r (record r { pc = r.pc + 1 }) e (op.Mod other ticks) h is refl refl at refl refl refl) (modified-keeps S on other.0 cpu ticks o)
+
+  cancel-does : (w : WorkId) (r : Running) (other : WorkId) (o : Option Pending) → w.0 < length S.works → running_at s w.0 ≡ Some r
+      → op_at S w.0 r.pc ≡ op.Cancel other → Does S s (taken_off S (onward s w.0 r) other.0 o, reply.Event w (event.Cancels other (is_some o)))
+  cancel-does w r other o h is at =
+      let on : State = onward s w.0 r in
+      let e : Event = event.Cancels other (is_some o) in
+      keeps-on on (taken_off S on other.0 o) (reply.Event w e) (goes-on w r (record r { pc = r.pc + 1 }) e (op.Cancel other) h is refl refl at refl refl refl)
+      (taken_off-keeps S on other.0 o)
+
   -- The end of a body.
 
   retires : (w : WorkId) (r : Running) (b : Bool) → w.0 < length S.works → running_at s w.0 ≡ Some r → still s.time r.mode ≡ 0
@@ -276,10 +309,6 @@ module _ (S : ScenarioContents) (s : State) where
   comes-to_end w r (Some p) h is none = begins-again w r p (is_deferred p.place) h is none
   comes-to_end w r None h is none = retires w r (is_rescuer r.worker) h is none
 
-  keeps-on : (t u : State) (r : Reply) → Does S s (t, r) → Keeps t u → Does S s (u, r)
-  keeps-on t u r does keeps =
-      subst (λ (time : ℕ). Lets S s u.running time r) (sym keeps.time) (subst (λ (running : List (Option Running)). Lets S s running t.time r) (sym keeps.running) does)
-
   finish-does : (w : WorkId) (r : Running) → w.0 < length S.works → running_at s w.0 ≡ Some r → still s.time r.mode ≡ 0
       → Does S s ((finish S s w.0 r).0, reply.Event w (finish S s w.0 r).1)
   finish-does w r h is none =
@@ -294,6 +323,9 @@ module _ (S : ScenarioContents) (s : State) where
   carries-out w r (op.Sleep ticks) h is awake at = sleep-does w r ticks h is awake at
   carries-out w r (op.Queue other cpu) h is awake at = queue-does w r other cpu (is_disabled s other.0) (pending_at s other.0) h is at
   carries-out w r op.Finish h is awake at = finish-does w r h is (awake-still s.time r.mode awake)
+  carries-out w r (op.Delay other ticks) h is awake at = delay-does w r other (local_cpu S r.pool) ticks (is_disabled s other.0) (pending_at s other.0) h is at
+  carries-out w r (op.Mod other ticks) h is awake at = mod-does w r other (local_cpu S r.pool) ticks (is_disabled s other.0) (pending_at s other.0) h is at
+  carries-out w r (op.Cancel other) h is awake at = cancel-does w r other (pending_at s other.0) h is at
 
   advances : (w : WorkId) (o : Option Running) → w.0 < length S.works → running_at s w.0 ≡ o → runs (λ r. is_runnable r.mode) o ≡ true
       → Does S s ((advance S s w.0 o).0, reply.Event w (advance S s w.0 o).1)

@@ -5,7 +5,7 @@ use Rattle.std.proofs.lemmas.Bool.{cases_eq, ltb-true}
 use Rattle.std.proofs.lemmas.List.{get_or-set_other, get_or-set_same}
 use Rattle.std.specs.Prelude.{is_some, nat_lt, slice_index_or, slice_set, ◌==◌}
 use Rattle.cmwq_types.specs.Contents.{ScenarioContents}
-use Rattle.cmwq_types.specs.Scenario.{flags_at, op_at, pool_count, queue_of}
+use Rattle.cmwq_types.specs.Scenario.{flags_at, op_at, pool_count, queue_of, local_cpu}
 use Rattle.cmwq_types.specs.Setting.{IsOpInRange, IsSetting}
 use Rattle.cmwq_types.specs.declared.instr.Instr.{Instr}
 use Rattle.cmwq_types.specs.declared.instr.Instr.TheVariants as instr
@@ -24,7 +24,7 @@ use Rattle.cmwq_types.specs.declared.scenario.Op.{Op}
 use Rattle.cmwq_types.specs.declared.scenario.Op.TheVariants as op
 use Rattle.cmwq_table.specs.Counts.{first_due, first_inactive, free_worker, has_room, is_deferred, is_rescuer}
 use Rattle.cmwq_table.specs.Counts as counts
-use Rattle.cmwq_table.specs.Moves.{advance, become_idle, begin_again, carry_out, come_to_end, deferred, enlist, fill, fill_everywhere, fill_freezable, fill_from, fill_one, fill_pools, fill_times, finish, fire, fired, fired_to, first_moving, freeze, listed_at, next_move, onward, place, place_after, queue_from_body, rescued, retire, set_max, started, take_off, taken_off, thaw, tick, with_depth, with_pending, with_pressed, with_running, woken}
+use Rattle.cmwq_table.specs.Moves.{advance, become_idle, begin_again, carry_out, come_to_end, deferred, enlist, fill, fill_everywhere, fill_freezable, fill_from, fill_one, fill_pools, fill_times, finish, fire, fired, fired_to, first_moving, freeze, listed_at, next_move, onward, place, place_after, queue_from_body, rescued, retire, set_max, started, take_off, taken_off, thaw, tick, with_depth, with_pending, with_pressed, with_running, woken, delay_from_body, mod_from_body}
 use Rattle.cmwq_table.specs.State.{State, depth_at, is_disabled, pending_at, running_at}
 use Rattle.cmwq_table.specs.Table.{answer, cancelled, delayed, effect, fired_first, modified, next, no_work, no_work_or_cpu, operands, queued, refuse_unless, situation, spent_all, step_or_tick, stepped, table, target_at, yes_or_no, is_met, next_unless}
 use Rattle.cmwq_table.specs.declared.state.Pending.{Pending}
@@ -260,11 +260,45 @@ module _ (S : ScenarioContents) (s : State) (i : Instr) where
       let on = onward s w.0 r in
       Turns.requests other.0 (ap is_some is) (then-with s on (place S on other.0 cpu) other.0 (kept s on refl) (place-with S on other.0 cpu there))
 
+  delay-does : (w other : WorkId) (r : Running) (cpu ticks : ℕ) (b : Bool) (o : Option Pending) → other.0 < length s.pending → pending_at s other.0 ≡ o
+      → Does s i ((delay_from_body S (onward s w.0 r) other cpu ticks b o).0, reply.Event w (delay_from_body S (onward s w.0 r) other cpu ticks b o).1)
+  delay-does w other r cpu ticks true o there is = Turns.stays (kept s (onward s w.0 r) refl)
+  delay-does w other r cpu ticks false (Some p) there is = Turns.stays (kept s (onward s w.0 r) refl)
+  delay-does w other r cpu ticks false None there is =
+      let on = onward s w.0 r in
+      Turns.requests other.0 (ap is_some is) (then-with s on (place_after S on other.0 cpu ticks) other.0 (kept s on refl) (place_after-with S on other.0 cpu ticks there))
+
+  mod-does : (w other : WorkId) (r : Running) (cpu ticks : ℕ) (b : Bool) (o : Option Pending) → other.0 < length s.pending → pending_at s other.0 ≡ o
+      → Does s i ((mod_from_body S (onward s w.0 r) other cpu ticks b o).0, reply.Event w (mod_from_body S (onward s w.0 r) other cpu ticks b o).1)
+  mod-does w other r cpu ticks true o there is = Turns.stays (kept s (onward s w.0 r) refl)
+  mod-does w other r cpu ticks false (Some p) there is =
+      let on = onward s w.0 r in
+      let off = taken_off S on other.0 (Some p) in
+      let without = taken_off-without S on other.0 p in
+      let after = place_after S off other.0 cpu ticks in
+      Turns.changes other.0 (ap is_some is)
+      (both s on after (kept s on refl) (again-with on off after other.0 (ap is_some is) without (place_after-with S off other.0 cpu ticks (omega (arith, there, without.long)))))
+  mod-does w other r cpu ticks false None there is =
+      let on = onward s w.0 r in
+      Turns.requests other.0 (ap is_some is) (then-with s on (place_after S on other.0 cpu ticks) other.0 (kept s on refl) (place_after-with S on other.0 cpu ticks there))
+
+  cancel-does : (w other : WorkId) (r : Running) (o : Option Pending) → pending_at s other.0 ≡ o
+      → Does s i (taken_off S (onward s w.0 r) other.0 o, reply.Event w (event.Cancels other (is_some o)))
+  cancel-does w other r (Some p) is =
+      let without = taken_off-without S (onward s w.0 r) other.0 p in
+      Turns.cancels other.0 (ap is_some is) (record { here = without.here; else = without.else; long = without.long })
+  cancel-does w other r None is = Turns.stays (kept s (onward s w.0 r) refl)
+
   carries-out : (w : WorkId) (r : Running) (o : Op) → length s.pending ≡ length S.works → IsOpInRange S o → Does s i ((carry_out S s w.0 r o).0, reply.Event w (carry_out S s w.0 r o).1)
   carries-out w r (op.Burn ticks) long in_range = Turns.stays (kept s (carry_out S s w.0 r (op.Burn ticks)).0 refl)
   carries-out w r (op.Sleep ticks) long in_range = Turns.stays (kept s (carry_out S s w.0 r (op.Sleep ticks)).0 refl)
   carries-out w r (op.Queue other cpu) long in_range = queue-does w other r cpu (is_disabled s other.0) (pending_at s other.0) (omega (arith, in_range.0)) refl
   carries-out w r op.Finish long in_range = finish-does w r
+  carries-out w r (op.Delay other ticks) long in_range =
+      delay-does w other r (local_cpu S r.pool) ticks (is_disabled s other.0) (pending_at s other.0) (omega (arith, in_range)) refl
+  carries-out w r (op.Mod other ticks) long in_range =
+      mod-does w other r (local_cpu S r.pool) ticks (is_disabled s other.0) (pending_at s other.0) (omega (arith, in_range)) refl
+  carries-out w r (op.Cancel other) long in_range = cancel-does w other r (pending_at s other.0) refl
 
   -- Moves.
 

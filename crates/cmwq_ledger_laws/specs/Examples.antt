@@ -63,3 +63,39 @@ totals_then =
       pools = 5 ∷ 0 ∷ 0 ∷ 0 ∷ [];
       idle = 2 ∷ [];
     }
+
+-- two works of a queue: a delays b, burns for a tick, modifies b, burns for another one, and cancels b
+abbrev pub takes_the_other_off : ScenarioContents
+takes_the_other_off = record {
+  cpus = 1;
+  workers = 2;
+  steps = 50;
+  flushes = 0;
+  queues = record { name = codes "q"; max = 2; flags = plain_flags } ∷ [];
+  works = record {
+    name = codes "a";
+    queue = record { 0 = 0 };
+    body = op.Delay (record { 0 = 1 }) 5 ∷ op.Burn 1 ∷ op.Mod (record { 0 = 1 }) 3 ∷ op.Burn 1 ∷ op.Cancel (record { 0 = 1 }) ∷ op.Finish ∷ [];
+  }
+      ∷ record { name = codes "b"; queue = record { 0 = 0 }; body = op.Finish ∷ [] } ∷ [];
+  actors = [];
+}
+
+-- a starts and delays b at 0, modifies it at 1, cancels it at 2, and finishes
+abbrev pub until_it_is_cancelled : List Instr
+until_it_is_cancelled = instr.Queue (record { 0 = 0 }) 0 ∷ replicate 9 instr.Next
+
+-- b ends twice, each time after a tick on its timer
+abbrev pub ended_by_a_body : List TimesLine
+ended_by_a_body =
+    record { time = 1; work = record { 0 = 1 }; fate = fate.Cancelled; account = record { since = 0; ticks = record no_ticks { timer = 1 } } }
+    ∷ record { time = 2; work = record { 0 = 1 }; fate = fate.Cancelled; account = record { since = 1; ticks = record no_ticks { timer = 1 } } }
+    ∷ record { time = 2; work = record { 0 = 0 }; fate = fate.Finished; account = record { since = 0; ticks = record no_ticks { burned = 2 } } } ∷ []
+
+abbrev pub totals_by_a_body : TotalsContents
+totals_by_a_body =
+    record {
+      queues = record { started = 1; finished = 1; cancelled = 2; rescued = 0; burned = 2; most = 1; longest = 0 } ∷ [];
+      pools = 2 ∷ 0 ∷ 0 ∷ 0 ∷ [];
+      idle = 0 ∷ [];
+    }

@@ -17,6 +17,8 @@ work_to_queue other = None
 -- the work that an operation of a body queued
 abbrev pub queued_in : Event → Option ℕ
 queued_in (event.Queues other false) = Some other.0
+queued_in (event.Delays other ticks false) = Some other.0
+queued_in (event.Mods other ticks changed) = Some other.0
 queued_in other = None
 
 -- the work of which there is an instance more, by an instruction and its reply

@@ -12,6 +12,9 @@ sleep_of (op.Sleep ticks) = ticks
 sleep_of (op.Burn ticks) = 0
 sleep_of (op.Queue work cpu) = 0
 sleep_of op.Finish = 0
+sleep_of (op.Delay work ticks) = 0
+sleep_of (op.Mod work ticks) = 0
+sleep_of (op.Cancel work) = 0
 
 -- the sum of the sleeps of the work's body
 abbrev pub sleeps_of_body : ScenarioContents → ℕ → ℕ

@@ -2,13 +2,13 @@
 #![tactic(auto, unfolding(cmwq_table::specs::Table::table))]
 
 ghost use Rattle.cmwq_burning.specs.Burning.{burns_of_body};
-ghost use Rattle.cmwq_ledger_laws.specs.Examples.{until_it_sleeps_again, queues_the_other, ended_then, ledger_then, left_then, totals_then};
+ghost use Rattle.cmwq_ledger_laws.specs.Examples.{ended_by_a_body, takes_the_other_off, totals_by_a_body, until_it_is_cancelled, until_it_sleeps_again, queues_the_other, ended_then, ledger_then, left_then, totals_then};
 ghost use Rattle.cmwq_ledger_laws.specs.Laws.{all_lines, books_of_run, burned_by, ended_lines, left_lines, pending_of_queue, requests_from, running_of_queue, totals_of_run};
 ghost use Rattle.cmwq_ledger_laws.specs.Sleeps.{sleeps_of_body};
 ghost use Rattle.cmwq_table.specs.State.{start};
 ghost use Rattle.cmwq_table.specs.Table.{run};
 ghost use Rattle.cmwq_types.specs.Faults.{IsValid};
-ghost use Rattle.std.specs.Prelude.{◌≡◌, sum_by};
+ghost use Rattle.std.specs.Prelude.{◌≡◌, [], sum_by};
 
 /// The run is of a valid scenario, and comes to the time 7.
 pub fn example_is_a_run_of_a_valid_scenario()
@@ -55,4 +55,15 @@ pub fn works_are_asked_for_again()
     ensures delayed { requests_from queues_the_other (start queues_the_other) until_it_sleeps_again 1 5 ≡ 1 }
     ensures modified { requests_from queues_the_other (start queues_the_other) until_it_sleeps_again 1 6 ≡ 1 }
     ensures no_more { requests_from queues_the_other (start queues_the_other) until_it_sleeps_again 1 4 ≡ 0 }
+{}
+
+/// A body delays a work, modifies it, and cancels it: two instances of it end, each is there since it was asked for, and each is counted.
+pub fn bodies_take_works_off()
+    ensures scenario { IsValid takes_the_other_off }
+    ensures ended { ended_lines takes_the_other_off until_it_is_cancelled ≡ ended_by_a_body }
+    ensures left { left_lines takes_the_other_off until_it_is_cancelled ≡ [] }
+    ensures totals { totals_of_run takes_the_other_off until_it_is_cancelled ≡ totals_by_a_body }
+    ensures delayed { requests_from takes_the_other_off (start takes_the_other_off) until_it_is_cancelled 1 0 ≡ 1 }
+    ensures modified { requests_from takes_the_other_off (start takes_the_other_off) until_it_is_cancelled 1 1 ≡ 1 }
+    ensures no_more { requests_from takes_the_other_off (start takes_the_other_off) until_it_is_cancelled 1 2 ≡ 0 }
 {}

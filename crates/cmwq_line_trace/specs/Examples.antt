@@ -69,6 +69,36 @@ answered_objects =
     codes "{\"time\":5,\"event\":\"refused\",\"reason\":\"Disabled\"}" ∷
     codes "{\"time\":5,\"event\":\"yes\"}" ∷ [])
 
+-- in an unbound queue, a sets b's timer and finds it set, sets it anew, and takes b off, twice; then it finds b disabled
+abbrev pub armed_scenario : ScenarioContents
+armed_scenario =
+    scenario 100 (queue (codes "q") 1 (record plain_flags { unbound = true }) ∷ [])
+    (work (codes "a") 0
+    (op.Delay (record { 0 = 1 }) 5 ∷ op.Delay (record { 0 = 1 }) 5 ∷ op.Mod (record { 0 = 1 }) 3 ∷ op.Cancel (record { 0 = 1 })
+    ∷ op.Mod (record { 0 = 1 }) 7 ∷ op.Cancel (record { 0 = 1 }) ∷ op.Cancel (record { 0 = 1 }) ∷ op.Sleep 1
+    ∷ op.Delay (record { 0 = 1 }) 5 ∷ op.Mod (record { 0 = 1 }) 0 ∷ op.Finish ∷ [])
+    ∷ work (codes "b") 0 (op.Finish ∷ []) ∷ [])
+    (enqueue 0 0 ∷ times instr.Next 9 ∷ disable 1 ∷ times instr.Next 5 ∷ [])
+
+-- each tells the work, the ticks and what came of it
+abbrev pub armed_objects : List ℕ
+armed_objects =
+    text_of_lines (
+    codes "{\"time\":0,\"event\":\"starts\",\"work\":\"a\",\"queue\":\"q\",\"pool\":2,\"worker\":0,\"born\":0}" ∷
+    codes "{\"time\":0,\"event\":\"delays\",\"work\":\"a\",\"queue\":\"q\",\"pool\":2,\"worker\":0,\"born\":0,\"other\":\"b\",\"ticks\":5}" ∷
+    codes "{\"time\":0,\"event\":\"delays\",\"work\":\"a\",\"queue\":\"q\",\"pool\":2,\"worker\":0,\"born\":0,\"other\":\"b\",\"ticks\":5,\"already\":true}" ∷
+    codes "{\"time\":0,\"event\":\"mods\",\"work\":\"a\",\"queue\":\"q\",\"pool\":2,\"worker\":0,\"born\":0,\"other\":\"b\",\"ticks\":3,\"changed\":true}" ∷
+    codes "{\"time\":0,\"event\":\"cancels\",\"work\":\"a\",\"queue\":\"q\",\"pool\":2,\"worker\":0,\"born\":0,\"other\":\"b\"}" ∷
+    codes "{\"time\":0,\"event\":\"mods\",\"work\":\"a\",\"queue\":\"q\",\"pool\":2,\"worker\":0,\"born\":0,\"other\":\"b\",\"ticks\":7}" ∷
+    codes "{\"time\":0,\"event\":\"cancels\",\"work\":\"a\",\"queue\":\"q\",\"pool\":2,\"worker\":0,\"born\":0,\"other\":\"b\"}" ∷
+    codes "{\"time\":0,\"event\":\"cancels\",\"work\":\"a\",\"queue\":\"q\",\"pool\":2,\"worker\":0,\"born\":0,\"other\":\"b\",\"not_pending\":true}" ∷
+    codes "{\"time\":0,\"event\":\"sleeps\",\"work\":\"a\",\"queue\":\"q\",\"pool\":2,\"worker\":0,\"born\":0,\"ticks\":1}" ∷
+    codes "{\"time\":0,\"event\":\"not pending\"}" ∷
+    codes "{\"time\":1,\"event\":\"wakes\",\"work\":\"a\",\"queue\":\"q\",\"pool\":2,\"worker\":0,\"born\":0}" ∷
+    codes "{\"time\":1,\"event\":\"delays\",\"work\":\"a\",\"queue\":\"q\",\"pool\":2,\"worker\":0,\"born\":0,\"other\":\"b\",\"ticks\":5,\"disabled\":true}" ∷
+    codes "{\"time\":1,\"event\":\"mods\",\"work\":\"a\",\"queue\":\"q\",\"pool\":2,\"worker\":0,\"born\":0,\"other\":\"b\",\"ticks\":0,\"disabled\":true}" ∷
+    codes "{\"time\":1,\"event\":\"finishes\",\"work\":\"a\",\"queue\":\"q\",\"pool\":2,\"worker\":0,\"born\":0}" ∷ [])
+
 -- memory is short, and y stands in an unbound queue with a rescuer
 abbrev pub rescued_scenario : ScenarioContents
 rescued_scenario =

@@ -91,12 +91,33 @@ abbrev pub already_field : Bool → List ℕ
 already_field true = true_field (codes "already")
 already_field false = []
 
--- how long, or which work
+abbrev pub changed_field : Bool → List ℕ
+changed_field true = true_field (codes "changed")
+changed_field false = []
+
+-- whether a work that a body cancels was pending
+abbrev pub found_field : Bool → List ℕ
+found_field true = []
+found_field false = true_field (codes "not_pending")
+
+abbrev pub ticks_field : ℕ → List ℕ
+ticks_field ticks = number_field (codes "ticks") ticks
+
+-- a work that a body queues after some ticks, and what came of it
+abbrev pub timed_fields : ScenarioContents → WorkId → ℕ → List ℕ → List ℕ
+timed_fields S other ticks outcome = text_field (codes "other") (work_name S other) ++ (ticks_field ticks ++ outcome)
+
+-- how long, or which work, and what came of it
 abbrev pub object_fields : ScenarioContents → Event → List ℕ
-object_fields S (event.Burns ticks) = number_field (codes "ticks") ticks
-object_fields S (event.Sleeps ticks) = number_field (codes "ticks") ticks
+object_fields S (event.Burns ticks) = ticks_field ticks
+object_fields S (event.Sleeps ticks) = ticks_field ticks
 object_fields S (event.Queues other already) = text_field (codes "other") (work_name S other) ++ already_field already
 object_fields S (event.QueuesDisabled other) = text_field (codes "other") (work_name S other) ++ true_field (codes "disabled")
+object_fields S (event.Delays other ticks already) = timed_fields S other ticks (already_field already)
+object_fields S (event.DelaysDisabled other ticks) = timed_fields S other ticks (true_field (codes "disabled"))
+object_fields S (event.Mods other ticks changed) = timed_fields S other ticks (changed_field changed)
+object_fields S (event.ModsDisabled other ticks) = timed_fields S other ticks (true_field (codes "disabled"))
+object_fields S (event.Cancels other was) = text_field (codes "other") (work_name S other) ++ found_field was
 object_fields S other = []
 
 abbrev pub reply_fields : ScenarioContents → Instr → Reply → Option Seat → List ℕ

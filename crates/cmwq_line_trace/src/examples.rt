@@ -1,5 +1,5 @@
 //! Worked examples of the objects of runs, as theorems over the definitions.
-ghost use Rattle.cmwq_line_trace.specs.Examples.{answered_objects, answered_scenario, objects_of, rescued_objects, rescued_scenario, taken_objects, taken_scenario};
+ghost use Rattle.cmwq_line_trace.specs.Examples.{answered_objects, answered_scenario, armed_objects, armed_scenario, objects_of, rescued_objects, rescued_scenario, taken_objects, taken_scenario};
 ghost use Rattle.std.specs.Prelude.{◌≡◌};
 
 /// A work burns, is taken off the CPU and sleeps, and then one that waited for room starts on its worker.
@@ -10,6 +10,11 @@ pub fn each_event_is_an_object()
 /// Answers and refusals are objects too. What a timer places, and what is deferred, has no worker.
 pub fn answers_and_refusals_are_objects()
     ensures { objects_of answered_scenario ≡ answered_objects }
+{}
+
+/// What a body does to another work's timer tells the work, the ticks, and what came of it.
+pub fn timers_of_bodies_are_objects()
+    ensures { objects_of armed_scenario ≡ armed_objects }
 {}
 
 /// A rescuer has no number, and an unbound pool no CPU.

@@ -1,5 +1,5 @@
 //! The fields of an object, and its line.
-ghost use Rattle.cmwq_line_trace.specs.Lines.{already_field, cpu_field, object_fields, object_line, reply_fields, seat_fields, work_fields, worker_field};
+ghost use Rattle.cmwq_line_trace.specs.Lines.{already_field, changed_field, cpu_field, found_field, object_fields, object_line, reply_fields, seat_fields, ticks_field, timed_fields, work_fields, worker_field};
 ghost use Rattle.cmwq_table.specs.Events.{asked_name, event_verb, was_text};
 ghost use Rattle.cmwq_types.specs.Scenario.{is_unbound};
 ghost use Rattle.std.specs.Prelude.{◌≡◌, Some};
@@ -177,7 +177,7 @@ impl fmt::Display for WorkerField {
     }
 }
 
-/// For how long a work burns or sleeps, or which work it queues.
+/// For how long a work burns or sleeps, or which work it queues or takes off, and what came of it.
 #[derive(Clone, Copy)]
 struct ObjectFields<'a> {
     scenario: &'a Scenario,
@@ -189,7 +189,10 @@ impl fmt::Display for ObjectFields<'_> {
 
     fn fmt<W: fmt::Write>(&self, f: &mut fmt::Formatter<W>) -> fmt::Result {
         match self.event {
-            Event::Burns(ticks) | Event::Sleeps(ticks) => write!(f, ",\"ticks\":{ticks}"),
+            Event::Burns(ticks) | Event::Sleeps(ticks) => {
+                let ticks = TicksField(ticks);
+                write!(f, "{ticks}")
+            }
             Event::Queues { other, already } => {
                 let other = self.scenario.work_name(other.0 as usize);
                 let already = already_field(already);
@@ -199,15 +202,106 @@ impl fmt::Display for ObjectFields<'_> {
                 let other = self.scenario.work_name(other.0 as usize);
                 write!(f, ",\"other\":\"{other}\",\"disabled\":true")
             }
+            Event::Delays {
+                other,
+                ticks,
+                already,
+            } => {
+                let outcome = already_field(already);
+                let timed = TimedFields {
+                    scenario: self.scenario,
+                    other,
+                    ticks,
+                    outcome,
+                };
+                write!(f, "{timed}")
+            }
+            Event::Mods {
+                other,
+                ticks,
+                changed,
+            } => {
+                let outcome = changed_field(changed);
+                let timed = TimedFields {
+                    scenario: self.scenario,
+                    other,
+                    ticks,
+                    outcome,
+                };
+                write!(f, "{timed}")
+            }
+            Event::DelaysDisabled { other, ticks } | Event::ModsDisabled { other, ticks } => {
+                let outcome = ",\"disabled\":true";
+                let timed = TimedFields {
+                    scenario: self.scenario,
+                    other,
+                    ticks,
+                    outcome,
+                };
+                write!(f, "{timed}")
+            }
+            Event::Cancels { other, was } => {
+                let other = self.scenario.work_name(other.0 as usize);
+                let found = found_field(was);
+                write!(f, ",\"other\":\"{other}\"{found}")
+            }
             _ => Ok(()),
         }
     }
 }
 
+/// A work that a body queues after some ticks, and what came of it.
+#[derive(Clone, Copy)]
+struct TimedFields<'a> {
+    scenario: &'a Scenario,
+    other: WorkId,
+    ticks: u32,
+    outcome: &'static str,
+}
+
+impl fmt::Display for TimedFields<'_> {
+    ghost output = { λ fields. Some (timed_fields fields.scenario.now fields.other fields.ticks fields.outcome.now) };
+
+    fn fmt<W: fmt::Write>(&self, f: &mut fmt::Formatter<W>) -> fmt::Result {
+        let other = self.scenario.work_name(self.other.0 as usize);
+        let ticks = TicksField(self.ticks);
+        let outcome = self.outcome;
+        write!(f, ",\"other\":\"{other}\"{ticks}{outcome}")
+    }
+}
+
+/// For how many ticks a work burns or sleeps, or after how many it is queued.
+#[derive(Clone, Copy)]
+struct TicksField(u32);
+
+impl fmt::Display for TicksField {
+    ghost output = { λ field. Some (ticks_field field.0) };
+
+    fn fmt<W: fmt::Write>(&self, f: &mut fmt::Formatter<W>) -> fmt::Result {
+        let ticks = self.0;
+        write!(f, ",\"ticks\":{ticks}")
+    }
+}
+
+/// Whether the work that was queued was pending already.
 fn already_field(already: bool) -> &'static str
     ensures { result.now ≡ already_field already }
 {
     if already { ",\"already\":true" } else { "" }
+}
+
+/// Whether the work that was queued anew was pending.
+fn changed_field(changed: bool) -> &'static str
+    ensures { result.now ≡ changed_field changed }
+{
+    if changed { ",\"changed\":true" } else { "" }
+}
+
+/// Whether the work that a body cancels was pending.
+fn found_field(was: bool) -> &'static str
+    ensures { result.now ≡ found_field was }
+{
+    if was { "" } else { ",\"not_pending\":true" }
 }
 
 /// What an event's line says that its work does.
@@ -225,6 +319,9 @@ fn event_verb(event: Event) -> &'static str
         Event::Fires => "fires",
         Event::Queues { .. } | Event::QueuesDisabled { .. } => "queues",
         Event::StartsOnRescuer => "starts on rescuer",
+        Event::Delays { .. } | Event::DelaysDisabled { .. } => "delays",
+        Event::Mods { .. } | Event::ModsDisabled { .. } => "mods",
+        Event::Cancels { .. } => "cancels",
     }
 }
 

@@ -5,7 +5,7 @@ use Rattle.cmwq_types.specs.Scenario.{plain_flags, pool_count}
 use Rattle.cmwq_types.specs.declared.instr.Instr.TheVariants as instr
 use Rattle.cmwq_types.specs.declared.scenario.Line.{Line}
 use Rattle.cmwq_types.specs.declared.scenario.Op.TheVariants.{Burn, Sleep, Finish}
-use Rattle.cmwq_examples.specs.Declare.{enqueue, flush, freezable, queue, queues, times, work}
+use Rattle.cmwq_examples.specs.Declare.{delays, disable, enable, enqueue, flush, freezable, queue, queues, times, work}
 use Rattle.cmwq_orders.specs.Orders.{Explored, has_ended, reached}
 use Rattle.cmwq_orders.specs.Questions.{can_take, fails}
 use Rattle.cmwq_orders.specs.declared.choice.Before.{Before}
@@ -24,6 +24,9 @@ steps pool = choice.Own (instr.Step pool)
 
 abbrev pub ticks : Choice
 ticks = choice.Own instr.Tick
+
+abbrev pub fires : Choice
+fires = choice.Own instr.Fire
 
 -- the first of the two has ended before the second begins
 abbrev pub one_before_other : ℕ → ℕ → Before
@@ -74,6 +77,15 @@ poll_driver removal =
       works = work (codes "poll") 0 (Burn 1 ∷ Sleep 3 ∷ queues 0 ∷ Finish ∷ []) ∷ [];
       actors = actor (codes "probe") (enqueue 0 0 ∷ []) ∷ actor (codes "remove") removal ∷ [];
     }
+
+-- a poll that arms itself by a timer, with the same two actors
+abbrev pub timer_driver : List Line → ScenarioContents
+timer_driver removal =
+    record (poll_driver removal) { works = work (codes "poll") 0 (delays 0 2 ∷ Finish ∷ []) ∷ [] }
+
+-- what ends such a poll: it is disabled, what runs of it is waited for, and then it is enabled
+abbrev pub disable_and_wait : List Line
+disable_and_wait = disable 0 ∷ flush 0 ∷ times (instr.Wait 0) 1 ∷ enable 0 ∷ []
 
 -- a driver that freezes what it then waits for
 abbrev pub frozen_driver : ScenarioContents

@@ -3,7 +3,7 @@
 #![tactic(auto, unfolding(cmwq_table::specs::Table::table, cmwq_orders::specs::Orders::taken, cmwq_orders::specs::Questions::fails))]
 
 ghost use Rattle.cmwq_examples.specs.Declare.{cancel, cancel_sync, disable, enqueue, times};
-ghost use Rattle.cmwq_order_examples.specs.Drivers.{comes_to, ended_behind, frozen_driver, goes, lone_driver, one_before_other, one_waits_for_another, places_behind, poll_driver, steps, ticks, two_sleepers, ways_behind};
+ghost use Rattle.cmwq_order_examples.specs.Drivers.{comes_to, disable_and_wait, ended_behind, fires, frozen_driver, goes, lone_driver, one_before_other, one_waits_for_another, places_behind, poll_driver, steps, ticks, timer_driver, two_sleepers, ways_behind};
 ghost use Rattle.cmwq_types.specs.Faults.{IsValid};
 ghost use Rattle.cmwq_types.specs.declared.instr.Instr.TheVariants as instr;
 ghost use Rattle.std.specs.Prelude.{◌≡◌, ◌∷◌, [], None, Some, false, true};
@@ -14,6 +14,7 @@ use cmwq_orders::Question;
 pub fn scenarios_are_valid()
     ensures cancels { IsValid (poll_driver (cancel 0 ∷ [])) }
     ensures waits { IsValid (poll_driver (cancel_sync 0 ∷ [])) }
+    ensures timer { IsValid (timer_driver disable_and_wait) }
     ensures frozen { IsValid frozen_driver }
     ensures disabled { IsValid (lone_driver 100 (disable 0 ∷ enqueue 0 0 ∷ times (instr.Step 0) 1 ∷ [])) }
     ensures short { IsValid (lone_driver 1 (enqueue 0 0 ∷ enqueue 0 0 ∷ [])) }
@@ -38,6 +39,23 @@ pub fn cancel_sync_waits_for_the_poll()
     ensures waits { places_behind (poll_driver (cancel_sync 0 ∷ [])) [] (goes 0 ∷ steps 0 ∷ goes 1 ∷ goes 1 ∷ goes 1 ∷ []) ≡ None }
     ensures there { places_behind (poll_driver (cancel_sync 0 ∷ [])) [] (goes 0 ∷ steps 0 ∷ goes 1 ∷ goes 1 ∷ []) ≡ Some (1 ∷ 2 ∷ []) }
     ensures ended { ended_behind (poll_driver (cancel_sync 0 ∷ [])) [] 1 (goes 0 ∷ goes 1 ∷ goes 1 ∷ goes 1 ∷ []) ≡ Some true }
+{}
+
+/// Time passes for a poll that has armed itself, and its timer fires once it has run out. A removal that cancels the timer leaves nothing to
+/// wait for; one that cancels while the poll runs ends beside a poll that arms itself all the same.
+pub fn poll_arms_itself_behind_its_removal()
+    ensures fires { places_behind (timer_driver (cancel 0 ∷ [])) [] (goes 0 ∷ steps 0 ∷ steps 0 ∷ steps 0 ∷ ticks ∷ ticks ∷ fires ∷ []) ≡ Some (1 ∷ 0 ∷ []) }
+    ensures early { places_behind (timer_driver (cancel 0 ∷ [])) [] (goes 0 ∷ steps 0 ∷ steps 0 ∷ steps 0 ∷ ticks ∷ fires ∷ []) ≡ None }
+    ensures cancelled { places_behind (timer_driver (cancel 0 ∷ [])) [] (goes 0 ∷ steps 0 ∷ steps 0 ∷ steps 0 ∷ goes 1 ∷ ticks ∷ []) ≡ None }
+    ensures behind { comes_to (timer_driver (cancel 0 ∷ [])) [] (Question.After 1 (record { 0 = 0 })) (goes 0 ∷ steps 0 ∷ goes 1 ∷ steps 0 ∷ steps 0 ∷ []) ≡ Some true }
+{}
+
+/// A removal that disables it, waits for its flush, and enables it ends beside no poll.
+pub fn disabling_ends_a_poll_that_arms_itself()
+    ensures waits { places_behind (timer_driver disable_and_wait) [] (goes 0 ∷ steps 0 ∷ goes 1 ∷ goes 1 ∷ goes 1 ∷ []) ≡ None }
+    ensures over { comes_to (timer_driver disable_and_wait) [] (Question.After 1 (record { 0 = 0 }))
+        (goes 0 ∷ steps 0 ∷ goes 1 ∷ goes 1 ∷ steps 0 ∷ steps 0 ∷ goes 1 ∷ goes 1 ∷ []) ≡ Some false }
+    ensures ended { ended_behind (timer_driver disable_and_wait) [] 1 (goes 0 ∷ steps 0 ∷ goes 1 ∷ goes 1 ∷ steps 0 ∷ steps 0 ∷ goes 1 ∷ goes 1 ∷ []) ≡ Some true }
 {}
 
 /// A driver that freezes what it waits for is stuck, once it has given its flush; one whose scenario has no steps left isn't told so.

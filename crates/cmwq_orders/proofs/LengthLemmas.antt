@@ -3,7 +3,7 @@ use Rattle.std.proofs.Common.{◌≡◌, ℕ, zero, suc, ◌+◌, ◌-◌, ◌*�
 use Rattle.std.proofs.lemmas.List.{length-replicate, length-set}
 use Rattle.std.specs.Prelude.{if◌then◌else◌, slice_set}
 use Rattle.cmwq_types.specs.Contents.{ScenarioContents}
-use Rattle.cmwq_types.specs.Scenario.{flags_at, op_at, pool_count, queue_of}
+use Rattle.cmwq_types.specs.Scenario.{flags_at, op_at, pool_count, queue_of, local_cpu}
 use Rattle.cmwq_types.specs.declared.instr.Instr.{Instr}
 use Rattle.cmwq_types.specs.declared.instr.Instr.TheVariants as instr
 use Rattle.cmwq_types.specs.declared.instr.WorkId.{WorkId}
@@ -18,7 +18,7 @@ use Rattle.cmwq_types.specs.declared.reply.Refusal.{Refusal}
 use Rattle.cmwq_types.specs.declared.scenario.Op.{Op}
 use Rattle.cmwq_types.specs.declared.scenario.Op.TheVariants as op
 use Rattle.cmwq_table.specs.Counts.{burns, first_due, first_inactive, free_worker, has_room, is_deferred, is_rescuer}
-use Rattle.cmwq_table.specs.Moves.{advance, become_idle, begin_again, burned, carry_out, come_to_end, deferred, enlist, fill, fill_everywhere, fill_freezable, fill_from, fill_one, fill_pools, fill_times, finish, fired, fired_to, first_moving, moved, next_move, onward, place, place_after, queue_from_body, rescued, retire, started, taken_off, tick, with_depth, with_pending, with_running, woken}
+use Rattle.cmwq_table.specs.Moves.{advance, become_idle, begin_again, burned, carry_out, come_to_end, deferred, enlist, fill, fill_everywhere, fill_freezable, fill_from, fill_one, fill_pools, fill_times, finish, fired, fired_to, first_moving, moved, next_move, onward, place, place_after, queue_from_body, rescued, retire, started, taken_off, tick, with_depth, with_pending, with_running, woken, delay_from_body, mod_from_body}
 use Rattle.cmwq_table.specs.State.{State, depth_at, is_disabled, pending_at, running_at}
 use Rattle.cmwq_table.specs.State as states
 use Rattle.cmwq_table.specs.Table.{answer, cancelled, delayed, effect, fired_first, modified, next, queued, refusal, step_or_tick, stepped, table, is_met, next_unless}
@@ -147,6 +147,17 @@ queue_from_body-long S s other cpu true p = same s
 queue_from_body-long S s other cpu false (Some p) = same s
 queue_from_body-long S s other cpu false None = place-long S s other.0 cpu
 
+delay_from_body-long : (S : ScenarioContents) (s : State) (other : WorkId) (cpu ticks : ℕ) (b : Bool) (p : Option Pending) → IsAsLong s (delay_from_body S s other cpu ticks b p).0
+delay_from_body-long S s other cpu ticks true p = same s
+delay_from_body-long S s other cpu ticks false (Some p) = same s
+delay_from_body-long S s other cpu ticks false None = place_after-long S s other.0 cpu ticks
+
+mod_from_body-long : (S : ScenarioContents) (s : State) (other : WorkId) (cpu ticks : ℕ) (b : Bool) (p : Option Pending) → IsAsLong s (mod_from_body S s other cpu ticks b p).0
+mod_from_body-long S s other cpu ticks true p = same s
+mod_from_body-long S s other cpu ticks false p =
+    let off : State = taken_off S s other.0 p in
+    further s off (place_after S off other.0 cpu ticks) (taken_off-long S s other.0 p) (place_after-long S off other.0 cpu ticks)
+
 carry_out-long : (S : ScenarioContents) (s : State) (w : ℕ) (r : Running) (o : Op) → IsAsLong s (carry_out S s w r o).0
 carry_out-long S s w r (op.Burn ticks) = ran s (carry_out S s w r (op.Burn ticks)).0 w _ refl refl refl
 carry_out-long S s w r (op.Sleep ticks) = ran s (carry_out S s w r (op.Sleep ticks)).0 w _ refl refl refl
@@ -154,6 +165,17 @@ carry_out-long S s w r (op.Queue other cpu) =
     let on : State = onward s w r in
     further s on (carry_out S s w r (op.Queue other cpu)).0 (ran s on w _ refl refl refl) (queue_from_body-long S on other cpu (is_disabled s other.0) (pending_at s other.0))
 carry_out-long S s w r op.Finish = finish-long S s w r
+carry_out-long S s w r (op.Delay other ticks) =
+    let on : State = onward s w r in
+    further s on (carry_out S s w r (op.Delay other ticks)).0 (ran s on w _ refl refl refl)
+    (delay_from_body-long S on other (local_cpu S r.pool) ticks (is_disabled s other.0) (pending_at s other.0))
+carry_out-long S s w r (op.Mod other ticks) =
+    let on : State = onward s w r in
+    further s on (carry_out S s w r (op.Mod other ticks)).0 (ran s on w _ refl refl refl)
+    (mod_from_body-long S on other (local_cpu S r.pool) ticks (is_disabled s other.0) (pending_at s other.0))
+carry_out-long S s w r (op.Cancel other) =
+    let on : State = onward s w r in
+    further s on (carry_out S s w r (op.Cancel other)).0 (ran s on w _ refl refl refl) (taken_off-long S on other.0 (pending_at s other.0))
 
 advance-long : (S : ScenarioContents) (s : State) (w : ℕ) (r : Option Running) → IsAsLong s (advance S s w r).0
 advance-long S s w (Some r) = carry_out-long S s w r (op_at S w r.pc)

@@ -7,7 +7,7 @@ use Rattle.std.specs.Str.{bytes_eq}
 use Rattle.cmwq_types.specs.Contents.{ScenarioContents}
 use Rattle.cmwq_types.specs.Faults.{IsValid, actor_fault, counts_fault, fault_if, fault_unless, first_along, fits_flags, numbers_fault, queue_fault, within, work_fault}
 use Rattle.cmwq_types.specs.Faults.{or_else as fault_of_two}
-use Rattle.cmwq_types.specs.Scenario.{flags_at, op_at, queue_of}
+use Rattle.cmwq_types.specs.Scenario.{flags_at, op_at, queue_of, local_cpu}
 use Rattle.cmwq_types.specs.declared.check.Fault.{Fault}
 use Rattle.cmwq_types.specs.declared.check.Fault.TheVariants.{BadFlags, Duplicate}
 use Rattle.cmwq_types.specs.declared.instr.Instr.{Instr}
@@ -28,11 +28,11 @@ use Rattle.cmwq_table.specs.declared.state.Running.{Running}
 use Rattle.cmwq_table.specs.State.{State, depth_at, is_disabled, max_at, pending_at, running_at, start}
 use Rattle.cmwq_table.specs.Counts.{first_due, free_worker, is_deferred, is_rescuer, or_else}
 use Rattle.cmwq_table.specs.Laws.{InEveryState}
-use Rattle.cmwq_table.specs.Moves.{advance, become_idle, begin_again, carry_out, come_to_end, deferred, fill, fill_everywhere, fill_freezable, finish, fired, first_moving, moved, next_move, onward, queue_from_body, rescued, retire, started, taken_off, with_depth, with_running, woken}
+use Rattle.cmwq_table.specs.Moves.{advance, become_idle, begin_again, carry_out, come_to_end, deferred, fill, fill_everywhere, fill_freezable, finish, fired, first_moving, moved, next_move, onward, queue_from_body, rescued, retire, started, taken_off, with_depth, with_running, woken, delay_from_body, mod_from_body}
 use Rattle.cmwq_table.specs.Table.{after_all, answer, cancelled, delayed, effect, fired_first, modified, next, operands, queued, refuse_unless, situation, run, spent_all, step_or_tick, stepped, table, is_met, next_unless}
 use Rattle.cmwq_reasons.specs.Laws.{FrozenByFreeze, TellsFrozen}
 use Rattle.cmwq_reasons.proofs.PendingRows.{tells_frozen}
-use Rattle.cmwq_reasons.proofs.RestLemmas.{cancelled-rest, deferred-rest, delayed-rest, fill-rest, fill_everywhere-rest, fill_freezable-rest, fired-rest, fired_first-rest, modified-rest, queue_from_body-rest, queued-rest, rest, taken_off-rest}
+use Rattle.cmwq_reasons.proofs.RestLemmas.{cancelled-rest, deferred-rest, delayed-rest, fill-rest, fill_everywhere-rest, fill_freezable-rest, fired-rest, fired_first-rest, modified-rest, queue_from_body-rest, queued-rest, rest, taken_off-rest, delay_from_body-rest, mod_from_body-rest}
 
 -- What changes leave of each queue's max_active.
 
@@ -64,6 +64,14 @@ carry_out-max S s w r (op.Queue other cpu) =
     max-of (onward s w r) (queue_from_body S (onward s w r) other cpu (is_disabled s other.0) (pending_at s other.0)).0
     (queue_from_body-rest S (onward s w r) other cpu (is_disabled s other.0) (pending_at s other.0))
 carry_out-max S s w r op.Finish = finish-max S s w r
+carry_out-max S s w r (op.Delay other ticks) =
+    max-of (onward s w r) (delay_from_body S (onward s w r) other (local_cpu S r.pool) ticks (is_disabled s other.0) (pending_at s other.0)).0
+    (delay_from_body-rest S (onward s w r) other (local_cpu S r.pool) ticks (is_disabled s other.0) (pending_at s other.0))
+carry_out-max S s w r (op.Mod other ticks) =
+    max-of (onward s w r) (mod_from_body S (onward s w r) other (local_cpu S r.pool) ticks (is_disabled s other.0) (pending_at s other.0)).0
+    (mod_from_body-rest S (onward s w r) other (local_cpu S r.pool) ticks (is_disabled s other.0) (pending_at s other.0))
+carry_out-max S s w r (op.Cancel other) =
+    max-of (onward s w r) (taken_off S (onward s w r) other.0 (pending_at s other.0)) (taken_off-rest S (onward s w r) other.0 (pending_at s other.0))
 
 advance-max : (S : ScenarioContents) (s : State) (w : ℕ) (o : Option Running) → (advance S s w o).0.max ≡ s.max
 advance-max S s w (Some r) = carry_out-max S s w r (op_at S w r.pc)

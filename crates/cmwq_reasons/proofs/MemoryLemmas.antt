@@ -5,7 +5,7 @@ use Rattle.std.proofs.lemmas.List.{get_or-set_other}
 use Rattle.std.specs.Prelude.{is_none, is_some, nat_lt, slice_index_or, slice_set, ◌==◌}
 use Rattle.cmwq_types.specs.Contents.{ScenarioContents}
 use Rattle.cmwq_types.specs.First.{by_greatest, by_least_two, count_below}
-use Rattle.cmwq_types.specs.Scenario.{flags_at, op_at, queue_of}
+use Rattle.cmwq_types.specs.Scenario.{flags_at, op_at, queue_of, local_cpu}
 use Rattle.cmwq_types.specs.Setting.{IsSetting}
 use Rattle.cmwq_types.specs.declared.instr.Instr.{Instr}
 use Rattle.cmwq_types.specs.declared.instr.Instr.TheVariants as instr
@@ -30,16 +30,16 @@ use Rattle.cmwq_table.specs.State.{State, idle_at, is_disabled, made_at, pending
 use Rattle.cmwq_table.specs.Counts.{burns, can_be_rescued, first_due, first_inactive, first_listed, first_rescued, free_worker, has_free_rescuer, has_instance, has_room, idle_stamp, is_deferred, is_done, is_due, is_inactive, is_listed, is_placed, is_rescuer, last_idle, new_worker, or_else, pending_before, pending_due, pending_stamp, pends, placed_born, runs_on_rescuer}
 use Rattle.cmwq_table.specs.Counts as counts
 use Rattle.cmwq_table.specs.Laws.{HasOneRescuer, InEveryState, IsNotReentrant, placed_in}
-use Rattle.cmwq_table.specs.Moves.{advance, become_idle, begin_again, begin_on, begun, burned, carry_out, come_to_end, deferred, enlist, fill, fill_one, fill_times, finish, fired, fired_to, first_moving, listed_at, moved, newborn, next_move, one_less, onward, place, pool_for, queue_from_body, rescued, retire, started, tick, with_pending, with_running, woken}
+use Rattle.cmwq_table.specs.Moves.{advance, become_idle, begin_again, begin_on, begun, burned, carry_out, come_to_end, deferred, enlist, fill, fill_one, fill_times, finish, fired, fired_to, first_moving, listed_at, moved, newborn, next_move, one_less, onward, place, pool_for, queue_from_body, rescued, retire, started, tick, with_pending, with_running, woken, delay_from_body, mod_from_body, fill_from, place_after, taken_off}
 use Rattle.cmwq_table.specs.Table.{after_all, answer, effect, fired_first, next, refusal, run, step_or_tick, stepped, table, is_met, next_unless}
 use Rattle.cmwq_reasons.specs.declared.reason.Instance.TheVariants as instance
-use Rattle.cmwq_reasons.specs.Laws.{AreMoves, WaitsForRelief, is_move}
+use Rattle.cmwq_reasons.specs.Laws.{AreMoves, WaitsForRelief, is_move, NoBodyTakesOff, takes_off}
 use Rattle.cmwq_reasons.specs.Reasons.{has_relief_to_come, is_starved}
 use Rattle.cmwq_reasons.proofs.MoverLemmas.{MoveSays, due-first, is_due_now, is_listed_in, listed-first, next_move-says, rescued-first, some-first}
 use Rattle.cmwq_reasons.proofs.NoWorkerLemmas.{starved-parts}
 use Rattle.cmwq_reasons.proofs.RestLemmas.{rest}
 use Rattle.cmwq_reasons.proofs.StaffLemmas.{run-staffed, table-staffed}
-use Rattle.cmwq_reasons.proofs.ThawLemmas.{waits-still}
+use Rattle.cmwq_reasons.proofs.ThawLemmas.{waits-still, named-apart}
 use Rattle.cmwq_reasons.proofs.WorkerLemmas.{IsStaffed, is_idle, post, post_of}
 
 -- what holds of an entry holds of it once another entry is written, or this one is and it holds of what is written
@@ -127,7 +127,7 @@ record Starved (S : ScenarioContents) (w pool born : ℕ) (s : State) : Type 0 w
   still : running_at s w ≡ None
   waits : WaitsIn pool born (pending_at s w)
 
-module _ (S : ScenarioContents) (setting : IsSetting S) (w pool born : ℕ) (no_rescuer : (flags_at S (queue_of S w)).mem_reclaim ≡ false) where
+module _ (S : ScenarioContents) (setting : IsSetting S) (w pool born : ℕ) (no_rescuer : (flags_at S (queue_of S w)).mem_reclaim ≡ false) (left_alone : NoBodyTakesOff S w) where
   starved-then : (s t : State) → Starved S w pool born s → Keeps w pool born s t → IsStaffed S t → Starved S w pool born t
   starved-then s t starved keeps staffed = record {
     staffed = staffed;
@@ -206,25 +206,69 @@ module _ (S : ScenarioContents) (setting : IsSetting S) (w pool born : ℕ) (no_
   places : (s : State) (v cpu : ℕ) → (w ≡ v → ⊥) → Keeps w pool born s (place S s v cpu)
   places s v cpu apart = keeps-pending w pool born s v (s.next + 1) (newborn s (cond (has_room S s (queue_of S v) (pool_for S s v cpu)) (Listed (pool_for S s v cpu)) (Inactive (pool_for S s v cpu)))) apart
 
+  places_after : (s : State) (v cpu ticks : ℕ) → (w ≡ v → ⊥) → Keeps w pool born s (place_after S s v cpu ticks)
+  places_after s v cpu zero apart = places s v cpu apart
+  places_after s v cpu (suc ticks) apart = keeps-pending w pool born s v (s.next + 1) (newborn s (Timer (s.time + suc ticks) cpu)) apart
+
+  fills_from : (queue : ℕ) (at : Place) (s : State) → Keeps w pool born s (fill_from S queue at s)
+  fills_from queue (Timer due cpu) s = keeps-none w pool born s
+  fills_from queue (Inactive at) s = fills queue at (length S.works) s
+  fills_from queue (Listed at) s = fills queue at (length S.works) s
+  fills_from queue (Deferred at) s = fills queue at (length S.works) s
+
+  takes : (s : State) (v : ℕ) (o : Option Pending) → (w ≡ v → ⊥) → Keeps w pool born s (taken_off S s v o)
+  takes s v (Some q) apart =
+      let off : State = with_pending s v None in
+      keeps-then w pool born s off (fill_from S (queue_of S v) q.place off) (keeps-pending w pool born s v s.next None apart) (fills_from (queue_of S v) q.place off)
+  takes s v None apart = keeps-none w pool born s
+
   queues : (s : State) (other : WorkId) (cpu : ℕ) (b : Bool) (o : Option Pending) → WaitsIn pool born (pending_at s w) → pending_at s other.0 ≡ o
       → Keeps w pool born s (queue_from_body S s other cpu b o).0
   queues s other cpu true o waits is = keeps-none w pool born s
   queues s other cpu false (Some q) waits is = keeps-none w pool born s
   queues s other cpu false None waits is = places s other.0 cpu (none-apart s other.0 waits is)
 
-  carries : (s : State) (v : ℕ) (r : Running) (o : Op) → (w ≡ v → ⊥) → WaitsIn pool born (pending_at s w) → Keeps w pool born s (carry_out S s v r o).0
-  carries s v r (op.Burn ticks) apart waits = keeps-same w pool born s v s.next (Some (record r { pc = r.pc + 1; left = ticks })) s.idle apart
-  carries s v r (op.Sleep ticks) apart waits =
+  delays : (s : State) (other : WorkId) (cpu ticks : ℕ) (b : Bool) (o : Option Pending) → WaitsIn pool born (pending_at s w) → pending_at s other.0 ≡ o
+      → Keeps w pool born s (delay_from_body S s other cpu ticks b o).0
+  delays s other cpu ticks true o waits is = keeps-none w pool born s
+  delays s other cpu ticks false (Some q) waits is = keeps-none w pool born s
+  delays s other cpu ticks false None waits is = places_after s other.0 cpu ticks (none-apart s other.0 waits is)
+
+  mods : (s : State) (other : WorkId) (cpu ticks : ℕ) (b : Bool) (o : Option Pending) → (w ≡ other.0 → ⊥)
+      → Keeps w pool born s (mod_from_body S s other cpu ticks b o).0
+  mods s other cpu ticks true o apart = keeps-none w pool born s
+  mods s other cpu ticks false o apart =
+      let off : State = taken_off S s other.0 o in
+      keeps-then w pool born s off (place_after S off other.0 cpu ticks) (takes s other.0 o apart) (places_after off other.0 cpu ticks apart)
+
+  goes_on : (s : State) (v : ℕ) (r : Running) → (w ≡ v → ⊥) → Keeps w pool born s (onward s v r)
+  goes_on s v r apart = keeps-same w pool born s v s.next (Some (record r { pc = r.pc + 1 })) s.idle apart
+
+  carries : (s : State) (v : ℕ) (r : Running) (o : Op) → (w ≡ v → ⊥) → takes_off o w ≡ false → WaitsIn pool born (pending_at s w)
+      → Keeps w pool born s (carry_out S s v r o).0
+  carries s v r (op.Burn ticks) apart left waits = keeps-same w pool born s v s.next (Some (record r { pc = r.pc + 1; left = ticks })) s.idle apart
+  carries s v r (op.Sleep ticks) apart left waits =
       keeps-same w pool born s v s.next (Some (record r { pc = r.pc + 1; mode = mode.Asleep (s.time + ticks) })) s.idle apart
-  carries s v r (op.Queue other cpu) apart waits =
+  carries s v r (op.Queue other cpu) apart left waits =
       let t = onward s v r in
-      keeps-then w pool born s t (queue_from_body S t other cpu (is_disabled s other.0) (pending_at s other.0)).0
-      (keeps-same w pool born s v s.next (Some (record r { pc = r.pc + 1 })) s.idle apart)
+      keeps-then w pool born s t (queue_from_body S t other cpu (is_disabled s other.0) (pending_at s other.0)).0 (goes_on s v r apart)
       (queues t other cpu (is_disabled s other.0) (pending_at s other.0) waits refl)
-  carries s v r op.Finish apart waits = finishes s v r apart
+  carries s v r op.Finish apart left waits = finishes s v r apart
+  carries s v r (op.Delay other ticks) apart left waits =
+      let t = onward s v r in
+      keeps-then w pool born s t (delay_from_body S t other (local_cpu S r.pool) ticks (is_disabled s other.0) (pending_at s other.0)).0 (goes_on s v r apart)
+      (delays t other (local_cpu S r.pool) ticks (is_disabled s other.0) (pending_at s other.0) waits refl)
+  carries s v r (op.Mod other ticks) apart left waits =
+      let t = onward s v r in
+      keeps-then w pool born s t (mod_from_body S t other (local_cpu S r.pool) ticks (is_disabled s other.0) (pending_at s other.0)).0 (goes_on s v r apart)
+      (mods t other (local_cpu S r.pool) ticks (is_disabled s other.0) (pending_at s other.0) (named-apart w other.0 left))
+  carries s v r (op.Cancel other) apart left waits =
+      let t = onward s v r in
+      keeps-then w pool born s t (taken_off S t other.0 (pending_at s other.0)) (goes_on s v r apart)
+      (takes t other.0 (pending_at s other.0) (named-apart w other.0 left))
 
   advances : (s : State) (v : ℕ) (o : Option Running) → Starved S w pool born s → running_at s v ≡ o → Keeps w pool born s (advance S s v o).0
-  advances s v (Some r) starved is = carries s v r (op_at S v r.pc) (runs-apart s v r starved is) starved.waits
+  advances s v (Some r) starved is = carries s v r (op_at S v r.pc) (runs-apart s v r starved is) (left_alone v r.pc) starved.waits
   advances s v None starved is = keeps-none w pool born s
 
   wakes : (s : State) (v : ℕ) (o : Option Running) → Starved S w pool born s → running_at s v ≡ o → Keeps w pool born s (woken s v o)
@@ -443,7 +487,7 @@ short-here S s w p staffed apart rescuers is lacks = placed p.place refl lacks
 
 pub waits_for_relief : InEveryState IsNotReentrant → InEveryState HasOneRescuer → InEveryState WaitsForRelief
 unfolding WaitsForRelief
-waits_for_relief apart rescuers S valid instrs target (instance.Pending w) there lacks later moves = by_place (pending_at (run S instrs) w.0) refl lacks
+waits_for_relief apart rescuers S valid instrs target (instance.Pending w) there lacks left_alone later moves = by_place (pending_at (run S instrs) w.0) refl lacks
   where
     by_place : (o : Option Pending) → pending_at (run S instrs) w.0 ≡ o → pends (has_relief_to_come S (run S instrs) w.0) o ≡ true
         → is_done S (after_all S (run S instrs) later) target ≡ false
@@ -451,9 +495,9 @@ waits_for_relief apart rescuers S valid instrs target (instance.Pending w) there
         let s = run S instrs in
         let found = short-here S s w.0 p (run-staffed S valid instrs) (apart S valid instrs) (rescuers S valid instrs) is lacks in
         let after : Starved S w.0 found.0 p.born (after_all S s later) =
-        all-starved S (IsSetting-valid S valid) w.0 found.0 p.born found.1.no_rescuer s later found.1.starved moves in
+        all-starved S (IsSetting-valid S valid) w.0 found.0 p.born found.1.no_rescuer left_alone s later found.1.starved moves in
         waits-still S s (after_all S s later) target w
         (λ test placed. or_left (placed_born test (pending_at (after_all S s later) w.0)) (counts.runs (λ r. test r.born) (running_at (after_all S s later) w.0))
         (waits-placed found.0 p.born test (pending_at (after_all S s later) w.0) after.waits (placed-passes found.0 p.born test (pending_at s w.0) found.1.starved.waits placed))) there
     by_place None is lacks = cc
-waits_for_relief apart rescuers S valid instrs target (instance.Running w) there lacks later moves = cc
+waits_for_relief apart rescuers S valid instrs target (instance.Running w) there lacks left_alone later moves = cc

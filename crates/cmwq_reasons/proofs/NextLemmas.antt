@@ -4,7 +4,7 @@ use Rattle.std.proofs.lemmas.Bool.{and_parts, eqb-true, lt-ltb}
 use Rattle.std.specs.Prelude.{◌==◌, is_none, nat_lt}
 use Rattle.cmwq_types.specs.Contents.{ScenarioContents}
 use Rattle.cmwq_types.specs.First.{by_least_two}
-use Rattle.cmwq_types.specs.Scenario.{op_at, pool_count, queue_of}
+use Rattle.cmwq_types.specs.Scenario.{op_at, pool_count, queue_of, local_cpu}
 use Rattle.cmwq_types.specs.declared.instr.Instr.TheVariants as instr
 use Rattle.cmwq_types.specs.declared.instr.WorkId.{WorkId}
 use Rattle.cmwq_types.specs.declared.moves.Move.{Move}
@@ -24,7 +24,7 @@ use Rattle.cmwq_table.specs.declared.state.Running.{Running}
 use Rattle.cmwq_table.specs.State.{State, is_disabled, is_unbound, pending_at, running_at}
 use Rattle.cmwq_table.specs.Counts.{can_be_rescued, first_due, first_listed, first_ready, first_rescued, first_runnable, first_slept, has_free_rescuer, if_ready, is_deferred, is_due, is_listed, is_runnable, is_slept, may_start, or_else, pending_before, pending_due, pending_stamp, pends, ready_head, running_before, running_stamp, running_until, runs}
 use Rattle.cmwq_table.specs.Laws.{placed_in, reply_to}
-use Rattle.cmwq_table.specs.Moves.{advance, begin_again, carry_out, come_to_end, moved, moved_work, next_move, onward, queue_from_body, retire}
+use Rattle.cmwq_table.specs.Moves.{advance, begin_again, carry_out, come_to_end, moved, moved_work, next_move, onward, queue_from_body, retire, delay_from_body, mod_from_body}
 use Rattle.cmwq_table.specs.Table.{answer, effect, fired_first, nothing_to_do, refusal, refuse_unless, spent_all, stepped, table}
 use Rattle.cmwq_reasons.specs.declared.reason.Instance.{Instance}
 use Rattle.cmwq_reasons.specs.declared.reason.Instance.TheVariants as instance
@@ -235,6 +235,17 @@ queues-run S s other cpu true p = refl
 queues-run S s other cpu false (Some p) = refl
 queues-run S s other cpu false None = refl
 
+delays-run : (S : ScenarioContents) (s : State) (other : WorkId) (cpu ticks : ℕ) (b : Bool) (p : Option Pending)
+    → takes_pending (delay_from_body S s other cpu ticks b p).1 ≡ false
+delays-run S s other cpu ticks true p = refl
+delays-run S s other cpu ticks false (Some p) = refl
+delays-run S s other cpu ticks false None = refl
+
+mods-run : (S : ScenarioContents) (s : State) (other : WorkId) (cpu ticks : ℕ) (b : Bool) (p : Option Pending)
+    → takes_pending (mod_from_body S s other cpu ticks b p).1 ≡ false
+mods-run S s other cpu ticks true p = refl
+mods-run S s other cpu ticks false p = refl
+
 ends-run-if : (b : Bool) (t u : State) → takes_pending (cond {A = State × Event} b (t, event.FinishesAndStarts) (u, event.Finishes)).1 ≡ false
 ends-run-if true t u = refl
 ends-run-if false t u = refl
@@ -248,6 +259,9 @@ carries-run S s w r (op.Burn ticks) = refl
 carries-run S s w r (op.Sleep ticks) = refl
 carries-run S s w r (op.Queue other cpu) = queues-run S (onward s w r) other cpu (is_disabled s other.0) (pending_at s other.0)
 carries-run S s w r op.Finish = ends-run s w r (pending_at s w)
+carries-run S s w r (op.Delay other ticks) = delays-run S (onward s w r) other (local_cpu S r.pool) ticks (is_disabled s other.0) (pending_at s other.0)
+carries-run S s w r (op.Mod other ticks) = mods-run S (onward s w r) other (local_cpu S r.pool) ticks (is_disabled s other.0) (pending_at s other.0)
+carries-run S s w r (op.Cancel other) = refl
 
 advances-run : (S : ScenarioContents) (s : State) (w : ℕ) (o : Option Running) → takes_pending (advance S s w o).1 ≡ false
 advances-run S s w (Some r) = carries-run S s w r (op_at S w r.pc)

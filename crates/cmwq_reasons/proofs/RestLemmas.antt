@@ -8,7 +8,7 @@ use Rattle.cmwq_types.specs.declared.reply.Place.TheVariants.{Timer, Inactive, L
 use Rattle.cmwq_table.specs.declared.state.Pending.{Pending}
 use Rattle.cmwq_table.specs.State.{State, pending_at, pool_count}
 use Rattle.cmwq_table.specs.Counts.{first_inactive, has_room}
-use Rattle.cmwq_table.specs.Moves.{deferred, enlist, fill, fill_everywhere, fill_freezable, fill_from, fill_one, fill_pools, fill_times, fired, fired_to, place_after, queue_from_body, taken_off, with_pending}
+use Rattle.cmwq_table.specs.Moves.{deferred, enlist, fill, fill_everywhere, fill_freezable, fill_from, fill_one, fill_pools, fill_times, fired, fired_to, place_after, queue_from_body, taken_off, with_pending, delay_from_body, mod_from_body}
 use Rattle.cmwq_table.specs.Table.{cancelled, delayed, fired_first, modified, queued}
 
 -- the state without what pends and the next stamp
@@ -64,6 +64,17 @@ pub queue_from_body-rest : (S : ScenarioContents) (s : State) (other : WorkId) (
 queue_from_body-rest S s other cpu true o = refl
 queue_from_body-rest S s other cpu false (Some p) = refl
 queue_from_body-rest S s other cpu false None = refl
+
+pub delay_from_body-rest : (S : ScenarioContents) (s : State) (other : WorkId) (cpu ticks : ℕ) (b : Bool) (o : Option Pending)
+    → rest (delay_from_body S s other cpu ticks b o).0 ≡ rest s
+delay_from_body-rest S s other cpu ticks true o = refl
+delay_from_body-rest S s other cpu ticks false (Some p) = refl
+delay_from_body-rest S s other cpu ticks false None = place_after-rest S s other.0 cpu ticks
+
+pub mod_from_body-rest : (S : ScenarioContents) (s : State) (other : WorkId) (cpu ticks : ℕ) (b : Bool) (o : Option Pending)
+    → rest (mod_from_body S s other cpu ticks b o).0 ≡ rest s
+mod_from_body-rest S s other cpu ticks true o = refl
+mod_from_body-rest S s other cpu ticks false o = place_after-rest S (taken_off S s other.0 o) other.0 cpu ticks ∙ taken_off-rest S s other.0 o
 
 fired_to-rest : (S : ScenarioContents) (s : State) (w : ℕ) (at : Place) → rest (fired_to S s w at) ≡ rest s
 fired_to-rest S s w (Timer due cpu) = refl

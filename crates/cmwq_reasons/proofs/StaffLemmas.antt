@@ -6,7 +6,7 @@ use Rattle.std.specs.Prelude.{is_none, is_some, nat_lt, slice_index_or, slice_se
 use Rattle.cmwq_types.specs.Contents.{ScenarioContents}
 use Rattle.cmwq_types.specs.Faults.{IsValid}
 use Rattle.cmwq_types.specs.First.{by_least}
-use Rattle.cmwq_types.specs.Scenario.{op_at, queue_of}
+use Rattle.cmwq_types.specs.Scenario.{op_at, queue_of, local_cpu}
 use Rattle.cmwq_types.specs.Setting.{IsSetting}
 use Rattle.cmwq_types.specs.declared.instr.Instr.{Instr}
 use Rattle.cmwq_types.specs.declared.instr.Instr.TheVariants as instr
@@ -26,11 +26,11 @@ use Rattle.cmwq_table.specs.declared.state.Pending.{Pending}
 use Rattle.cmwq_table.specs.declared.state.Running.{Running}
 use Rattle.cmwq_table.specs.State.{State, depth_at, is_disabled, made_at, pending_at, pool_count, running_at, seat, start}
 use Rattle.cmwq_table.specs.Counts.{burns, can_be_rescued, first_due, first_listed, first_rescued, free_worker, has_free_rescuer, is_deferred, is_rescuer, or_else, pending_before}
-use Rattle.cmwq_table.specs.Moves.{advance, become_idle, begin_again, burned, carry_out, come_to_end, deferred, fill, fill_everywhere, fill_freezable, fired, first_moving, moved, next_move, one_less, onward, queue_from_body, rescued, retire, started, taken_off, tick, with_depth, with_running, woken}
+use Rattle.cmwq_table.specs.Moves.{advance, become_idle, begin_again, burned, carry_out, come_to_end, deferred, fill, fill_everywhere, fill_freezable, fired, first_moving, moved, next_move, one_less, onward, queue_from_body, rescued, retire, started, taken_off, tick, with_depth, with_running, woken, delay_from_body, mod_from_body}
 use Rattle.cmwq_table.specs.Table.{after_all, answer, cancelled, delayed, effect, fired_first, modified, next, operands, queued, refuse_unless, run, situation, spent_all, step_or_tick, stepped, table, is_met, next_unless}
 use Rattle.cmwq_reasons.proofs.BelowLemmas.{counts-none}
 use Rattle.cmwq_reasons.proofs.MoverLemmas.{MoveSays, is_listed_in, listed-first, next_move-says, rescued-first, some-first}
-use Rattle.cmwq_reasons.proofs.RestLemmas.{cancelled-rest, deferred-rest, delayed-rest, fill-rest, fill_everywhere-rest, fill_freezable-rest, fired-rest, fired_first-rest, modified-rest, queue_from_body-rest, queued-rest, rest, taken_off-rest}
+use Rattle.cmwq_reasons.proofs.RestLemmas.{cancelled-rest, deferred-rest, delayed-rest, fill-rest, fill_everywhere-rest, fill_freezable-rest, fired-rest, fired_first-rest, modified-rest, queue_from_body-rest, queued-rest, rest, taken_off-rest, delay_from_body-rest, mod_from_body-rest}
 use Rattle.cmwq_reasons.proofs.WorkerLemmas.{IsStaffed, Leaves, ends-staffed, free-worker, idle_count, is_idle, is_in, leaves-staffed, post, post_at, post_of, rest-leaves, run_count, runs-leaves, starts-staffed}
 
 -- A tick.
@@ -102,6 +102,17 @@ module _ (S : ScenarioContents) (setting : IsSetting S) where
   carries s w r op.Finish is staffed =
       let ended : State = (come_to_end s w r (pending_at s w)).0 in
       rests ended (fill S (queue_of S w) r.pool ended) (fill-rest S (queue_of S w) r.pool ended) (ends s w r (pending_at s w) is staffed)
+  carries s w r (op.Delay other ticks) is staffed =
+      rests (onward s w r) (delay_from_body S (onward s w r) other (local_cpu S r.pool) ticks (is_disabled s other.0) (pending_at s other.0)).0
+      (delay_from_body-rest S (onward s w r) other (local_cpu S r.pool) ticks (is_disabled s other.0) (pending_at s other.0))
+      (runs-on s w s.next s.pending (Some (record r { pc = r.pc + 1 })) (sym (ap post is)) staffed)
+  carries s w r (op.Mod other ticks) is staffed =
+      rests (onward s w r) (mod_from_body S (onward s w r) other (local_cpu S r.pool) ticks (is_disabled s other.0) (pending_at s other.0)).0
+      (mod_from_body-rest S (onward s w r) other (local_cpu S r.pool) ticks (is_disabled s other.0) (pending_at s other.0))
+      (runs-on s w s.next s.pending (Some (record r { pc = r.pc + 1 })) (sym (ap post is)) staffed)
+  carries s w r (op.Cancel other) is staffed =
+      rests (onward s w r) (taken_off S (onward s w r) other.0 (pending_at s other.0)) (taken_off-rest S (onward s w r) other.0 (pending_at s other.0))
+      (runs-on s w s.next s.pending (Some (record r { pc = r.pc + 1 })) (sym (ap post is)) staffed)
 
   advances : (s : State) (w : ℕ) (o : Option Running) → running_at s w ≡ o → IsStaffed S s → IsStaffed S (advance S s w o).0
   advances s w (Some r) is staffed = carries s w r (op_at S w r.pc) is staffed

@@ -1,11 +1,11 @@
 -- An inactive work of a queue that may have no active one stays inactive, whatever the machine does by itself.
-use Rattle.std.proofs.Common.{◌≡◌, ◌⊎◌, ℕ, zero, suc, ◌<◌, Bool, true, false, not, cond, ◌&&◌, List, [], ◌∷◌, ◌++◌, length, Option, Some, None, arith, refl, sym, ap, ◌∙◌, subst, inl, inr}
-use Rattle.std.proofs.lemmas.Bool.{and_from, and_parts, eqb-true, ltb-true, ne_eqb, or_left}
+use Rattle.std.proofs.Common.{◌≡◌, ◌⊎◌, ℕ, zero, suc, ◌+◌, ◌<◌, Bool, true, false, not, cond, ◌&&◌, List, [], ◌∷◌, ◌++◌, length, Option, Some, None, arith, refl, sym, ap, ◌∙◌, subst, inl, inr}
+use Rattle.std.proofs.lemmas.Bool.{and_from, and_parts, eq-eqb, eqb-true, ltb-true, ne_eqb, or_left}
 use Rattle.std.proofs.lemmas.List.{get_or-set_other}
 use Rattle.std.specs.Prelude.{is_none, nat_lt, slice_index_or, ◌==◌}
 use Rattle.cmwq_types.specs.Contents.{ScenarioContents}
 use Rattle.cmwq_types.specs.First.{by_least_two}
-use Rattle.cmwq_types.specs.Scenario.{flags_at, op_at, queue_of}
+use Rattle.cmwq_types.specs.Scenario.{flags_at, op_at, queue_of, local_cpu}
 use Rattle.cmwq_types.specs.declared.instr.Instr.{Instr}
 use Rattle.cmwq_types.specs.declared.instr.Instr.TheVariants as instr
 use Rattle.cmwq_types.specs.declared.instr.WorkId.{WorkId}
@@ -27,11 +27,11 @@ use Rattle.cmwq_table.specs.declared.state.Pending.{Pending}
 use Rattle.cmwq_table.specs.declared.state.Running.{Running}
 use Rattle.cmwq_table.specs.State.{State, is_disabled, max_at, pending_at, running_at}
 use Rattle.cmwq_table.specs.Counts.{active, can_be_rescued, first_due, first_inactive, first_listed, first_rescued, free_worker, has_free_rescuer, has_instance, has_room, is_deferred, is_done, is_due, is_inactive, is_listed, is_rescuer, limit, pending_before, pending_due, pending_stamp, pends, placed_born, queued_before, runs}
-use Rattle.cmwq_table.specs.Moves.{advance, become_idle, begin_again, begin_on, carry_out, come_to_end, deferred, enlist, fill, fill_one, fill_times, finish, fired, fired_to, first_moving, listed_at, moved, newborn, next_move, onward, place, pool_for, queue_from_body, rescued, retire, started, tick, with_pending, with_running, woken}
+use Rattle.cmwq_table.specs.Moves.{advance, become_idle, begin_again, begin_on, carry_out, come_to_end, deferred, enlist, fill, fill_one, fill_times, finish, fired, fired_to, first_moving, listed_at, moved, newborn, next_move, onward, place, pool_for, queue_from_body, rescued, retire, started, tick, with_pending, with_running, woken, delay_from_body, mod_from_body, fill_from, place_after, taken_off}
 use Rattle.cmwq_table.specs.Table.{after_all, answer, effect, fired_first, next, refusal, step_or_tick, stepped, table, is_met, next_unless}
 use Rattle.cmwq_reasons.specs.declared.reason.Instance.{Instance}
 use Rattle.cmwq_reasons.specs.declared.reason.Instance.TheVariants as instance
-use Rattle.cmwq_reasons.specs.Laws.{AreMoves, InAnyState, IsAmong, WaitsForThaw, is_move}
+use Rattle.cmwq_reasons.specs.Laws.{AreMoves, InAnyState, IsAmong, WaitsForThaw, is_move, NoBodyTakesOff, takes_off}
 use Rattle.cmwq_reasons.specs.Reasons.{birth, has_thaw_to_come, instances_born, pending_half, put_all_by_birth, put_by_birth, running_half, waits, waits_below}
 use Rattle.cmwq_reasons.proofs.BelowLemmas.{count-some}
 use Rattle.cmwq_reasons.proofs.MoverLemmas.{MoveSays, due-first, is_due_now, is_listed_in, listed-first, next_move-says, rescued-first, some-first}
@@ -58,7 +58,11 @@ record Stuck (S : ScenarioContents) (w pool : ℕ) (p : Pending) (s : State) : T
   waits : p.place ≡ Inactive pool
   none : limit S s (queue_of S w) ≡ 0
 
-module _ (S : ScenarioContents) (w pool : ℕ) (p : Pending) where
+-- an operation that doesn't take the work off names another one
+pub named-apart : (w v : ℕ) → (v == w) ≡ false → w ≡ v → ⊥
+named-apart w v other same = let here : (v == w) ≡ true = eq-eqb v w (sym same) in cc
+
+module _ (S : ScenarioContents) (w pool : ℕ) (p : Pending) (left_alone : NoBodyTakesOff S w) where
   stuck-then : (s t : State) → Stuck S w pool p s → Spares w s t → Stuck S w pool p t
   stuck-then s t stuck spares = record {
     is = spares.pending ∙ stuck.is;
@@ -112,6 +116,26 @@ module _ (S : ScenarioContents) (w pool : ℕ) (p : Pending) where
         frozen = refl;
       }
 
+  places_after : (s : State) (v cpu ticks : ℕ) → (w ≡ v → ⊥) → Spares w s (place_after S s v cpu ticks)
+  places_after s v cpu zero apart = places s v cpu apart
+  places_after s v cpu (suc ticks) apart =
+      record { pending = get_or-set_other s.pending v w (newborn s (Timer (s.time + suc ticks) cpu)) None apart; max = refl; frozen = refl }
+
+  -- Taking off.
+
+  fills_from : (queue : ℕ) (at : Place) (s : State) → Stuck S w pool p s → Spares w s (fill_from S queue at s)
+  fills_from queue (Timer due cpu) s stuck = spares-none w s
+  fills_from queue (Inactive at) s stuck = fills queue at (length S.works) s stuck
+  fills_from queue (Listed at) s stuck = fills queue at (length S.works) s stuck
+  fills_from queue (Deferred at) s stuck = fills queue at (length S.works) s stuck
+
+  takes : (s : State) (v : ℕ) (o : Option Pending) → Stuck S w pool p s → (w ≡ v → ⊥) → Spares w s (taken_off S s v o)
+  takes s v (Some q) stuck apart =
+      let off : State = with_pending s v None in
+      let one : Spares w s off = spares-other w v s None apart in
+      spares-then w s off (fill_from S (queue_of S v) q.place off) one (fills_from (queue_of S v) q.place off (stuck-then s off stuck one))
+  takes s v None stuck apart = spares-none w s
+
   -- Moves.
 
   begins : (s : State) (v at worker : ℕ) (q : Pending) → (w ≡ v → ⊥) → Spares w s (begin_on s v at worker q)
@@ -143,20 +167,46 @@ module _ (S : ScenarioContents) (w pool : ℕ) (p : Pending) where
   queues s other cpu false (Some q) stuck is = spares-none w s
   queues s other cpu false None stuck is = places s other.0 cpu (apart-none s other.0 stuck is)
 
+  delays : (s : State) (other : WorkId) (cpu ticks : ℕ) (b : Bool) (o : Option Pending) → Stuck S w pool p s → pending_at s other.0 ≡ o
+      → Spares w s (delay_from_body S s other cpu ticks b o).0
+  delays s other cpu ticks true o stuck is = spares-none w s
+  delays s other cpu ticks false (Some q) stuck is = spares-none w s
+  delays s other cpu ticks false None stuck is = places_after s other.0 cpu ticks (apart-none s other.0 stuck is)
+
+  mods : (s : State) (other : WorkId) (cpu ticks : ℕ) (b : Bool) (o : Option Pending) → Stuck S w pool p s → (w ≡ other.0 → ⊥)
+      → Spares w s (mod_from_body S s other cpu ticks b o).0
+  mods s other cpu ticks true o stuck apart = spares-none w s
+  mods s other cpu ticks false o stuck apart =
+      let off : State = taken_off S s other.0 o in
+      spares-then w s off (place_after S off other.0 cpu ticks) (takes s other.0 o stuck apart) (places_after off other.0 cpu ticks apart)
+
   onwards : (s : State) (v : ℕ) (r : Running) → Spares w s (onward s v r)
   onwards s v r = record { pending = refl; max = refl; frozen = refl }
 
-  carries : (s : State) (v : ℕ) (r : Running) (o : Op) → Stuck S w pool p s → Spares w s (carry_out S s v r o).0
-  carries s v r (op.Burn ticks) stuck = record { pending = refl; max = refl; frozen = refl }
-  carries s v r (op.Sleep ticks) stuck = record { pending = refl; max = refl; frozen = refl }
-  carries s v r (op.Queue other cpu) stuck =
+  carries : (s : State) (v : ℕ) (r : Running) (o : Op) → Stuck S w pool p s → takes_off o w ≡ false → Spares w s (carry_out S s v r o).0
+  carries s v r (op.Burn ticks) stuck left = record { pending = refl; max = refl; frozen = refl }
+  carries s v r (op.Sleep ticks) stuck left = record { pending = refl; max = refl; frozen = refl }
+  carries s v r (op.Queue other cpu) stuck left =
       let moved_on : Spares w s (onward s v r) = onwards s v r in
       spares-then w s (onward s v r) (queue_from_body S (onward s v r) other cpu (is_disabled s other.0) (pending_at s other.0)).0 moved_on
       (queues (onward s v r) other cpu (is_disabled s other.0) (pending_at s other.0) (stuck-then s (onward s v r) stuck moved_on) refl)
-  carries s v r op.Finish stuck = finishes s v r stuck
+  carries s v r op.Finish stuck left = finishes s v r stuck
+  carries s v r (op.Delay other ticks) stuck left =
+      let moved_on : Spares w s (onward s v r) = onwards s v r in
+      spares-then w s (onward s v r) (delay_from_body S (onward s v r) other (local_cpu S r.pool) ticks (is_disabled s other.0) (pending_at s other.0)).0 moved_on
+      (delays (onward s v r) other (local_cpu S r.pool) ticks (is_disabled s other.0) (pending_at s other.0) (stuck-then s (onward s v r) stuck moved_on) refl)
+  carries s v r (op.Mod other ticks) stuck left =
+      let moved_on : Spares w s (onward s v r) = onwards s v r in
+      spares-then w s (onward s v r) (mod_from_body S (onward s v r) other (local_cpu S r.pool) ticks (is_disabled s other.0) (pending_at s other.0)).0 moved_on
+      (mods (onward s v r) other (local_cpu S r.pool) ticks (is_disabled s other.0) (pending_at s other.0) (stuck-then s (onward s v r) stuck moved_on)
+      (named-apart w other.0 left))
+  carries s v r (op.Cancel other) stuck left =
+      let moved_on : Spares w s (onward s v r) = onwards s v r in
+      spares-then w s (onward s v r) (taken_off S (onward s v r) other.0 (pending_at s other.0)) moved_on
+      (takes (onward s v r) other.0 (pending_at s other.0) (stuck-then s (onward s v r) stuck moved_on) (named-apart w other.0 left))
 
   advances : (s : State) (v : ℕ) (o : Option Running) → Stuck S w pool p s → Spares w s (advance S s v o).0
-  advances s v (Some r) stuck = carries s v r (op_at S v r.pc) stuck
+  advances s v (Some r) stuck = carries s v r (op_at S v r.pc) stuck (left_alone v r.pc)
   advances s v None stuck = spares-none w s
 
   wakes : (s : State) (v : ℕ) (o : Option Running) → Spares w s (woken s v o)
@@ -343,8 +393,8 @@ waits-still S s t target.Nothing w stays there = absurd there
 
 pub waits_for_thaw : InAnyState WaitsForThaw
 unfolding WaitsForThaw
-waits_for_thaw S s target (instance.Pending w) there lacks later moves =
+waits_for_thaw S s target (instance.Pending w) there lacks left_alone later moves =
     let found = stuck-here S s w.0 (pending_at s w.0) refl lacks in
-    let after : Stuck S w.0 found.0 found.1 (after_all S s later) = all-stuck S w.0 found.0 found.1 s later found.2 moves in
+    let after : Stuck S w.0 found.0 found.1 (after_all S s later) = all-stuck S w.0 found.0 found.1 left_alone s later found.2 moves in
     waits-still S s (after_all S s later) target w (λ test placed. still-placed s (after_all S s later) w.0 test (after.is ∙ sym found.2.is) placed) there
-waits_for_thaw S s target (instance.Running w) there lacks later moves = cc
+waits_for_thaw S s target (instance.Running w) there lacks left_alone later moves = cc

@@ -1,7 +1,7 @@
 -- What one may believe of reasons without reading their definition.
-use Rattle.std.specs.Prelude.{◌≡◌, ◌↔◌, ◌⊎◌, ℕ, ◌+◌, ◌-◌, ◌<◌, ◌≤◌, Bool, true, false, List, [], ◌∷◌, length, Option, Some, None, if◌then◌else◌}
+use Rattle.std.specs.Prelude.{◌≡◌, ◌↔◌, ◌⊎◌, ℕ, ◌+◌, ◌-◌, ◌<◌, ◌≤◌, ◌==◌, Bool, true, false, List, [], ◌∷◌, length, Option, Some, None, if◌then◌else◌}
 use Rattle.cmwq_types.specs.Contents.{ScenarioContents}
-use Rattle.cmwq_types.specs.Scenario.{flags_at, pool_count, queue_of}
+use Rattle.cmwq_types.specs.Scenario.{flags_at, pool_count, queue_of, op_at}
 use Rattle.cmwq_types.specs.declared.instr.Instr.{Instr}
 use Rattle.cmwq_types.specs.declared.instr.Instr.TheVariants as instr
 use Rattle.cmwq_types.specs.declared.instr.WorkId.{WorkId}
@@ -14,6 +14,8 @@ use Rattle.cmwq_types.specs.declared.reply.Cause.{Cause}
 use Rattle.cmwq_types.specs.declared.reply.Place.TheVariants as place
 use Rattle.cmwq_types.specs.declared.reply.Refusal.TheVariants.{Unsettled}
 use Rattle.cmwq_types.specs.declared.reply.Reply.TheVariants as reply
+use Rattle.cmwq_types.specs.declared.scenario.Op.{Op}
+use Rattle.cmwq_types.specs.declared.scenario.Op.TheVariants as op
 use Rattle.cmwq_table.specs.declared.state.FlushTarget.{FlushTarget}
 use Rattle.cmwq_table.specs.declared.state.Pending.{Pending}
 use Rattle.cmwq_table.specs.declared.state.Running.{Running}
@@ -239,6 +241,11 @@ takes_pending event.FinishesAndStarts = false
 takes_pending event.Fires = false
 takes_pending (event.Queues other already) = false
 takes_pending (event.QueuesDisabled other) = false
+takes_pending (event.Delays other ticks already) = false
+takes_pending (event.DelaysDisabled other ticks) = false
+takes_pending (event.Mods other ticks changed) = false
+takes_pending (event.ModsDisabled other ticks) = false
+takes_pending (event.Cancels other was) = false
 
 -- the instance that an event of a pool's move is of
 abbrev pub instance_of : WorkId → Event → Instance
@@ -458,11 +465,26 @@ abbrev pub AreMoves : List Instr → Type 0
 AreMoves [] = Unit {0}
 AreMoves (i ∷ is) = (is_move i ≡ true) × AreMoves is
 
--- A flush that waits for an instance that lacks this isn't done by anything that the machine does by itself.
+-- the operation takes the work off, where that is pending
+abbrev pub takes_off : Op → ℕ → Bool
+takes_off (op.Mod other ticks) w = other.0 == w
+takes_off (op.Cancel other) w = other.0 == w
+takes_off (op.Burn ticks) w = false
+takes_off (op.Sleep ticks) w = false
+takes_off (op.Queue other cpu) w = false
+takes_off (op.Delay other ticks) w = false
+takes_off op.Finish w = false
+
+-- no body has an operation that takes the work off
+abbrev pub NoBodyTakesOff : ScenarioContents → ℕ → Type 0
+NoBodyTakesOff S w = (v pc : ℕ) → takes_off (op_at S v pc) w ≡ false
+
+-- A flush that waits for an instance that lacks this, and that no body takes off, isn't done by anything that the machine
+-- does by itself.
 abbrev pub WaitsWhile : (ScenarioContents → State → Instance → Bool) → ScenarioContents → State → Type 0
 WaitsWhile lacks S s =
-    (target : FlushTarget) (x : Instance) → IsAmong x (waits S s target) → lacks S s x ≡ true → (later : List Instr) → AreMoves later
-    → is_done S (after_all S s later) target ≡ false
+    (target : FlushTarget) (x : Instance) → IsAmong x (waits S s target) → lacks S s x ≡ true → NoBodyTakesOff S (work_of x)
+    → (later : List Instr) → AreMoves later → is_done S (after_all S s later) target ≡ false
 
 -- Where an instance lacks a thaw, its flush waits.
 unfoldable pub WaitsForThaw : ScenarioContents → State → Type 0

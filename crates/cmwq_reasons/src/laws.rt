@@ -137,15 +137,15 @@ pub fn works_without_a_worker_name_who_has_them()
     queues_have_at_most_one_rescuer();
 }
 
-/// A flush that waits for an instance that lacks a thaw isn't done by itself: whatever steps, timers and ticks come, it waits
-/// for it.
+/// A flush that waits for an instance that lacks a thaw, and that no body takes off, isn't done by itself: whatever steps, timers
+/// and ticks come, it waits for it.
 #[tactic(auto, using(crate::proofs::ThawLemmas::waits_for_thaw))]
 pub fn no_flush_is_done_before_the_thaw()
     ensures { InAnyState WaitsForThaw }
 {}
 
-/// In every state of a run a flush that waits for an instance that lacks memory isn't done by itself: memory is short, the pool has
-/// no worker and the queue no rescuer, and whatever steps, timers and ticks come, none is made and the flush waits.
+/// In every state of a run a flush that waits for an instance that lacks memory, and that no body takes off, isn't done by itself: memory
+/// is short, the pool has no worker and the queue no rescuer, and whatever steps, timers and ticks come, none is made and the flush waits.
 #[tactic(auto, using(crate::proofs::MemoryLemmas::waits_for_relief))]
 pub fn no_flush_is_done_before_the_relief()
     ensures { InEveryState WaitsForRelief }

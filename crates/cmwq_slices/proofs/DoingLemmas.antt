@@ -10,7 +10,7 @@ use Rattle.cmwq_table.specs.Moves.{burned, one_less}
 use Rattle.cmwq_table.specs.State.{State, running_at}
 use Rattle.cmwq_table.specs.declared.state.Running.{Running}
 use Rattle.cmwq_picture.specs.Column.{ColumnContents}
-use Rattle.cmwq_picture.specs.Picture.{run_or_pending, run_sign, work_sign}
+use Rattle.cmwq_picture.specs.Picture.{deeds_of, run_or_pending, run_sign, work_sign}
 use Rattle.cmwq_picture.specs.declared.cell.Cell.TheVariants.{Does, Empty}
 use Rattle.cmwq_picture.specs.declared.cell.Sign.{Sign}
 use Rattle.cmwq_picture.proofs.AlikeLemmas.{column-ticks}
@@ -42,7 +42,7 @@ module _ (S : ScenarioContents) (s t : State) (ticked : IsTick S s t) where
   work-same : (w : ℕ) → w < length S.works → work_sign S t w ≡ work_sign S s w
   work-same w there =
       sym (get_or-map-range_with_len (work_sign S t) 0 (length S.works) w w Empty there (omega arith))
-      ∙ ap (λ (c : ColumnContents). slice_index_or c.works w Empty) (column-ticks S s t false ticked)
+      ∙ ap (λ (c : ColumnContents). slice_index_or c.works w Empty) (column-ticks S s t (deeds_of false []) ticked)
       ∙ get_or-map-range_with_len (work_sign S s) 0 (length S.works) w w Empty there (omega arith)
 
   pub doing-same : (w : ℕ) → w < length S.works → (half : Half) → doing S t w half ≡ doing S s w half

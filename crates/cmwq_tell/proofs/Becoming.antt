@@ -5,7 +5,7 @@ use Rattle.std.proofs.lemmas.Bool.{eqb-true}
 use Rattle.std.specs.Prelude.{◌&&◌, ◌==◌, nat_lt, slice_index_or, slice_set}
 use Rattle.cmwq_types.specs.Contents.{ScenarioContents}
 use Rattle.cmwq_types.specs.First.{MatchFirst}
-use Rattle.cmwq_types.specs.Scenario.{flags_at, op_at, pool_count, queue_of}
+use Rattle.cmwq_types.specs.Scenario.{flags_at, op_at, pool_count, queue_of, local_cpu}
 use Rattle.cmwq_types.specs.declared.instr.Instr.{Instr}
 use Rattle.cmwq_types.specs.declared.instr.Instr.TheVariants as instr
 use Rattle.cmwq_types.specs.declared.instr.WorkId.{WorkId}
@@ -20,7 +20,7 @@ use Rattle.cmwq_types.specs.declared.scenario.Op.{Op}
 use Rattle.cmwq_types.specs.declared.scenario.Op.TheVariants as op
 use Rattle.cmwq_types.proofs.FirstLemmas.{by_least-order, first_below-is_first}
 use Rattle.cmwq_table.specs.Counts.{first_due, first_inactive, free_worker, has_room, is_deferred, is_inactive, is_rescuer, pending_stamp, pends}
-use Rattle.cmwq_table.specs.Moves.{advance, become_idle, begin_again, carry_out, come_to_end, deferred, enlist, fill, fill_everywhere, fill_freezable, fill_from, fill_one, fill_pools, fill_times, finish, fire, fired, fired_to, first_moving, listed_at, moved, newborn, next_move, onward, place, place_after, queue_from_body, rescued, retire, set_max, started, take_off, taken_off, taking, thaw, tick, with_depth, with_pending, with_running, woken}
+use Rattle.cmwq_table.specs.Moves.{advance, become_idle, begin_again, carry_out, come_to_end, deferred, enlist, fill, fill_everywhere, fill_freezable, fill_from, fill_one, fill_pools, fill_times, finish, fire, fired, fired_to, first_moving, listed_at, moved, newborn, next_move, onward, place, place_after, queue_from_body, rescued, retire, set_max, started, take_off, taken_off, taking, thaw, tick, with_depth, with_pending, with_running, woken, delay_from_body, mod_from_body}
 use Rattle.cmwq_table.specs.State.{State, depth_at, is_disabled, pending_at, running_at}
 use Rattle.cmwq_table.specs.Table.{answer, cancelled, delayed, effect, fired_first, is_free, modified, next, queued, refusal, step_or_tick, stepped, table, is_met, next_unless}
 use Rattle.cmwq_table.specs.declared.state.Pending.{Pending}
@@ -235,6 +235,17 @@ queues-moves S s other cpu true o = itself s
 queues-moves S s other cpu false (Some p) = itself s
 queues-moves S s other cpu false None = place-moves S s other.0 cpu
 
+delays-moves : (S : ScenarioContents) (s : State) (other : WorkId) (cpu ticks : ℕ) (b : Bool) (o : Option Pending) → Moves s (delay_from_body S s other cpu ticks b o).0
+delays-moves S s other cpu ticks true o = itself s
+delays-moves S s other cpu ticks false (Some p) = itself s
+delays-moves S s other cpu ticks false None = place_after-moves S s other.0 cpu ticks
+
+mods-moves : (S : ScenarioContents) (s : State) (other : WorkId) (cpu ticks : ℕ) (b : Bool) (o : Option Pending) → Moves s (mod_from_body S s other cpu ticks b o).0
+mods-moves S s other cpu ticks true o = itself s
+mods-moves S s other cpu ticks false o =
+    let off = taken_off S s other.0 o in
+    both s off (place_after S off other.0 cpu ticks) (taken_off-moves S s other.0 o) (place_after-moves S off other.0 cpu ticks)
+
 carry_out-moves : (S : ScenarioContents) (s : State) (w : ℕ) (r : Running) (o : Op) → Moves s (carry_out S s w r o).0
 carry_out-moves S s w r (op.Burn ticks) = same s (carry_out S s w r (op.Burn ticks)).0 refl (omega arith)
 carry_out-moves S s w r (op.Sleep ticks) = same s (carry_out S s w r (op.Sleep ticks)).0 refl (omega arith)
@@ -242,6 +253,17 @@ carry_out-moves S s w r (op.Queue other cpu) =
     let on = onward s w r in
     both s on (carry_out S s w r (op.Queue other cpu)).0 (same s on refl (omega arith)) (queues-moves S on other cpu (is_disabled s other.0) (pending_at s other.0))
 carry_out-moves S s w r op.Finish = finish-moves S s w r
+carry_out-moves S s w r (op.Delay other ticks) =
+    let on = onward s w r in
+    both s on (carry_out S s w r (op.Delay other ticks)).0 (same s on refl (omega arith))
+    (delays-moves S on other (local_cpu S r.pool) ticks (is_disabled s other.0) (pending_at s other.0))
+carry_out-moves S s w r (op.Mod other ticks) =
+    let on = onward s w r in
+    both s on (carry_out S s w r (op.Mod other ticks)).0 (same s on refl (omega arith))
+    (mods-moves S on other (local_cpu S r.pool) ticks (is_disabled s other.0) (pending_at s other.0))
+carry_out-moves S s w r (op.Cancel other) =
+    let on = onward s w r in
+    both s on (carry_out S s w r (op.Cancel other)).0 (same s on refl (omega arith)) (taken_off-moves S on other.0 (pending_at s other.0))
 
 advance-moves : (S : ScenarioContents) (s : State) (w : ℕ) (o : Option Running) → Moves s (advance S s w o).0
 advance-moves S s w (Some r) = carry_out-moves S s w r (op_at S w r.pc)

@@ -34,7 +34,7 @@ use Rattle.cmwq_types.specs.declared.reply.Reply.TheVariants as reply
 use Rattle.cmwq_types.specs.declared.reply.WorkRun.{WorkRun}
 use Rattle.cmwq_types.specs.declared.scenario.QueueDecl.{QueueDecl}
 use Rattle.cmwq_table.specs.Counts.{is_rescuer}
-use Rattle.cmwq_table.specs.Events.{already_text, asked_name, event_object, event_verb, mode_text, place_text, refusal_text, reply_words, run_text, was_text, work_name, worker_text}
+use Rattle.cmwq_table.specs.Events.{already_text, asked_name, event_object, event_verb, mode_text, place_text, refusal_text, reply_words, run_text, was_text, work_name, worker_text, changed_text, found_text, timed_object}
 use Rattle.cmwq_tell.specs.declared.change.Change.{Change}
 use Rattle.cmwq_tell.specs.declared.change.Change.TheVariants as change
 use Rattle.cmwq_tell.specs.Hidden.{change_text, timer_cpu_text}
@@ -190,6 +190,18 @@ module _ (S : ScenarioContents) (scenario : IsScenario S) where
   already-no_feed true = literal (codes " already") refl
   already-no_feed false = literal [] refl
 
+  changed-no_feed : (changed : Bool) → NoFeed (changed_text changed)
+  changed-no_feed true = literal (codes " changed") refl
+  changed-no_feed false = literal [] refl
+
+  found-no_feed : (was : Bool) → NoFeed (found_text was)
+  found-no_feed true = literal [] refl
+  found-no_feed false = literal (codes " not pending") refl
+
+  timed-no_feed : (other : WorkId) (ticks : ℕ) (outcome : List ℕ) → NoFeed outcome → NoFeed (timed_object S other ticks outcome)
+  timed-no_feed other ticks outcome clear =
+      joint (joint (joint (joint (literal (codes " ") refl) (work other)) (literal (codes " ") refl)) (number ticks)) clear
+
   verb-no_feed : (e : Event) → NoFeed (event_verb e)
   verb-no_feed event.Starts = literal (codes "starts") refl
   verb-no_feed event.StartsOnRescuer = literal (codes "starts on rescuer") refl
@@ -202,12 +214,22 @@ module _ (S : ScenarioContents) (scenario : IsScenario S) where
   verb-no_feed event.Fires = literal (codes "fires") refl
   verb-no_feed (event.Queues other already) = literal (codes "queues") refl
   verb-no_feed (event.QueuesDisabled other) = literal (codes "queues") refl
+  verb-no_feed (event.Delays other ticks already) = literal (codes "delays") refl
+  verb-no_feed (event.DelaysDisabled other ticks) = literal (codes "delays") refl
+  verb-no_feed (event.Mods other ticks changed) = literal (codes "mods") refl
+  verb-no_feed (event.ModsDisabled other ticks) = literal (codes "mods") refl
+  verb-no_feed (event.Cancels other was) = literal (codes "cancels") refl
 
   object-no_feed : (e : Event) → NoFeed (event_object S e)
   object-no_feed (event.Burns ticks) = joint (literal (codes " ") refl) (number ticks)
   object-no_feed (event.Sleeps ticks) = joint (literal (codes " ") refl) (number ticks)
   object-no_feed (event.Queues other already) = joint (joint (literal (codes " ") refl) (work other)) (already-no_feed already)
   object-no_feed (event.QueuesDisabled other) = joint (joint (literal (codes " ") refl) (work other)) (literal (codes " disabled") refl)
+  object-no_feed (event.Delays other ticks already) = timed-no_feed other ticks (already_text already) (already-no_feed already)
+  object-no_feed (event.DelaysDisabled other ticks) = timed-no_feed other ticks (codes " disabled") (literal (codes " disabled") refl)
+  object-no_feed (event.Mods other ticks changed) = timed-no_feed other ticks (changed_text changed) (changed-no_feed changed)
+  object-no_feed (event.ModsDisabled other ticks) = timed-no_feed other ticks (codes " disabled") (literal (codes " disabled") refl)
+  object-no_feed (event.Cancels other was) = joint (joint (literal (codes " ") refl) (work other)) (found-no_feed was)
   object-no_feed event.Starts = literal [] refl
   object-no_feed event.StartsOnRescuer = literal [] refl
   object-no_feed event.Wakes = literal [] refl

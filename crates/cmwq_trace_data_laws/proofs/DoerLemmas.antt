@@ -1,9 +1,10 @@
 -- Who does something in a run, and for which CPU, in numbers that have room.
 use Rattle.std.proofs.Common.{◌≡◌, ℕ, zero, suc, ◌^◌, ◌<◌, Bool, true, false, cond, List, [], ◌∷◌, length, Option, Some, None, arith, refl, ap, ◌∙◌}
 use Rattle.std.specs.Prelude.{slice_index_or}
+use Rattle.cmwq_types.proofs.SettingLemmas.{local_cpu-in_range}
 use Rattle.cmwq_types.specs.Contents.{ScenarioContents}
 use Rattle.cmwq_types.specs.First.{or_else}
-use Rattle.cmwq_types.specs.Scenario.{op_at, pool_count, queue_of}
+use Rattle.cmwq_types.specs.Scenario.{op_at, pool_count, queue_of, local_cpu}
 use Rattle.cmwq_types.specs.Setting.{IsOpInRange, IsSetting}
 use Rattle.cmwq_types.specs.Values.{IsInstr}
 use Rattle.cmwq_types.specs.declared.instr.Instr.{Instr}
@@ -99,14 +100,20 @@ module _ (S : ScenarioContents) (setting : IsSetting S) where
   timer_cpu-small (Some p) there = place_cpu-small p.place there
   timer_cpu-small None there = omega arith
 
-  op_cpu-small : (o : Op) → IsOpInRange S o → op_cpu o < 2 ^ 8
-  op_cpu-small (op.Queue other cpu) within = (let few = setting.cpus in let there = within.1 in omega (arith, there, few))
-  op_cpu-small (op.Burn ticks) within = omega arith
-  op_cpu-small (op.Sleep ticks) within = omega arith
-  op_cpu-small op.Finish within = omega arith
+  local_cpu-small : (pool : ℕ) → local_cpu S pool < 2 ^ 8
+  local_cpu-small pool = (let few = setting.cpus in let there = local_cpu-in_range S pool setting.some in omega (arith, there, few))
+
+  op_cpu-small : (pool : ℕ) (o : Op) → IsOpInRange S o → op_cpu S pool o < 2 ^ 8
+  op_cpu-small pool (op.Queue other cpu) within = (let few = setting.cpus in let there = within.1 in omega (arith, there, few))
+  op_cpu-small pool (op.Delay other ticks) within = local_cpu-small pool
+  op_cpu-small pool (op.Mod other ticks) within = local_cpu-small pool
+  op_cpu-small pool (op.Cancel other) within = omega arith
+  op_cpu-small pool (op.Burn ticks) within = omega arith
+  op_cpu-small pool (op.Sleep ticks) within = omega arith
+  op_cpu-small pool op.Finish within = omega arith
 
   body_cpu-small : (w : ℕ) (o : Option Running) → body_cpu S w o < 2 ^ 8
-  body_cpu-small w (Some r) = op_cpu-small (op_at S w r.pc) (setting.ops w r.pc)
+  body_cpu-small w (Some r) = op_cpu-small r.pool (op_at S w r.pc) (setting.ops w r.pc)
   body_cpu-small w None = omega arith
 
   event_cpu-small : (w : ℕ) (e : Event) (pending : Option Pending) (running : Option Running) → IsReadyIf S pending → event_cpu S w e pending running < 2 ^ 8

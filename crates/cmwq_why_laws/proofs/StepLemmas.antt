@@ -5,7 +5,7 @@ use Rattle.std.specs.Prelude.{◌==◌, is_none, slice_index_or, slice_set}
 use Rattle.cmwq_types.proofs.FirstLemmas.{count_below-agree}
 use Rattle.cmwq_types.specs.Contents.{ScenarioContents}
 use Rattle.cmwq_types.specs.First.{by_least_two}
-use Rattle.cmwq_types.specs.Scenario.{flags_at, is_high, is_unbound, op_at, queue_of}
+use Rattle.cmwq_types.specs.Scenario.{flags_at, is_high, is_unbound, op_at, queue_of, local_cpu}
 use Rattle.cmwq_types.specs.declared.instr.Instr.TheVariants as instr
 use Rattle.cmwq_types.specs.declared.instr.WorkId.{WorkId}
 use Rattle.cmwq_types.specs.declared.moves.Move.{Move}
@@ -24,7 +24,7 @@ use Rattle.cmwq_table.specs.declared.state.Running.{Running}
 use Rattle.cmwq_table.specs.State.{State, is_disabled, pending_at, running_at}
 use Rattle.cmwq_table.specs.Counts.{first_due, first_runnable, has_free_rescuer, is_deferred, is_due, is_listed, is_rescuer, pending_due, pending_stamp, pends, runs, runs_on_rescuer}
 use Rattle.cmwq_table.specs.Laws.{HasOneRescuer, InEveryState, IsListedIn, placed_in, reply_to, state_after}
-use Rattle.cmwq_table.specs.Moves.{advance, begin_again, carry_out, come_to_end, deferred, moved, moved_work, next_move, onward, queue_from_body, retire, woken}
+use Rattle.cmwq_table.specs.Moves.{advance, begin_again, carry_out, come_to_end, deferred, moved, moved_work, next_move, onward, queue_from_body, retire, woken, delay_from_body, mod_from_body, cancel_from_body}
 use Rattle.cmwq_table.specs.Table.{answer, effect, refusal, run, stepped, table}
 use Rattle.cmwq_reasons.specs.declared.reason.Instance.{Instance}
 use Rattle.cmwq_reasons.specs.declared.reason.Instance.TheVariants as instance
@@ -287,11 +287,30 @@ module _ (S : ScenarioContents) (s : State) (pool : ℕ) where
   queue-does w r other cpu is at false (Some p) class = StepDoes.runs_on r (record r { pc = r.pc + 1 }) s.next is at at refl
   queue-does w r other cpu is at false None class = cc
 
+  delay-does : (w : ℕ) (r : Running) (other : WorkId) (cpu ticks : ℕ) → running_at s w ≡ Some r → r.pool ≡ pool → (b : Bool) (o : Option Pending)
+      → keeps_workers (delay_from_body S (onward s w r) other cpu ticks b o).1 ≡ true → StepDoes s pool w (delay_from_body S (onward s w r) other cpu ticks b o).0
+  delay-does w r other cpu ticks is at true o class = StepDoes.runs_on r (record r { pc = r.pc + 1 }) s.next is at at refl
+  delay-does w r other cpu ticks is at false (Some p) class = StepDoes.runs_on r (record r { pc = r.pc + 1 }) s.next is at at refl
+  delay-does w r other cpu ticks is at false None class = cc
+
+  mod-does : (w : ℕ) (r : Running) (other : WorkId) (cpu ticks : ℕ) → running_at s w ≡ Some r → r.pool ≡ pool → (b : Bool) (o : Option Pending)
+      → keeps_workers (mod_from_body S (onward s w r) other cpu ticks b o).1 ≡ true → StepDoes s pool w (mod_from_body S (onward s w r) other cpu ticks b o).0
+  mod-does w r other cpu ticks is at true o class = StepDoes.runs_on r (record r { pc = r.pc + 1 }) s.next is at at refl
+  mod-does w r other cpu ticks is at false o class = cc
+
+  cancel-does : (w : ℕ) (r : Running) (other : WorkId) → running_at s w ≡ Some r → r.pool ≡ pool → (o : Option Pending)
+      → keeps_workers (cancel_from_body S (onward s w r) other o).1 ≡ true → StepDoes s pool w (cancel_from_body S (onward s w r) other o).0
+  cancel-does w r other is at (Some p) class = cc
+  cancel-does w r other is at None class = StepDoes.runs_on r (record r { pc = r.pc + 1 }) s.next is at at refl
+
   op-does : (w : ℕ) (r : Running) → running_at s w ≡ Some r → r.pool ≡ pool → (o : Op) → keeps_workers (carry_out S s w r o).1 ≡ true → StepDoes s pool w (carry_out S s w r o).0
   op-does w r is at (op.Burn ticks) class = StepDoes.runs_on r (record r { pc = r.pc + 1; left = ticks }) s.next is at at refl
   op-does w r is at (op.Sleep ticks) class = StepDoes.runs_on r (record r { pc = r.pc + 1; mode = mode.Asleep (s.time + ticks) }) s.next is at at refl
   op-does w r is at (op.Queue other cpu) class = queue-does w r other cpu is at (is_disabled s other.0) (pending_at s other.0) class
   op-does w r is at op.Finish class = absurd (cc (ends-worker w r (pending_at s w), class))
+  op-does w r is at (op.Delay other ticks) class = delay-does w r other (local_cpu S r.pool) ticks is at (is_disabled s other.0) (pending_at s other.0) class
+  op-does w r is at (op.Mod other ticks) class = mod-does w r other (local_cpu S r.pool) ticks is at (is_disabled s other.0) (pending_at s other.0) class
+  op-does w r is at (op.Cancel other) class = cancel-does w r other is at (pending_at s other.0) class
 
   in-pool : (x : Instance) → mover S s pool ≡ Some x → pool_of s x ≡ Some pool
   in-pool x moves = (let says : SaysNext S s pool x = moved-says S s pool x moves in says.3)

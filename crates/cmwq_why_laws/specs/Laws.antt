@@ -1,5 +1,5 @@
 -- What one may believe of a work's line from one instruction to the next.
-use Rattle.std.specs.Prelude.{◌≡◌, ℕ, ◌+◌, ◌<◌, Bool, true, false, List, length, Option, Some, None}
+use Rattle.std.specs.Prelude.{◌≡◌, ℕ, ◌+◌, ◌<◌, Bool, true, false, List, length, Option, Some, None, not}
 use Rattle.cmwq_types.specs.Contents.{ScenarioContents}
 use Rattle.cmwq_types.specs.Scenario.{flags_at, is_high, is_unbound, queue_of}
 use Rattle.cmwq_types.specs.declared.instr.Instr.{Instr}
@@ -84,7 +84,7 @@ KeepsTextInTick S s =
 
 -- Steps.
 
--- by the event the moved work keeps its worker, if it has one, or is deferred, and no work is placed
+-- by the event the moved work keeps its worker, if it has one, or is deferred, and no work is placed, put on a timer or taken off
 abbrev pub keeps_workers : Event → Bool
 keeps_workers (event.Burns ticks) = true
 keeps_workers (event.Sleeps ticks) = true
@@ -92,6 +92,11 @@ keeps_workers event.Wakes = true
 keeps_workers event.Defers = true
 keeps_workers (event.Queues other already) = already
 keeps_workers (event.QueuesDisabled other) = true
+keeps_workers (event.Delays other ticks already) = already
+keeps_workers (event.DelaysDisabled other ticks) = true
+keeps_workers (event.Mods other ticks changed) = false
+keeps_workers (event.ModsDisabled other ticks) = true
+keeps_workers (event.Cancels other was) = not was
 keeps_workers event.Starts = false
 keeps_workers event.StartsOnRescuer = false
 keeps_workers event.Finishes = false
