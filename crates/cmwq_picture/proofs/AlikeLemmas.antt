@@ -12,13 +12,15 @@ use Rattle.cmwq_table.specs.Moves.{burned, one_less, tick}
 use Rattle.cmwq_table.specs.State.{State, pending_at, running_at}
 use Rattle.cmwq_table.specs.declared.state.Pending.{Pending}
 use Rattle.cmwq_table.specs.declared.state.Running.{Running}
+use Rattle.cmwq_picture.specs.Arming.{armer, marked}
 use Rattle.cmwq_picture.specs.Column.{burning, burning_as, column_of}
-use Rattle.cmwq_picture.specs.Picture.{below, second_cell, mode_sign, pending_cell, pending_sign, run_or_pending, run_sign, work_sign}
+use Rattle.cmwq_picture.specs.Picture.{Deeds, below, second_cell, mode_sign, pending_cell, pending_shown, run_or_pending, run_sign, work_shown}
+use Rattle.cmwq_picture.specs.declared.arming.Arming.{Arming}
 use Rattle.cmwq_picture.specs.declared.cell.Cell.{Cell}
 use Rattle.cmwq_picture.specs.declared.cell.Cell.TheVariants.{Does}
+use Rattle.cmwq_picture.specs.declared.column.Burning.{Burning}
 use Rattle.cmwq_picture.specs.declared.cell.Sign.{Sign}
 use Rattle.cmwq_picture.specs.declared.cell.Sign.TheVariants as sign
-use Rattle.cmwq_picture.specs.declared.column.Burning.{Burning}
 use Rattle.cmwq_picture.proofs.ListLemmas.{filter_map-agree, map-agree}
 use Rattle.cmwq_picture.proofs.TickLemmas.{IsTick}
 
@@ -131,11 +133,21 @@ module _ (S : ScenarioContents) (s t : State) (alike : LooksAlike (length S.work
   burning-alike w None (Some q) same = absurd same
   burning-alike w None None same = refl
 
-  pub column-alike : (acted : Bool) → column_of S t acted ≡ column_of S s acted
-  column-alike acted =
+  shown-alike : (armed : List Arming) (w : ℕ) (a b : Cell) (p q : Option Pending) → b ≡ a → q ≡ p → marked (armer armed w q) b ≡ marked (armer armed w p) a
+  shown-alike armed w a b p q same pending =
+      ap (λ (c : Cell). marked (armer armed w q) c) same ∙ ap (λ (o : Option Pending). marked (armer armed w o) a) pending
+
+  pub column-alike : (deeds : Deeds) → column_of S t deeds ≡ column_of S s deeds
+  column-alike deeds =
       let n = length S.works in
-      let works = map-agree (work_sign S t) (work_sign S s) 0 n (λ w less. works-alike w (running_at s w) (running_at t w) (alike.running w (omega arith)) (alike.pending w (omega arith))) in
-      let pending = map-agree (pending_sign t) (pending_sign s) 0 n (λ w less. beside-alike (running_at s w) (running_at t w) (pending_at s w) (pending_at t w) (alike.running w (omega arith)) (alike.pending w (omega arith))) in
+      let works = map-agree (work_shown S deeds.armed t) (work_shown S deeds.armed s) 0 n
+      (λ w less.
+      shown-alike deeds.armed w _ _ (pending_at s w) (pending_at t w)
+      (works-alike w (running_at s w) (running_at t w) (alike.running w (omega arith)) (alike.pending w (omega arith))) (alike.pending w (omega arith))) in
+      let pending = map-agree (pending_shown deeds.armed t) (pending_shown deeds.armed s) 0 n
+      (λ w less.
+      shown-alike deeds.armed w _ _ (pending_at s w) (pending_at t w)
+      (beside-alike (running_at s w) (running_at t w) (pending_at s w) (pending_at t w) (alike.running w (omega arith)) (alike.pending w (omega arith))) (alike.pending w (omega arith))) in
       let burners = filter_map-agree (burning S t) (burning S s) 0 n (λ w less. burning-alike w (running_at s w) (running_at t w) (alike.running w (omega arith))) in
       rw (works, pending, burners, alike.frozen, alike.pressed) refl
 
@@ -156,7 +168,7 @@ tick-alike : (S : ScenarioContents) (s : State) (spent works : ℕ) → LooksAli
 tick-alike S s spent works = record { pending = λ w less. refl; running = λ w less. burned-alike (burns S s) 0 s.running w; frozen = refl; pressed = refl }
 
 -- a tick leaves the column as it was
-pub column-ticks : (S : ScenarioContents) (s t : State) (acted : Bool) → IsTick S s t → column_of S t acted ≡ column_of S s acted
-column-ticks S s t acted ticked =
+pub column-ticks : (S : ScenarioContents) (s t : State) (deeds : Deeds) → IsTick S s t → column_of S t deeds ≡ column_of S s deeds
+column-ticks S s t deeds ticked =
     let after : State = record (tick S s) { spent = ticked.0 } in
-    ap (λ (u : State). column_of S u acted) ticked.1 ∙ column-alike S s after (tick-alike S s ticked.0 (length S.works)) acted
+    ap (λ (u : State). column_of S u deeds) ticked.1 ∙ column-alike S s after (tick-alike S s ticked.0 (length S.works)) deeds

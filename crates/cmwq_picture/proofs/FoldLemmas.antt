@@ -7,7 +7,7 @@ use Rattle.cmwq_picture.specs.Column.{ColumnContents, cell_shown}
 use Rattle.cmwq_picture.specs.Folding.{columns_drawn, columns_of_stretch, stretches_of, ticks_drawn, ticks_of_stretch, ticks_each, width}
 use Rattle.cmwq_picture.specs.Laws.{FoldsLongStretches, ShowsEachTick, StandsForTicks, written_out}
 use Rattle.cmwq_picture.specs.Picture.{columns}
-use Rattle.cmwq_picture.specs.PictureOfRun.{acts, ticks_told}
+use Rattle.cmwq_picture.specs.PictureOfRun.{ticks_told, told_of_tick}
 use Rattle.cmwq_picture.specs.Stretches.{spread}
 use Rattle.cmwq_picture.specs.declared.columns.Stretch.{Stretch}
 use Rattle.cmwq_picture.specs.declared.span.TheConstants.{MAX_UNFOLDED}
@@ -47,7 +47,7 @@ module _ {A : Type 0} where
 pub shows_each_tick : ShowsEachTick
 unfolding ShowsEachTick
 shows_each_tick S instrs span fold row declared =
-    written-columns (cell_shown S row) fold (ticks_told S instrs span) ∙ cells-shown S (acts S instrs) row (columns S instrs span) declared
+    written-columns (cell_shown S row) fold (ticks_told S instrs span) ∙ cells-shown S (λ s. told_of_tick S instrs s.time) row (columns S instrs span) declared
 
 -- Which are folded.
 

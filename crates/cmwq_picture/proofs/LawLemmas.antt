@@ -9,15 +9,19 @@ use Rattle.cmwq_types.specs.Faults.{IsValid}
 use Rattle.cmwq_types.specs.Scenario.{is_high, is_unbound}
 use Rattle.cmwq_types.specs.Setting.{IsSetting}
 use Rattle.cmwq_types.specs.declared.instr.Instr.{Instr}
+use Rattle.cmwq_types.specs.declared.instr.WorkId.{WorkId}
 use Rattle.cmwq_types.proofs.SettingLemmas.{IsSetting-valid}
 use Rattle.cmwq_table.specs.Counts.{burns, first_runnable, is_runnable, is_some_work, runs}
 use Rattle.cmwq_table.specs.State.{State, pending_at, running_at, start}
 use Rattle.cmwq_table.specs.Table.{after_all, table}
 use Rattle.cmwq_table.specs.declared.state.Pending.{Pending}
 use Rattle.cmwq_table.specs.declared.state.Running.{Running}
+use Rattle.cmwq_picture.specs.Arming.{armer, marked}
 use Rattle.cmwq_picture.specs.Laws.{BurnsAlone, BurnsBound, HasConsecutiveTicks, HasEachTick, IsEmptyWhereNothingIsDone, ShowsEachBurner}
 use Rattle.cmwq_picture.specs.Picture.{below, burner_cell, burns_in, columns, from_time, is_before, is_drawn, pending_cell, run_or_pending, stands_in, ticks_from}
-use Rattle.cmwq_picture.specs.declared.cell.Cell.TheVariants.{Empty}
+use Rattle.cmwq_picture.specs.declared.cell.Cell.{Cell}
+use Rattle.cmwq_picture.specs.declared.cell.Cell.TheVariants.{Empty, Does}
+use Rattle.cmwq_picture.specs.declared.cell.Sign.TheVariants as sign
 use Rattle.cmwq_picture.specs.declared.row.Title.TheVariants as title
 use Rattle.cmwq_drawing.specs.declared.drawing.Span.{Span}
 use Rattle.cmwq_picture.proofs.TickLemmas.{IsTick, time-goes_on, time-ticks}
@@ -168,10 +172,25 @@ nothing-shown S s w (Some r) p is still none = absurd cc
 nothing-shown S s w None (Some p) is still none = absurd cc
 nothing-shown S s w None None is still none = ap pending_cell is
 
+-- a mark stands in no empty cell's stead
+marked-empty : (by : Option WorkId) (c : Cell) → marked by c ≡ Empty → c ≡ Empty
+marked-empty None c empty = empty
+marked-empty (Some by) (Does sign.Timed) empty = absurd cc
+marked-empty (Some by) c empty = empty
+
+unmarked : (by : Option WorkId) → marked by Empty ≡ Empty
+unmarked None = refl
+unmarked (Some by) = refl
+
 pub empty_where_nothing_is_done : IsEmptyWhereNothingIsDone
 unfolding IsEmptyWhereNothingIsDone
-empty_where_nothing_is_done S s w =
-    (empty-if S s w (running_at s w) (pending_at s w) refl, λ none. nothing-shown S s w (running_at s w) (pending_at s w) refl none.0 none.1)
+empty_where_nothing_is_done S deeds s w =
+    let r = running_at s w.0 in
+    let p = pending_at s w.0 in
+    let by = armer deeds.armed w.0 p in (
+      λ empty. empty-if S s w.0 r p refl (marked-empty by (run_or_pending S s w.0 r) empty),
+      λ none. ap (marked by) (nothing-shown S s w.0 r p refl none.0 none.1) ∙ unmarked by,
+    )
 
 -- CPUs.
 
@@ -266,7 +285,7 @@ on-cpu S s cpu v None is passes = absurd cc
 
 pub shows_each_burner : ShowsEachBurner
 unfolding ShowsEachBurner BurnsAlone
-shows_each_burner S s acts w r less bound =
+shows_each_burner S s deeds w r less bound =
     let cpu = r.pool / 2 in
     let at : (cpu == cpu) ≡ true = grind (arith, nat_tests) in
     let row : stands_in S (title.Cpu cpu) w r.pool r.worker ≡ true = ap (λ (b : Bool). not b && (cpu == cpu)) bound.bound ∙ at in

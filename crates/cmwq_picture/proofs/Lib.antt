@@ -1,7 +1,9 @@
 pub mod AlikeLemmas
+pub mod ArmingLemmas
 pub mod FoldLemmas
 pub mod LawLemmas
 pub mod ListLemmas
+pub mod MarkLemmas
 pub mod RecordingLemmas
 pub mod RowLemmas
 pub mod StretchLemmas

@@ -1,7 +1,7 @@
 -- What a recording comes to: the picture's columns.
-use Rattle.std.proofs.Common.{◌≡◌, ◌≢◌, ℕ, zero, suc, ◌+◌, ◌<◌, ◌≤◌, Bool, true, false, cond, ◌&&◌, ◌||◌, List, [], ◌∷◌, ◌++◌, length, map, append_assoc, append-nil, Result, Ok, Err, OnOk, arith, refl, sym, subst, ap, ◌∙◌}
+use Rattle.std.proofs.Common.{◌≡◌, ◌≢◌, ℕ, zero, suc, ◌+◌, ◌<◌, ◌≤◌, Bool, true, false, cond, ◌&&◌, ◌||◌, List, [], ◌∷◌, ◌++◌, length, map, append_assoc, append-nil, Option, Some, None, Result, Ok, Err, OnOk, arith, refl, sym, subst, ap, ◌∙◌}
 use Rattle.std.proofs.lemmas.Bool.Decides.{nat_tests}
-use Rattle.std.specs.List.{filter, list_any}
+use Rattle.std.specs.List.{cons_option, filter, list_any}
 use Rattle.std.specs.Prelude.{nat_le, nat_lt, ◌==◌}
 use Rattle.cmwq_types.specs.Contents.{ScenarioContents}
 use Rattle.cmwq_types.specs.Setting.{IsSetting}
@@ -10,21 +10,24 @@ use Rattle.cmwq_types.specs.declared.reply.Reply.{Reply}
 use Rattle.cmwq_table.proofs.CounterLemmas.{table-counters}
 use Rattle.cmwq_table.specs.State.{State, start}
 use Rattle.cmwq_table.specs.Table.{table}
+use Rattle.cmwq_picture.specs.Arming.{armings_from, in_tick, new_arming}
 use Rattle.cmwq_picture.specs.Column.{ColumnContents, column_of, cut_rows}
 use Rattle.cmwq_picture.specs.ExtentContents.{ExtentContents}
 use Rattle.cmwq_picture.specs.Folding.{columns_drawn, edges_from, is_long, is_open, is_wide, stretches_of, ticks_drawn}
 use Rattle.cmwq_picture.specs.PictureContents.{PictureContents, RowContents}
-use Rattle.cmwq_picture.specs.Picture.{acted_at, acts_from, columns, from_time, is_act, is_before, is_drawn, ticks_from, titles}
-use Rattle.cmwq_picture.specs.PictureOfRun.{Draws, IsDrawError, acts as run_acts, is_folded, picture_of, ticks_told}
+use Rattle.cmwq_picture.specs.Picture.{Deeds, acted_at, acts_from, columns, deeds_of, from_time, is_act, is_before, is_drawn, ticks_from, titles}
+use Rattle.cmwq_picture.specs.PictureOfRun.{Draws, IsDrawError, acts as run_acts, armings as run_armings, is_folded, picture_of, ticks_told, told_of_tick}
+use Rattle.cmwq_picture.specs.declared.arming.Arming.{Arming}
 use Rattle.cmwq_picture.specs.declared.row.Act.{Act}
 use Rattle.cmwq_streams.specs.declared.error.PlayError.{PlayError}
 use Rattle.cmwq_streams.specs.declared.error.PlayError.TheVariants.{TooWide, NoMemory}
 use Rattle.cmwq_picture.specs.declared.span.TheConstants.{MAX_COLUMNS}
 use Rattle.cmwq_picture.proofs.StretchLemmas.{stretches-fit, stretches-longer}
-use Rattle.cmwq_picture.specs.Recording.{IsRecording, Recording, recording_begun, issued, issued_all, new_acts, new_columns, noted, overflows}
+use Rattle.cmwq_picture.specs.Recording.{IsRecording, Recording, recording_begun, issued, issued_all, new_acts, new_columns, no_deeds, noted, overflows, told as then_told}
 use Rattle.cmwq_drawing.specs.declared.drawing.Span.{Span}
 use Rattle.cmwq_picture.proofs.TickLemmas.{time-goes_on, time-ticks}
 use Rattle.cmwq_picture.proofs.AlikeLemmas.{column-ticks}
+use Rattle.cmwq_picture.proofs.ArmingLemmas.{IsSetAt, armed-here, armed-later, armed-stays, armed_at, new-set, set_times}
 
 pub on_ok : {A E P Q : Type 0} (r : Result A E) → (P → Q) → OnOk r P → OnOk r Q
 on_ok (Ok x) f holds = f holds
@@ -36,15 +39,15 @@ pub issued_all-append : (r : Recording) (xs ys : List Instr) → issued_all r (x
 issued_all-append r [] ys = refl
 issued_all-append r (x ∷ xs) ys = issued_all-append (issued r x) xs ys
 
-overflows-longer : (r : Recording) (more : List ColumnContents) (s : State) (acted : Bool) (acts : List Act) → overflows r ≡ true
-    → overflows (record r { columns = r.columns ++ more; state = s; acted = acted; acts = acts }) ≡ true
-overflows-longer r more s acted acts wide =
+overflows-longer : (r : Recording) (more : List ColumnContents) (s : State) (deeds : Deeds) (acts : List Act) → overflows r ≡ true
+    → overflows (record r { columns = r.columns ++ more; state = s; deeds = deeds; acts = acts }) ≡ true
+overflows-longer r more s deeds acts wide =
     let longer = stretches-longer r.columns more in
     grind (arith, nat_tests, longer)
 
 -- An instruction keeps what holds of a recording, be it drawn or not yet.
-pub kept : (r : Recording) (i : Instr) (acted : Bool) (acts : List Act) → IsRecording r → IsRecording (record r { state = (table r.scenario r.state i).0; acted = acted; acts = acts })
-kept r i acted acts holds =
+pub kept : (r : Recording) (i : Instr) (deeds : Deeds) (acts : List Act) → IsRecording r → IsRecording (record r { state = (table r.scenario r.state i).0; deeds = deeds; acts = acts })
+kept r i deeds acts holds =
     let goes_on = time-goes_on r.scenario r.state i holds.setting in
     record {
       setting = holds.setting;
@@ -55,15 +58,15 @@ kept r i acted acts holds =
 
 -- What an instruction leaves: no tick, a tick that isn't drawn, and one that is.
 
-stayed-if : (r : Recording) (t : State) (acted b : Bool) (acts : List Act) → b ≡ false
-    → record r { state = t; acted = acted; acts = acts } ≡ record r { state = t; acted = cond b false acted; acts = acts; columns = r.columns ++ cond (b && is_drawn r.span r.state.time) (column_of r.scenario r.state acted ∷ []) [] }
-stayed-if r t acted true acts e = absurd cc
-stayed-if r t acted false acts e = ap (λ (cs : List ColumnContents). record r { state = t; acted = acted; acts = acts; columns = cs }) (sym (append-nil r.columns))
+stayed-if : (r : Recording) (t : State) (deeds : Deeds) (b : Bool) (acts : List Act) → b ≡ false
+    → record r { state = t; deeds = deeds; acts = acts } ≡ record r { state = t; deeds = cond b no_deeds deeds; acts = acts; columns = r.columns ++ cond (b && is_drawn r.span r.state.time) (column_of r.scenario r.state deeds ∷ []) [] }
+stayed-if r t deeds true acts e = absurd cc
+stayed-if r t deeds false acts e = ap (λ (cs : List ColumnContents). record r { state = t; deeds = deeds; acts = acts; columns = cs }) (sym (append-nil r.columns))
 
-passed-if : (r : Recording) (t : State) (acted b d : Bool) (acts : List Act) (cs : List ColumnContents) → b ≡ true → cs ≡ r.columns ++ cond d (column_of r.scenario r.state acted ∷ []) []
-    → record r { state = t; acted = false; acts = acts; columns = cs } ≡ record r { state = t; acted = cond b false acted; acts = acts; columns = r.columns ++ cond (b && d) (column_of r.scenario r.state acted ∷ []) [] }
-passed-if r t acted true d acts cs e is = ap (λ (cs : List ColumnContents). record r { state = t; acted = false; acts = acts; columns = cs }) is
-passed-if r t acted false d acts cs e is = absurd cc
+passed-if : (r : Recording) (t : State) (deeds : Deeds) (b d : Bool) (acts : List Act) (cs : List ColumnContents) → b ≡ true → cs ≡ r.columns ++ cond d (column_of r.scenario r.state deeds ∷ []) []
+    → record r { state = t; deeds = no_deeds; acts = acts; columns = cs } ≡ record r { state = t; deeds = cond b no_deeds deeds; acts = acts; columns = r.columns ++ cond (b && d) (column_of r.scenario r.state deeds ∷ []) [] }
+passed-if r t deeds true d acts cs e is = ap (λ (cs : List ColumnContents). record r { state = t; deeds = no_deeds; acts = acts; columns = cs }) is
+passed-if r t deeds false d acts cs e is = absurd cc
 
 -- a machine has come to t, and has answered
 module _ (r : Recording) (i : Instr) (t : State) (answer : Reply) (is : (t, answer) ≡ table r.scenario r.state i) where
@@ -77,13 +80,13 @@ module _ (r : Recording) (i : Instr) (t : State) (answer : Reply) (is : (t, answ
   abbrev pub told : Recording
   told = noted (record r { state = t }) r.state.time i answer
 
-  abbrev then-acted : Bool
-  then-acted = r.acted || is_act i after.1
+  abbrev then-deeds : Deeds
+  then-deeds = then_told r.deeds r.state.time i after.0 after.1
 
   abbrev then-acts : List Act
   then-acts = r.acts ++ new_acts r.span r.state.time i after.1
 
-  told-is : told ≡ record r { state = after.0; acted = then-acted; acts = then-acts }
+  told-is : told ≡ record r { state = after.0; deeds = then-deeds; acts = then-acts }
   told-is = ap (λ (next : State × Reply). noted (record r { state = next.0 }) r.state.time i next.1) is
 
   -- with the time that was asked for before
@@ -91,16 +94,16 @@ module _ (r : Recording) (i : Instr) (t : State) (answer : Reply) (is : (t, answ
   told-at time same = ap (λ (time : ℕ). noted (record r { state = t }) time i answer) same
 
   pub moved-kept : IsRecording r → IsRecording (record r { state = t })
-  moved-kept holds = subst (λ (u : State). IsRecording (record r { state = u })) (sym at) (kept r i r.acted r.acts holds)
+  moved-kept holds = subst (λ (u : State). IsRecording (record r { state = u })) (sym at) (kept r i r.deeds r.acts holds)
 
   pub told-kept : IsRecording r → IsRecording told
-  told-kept holds = subst IsRecording (sym told-is) (kept r i then-acted then-acts holds)
+  told-kept holds = subst IsRecording (sym told-is) (kept r i then-deeds then-acts holds)
 
   pub stays-after : t.time ≡ r.state.time → told ≡ issued r i
   stays-after stays =
       let still : after.0.time ≡ r.state.time = sym (ap (λ (u : State). u.time) at) ∙ stays in
       let same : nat_lt r.state.time after.0.time ≡ false = grind (arith, nat_tests) in
-      told-is ∙ stayed-if r after.0 then-acted (nat_lt r.state.time after.0.time) then-acts same
+      told-is ∙ stayed-if r after.0 then-deeds (nat_lt r.state.time after.0.time) then-acts same
 
   module _ (setting : IsSetting r.scenario) (differs : t.time ≢ r.state.time) where
     -- time has gone on where it isn't what it was
@@ -113,23 +116,23 @@ module _ (r : Recording) (i : Instr) (t : State) (answer : Reply) (is : (t, answ
     gone-on : nat_lt r.state.time after.0.time ≡ true
     gone-on = (let less = time-on in grind (arith, nat_tests))
 
-    pub passes-after : is_drawn r.span r.state.time ≡ false → record told { acted = false } ≡ issued r i
+    pub passes-after : is_drawn r.span r.state.time ≡ false → record told { deeds = no_deeds } ≡ issued r i
     passes-after undrawn =
-        let none : r.columns ≡ r.columns ++ cond (is_drawn r.span r.state.time) (column_of r.scenario r.state then-acted ∷ []) [] =
-        sym (ap (λ (d : Bool). r.columns ++ cond d (column_of r.scenario r.state then-acted ∷ []) []) undrawn ∙ append-nil r.columns) in
-        ap (λ (q : Recording). record q { acted = false }) told-is
-        ∙ passed-if r after.0 then-acted (nat_lt r.state.time after.0.time) (is_drawn r.span r.state.time) then-acts r.columns gone-on none
+        let none : r.columns ≡ r.columns ++ cond (is_drawn r.span r.state.time) (column_of r.scenario r.state then-deeds ∷ []) [] =
+        sym (ap (λ (d : Bool). r.columns ++ cond d (column_of r.scenario r.state then-deeds ∷ []) []) undrawn ∙ append-nil r.columns) in
+        ap (λ (q : Recording). record q { deeds = no_deeds }) told-is
+        ∙ passed-if r after.0 then-deeds (nat_lt r.state.time after.0.time) (is_drawn r.span r.state.time) then-acts r.columns gone-on none
 
     pub drawn-after : is_drawn r.span r.state.time ≡ true
-        → record told { acted = false; columns = r.columns ++ column_of r.scenario t told.acted ∷ [] } ≡ issued r i
+        → record told { deeds = no_deeds; columns = r.columns ++ column_of r.scenario t told.deeds ∷ [] } ≡ issued r i
     drawn-after drawn =
-        let same : column_of r.scenario after.0 then-acted ≡ column_of r.scenario r.state then-acted =
-        column-ticks r.scenario r.state after.0 then-acted (time-ticks r.scenario r.state i setting time-on) in
-        let one : r.columns ++ column_of r.scenario after.0 then-acted ∷ [] ≡ r.columns ++ cond (is_drawn r.span r.state.time) (column_of r.scenario r.state then-acted ∷ []) [] =
-        ap (λ (c : ColumnContents). r.columns ++ c ∷ []) same ∙ sym (ap (λ (d : Bool). r.columns ++ cond d (column_of r.scenario r.state then-acted ∷ []) []) drawn) in
-        ap (λ (q : Recording). record q { acted = false; columns = q.columns ++ column_of q.scenario q.state q.acted ∷ [] }) told-is
-        ∙ passed-if r after.0 then-acted (nat_lt r.state.time after.0.time) (is_drawn r.span r.state.time) then-acts
-        (r.columns ++ column_of r.scenario after.0 then-acted ∷ []) gone-on one
+        let same : column_of r.scenario after.0 then-deeds ≡ column_of r.scenario r.state then-deeds =
+        column-ticks r.scenario r.state after.0 then-deeds (time-ticks r.scenario r.state i setting time-on) in
+        let one : r.columns ++ column_of r.scenario after.0 then-deeds ∷ [] ≡ r.columns ++ cond (is_drawn r.span r.state.time) (column_of r.scenario r.state then-deeds ∷ []) [] =
+        ap (λ (c : ColumnContents). r.columns ++ c ∷ []) same ∙ sym (ap (λ (d : Bool). r.columns ++ cond d (column_of r.scenario r.state then-deeds ∷ []) []) drawn) in
+        ap (λ (q : Recording). record q { deeds = no_deeds; columns = q.columns ++ column_of q.scenario q.state q.deeds ∷ [] }) told-is
+        ∙ passed-if r after.0 then-deeds (nat_lt r.state.time after.0.time) (is_drawn r.span r.state.time) then-acts
+        (r.columns ++ column_of r.scenario after.0 then-deeds ∷ []) gone-on one
 
     -- there is room for a column
     pub room-after : IsRecording r → is_drawn r.span r.state.time ≡ true → from_time r.span.from + length r.columns < t.time
@@ -150,9 +153,9 @@ pub overflows-stays : (r : Recording) (instrs : List Instr) → overflows r ≡ 
 overflows-stays r [] wide = wide
 overflows-stays r (i ∷ is) wide =
     let next = table r.scenario r.state i in
-    let acted = r.acted || is_act i next.1 in
+    let deeds = then_told r.deeds r.state.time i next.0 next.1 in
     overflows-stays (issued r i) is
-    (overflows-longer r (new_columns r next.0 acted) next.0 (cond (nat_lt r.state.time next.0.time) false acted) (r.acts ++ new_acts r.span r.state.time i next.1) wide)
+    (overflows-longer r (new_columns r next.0 deeds) next.0 (cond (nat_lt r.state.time next.0.time) no_deeds deeds) (r.acts ++ new_acts r.span r.state.time i next.1) wide)
 
 -- Times.
 
@@ -211,6 +214,23 @@ module _ (S : ScenarioContents) (setting : IsSetting S) where
       let next = table S s i in
       acts-later-if (is_act i next.1) s (times_from S next.0 is) (none-weaker s.time next.0.time (times_from S next.0 is) (time-goes_on S s i setting) (acts-later next.0 is))
 
+  set-later-if : (s : State) (new : Option Arming) (armings : List Arming) → IsSetAt s.time new → NoneBefore s.time (set_times armings) → NoneBefore s.time (set_times (cons_option new armings))
+  set-later-if s (Some x) armings set none = (omega (arith, set), none)
+  set-later-if s None armings set none = none
+
+  set-later : (s : State) (instrs : List Instr) → NoneBefore s.time (set_times (armings_from S s instrs))
+  set-later s [] = tt
+  set-later s (i ∷ is) =
+      let next = table S s i in
+      set-later-if s (new_arming s.time next.0 next.1) (armings_from S next.0 is) (new-set s.time next.0 next.1)
+      (none-weaker s.time next.0.time (set_times (armings_from S next.0 is)) (time-goes_on S s i setting) (set-later next.0 is))
+
+none-set : (time : ℕ) (armings : List Arming) → NoneBefore (time + 1) (set_times armings) → in_tick armings time ≡ []
+none-set time [] none = refl
+none-set time (x ∷ armings) none =
+    let apart : (x.time == time) ≡ false = (let later = none.0 in grind (arith, nat_tests)) in
+    ap (λ (b : Bool). cond b (x ∷ in_tick armings time) (in_tick armings time)) apart ∙ none-set time armings none.1
+
 none-at : (time : ℕ) (acts : List ℕ) → NoneBefore (time + 1) acts → list_any (λ act. act == time) acts ≡ false
 none-at time [] none = refl
 none-at time (act ∷ acts) none =
@@ -223,15 +243,19 @@ none-at time (act ∷ acts) none =
 abbrev pub flag_at : Bool → ℕ → List ℕ → State → Bool
 flag_at before time acts s = (before && (time == s.time)) || list_any (λ act. act == s.time) acts
 
-abbrev recorded : ScenarioContents → Bool → ℕ → List ℕ → List State → List ColumnContents
-recorded S before time acts states = map (λ s. column_of S s (flag_at before time acts s)) states
+-- what is told of the state's tick, where this was told before at this time, and then at those times, and of those timers
+abbrev pub told_at : Deeds → ℕ → List ℕ → List Arming → State → Deeds
+told_at before time acts armings s = deeds_of (flag_at before.acted time acts s) (armed_at before.armed time armings s)
 
--- a flag that is the same for each of these states
-recorded-same : (S : ScenarioContents) (f g : State → Bool) (least : ℕ) (states : List State) → AllLater least states → ((s : State) → least ≤ s.time → f s ≡ g s)
+abbrev recorded : ScenarioContents → Deeds → ℕ → List ℕ → List Arming → List State → List ColumnContents
+recorded S before time acts armings states = map (λ s. column_of S s (told_at before time acts armings s)) states
+
+-- what is told of each of these states alike
+recorded-same : (S : ScenarioContents) (f g : State → Deeds) (least : ℕ) (states : List State) → AllLater least states → ((s : State) → least ≤ s.time → f s ≡ g s)
     → map (λ s. column_of S s (f s)) states ≡ map (λ s. column_of S s (g s)) states
 recorded-same S f g least [] later same = refl
 recorded-same S f g least (s ∷ states) later same =
-    ap (λ (b : Bool). column_of S s b ∷ map (λ s. column_of S s (f s)) states) (same s later.0)
+    ap (λ (d : Deeds). column_of S s d ∷ map (λ s. column_of S s (f s)) states) (same s later.0)
     ∙ ap (λ (cs : List ColumnContents). column_of S s (g s) ∷ cs) (recorded-same S f g least states later.1 same)
 
 drawn-later-if : (least : ℕ) (b : Bool) (s : State) (states : List State) → least ≤ s.time → AllLater least states → AllLater least (cond b (s ∷ states) states)
@@ -297,13 +321,16 @@ flag-here before act s acts none =
 -- One instruction more.
 
 -- where a tick passes: the column, if it is drawn, and those behind it
-drawn-first : (S : ScenarioContents) (f g : State → Bool) (a b : Bool) (s : State) (states : List State) → a ≡ g s → map (λ s. column_of S s (f s)) states ≡ map (λ s. column_of S s (g s)) states
+drawn-first : (S : ScenarioContents) (f g : State → Deeds) (a : Deeds) (b : Bool) (s : State) (states : List State) → a ≡ g s → map (λ s. column_of S s (f s)) states ≡ map (λ s. column_of S s (g s)) states
     → cond b (column_of S s a ∷ []) [] ++ map (λ s. column_of S s (f s)) states ≡ map (λ s. column_of S s (g s)) (cond b (s ∷ states) states)
 drawn-first S f g a true s states here rest =
-    ap (λ (flag : Bool). column_of S s flag ∷ map (λ s. column_of S s (f s)) states) here ∙ ap (λ (cs : List ColumnContents). column_of S s (g s) ∷ cs) rest
+    ap (λ (d : Deeds). column_of S s d ∷ map (λ s. column_of S s (f s)) states) here ∙ ap (λ (cs : List ColumnContents). column_of S s (g s) ∷ cs) rest
 drawn-first S f g a false s states here rest = rest
 
-module _ (S : ScenarioContents) (setting : IsSetting S) (span : Span) (s : State) (i : Instr) (is : List Instr) (before : Bool) where
+both-same : (a b : Bool) (x y : List Arming) → a ≡ b → x ≡ y → deeds_of a x ≡ deeds_of b y
+both-same a b x y same also = ap (λ (c : Bool). deeds_of c x) same ∙ ap (deeds_of b) also
+
+module _ (S : ScenarioContents) (setting : IsSetting S) (span : Span) (s : State) (i : Instr) (is : List Instr) (before : Deeds) where
   abbrev next : State
   next = (table S s i).0
 
@@ -313,32 +340,53 @@ module _ (S : ScenarioContents) (setting : IsSetting S) (span : Span) (s : State
   abbrev acts : Bool
   acts = is_act i (table S s i).1
 
+  abbrev set_then : List Arming
+  set_then = armings_from S next is
+
+  abbrev sets : Option Arming
+  sets = new_arming s.time next (table S s i).1
+
+  abbrev then_is : Deeds
+  then_is = then_told before s.time i next (table S s i).1
+
   later : s.time < next.time → NoneBefore (s.time + 1) acts_then
   later less = none-weaker (s.time + 1) next.time acts_then (omega arith) (acts-later S setting next is)
 
+  unset : s.time < next.time → in_tick set_then s.time ≡ []
+  unset less = none-set s.time set_then (none-weaker (s.time + 1) next.time (set_times set_then) (omega arith) (set-later S setting next is))
+
+  set : IsSetAt s.time sets
+  set = new-set s.time next (table S s i).1
+
+  abbrev whole : State → Deeds
+  whole = told_at before s.time (cond acts (s.time ∷ []) [] ++ acts_then) (cons_option sets set_then)
+
   tick-recorded : s.time < next.time
-      → cond (is_drawn span s.time) (column_of S s (before || acts) ∷ []) [] ++ recorded S false next.time acts_then (filter (λ s. is_drawn span s.time) (ticks_from S next is))
-      ≡ recorded S before s.time (cond acts (s.time ∷ []) [] ++ acts_then) (filter (λ s. is_drawn span s.time) (s ∷ ticks_from S next is))
+      → cond (is_drawn span s.time) (column_of S s then_is ∷ []) [] ++ recorded S no_deeds next.time acts_then set_then (filter (λ s. is_drawn span s.time) (ticks_from S next is))
+      ≡ map (λ u. column_of S u (whole u)) (filter (λ s. is_drawn span s.time) (s ∷ ticks_from S next is))
   tick-recorded less =
       let states = filter (λ s. is_drawn span s.time) (ticks_from S next is) in
-      let f = flag_at false next.time acts_then in
-      let g = flag_at before s.time (cond acts (s.time ∷ []) [] ++ acts_then) in
-      drawn-first S f g (before || acts) (is_drawn span s.time) s states (flag-here before acts s acts_then (later less))
-      (recorded-same S f g next.time states (drawn-later next.time span (ticks_from S next is) (ticks-later S setting next is))
-      (λ u above. flag-later before acts s.time next.time acts_then u (omega arith)))
+      let f = told_at no_deeds next.time acts_then set_then in
+      drawn-first S f whole then_is (is_drawn span s.time) s states
+      (both-same _ _ _ _ (flag-here before.acted acts s acts_then (later less)) (armed-here before.armed sets set_then s set (unset less)))
+      (recorded-same S f whole next.time states (drawn-later next.time span (ticks_from S next is) (ticks-later S setting next is))
+      (λ u above.
+      both-same _ _ _ _ (flag-later before.acted acts s.time next.time acts_then u (omega arith))
+      (armed-later before.armed sets s.time next.time set_then u set (omega arith))))
 
   stay-recorded : next.time ≡ s.time
-      → recorded S (before || acts) next.time acts_then (filter (λ s. is_drawn span s.time) (ticks_from S next is))
-      ≡ recorded S before s.time (cond acts (s.time ∷ []) [] ++ acts_then) (filter (λ s. is_drawn span s.time) (ticks_from S next is))
+      → recorded S then_is next.time acts_then set_then (filter (λ s. is_drawn span s.time) (ticks_from S next is))
+      ≡ map (λ u. column_of S u (whole u)) (filter (λ s. is_drawn span s.time) (ticks_from S next is))
   stay-recorded same =
       let states = filter (λ s. is_drawn span s.time) (ticks_from S next is) in
-      ap (λ (time : ℕ). recorded S (before || acts) time acts_then states) same
-      ∙ recorded-same S (flag_at (before || acts) s.time acts_then) (flag_at before s.time (cond acts (s.time ∷ []) [] ++ acts_then)) next.time states
-      (drawn-later next.time span (ticks_from S next is) (ticks-later S setting next is)) (λ u above. flag-stays before acts s.time acts_then u)
+      ap (λ (time : ℕ). recorded S then_is time acts_then set_then states) same
+      ∙ recorded-same S (told_at then_is s.time acts_then set_then) whole next.time states
+      (drawn-later next.time span (ticks_from S next is) (ticks-later S setting next is))
+      (λ u above. both-same _ _ _ _ (flag-stays before.acted acts s.time acts_then u) (armed-stays before.armed sets s.time set_then u set))
 
   one-recorded : (b : Bool) → nat_lt s.time next.time ≡ b
-      → cond (b && is_drawn span s.time) (column_of S s (before || acts) ∷ []) [] ++ recorded S (cond b false (before || acts)) next.time acts_then (filter (λ s. is_drawn span s.time) (ticks_from S next is))
-      ≡ recorded S before s.time (cond acts (s.time ∷ []) [] ++ acts_then) (filter (λ s. is_drawn span s.time) (cond b (s ∷ []) [] ++ ticks_from S next is))
+      → cond (b && is_drawn span s.time) (column_of S s then_is ∷ []) [] ++ recorded S (cond b no_deeds then_is) next.time acts_then set_then (filter (λ s. is_drawn span s.time) (ticks_from S next is))
+      ≡ map (λ u. column_of S u (whole u)) (filter (λ s. is_drawn span s.time) (cond b (s ∷ []) [] ++ ticks_from S next is))
   one-recorded true e = (let less : s.time < next.time = grind (arith, nat_tests) in tick-recorded less)
   one-recorded false e =
       let least : s.time ≤ next.time = time-goes_on S s i setting in
@@ -346,15 +394,17 @@ module _ (S : ScenarioContents) (setting : IsSetting S) (span : Span) (s : State
       stay-recorded same
 
 pub all-recorded : (r : Recording) (instrs : List Instr) → IsSetting r.scenario
-    → (issued_all r instrs).columns ≡ r.columns ++ recorded r.scenario r.acted r.state.time (times_from r.scenario r.state instrs) (filter (λ s. is_drawn r.span s.time) (ticks_from r.scenario r.state instrs))
+    → (issued_all r instrs).columns
+    ≡ r.columns ++ recorded r.scenario r.deeds r.state.time (times_from r.scenario r.state instrs) (armings_from r.scenario r.state instrs) (filter (λ s. is_drawn r.span s.time) (ticks_from r.scenario r.state instrs))
 all-recorded r [] setting = sym (append-nil r.columns)
 all-recorded r (i ∷ is) setting =
     let S = r.scenario in
     let t = (table S r.state i).0 in
-    let acted = r.acted || is_act i (table S r.state i).1 in
+    let deeds = then_told r.deeds r.state.time i t (table S r.state i).1 in
     all-recorded (issued r i) is setting
-    ∙ append_assoc r.columns (new_columns r t acted) (recorded S (cond (nat_lt r.state.time t.time) false acted) t.time (times_from S t is) (filter (λ s. is_drawn r.span s.time) (ticks_from S t is)))
-    ∙ ap (λ (cs : List ColumnContents). r.columns ++ cs) (one-recorded S setting r.span r.state i is r.acted (nat_lt r.state.time t.time) refl)
+    ∙ append_assoc r.columns (new_columns r t deeds)
+    (recorded S (cond (nat_lt r.state.time t.time) no_deeds deeds) t.time (times_from S t is) (armings_from S t is) (filter (λ s. is_drawn r.span s.time) (ticks_from S t is)))
+    ∙ ap (λ (cs : List ColumnContents). r.columns ++ cs) (one-recorded S setting r.span r.state i is r.deeds (nat_lt r.state.time t.time) refl)
 
 -- the columns of a whole run
 run-recorded : (S : ScenarioContents) (span : Span) (instrs : List Instr) → IsSetting S → (issued_all (recording_begun S span) instrs).columns ≡ ticks_told S instrs span
@@ -362,11 +412,19 @@ run-recorded S span instrs setting =
     all-recorded (recording_begun S span) instrs setting
     ∙ told-all (columns S instrs span)
   where
-    told-all : (states : List State) → map (λ s. column_of S s (flag_at false 0 (times_from S (start S) instrs) s)) states ≡ map (λ s. column_of S s (acted_at (run_acts S instrs) s.time)) states
+    none-before : (b : Bool) (armed : List Arming) → cond b [] [] ++ armed ≡ armed
+    none-before true armed = refl
+    none-before false armed = refl
+
+    told-one : (s : State) → told_at no_deeds 0 (times_from S (start S) instrs) (run_armings S instrs) s ≡ told_of_tick S instrs s.time
+    told-one s = both-same _ _ _ _ (sym (acted-times S (start S) instrs s.time)) (none-before (0 == s.time) (in_tick (run_armings S instrs) s.time))
+
+    told-all : (states : List State)
+        → map (λ s. column_of S s (told_at no_deeds 0 (times_from S (start S) instrs) (run_armings S instrs) s)) states ≡ map (λ s. column_of S s (told_of_tick S instrs s.time)) states
     told-all [] = refl
     told-all (s ∷ states) =
-        ap (λ (b : Bool). column_of S s b ∷ map (λ s. column_of S s (flag_at false 0 (times_from S (start S) instrs) s)) states) (sym (acted-times S (start S) instrs s.time))
-        ∙ ap (λ (cs : List ColumnContents). column_of S s (acted_at (run_acts S instrs) s.time) ∷ cs) (told-all states)
+        ap (λ (d : Deeds). column_of S s d ∷ map (λ s. column_of S s (told_at no_deeds 0 (times_from S (start S) instrs) (run_armings S instrs) s)) states) (told-one s)
+        ∙ ap (λ (cs : List ColumnContents). column_of S s (told_of_tick S instrs s.time) ∷ cs) (told-all states)
 
 -- What the actor did in the span.
 

@@ -11,9 +11,8 @@ use Rattle.cmwq_table.specs.declared.state.Running.{Running}
 use Rattle.cmwq_picture.specs.Column.{ColumnContents, burner_in, burning, burning_as, cell_of_burning, column_of, cut, cut_rows, cell_shown}
 use Rattle.cmwq_picture.specs.PictureContents.{RowContents}
 use Rattle.cmwq_picture.specs.Laws.{IsDeclaredRow}
-use Rattle.cmwq_picture.specs.Picture.{acted_at, below, burner_cell, burns_in, cell, pending_sign, stands_in_picture, stands_in, work_sign, work_titles}
+use Rattle.cmwq_picture.specs.Picture.{Deeds, below, burner_cell, burns_in, cell, pending_shown, stands_in_picture, stands_in, work_shown, work_titles}
 use Rattle.cmwq_picture.proofs.ListLemmas.{below-more}
-use Rattle.cmwq_picture.specs.declared.row.Act.{Act}
 use Rattle.cmwq_picture.specs.declared.cell.Cell.{Cell}
 use Rattle.cmwq_picture.specs.declared.cell.Cell.TheVariants.{Empty, Burner}
 use Rattle.cmwq_picture.specs.declared.column.Burning.{Burning}
@@ -43,22 +42,22 @@ module _ (S : ScenarioContents) (s : State) (at : Title) where
 -- Cells.
 
 -- what a row reads off a column is what is so in its state
-pub cell-shown : (S : ScenarioContents) (s : State) (acts : List Act) (at : Title) → IsDeclaredRow S at → cell_shown S at (column_of S s (acted_at acts s.time)) ≡ cell S acts at s
-cell-shown S s acts (title.Work w) fits = get_or-map-range_with_len (work_sign S s) 0 (length S.works) w.0 w.0 Empty fits (omega arith)
-cell-shown S s acts (title.Pending w) fits = get_or-map-range_with_len (pending_sign s) 0 (length S.works) w.0 w.0 Empty fits (omega arith)
-cell-shown S s acts (title.Cpu cpu) fits = burner-found S s (title.Cpu cpu) (below (length S.works))
-cell-shown S s acts (title.Worker pool worker) fits = burner-found S s (title.Worker pool worker) (below (length S.works))
-cell-shown S s acts (title.Rescuer queue) fits = burner-found S s (title.Rescuer queue) (below (length S.works))
-cell-shown S s acts title.Frozen fits = refl
-cell-shown S s acts title.Pressed fits = refl
-cell-shown S s acts title.Actor fits = refl
+pub cell-shown : (S : ScenarioContents) (s : State) (deeds : Deeds) (at : Title) → IsDeclaredRow S at → cell_shown S at (column_of S s deeds) ≡ cell S deeds at s
+cell-shown S s deeds (title.Work w) fits = get_or-map-range_with_len (work_shown S deeds.armed s) 0 (length S.works) w.0 w.0 Empty fits (omega arith)
+cell-shown S s deeds (title.Pending w) fits = get_or-map-range_with_len (pending_shown deeds.armed s) 0 (length S.works) w.0 w.0 Empty fits (omega arith)
+cell-shown S s deeds (title.Cpu cpu) fits = burner-found S s (title.Cpu cpu) (below (length S.works))
+cell-shown S s deeds (title.Worker pool worker) fits = burner-found S s (title.Worker pool worker) (below (length S.works))
+cell-shown S s deeds (title.Rescuer queue) fits = burner-found S s (title.Rescuer queue) (below (length S.works))
+cell-shown S s deeds title.Frozen fits = refl
+cell-shown S s deeds title.Pressed fits = refl
+cell-shown S s deeds title.Actor fits = refl
 
-pub cells-shown : (S : ScenarioContents) (acts : List Act) (at : Title) (states : List State) → IsDeclaredRow S at
-    → map (cell_shown S at) (map (λ s. column_of S s (acted_at acts s.time)) states) ≡ map (cell S acts at) states
-cells-shown S acts at [] fits = refl
-cells-shown S acts at (s ∷ states) fits =
-    ap (λ (c : Cell). c ∷ map (cell_shown S at) (map (λ s. column_of S s (acted_at acts s.time)) states)) (cell-shown S s acts at fits)
-    ∙ ap (λ (cells : List Cell). cell S acts at s ∷ cells) (cells-shown S acts at states fits)
+pub cells-shown : (S : ScenarioContents) (deeds : State → Deeds) (at : Title) (states : List State) → IsDeclaredRow S at
+    → map (cell_shown S at) (map (λ s. column_of S s (deeds s)) states) ≡ map (λ s. cell S (deeds s) at s) states
+cells-shown S deeds at [] fits = refl
+cells-shown S deeds at (s ∷ states) fits =
+    ap (λ (c : Cell). c ∷ map (cell_shown S at) (map (λ s. column_of S s (deeds s)) states)) (cell-shown S s (deeds s) at fits)
+    ∙ ap (λ (cells : List Cell). cell S (deeds s) at s ∷ cells) (cells-shown S deeds at states fits)
 
 -- One part after another.
 

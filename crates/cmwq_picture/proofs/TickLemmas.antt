@@ -1,7 +1,7 @@
 -- An instruction leaves the time as it is, or it is a tick.
 use Rattle.std.proofs.Common.{◌≡◌, ◌⊎◌, ℕ, zero, suc, ◌+◌, ◌<◌, ◌≤◌, Bool, true, false, cond, Option, Some, None, arith, refl, ap, ◌∙◌, inl, inr}
 use Rattle.cmwq_types.specs.Contents.{ScenarioContents}
-use Rattle.cmwq_types.specs.Scenario.{op_at, queue_of}
+use Rattle.cmwq_types.specs.Scenario.{local_cpu, op_at, queue_of}
 use Rattle.cmwq_types.specs.Setting.{IsSetting}
 use Rattle.cmwq_types.specs.declared.instr.Instr.{Instr}
 use Rattle.cmwq_types.specs.declared.instr.Instr.TheVariants as instr
@@ -14,7 +14,7 @@ use Rattle.cmwq_types.specs.declared.reply.Refusal.{Refusal}
 use Rattle.cmwq_types.specs.declared.scenario.Op.{Op}
 use Rattle.cmwq_types.specs.declared.scenario.Op.TheVariants as op
 use Rattle.cmwq_table.specs.Counts.{first_due, free_worker}
-use Rattle.cmwq_table.specs.Moves.{advance, carry_out, come_to_end, deferred, finish, fire, fired, fired_to, first_moving, moved, next_move, onward, place_after, queue_from_body, rescued, set_max, started, taken_off, thaw, tick, with_depth, woken}
+use Rattle.cmwq_table.specs.Moves.{advance, carry_out, come_to_end, deferred, finish, fire, fired, fired_to, first_moving, moved, next_move, onward, place_after, queue_from_body, delay_from_body, mod_from_body, rescued, set_max, started, taken_off, thaw, tick, with_depth, woken}
 use Rattle.cmwq_table.specs.State.{State, depth_at, is_disabled, pending_at, running_at}
 use Rattle.cmwq_table.specs.Table.{answer, cancelled, delayed, effect, fired_first, modified, next, queued, refusal, step_or_tick, stepped, table, is_met, next_unless}
 use Rattle.cmwq_table.specs.declared.state.Pending.{Pending}
@@ -42,6 +42,16 @@ queue_from_body-time S s other cpu true p = refl
 queue_from_body-time S s other cpu false (Some p) = refl
 queue_from_body-time S s other cpu false None = refl
 
+delay_from_body-time : (S : ScenarioContents) (s : State) (other : WorkId) (cpu ticks : ℕ) (b : Bool) (p : Option Pending) → (delay_from_body S s other cpu ticks b p).0.time ≡ s.time
+delay_from_body-time S s other cpu ticks true p = refl
+delay_from_body-time S s other cpu ticks false (Some p) = refl
+delay_from_body-time S s other cpu ticks false None = place_after-time S s other.0 cpu ticks
+
+mod_from_body-time : (S : ScenarioContents) (s : State) (other : WorkId) (cpu ticks : ℕ) (b : Bool) (p : Option Pending) → IsSetting S → (mod_from_body S s other cpu ticks b p).0.time ≡ s.time
+mod_from_body-time S s other cpu ticks true p setting = refl
+mod_from_body-time S s other cpu ticks false p setting =
+    place_after-time S (taken_off S s other.0 p) other.0 cpu ticks ∙ (taken_off-takes S s other.0 p setting).time
+
 finish-time : (S : ScenarioContents) (s : State) (w : ℕ) (r : Running) → IsSetting S → (finish S s w r).0.time ≡ s.time
 finish-time S s w r setting =
     (fill-takes S (queue_of S w) r.pool (come_to_end s w r (pending_at s w)).0 setting).time ∙ (come_to_end-takes s w r (pending_at s w)).time
@@ -51,6 +61,11 @@ carry_out-time S s w r (op.Burn ticks) setting = refl
 carry_out-time S s w r (op.Sleep ticks) setting = refl
 carry_out-time S s w r (op.Queue other cpu) setting = queue_from_body-time S (onward s w r) other cpu (is_disabled s other.0) (pending_at s other.0)
 carry_out-time S s w r op.Finish setting = finish-time S s w r setting
+carry_out-time S s w r (op.Delay other ticks) setting =
+    delay_from_body-time S (onward s w r) other (local_cpu S r.pool) ticks (is_disabled s other.0) (pending_at s other.0)
+carry_out-time S s w r (op.Mod other ticks) setting =
+    mod_from_body-time S (onward s w r) other (local_cpu S r.pool) ticks (is_disabled s other.0) (pending_at s other.0) setting
+carry_out-time S s w r (op.Cancel other) setting = (taken_off-takes S (onward s w r) other.0 (pending_at s other.0) setting).time
 
 advance-time : (S : ScenarioContents) (s : State) (w : ℕ) (r : Option Running) → IsSetting S → (advance S s w r).0.time ≡ s.time
 advance-time S s w (Some r) setting = carry_out-time S s w r (op_at S w r.pc) setting

@@ -6,7 +6,7 @@ use Rattle.cmwq_table.specs.Counts.{burns}
 use Rattle.cmwq_table.specs.State.{State, running_at}
 use Rattle.cmwq_table.specs.declared.state.Running.{Running}
 use Rattle.cmwq_picture.specs.PictureContents.{RowContents}
-use Rattle.cmwq_picture.specs.Picture.{act_cell, below, lasting_cell, pending_sign, stands_in_picture, stands_in, work_sign}
+use Rattle.cmwq_picture.specs.Picture.{Deeds, act_cell, below, lasting_cell, pending_shown, stands_in_picture, stands_in, work_shown}
 use Rattle.cmwq_picture.specs.declared.cell.Cell.{Cell}
 use Rattle.cmwq_picture.specs.declared.cell.Cell.TheVariants.{Empty, Burner}
 use Rattle.cmwq_picture.specs.declared.column.Burning.{Burning}
@@ -30,15 +30,16 @@ burning_as w None = None
 abbrev pub burning : ScenarioContents → State → ℕ → Option Burning
 burning S s w = if burns S s w (running_at s w) then burning_as w (running_at s w) else None
 
-abbrev pub column_of : ScenarioContents → State → Bool → ColumnContents
-column_of S s acted =
+-- of a state, and what is told of its tick besides
+abbrev pub column_of : ScenarioContents → State → Deeds → ColumnContents
+column_of S s deeds =
     record {
-      works = map (work_sign S s) (below (length S.works));
-      pending = map (pending_sign s) (below (length S.works));
+      works = map (work_shown S deeds.armed s) (below (length S.works));
+      pending = map (pending_shown deeds.armed s) (below (length S.works));
       burners = filter_map (burning S s) (below (length S.works));
       frozen = s.frozen;
       pressed = s.pressed;
-      acted = acted;
+      acted = deeds.acted;
     }
 
 -- Rows.

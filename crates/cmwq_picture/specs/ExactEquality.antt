@@ -12,7 +12,7 @@ use Rattle.cmwq_types.specs.ExactEquality.{exact, same_work_id, told}
 use Rattle.cmwq_picture.specs.Column.{ColumnContents}
 use Rattle.cmwq_picture.specs.Equality.{column_eq}
 use Rattle.cmwq_picture.specs.declared.cell.Cell.{Cell}
-use Rattle.cmwq_picture.specs.declared.cell.Cell.TheVariants.{Empty, Does, Burner, Acts, Lasts}
+use Rattle.cmwq_picture.specs.declared.cell.Cell.TheVariants.{Empty, Does, Burner, Acts, Lasts, Armed}
 use Rattle.cmwq_picture.specs.declared.cell.Sign.{Sign}
 use Rattle.cmwq_picture.specs.declared.cell.Sign.TheVariants.{Burns, Waits, Sleeps, Listed, Inactive, Timed, Deferred}
 use Rattle.cmwq_picture.specs.declared.column.Burning.{Burning}
@@ -38,6 +38,7 @@ same_cell (Does a) (Does b) h = ap Does (same_sign a b h)
 same_cell (Burner v) (Burner w) h = ap Burner (same_work_id v w h)
 same_cell Acts Acts h = refl
 same_cell Lasts Lasts h = refl
+same_cell (Armed v) (Armed w) h = ap Armed (same_work_id v w h)
 same_cell x y h = absurd (true≢false (sym h))
 
 same_burning : (x y : Burning) → burning.ghosts.eq x y ≡ true → x ≡ y

@@ -4,16 +4,16 @@ use Rattle.cmwq_types.specs.Contents.{ScenarioContents}
 use Rattle.cmwq_types.specs.Faults.{IsValid}
 use Rattle.cmwq_types.specs.Scenario.{is_unbound}
 use Rattle.cmwq_types.specs.declared.instr.Instr.{Instr}
+use Rattle.cmwq_types.specs.declared.instr.WorkId.{WorkId}
 use Rattle.cmwq_table.specs.Counts.{burns}
 use Rattle.cmwq_table.specs.State.{State, pending_at, running_at}
 use Rattle.cmwq_table.specs.Table.{run}
 use Rattle.cmwq_table.specs.declared.state.Running.{Running}
 use Rattle.cmwq_picture.specs.Column.{ColumnContents, cell_shown}
 use Rattle.cmwq_picture.specs.Folding.{columns_drawn, stretches_of, ticks_drawn}
-use Rattle.cmwq_picture.specs.Picture.{cell, columns, from_time, work_sign}
-use Rattle.cmwq_picture.specs.PictureOfRun.{acts, ticks_told}
+use Rattle.cmwq_picture.specs.Picture.{Deeds, cell, columns, from_time}
+use Rattle.cmwq_picture.specs.PictureOfRun.{ticks_told, told_of_tick}
 use Rattle.cmwq_picture.specs.declared.cell.Cell.TheVariants.{Empty, Burner}
-use Rattle.cmwq_picture.specs.declared.row.Act.{Act}
 use Rattle.cmwq_picture.specs.declared.row.Title.{Title}
 use Rattle.cmwq_picture.specs.declared.row.Title.TheVariants as title
 use Rattle.cmwq_picture.specs.declared.span.TheConstants.{MAX_UNFOLDED}
@@ -37,7 +37,7 @@ HasEachTick =
 -- The cell of a work is empty exactly where the work is neither pending nor runs.
 unfoldable pub IsEmptyWhereNothingIsDone : Type 0
 IsEmptyWhereNothingIsDone =
-    (S : ScenarioContents) (s : State) (w : ℕ) → work_sign S s w ≡ Empty ↔ (running_at s w ≡ None) × (pending_at s w ≡ None)
+    (S : ScenarioContents) (deeds : Deeds) (s : State) (w : WorkId) → cell S deeds (title.Work w) s ≡ Empty ↔ (running_at s w.0 ≡ None) × (pending_at s w.0 ≡ None)
 
 -- CPUs.
 
@@ -55,8 +55,8 @@ BurnsAlone =
 -- So the row of a CPU shows each bound work that burns there.
 unfoldable pub ShowsEachBurner : Type 0
 ShowsEachBurner =
-    (S : ScenarioContents) (s : State) (acts : List Act) (w : ℕ) (r : Running) → w < length S.works → BurnsBound S s w r
-    → cell S acts (title.Cpu (r.pool / 2)) s ≡ Burner (record { 0 = w })
+    (S : ScenarioContents) (s : State) (deeds : Deeds) (w : ℕ) (r : Running) → w < length S.works → BurnsBound S s w r
+    → cell S deeds (title.Cpu (r.pool / 2)) s ≡ Burner (record { 0 = w })
 
 -- Folded columns.
 
@@ -77,7 +77,7 @@ unfoldable pub ShowsEachTick : Type 0
 ShowsEachTick =
     (S : ScenarioContents) (instrs : List Instr) (span : Span) (fold : Bool) (row : Title) → IsDeclaredRow S row
     → written_out (map (cell_shown S row) (columns_drawn fold (stretches_of (ticks_told S instrs span)))) (ticks_drawn fold (stretches_of (ticks_told S instrs span)))
-    ≡ map (cell S (acts S instrs) row) (columns S instrs span)
+    ≡ map (λ s. cell S (told_of_tick S instrs s.time) row s) (columns S instrs span)
 
 -- A column stands for one tick, or for more than MAX_UNFOLDED, at none of which the actor did anything.
 abbrev pub StandsForTicks : List ColumnContents → List ℕ → Type 0

@@ -1,3 +1,4 @@
+pub mod Arming
 pub mod Column
 pub mod Equality
 pub mod ExactEquality

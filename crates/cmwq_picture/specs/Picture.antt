@@ -1,5 +1,5 @@
 -- What a picture of a run shows: a row for each work, CPU and worker, and a column for each tick.
-use Rattle.std.specs.Prelude.{◌≡◌, ℕ, ◌*◌, ◌/◌, Bool, true, false, not, ◌&&◌, ◌||◌, List, [], ◌∷◌, ◌++◌, length, map, Option, Some, None, if◌then◌else◌, nat_le, nat_lt, ◌==◌}
+use Rattle.std.specs.Prelude.{ℕ, ◌*◌, ◌/◌, Bool, true, false, not, ◌&&◌, ◌||◌, List, [], ◌∷◌, ◌++◌, length, map, Option, Some, None, if◌then◌else◌, nat_le, nat_lt, ◌==◌}
 use Rattle.std.specs.List.{filter, find, flat_map, list_any, range_with_len}
 use Rattle.cmwq_types.specs.Contents.{ScenarioContents}
 use Rattle.cmwq_types.specs.Scenario.{is_unbound, queue_of}
@@ -11,15 +11,16 @@ use Rattle.cmwq_types.specs.declared.reply.Mode.TheVariants.{Runnable, Asleep}
 use Rattle.cmwq_types.specs.declared.reply.Place.{Place}
 use Rattle.cmwq_types.specs.declared.reply.Place.TheVariants as place
 use Rattle.cmwq_types.specs.declared.reply.Reply.{Reply}
-use Rattle.cmwq_types.specs.declared.reply.Reply.TheVariants as reply
 use Rattle.cmwq_table.specs.Counts.{burns, is_rescuer, runs}
 use Rattle.cmwq_table.specs.State.{State, pending_at, running_at, start}
 use Rattle.cmwq_table.specs.Table.{is_question, table}
 use Rattle.cmwq_table.specs.declared.state.Pending.{Pending}
 use Rattle.cmwq_table.specs.declared.state.Running.{Running}
+use Rattle.cmwq_picture.specs.Arming.{armer, in_tick, marked}
 use Rattle.cmwq_picture.specs.PictureContents.{RowContents}
+use Rattle.cmwq_picture.specs.declared.arming.Arming.{Arming}
 use Rattle.cmwq_picture.specs.declared.cell.Cell.{Cell}
-use Rattle.cmwq_picture.specs.declared.cell.Cell.TheVariants.{Empty, Does, Burner, Acts, Lasts}
+use Rattle.cmwq_picture.specs.declared.cell.Cell.TheVariants.{Empty, Does, Burner, Acts, Lasts, Armed}
 use Rattle.cmwq_picture.specs.declared.cell.Sign.{Sign}
 use Rattle.cmwq_picture.specs.declared.cell.Sign.TheVariants as sign
 use Rattle.cmwq_picture.specs.declared.row.Act.{Act}
@@ -100,6 +101,7 @@ is_waiting_sign other = true
 
 abbrev pub shows_waiting : Cell → Bool
 shows_waiting (Does sign) = is_waiting_sign sign
+shows_waiting (Armed by) = true
 shows_waiting other = false
 
 -- Who burns.
@@ -154,6 +156,19 @@ abbrev pub act_cell : Bool → Cell
 act_cell true = Acts
 act_cell false = Empty
 
+-- What is told of a tick, besides its state: whether the actor did something, and the timers that bodies set.
+
+pub record Deeds : Type 0 where
+  pub acted : Bool
+  pub armed : List Arming
+
+abbrev pub deeds_of : Bool → List Arming → Deeds
+deeds_of acted armed = record { acted = acted; armed = armed }
+
+-- of the tick that begins at this time, of all that the actor did and that bodies set
+abbrev pub deeds_at : List Act → List Arming → ℕ → Deeds
+deeds_at acts armings time = deeds_of (acted_at acts time) (in_tick armings time)
+
 -- Freezes, and memory pressure.
 
 abbrev pub lasting_cell : Bool → Cell
@@ -162,16 +177,23 @@ lasting_cell false = Empty
 
 -- Rows.
 
--- the cell of a row at the state just before a tick, where the actor did this
-abbrev pub cell : ScenarioContents → List Act → Title → State → Cell
-cell S acts (title.Work w) s = work_sign S s w.0
-cell S acts (title.Pending w) s = pending_sign s w.0
-cell S acts (title.Cpu cpu) s = burner S s (title.Cpu cpu)
-cell S acts (title.Worker pool worker) s = burner S s (title.Worker pool worker)
-cell S acts (title.Rescuer queue) s = burner S s (title.Rescuer queue)
-cell S acts title.Frozen s = lasting_cell s.frozen
-cell S acts title.Pressed s = lasting_cell s.pressed
-cell S acts title.Actor s = act_cell (acted_at acts s.time)
+-- what a work's two rows show at the state just before a tick, in which bodies set these timers
+abbrev pub work_shown : ScenarioContents → List Arming → State → ℕ → Cell
+work_shown S armed s w = marked (armer armed w (pending_at s w)) (work_sign S s w)
+
+abbrev pub pending_shown : List Arming → State → ℕ → Cell
+pending_shown armed s w = marked (armer armed w (pending_at s w)) (pending_sign s w)
+
+-- the cell of a row at the state just before a tick, of which this is told
+abbrev pub cell : ScenarioContents → Deeds → Title → State → Cell
+cell S deeds (title.Work w) s = work_shown S deeds.armed s w.0
+cell S deeds (title.Pending w) s = pending_shown deeds.armed s w.0
+cell S deeds (title.Cpu cpu) s = burner S s (title.Cpu cpu)
+cell S deeds (title.Worker pool worker) s = burner S s (title.Worker pool worker)
+cell S deeds (title.Rescuer queue) s = burner S s (title.Rescuer queue)
+cell S deeds title.Frozen s = lasting_cell s.frozen
+cell S deeds title.Pressed s = lasting_cell s.pressed
+cell S deeds title.Actor s = act_cell deeds.acted
 
 -- the row of a CPU and that of the actor always stand
 abbrev pub stands_empty : Title → Bool

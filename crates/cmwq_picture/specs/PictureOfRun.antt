@@ -5,11 +5,13 @@ use Rattle.cmwq_types.specs.Contents.{ScenarioContents}
 use Rattle.cmwq_types.specs.declared.instr.Instr.{Instr}
 use Rattle.cmwq_types.specs.declared.instr.WorkId.{WorkId}
 use Rattle.cmwq_table.specs.State.{start}
+use Rattle.cmwq_picture.specs.Arming.{armings_from}
 use Rattle.cmwq_picture.specs.Column.{ColumnContents, column_of, cut_rows}
 use Rattle.cmwq_picture.specs.Folding.{columns_drawn, edges_from, is_long, is_wide, stretches_of, ticks_drawn}
 use Rattle.cmwq_picture.specs.ExtentContents.{ExtentContents}
-use Rattle.cmwq_picture.specs.Picture.{acted_at, acts_from, columns, from_time, is_drawn, titles}
+use Rattle.cmwq_picture.specs.Picture.{Deeds, acts_from, columns, deeds_at, from_time, is_drawn, titles}
 use Rattle.cmwq_picture.specs.PictureContents.{PictureContents}
+use Rattle.cmwq_picture.specs.declared.arming.Arming.{Arming}
 use Rattle.cmwq_picture.specs.declared.row.Act.{Act}
 use Rattle.cmwq_streams.specs.declared.error.PlayError.{PlayError}
 use Rattle.cmwq_streams.specs.declared.error.PlayError.TheVariants.{TooWide, NoMemory}
@@ -19,9 +21,17 @@ use Rattle.cmwq_drawing.specs.declared.drawing.Span.{Span}
 abbrev pub acts : ScenarioContents → List Instr → List Act
 acts S instrs = acts_from S (start S) instrs
 
+-- the timers that bodies set in the run
+abbrev pub armings : ScenarioContents → List Instr → List Arming
+armings S instrs = armings_from S (start S) instrs
+
+-- what is told of the run's tick that begins at this time
+abbrev pub told_of_tick : ScenarioContents → List Instr → ℕ → Deeds
+told_of_tick S instrs time = deeds_at (acts S instrs) (armings S instrs) time
+
 -- what is so at each tick that is drawn
 abbrev pub ticks_told : ScenarioContents → List Instr → Span → List ColumnContents
-ticks_told S instrs span = map (λ s. column_of S s (acted_at (acts S instrs) s.time)) (columns S instrs span)
+ticks_told S instrs span = map (λ s. column_of S s (told_of_tick S instrs s.time)) (columns S instrs span)
 
 -- whether the ticks are folded: where that is asked, or there are too many of them
 abbrev pub is_folded : ScenarioContents → List Instr → ExtentContents → Bool

@@ -36,6 +36,8 @@ pub enum Cell {
     Acts,
     /// What the row is named for is so.
     Lasts,
+    /// The work of the row is on a timer, which the body of this one has set in this tick.
+    Armed(WorkId),
 }
 
 impl Cell {
@@ -47,6 +49,7 @@ impl Cell {
     {
         match self {
             Cell::Does(sign) => is_waiting_sign(sign),
+            Cell::Armed(_) => true,
             _ => false,
         }
     }

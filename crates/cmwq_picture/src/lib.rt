@@ -2,6 +2,7 @@
 #![tactic(auto)]
 
 mod acting;
+mod arming;
 mod cell;
 mod column;
 mod columns;

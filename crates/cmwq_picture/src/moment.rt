@@ -4,6 +4,7 @@ ghost use Rattle.cmwq_table.specs.Counts.{first_runnable};
 ghost use Rattle.cmwq_types.specs.Scenario.{pool_count};
 ghost use Rattle.std.specs.Prelude.{◌≡◌, IfOk, map};
 
+use crate::arming::{Arming, armer, marked};
 use crate::cell::{Cell, Sign};
 use crate::column::{Burning, Column};
 use cmwq_reads::{Sought, first};
@@ -35,7 +36,7 @@ impl<'a, R: Reads> Model for Moment<'a, R> {
 
 impl<'a, R: Reads> Moment<'a, R> {
     ghost use Rattle.cmwq_picture.specs.Column.{burning, column_of};
-    ghost use Rattle.cmwq_picture.specs.Picture.{below, pending_sign, run_sign, work_sign};
+    ghost use Rattle.cmwq_picture.specs.Picture.{below, deeds_of, pending_shown, pending_sign, run_sign, work_shown, work_sign};
     ghost use Rattle.cmwq_table.specs.Counts.{burns, first_runnable};
     ghost use Rattle.cmwq_table.specs.Ready.{holding};
     ghost use Rattle.cmwq_types.specs.Scenario.{pool_count};
@@ -51,13 +52,18 @@ impl<'a, R: Reads> Moment<'a, R> {
         Ok(Moment { machine, heads })
     }
 
-    /// What is kept of a tick that begins then.
-    pub(crate) fn column(&self, alloc: Global, acted: bool) -> Result<Column, NoMemory>
-        ensures { IfOk result (λ column. column ≡ column_of self.now.scenario self.now.state acted) }
+    /// What is kept of a tick that begins then, in which the actor did something or not, and bodies set these timers.
+    pub(crate) fn column(
+        &self,
+        alloc: Global,
+        acted: bool,
+        armed: &[Arming],
+    ) -> Result<Column, NoMemory>
+        ensures { IfOk result (λ column. column ≡ column_of self.now.scenario self.now.state (deeds_of acted armed.now)) }
     {
         Ok(Column {
-            works: self.works(alloc)?,
-            pending: self.pending_works(alloc)?,
+            works: self.works(alloc, armed)?,
+            pending: self.pending_works(alloc, armed)?,
             burners: self.burners(alloc)?,
             frozen: self.machine.is_frozen(),
             pressed: self.machine.is_pressed(),
@@ -66,23 +72,23 @@ impl<'a, R: Reads> Moment<'a, R> {
     }
 
     /// What each work does.
-    fn works(&self, alloc: Global) -> Result<Vec<Cell>, NoMemory>
-        ensures { IfOk result (λ cells. cells.items ≡ map (work_sign self.now.scenario self.now.state) (below (length self.now.scenario.works))) }
+    fn works(&self, alloc: Global, armed: &[Arming]) -> Result<Vec<Cell>, NoMemory>
+        ensures { IfOk result (λ cells. cells.items ≡ map (work_shown self.now.scenario armed.now self.now.state) (below (length self.now.scenario.works))) }
     {
         let mut cells = Vec::new(alloc);
         for w in 0..self.work_count() {
-            cells.push(self.work_sign(w))?;
+            cells.push(self.work_shown(w, armed))?;
         }
         Ok(cells)
     }
 
     /// Where each work is pending that runs.
-    fn pending_works(&self, alloc: Global) -> Result<Vec<Cell>, NoMemory>
-        ensures { IfOk result (λ cells. cells.items ≡ map (pending_sign self.now.state) (below (length self.now.scenario.works))) }
+    fn pending_works(&self, alloc: Global, armed: &[Arming]) -> Result<Vec<Cell>, NoMemory>
+        ensures { IfOk result (λ cells. cells.items ≡ map (pending_shown armed.now self.now.state) (below (length self.now.scenario.works))) }
     {
         let mut cells = Vec::new(alloc);
         for w in 0..self.work_count() {
-            cells.push(self.pending_sign(w))?;
+            cells.push(self.pending_shown(w, armed))?;
         }
         Ok(cells)
     }
@@ -114,6 +120,22 @@ impl<'a, R: Reads> Moment<'a, R> {
         ensures few { result ≤ MAX_WORKS }
     {
         self.machine.scenario().works.len()
+    }
+
+    /// What the work's row shows, where bodies set these timers in the tick.
+    fn work_shown(&self, w: usize, armed: &[Arming]) -> Cell
+        ensures { result ≡ work_shown self.now.scenario armed.now self.now.state w }
+    {
+        let by = armer(armed, w, self.machine.pending_of(w));
+        marked(by, self.work_sign(w))
+    }
+
+    /// What its second row shows, where bodies set these timers in the tick.
+    fn pending_shown(&self, w: usize, armed: &[Arming]) -> Cell
+        ensures { result ≡ pending_shown armed.now self.now.state w }
+    {
+        let by = armer(armed, w, self.machine.pending_of(w));
+        marked(by, self.pending_sign(w))
     }
 
     /// What the work does: its run, or where it is pending if it doesn't run.

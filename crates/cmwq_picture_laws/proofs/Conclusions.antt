@@ -16,7 +16,7 @@ use Rattle.cmwq_picture.specs.Column.{ColumnContents, cell_shown, cut}
 use Rattle.cmwq_picture.specs.Folding.{columns_drawn, edges_from, stretches_of, ticks_drawn}
 use Rattle.cmwq_picture.specs.Laws.{IsDeclaredRow, ShowsEachTick, written_out}
 use Rattle.cmwq_picture.specs.Picture.{cell, columns, from_time, stands_in_picture, ticks_from, titles, work_sign}
-use Rattle.cmwq_picture.specs.PictureOfRun.{acts, is_folded, ticks_told}
+use Rattle.cmwq_picture.specs.PictureOfRun.{is_folded, ticks_told, told_of_tick}
 use Rattle.cmwq_picture.proofs.FoldLemmas.{shows_each_tick}
 use Rattle.cmwq_drawing.specs.declared.drawing.Span.{Span}
 use Rattle.cmwq_picture.specs.declared.row.Title.{Title}
@@ -24,7 +24,7 @@ use Rattle.cmwq_picture.specs.declared.row.Title.TheVariants as title
 use Rattle.cmwq_picture_laws.specs.Signs.{ShowsItsBody, shows_burning, ticks_after, ticks_between, ticks_of}
 use Rattle.cmwq_picture_laws.proofs.Declared.{row-declared}
 use Rattle.cmwq_picture_laws.proofs.Columns.{columns-during}
-use Rattle.cmwq_picture_laws.proofs.Counting.{counted-during}
+use Rattle.cmwq_picture_laws.proofs.Counting.{counted-during, marked-counted}
 
 -- Columns stand for the ticks between their edges.
 
@@ -65,7 +65,8 @@ module _ (S : ScenarioContents) (instrs : List Instr) (span : Span) (fold : Bool
   row-counted from row declared is =
       ap (λ (ns : List ℕ). count_by shows_burning (written_out (map (cell_shown S row) drawn) ns)) (between-edges from ticks)
       ∙ ap (count_by shows_burning) (shows_each_tick S instrs span fold row declared)
-      ∙ ap (λ (x : Title). count_by shows_burning (map (cell S (acts S instrs) x) (columns S instrs span))) is ∙ counted
+      ∙ ap (λ (x : Title). count_by shows_burning (map (λ s. cell S (told_of_tick S instrs s.time) x s) (columns S instrs span))) is
+      ∙ marked-counted S (λ s. told_of_tick S instrs s.time) w (columns S instrs span) ∙ counted
 
 pub shows_its_body : ShowsItsBody
 unfolding ShowsItsBody

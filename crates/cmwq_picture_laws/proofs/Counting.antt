@@ -1,10 +1,11 @@
 -- How many of the ticks that pass show that a work burns.
-use Rattle.std.proofs.Common.{◌≡◌, ℕ, ◌+◌, Bool, true, false, ◌&&◌, cond, List, [], ◌∷◌, ◌++◌, Option, Some, None, arith, refl, ap, ◌∙◌}
+use Rattle.std.proofs.Common.{◌≡◌, ℕ, ◌+◌, Bool, true, false, ◌&&◌, cond, List, [], ◌∷◌, ◌++◌, Option, Some, None, arith, refl, sym, ap, ◌∙◌}
 use Rattle.std.proofs.lemmas.List.Sums.{sum_by-cons}
 use Rattle.std.specs.List.{count_by}
 use Rattle.std.specs.Prelude.{map, nat_lt}
 use Rattle.cmwq_types.specs.Contents.{ScenarioContents}
 use Rattle.cmwq_types.specs.declared.instr.Instr.{Instr}
+use Rattle.cmwq_types.specs.declared.instr.WorkId.{WorkId}
 use Rattle.cmwq_types.specs.declared.reply.Mode.{Mode}
 use Rattle.cmwq_types.specs.declared.reply.Mode.TheVariants.{Runnable, Asleep}
 use Rattle.cmwq_types.specs.declared.reply.Place.{Place}
@@ -15,10 +16,12 @@ use Rattle.cmwq_table.specs.State.{State, pending_at, running_at}
 use Rattle.cmwq_table.specs.declared.state.Pending.{Pending}
 use Rattle.cmwq_table.specs.declared.state.Running.{Running}
 use Rattle.cmwq_burning.specs.Burning.{ticks_burned}
-use Rattle.cmwq_picture.specs.Picture.{mode_sign, pending_cell, place_sign, run_or_pending, ticks_from, work_sign}
+use Rattle.cmwq_picture.specs.Arming.{armer, marked}
+use Rattle.cmwq_picture.specs.Picture.{Deeds, cell, mode_sign, pending_cell, place_sign, run_or_pending, ticks_from, work_sign}
 use Rattle.cmwq_picture.specs.declared.cell.Cell.{Cell}
 use Rattle.cmwq_picture.specs.declared.cell.Cell.TheVariants.{Does}
 use Rattle.cmwq_picture.specs.declared.cell.Sign.TheVariants as sign
+use Rattle.cmwq_picture.specs.declared.row.Title.TheVariants as title
 use Rattle.cmwq_picture_laws.specs.Signs.{is_burning, shows_burning}
 
 -- A sign tells that a work burns exactly where it burns.
@@ -44,6 +47,24 @@ pending-shown None = refl
 burning-shown : (S : ScenarioContents) (s : State) (w : ℕ) (o : Option Running) → shows_burning (run_or_pending S s w o) ≡ burns S s w o
 burning-shown S s w (Some r) = run-shown r.mode (burns S s w (Some r))
 burning-shown S s w None = pending-shown (pending_at s w)
+
+-- A mark tells nothing of burning.
+
+mark-burns : (by : Option WorkId) (c : Cell) → shows_burning (marked by c) ≡ shows_burning c
+mark-burns None c = refl
+mark-burns (Some by) (Does sign.Timed) = refl
+mark-burns (Some by) c = refl
+
+pub marked-counted : (S : ScenarioContents) (deeds : State → Deeds) (w : ℕ) (states : List State)
+    → count_by shows_burning (map (λ u. cell S (deeds u) (title.Work (record { 0 = w })) u) states) ≡ count_by shows_burning (map (λ u. work_sign S u w) states)
+marked-counted S deeds w [] = refl
+marked-counted S deeds w (s ∷ states) =
+    let one = λ (c : Cell). cond {A = ℕ} (shows_burning c) 1 0 in
+    let shown : State → Cell = λ u. cell S (deeds u) (title.Work (record { 0 = w })) u in
+    sum_by-cons one (shown s) (map shown states)
+    ∙ ap (λ (b : Bool). cond {A = ℕ} b 1 0 + count_by shows_burning (map shown states)) (mark-burns (armer (deeds s).armed w (pending_at s w)) (work_sign S s w))
+    ∙ ap (λ (n : ℕ). one (work_sign S s w) + n) (marked-counted S deeds w states)
+    ∙ sym (sum_by-cons one (work_sign S s w) (map (λ u. work_sign S u w) states))
 
 -- So many are counted as are burned.
 

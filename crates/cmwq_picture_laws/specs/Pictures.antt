@@ -5,13 +5,14 @@ use Rattle.cmwq_types.specs.Scenario.{expand_lines, plain_flags}
 use Rattle.cmwq_types.specs.declared.instr.Instr.{Instr}
 use Rattle.cmwq_types.specs.declared.instr.Instr.TheVariants as instr
 use Rattle.cmwq_types.specs.declared.scenario.Line.{Line}
+use Rattle.cmwq_types.specs.declared.scenario.Op.{Op}
 use Rattle.cmwq_types.specs.declared.scenario.Op.TheVariants as op
-use Rattle.cmwq_examples.specs.Declare.{delay, enqueue, highpri, queue, queues, scenario, state, times, unbound, work}
+use Rattle.cmwq_examples.specs.Declare.{cancel, delay, enqueue, highpri, queue, queues, scenario, state, times, unbound, work}
 use Rattle.cmwq_picture.specs.PictureContents.{PictureContents, RowContents}
 use Rattle.cmwq_picture.specs.PictureOfRun.{picture}
 use Rattle.cmwq_picture.specs.declared.row.Act.{Act}
 use Rattle.cmwq_picture.specs.declared.cell.Cell.{Cell}
-use Rattle.cmwq_picture.specs.declared.cell.Cell.TheVariants.{Empty, Does, Burner, Acts, Lasts}
+use Rattle.cmwq_picture.specs.declared.cell.Cell.TheVariants.{Empty, Does, Burner, Acts, Lasts, Armed}
 use Rattle.cmwq_picture.specs.declared.cell.Sign.TheVariants.{Burns, Waits, Sleeps, Listed, Inactive, Timed, Deferred}
 use Rattle.cmwq_picture.specs.declared.row.Title.{Title}
 use Rattle.cmwq_picture.specs.declared.row.Title.TheVariants as title
@@ -142,6 +143,64 @@ rescuer_burns_picture =
           ∷ row_of_cells (title.Cpu 0) (Empty ∷ []) ∷ row_of_cells (title.Worker 2 0) (work_burns 0 ∷ [])
           ∷ row_of_cells (title.Rescuer (record { 0 = 1 })) (work_burns 1 ∷ []) ∷ row_of_cells title.Actor (Acts ∷ []) ∷ [];
       acts = act_at 0 (instr.Queue (record { 0 = 0 }) 0) ∷ act_at 0 (instr.Queue (record { 0 = 1 }) 0) ∷ act_at 0 (instr.Delay (record { 0 = 2 }) 0 5) ∷ [];
+    }
+
+-- Bodies set timers. Their marks stand in the ticks in which they did, in the second row of a work that runs.
+
+-- `delay W N` and `mod W N`, as bodies have them
+abbrev pub delays : ℕ → ℕ → Op
+delays w ticks = op.Delay (record { 0 = w }) ticks
+
+abbrev pub mods : ℕ → ℕ → Op
+mods w ticks = op.Mod (record { 0 = w }) ticks
+
+abbrev pub armed_by : ℕ → Cell
+armed_by w = Armed (record { 0 = w })
+
+abbrev pub timers_set : ScenarioContents
+timers_set =
+    scenario 1000 (queue (codes "q") 4 plain_flags ∷ [])
+    (work (codes "a") 0 (delays 1 2 ∷ delays 0 3 ∷ op.Burn 1 ∷ mods 1 2 ∷ op.Finish ∷ []) ∷ work (codes "b") 0 (op.Finish ∷ []) ∷ []) []
+
+-- four moves and a tick, two moves and two ticks
+abbrev pub timers_set_lines : List Line
+timers_set_lines = enqueue 0 0 ∷ times instr.Next 9 ∷ []
+
+-- a sets the timer of b in the first tick, and anew in the second one, and its own in the first
+abbrev pub timers_set_picture : PictureContents
+timers_set_picture =
+    record {
+      edges = 0 ∷ 1 ∷ 2 ∷ 3 ∷ [];
+      rows =
+          work_row 0 (Does Burns ∷ Does Timed ∷ Does Timed ∷ []) ∷ pending_row 0 (armed_by 0 ∷ Empty ∷ Empty ∷ [])
+          ∷ work_row 1 (armed_by 0 ∷ armed_by 0 ∷ Does Timed ∷ [])
+          ∷ row_of_cells (title.Cpu 0) (work_burns 0 ∷ Empty ∷ Empty ∷ []) ∷ row_of_cells title.Actor (Acts ∷ Empty ∷ Empty ∷ []) ∷ [];
+      acts = act_at 0 (instr.Queue (record { 0 = 0 }) 0) ∷ [];
+    }
+
+-- Who set a timer last is shown: d of b, which a had set before, and e finds set; and of c nobody, since the actor took it off and set it anew. What d asks
+-- for after no ticks is placed.
+
+abbrev pub timers_set_again : ScenarioContents
+timers_set_again =
+    scenario 1000 (queue (codes "q") 4 plain_flags ∷ [])
+    (work (codes "a") 0 (delays 1 5 ∷ delays 2 5 ∷ op.Finish ∷ []) ∷ work (codes "b") 0 (op.Finish ∷ []) ∷ work (codes "c") 0 (op.Finish ∷ [])
+    ∷ work (codes "d") 0 (mods 1 4 ∷ delays 4 0 ∷ op.Finish ∷ []) ∷ work (codes "e") 0 (delays 1 9 ∷ op.Burn 1 ∷ op.Finish ∷ []) ∷ []) []
+
+-- four moves of a and four of d; then three of e, a tick, it finishes, and a tick
+abbrev pub timers_set_again_lines : List Line
+timers_set_again_lines = enqueue 0 0 ∷ enqueue 3 0 ∷ times instr.Next 8 ∷ cancel 2 ∷ delay 2 4 ∷ times instr.Next 6 ∷ []
+
+abbrev pub timers_set_again_picture : PictureContents
+timers_set_again_picture =
+    record {
+      edges = 0 ∷ 1 ∷ 2 ∷ [];
+      rows =
+          work_row 1 (armed_by 3 ∷ Does Timed ∷ []) ∷ work_row 2 (Does Timed ∷ Does Timed ∷ []) ∷ work_row 4 (Does Burns ∷ Empty ∷ [])
+          ∷ row_of_cells (title.Cpu 0) (work_burns 4 ∷ Empty ∷ []) ∷ row_of_cells title.Actor (Acts ∷ Empty ∷ []) ∷ [];
+      acts =
+          act_at 0 (instr.Queue (record { 0 = 0 }) 0) ∷ act_at 0 (instr.Queue (record { 0 = 3 }) 0) ∷ act_at 0 (instr.Cancel (record { 0 = 2 }))
+          ∷ act_at 0 (instr.Delay (record { 0 = 2 }) 0 4) ∷ [];
     }
 
 -- A run in which no tick passes has the rows that always stand, and no column.

@@ -12,7 +12,7 @@ use Rattle.cmwq_picture.specs.PictureContents.{PictureContents}
 use Rattle.cmwq_picture.specs.Laws.{written_out}
 use Rattle.cmwq_picture.specs.PictureOfRun.{picture}
 use Rattle.cmwq_picture.specs.declared.cell.Cell.{Cell}
-use Rattle.cmwq_picture.specs.declared.cell.Cell.TheVariants.{Empty, Does, Burner, Acts, Lasts}
+use Rattle.cmwq_picture.specs.declared.cell.Cell.TheVariants.{Empty, Does, Burner, Acts, Lasts, Armed}
 use Rattle.cmwq_picture.specs.declared.cell.Sign.{Sign}
 use Rattle.cmwq_picture.specs.declared.cell.Sign.TheVariants as sign
 use Rattle.cmwq_picture.specs.declared.row.Title.TheVariants as title
@@ -43,6 +43,7 @@ shows_burning Empty = false
 shows_burning (Burner work) = false
 shows_burning Acts = false
 shows_burning Lasts = false
+shows_burning (Armed by) = false
 
 -- each row of the work shows so many ticks in which it burns
 abbrev pub ShowsBurns : PictureContents → ℕ → ℕ → Type 0

@@ -1,5 +1,5 @@
 //! Worked examples of pictures, as theorems over the definitions: each function's contract says what one picture shows.
-ghost use Rattle.cmwq_picture_laws.specs.Pictures.{folded, long_sleep, long_sleep_lines, long_sleep_picture, queued_while_running, queued_while_running_lines, queued_while_running_picture, between, empty_picture, pictured, rescuer_burns, rescuer_burns_lines, rescuer_burns_picture, sharing, sharing_lines, sharing_picture, taken_cpu, taken_cpu_lines, taken_cpu_picture, whole};
+ghost use Rattle.cmwq_picture_laws.specs.Pictures.{folded, long_sleep, long_sleep_lines, long_sleep_picture, queued_while_running, queued_while_running_lines, queued_while_running_picture, between, empty_picture, pictured, rescuer_burns, rescuer_burns_lines, rescuer_burns_picture, sharing, sharing_lines, sharing_picture, taken_cpu, taken_cpu_lines, taken_cpu_picture, timers_set, timers_set_again, timers_set_again_lines, timers_set_again_picture, timers_set_lines, timers_set_picture, whole};
 ghost use Rattle.std.specs.Prelude.{◌≡◌, ◌∷◌, []};
 
 /// Two works share a CPU, and a third one waits for room in their queue. What was refused and a question leave no mark.
@@ -20,6 +20,16 @@ pub fn work_is_queued_while_it_runs()
 /// A worker of an unbound pool and a rescuer that burn have rows of their own, and a timer has its sign.
 pub fn rescuer_burns_beside_a_worker()
     ensures { pictured rescuer_burns rescuer_burns_lines whole ≡ rescuer_burns_picture }
+{}
+
+/// Who set a timer is a mark in the tick in which it was set, in the second row of a work that runs.
+pub fn bodies_set_timers()
+    ensures { pictured timers_set timers_set_lines whole ≡ timers_set_picture }
+{}
+
+/// The last work that set a timer is shown, and none where the actor set it anew; nor is what finds a timer set, or places a work at once.
+pub fn last_to_set_a_timer_is_shown()
+    ensures { pictured timers_set_again timers_set_again_lines whole ≡ timers_set_again_picture }
 {}
 
 /// A run in which no time passes has no column.

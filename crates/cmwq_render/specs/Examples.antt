@@ -8,7 +8,7 @@ use Rattle.cmwq_types.specs.declared.instr.WorkId.{WorkId}
 use Rattle.cmwq_picture.specs.declared.row.Act.{Act}
 use Rattle.cmwq_picture.specs.PictureContents.{PictureContents, RowContents}
 use Rattle.cmwq_picture.specs.declared.cell.Cell.{Cell}
-use Rattle.cmwq_picture.specs.declared.cell.Cell.TheVariants.{Empty, Does, Burner, Acts, Lasts}
+use Rattle.cmwq_picture.specs.declared.cell.Cell.TheVariants.{Empty, Does, Burner, Acts, Lasts, Armed}
 use Rattle.cmwq_picture.specs.declared.cell.Sign.{Sign}
 use Rattle.cmwq_picture.specs.declared.cell.Sign.TheVariants as sign
 use Rattle.cmwq_picture.specs.declared.row.Title.{Title}
@@ -110,6 +110,34 @@ each_sign_text =
     codes ": 36 ticks from 14 on: nothing changes" ∷
     codes "^ at 7: queue bc 0" ∷
     codes "^ at 50: queue a 0, thaw" ∷ [])
+
+-- tick sets the timer of job, and its own while it runs; job is on its timer, then is listed
+abbrev pub armed_names : ScenarioContents
+armed_names = names (named_work (codes "tick") ∷ named_work (codes "job") ∷ [])
+
+abbrev pub armed_rows : PictureContents
+armed_rows =
+    record {
+      edges = range_with_len 0 5;
+      rows =
+          drawn_row (title.Work (id 0)) (for 3 sign.Burns ++ for 1 sign.Timed)
+          ∷ drawn_row (title.Pending (id 0)) (empty_cells 1 ++ Armed (id 0) ∷ for 1 sign.Timed ++ empty_cells 1)
+          ∷ drawn_row (title.Work (id 1)) (Armed (id 0) ∷ for 2 sign.Timed ++ for 1 sign.Listed)
+          ∷ drawn_row (title.Cpu 0) (replicate 3 (Burner (id 0)) ++ empty_cells 1) ∷ [];
+      acts = [];
+    }
+
+-- the letter of tick, whose row it isn't in one of them
+abbrev pub armed_rows_text : List ℕ
+armed_rows_text =
+    text_of_lines (
+    codes "       0" ∷
+    codes "t tick |###~|" ∷
+    codes "t tick+| t~ |" ∷
+    codes "j job  |t~~-|" ∷
+    codes "cpu 0  |ttt |" ∷
+    codes "# burns  - listed  ~ on a timer" ∷
+    codes "letter: on a timer set by that work" ∷ [])
 
 -- a row without a cell, whose times are these
 abbrev pub only_times : ℕ → ℕ → PictureContents

@@ -1,10 +1,10 @@
 -- What a legend says of the signs that a picture shows.
-use Rattle.std.specs.Prelude.{ℕ, Bool, List, [], ◌∷◌, ◌++◌, codes}
+use Rattle.std.specs.Prelude.{ℕ, Bool, true, false, List, [], ◌∷◌, ◌++◌, codes, if◌then◌else◌}
 use Rattle.std.specs.List.{filter, list_any}
 use Rattle.cmwq_picture.specs.PictureContents.{RowContents}
 use Rattle.cmwq_picture.specs.contracts.cell.CellPartialEq.TheImpl as cell_eq
 use Rattle.cmwq_picture.specs.declared.cell.Cell.{Cell}
-use Rattle.cmwq_picture.specs.declared.cell.Cell.TheVariants.{Empty, Does, Burner, Acts, Lasts}
+use Rattle.cmwq_picture.specs.declared.cell.Cell.TheVariants.{Empty, Does, Burner, Acts, Lasts, Armed}
 use Rattle.cmwq_picture.specs.declared.cell.Sign.{Sign}
 use Rattle.cmwq_picture.specs.declared.cell.Sign.TheVariants as sign
 
@@ -45,6 +45,18 @@ is_shown rows cell = list_any (λ row. list_any (same_cell cell) row.cells) rows
 abbrev pub explained : List RowContents → List Cell
 explained rows = filter (is_shown rows) explicable
 
+-- whether a row shows who set a timer
+abbrev pub is_armed : Cell → Bool
+is_armed (Armed by) = true
+is_armed other = false
+
+abbrev pub shows_armed : List RowContents → Bool
+shows_armed rows = list_any (λ row. list_any is_armed row.cells) rows
+
+-- what a legend of samples explains: for all such marks there is one
+abbrev pub sampled : List RowContents → List Cell
+sampled rows = explained rows ++ (if shows_armed rows then Armed (record { 0 = 0 }) ∷ [] else [])
+
 -- what the legend says of a cell
 abbrev pub meaning : Cell → List ℕ
 meaning (Does sign) = sign_meaning sign
@@ -52,3 +64,4 @@ meaning Acts = codes "the actor acts"
 meaning Lasts = []
 meaning Empty = []
 meaning (Burner w) = []
+meaning (Armed by) = codes "on a timer that a work has just set"

@@ -5,22 +5,28 @@ use Rattle.cmwq_types.specs.Contents.{ScenarioContents}
 use Rattle.cmwq_types.specs.Scenario.{work_at}
 use Rattle.cmwq_picture.specs.PictureContents.{PictureContents, RowContents}
 use Rattle.cmwq_picture.specs.declared.cell.Cell.{Cell}
-use Rattle.cmwq_picture.specs.declared.cell.Cell.TheVariants.{Empty, Does, Burner, Acts, Lasts}
+use Rattle.cmwq_picture.specs.declared.cell.Cell.TheVariants.{Empty, Does, Burner, Acts, Lasts, Armed}
 use Rattle.cmwq_render.specs.Acts.{act_lines}
 use Rattle.cmwq_render.specs.Gaps.{gap_words, gaps}
 use Rattle.cmwq_render.specs.Labels.{lettered, longest}
-use Rattle.cmwq_render.specs.Legend.{explained, meaning, sign_mark}
+use Rattle.cmwq_render.specs.Legend.{explained, meaning, shows_armed, sign_mark}
+use Rattle.cmwq_types.specs.declared.instr.WorkId.{WorkId}
 use Rattle.cmwq_render.specs.Letters.{letters}
 use Rattle.cmwq_render.specs.Times.{header, padded_to}
 use Rattle.cmwq_render.specs.declared.gap.Gap.{Gap}
 
--- the byte that stands for a cell: of a burner its letter, or the first of its name
+-- a work's letter, or the first of its name
+abbrev pub letter_of : ScenarioContents → List ℕ → WorkId → ℕ
+letter_of S letters w = slice_index_or letters w.0 (slice_index_or (work_at S w.0).name 0 63)
+
+-- the byte that stands for a cell: the letter of who burns, and of who set a timer
 abbrev pub mark : ScenarioContents → List ℕ → Cell → ℕ
 mark S letters Empty = 32
 mark S letters (Does sign) = sign_mark sign
-mark S letters (Burner w) = slice_index_or letters w.0 (slice_index_or (work_at S w.0).name 0 63)
+mark S letters (Burner w) = letter_of S letters w
 mark S letters Acts = 94
 mark S letters Lasts = 42
+mark S letters (Armed by) = letter_of S letters by
 
 abbrev pub row_line : ScenarioContents → List ℕ → ℕ → RowContents → List ℕ
 row_line S letters width row =
@@ -34,6 +40,10 @@ key S cell = mark S [] cell ∷ 32 ∷ meaning cell
 abbrev pub legend_line : ScenarioContents → List Cell → List ℕ
 legend_line S [] = []
 legend_line S (first ∷ others) = key S first ++ flat_map (λ cell. codes "  " ++ key S cell) others ++ 10 ∷ []
+
+-- and the line that explains letters in the rows of works, where one stands there
+abbrev pub armed_line : List RowContents → List ℕ
+armed_line rows = if shows_armed rows then codes "letter: on a timer set by that work\n" else []
 
 -- Folded columns: they are marked in a line of their own, and each is told.
 
@@ -58,7 +68,7 @@ gap_told gap = codes ": " ++ gap_words gap ++ 10 ∷ []
 abbrev pub sketched : ScenarioContents → PictureContents → List ℕ → ℕ → List ℕ
 sketched S P letters width =
     header P.edges width ++ flat_map (row_line S letters width) P.rows ++ gap_line width P.edges (gaps P.edges)
-    ++ legend_line S (explained P.rows) ++ flat_map gap_told (gaps P.edges) ++ act_lines S P.acts
+    ++ legend_line S (explained P.rows) ++ armed_line P.rows ++ flat_map gap_told (gaps P.edges) ++ act_lines S P.acts
 
 -- the picture as text
 abbrev pub picture_text : ScenarioContents → PictureContents → List ℕ

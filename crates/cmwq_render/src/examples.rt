@@ -1,5 +1,5 @@
 //! Worked pictures, as theorems over the definitions: the functions do nothing.
-ghost use Rattle.cmwq_render.specs.Examples.{alike, each_sign, each_sign_text, first_table, first_table_text, kept_free, last_of_63, last_of_63_text, long_times_text, named_work, names, namesakes, only_times, short_times_text, three_names};
+ghost use Rattle.cmwq_render.specs.Examples.{alike, armed_names, armed_rows, armed_rows_text, each_sign, each_sign_text, first_table, first_table_text, kept_free, last_of_63, last_of_63_text, long_times_text, named_work, names, namesakes, only_times, short_times_text, three_names};
 ghost use Rattle.cmwq_render.specs.Letters.{letters};
 ghost use Rattle.cmwq_render.specs.Sketch.{picture_text};
 ghost use Rattle.std.specs.Prelude.{◌≡◌, ◌∷◌, [], codes};
@@ -12,6 +12,12 @@ pub fn first_table_is_drawn()
 /// Each sign has its letter and its words, each kind of row its label, and the times begin with the first column's.
 pub fn each_sign_is_drawn()
     ensures { picture_text (names (named_work (codes "a") ∷ named_work (codes "bc") ∷ [])) each_sign ≡ each_sign_text }
+{}
+
+/// The letter of who set a timer stands in the row of the work that is on it, or in the second row of one that runs; and a line of its own
+/// explains it.
+pub fn who_set_a_timer_is_drawn()
+    ensures { picture_text armed_names armed_rows ≡ armed_rows_text }
 {}
 
 /// Times of four digits stand over each fifth column, longer ones over each twentieth. Where no sign occurs, there is no legend.

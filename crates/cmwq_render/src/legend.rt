@@ -1,10 +1,10 @@
 //! What a legend says of the signs that a picture shows.
-ghost use Rattle.cmwq_render.specs.Legend.{explained, is_shown, meaning, same_cell, sign_meaning};
+ghost use Rattle.cmwq_render.specs.Legend.{explained, is_armed, is_shown, meaning, same_cell, sampled, shows_armed, sign_meaning};
 ghost use Rattle.std.specs.List.{filter, list_any};
 ghost use Rattle.std.specs.Prelude.{◌≡◌, IfOk};
 
 use cmwq_picture::{Cell, Row, Sign};
-use cmwq_types::NoMemory;
+use cmwq_types::{NoMemory, WorkId};
 use std::alloc::Global;
 
 /// What a legend explains, in its order.
@@ -21,7 +21,7 @@ const EXPLICABLE: [Cell; 8] = [
 
 /// What the legend of a picture with these rows explains: the signs that occur in it, and whether the actor acts. That
 /// a name on the row of a CPU or worker is who burns there goes without saying. The only error is want of memory.
-pub fn explained(alloc: Global, rows: &[Row]) -> Result<Vec<Cell>, NoMemory>
+pub(crate) fn explained(alloc: Global, rows: &[Row]) -> Result<Vec<Cell>, NoMemory>
     ensures { IfOk result (λ cells. cells.items ≡ explained rows.now) }
 {
     Ok(
@@ -31,6 +31,36 @@ pub fn explained(alloc: Global, rows: &[Row]) -> Result<Vec<Cell>, NoMemory>
             .filter(|cell| is_shown(rows, *cell))
             .collect(alloc)?,
     )
+}
+
+/// The same for a legend of samples: for all marks of who set a timer there is one. The only error is want of memory.
+pub fn sampled(alloc: Global, rows: &[Row]) -> Result<Vec<Cell>, NoMemory>
+    ensures { IfOk result (λ cells. cells.items ≡ sampled rows.now) }
+{
+    let mut cells = explained(alloc, rows)?;
+    if shows_armed(rows) {
+        cells.push(Cell::Armed(WorkId(0)))?;
+    }
+    Ok(cells)
+}
+
+/// Whether a row shows who set a timer.
+pub(crate) fn shows_armed(rows: &[Row]) -> bool
+    ensures { result ≡ shows_armed rows.now }
+{
+    rows.iter().any(|row| has_armed(&row.cells))
+}
+
+fn has_armed(cells: &[Cell]) -> bool
+    ensures { result ≡ list_any is_armed cells.now }
+{
+    cells.iter().any(|cell| is_armed(*cell))
+}
+
+fn is_armed(cell: Cell) -> bool
+    ensures { result ≡ is_armed cell }
+{
+    matches!(cell, Cell::Armed(_))
 }
 
 /// Whether a row shows the cell somewhere.
@@ -54,6 +84,7 @@ pub fn meaning(cell: Cell) -> &'static str
     match cell {
         Cell::Does(sign) => sign_meaning(sign),
         Cell::Acts => "the actor acts",
+        Cell::Armed(_) => "on a timer that a work has just set",
         Cell::Empty | Cell::Burner(_) | Cell::Lasts => "",
     }
 }

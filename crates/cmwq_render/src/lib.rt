@@ -15,6 +15,6 @@ mod times;
 pub use act_lines::act_words;
 pub use gap::{Gap, GapWords, gaps};
 pub use label::{Label, label_width};
-pub use legend::{explained, meaning};
+pub use legend::{meaning, sampled};
 pub use sketching::sketch;
 pub use times::{column_count, time_at, time_count, time_step};

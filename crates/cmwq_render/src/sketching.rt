@@ -1,15 +1,14 @@
 //! The text of a picture.
 ghost use Rattle.cmwq_render.specs.Times.{padded_to};
 ghost use Rattle.cmwq_render.specs.Legend.{sign_mark};
-ghost use Rattle.cmwq_render.specs.Sketch.{gap_line, gap_marks, gap_told, key, legend_line, mark, marks_of, picture_text, row_line};
-ghost use Rattle.cmwq_types.specs.Scenario.{work_at};
+ghost use Rattle.cmwq_render.specs.Sketch.{armed_line, gap_line, gap_marks, gap_told, key, legend_line, letter_of, mark, marks_of, picture_text, row_line};
 ghost use Rattle.std.specs.List.{flat_map};
 ghost use Rattle.std.specs.Prelude.{◌≡◌, ◌∷◌, ◌+◌, ◌++◌, [], IfOk, OnOk, codes, if◌then◌else◌, map, nat_lt, slice_index_or};
 
 use crate::act_lines::push_acts;
 use crate::gap::{Gap, gaps, stands_for_more};
 use crate::label::{label_width, push_lettered};
-use crate::legend::{explained, meaning};
+use crate::legend::{explained, meaning, shows_armed};
 use crate::letters::letters;
 use crate::times::header;
 use cmwq_picture::{Cell, Picture, Row, Sign};
@@ -17,7 +16,8 @@ use cmwq_types::{NoMemory, Scenario, WorkId};
 use std::alloc::Global;
 
 /// The picture as text, in bytes: the times; a line for each row with a byte for each column between bars, in which a letter stands
-/// for a work that burns; a line that marks folded columns, if there are some; a line that says what the signs mean; one for each
+/// for a work that burns, and in the row of a work for the one whose body has just set its timer; a line that marks folded columns, if
+/// there are some; a line that says what the signs mean; one that explains letters in rows of works, if there are some; one for each
 /// folded column; and one for each tick at which the actor did something.
 ///
 /// The format is this project's own. The only error is want of memory.
@@ -32,6 +32,7 @@ pub fn sketch(alloc: Global, scenario: &Scenario, picture: &Picture) -> Result<V
     push_gap_line(alloc, &mut text, width, &picture.edges, &folded)?;
     let cells = explained(alloc, &picture.rows)?;
     push_legend(&mut text, scenario, &cells)?;
+    push_armed_line(&mut text, &picture.rows)?;
     push_gaps_told(alloc, &mut text, &folded)?;
     push_acts(alloc, &mut text, scenario, &picture.acts)?;
     Ok(text)
@@ -105,7 +106,7 @@ fn mark_of(scenario: &Scenario, letters: &[u8], cell: Cell) -> u8
     match cell {
         Cell::Empty => b' ',
         Cell::Does(sign) => sign_mark(sign),
-        Cell::Burner(work) => burner_mark(scenario, letters, work),
+        Cell::Burner(work) | Cell::Armed(work) => letter_of(scenario, letters, work),
         Cell::Acts => b'^',
         Cell::Lasts => b'*',
     }
@@ -127,8 +128,8 @@ fn sign_mark(sign: Sign) -> u8
 }
 
 /// The work's letter, or where there is none the first of its name, or `?` where no work has the number.
-fn burner_mark(scenario: &Scenario, letters: &[u8], work: WorkId) -> u8
-    ensures { result ≡ slice_index_or letters.now work.0 (slice_index_or (work_at scenario.now work.0).name 0 63) }
+fn letter_of(scenario: &Scenario, letters: &[u8], work: WorkId) -> u8
+    ensures { result ≡ letter_of scenario.now letters.now work }
 {
     let w = work.0 as usize;
     match letters.get(w) {
@@ -200,6 +201,16 @@ fn push_legend(text: &mut Vec<u8>, scenario: &Scenario, cells: &[Cell]) -> Resul
     push_key(text, scenario, *first)?;
     push_keys(text, scenario, others)?;
     text.push(b'\n')?;
+    Ok(())
+}
+
+/// Writes the line that explains letters in the rows of works, where one stands there.
+fn push_armed_line(text: &mut Vec<u8>, rows: &[Row]) -> Result<(), NoMemory>
+    ensures { OnOk result (text.new.items ≡ text.old.items ++ armed_line rows.now) }
+{
+    if shows_armed(rows) {
+        text.extend_from_slice(b"letter: on a timer set by that work\n")?;
+    }
     Ok(())
 }
 

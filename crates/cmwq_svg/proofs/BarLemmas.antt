@@ -6,7 +6,7 @@ use Rattle.std.proofs.lemmas.List.{append-nil}
 use Rattle.std.specs.List.{filter}
 use Rattle.cmwq_picture.specs.contracts.cell.SignPartialEq.TheImpl as sign_eq
 use Rattle.cmwq_picture.specs.declared.cell.Cell.{Cell}
-use Rattle.cmwq_picture.specs.declared.cell.Cell.TheVariants.{Empty, Does, Burner, Acts, Lasts}
+use Rattle.cmwq_picture.specs.declared.cell.Cell.TheVariants.{Empty, Does, Burner, Acts, Lasts, Armed}
 use Rattle.cmwq_picture.specs.declared.cell.Sign.{Sign}
 use Rattle.cmwq_picture.specs.declared.cell.Sign.TheVariants as sign
 use Rattle.cmwq_render.specs.Legend.{same_cell}
@@ -35,6 +35,7 @@ same-cell (Does x) (Does y) e = ap Does (same-sign x y e)
 same-cell (Burner x) (Burner y) e = ap (λ (n : ℕ). Burner (record { 0 = n })) (eqb-true x.0 y.0 e)
 same-cell Acts Acts e = refl
 same-cell Lasts Lasts e = refl
+same-cell (Armed x) (Armed y) e = ap (λ (n : ℕ). Armed (record { 0 = n })) (eqb-true x.0 y.0 e)
 same-cell x y e = absurd (true≢false (sym e))
 
 sign-refl : (x : Sign) → sign_eq.ghosts.eq x x ≡ true
@@ -52,6 +53,7 @@ same-refl (Does x) = sign-refl x
 same-refl (Burner w) = eq-eqb w.0 w.0 refl
 same-refl Acts = refl
 same-refl Lasts = refl
+same-refl (Armed w) = eq-eqb w.0 w.0 refl
 
 -- The rectangle that is last ends where the next cell stands, and shows something.
 record IsOpen (bar : Bar) (at : ℕ) : Type 0 where
@@ -127,6 +129,7 @@ begun-last (Does sign) at = record { ends = refl; begins = omega arith; shows = 
 begun-last (Burner w) at = record { ends = refl; begins = omega arith; shows = refl }
 begun-last Acts at = record { ends = refl; begins = omega arith; shows = refl }
 begun-last Lasts at = record { ends = refl; begins = omega arith; shows = refl }
+begun-last (Armed w) at = record { ends = refl; begins = omega arith; shows = refl }
 
 begun-later : (tick at : ℕ) (cell : Cell) → tick < at → showing tick (bar_ended (bar_begun cell at)) ≡ []
 begun-later tick at Empty less = refl
@@ -134,6 +137,7 @@ begun-later tick at (Does sign) less = left_of tick (column_bar (Does sign) at) 
 begun-later tick at (Burner w) less = left_of tick (column_bar (Burner w) at) less
 begun-later tick at Acts less = left_of tick (column_bar Acts at) less
 begun-later tick at Lasts less = left_of tick (column_bar Lasts at) less
+begun-later tick at (Armed w) less = left_of tick (column_bar (Armed w) at) less
 
 begun-here : (tick at : ℕ) (cell : Cell) → tick ≡ at → showing tick (bar_ended (bar_begun cell at)) ≡ seen_cells cell
 begun-here tick at Empty here = refl
@@ -141,6 +145,7 @@ begun-here tick at (Does sign) here = over tick (column_bar (Does sign) at) (ome
 begun-here tick at (Burner w) here = over tick (column_bar (Burner w) at) (omega arith) (omega arith)
 begun-here tick at Acts here = over tick (column_bar Acts at) (omega arith) (omega arith)
 begun-here tick at Lasts here = over tick (column_bar Lasts at) (omega arith) (omega arith)
+begun-here tick at (Armed w) here = over tick (column_bar (Armed w) at) (omega arith) (omega arith)
 
 -- one step, by whether the rectangle goes on
 abbrev stepped : Bool → Option Bar → ℕ → Cell → List Cell → List Bar
@@ -274,6 +279,7 @@ begins (Does sign) cells bar at apart less other = apart.going bar (column_bar (
 begins (Burner w) cells bar at apart less other = apart.going bar (column_bar (Burner w) at) (at + 1) refl less other
 begins Acts cells bar at apart less other = apart.going bar (column_bar Acts at) (at + 1) refl less other
 begins Lasts cells bar at apart less other = apart.going bar (column_bar Lasts at) (at + 1) refl less other
+begins (Armed w) cells bar at apart less other = apart.going bar (column_bar (Armed w) at) (at + 1) refl less other
 
 other-cell : (a b : Cell) → same_cell a b ≡ false → a ≢ b
 other-cell a b e is = true≢false (sym (same-refl a) ∙ ap (λ (c : Cell). same_cell a c) is ∙ e)
@@ -307,6 +313,8 @@ whole-from Acts cells apart =
     drop_first before_all (bars_from (Some (column_bar Acts 0)) 1 cells) (apart.going before_all (column_bar Acts 0) 1 refl (omega arith) (λ touch same. cc))
 whole-from Lasts cells apart =
     drop_first before_all (bars_from (Some (column_bar Lasts 0)) 1 cells) (apart.going before_all (column_bar Lasts 0) 1 refl (omega arith) (λ touch same. cc))
+whole-from (Armed w) cells apart =
+    drop_first before_all (bars_from (Some (column_bar (Armed w) 0)) 1 cells) (apart.going before_all (column_bar (Armed w) 0) 1 refl (omega arith) (λ touch same. cc))
 
 pub whole_runs : RunsAreWhole
 unfolding RunsAreWhole

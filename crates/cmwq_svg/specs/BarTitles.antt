@@ -6,7 +6,7 @@ use Rattle.cmwq_types.specs.Scenario.{work_at}
 use Rattle.cmwq_picture.specs.Picture.{shows_waiting}
 use Rattle.cmwq_picture.specs.PictureContents.{HintContents}
 use Rattle.cmwq_picture.specs.declared.cell.Cell.{Cell}
-use Rattle.cmwq_picture.specs.declared.cell.Cell.TheVariants.{Empty, Does, Burner, Acts, Lasts}
+use Rattle.cmwq_picture.specs.declared.cell.Cell.TheVariants.{Empty, Does, Burner, Acts, Lasts, Armed}
 use Rattle.cmwq_picture.specs.declared.row.Title.{Title}
 use Rattle.cmwq_picture.specs.declared.row.Title.TheVariants as title
 use Rattle.cmwq_render.specs.Labels.{label}
@@ -25,6 +25,7 @@ deed S row (Does sign) = subject S row ++ codes " " ++ meaning (Does sign)
 deed S row (Burner w) = (work_at S w.0).name ++ codes " burns on " ++ subject S row
 deed S row Acts = meaning Acts
 deed S row Lasts = subject S row
+deed S row (Armed by) = subject S row ++ codes " on a timer, set by " ++ (work_at S by.0).name
 deed S row Empty = []
 
 -- from when to when, in ticks

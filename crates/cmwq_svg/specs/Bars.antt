@@ -1,7 +1,7 @@
 -- The rectangles of a row: one for cells that are the same and stand side by side.
 use Rattle.std.specs.Prelude.{ℕ, ◌+◌, Bool, false, List, [], ◌∷◌, ◌++◌, Option, Some, None, if◌then◌else◌}
 use Rattle.cmwq_picture.specs.declared.cell.Cell.{Cell}
-use Rattle.cmwq_picture.specs.declared.cell.Cell.TheVariants.{Empty, Does, Burner, Acts, Lasts}
+use Rattle.cmwq_picture.specs.declared.cell.Cell.TheVariants.{Empty, Does, Burner, Acts, Lasts, Armed}
 use Rattle.cmwq_render.specs.Legend.{same_cell}
 use Rattle.cmwq_svg.specs.declared.bars.Bar.{Bar}
 
@@ -25,6 +25,7 @@ bar_begun (Does sign) at = Some (column_bar (Does sign) at)
 bar_begun (Burner w) at = Some (column_bar (Burner w) at)
 bar_begun Acts at = Some (column_bar Acts at)
 bar_begun Lasts at = Some (column_bar Lasts at)
+bar_begun (Armed by) at = Some (column_bar (Armed by) at)
 
 abbrev pub bar_ended : Option Bar → List Bar
 bar_ended None = []

@@ -3,7 +3,7 @@ use Rattle.std.specs.Prelude.{List, ℕ, [], ◌∷◌, ◌++◌, codes, replica
 use Rattle.cmwq_types.specs.Contents.{ScenarioContents}
 use Rattle.cmwq_types.specs.Listing.{text_of_lines}
 use Rattle.cmwq_picture.specs.PictureContents.{HintContents, PictureContents}
-use Rattle.cmwq_picture.specs.declared.cell.Cell.TheVariants.{Burner, Acts, Lasts}
+use Rattle.cmwq_picture.specs.declared.cell.Cell.TheVariants.{Burner, Acts, Lasts, Armed}
 use Rattle.cmwq_picture.specs.declared.cell.Sign.TheVariants as sign
 use Rattle.cmwq_picture.specs.declared.row.Title.TheVariants as title
 use Rattle.cmwq_render.specs.Examples.{drawn_row, empty_cells, for, id, named_work, names, queued}
@@ -43,10 +43,30 @@ two_rows_svg =
     codes "<rect class='listed' x='56' y='139' width='20' height='14'><title>listed</title></rect>" ∷ codes "<text class='key' x='84' y='150'>listed</text>" ∷
     codes "</svg>" ∷ [])
 
--- ab with its pending instance, cd, who burns on the CPU, memory pressure, and the actor, in five columns, of which the fourth stands for 27 ticks
+-- ab and cd
 abbrev pub two_names : ScenarioContents
 two_names = names (named_work (codes "ab") ∷ named_work (codes "cd") ∷ [])
 
+-- cd is on a timer, which ab has set in the first tick
+abbrev pub armed_row : PictureContents
+armed_row = record { edges = 3 ∷ 4 ∷ 5 ∷ []; rows = drawn_row (title.Work (id 1)) (Armed (id 0) ∷ for 1 sign.Timed) ∷ []; acts = [] }
+
+-- Columns begin at 32 and are 20 wide, which is room for a name of two letters: that of ab in the first.
+abbrev pub armed_row_svg : List ℕ
+armed_row_svg =
+    with_id (codes "one") OPENING.now ++ codes " width='448' height='128' viewBox='0 0 448 128'>\n" ++ with_id (codes "one") STYLE.now
+    ++ text_of_lines (
+    codes "<path class='grid' d='M32 22V48'/>" ∷ codes "<text class='time' x='32' y='16'>3</text>" ∷ codes "<text class='time' x='32' y='64'>3</text>" ∷
+    codes "<text class='name' x='24' y='42'>cd</text>" ∷
+    codes "<rect class='armed' x='32' y='31' width='20' height='14'><title>1st" ∷ codes "cd on a timer, set by ab, from 3 to 4</title></rect>" ∷
+    codes "<text class='who' x='42' y='42'>ab</text>" ∷
+    codes "<rect class='timed' x='52' y='31' width='20' height='14'><title>2nd" ∷ codes "cd on a timer, from 4 to 5</title></rect>" ∷
+    codes "<text class='who' x='62' y='42'>cd</text>" ∷
+    codes "<rect class='timed' x='32' y='79' width='20' height='14'><title>on a timer</title></rect>" ∷ codes "<text class='key' x='60' y='90'>on a timer</text>" ∷
+    codes "<rect class='armed' x='32' y='99' width='20' height='14'><title>on a timer that a work has just set</title></rect>" ∷
+    codes "<text class='key' x='60' y='110'>on a timer that a work has just set</text>" ∷ codes "</svg>" ∷ [])
+
+-- ab with its pending instance, cd, who burns on the CPU, memory pressure, and the actor, in five columns, of which the fourth stands for 27 ticks
 abbrev pub six_rows : PictureContents
 six_rows =
     record {

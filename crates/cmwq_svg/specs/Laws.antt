@@ -2,7 +2,7 @@
 use Rattle.std.specs.Prelude.{◌≡◌, ◌≢◌, ◌≤◌, ◌<◌, ◌+◌, ℕ, Bool, ◌&&◌, List, [], ◌∷◌, map, nat_le, nat_lt, slice_index_or}
 use Rattle.std.specs.List.{filter}
 use Rattle.cmwq_picture.specs.declared.cell.Cell.{Cell}
-use Rattle.cmwq_picture.specs.declared.cell.Cell.TheVariants.{Empty, Does, Burner, Acts, Lasts}
+use Rattle.cmwq_picture.specs.declared.cell.Cell.TheVariants.{Empty, Does, Burner, Acts, Lasts, Armed}
 use Rattle.cmwq_svg.specs.Bars.{bars}
 use Rattle.cmwq_svg.specs.Layout.{y_of}
 use Rattle.cmwq_svg.specs.declared.bars.Bar.{Bar}
@@ -18,6 +18,7 @@ seen_cells (Does sign) = Does sign ∷ []
 seen_cells (Burner w) = Burner w ∷ []
 seen_cells Acts = Acts ∷ []
 seen_cells Lasts = Lasts ∷ []
+seen_cells (Armed by) = Armed by ∷ []
 
 -- over each tick stands one rectangle, which shows its cell, and none where the cell is empty, or behind the last one
 unfoldable pub CoversEachCellOnce : Type 0

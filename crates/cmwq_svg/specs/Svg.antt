@@ -6,7 +6,7 @@ use Rattle.cmwq_types.specs.Contents.{ScenarioContents}
 use Rattle.cmwq_types.specs.Scenario.{work_at}
 use Rattle.cmwq_picture.specs.PictureContents.{HintContents, PictureContents, RowContents}
 use Rattle.cmwq_picture.specs.declared.cell.Cell.{Cell}
-use Rattle.cmwq_picture.specs.declared.cell.Cell.TheVariants.{Empty, Does, Burner, Acts, Lasts}
+use Rattle.cmwq_picture.specs.declared.cell.Cell.TheVariants.{Empty, Does, Burner, Acts, Lasts, Armed}
 use Rattle.cmwq_picture.specs.declared.cell.Sign.{Sign}
 use Rattle.cmwq_picture.specs.declared.cell.Sign.TheVariants as sign
 use Rattle.cmwq_picture.specs.declared.row.Act.{Act}
@@ -18,7 +18,7 @@ use Rattle.cmwq_svg.specs.Bars.{bars}
 use Rattle.cmwq_render.specs.Gaps.{gap_words, gaps}
 use Rattle.cmwq_render.specs.Labels.{label, longest}
 use Rattle.cmwq_svg.specs.Layout.{full_height, full_width, is_large, left_edge, wide_step, x_of, y_of}
-use Rattle.cmwq_render.specs.Legend.{explained, meaning}
+use Rattle.cmwq_render.specs.Legend.{meaning, sampled}
 use Rattle.cmwq_render.specs.Times.{column_count, time_at, time_count, time_step}
 use Rattle.cmwq_svg.specs.declared.bars.Bar.{Bar}
 use Rattle.cmwq_render.specs.declared.gap.Gap.{Gap}
@@ -40,6 +40,7 @@ class (Does sign) = sign_class sign
 class (Burner w) = codes "burns"
 class Acts = codes "acts"
 class Lasts = codes "lasts"
+class (Armed by) = codes "armed"
 class Empty = []
 
 -- an attribute that is a number
@@ -84,6 +85,7 @@ time_marks edges grid step bottom (suc n) =
 -- the name that stands in a rectangle
 abbrev pub name_in : ScenarioContents → Title → Cell → List ℕ
 name_in S row (Burner w) = (work_at S w.0).name
+name_in S row (Armed by) = (work_at S by.0).name
 name_in S (title.Work w) (Does sign) = (work_at S w.0).name
 name_in S (title.Pending w) (Does sign) = (work_at S w.0).name
 name_in S row cell = []
@@ -191,7 +193,7 @@ abbrev pub row_count : PictureContents → ℕ
 row_count P = length P.rows + length P.acts
 
 abbrev pub line_count : PictureContents → ℕ
-line_count P = length (explained P.rows) + length (gaps P.edges)
+line_count P = length (sampled P.rows) + length (gaps P.edges)
 
 abbrev pub svg_width : ScenarioContents → PictureContents → Grid → ℕ
 svg_width S P grid = full_width grid (column_count P.edges) (acts_end S P.edges grid P.acts)
@@ -212,8 +214,8 @@ body S P hints grid =
     time_marks P.edges grid (wide_step grid.scale (time_step P.edges)) (y_of (row_count P)) (time_count (wide_step grid.scale (time_step P.edges)) P.edges)
     ++ rows_svg S P.edges grid (is_large_svg S P grid) hints 0 P.rows ++ acts_svg S P.edges grid (length P.rows) P.acts
     ++ flat_map (gap_svg grid (y_of (length P.rows))) (gaps P.edges)
-    ++ legend_svg grid (row_count P + 1) (explained P.rows)
-    ++ gap_keys grid (row_count P + 1 + length (explained P.rows)) (gaps P.edges)
+    ++ legend_svg grid (row_count P + 1) (sampled P.rows)
+    ++ gap_keys grid (row_count P + 1 + length (sampled P.rows)) (gaps P.edges)
     ++ codes "</svg>" ++ 10 ∷ []
 
 abbrev pub drawing : ScenarioContents → PictureContents → List HintContents → List ℕ → Grid → List ℕ

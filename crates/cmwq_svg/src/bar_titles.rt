@@ -63,6 +63,10 @@ impl fmt::Display for Deed<'_> {
             }
             Cell::Acts => f.write_str(meaning(Cell::Acts)),
             Cell::Lasts => write!(f, "{subject}"),
+            Cell::Armed(by) => {
+                let by = scenario.work_name(by.0 as usize);
+                write!(f, "{subject} on a timer, set by {by}")
+            }
             Cell::Empty => f.write_str(""),
         }
     }

@@ -40,7 +40,7 @@ pub(crate) fn bar_begun(cell: Cell, at: usize) -> Option<Bar>
 {
     match cell {
         Cell::Empty => None,
-        Cell::Does(_) | Cell::Burner(_) | Cell::Acts | Cell::Lasts => Some(Bar {
+        Cell::Does(_) | Cell::Burner(_) | Cell::Acts | Cell::Lasts | Cell::Armed(_) => Some(Bar {
             from: at,
             to: at + 1,
             cell,

@@ -1,6 +1,6 @@
 //! The SVG text of a picture.
 ghost use Rattle.cmwq_render.specs.Gaps.{gaps};
-ghost use Rattle.cmwq_render.specs.Legend.{explained};
+ghost use Rattle.cmwq_render.specs.Legend.{sampled};
 ghost use Rattle.cmwq_svg.specs.Svg.{acts_end, body, is_large_svg, room_again, row_count, svg_text};
 ghost use Rattle.cmwq_svg.specs.Layout.{full_width};
 ghost use Rattle.cmwq_render.specs.Times.{column_count};
@@ -10,7 +10,7 @@ use crate::frame::Frame;
 use crate::layout::{Grid, full_height, full_width, is_large, wide_step, y_of};
 use crate::shapes::push_head;
 use cmwq_picture::{Act, Cell, Hint, Picture};
-use cmwq_render::{Gap, column_count, explained, gaps, label_width, time_step};
+use cmwq_render::{Gap, column_count, gaps, label_width, sampled, time_step};
 use cmwq_types::{NoMemory, Scenario};
 use std::alloc::Global;
 
@@ -39,7 +39,7 @@ pub fn svg(
         grid: Grid { letters, scale },
         large: false,
     };
-    let cells = explained(alloc, &picture.rows)?;
+    let cells = sampled(alloc, &picture.rows)?;
     let folded = gaps(alloc, &picture.edges)?;
     let height = full_height(
         row_count(picture),
@@ -105,7 +105,7 @@ fn body(
     requires scale { 0 < frame.now.grid.scale }
     requires edges { frame.now.edges.now ≡ picture.now.edges }
     requires large { frame.now.large ≡ is_large_svg frame.now.scenario.now picture.now frame.now.grid }
-    requires cells { cells.now ≡ explained picture.now.rows }
+    requires cells { cells.now ≡ sampled picture.now.rows }
     requires folded { folded.now ≡ gaps picture.now.edges }
     ensures { IfOk result (λ text. string_bytes text ≡ body frame.now.scenario.now picture.now hints.now frame.now.grid) }
 {

@@ -1,5 +1,5 @@
 //! Worked pictures as SVG, as theorems over the definitions: the functions do nothing.
-ghost use Rattle.cmwq_svg.specs.Examples.{one_name, six_rows, six_rows_hints, six_rows_svg, two_names, two_rows, two_rows_svg};
+ghost use Rattle.cmwq_svg.specs.Examples.{armed_row, armed_row_svg, one_name, said, six_rows, six_rows_hints, six_rows_svg, two_names, two_rows, two_rows_svg};
 ghost use Rattle.cmwq_svg.specs.Layout.{full_width, is_large, wide_step};
 ghost use Rattle.cmwq_svg.specs.Svg.{name_svg, svg_text, with_id};
 ghost use Rattle.std.specs.Prelude.{◌≡◌, ◌∷◌, ◌++◌, [], codes, false, true};
@@ -7,6 +7,12 @@ ghost use Rattle.std.specs.Prelude.{◌≡◌, ◌∷◌, ◌++◌, [], codes, f
 /// Two rows as SVG: each label, rectangle, name and line of the legend has its place.
 pub fn two_rows_are_drawn_as_svg()
     ensures { svg_text one_name two_rows (record { row = 0; text = codes "ab why\n" } ∷ []) (codes "one") 12 ≡ two_rows_svg }
+{}
+
+/// A rectangle that shows who has set a timer has a class and a name of its own, and a line of the legend; it shows a work waiting, as that of
+/// the timer behind it does.
+pub fn who_set_a_timer_is_drawn_as_svg()
+    ensures { svg_text two_names armed_row (said 0 (codes "1st\n") ∷ said 0 (codes "2nd\n") ∷ []) (codes "one") 20 ≡ armed_row_svg }
 {}
 
 /// Rows of each kind and each sign, in a large picture with a folded column: labels stand at the right too, each rectangle has its

@@ -191,12 +191,12 @@ impl Frame<'_> {
     }
 }
 
-/// The name that stands in a rectangle: of who burns, or of the work whose row it is.
+/// The name that stands in a rectangle: of who burns, of who set the timer, or of the work whose row it is.
 fn name_in(scenario: &Scenario, row: Title, cell: Cell) -> &str
     ensures { result.now ≡ name_in scenario.now row cell }
 {
     match (row, cell) {
-        (_, Cell::Burner(work)) => scenario.work_name(work.0 as usize),
+        (_, Cell::Burner(work) | Cell::Armed(work)) => scenario.work_name(work.0 as usize),
         (Title::Work(work) | Title::Pending(work), Cell::Does(_)) => {
             scenario.work_name(work.0 as usize)
         }

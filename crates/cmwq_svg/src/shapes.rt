@@ -196,6 +196,7 @@ pub(crate) fn class_of(cell: Cell) -> &'static str
         Cell::Burner(_) => "burns",
         Cell::Acts => "acts",
         Cell::Lasts => "lasts",
+        Cell::Armed(_) => "armed",
         Cell::Empty => "",
     }
 }

@@ -23,6 +23,7 @@ pub(crate) const STYLE: &str = "<title>A run, tick by tick</title>
 .~ .listed{fill:url(#~-listed)}
 .~ .inactive{fill:url(#~-inactive)}
 .~ .timed{fill:url(#~-timed)}
+.~ .armed{fill:url(#~-armed)}
 .~ .deferred{fill:url(#~-deferred)}
 .~ .lasts{fill:#999}
 .~ .gap{fill:url(#~-gap);stroke:none}
@@ -34,6 +35,7 @@ pub(crate) const STYLE: &str = "<title>A run, tick by tick</title>
 <pattern id='~-listed' width='5' height='5' patternUnits='userSpaceOnUse'><path fill='#f0e442' d='M0 0h5v5H0z'/><path stroke='#000' d='M0 2.5h5'/></pattern>
 <pattern id='~-inactive' width='7' height='7' patternUnits='userSpaceOnUse'><path fill='#cc79a7' d='M0 0h7v7H0z'/><path stroke='#000' d='M0 0L7 7M0 7L7 0'/></pattern>
 <pattern id='~-timed' width='5' height='5' patternUnits='userSpaceOnUse'><path fill='#009e73' d='M0 0h5v5H0z'/><path stroke='#000' d='M2.5 0v5'/></pattern>
+<pattern id='~-armed' width='7' height='7' patternUnits='userSpaceOnUse'><path fill='#009e73' d='M0 0h7v7H0z'/><path stroke='#fff' d='M0 0L7 7'/></pattern>
 <pattern id='~-deferred' width='7' height='7' patternUnits='userSpaceOnUse'><path fill='#0072b2' d='M0 0h7v7H0z'/><path stroke='#fff' d='M0 3.5h7M3.5 0v7'/></pattern>
 <pattern id='~-gap' width='6' height='6' patternUnits='userSpaceOnUse'><path stroke='#888' stroke-width='2' d='M0 6L6 0M-2 2L2 -2M4 8L8 4'/></pattern>
 </defs>

@@ -2,4 +2,4 @@ use Rattle.cmwq_picture.proofs.ListLemmas.{map-pushed}
 use Rattle.cmwq_picture.proofs.moment.Moment.pending_works.Goals as goal
 
 pub loop-w-preserved : goal.loop-w-preserved
-loop-w-preserved g c = map-pushed _ c.loop-w.w _ _ _ c.loop-w.invariant c.pending_sign.ensures c.in_ok-push.ensures.items
+loop-w-preserved g c = map-pushed _ c.loop-w.w _ _ _ c.loop-w.invariant c.pending_shown.ensures c.in_ok-push.ensures.items
