@@ -1,4 +1,4 @@
-"""Asks whether a program and the baseline print the same on random scenarios, which use every flag and operation, and every instruction that
+"""Asks whether a program and the baseline print the same on random scenarios, which use every flag, and every operation and instruction that
 the baseline has. Both list each scenario, and run it. The scenarios are the same on each run, by their numbers.
 
     python3 agree.py PROGRAM BASELINE [COUNT [FIRST]]

@@ -14,7 +14,7 @@ TOP = os.path.dirname(os.path.dirname(os.path.realpath(__file__)))
 NO_MEMORY, READ, WRITE = (4, b"no memory\n"), (3, b"read\n"), (3, b"write\n")
 KINDS = ("memory", "read", "write")
 
-# Each word of scenarios stands here: `uncovered` tells which doesn't.
+# Each word of scenarios stands here, and each operation in a body: `uncovered` tells which doesn't.
 EVERY = """cpus 2
 workers 2
 steps 90
@@ -39,11 +39,14 @@ burn 1
 finish
 body c
 sleep 2
+delay b 2
 burn 1
 finish
 body d
 burn 2
 queue e 1
+mod b 1
+cancel e
 finish
 body e
 sleep 1
@@ -305,11 +308,17 @@ def debugger_commands():
     return set(re.findall(r"^\| `(\w+)", section("## Debugger commands"), re.M))
 
 
+def operations_in(text):
+    """The words that operations of a text's bodies begin with."""
+    return {line.split()[0] for body in re.findall(r"^body .*\n((?:(?!finish).*\n)*finish)$", text, re.M) for line in body.split("\n")}
+
+
 def uncovered(uses):
-    """Which command, debugger's command or word of scenarios nothing in the table tries."""
+    """Which command, debugger's command, word of scenarios or operation nothing in the table tries."""
     words = {line.split()[0] for line, _ in uses}
     asked = {word for _, given in uses for word in re.findall(r"^\w+", given, re.M)}
     wanted = [(user_files.words_of_commands(), words), (debugger_commands(), asked), (user_files.words_of_scenarios(), set(EVERY.split()))]
+    wanted += [(user_files.words_of_bodies(), operations_in(EVERY))]
     return [f"no line of the table tries {word}" for all_of, tried in wanted for word in sorted(all_of - tried)]
 
 

@@ -99,6 +99,7 @@ ROWS = [
     op_row("burn {}", [1, 1_000_000], 0, 1_000_001, MOST_COUNT),
     op_row("sleep {}", [1, 1_000_000], 0, 1_000_001, MOST_COUNT),
     op_row("queue a {}", [0, 15], 16, 255),
+    *(op_row(line, [0, 1_000_000], 1_000_001, MOST_COUNT) for line in ("delay a {}", "mod a {}")),
     instr_row("next * {}", [1, MOST_TIMES], 0, MOST_TIMES + 1, MOST_COUNT),
     *(instr_row(line, [0, 255]) for line in ("queue a {}", "delay a {} 1", "mod a {} 1", "step {}")),
     *(instr_row(line, [0, MOST_COUNT]) for line in ("delay a 0 {}", "mod a 0 {}", "set_max q {}", "until {}")),
@@ -111,7 +112,9 @@ PATCHES = [
     ("the byte behind them", 37, ">B", [0], {1: "BadField 37"}),
     ("number of a work's queue", 54, ">B", [0], {1: "Unknown", 255: "Unknown"}),
     ("operations", 55, ">B", [2], {0: "BadField 55", 255: "BadField 55"}),
-    ("tag of an operation", 56, ">B", [1, 2], {0: "BadField 56", 5: "BadField 56", 16: "BadField 56"}),
+    ("tag of an operation", 56, ">B", [1, 2, 5, 6], {0: "BadField 56", 7: "BadField 60", 8: "BadField 56", 16: "BadField 56"}),
+    ("work of an operation", 56, ">BBHI", [(5, 0, 0, 0), (6, 0, 0, 1_000_000), (7, 0, 0, 0)], {(5, 0, 1, 0): "Unknown", (6, 0, 65_535, 0): "Unknown", (7, 0, 1, 0): "Unknown"}),
+    ("CPU of an operation", 57, ">B", [0], {1: "BadField 57"}),
     ("tag of an instruction", 90, ">B", [19, 22, 33, 35, 40], {4: "BadField 90", 15: "BadField 90", 41: "BadField 90"}),
     ("work of an instruction", 92, ">H", [0], {1: "Unknown", 65_535: "Unknown"}),
     ("queue of an instruction", 90, ">BBH", [(23, 0, 0)], {(23, 0, 1): "Unknown", (23, 0, 255): "Unknown", (23, 0, 256): "BadField 92"}),
@@ -162,6 +165,13 @@ def for_a_million_ticks(op, *said):
     return acted(op, ["queue a 0", *repeated("next", 1_000_004)], ["0 a starts", *said, "1000000 a finishes"], **declared)
 
 
+def behind_a_million_ticks(op, did):
+    """A body sets the timer of another work, which comes so late."""
+    declared = {"steps": MOST_COUNT, "works": [Work("a", "q", (op,)), Work("b", "q", ())]}
+    said = ["0 a starts", f"0 a {did} b 1000000", "0 a finishes", *(f"1000000 b {it}" for it in ("fires", "starts", "finishes"))]
+    return acted(op, ["queue a 0", *repeated("next", 1_000_006)], said, **declared)
+
+
 # A delay ends behind 32 bits, too.
 LONG_DELAY = [f"delay a 0 {MOST_COUNT}", "state a", "tick", f"mod a 0 {MOST_COUNT}", "state a"]
 RUNS = [
@@ -176,6 +186,7 @@ RUNS = [
     acted("delay", LONG_DELAY, [f"0 a timer {MOST_COUNT} still", "1 changed", f"1 a timer {MOST_COUNT + 1} still"]),
     for_a_million_ticks("burn 1000000", "0 a burns 1000000"),
     for_a_million_ticks("sleep 1000000", "0 a sleeps 1000000", "1000000 a wakes"),
+    *(behind_a_million_ticks(op, did) for op, did in {"delay b 1000000": "delays", "mod b 1000000": "mods"}.items()),
 ]
 
 # Rows of the debugger on the small scenario, whose second instruction lets a tick pass: its commands, each with its answer.
@@ -268,6 +279,7 @@ EXPLORING = [
     ([("until 2",), ("until 3",)], "--stuck", {}, ended(8)),
     ([("flush a", "wait 0")], "--stuck", {}, ended(3)),
     ([("queue a 0", "quiet")], "--stuck", {}, ended(7)),
+    ([("queue a 0",)], "--stuck", {"works": [Work("a", "q", ("delay b 1",)), Work("b", "q", ())]}, ended(9, 8)),
     *(([(f"flush a * {it + 1}",)], "--stuck", {"flushes": it}, needed(it + 1)) for it in (0, 1, 2, 1024)),
     *(([(line,)], "--stuck", {"flushes": 0}, needed(1)) for line in ("flush a", "flush_delayed a", "flush_queue q", "cancel_sync a")),
     ([("flush a",), ("cancel_sync a", "flush_queue q")], "--never nobody", {"flushes": 2}, needed(3)),
@@ -588,10 +600,11 @@ def output_faults(program, room, outputs):
 
 
 def uncovered():
-    """Which word of scenarios doesn't stand in the greatest one, and which command doesn't read it."""
-    words = set(text(**greatest(*GREATEST[ONE])).decode().split())
+    """Which word of scenarios, or operation of bodies, doesn't stand in the greatest one, and which command doesn't read it."""
+    whole = text(**greatest(*GREATEST[ONE])).decode()
+    words, operations = set(whole.split()), hostile.operations_in(whole)
     commands = {line.split()[0] for line, _ in MEASURED}
-    missing = [*(user_files.words_of_scenarios() - words), *(user_files.words_of_commands() - commands - {"new", "help"})]
+    missing = [*(user_files.words_of_scenarios() - words), *(user_files.words_of_bodies() - operations), *(user_files.words_of_commands() - commands - {"new", "help"})]
     return [f"the greatest scenario lacks {word}" for word in sorted(missing)]
 
 

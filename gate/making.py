@@ -29,7 +29,7 @@ def text(**parts):
 
 
 # A word's tag, and what its operands are: a work or a queue, a number in their place, a CPU or a pool, a count.
-OPS = {"burn": (1, "n"), "sleep": (2, "n"), "queue": (3, "wc"), "finish": (4, "")}
+OPS = {"burn": (1, "n"), "sleep": (2, "n"), "queue": (3, "wc"), "finish": (4, ""), "delay": (5, "wn"), "mod": (6, "wn"), "cancel": (7, "w")}
 INSTRS = {"queue": (16, "wc"), "delay": (17, "wcn"), "mod": (18, "wcn"), "cancel": (19, "w"), "cancel_sync": (20, "w"), "flush": (21, "w")}
 INSTRS |= {"flush_delayed": (22, "w"), "flush_queue": (23, "q"), "set_max": (24, "qn"), "freeze": (25, ""), "thaw": (26, ""), "fire": (27, "")}
 INSTRS |= {"step": (28, "c"), "tick": (29, ""), "next": (30, ""), "ask": (31, "a"), "busy": (32, ""), "state": (33, "w")}
@@ -95,9 +95,10 @@ def greatest_queues():
 
 
 def greatest_body(number):
-    """63 operations of each kind. Each second work queues the one behind it, which queues none, so that all comes to an end."""
-    asks = f"burn {1 + number % 3}" if number % 2 else f"queue {longest('w', number + 1)} {number % 16}"
-    return tuple((f"burn {1 + at % 3}", "burn 1", f"sleep {1 + (at + number) % 9}", asks)[at % 4] for at in range(63))
+    """63 operations of each kind. Each second work queues, delays, mods and cancels the one behind it, which does so with none, so that all comes to an end."""
+    other = longest("w", number + 1)
+    asks = [f"burn {1 + number % 3}"] * 4 if number % 2 else [f"queue {other} {number % 16}", f"mod {other} {number % 5}", f"cancel {other}", f"delay {other} {number % 7}"]
+    return tuple((f"burn {1 + at % 3}", "burn 1", f"sleep {1 + (at + number) % 9}", asks[at // 4 % 4])[at % 4] for at in range(63))
 
 
 def every_instruction(turn, times):

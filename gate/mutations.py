@@ -11,7 +11,7 @@ ODD_BYTES = [b"\x00", b"\xff", b"\r", b"\t", b" ", b"#", b"\n", b"\r\n", b"\xc3"
 VOCABULARY = sorted(user_files.words_of_scenarios())
 OPTIONS = sorted(user_files.words_of_commands()) + ["help"] + sorted({word for line, _ in hostile.USES for word in line.split() if word[0] == "-"})
 FLAGS = user_files.defined("crates/cmwq_types/specs/Listing.antt", "flag_words")
-EVENTS = "starts burns sleeps wakes finishes defers fires queues".split()
+EVENTS = "starts burns sleeps wakes finishes defers fires queues delays mods cancels".split()
 
 
 def changed_word(rng, word, words):
@@ -85,7 +85,8 @@ def made_line(rng, works, queues):
 
 def made_body(rng, works):
     """What a work does."""
-    return [f"{rng.choice(['burn', 'sleep'])} {rng.randrange(1, 6)}" if rng.randrange(4) else f"queue {rng.choice(works)} 0" for _ in range(rng.randrange(5))]
+    asks = ["queue {} 0", "delay {} 0", "delay {} 2", "mod {} 0", "mod {} 3", "cancel {}"]
+    return [f"{rng.choice(['burn', 'sleep'])} {rng.randrange(1, 6)}" if rng.randrange(3) else rng.choice(asks).format(rng.choice(works)) for _ in range(rng.randrange(6))]
 
 
 def made_queue(rng, name):
@@ -132,7 +133,7 @@ def image(rng, images):
     for _ in range(rng.choice([1, 1, 1, 2, 3])):
         at, kind = rng.randrange(len(content) + 1), rng.randrange(6)
         if kind < 4:
-            field = rng.choice([b"\x00", b"\x01", b"\x02", b"\x03", b"\x04", b"\x10", b"\x20", b"\x40", b"\xff", b"\xff\xff", bytes([rng.randrange(256)])])
+            field = rng.choice([b"\x00", b"\x01", b"\x02", b"\x03", b"\x04", b"\x05", b"\x06", b"\x07", b"\x10", b"\x20", b"\x40", b"\xff", b"\xff\xff", bytes([rng.randrange(256)])])
             content = content[:at] + field + content[at + len(field):]
         elif kind == 4:
             other = rng.choice(images)

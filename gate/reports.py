@@ -1,7 +1,7 @@
 """What holds of what is told of runs, whatever the run: `times` and `trace` of each lesson of one actor, looked at as a reader would. Of `times` each
 line's ticks add up, the lines add up to the sums, and the JSON objects say the same words. Of `trace` each line is JSON, names stand before what is
 named so, slices of one thread don't overlap, and what works burn in slices is what `times` says; an object of `--lines` stands for each line of
-the run; and the workqueue events of `--text` are as many as the run's starts and ends, in the order of time. With `--whom` each tick of a wait has
+the run, and says the words of one that tells what a body does with another work; and the workqueue events of `--text` are as many as the run's starts and ends, in the order of time. With `--whom` each tick of a wait has
 somebody, or nobody, and `--sweep` says what `times` says of the text with that max. Where NAME.times, NAME.trace_json or NAME.trace_lines stands beside a lesson, that is what is printed.
 
     python3 gate/reports.py PROGRAM"""
@@ -154,7 +154,9 @@ class Lesson:
                 found[named[pid, tid]] += sum(end - begin for begin, end, name in slices if name == "burns") // 1000
         self.want(+found == +burned, "the slices burn another number of ticks")
         told = [json.loads(line) for line in self.said("trace", "--lines").splitlines()]
-        self.want([str(it["time"]) for it in told] == [line.split()[0] for line in self.said("run").splitlines()], "trace --lines has another number of lines, or other times")
+        ran = self.said("run").splitlines()
+        self.want([str(it["time"]) for it in told] == [line.split()[0] for line in ran], "trace --lines has another number of lines, or other times")
+        self.want(all(line_of(it) == line for it, line in zip(told, ran) if "other" in it), "trace --lines says otherwise of a body that speaks of another work")
 
 
 def words_of(it):
@@ -165,6 +167,13 @@ def words_of(it):
         state = [it["state"]] if "state" in it else []
         return [str(it["now"]), it["work"], it["end"], *state, "since", str(it["since"]), *(word for name in COUNTS for word in (name, str(it[name])))]
     return [str(word) for pair in it.items() for word in pair]
+
+
+def line_of(it):
+    """The line that an object of `trace --lines` stands for, where it tells what a body does with another work."""
+    ticks = [str(it["ticks"])] if "ticks" in it else []
+    outcome = [key.replace("_", " ") for key in ("already", "changed", "disabled", "not_pending") if key in it]
+    return " ".join([str(it["time"]), it["work"], it["event"], it["other"], *ticks, *outcome])
 
 
 def main(program):

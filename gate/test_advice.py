@@ -49,6 +49,11 @@ FILES = {
     "open.cmwq": HEAD + QUEUE + WORKS + "body mail\ntick\n",
     "zero.cmwq": HEAD + QUEUE + WORKS + "body mail\nburn 0\n",
     "cpu.cmwq": HEAD + QUEUE + WORKS + "body mail\nqueue blink 1\n",
+    "timed.cmwq": HEAD + QUEUE + WORKS + "body mail\ndelay blink 1 0\n",
+    "longer.cmwq": HEAD + QUEUE + WORKS + "body mail\ndelay blink 1000001\n",
+    "timeless.cmwq": HEAD + QUEUE + WORKS + "body mail\nmod blink\n",
+    "waiting.cmwq": HEAD + QUEUE + WORKS + "body mail\ncancel_sync blink\n",
+    "whom.cmwq": HEAD + QUEUE + WORKS + "body mail\ncancel blnk\n",
     "unended.cmwq": HEAD + QUEUE + WORKS + "body mail\nburn 1\n",
     "pool.cmwq": HEAD + QUEUE + WORKS + BODIES + "actor t\nstep 300\n",
     "times.cmwq": HEAD + QUEUE + WORKS + BODIES + "actor t\nnext * 0\n",
@@ -70,6 +75,9 @@ FILES = {
 BAD_WORD = "  this word means nothing here: what may stand is told above"
 UNKNOWN = "  no line before declares a work or a queue of this name"
 EXTRA_WORD = "  the line has a word too many; an instruction is repeated by `* N` behind it"
+
+# the words that an operation may begin with
+OPERATIONS = "burn, sleep, queue, delay, mod, cancel, finish"
 
 # A row: the words, the status, the line that tells the fault, and what follows where that is asked for.
 ROWS = [
@@ -107,7 +115,12 @@ ROWS = [
     ("run queues.cmwq", 1, "line 37: TooMany", "queues.cmwq:37:15: 1: TooMany\n  queue q32 max 1\n                ^\n  a line here may begin with: work, actor\n  at most 32 queues, 256 works of 64 operations, 16 actors of 4096 lines"),
     ("run order.cmwq", 1, "line 1: Misplaced", "order.cmwq:1:1: workers: Misplaced\n  workers 2\n  ^\n  a line here may begin with: cpus\n  lines stand in this order: cpus, workers, steps, flushes, queues, works, bodies in the order of their works, actors"),
     ("run later.cmwq", 1, "line 8: Misplaced", "later.cmwq:8:6: blink: Misplaced\n  body blink\n       ^\n  here may stand: mail\n  lines stand in this order: cpus, workers, steps, flushes, queues, works, bodies in the order of their works, actors"),
-    ("run open.cmwq", 1, "line 9: Misplaced", "open.cmwq:9:1: tick: Misplaced\n  tick\n  ^\n  a line here may begin with: burn, sleep, queue, finish\n  the body of mail is open: its operations stand here, and finish ends it"),
+    ("run open.cmwq", 1, "line 9: Misplaced", f"open.cmwq:9:1: tick: Misplaced\n  tick\n  ^\n  a line here may begin with: {OPERATIONS}\n  the body of mail is open: its operations stand here, and finish ends it"),
+    ("run timed.cmwq", 1, "line 9: ExtraWord", f"timed.cmwq:9:15: 0: ExtraWord\n  delay blink 1 0\n                ^\n  the line should end here\n{EXTRA_WORD}"),
+    ("run longer.cmwq", 1, "line 9: Range", "longer.cmwq:9:13: 1000001: Range\n  delay blink 1000001\n              ^\n  here may stand: a number from 0 to 1000000\n  the number is out of its limits: here stands a number from 0 to 1000000"),
+    ("run timeless.cmwq", 1, "line 9: MissingWord", "timeless.cmwq:9:10: end of line: MissingWord\n  mod blink\n           ^\n  here may stand: a number from 0 to 1000000\n  the line or the text ends before all is said"),
+    ("run waiting.cmwq", 1, "line 9: Misplaced", f"waiting.cmwq:9:1: cancel_sync: Misplaced\n  cancel_sync blink\n  ^\n  a line here may begin with: {OPERATIONS}\n  the body of mail is open: its operations stand here, and finish ends it"),
+    ("run whom.cmwq", 1, "line 9: Unknown", f"whom.cmwq:9:8: blnk: Unknown\n  cancel blnk\n         ^\n  here may stand: blink, mail\n  is blink meant?\n{UNKNOWN}"),
     ("asm empty.cmwq made.image", 1, "line 1: MissingWord", "empty.cmwq:1:1: end of text: MissingWord\n  a line here may begin with: cpus\n  the line or the text ends before all is said"),
     ("settle twice.cmwq", 1, "line 7: Duplicate", "twice.cmwq:7:6: mail: Duplicate\n  work mail q\n       ^\n  here may stand: a new name\n  no two queues, works or actors have one name, and no flag stands twice"),
     ("run actors.cmwq", 1, "line 17: Duplicate", "actors.cmwq:17:7: t: Duplicate\n  actor t\n        ^\n  here may stand: a new name\n  no two queues, works or actors have one name, and no flag stands twice"),
@@ -118,8 +131,8 @@ ROWS = [
     ("run cpu.cmwq", 1, "line 9: Range", "cpu.cmwq:9:13: 1: Range\n  queue blink 1\n              ^\n  here may stand: the number 0\n  the number is out of its limits: here stands the number 0"),
     ("run pool.cmwq", 1, "line 15: Range", "pool.cmwq:15:6: 300: Range\n  step 300\n       ^\n  here may stand: a number from 0 to 255\n  the number is out of its limits: here stands a number from 0 to 255"),
     ("run times.cmwq", 1, "line 15: Range", "times.cmwq:15:8: 0: Range\n  next * 0\n         ^\n  here may stand: a number from 1 to 65535\n  the number is out of its limits: here stands a number from 1 to 65535"),
-    ("play endless.cmwq --capacity 3", 1, "line 9: BadBody", "endless.cmwq:9:1: actor: BadBody\n  actor t\n  ^\n  a line here may begin with: burn, sleep, queue, finish\n  the body of mail lacks the finish that ends it"),
-    ("run unended.cmwq", 1, "line 10: BadBody", "unended.cmwq:10:1: end of text: BadBody\n  a line here may begin with: burn, sleep, queue, finish\n  the body of mail lacks the finish that ends it"),
+    ("play endless.cmwq --capacity 3", 1, "line 9: BadBody", f"endless.cmwq:9:1: actor: BadBody\n  actor t\n  ^\n  a line here may begin with: {OPERATIONS}\n  the body of mail lacks the finish that ends it"),
+    ("run unended.cmwq", 1, "line 10: BadBody", f"unended.cmwq:10:1: end of text: BadBody\n  a line here may begin with: {OPERATIONS}\n  the body of mail lacks the finish that ends it"),
     ("run unknown.cmwq", 1, "line 15: Unknown", f"unknown.cmwq:15:7: male: Unknown\n  queue male 0\n        ^\n  here may stand: mail, blink\n  is mail meant?\n{UNKNOWN}"),
     ("run many.cmwq", 1, "line 37: Unknown", f"many.cmwq:37:8: blink: Unknown\n  cancel blink\n         ^\n  here may stand: w0, w1, w2, w3, w4, w5, w6, w7, 2 more\n{UNKNOWN}"),
     ("run other.cmwq", 1, "line 6: Unknown", f"other.cmwq:6:11: p: Unknown\n  work mail p\n            ^\n  here may stand: q\n{UNKNOWN}"),

@@ -41,6 +41,13 @@ def words_of_scenarios():
     return {*instructions, *flags, *lines}
 
 
+def words_of_bodies():
+    """The words that operations begin with."""
+    words = defined("crates/cmwq_types/specs/Listing.antt", "op_line")
+    assert len(words) >= 7 and set(words) <= words_of_scenarios()
+    return set(words)
+
+
 def words_of_commands():
     """The program's commands."""
     words = re.findall(r'^(?:request_words|task_words) .*?= codes "(\w+)"', text_of("crates/cmwq_request/specs/Request.antt"), re.M)

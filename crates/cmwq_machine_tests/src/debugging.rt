@@ -4,7 +4,7 @@ ghost use Rattle.cmwq_types.specs.declared.limits.TheConstants.{MAX_WORKS};
 ghost use Rattle.std.specs.Prelude.{◌≤◌, length};
 
 use crate::checking::same;
-use crate::examples::MAX_ACTIVE_3;
+use crate::examples::{MAX_ACTIVE_3, TIMERS_OF_BODIES};
 use crate::machines::scenario;
 use cmwq_core::Core;
 use cmwq_debug::Debugger;
@@ -176,6 +176,32 @@ const ACTIVATION: Talk = Talk {
         ("clear 2", b"cleared 2\n"),
         ("run", b"at 5 now 0\n"),
         ("run", b"refused PastEnd\n"),
+    ],
+};
+
+/// Breaks on what bodies do with other works, whatever it comes to.
+const TIMERS: Talk = Talk {
+    name: "timers",
+    lines: &[
+        ("break work a event delays", b"break 0\n"),
+        ("break work a event mods", b"break 1\n"),
+        ("break work c event cancels", b"break 2\n"),
+        ("break work b event delay", b"bad command\n"),
+        ("run", b"at 3 now 0 break 0\n"),
+        ("why b", b"b timer until 3 cpu 1\n"),
+        ("run", b"at 4 now 0 break 0\n"),
+        ("run", b"at 5 now 0 break 1\n"),
+        (
+            "dump pool 2",
+            b"pool 2 counted 1 made 1 idle\nrun a 0 3 0\ninactive b\n",
+        ),
+        ("run", b"at 8 now 0 break 1\n"),
+        ("run", b"at 21 now 1 break 2\n"),
+        (
+            "list",
+            b"break 0 work a event delays\nbreak 1 work a event mods\nbreak 2 work c event cancels\n",
+        ),
+        ("run", b"at 25 now 2\n"),
     ],
 };
 
@@ -460,6 +486,8 @@ fn each_command_line_is_answered(rt: HostRuntime) {
     check_text::<Core>(&rt, rt.alloc(), MAX_ACTIVE_3.text, SHORT_LINES);
     check_text::<Plain>(&rt, rt.alloc(), THREE_PLACED, ACTIVATION);
     check_text::<Core>(&rt, rt.alloc(), THREE_PLACED, ACTIVATION);
+    check_text::<Plain>(&rt, rt.alloc(), TIMERS_OF_BODIES.text, TIMERS);
+    check_text::<Core>(&rt, rt.alloc(), TIMERS_OF_BODIES.text, TIMERS);
     check_text::<Plain>(&rt, rt.alloc(), MANY_KINDS, EVERY_KIND);
     check_text::<Core>(&rt, rt.alloc(), MANY_KINDS, EVERY_KIND);
     check_text::<Plain>(&rt, rt.alloc(), A_FLUSH, A_WORK_CALLED_FLUSH);

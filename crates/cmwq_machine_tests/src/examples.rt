@@ -90,10 +90,78 @@ state a
 ",
 };
 
+/// Bodies delay, mod and cancel works: on CPU 1 one does so with a work that it finds on a timer, then waiting for its own room, then not
+/// pending, and sets its own timer; in an unbound pool one sets a timer on CPU 0, and takes off who set its own.
+pub const TIMERS_OF_BODIES: Example = Example {
+    name: "timers_of_bodies",
+    text: b"cpus 2
+workers 2
+steps 1000
+flushes 1
+queue q max 1
+queue u max 2 unbound
+work a q
+work b q
+work c u
+body a
+delay b 3
+delay b 5
+mod b 0
+cancel b
+cancel b
+mod a 2
+finish
+body b
+finish
+body c
+mod b 1
+burn 1
+cancel a
+finish
+actor t
+queue a 1
+next * 7
+state a
+next
+queue c 0
+next * 2
+state b
+next * 3
+state b
+next * 4
+state a
+next
+fire
+",
+    prints: b"0 a starts
+0 a delays b 3
+0 a delays b 5 already
+0 a mods b 0 changed
+0 a cancels b
+0 a cancels b not pending
+0 a mods a 2
+0 a timer 2 runs 2/0
+0 a finishes
+0 c starts
+0 c mods b 1
+0 b timer 1 still
+0 c burns 1
+1 b fires
+1 b listed 0 still
+1 b starts
+1 b finishes
+1 c cancels a
+1 c finishes
+1 a idle still
+2 refused NothingToDo
+",
+};
+
 /// Those above, and what no lesson of `scenarios/` shows. (The gate runs the lessons through the built program.)
-pub const EXAMPLES: [Example; 7] = [
+pub const EXAMPLES: [Example; 8] = [
     MAX_ACTIVE_3,
     STEPS_RUN_OUT,
+    TIMERS_OF_BODIES,
     Example {
         name: "refusals_counted",
         text: b"cpus 1

@@ -83,7 +83,7 @@ fn check_talk<R: Files + AllocGlobal + Threads + Wait + Clock + Sync + Abort>(
 }
 
 /// Files, and what they have.
-const CHECKED: [(&str, &[u8]); 6] = [
+const CHECKED: [(&str, &[u8]); 7] = [
     (
         "cmwq_checks/a.cmwq",
         b"cpus 1\nworkers 1\nsteps 1\nflushes 0\n",
@@ -105,6 +105,10 @@ const CHECKED: [(&str, &[u8]); 6] = [
         "cmwq_checks/f.cmwq",
         b"cpus 1\nworkers 1\nsteps 1\nflushes 0\nqueue q max 1 highpri unbound cpu_intensive freezable ordered mem_reclaim fast\n",
     ),
+    (
+        "cmwq_checks/g.cmwq",
+        b"cpus 1\nworkers 1\nsteps 1\nflushes 0\nqueue q max 1\nwork a q\nbody a\ndelay a 0 5\n",
+    ),
 ];
 
 /// What is told of them, and of one that isn't there.
@@ -113,7 +117,8 @@ const VERDICTS: &[u8] = b"cmwq_checks/none.cmwq: read\n\
     cmwq_checks/c.cmwq:2:8: end of line: MissingWord\n  here may stand: a number from 1 to 64\n\
     cmwq_checks/d.cmwq:6:1: quue: BadWord\n  a line here may begin with: queue, work, actor\n  is queue meant?\n\
     cmwq_checks/e.cmwq:7:8: a: Unknown\n  a line here may begin with: flush_queue, set_max, freeze, thaw, fire, step, tick, next, ask, busy, pressure, relief, until, wait, quiet, actor\n\
-    cmwq_checks/f.cmwq:5:75: fast: BadWord\n  the line should end here\n";
+    cmwq_checks/f.cmwq:5:75: fast: BadWord\n  the line should end here\n\
+    cmwq_checks/g.cmwq:8:11: 5: ExtraWord\n  the line should end here\n";
 
 /// The same at a terminal.
 const SHOWN: &[u8] = b"cmwq_checks/none.cmwq: read\n\
@@ -121,7 +126,8 @@ const SHOWN: &[u8] = b"cmwq_checks/none.cmwq: read\n\
     cmwq_checks/c.cmwq:2:8: end of line: \x1b[1;31mMissingWord\x1b[0m\n  workers \n         ^\n  here may stand: a number from 1 to 64\n\
     cmwq_checks/d.cmwq:6:1: quue: \x1b[1;31mBadWord\x1b[0m\n  quue\n  ^\n  a line here may begin with: queue, work, actor\n  is queue meant?\n\
     cmwq_checks/e.cmwq:7:8: a: \x1b[1;31mUnknown\x1b[0m\n  cancel a\n         ^\n  a line here may begin with: flush_queue, set_max, freeze, thaw, fire, step, tick, next, ask, busy, pressure, relief, until, wait, quiet, actor\n\
-    cmwq_checks/f.cmwq:5:75: fast: \x1b[1;31mBadWord\x1b[0m\n  queue q max 1 highpri unbound cpu_intensive freezable ordered mem_reclaim fast\n                                                                            ^\n  the line should end here\n";
+    cmwq_checks/f.cmwq:5:75: fast: \x1b[1;31mBadWord\x1b[0m\n  queue q max 1 highpri unbound cpu_intensive freezable ordered mem_reclaim fast\n                                                                            ^\n  the line should end here\n\
+    cmwq_checks/g.cmwq:8:11: 5: \x1b[1;31mExtraWord\x1b[0m\n  delay a 0 5\n            ^\n  the line should end here\n";
 
 #[test]
 fn a_check_tells_each_files_verdict(rt: HostRuntime) {

@@ -7,7 +7,7 @@ use cmwq_asm::AsmError;
 use cmwq_grammar::Why;
 use cmwq_image::ImageError;
 use cmwq_machine_tests::examples::{
-    EXAMPLES, Example, IMAGE_OF_STEPS_RUN_OUT, MAX_ACTIVE_3, STEPS_RUN_OUT,
+    EXAMPLES, Example, IMAGE_OF_STEPS_RUN_OUT, MAX_ACTIVE_3, STEPS_RUN_OUT, TIMERS_OF_BODIES,
 };
 use cmwq_machine_tests::streams::{Failure, Input, Output, reading_of, writing_to};
 use cmwq_play::{Marked, PlayError, read_text};
@@ -67,9 +67,71 @@ const FOUR_OTHER_WAYS: &[u8] =
 
 const FOUR: &[u8] = b"cpus 1\nworkers 1\nsteps 8\nflushes 0\n";
 
+/// What is told of the run of bodies that set timers.
+const TIMERS_TOLD: &[u8] = b"# 0 queue a 1
+#   a listed 2
+# 1 next
+0 a starts
+#   a runs 2/0
+# 2 next
+0 a delays b 3
+#   b timer 3 cpu 1
+# 3 next
+0 a delays b 5 already
+# 4 next
+0 a mods b 0 changed
+#   b inactive 2
+# 5 next
+0 a cancels b
+# 6 next
+0 a cancels b not pending
+# 7 next
+0 a mods a 2
+#   a timer 2 cpu 1
+# 8 state a
+0 a timer 2 runs 2/0
+# 9 next
+0 a finishes
+# 10 queue c 0
+#   c listed 4
+# 11 next
+0 c starts
+#   c runs 4/0
+# 12 next
+0 c mods b 1
+#   b timer 1 cpu 0
+# 13 state b
+0 b timer 1 still
+# 14 next
+0 c burns 1
+# 15 next
+#   now 1
+# 16 next
+1 b fires
+#   b listed 0
+# 17 state b
+1 b listed 0 still
+# 18 next
+1 b starts
+#   b runs 0/0
+# 19 next
+1 b finishes
+# 20 next
+1 c cancels a
+# 21 next
+1 c finishes
+# 22 state a
+1 a idle still
+# 23 next
+#   now 2
+# 24 fire
+2 refused NothingToDo
+";
+
 #[test]
-fn a_text_in_other_ways_is_run_and_the_worked_image_is_written(rt: HostRuntime) {
-    let rows: [(Command, &[u8], &[u8]); 3] = [
+fn a_text_is_run_told_and_listed_and_the_worked_image_is_written(rt: HostRuntime) {
+    let rows: [(Command, &[u8], &[u8]); 4] = [
+        (Command::RunTold(false), TIMERS_OF_BODIES.text, TIMERS_TOLD),
         (Command::Run, OTHER_WAYS, b"0 refused NoSuchPool\n"),
         (Command::List, FOUR_OTHER_WAYS, FOUR),
         (Command::Asm, STEPS_RUN_OUT.text, &IMAGE_OF_STEPS_RUN_OUT),

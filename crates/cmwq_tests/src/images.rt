@@ -81,6 +81,22 @@ fn an_actor_goes_on_for_something_in_version_4(rt: HostRuntime) {
 }
 
 #[test]
+fn bodies_delay_mod_and_cancel_in_version_4(rt: HostRuntime) {
+    let ticks: [&[(usize, u8)]; 6] = [
+        &[(56, 5)],
+        &[(56, 5), (63, 9)],
+        &[(56, 5), (61, 0x0f), (62, 0x42), (63, 0x40)],
+        &[(56, 6)],
+        &[(56, 6), (61, 0x0f), (62, 0x42), (63, 0x40)],
+        &[(56, 7)],
+    ];
+    for changes in ticks {
+        let image = image_of_image(&rt, rt.alloc(), changes);
+        same(&rt, changes, image.as_slice(), changed(changes).as_slice());
+    }
+}
+
+#[test]
 fn each_beginning_is_truncated(rt: HostRuntime) {
     for n in 0..126 {
         let fault = if n < 4 {
@@ -100,7 +116,7 @@ fn one_byte_more_is_extra(rt: HostRuntime) {
 }
 
 /// Some bytes by their offset, what each is set to, and the fault that the image then has.
-const CHANGED: [(&[(usize, u8)], ImageError); 41] = [
+const CHANGED: [(&[(usize, u8)], ImageError); 52] = [
     (&[(3, 0x52)], ImageError::Magic),
     // versions 0, 5, and 260; that comes before a flag
     (&[(5, 0)], ImageError::Version),
@@ -135,6 +151,25 @@ const CHANGED: [(&[(usize, u8)], ImageError); 41] = [
     (&[(56, 16)], ImageError::BadField(56)),
     (&[(66, 1)], ImageError::BadField(66)),
     (&[(71, 1)], ImageError::BadField(68)),
+    // a body's `delay`, `mod` and `cancel` in versions 1 to 3; a tag behind the last one; fields that they don't use
+    (&[(5, 3), (56, 5)], ImageError::BadField(56)),
+    (&[(5, 3), (56, 6)], ImageError::BadField(56)),
+    (&[(5, 3), (56, 7)], ImageError::BadField(56)),
+    (&[(5, 1), (56, 7)], ImageError::BadField(56)),
+    (&[(56, 8)], ImageError::BadField(56)),
+    (&[(56, 5), (57, 1)], ImageError::BadField(57)),
+    (&[(56, 7), (63, 1)], ImageError::BadField(60)),
+    // a work that isn't declared, which comes before too many ticks; 1,000,001 ticks
+    (&[(56, 7), (59, 1)], ImageError::Fault(Fault::Unknown)),
+    (
+        &[(56, 5), (59, 1), (60, 1)],
+        ImageError::Fault(Fault::Unknown),
+    ),
+    (
+        &[(56, 5), (61, 0x0f), (62, 0x42), (63, 0x41)],
+        ImageError::Fault(Fault::Range),
+    ),
+    (&[(56, 6), (60, 1)], ImageError::Fault(Fault::Range)),
     // an operation among the instructions; no times
     (&[(90, 3)], ImageError::BadField(90)),
     (&[(101, 0)], ImageError::Fault(Fault::Range)),

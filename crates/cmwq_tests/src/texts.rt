@@ -199,7 +199,7 @@ const LIMITS: [Judged; 9] = [
 const OPEN_BODY: &[u8] = b"cpus 1\nworkers 1\nsteps 8\nflushes 0\n\
     queue q max 1\nqueue r max 1\nwork a q\nwork b r\nbody a\n";
 
-const IN_A_BODY: [Judged; 10] = [
+const IN_A_BODY: [Judged; 22] = [
     (b"burn 1000000\nfinish\nbody b\nfinish\n", None),
     (b"burn 1000001\n", Some((10, RANGE))),
     (b"sleep 0\n", Some((10, RANGE))),
@@ -208,6 +208,23 @@ const IN_A_BODY: [Judged; 10] = [
     // A work that isn't declared on a CPU that there isn't.
     (b"queue c 9\n", Some((10, Why::Fault(Fault::Unknown)))),
     (b"queue b 1\n", Some((10, RANGE))),
+    (
+        b"delay b 0\ndelay b 1000000\nmod a 1000000\ncancel b\nfinish\nbody b\nfinish\n",
+        None,
+    ),
+    (b"delay b 1000001\n", Some((10, RANGE))),
+    (b"mod b 1000001\n", Some((10, RANGE))),
+    // A work that isn't declared, in too many ticks.
+    (b"delay c 1000001\n", Some((10, Why::Fault(Fault::Unknown)))),
+    (b"cancel c\n", Some((10, Why::Fault(Fault::Unknown)))),
+    (b"delay b\n", Some((10, Why::MissingWord))),
+    (b"mod\n", Some((10, Why::MissingWord))),
+    (b"delay b x\n", Some((10, Why::BadNumber))),
+    // Those of an actor have a CPU, or stand many times.
+    (b"delay b 0 5\n", Some((10, Why::ExtraWord))),
+    (b"mod b 0 5\n", Some((10, Why::ExtraWord))),
+    (b"cancel b * 2\n", Some((10, Why::ExtraWord))),
+    (b"cancel_sync b\n", Some((10, Why::Misplaced))),
     // A body of another work than the next, with a word too many.
     (b"finish\nbody a x\n", Some((11, Why::Misplaced))),
     // Each work has its body.
@@ -325,6 +342,10 @@ const PRESSING: &[u8] = b"cpus 1\nworkers 1\nsteps 8\nflushes 0\nqueue q max 2 m
 const GOING_ON: &[u8] = b"cpus 1\nworkers 1\nsteps 8\nflushes 0\nactor t\n\
     until 4294967295 * 2\nwait 65535\nquiet\n";
 
+/// A text in which a body sets timers and takes works off, as it is listed.
+const TIMING: &[u8] = b"cpus 1\nworkers 1\nsteps 8\nflushes 0\nqueue q max 1\n\
+    work a q\nbody a\ndelay a 0\ndelay a 1000000\nmod a 7\ncancel a\nfinish\n";
+
 /// Compares the listing of the text's scenario.
 fn check_listing(rt: &impl Abort, alloc: Global, text: &[u8], want: &[u8]) {
     let scenario = assemble(alloc, text).expect(rt, "a scenario's text");
@@ -339,6 +360,7 @@ fn a_text_is_listed(rt: HostRuntime) {
     check_listing(&rt, rt.alloc(), DISABLING, DISABLING);
     check_listing(&rt, rt.alloc(), PRESSING, PRESSING);
     check_listing(&rt, rt.alloc(), GOING_ON, GOING_ON);
+    check_listing(&rt, rt.alloc(), TIMING, TIMING);
 }
 
 #[test]

@@ -9,6 +9,7 @@ syntax match cmwqNumber /\%(^\|\s\)\@1<=\d\+\ze\%(\s\|#\|$\)/
 syntax match cmwqTimes /\%(^\|\s\)\@1<=\*\ze\%(\s\|#\|$\)/
 syntax match cmwqHead /^\s*\%(cpus\|workers\|steps\|flushes\)\ze\%(\s\|#\|$\)/
 syntax match cmwqDeclaration /^\s*\%(queue\|work\|body\|actor\)\ze\%(\s\|#\|$\)/
+" An operation `delay`, `mod` or `cancel` of a body has the colour of the actors' instruction of its name.
 syntax match cmwqOperation /^\s*\%(burn\|sleep\|finish\)\ze\%(\s\|#\|$\)/
 syntax match cmwqInstruction /^\s*\%(delay\|mod\|cancel\|cancel_sync\|disable\|enable\|flush\|flush_delayed\|flush_queue\|set_max\|freeze\|thaw\|fire\|step\|tick\|next\|until\|wait\|quiet\|ask\|busy\|state\|pressure\|relief\)\ze\%(\s\|#\|$\)/
 syntax keyword cmwqFlag max highpri unbound cpu_intensive freezable ordered mem_reclaim contained
