@@ -200,14 +200,15 @@ class Rounds:
         return said if status else ""
 
     def run(self, task, at, *words):
-        """Runs a command of the kit, and counts the processor's seconds that it took for the task. Returns its status, and what it said."""
+        """Runs a command of the kit, and counts the processor's seconds that it took for the task. Returns its status, and what it said; of one that
+        said nothing (since it was killed, say) that it did, so that nobody takes it for one with nothing to find fault with."""
         with tempfile.TemporaryFile("w+", encoding="utf-8", errors="replace") as said:
             ran = subprocess.Popen(["rt", *words], cwd=at, stdout=said, stderr=subprocess.STDOUT, env={**os.environ, "RT_JOBS": "1"})
             _, status, usage = os.wait4(ran.pid, 0)
             ran.returncode = os.waitstatus_to_exitcode(status)
             self.seconds[task] += usage.ru_utime + usage.ru_stime
             said.seek(0)
-            return ran.returncode, said.read()
+            return ran.returncode, said.read() or f"rt {' '.join(words)} said nothing, and ended with {ran.returncode}"
 
     def try_round(self, name, bodies):
         """Tries a round. Returns those of its bodies of which it doesn't tell that they are refused."""

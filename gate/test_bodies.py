@@ -100,6 +100,9 @@ with tempfile.TemporaryDirectory() as room:
     assert tower.run(("proof", "low"), room, "lib", "--jobs", "1") == (3, "rt lib --jobs 1\n")
     assert 0 < tower.seconds["proof", "low"] < 1 and ("tries", "low") not in tower.seconds
     tower.seconds["proof", "low"] = 61.7
+    pathlib.Path(room, "rt").write_text("#!/bin/sh\nkill -9 $$\n", "utf-8")
+    assert tower.run(("tries", "mid"), room, "must-fail", "mid") == (-9, "rt must-fail mid said nothing, and ended with -9"), "what was killed refused nothing"
+    del tower.seconds["tries", "mid"]
     assert figures.text_of(tower, "a kit", 59.4, 20.2).splitlines()[-1] == "| `low` | 62 | | | |", "a crate that no wrong body needs has no row"
 
 
