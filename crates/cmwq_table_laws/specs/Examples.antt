@@ -71,17 +71,20 @@ abbrev pub b_is_due : List Instr
 b_is_due = delay_on_1 1 1 ∷ instr.Tick ∷ []
 
 -- two CPUs, and a queue n of theirs and an unbound one u; a, of n, delays b, modifies it so that it is placed at once, and cancels it; c, of u,
--- modifies b
+-- modifies b; and d, of a queue h of high priority, delays b
 abbrev pub bodies_arm : ScenarioContents
 bodies_arm = record {
   cpus = 2;
   workers = 2;
   steps = 50;
   flushes = 0;
-  queues = a_queue (codes "n") plain_flags ∷ a_queue (codes "u") (record plain_flags { unbound = true }) ∷ [];
+  queues =
+      a_queue (codes "n") plain_flags ∷ a_queue (codes "u") (record plain_flags { unbound = true })
+      ∷ a_queue (codes "h") (record plain_flags { highpri = true }) ∷ [];
   works =
       a_work (codes "a") 0 (op.Delay (record { 0 = 1 }) 2 ∷ op.Mod (record { 0 = 1 }) 0 ∷ op.Cancel (record { 0 = 1 }) ∷ op.Finish ∷ [])
-      ∷ a_work (codes "b") 0 (op.Finish ∷ []) ∷ a_work (codes "c") 1 (op.Mod (record { 0 = 1 }) 4 ∷ op.Finish ∷ []) ∷ [];
+      ∷ a_work (codes "b") 0 (op.Finish ∷ []) ∷ a_work (codes "c") 1 (op.Mod (record { 0 = 1 }) 4 ∷ op.Finish ∷ [])
+      ∷ a_work (codes "d") 2 (op.Delay (record { 0 = 1 }) 3 ∷ op.Finish ∷ []) ∷ [];
   actors = [];
 }
 
@@ -92,6 +95,10 @@ a_has_done operations = queue_on_1 0 ∷ instr.Next ∷ replicate operations (in
 -- c runs in the normal unbound pool
 abbrev pub c_runs : List Instr
 c_runs = queue_on_1 2 ∷ instr.Next ∷ []
+
+-- d runs in the second CPU's high pool
+abbrev pub d_runs : List Instr
+d_runs = queue_on_1 3 ∷ instr.Next ∷ []
 
 -- where b is behind these instructions
 abbrev pub place_of_b : List Instr → Option Place

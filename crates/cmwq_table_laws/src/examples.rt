@@ -5,7 +5,7 @@ ghost use Rattle.cmwq_table.specs.Laws.{reply_to};
 ghost use Rattle.cmwq_table.specs.Repeats.{HasGone, HasRepeated};
 ghost use Rattle.cmwq_table.specs.State.{State, depth_at};
 ghost use Rattle.cmwq_table.specs.Table.{run};
-ghost use Rattle.cmwq_table_laws.specs.Examples.{a_burns, a_has_done, a_runs, b_is_due, bodies_arm, c_runs, delay_on_1, disable_it, each_kind, enable_it, g_queues_b, place_after_all, place_of_b, queue_on_1};
+ghost use Rattle.cmwq_table_laws.specs.Examples.{a_burns, a_has_done, a_runs, b_is_due, bodies_arm, c_runs, d_runs, delay_on_1, disable_it, each_kind, enable_it, g_queues_b, place_after_all, place_of_b, queue_on_1};
 ghost use Rattle.cmwq_types.specs.Faults.{IsValid};
 ghost use Rattle.cmwq_types.specs.declared.reply.Reply.{Reply};
 ghost use Rattle.std.specs.Prelude.{◌≡◌, ◌∷◌, ◌++◌, [], None, Some, false, replicate, true};
@@ -48,7 +48,8 @@ pub fn each_way_of_placing_goes_to_that_pool()
     ensures queued { place_after_all (g_queues_b ++ Instr.Step 2 ∷ []) 1 ≡ Some (Place.Listed 3) }
 {}
 
-/// A body on the second CPU sets a timer of that CPU, places a work there, and cancels it; one in an unbound pool sets a timer of the first CPU.
+/// A body on the second CPU sets a timer of that CPU, in the high pool too, places a work there, and cancels it; one in an unbound pool sets a
+/// timer of the first CPU.
 pub fn bodies_arm_and_cancel_a_work()
     ensures scenario { IsValid bodies_arm }
     ensures delays { reply_to bodies_arm (run bodies_arm (a_has_done 0)) (Instr.Step 2)
@@ -60,6 +61,7 @@ pub fn bodies_arm_and_cancel_a_work()
     ensures cancels { reply_to bodies_arm (run bodies_arm (a_has_done 2)) (Instr.Step 2)
         ≡ Reply.Event (record { 0 = 0 }) (Event.Cancels (record { 0 = 1 }) true) }
     ensures gone { place_of_b (a_has_done 3) ≡ None }
+    ensures high { place_of_b (d_runs ++ Instr.Step 3 ∷ []) ≡ Some (Place.Timer 3 1) }
     ensures unbound { place_of_b (c_runs ++ Instr.Next ∷ []) ≡ Some (Place.Timer 4 0) }
 {}
 
