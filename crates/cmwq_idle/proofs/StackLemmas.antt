@@ -1,16 +1,16 @@
 -- What entering and leaving make of the idle workers' links.
-use Rattle.std.proofs.Common.{◌≡◌, ◌≢◌, ◌⊎◌, ℕ, ◌+◌, ◌*◌, ◌<◌, ◌≤◌, Bool, true, false, nat_lt, List, length, get_or, set, Option, Some, None, IfSome, arith, refl, sym, ap, subst, ◌∙◌, inl, inr}
+use Rattle.std.proofs.Common.{◌≡◌, ◌≢◌, ◌⊎◌, ℕ, ◌*◌, ◌<◌, ◌≤◌, Bool, true, false, not, List, length, get_or, set, Option, Some, None, IfSome, arith, refl, sym, ap, subst, ◌∙◌, inl, inr}
 use Rattle.std.specs.Prelude.{is_some}
 use Rattle.std.proofs.lemmas.Bool.{cases_eq, cases_lt}
 use Rattle.std.proofs.lemmas.Bool.Decides.{nat_tests}
-use Rattle.std.proofs.lemmas.List.{get_or_default, get_or-set_same, get_or-set_other, get_or_past, length-set, set-get_or}
-use Rattle.cmwq_types.specs.First.{first_below, by_greatest}
+use Rattle.std.proofs.lemmas.List.{get_or_default, get_or-set_same, get_or-set_other, get_or_past, length-set, set-get_or, set_past}
+use Rattle.cmwq_types.specs.First.{by_greatest}
 use Rattle.cmwq_types.proofs.FirstLemmas.{by_greatest-order, first_below-none, first_below-unique}
 use Rattle.cmwq_types.specs.declared.limits.TheConstants.{MAX_WORKERS}
 use Rattle.cmwq_table.specs.Counts.{idle_stamp}
 use Rattle.cmwq_table.specs.State.{seat}
 use Rattle.cmwq_idle.specs.Idle.{IsIdleBefore, last_idle_in, stamp_at}
-use Rattle.cmwq_idle.specs.Links.{AreLinked, Before, IsIdle, IsLast, IsStack, IsKept, IsStackOf, below, since, worker_at}
+use Rattle.cmwq_idle.specs.Links.{AreLinked, Before, IsIdle, IsLast, IsStack, IsKept, IsStackOf, since, worker_at}
 
 -- Stacks, whatever they are of.
 
@@ -255,18 +255,25 @@ kept_entering idle links last made workers pool x stamp kept in_range small free
   made_long = kept.made_long ∙ sym (length-set last pool (Some x));
 }
 
-pub kept_leaving : (idle links last : List (Option ℕ)) (made : List ℕ) (workers pool x : ℕ) → IsKept idle links last made workers → pool < length last → x < workers → IfSome (last_idle_in idle workers pool) (λ last. last ≡ x)
-    → IsKept (set idle (seat pool x) None) links (set last pool (below (worker_at last pool) (worker_at links (seat pool x)))) made workers
-kept_leaving idle links last made workers pool x kept in_range small free = by_last (worker_at last pool) refl (subst (λ (o : Option ℕ). IfSome o (λ last. last ≡ x)) (sym (last_is_found idle links last workers pool kept.linked in_range)) free)
+pub kept_leaving : (idle links last : List (Option ℕ)) (made : List ℕ) (workers pool x : ℕ) → IsKept idle links last made workers → pool < length last → x < workers → IfSome (last_idle_in idle workers pool) (λ last. last ≡ x) → is_some (worker_at last pool) ≡ true
+    → IsKept (set idle (seat pool x) None) links (set last pool (worker_at links (seat pool x))) made workers
+kept_leaving idle links last made workers pool x kept in_range small free some = by_last (worker_at last pool) refl some (subst (λ (o : Option ℕ). IfSome o (λ last. last ≡ x)) (sym (last_is_found idle links last workers pool kept.linked in_range)) free)
   where
-    by_last : (o : Option ℕ) → worker_at last pool ≡ o → IfSome o (λ last. last ≡ x) → IsKept (set idle (seat pool x) None) links (set last pool (below o (worker_at links (seat pool x)))) made workers
-    by_last (Some top) e is = record {
+    by_last : (o : Option ℕ) → worker_at last pool ≡ o → is_some o ≡ true → IfSome o (λ last. last ≡ x) → IsKept (set idle (seat pool x) None) links (set last pool (worker_at links (seat pool x))) made workers
+    by_last (Some top) e some is = record {
       linked = left idle links last workers pool x kept.linked in_range small (e ∙ ap Some is);
       made_long = kept.made_long ∙ sym (length-set last pool (worker_at links (seat pool x)));
     }
-    by_last None e is =
-        subst (λ (seats : List (Option ℕ)). IsKept seats links (set last pool None) made workers) (sym (ap (set idle (seat pool x)) (sym (none_left idle links last workers pool x kept.linked in_range small e)) ∙ set-get_or idle (seat pool x) None))
-        (subst (λ (tops : List (Option ℕ)). IsKept idle links tops made workers) (sym (ap (set last pool) (sym e) ∙ set-get_or last pool None)) kept)
+    by_last None e some is = absurd (cc)
+
+-- where nobody is idle, nobody leaves
+pub nobody_leaves : (idle links last : List (Option ℕ)) (made : List ℕ) (workers pool x : ℕ) → IsKept idle links last made workers → pool < length last → x < workers → worker_at last pool ≡ None → set idle (seat pool x) None ≡ idle
+nobody_leaves idle links last made workers pool x kept in_range small empty =
+    ap (set idle (seat pool x)) (sym (none_left idle links last workers pool x kept.linked in_range small empty)) ∙ set-get_or idle (seat pool x) None
+
+-- of a pool that isn't there nobody leaves, and none is made
+pub no_seat : (idle links last : List (Option ℕ)) (made : List ℕ) (workers pool x : ℕ) → IsKept idle links last made workers → length made ≤ pool → set idle (seat pool x) None ≡ idle
+no_seat idle links last made workers pool x kept past = set_past idle (seat pool x) None (omega (arith, past, kept.made_long, kept.linked.idle_long))
 
 -- The last one is the table's, whatever the pool's number: of a pool that isn't there nobody is idle.
 pub last_found : (idle links last : List (Option ℕ)) (made : List ℕ) (workers pool : ℕ) → IsKept idle links last made workers → worker_at last pool ≡ last_idle_in idle workers pool
@@ -282,3 +289,11 @@ last_found idle links last made workers pool kept = by_range (cases_lt pool (len
 -- what an index reads
 pub read_in : (xs : List (Option ℕ)) (i : ℕ) (o : Option ℕ) → i < length xs → o ≡ get_or xs i o → o ≡ worker_at xs i
 read_in xs i o h e = e ∙ get_or_default xs i o None h
+
+-- what a test for nobody tells
+pub none_told : (o : Option ℕ) (b : Bool) → is_some o ≡ not b → b ≡ true → o ≡ None
+none_told None b told is = refl
+none_told (Some x) b told is = absurd (let no = ap not is in cc)
+
+pub some_told : (o : Option ℕ) (b : Bool) → is_some o ≡ not b → b ≡ false → is_some o ≡ true
+some_told o b told is = told ∙ ap not is

@@ -47,8 +47,3 @@ pub record AreLinked (idle links last : List (Option ℕ)) (workers : ℕ) : Typ
 pub record IsKept (idle links last : List (Option ℕ)) (made : List ℕ) (workers : ℕ) : Type 0 where
   pub linked : AreLinked idle links last workers
   pub made_long : length made ≡ length last
-
--- who is last once the last one is gone
-abbrev pub below : Option ℕ → Option ℕ → Option ℕ
-below (Some worker) link = link
-below None link = None

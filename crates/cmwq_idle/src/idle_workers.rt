@@ -1,10 +1,10 @@
 //! The idle workers.
 ghost use Rattle.cmwq_idle.specs.Idle.{IsIdleBefore, last_idle_in, made_in, no_workers, stamp_at};
-ghost use Rattle.cmwq_idle.specs.Links.{below};
 ghost use Rattle.cmwq_table.specs.State.{seat};
 ghost use Rattle.cmwq_types.specs.declared.limits.TheConstants.{MAX_WORKERS};
-ghost use Rattle.std.specs.Prelude.{◌≡◌, ◌<◌, ◌≤◌, ℕ, IfOk, IfSome, None, Some, if◌then◌else◌, ◌==◌, ◌+◌, slice_set};
+ghost use Rattle.std.specs.Prelude.{◌≡◌, ◌<◌, ◌≤◌, ℕ, IfOk, IfSome, None, Some, if◌then◌else◌, ◌==◌, ◌+◌, length, slice_set};
 
+use crate::link::Link;
 use cmwq_types::{MAX_WORKERS, NoMemory, filled};
 use std::alloc::Global;
 use std::marker::Model;
@@ -15,8 +15,8 @@ use std::marker::Model;
 #[derive(Drop)]
 pub struct IdleWorkers {
     idle: Vec<Option<u64>>,
-    links: Vec<Option<u8>>,
-    last: Vec<Option<u8>>,
+    links: Vec<Link>,
+    last: Vec<Link>,
     made: Vec<u8>,
     workers: u8,
 }
@@ -41,8 +41,8 @@ impl IdleWorkers {
         let seats = MAX_WORKERS as usize * pools as usize;
         Ok(IdleWorkers {
             idle: filled(alloc, None, seats)?,
-            links: filled(alloc, None, seats)?,
-            last: filled(alloc, None, pools as usize)?,
+            links: filled(alloc, Link::nobody(), seats)?,
+            last: filled(alloc, Link::nobody(), pools as usize)?,
             made: filled(alloc, 0, pools as usize)?,
             workers,
         })
@@ -77,6 +77,7 @@ impl IdleWorkers {
     }
 
     /// How many workers the pool has made.
+    #[inline(always)]
     pub fn made_of(&self, pool: u8) -> u8
         ensures { result ≡ made_in self.now.made pool }
     {
@@ -91,51 +92,59 @@ impl IdleWorkers {
     }
 
     /// The worker of the pool that became idle last.
+    #[inline(always)]
     pub fn last(&self, pool: u8) -> Option<u8>
         ensures last { result ≡ last_idle_in self.now.idle self.now.workers pool }
         ensures in_range { IfSome result (λ worker. worker < self.now.workers) }
     {
-        self.last.get(pool as usize).copied().unwrap_or(None)
+        let last = self.last.get(pool as usize).copied();
+        last.unwrap_or(Link::nobody()).target()
     }
 
     /// The worker that became idle last, or a new one where none is idle, gets work.
+    #[inline(always)]
     pub fn start(&mut self, pool: u8, worker: u8)
         requires worker { worker < self.old.workers }
         requires free { IfSome (last_idle_in self.old.idle self.old.workers pool) (λ last. last ≡ worker) }
         ensures { self.new ≡ record self.old { idle = slice_set self.old.idle (seat pool worker) None; made = slice_set self.old.made pool (if worker == made_in self.old.made pool then worker + 1 else made_in self.old.made pool) } }
     {
-        self.leave(pool, worker);
-        self.make(pool, worker);
+        if (pool as usize) < self.made.len() {
+            self.leave(pool, worker);
+            self.make(pool, worker);
+        }
     }
 
     /// Takes the pool's last idle worker out, if one is idle.
     #[tactic(auto)]
+    #[inline(always)]
     fn leave(&mut self, pool: u8, worker: u8)
+        requires pool { pool < length self.old.made }
         requires worker { worker < self.old.workers }
         requires free { IfSome (last_idle_in self.old.idle self.old.workers pool) (λ last. last ≡ worker) }
         ensures { self.new ≡ record self.old { idle = slice_set self.old.idle (seat pool worker) None } }
     {
-        if (pool as usize) < self.last.len() {
-            let at = seat(pool, worker);
-            self.last[pool as usize] = below(self.last[pool as usize], self.links[at]);
-            self.idle[at] = None;
+        if self.last[pool as usize].target().is_none() {
+            return;
         }
+        let at = seat(pool, worker);
+        self.last[pool as usize] = self.links[at];
+        self.idle[at] = None;
     }
 
     /// Counts the worker as made, if it is the pool's next one.
+    #[inline(always)]
     fn make(&mut self, pool: u8, worker: u8)
+        requires pool { pool < length self.old.made }
         requires worker { worker < self.old.workers }
         ensures { self.new ≡ record self.old { made = slice_set self.old.made pool (if worker == made_in self.old.made pool then worker + 1 else made_in self.old.made pool) } }
     {
-        let made = self.made_of(pool);
-        set(
-            &mut self.made,
-            pool as usize,
-            if worker == made { worker + 1 } else { made },
-        );
+        if self.made[pool as usize] == worker {
+            self.made[pool as usize] = worker + 1;
+        }
     }
 
     /// The worker, which wasn't idle, is idle from this stamp on, after all others.
+    #[inline(always)]
     pub fn retire(&mut self, pool: u8, worker: u8, stamp: u64)
         requires worker { worker < self.old.workers }
         requires working { stamp_at self.old.idle (seat pool worker) ≡ None }
@@ -144,30 +153,11 @@ impl IdleWorkers {
     {
         if (pool as usize) < self.last.len() {
             let at = seat(pool, worker);
+            let before = self.last[pool as usize];
+            self.last[pool as usize] = Link::to(worker);
+            self.links[at] = before;
             self.idle[at] = Some(stamp);
-            self.links[at] = self.last[pool as usize];
-            self.last[pool as usize] = Some(worker);
         }
-    }
-}
-
-/// Who is last once the last one is gone, if there is one: the one to which its link leads.
-fn below(last: Option<u8>, link: Option<u8>) -> Option<u8>
-    ensures { result ≡ below last link }
-{
-    match last {
-        Some(_) => link,
-        None => None,
-    }
-}
-
-/// Writes the value at the place, if there is such a place.
-#[tactic(auto, using(std::proofs::lemmas::List::set_past))]
-fn set(values: &mut [u8], place: usize, value: u8)
-    ensures { values.new ≡ slice_set values.old place value }
-{
-    if place < values.len() {
-        values[place] = value;
     }
 }
 

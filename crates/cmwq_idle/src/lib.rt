@@ -2,5 +2,6 @@
 #![tactic(auto)]
 
 mod idle_workers;
+mod link;
 
 pub use idle_workers::IdleWorkers;

@@ -1,3 +1,4 @@
 pub mod Cells
+pub mod Link
 pub mod ListContents
 pub mod Ranks

@@ -3,6 +3,7 @@
 #![tactic(auto)]
 
 mod finding;
+mod link;
 mod linking;
 mod list_cell;
 mod lists;

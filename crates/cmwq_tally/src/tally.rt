@@ -39,6 +39,7 @@ impl Tally {
     }
 
     /// How many works stand in the class. Where there is no such class, none.
+    #[inline(always)]
     pub fn of(&self, class: usize) -> u16
         ensures { result ≡ count_of self.now class }
     {
@@ -50,6 +51,7 @@ impl Tally {
 
     /// A work goes from one class to another; `None`, and a number that no class has, stand for being in none. It is
     /// quick where they are the same.
+    #[inline(always)]
     pub fn change(&mut self, from: Option<usize>, to: Option<usize>)
         requires counted { IfSome from (λ i. i < length self.old → 0 < count_of self.old i) }
         requires room { IfSome to (λ i. count_of self.old i < 65535) }
@@ -64,6 +66,7 @@ impl Tally {
 }
 
 /// Counts one work fewer in the class.
+#[inline(always)]
 fn remove_one(counts: &mut [u16], class: Option<usize>)
     requires counted { IfSome class (λ i. i < length counts.old → 0 < count_of counts.old i) }
     ensures { counts.new ≡ with_one_fewer counts.old class }
@@ -75,6 +78,7 @@ fn remove_one(counts: &mut [u16], class: Option<usize>)
 }
 
 /// Counts one work more in the class.
+#[inline(always)]
 fn add_one(counts: &mut [u16], class: Option<usize>)
     requires room { IfSome class (λ i. count_of counts.old i < 65535) }
     ensures { counts.new ≡ with_one_more counts.old class }

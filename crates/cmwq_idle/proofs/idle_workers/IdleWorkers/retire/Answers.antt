@@ -1,7 +1,7 @@
-use Rattle.std.proofs.Common.{◌≡◌, ◌<◌, ℕ, List, Option, Some, None, length, set, arith, sym, ap, subst, ◌∙◌}
+use Rattle.std.proofs.Common.{◌≡◌, ◌<◌, ℕ, Option, Some, None, length, set, arith, sym, subst}
 use Rattle.cmwq_table.specs.State.{seat}
 use Rattle.cmwq_idle.specs.Idle.{IsIdleBefore, WorkersContents, stamp_at}
-use Rattle.cmwq_idle.specs.Links.{IsKept, worker_at}
+use Rattle.cmwq_idle.specs.Links.{IsKept}
 use Rattle.cmwq_idle.proofs.StackLemmas.{kept_entering, read_in}
 use Rattle.cmwq_idle.proofs.idle_workers.IdleWorkers.retire.Goals as goal
 
@@ -13,6 +13,7 @@ invariant_of-self c =
     let free = subst (λ (m : WorkersContents). stamp_at m.idle (seat c.args.pool c.args.worker) ≡ None) (sym c.self.view_is) c.requires.working in
     let newest = subst (λ (m : WorkersContents). IsIdleBefore m.idle c.args.stamp) (sym c.self.view_is) c.requires.newest in
     let kept = kept_entering inside.idle.items inside.links.items inside.last.items inside.made.items inside.workers c.args.pool c.args.worker c.args.stamp c.self.invariant in_range small free newest in
-    let top = read_in inside.last.items c.args.pool c.index.result.now in_range c.index.ensures in
-    subst (λ (i : ℕ). IsKept (set inside.idle.items i (Some c.args.stamp)) (set inside.links.items i c.index.result.now) (set inside.last.items c.args.pool (Some c.args.worker)) inside.made.items inside.workers) (sym c.seat-at.ensures)
-    (subst (λ (o : Option ℕ). IsKept (set inside.idle.items (seat c.args.pool c.args.worker) (Some c.args.stamp)) (set inside.links.items (seat c.args.pool c.args.worker) o) (set inside.last.items c.args.pool (Some c.args.worker)) inside.made.items inside.workers) (sym top) kept)
+    let top = read_in inside.last.items c.args.pool c.index-before.result.now in_range c.index-before.ensures in
+    rw c.to.ensures (
+    subst (λ (i : ℕ). IsKept (set inside.idle.items i (Some c.args.stamp)) (set inside.links.items i c.index-before.result.now) (set inside.last.items c.args.pool (Some c.args.worker)) inside.made.items inside.workers) (sym c.seat-at.ensures)
+    (subst (λ (o : Option ℕ). IsKept (set inside.idle.items (seat c.args.pool c.args.worker) (Some c.args.stamp)) (set inside.links.items (seat c.args.pool c.args.worker) o) (set inside.last.items c.args.pool (Some c.args.worker)) inside.made.items inside.workers) (sym top) kept))
