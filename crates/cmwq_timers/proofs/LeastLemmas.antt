@@ -1,19 +1,28 @@
 -- From the root's rank to the timer that fires first.
-use Rattle.std.proofs.Common.{◌≡◌, ℕ, zero, suc, ◌+◌, ◌-◌, ◌*◌, ◌/◌, ◌%◌, ◌^◌, ◌<◌, ◌≤◌, Bool, true, false, ◌||◌, ◌&&◌, ◌==◌, nat_lt, List, length, Option, Some, None, is_some, IfSome, arith, refl, sym, ap, subst, ◌∙◌, inl, inr}
+use Rattle.std.proofs.Common.{◌≡◌, ◌≢◌, ℕ, ◌+◌, ◌-◌, ◌*◌, ◌/◌, ◌%◌, ◌^◌, ◌<◌, ◌≤◌, Bool, true, false, ◌||◌, ◌&&◌, ◌==◌, nat_lt, List, length, Option, Some, None, is_some, IfSome, arith, refl, sym, ap, subst, ◌∙◌, inl, inr}
 use Rattle.std.proofs.lemmas.Bool.{cases_lt}
 use Rattle.std.proofs.lemmas.Bool.Decides.{nat_tests}
 use Rattle.std.proofs.lemmas.List.{get_or_past}
-use Rattle.cmwq_types.proofs.FirstLemmas.{by_least_two-order, first_below-unique, first_below-none}
+use Rattle.std.specs.Prelude.{option_map}
+use Rattle.cmwq_types.specs.First.{MatchFirst}
+use Rattle.cmwq_types.specs.declared.instr.WorkId.{WorkId}
+use Rattle.cmwq_types.proofs.FirstLemmas.{by_least_two-order, first_below-is_first, first_below-unique, first_below-none}
 use Rattle.cmwq_timers.specs.declared.timer.Timer.{Timer}
-use Rattle.cmwq_timers.specs.Timers.{timer_at, timer_due, timer_stamp, fires_before, first_to_fire, least_timer, timer_found}
+use Rattle.cmwq_timers.specs.Timers.{due_by, timer_at, timer_due, timer_stamp, fires_before, first_to_fire, least_timer, timer_found}
 use Rattle.cmwq_timers.specs.Tree.{IsKept, IsOwn, last_stamp, rank_at, rank_of}
-use Rattle.cmwq_timers.proofs.TreeLemmas.{pair}
+use Rattle.cmwq_timers.proofs.TreeLemmas.{root_leaf, root_least}
 
 -- Ranks beside timers.
 
 -- the work stands in the rank
 work_in : (t : Timer) (w : ℕ) → IsOwn w t → w < 2 ^ 16 → rank_of (Some t) % 2 ^ 16 ≡ w
 work_in t w own few =
+    let is = own.work_is in
+    omega (arith, is, few)
+
+-- and when it is due
+due_in : (t : Timer) (w : ℕ) → IsOwn w t → w < 2 ^ 16 → rank_of (Some t) / 2 ^ 64 ≡ t.due
+due_in t w own few =
     let is = own.work_is in
     omega (arith, is, few)
 
@@ -50,6 +59,26 @@ fires_after r t w v own_r own_t few lower whole later =
       | inr same ↦ (let less = stamp same in grind (arith, nat_tests))
     ]
 
+-- what doesn't fire before another is due no sooner
+due_no_sooner : (r t : Timer) → fires r t ≡ false → t.due ≤ r.due
+due_no_sooner r t later =
+    elim (cases_lt r.due t.due) [
+      | inl less ↦ absurd (grind (arith, nat_tests))
+      | inr same ↦ same
+    ]
+
+-- one that isn't due by the tick
+not_due : (tick : ℕ) (t : Timer) → tick < t.due → due_by tick (Some t) ≡ None
+not_due tick t later = grind (arith, nat_tests)
+
+-- one that is
+is_due : (tick : ℕ) (t : Timer) → t.due ≤ tick → due_by tick (Some t) ≡ Some t
+is_due tick t by_then = grind (arith, nat_tests)
+
+-- the work of a number
+abbrev work_of : ℕ → WorkId
+work_of w = record { 0 = w }
+
 -- a work that has a timer
 record HasOwn (timers : List (Option Timer)) (w : ℕ) : Type 0 where
   timer : Timer
@@ -76,51 +105,28 @@ module _ (timers : List (Option Timer)) (ranks : List ℕ) (kept : IsKept timers
   few : length timers < 2 ^ 16
   few = kept.few
 
-  -- no node has a lesser rank than the root
-  root_least : (fuel i : ℕ) → i ≤ fuel → 0 < i → i < length ranks → rank_at ranks 1 ≤ rank_at ranks i
-  root_least zero i bound above inside = absurd (omega arith)
-  root_least (suc fuel) i bound above inside =
-      elim (cases_lt 1 i) [
-        | inl lower ↦
-            let lesser = kept.tree (i / 2) (omega arith) (omega arith) ∙ pair ranks i in
-            let far = root_least fuel (i / 2) (omega arith) (omega arith) (omega arith) in
-            omega (arith, lesser, far)
-        | inr here ↦
-            let same : 1 ≡ i = omega arith in
-            subst (λ (k : ℕ). rank_at ranks 1 ≤ rank_at ranks k) same (omega arith)
-      ]
+  half : length ranks / 2 ≡ length timers
+  half = omega (arith, long)
+
+  even : length ranks ≡ 2 * (length ranks / 2)
+  even = omega (arith, long)
+
+  leaf_is : (w : ℕ) → w < length timers → rank_at ranks (length ranks / 2 + w) ≡ rank_of (timer_at timers w)
+  leaf_is w inside = ap (λ (n : ℕ). rank_at ranks (n + w)) half ∙ kept.leaves w inside
 
   root_before : (w : ℕ) → w < length timers → rank_at ranks 1 ≤ rank_of (timer_at timers w)
   root_before w inside =
-      let least = root_least (length timers + w) (length timers + w) (omega arith) (omega (arith, inside)) (omega (arith, inside, long)) in
-      let leaf = kept.leaves w inside in
+      let least = root_least ranks even kept.tree w (omega (arith, inside, half)) in
+      let leaf = leaf_is w inside in
       omega (arith, least, leaf)
-
-  of_work : (fuel i : ℕ) → length ranks ≤ fuel + i → 0 < i → i < length ranks → IsOfWork timers ranks i
-  of_work zero i bound above inside = absurd (omega arith)
-  of_work (suc fuel) i bound above inside =
-      elim (cases_lt i (length timers)) [
-        | inl inner ↦
-            let lesser = kept.tree i above (omega (arith, inner, long)) in
-            elim (cases_lt (rank_at ranks (2 * i)) (rank_at ranks (2 * i + 1))) [
-              | inl left ↦
-                  let far = of_work fuel (2 * i) (omega arith) (omega arith) (omega (arith, inner, long)) in
-                  let same : rank_at ranks i ≡ rank_at ranks (2 * i) = omega (arith, lesser, left) in
-                  record { work = far.work; inside = far.inside; is = same ∙ far.is }
-              | inr right ↦
-                  let far = of_work fuel (2 * i + 1) (omega arith) (omega arith) (omega (arith, inner, long)) in
-                  let same : rank_at ranks i ≡ rank_at ranks (2 * i + 1) = omega (arith, lesser, right) in
-                  record { work = far.work; inside = far.inside; is = same ∙ far.is }
-            ]
-        | inr leaf ↦
-            let at : i ≡ length timers + (i - length timers) = omega arith in
-            let in_range : i - length timers < length timers = omega (arith, inside, long, leaf) in
-            record { work = i - length timers; inside = in_range; is = ap (rank_at ranks) at ∙ kept.leaves (i - length timers) in_range }
-      ]
 
   module _ (some_room : 0 < length timers) where
     root : IsOfWork timers ranks 1
-    root = of_work (length ranks) 1 (omega arith) (omega arith) (omega (arith, some_room, long))
+    root =
+        let found = root_leaf ranks even kept.tree (omega (arith, some_room, half)) in
+        let below = found.inside in
+        let inside : found.leaf < length timers = omega (arith, below, half) in
+        record { work = found.leaf; inside = inside; is = found.is ∙ leaf_is found.leaf inside }
 
     -- where the root has the rank of no timer, there is none
     none_is : rank_at ranks 1 ≡ rank_of None → least_timer timers ≡ None
@@ -187,3 +193,84 @@ module _ (timers : List (Option Timer)) (ranks : List ℕ) (kept : IsKept timers
             let r_is : r ≡ t = cc in
             let r_whole : r.stamp < last_stamp = subst (λ (x : Timer). x.stamp < last_stamp) (sym r_is) whole in
             ap (timer_found timers) (first_is root.work r root_inside found rank r_whole) ∙ found ∙ same
+
+    -- None is due before the tick that stands in the root's rank.
+    pub none-due : (tick : ℕ) → tick < rank_at ranks 1 / 2 ^ 64 → due_by tick (least_timer timers) ≡ None
+    none-due tick before =
+        by_first (first_to_fire timers) (first_below-is_first (fires_before timers) (λ w. is_some (timer_at timers w)) (length timers)
+        (by_least_two-order (λ w. timer_due (timer_at timers w)) (λ w. timer_stamp (timer_at timers w))))
+      where
+        by_first : (o : Option ℕ) → MatchFirst (fires_before timers) (λ w. is_some (timer_at timers w)) (length timers) o → due_by tick (timer_found timers o) ≡ None
+        by_first None none = refl
+        by_first (Some w) first =
+            let inside = first.in_range in
+            let own = has_own timers w (kept.own w inside) first.passes in
+            let later : rank_at ranks 1 ≤ rank_of (Some own.timer) = subst (λ (o : Option Timer). rank_at ranks 1 ≤ rank_of o) own.is (root_before w inside) in
+            let due = due_in own.timer w own.own (omega (arith, inside, few)) in
+            ap (due_by tick) own.is ∙ not_due tick own.timer (omega (arith, before, later, due))
+
+    -- Where the root has a rank in which the stamp stands whole, its timer fires first.
+    pub record HasRoot : Type 0 where
+      pub timer : Timer
+      pub least : least_timer timers ≡ Some timer
+      pub there : timer_at timers (rank_at ranks 1 % 2 ^ 16) ≡ Some timer
+      pub inside : rank_at ranks 1 % 2 ^ 16 < length timers
+      pub due : timer.due ≡ rank_at ranks 1 / 2 ^ 64
+      pub work : timer.work.0 ≡ rank_at ranks 1 % 2 ^ 16
+
+    pub has-root : rank_at ranks 1 % 2 ^ 64 < last_stamp * 2 ^ 16 → HasRoot
+    has-root whole = by_cases (timer_at timers root.work) refl
+      where
+        by_cases : (o : Option Timer) → timer_at timers root.work ≡ o → HasRoot
+        by_cases None none = absurd (let rank = root.is ∙ ap rank_of none in omega (arith, rank, whole))
+        by_cases (Some r) found =
+            let own : IsOwn root.work r = subst (λ (o : Option Timer). IfSome o (IsOwn root.work)) found (kept.own root.work root.inside) in
+            let work_is = own.work_is in
+            let root_inside = root.inside in
+            let rank = root.is ∙ ap rank_of found in
+            let here : rank_at ranks 1 % 2 ^ 16 ≡ root.work = ap (λ (rank : ℕ). rank % 2 ^ 16) rank ∙ work_in r root.work own (omega (arith, root_inside, few)) in
+            record {
+              timer = r;
+              least = ap (timer_found timers) (first_is root.work r root_inside found rank (omega (arith, rank, whole, work_is, root_inside, few))) ∙ found;
+              there = ap (timer_at timers) here ∙ found;
+              inside = omega (arith, here, root_inside);
+              due = sym (ap (λ (rank : ℕ). rank / 2 ^ 64) rank ∙ due_in r root.work own (omega (arith, root_inside, few)));
+              work = work_is ∙ sym here;
+            }
+
+    pub root-due : (tick : ℕ) (work : WorkId) → (has : HasRoot) → rank_at ranks 1 / 2 ^ 64 ≤ tick → work.0 ≡ rank_at ranks 1 % 2 ^ 16 → Some work ≡ option_map (λ (timer : Timer). timer.work) (due_by tick (least_timer timers))
+    root-due tick work has by_then is =
+        let due = has.due in
+        ap (λ (w : ℕ). Some (work_of w)) (is ∙ sym has.work)
+        ∙ ap (option_map (λ (timer : Timer). timer.work)) (sym (is_due tick has.timer (omega (arith, due, by_then))) ∙ ap (due_by tick) (sym has.least))
+
+    -- The tick that stands in the root's rank, where that isn't the rank of none.
+    pub next-none : rank_at ranks 1 ≡ 2 ^ 128 - 1 → None ≡ option_map (λ (timer : Timer). timer.due) (least_timer timers)
+    next-none none = ap (option_map (λ (timer : Timer). timer.due)) (sym (none_is none))
+
+    pub next-some : rank_at ranks 1 ≢ 2 ^ 128 - 1 → Some (rank_at ranks 1 / 2 ^ 64) ≡ option_map (λ (timer : Timer). timer.due) (least_timer timers)
+    next-some some = by_cases (timer_at timers root.work) refl
+      where
+        by_first : (r : Timer) → timer_at timers root.work ≡ Some r → (o : Option ℕ) → MatchFirst (fires_before timers) (λ w. is_some (timer_at timers w)) (length timers) o
+            → Some (rank_at ranks 1 / 2 ^ 64) ≡ option_map (λ (timer : Timer). timer.due) (timer_found timers o)
+        by_first r found None none = absurd (let has : is_some (timer_at timers root.work) ≡ true = rw found refl in let hasnt = none root.work root.inside in cc)
+        by_first r found (Some w) first =
+            let inside = first.in_range in
+            let root_inside = root.inside in
+            let own : IsOwn root.work r = subst (λ (o : Option Timer). IfSome o (IsOwn root.work)) found (kept.own root.work root_inside) in
+            let rank : rank_at ranks 1 / 2 ^ 64 ≡ r.due = ap (λ (rank : ℕ). rank / 2 ^ 64) (root.is ∙ ap rank_of found) ∙ due_in r root.work own (omega (arith, root_inside, few)) in
+            let other = has_own timers w (kept.own w inside) first.passes in
+            let later : rank_at ranks 1 ≤ rank_of (Some other.timer) = subst (λ (o : Option Timer). rank_at ranks 1 ≤ rank_of o) other.is (root_before w inside) in
+            let due = due_in other.timer w other.own (omega (arith, inside, few)) in
+            let not_before : fires r other.timer ≡ false = subst (λ (o : Option Timer). (nat_lt r.due (timer_due o) || ((r.due == timer_due o) && nat_lt r.stamp (timer_stamp o))) ≡ false) other.is
+            (subst (λ (o : Option Timer). (nat_lt (timer_due o) (timer_due (timer_at timers w)) || ((timer_due o == timer_due (timer_at timers w)) && nat_lt (timer_stamp o) (timer_stamp (timer_at timers w)))) ≡ false) found
+            (first.least root.work root_inside (rw found refl))) in
+            let sooner = due_no_sooner r other.timer not_before in
+            let same : rank_at ranks 1 / 2 ^ 64 ≡ other.timer.due = omega (arith, rank, later, due, sooner) in
+            ap Some same ∙ ap (option_map (λ (timer : Timer). timer.due)) (sym other.is)
+
+        by_cases : (o : Option Timer) → timer_at timers root.work ≡ o → Some (rank_at ranks 1 / 2 ^ 64) ≡ option_map (λ (timer : Timer). timer.due) (least_timer timers)
+        by_cases None none = absurd (some (root.is ∙ ap rank_of none))
+        by_cases (Some r) found =
+            by_first r found (first_to_fire timers) (first_below-is_first (fires_before timers) (λ w. is_some (timer_at timers w)) (length timers)
+            (by_least_two-order (λ w. timer_due (timer_at timers w)) (λ w. timer_stamp (timer_at timers w))))

@@ -1,2 +1,3 @@
+pub mod AlarmLemmas
 pub mod LeastLemmas
 pub mod TreeLemmas

@@ -1,5 +1,5 @@
 -- Laws on the tree of ranks: what a change of one node does, up to the root.
-use Rattle.std.proofs.Common.{◌≡◌, ◌≢◌, ◌⊎◌, ℕ, ◌+◌, ◌-◌, ◌*◌, ◌/◌, ◌<◌, ◌≤◌, List, length, min, set, arith, refl, sym, ap, subst, ◌∙◌, inl, inr}
+use Rattle.std.proofs.Common.{◌≡◌, ◌≢◌, ◌⊎◌, ℕ, suc, zero, ◌+◌, ◌-◌, ◌*◌, ◌/◌, ◌<◌, ◌≤◌, List, length, min, set, arith, refl, sym, ap, subst, ◌∙◌, inl, inr}
 use Rattle.std.proofs.lemmas.Bool.{cases_eq, cases_lt}
 use Rattle.std.proofs.lemmas.List.{get_or-set_same, get_or-set_other, length-set}
 use Rattle.cmwq_timers.specs.Tree.{IsTree, IsTreeBut, HasGiven, HasLesser, IsLeaf, rank_at}
@@ -214,3 +214,54 @@ raising-goes-up was ranks leaf low most at raising high =
 
 pub raising-ends : (was ranks : List ℕ) (leaf low most at : ℕ) → IsRaising was ranks leaf low most at → (0 < at → rank_at ranks at ≢ low) → IsTree ranks
 raising-ends was ranks leaf low most at raising apart = ends was ranks leaf most at raising.way (λ above. elim (raising.had above) [ inl lesser ↦ lesser | inr had ↦ absurd (apart above had.0) ])
+
+-- The root.
+
+-- a node has the rank of a leaf
+pub record IsOfLeaf (ranks : List ℕ) (node : ℕ) : Type 0 where
+  pub leaf : ℕ
+  pub inside : leaf < length ranks / 2
+  pub is : rank_at ranks node ≡ rank_at ranks (length ranks / 2 + leaf)
+
+module _ (ranks : List ℕ) (even : length ranks ≡ 2 * (length ranks / 2)) (tree : IsTree ranks) where
+  below_root : (fuel i : ℕ) → i ≤ fuel → 0 < i → i < length ranks → rank_at ranks 1 ≤ rank_at ranks i
+  below_root zero i bound above inside = absurd (omega arith)
+  below_root (suc fuel) i bound above inside =
+      elim (cases_lt 1 i) [
+        | inl lower ↦
+            let lesser = tree (i / 2) (omega arith) (omega arith) ∙ pair ranks i in
+            let far = below_root fuel (i / 2) (omega arith) (omega arith) (omega arith) in
+            omega (arith, lesser, far)
+        | inr here ↦
+            let same : 1 ≡ i = omega arith in
+            subst (λ (k : ℕ). rank_at ranks 1 ≤ rank_at ranks k) same (omega arith)
+      ]
+
+  -- no leaf has a lesser rank
+  pub root_least : (w : ℕ) → w < length ranks / 2 → rank_at ranks 1 ≤ rank_at ranks (length ranks / 2 + w)
+  root_least w inside = below_root (length ranks / 2 + w) (length ranks / 2 + w) (omega arith) (omega (arith, inside)) (omega (arith, inside, even))
+
+  of_leaf : (fuel i : ℕ) → length ranks ≤ fuel + i → 0 < i → i < length ranks → IsOfLeaf ranks i
+  of_leaf zero i bound above inside = absurd (omega arith)
+  of_leaf (suc fuel) i bound above inside =
+      elim (cases_lt i (length ranks / 2)) [
+        | inl inner ↦
+            let lesser = tree i above (omega (arith, inner, even)) in
+            elim (cases_lt (rank_at ranks (2 * i)) (rank_at ranks (2 * i + 1))) [
+              | inl left ↦
+                  let far = of_leaf fuel (2 * i) (omega arith) (omega arith) (omega (arith, inner, even)) in
+                  let same : rank_at ranks i ≡ rank_at ranks (2 * i) = omega (arith, lesser, left) in
+                  record { leaf = far.leaf; inside = far.inside; is = same ∙ far.is }
+              | inr right ↦
+                  let far = of_leaf fuel (2 * i + 1) (omega arith) (omega arith) (omega (arith, inner, even)) in
+                  let same : rank_at ranks i ≡ rank_at ranks (2 * i + 1) = omega (arith, lesser, right) in
+                  record { leaf = far.leaf; inside = far.inside; is = same ∙ far.is }
+            ]
+        | inr leaf ↦
+            let at : i ≡ length ranks / 2 + (i - length ranks / 2) = omega (arith, leaf) in
+            record { leaf = i - length ranks / 2; inside = omega (arith, inside, even, leaf); is = ap (rank_at ranks) at }
+      ]
+
+  -- and one has its rank
+  pub root_leaf : 0 < length ranks / 2 → IsOfLeaf ranks 1
+  root_leaf some = of_leaf (length ranks) 1 (omega arith) (omega arith) (omega (arith, some, even))

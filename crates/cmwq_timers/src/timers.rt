@@ -1,9 +1,10 @@
 //! The timers.
 ghost use Rattle.cmwq_timers.specs.Timers.{due_by, least_timer, timer_at, without_timer};
 ghost use Rattle.cmwq_timers.specs.Tree.{IsKept};
-ghost use Rattle.std.specs.Prelude.{◌≡◌, ◌<◌, IfOk, IfSome, length, None, replicate, slice_set, Some};
+ghost use Rattle.std.specs.Prelude.{◌≡◌, ◌<◌, IfOk, IfSome, length, None, is_some, option_map, replicate, slice_set, Some, true};
 
-use crate::rank::{LAST_STAMP, rank_of};
+use crate::changing::change;
+use crate::rank::{LAST_STAMP, due_in, rank_of, work_in};
 use crate::scan::first_scanned;
 use crate::timer::Timer;
 use crate::tree::{lower, raise};
@@ -58,6 +59,7 @@ impl Timers {
     }
 
     /// Starts a work's timer.
+    #[inline(always)]
     pub fn put(&mut self, timer: Timer)
         requires room { timer.work.0 < length self.old }
         requires absent { timer_at self.old timer.work.0 ≡ None }
@@ -67,6 +69,19 @@ impl Timers {
         let work = usize::from(timer.work.0);
         timers[work] = Some(timer);
         lower(ranks, timers.len() + work, rank_of(Some(timer)));
+    }
+
+    /// Gives a work this timer, in place of its own if it has one.
+    #[inline(always)]
+    pub fn replace(&mut self, timer: Timer)
+        requires room { timer.work.0 < length self.old }
+        ensures { self.new ≡ slice_set self.old timer.work.0 (Some timer) }
+    {
+        let Timers { timers, ranks } = self;
+        let at = usize::from(timer.work.0);
+        let later = Some(timer);
+        timers[at] = later;
+        change(ranks, timers.len() + at, rank_of(later));
     }
 
     /// Takes a work's timer away, if it has one.
@@ -80,6 +95,7 @@ impl Timers {
     }
 
     /// Takes a work's timer away, if it has one, and tells nothing of it: so it is quicker than `take`.
+    #[inline(always)]
     pub fn stop(&mut self, work: WorkId)
         requires room { work.0 < length self.old }
         ensures { self.new ≡ slice_set self.old work.0 None }
@@ -102,6 +118,50 @@ impl Timers {
             return *self.timers.get(first_scanned(&self.timers))?;
         }
         Some(timer)
+    }
+
+    /// The work whose timer fires next, if that is due by this tick. Ranks tell it, and no timer is looked at, but where stamps have one rank.
+    #[inline(always)]
+    pub fn first_due(&self, tick: u64) -> Option<WorkId>
+        ensures first { result ≡ option_map (λ timer. timer.work) (due_by tick (least_timer self.now)) }
+        ensures in_range { IfSome result (λ work. work.0 < length self.now) }
+        ensures own { IfSome result (λ work. is_some (timer_at self.now work.0) ≡ true) }
+    {
+        let rank = *self.ranks.get(1)?;
+        if due_in(rank) > tick {
+            return None;
+        }
+        if rank % (1 << 64) >= u128::from(LAST_STAMP) * (1 << 16) {
+            return self.least_due(tick);
+        }
+        Some(work_in(rank))
+    }
+
+    /// The same by the timers: it is asked for only where stamps come to 2^48 - 1.
+    #[cold]
+    #[inline(never)]
+    fn least_due(&self, tick: u64) -> Option<WorkId>
+        ensures first { result ≡ option_map (λ timer. timer.work) (due_by tick (least_timer self.now)) }
+        ensures in_range { IfSome result (λ work. work.0 < length self.now) }
+        ensures own { IfSome result (λ work. is_some (timer_at self.now work.0) ≡ true) }
+    {
+        let timer = self.least()?;
+        if timer.due > tick {
+            return None;
+        }
+        Some(timer.work)
+    }
+
+    /// When the timer that fires next is due, if there is one.
+    #[inline(always)]
+    pub fn next_due(&self) -> Option<u64>
+        ensures { result ≡ option_map (λ timer. timer.due) (least_timer self.now) }
+    {
+        let rank = *self.ranks.get(1)?;
+        if rank == u128::MAX {
+            return None;
+        }
+        Some(due_in(rank))
     }
 
     /// Takes away the timer that fires next, if it is due by this tick.
