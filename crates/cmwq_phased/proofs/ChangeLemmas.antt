@@ -4,23 +4,21 @@ use Rattle.std.specs.Prelude.{not, slice_index_or}
 use Rattle.std.proofs.lemmas.Bool.{cases_eq, cases_lt}
 use Rattle.std.proofs.lemmas.List.{get_or-set_same, get_or-set_other, get_or-replicate, get_or_past, length-set, length-replicate, set-get_or}
 use Rattle.cmwq_types.specs.Contents.{ScenarioContents}
-use Rattle.cmwq_types.specs.First.{count_below}
 use Rattle.cmwq_types.specs.Scenario.{flags_at, is_unbound, queue_of}
 use Rattle.cmwq_types.specs.Setting.{IsSetting}
 use Rattle.cmwq_types.proofs.FirstLemmas.{count_below-agree}
 use Rattle.cmwq_lists.specs.ListContents.{ListContents, Rank, no_ranks, with_rank}
-use Rattle.cmwq_phases.specs.Runs.{HasOwnStamp, is_awake, run_at}
+use Rattle.cmwq_phases.specs.Runs.{HasOwnStamp, is_awake, run_alarm, run_at}
 use Rattle.cmwq_phases.specs.declared.run.Run.{Run}
 use Rattle.cmwq_phased.specs.Counted.{AreCounted, no_counts}
 use Rattle.cmwq_phased.specs.Indexed.{AreIndexed}
-use Rattle.cmwq_phased.specs.Indexes.{AreLined, AreRuns, AreTimed, alarm_of, awake_class, awake_classes, busy_class, busy_classes, rank_of, rescued_class, rescued_classes, running_class, running_classes, standing_of, stands_by}
+use Rattle.cmwq_phased.specs.Indexes.{AreLined, AreRuns, AreTimed, awake_class, awake_classes, busy_class, busy_classes, rank_of, rescued_class, rescued_classes, running_class, running_classes, standing_of, stands_by}
 use Rattle.cmwq_phased.specs.PhasedContents.{HaveOwnStamps}
 use Rattle.cmwq_phased.specs.declared.counts.Counts.{Counts}
 use Rattle.cmwq_phased.specs.declared.lines.Standing.{Standing}
 use Rattle.cmwq_phased.specs.declared.pools.TheConstants.{MAX_POOLS}
 use Rattle.cmwq_tally.specs.TallyContents.{IsTallied, changed, is_class}
 use Rattle.cmwq_tally.proofs.TallyLemmas.{changed-length, changed_is_tallied, empty_is_tallied}
-use Rattle.cmwq_timers.specs.declared.timer.Timer.{Timer}
 
 -- One work runs otherwise.
 
@@ -58,17 +56,11 @@ lined_still S runs lines w run lined long inside same =
     subst (λ (rs : List (Option Rank)). AreLined S (set runs w run) (record lines { ranks = rs })) kept (lined_with S runs lines w run lined long inside)
 
 -- its alarm is another
-pub timed_with : (runs : List (Option Run)) (alarms : List (Option Timer)) (w : ℕ) (run : Option Run) → AreTimed runs alarms → w < length runs → AreTimed (set runs w run) (set alarms w (alarm_of w run))
+pub timed_with : (runs : List (Option Run)) (alarms : List (Option ℕ)) (w : ℕ) (run : Option Run) → AreTimed runs alarms → w < length runs → AreTimed (set runs w run) (set alarms w (run_alarm run))
 timed_with runs alarms w run timed inside = record {
-  long = length-set alarms w (alarm_of w run) ∙ timed.long ∙ sym (length-set runs w run);
-  ties = ties_with alarms runs alarm_of w run (omega (arith, inside, timed.long)) inside timed.ties;
+  long = length-set alarms w (run_alarm run) ∙ timed.long ∙ sym (length-set runs w run);
+  ties = ties_with alarms runs (λ v r. run_alarm r) w run (omega (arith, inside, timed.long)) inside timed.ties;
 }
-
--- its alarm is the same
-pub timed_still : (runs : List (Option Run)) (alarms : List (Option Timer)) (w : ℕ) (run : Option Run) → AreTimed runs alarms → w < length runs → alarm_of w (run_at runs w) ≡ alarm_of w run → AreTimed (set runs w run) alarms
-timed_still runs alarms w run timed inside same =
-    let kept : set alarms w (alarm_of w run) ≡ alarms = ap (set alarms w) (sym same ∙ sym (timed.ties w)) ∙ set-get_or alarms w None in
-    subst (AreTimed (set runs w run)) kept (timed_with runs alarms w run timed inside)
 
 -- one tally
 tallied_with : (counts : List ℕ) (runs : List (Option Run)) (class : ℕ → Option Run → Option ℕ) (works w : ℕ) (run : Option Run) → IsTallied counts (λ v. class v (run_at runs v)) works → w < works → w < length runs
@@ -232,8 +224,8 @@ indexed_new S setting = record {
     ties = λ v. nowhere {X = Rank} works v None ∙ sym (ap (λ (o : Option Run). rank_of (standing_of S o)) (idle v));
   };
   are_timed = record {
-    long = length-replicate {A = Option Timer} works None ∙ sym (length-replicate {A = Option Run} works None);
-    ties = λ v. nowhere {X = Timer} works v None ∙ sym (ap (alarm_of v) (idle v));
+    long = length-replicate {A = Option ℕ} works None ∙ sym (length-replicate {A = Option Run} works None);
+    ties = λ v. nowhere {X = ℕ} works v None ∙ sym (ap run_alarm (idle v));
   };
   are_counted = record {
     running_long = length-replicate {A = ℕ} (MAX_POOLS * length S.queues) 0;
@@ -261,7 +253,7 @@ indexed_new S setting = record {
     not_busy false = refl
 
 -- what a new machine of so many works and queues holds
-pub indexed_made : (S : ScenarioContents) (works queues pools : ℕ) (runs : List (Option Run)) (lines : ListContents) (alarms : List (Option Timer)) (counts : Counts) → IsSetting S → works ≡ length S.works → queues ≡ length S.queues → pools ≡ MAX_POOLS
+pub indexed_made : (S : ScenarioContents) (works queues pools : ℕ) (runs : List (Option Run)) (lines : ListContents) (alarms : List (Option ℕ)) (counts : Counts) → IsSetting S → works ≡ length S.works → queues ≡ length S.queues → pools ≡ MAX_POOLS
     → runs ≡ replicate works None → lines ≡ no_ranks (2 * pools) works → alarms ≡ replicate works None → counts ≡ no_counts queues → AreIndexed S runs lines alarms counts
 indexed_made S works queues pools runs lines alarms counts setting works_is queues_is pools_is runs_is lines_is alarms_is counts_is =
     rw (runs_is, lines_is, alarms_is, counts_is, works_is, queues_is, pools_is) (indexed_new S setting)

@@ -1,6 +1,6 @@
 -- Where a running work stands in each index: in a line, among the alarms, in a class that is counted. No public clause
 -- cites this module.
-use Rattle.std.specs.Prelude.{◌≡◌, ◌≢◌, ℕ, ◌+◌, ◌*◌, ◌^◌, ◌<◌, Bool, true, not, ◌&&◌, ◌==◌, if◌then◌else◌, nat_le, nat_lt, is_some, List, length, Option, Some, None, IfSome, option_map}
+use Rattle.std.specs.Prelude.{◌≡◌, ◌≢◌, ℕ, ◌+◌, ◌*◌, ◌^◌, ◌<◌, Bool, true, not, ◌&&◌, ◌==◌, if◌then◌else◌, nat_lt, is_some, List, length, Option, Some, None, IfSome, option_map}
 use Rattle.cmwq_types.specs.Contents.{ScenarioContents}
 use Rattle.cmwq_types.specs.Scenario.{flags_at, is_unbound, queue_of}
 use Rattle.cmwq_types.specs.Setting.{IsSetting}
@@ -9,12 +9,11 @@ use Rattle.cmwq_lists.specs.ListContents.{ListContents, Rank, is_in, order_at, r
 use Rattle.cmwq_phased.specs.PhasedContents.{HaveOwnStamps}
 use Rattle.cmwq_phased.specs.declared.lines.Standing.{Standing}
 use Rattle.cmwq_phased.specs.declared.pools.TheConstants.{MAX_POOLS}
-use Rattle.cmwq_phases.specs.Runs.{alarm_in, is_awake, run_at}
+use Rattle.cmwq_phases.specs.Runs.{is_awake, run_alarm, run_at}
 use Rattle.cmwq_phases.specs.declared.run.Phase.{Phase}
 use Rattle.cmwq_phases.specs.declared.run.Phase.TheVariants.{Ready, Held, Burning, Asleep, Slept}
 use Rattle.cmwq_phases.specs.declared.run.Run.{Run}
-use Rattle.cmwq_timers.specs.Timers.{timer_at}
-use Rattle.cmwq_timers.specs.declared.timer.Timer.{Timer}
+use Rattle.cmwq_timers.specs.Alarms.{alarm_at}
 
 -- Lines: the list of a pool's number holds its line, by stamp; behind these stand the lists of those whose sleep is over, by
 -- (until, stamp).
@@ -49,21 +48,6 @@ rank_of standing = option_map ranked standing
 abbrev pub IsApartFromOthers : ListContents → ℕ → Standing → Type 0
 IsApartFromOthers lines w s = (v : ℕ) → v ≢ w → is_in lines s.list v ≡ true → order_at lines v ≢ s.order
 
--- Alarms.
-
-abbrev pub alarm_at : ℕ → ℕ → Option ℕ → Option Timer
-alarm_at w stamp (Some due) = Some (record { due = due; stamp = stamp; work = record { 0 = w }; cpu = 0 })
-alarm_at w stamp None = None
-
-abbrev pub alarm_of : ℕ → Option Run → Option Timer
-alarm_of w (Some r) = alarm_at w r.stamp (alarm_in r.phase)
-alarm_of w None = None
-
--- the work of an alarm that rings by this time
-abbrev pub rings_by : ℕ → Option Timer → Option ℕ
-rings_by time (Some alarm) = if nat_le alarm.due time then Some alarm.work.0 else None
-rings_by time None = None
-
 -- Classes.
 
 -- of a queue's works that run in one pool
@@ -94,9 +78,9 @@ pub record AreLined (S : ScenarioContents) (runs : List (Option Run)) (lines : L
   pub ties : (w : ℕ) → rank_at lines w ≡ rank_of (standing_of S (run_at runs w))
 
 -- each work has the alarm that it has when it runs so
-pub record AreTimed (runs : List (Option Run)) (alarms : List (Option Timer)) : Type 0 where
+pub record AreTimed (runs : List (Option Run)) (alarms : List (Option ℕ)) : Type 0 where
   pub long : length alarms ≡ length runs
-  pub ties : (w : ℕ) → timer_at alarms w ≡ alarm_of w (run_at runs w)
+  pub ties : (w : ℕ) → alarm_at alarms w ≡ run_alarm (run_at runs w)
 
 -- the class of each work, in each of the four tallies
 

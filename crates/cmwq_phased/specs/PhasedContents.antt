@@ -14,6 +14,11 @@ abbrev pub if_ends_by : List (Option Run) → ℕ → Option ℕ → Option ℕ
 if_ends_by runs time (Some w) = if nat_le (number_or_0 (run_alarm (run_at runs w))) time then Some w else None
 if_ends_by runs time None = None
 
+-- when the work's burn or sleep ends, if time alone ends one
+abbrev pub end_of : List (Option Run) → Option ℕ → Option ℕ
+end_of runs (Some w) = run_alarm (run_at runs w)
+end_of runs None = None
+
 -- no two works run under one stamp
 abbrev pub HaveOwnStamps : List (Option Run) → Type 0
 HaveOwnStamps runs = (v w : ℕ) → (a b : Run) → run_at runs v ≡ Some a → run_at runs w ≡ Some b → a.stamp ≡ b.stamp → v ≡ w

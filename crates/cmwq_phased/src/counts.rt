@@ -2,13 +2,14 @@
 ghost use Rattle.cmwq_phased.specs.Counted.{AreCounted, no_counts};
 ghost use Rattle.cmwq_phased.specs.Indexes.{AreRuns};
 ghost use Rattle.cmwq_phases.specs.Runs.{run_at};
+ghost use Rattle.cmwq_types.specs.Scenario.{flags_at, queue_of};
 ghost use Rattle.std.specs.Prelude.{◌≡◌, ◌<◌, IfOk, Some, length, slice_set};
 
 use crate::classes::{awake_class, busy_class, is_awake, rescued_class, running_class};
 use crate::pools::MAX_POOLS;
 use cmwq_phases::Run;
 use cmwq_tally::Tally;
-use cmwq_types::{NoMemory, Scenario};
+use cmwq_types::{Flags, NoMemory, Scenario};
 use std::alloc::Global;
 
 /// The tallies: of the works of a queue that run in a pool, of those of a pool that are awake, of those of a queue that run on its rescuer,
@@ -65,8 +66,8 @@ impl Counts {
         ensures counted { AreCounted scenario.now (slice_set runs.now w run) self.new }
     {
         let _runs = runs;
-        let queue = scenario.queue_of(w);
-        let flags = scenario.flags_of(queue);
+        let queue = queue_in(scenario, w);
+        let flags = flags_in(scenario, queue);
         let intensive = flags.cpu_intensive;
         let freezable = flags.freezable;
         let Counts {
@@ -103,9 +104,27 @@ impl Counts {
         if is_awake(was.phase) == is_awake(run.phase) {
             return;
         }
-        let intensive = scenario.flags_of(scenario.queue_of(w)).cpu_intensive;
+        let intensive = flags_in(scenario, queue_in(scenario, w)).cpu_intensive;
         let before = awake_class(intensive, Some(was));
         let after = awake_class(intensive, Some(run));
         self.awake.change(before, after);
     }
+}
+
+/// The number of the queue of a work that there is.
+#[inline(always)]
+fn queue_in(scenario: &Scenario, w: usize) -> u8
+    requires work { w < length scenario.now.works }
+    ensures { result ≡ queue_of scenario.now w }
+{
+    scenario.works[w].queue.0
+}
+
+/// The flags of a queue that there is.
+#[inline(always)]
+fn flags_in(scenario: &Scenario, queue: u8) -> Flags
+    requires queue { queue < length scenario.now.queues }
+    ensures { result ≡ flags_at scenario.now queue }
+{
+    scenario.queues[usize::from(queue)].flags
 }

@@ -1,11 +1,11 @@
 //! The lines in which running works stand.
-ghost use Rattle.cmwq_lists.specs.ListContents.{with_rank};
+ghost use Rattle.cmwq_lists.specs.ListContents.{IsApart, rank_at, with_rank};
 ghost use Rattle.cmwq_phased.specs.Indexes.{AreLined, AreRuns, IsApartFromOthers, rank_of, standing_of, stands_by};
 ghost use Rattle.cmwq_phased.specs.declared.pools.TheConstants.{MAX_POOLS};
 ghost use Rattle.cmwq_phases.specs.Runs.{HasOwnStamp, run_at};
 ghost use Rattle.cmwq_types.specs.Setting.{IsSetting};
 ghost use Rattle.cmwq_types.specs.declared.limits.TheConstants.{MAX_WORKS};
-ghost use Rattle.std.specs.Prelude.{◌≡◌, ◌+◌, ◌<◌, IfSome, IsTrue, Some, length, slice_set};
+ghost use Rattle.std.specs.Prelude.{◌≡◌, ◌+◌, ◌<◌, IfSome, IsTrue, None, Some, length, slice_set};
 
 use crate::classes::is_awake;
 use crate::pools::MAX_POOLS;
@@ -21,6 +21,7 @@ pub(crate) struct Standing {
 }
 
 /// The number of the list in which those of the pool stand whose sleep is over.
+#[inline(always)]
 pub(crate) fn rested_list(pool: u8) -> usize
     ensures { result ≡ MAX_POOLS + pool }
 {
@@ -40,6 +41,7 @@ pub(crate) fn standing_of(scenario: &Scenario, run: Option<Run>) -> Option<Stand
 }
 
 /// Where a running work stands in an unbound pool, or in a bound one.
+#[inline(always)]
 fn stands_by(unbound: bool, run: Run) -> Option<Standing>
     ensures { result ≡ stands_by unbound run run.phase }
 {
@@ -59,23 +61,26 @@ fn stands_by(unbound: bool, run: Run) -> Option<Standing>
     }
 }
 
-/// Lets a work stand where it does when it runs so, if anywhere.
+/// Lets a work that ran so, if it did, stand where it does when it runs otherwise, if anywhere.
 #[inline(always)]
 pub(crate) fn line_up(
     lines: &mut Lists,
     scenario: &Scenario,
     runs: &[Option<Run>],
     w: usize,
+    was: Option<Run>,
     run: Option<Run>,
 )
     requires runs { AreRuns scenario.now runs.now }
     requires lined { AreLined scenario.now runs.now lines.old }
     requires work { w < length scenario.now.works }
+    requires was { run_at runs.now w ≡ was }
     requires own_stamp { HasOwnStamp runs.now w run }
     ensures lined { AreLined scenario.now (slice_set runs.now w run) lines.new }
 {
     let _runs = runs;
-    move_to(lines, w, standing_of(scenario, run));
+    let before = standing_of(scenario, was);
+    move_to(lines, w, before, standing_of(scenario, run));
 }
 
 /// The same where the work stays in its pool. Where it's known at once that it stays in its place nothing is touched.
@@ -97,7 +102,7 @@ pub(crate) fn line_up_in_pool(
     ensures lined { AreLined scenario.now (slice_set runs.now w (Some run)) lines.new }
 {
     if !stays_in_line(scenario.is_unbound(run.pool), was, run) {
-        line_up(lines, scenario, runs, w, Some(run));
+        line_up(lines, scenario, runs, w, Some(was), Some(run));
     }
 }
 
@@ -111,17 +116,46 @@ fn stays_in_line(unbound: bool, was: Run, run: Run) -> bool
     !unbound && was.stamp == run.stamp && is_awake(was.phase) && is_awake(run.phase)
 }
 
-/// Takes a work out of the list in which it stands, if it does, and puts it where it is to stand, if anywhere.
-fn move_to(lines: &mut Lists, w: usize, standing: Option<Standing>)
+/// Takes a work out of the list in which it stands, if it does, and puts it where it is to stand, if anywhere. Where it stood in none the lists
+/// aren't asked.
+#[inline(always)]
+fn move_to(lines: &mut Lists, w: usize, was: Option<Standing>, standing: Option<Standing>)
     requires work { w < length lines.old.ranks }
     requires few { w < MAX_WORKS }
+    requires was { rank_at lines.old w ≡ rank_of was }
     requires list { IfSome standing (λ s. s.list < lines.old.lists) }
     requires apart { IfSome standing (IsApartFromOthers lines.old w) }
     ensures { lines.new ≡ with_rank lines.old w (rank_of standing) }
 {
-    lines.take(w);
+    leave(lines, w, was);
     if let Some(Standing { list, order }) = standing {
-        let work = WorkId(w as u16);
-        lines.insert_by(list, Node { order, work });
+        stand_in(lines, w, list, order);
+    }
+}
+
+/// Puts a work that stands in no list into this one, by this order. It is called, and not written out at each of its calls: what looks for the
+/// work's place there is long.
+#[inline(never)]
+fn stand_in(lines: &mut Lists, w: usize, list: usize, order: u128)
+    requires work { w < length lines.old.ranks }
+    requires few { w < MAX_WORKS }
+    requires free { rank_at lines.old w ≡ None }
+    requires list { list < lines.old.lists }
+    requires apart { IsApart lines.old list order }
+    ensures { lines.new ≡ with_rank lines.old w (Some (record { list = list; order = order })) }
+{
+    let work = WorkId(w as u16);
+    lines.insert_by(list, Node { order, work });
+}
+
+/// Takes a work out of the list in which it stands, if it does.
+#[inline(always)]
+fn leave(lines: &mut Lists, w: usize, was: Option<Standing>)
+    requires work { w < length lines.old.ranks }
+    requires was { rank_at lines.old w ≡ rank_of was }
+    ensures { lines.new ≡ with_rank lines.old w None }
+{
+    if was.is_some() {
+        lines.take(w);
     }
 }

@@ -1,19 +1,19 @@
 //! The running works, with their indexes.
-ghost use Rattle.cmwq_phased.specs.PhasedContents.{HaveOwnStamps, if_ends_by};
+ghost use Rattle.cmwq_phased.specs.PhasedContents.{HaveOwnStamps, end_of, if_ends_by};
 ghost use Rattle.cmwq_phased.specs.declared.pools.TheConstants.{MAX_POOLS};
 ghost use Rattle.cmwq_phases.specs.Runs.{HasOwnStamp, awake_in, first_in_line, first_rested, first_to_end, freezable_running, rescued_of, run_at, running_in};
 ghost use Rattle.cmwq_types.specs.Setting.{IsSetting};
 ghost use Rattle.cmwq_types.specs.declared.limits.TheConstants.{MAX_WORKS};
 ghost use Rattle.std.specs.Prelude.{◌≡◌, ◌<◌, ◌≤◌, IfOk, IfSome, None, Some, length, replicate, slice_set};
 
-use crate::alarms::{rings_by, set_alarm};
+use crate::alarms::set_alarm;
 use crate::classes::class_in;
 use crate::counts::Counts;
 use crate::lines::{line_up, line_up_in_pool, rested_list};
 use crate::pools::MAX_POOLS;
 use cmwq_lists::Lists;
 use cmwq_phases::Run;
-use cmwq_timers::Timers;
+use cmwq_timers::Alarms;
 use cmwq_types::{NoMemory, Scenario, filled};
 use std::alloc::Global;
 use std::marker::Model;
@@ -29,7 +29,7 @@ pub struct PhasedWorks {
     scenario: Arc<Scenario>,
     runs: Vec<Option<Run>>,
     lines: Lists,
-    alarms: Timers,
+    alarms: Alarms,
     counts: Counts,
 }
 
@@ -57,7 +57,7 @@ impl PhasedWorks {
         Ok(PhasedWorks {
             runs: filled(alloc, None, works)?,
             lines: Lists::new(alloc, 2 * u16::from(MAX_POOLS), works as u16)?,
-            alarms: Timers::new(alloc, works as u16)?,
+            alarms: Alarms::new(alloc, works as u16)?,
             counts: Counts::new(alloc, queues as u8)?,
             scenario,
         })
@@ -87,10 +87,20 @@ impl PhasedWorks {
     }
 
     /// How the work runs, if it does. Where there is no such work, `None`.
+    #[inline(always)]
     pub fn of(&self, w: usize) -> Option<Run>
         ensures { result ≡ run_at self.now.runs w }
     {
         self.runs.get(w).copied().unwrap_or(None)
+    }
+
+    /// The same of a work that there is.
+    #[inline(always)]
+    pub fn run(&self, w: usize) -> Option<Run>
+        requires work { w < length self.now.scenario.works }
+        ensures { result ≡ run_at self.now.runs w }
+    {
+        self.runs[w]
     }
 
     /// Lets a work run otherwise, or not at all. No other work may run under the stamp of the new run.
@@ -100,7 +110,7 @@ impl PhasedWorks {
         requires own_stamp { HasOwnStamp self.old.runs w run }
         ensures { self.new ≡ record self.old { runs = slice_set self.old.runs w run } }
     {
-        match self.of(w) {
+        match self.run(w) {
             None => self.change(w, None, run),
             was => self.change(w, was, run),
         }
@@ -121,13 +131,14 @@ impl PhasedWorks {
             alarms,
             counts,
         } = self;
-        line_up(lines, scenario, runs, w, run);
+        line_up(lines, scenario, runs, w, was, run);
         set_alarm(alarms, runs, w, was, run);
         counts.recount(scenario, runs, w, was, run);
         runs[w] = run;
     }
 
-    /// Lets a work that runs so run otherwise, in the same pool and on the same worker. No other work may run under the stamp of the new run.
+    /// Lets an instance of a work that runs so run otherwise, in the same pool and on the same worker. No other work may run under the stamp of the
+    /// new run.
     ///
     /// It is as `set`, and quicker: a line is touched only where the work's place in one may change, an alarm where it had one or gets one,
     /// a count where it falls asleep or wakes.
@@ -135,6 +146,7 @@ impl PhasedWorks {
     pub fn carry_on(&mut self, w: usize, was: Run, run: Run)
         requires work { w < length self.old.scenario.works }
         requires was { run_at self.old.runs w ≡ Some was }
+        requires born { run.born ≡ was.born }
         requires pool { run.pool ≡ was.pool }
         requires worker { run.worker ≡ was.worker }
         requires own_stamp { HasOwnStamp self.old.runs w (Some run) }
@@ -150,10 +162,11 @@ impl PhasedWorks {
         line_up_in_pool(lines, scenario, runs, w, was, run);
         set_alarm(alarms, runs, w, Some(was), Some(run));
         counts.recount_in_place(scenario, runs, w, was, run);
-        runs[w] = Some(run);
+        write_on(runs, w, was, run);
     }
 
     /// The first in the pool's line, by stamp: of those runnable in a bound pool, of those that have nothing left to burn in an unbound one.
+    #[inline(always)]
     pub fn first_in_line(&self, pool: u8) -> Option<usize>
         requires pool { pool < MAX_POOLS }
         ensures first { result ≡ first_in_line self.now.scenario self.now.runs pool }
@@ -164,6 +177,7 @@ impl PhasedWorks {
     }
 
     /// The first of those in the pool whose sleep is over, by the time at which it was over, and then by stamp.
+    #[inline(always)]
     pub fn first_rested(&self, pool: u8) -> Option<usize>
         requires pool { pool < MAX_POOLS }
         ensures first { result ≡ first_rested self.now.scenario self.now.runs pool }
@@ -173,27 +187,28 @@ impl PhasedWorks {
         self.lines.front_key(rested_list(pool))
     }
 
-    /// The first whose burn or sleep time ends, by the time at which it does, and then by stamp.
-    pub fn first_to_end(&self) -> Option<usize>
-        ensures first { result ≡ first_to_end self.now.scenario self.now.runs }
-        ensures in_range { IfSome result (λ w. w < length self.now.scenario.works) }
-        ensures few { IfSome result (λ w. w < MAX_WORKS) }
-    {
-        let alarm = self.alarms.least()?;
-        Some(usize::from(alarm.work.0))
-    }
-
-    /// The same, if its burn or sleep ends by this time. It's quick where none does.
+    /// The first whose burn or sleep time ends, the one of least number where several end at once, if it ends by this time. It's quick where none
+    /// does.
     #[inline(always)]
     pub fn first_to_end_by(&self, time: u64) -> Option<usize>
         ensures first { result ≡ if_ends_by self.now.runs time (first_to_end self.now.scenario self.now.runs) }
         ensures in_range { IfSome result (λ w. w < length self.now.scenario.works) }
         ensures few { IfSome result (λ w. w < MAX_WORKS) }
     {
-        rings_by(self.alarms.least(), time)
+        let work = self.alarms.first_due(time)?;
+        Some(usize::from(work.0))
+    }
+
+    /// When a burn or a sleep ends next, if time alone ends one.
+    #[inline(always)]
+    pub fn next_end(&self) -> Option<u64>
+        ensures { result ≡ end_of self.now.runs (first_to_end self.now.scenario self.now.runs) }
+    {
+        self.alarms.next_due()
     }
 
     /// How many works of the queue run in the pool.
+    #[inline(always)]
     pub fn running_in(&self, queue: u8, pool: u8) -> usize
         requires pool { pool < MAX_POOLS }
         requires queue { queue < length self.now.scenario.queues }
@@ -204,6 +219,7 @@ impl PhasedWorks {
     }
 
     /// How many works that run in the pool are runnable and count towards its concurrency level.
+    #[inline(always)]
     pub fn awake_in(&self, pool: u8) -> usize
         requires pool { pool < MAX_POOLS }
         ensures awake { result ≡ awake_in self.now.scenario self.now.runs pool }
@@ -234,5 +250,23 @@ impl PhasedWorks {
         ensures { HaveOwnStamps self.now.runs }
     {
         let _runs = &self.runs;
+    }
+}
+
+/// Lets an instance of a work that runs so run otherwise, in its pool and on its worker. Only what can be otherwise is written.
+#[inline(always)]
+fn write_on(runs: &mut [Option<Run>], w: usize, was: Run, run: Run)
+    requires work { w < length runs.old }
+    requires was { run_at runs.old w ≡ Some was }
+    requires born { run.born ≡ was.born }
+    requires pool { run.pool ≡ was.pool }
+    requires worker { run.worker ≡ was.worker }
+    ensures { runs.new ≡ slice_set runs.old w (Some run) }
+{
+    let _was = was;
+    if let Some(kept) = &mut runs[w] {
+        kept.stamp = run.stamp;
+        kept.phase = run.phase;
+        kept.pc = run.pc;
     }
 }

@@ -89,11 +89,10 @@ first_rested S runs pool =
     first_below (by_least_two (λ w. run_sleep (run_at runs w)) (λ w. run_stamp (run_at runs w)))
     (λ w. with_run (λ r. (r.pool == pool) && is_rested r.phase) (run_at runs w)) (length S.works)
 
--- the first that time alone ends, by (time, stamp)
+-- the first that time alone ends, by time, and where several end at once the one of least number
 abbrev pub first_to_end : ScenarioContents → List (Option Run) → Option ℕ
 first_to_end S runs =
-    first_below (by_least_two (λ w. number_or_0 (run_alarm (run_at runs w))) (λ w. run_stamp (run_at runs w)))
-    (λ w. is_some (run_alarm (run_at runs w))) (length S.works)
+    first_below (by_least (λ w. number_or_0 (run_alarm (run_at runs w)))) (λ w. is_some (run_alarm (run_at runs w))) (length S.works)
 
 -- the works of the queue that run in the pool
 abbrev pub running_in : ScenarioContents → List (Option Run) → ℕ → ℕ → ℕ

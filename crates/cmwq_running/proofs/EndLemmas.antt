@@ -1,23 +1,23 @@
 -- Burns and sleeps end with time, and nothing of it shows.
-use Rattle.std.proofs.Common.{◌≡◌, ℕ, ◌+◌, ◌-◌, ◌<◌, ◌≤◌, Bool, true, false, cond, ◌&&◌, ◌||◌, ◌==◌, List, length, set, Option, Some, None, IfSome, arith, refl, sym, ap, subst, ◌∙◌, inl, inr}
+use Rattle.std.proofs.Common.{◌≡◌, ℕ, ◌+◌, ◌-◌, ◌<◌, ◌≤◌, Bool, true, false, cond, List, length, set, Option, Some, None, IfSome, arith, refl, sym, ap, subst, ◌∙◌, inl, inr}
 use Rattle.std.specs.Prelude.{is_some, min, nat_le, nat_lt, option_map}
 use Rattle.std.proofs.Math.Seq.{map-set_same}
 use Rattle.std.proofs.lemmas.Bool.{cases_lt}
 use Rattle.std.proofs.lemmas.Bool.Decides.{nat_tests}
 use Rattle.std.proofs.lemmas.List.{get_or_past, length-set}
 use Rattle.cmwq_types.specs.Contents.{ScenarioContents}
-use Rattle.cmwq_types.specs.First.{by_least_two, IsFirst, MatchFirst}
+use Rattle.cmwq_types.specs.First.{by_least, IsFirst, MatchFirst}
 use Rattle.cmwq_types.specs.Scenario.{is_unbound}
 use Rattle.cmwq_types.specs.declared.reply.Mode.{Mode}
-use Rattle.cmwq_types.proofs.FirstLemmas.{by_least_two-order, first_below-is_first}
+use Rattle.cmwq_types.proofs.FirstLemmas.{by_least-order, first_below-is_first}
 use Rattle.cmwq_table.specs.Counts.{is_some_work}
-use Rattle.cmwq_phased.specs.PhasedContents.{if_ends_by}
+use Rattle.cmwq_phased.specs.PhasedContents.{end_of, if_ends_by}
 use Rattle.cmwq_phases.specs.Phases.{IsTimely, left_in, mode_in, shown, shown_all}
-use Rattle.cmwq_phases.specs.Runs.{alarm_in, first_to_end, is_awake, number_or_0, run_alarm, run_at, run_stamp}
+use Rattle.cmwq_phases.specs.Runs.{alarm_in, first_to_end, is_awake, number_or_0, run_alarm, run_at}
 use Rattle.cmwq_phases.specs.declared.run.Phase.{Phase}
 use Rattle.cmwq_phases.specs.declared.run.Phase.TheVariants.{Ready, Held, Burning, Asleep, Slept}
 use Rattle.cmwq_phases.specs.declared.run.Run.{Run}
-use Rattle.cmwq_running.specs.Heads.{AreHeaded, AreOnTime, AreTimely, IsOnTime, IsStill, NoneEndsBefore, alarm_count, end_of, ended, first_awake, in_phase, may_burn}
+use Rattle.cmwq_running.specs.Heads.{AreHeaded, AreOnTime, AreTimely, IsOnTime, IsStill, NoneEndsBefore, alarm_count, ended, first_awake, in_phase, may_burn}
 use Rattle.cmwq_running.proofs.AlikeLemmas.{fewer_below}
 use Rattle.cmwq_running.proofs.HeadLemmas.{IsSwap, at_changed, at_other, still_going, still_heading, swap_go, swap_have_heads}
 use Rattle.cmwq_running.proofs.PaceLemmas.{within_of}
@@ -104,13 +104,13 @@ on_time_of time rs on_time w q at = subst (λ (o : Option Run). IfSome o (λ r. 
 
 module _ (S : ScenarioContents) (rs : List (Option Run)) (long : length rs ≡ length S.works) where
   abbrev end_before : ℕ → ℕ → Bool
-  end_before = by_least_two (λ w. number_or_0 (run_alarm (run_at rs w))) (λ w. run_stamp (run_at rs w))
+  end_before = by_least (λ w. number_or_0 (run_alarm (run_at rs w)))
 
   abbrev ends : ℕ → Bool
   ends = λ w. is_some (run_alarm (run_at rs w))
 
   matches : MatchFirst end_before ends (length S.works) (first_to_end S rs)
-  matches = first_below-is_first end_before ends (length S.works) (by_least_two-order (λ w. number_or_0 (run_alarm (run_at rs w))) (λ w. run_stamp (run_at rs w)))
+  matches = first_below-is_first end_before ends (length S.works) (by_least-order (λ w. number_or_0 (run_alarm (run_at rs w))))
 
   -- where none is the first nothing ends
   pub none_ends : first_to_end S rs ≡ None → (v : ℕ) → run_alarm (run_at rs v) ≡ None
@@ -136,13 +136,13 @@ module _ (S : ScenarioContents) (rs : List (Option Run)) (long : length rs ≡ l
       first : IsFirst end_before ends (length S.works) w
       first = first_ends w is
 
-      lower : (one other stamp another : ℕ) → (nat_lt one other || ((one == other) && nat_lt stamp another)) ≡ false → other ≤ one
-      lower one other stamp another fails = grind (arith, nat_tests)
+      lower : (one other : ℕ) → nat_lt one other ≡ false → other ≤ one
+      lower one other fails = grind (arith, nat_tests)
 
       by_alarm : (o : Option ℕ) → run_alarm (run_at rs v) ≡ o → (is_some (run_alarm (run_at rs v)) ≡ true → end_before v w ≡ false) → IfSome o (λ e. end ≤ e)
       by_alarm None alarm least = tt
       by_alarm (Some e) alarm least =
-          let after = lower (number_or_0 (run_alarm (run_at rs v))) (number_or_0 (run_alarm (run_at rs w))) (run_stamp (run_at rs v)) (run_stamp (run_at rs w)) (least (ap is_some alarm)) in
+          let after = lower (number_or_0 (run_alarm (run_at rs v))) (number_or_0 (run_alarm (run_at rs w))) (least (ap is_some alarm)) in
           subst (λ (k : ℕ). k ≤ e) (ap number_or_0 at) (subst (λ (k : ℕ). number_or_0 (run_alarm (run_at rs w)) ≤ k) (ap number_or_0 alarm) after)
 
   -- where the first hasn't ended nothing has

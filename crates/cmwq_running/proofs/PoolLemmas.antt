@@ -1,12 +1,11 @@
 -- What pools see of the running works stays the same where they run alike in it.
-use Rattle.std.proofs.Common.{◌≡◌, ◌≢◌, ℕ, ◌<◌, Bool, true, false, cond, ◌&&◌, ◌||◌, ◌==◌, List, length, set, Option, Some, None, arith, refl, sym, ap, subst, ◌∙◌, inl, inr}
-use Rattle.std.specs.Prelude.{is_some, nat_lt, not}
+use Rattle.std.proofs.Common.{◌≡◌, ◌%◌, ◌≢◌, ℕ, ◌<◌, Bool, true, false, cond, ◌&&◌, ◌||◌, ◌==◌, List, length, set, Option, Some, None, arith, refl, sym, ap, subst, ◌∙◌, inl, inr}
+use Rattle.std.specs.Prelude.{nat_lt, not}
 use Rattle.std.proofs.lemmas.Bool.{cases_eq}
 use Rattle.std.proofs.lemmas.Bool.Decides.{nat_tests}
 use Rattle.cmwq_types.specs.Contents.{ScenarioContents}
 use Rattle.cmwq_types.specs.First.{by_least, by_least_two}
 use Rattle.cmwq_types.specs.Scenario.{flags_at, is_unbound, queue_of}
-use Rattle.cmwq_types.specs.declared.limits.TheConstants.{RESCUER}
 use Rattle.cmwq_types.proofs.FirstLemmas.{by_least-order, by_least_two-order, count_below-agree}
 use Rattle.cmwq_parts.specs.PoolSets.{has_pool}
 use Rattle.cmwq_parts.specs.declared.pool_set.PoolSet.{PoolSet}
@@ -14,7 +13,7 @@ use Rattle.cmwq_phases.specs.Runs.{awake_in, first_in_line, first_rested, is_awa
 use Rattle.cmwq_phases.specs.declared.run.Phase.{Phase}
 use Rattle.cmwq_phases.specs.declared.run.Run.{Run}
 use Rattle.cmwq_running.specs.Heads.{if_run_ready, in_phase, ready_run}
-use Rattle.cmwq_running.specs.Pools.{AreAlikeIn, AreAlikeOutside, IsAlikeIn, run_in}
+use Rattle.cmwq_running.specs.Pools.{AreAlikeIn, AreAlikeOutside, IsAlikeIn}
 use Rattle.cmwq_running.proofs.AlikeLemmas.{first_alike, first_of}
 use Rattle.cmwq_running.proofs.HeadLemmas.{at_changed, at_other}
 
@@ -113,11 +112,11 @@ pub alike_outside_none : (pools : PoolSet) (rs : List (Option Run)) → AreAlike
 alike_outside_none pools rs pool small clear = alike_here pool rs
 
 -- one pool more is left out
-pub alike_outside_with : (pools later : PoolSet) (touched : ℕ) (rs xs ys : List (Option Run)) → ((other : ℕ) → other < 64 → has_pool later other ≡ (has_pool pools other || (other == touched)))
+pub alike_outside_with : (pools later : PoolSet) (touched : ℕ) (rs xs ys : List (Option Run)) → ((other : ℕ) → other < 64 → has_pool later other ≡ (has_pool pools other || (other == touched % 64)))
     → AreAlikeOutside pools rs xs → ((other : ℕ) → other ≢ touched → AreAlikeIn other xs ys) → AreAlikeOutside later rs ys
 alike_outside_with pools later touched rs xs ys grown so_far further pool small clear =
-    let outside = neither (has_pool pools pool) (pool == touched) (sym (grown pool small) ∙ clear) in
-    alike_both pool rs xs ys (so_far pool small outside.0) (further pool (λ is. absurd (let other = outside.1 in grind (arith, nat_tests))))
+    let outside = neither (has_pool pools pool) (pool == touched % 64) (sym (grown pool small) ∙ clear) in
+    alike_both pool rs xs ys (so_far pool small outside.0) (further pool (λ is. absurd (let other = outside.1 in let same : pool ≡ touched % 64 = omega (arith, is, small) in grind (arith, nat_tests))))
   where
     neither : (a b : Bool) → (a || b) ≡ false → (a ≡ false) × (b ≡ false)
     neither true b e = absurd (cc)

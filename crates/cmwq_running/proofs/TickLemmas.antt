@@ -257,14 +257,13 @@ alike_seen time works m view kept n ends s has earlier below =
     (ticks_alike works.scenario s works.runs earlier n (has_shown time works m view s has) kept.headed.heads kept.headed.going
     (subst (λ (t : ℕ). AreTimely t works.runs) at kept.timely) (subst (λ (t : ℕ). NoneEndsBefore (t + n) works.runs) at ends) below)
 
--- after a tick a pool in which no burn and no sleep ended has the move that it had
-pub elsewhere_seen : (time : ℕ) (works after : PhasedContents) (m : RunningContents) (pools : PoolSet) → seen time works ≡ m → AreKept time works → AreTimely (time + 1) after.runs
-    → seen (time + 1) after ≡ seen (time + 1) works → AreAlikeOutside pools works.runs after.runs
-    → (s : State) → HasRunning m s → (pool : ℕ) → pool < 64 → has_pool pools pool ≡ false → next_move m.scenario (tick m.scenario s) pool ≡ next_move m.scenario s pool
-elsewhere_seen time works after m pools view kept timely same alike s has pool small clear =
+-- after them a pool in which no burn and no sleep ended has the move that it had
+pub elsewhere_seen : (time : ℕ) (works after : PhasedContents) (m : RunningContents) (pools : PoolSet) → seen time works ≡ m → AreKept time works
+    → (n count : ℕ) → count ≡ n → AreTimely (time + count) after.runs → seen (time + count) after ≡ seen (time + count) works → AreAlikeOutside pools works.runs after.runs
+    → (s : State) → HasRunning m s → (pool : ℕ) → pool < 64 → has_pool pools pool ≡ false → next_move m.scenario (ticks m.scenario s n) pool ≡ next_move m.scenario s pool
+elsewhere_seen time works after m pools view kept n count same timely is alike s has pool small clear =
     let at : time ≡ s.time = sym (has_time time works m view s has) in
     let shown : s.running ≡ shown_all s.time works.runs = has_shown time works m view s has in
-    subst (λ (S : ScenarioContents). next_move S (tick S s) pool ≡ next_move S s pool) (ap (λ (m : RunningContents). m.scenario) view)
-    (moves_same works.scenario s (s.time + 1) (tick works.scenario s).running works.runs after.runs shown
-    (tick_shown works.scenario s works.runs shown kept.headed.heads kept.headed.going ∙ subst (λ (t : ℕ). shown_all (t + 1) works.runs ≡ shown_all (t + 1) after.runs) at (sym (ap (λ (m : RunningContents). m.running) same)))
-    (subst (λ (t : ℕ). AreTimely t works.runs) at kept.timely) (subst (λ (t : ℕ). AreTimely (t + 1) after.runs) at timely) pool (alike pool small clear))
+    subst (λ (t : State). next_move m.scenario t pool ≡ next_move m.scenario s pool) (sym (passed_seen time works after m view kept.headed n count same is s has))
+    (subst (λ (S : ScenarioContents). next_move S (record s { time = time + count; running = shown_all (time + count) after.runs }) pool ≡ next_move S s pool) (ap (λ (m : RunningContents). m.scenario) view)
+    (moves_same works.scenario s (time + count) (shown_all (time + count) after.runs) works.runs after.runs shown refl (subst (λ (t : ℕ). AreTimely t works.runs) at kept.timely) timely pool (alike pool small clear)))

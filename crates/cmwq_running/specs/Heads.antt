@@ -148,8 +148,3 @@ ended time (Slept until) = None
 -- how many works have an alarm
 abbrev pub alarm_count : PhasedContents → ℕ
 alarm_count works = count_below (λ w. is_some (run_alarm (run_at works.runs w))) (length works.scenario.works)
-
--- when the work's burn or sleep ends, if time alone ends one
-abbrev pub end_of : List (Option Run) → Option ℕ → Option ℕ
-end_of runs (Some w) = run_alarm (run_at runs w)
-end_of runs None = None

@@ -26,7 +26,7 @@ pub(crate) fn change(works: &mut PhasedWorks, time: u64, w: usize, run: Option<R
     ensures seen { seen time works.new ≡ record (seen time works.old) { running = slice_set (shown_all time works.old.runs) w (option_map (shown time) run) } }
     ensures kept { AreKept time works.new }
 {
-    let old = works.of(w);
+    let old = works.run(w);
     works.own_stamps();
     works.set(w, run);
     balance_beside(works, time, old);
@@ -38,6 +38,7 @@ pub(crate) fn change(works: &mut PhasedWorks, time: u64, w: usize, run: Option<R
 fn carry_on(works: &mut PhasedWorks, time: u64, w: usize, was: Run, run: Run)
     requires work { w < length works.old.scenario.works }
     requires was { run_at works.old.runs w ≡ Some was }
+    requires born { run.born ≡ was.born }
     requires pool { run.pool ≡ was.pool }
     requires worker { run.worker ≡ was.worker }
     requires kept { AreKept time works.old }
@@ -54,6 +55,7 @@ fn carry_on(works: &mut PhasedWorks, time: u64, w: usize, was: Run, run: Run)
 }
 
 /// The running work, the ready head of its pool, goes on to the next operation, with so many ticks to burn first. It stays in its place.
+#[inline(always)]
 pub(crate) fn go_on(works: &mut PhasedWorks, time: u64, w: usize, r: Running, left: u32)
     requires kept { AreKept time works.old }
     requires running { running_at (state_of (seen time works.old)) w ≡ Some r }
@@ -69,6 +71,7 @@ pub(crate) fn go_on(works: &mut PhasedWorks, time: u64, w: usize, r: Running, le
 }
 
 /// The running work, the ready head of its pool, goes on to the next operation, and sleeps until this time first.
+#[inline(always)]
 pub(crate) fn fall_asleep(works: &mut PhasedWorks, time: u64, w: usize, r: Running, until: u64)
     requires kept { AreKept time works.old }
     requires running { running_at (state_of (seen time works.old)) w ≡ Some r }
@@ -123,6 +126,7 @@ fn onward(r: Running, phase: Phase) -> Run
 }
 
 /// Wakes the pool's first sleeper whose sleep is over, under a stamp above those of all running works.
+#[inline(always)]
 pub(crate) fn wake(works: &mut PhasedWorks, time: u64, pool: u8, w: usize, stamp: u64)
     requires kept { AreKept time works.old }
     requires first { first_slept works.old.scenario (state_of (seen time works.old)) pool ≡ Some w }
@@ -131,7 +135,7 @@ pub(crate) fn wake(works: &mut PhasedWorks, time: u64, pool: u8, w: usize, stamp
     ensures seen { seen time works.new ≡ record (seen time works.old) { running = slice_set (shown_all time works.old.runs) w (woken_run stamp (running_at (state_of (seen time works.old)) w)) } }
     ensures kept { AreKept time works.new }
 {
-    match works.of(w) {
+    match works.run(w) {
         None => {}
         Some(run) => {
             let phase = Phase::Ready;
@@ -151,6 +155,7 @@ pub(crate) fn wake(works: &mut PhasedWorks, time: u64, pool: u8, w: usize, stamp
 }
 
 /// Lets the head of the normal pool beside that of the work, if it runs in a CPU's high pool, burn just where it may.
+#[inline(always)]
 fn balance_beside(works: &mut PhasedWorks, time: u64, run: Option<Run>)
     requires early { IsEarly time }
     requires timely { AreTimely time works.old.runs }

@@ -11,6 +11,7 @@ use cmwq_phased::PhasedWorks;
 use cmwq_phases::{Phase, Run};
 
 /// The phase with so many ticks left, before it is known whether the work may burn.
+#[inline(always)]
 pub(crate) fn with_left(left: u32) -> Phase
     ensures { result ≡ with_left left }
 {
@@ -22,6 +23,7 @@ pub(crate) fn with_left(left: u32) -> Phase
 }
 
 /// The phase once the head of a pool may burn from this time on, or may not.
+#[inline(always)]
 pub(crate) fn paced(phase: Phase, may: bool, time: u64) -> Phase
     requires early { IsEarly time }
     requires timely { IsTimely time phase }
@@ -37,6 +39,7 @@ pub(crate) fn paced(phase: Phase, may: bool, time: u64) -> Phase
 }
 
 /// Whether the heads of the pool have their CPU.
+#[inline(always)]
 pub(crate) fn may_burn(works: &PhasedWorks, pool: u8) -> bool
     ensures { result ≡ may_burn works.now.scenario works.now.runs pool }
 {
@@ -44,6 +47,7 @@ pub(crate) fn may_burn(works: &PhasedWorks, pool: u8) -> bool
 }
 
 /// Of the heads of the pool the first that has nothing left to burn.
+#[inline(always)]
 pub(crate) fn ready_run(works: &PhasedWorks, pool: u8) -> Option<usize>
     requires pool { pool < MAX_POOLS }
     ensures first { result ≡ ready_run works.now.scenario works.now.runs pool }
@@ -51,7 +55,11 @@ pub(crate) fn ready_run(works: &PhasedWorks, pool: u8) -> Option<usize>
     ensures few { IfSome result (λ w. w < MAX_WORKS) }
 {
     let w = works.first_in_line(pool)?;
-    if is_ready(works.of(w)) { Some(w) } else { None }
+    if is_ready(works.run(w)) {
+        Some(w)
+    } else {
+        None
+    }
 }
 
 /// Whether the work that runs so, if it runs, has nothing left to burn, and doesn't sleep.
@@ -73,7 +81,7 @@ fn pace(works: &mut PhasedWorks, time: u64, w: usize, may: bool)
     ensures timely { AreTimely time works.new.runs }
 {
     works.own_stamps();
-    match works.of(w) {
+    match works.run(w) {
         None => {}
         Some(run) => {
             let phase = paced(run.phase, may, time);

@@ -4,8 +4,8 @@ ghost use Rattle.cmwq_parts.specs.SettledTicks.{ticks};
 ghost use Rattle.cmwq_phased.specs.declared.pools.TheConstants.{MAX_POOLS};
 ghost use Rattle.cmwq_running.specs.RunningContents.{state_of, woken_run};
 ghost use Rattle.cmwq_running.specs.Ticks.{HasRunning, MoveAlike};
-ghost use Rattle.cmwq_table.specs.Counts.{burns, first_slept, has_free_rescuer, may_start, ready_head, runs};
-ghost use Rattle.cmwq_table.specs.Moves.{begun, burned, next_move, tick};
+ghost use Rattle.cmwq_table.specs.Counts.{first_slept, has_free_rescuer, may_start, ready_head, runs};
+ghost use Rattle.cmwq_table.specs.Moves.{begun, next_move};
 ghost use Rattle.cmwq_table.specs.State.{State, running_at};
 ghost use Rattle.cmwq_types.specs.First.{count_below};
 ghost use Rattle.cmwq_types.specs.Scenario.{flags_at, queue_of};
@@ -86,6 +86,7 @@ impl RunningWorks {
     }
 
     /// What is known of the work, if it runs. Where there is no such work, `None`.
+    #[inline(always)]
     pub fn of(&self, w: usize) -> Option<Running>
         ensures { result ≡ running_at (state_of self.now) w }
     {
@@ -104,6 +105,7 @@ impl RunningWorks {
     }
 
     /// The first of the pool's heads with no tick left to burn.
+    #[inline(always)]
     pub fn ready_head(&self, pool: u8) -> Option<usize>
         requires pool { pool < MAX_POOLS }
         ensures first { result ≡ ready_head self.now.scenario (state_of self.now) pool }
@@ -148,6 +150,7 @@ impl RunningWorks {
     }
 
     /// The running work, the ready head of its pool, goes on to the next operation, with so many ticks to burn first.
+    #[inline(always)]
     pub fn go_on(&mut self, w: usize, r: Running, left: u32)
         requires running { running_at (state_of self.old) w ≡ Some r }
         requires head { ready_head self.old.scenario (state_of self.old) r.pool ≡ Some w }
@@ -159,6 +162,7 @@ impl RunningWorks {
     }
 
     /// The running work, the ready head of its pool, goes on to the next operation, and sleeps until this time first.
+    #[inline(always)]
     pub fn sleep(&mut self, w: usize, r: Running, until: u64)
         requires running { running_at (state_of self.old) w ≡ Some r }
         requires head { ready_head self.old.scenario (state_of self.old) r.pool ≡ Some w }
@@ -170,6 +174,7 @@ impl RunningWorks {
     }
 
     /// Wakes the pool's first sleeper whose sleep is over, under a stamp above those of all running works.
+    #[inline(always)]
     pub fn wake(&mut self, pool: u8, w: usize, stamp: u64)
         requires first { first_slept self.old.scenario (state_of self.old) pool ≡ Some w }
         requires newest { (v : ℕ) → IfSome (running_at (state_of self.old) v) (λ q. q.stamp < stamp) }
@@ -182,6 +187,7 @@ impl RunningWorks {
 
     /// An instance of the work that was born then begins in the pool on the worker, under a stamp above those of all running works. Where an
     /// instance of the work runs, that has ended.
+    #[inline(always)]
     pub fn begin(&mut self, w: usize, born: u64, pool: u8, worker: u8, stamp: u64)
         requires work { w < length self.old.scenario.works }
         requires newest { (v : ℕ) → IfSome (running_at (state_of self.old) v) (λ q. q.stamp < stamp) }
@@ -200,6 +206,7 @@ impl RunningWorks {
     }
 
     /// The work doesn't run any more.
+    #[inline(always)]
     pub fn retire(&mut self, w: usize)
         requires work { w < length self.old.scenario.works }
         ensures { self.new ≡ record self.old { running = slice_set self.old.running w None } }
@@ -208,40 +215,26 @@ impl RunningWorks {
         change(works, *time, w, None);
     }
 
-    /// Lets one tick of time pass: who has a CPU burns. Answers in which pools a burn or a sleep ended. Each other one whose number is below 64
-    /// has the next move that it had, whatever else the state has.
-    pub fn tick(&mut self) -> PoolSet
+    /// Lets ticks pass, at most so many, until a burn or a sleep ends, and one at least, if any may. Answers how many, and in which pools a burn or a
+    /// sleep ended.
+    ///
+    /// Before each of them each pool has the next move that it had before the first, whatever else the state has, and after them still each one
+    /// that isn't told and whose number is below 64.
+    #[inline(always)]
+    pub fn pass(&mut self, most: u32) -> (u32, PoolSet)
         requires time { self.old.time < 2 ^ 63 }
-        ensures ticked { self.new ≡ record self.old { time = self.old.time + 1; running = burned (burns self.old.scenario (state_of self.old)) 0 self.old.running } }
-        ensures elsewhere { (s : State) → HasRunning self.old s → (pool : ℕ) → pool < 64 → has_pool result pool ≡ false → next_move self.old.scenario (tick self.old.scenario s) pool ≡ next_move self.old.scenario s pool }
-    {
-        let RunningWorks { time, works } = self;
-        *time += 1;
-        end_by(works, *time)
-    }
-
-    /// For how many ticks, at most so many, no burn and no sleep ends.
-    pub fn still_for(&self, most: u32) -> u32
-        ensures few { result ≤ most }
-        ensures alike { (s : State) → HasRunning self.now s → (later : ℕ) → later ≤ result → MoveAlike self.now.scenario s (ticks self.now.scenario s later) }
-    {
-        ticks_to_end(&self.works, self.time, most.saturating_add(1)).saturating_sub(1)
-    }
-
-    /// Lets ticks pass, at most so many, until a burn or a sleep ends, and answers how many. Before each of them each pool has the next move that
-    /// it had before the first, whatever else the state has.
-    pub fn pass(&mut self, most: u32) -> u32
-        requires time { self.old.time < 2 ^ 63 }
-        ensures few { result ≤ most }
+        ensures few { result.0 ≤ most }
+        ensures some { 0 < most → 0 < result.0 }
         ensures scenario { self.new.scenario ≡ self.old.scenario }
-        ensures time { self.new.time ≡ self.old.time + result }
-        ensures passed { (s : State) → HasRunning self.old s → ticks self.old.scenario s result ≡ record s { time = self.new.time; running = self.new.running } }
-        ensures alike { (s : State) → HasRunning self.old s → (earlier : ℕ) → earlier < result → MoveAlike self.old.scenario s (ticks self.old.scenario s earlier) }
+        ensures time { self.new.time ≡ self.old.time + result.0 }
+        ensures passed { (s : State) → HasRunning self.old s → ticks self.old.scenario s result.0 ≡ record s { time = self.new.time; running = self.new.running } }
+        ensures alike { (s : State) → HasRunning self.old s → (earlier : ℕ) → earlier < result.0 → MoveAlike self.old.scenario s (ticks self.old.scenario s earlier) }
+        ensures elsewhere { (s : State) → HasRunning self.old s → (pool : ℕ) → pool < 64 → has_pool result.1 pool ≡ false → next_move self.old.scenario (ticks self.old.scenario s result.0) pool ≡ next_move self.old.scenario s pool }
     {
         let RunningWorks { time, works } = self;
         let count = ticks_to_end(works, *time, most);
         *time += u64::from(count);
-        end_by(works, *time);
-        count
+        let ended = end_by(works, *time);
+        (count, ended)
     }
 }

@@ -9,6 +9,6 @@ pub returns-in-Some : goal.returns-in-Some
 returns-in-Some c =
     let lines = c.args.lines.now in
     let rank = Some (ranked c.in-Some.field-0) in
-    c.insert_by.ensures.inserted ∙ ap (λ (l : ListContents). with_rank l c.args.w rank) c.take.ensures.rest
+    c.stand_in.ensures ∙ ap (λ (l : ListContents). with_rank l c.args.w rank) c.leave.ensures
     ∙ ap (λ (rs : List (Option Rank)). record lines { ranks = rs }) (set-set lines.ranks c.args.w None rank)
     ∙ ap (λ (o : Option Standing). with_rank lines c.args.w (rank_of o)) (sym c.in-Some.is)

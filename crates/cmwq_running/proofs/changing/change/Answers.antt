@@ -34,7 +34,7 @@ returns-clause-kept c =
             ∙ ap (λ (m : PhasedContents). length m.runs) c.set.ensures ∙ length-set old.runs c.args.w c.args.run ∙ c.requires.kept.headed.long
             ∙ ap (λ (S : ScenarioContents). length S.works) (sym scenario);
         heads = c.balance_beside-2.ensures.heads;
-        going = balanced old.scenario old.runs c.args.w c.args.run c.set.new.self c.balance_beside.new.works c.balance_beside-2.new.works c.of-old.result change c.set.ensures
-            c.of-old.ensures c.balance_beside.ensures.scenario c.requires.kept.headed.going c.balance_beside.ensures.going c.balance_beside-2.ensures.going;
+        going = balanced old.scenario old.runs c.args.w c.args.run c.set.new.self c.balance_beside.new.works c.balance_beside-2.new.works c.run-old.result change c.set.ensures
+            c.run-old.ensures c.balance_beside.ensures.scenario c.requires.kept.headed.going c.balance_beside.ensures.going c.balance_beside-2.ensures.going;
       };
     }

@@ -22,4 +22,7 @@ pub returns-in-Some-clause-seen : goal.returns-in-Some-clause-seen
 returns-in-Some-clause-seen c =
     c.carry_on.ensures.seen
     ∙ ap (λ (r : Option Running). record (seen c.args.time c.args.works.now) { running = set (shown_all c.args.time c.args.works.now.runs) c.args.w r })
-    (woken_shown c.args.time c.args.stamp c.args.works.now c.args.w (has_slept c.args.time c.args.works.now c.args.pool c.args.w c.requires.kept.timely c.requires.first) c.in-Some.run' (sym c.of.ensures ∙ c.in-Some.is))
+    (woken_shown c.args.time c.args.stamp c.args.works.now c.args.w (has_slept c.args.time c.args.works.now c.args.pool c.args.w c.requires.kept.timely c.requires.first) c.in-Some.run' (sym c.run.ensures ∙ c.in-Some.is))
+
+pub run-requires : goal.run-requires
+run-requires c = record { work = (has_slept c.args.time c.args.works.now c.args.pool c.args.w c.requires.kept.timely c.requires.first).within }

@@ -1,4 +1,4 @@
-use Rattle.std.proofs.Common.{◌≡◌, ℕ, sym, subst, ◌∙◌}
+use Rattle.std.proofs.Common.{sym, subst, ◌∙◌}
 use Rattle.cmwq_phased.specs.PhasedContents.{PhasedContents}
 use Rattle.cmwq_running.specs.Pools.{AreAlikeIn}
 use Rattle.cmwq_running.proofs.PoolLemmas.{alike_outside_with}

@@ -22,7 +22,7 @@ pub change-requires-clause-counted : goal.change-requires-clause-counted
 change-requires-clause-counted c =
     let S = c.args.scenario.now in
     let runs = c.args.runs.now in
-    let is = sym (c.running_class.ensures ∙ ap (running_class c.queue_of-queue.result) (sym c.requires.was) ∙ ap (λ (q : ℕ). running_class q (run_at runs c.args.w)) c.queue_of-queue.ensures) in
+    let is = sym (c.running_class.ensures ∙ ap (running_class c.queue_in-queue.result) (sym c.requires.was) ∙ ap (λ (q : ℕ). running_class q (run_at runs c.args.w)) c.queue_in-queue.ensures) in
     class_counted c.args.self.now.running (running_classes S runs) (length S.works) c.args.w c.running_class.result c.requires.counted.running c.requires.work is
 
 pub change-requires-clause-room : goal.change-requires-clause-room
@@ -34,7 +34,7 @@ pub change-requires-2-clause-counted : goal.change-requires-2-clause-counted
 change-requires-2-clause-counted c =
     let S = c.args.scenario.now in
     let runs = c.args.runs.now in
-    let is = sym (c.awake_class.ensures ∙ ap (awake_class c.flags_of-flags.result.cpu_intensive) (sym c.requires.was) ∙ ap (λ (f : Flags). awake_class f.cpu_intensive (run_at runs c.args.w)) (c.flags_of-flags.ensures ∙ ap (flags_at S) c.queue_of-queue.ensures)) in
+    let is = sym (c.awake_class.ensures ∙ ap (awake_class c.flags_in-flags.result.cpu_intensive) (sym c.requires.was) ∙ ap (λ (f : Flags). awake_class f.cpu_intensive (run_at runs c.args.w)) (c.flags_in-flags.ensures ∙ ap (flags_at S) c.queue_in-queue.ensures)) in
     class_counted c.args.self.now.awake (awake_classes S runs) (length S.works) c.args.w c.awake_class.result c.requires.counted.awake c.requires.work is
 
 pub change-requires-2-clause-room : goal.change-requires-2-clause-room
@@ -46,7 +46,7 @@ pub change-requires-3-clause-counted : goal.change-requires-3-clause-counted
 change-requires-3-clause-counted c =
     let S = c.args.scenario.now in
     let runs = c.args.runs.now in
-    let is = sym (c.rescued_class.ensures ∙ ap (rescued_class c.queue_of-queue.result) (sym c.requires.was) ∙ ap (λ (q : ℕ). rescued_class q (run_at runs c.args.w)) c.queue_of-queue.ensures) in
+    let is = sym (c.rescued_class.ensures ∙ ap (rescued_class c.queue_in-queue.result) (sym c.requires.was) ∙ ap (λ (q : ℕ). rescued_class q (run_at runs c.args.w)) c.queue_in-queue.ensures) in
     class_counted c.args.self.now.rescued (rescued_classes S runs) (length S.works) c.args.w c.rescued_class.result c.requires.counted.rescued c.requires.work is
 
 pub change-requires-3-clause-room : goal.change-requires-3-clause-room
@@ -58,7 +58,7 @@ pub change-requires-4-clause-counted : goal.change-requires-4-clause-counted
 change-requires-4-clause-counted c =
     let S = c.args.scenario.now in
     let runs = c.args.runs.now in
-    let is = sym (c.busy_class.ensures ∙ ap (busy_class c.flags_of-flags.result.freezable) (sym c.requires.was) ∙ ap (λ (f : Flags). busy_class f.freezable (run_at runs c.args.w)) (c.flags_of-flags.ensures ∙ ap (flags_at S) c.queue_of-queue.ensures)) in
+    let is = sym (c.busy_class.ensures ∙ ap (busy_class c.flags_in-flags.result.freezable) (sym c.requires.was) ∙ ap (λ (f : Flags). busy_class f.freezable (run_at runs c.args.w)) (c.flags_in-flags.ensures ∙ ap (flags_at S) c.queue_in-queue.ensures)) in
     class_counted c.args.self.now.busy (busy_classes S runs) (length S.works) c.args.w c.busy_class.result c.requires.counted.busy c.requires.work is
 
 pub change-requires-4-clause-room : goal.change-requires-4-clause-room
@@ -73,10 +73,10 @@ returns c =
     let w = c.args.w in
     let run = c.args.run in
     let t = c.args.self.now in
-    let same_queue = c.queue_of-queue.ensures in
-    let same_flags = c.flags_of-flags.ensures ∙ ap (flags_at S) same_queue in
-    let running = c.change.ensures.changed ∙ agree (changed t.running) (c.running_class.ensures ∙ ap (running_class c.queue_of-queue.result) (sym c.requires.was)) c.running_class-2.ensures ∙ ap (λ (q : ℕ). changed t.running (running_class q (run_at runs w)) (running_class q run)) same_queue in
-    let awake = c.change-2.ensures.changed ∙ agree (changed t.awake) (c.awake_class.ensures ∙ ap (awake_class c.flags_of-flags.result.cpu_intensive) (sym c.requires.was)) c.awake_class-2.ensures ∙ ap (λ (f : Flags). changed t.awake (awake_class f.cpu_intensive (run_at runs w)) (awake_class f.cpu_intensive run)) same_flags in
-    let rescued = c.change-3.ensures.changed ∙ agree (changed t.rescued) (c.rescued_class.ensures ∙ ap (rescued_class c.queue_of-queue.result) (sym c.requires.was)) c.rescued_class-2.ensures ∙ ap (λ (q : ℕ). changed t.rescued (rescued_class q (run_at runs w)) (rescued_class q run)) same_queue in
-    let busy = c.change-4.ensures.changed ∙ agree (changed t.busy) (c.busy_class.ensures ∙ ap (busy_class c.flags_of-flags.result.freezable) (sym c.requires.was)) c.busy_class-2.ensures ∙ ap (λ (f : Flags). changed t.busy (busy_class f.freezable (run_at runs w)) (busy_class f.freezable run)) same_flags in
+    let same_queue = c.queue_in-queue.ensures in
+    let same_flags = c.flags_in-flags.ensures ∙ ap (flags_at S) same_queue in
+    let running = c.change.ensures.changed ∙ agree (changed t.running) (c.running_class.ensures ∙ ap (running_class c.queue_in-queue.result) (sym c.requires.was)) c.running_class-2.ensures ∙ ap (λ (q : ℕ). changed t.running (running_class q (run_at runs w)) (running_class q run)) same_queue in
+    let awake = c.change-2.ensures.changed ∙ agree (changed t.awake) (c.awake_class.ensures ∙ ap (awake_class c.flags_in-flags.result.cpu_intensive) (sym c.requires.was)) c.awake_class-2.ensures ∙ ap (λ (f : Flags). changed t.awake (awake_class f.cpu_intensive (run_at runs w)) (awake_class f.cpu_intensive run)) same_flags in
+    let rescued = c.change-3.ensures.changed ∙ agree (changed t.rescued) (c.rescued_class.ensures ∙ ap (rescued_class c.queue_in-queue.result) (sym c.requires.was)) c.rescued_class-2.ensures ∙ ap (λ (q : ℕ). changed t.rescued (rescued_class q (run_at runs w)) (rescued_class q run)) same_queue in
+    let busy = c.change-4.ensures.changed ∙ agree (changed t.busy) (c.busy_class.ensures ∙ ap (busy_class c.flags_in-flags.result.freezable) (sym c.requires.was)) c.busy_class-2.ensures ∙ ap (λ (f : Flags). changed t.busy (busy_class f.freezable (run_at runs w)) (busy_class f.freezable run)) same_flags in
     record { counted = counted_as S (set runs w run) running awake rescued busy (counted_with S runs t w run c.requires.counted c.requires.runs.long c.requires.work) }
