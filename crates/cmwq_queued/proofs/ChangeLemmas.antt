@@ -1,21 +1,19 @@
 -- What a change of one work makes of the indexes.
-use Rattle.std.proofs.Common.{◌≡◌, ◌≢◌, ℕ, ◌+◌, ◌*◌, ◌<◌, ◌≤◌, Bool, true, false, cond, nat_lt, List, length, get_or, replicate, set, Option, Some, None, IfSome, arith, refl, sym, ap, ◌∙◌, inl, inr, subst}
+use Rattle.std.proofs.Common.{◌≡◌, ◌≢◌, ℕ, ◌+◌, ◌*◌, ◌<◌, ◌≤◌, Bool, true, List, length, get_or, replicate, set, Option, Some, None, IfSome, arith, refl, sym, ap, ◌∙◌, inl, inr, subst}
 use Rattle.std.proofs.lemmas.Bool.{cases_eq, cases_lt}
-use Rattle.std.proofs.lemmas.Bool.Decides.{nat_tests}
 use Rattle.std.proofs.lemmas.List.{get_or-replicate, get_or-set_same, get_or-set_other, get_or_past, length-replicate, length-set, set-get_or, set-set}
 use Rattle.cmwq_types.specs.Contents.{ScenarioContents}
 use Rattle.cmwq_types.specs.Scenario.{flags_at, queue_of}
 use Rattle.cmwq_types.specs.Setting.{IsSetting}
 use Rattle.cmwq_types.specs.declared.reply.Place.{Place}
 use Rattle.cmwq_types.specs.declared.reply.Place.TheVariants as place
-use Rattle.cmwq_lists.specs.ListContents.{IsAbove, ListContents, Rank, is_of, no_ranks, rank_at, with_node, with_rank}
-use Rattle.cmwq_queued.specs.Indexes.{IsIndexed, active_class, active_classes, busy_class, busy_classes, is_grouped, list_at, list_of, rank_of, ranked, timer_of}
-use Rattle.cmwq_queued.specs.QueuedContents.{IsNewest, pending_at}
+use Rattle.cmwq_lists.specs.ListContents.{ListContents, Rank, no_ranks, rank_at, with_node, with_rank}
+use Rattle.cmwq_queued.specs.Indexes.{IsIndexed, active_class, active_classes, active_at, busy_at, busy_class, busy_classes, list_of, rank_of, ranked, timer_of}
+use Rattle.cmwq_queued.specs.QueuedContents.{QueuedContents, is_timer, pending_at, with_pending}
 use Rattle.cmwq_queued.specs.declared.pools.TheConstants.{MAX_POOLS}
-use Rattle.cmwq_queued.proofs.FoundLemmas.{order_is_stamp}
-use Rattle.cmwq_table.specs.Counts.{pending_stamp}
+use Rattle.cmwq_table.specs.Counts.{pending_stamp, pends}
 use Rattle.cmwq_table.specs.declared.state.Pending.{Pending}
-use Rattle.cmwq_tally.specs.TallyContents.{IsTallied, changed, count_of}
+use Rattle.cmwq_tally.specs.TallyContents.{IsTallied, changed, count_of, with_one_fewer, with_one_more}
 use Rattle.cmwq_tally.proofs.TallyLemmas.{changed-length, changed_is_tallied, each_is_counted, empty_is_tallied, few_are_counted}
 use Rattle.cmwq_timers.specs.Timers.{timer_at}
 use Rattle.cmwq_timers.specs.declared.timer.Timer.{Timer}
@@ -40,25 +38,21 @@ has_room_for_one counts class works is few (Some i) = omega (arith, few, few_are
 
 -- What stands in no list and in no class.
 
--- it is in no group
+-- a work with a timer is in no group
 pub record IsNowhere (queue : ℕ) (freezable : Bool) (p : Option Pending) : Type 0 where
   pub list : list_of queue p ≡ None
   pub active : active_class queue p ≡ None
   pub busy : busy_class freezable p ≡ None
 
-pub nowhere : (queue : ℕ) (freezable : Bool) (p : Option Pending) → is_grouped p ≡ false → IsNowhere queue freezable p
-nowhere queue freezable None apart = record { list = refl; active = refl; busy = refl }
-nowhere queue freezable (Some p) apart = by_place p.place apart
+pub nowhere : (queue : ℕ) (freezable : Bool) (p : Option Pending) → pends is_timer p ≡ true → IsNowhere queue freezable p
+nowhere queue freezable None timed = absurd (cc)
+nowhere queue freezable (Some p) timed = by_place p.place timed
   where
-    by_place : (at : Place) → is_grouped (Some (record p { place = at })) ≡ false → IsNowhere queue freezable (Some (record p { place = at }))
-    by_place (place.Timer due cpu) apart = record { list = refl; active = refl; busy = not_busy freezable }
-      where
-        not_busy : (b : Bool) → busy_class b (Some (record p { place = place.Timer due cpu })) ≡ None
-        not_busy true = refl
-        not_busy false = refl
-    by_place (place.Inactive pool) apart = absurd (cc)
-    by_place (place.Listed pool) apart = absurd (cc)
-    by_place (place.Deferred pool) apart = absurd (cc)
+    by_place : (at : Place) → is_timer at ≡ true → IsNowhere queue freezable (Some (record p { place = at }))
+    by_place (place.Timer due cpu) timed = record { list = refl; active = refl; busy = refl }
+    by_place (place.Inactive pool) timed = absurd (cc)
+    by_place (place.Listed pool) timed = absurd (cc)
+    by_place (place.Deferred pool) timed = absurd (cc)
 
 -- a work that goes from nowhere to nowhere leaves the lists and counts as they are
 pub lists_stay : (lists : ListContents) (w stamp : ℕ) (to : Option ℕ) → rank_at lists w ≡ None → to ≡ None → lists ≡ with_rank lists w (ranked to stamp)
@@ -108,6 +102,60 @@ indexed_with S pending lists later_lists timers later_timers active busy later_a
 
     apart : (v : ℕ) → v ≢ w → pending_at (set pending w p) v ≡ pending_at pending v
     apart v differs = get_or-set_other pending w v p None differs
+
+-- A change of one work.
+module _ (S : ScenarioContents) (pending : List (Option Pending)) (lists later_lists : ListContents) (timers later_timers : List (Option Timer)) (active busy later_active later_busy : List ℕ) (is : IsIndexed S pending lists timers active busy) (w : ℕ) (below : w < length S.works) where
+  -- a work comes to be pending
+  pub indexed_with_one : (p : Pending) → pending_at pending w ≡ None
+      → later_lists ≡ with_rank lists w (rank_of (queue_of S w) (Some p))
+      → later_timers ≡ set timers w (timer_of w (Some p))
+      → later_active ≡ with_one_more active (active_at (queue_of S w) p.place)
+      → later_busy ≡ with_one_more busy (busy_at (flags_at S (queue_of S w)).freezable p.place)
+      → IsIndexed S (set pending w (Some p)) later_lists later_timers later_active later_busy
+  indexed_with_one p idle lists_are timers_are active_is busy_is =
+      indexed_with S pending lists later_lists timers later_timers active busy later_active later_busy is w (Some p) below lists_are timers_are
+      (active_is ∙ ap (λ (o : Option Pending). changed active (active_class (queue_of S w) o) (active_class (queue_of S w) (Some p))) (sym idle))
+      (busy_is ∙ ap (λ (o : Option Pending). changed busy (busy_class (flags_at S (queue_of S w)).freezable o) (busy_class (flags_at S (queue_of S w)).freezable (Some p))) (sym idle))
+
+  -- a work ceases to be pending
+  pub indexed_without : (was : Pending) → pending_at pending w ≡ Some was
+      → later_lists ≡ with_rank lists w None
+      → later_timers ≡ set timers w None
+      → later_active ≡ with_one_fewer active (active_at (queue_of S w) was.place)
+      → later_busy ≡ with_one_fewer busy (busy_at (flags_at S (queue_of S w)).freezable was.place)
+      → IsIndexed S (set pending w None) later_lists later_timers later_active later_busy
+  indexed_without was pends_so lists_are timers_are active_is busy_is =
+      indexed_with S pending lists later_lists timers later_timers active busy later_active later_busy is w None below lists_are timers_are
+      (active_is ∙ ap (λ (o : Option Pending). changed active (active_class (queue_of S w) o) None) (sym pends_so))
+      (busy_is ∙ ap (λ (o : Option Pending). changed busy (busy_class (flags_at S (queue_of S w)).freezable o) None) (sym pends_so))
+
+  -- a work has another timer
+  pub indexed_with_timer : (p : Pending) → pends is_timer (pending_at pending w) ≡ true → is_timer p.place ≡ true
+      → later_timers ≡ set timers w (timer_of w (Some p))
+      → IsIndexed S (set pending w (Some p)) lists later_timers active busy
+  indexed_with_timer p timed timer timers_are =
+      let queue = queue_of S w in
+      let freezable = (flags_at S queue).freezable in
+      let before = nowhere queue freezable (pending_at pending w) timed in
+      let after = nowhere queue freezable (Some p) timer in
+      let unlisted : rank_at lists w ≡ None = is.ranks w ∙ ap (λ (o : Option ℕ). ranked o (pending_stamp (pending_at pending w))) before.list in
+      indexed_with S pending lists lists timers later_timers active busy active busy is w (Some p) below
+      (lists_stay lists w p.stamp (list_of queue (Some p)) unlisted after.list)
+      timers_are
+      (counts_stay active (active_class queue (pending_at pending w)) (active_class queue (Some p)) before.active after.active)
+      (counts_stay busy (busy_class freezable (pending_at pending w)) (busy_class freezable (Some p)) before.busy after.busy)
+
+-- what is pending is counted
+module _ (S : ScenarioContents) (pending : List (Option Pending)) (lists : ListContents) (timers : List (Option Timer)) (active busy : List ℕ) (is : IsIndexed S pending lists timers active busy) (w : ℕ) (below : w < length S.works) (was : Pending) (pends_so : pending_at pending w ≡ Some was) where
+  pub counted_as_active : IfSome (active_at (queue_of S w) was.place) (λ i. i < length active → 0 < count_of active i)
+  counted_as_active = subst (λ (o : Option Pending). IfSome (active_class (queue_of S w) o) (λ i. i < length active → 0 < count_of active i)) pends_so (counted_in active (active_classes S pending) (length S.works) w is.active_counted below)
+
+  pub counted_as_busy : IfSome (busy_at (flags_at S (queue_of S w)).freezable was.place) (λ i. i < length busy → 0 < count_of busy i)
+  counted_as_busy = subst (λ (o : Option Pending). IfSome (busy_class (flags_at S (queue_of S w)).freezable o) (λ i. i < length busy → 0 < count_of busy i)) pends_so (counted_in busy (busy_classes S pending) (length S.works) w is.busy_counted below)
+
+-- of two changes of one work the second one stays
+pub pended_twice : (m : QueuedContents) (w : ℕ) (o p : Option Pending) → with_pending (with_pending m w o) w p ≡ with_pending m w p
+pended_twice m w o p = ap (λ (pending : List (Option Pending)). record m { pending = pending }) (set-set m.pending w o p)
 
 -- nothing is pending, and each index is empty
 pub nothing_indexed : (S : ScenarioContents) (pending : List (Option Pending)) (lists : ListContents) (timers : List (Option Timer)) (active busy : List ℕ) → IsSetting S → pending ≡ replicate (length S.works) None

@@ -13,9 +13,10 @@ use Rattle.cmwq_lists.specs.ListContents.{IsInOrder, ListContents, Rank, first_i
 use Rattle.cmwq_queued.specs.Indexes.{IsIndexed, in_pool, inactive_list, list_at, list_of, rank_of, ranked, timer_of, timer_with, work_if_due}
 use Rattle.cmwq_queued.specs.QueuedContents.{HaveOwnStamps, QueuedContents, first_timed, is_timer, listed_behind, next_due, pending_at, pending_state}
 use Rattle.cmwq_queued.specs.declared.pools.TheConstants.{MAX_POOLS}
+use Rattle.cmwq_types.specs.declared.instr.WorkId.{WorkId}
 use Rattle.cmwq_table.specs.Counts.{first_due, first_inactive, first_listed, is_due, is_inactive, is_listed, pending_due, pending_stamp, pends}
 use Rattle.cmwq_table.specs.declared.state.Pending.{Pending}
-use Rattle.cmwq_timers.specs.Timers.{fires_before, first_to_fire, least_timer, timer_at, timer_due, timer_found, timer_stamp}
+use Rattle.cmwq_timers.specs.Timers.{due_by, fires_before, first_to_fire, least_timer, timer_at, timer_due, timer_found, timer_stamp}
 use Rattle.cmwq_timers.specs.declared.timer.Timer.{Timer}
 
 -- tests that agree, and orders that agree on what passes, have the same first
@@ -177,6 +178,15 @@ own_due w (Some p) some = by_place p.place some
 -- what is first to fire has a timer
 first_to_fire_has : (timers : List (Option Timer)) → MatchFirst (fires_before timers) (λ w. is_some (timer_at timers w)) (length timers) (first_to_fire timers)
 first_to_fire_has timers = first_below-is_first (fires_before timers) (λ w. is_some (timer_at timers w)) (length timers) (by_least_two-order (λ w. timer_due (timer_at timers w)) (λ w. timer_stamp (timer_at timers w)))
+
+-- the work of the timer, if it is due
+pub due_work : (time : ℕ) (timer : Option Timer) → option_map (λ (work : WorkId). work.0) (option_map (λ (t : Timer). t.work) (due_by time timer)) ≡ work_if_due time timer
+due_work time None = refl
+due_work time (Some timer) = by_test (nat_le timer.due time)
+  where
+    by_test : (b : Bool) → option_map (λ (work : WorkId). work.0) (option_map (λ (t : Timer). t.work) (cond b (Some timer) None)) ≡ cond b (Some timer.work.0) None
+    by_test true = refl
+    by_test false = refl
 
 -- What the indexes tell.
 module _ (S : ScenarioContents) (pending : List (Option Pending)) (lists : ListContents) (timers : List (Option Timer)) (active busy : List ℕ) (is : IsIndexed S pending lists timers active busy) where

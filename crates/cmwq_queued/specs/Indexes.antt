@@ -1,15 +1,15 @@
 -- Where a pending work stands in each index: in a list, among the timers, in a class that is counted. Of this module public clauses
 -- cite `timer_of` alone.
-use Rattle.std.specs.Prelude.{◌≡◌, ℕ, ◌+◌, ◌*◌, Bool, false, not, ◌&&◌, if◌then◌else◌, nat_le, nat_lt, List, length, Option, Some, None}
+use Rattle.std.specs.Prelude.{◌≡◌, ℕ, ◌+◌, ◌*◌, Bool, if◌then◌else◌, nat_le, nat_lt, List, length, Option, Some, None}
 use Rattle.cmwq_types.specs.Contents.{ScenarioContents}
 use Rattle.cmwq_types.specs.Scenario.{flags_at, queue_of}
 use Rattle.cmwq_types.specs.Setting.{IsSetting}
 use Rattle.cmwq_types.specs.declared.reply.Place.{Place}
 use Rattle.cmwq_types.specs.declared.reply.Place.TheVariants as place
 use Rattle.cmwq_lists.specs.ListContents.{ListContents, Rank, rank_at}
-use Rattle.cmwq_queued.specs.QueuedContents.{is_timer, pending_at}
+use Rattle.cmwq_queued.specs.QueuedContents.{pending_at}
 use Rattle.cmwq_queued.specs.declared.pools.TheConstants.{MAX_POOLS}
-use Rattle.cmwq_table.specs.Counts.{is_activated, pending_stamp}
+use Rattle.cmwq_table.specs.Counts.{pending_stamp}
 use Rattle.cmwq_table.specs.declared.state.Pending.{Pending}
 use Rattle.cmwq_tally.specs.TallyContents.{IsTallied}
 use Rattle.cmwq_timers.specs.Timers.{timer_at}
@@ -33,11 +33,6 @@ list_at queue (place.Deferred pool) = None
 abbrev pub list_of : ℕ → Option Pending → Option ℕ
 list_of queue (Some p) = list_at queue p.place
 list_of queue None = None
-
--- whether a work that is pending so may stand in a list or in a class
-abbrev pub is_grouped : Option Pending → Bool
-is_grouped (Some p) = not (is_timer p.place)
-is_grouped None = false
 
 abbrev pub ranked : Option ℕ → ℕ → Option Rank
 ranked (Some list) stamp = Some (record { list = list; order = stamp })
@@ -77,8 +72,17 @@ active_class queue (Some p) = active_at queue p.place
 active_class queue None = None
 
 -- of the works of freezable queues that are listed or deferred
+abbrev pub busy_if : Bool → Option ℕ
+busy_if freezable = if freezable then Some 0 else None
+
+abbrev pub busy_at : Bool → Place → Option ℕ
+busy_at freezable (place.Listed pool) = busy_if freezable
+busy_at freezable (place.Deferred pool) = busy_if freezable
+busy_at freezable (place.Timer due cpu) = None
+busy_at freezable (place.Inactive pool) = None
+
 abbrev pub busy_class : Bool → Option Pending → Option ℕ
-busy_class freezable (Some p) = if freezable && is_activated p.place then Some 0 else None
+busy_class freezable (Some p) = busy_at freezable p.place
 busy_class freezable None = None
 
 -- of each work by its number

@@ -1,19 +1,16 @@
 //! The pending works.
-ghost use Rattle.cmwq_queued.specs.Indexes.{list_of, timer_of};
+ghost use Rattle.cmwq_queued.specs.Indexes.{list_at, timer_of};
 ghost use Rattle.cmwq_timers.specs.Timers.{timer_at};
-ghost use Rattle.cmwq_queued.specs.QueuedContents.{HaveOwnStamps, IsNewest, deferred_in, listed_behind, next_due, pending_active, pending_at, pending_busy, pending_state, with_pending};
+ghost use Rattle.cmwq_queued.specs.QueuedContents.{HaveOwnStamps, IsNewest, deferred_in, is_timer, listed_behind, next_due, pending_active, pending_at, pending_busy, pending_state, with_pending};
 ghost use Rattle.cmwq_queued.specs.declared.pools.TheConstants.{MAX_POOLS};
-ghost use Rattle.cmwq_table.specs.Counts.{first_due, first_inactive, first_listed, is_listed, pending_stamp, pends};
+ghost use Rattle.cmwq_table.specs.Counts.{first_due, first_inactive, first_listed, is_listed, pends};
 ghost use Rattle.cmwq_types.specs.Scenario.{queue_of};
 ghost use Rattle.cmwq_types.specs.Setting.{IsSetting};
 ghost use Rattle.cmwq_types.specs.declared.limits.TheConstants.{MAX_WORKS};
-ghost use Rattle.std.specs.Prelude.{◌≡◌, ◌==◌, ◌<◌, ℕ, IfOk, IfSome, None, Some, length, not, replicate, slice_set, true};
+ghost use Rattle.std.specs.Prelude.{◌≡◌, ◌==◌, ◌<◌, ℕ, IfOk, IfSome, IsSome, None, Some, length, not, replicate, slice_set, true};
 
-use crate::indexes::{relist, retime};
-use crate::places::{
-    active_class, busy_class, class_in, deferred_in, due_of, inactive_list, is_grouped, list_of,
-    stamp_of, timer_of, work_if_due,
-};
+use crate::indexes::{count, enlist, replace_timer, start_timer, stop_timer, uncount, unlist};
+use crate::places::{class_in, inactive_list, is_timer};
 use crate::pools::MAX_POOLS;
 use cmwq_lists::Lists;
 use cmwq_table::Pending;
@@ -96,6 +93,7 @@ impl QueuedWorks {
     }
 
     /// Where the work is pending, if it is.
+    #[inline(always)]
     pub fn of(&self, w: usize) -> Option<Pending>
         ensures { result ≡ pending_at self.now.pending w }
     {
@@ -117,6 +115,7 @@ impl QueuedWorks {
     }
 
     /// The first work on the pool's worklist.
+    #[inline(always)]
     pub fn first_listed(&self, pool: u8) -> Option<usize>
         requires pool { pool < MAX_POOLS }
         ensures first { result ≡ first_listed self.now.scenario (pending_state self.now.scenario self.now.pending) pool }
@@ -147,6 +146,7 @@ impl QueuedWorks {
     }
 
     /// The first of the queue's inactive works in the pool.
+    #[inline(always)]
     pub fn first_inactive(&self, queue: u8, pool: u8) -> Option<usize>
         requires pool { pool < MAX_POOLS }
         requires queue { queue < length self.now.scenario.queues }
@@ -158,22 +158,25 @@ impl QueuedWorks {
     }
 
     /// The work whose timer fires first of those that have run out by this tick.
+    #[inline(always)]
     pub fn first_due(&self, time: u64) -> Option<usize>
         ensures first { result ≡ first_due self.now.scenario (record (pending_state self.now.scenario self.now.pending) { time = time }) }
         ensures in_range { IfSome result (λ w. w < length self.now.scenario.works) }
         ensures few { IfSome result (λ w. w < MAX_WORKS) }
     {
-        work_if_due(self.timers.least(), time)
+        self.timers.first_due(time).map(|work| usize::from(work.0))
     }
 
     /// The tick at which the first of the timers fires.
+    #[inline(always)]
     pub fn next_due(&self) -> Option<u64>
         ensures { result ≡ next_due self.now.scenario self.now.pending }
     {
-        due_of(self.timers.least())
+        self.timers.next_due()
     }
 
     /// How many works of the queue are listed or deferred in the pool.
+    #[inline(always)]
     pub fn active(&self, queue: u8, pool: u8) -> usize
         requires pool { pool < MAX_POOLS }
         requires queue { queue < length self.now.scenario.queues }
@@ -190,33 +193,42 @@ impl QueuedWorks {
     }
 
     /// Makes a work pending that isn't. Its stamp is greater than those of all pending works.
+    #[inline(always)]
     pub fn put(&mut self, w: usize, p: Pending)
         requires work { w < length self.old.scenario.works }
         requires idle { pending_at self.old.pending w ≡ None }
         requires newest { IsNewest self.old.pending p.stamp }
         ensures { self.new ≡ with_pending self.old w (Some p) }
     {
-        self.change(w, None, Some(p));
+        self.pend(w, p);
     }
 
     /// Gives a pending work another place and stamp. The stamp is greater than those of all pending works. It is as `put`
-    /// where the work isn't pending.
+    /// where the work isn't pending. A work that has a timer and gets another one stays in the tree of timers.
+    #[inline(always)]
     pub fn list(&mut self, w: usize, p: Pending)
         requires work { w < length self.old.scenario.works }
         requires newest { IsNewest self.old.pending p.stamp }
         ensures { self.new ≡ with_pending self.old w (Some p) }
     {
-        let was = self.of(w);
-        self.change(w, was, Some(p));
+        if is_timer(p.place) && self.has_timer(w) {
+            self.retime(w, p);
+            return;
+        }
+        self.take(w);
+        self.pend(w, p);
     }
 
     /// Takes a work off, if it is pending.
+    #[inline(always)]
     pub fn take(&mut self, w: usize)
         requires work { w < length self.old.scenario.works }
         ensures { self.new ≡ with_pending self.old w None }
     {
-        let was = self.of(w);
-        self.change(w, was, None);
+        match self.pending[w] {
+            None => {}
+            Some(was) => self.leave(w, was),
+        }
     }
 
     /// Has a pending work wait in the pool for the end of its run. It keeps its stamp, and stands in no list. A work that
@@ -225,38 +237,70 @@ impl QueuedWorks {
         requires work { w < length self.old.scenario.works }
         ensures { self.new ≡ with_pending self.old w (deferred_in pool (pending_at self.old.pending w)) }
     {
-        let was = self.of(w);
-        self.change(w, was, deferred_in(was, pool));
+        match self.of(w) {
+            None => {}
+            Some(was) => {
+                let place = Place::Deferred(pool);
+                self.leave(w, was);
+                self.pend(w, Pending { place, ..was });
+            }
+        }
     }
 
-    /// Has a work pend otherwise than it did, or not at all, and each index with it: its list and the counts only where it may have stood in one,
-    /// or may do so.
+    /// Whether the work is pending with a timer.
     #[inline(always)]
-    fn change(&mut self, w: usize, was: Option<Pending>, becomes: Option<Pending>)
-        requires work { w < length self.old.scenario.works }
-        requires was { pending_at self.old.pending w ≡ was }
-        requires newest { IfSome (list_of (queue_of self.old.scenario w) becomes) (λ list. IsNewest self.old.pending (pending_stamp becomes)) }
-        ensures { self.new ≡ with_pending self.old w becomes }
+    fn has_timer(&self, w: usize) -> bool
+        requires work { w < length self.now.scenario.works }
+        ensures { result ≡ pends is_timer (pending_at self.now.pending w) }
     {
-        self.pending[w] = becomes;
-        let work = WorkId(w as u16);
-        retime(
-            &mut self.timers,
-            work,
-            timer_of(work, was),
-            timer_of(work, becomes),
-        );
-        if !is_grouped(was) && !is_grouped(becomes) {
-            return;
+        match self.pending[w] {
+            None => false,
+            Some(p) => is_timer(p.place),
         }
-        let queue = self.scenario.queue_of(w);
-        let freezable = self.scenario.flags_of(queue).freezable;
-        let from = list_of(queue, was);
-        let to = list_of(queue, becomes);
-        relist(&mut self.lists, w, from, to, stamp_of(becomes));
-        self.active
-            .change(active_class(queue, was), active_class(queue, becomes));
-        self.busy
-            .change(busy_class(freezable, was), busy_class(freezable, becomes));
+    }
+
+    /// Makes a work pending that isn't, and has each index follow: no more of them than its place asks for.
+    #[inline(always)]
+    fn pend(&mut self, w: usize, p: Pending)
+        requires work { w < length self.old.scenario.works }
+        requires idle { pending_at self.old.pending w ≡ None }
+        requires newest { IfSome (list_at (queue_of self.old.scenario w) p.place) (λ list. IsNewest self.old.pending p.stamp) }
+        ensures { self.new ≡ with_pending self.old w (Some p) }
+    {
+        self.pending[w] = Some(p);
+        start_timer(&mut self.timers, w, p);
+        enlist(&self.scenario, &mut self.lists, w, p);
+        count(&self.scenario, &mut self.active, &mut self.busy, w, p.place);
+    }
+
+    /// Takes off a work that is pending so, and has each index follow.
+    #[inline(always)]
+    fn leave(&mut self, w: usize, was: Pending)
+        requires work { w < length self.old.scenario.works }
+        requires was { pending_at self.old.pending w ≡ Some was }
+        ensures { self.new ≡ with_pending self.old w None }
+    {
+        self.pending[w] = None;
+        stop_timer(&mut self.timers, w, was.place);
+        unlist(&mut self.lists, w, was.place);
+        uncount(
+            &self.scenario,
+            &mut self.active,
+            &mut self.busy,
+            w,
+            was.place,
+        );
+    }
+
+    /// Gives a work that has a timer another one. Neither lists nor counts know of it.
+    #[inline(always)]
+    fn retime(&mut self, w: usize, p: Pending)
+        requires work { w < length self.old.scenario.works }
+        requires timed { pends is_timer (pending_at self.old.pending w) ≡ true }
+        requires timer { is_timer p.place ≡ true }
+        ensures { self.new ≡ with_pending self.old w (Some p) }
+    {
+        self.pending[w] = Some(p);
+        replace_timer(&mut self.timers, w, p);
     }
 }

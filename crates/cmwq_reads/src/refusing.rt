@@ -10,6 +10,7 @@ use cmwq_table::Reads;
 use cmwq_types::{Instr, MAX_MAX_ACTIVE, QueueId, Refusal, Scenario, WorkId};
 
 /// What the instruction's operands are refused for, and else, where it isn't free, whether the steps are spent.
+#[inline(always)]
 pub fn refused_at_once<R: Reads>(machine: &R, instr: Instr, free: bool) -> Option<Refusal>
     ensures { result ≡ or_else (operands (R.loaded machine.now) (R.state machine.now) instr)
         (refuse_unless (free || nat_lt (R.state machine.now).spent (R.loaded machine.now).steps) Spent) }
@@ -22,6 +23,7 @@ pub fn refused_at_once<R: Reads>(machine: &R, instr: Instr, free: bool) -> Optio
 }
 
 /// What the operands are refused for, judged from left to right.
+#[inline(always)]
 pub fn operands<R: Reads>(machine: &R, instr: Instr) -> Option<Refusal>
     ensures { result ≡ operands (R.loaded machine.now) (R.state machine.now) instr }
 {
@@ -48,12 +50,14 @@ pub fn operands<R: Reads>(machine: &R, instr: Instr) -> Option<Refusal>
     }
 }
 
+#[inline(always)]
 fn no_work(scenario: &Scenario, w: WorkId) -> Option<Refusal>
     ensures { result ≡ no_work scenario.now w }
 {
     refuse_unless((w.0 as usize) < scenario.works.len(), Refusal::NoSuchWork)
 }
 
+#[inline(always)]
 fn no_work_or_cpu(scenario: &Scenario, w: WorkId, cpu: u8) -> Option<Refusal>
     ensures { result ≡ no_work_or_cpu scenario.now w cpu }
 {
@@ -63,6 +67,7 @@ fn no_work_or_cpu(scenario: &Scenario, w: WorkId, cpu: u8) -> Option<Refusal>
     }
 }
 
+#[inline(always)]
 fn no_queue(scenario: &Scenario, q: QueueId) -> Option<Refusal>
     ensures { result ≡ refuse_unless (nat_lt q.0 (length scenario.now.queues)) NoSuchQueue }
 {
@@ -70,6 +75,7 @@ fn no_queue(scenario: &Scenario, q: QueueId) -> Option<Refusal>
 }
 
 /// The `max` of a queue is 1 to 512.
+#[inline(always)]
 fn no_queue_or_count(scenario: &Scenario, q: QueueId, max: u32) -> Option<Refusal>
     ensures { result ≡ or_else (refuse_unless (nat_lt q.0 (length scenario.now.queues)) NoSuchQueue) (refuse_unless (within 1 MAX_MAX_ACTIVE max) BadCount) }
 {
@@ -83,6 +89,7 @@ fn no_queue_or_count(scenario: &Scenario, q: QueueId, max: u32) -> Option<Refusa
 }
 
 /// A refusal where the test fails.
+#[inline(always)]
 fn refuse_unless(holds: bool, why: Refusal) -> Option<Refusal>
     ensures { result ≡ refuse_unless holds why }
 {

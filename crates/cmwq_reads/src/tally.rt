@@ -111,6 +111,7 @@ pub fn may_start<R: Reads>(machine: &R, pool: u8) -> bool
 }
 
 /// How many works of the queue may be active in a pool.
+#[inline(always)]
 pub fn limit<R: Reads>(machine: &R, queue: u8) -> u16
     ensures { result ≡ limit (R.loaded machine.now) (R.state machine.now) queue }
 {

@@ -1,4 +1,4 @@
-use Rattle.std.proofs.Common.{◌∙◌, subst}
+use Rattle.std.proofs.Common.{subst}
 use Rattle.cmwq_queued.specs.QueuedContents.{HaveOwnStamps, QueuedContents}
 use Rattle.cmwq_queued.proofs.FoundLemmas.{listed_apart}
 use Rattle.cmwq_queued.proofs.queued_works.QueuedWorks.own_stamps.Goals as goal

@@ -1,4 +1,4 @@
-use Rattle.std.proofs.Common.{◌≡◌, ap, ◌∙◌}
+use Rattle.std.proofs.Common.{ap, ◌∙◌}
 use Rattle.cmwq_queued.specs.Indexes.{timer_of}
 use Rattle.cmwq_queued.specs.QueuedContents.{QueuedContents, pending_at}
 use Rattle.cmwq_queued.proofs.queued_works.QueuedWorks.timers.Goals as goal
