@@ -1,25 +1,19 @@
 -- What ticks leave, as long as nothing ends and no timer is due.
-use Rattle.std.proofs.Common.{◌≡◌, ℕ, zero, suc, ◌+◌, ◌-◌, ◌<◌, ◌≤◌, Bool, true, false, ◌&&◌, ◌||◌, ◌==◌, List, length, Option, Some, None, IfSome, option_map, arith, refl, sym, ap, subst, ◌∙◌}
-use Rattle.std.specs.Prelude.{is_some, nat_lt}
+use Rattle.std.proofs.Common.{◌≡◌, ℕ, zero, suc, ◌+◌, ◌-◌, ◌<◌, ◌≤◌, Bool, true, false, ◌&&◌, ◌||◌, ◌==◌, List, length, Option, Some, None, IfSome, option_map, arith, refl, sym, subst, ◌∙◌}
+use Rattle.std.specs.Prelude.{nat_lt}
 use Rattle.std.proofs.lemmas.Bool.Decides.{nat_tests}
 use Rattle.cmwq_types.specs.Contents.{ScenarioContents}
-use Rattle.cmwq_types.specs.First.{MatchFirst, by_least, by_least_two}
-use Rattle.cmwq_types.specs.Scenario.{pool_count}
-use Rattle.cmwq_types.proofs.FirstLemmas.{by_least-order, by_least_two-order, first_below-is_first, first_below-none}
+use Rattle.cmwq_types.specs.First.{IsOrder, MatchFirst, by_least_two}
+use Rattle.cmwq_types.proofs.FirstLemmas.{by_least_two-order, first_below-is_first, first_below-none}
 use Rattle.cmwq_types.specs.declared.reply.Place.{Place}
 use Rattle.cmwq_types.specs.declared.reply.Place.TheVariants.{Timer, Inactive, Listed, Deferred}
 use Rattle.cmwq_parts.specs.SettledTicks.{ticks}
-use Rattle.cmwq_parts.specs.declared.pool_set.PoolSet.{PoolSet}
 use Rattle.cmwq_table.specs.Counts.{burns, due_of, first_due, is_due, pending_due, pending_stamp, pends}
-use Rattle.cmwq_table.specs.Moves.{first_moving, next_move, tick}
+use Rattle.cmwq_table.specs.Moves.{tick}
 use Rattle.cmwq_table.specs.State.{State, pending_at}
 use Rattle.cmwq_table.specs.declared.state.Pending.{Pending}
 use Rattle.cmwq_table.specs.declared.state.Running.{Running}
-use Rattle.cmwq_idle.specs.Idle.{WorkersContents}
-use Rattle.cmwq_queued.specs.QueuedContents.{QueuedContents, first_timed, is_timer, next_due}
-use Rattle.cmwq_running.specs.RunningContents.{RunningContents}
-use Rattle.cmwq_running.specs.Ticks.{MoveAlike}
-use Rattle.cmwq_core.specs.Moving.{IsCovered, moving_state}
+use Rattle.cmwq_queued.specs.QueuedContents.{first_timed, is_timer, next_due}
 use Rattle.cmwq_core.specs.Staff.{runs_at}
 use Rattle.cmwq_core.proofs.FoundLemmas.{burned_long, burned_stems}
 use Rattle.cmwq_core.proofs.LayoutLemmas.{RunsOnAs}
@@ -44,14 +38,6 @@ ticks_time S s (suc n) = (let rest = ticks_time S (tick S s) n in omega (arith, 
 pub ticks_pending : (S : ScenarioContents) (s : State) (n : ℕ) → (ticks S s n).pending ≡ s.pending
 ticks_pending S s zero = refl
 ticks_pending S s (suc n) = ticks_pending S (tick S s) n
-
--- where each pool has the move that it had, the same set covers them
-pub covered_alike : (q : QueuedContents) (r after : RunningContents) (k : WorkersContents) (pressed : Bool) (pools : PoolSet) → IsCovered q r k pressed pools → MoveAlike q.scenario (moving_state q r k pressed) (moving_state q after k pressed) → IsCovered q after k pressed pools
-covered_alike q r after k pressed pools is alike pool small clear = alike.moves pool ∙ is pool small clear
-
--- where no pool has a move, none is the first
-pub none_moving : (S : ScenarioContents) (s : State) → ((pool : ℕ) → pool < pool_count S → next_move S s pool ≡ None) → first_moving S s ≡ None
-none_moving S s none = first_below-none (by_least (λ pool. pool)) (λ pool. is_some (next_move S s pool)) (pool_count S) (by_least-order (λ pool. pool)) (λ pool h. ap is_some (none pool h))
 
 -- before the first timer is due, none is
 pub none_due : (S : ScenarioContents) (s : State) → IfSome (next_due S s.pending) (λ due. s.time < due) → first_due S s ≡ None
@@ -94,3 +80,33 @@ none_due_then S s n most left below = none_due S (ticks S s n) (subst (λ (ps : 
     by_due : (o : Option ℕ) → IfSome o (λ due. most ≤ due - s.time) → IfSome o (λ due. (ticks S s n).time < due)
     by_due None left = tt
     by_due (Some due) left = (let now = ticks_time S s n in omega (arith, left, below, now))
+
+-- where none is due, the first timer is due later
+pub due_later : (S : ScenarioContents) (s : State) → first_due S s ≡ None → IfSome (next_due S s.pending) (λ due. s.time < due)
+due_later S s none = by_first (first_timed S s.pending) first
+  where
+    by_fire : ℕ → ℕ → Bool
+    by_fire = by_least_two (λ w. pending_due (pending_at s w)) (λ w. pending_stamp (pending_at s w))
+
+    ordered : IsOrder by_fire
+    ordered = by_least_two-order (λ w. pending_due (pending_at s w)) (λ w. pending_stamp (pending_at s w))
+
+    first : MatchFirst by_fire (λ w. pends is_timer (pending_at s w)) (length S.works) (first_timed S s.pending)
+    first = first_below-is_first by_fire (λ w. pends is_timer (pending_at s w)) (length S.works) ordered
+
+    not_due : (w : ℕ) → w < length S.works → pends (λ place. is_due place s.time) (pending_at s w) ≡ false
+    not_due = subst (MatchFirst by_fire (λ w. pends (λ place. is_due place s.time) (pending_at s w)) (length S.works)) none (first_below-is_first by_fire (λ w. pends (λ place. is_due place s.time) (pending_at s w)) (length S.works) ordered)
+
+    later : (o : Option Pending) → pends is_timer o ≡ true → pends (λ place. is_due place s.time) o ≡ false → s.time < pending_due o
+    later None timed undue = absurd (let no = timed in cc)
+    later (Some p) timed undue = by_place p.place timed undue
+      where
+        by_place : (place : Place) → is_timer place ≡ true → is_due place s.time ≡ false → s.time < due_of place
+        by_place (Timer due cpu) timed undue = grind (arith, nat_tests)
+        by_place (Inactive at) timed undue = absurd (let no = timed in cc)
+        by_place (Listed at) timed undue = absurd (let no = timed in cc)
+        by_place (Deferred at) timed undue = absurd (let no = timed in cc)
+
+    by_first : (o : Option ℕ) → MatchFirst by_fire (λ w. pends is_timer (pending_at s w)) (length S.works) o → IfSome (option_map (λ w. pending_due (pending_at s w)) o) (λ due. s.time < due)
+    by_first None is = tt
+    by_first (Some f) is = later (pending_at s f) is.passes (not_due f is.in_range)

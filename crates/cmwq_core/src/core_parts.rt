@@ -99,14 +99,17 @@ impl Reads for CoreParts {
         self.max.get(queue as usize).copied().unwrap_or(0)
     }
 
+    #[inline(always)]
     fn pending_of(&self, w: usize) -> Option<Pending> {
         self.queued.of(w)
     }
 
+    #[inline(always)]
     fn running_of(&self, w: usize) -> Option<Running> {
         self.running.of(w)
     }
 
+    #[inline(always)]
     fn depth_of(&self, w: usize) -> u16 {
         self.depth.get(w).copied().unwrap_or(0)
     }
@@ -188,6 +191,7 @@ impl Parts for CoreParts {
         })
     }
 
+    #[inline(always)]
     fn has_room(&self, queue: u8, pool: u8) -> bool {
         if pool >= MAX_POOLS || queue as usize >= self.queued.scenario().queues.len() {
             return cmwq_reads::has_room(self, queue, pool);
@@ -200,14 +204,17 @@ impl Parts for CoreParts {
         self.queued.is_busy() || self.running.freezable_running() != 0
     }
 
+    #[inline(always)]
     fn may_move(&self) -> PoolSet {
-        self.moving
+        let pools = self.workers.made().len() as u8;
+        self.moving.common(PoolSet::below(pools))
     }
 
     fn settle(&mut self, pool: u8) {
         self.moving = without(self.moving, pool);
     }
 
+    #[inline(always)]
     fn may_start(&self, pool: u8) -> bool {
         if pool >= MAX_POOLS {
             return cmwq_reads::may_start(self, pool);
@@ -215,6 +222,7 @@ impl Parts for CoreParts {
         self.running.may_start(pool)
     }
 
+    #[inline(always)]
     fn first_inactive(&self, queue: u8, pool: u8) -> Option<usize> {
         if pool >= MAX_POOLS || queue as usize >= self.queued.scenario().queues.len() {
             return cmwq_reads::first(self, Sought::Inactive { queue, pool });
@@ -222,6 +230,7 @@ impl Parts for CoreParts {
         self.queued.first_inactive(queue, pool)
     }
 
+    #[inline(always)]
     fn first_listed(&self, pool: u8) -> Option<usize> {
         if pool >= MAX_POOLS {
             return cmwq_reads::first(self, Sought::Listed { pool });
@@ -236,10 +245,12 @@ impl Parts for CoreParts {
         first_rescued(&self.queued, &self.running, pool)
     }
 
+    #[inline(always)]
     fn first_due(&self) -> Option<usize> {
         self.queued.first_due(self.running.time())
     }
 
+    #[inline(always)]
     fn first_slept(&self, pool: u8) -> Option<usize> {
         if pool >= MAX_POOLS {
             return cmwq_reads::first(self, Sought::Slept { pool });
@@ -247,6 +258,7 @@ impl Parts for CoreParts {
         self.running.first_slept(pool)
     }
 
+    #[inline(always)]
     fn ready_head(&self, pool: u8) -> Option<usize> {
         if pool >= MAX_POOLS {
             return cmwq_reads::ready_head(self, pool);
@@ -254,6 +266,7 @@ impl Parts for CoreParts {
         self.running.ready_head(pool)
     }
 
+    #[inline(always)]
     fn free_worker(&self, pool: u8) -> Option<u8> {
         match self.workers.last(pool) {
             Some(worker) => Some(worker),
@@ -261,6 +274,7 @@ impl Parts for CoreParts {
         }
     }
 
+    #[inline(always)]
     fn bear(&mut self, w: usize, place: Place) {
         let stamp = self.next;
         self.queued.put(
@@ -275,6 +289,7 @@ impl Parts for CoreParts {
         self.next = stamp + 1;
     }
 
+    #[inline(always)]
     fn unpend(&mut self, w: usize, p: Pending) {
         self.queued.take(w);
         self.moving = with_some(self.moving, listed_pool(p.place));
@@ -288,6 +303,7 @@ impl Parts for CoreParts {
         self.next = born + 1;
     }
 
+    #[inline(always)]
     fn enlist(&mut self, _queue: u8, pool: u8, w: usize) {
         if let Some(p) = self.queued.of(w) {
             let stamp = self.next;
@@ -298,11 +314,13 @@ impl Parts for CoreParts {
         }
     }
 
+    #[inline(always)]
     fn defer(&mut self, pool: u8, w: usize) {
         self.queued.defer(w, pool);
         self.moving = with(self.moving, pool);
     }
 
+    #[inline(always)]
     fn start_on(&mut self, pool: u8, w: usize, worker: u8, p: Pending) {
         let stamp = self.next;
         self.queued.take(w);
@@ -320,16 +338,19 @@ impl Parts for CoreParts {
         self.next = stamp + 1;
     }
 
+    #[inline(always)]
     fn go_on(&mut self, w: usize, r: Running, left: u32) {
         self.running.go_on(w, r, left);
         self.moving = with(self.moving, r.pool);
     }
 
+    #[inline(always)]
     fn sleep(&mut self, w: usize, r: Running, until: u64) {
         self.running.sleep(w, r, until);
         self.moving = with(self.moving, r.pool);
     }
 
+    #[inline(always)]
     fn wake(&mut self, pool: u8, w: usize) {
         let stamp = self.next;
         self.running.wake(pool, w, stamp);
@@ -337,6 +358,7 @@ impl Parts for CoreParts {
         self.next = stamp + 1;
     }
 
+    #[inline(always)]
     fn begin_again(&mut self, w: usize, r: Running, p: Pending) {
         let stamp = self.next;
         self.queued.take(w);
@@ -345,6 +367,7 @@ impl Parts for CoreParts {
         self.next = stamp + 1;
     }
 
+    #[inline(always)]
     fn retire(&mut self, w: usize, r: Running) {
         self.running.retire(w);
         if r.worker == RESCUER {
@@ -359,17 +382,12 @@ impl Parts for CoreParts {
         }
     }
 
-    fn tick(&mut self) {
-        let ended = self.running.tick();
-        self.moving = self.moving.union(ended);
-    }
-
+    #[inline(always)]
     fn pass(&mut self, most: u32) -> u32 {
-        if self.is_settled() {
-            self.pass_settled(most)
-        } else {
-            0
-        }
+        let until_due = self.until_due(most);
+        let (count, ended) = self.running.pass(until_due);
+        self.moving = self.moving.union(ended);
+        count
     }
 
     fn set_depth(&mut self, w: usize, depth: u16) {
@@ -399,11 +417,9 @@ impl Parts for CoreParts {
 }
 
 impl CoreParts {
-    ghost use Rattle.cmwq_parts.specs.SettledTicks.{AreSettled, ticks};
     ghost use Rattle.cmwq_queued.specs.Indexes.{timer_of};
     ghost use Rattle.cmwq_queued.specs.QueuedContents.{next_due};
-    ghost use Rattle.cmwq_table.specs.Moves.{first_moving};
-    ghost use Rattle.cmwq_table.specs.Ready.{holding};
+    ghost use Rattle.cmwq_table.specs.Counts.{first_due};
     ghost use Rattle.cmwq_table.specs.State.{pending_at};
     ghost use Rattle.cmwq_timers.specs.Timers.{timer_at};
     ghost use Rattle.std.specs.Prelude.{◌-◌, ◌<◌, ◌≤◌, ◌^◌, ℕ, IfSome, None, true};
@@ -415,32 +431,12 @@ impl CoreParts {
         self.queued.timers()
     }
 
-    /// Lets at most so many ticks pass, until a timer is due or a burn or sleep ends. Answers how many.
-    #[inline(never)]
-    fn pass_settled(&mut self, most: u32) -> u32
-        requires time { self.old.state.time < 2 ^ 63 }
-        requires moving { first_moving self.old.scenario self.old.state ≡ None }
-        ensures few { result ≤ most }
-        ensures settled { AreSettled self.old.scenario self.old.state result }
-        ensures passed { self.new ≡ holding self.old.scenario (ticks self.old.scenario self.old.state result) }
-    {
-        let until_due = self.until_due(most);
-        let still = self.running.still_for(until_due);
-        self.running.pass(still)
-    }
-
-    /// Whether no pool is noted as one that may have a move.
-    fn is_settled(&self) -> bool
-        ensures { result ≡ true → first_moving self.now.scenario self.now.state ≡ None }
-    {
-        match self.moving.first() {
-            None => true,
-            Some(pool) => pool >= self.queued.scenario().pool_count(),
-        }
-    }
-
-    /// For how many ticks, at most so many, no timer is due.
+    /// For how many ticks, at most so many, no timer is due. Now none is.
+    #[inline(always)]
     fn until_due(&self, most: u32) -> u32
+        requires due { first_due self.now.scenario self.now.state ≡ None }
+        requires some { 0 < most }
+        ensures some { 0 < result }
         ensures few { result ≤ most }
         ensures due { IfSome (next_due self.now.scenario self.now.state.pending) (λ due. result ≤ due - self.now.state.time) }
     {

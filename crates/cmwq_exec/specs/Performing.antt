@@ -4,11 +4,12 @@ use Rattle.cmwq_types.specs.Contents.{ScenarioContents}
 use Rattle.cmwq_types.specs.declared.instr.Instr.{Instr}
 use Rattle.cmwq_types.specs.declared.reply.Refusal.{Refusal}
 use Rattle.cmwq_types.specs.declared.reply.Reply.{Reply}
-use Rattle.cmwq_types.specs.declared.reply.Reply.TheVariants.{Done, Event}
-use Rattle.cmwq_parts.specs.declared.pool_moves.Happened.{Happened}
 use Rattle.cmwq_table.specs.Ready.{Loaded}
+use Rattle.cmwq_table.specs.Repeats.{reply_of}
 use Rattle.cmwq_table.specs.State.{State}
 use Rattle.cmwq_table.specs.Table.{effect, situation}
+use Rattle.cmwq_table.specs.declared.machine.Happened.{Happened}
+use Rattle.cmwq_table.specs.declared.machine.Went.TheVariants as went
 
 -- a refusal changes nothing
 abbrev pub unless_refused : State → Option Refusal → State × Reply → State × Result Reply Refusal
@@ -25,9 +26,9 @@ pub record Performs (old : Loaded) (i : Instr) (new : Loaded) (answer : Result R
 
 -- the reply that tells what happened
 abbrev pub event_reply : Happened → Reply
-event_reply happened = Event happened.work happened.event
+event_reply happened = reply_of (went.Happened happened)
 
 -- the reply to `next`: nothing happened where it ticked
 abbrev pub next_reply : Option Happened → Reply
 next_reply (Some happened) = event_reply happened
-next_reply None = Done
+next_reply None = reply_of went.Ticked

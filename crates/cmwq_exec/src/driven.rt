@@ -7,7 +7,7 @@ use crate::performing::exec;
 use crate::repeating::{again, go};
 use cmwq_parts::{Going, Parts};
 use cmwq_pool::Pool;
-use cmwq_table::{FlushTarget, LoadError, Machine, Pending, Reads, Running, View};
+use cmwq_table::{FlushTarget, LoadError, Machine, Pending, Reads, Running, View, Went};
 use cmwq_types::{Instr, NoMemory, Reply, Scenario};
 use std::alloc::Global;
 use std::marker::Model;
@@ -107,14 +107,17 @@ impl<P: Parts> Machine for Driven<P> {
         })
     }
 
+    #[inline(always)]
     fn exec(&mut self, instr: Instr) -> Reply {
         exec(&mut self.going, instr)
     }
 
-    fn go(&mut self, most: u32) -> (u32, Reply) {
+    #[inline(always)]
+    fn go(&mut self, most: u32) -> (u32, Went) {
         go(&mut self.going, most)
     }
 
+    #[inline(always)]
     fn again(&mut self, instr: Instr, reply: Reply, most: u32) -> u32 {
         again(&mut self.going, instr, reply, most)
     }
@@ -134,6 +137,7 @@ impl<P: Parts> Machine for Driven<P> {
         self.going.is_settled()
     }
 
+    #[inline(always)]
     fn now(&self) -> u64 {
         self.going.parts.time()
     }

@@ -2,6 +2,7 @@
 //! found for the one serves the other.
 ghost use Rattle.cmwq_exec.specs.Performing.{Performs, event_reply, next_reply};
 ghost use Rattle.cmwq_parts.specs.FoundMoves.{IsFound, move_of};
+ghost use Rattle.cmwq_parts.specs.SettledTicks.{IsSettled};
 ghost use Rattle.cmwq_table.specs.Counts.{first_due, is_done};
 ghost use Rattle.cmwq_table.specs.Moves.{first_moving};
 ghost use Rattle.cmwq_table.specs.Ready.{IsKept};
@@ -9,17 +10,19 @@ ghost use Rattle.cmwq_table.specs.State.{pending_at};
 ghost use Rattle.cmwq_table.specs.Table.{cancelled, fired_first, found, is_free, next, next_unless, operands, stepped, table, target_at, yes_or_no};
 ghost use Rattle.cmwq_types.specs.declared.instr.Instr.TheVariants as instr;
 ghost use Rattle.cmwq_types.specs.declared.limits.TheConstants.{MAX_MAX_ACTIVE, MAX_WORKS};
-ghost use Rattle.std.specs.Prelude.{◌≡◌, ◌<◌, ◌≤◌, ◌+◌, ◌^◌, None, Ok, Some, length};
+ghost use Rattle.std.specs.Prelude.{◌≡◌, ◌<◌, ◌≤◌, ◌+◌, ◌^◌, IfNone, IfSome, None, Ok, Some, length};
 
 use crate::disabling::{disable, enable};
 use crate::flushing::{cancel_sync, flush_delayed, flush_last, flush_queue};
-use cmwq_parts::{Going, Happened, Parts};
+use cmwq_parts::{Going, Parts};
 use cmwq_reads::{flush_target, is_free, refused_at_once};
+use cmwq_table::Happened;
 use cmwq_types::{Cause, Event, Instr, QueueId, Refusal, Reply, WorkId, WorkRun, WorkState};
 
 /// The line of an instruction: a refusal changes nothing, and what is accepted is spent, but for
 /// what is free.
 #[tactic(auto, unfolding(cmwq_table::specs::Table::table))]
+#[inline(never)]
 pub(crate) fn exec<P: Parts>(going: &mut Going<P>, instr: Instr) -> Reply
     requires { IsKept going.old }
     ensures state { going.new ≡ record going.old { state = (table going.old.scenario going.old.state instr).0 } }
@@ -50,6 +53,7 @@ pub(crate) fn spend<P: Parts>(going: &mut Going<P>, count: u32)
 
 /// Carries out an instruction whose operands are right, or says what its situation is refused for. Of an until, a wait or a quiet
 /// `free` tells whether what it goes on for has come.
+#[inline(always)]
 fn perform<P: Parts>(going: &mut Going<P>, instr: Instr, free: bool) -> Result<Reply, Refusal>
     requires free { free ≡ is_free going.old.scenario going.old.state instr }
     requires operands { operands going.old.scenario going.old.state instr ≡ None }
@@ -85,6 +89,7 @@ fn perform<P: Parts>(going: &mut Going<P>, instr: Instr, free: bool) -> Result<R
 }
 
 /// Queues the work on the CPU, unless it is disabled or pending.
+#[inline(always)]
 fn queue<P: Parts>(going: &mut Going<P>, w: WorkId, cpu: u8) -> Result<Reply, Refusal>
     requires work { w.0 < length going.old.scenario.works }
     requires cpu { cpu < going.old.scenario.cpus }
@@ -102,6 +107,7 @@ fn queue<P: Parts>(going: &mut Going<P>, w: WorkId, cpu: u8) -> Result<Reply, Re
 }
 
 /// Queues the work on the CPU after so many ticks, unless it is disabled or pending.
+#[inline(always)]
 fn delay<P: Parts>(going: &mut Going<P>, w: WorkId, cpu: u8, ticks: u32) -> Result<Reply, Refusal>
     requires work { w.0 < length going.old.scenario.works }
     requires cpu { cpu < going.old.scenario.cpus }
@@ -120,6 +126,7 @@ fn delay<P: Parts>(going: &mut Going<P>, w: WorkId, cpu: u8, ticks: u32) -> Resu
 }
 
 /// The same, but a pending work is taken off first.
+#[inline(always)]
 fn modify<P: Parts>(going: &mut Going<P>, w: WorkId, cpu: u8, ticks: u32) -> Result<Reply, Refusal>
     requires work { w.0 < length going.old.scenario.works }
     requires cpu { cpu < going.old.scenario.cpus }
@@ -236,7 +243,7 @@ fn fire_first<P: Parts>(going: &mut Going<P>) -> Result<Reply, Refusal>
     ensures { Performs going.old instr.Fire going.new result }
 {
     match going.parts.first_due() {
-        Some(w) => Ok(event_reply(fire_due(going, w))),
+        Some(w) => Ok(fire_due(going, w).reply()),
         None => Err(Refusal::NothingToDo),
     }
 }
@@ -248,7 +255,7 @@ fn step<P: Parts>(going: &mut Going<P>, pool: u8) -> Result<Reply, Refusal>
     ensures { Performs going.old (instr.Step pool) going.new result }
 {
     match going.next_move(pool) {
-        Some(next) => Ok(event_reply(going.make_move(pool, next))),
+        Some(next) => Ok(going.make_move(pool, next).reply()),
         None => Err(Refusal::NothingToDo),
     }
 }
@@ -264,7 +271,7 @@ fn tick_if_settled<P: Parts>(going: &mut Going<P>) -> Result<Reply, Refusal>
     match going.first_move() {
         Some((pool, _)) => Err(Refusal::Unsettled(Cause::Pool(pool))),
         None => {
-            going.parts.tick();
+            going.parts.pass(1);
             Ok(Reply::Done)
         }
     }
@@ -291,39 +298,40 @@ fn next_reply<P: Parts>(going: &mut Going<P>) -> Result<Reply, Refusal>
     ensures { Performs going.old instr.Next going.new result }
 {
     match next(going) {
-        Some(happened) => Ok(event_reply(happened)),
+        Some(happened) => Ok(happened.reply()),
         None => Ok(Reply::Done),
     }
 }
 
 /// Fires a due timer, else lets the least pool that has a move make it, else ticks. Answers what happened: nothing where it ticked.
-#[inline(always)]
-pub(crate) fn next<P: Parts>(going: &mut Going<P>) -> Option<Happened>
+fn next<P: Parts>(going: &mut Going<P>) -> Option<Happened>
     requires time { going.old.state.time < 2 ^ 60 }
     requires stamps { going.old.state.next < 2 ^ 60 }
     ensures state { going.new ≡ record going.old { state = (next going.old.scenario going.old.state (first_due going.old.scenario going.old.state)).0 } }
     ensures happened { next_reply result ≡ (next going.old.scenario going.old.state (first_due going.old.scenario going.old.state)).1 }
 {
+    let happened = happen(going);
+    if happened.is_none() {
+        going.parts.pass(1);
+    }
+    happened
+}
+
+/// Fires a due timer, else lets the least pool that has a move make it. Answers what happened: nothing where the machine is settled.
+#[inline(always)]
+pub(crate) fn happen<P: Parts>(going: &mut Going<P>) -> Option<Happened>
+    requires time { going.old.state.time < 2 ^ 60 }
+    requires stamps { going.old.state.next < 2 ^ 60 }
+    ensures state { IfSome result (λ _. going.new ≡ record going.old { state = (next going.old.scenario going.old.state (first_due going.old.scenario going.old.state)).0 }) }
+    ensures happened { IfSome result (λ happened. event_reply happened ≡ (next going.old.scenario going.old.state (first_due going.old.scenario going.old.state)).1) }
+    ensures same { IfNone result (going.new ≡ going.old) }
+    ensures settled { IfNone result (IsSettled going.old.scenario going.old.state) }
+{
     if let Some(w) = going.parts.first_due() {
         return Some(fire_due(going, w));
     }
-    match going.first_move() {
-        Some((pool, next)) => Some(going.make_move(pool, next)),
-        None => {
-            going.parts.tick();
-            None
-        }
-    }
-}
-
-/// The reply that tells what happened.
-pub(crate) fn event_reply(happened: Happened) -> Reply
-    ensures { result ≡ event_reply happened }
-{
-    Reply::Event {
-        work: happened.work,
-        event: happened.event,
-    }
+    let (pool, next) = going.first_move()?;
+    Some(going.make_move(pool, next))
 }
 
 /// Whether what the flush of this number waits for is done.

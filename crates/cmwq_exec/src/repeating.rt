@@ -2,36 +2,40 @@
 ghost use Rattle.cmwq_exec.specs.Advances.{HasAdvanced};
 ghost use Rattle.cmwq_exec.specs.Performing.{next_reply};
 ghost use Rattle.cmwq_table.specs.Ready.{IsKept};
-ghost use Rattle.cmwq_table.specs.Repeats.{HasAnswered, HasGone, HasRepeated};
+ghost use Rattle.cmwq_table.specs.Repeats.{HasAnswered, HasGone, HasRepeated, reply_of};
 ghost use Rattle.cmwq_table.specs.Table.{is_met, operands};
 ghost use Rattle.std.specs.Prelude.{◌≡◌, ◌+◌, ◌-◌, ◌<◌, ◌≤◌, ◌&&◌, is_none};
 
-use crate::performing::{event_reply, next, spend};
-use cmwq_parts::{Going, Happened, Parts};
+use crate::performing::{happen, spend};
+use cmwq_parts::{Going, Parts};
 use cmwq_reads::{is_met, is_question, operands};
-use cmwq_types::{Instr, Refusal, Reply};
+use cmwq_table::{Happened, Went};
+use cmwq_types::{Instr, Reply};
 
-/// Carries out `next` until a reply has a line, at least once and at most so many times. Answers how often that was, and the last reply.
-pub(crate) fn go<P: Parts>(going: &mut Going<P>, most: u32) -> (u32, Reply)
+/// Carries out `next` until a reply has a line, at least once and at most so many times. Answers how often that was, and how the last one
+/// came out.
+#[inline(always)]
+pub(crate) fn go<P: Parts>(going: &mut Going<P>, most: u32) -> (u32, Went)
     requires some { 0 < most }
     requires kept { IsKept going.old }
-    ensures gone { HasGone going.old.scenario going.old.state most result.0 going.new.state result.1 }
+    ensures gone { HasGone going.old.scenario going.old.state most result.0 going.new.state (reply_of result.1) }
     ensures scenario { going.new.scenario ≡ going.old.scenario }
     ensures kept { IsKept going.new }
 {
     let mut count = 0;
+    let mut left = most.min(steps_left(going));
     loop {
-        let left = steps_left(going);
         if left == 0 {
-            return (count + 1, Reply::Refused(Refusal::Spent));
+            return (count + 1, Went::Spent);
         }
-        let (more, happened) = advance(going, left.min(most - count));
+        let (more, happened) = advance(going, left);
         count += more;
+        left -= more;
         if let Some(happened) = happened {
-            return (count, event_reply(happened));
+            return (count, Went::Happened(happened));
         }
         if count == most {
-            return (count, Reply::Done);
+            return (count, Went::Ticked);
         }
     }
 }
@@ -44,23 +48,27 @@ fn steps_left<P: Parts>(going: &Going<P>) -> u32
     going.parts.scenario().steps - going.parts.spent()
 }
 
-/// Lets the ticks pass before which the machine is known to be settled, each as a `next` and at most so many; where none is, carries out
-/// one `next`. Answers how many that was, and what happened in the last.
+/// Carries out one `next`, and where the machine is settled as many as are known to be ticks, at most so many. Answers how many that was, and
+/// what happened in the last.
 #[inline(always)]
 fn advance<P: Parts>(going: &mut Going<P>, most: u32) -> (u32, Option<Happened>)
     requires some { 0 < most }
     requires left { going.old.state.spent + most ≤ going.old.scenario.steps }
     requires kept { IsKept going.old }
-    ensures { HasAdvanced going.old most result.0 going.new (next_reply result.1) }
+    ensures advanced { HasAdvanced going.old most result.0 going.new (next_reply result.1) }
+    ensures spent { going.new.state.spent ≡ going.old.state.spent + result.0 }
 {
-    let passed = going.parts.pass(most);
-    if passed != 0 {
-        spend(going, passed);
-        return (passed, None);
+    match happen(going) {
+        Some(happened) => {
+            spend(going, 1);
+            (1, Some(happened))
+        }
+        None => {
+            let passed = going.parts.pass(most);
+            spend(going, passed);
+            (passed, None)
+        }
     }
-    let happened = next(going);
-    spend(going, 1);
-    (1, happened)
 }
 
 /// Carries out again, at most so many times, the instruction that was the last and was answered so, where it is known to change nothing but
@@ -71,6 +79,9 @@ pub(crate) fn again<P: Parts>(going: &mut Going<P>, instr: Instr, reply: Reply, 
     ensures repeated { HasRepeated going.old.scenario going.old.state instr reply most result going.new.state }
     ensures scenario { going.new.scenario ≡ going.old.scenario }
 {
+    if most == 0 {
+        return 0;
+    }
     if is_question(instr) {
         return most;
     }

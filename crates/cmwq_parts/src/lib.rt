@@ -11,5 +11,5 @@ mod pool_set;
 
 pub use going::Going;
 pub use parts::Parts;
-pub use pool_moves::{Found, Happened};
+pub use pool_moves::Found;
 pub use pool_set::PoolSet;

@@ -1,13 +1,14 @@
 //! What the instruction table asks of a machine's own structure.
 ghost use Rattle.cmwq_parts.specs.Cpus.{HasCpu};
 ghost use Rattle.cmwq_parts.specs.PoolSets.{has_pool};
-ghost use Rattle.cmwq_parts.specs.SettledTicks.{AreSettled, ticks};
+ghost use Rattle.cmwq_parts.specs.SettledTicks.{AreSettled, IsSettled, ticks};
 ghost use Rattle.cmwq_table.specs.Counts.{first_due, first_inactive, first_listed, first_rescued, first_slept, free_worker, has_room, is_busy, is_deferred, is_done, may_start, ready_head};
-ghost use Rattle.cmwq_table.specs.Moves.{begin_again, begin_on, deferred, enlist, first_moving, newborn, next_move, retire, set_timer, started_on, taking, tick, with_depth, with_flush, with_pending, with_pressed, with_running, woken};
+ghost use Rattle.cmwq_table.specs.Moves.{begin_again, begin_on, deferred, enlist, newborn, next_move, retire, set_timer, started_on, taking, with_depth, with_flush, with_pending, with_pressed, with_running, woken};
 ghost use Rattle.cmwq_table.specs.Ready.{holding};
 ghost use Rattle.cmwq_table.specs.State.{pending_at, running_at, start};
 ghost use Rattle.cmwq_table.specs.View.{view_of};
 ghost use Rattle.cmwq_types.specs.Places.{is_placed};
+ghost use Rattle.cmwq_types.specs.Scenario.{pool_count};
 ghost use Rattle.cmwq_types.specs.Setting.{IsSetting};
 ghost use Rattle.cmwq_types.specs.declared.limits.TheConstants.{MAX_OPS, MAX_WORKS, RESCUER};
 ghost use Rattle.cmwq_types.specs.declared.reply.Mode.TheVariants.{Asleep};
@@ -62,11 +63,12 @@ pub trait Parts: Reads + Drop {
         cmwq_reads::is_done(self, target)
     }
 
-    /// Pools among which all are that have a move. What can't tell answers with all.
+    /// Pools among which all are that there are and have a move. What can't tell answers with all that there are.
     fn may_move(&self) -> PoolSet
-        ensures { (pool : ℕ) → pool < 64 → is_some (next_move (Self.loaded self.now) (Self.state self.now) pool) ≡ true → has_pool result pool ≡ true }
+        ensures covered { (pool : ℕ) → pool < pool_count (Self.loaded self.now) → is_some (next_move (Self.loaded self.now) (Self.state self.now) pool) ≡ true → has_pool result pool ≡ true }
+        ensures in_range { (pool : ℕ) → pool < 64 → has_pool result pool ≡ true → pool < pool_count (Self.loaded self.now) }
     {
-        PoolSet::all()
+        PoolSet::below(self.scenario().pool_count())
     }
 
     /// Says that the pool has no move, which may be kept in mind.
@@ -251,24 +253,16 @@ pub trait Parts: Reads + Drop {
         requires stamps { (Self.state self.old).next < 2 ^ 63 }
         ensures { holding (Self.loaded self.new) (Self.state self.new) ≡ holding (Self.loaded self.old) (retire (Self.state self.old) w r) };
 
-    /// Lets one tick of time pass, where no timer is due and no pool has a move: who has a CPU burns.
-    fn tick(&mut self)
-        requires time { (Self.state self.old).time < 2 ^ 63 }
-        requires due { first_due (Self.loaded self.old) (Self.state self.old) ≡ None }
-        requires moving { first_moving (Self.loaded self.old) (Self.state self.old) ≡ None }
-        ensures { holding (Self.loaded self.new) (Self.state self.new) ≡ holding (Self.loaded self.old) (tick (Self.loaded self.old) (Self.state self.old)) };
-
-    /// Lets at most so many ticks pass, before each of which no timer is due and no pool has a move. Answers how many. What can't tell
-    /// lets none pass.
+    /// Where no timer is due and no pool has a move, lets at least one tick pass and at most so many, before each of which that is so: who
+    /// has a CPU burns. Answers how many.
     fn pass(&mut self, most: u32) -> u32
         requires time { (Self.state self.old).time < 2 ^ 63 }
+        requires settled { IsSettled (Self.loaded self.old) (Self.state self.old) }
+        requires some { 0 < most }
+        ensures some { 0 < result }
         ensures few { result ≤ most }
         ensures settled { AreSettled (Self.loaded self.old) (Self.state self.old) result }
-        ensures passed { holding (Self.loaded self.new) (Self.state self.new) ≡ holding (Self.loaded self.old) (ticks (Self.loaded self.old) (Self.state self.old) result) }
-    {
-        let _ = most;
-        0
-    }
+        ensures passed { holding (Self.loaded self.new) (Self.state self.new) ≡ holding (Self.loaded self.old) (ticks (Self.loaded self.old) (Self.state self.old) result) };
 
     /// Sets how much more often the work was disabled than enabled.
     fn set_depth(&mut self, w: usize, depth: u16)

@@ -20,6 +20,7 @@ impl<P: Parts> Going<P> {
     }
 
     /// The pool in which the work is placed: where it runs, else its target pool.
+    #[inline(always)]
     fn pool_for(&self, w: usize, cpu: u8) -> u8
         requires { cpu < self.now.scenario.cpus }
         ensures { result ≡ pool_for self.now.scenario self.now.state w cpu }
@@ -34,6 +35,7 @@ impl<P: Parts> Going<P> {
     }
 
     /// Places the work: it is listed if its queue has room in the pool, else inactive.
+    #[inline(always)]
     pub fn place(&mut self, w: usize, cpu: u8)
         requires work { w < length self.old.scenario.works }
         requires cpu { cpu < self.old.scenario.cpus }
@@ -69,6 +71,7 @@ impl<P: Parts> Going<P> {
 
     /// Lists the queue's first inactive work in the pool, if there is room. Answers whether there was one.
     #[tactic(auto, using(cmwq_table::proofs::CounterLemmas::takes))]
+    #[inline(always)]
     fn fill_one(&mut self, queue: u8, pool: u8) -> bool
         requires { self.old.state.next < 2 ^ 63 }
         ensures filled { self.new ≡ record self.old { state = fill_one self.old.scenario queue pool self.old.state } }
@@ -96,6 +99,7 @@ impl<P: Parts> Going<P> {
     }
 
     /// While the queue has room in the pool, lists its first inactive work there.
+    #[inline(always)]
     pub fn fill(&mut self, queue: u8, pool: u8)
         requires { self.old.state.next < 2 ^ 62 }
         ensures filled { self.new ≡ record self.old { state = fill self.old.scenario queue pool self.old.state } }

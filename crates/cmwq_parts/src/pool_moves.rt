@@ -9,7 +9,7 @@ ghost use Rattle.std.specs.Prelude.{◌≡◌, ◌&&◌, ◌<◌, ◌^◌, IfSom
 
 use crate::going::Going;
 use crate::parts::Parts;
-use cmwq_table::Running;
+use cmwq_table::{Happened, Running};
 use cmwq_types::{Event, Op, WorkId};
 
 /// The next move of a worker pool, as it was found.
@@ -25,15 +25,6 @@ pub enum Found {
     Defer(WorkId),
     /// The rescuer of the work's queue takes the work from the worklist.
     Rescue(WorkId),
-}
-
-/// What a move of the machine did, and the work that it did it to.
-#[derive(Clone, Copy)]
-pub struct Happened {
-    /// The work that was moved.
-    pub work: WorkId,
-    /// What happened to it.
-    pub event: Event,
 }
 
 impl<P: Parts> Going<P> {
@@ -92,12 +83,10 @@ impl<P: Parts> Going<P> {
         ensures first { IsFirstMove self.old.scenario self.old.state result }
         ensures fits { IfSome result (λ first. IsFound self.old.scenario self.old.state first.0 first.1) }
     {
-        let pools = self.parts.scenario().pool_count();
+        // No scenario has as many pools as a set has room for.
+        let _ = self.parts.scenario();
         let mut left = self.parts.may_move();
         while let Some(pool) = left.first() {
-            if pool >= pools {
-                return None;
-            }
             if let Some(next) = self.next_move(pool) {
                 return Some((pool, next));
             }
@@ -118,12 +107,10 @@ impl<P: Parts> Going<P> {
     fn has_no_move(&self) -> bool
         ensures { result ≡ is_none (first_moving self.now.scenario self.now.state) }
     {
-        let pools = self.parts.scenario().pool_count();
+        // No scenario has as many pools as a set has room for.
+        let _ = self.parts.scenario();
         let mut left = self.parts.may_move();
         while let Some(pool) = left.first() {
-            if pool >= pools {
-                return true;
-            }
             if self.next_move(pool).is_some() {
                 return false;
             }
@@ -231,6 +218,7 @@ impl<P: Parts> Going<P> {
     }
 
     /// A body queues a work, unless it is disabled.
+    #[inline(always)]
     fn queue_from_body(&mut self, other: WorkId, cpu: u8) -> Event
         requires work { other.0 < length self.old.scenario.works }
         requires cpu { cpu < self.old.scenario.cpus }
@@ -319,6 +307,7 @@ impl<P: Parts> Going<P> {
     }
 
     /// The running work comes to the end of its body, and what it leaves is filled.
+    #[inline(always)]
     fn finish(&mut self, w: usize, r: Running) -> Event
         requires work { w < length self.old.scenario.works }
         requires running { running_at self.old.state w ≡ Some r }
@@ -335,6 +324,7 @@ impl<P: Parts> Going<P> {
     /// A deferred instance starts at once on the same worker, else the worker becomes idle, or the rescuer
     /// free.
     #[tactic(auto, using(cmwq_table::proofs::CounterLemmas::takes))]
+    #[inline(always)]
     fn come_to_end(&mut self, w: usize, r: Running) -> Event
         requires work { w < length self.old.scenario.works }
         requires running { running_at self.old.state w ≡ Some r }
@@ -356,6 +346,7 @@ impl<P: Parts> Going<P> {
     }
 
     /// The free worker of the pool takes its first listed work.
+    #[inline(always)]
     fn start(&mut self, pool: u8, w: usize, worker: u8)
         requires work { w < length self.old.scenario.works }
         requires worker { worker < self.old.scenario.workers }

@@ -1,6 +1,6 @@
 //! Worker pools as the bits of a number.
 ghost use Rattle.cmwq_parts.specs.PoolSets.{has_pool};
-ghost use Rattle.std.specs.Prelude.{◌≡◌, ◌≢◌, ℕ, ◌<◌, ◌≤◌, ◌||◌, ◌==◌, IfNone, IfSome, false, true};
+ghost use Rattle.std.specs.Prelude.{◌≡◌, ◌≢◌, ℕ, ◌<◌, ◌≤◌, ◌%◌, ◌&&◌, ◌||◌, ◌==◌, IfNone, IfSome, false, true};
 
 /// Worker pools with numbers below 64, the bits of a number.
 #[derive(Clone, Copy)]
@@ -12,6 +12,16 @@ impl PoolSet {
         ensures { (pool : ℕ) → pool < 64 → has_pool result pool ≡ true }
     {
         PoolSet(u64::MAX)
+    }
+
+    /// Each pool with a number below this one.
+    #[inline(always)]
+    pub fn below(count: u8) -> PoolSet
+        requires { count < 64 }
+        ensures inside { (pool : ℕ) → pool < count → has_pool result pool ≡ true }
+        ensures outside { (pool : ℕ) → count ≤ pool → has_pool result pool ≡ false }
+    {
+        PoolSet((1 << count) - 1)
     }
 
     /// No pool.
@@ -34,15 +44,12 @@ impl PoolSet {
         Some(self.0.trailing_zeros() as u8)
     }
 
-    /// The set with this pool, which is as it was where the number is 64 or more.
+    /// The set with this pool. A number of 64 or more is taken modulo 64.
+    #[inline(always)]
     pub fn with(self, pool: u8) -> PoolSet
-        ensures { (other : ℕ) → other < 64 → has_pool result other ≡ (has_pool self other || (other == pool)) }
+        ensures { (other : ℕ) → other < 64 → has_pool result other ≡ (has_pool self other || (other == pool % 64)) }
     {
-        if pool < 64 {
-            PoolSet(self.0 | (1 << pool))
-        } else {
-            self
-        }
+        PoolSet(self.0 | (1 << (pool % 64)))
     }
 
     /// The pools of this set and those of the other.
@@ -50,6 +57,14 @@ impl PoolSet {
         ensures { (pool : ℕ) → pool < 64 → has_pool result pool ≡ (has_pool self pool || has_pool other pool) }
     {
         PoolSet(self.0 | other.0)
+    }
+
+    /// The pools that both sets have.
+    #[inline(always)]
+    pub fn common(self, other: PoolSet) -> PoolSet
+        ensures { (pool : ℕ) → has_pool result pool ≡ (has_pool self pool && has_pool other pool) }
+    {
+        PoolSet(self.0 & other.0)
     }
 
     /// The set without one of its pools.

@@ -1,9 +1,8 @@
 -- Nothing happens on a machine at rest, however long.
-use Rattle.std.proofs.Common.{◌≡◌, ℕ, zero, suc, ◌+◌, ◌<◌, Bool, true, false, cond, ◌&&◌, List, [], ◌∷◌, length, Option, Some, None, arith, refl, sym, ap, ◌∙◌, subst}
+use Rattle.std.proofs.Common.{◌≡◌, ℕ, zero, suc, ◌+◌, Bool, true, false, cond, ◌&&◌, List, [], ◌∷◌, length, Option, Some, None, arith, refl, sym, ap, ◌∙◌, subst}
 use Rattle.std.specs.List.{list_all}
 use Rattle.std.specs.Prelude.{◌==◌, is_none, is_some, slice_index_or}
 use Rattle.cmwq_types.specs.Contents.{ScenarioContents}
-use Rattle.cmwq_types.specs.First.{by_least, by_least_two, first_below}
 use Rattle.cmwq_types.specs.Scenario.{queue_of}
 use Rattle.cmwq_types.proofs.FirstLemmas.{by_least-order, by_least_two-order, first_below-none}
 use Rattle.cmwq_table.specs.Counts.{burns, first_due, first_listed, first_ready, first_rescued, first_runnable, first_slept, has_free_rescuer, is_due, is_listed, is_runnable, is_slept, may_start, pending_due, pending_stamp, pends, ready_head, running_stamp, running_until, runs}

@@ -186,7 +186,7 @@ impl Parts for Records {
         if self.is_at_rest() {
             PoolSet::none()
         } else {
-            PoolSet::all()
+            PoolSet::below(self.scenario.pool_count())
         }
     }
 
@@ -264,17 +264,14 @@ impl Parts for Records {
         set(&mut self.idle, seat(r.pool, r.worker), Some(stamp));
     }
 
-    fn tick(&mut self) {
+    fn pass(&mut self, most: u32) -> u32 {
+        if self.is_at_rest() {
+            self.time += u64::from(most);
+            return most;
+        }
         self.burn_all();
         self.time += 1;
-    }
-
-    fn pass(&mut self, most: u32) -> u32 {
-        if !self.is_at_rest() {
-            return 0;
-        }
-        self.time += u64::from(most);
-        most
+        1
     }
 
     fn set_depth(&mut self, w: usize, depth: u16) {

@@ -22,7 +22,7 @@ use Rattle.cmwq_types.specs.declared.scenario.Op.TheVariants as op
 use Rattle.cmwq_types.proofs.SettingLemmas.{IsSetting-valid}
 use Rattle.cmwq_table.specs.Counts.{first_due, first_inactive, free_worker, has_room, is_deferred, is_rescuer, or_else}
 use Rattle.cmwq_table.specs.Laws.{InEveryState}
-use Rattle.cmwq_table.specs.Moves.{advance, become_idle, begin_again, carry_out, come_to_end, deferred, enlist, fill, fill_everywhere, fill_freezable, fill_from, fill_one, fill_pools, fill_times, finish, fire, fired, fired_to, first_moving, moved, next_move, onward, place, place_after, queue_from_body, delay_from_body, mod_from_body, cancel_from_body, rescued, retire, set_max, started, taken_off, thaw, tick, with_depth, with_pending, with_running, woken}
+use Rattle.cmwq_table.specs.Moves.{advance, become_idle, begin_again, carry_out, come_to_end, deferred, enlist, fill, fill_everywhere, fill_freezable, fill_from, fill_one, fill_pools, fill_times, finish, fire, fired, fired_to, first_moving, moved, next_move, onward, place, place_after, queue_from_body, delay_from_body, mod_from_body, rescued, retire, set_max, started, taken_off, thaw, tick, with_depth, with_pending, with_running, woken}
 use Rattle.cmwq_table.specs.Ready.{HasCounters, Takes, most_everywhere, most_stamps}
 use Rattle.cmwq_table.specs.State.{State, depth_at, is_disabled, pending_at, running_at, start}
 use Rattle.cmwq_table.specs.Table.{after_all, answer, cancelled, delayed, effect, fired_first, is_free, is_met, modified, next, next_unless, operands, queued, refuse_unless, situation, spent_all, step_or_tick, stepped, table}

@@ -3,10 +3,20 @@ use Rattle.std.specs.Prelude.{◌≡◌, ℕ, ◌+◌, ◌-◌, ◌<◌, ◌≤�
 use Rattle.cmwq_types.specs.Contents.{ScenarioContents}
 use Rattle.cmwq_types.specs.declared.instr.Instr.{Instr}
 use Rattle.cmwq_types.specs.declared.instr.Instr.TheVariants.{Next}
+use Rattle.cmwq_types.specs.declared.reply.Refusal.TheVariants.{Spent}
 use Rattle.cmwq_types.specs.declared.reply.Reply.{Reply}
+use Rattle.cmwq_types.specs.declared.reply.Reply.TheVariants as told
 use Rattle.cmwq_table.specs.Events.{is_silent}
 use Rattle.cmwq_table.specs.State.{State}
 use Rattle.cmwq_table.specs.Table.{after_all, table}
+use Rattle.cmwq_table.specs.declared.machine.Went.{Went}
+use Rattle.cmwq_table.specs.declared.machine.Went.TheVariants as went
+
+-- the reply to a `next` that came out so
+abbrev pub reply_of : Went → Reply
+reply_of (went.Happened happened) = told.Event happened.work happened.event
+reply_of went.Ticked = told.Done
+reply_of went.Spent = told.Refused Spent
 
 -- the state after the instruction was carried out so often
 abbrev pub after_times : ScenarioContents → State → Instr → ℕ → State

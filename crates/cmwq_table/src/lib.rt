@@ -9,7 +9,7 @@ mod reply_line;
 mod state;
 mod view;
 
-pub use machine::{LoadError, Machine};
+pub use machine::{Happened, LoadError, Machine, Went};
 pub use reads::Reads;
 pub use reply_line::{PlaceWords, ReplyLine, RunWords, WorkerWords, is_silent, refusal_name};
 pub use state::{FlushTarget, Pending, Running};

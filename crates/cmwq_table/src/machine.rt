@@ -3,16 +3,15 @@ ghost use Rattle.cmwq_table.specs.Counts.{first_due};
 ghost use Rattle.cmwq_table.specs.Moves.{first_moving};
 ghost use Rattle.cmwq_table.specs.State.{start};
 ghost use Rattle.cmwq_table.specs.Machine.{Loads};
-ghost use Rattle.cmwq_table.specs.Repeats.{HasAnswered, HasGone, HasRepeated};
+ghost use Rattle.cmwq_table.specs.Repeats.{HasAnswered, HasGone, HasRepeated, reply_of};
 ghost use Rattle.cmwq_table.specs.Table.{table};
 ghost use Rattle.cmwq_types.specs.Faults.{IsValid};
 ghost use Rattle.cmwq_table.specs.View.{view_of};
 ghost use Rattle.std.specs.Prelude.{◌≡◌, ◌&&◌, ◌<◌, IfOk, is_none};
 
 use crate::reads::Reads;
-use crate::reply_line::is_silent;
 use crate::view::View;
-use cmwq_types::{Fault, Instr, NoMemory, Reply, Scenario};
+use cmwq_types::{Event, Fault, Instr, NoMemory, Refusal, Reply, Scenario, WorkId};
 use std::alloc::{AllocError, Global};
 use std::sync::Arc;
 use thiserror::Error;
@@ -26,6 +25,52 @@ pub enum LoadError {
     /// Memory ran out.
     #[error("no memory")]
     NoMemory,
+}
+
+/// What a machine did by itself, and the work that it did it to.
+#[derive(Clone, Copy, Debug, PartialEq, Eq)]
+pub struct Happened {
+    /// The work that was moved.
+    pub work: WorkId,
+    /// What happened to it.
+    pub event: Event,
+}
+
+/// How a `next` came out.
+#[derive(Clone, Copy, Debug, PartialEq, Eq)]
+pub enum Went {
+    /// This happened to a work.
+    Happened(Happened),
+    /// A tick passed, which has no line.
+    Ticked,
+    /// It was refused, since the steps are spent.
+    Spent,
+}
+
+impl Happened {
+    /// The reply that tells it.
+    #[inline(always)]
+    pub fn reply(self) -> Reply
+        ensures { result ≡ reply_of (Went.Happened self) }
+    {
+        Reply::Event {
+            work: self.work,
+            event: self.event,
+        }
+    }
+}
+
+impl Went {
+    /// The reply that tells it.
+    pub fn reply(self) -> Reply
+        ensures { result ≡ reply_of self }
+    {
+        match self {
+            Went::Happened(happened) => happened.reply(),
+            Went::Ticked => Reply::Done,
+            Went::Spent => Reply::Refused(Refusal::Spent),
+        }
+    }
 }
 
 /// A machine that carries out the instruction table on a scenario, and answers what is asked of its state.
@@ -55,21 +100,12 @@ pub trait Machine: Reads + Drop {
         ensures exact { (Self.state self.new, result) ≡ table (Self.loaded self.old) (Self.state self.old) instr }
         ensures scenario { Self.loaded self.new ≡ Self.loaded self.old };
 
-    /// Carries out `next` until a reply has a line, at least once and at most so many times. Answers how often that was, and the last
-    /// reply. It takes no memory.
-    fn go(&mut self, most: u32) -> (u32, Reply)
+    /// Carries out `next` until a reply has a line, at least once and at most so many times. Answers how often that was, and how the last
+    /// one came out. It takes no memory.
+    fn go(&mut self, most: u32) -> (u32, Went)
         requires some { 0 < most }
-        ensures gone { HasGone (Self.loaded self.old) (Self.state self.old) most result.0 (Self.state self.new) result.1 }
-        ensures scenario { Self.loaded self.new ≡ Self.loaded self.old }
-    {
-        for count in 1..most {
-            let reply = self.exec(Instr::Next);
-            if !is_silent(reply) {
-                return (count, reply);
-            }
-        }
-        (most, self.exec(Instr::Next))
-    }
+        ensures gone { HasGone (Self.loaded self.old) (Self.state self.old) most result.0 (Self.state self.new) (reply_of result.1) }
+        ensures scenario { Self.loaded self.new ≡ Self.loaded self.old };
 
     /// Carries out again, at most so many times, the instruction that was the last and was answered so, as long as it comes out the same: it
     /// is answered the same, and changes nothing but what is spent. Answers how often that was; a machine that doesn't know may answer 0.

@@ -1,12 +1,15 @@
-use Rattle.std.proofs.Common.{◌≡◌, ℕ, ◌<◌, true}
-use Rattle.std.specs.Prelude.{is_some}
-use Rattle.cmwq_table.specs.Moves.{next_move}
-use Rattle.cmwq_parts.specs.PoolSets.{has_pool}
+use Rattle.std.proofs.Common.{◌≤◌}
+use Rattle.cmwq_types.specs.Scenario.{pool_count}
+use Rattle.cmwq_parts.proofs.PoolLemmas.{Covers, IsWithin}
 use Rattle.cmwq_parts.proofs.going.Going.has_no_move.Given as goal
 
--- each pool that has a move is left
+-- each pool that has a move is left, and each that is left is there
 abbrev pub invariant-loop-pool : goal.invariant-loop-pool
-invariant-loop-pool g l = (pool : ℕ) → pool < 64 → is_some (next_move l.fn.self.scenario l.fn.self.state pool) ≡ true → has_pool l.left pool ≡ true
+invariant-loop-pool g l = record {
+  few : pool_count l.fn.self.scenario ≤ 64;
+  left : Covers l.fn.self.scenario l.fn.self.state l.left;
+  within : IsWithin l.fn.self.scenario l.left;
+}
 
 abbrev pub decreases-loop-pool : goal.decreases-loop-pool
 decreases-loop-pool g l = l.left.0

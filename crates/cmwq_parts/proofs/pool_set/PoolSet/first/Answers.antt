@@ -1,4 +1,4 @@
-use Rattle.std.proofs.Common.{◌≡◌, ◌<◌, zero, suc, arith, ap, w64}
+use Rattle.std.proofs.Common.{arith, ap, w64}
 use Rattle.std.specs.Prelude.{◌==◌}
 use Rattle.std.proofs.lemmas.Nat.Bits.{bit_at-trailing_zeros}
 use Rattle.cmwq_parts.proofs.pool_set.PoolSet.first.Goals as goal

@@ -4,7 +4,7 @@ use Rattle.cmwq_records.specs.Rest.{is_at_rest}
 use Rattle.cmwq_records.proofs.RestLemmas.{move-none}
 use Rattle.cmwq_records.proofs.records.RecordsParts.may_move.Goals as goal
 
-pub returns-then-is_at_rest : goal.returns-then-is_at_rest
-returns-then-is_at_rest c = λ pool below moves.
+pub returns-then-is_at_rest-clause-covered : goal.returns-then-is_at_rest-clause-covered
+returns-then-is_at_rest-clause-covered c = λ pool below moves.
     let rests : is_at_rest c.args.self.now.state ≡ true = sym c.is_at_rest.ensures ∙ c.if-is_at_rest.true in
     absurd (let none = ap is_some (move-none c.args.self.now.scenario c.args.self.now.state rests pool) in cc)

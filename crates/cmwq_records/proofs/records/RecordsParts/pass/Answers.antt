@@ -1,18 +1,17 @@
 use Rattle.std.proofs.Common.{◌≡◌, ℕ, ◌+◌, true, sym, ap, ◌∙◌}
 use Rattle.cmwq_table.specs.Ready.{Loaded, holding}
-use Rattle.cmwq_table.specs.State.{State}
 use Rattle.cmwq_records.specs.Rest.{is_at_rest}
 use Rattle.cmwq_records.proofs.RestLemmas.{rest-settled, rest-ticks}
 use Rattle.cmwq_records.proofs.records.RecordsParts.pass.Goals as goal
 
-pub returns-clause-settled : goal.returns-clause-settled
-returns-clause-settled c =
-    let rests : is_at_rest c.args.self.now.state ≡ true = sym c.is_at_rest.ensures ∙ c.if-not-is_at_rest.false in
+pub returns-then-is_at_rest-clause-settled : goal.returns-then-is_at_rest-clause-settled
+returns-then-is_at_rest-clause-settled c =
+    let rests : is_at_rest c.args.self.now.state ≡ true = sym c.is_at_rest.ensures ∙ c.if-is_at_rest.true in
     rest-settled c.args.self.now.scenario c.args.self.now.state c.args.most rests
 
-pub returns-clause-passed : goal.returns-clause-passed
-returns-clause-passed c =
-    let rests : is_at_rest c.args.self.now.state ≡ true = sym c.is_at_rest.ensures ∙ c.if-not-is_at_rest.false in
+pub returns-then-is_at_rest-clause-passed : goal.returns-then-is_at_rest-clause-passed
+returns-then-is_at_rest-clause-passed c =
+    let rests : is_at_rest c.args.self.now.state ≡ true = sym c.is_at_rest.ensures ∙ c.if-is_at_rest.true in
     let later : Loaded → ℕ → Loaded = λ m count. holding m.scenario (record m.state { time = m.state.time + count }) in
     ap (later (holding c.self.inside.scenario.value (record {
       time = c.self.inside.time;
