@@ -8,7 +8,7 @@ ghost use Rattle.std.specs.Prelude.{◌≡◌, ◌+◌, ◌≤◌, ◌++◌, [],
 use crate::block::{Block, make_room};
 use crate::numbered::Numbered;
 use crate::short::{Short, put_text};
-use cmwq_table::is_silent;
+use cmwq_table::{Happened, is_silent};
 use cmwq_types::{
     Event, Instr, Mode, NoMemory, Place, RESCUER, Refusal, Reply, Scenario, WorkDecl, WorkId,
     WorkRun,
@@ -64,44 +64,8 @@ impl<'s> ReplyLines<'s> {
     /// Writes the line of a reply at a time to an instruction behind what the block has: nothing where the reply has no line.
     ///
     /// It fails only for want of memory. What the block has then is lost.
-    #[inline(always)]
+    #[inline(never)]
     pub fn push(
-        &mut self,
-        block: &mut Block,
-        time: u64,
-        instr: Instr,
-        reply: &Reply,
-    ) -> Result<(), NoMemory>
-        ensures same { self.new ≡ self.old }
-        ensures line { OnOk result (block.new ≡ block.old ++ reply_line self.old time instr reply.now) }
-    {
-        if matches!(reply, Reply::Event { .. }) && self.push_event(block, time, reply) {
-            return Ok(());
-        }
-        self.push_any(block, time, instr, reply)
-    }
-
-    /// Writes the line of an event where the block has room for it, and answers whether it did.
-    #[inline(never)]
-    fn push_event(&mut self, block: &mut Block, time: u64, reply: &Reply) -> bool
-        ensures same { self.new ≡ self.old }
-        ensures line { result ≡ true → (asked : Instr) → block.new ≡ block.old ++ reply_line self.old time asked reply.now }
-        ensures none { result ≡ false → block.new ≡ block.old }
-    {
-        let Reply::Event { work, event } = reply else {
-            return false;
-        };
-        let Block { bytes, len } = block;
-        if bytes.len() - *len < ROOM {
-            return false;
-        }
-        *len = self.put_event_line(bytes.as_mut_slice(), *len, time, *work, *event);
-        true
-    }
-
-    /// Writes the line of any reply, as `push` does.
-    #[inline(never)]
-    fn push_any(
         &mut self,
         block: &mut Block,
         time: u64,
@@ -118,6 +82,22 @@ impl<'s> ReplyLines<'s> {
         make_room(bytes, *len, ROOM)?;
         *len = self.put_line(bytes.as_mut_slice(), *len, time, instr, reply);
         Ok(())
+    }
+
+    /// Writes the line of what happened to a work at a time behind what the block has, where that has room for it, and answers whether it did.
+    #[inline(always)]
+    pub fn push_event(&mut self, block: &mut Block, time: u64, happened: Happened) -> bool
+        ensures same { self.new ≡ self.old }
+        ensures line { result ≡ true → (asked : Instr) → block.new ≡ block.old ++ reply_line self.old time asked (Reply.Event happened.work happened.event) }
+        ensures none { result ≡ false → block.new ≡ block.old }
+    {
+        let Block { bytes, len } = block;
+        if bytes.len() - *len < ROOM {
+            return false;
+        }
+        let Happened { work, event } = happened;
+        *len = self.put_event_line(bytes.as_mut_slice(), *len, time, work, event);
+        true
     }
 
     /// Writes the line of a reply at a time to an instruction so many times behind what the block has. It is put together once.

@@ -6,10 +6,9 @@ use Rattle.cmwq_types.specs.Listing.{listing}
 use Rattle.cmwq_image.specs.ImageFault.{reading}
 use Rattle.cmwq_image.specs.Versions.{IsImageOf}
 use Rattle.cmwq_types.specs.Values.{IsScenario}
-use Rattle.cmwq_image.specs.declared.error.ImageError.{ImageError}
 use Rattle.cmwq_image.specs.declared.error.ImageError.TheVariants as errors
 use Rattle.cmwq_streams.specs.declared.error.PlayError.{PlayError}
-use Rattle.cmwq_streams.specs.declared.error.PlayError.TheVariants.{Image, NoMemory}
+use Rattle.cmwq_streams.specs.declared.error.PlayError.TheVariants.{Image}
 
 -- The input, where it is known, is the image of this scenario, of version 4 or of an older one, and the scenario is valid.
 pub record IsImage (input : Option (List ℕ)) (S : ScenarioContents) : Type 0 where

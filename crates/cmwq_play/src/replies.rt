@@ -3,6 +3,7 @@ ghost use Rattle.cmwq_lines.specs.Putting.{repeated};
 ghost use Rattle.cmwq_play.specs.Repeating.{HasTold};
 ghost use Rattle.cmwq_play.specs.Session.{CanIssue, Issues, Stopped};
 ghost use Rattle.cmwq_table.specs.Events.{events_from, reply_line, told};
+ghost use Rattle.cmwq_table.specs.Repeats.{reply_of};
 ghost use Rattle.cmwq_table.specs.Table.{table};
 ghost use Rattle.cmwq_types.specs.declared.instr.Instr.TheVariants as instr;
 ghost use Rattle.std.specs.Prelude.{◌≡◌, ◌<◌, IfErr, IfOk, replicate, ⊤};
@@ -10,8 +11,8 @@ ghost use Rattle.std.specs.Prelude.{◌≡◌, ◌<◌, IfErr, IfOk, replicate, 
 use crate::session::Session;
 use crate::teller::Teller;
 use cmwq_streams::{PlayError, Sink};
-use cmwq_table::Machine;
-use cmwq_types::{Instr, Reply};
+use cmwq_table::{Machine, Went};
+use cmwq_types::{Event, Instr, Reply, WorkId};
 
 /// How many lines of a reply are kept back at once. In a block of lines there is as much room.
 const TOGETHER: u32 = 128;
@@ -55,6 +56,7 @@ impl Teller for Replies {
 
 impl<M: Machine, W: Sink> Session<'_, '_, M, W> {
     /// Issues the instruction at least once and at most so often, and writes the lines of the replies. Answers how often.
+    #[inline(always)]
     fn issue_some(&mut self, instr: Instr, most: u32) -> Result<u32, PlayError>
         requires ready { CanIssue M.loaded M.state W.contents W.failed self.old }
         requires some { 0 < most }
@@ -68,15 +70,58 @@ impl<M: Machine, W: Sink> Session<'_, '_, M, W> {
     }
 
     /// Issues `next` up to the first reply that has a line, at least once and at most so often, and writes that line. Answers how often.
+    #[inline(always)]
     fn go(&mut self, most: u32) -> Result<u32, PlayError>
         requires ready { CanIssue M.loaded M.state W.contents W.failed self.old }
         requires some { 0 < most }
         ensures ok { IfOk result (HasTold M.loaded M.state W.contents W.failed self.old self.new instr.Next most) }
         ensures err { IfErr result (Stopped M.loaded M.state W.contents W.failed self.old self.new (events_from self.old.scenario.now (M.state self.old.machine) (replicate most instr.Next))) }
     {
-        let (count, reply) = self.machine.go(most);
-        self.tell_once(Instr::Next, &reply)?;
+        let (count, went) = self.machine.go(most);
+        self.tell_went(went)?;
         Ok(count)
+    }
+
+    /// Writes the line, at the machine's time, of how a `next` came out, if it has one.
+    #[inline(always)]
+    fn tell_went(&mut self, went: Went) -> Result<(), PlayError>
+        requires ready { CanIssue M.loaded M.state W.contents W.failed self.old }
+        ensures { Issues M.loaded M.state W.contents W.failed self.old self.new (M.state self.old.machine)
+            (reply_line self.old.scenario.now (M.state self.old.machine).time instr.Next (reply_of went)) result }
+    {
+        match went {
+            Went::Happened(happened) => {
+                let time = self.machine.now();
+                if self.lines.keep_event(&mut self.replies, time, happened) {
+                    return Ok(());
+                }
+                self.tell_event(happened.work, happened.event)
+            }
+            Went::Ticked => Ok(()),
+            Went::Spent => self.tell_spent(),
+        }
+    }
+
+    /// Writes the line of what happened to a work, at the machine's time, and sends what is kept back where that is more than a block.
+    #[cold]
+    #[inline(never)]
+    fn tell_event(&mut self, work: WorkId, event: Event) -> Result<(), PlayError>
+        requires ready { CanIssue M.loaded M.state W.contents W.failed self.old }
+        ensures { Issues M.loaded M.state W.contents W.failed self.old self.new (M.state self.old.machine)
+            (reply_line self.old.scenario.now (M.state self.old.machine).time instr.Next (Reply.Event work event)) result }
+    {
+        self.tell_once(Instr::Next, &Reply::Event { work, event })
+    }
+
+    /// Writes the line, at the machine's time, of a `next` that is refused since the steps are spent.
+    #[cold]
+    #[inline(never)]
+    fn tell_spent(&mut self) -> Result<(), PlayError>
+        requires ready { CanIssue M.loaded M.state W.contents W.failed self.old }
+        ensures { Issues M.loaded M.state W.contents W.failed self.old self.new (M.state self.old.machine)
+            (reply_line self.old.scenario.now (M.state self.old.machine).time instr.Next (reply_of Went.Spent)) result }
+    {
+        self.tell_once(Instr::Next, &Went::Spent.reply())
     }
 
     /// Issues the instruction, and again as long as it is known to come out the same, at most so often in all; and writes the lines of the

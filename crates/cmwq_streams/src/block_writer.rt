@@ -2,12 +2,14 @@
 ghost use Rattle.cmwq_lines.specs.Putting.{repeated};
 ghost use Rattle.cmwq_streams.specs.Sending.{HasSent, HasSentFront, IsSendError};
 ghost use Rattle.cmwq_table.specs.Events.{reply_line};
-ghost use Rattle.std.specs.Prelude.{◌≡◌, ◌≤◌, ◌↔◌, [], Err, IfErr, IfSome, OnErr, OnOk, false, length, true};
+ghost use Rattle.cmwq_types.specs.declared.instr.Instr.{Instr};
+ghost use Rattle.std.specs.Prelude.{◌≡◌, ◌++◌, ◌≤◌, ◌↔◌, [], Err, IfErr, IfSome, OnErr, OnOk, false, length, true};
 
 use crate::error::PlayError;
 use crate::sending::put_all;
 use crate::stream::Sink;
 use cmwq_lines::{Block, ReplyLines};
+use cmwq_table::Happened;
 use cmwq_types::{Instr, Reply};
 use std::alloc::Global;
 use std::fmt::Display;
@@ -91,6 +93,19 @@ impl<'w, W: Sink> BlockWriter<'w, W> {
     {
         lines.push(&mut self.block, time, instr, reply)?;
         self.send_full()
+    }
+
+    /// Writes the line of what happened to a work at a time behind what is kept back, where that isn't more than a block and has room for it,
+    /// and answers whether it did. Nothing is sent.
+    #[inline(always)]
+    pub fn keep_event(&mut self, lines: &mut ReplyLines<'_>, time: u64, happened: Happened) -> bool
+        ensures scenario { lines.new ≡ lines.old }
+        ensures same { SharesSink self.old self.new }
+        ensures writer { sink self.new ≡ sink self.old }
+        ensures line { result ≡ true → (asked : Instr) → kept self.new ≡ kept self.old ++ reply_line lines.old time asked (Reply.Event happened.work happened.event) }
+        ensures none { result ≡ false → self.new ≡ self.old }
+    {
+        self.block.len() <= BLOCK && lines.push_event(&mut self.block, time, happened)
     }
 
     /// Writes the line of a reply at a time to an instruction so many times behind what is kept back, and sends it all where it is more

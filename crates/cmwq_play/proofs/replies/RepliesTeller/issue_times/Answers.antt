@@ -1,4 +1,4 @@
-use Rattle.std.proofs.Common.{◌≡◌, ◌-◌, ◌++◌, [], List, ℕ, refl, sym, subst, append-nil, replicate}
+use Rattle.std.proofs.Common.{◌-◌, [], List, ℕ, refl, sym, subst, append-nil, replicate}
 use Rattle.std.proofs.lemmas.Result.{err_from_is_err_and}
 use Rattle.cmwq_table.specs.Table.{after_all}
 use Rattle.cmwq_play.specs.Session.{Issued, Stopped}

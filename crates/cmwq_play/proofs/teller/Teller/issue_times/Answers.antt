@@ -1,4 +1,4 @@
-use Rattle.std.proofs.Common.{◌≡◌, ◌+◌, ◌-◌, ◌<◌, ◌∷◌, ℕ, suc, ap, arith, replicate}
+use Rattle.std.proofs.Common.{◌≡◌, ◌+◌, ◌-◌, ◌<◌, ℕ, suc, ap, arith, replicate}
 use Rattle.std.proofs.lemmas.Result.{err_from_is_err_and}
 use Rattle.cmwq_play.proofs.SessionLemmas.{begins, goes_on-one, stops-one}
 use Rattle.cmwq_play.proofs.teller.Teller.issue_times.Goals as goal

@@ -1,6 +1,6 @@
 use Rattle.std.proofs.Common.{List, ℕ, ◌++◌, ap, sym, ◌∙◌, append-nil}
 use Rattle.cmwq_lines.proofs.PutLemmas.{no_line}
-use Rattle.cmwq_lines.proofs.reply_lines.ReplyLines.push_any.Goals as goal
+use Rattle.cmwq_lines.proofs.reply_lines.ReplyLines.push.Goals as goal
 
 pub returns-then-is_silent-clause-line : goal.returns-then-is_silent-clause-line
 returns-then-is_silent-clause-line c =
