@@ -29,6 +29,7 @@ pub struct CoreParts {
     running: RunningWorks,
     workers: IdleWorkers,
     moving: PoolSet,
+    pools: PoolSet,
     next: u64,
     spent: u32,
     frozen: bool,
@@ -133,12 +134,14 @@ impl Reads for CoreParts {
 
 impl Parts for CoreParts {
     fn begin(alloc: Global, scenario: Arc<Scenario>) -> Result<Self, NoMemory> {
+        let pools = PoolSet::below(scenario.pool_count());
         let Stores { works, others } = first_stores(alloc, &scenario)?;
         Ok(CoreParts {
             queued: works.queued,
             running: works.running,
             workers: others.workers,
             moving: PoolSet::all(),
+            pools,
             next: 0,
             spent: 0,
             frozen: false,
@@ -163,6 +166,7 @@ impl Parts for CoreParts {
             running: works.running,
             workers: others.workers,
             moving: self.moving,
+            pools: self.pools,
             next: self.next,
             spent: self.spent,
             frozen: self.frozen,
@@ -192,6 +196,21 @@ impl Parts for CoreParts {
     }
 
     #[inline(always)]
+    fn pending(&self, w: usize) -> Option<Pending> {
+        self.queued.work(w)
+    }
+
+    #[inline(always)]
+    fn running(&self, w: usize) -> Option<Running> {
+        self.running.work(w)
+    }
+
+    #[inline(always)]
+    fn depth(&self, w: usize) -> u16 {
+        self.depth[w]
+    }
+
+    #[inline(always)]
     fn has_room(&self, queue: u8, pool: u8) -> bool {
         if pool >= MAX_POOLS || queue as usize >= self.queued.scenario().queues.len() {
             return cmwq_reads::has_room(self, queue, pool);
@@ -206,8 +225,7 @@ impl Parts for CoreParts {
 
     #[inline(always)]
     fn may_move(&self) -> PoolSet {
-        let pools = self.workers.made().len() as u8;
-        self.moving.common(PoolSet::below(pools))
+        self.moving.common(self.pools)
     }
 
     fn settle(&mut self, pool: u8) {
@@ -305,7 +323,7 @@ impl Parts for CoreParts {
 
     #[inline(always)]
     fn enlist(&mut self, _queue: u8, pool: u8, w: usize) {
-        if let Some(p) = self.queued.of(w) {
+        if let Some(p) = self.queued.work(w) {
             let stamp = self.next;
             let place = Place::Listed(pool);
             self.queued.list(w, Pending { stamp, place, ..p });
@@ -362,14 +380,14 @@ impl Parts for CoreParts {
     fn begin_again(&mut self, w: usize, r: Running, p: Pending) {
         let stamp = self.next;
         self.queued.take(w);
-        self.running.begin(w, p.born, r.pool, r.worker, stamp);
+        self.running.begin_again(w, r, p.born, stamp);
         self.moving = with(self.moving, r.pool);
         self.next = stamp + 1;
     }
 
     #[inline(always)]
     fn retire(&mut self, w: usize, r: Running) {
-        self.running.retire(w);
+        self.running.retire(w, r);
         if r.worker == RESCUER {
             self.moving = PoolSet::all();
             return;
@@ -377,7 +395,7 @@ impl Parts for CoreParts {
         self.workers.retire(r.pool, r.worker, self.next);
         self.next += 1;
         self.moving = with(self.moving, r.pool);
-        if let Some(p) = self.queued.of(w) {
+        if let Some(p) = self.queued.work(w) {
             self.moving = with_some(self.moving, listed_pool(p.place));
         }
     }

@@ -19,11 +19,25 @@ use cmwq_reads::{flush_target, is_free, refused_at_once};
 use cmwq_table::Happened;
 use cmwq_types::{Cause, Event, Instr, QueueId, Refusal, Reply, WorkId, WorkRun, WorkState};
 
-/// The line of an instruction: a refusal changes nothing, and what is accepted is spent, but for
-/// what is free.
-#[tactic(auto, unfolding(cmwq_table::specs::Table::table))]
+/// The line of an instruction. What is given most has a branch of its own, in which the compiler knows the instruction, and leaves out what is
+/// asked of others.
 #[inline(never)]
 pub(crate) fn exec<P: Parts>(going: &mut Going<P>, instr: Instr) -> Reply
+    requires { IsKept going.old }
+    ensures state { going.new ≡ record going.old { state = (table going.old.scenario going.old.state instr).0 } }
+    ensures reply { result ≡ (table going.old.scenario going.old.state instr).1 }
+{
+    match instr {
+        Instr::Queue(w, cpu) => exec_one(going, Instr::Queue(w, cpu)),
+        Instr::Mod(w, cpu, ticks) => exec_one(going, Instr::Mod(w, cpu, ticks)),
+        other => exec_one(going, other),
+    }
+}
+
+/// A refusal changes nothing, and what is accepted is spent, but for what is free.
+#[tactic(auto, unfolding(cmwq_table::specs::Table::table))]
+#[inline(always)]
+fn exec_one<P: Parts>(going: &mut Going<P>, instr: Instr) -> Reply
     requires { IsKept going.old }
     ensures state { going.new ≡ record going.old { state = (table going.old.scenario going.old.state instr).0 } }
     ensures reply { result ≡ (table going.old.scenario going.old.state instr).1 }
@@ -99,7 +113,7 @@ fn queue<P: Parts>(going: &mut Going<P>, w: WorkId, cpu: u8) -> Result<Reply, Re
     if going.is_disabled(w) {
         return Err(Refusal::Disabled);
     }
-    if going.parts.pending_of(w.0 as usize).is_some() {
+    if going.parts.pending(w.0 as usize).is_some() {
         return Ok(Reply::Already);
     }
     going.place(w.0 as usize, cpu);
@@ -118,7 +132,7 @@ fn delay<P: Parts>(going: &mut Going<P>, w: WorkId, cpu: u8, ticks: u32) -> Resu
     if going.is_disabled(w) {
         return Err(Refusal::Disabled);
     }
-    if going.parts.pending_of(w.0 as usize).is_some() {
+    if going.parts.pending(w.0 as usize).is_some() {
         return Ok(Reply::Already);
     }
     going.place_after(w.0 as usize, cpu, ticks);
@@ -137,7 +151,7 @@ fn modify<P: Parts>(going: &mut Going<P>, w: WorkId, cpu: u8, ticks: u32) -> Res
     if going.is_disabled(w) {
         return Err(Refusal::Disabled);
     }
-    match going.parts.pending_of(w.0 as usize) {
+    match going.parts.pending(w.0 as usize) {
         Some(p) => {
             going.replace(w.0 as usize, p, cpu, ticks);
             Ok(Reply::Changed)
@@ -156,7 +170,7 @@ pub(crate) fn cancel<P: Parts>(going: &mut Going<P>, w: usize) -> Reply
     ensures state { going.new ≡ record going.old { state = (cancelled going.old.scenario going.old.state w (pending_at going.old.state w)).0 } }
     ensures reply { result ≡ (cancelled going.old.scenario going.old.state w (pending_at going.old.state w)).1 }
 {
-    if going.parts.pending_of(w).is_none() {
+    if going.parts.pending(w).is_none() {
         return Reply::NotPending;
     }
     going.take_off(w);

@@ -1,2 +1,3 @@
 mod FillLemmas
 mod PoolLemmas
+mod ReadyLemmas

@@ -5,7 +5,7 @@ ghost use Rattle.cmwq_parts.specs.SettledTicks.{AreSettled, IsSettled, ticks};
 ghost use Rattle.cmwq_table.specs.Counts.{first_due, first_inactive, first_listed, first_rescued, first_slept, free_worker, has_room, is_busy, is_deferred, is_done, may_start, ready_head};
 ghost use Rattle.cmwq_table.specs.Moves.{begin_again, begin_on, deferred, enlist, newborn, next_move, retire, set_timer, started_on, taking, with_depth, with_flush, with_pending, with_pressed, with_running, woken};
 ghost use Rattle.cmwq_table.specs.Ready.{holding};
-ghost use Rattle.cmwq_table.specs.State.{pending_at, running_at, start};
+ghost use Rattle.cmwq_table.specs.State.{depth_at, pending_at, running_at, start};
 ghost use Rattle.cmwq_table.specs.View.{view_of};
 ghost use Rattle.cmwq_types.specs.Places.{is_placed};
 ghost use Rattle.cmwq_types.specs.Scenario.{pool_count};
@@ -40,6 +40,30 @@ pub trait Parts: Reads + Drop {
     /// Every part of the state.
     fn look(&self) -> Result<View, NoMemory>
         ensures { IfOk result (λ view. view ≡ view_of (Self.state self.now)) };
+
+    /// Where a work that there is is pending, if it is: as `pending_of`, and quicker where that asks whether there is one.
+    fn pending(&self, w: usize) -> Option<Pending>
+        requires work { w < length (Self.loaded self.now).works }
+        ensures { result ≡ pending_at (Self.state self.now) w }
+    {
+        self.pending_of(w)
+    }
+
+    /// The same of what `running_of` tells.
+    fn running(&self, w: usize) -> Option<Running>
+        requires work { w < length (Self.loaded self.now).works }
+        ensures { result ≡ running_at (Self.state self.now) w }
+    {
+        self.running_of(w)
+    }
+
+    /// The same of what `depth_of` tells.
+    fn depth(&self, w: usize) -> u16
+        requires work { w < length (Self.loaded self.now).works }
+        ensures { result ≡ depth_at (Self.state self.now) w }
+    {
+        self.depth_of(w)
+    }
 
     /// Whether one more work of the queue may be active in the pool.
     fn has_room(&self, queue: u8, pool: u8) -> bool
@@ -240,6 +264,7 @@ pub trait Parts: Reads + Drop {
     fn begin_again(&mut self, w: usize, r: Running, p: Pending)
         requires work { w < length (Self.loaded self.old).works }
         requires running { running_at (Self.state self.old) w ≡ Some r }
+        requires head { ready_head (Self.loaded self.old) (Self.state self.old) r.pool ≡ Some w }
         requires pending { pending_at (Self.state self.old) w ≡ Some p }
         requires deferred { is_deferred p.place ≡ true }
         requires stamps { (Self.state self.old).next < 2 ^ 63 }
@@ -250,6 +275,7 @@ pub trait Parts: Reads + Drop {
     fn retire(&mut self, w: usize, r: Running)
         requires work { w < length (Self.loaded self.old).works }
         requires running { running_at (Self.state self.old) w ≡ Some r }
+        requires head { ready_head (Self.loaded self.old) (Self.state self.old) r.pool ≡ Some w }
         requires stamps { (Self.state self.old).next < 2 ^ 63 }
         ensures { holding (Self.loaded self.new) (Self.state self.new) ≡ holding (Self.loaded self.old) (retire (Self.state self.old) w r) };
 

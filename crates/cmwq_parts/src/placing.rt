@@ -2,6 +2,7 @@
 ghost use Rattle.cmwq_table.specs.Moves.{fill, fill_from, fill_one, fire, place, place_after, pool_for, take_off, taken_off};
 ghost use Rattle.cmwq_table.specs.Ready.{Takes};
 ghost use Rattle.cmwq_table.specs.State.{is_disabled, pending_at};
+ghost use Rattle.cmwq_types.specs.Scenario.{queue_of};
 ghost use Rattle.cmwq_types.specs.Setting.{IsSetting};
 ghost use Rattle.cmwq_types.specs.declared.limits.TheConstants.{MAX_WORKS};
 ghost use Rattle.std.specs.Prelude.{◌≡◌, ◌<◌, ◌≤◌, ◌+◌, ◌^◌, IsFalse, None, Some, length};
@@ -13,24 +14,33 @@ use cmwq_types::{Place, WorkId};
 
 impl<P: Parts> Going<P> {
     /// Whether the work was disabled more often than enabled.
+    #[inline(always)]
     pub fn is_disabled(&self, w: WorkId) -> bool
+        requires work { w.0 < length self.now.scenario.works }
         ensures { result ≡ is_disabled self.now.state w.0 }
     {
-        self.parts.depth_of(w.0 as usize) != 0
+        self.parts.depth(w.0 as usize) != 0
+    }
+
+    /// The number of the queue of a work that there is.
+    #[inline(always)]
+    pub(crate) fn queue(&self, w: usize) -> u8
+        requires work { w < length self.now.scenario.works }
+        ensures { result ≡ queue_of self.now.scenario w }
+    {
+        self.parts.scenario().works[w].queue.0
     }
 
     /// The pool in which the work is placed: where it runs, else its target pool.
     #[inline(always)]
     fn pool_for(&self, w: usize, cpu: u8) -> u8
-        requires { cpu < self.now.scenario.cpus }
+        requires work { w < length self.now.scenario.works }
+        requires cpu { cpu < self.now.scenario.cpus }
         ensures { result ≡ pool_for self.now.scenario self.now.state w cpu }
     {
-        match self.parts.running_of(w) {
+        match self.parts.running(w) {
             Some(r) => r.pool,
-            None => {
-                let scenario = self.parts.scenario();
-                scenario.target_of(scenario.queue_of(w), cpu)
-            }
+            None => self.parts.scenario().target_of(self.queue(w), cpu),
         }
     }
 
@@ -44,7 +54,7 @@ impl<P: Parts> Going<P> {
         ensures { self.new ≡ record self.old { state = place self.old.scenario self.old.state w cpu } }
     {
         let pool = self.pool_for(w, cpu);
-        let queue = self.parts.scenario().queue_of(w);
+        let queue = self.queue(w);
         if self.parts.has_room(queue, pool) {
             self.parts.bear(w, Place::Listed(pool));
         } else {
@@ -78,15 +88,12 @@ impl<P: Parts> Going<P> {
         ensures stamps { self.new.state.next ≤ self.old.state.next + 1 }
         ensures unchanged { IsFalse result → self.new ≡ self.old }
     {
-        if !self.parts.has_room(queue, pool) {
-            return false;
-        }
         match self.parts.first_inactive(queue, pool) {
-            Some(w) => {
+            Some(w) if self.parts.has_room(queue, pool) => {
                 self.parts.enlist(queue, pool, w);
                 true
             }
-            None => false,
+            _ => false,
         }
     }
 
@@ -135,8 +142,8 @@ impl<P: Parts> Going<P> {
         ensures takes { Takes MAX_WORKS self.old.state self.new.state }
         ensures idle { pending_at self.new.state w ≡ None }
     {
-        if let Some(p) = self.parts.pending_of(w) {
-            let queue = self.parts.scenario().queue_of(w);
+        if let Some(p) = self.parts.pending(w) {
+            let queue = self.queue(w);
             self.parts.unpend(w, p);
             self.fill_from(queue, p.place);
         }
@@ -167,7 +174,7 @@ impl<P: Parts> Going<P> {
         requires stamps { self.old.state.next < 2 ^ 63 }
         ensures { self.new ≡ record self.old { state = fire self.old.scenario self.old.state w } }
     {
-        let Some(p) = self.parts.pending_of(w) else {
+        let Some(p) = self.parts.pending(w) else {
             return;
         };
         if let Place::Timer { cpu, .. } = p.place {

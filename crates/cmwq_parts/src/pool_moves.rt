@@ -1,16 +1,18 @@
 //! The moves of a worker pool: which one is next, and what each does.
 ghost use Rattle.cmwq_parts.specs.FoundMoves.{IsFirstMove, IsFound, if_found, move_of};
 ghost use Rattle.cmwq_table.specs.Counts.{first_due, first_listed, first_rescued, free_worker, ready_head};
-ghost use Rattle.cmwq_table.specs.Moves.{advance, cancel_from_body, carry_out, come_to_end, delay_from_body, finish, first_moving, mod_from_body, moved, moved_work, next_move, queue_from_body, rescued, start_first, start_move, started};
+ghost use Rattle.cmwq_table.specs.Moves.{advance, cancel_from_body, carry_out, come_to_end, delay_from_body, finish, first_moving, mod_from_body, moved, moved_work, next_move, onward, queue_from_body, rescued, start_first, start_move, started};
 ghost use Rattle.cmwq_table.specs.Ready.{Takes};
 ghost use Rattle.cmwq_table.specs.State.{is_disabled, pending_at, running_at};
 ghost use Rattle.cmwq_types.specs.Scenario.{op_at};
+ghost use Rattle.cmwq_types.specs.Setting.{IsSetting};
+ghost use Rattle.cmwq_types.specs.declared.limits.TheConstants.{MAX_OPS};
 ghost use Rattle.std.specs.Prelude.{◌≡◌, ◌&&◌, ◌<◌, ◌^◌, IfSome, None, Some, is_none, length};
 
 use crate::going::Going;
 use crate::parts::Parts;
 use cmwq_table::{Happened, Running};
-use cmwq_types::{Event, Op, WorkId};
+use cmwq_types::{Event, Mode, Op, WorkId};
 
 /// The next move of a worker pool, as it was found.
 #[derive(Clone, Copy)]
@@ -68,7 +70,7 @@ impl<P: Parts> Going<P> {
         ensures fits { IfSome result (IsFound self.now.scenario self.now.state pool) }
     {
         let w = self.parts.first_listed(pool)?;
-        if self.parts.running_of(w).is_some() {
+        if self.parts.running(w).is_some() {
             return Some(Found::Defer(WorkId(w as u16)));
         }
         let worker = self.parts.free_worker(pool)?;
@@ -168,8 +170,11 @@ impl<P: Parts> Going<P> {
         ensures state { self.new ≡ record self.old { state = (advance self.old.scenario self.old.state w (running_at self.old.state w)).0 } }
         ensures event { result ≡ (advance self.old.scenario self.old.state w (running_at self.old.state w)).1 }
     {
-        match self.parts.running_of(w) {
-            Some(r) => self.carry_out(w, r),
+        match self.parts.running(w) {
+            Some(r) => {
+                let (left, mode) = (0, Mode::Runnable);
+                self.carry_out(w, Running { left, mode, ..r })
+            }
             None => Event::Finishes,
         }
     }
@@ -185,7 +190,7 @@ impl<P: Parts> Going<P> {
         ensures state { self.new ≡ record self.old { state = (carry_out self.old.scenario self.old.state w r (op_at self.old.scenario w r.pc)).0 } }
         ensures event { result ≡ (carry_out self.old.scenario self.old.state w r (op_at self.old.scenario w r.pc)).1 }
     {
-        match self.parts.scenario().op_of(w, r.pc) {
+        match self.op(w, r.pc) {
             Op::Burn(ticks) => {
                 self.parts.go_on(w, r, ticks);
                 Event::Burns(ticks)
@@ -201,19 +206,44 @@ impl<P: Parts> Going<P> {
             }
             Op::Finish => self.finish(w, r),
             Op::Delay(other, ticks) => {
-                self.parts.go_on(w, r, r.left);
+                self.go_past(w);
                 let cpu = self.parts.scenario().local_cpu(r.pool);
                 self.delay_from_body(other, cpu, ticks)
             }
             Op::Mod(other, ticks) => {
-                self.parts.go_on(w, r, r.left);
+                self.go_past(w);
                 let cpu = self.parts.scenario().local_cpu(r.pool);
                 self.mod_from_body(other, cpu, ticks)
             }
             Op::Cancel(other) => {
-                self.parts.go_on(w, r, r.left);
+                self.go_past(w);
                 self.cancel_from_body(other)
             }
+        }
+    }
+
+    /// The operation that a work that there is comes to at this place, from 0, of its body: past the end it is the finish.
+    #[inline(always)]
+    fn op(&self, w: usize, pc: u8) -> Op
+        requires work { w < length self.now.scenario.works }
+        ensures op { result ≡ op_at self.now.scenario w pc }
+        ensures setting { IsSetting self.now.scenario }
+    {
+        let body = &self.parts.scenario().works[w].body;
+        body.get(pc as usize).copied().unwrap_or(Op::Finish)
+    }
+
+    /// The ready head of its pool goes on to the next operation. It is called, and not written out at each of its calls: it stands before what
+    /// bodies seldom do.
+    #[inline(never)]
+    fn go_past(&mut self, w: usize)
+        requires work { w < length self.old.scenario.works }
+        requires head { IfSome (running_at self.old.state w) (λ r. ready_head self.old.scenario self.old.state r.pool ≡ Some w) }
+        requires pc { IfSome (running_at self.old.state w) (λ r. r.pc < MAX_OPS) }
+        ensures { IfSome (running_at self.old.state w) (λ r. self.new ≡ record self.old { state = onward self.old.state w r }) }
+    {
+        if let Some(r) = self.parts.running(w) {
+            self.parts.go_on(w, r, r.left);
         }
     }
 
@@ -229,7 +259,7 @@ impl<P: Parts> Going<P> {
         if self.is_disabled(other) {
             return Event::QueuesDisabled { other };
         }
-        let already = self.parts.pending_of(other.0 as usize).is_some();
+        let already = self.parts.pending(other.0 as usize).is_some();
         if !already {
             self.place(other.0 as usize, cpu);
         }
@@ -237,6 +267,7 @@ impl<P: Parts> Going<P> {
     }
 
     /// A body queues a work after so many ticks, unless it is disabled. A pending work stays as it is.
+    #[inline(never)]
     fn delay_from_body(&mut self, other: WorkId, cpu: u8, ticks: u32) -> Event
         requires work { other.0 < length self.old.scenario.works }
         requires cpu { cpu < self.old.scenario.cpus }
@@ -248,7 +279,7 @@ impl<P: Parts> Going<P> {
         if self.is_disabled(other) {
             return Event::DelaysDisabled { other, ticks };
         }
-        let already = self.parts.pending_of(other.0 as usize).is_some();
+        let already = self.parts.pending(other.0 as usize).is_some();
         if !already {
             self.place_after(other.0 as usize, cpu, ticks);
         }
@@ -260,6 +291,7 @@ impl<P: Parts> Going<P> {
     }
 
     /// A body queues a work anew after so many ticks, unless it is disabled. A pending work is taken off first.
+    #[inline(never)]
     fn mod_from_body(&mut self, other: WorkId, cpu: u8, ticks: u32) -> Event
         requires work { other.0 < length self.old.scenario.works }
         requires cpu { cpu < self.old.scenario.cpus }
@@ -272,7 +304,7 @@ impl<P: Parts> Going<P> {
             return Event::ModsDisabled { other, ticks };
         }
         let w = other.0 as usize;
-        match self.parts.pending_of(w) {
+        match self.parts.pending(w) {
             Some(p) => {
                 self.replace(w, p, cpu, ticks);
                 let changed = true;
@@ -295,13 +327,14 @@ impl<P: Parts> Going<P> {
     }
 
     /// A body takes a work off, if it is pending.
+    #[inline(never)]
     fn cancel_from_body(&mut self, other: WorkId) -> Event
         requires work { other.0 < length self.old.scenario.works }
         requires stamps { self.old.state.next < 2 ^ 62 }
         ensures state { self.new ≡ record self.old { state = (cancel_from_body self.old.scenario self.old.state other (pending_at self.old.state other.0)).0 } }
         ensures event { result ≡ (cancel_from_body self.old.scenario self.old.state other (pending_at self.old.state other.0)).1 }
     {
-        let was = self.parts.pending_of(other.0 as usize).is_some();
+        let was = self.parts.pending(other.0 as usize).is_some();
         self.take_off(other.0 as usize);
         Event::Cancels { other, was }
     }
@@ -311,11 +344,12 @@ impl<P: Parts> Going<P> {
     fn finish(&mut self, w: usize, r: Running) -> Event
         requires work { w < length self.old.scenario.works }
         requires running { running_at self.old.state w ≡ Some r }
+        requires head { ready_head self.old.scenario self.old.state r.pool ≡ Some w }
         requires stamps { self.old.state.next < 2 ^ 61 }
         ensures state { self.new ≡ record self.old { state = (finish self.old.scenario self.old.state w r).0 } }
         ensures event { result ≡ (finish self.old.scenario self.old.state w r).1 }
     {
-        let queue = self.parts.scenario().queue_of(w);
+        let queue = self.queue(w);
         let event = self.come_to_end(w, r);
         self.fill(queue, r.pool);
         event
@@ -328,12 +362,13 @@ impl<P: Parts> Going<P> {
     fn come_to_end(&mut self, w: usize, r: Running) -> Event
         requires work { w < length self.old.scenario.works }
         requires running { running_at self.old.state w ≡ Some r }
+        requires head { ready_head self.old.scenario self.old.state r.pool ≡ Some w }
         requires stamps { self.old.state.next < 2 ^ 61 }
         ensures state { self.new ≡ record self.old { state = (come_to_end self.old.state w r (pending_at self.old.state w)).0 } }
         ensures event { result ≡ (come_to_end self.old.state w r (pending_at self.old.state w)).1 }
         ensures takes { Takes 1 self.old.state self.new.state }
     {
-        match self.parts.pending_of(w) {
+        match self.parts.pending(w) {
             Some(p) if p.place.is_deferred() => {
                 self.parts.begin_again(w, r, p);
                 Event::FinishesAndStarts
@@ -356,7 +391,7 @@ impl<P: Parts> Going<P> {
         requires stamps { self.old.state.next < 2 ^ 63 }
         ensures { self.new ≡ record self.old { state = started self.old.state pool w (free_worker self.old.scenario self.old.state pool) (pending_at self.old.state w) } }
     {
-        if let Some(p) = self.parts.pending_of(w) {
+        if let Some(p) = self.parts.pending(w) {
             self.parts.start_on(pool, w, worker, p);
         }
     }
@@ -368,7 +403,7 @@ impl<P: Parts> Going<P> {
         requires stamps { self.old.state.next < 2 ^ 63 }
         ensures { self.new ≡ record self.old { state = rescued self.old.state pool w (pending_at self.old.state w) } }
     {
-        if let Some(p) = self.parts.pending_of(w) {
+        if let Some(p) = self.parts.pending(w) {
             self.parts.rescue(pool, w, p);
         }
     }

@@ -22,7 +22,7 @@ use std::sync::Arc;
 /// How each work of a scenario runs, if it runs, and who of them is the first, and how many there are.
 ///
 /// Those in a pool's line stand in one list, those of it whose sleep is over in another, so who is first there is known at once; who has
-/// an alarm stands in a tree of alarms, and of each class that is asked for a count is kept. A run changes by `set` and `carry_on` alone. Of a
+/// an alarm stands in a tree of alarms, and of each class that is asked for a count is kept. A run changes by `begin`, `carry_on` and `end` alone. Of a
 /// pool whose number is `MAX_POOLS` or more nothing is known but its works' runs. All room is taken by `new` and `copy`.
 #[derive(Drop)]
 pub struct PhasedWorks {
@@ -103,17 +103,25 @@ impl PhasedWorks {
         self.runs[w]
     }
 
-    /// Lets a work run otherwise, or not at all. No other work may run under the stamp of the new run.
+    /// Begins an instance of a work of which none runs. No other work may run under its stamp.
     #[inline(always)]
-    pub fn set(&mut self, w: usize, run: Option<Run>)
+    pub fn begin(&mut self, w: usize, run: Run)
         requires work { w < length self.old.scenario.works }
-        requires own_stamp { HasOwnStamp self.old.runs w run }
-        ensures { self.new ≡ record self.old { runs = slice_set self.old.runs w run } }
+        requires still { run_at self.old.runs w ≡ None }
+        requires own_stamp { HasOwnStamp self.old.runs w (Some run) }
+        ensures { self.new ≡ record self.old { runs = slice_set self.old.runs w (Some run) } }
     {
-        match self.run(w) {
-            None => self.change(w, None, run),
-            was => self.change(w, was, run),
-        }
+        self.change(w, None, Some(run));
+    }
+
+    /// Ends the instance of a work that runs so.
+    #[inline(always)]
+    pub fn end(&mut self, w: usize, was: Run)
+        requires work { w < length self.old.scenario.works }
+        requires was { run_at self.old.runs w ≡ Some was }
+        ensures { self.new ≡ record self.old { runs = slice_set self.old.runs w None } }
+    {
+        self.change(w, Some(was), None);
     }
 
     /// Lets a work that runs or doesn't run so run otherwise, or not at all.
@@ -137,16 +145,14 @@ impl PhasedWorks {
         runs[w] = run;
     }
 
-    /// Lets an instance of a work that runs so run otherwise, in the same pool and on the same worker. No other work may run under the stamp of the
-    /// new run.
+    /// Lets a work that runs so run otherwise, in the same pool and on the same worker. No other work may run under the stamp of the new run.
     ///
-    /// It is as `set`, and quicker: a line is touched only where the work's place in one may change, an alarm where it had one or gets one,
-    /// a count where it falls asleep or wakes.
+    /// A line is touched only where the work's place in one may change, an alarm where it had one or gets one, a count where it falls asleep or
+    /// wakes.
     #[inline(always)]
     pub fn carry_on(&mut self, w: usize, was: Run, run: Run)
         requires work { w < length self.old.scenario.works }
         requires was { run_at self.old.runs w ≡ Some was }
-        requires born { run.born ≡ was.born }
         requires pool { run.pool ≡ was.pool }
         requires worker { run.worker ≡ was.worker }
         requires own_stamp { HasOwnStamp self.old.runs w (Some run) }
@@ -253,19 +259,22 @@ impl PhasedWorks {
     }
 }
 
-/// Lets an instance of a work that runs so run otherwise, in its pool and on its worker. Only what can be otherwise is written.
+/// Lets a work that runs so run otherwise, in its pool and on its worker. Only what can be otherwise is written.
 #[inline(always)]
 fn write_on(runs: &mut [Option<Run>], w: usize, was: Run, run: Run)
     requires work { w < length runs.old }
     requires was { run_at runs.old w ≡ Some was }
-    requires born { run.born ≡ was.born }
     requires pool { run.pool ≡ was.pool }
     requires worker { run.worker ≡ was.worker }
     ensures { runs.new ≡ slice_set runs.old w (Some run) }
 {
-    let _was = was;
     if let Some(kept) = &mut runs[w] {
-        kept.stamp = run.stamp;
+        if run.born != was.born {
+            kept.born = run.born;
+        }
+        if run.stamp != was.stamp {
+            kept.stamp = run.stamp;
+        }
         kept.phase = run.phase;
         kept.pc = run.pc;
     }

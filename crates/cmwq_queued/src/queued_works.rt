@@ -100,6 +100,15 @@ impl QueuedWorks {
         self.pending.get(w).copied().unwrap_or(None)
     }
 
+    /// The same of a work that there is.
+    #[inline(always)]
+    pub fn work(&self, w: usize) -> Option<Pending>
+        requires work { w < length self.now.scenario.works }
+        ensures { result ≡ pending_at self.now.pending w }
+    {
+        self.pending[w]
+    }
+
     /// All works, by number.
     pub fn all(&self) -> &[Option<Pending>]
         ensures { result.now ≡ self.now.pending }

@@ -265,34 +265,25 @@ module _ (S : ScenarioContents) (rs : List (Option Run)) (w : ℕ) (new : Option
       of_new None still = tt
       of_new (Some r) still = λ is. still_going (may_burn S (set rs w new) pool) r.phase still
 
--- Where the work stays in its pool, that beside it is balanced once.
-pub balanced_once : (S : ScenarioContents) (rs : List (Option Run)) (w : ℕ) (was run : Run) (changed one : PhasedContents)
-    → IsChange S rs w (Some run) → changed ≡ record { scenario = S; runs = set rs w (Some run) } → run_at rs w ≡ Some was → run.pool ≡ was.pool
+-- Where the pools of the work, as it ran and as it runs, are this one if any, that beside it is balanced once.
+pub balanced : (S : ScenarioContents) (rs : List (Option Run)) (w : ℕ) (new : Option Run) (high : ℕ) (changed one : PhasedContents)
+    → IsChange S rs w new → changed ≡ record { scenario = S; runs = set rs w new }
+    → ((pool : ℕ) → IfBeside S (run_at rs w) pool → IsBeside S high pool) → ((pool : ℕ) → IfBeside S new pool → IsBeside S high pool)
     → ((pool : ℕ) → GoIn S rs pool)
-    → ((pool : ℕ) → GoIn changed.scenario changed.runs pool ⊎ IsBeside changed.scenario run.pool pool → GoIn one.scenario one.runs pool)
+    → ((pool : ℕ) → GoIn changed.scenario changed.runs pool ⊎ IsBeside changed.scenario high pool → GoIn one.scenario one.runs pool)
     → (pool : ℕ) → GoIn one.scenario one.runs pool
-balanced_once S rs w was run changed one change is at same going balance pool =
-    balance pool (elim (change_go S rs w (Some run) change pool (going pool)) [
+balanced S rs w new high changed one change is was now going balance pool =
+    balance pool (elim (change_go S rs w new change pool (going pool)) [
       | inl goes ↦ inl (subst (λ (m : PhasedContents). GoIn m.scenario m.runs pool) (sym is) goes)
-      | inr beside ↦ inr (subst (λ (m : PhasedContents). IsBeside m.scenario run.pool pool) (sym is) (elim beside [
-        | inl then ↦ subst (λ (p : ℕ). IsBeside S p pool) (sym same) (subst (λ (o : Option Run). IfBeside S o pool) at then)
-        | inr now ↦ now
+      | inr beside ↦ inr (subst (λ (m : PhasedContents). IsBeside m.scenario high pool) (sym is) (elim beside [
+        | inl then ↦ was pool then
+        | inr later ↦ now pool later
       ]))
     ])
 
--- The pools beside that of the work, as it ran and as it runs, are balanced one after the other.
-pub balanced : (S : ScenarioContents) (rs : List (Option Run)) (w : ℕ) (new : Option Run) (changed one two : PhasedContents) (old : Option Run)
-    → IsChange S rs w new → changed ≡ record { scenario = S; runs = set rs w new } → old ≡ run_at rs w → one.scenario ≡ changed.scenario
-    → ((pool : ℕ) → GoIn S rs pool)
-    → ((pool : ℕ) → GoIn changed.scenario changed.runs pool ⊎ IfBeside changed.scenario old pool → GoIn one.scenario one.runs pool)
-    → ((pool : ℕ) → GoIn one.scenario one.runs pool ⊎ IfBeside one.scenario new pool → GoIn two.scenario two.runs pool)
-    → (pool : ℕ) → GoIn two.scenario two.runs pool
-balanced S rs w new changed one two old change is was same going first second pool =
-    second pool (elim (change_go S rs w new change pool (going pool)) [
-      | inl goes ↦ inl (first pool (inl (subst (λ (m : PhasedContents). GoIn m.scenario m.runs pool) (sym is) goes)))
-      | inr beside ↦
-          elim beside [
-            | inl then ↦ inl (first pool (inr (subst (λ (m : PhasedContents). IfBeside m.scenario old pool) (sym is) (subst (λ (o : Option Run). IfBeside S o pool) (sym was) then))))
-            | inr now ↦ inr (subst (λ (T : ScenarioContents). IfBeside T new pool) (sym (same ∙ ap (λ (m : PhasedContents). m.scenario) is)) now)
-          ]
-    ])
+-- The pool beside that of a work that ran so is that beside its own, and beside that of one that didn't run there is none.
+pub beside_ran : (S : ScenarioContents) (o : Option Run) (was : Run) (pool : ℕ) → o ≡ Some was → IfBeside S o pool → IsBeside S was.pool pool
+beside_ran S o was pool at beside = subst (λ (o : Option Run). IfBeside S o pool) at beside
+
+pub beside_none : (S : ScenarioContents) (o : Option Run) (high pool : ℕ) → o ≡ None → IfBeside S o pool → IsBeside S high pool
+beside_none S o high pool none beside = absurd (subst (λ (o : Option Run). IfBeside S o pool) none beside)

@@ -45,10 +45,18 @@ abbrev pub woken_run : ℕ → Option Running → Option Running
 woken_run stamp (Some r) = Some (record r { mode = Runnable; stamp = stamp })
 woken_run stamp None = None
 
--- the running work in this phase, at its next operation
--- the running work in its table's words, where it has nothing left to burn
+-- an instance at the beginning of its body, that was born then
+abbrev pub first_run : ℕ → ℕ → ℕ → ℕ → Run
+first_run born pool worker stamp = record { born = born; stamp = stamp; phase = Ready; pool = pool; worker = worker; pc = 0 }
+
+-- how a sleeper runs once it is woken, under this stamp
+abbrev pub roused : Run → ℕ → Run
+roused r stamp = record r { stamp = stamp; phase = Ready }
+
+-- the running work as it runs, where it has nothing left to burn
 abbrev pub ready_as : Running → Run
 ready_as r = record { born = r.born; stamp = r.stamp; phase = Ready; pool = r.pool; worker = r.worker; pc = r.pc }
 
+-- the running work in this phase, at its next operation
 abbrev pub onward_run : Running → Phase → Run
 onward_run r phase = record { born = r.born; stamp = r.stamp; phase = phase; pool = r.pool; worker = r.worker; pc = r.pc + 1 }

@@ -1,44 +1,88 @@
 //! A work begins, wakes, falls asleep or ends.
 ghost use Rattle.cmwq_phases.specs.Phases.{IsTimely, shown, shown_all};
-ghost use Rattle.cmwq_phases.specs.Runs.{HasOwnStamp, run_at};
-ghost use Rattle.cmwq_running.specs.Heads.{AreKept, AreTimely, ComesLast, GoIn, HaveHeads, IfBeside, IsEarly, IsStill, asleep_until};
-ghost use Rattle.cmwq_running.specs.RunningContents.{onward_run, ready_as, seen, state_of, woken_run};
+ghost use Rattle.cmwq_phases.specs.Runs.{HasOwnStamp, is_rested, run_at};
+ghost use Rattle.cmwq_running.specs.Heads.{AreKept, ComesLast, IsStill, asleep_until};
+ghost use Rattle.cmwq_running.specs.RunningContents.{first_run, onward_run, ready_as, roused, seen, state_of, woken_run};
 ghost use Rattle.cmwq_table.specs.Counts.{first_slept, ready_head};
+ghost use Rattle.cmwq_table.specs.Moves.{begun};
 ghost use Rattle.cmwq_table.specs.State.{running_at};
 ghost use Rattle.cmwq_types.specs.declared.limits.TheConstants.{MAX_OPS};
 ghost use Rattle.cmwq_types.specs.declared.reply.Mode.TheVariants.{Asleep};
-ghost use Rattle.std.specs.Prelude.{◌≡◌, ◌<◌, ◌+◌, ◌⊎◌, ℕ, IfSome, Some, is_some, length, option_map, slice_set, true};
+ghost use Rattle.std.specs.Prelude.{◌≡◌, ◌<◌, ◌+◌, ℕ, IfSome, None, Some, is_some, length, slice_set, true};
 
 use crate::pacing::{balance, may_burn, paced, with_left};
 use cmwq_phased::PhasedWorks;
 use cmwq_phases::{Phase, Run};
 use cmwq_table::Running;
 
-/// Lets a work run so, with no ticks left, or not run at all. If it is runnable, it stands behind all others of its pool.
+/// Begins an instance of a work of which none runs, with no ticks left. If it is runnable, it stands behind all others of its pool.
 #[inline(always)]
-pub(crate) fn change(works: &mut PhasedWorks, time: u64, w: usize, run: Option<Run>)
+pub(crate) fn begin(works: &mut PhasedWorks, time: u64, w: usize, run: Run)
     requires work { w < length works.old.scenario.works }
+    requires absent { run_at works.old.runs w ≡ None }
     requires kept { AreKept time works.old }
-    requires still { IfSome run (λ r. IsStill r.phase) }
-    requires timely { IfSome run (λ r. IsTimely time r.phase) }
-    requires own_stamp { HasOwnStamp works.old.runs w run }
-    requires last { ComesLast works.old.runs w run }
-    ensures seen { seen time works.new ≡ record (seen time works.old) { running = slice_set (shown_all time works.old.runs) w (option_map (shown time) run) } }
+    requires still { IsStill run.phase }
+    requires timely { IsTimely time run.phase }
+    requires own_stamp { HasOwnStamp works.old.runs w (Some run) }
+    requires last { ComesLast works.old.runs w (Some run) }
+    ensures seen { seen time works.new ≡ record (seen time works.old) { running = slice_set (shown_all time works.old.runs) w (Some (shown time run)) } }
     ensures kept { AreKept time works.new }
 {
-    let old = works.run(w);
     works.own_stamps();
-    works.set(w, run);
-    balance_beside(works, time, old);
-    balance_beside(works, time, run);
+    works.begin(w, run);
+    balance(works, time, run.pool);
 }
 
-/// The same where the work ran so, and stays in its pool and on its worker.
+/// Ends the instance of a work that runs, the ready head of its pool.
+#[inline(always)]
+pub(crate) fn end(works: &mut PhasedWorks, time: u64, w: usize, r: Running)
+    requires kept { AreKept time works.old }
+    requires running { running_at (state_of (seen time works.old)) w ≡ Some r }
+    requires head { ready_head works.old.scenario (state_of (seen time works.old)) r.pool ≡ Some w }
+    ensures seen { seen time works.new ≡ record (seen time works.old) { running = slice_set (shown_all time works.old.runs) w None } }
+    ensures kept { AreKept time works.new }
+{
+    works.own_stamps();
+    works.end(w, ready_as(r));
+    balance(works, time, r.pool);
+}
+
+/// Where an instance of the work runs so, the ready head of its pool, another one that was born then begins in its place, at the beginning of the
+/// body, under a stamp above those of all running works.
+#[inline(always)]
+pub(crate) fn begin_again(works: &mut PhasedWorks, time: u64, w: usize, r: Running, born: u64, stamp: u64)
+    requires kept { AreKept time works.old }
+    requires running { running_at (state_of (seen time works.old)) w ≡ Some r }
+    requires head { ready_head works.old.scenario (state_of (seen time works.old)) r.pool ≡ Some w }
+    requires newest { (v : ℕ) → IfSome (running_at (state_of (seen time works.old)) v) (λ q. q.stamp < stamp) }
+    ensures seen { seen time works.new ≡ record (seen time works.old) { running = slice_set (shown_all time works.old.runs) w (Some (begun born r.pool r.worker stamp)) } }
+    ensures kept { AreKept time works.new }
+{
+    let run = first_run(born, r.pool, r.worker, stamp);
+    carry_on(works, time, w, ready_as(r), run);
+}
+
+/// An instance at the beginning of its body, that was born then, in this pool and on this worker.
+#[inline(always)]
+pub(crate) fn first_run(born: u64, pool: u8, worker: u8, stamp: u64) -> Run
+    ensures { result ≡ first_run born pool worker stamp }
+{
+    Run {
+        born,
+        stamp,
+        phase: Phase::Ready,
+        pool,
+        worker,
+        pc: 0,
+    }
+}
+
+/// Lets a work that runs so run otherwise, with no ticks left, in its pool and on its worker. If it is runnable, it stands behind all others of
+/// its pool.
 #[inline(always)]
 fn carry_on(works: &mut PhasedWorks, time: u64, w: usize, was: Run, run: Run)
     requires work { w < length works.old.scenario.works }
     requires was { run_at works.old.runs w ≡ Some was }
-    requires born { run.born ≡ was.born }
     requires pool { run.pool ≡ was.pool }
     requires worker { run.worker ≡ was.worker }
     requires kept { AreKept time works.old }
@@ -137,13 +181,31 @@ pub(crate) fn wake(works: &mut PhasedWorks, time: u64, pool: u8, w: usize, stamp
 {
     match works.run(w) {
         None => {}
-        Some(run) => {
-            let phase = Phase::Ready;
+        Some(run) => rouse(works, time, w, run, stamp),
+    }
+}
+
+/// Lets a sleeper whose sleep is over be runnable, under a stamp above those of all running works.
+#[inline(always)]
+fn rouse(works: &mut PhasedWorks, time: u64, w: usize, run: Run, stamp: u64)
+    requires work { w < length works.old.scenario.works }
+    requires was { run_at works.old.runs w ≡ Some run }
+    requires rested { is_rested run.phase ≡ true }
+    requires kept { AreKept time works.old }
+    requires newest { (v : ℕ) → IfSome (running_at (state_of (seen time works.old)) v) (λ q. q.stamp < stamp) }
+    ensures seen { seen time works.new ≡ record (seen time works.old) { running = slice_set (shown_all time works.old.runs) w (Some (shown time (roused run stamp))) } }
+    ensures kept { AreKept time works.new }
+{
+    match run.phase {
+        Phase::Slept(until) => {
+            let (phase, awake) = (Phase::Slept(until), Phase::Ready);
+            let was = Run { phase, ..run };
+            let phase = awake;
             carry_on(
                 works,
                 time,
                 w,
-                run,
+                was,
                 Run {
                     stamp,
                     phase,
@@ -151,23 +213,6 @@ pub(crate) fn wake(works: &mut PhasedWorks, time: u64, pool: u8, w: usize, stamp
                 },
             );
         }
-    }
-}
-
-/// Lets the head of the normal pool beside that of the work, if it runs in a CPU's high pool, burn just where it may.
-#[inline(always)]
-fn balance_beside(works: &mut PhasedWorks, time: u64, run: Option<Run>)
-    requires early { IsEarly time }
-    requires timely { AreTimely time works.old.runs }
-    requires heads { HaveHeads works.old.scenario works.old.runs }
-    ensures scenario { works.new.scenario ≡ works.old.scenario }
-    ensures shown { shown_all time works.new.runs ≡ shown_all time works.old.runs }
-    ensures timely { AreTimely time works.new.runs }
-    ensures heads { HaveHeads works.new.scenario works.new.runs }
-    ensures going { (pool : ℕ) → GoIn works.old.scenario works.old.runs pool ⊎ IfBeside works.old.scenario run pool → GoIn works.new.scenario works.new.runs pool }
-{
-    match run {
-        None => {}
-        Some(run) => balance(works, time, run.pool),
+        Phase::Ready | Phase::Held(_) | Phase::Burning(_) | Phase::Asleep(_) => {}
     }
 }

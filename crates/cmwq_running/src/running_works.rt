@@ -14,12 +14,11 @@ ghost use Rattle.cmwq_types.specs.declared.limits.TheConstants.{MAX_OPS, MAX_WOR
 ghost use Rattle.cmwq_types.specs.declared.reply.Mode.TheVariants.{Asleep};
 ghost use Rattle.std.specs.Prelude.{◌≡◌, ◌<◌, ◌≤◌, ◌+◌, ◌^◌, ◌&&◌, ◌==◌, ℕ, IfOk, IfSome, None, Some, false, is_some, length, replicate, slice_set, true};
 
-use crate::changing::{change, fall_asleep, go_on, wake};
+use crate::changing::{begin, begin_again, end, fall_asleep, first_run, go_on, wake};
 use crate::ending::{end_by, ticks_to_end};
 use crate::pacing::ready_run;
 use cmwq_parts::PoolSet;
 use cmwq_phased::PhasedWorks;
-use cmwq_phases::{Phase, Run};
 use cmwq_table::Running;
 use cmwq_types::{NoMemory, Scenario};
 use std::alloc::Global;
@@ -91,6 +90,16 @@ impl RunningWorks {
         ensures { result ≡ running_at (state_of self.now) w }
     {
         let run = self.works.of(w)?;
+        Some(run.shown(self.time))
+    }
+
+    /// The same of a work that there is.
+    #[inline(always)]
+    pub fn work(&self, w: usize) -> Option<Running>
+        requires work { w < length self.now.scenario.works }
+        ensures { result ≡ running_at (state_of self.now) w }
+    {
+        let run = self.works.run(w)?;
         Some(run.shown(self.time))
     }
 
@@ -185,34 +194,41 @@ impl RunningWorks {
         wake(works, *time, pool, w, stamp);
     }
 
-    /// An instance of the work that was born then begins in the pool on the worker, under a stamp above those of all running works. Where an
-    /// instance of the work runs, that has ended.
+    /// An instance of the work, of which none runs, that was born then begins in the pool on the worker, under a stamp above those of all running
+    /// works.
     #[inline(always)]
     pub fn begin(&mut self, w: usize, born: u64, pool: u8, worker: u8, stamp: u64)
         requires work { w < length self.old.scenario.works }
+        requires still { running_at (state_of self.old) w ≡ None }
         requires newest { (v : ℕ) → IfSome (running_at (state_of self.old) v) (λ q. q.stamp < stamp) }
         ensures { self.new ≡ record self.old { running = slice_set self.old.running w (Some (begun born pool worker stamp)) } }
     {
         let RunningWorks { time, works } = self;
-        let run = Run {
-            born,
-            stamp,
-            phase: Phase::Ready,
-            pool,
-            worker,
-            pc: 0,
-        };
-        change(works, *time, w, Some(run));
+        begin(works, *time, w, first_run(born, pool, worker, stamp));
     }
 
-    /// The work doesn't run any more.
+    /// The running work, the ready head of its pool, ends, and an instance of it that was born then begins in its pool on its worker, under a stamp
+    /// above those of all running works.
     #[inline(always)]
-    pub fn retire(&mut self, w: usize)
-        requires work { w < length self.old.scenario.works }
+    pub fn begin_again(&mut self, w: usize, r: Running, born: u64, stamp: u64)
+        requires running { running_at (state_of self.old) w ≡ Some r }
+        requires head { ready_head self.old.scenario (state_of self.old) r.pool ≡ Some w }
+        requires newest { (v : ℕ) → IfSome (running_at (state_of self.old) v) (λ q. q.stamp < stamp) }
+        ensures { self.new ≡ record self.old { running = slice_set self.old.running w (Some (begun born r.pool r.worker stamp)) } }
+    {
+        let RunningWorks { time, works } = self;
+        begin_again(works, *time, w, r, born, stamp);
+    }
+
+    /// The running work, the ready head of its pool, doesn't run any more.
+    #[inline(always)]
+    pub fn retire(&mut self, w: usize, r: Running)
+        requires running { running_at (state_of self.old) w ≡ Some r }
+        requires head { ready_head self.old.scenario (state_of self.old) r.pool ≡ Some w }
         ensures { self.new ≡ record self.old { running = slice_set self.old.running w None } }
     {
         let RunningWorks { time, works } = self;
-        change(works, *time, w, None);
+        end(works, *time, w, r);
     }
 
     /// Lets ticks pass, at most so many, until a burn or a sleep ends, and one at least, if any may. Answers how many, and in which pools a burn or a

@@ -1,10 +1,11 @@
-use Rattle.std.proofs.Common.{Some, length, sym, ap, subst, ◌∙◌}
+use Rattle.std.proofs.Common.{Some, ℕ, length, sym, ap, subst, ◌∙◌}
 use Rattle.std.proofs.lemmas.List.{length-set}
 use Rattle.cmwq_types.specs.Contents.{ScenarioContents}
 use Rattle.cmwq_phased.specs.PhasedContents.{PhasedContents}
 use Rattle.cmwq_phases.specs.Phases.{shown_all}
-use Rattle.cmwq_running.specs.Heads.{AreTimely, HaveHeads}
-use Rattle.cmwq_running.proofs.HeadLemmas.{balanced_once, change_of, change_have_heads}
+use Rattle.cmwq_phases.specs.Runs.{run_at}
+use Rattle.cmwq_running.specs.Heads.{AreTimely, HaveHeads, IsBeside}
+use Rattle.cmwq_running.proofs.HeadLemmas.{balanced, beside_ran, change_of, change_have_heads}
 use Rattle.cmwq_running.proofs.PaceLemmas.{within_of}
 use Rattle.cmwq_running.proofs.ShownLemmas.{length_of_shown, seen_is, shown_set}
 use Rattle.cmwq_running.proofs.StepLemmas.{timely_set}
@@ -42,7 +43,8 @@ returns-clause-kept c =
             ∙ ap (λ (m : PhasedContents). length m.runs) c.carry_on.ensures ∙ length-set old.runs c.args.w (Some c.args.run) ∙ c.requires.kept.headed.long
             ∙ ap (λ (S : ScenarioContents). length S.works) (sym scenario);
         heads = c.balance.ensures.heads;
-        going = balanced_once old.scenario old.runs c.args.w c.args.was c.args.run c.carry_on.new.self c.balance.new.works change c.carry_on.ensures
-            c.requires.was c.requires.pool c.requires.kept.headed.going c.balance.ensures.going;
+        going = balanced old.scenario old.runs c.args.w (Some c.args.run) c.args.run.pool c.carry_on.new.self c.balance.new.works change c.carry_on.ensures
+            (λ pool beside. subst (λ (high : ℕ). IsBeside old.scenario high pool) (sym c.requires.pool) (beside_ran old.scenario (run_at old.runs c.args.w) c.args.was pool c.requires.was beside))
+            (λ pool beside. beside) c.requires.kept.headed.going c.balance.ensures.going;
       };
     }

@@ -35,9 +35,6 @@ carry_on-requires-clause-was c =
     let head = ready_head_of c.args.time c.args.works.now c.args.w c.args.r c.requires.kept.timely c.requires.running c.requires.head in
     ready_run_is c.args.time c.args.works.now c.args.w c.args.r c.requires.kept head ∙ ap Some (sym c.ready_as.ensures)
 
-pub carry_on-requires-clause-born : goal.carry_on-requires-clause-born
-carry_on-requires-clause-born c = ap (λ (run : Run). run.born) c.onward.ensures ∙ sym (ap (λ (run : Run). run.born) c.ready_as.ensures)
-
 pub carry_on-requires-clause-pool : goal.carry_on-requires-clause-pool
 carry_on-requires-clause-pool c = ap (λ (run : Run). run.pool) c.onward.ensures ∙ sym (ap (λ (run : Run). run.pool) c.ready_as.ensures)
 
