@@ -12,8 +12,9 @@ use Rattle.cmwq_types.specs.declared.reply.Place.{Place}
 use Rattle.cmwq_types.specs.declared.reply.Place.TheVariants.{Timer, Inactive, Listed, Deferred}
 use Rattle.cmwq_parts.specs.PoolSets.{has_pool}
 use Rattle.cmwq_parts.specs.declared.pool_set.PoolSet.{PoolSet}
-use Rattle.cmwq_table.specs.Counts.{first_inactive, first_listed, first_slept, is_deferred, is_inactive, is_listed, is_rescuer, is_slept, pending_stamp, pends, running_stamp, running_until, runs}
-use Rattle.cmwq_table.specs.Moves.{next_move}
+use Rattle.cmwq_table.specs.Counts.{first_inactive, first_listed, first_slept, is_deferred, is_inactive, is_listed, is_rescuer, is_slept, or_else, pending_stamp, pends, ready_head, running_stamp, running_until, runs}
+use Rattle.cmwq_table.specs.Moves.{as_move, next_move, start_move}
+use Rattle.cmwq_types.specs.declared.moves.Move.TheVariants.{Advance, Wake}
 use Rattle.cmwq_table.specs.State.{State, pending_at, running_at, seat}
 use Rattle.cmwq_table.specs.declared.state.Pending.{Pending}
 use Rattle.cmwq_table.specs.declared.state.Running.{Running}
@@ -242,3 +243,33 @@ inactive_off S s queue pool w first = by_queue (queue_of S w == queue) is.passes
     by_queue : (b : Bool) → (b && pends (λ place. is_inactive place pool) (pending_at s w)) ≡ true → listed_in (pending_at s w) ≡ None
     by_queue true e = by_pending (pending_at s w) e
     by_queue false e = absurd (cc)
+
+-- What moves a pool that had a move, which is one of the set's.
+
+grown_where : (q : QueuedContents) (r : RunningContents) (k : WorkersContents) (pressed : Bool) (pools : PoolSet) (pool : ℕ) → IsCovered q r k pressed pools
+    → is_some (next_move q.scenario (moving_state q r k pressed) pool) ≡ true → IsGrown pools (Some pool) pools
+grown_where q r k pressed pools pool covered moves other small out = (
+  λ same. absurd (
+    let still : is_some (next_move q.scenario (moving_state q r k pressed) pool) ≡ false =
+    ap is_some (subst (λ (p : ℕ). next_move q.scenario (moving_state q r k pressed) p ≡ None) same (covered other small out))
+    in
+    cc),
+  out,
+)
+
+-- a pool with a ready head
+pub grown_by_head : (q : QueuedContents) (r : RunningContents) (k : WorkersContents) (pressed : Bool) (pools : PoolSet) (pool w : ℕ) → IsCovered q r k pressed pools
+    → ready_head q.scenario (moving_state q r k pressed) pool ≡ Some w → IsGrown pools (Some pool) pools
+grown_by_head q r k pressed pools pool w covered head =
+    let s = moving_state q r k pressed in
+    grown_where q r k pressed pools pool covered
+    (ap (λ (o : Option ℕ). is_some (or_else (as_move Advance o) (or_else (as_move Wake (first_slept q.scenario s pool)) (start_move q.scenario s pool)))) head)
+
+-- a pool with a sleeper whose sleep is over
+pub grown_by_slept : (q : QueuedContents) (r : RunningContents) (k : WorkersContents) (pressed : Bool) (pools : PoolSet) (pool w : ℕ) → IsCovered q r k pressed pools
+    → first_slept q.scenario (moving_state q r k pressed) pool ≡ Some w → IsGrown pools (Some pool) pools
+grown_by_slept q r k pressed pools pool w covered slept = grown_where q r k pressed pools pool covered (by_head (ready_head q.scenario (moving_state q r k pressed) pool))
+  where
+    by_head : (o : Option ℕ) → is_some (or_else (as_move Advance o) (or_else (as_move Wake (first_slept q.scenario (moving_state q r k pressed) pool)) (start_move q.scenario (moving_state q r k pressed) pool))) ≡ true
+    by_head (Some v) = refl
+    by_head None = ap (λ (o : Option ℕ). is_some (or_else (as_move Wake o) (start_move q.scenario (moving_state q r k pressed) pool))) slept

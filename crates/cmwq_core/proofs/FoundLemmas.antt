@@ -115,3 +115,21 @@ burned_stems test w (r ∷ rs) zero q e = by_run (test w r) r e
     by_run false None e = absurd (cc)
     by_run true (Some p) e = (let is = same_Some (record p { left = p.left - 1 }) q e in record { before = p; runs = refl; pool = ap (λ (q : Running). q.pool) is; worker = ap (λ (q : Running). q.worker) is; stamp = ap (λ (q : Running). q.stamp) is })
     by_run false (Some p) e = (let is = same_Some p q e in record { before = p; runs = refl; pool = ap (λ (q : Running). q.pool) is; worker = ap (λ (q : Running). q.worker) is; stamp = ap (λ (q : Running). q.stamp) is })
+
+-- whom a rescuer can take doesn't run
+pub rescued_still : (S : ScenarioContents) (s : State) (pool w : ℕ) → first_rescued S s pool ≡ Some w → running_at s w ≡ None
+rescued_still S s pool w found =
+    of_first (first_rescued S s pool) found
+    (first_below-is_first (by_least (λ v. pending_stamp (pending_at s v))) (can_be_rescued S s pool) (length S.works) (by_least-order (λ v. pending_stamp (pending_at s v))))
+  where
+    still : (b : Bool) (o : Option Running) (c : Bool) → (b && (is_none o && c)) ≡ true → o ≡ None
+    still true None c passes = refl
+    still true (Some r) c passes = absurd (cc)
+    still false o c passes = absurd (cc)
+
+    of_first : (o : Option ℕ) → o ≡ Some w → MatchFirst (by_least (λ v. pending_stamp (pending_at s v))) (can_be_rescued S s pool) (length S.works) o → running_at s w ≡ None
+    of_first None is first = absurd (cc)
+    of_first (Some v) is first =
+        let same : v ≡ w = cc in
+        still (pends (λ place. is_listed place pool) (pending_at s w)) (running_at s w) (has_free_rescuer S s (queue_of S w))
+        (subst (λ (k : ℕ). can_be_rescued S s pool k ≡ true) same first.passes)

@@ -22,14 +22,14 @@ use std::sync::Arc;
 /// A loaded scenario and the whole state of the instruction table: pending works with their lists and timers, running works with their lines
 /// and end times, idle workers as they became idle, and plain numbers for the rest.
 ///
-/// All room is taken by `begin` and `copy`.
+/// A pool that has a move is one of `moving`, and a pool is put there where a change may give it one: what only moves a pool that had a move needs
+/// not do so. All room is taken by `begin` and `copy`.
 #[derive(Drop)]
 pub struct CoreParts {
     queued: QueuedWorks,
     running: RunningWorks,
     workers: IdleWorkers,
     moving: PoolSet,
-    pools: PoolSet,
     next: u64,
     spent: u32,
     frozen: bool,
@@ -134,14 +134,12 @@ impl Reads for CoreParts {
 
 impl Parts for CoreParts {
     fn begin(alloc: Global, scenario: Arc<Scenario>) -> Result<Self, NoMemory> {
-        let pools = PoolSet::below(scenario.pool_count());
         let Stores { works, others } = first_stores(alloc, &scenario)?;
         Ok(CoreParts {
             queued: works.queued,
             running: works.running,
             workers: others.workers,
             moving: PoolSet::all(),
-            pools,
             next: 0,
             spent: 0,
             frozen: false,
@@ -166,7 +164,6 @@ impl Parts for CoreParts {
             running: works.running,
             workers: others.workers,
             moving: self.moving,
-            pools: self.pools,
             next: self.next,
             spent: self.spent,
             frozen: self.frozen,
@@ -225,7 +222,8 @@ impl Parts for CoreParts {
 
     #[inline(always)]
     fn may_move(&self) -> PoolSet {
-        self.moving.common(self.pools)
+        let pools = self.workers.made().len() as u8;
+        self.moving.common(PoolSet::below(pools))
     }
 
     fn settle(&mut self, pool: u8) {
@@ -359,20 +357,17 @@ impl Parts for CoreParts {
     #[inline(always)]
     fn go_on(&mut self, w: usize, r: Running, left: u32) {
         self.running.go_on(w, r, left);
-        self.moving = with(self.moving, r.pool);
     }
 
     #[inline(always)]
     fn sleep(&mut self, w: usize, r: Running, until: u64) {
         self.running.sleep(w, r, until);
-        self.moving = with(self.moving, r.pool);
     }
 
     #[inline(always)]
     fn wake(&mut self, pool: u8, w: usize) {
         let stamp = self.next;
         self.running.wake(pool, w, stamp);
-        self.moving = with(self.moving, pool);
         self.next = stamp + 1;
     }
 
@@ -381,7 +376,6 @@ impl Parts for CoreParts {
         let stamp = self.next;
         self.queued.take(w);
         self.running.begin_again(w, r, p.born, stamp);
-        self.moving = with(self.moving, r.pool);
         self.next = stamp + 1;
     }
 
@@ -394,7 +388,6 @@ impl Parts for CoreParts {
         }
         self.workers.retire(r.pool, r.worker, self.next);
         self.next += 1;
-        self.moving = with(self.moving, r.pool);
         if let Some(p) = self.queued.work(w) {
             self.moving = with_some(self.moving, listed_pool(p.place));
         }

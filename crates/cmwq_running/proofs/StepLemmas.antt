@@ -164,6 +164,15 @@ module _ (time : ℕ) (works : PhasedContents) (w : ℕ) (r : Running) (kept : A
       by_test true = ap (λ (n : ℕ). record r { pc = r.pc + 1; left = n; mode = mode.Asleep until }) (sym left_is)
       by_test false = ap (λ (n : ℕ). record r { pc = r.pc + 1; left = n; mode = mode.Asleep until }) (sym left_is)
 
+-- how the ready head runs, and that there is such a work
+pub head_ran : (time : ℕ) (works : PhasedContents) (w : ℕ) (r : Running) → AreKept time works → running_at (state_of (seen time works)) w ≡ Some r → ready_head works.scenario (state_of (seen time works)) r.pool ≡ Some w
+    → run_at works.runs w ≡ Some (ready_as r)
+head_ran time works w r kept running head = ready_run_is time works w r kept (ready_head_of time works w r kept.timely running head)
+
+pub head_within : (time : ℕ) (works : PhasedContents) (w : ℕ) (r : Running) → AreKept time works → running_at (state_of (seen time works)) w ≡ Some r → ready_head works.scenario (state_of (seen time works)) r.pool ≡ Some w
+    → w < length works.scenario.works
+head_within time works w r kept running head = subst (λ (n : ℕ). w < n) kept.headed.long (within_of works.runs w (ready_as r) (head_ran time works w r kept running head))
+
 -- A stamp above those of all running works.
 
 pub newest_run : (time stamp : ℕ) (rs : List (Option Run)) → ((v : ℕ) → IfSome (slice_index_or (shown_all time rs) v None) (λ q. q.stamp < stamp)) → (v : ℕ) → IfSome (run_at rs v) (λ q. q.stamp < stamp)

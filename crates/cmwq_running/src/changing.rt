@@ -17,20 +17,20 @@ use cmwq_table::Running;
 
 /// Begins an instance of a work of which none runs, with no ticks left. If it is runnable, it stands behind all others of its pool.
 #[inline(always)]
-pub(crate) fn begin(works: &mut PhasedWorks, time: u64, w: usize, run: Run)
+pub(crate) fn begin(works: &mut PhasedWorks, time: u64, w: usize, first: Run)
     requires work { w < length works.old.scenario.works }
     requires absent { run_at works.old.runs w ≡ None }
     requires kept { AreKept time works.old }
-    requires still { IsStill run.phase }
-    requires timely { IsTimely time run.phase }
-    requires own_stamp { HasOwnStamp works.old.runs w (Some run) }
-    requires last { ComesLast works.old.runs w (Some run) }
-    ensures seen { seen time works.new ≡ record (seen time works.old) { running = slice_set (shown_all time works.old.runs) w (Some (shown time run)) } }
+    requires still { IsStill first.phase }
+    requires timely { IsTimely time first.phase }
+    requires own_stamp { HasOwnStamp works.old.runs w (Some first) }
+    requires last { ComesLast works.old.runs w (Some first) }
+    ensures seen { seen time works.new ≡ record (seen time works.old) { running = slice_set (shown_all time works.old.runs) w (Some (shown time first)) } }
     ensures kept { AreKept time works.new }
 {
     works.own_stamps();
-    works.begin(w, run);
-    balance(works, time, run.pool);
+    works.begin(w, first);
+    balance(works, time, first.pool);
 }
 
 /// Ends the instance of a work that runs, the ready head of its pool.
@@ -50,7 +50,14 @@ pub(crate) fn end(works: &mut PhasedWorks, time: u64, w: usize, r: Running)
 /// Where an instance of the work runs so, the ready head of its pool, another one that was born then begins in its place, at the beginning of the
 /// body, under a stamp above those of all running works.
 #[inline(always)]
-pub(crate) fn begin_again(works: &mut PhasedWorks, time: u64, w: usize, r: Running, born: u64, stamp: u64)
+pub(crate) fn begin_again(
+    works: &mut PhasedWorks,
+    time: u64,
+    w: usize,
+    r: Running,
+    born: u64,
+    stamp: u64,
+)
     requires kept { AreKept time works.old }
     requires running { running_at (state_of (seen time works.old)) w ≡ Some r }
     requires head { ready_head works.old.scenario (state_of (seen time works.old)) r.pool ≡ Some w }
@@ -197,21 +204,16 @@ fn rouse(works: &mut PhasedWorks, time: u64, w: usize, run: Run, stamp: u64)
     ensures kept { AreKept time works.new }
 {
     match run.phase {
-        Phase::Slept(until) => {
-            let (phase, awake) = (Phase::Slept(until), Phase::Ready);
+        Phase::Slept(time_over) => {
+            let phase = Phase::Slept(time_over);
             let was = Run { phase, ..run };
-            let phase = awake;
-            carry_on(
-                works,
-                time,
-                w,
-                was,
-                Run {
-                    stamp,
-                    phase,
-                    ..run
-                },
-            );
+            let phase = Phase::Ready;
+            let roused = Run {
+                stamp,
+                phase,
+                ..run
+            };
+            carry_on(works, time, w, was, roused);
         }
         Phase::Ready | Phase::Held(_) | Phase::Burning(_) | Phase::Asleep(_) => {}
     }

@@ -1,17 +1,16 @@
-use Rattle.std.proofs.Common.{Some, set, sym, ap, subst, tt, ◌∙◌}
+use Rattle.std.proofs.Common.{Some, set, sym, ap, subst, ◌∙◌}
 use Rattle.cmwq_table.specs.declared.state.Running.{Running}
 use Rattle.cmwq_phases.specs.Phases.{IsTimely, shown, shown_all}
 use Rattle.cmwq_phases.specs.Runs.{HasOwnStamp}
 use Rattle.cmwq_phases.specs.declared.run.Run.{Run}
 use Rattle.cmwq_running.specs.Heads.{ComesLast, IsStill}
 use Rattle.cmwq_running.specs.RunningContents.{first_run, seen}
-use Rattle.cmwq_running.proofs.StepLemmas.{newest_last, newest_own, ready_head_of, ready_run_is}
+use Rattle.cmwq_running.proofs.StepLemmas.{head_ran, newest_last, newest_own}
 use Rattle.cmwq_running.proofs.changing.begin_again.Goals as goal
 
 pub carry_on-requires-clause-was : goal.carry_on-requires-clause-was
 carry_on-requires-clause-was c =
-    let head = ready_head_of c.args.time c.args.works.now c.args.w c.args.r c.requires.kept.timely c.requires.running c.requires.head in
-    ready_run_is c.args.time c.args.works.now c.args.w c.args.r c.requires.kept head ∙ ap Some (sym c.ready_as.ensures)
+    head_ran c.args.time c.args.works.now c.args.w c.args.r c.requires.kept c.requires.running c.requires.head ∙ ap Some (sym c.ready_as.ensures)
 
 pub carry_on-requires-clause-pool : goal.carry_on-requires-clause-pool
 carry_on-requires-clause-pool c = ap (λ (run : Run). run.pool) c.first_run-run.ensures ∙ sym (ap (λ (run : Run). run.pool) c.ready_as.ensures)

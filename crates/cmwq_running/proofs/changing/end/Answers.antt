@@ -1,4 +1,4 @@
-use Rattle.std.proofs.Common.{◌≡◌, ◌<◌, None, Some, ℕ, length, sym, ap, subst, tt, ◌∙◌}
+use Rattle.std.proofs.Common.{None, Some, length, sym, ap, subst, ◌∙◌}
 use Rattle.std.proofs.lemmas.List.{length-set}
 use Rattle.cmwq_types.specs.Contents.{ScenarioContents}
 use Rattle.cmwq_phased.specs.PhasedContents.{PhasedContents}
@@ -6,31 +6,21 @@ use Rattle.cmwq_phases.specs.Phases.{shown_all}
 use Rattle.cmwq_phases.specs.Runs.{run_at}
 use Rattle.cmwq_running.specs.Heads.{HaveHeads}
 use Rattle.cmwq_running.specs.RunningContents.{ready_as}
-use Rattle.cmwq_running.proofs.HeadLemmas.{balanced, beside_none, beside_ran, change_of, change_have_heads}
-use Rattle.cmwq_running.proofs.PaceLemmas.{within_of}
+use Rattle.cmwq_running.proofs.HeadLemmas.{balanced, beside_ran, change_of, change_have_heads}
 use Rattle.cmwq_running.proofs.ShownLemmas.{length_of_shown, seen_is, shown_set}
-use Rattle.cmwq_running.proofs.StepLemmas.{ready_head_of, ready_run_is}
+use Rattle.cmwq_running.proofs.StepLemmas.{head_ran, head_within}
 use Rattle.cmwq_running.proofs.changing.end.Goals as goal
-use Rattle.cmwq_running.proofs.changing.end.Goals.{After-ready_as}
-
-ran : (c : After-ready_as) → run_at c.args.works.now.runs c.args.w ≡ Some (ready_as c.args.r)
-ran c =
-    ready_run_is c.args.time c.args.works.now c.args.w c.args.r c.requires.kept
-    (ready_head_of c.args.time c.args.works.now c.args.w c.args.r c.requires.kept.timely c.requires.running c.requires.head)
-
-within : (c : After-ready_as) → c.args.w < length c.args.works.now.scenario.works
-within c = subst (λ (n : ℕ). c.args.w < n) c.requires.kept.headed.long (within_of c.args.works.now.runs c.args.w (ready_as c.args.r) (ran c))
 
 pub end-requires-clause-work : goal.end-requires-clause-work
-end-requires-clause-work c = within c
+end-requires-clause-work c = head_within c.args.time c.args.works.now c.args.w c.args.r c.requires.kept c.requires.running c.requires.head
 
 pub end-requires-clause-was : goal.end-requires-clause-was
-end-requires-clause-was c = ran c ∙ ap Some (sym c.ready_as.ensures)
+end-requires-clause-was c = head_ran c.args.time c.args.works.now c.args.w c.args.r c.requires.kept c.requires.running c.requires.head ∙ ap Some (sym c.ready_as.ensures)
 
 pub balance-requires-clause-heads : goal.balance-requires-clause-heads
 balance-requires-clause-heads c =
     let old = c.args.works.now in
-    let change = change_of old.scenario old.runs c.args.w None (within c) c.requires.kept.headed.long c.own_stamps.ensures tt tt in
+    let change = change_of old.scenario old.runs c.args.w None (head_within c.args.time c.args.works.now c.args.w c.args.r c.requires.kept c.requires.running c.requires.head) c.requires.kept.headed.long c.own_stamps.ensures tt tt in
     subst (λ (m : PhasedContents). HaveHeads m.scenario m.runs) (sym c.end.ensures) (change_have_heads old.scenario old.runs c.args.w None change c.requires.kept.headed.heads)
 
 pub returns-clause-seen : goal.returns-clause-seen
@@ -42,7 +32,7 @@ returns-clause-seen c =
 pub returns-clause-kept : goal.returns-clause-kept
 returns-clause-kept c =
     let old = c.args.works.now in
-    let change = change_of old.scenario old.runs c.args.w None (within c) c.requires.kept.headed.long c.own_stamps.ensures tt tt in
+    let change = change_of old.scenario old.runs c.args.w None (head_within c.args.time c.args.works.now c.args.w c.args.r c.requires.kept c.requires.running c.requires.head) c.requires.kept.headed.long c.own_stamps.ensures tt tt in
     let scenario = c.balance.ensures.scenario ∙ ap (λ (m : PhasedContents). m.scenario) c.end.ensures in
     record {
       early = c.requires.kept.early;
@@ -54,7 +44,7 @@ returns-clause-kept c =
             ∙ ap (λ (S : ScenarioContents). length S.works) (sym scenario);
         heads = c.balance.ensures.heads;
         going = balanced old.scenario old.runs c.args.w None c.args.r.pool c.end.new.self c.balance.new.works change c.end.ensures
-            (λ pool. beside_ran old.scenario (run_at old.runs c.args.w) (ready_as c.args.r) pool (ran c)) (λ pool none. absurd none)
+            (λ pool. beside_ran old.scenario (run_at old.runs c.args.w) (ready_as c.args.r) pool (head_ran c.args.time c.args.works.now c.args.w c.args.r c.requires.kept c.requires.running c.requires.head)) (λ pool none. absurd none)
             c.requires.kept.headed.going c.balance.ensures.going;
       };
     }

@@ -16,7 +16,7 @@ pub returns-in_default : goal.returns-in_default
 returns-in_default c =
     let seen : Loaded = the_view c.self.inside in
     let first = subst (λ (m : Loaded). first_inactive m.scenario m.state c.args._queue c.args.pool ≡ Some c.args.w) (sym c.self.view_is) c.requires.first in
-    absurd (inactive_pends seen.scenario seen.state c.args._queue c.args.pool c.args.w first (sym c.of.ensures ∙ c.in_default.is))
+    absurd (inactive_pends seen.scenario seen.state c.args._queue c.args.pool c.args.w first (sym c.work.ensures ∙ c.in_default.is))
 
 pub invariant_of-self : goal.invariant_of-self
 invariant_of-self c =

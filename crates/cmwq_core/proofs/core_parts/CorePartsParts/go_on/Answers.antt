@@ -7,6 +7,7 @@ use Rattle.cmwq_table.specs.State.{running_at}
 use Rattle.cmwq_table.specs.declared.state.Running.{Running}
 use Rattle.cmwq_running.specs.RunningContents.{RunningContents, state_of}
 use Rattle.cmwq_core.specs.CoreLayout.{IsKept}
+use Rattle.cmwq_core.proofs.CoverLemmas.{grown_by_head}
 use Rattle.cmwq_core.proofs.KeptLemmas.{kept_running}
 use Rattle.cmwq_core.proofs.core_parts.CorePartsParts.go_on.Goals as goal
 
@@ -21,5 +22,5 @@ invariant_of-self c =
     let room = vec_capacity inside.flushes in
     let runs = subst (λ (m : Loaded). running_at m.state c.args.w ≡ Some c.args.r) (sym c.self.view_is) c.requires.running in
     let low = subst (λ (o : Option Running). IfSome o (λ r. r.stamp < inside.next)) runs (c.self.invariant.laid.before.run c.args.w) in
-    subst (λ (r : RunningContents). IsKept inside.queued r inside.workers inside.next inside.pressed c.with-self-inside.result inside.max.items inside.depth.items room) (sym c.go_on.ensures)
-    (kept_running inside.queued inside.running inside.workers inside.next inside.next inside.pressed inside.moving c.with-self-inside.result inside.max.items inside.depth.items room c.args.w c.args.r (record c.args.r { pc = c.args.r.pc + 1; left = c.args.left }) c.self.invariant (omega arith) runs refl refl low c.with-self-inside.ensures)
+    subst (λ (r : RunningContents). IsKept inside.queued r inside.workers inside.next inside.pressed inside.moving inside.max.items inside.depth.items room) (sym c.go_on.ensures)
+    (kept_running inside.queued inside.running inside.workers inside.next inside.next inside.pressed inside.moving inside.moving inside.max.items inside.depth.items room c.args.w c.args.r (record c.args.r { pc = c.args.r.pc + 1; left = c.args.left }) c.self.invariant (omega arith) runs refl refl low (grown_by_head inside.queued inside.running inside.workers inside.pressed inside.moving c.args.r.pool c.args.w c.self.invariant.covered (subst (λ (m : Loaded). ready_head m.scenario m.state c.args.r.pool ≡ Some c.args.w) (sym c.self.view_is) c.requires.head)))

@@ -4,7 +4,7 @@ use Rattle.cmwq_table.specs.Ready.{Loaded}
 use Rattle.cmwq_table.specs.Table.{is_free, operands, spent_all}
 use Rattle.cmwq_exec.specs.Performing.{performed}
 use Rattle.cmwq_exec.proofs.ExecLemmas.{accepted, spend-left}
-use Rattle.cmwq_exec.proofs.performing.exec.Goals as goal
+use Rattle.cmwq_exec.proofs.performing.exec_one.Goals as goal
 
 pub spend-requires : goal.spend-requires
 spend-requires g c =
