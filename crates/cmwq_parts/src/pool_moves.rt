@@ -242,8 +242,8 @@ impl<P: Parts> Going<P> {
         requires pc { IfSome (running_at self.old.state w) (λ r. r.pc < MAX_OPS) }
         ensures { IfSome (running_at self.old.state w) (λ r. self.new ≡ record self.old { state = onward self.old.state w r }) }
     {
-        if let Some(r) = self.parts.running(w) {
-            self.parts.go_on(w, r, r.left);
+        if let Some(ready) = self.parts.running(w) {
+            self.parts.go_on(w, ready, ready.left);
         }
     }
 

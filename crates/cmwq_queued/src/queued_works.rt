@@ -106,7 +106,7 @@ impl QueuedWorks {
         requires work { w < length self.now.scenario.works }
         ensures { result ≡ pending_at self.now.pending w }
     {
-        self.pending[w]
+        self.all()[w]
     }
 
     /// All works, by number.
