@@ -1,5 +1,5 @@
-"""Asks whether a program and the baseline print the same on random scenarios, which use every flag, and every operation and instruction that
-the baseline has. Both list each scenario, and run it. The scenarios are the same on each run, by their numbers.
+"""Asks whether a program and the baseline print the same on random scenarios, which use every flag, operation and instruction. Both list
+each scenario, and run it. The scenarios are the same on each run, by their numbers.
 
     python3 agree.py PROGRAM BASELINE [COUNT [FIRST]]
 
@@ -14,6 +14,9 @@ from scenarios import FLAGS, Numbers, declared
 
 # How a scenario's numbers are drawn: few of everything, so that much collides, or many.
 SIZES = [(1, 1, 1, 2), (1, 2, 2, 4), (2, 3, 3, 8), (1, 64, 2, 40), (3, 2, 6, 30), (16, 5, 32, 256)]
+
+# How the lines begin that give flushes.
+FLUSHES = ("flush", "cancel_sync")
 
 
 class Draw(Numbers):
@@ -34,9 +37,9 @@ def queue_words(draw):
 
 
 def operation(draw, cpus, works):
-    kind = draw.below(10)
-    ticks = draw.among([1, 1, 2, 3, 5, 9, 40])
-    return f"burn {ticks}" if kind < 4 else f"sleep {ticks}" if kind < 7 else f"queue {draw.among(works)} {draw.below(cpus)}"
+    ticks, work, after = draw.among([1, 1, 2, 3, 5, 9, 40]), draw.among(works), draw.among([0, 0, 1, 2, 5, 20])
+    kinds = [*[f"burn {ticks}"] * 4, *[f"sleep {ticks}"] * 3, *[f"queue {work} {draw.below(cpus)}"] * 2]
+    return draw.among([*kinds, f"delay {work} {after}", f"mod {work} {after}", f"cancel {work}"])
 
 
 def body(draw, cpus, works):
@@ -44,12 +47,23 @@ def body(draw, cpus, works):
     return [operation(draw, cpus, works) for _at in range(draw.below(most + 1))]
 
 
-def instruction(draw, cpus, works, queues):
-    """One line of an actor, without how often it stands."""
+def awaiting(draw, lines):
+    """A line that goes on for something, behind these lines: for a time to which a run has come by then, roughly, for one of the last flushes,
+    or for the end."""
+    given = sum(line.startswith(FLUSHES) for line in lines)
+    time = len(lines) * draw.among([1, 2, 3, 4, 5]) // 2 + draw.below(12)
+    flush = draw.among([max(0, given - 1), max(0, given - 2), draw.below(3), draw.below(12)])
+    return draw.among([*[f"until {time}"] * 2, *[f"wait {flush}"] * 2, "quiet"])
+
+
+def instruction(draw, lines, cpus, works, queues):
+    """One line of an actor behind these, without how often it stands."""
     work, cpu = draw.among(works), draw.below(cpus + draw.chance(3))
     ticks, pool = draw.among([0, 1, 1, 2, 4, 7, 30]), draw.below(2 * cpus + 2 + draw.chance(3))
-    if draw.chance(40):
+    if draw.chance(34):
         return "next"
+    if draw.chance(40 if lines and lines[-1].startswith(FLUSHES) else 12):
+        return awaiting(draw, lines)
     if draw.chance(40):
         return draw.among([f"queue {work} {cpu}"] * 6 + [f"step {pool}", "tick", "fire"])
     kinds = [*[f"delay {work} {cpu} {ticks}"] * 2, *[f"mod {work} {cpu} {ticks}"] * 3, f"cancel {work}", f"cancel {work}", f"cancel_sync {work}"]
@@ -61,7 +75,8 @@ def instruction(draw, cpus, works, queues):
 
 def times(draw, line):
     """How often a line stands."""
-    return draw.among([1, 1, 2, 3, 8, 30]) if line == "next" else draw.among([1] * 30 + [2, 5])
+    is_awaiting = line.startswith(("until", "wait", "quiet"))
+    return draw.among([1, 1, 2, 3, 8, 30] if line == "next" else [1, 2, 8, 40, 200] if is_awaiting else [1] * 30 + [2, 5])
 
 
 def scenario(number):
@@ -70,11 +85,11 @@ def scenario(number):
     cpus, workers, queue_count, work_count = draw.among(SIZES)
     queues = [f"q{at}" for at in range(1 + draw.below(queue_count))]
     works = [f"w{at}" for at in range(1 + draw.below(work_count))]
-    front = [f"cpus {cpus}", f"workers {workers}", f"steps {draw.among([300, 200_000, 200_000])}", f"flushes {draw.among([0, 3, 200])}"]
+    front = [f"cpus {cpus}", f"workers {workers}", f"steps {draw.among([300, 200_000, 200_000])}", f"flushes {draw.among([0, 3, 200, 200])}"]
     front += declared([(name, queue_words(draw)) for name in queues], [(name, draw.among(queues), body(draw, cpus, works)) for name in works])
     lines = []
     for _turn in range(draw.among([20, 150, 600])):
-        line = instruction(draw, cpus, works, queues)
+        line = instruction(draw, lines, cpus, works, queues)
         count = times(draw, line)
         lines.append(line if count == 1 else f"{line} * {count}")
     if draw.chance(2):

@@ -110,14 +110,15 @@ impl Listing<'_, '_> {
 
     fn body(&mut self, start: usize) {
         let scenario = self.scenario;
+        let name_of = |work: u8| scenario.works[work as usize].name;
         for op in &scenario.ops[start..] {
             match *op {
                 Op::Burn(ticks) => self.line(|text| text.word(b"burn ").number(ticks)),
                 Op::Sleep(ticks) => self.line(|text| text.word(b"sleep ").number(ticks)),
-                Op::Queue { work, cpu } => {
-                    let name = scenario.works[work as usize].name;
-                    self.line(|text| text.word(b"queue ").name(name).and(cpu.into()));
-                }
+                Op::Queue { work, cpu } => self.line(|text| text.word(b"queue ").name(name_of(work)).and(cpu.into())),
+                Op::Delay { work, ticks } => self.line(|text| text.word(b"delay ").name(name_of(work)).and(ticks)),
+                Op::Mod { work, ticks } => self.line(|text| text.word(b"mod ").name(name_of(work)).and(ticks)),
+                Op::Cancel(work) => self.line(|text| text.word(b"cancel ").name(name_of(work))),
                 Op::Finish => {
                     self.line(|text| text.word(b"finish"));
                     return;
@@ -166,5 +167,8 @@ fn put_instr<'b>(scenario: &Scenario, text: Text<'b>, instr: Instr) -> Text<'b> 
         Instr::Enable(work) => text.word(b"enable ").name(of_work(work)),
         Instr::Pressure => text.word(b"pressure"),
         Instr::Relief => text.word(b"relief"),
+        Instr::Until(time) => text.word(b"until").and(time),
+        Instr::Wait(flush) => text.word(b"wait").and(flush.into()),
+        Instr::Quiet => text.word(b"quiet"),
     }
 }

@@ -1,5 +1,5 @@
 //! A machine: its state, and the single changes of which instructions are made.
-use crate::heap::{Heap, Stamps};
+use crate::heap::{Heap, Stamps, by_time_and_stamp};
 use crate::lines::Lines;
 use crate::lists::{Lists, Row};
 use crate::scenario::{Flags, POOLS, QUEUES, Scenario, WORKERS, WORKS};
@@ -170,6 +170,8 @@ pub struct Machine<'s> {
     pub alarms: Heap<u64>,
     /// How many works of freezable queues are active.
     pub busy: u32,
+    /// How many works pend, and how many run, together. Where there are none the machine is quiet.
+    pub at_work: u32,
     pub flushes: Vec<Flush>,
     /// The works of each queue.
     pub members: Vec<Vec<u8>>,
@@ -238,6 +240,7 @@ impl<'s> Machine<'s> {
             timers: Heap::new(),
             alarms: Heap::new(),
             busy: 0,
+            at_work: 0,
             flushes: Vec::new(),
             members,
             has_rescuers: scenario.queues.iter().any(|queue| queue.flags.has(Flags::MEM_RECLAIM)),
@@ -298,6 +301,7 @@ impl<'s> Machine<'s> {
         // It goes where it runs, else to its queue's pool.
         let pool = if work.runs() { work.pool } else { first_pool + pools_apart * cpu };
         work.pending_born = born;
+        self.at_work += 1;
         if self.has_room(queue, pool) {
             self.enlist(number, queue, pool);
         } else {
@@ -305,6 +309,42 @@ impl<'s> Machine<'s> {
             self.lists.push(inactive_list(queue, pool), number);
             self.queues[queue as usize].waiting |= 1 << pool;
         }
+    }
+
+    /// Places a work that doesn't pend, or sets its timer.
+    #[inline]
+    pub fn place_after(&mut self, number: u8, cpu: u8, ticks: u32) {
+        if ticks == 0 {
+            return self.place(number, cpu);
+        }
+        let stamp = self.stamp();
+        let due = self.time + u64::from(ticks);
+        self.works[number as usize].place = Place::Timer { due, cpu };
+        self.at_work += 1;
+        self.timers.add(by_time_and_stamp(due, stamp, number));
+    }
+
+    /// Places a work, or sets its timer, in place of what it waited for. Says whether it was pending.
+    #[inline(always)]
+    pub fn place_anew(&mut self, number: u8, cpu: u8, ticks: u32) -> bool {
+        let work = &mut self.works[number as usize];
+        match work.place {
+            Place::Timer { .. } if ticks > 0 => {
+                let due = self.time + u64::from(ticks);
+                work.place = Place::Timer { due, cpu };
+                let stamp = self.stamp();
+                self.timers.change(by_time_and_stamp(due, stamp, number));
+            }
+            Place::Idle => {
+                self.place_after(number, cpu, ticks);
+                return false;
+            }
+            _ => {
+                self.take_off(number);
+                self.place_after(number, cpu, ticks);
+            }
+        }
+        true
     }
 
     /// Activates inactive works of the queue in the pool, while there is room.
@@ -359,12 +399,14 @@ impl<'s> Machine<'s> {
                 self.fill(queue, pool);
             }
         }
+        self.at_work -= 1;
         true
     }
 
     /// The work's timer fires, which places it.
     pub fn fire(&mut self, work: u8, cpu: u8) {
         self.timers.take(work);
+        self.at_work -= 1;
         self.place(work, cpu);
     }
 
@@ -404,6 +446,7 @@ impl<'s> Machine<'s> {
     }
 
     /// Whether the flush is done.
+    #[inline(always)]
     pub fn is_done(&mut self, number: usize) -> bool {
         match self.flushes[number] {
             Flush::Nothing => true,

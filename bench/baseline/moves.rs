@@ -25,6 +25,12 @@ impl Machine<'_> {
         pool >= self.unbound
     }
 
+    /// The CPU of the pool, and the first one for an unbound pool.
+    #[inline]
+    fn cpu_of(&self, pool: u8) -> u8 {
+        if self.is_unbound(pool) { 0 } else { pool / 2 }
+    }
+
     /// Fires the first timer that has run out, else makes the move of the least pool that has one, else lets a tick pass.
     #[inline]
     pub fn go_on(&mut self) {
@@ -276,6 +282,9 @@ impl Machine<'_> {
                 self.lines.write(self.time, |line| line.name(number).text(b"sleeps ").number(ticks.into()).text(b"\n"));
             }
             Op::Queue { work: other, cpu } => self.queue_from_body(number, other, cpu),
+            Op::Delay { work: other, ticks } => self.delay_from_body(number, other, self.cpu_of(pool), ticks),
+            Op::Mod { work: other, ticks } => self.mod_from_body(number, other, self.cpu_of(pool), ticks),
+            Op::Cancel(other) => self.cancel_from_body(number, other),
             Op::Finish => self.finish(pool, number),
         }
     }
@@ -318,6 +327,45 @@ impl Machine<'_> {
         }
     }
 
+    /// A body queues a work after so many ticks.
+    fn delay_from_body(&mut self, number: u8, other: u8, cpu: u8, ticks: u32) {
+        let work = &self.works[other as usize];
+        if work.depth > 0 {
+            self.tell_timed(number, b"delays ", other, ticks, b" disabled\n");
+        } else if work.pends() {
+            self.tell_timed(number, b"delays ", other, ticks, b" already\n");
+        } else {
+            self.place_after(other, cpu, ticks);
+            self.tell_timed(number, b"delays ", other, ticks, b"\n");
+        }
+    }
+
+    /// A body queues a work after so many ticks, in place of what that waited for.
+    fn mod_from_body(&mut self, number: u8, other: u8, cpu: u8, ticks: u32) {
+        if self.works[other as usize].depth > 0 {
+            self.tell_timed(number, b"mods ", other, ticks, b" disabled\n");
+        } else if self.place_anew(other, cpu, ticks) {
+            self.tell_timed(number, b"mods ", other, ticks, b" changed\n");
+        } else {
+            self.tell_timed(number, b"mods ", other, ticks, b"\n");
+        }
+    }
+
+    /// A body takes a work off.
+    fn cancel_from_body(&mut self, number: u8, other: u8) {
+        if self.take_off(other) {
+            self.lines.write(self.time, |line| line.name(number).text(b"cancels ").name_and_end(other));
+        } else {
+            self.lines.write(self.time, |line| line.name(number).text(b"cancels ").name(other).text(b"not pending\n"));
+        }
+    }
+
+    /// Writes what a body asks for after so many ticks, and what came of it.
+    #[inline]
+    fn tell_timed<const N: usize, const M: usize>(&mut self, number: u8, verb: &[u8; N], other: u8, ticks: u32, end: &[u8; M]) {
+        self.lines.write(self.time, |line| line.name(number).text(verb).name(other).number(ticks.into()).text(end));
+    }
+
     /// A work is at the end of its body.
     fn finish(&mut self, pool: u8, number: u8) {
         let queue = self.roles[number as usize].queue;
@@ -326,6 +374,7 @@ impl Machine<'_> {
         let is_deferred = matches!(work.place, Place::Deferred(_));
         self.leave_runnable(pool, number);
         self.discount_active(queue, pool);
+        self.at_work -= 1;
         if is_deferred {
             self.begin(number);
             self.become_runnable(pool, number);

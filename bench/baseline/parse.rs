@@ -12,7 +12,7 @@ const OPS: usize = 64;
 /// The most lines of an actor.
 const LINES: usize = 4096;
 
-/// The most ticks of a burn or a sleep.
+/// The most ticks of an operation.
 const TICKS: u32 = 1_000_000;
 
 /// The flags by their words.
@@ -61,6 +61,9 @@ mod first {
     pub const ENABLE: Word = Word::of("enable");
     pub const PRESSURE: Word = Word::of("pressure");
     pub const RELIEF: Word = Word::of("relief");
+    pub const UNTIL: Word = Word::of("until");
+    pub const WAIT: Word = Word::of("wait");
+    pub const QUIET: Word = Word::of("quiet");
 }
 
 const MAX: Word = Word::of("max");
@@ -286,6 +289,17 @@ impl<'t> Parser<'t> {
                 Ok(Op::Queue { work, cpu })
             }
             first::FINISH => Ok(Op::Finish),
+            word => self.rare_op(word),
+        }
+    }
+
+    /// The operation that begins with this word, of those of which bodies have few.
+    #[inline(never)]
+    fn rare_op(&mut self, word: Word) -> Result<Op, Why> {
+        match word {
+            first::DELAY => Ok(Op::Delay { work: self.declared_work()?, ticks: self.number(0, TICKS)? }),
+            first::MOD => Ok(Op::Mod { work: self.declared_work()?, ticks: self.number(0, TICKS)? }),
+            first::CANCEL => Ok(Op::Cancel(self.declared_work()?)),
             _ => Err(Why::BadLine),
         }
     }
@@ -366,7 +380,18 @@ impl<'t> Parser<'t> {
             first::ENABLE => Instr::Enable(self.declared_work()?),
             first::PRESSURE => Instr::Pressure,
             first::RELIEF => Instr::Relief,
-            _ => return Err(Why::BadLine),
+            _ => return self.rare_instr(word),
         })
+    }
+
+    /// The instruction that begins with this word, of those of which actors have few.
+    #[inline(never)]
+    fn rare_instr(&mut self, word: Word) -> Result<Instr, Why> {
+        match word {
+            first::UNTIL => Ok(Instr::Until(self.number(0, u32::MAX)?)),
+            first::WAIT => Ok(Instr::Wait(self.number(0, 65_535)? as u16)),
+            first::QUIET => Ok(Instr::Quiet),
+            _ => Err(Why::BadLine),
+        }
     }
 }

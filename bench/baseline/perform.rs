@@ -1,5 +1,4 @@
 //! The instructions of an actor.
-use crate::heap::by_time_and_stamp;
 use crate::lines::Line;
 use crate::machine::{Flush, Machine, Place, RESCUER, Run};
 use crate::scenario::{self, Flags, Instr};
@@ -72,6 +71,9 @@ impl Machine<'_> {
             Instr::Enable(work) => self.repeat(times, |it| it.enable(work)),
             Instr::Pressure => self.repeat(times, |it| it.press(true)),
             Instr::Relief => self.repeat(times, |it| it.press(false)),
+            Instr::Until(time) => self.next_until(times, |it| it.time >= u64::from(time)),
+            Instr::Wait(flush) => self.wait(times, flush as usize),
+            Instr::Quiet => self.next_until(times, |it| it.at_work == 0),
         }
     }
 
@@ -79,10 +81,16 @@ impl Machine<'_> {
     #[inline]
     fn repeat(&mut self, times: u32, issue: impl Fn(&mut Self) -> Result<(), Refusal>) {
         for _ in 0..times {
-            if let Err(Reason { text, len }) = issue(self) {
-                self.lines.write(self.time, |line| line.text(text).cut(24 - len));
+            if let Err(reason) = issue(self) {
+                self.refuse(reason);
             }
         }
+    }
+
+    /// Writes the line of a refusal.
+    #[inline]
+    fn refuse(&mut self, Reason { text, len }: Refusal) {
+        self.lines.write(self.time, |line| line.text(text).cut(24 - len));
     }
 
     /// Writes `yes` or `no`.
@@ -131,16 +139,25 @@ impl Machine<'_> {
         Ok(())
     }
 
-    /// Places a work, or sets its timer.
-    #[inline]
-    fn place_after(&mut self, number: u8, cpu: u8, ticks: u32) {
-        if ticks == 0 {
-            return self.place(number, cpu);
+    /// Carries out `next` so many times, one after another, until there is what it goes on for: that stays.
+    fn next_until(&mut self, times: u32, is_met: impl Fn(&mut Self) -> bool) {
+        for _ in 0..times {
+            if is_met(self) {
+                return;
+            }
+            if let Err(reason) = self.next() {
+                self.refuse(reason);
+            }
         }
-        let stamp = self.stamp();
-        let due = self.time + u64::from(ticks);
-        self.works[number as usize].place = Place::Timer { due, cpu };
-        self.timers.add(by_time_and_stamp(due, stamp, number));
+    }
+
+    /// Carries out `next` so many times, one after another, until the flush is done.
+    fn wait(&mut self, times: u32, flush: usize) {
+        if flush < self.flushes.len() {
+            self.next_until(times, |it| it.is_done(flush));
+        } else {
+            self.repeat(times, |_| Err(&NO_SUCH_FLUSH));
+        }
     }
 
     #[inline]
@@ -158,24 +175,7 @@ impl Machine<'_> {
     fn modify(&mut self, number: u8, cpu: u8, ticks: u32) -> Result<(), Refusal> {
         self.judge_queue(number, cpu)?;
         self.steps_left -= 1;
-        let work = &mut self.works[number as usize];
-        match work.place {
-            Place::Timer { .. } if ticks > 0 => {
-                let due = self.time + u64::from(ticks);
-                work.place = Place::Timer { due, cpu };
-                let stamp = self.stamp();
-                self.timers.change(by_time_and_stamp(due, stamp, number));
-            }
-            Place::Idle => {
-                self.place_after(number, cpu, ticks);
-                return Ok(());
-            }
-            _ => {
-                self.take_off(number);
-                self.place_after(number, cpu, ticks);
-            }
-        }
-        self.tell(b"changed\n")
+        if self.place_anew(number, cpu, ticks) { self.tell(b"changed\n") } else { Ok(()) }
     }
 
     fn cancel(&mut self, work: u8) -> Result<(), Refusal> {

@@ -72,6 +72,12 @@ pub enum Op {
     Sleep(u32),
     /// Queues a work on a CPU.
     Queue { work: u8, cpu: u8 },
+    /// Queues a work after so many ticks, on the CPU where the body runs.
+    Delay { work: u8, ticks: u32 },
+    /// The same, and anew where it pends.
+    Mod { work: u8, ticks: u32 },
+    /// Takes a work off.
+    Cancel(u8),
     /// Ends the body.
     Finish,
 }
@@ -109,6 +115,9 @@ pub enum Instr {
     Enable(u8),
     Pressure,
     Relief,
+    Until(u32),
+    Wait(u16),
+    Quiet,
 }
 
 /// A line of an actor: an instruction, and how often it stands.
